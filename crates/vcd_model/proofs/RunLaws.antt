@@ -79,22 +79,26 @@ merge_case : (names : List (List ℕ)) (os : List Opened) → (over_opened Want.
 unfolding request_of merge_outcome merge_of
 merge_case names os h = merge_clean names (dumps_of os) (first_fault (dumps_of os)) h
 
--- the same text is behind the same head
-behind_same : (head a b : List ℕ) (P : List ℕ → Type 0) → a ≡ b → IsBehind head b P → IsBehind head a P
-behind_same head a b P e is = subst (λ (l : List ℕ). IsBehind head l P) (sym e) is
+-- an outcome that is another has its status, and its output stands behind the same head
+same_status : (done other : Outcome) → done ≡ other → done.status ≡ 0 → other.status ≡ 0
+same_status done other e h = subst (λ (d : Outcome). d.status ≡ 0) e h
+
+behind_same : (done other : Outcome) (head text : List ℕ) (P : List ℕ → Type 0) → done ≡ other → other.output ≡ text → IsBehind head text P → IsBehind head done.output P
+behind_same done other head text P e f is = subst (λ (d : Outcome). IsBehind head d.output P) (sym e) (subst (λ (l : List ℕ). IsBehind head l P) (sym f) is)
 
 pub merge_run_keeps : MergeRunKeeps
 merge_run_keeps limit names inputs h =
     let run = run_behind Want.Merge limit names inputs h in
     let os = run.0 in
-    let ends : (over_opened Want.Merge names os).status ≡ 0 = sym (ap (λ (d : Outcome). d.status) run.2) ∙ h in
-    let clean = merge_case names os ends in
-    let hs = headers_of (dumps_of os) in (
+    let done = outcome Want.Merge limit names inputs in
+    let other = over_opened Want.Merge names os in
+    let clean = merge_case names os (same_status done other run.2 h) in
+    let hs = headers_of (dumps_of os) in
+    let text = merge_open hs (merged_items (dumps_of os)) ++ merge_close (merged_items (dumps_of os)) in (
       os,
       run.1,
       clean.0,
-      behind_same (merged_head hs) (outcome Want.Merge limit names inputs).output (merge_open hs (merged_items (dumps_of os)) ++ merge_close (merged_items (dumps_of os))) (MergeKeepsValues (dumps_of os))
-          (ap (λ (d : Outcome). d.output) run.2 ∙ clean.1) (merge_keeps limit inputs os run.1 clean.0),
+      behind_same done other (merged_head hs) text (MergeKeepsValues (dumps_of os)) run.2 clean.1 (merge_keeps limit inputs os run.1 clean.0),
     )
 
 -- ---- one input
@@ -154,14 +158,16 @@ pub pick_run_keeps : PickRunKeeps
 pick_run_keeps limit name names input h =
     let run = one_run (Want.Pick names) limit name input h in
     let o = run.0 in
-    let ends : (over_opened (Want.Pick names) (name ∷ []) (o ∷ [])).status ≡ 0 = sym (ap (λ (d : Outcome). d.status) run.2) ∙ h in
-    let clean = pick_case names name o ends in (
+    let done = outcome (Want.Pick names) limit (name ∷ []) (input ∷ []) in
+    let other = over_opened (Want.Pick names) (name ∷ []) (o ∷ []) in
+    let clean = pick_case names name o (same_status done other run.2 h) in
+    let text = open_text (Request.Pick names) o.header (items_in o) ++ close_text (Request.Pick names) o.header (items_in o) in (
       o,
       run.1,
       clean.0,
-      behind_same (head_for o.header names) (outcome (Want.Pick names) limit (name ∷ []) (input ∷ [])).output (open_text (Request.Pick names) o.header (items_in o) ++ close_text (Request.Pick names) o.header (items_in o))
-          (λ text. KeepsValues (filter (selects_code (selected names o.header.declarations)) o.header.codes) text (λ t. Unit {0}) (items_in o))
-          (ap (λ (d : Outcome). d.output) run.2 ∙ clean.1) (pick_keeps limit input o names run.1 clean.0),
+      behind_same done other (head_for o.header names) text
+          (λ l. KeepsValues (filter (selects_code (selected names o.header.declarations)) o.header.codes) l (λ t. Unit {0}) (items_in o))
+          run.2 clean.1 (pick_keeps limit input o names run.1 clean.0),
     )
 
 -- ---- cut
@@ -234,20 +240,25 @@ cut_run_keeps limit name from to input job h =
     let run = one_run (Want.Cut from to) limit name input h in
     let o = run.0 in
     let scale = o.header.scale in
-    let ends : (over_opened (Want.Cut from to) (name ∷ []) (o ∷ [])).status ≡ 0 = sym (ap (λ (d : Outcome). d.status) run.2) ∙ h in
+    let done = outcome (Want.Cut from to) limit (name ∷ []) (input ∷ []) in
+    let opened = over_opened (Want.Cut from to) (name ∷ []) (o ∷ []) in
+    let ends = same_status done opened run.2 h in
     let times = cut_ticks (has_unit (from ∷ to ∷ [])) (moment_ticks scale from true) (moment_ticks scale to false) (name ∷ []) o ends in
     let a = times.0 in
     let b = times.1 in
-    let valid : a ≤ b = requests_are_valid scale (Want.Cut from to) (Request.Cut a b) job times.4 in
+    let valid = requests_are_valid scale (Want.Cut from to) (Request.Cut a b) job times.4 in
     let small = moment_small scale from true a job.0 times.2 in
-    let same : over_opened (Want.Cut from to) (name ∷ []) (o ∷ []) ≡ over_dumps (Request.Cut a b) (name ∷ []) (o ∷ []) = ap (asked (name ∷ []) o) times.4 in
-    let is = cut_case a b name o (sym (ap (λ (d : Outcome). d.status) same) ∙ ends) in (
+    let other = over_dumps (Request.Cut a b) (name ∷ []) (o ∷ []) in
+    let same : opened ≡ other = ap (asked (name ∷ []) o) times.4 in
+    let is = cut_case a b name o (same_status opened other same ends) in
+    let keeps = cut_keeps limit input o a b small valid run.1 is.0 in
+    let P : List ℕ → Type 0 = λ l. KeepsValues o.header.codes l (λ t. (a ≤ t) × (t ≤ b)) (items_in o) in (
       o,
       a,
       b,
       run.1,
       times.2,
       times.3,
-      behind_same (head_for o.header []) (outcome (Want.Cut from to) limit (name ∷ []) (input ∷ [])).output (cut_text o.header a b (items_in o)) (λ text. KeepsValues o.header.codes text (λ t. (a ≤ t) × (t ≤ b)) (items_in o))
-          (ap (λ (d : Outcome). d.output) (run.2 ∙ same) ∙ is.1) (cut_keeps limit input o a b small valid run.1 is.0),
+      subst (λ (d : Outcome). IsBehind (head_for o.header []) d.output P) (sym run.2)
+          (behind_same opened other (head_for o.header []) (cut_text o.header a b (items_in o)) P same is.1 keeps),
     )
