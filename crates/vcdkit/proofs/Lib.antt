@@ -1,0 +1,13 @@
+mod Digits
+mod HeaderSteps
+mod Phrases
+mod HeadSteps
+mod Starts
+mod Codes
+mod BodySteps
+mod BodyEndings
+mod Writing
+mod Asking
+mod Dumps
+mod PlainOutcomes
+mod Answers
