@@ -1,9 +1,9 @@
 -- What a run of `check` gives, by what reading the input answered.
-use Rattle.std.proofs.Common.{◌≡◌, ◌≢◌, ℕ, ◌+◌, ◌⊎◌, inl, inr, List, [], ◌∷◌, length, map, get_or, set, Option, Some, Result, Ok, Err, refl, sym, ap, subst, ◌∙◌, arith}
+use Rattle.std.proofs.Common.{◌≡◌, ◌≢◌, ℕ, ◌+◌, ◌⊎◌, inl, inr, List, [], ◌∷◌, length, map, get_or, set, Option, Some, Err, refl, sym, ap, subst, ◌∙◌, arith}
 use Rattle.std.specs.Prelude.{codes}
 use Rattle.std.specs.Io.KnownBytes.{Appends}
 use Rattle.vcd_model.specs.Input.{Input}
-use Rattle.vcd_model.specs.Outcome.{Outcome, clean_outcome, fault_outcome, program_line}
+use Rattle.vcd_model.specs.Outcome.{Outcome, fault_outcome, program_line}
 use Rattle.vcd_text.specs.Answer.{whole}
 use Rattle.vcdkit.specs.declared.fault.Fault.{Fault}
 use Rattle.vcdkit.specs.declared.fault.Fault.TheVariants.{OutOfMemory, ReadFailed}
@@ -44,7 +44,7 @@ pub refused : (limit : ℕ) (name text : List ℕ) (n : ℕ) (at : FaultAt) (out
 refused limit name text n at out err err' status gives fault message memory wanting = elim (memory_or_not at.fault) [
   | inl e ↦ Nothing (appends-none out.held) refl (wanting e) (memory e)
   | inr e ↦ subst (λ (o : Outcome). Gives o out out err err' status) (sym (gives e))
-    (Whole (subst (Appends out.held out.held) (sym (no_output name at.fault at.line)) (appends-none out.held)) refl (message e) (fault e))
+      (Whole (subst (Appends out.held out.held) (sym (no_output name at.fault at.line)) (appends-none out.held)) refl (message e) (fault e))
 ]
 
 -- the same of an outcome that is equal

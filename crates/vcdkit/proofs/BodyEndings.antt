@@ -1,33 +1,27 @@
 -- What an answer of the feed, or a token, does to what was read of a plain body.
-use Rattle.std.proofs.Common.{◌≡◌, ℕ, ◌+◌, ◌≤◌, Bool, true, false, cond, not, ◌&&◌, is_none, List, [], ◌∷◌, ◌++◌, Option, Some, None, Result, Ok, Err, unwrap_or, count_by, refl, sym, ap, subst, ◌∙◌, arith}
-use Rattle.std.proofs.lemmas.Bool.{le-ltb}
-use Rattle.vcd_model.specs.Bytes.{is_empty}
+use Rattle.std.proofs.Common.{◌≡◌, ℕ, ◌+◌, List, [], ◌∷◌, ◌++◌, Some, None, Ok, refl, sym, ap, subst, ◌∙◌}
 use Rattle.vcd_model.specs.Input.{Input}
-use Rattle.vcd_model.specs.Tokens.{Token, Stream, stream_of}
+use Rattle.vcd_model.specs.Tokens.{Token, stream_of}
 use Rattle.vcd_model.specs.Declarations.{IdCode}
-use Rattle.vcd_model.specs.Items.{BodyItem, leaves_open, is_begin, is_end_of_section, Change as model_change, time_after}
-use Rattle.vcd_model.specs.BodyPhrases.{BodyPhrase, items_of, item_of, body_phrase}
-use Rattle.vcd_model.specs.BodyReading.{body_items, body_fault_of, ends_well}
-use Rattle.vcd_model.specs.Reading as model
-use Rattle.vcd_model.specs.Reading.{Placed, phrases_of, Reading, reading_of, missing}
-use Rattle.vcd_model.specs.Reading.Ending.{AtEnd, AtFault}
-use Rattle.vcd_text.specs.Answer.{NextGives, Ends, input_at, failed_after}
+use Rattle.vcd_model.specs.Items.{BodyItem}
+use Rattle.vcd_model.specs.BodyPhrases.{BodyPhrase, items_of}
+use Rattle.vcd_model.specs.BodyReading.{body_items, body_fault_of}
+use Rattle.vcd_model.specs.Reading.{Placed, phrases_of, Reading, reading_of}
+use Rattle.vcd_text.specs.Answer.{NextGives, Ends, input_at}
 use Rattle.vcd_text.specs.Feed.{Stands, limit_of, token_of, seen}
 use Rattle.vcd_text.specs.Registers.{halt_number}
 use Rattle.vcd_text.specs.declared.device.Source.{Ghosts}
 use Rattle.vcd_text.specs.declared.feed.Feed.{Feed}
 use Rattle.vcd_text.specs.declared.answer.Halt.{Halt}
-use Rattle.vcd_text.specs.declared.answer.Halt.TheVariants as Halt
 use Rattle.vcd_text.specs.declared.answer.Next.{Next}
-use Rattle.vcd_text.specs.declared.answer.Next.TheVariants as Next
 use Rattle.vcdkit.specs.declared.fault.Fault.{Fault}
 use Rattle.vcdkit.specs.declared.plain_body.Counts.{Counts}
 use Rattle.vcdkit.specs.declared.plain_body.Item.{Item}
 use Rattle.vcdkit.specs.declared.plain_body.Item.TheVariants.{Time, Change}
 use Rattle.vcdkit.specs.Fault.{fault_number, halt_fault}
 use Rattle.vcdkit.specs.Plain.{plain_body}
-use Rattle.vcdkit.specs.PlainBody.{IsBehind, AreCounted, BodyEnds, BodyFails, ItemGives}
-use Rattle.vcdkit.specs.Reads.{Reads, Asks, input_of, input_is_whole, failed_reads, placed_fault}
+use Rattle.vcdkit.specs.PlainBody.{AreCounted, BodyEnds, BodyFails, ItemGives}
+use Rattle.vcdkit.specs.Reads.{Reads, Asks, input_of}
 use Rattle.vcdkit.proofs.Phrases.{took_phrase, wrong_token}
 use Rattle.vcdkit.proofs.BodySteps.{closed, counted_time, counted_change}
 use Rattle.std.proofs.lemmas.List.Elements.{filter_map-append}
@@ -83,7 +77,7 @@ module _ {X : Type 0} {x : Ghosts X} (declared : List IdCode) (i : Input) (front
         rest = r.given;
         tokens = ap (λ s. s.tokens) stream;
         fault_is = ap (λ s. body_fault_of s (reading_of (plain_body declared) r.given)) stream ∙ ap (body_fault_of (record { tokens = front ++ r.given; halt = Some (halt_number h); line = (token_of new).line })) r.so_far
-        ∙ ap (λ (n : ℕ). Some (record { number = n; line = (token_of new).line })) (halt_is h);
+            ∙ ap (λ (n : ℕ). Some (record { number = n; line = (token_of new).line })) (halt_is h);
       }
 
   pub body_wrong : (feed : Feed X x) (fault : Fault) → Asks (plain_body declared) i front placed [] feed → (plain_body declared).fault (phrases_of placed) [] (token_of feed).bytes ≡ Some (fault_number fault) → input_of fault (seen feed) i ≡ i
@@ -103,13 +97,17 @@ module _ {X : Type 0} {x : Ghosts X} (declared : List IdCode) (i : Input) (front
   pub time_taken : (feed : Feed X x) (counts : Counts) (time : ℕ) → Asks (plain_body declared) i front placed [] feed → AreCounted (items_of (phrases_of placed)) counts → ItemGives declared (phrases_of placed) (token_of feed).bytes (Ok (Time time))
       → ReadsBody feed (record { times = counts.times + 1; changes = counts.changes; last = Some time })
   time_taken feed counts time a n t =
-      let p : Placed BodyPhrase = record { phrase = BodyPhrase.Gives (BodyItem.Time time); line = (token_of feed).line } in
-      (placed ++ p ∷ [], took_phrase (plain_body declared) i front placed [] feed p.phrase a t.0 t.1 refl,
-      subst (λ (l : List BodyItem). AreCounted l (record { times = counts.times + 1; changes = counts.changes; last = Some time })) (sym (items_push placed p)) (counted_time (items_of (phrases_of placed)) counts _ time n t.2 refl))
+      let p : Placed BodyPhrase = record { phrase = BodyPhrase.Gives (BodyItem.Time time); line = (token_of feed).line } in (
+        placed ++ p ∷ [],
+        took_phrase (plain_body declared) i front placed [] feed p.phrase a t.0 t.1 refl,
+        subst (λ (l : List BodyItem). AreCounted l (record { times = counts.times + 1; changes = counts.changes; last = Some time })) (sym (items_push placed p)) (counted_time (items_of (phrases_of placed)) counts _ time n t.2 refl),
+      )
 
   pub change_taken : (feed : Feed X x) (counts : Counts) → Asks (plain_body declared) i front placed [] feed → AreCounted (items_of (phrases_of placed)) counts → ItemGives declared (phrases_of placed) (token_of feed).bytes (Ok Change)
       → ReadsBody feed (record { times = counts.times; changes = counts.changes + 1; last = counts.last })
   change_taken feed counts a n t =
-      let p : Placed BodyPhrase = record { phrase = BodyPhrase.Gives (BodyItem.Changes t.1.0); line = (token_of feed).line } in
-      (placed ++ p ∷ [], took_phrase (plain_body declared) i front placed [] feed p.phrase a t.0 t.1.1 refl,
-      subst (λ (l : List BodyItem). AreCounted l (record { times = counts.times; changes = counts.changes + 1; last = counts.last })) (sym (items_push placed p)) (counted_change (items_of (phrases_of placed)) counts _ t.1.0 n refl))
+      let p : Placed BodyPhrase = record { phrase = BodyPhrase.Gives (BodyItem.Changes t.1.0); line = (token_of feed).line } in (
+        placed ++ p ∷ [],
+        took_phrase (plain_body declared) i front placed [] feed p.phrase a t.0 t.1.1 refl,
+        subst (λ (l : List BodyItem). AreCounted l (record { times = counts.times; changes = counts.changes + 1; last = counts.last })) (sym (items_push placed p)) (counted_change (items_of (phrases_of placed)) counts _ t.1.0 n refl),
+      )

@@ -1,22 +1,20 @@
 -- What each token of a plain body is: its fault, and the phrase that it is.
-use Rattle.std.proofs.Common.{◌≡◌, ◌≢◌, ℕ, ◌+◌, ◌^◌, ◌<◌, ◌≤◌, max, Bool, true, false, cond, not, ◌&&◌, ◌||◌, ◌==◌, nat_lt, nat_le, List, [], ◌∷◌, ◌++◌, length, map, filter_map, count_by, fold, find, Option, Some, None, is_some, unwrap_or, option_map, bytes_eq, refl, sym, ap, subst, ◌∙◌, arith, append-nil}
-use Rattle.std.specs.List.{list_any, last_or}
-use Rattle.std.proofs.lemmas.Bool.{lt-ltb, le-ltb, le-leb, lt-leb, and_parts, and_from}
+use Rattle.std.proofs.Common.{◌≡◌, ℕ, ◌+◌, ◌^◌, ◌<◌, ◌≤◌, max, Bool, true, false, cond, ◌&&◌, ◌==◌, nat_lt, nat_le, List, [], ◌∷◌, ◌++◌, length, filter_map, count_by, fold, Option, Some, None, is_some, unwrap_or, option_map, refl, sym, ap, subst, ◌∙◌, arith, append-nil}
+use Rattle.std.specs.List.{last_or}
+use Rattle.std.proofs.lemmas.Bool.{le-ltb, le-leb, and_parts}
 use Rattle.std.proofs.lemmas.List.{length_push}
 use Rattle.std.proofs.lemmas.List.Elements.{filter_map-append}
 use Rattle.std.proofs.lemmas.List.Sums.{sum_by-append}
 use Rattle.vcd_model.specs.Bytes.{is_decimal, decimal_value, is_empty}
 use Rattle.vcd_model.specs.Keywords as model
 use Rattle.vcd_model.specs.Keywords.{keyword_of, keyword_text}
-use Rattle.vcd_model.specs.Declarations.{IdCode, has_text}
+use Rattle.vcd_model.specs.Declarations.{IdCode}
 use Rattle.vcd_model.specs.Items.{BodyItem, Change, ChangeForm, marks, time_mark, time_after, leaves_open, is_begin, is_end_of_section, change_of}
-use Rattle.vcd_model.specs.ItemText.{last_mark}
-use Rattle.vcd_model.specs.BodyPhrases.{BodyPhrase, Start, start_of, other_start, is_value_digit, declared_code, change_with, body_phrase, items_of, item_of}
+use Rattle.vcd_model.specs.BodyPhrases.{BodyPhrase, Start, start_of, is_value_digit, declared_code, body_phrase, items_of}
 use Rattle.vcd_model.specs.BodyPhrases.Start.{Command, Mark, Digit, Digits, Number, Other}
 use Rattle.vcd_model.specs.BodyChecks.{body_fault, start_checks, command_checks}
 use Rattle.vcd_model.specs.Checks.{first_failed}
-use Rattle.vcd_model.proofs.HeaderGrammar.{keyword_is}
-use Rattle.vcd_model.proofs.BodyGrammar.{start_of-mark, start_of-digit, start_of-keyword, one_of}
+use Rattle.vcd_model.proofs.BodyGrammar.{start_of-mark, start_of-digit, one_of}
 use Rattle.vcdkit.specs.Plain.{plain_body, is_plain_start}
 use Rattle.vcd_model.proofs.Times.{fold-append}
 use Rattle.vcdkit.specs.declared.keyword.Keyword.{Keyword}
@@ -83,9 +81,10 @@ module _ (declared : List IdCode) where
       → (body_fault_at earlier (digit ∷ code) ≡ None) × ((c : Change) × (body_phrase declared ((digit ∷ code) ∷ []) ≡ Some (BodyPhrase.Gives (BodyItem.Changes c))))
   unfolding body_phrase
   change_fits earlier digit code h e d =
-      let c = the_code (declared_code declared code) d in
-      (plain_fault earlier (digit ∷ code) (Digit digit code) (start_of-digit declared digit code h) refl ∙ rw (e, d) refl,
-      (record { code = c.0; form = ChangeForm.Scalar; text = digit ∷ [] }, rw (start_of-digit declared digit code h) (ap (λ o. option_map (λ x. BodyPhrase.Gives (BodyItem.Changes (record { code = x; form = ChangeForm.Scalar; text = digit ∷ [] }))) o) c.1)))
+      let c = the_code (declared_code declared code) d in (
+        plain_fault earlier (digit ∷ code) (Digit digit code) (start_of-digit declared digit code h) refl ∙ rw (e, d) refl,
+        (record { code = c.0; form = ChangeForm.Scalar; text = digit ∷ [] }, rw (start_of-digit declared digit code h) (ap (λ o. option_map (λ x. BodyPhrase.Gives (BodyItem.Changes (record { code = x; form = ChangeForm.Scalar; text = digit ∷ [] }))) o) c.1)),
+      )
 
   -- ---- what begins no plain phrase
 

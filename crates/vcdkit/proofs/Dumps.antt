@@ -1,18 +1,17 @@
 -- What is read of a plain dump is what `check` gives for it.
-use Rattle.std.proofs.Common.{◌≡◌, ◌≢◌, ℕ, suc, Bool, true, false, List, [], ◌∷◌, ◌++◌, length, map, count_by, filter_map, decimal, codes, Option, Some, None, refl, sym, ap, subst, ◌∙◌}
+use Rattle.std.proofs.Common.{◌≡◌, ◌≢◌, ℕ, suc, List, [], ◌∷◌, ◌++◌, length, map, count_by, Some, None, refl, sym, ap, ◌∙◌}
 use Rattle.std.specs.List.{AllByRecursion}
 use Rattle.std.proofs.lemmas.List.{length-map}
 use Rattle.vcd_model.specs.Input.{Input}
 use Rattle.vcd_model.specs.Tokens.{Token, Stream, stream_of}
-use Rattle.vcd_model.specs.Declarations.{Declaration, IdCode, is_scope, variables_of, codes_of}
+use Rattle.vcd_model.specs.Declarations.{Declaration, is_scope, variables_of, codes_of}
 use Rattle.vcd_model.specs.Header.{Header, header_of}
 use Rattle.vcd_model.specs.HeaderPhrases.{HeaderPhrase, declarations_of}
 use Rattle.vcd_model.specs.HeaderReading.{header_fault_of}
-use Rattle.vcd_model.specs.Items.{BodyItem, marks, is_begin, change_of}
-use Rattle.vcd_model.specs.ItemText.{last_mark}
+use Rattle.vcd_model.specs.Items.{BodyItem}
 use Rattle.vcd_model.specs.BodyPhrases.{BodyPhrase}
 use Rattle.vcd_model.specs.BodyReading.{body_items, body_fault_of}
-use Rattle.vcd_model.specs.CheckAndList.{check_close, count_line, number_or_dash}
+use Rattle.vcd_model.specs.CheckAndList.{check_close}
 use Rattle.vcd_model.specs.Outcome.{fault_outcome, clean_outcome}
 use Rattle.vcd_model.specs.Reading as model
 use Rattle.vcd_model.specs.Reading.{Placed, phrases_of, Reading, reading_of}
@@ -25,7 +24,7 @@ use Rattle.vcdkit.specs.declared.fault.Fault.{Fault}
 use Rattle.vcdkit.specs.declared.fault.Fault.TheVariants.{OutOfMemory}
 use Rattle.vcdkit.specs.declared.plain_head.PlainHead.{PlainHead}
 use Rattle.vcdkit.specs.declared.check.Report.{Report}
-use Rattle.vcdkit.specs.Plain.{plain_header, plain_body, header_in, checked, checked_body, plain_outcome}
+use Rattle.vcdkit.specs.Plain.{plain_header, plain_body, checked, checked_body, plain_outcome}
 use Rattle.vcdkit.specs.PlainHead.{HeadEnds, HeadFails, Declares, IsPlainVariable}
 use Rattle.vcdkit.specs.PlainBody.{BodyEnds, BodyFails, AreCounted}
 use Rattle.vcdkit.specs.Reads.{input_of, placed_fault}

@@ -1,5 +1,5 @@
 -- What a token of a plain header does to what was read of it.
-use Rattle.std.proofs.Common.{◌≡◌, ◌≢◌, ℕ, ◌+◌, ◌<◌, ◌≤◌, length, map, arith, append-nil, Bool, true, false, ◌&&◌, ◌||◌, ◌==◌, not, is_some, bytes_eq, codes, List, [], ◌∷◌, ◌++◌, Option, Some, None, Result, Ok, Err, refl, sym, ap, subst, ◌∙◌}
+use Rattle.std.proofs.Common.{◌≡◌, ◌≢◌, ℕ, ◌+◌, ◌<◌, ◌≤◌, length, map, arith, append-nil, Bool, true, false, ◌&&◌, ◌||◌, ◌==◌, not, is_some, bytes_eq, codes, List, [], ◌∷◌, ◌++◌, Some, Result, Ok, Err, refl, sym, ap, subst, ◌∙◌}
 use Rattle.std.specs.Prelude.{MatchResult}
 use Rattle.std.specs.List.{AllByRecursion, list_all}
 use Rattle.std.proofs.lemmas.Bool.{and_parts, and_from, or_right, not-true, eqb-true}
@@ -7,7 +7,7 @@ use Rattle.vcd_model.specs.Bytes.{is_decimal, decimal_value, is_code_byte}
 use Rattle.vcd_model.specs.Declarations.{Declaration, Variable, codes_of}
 use Rattle.vcd_model.specs.HeaderChecks.{agrees, same_flag}
 use Rattle.vcd_model.specs.Input.{Input}
-use Rattle.vcd_model.specs.Tokens.{Token, Stream, stream_of}
+use Rattle.vcd_model.specs.Tokens.{stream_of}
 use Rattle.vcd_model.specs.Keywords.{keyword_text, is_end}
 use Rattle.vcd_model.specs.Keywords.Keyword.{Timescale, Var, EndDefinitions}
 use Rattle.vcd_model.specs.Scales.{exponent_of, is_scale_number, is_scale_unit}
@@ -18,11 +18,10 @@ use Rattle.vcd_model.specs.HeaderReading.{header_fault_of}
 use Rattle.vcd_model.specs.Reading as model
 use Rattle.vcd_model.specs.Reading.{Placed, phrases_of, Reading, reading_of, missing}
 use Rattle.vcd_model.specs.Reading.Ending.{AtFault}
-use Rattle.vcd_text.specs.Feed.{Stands, limit_of, token_of, seen}
+use Rattle.vcd_text.specs.Feed.{limit_of, token_of, seen}
 use Rattle.vcd_text.specs.declared.device.Source.{Ghosts}
 use Rattle.vcd_text.specs.declared.feed.Feed.{Feed}
 use Rattle.vcdkit.specs.declared.fault.Fault.{Fault}
-use Rattle.vcdkit.specs.declared.fault.Fault.TheVariants as Fault
 use Rattle.vcdkit.specs.Fault.{fault_number}
 use Rattle.vcdkit.specs.Plain.{plain_header}
 use Rattle.vcdkit.specs.PlainHead.{ReadsHead, AsksHead, HeadFails, IsScaleFront, IsOneBit, IsPlainVariable, DeclaresOneBit, Declares, HeadEnds, Begins, texts_of, with_text}
@@ -30,8 +29,8 @@ use Rattle.vcdkit.specs.declared.plain_head.Start.TheVariants.{Refused}
 use Rattle.vcd_model.proofs.SoFarLemmas.{whole-phrase}
 use Rattle.vcdkit.specs.declared.plain_head.PlainHead.{PlainHead}
 use Rattle.vcdkit.proofs.Codes.{texts-var}
-use Rattle.vcdkit.specs.Reads.{IsMissing, GivesToken, input_of, input_is_whole, placed_fault}
-use Rattle.vcdkit.proofs.HeaderSteps.{fault_at, scale_number_fits, scale_fits, scale_goes_on, unit_fits, unit_goes_on, scale_is_bad, unit_is_bad, scale_ends, unit_ends, scale_is_long, unit_is_long, type_fits, type_is_bad, size_fits, size_is_bad, code_fits, code_is_bad, reference_fits, no_reference, in_reference, reference_passes, reference_goes_on, reference_ends, all_push, variable_begins, too_many, timescale_begins, definitions_end, header_ends, header_goes_wrong}
+use Rattle.vcdkit.specs.Reads.{IsMissing, GivesToken, input_of, placed_fault}
+use Rattle.vcdkit.proofs.HeaderSteps.{fault_at, scale_number_fits, scale_fits, scale_goes_on, unit_fits, unit_goes_on, scale_is_bad, unit_is_bad, scale_ends, unit_ends, scale_is_long, unit_is_long, type_fits, type_is_bad, size_fits, size_is_bad, code_fits, code_is_bad, reference_fits, no_reference, reference_passes, reference_goes_on, reference_ends, all_push, variable_begins, too_many, timescale_begins, definitions_end, header_ends, header_goes_wrong}
 use Rattle.vcdkit.proofs.Phrases.{whole_input, asked, took, took_phrase, wrong_token}
 
 module _ {X : Type 0} {x : Ghosts X} (i : Input) (placed : List (Placed HeaderPhrase)) (before : List (List ℕ)) where
@@ -176,9 +175,12 @@ module _ {X : Type 0} {x : Ghosts X} (i : Input) (placed : List (Placed HeaderPh
   pub reference_more : (type size code r : List ℕ) (rs : List (List ℕ)) → IsOneBit type size → AllByRecursion (λ t. is_end t ≡ false) (r ∷ rs) → AsksHead i placed (keyword_text Var ∷ type ∷ size ∷ code ∷ r ∷ rs) feed
       → is_end (asked_bytes i placed feed) ≡ false → ReadsReference type size code
   reference_more type size code r rs o all a e =
-      let t = asked_bytes i placed feed in
-      (r, rs ++ t ∷ [], (all.0, all_push rs t all.1 e),
-      took plain_header i [] placed (keyword_text Var ∷ type ∷ size ∷ code ∷ r ∷ rs) feed a (reference_passes (phrases_of placed) type size code r rs t o) (reference_goes_on type size code r rs t all e))
+      let t = asked_bytes i placed feed in (
+        r,
+        rs ++ t ∷ [],
+        (all.0, all_push rs t all.1 e),
+        took plain_header i [] placed (keyword_text Var ∷ type ∷ size ∷ code ∷ r ∷ rs) feed a (reference_passes (phrases_of placed) type size code r rs t o) (reference_goes_on type size code r rs t all e),
+      )
 
   -- a variable of one bit was read
   abbrev pub ReadsVariable : List ℕ → Type 0
@@ -188,10 +190,11 @@ module _ {X : Type 0} {x : Ghosts X} (i : Input) (placed : List (Placed HeaderPh
       → is_end (asked_bytes i placed feed) ≡ true → ReadsVariable code
   variable_read type size code r rs o all a e =
       let t = asked_bytes i placed feed in
-      let v : Variable = record { type = type; size = decimal_value size; code = code; reference = r ∷ rs } in
-      (record { phrase = HeaderPhrase.Declares (Declaration.Var v); line = (token_of feed).line },
-      (v, refl, refl, (o.2, o.0)),
-      took_phrase plain_header i [] placed (keyword_text Var ∷ type ∷ size ∷ code ∷ r ∷ rs) feed (HeaderPhrase.Declares (Declaration.Var v)) a (reference_passes (phrases_of placed) type size code r rs t o) (reference_ends type size code r rs t o.1 all e) refl)
+      let v : Variable = record { type = type; size = decimal_value size; code = code; reference = r ∷ rs } in (
+        record { phrase = HeaderPhrase.Declares (Declaration.Var v); line = (token_of feed).line },
+        (v, refl, refl, (o.2, o.0)),
+        took_phrase plain_header i [] placed (keyword_text Var ∷ type ∷ size ∷ code ∷ r ∷ rs) feed (HeaderPhrase.Declares (Declaration.Var v)) a (reference_passes (phrases_of placed) type size code r rs t o) (reference_ends type size code r rs t o.1 all e) refl,
+      )
 
   -- ---- whole variables
 
@@ -251,12 +254,15 @@ module _ {X : Type 0} {x : Ghosts X} (i : Input) (placed : List (Placed HeaderPh
 
   pub end_read : AsksHead i placed (keyword_text EndDefinitions ∷ []) feed → is_end (asked_bytes i placed feed) ≡ true → ReadsAll
   end_read a e =
-      let f = header_ends (phrases_of placed) (asked_bytes i placed feed) e in
-      (record { phrase = HeaderPhrase.EndDefinitions; line = (token_of feed).line }, refl, record {
-        given = a.given ++ token_of feed ∷ [];
-        stands = a.stands;
-        whole = whole-phrase plain_header a.given placed (keyword_text EndDefinitions ∷ []) (token_of feed) HeaderPhrase.EndDefinitions a.so_far f.0 f.1 refl;
-      })
+      let f = header_ends (phrases_of placed) (asked_bytes i placed feed) e in (
+        record { phrase = HeaderPhrase.EndDefinitions; line = (token_of feed).line },
+        refl,
+        record {
+          given = a.given ++ token_of feed ∷ [];
+          stands = a.stands;
+          whole = whole-phrase plain_header a.given placed (keyword_text EndDefinitions ∷ []) (token_of feed) HeaderPhrase.EndDefinitions a.so_far f.0 f.1 refl;
+        },
+      )
 
   pub end_wrong : AsksHead i placed (keyword_text EndDefinitions ∷ []) feed → is_end (asked_bytes i placed feed) ≡ false → HeadFails i feed Fault.OutOfPlace
   end_wrong a e = head_wrong i placed (keyword_text EndDefinitions ∷ []) feed Fault.OutOfPlace a (header_goes_wrong (phrases_of placed) (asked_bytes i placed feed) e) refl

@@ -1,5 +1,5 @@
 -- What each token of a plain header is: its fault, and the phrase that is whole with it.
-use Rattle.std.proofs.Common.{◌≡◌, ◌≢◌, ℕ, ℤ, ◌<◌, ◌≤◌, Bool, true, false, cond, not, ◌&&◌, ◌||◌, ◌==◌, nat_lt, List, [], ◌∷◌, ◌++◌, length, Option, Some, None, option_map, option_and_then, is_some, is_none, bytes_eq, codes, refl, sym, ap, ◌∙◌, subst, arith}
+use Rattle.std.proofs.Common.{◌≡◌, ◌≢◌, ℕ, ℤ, ◌<◌, ◌≤◌, Bool, true, false, cond, not, ◌&&◌, ◌||◌, ◌==◌, nat_lt, List, [], ◌∷◌, ◌++◌, length, Option, Some, None, option_map, option_and_then, is_some, is_none, bytes_eq, codes, refl, sym, ap, ◌∙◌, subst}
 use Rattle.std.specs.List.{list_any, list_all, AllByRecursion}
 use Rattle.std.proofs.lemmas.Bool.{lt-ltb, le-ltb, and_parts, or_cases, or_right, eqb-true}
 use Rattle.std.proofs.lemmas.Slice.Eq.{bytes_eq-Decides}
@@ -8,14 +8,14 @@ use Rattle.vcd_model.specs.Bytes.{is_decimal, decimal_value, is_code_byte}
 use Rattle.vcd_model.specs.Keywords.{Keyword, keyword_of, keyword_text, is_end, is_unknown_command}
 use Rattle.vcd_model.specs.Keywords.Keyword.{Timescale, Var, EndDefinitions, End}
 use Rattle.vcd_model.specs.Scales.{exponent_of, is_scale_number, is_scale_unit}
-use Rattle.vcd_model.specs.Declarations.{Declaration, Variable, variables_of}
-use Rattle.vcd_model.specs.HeaderPhrases.{HeaderPhrase, IsHeaderPhrase, HasNoEnd, header_phrase, phrase_with, until_end, scale_of, var_of, declarations_of}
+use Rattle.vcd_model.specs.Declarations.{Declaration}
+use Rattle.vcd_model.specs.HeaderPhrases.{HeaderPhrase, header_phrase, phrase_with, until_end, scale_of, declarations_of}
 use Rattle.vcd_model.specs.HeaderChecks.{header_fault, start_checks, inner_checks, is_size, agrees, begins_change}
 use Rattle.vcd_model.specs.Checks.{first_failed}
 use Rattle.vcd_model.specs.Outcome.{declarations_allowed}
-use Rattle.vcd_model.proofs.HeaderGrammar.{keyword_of-text, header_computes}
+use Rattle.vcd_model.proofs.HeaderGrammar.{keyword_of-text}
 use Rattle.vcdkit.specs.PlainHead.{IsOneBit}
-use Rattle.vcdkit.specs.Plain.{plain_header, is_plain_header, is_plain_command, is_plain_variable, refusal}
+use Rattle.vcdkit.specs.Plain.{is_plain_header, is_plain_command, refusal}
 
 abbrev pub fault_at : List HeaderPhrase → List (List ℕ) → List ℕ → Option ℕ
 fault_at earlier before token = cond (is_plain_header (before ++ token ∷ [])) (header_fault declarations_allowed earlier before token) (Some (refusal before))
@@ -124,10 +124,13 @@ HasExponent text = is_some (exponent_of text) ≡ true
 unit_has_exponent : (t u : List ℕ) → is_scale_number t ≡ true → is_scale_unit u ≡ true → is_some (exponent_of (t ++ u)) ≡ true
 unfolding is_scale_number is_scale_unit exponent_of
 unit_has_exponent t u h e =
-    among t (codes "1" ∷ codes "10" ∷ codes "100" ∷ []) (λ w. is_some (exponent_of (w ++ u)) ≡ true) h
-    (behind (codes "1") (refl, (refl, (refl, (refl, (refl, (refl, tt)))))),
-    (behind (codes "10") (refl, (refl, (refl, (refl, (refl, (refl, tt)))))),
-    (behind (codes "100") (refl, (refl, (refl, (refl, (refl, (refl, tt)))))), tt)))
+    among t (codes "1" ∷ codes "10" ∷ codes "100" ∷ []) (λ w. is_some (exponent_of (w ++ u)) ≡ true) h (
+      behind (codes "1") (refl, (refl, (refl, (refl, (refl, (refl, tt)))))),
+      (
+        behind (codes "10") (refl, (refl, (refl, (refl, (refl, (refl, tt)))))),
+        (behind (codes "100") (refl, (refl, (refl, (refl, (refl, (refl, tt)))))), tt),
+      ),
+    )
   where
     behind : (w : List ℕ) → AllByRecursion (λ x. is_some (exponent_of (w ++ x)) ≡ true) (codes "s" ∷ codes "ms" ∷ codes "us" ∷ codes "ns" ∷ codes "ps" ∷ codes "fs" ∷ []) → is_some (exponent_of (w ++ u)) ≡ true
     behind w all = among u (codes "s" ∷ codes "ms" ∷ codes "us" ∷ codes "ns" ∷ codes "ps" ∷ codes "fs" ∷ []) (λ x. is_some (exponent_of (w ++ x)) ≡ true) e all

@@ -1,19 +1,16 @@
 -- One token more: what a feed has given of a grammar's phrases.
-use Rattle.std.proofs.Common.{◌≡◌, ◌≢◌, ◌<◌, Err, ℕ, Bool, true, false, List, [], ◌∷◌, ◌++◌, Option, Some, None, Ok, arith, refl, sym, ap, subst, ◌∙◌}
+use Rattle.std.proofs.Common.{◌≡◌, ◌≢◌, ◌<◌, Err, ℕ, true, false, List, [], ◌∷◌, ◌++◌, Some, None, Ok, arith, refl, subst, ◌∙◌}
 use Rattle.std.proofs.lemmas.List.{append_assoc, append-nil}
 use Rattle.vcd_model.specs.Input.{Input}
-use Rattle.vcd_model.specs.Laws.{IsPrefixOf}
 use Rattle.vcd_model.specs.Tokens.{Token, stream_of}
-use Rattle.vcd_model.specs.Reading.{Grammar, Placed, phrases_of, Reading, reading_of, missing}
+use Rattle.vcd_model.specs.Reading.{Grammar, Placed, phrases_of, reading_of}
 use Rattle.vcd_model.specs.Reading.Ending.{AtFault}
-use Rattle.vcd_model.specs.SoFar.{IsSoFar, IsWhole}
-use Rattle.vcd_model.proofs.SoFarLemmas.{so_far-nothing, so_far-token, so_far-phrase, whole-phrase, faulty-token}
+use Rattle.vcd_model.proofs.SoFarLemmas.{so_far-nothing, so_far-token, so_far-phrase, faulty-token}
 use Rattle.vcd_text.specs.Feed.{Stands, SameLoans, limit_of, chunk_len_of, token_of, source_of, answer_of, seen}
 use Rattle.vcd_text.specs.declared.answer.Halt.{Halt}
 use Rattle.vcd_text.specs.declared.device.Source.{Ghosts}
 use Rattle.vcd_text.specs.declared.feed.Feed.{Feed}
 use Rattle.vcdkit.specs.declared.fault.Fault.{Fault}
-use Rattle.vcdkit.specs.declared.fault.Fault.TheVariants as Fault
 use Rattle.vcdkit.specs.Reads.{Reads, Asks, input_of, input_is_whole, failed_reads, IsGoing, Moves, Since, SameWindows}
 
 -- a fault of a token leaves the input as it is

@@ -1,21 +1,20 @@
 -- Where nothing is refused, what `check` gives is the outcome of the definitions.
-use Rattle.std.proofs.Common.{◌≡◌, ℕ, Bool, true, false, List, [], ◌∷◌, ◌++◌, Option, Some, None, Ok, Err, refl, sym, ap, ◌∙◌}
+use Rattle.std.proofs.Common.{◌≡◌, ℕ, false, List, [], ◌∷◌, Option, Some, None, Ok, Err, refl, sym, ap, ◌∙◌}
 use Rattle.std.specs.List.{list_any}
 use Rattle.vcd_model.specs.Input.{Input}
-use Rattle.vcd_model.specs.Tokens.{Token, Stream, stream_of}
-use Rattle.vcd_model.specs.Header.{Header, header_of}
+use Rattle.vcd_model.specs.Tokens.{Stream, stream_of}
+use Rattle.vcd_model.specs.Header.{Header}
 use Rattle.vcd_model.specs.HeaderPhrases.{HeaderPhrase}
 use Rattle.vcd_model.specs.HeaderReading.{read_header, header_fault_of}
 use Rattle.vcd_model.specs.Items.{BodyItem}
 use Rattle.vcd_model.specs.BodyReading.{read_body, body_items, body_fault_of}
-use Rattle.vcd_model.specs.CheckAndList.{check_close}
 use Rattle.vcd_model.specs.Job as job
 use Rattle.vcd_model.specs.Job.{outcome, request_of}
-use Rattle.vcd_model.specs.Outcome.{Outcome, Opened, Request, declarations_allowed, open_from, over_dump, over_body, at_end, body_of, ends_early, fault_outcome, clean_outcome, name_at}
+use Rattle.vcd_model.specs.Outcome.{Outcome, Opened, Request, declarations_allowed, open_from, over_dump, over_body, at_end, body_of, ends_early, fault_outcome, name_at}
 use Rattle.vcd_model.specs.Reading as model
 use Rattle.vcd_model.specs.Reading.{Reading, reading_of, phrases_of}
 use Rattle.vcd_model.specs.BodyPhrases.{BodyPhrase}
-use Rattle.vcdkit.specs.Plain.{plain_header, plain_body, header_in, checked, checked_body, plain_outcome, IsPlain}
+use Rattle.vcdkit.specs.Plain.{plain_body, header_in, checked, checked_body, plain_outcome, IsPlain}
 
 never_early : (items : List BodyItem) → list_any (ends_early Request.Check) items ≡ false
 never_early [] = refl

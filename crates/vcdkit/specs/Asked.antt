@@ -31,7 +31,7 @@ want_of Check = AnyWant.Check
 abbrev pub asked_in : Job → AnyJob
 asked_in job = record { want = want_of job.task; limit = job.limit }
 
--- the words that the program takes: a command, or help or the version; a command must be there
+-- how words are read: `vcdkit` has a version, wants a command and has no command `help`; `check` takes nothing
 abbrev pub program_app : App
 program_app =
     let program = new_app (codes "vcdkit") in

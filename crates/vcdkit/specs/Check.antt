@@ -1,7 +1,7 @@
 -- What reading a dump gives `check`.
 use Rattle.std.specs.Prelude.{◌≡◌, ◌≢◌, ℕ, ◌+◌, List, [], Result, Ok, Err}
 use Rattle.vcd_model.specs.Input.{Input}
-use Rattle.vcd_model.specs.Outcome.{Outcome, fault_outcome, clean_outcome}
+use Rattle.vcd_model.specs.Outcome.{fault_outcome, clean_outcome}
 use Rattle.vcdkit.specs.declared.fault.Fault.{Fault}
 use Rattle.vcdkit.specs.declared.fault.Fault.TheVariants.{OutOfMemory}
 use Rattle.vcdkit.specs.declared.check.Report.{Report}

@@ -1,6 +1,6 @@
 -- Plain dumps: a time scale, variables of one bit that are no events, time marks and scalar changes. All else is refused at once.
 use Rattle.std.specs.Prelude.{◌≡◌, ℕ, Bool, true, false, not, cond, ◌&&◌, ◌||◌, ◌==◌, List, [], ◌∷◌, ◌++◌, codes, bytes_eq, Option, Some, None}
-use Rattle.vcd_model.specs.Bytes.{is_empty, decimal_value}
+use Rattle.vcd_model.specs.Bytes.{decimal_value}
 use Rattle.vcd_model.specs.Input.{Input}
 use Rattle.vcd_model.specs.Tokens.{Stream, stream_of}
 use Rattle.vcd_model.specs.Keywords.{Keyword, keyword_of, is_unknown_command}
@@ -14,7 +14,7 @@ use Rattle.vcd_model.specs.BodyPhrases.{BodyPhrase, Start, start_of}
 use Rattle.vcd_model.specs.BodyPhrases.Start.{Command, Digits, Number}
 use Rattle.vcd_model.specs.BodyChecks.{body_fault}
 use Rattle.vcd_model.specs.BodyReading.{body_grammar, read_body, body_items, body_fault_of}
-use Rattle.vcd_model.specs.Reading.{Fault, Grammar, Reading, reading_of, phrases_of}
+use Rattle.vcd_model.specs.Reading.{Grammar, Reading, reading_of, phrases_of}
 use Rattle.vcd_model.specs.CheckAndList.{check_close}
 use Rattle.vcd_model.specs.Outcome.{Outcome, fault_outcome, clean_outcome, declarations_allowed}
 

@@ -1,16 +1,16 @@
 -- What is known of a plain header while it is read, and of its end.
-use Rattle.std.specs.Prelude.{◌≡◌, ◌≢◌, ℕ, false, true, is_some, List, [], ◌∷◌, ◌++◌, map, length, if◌then◌else◌, bytes_eq, codes, Some, Result, Ok, Err}
+use Rattle.std.specs.Prelude.{◌≡◌, ◌≢◌, ℕ, false, true, is_some, List, [], ◌∷◌, ◌++◌, map, length, if◌then◌else◌, bytes_eq, codes, Some}
 use Rattle.std.specs.List.{AllByRecursion, list_any}
 use Rattle.vcd_model.specs.Input.{Input}
 use Rattle.vcd_model.specs.Tokens.{Token, stream_of}
 use Rattle.vcd_model.specs.Declarations.{Declaration, Variable, codes_of}
-use Rattle.vcd_model.specs.HeaderPhrases.{HeaderPhrase, declarations_of}
+use Rattle.vcd_model.specs.HeaderPhrases.{HeaderPhrase}
 use Rattle.vcd_model.specs.Bytes.{is_decimal, decimal_value}
 use Rattle.vcd_model.specs.Keywords as model
 use Rattle.vcd_model.specs.Keywords.{keyword_text}
 use Rattle.vcd_model.specs.Scales.{exponent_of, is_scale_number, is_scale_unit}
 use Rattle.vcd_model.specs.HeaderReading.{header_fault_of}
-use Rattle.vcd_model.specs.Reading.{Placed, phrases_of, reading_of}
+use Rattle.vcd_model.specs.Reading.{Placed, reading_of}
 use Rattle.vcd_model.specs.SoFar.{IsWhole}
 use Rattle.vcd_text.specs.Feed.{Stands, limit_of, token_of, seen}
 use Rattle.vcd_text.specs.declared.device.Source.{Ghosts}
@@ -21,7 +21,6 @@ use Rattle.vcdkit.specs.Fault.{fault_number}
 use Rattle.vcdkit.specs.declared.keyword.Keyword.{Keyword}
 use Rattle.vcdkit.specs.declared.keyword.Keyword.TheVariants.{Comment, Date, EndDefinitions, Scope, Timescale, Upscope, Var, Version, DumpAll, DumpOff, DumpOn, DumpVars, End}
 use Rattle.vcdkit.specs.declared.plain_head.Start.{Start}
-use Rattle.vcdkit.specs.declared.plain_head.Start.TheVariants as Start
 use Rattle.vcdkit.specs.declared.plain_head.Start.TheVariants.{Refused}
 use Rattle.vcdkit.specs.declared.plain_head.PlainHead.{PlainHead}
 use Rattle.vcdkit.specs.Plain.{plain_header}

@@ -1,5 +1,5 @@
 -- The report of `check`.
-use Rattle.std.specs.Prelude.{◌≡◌, ℕ, List, [], ◌∷◌, ◌++◌, flat_map, decimal, codes, Option}
+use Rattle.std.specs.Prelude.{ℕ, List, ◌++◌, decimal, codes}
 use Rattle.std.specs.Borrow.{Bor}
 use Rattle.vcd_model.specs.CheckAndList.{count_line, number_or_dash}
 use Rattle.vcdkit.specs.declared.check.Report.{Report}

@@ -26,10 +26,7 @@ pub(crate) struct Report {
 }
 
 /// Reads a dump.
-fn read_dump<S: Source>(
-    alloc: Global,
-    feed: &mut Feed<'_, '_, '_, '_, S>,
-) -> Result<Report, Fault>
+fn read_dump<S: Source>(alloc: Global, feed: &mut Feed<'_, '_, '_, '_, S>) -> Result<Report, Fault>
     requires failures { S.failures (source_of feed.old) < 2 ^ 64 - 1 }
     requires going { IsGoing feed.old }
     ensures failures { S.failures (source_of feed.new) ≡ failures_by (S.failures (source_of feed.old)) result }

@@ -12,10 +12,10 @@ mod message;
 mod plain_body;
 mod plain_head;
 mod run;
-mod tokens;
-mod words;
 #[cfg(test)]
 mod tests;
+mod tokens;
+mod words;
 
 use clap::Error;
 use command::{command_of, parse_status};
@@ -68,12 +68,15 @@ fn run_job<S: Source, W: Write + Drop, E: Sink>(
 }
 
 /// Prints why a parse gave no matches, and answers the exit status.
-fn print_error<R: Print + Eprint>(rt: &R, error: Error) -> Result<u8, UseFault> {
+fn print_error(rt: &HostRuntime, error: Error) -> Result<u8, UseFault> {
     let status = parse_status(&error);
     if status == 3 {
         return Err(UseFault::OutOfMemory);
     }
-    let _ = error.print(rt);
+    if error.print(rt).is_err() && status == 0 {
+        let _ = put_line(&mut Watch::new(rt.stderr()), "write failed");
+        return Ok(3);
+    }
     Ok(status)
 }
 

@@ -96,11 +96,7 @@ fn is_value_digit(byte: u8) -> bool
 }
 
 /// Reads a token where a phrase begins.
-fn item_of(
-    token: &[u8],
-    codes: &IndexSet<Vec<u8>>,
-    last: Option<u64>,
-) -> Result<Item, Fault>
+fn item_of(token: &[u8], codes: &IndexSet<Vec<u8>>, last: Option<u64>) -> Result<Item, Fault>
     ensures gives { (declared : List IdCode) (earlier : List BodyPhrase) → HasTexts codes.now declared → IsBehind (items_of earlier) last
         → ItemGives declared earlier token.now result }
     ensures whole { IfErr result (λ fault. input_is_whole fault ≡ true) }

@@ -50,16 +50,10 @@ fn keyword_start(keyword: Keyword) -> Start
         Keyword::Timescale => Start::Timescale,
         Keyword::Var => Start::Variable,
         Keyword::EndDefinitions => Start::EndDefinitions,
-        Keyword::Comment
-        | Keyword::Date
-        | Keyword::Scope
-        | Keyword::Upscope
-        | Keyword::Version => Start::Refused(Fault::UnknownCommand),
-        Keyword::DumpAll
-        | Keyword::DumpOff
-        | Keyword::DumpOn
-        | Keyword::DumpVars
-        | Keyword::End => Start::Refused(Fault::OutOfPlace),
+        Keyword::Comment | Keyword::Date | Keyword::Scope | Keyword::Upscope | Keyword::Version =>
+            Start::Refused(Fault::UnknownCommand),
+        Keyword::DumpAll | Keyword::DumpOff | Keyword::DumpOn | Keyword::DumpVars | Keyword::End =>
+            Start::Refused(Fault::OutOfPlace),
     }
 }
 
@@ -240,7 +234,7 @@ fn read_variable<S: Source>(
         → (token_of feed.old).bytes ≡ keyword_text keyword.Var → Declares (declarations_of (phrases_of placed)) head.old
         → MatchResult result
         (λ _. (p : Placed HeaderPhrase) × ReadsHead i (placed ++ p ∷ []) [] feed.new
-            × Declares (declarations_of (phrases_of (placed ++ p ∷ []))) head.new)
+        × Declares (declarations_of (phrases_of (placed ++ p ∷ []))) head.new)
         (HeadFails i feed.new) }
 {
     if head.variables >= MOST {

@@ -29,7 +29,9 @@ fn is_event(token: &[u8]) -> bool
 
 // The numbers and units of a time scale, and both together (clause 18, $timescale).
 const SCALE_NUMBERS: [&[u8]; 3] = [b"1", b"10", b"100"];
+
 const SCALE_UNITS: [&[u8]; 6] = [b"s", b"ms", b"us", b"ns", b"ps", b"fs"];
+
 const SCALES: [&[u8]; 18] = [
     b"100s", b"10s", b"1s", b"100ms", b"10ms", b"1ms", b"100us", b"10us", b"1us", b"100ns",
     b"10ns", b"1ns", b"100ps", b"10ps", b"1ps", b"100fs", b"10fs", b"1fs",

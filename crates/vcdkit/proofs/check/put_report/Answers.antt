@@ -1,4 +1,4 @@
-use Rattle.std.proofs.Common.{◌≡◌, List, ℕ, [], ◌∷◌, ◌++◌, append_assoc, append-nil, decimal, codes, Option, Result, Ok, Err, subst, rules}
+use Rattle.std.proofs.Common.{◌≡◌, List, ℕ, [], ◌++◌, append_assoc, append-nil, decimal, codes, Option, Err, subst, rules}
 use Rattle.vcd_model.specs.CheckAndList.{count_line, number_or_dash}
 use Rattle.vcd_text.specs.Device.{Takes}
 use Rattle.vcdkit.proofs.Writing.{AppendsSome, appends-first, takes-twice}

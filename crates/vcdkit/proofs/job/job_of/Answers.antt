@@ -16,5 +16,5 @@ returns-in_default-name-clause-fault c =
 
 pub returns-clause-job : goal.returns-clause-job
 returns-clause-job c =
-  ap (λ name. job_of (words_behind name)) (sym c.subcommand_name.ensures ∙ ap (option_map (λ s. s.now)) c.in-Some.is)
-      ∙ check-asked c.in-Some.name.now c.in-check.is
+    ap (λ name. job_of (words_behind name)) (sym c.subcommand_name.ensures ∙ ap (option_map (λ s. s.now)) c.in-Some.is)
+    ∙ check-asked c.in-Some.name.now c.in-check.is

@@ -1,5 +1,5 @@
 -- A search among the keywords' spellings is the model's search.
-use Rattle.std.proofs.Common.{rules, ◌≡◌, ℕ, Bool, true, false, cond, option_map, Option, Some, List, [], ◌∷◌, map, find, bytes_eq, refl, ap, ◌∙◌}
+use Rattle.std.proofs.Common.{◌≡◌, Bool, true, false, cond, option_map, Option, Some, List, [], ◌∷◌, map, find, bytes_eq, refl, ap, ◌∙◌}
 use Rattle.vcd_model.specs.Keywords.{keyword_of, keyword_text}
 use Rattle.vcdkit.specs.Keyword.{model_of}
 use Rattle.vcdkit.specs.declared.keyword.Keyword.{Keyword}

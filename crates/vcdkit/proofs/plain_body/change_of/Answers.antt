@@ -22,6 +22,8 @@ returns-then-contains-clause-gives c = λ declared earlier digit texts d.
     (declared_is_among (λ k. k.items) c.args.code.now c.args.codes.now.keys declared texts ∙ (sym c.contains.ensures ∙ c.if-contains.true))
 
 pub returns-else-contains-clause-gives : goal.returns-else-contains-clause-gives
-returns-else-contains-clause-gives c = λ declared earlier digit texts d.
-    (refl, unknown_code declared earlier digit c.args.code.now d (filled_of c.args.code.now (sym c.is_empty.ensures ∙ c.if-is_empty.false))
-    (declared_is_among (λ k. k.items) c.args.code.now c.args.codes.now.keys declared texts ∙ (sym c.contains.ensures ∙ c.if-contains.false)))
+returns-else-contains-clause-gives c = λ declared earlier digit texts d. (
+  refl,
+  unknown_code declared earlier digit c.args.code.now d (filled_of c.args.code.now (sym c.is_empty.ensures ∙ c.if-is_empty.false))
+      (declared_is_among (λ k. k.items) c.args.code.now c.args.codes.now.keys declared texts ∙ (sym c.contains.ensures ∙ c.if-contains.false)),
+)

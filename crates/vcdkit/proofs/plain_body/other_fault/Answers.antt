@@ -1,4 +1,4 @@
-use Rattle.std.proofs.Common.{◌≡◌, Some, sym, ap, ◌∙◌}
+use Rattle.std.proofs.Common.{Some, sym, ap, ◌∙◌}
 use Rattle.vcdkit.specs.Fault.{fault_number}
 use Rattle.vcdkit.proofs.BodySteps.{keyword_fault, no_item_fault}
 use Rattle.vcdkit.proofs.plain_body.other_fault.Goals as goal

@@ -1,10 +1,6 @@
-use Rattle.std.proofs.Common.{◌≡◌, ◌+◌, List, ℕ, [], ◌∷◌, ◌++◌, Ok, Err, add-zero, refl, sym, ap, subst, ◌∙◌, arith, rules}
+use Rattle.std.proofs.Common.{◌≡◌, [], ◌++◌, Ok, Err, add-zero, sym, ap, ◌∙◌, arith, rules}
 use Rattle.vcd_model.specs.Reading.{phrases_of}
-use Rattle.vcd_text.specs.Feed.{token_of}
-use Rattle.vcdkit.specs.declared.plain_body.Item.TheVariants.{Time, Change}
 use Rattle.vcdkit.specs.Plain.{plain_body}
-use Rattle.vcdkit.specs.PlainBody.{ItemGives}
-use Rattle.vcdkit.specs.Reads.{failures_by}
 use Rattle.vcdkit.proofs.Phrases.{reads_nothing, asked, whole_input, no_failed_read, since_none, since_next}
 use Rattle.vcdkit.proofs.BodyEndings.{nothing_counted, item_given, token_given, end_given, body_ends, body_wrong, time_taken, change_taken}
 use Rattle.vcdkit.proofs.plain_body.read_body.Goals as goal
@@ -38,10 +34,10 @@ loop-halt-preserved-in-Time g c = (
   since_next _ _ _ c.loop-halt.invariant.0 (c.in-Ok-Token.ensures.open (ap (λ a. Ok a) c.in-Ok-Token.field-0-is)) (c.in-Ok-Token.ensures.failures (λ e. cc)) c.next.ensures.lengths c.next.ensures.loans (c.in-Ok-Token.ensures.progress (ap (λ a. Ok a) c.in-Ok-Token.field-0-is)),
   (let so_far = c.loop-halt.invariant.1 in let more = c.in-Ok-Token.ensures.progress (ap (λ a. Ok a) c.in-Ok-Token.field-0-is) in omega arith),
   λ i front declared h texts.
-  let s = c.loop-halt.invariant.2 i front declared h texts in
-  let a = asked (plain_body declared) i front s.0 [] _ c.next.new.self s.1 (token_given i (front ++ s.1.given) c.loop-halt.feed c.next.new.self c.in-Ok-Token.field-0 c.in-Ok-Token.field-0-is (c.in-Ok-Token.ensures.gives i _ s.1.stands)) in
-  let t = c.in_ok-time.ensures.gives declared (phrases_of s.0) texts s.2.behind in
-  time_taken declared i front s.0 c.next.new.self c.loop-halt.counts c.in-Time.time a s.2 (item_given declared (phrases_of s.0) _ _ _ _ c.token.ensures c.in-Time.is t),
+      let s = c.loop-halt.invariant.2 i front declared h texts in
+      let a = asked (plain_body declared) i front s.0 [] _ c.next.new.self s.1 (token_given i (front ++ s.1.given) c.loop-halt.feed c.next.new.self c.in-Ok-Token.field-0 c.in-Ok-Token.field-0-is (c.in-Ok-Token.ensures.gives i _ s.1.stands)) in
+      let t = c.in_ok-time.ensures.gives declared (phrases_of s.0) texts s.2.behind in
+      time_taken declared i front s.0 c.next.new.self c.loop-halt.counts c.in-Time.time a s.2 (item_given declared (phrases_of s.0) _ _ _ _ c.token.ensures c.in-Time.is t),
 )
 
 pub loop-halt-preserved : goal.loop-halt-preserved
@@ -49,8 +45,8 @@ loop-halt-preserved g c = (
   since_next _ _ _ c.loop-halt.invariant.0 (c.in-Ok-Token.ensures.open (ap (λ a. Ok a) c.in-Ok-Token.field-0-is)) (c.in-Ok-Token.ensures.failures (λ e. cc)) c.next.ensures.lengths c.next.ensures.loans (c.in-Ok-Token.ensures.progress (ap (λ a. Ok a) c.in-Ok-Token.field-0-is)),
   (let so_far = c.loop-halt.invariant.1 in let more = c.in-Ok-Token.ensures.progress (ap (λ a. Ok a) c.in-Ok-Token.field-0-is) in omega arith),
   λ i front declared h texts.
-  let s = c.loop-halt.invariant.2 i front declared h texts in
-  let a = asked (plain_body declared) i front s.0 [] _ c.next.new.self s.1 (token_given i (front ++ s.1.given) c.loop-halt.feed c.next.new.self c.in-Ok-Token.field-0 c.in-Ok-Token.field-0-is (c.in-Ok-Token.ensures.gives i _ s.1.stands)) in
-  let t = c.in_ok-time.ensures.gives declared (phrases_of s.0) texts s.2.behind in
-  change_taken declared i front s.0 c.next.new.self c.loop-halt.counts a s.2 (item_given declared (phrases_of s.0) _ _ _ _ c.token.ensures c.in-Change.is t),
+      let s = c.loop-halt.invariant.2 i front declared h texts in
+      let a = asked (plain_body declared) i front s.0 [] _ c.next.new.self s.1 (token_given i (front ++ s.1.given) c.loop-halt.feed c.next.new.self c.in-Ok-Token.field-0 c.in-Ok-Token.field-0-is (c.in-Ok-Token.ensures.gives i _ s.1.stands)) in
+      let t = c.in_ok-time.ensures.gives declared (phrases_of s.0) texts s.2.behind in
+      change_taken declared i front s.0 c.next.new.self c.loop-halt.counts a s.2 (item_given declared (phrases_of s.0) _ _ _ _ c.token.ensures c.in-Change.is t),
 )

@@ -1,4 +1,4 @@
-use Rattle.std.proofs.Common.{◌≡◌, ◌-◌, ◌+◌, ◌≤◌, ◌^◌, ◌<◌, List, [], map}
+use Rattle.std.proofs.Common.{◌-◌, ◌+◌, ◌≤◌, ◌^◌, List, []}
 use Rattle.vcd_model.specs.Input.{Input}
 use Rattle.vcd_model.specs.Tokens.{Token}
 use Rattle.vcd_model.specs.Declarations.{IdCode}

@@ -1,4 +1,4 @@
-use Rattle.std.proofs.Common.{◌≡◌, ◌≤◌, ◌<◌, ◌^◌, ◌&&◌, nat_lt, ℕ, Bool, true, false, cond, Option, Some, None, List, ◌∷◌, Ok, unwrap_or, refl, sym, ap, subst, ◌∙◌, arith}
+use Rattle.std.proofs.Common.{◌≡◌, ◌≤◌, ◌^◌, ◌&&◌, nat_lt, ℕ, Bool, true, false, cond, Option, Some, None, List, ◌∷◌, Ok, unwrap_or, refl, sym, ap, subst, ◌∙◌, arith}
 use Rattle.std.proofs.lemmas.Option.{cond_some}
 use Rattle.vcd_model.specs.Bytes.{is_decimal, decimal_value}
 use Rattle.vcd_model.specs.Declarations.{IdCode}
@@ -7,7 +7,6 @@ use Rattle.vcdkit.specs.declared.plain_body.Item.TheVariants.{Time}
 use Rattle.vcdkit.specs.PlainBody.{IsBehind, ItemGives}
 use Rattle.vcdkit.proofs.BodySteps.{mark_is_bad, mark_goes_back, mark_fits}
 use Rattle.vcdkit.proofs.plain_body.time_of.Goals as goal
-
 
 cond_none : (b : Bool) (v : ℕ) → cond b (Some v) None ≡ None → b ≡ false
 cond_none false v h = refl

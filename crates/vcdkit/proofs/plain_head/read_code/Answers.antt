@@ -1,6 +1,4 @@
-use Rattle.std.proofs.Common.{◌≡◌, List, ℕ, [], ◌∷◌, Err, rules, refl, sym, subst}
-use Rattle.vcd_model.specs.Keywords.{keyword_text}
-use Rattle.vcd_model.specs.Keywords.Keyword.{Var}
+use Rattle.std.proofs.Common.{◌≡◌, [], Err, rules}
 use Rattle.vcd_text.specs.Feed.{value_of}
 use Rattle.vcdkit.specs.Plain.{plain_header}
 use Rattle.vcdkit.proofs.Phrases.{reads_kept}

@@ -1,10 +1,8 @@
-use Rattle.std.proofs.Common.{◌≡◌, List, ℕ, [], ◌∷◌, ◌++◌, Err, refl, sym, ap, subst, ◌∙◌, rules}
-use Rattle.vcd_model.specs.Keywords.{keyword_text}
-use Rattle.vcd_model.specs.Keywords.Keyword.{Timescale, Var, EndDefinitions}
+use Rattle.std.proofs.Common.{◌≡◌, List, ℕ, [], ◌∷◌, ◌++◌, Err, refl, sym, subst, ◌∙◌, rules}
 use Rattle.vcdkit.specs.Plain.{plain_header}
 use Rattle.vcdkit.specs.PlainHead.{Begins}
 use Rattle.vcdkit.specs.declared.plain_head.Start.TheVariants.{Refused}
-use Rattle.vcdkit.proofs.Phrases.{reads_nothing, since_none, since_first, since_more}
+use Rattle.vcdkit.proofs.Phrases.{reads_nothing, since_none, since_more}
 use Rattle.vcdkit.proofs.Codes.{no_codes}
 use Rattle.vcdkit.proofs.HeadSteps.{start_refused, declares_same}
 use Rattle.vcdkit.proofs.plain_head.read_head.Goals as goal
@@ -22,10 +20,10 @@ pub loop-head-preserved-in-Continue-branch-2 : goal.loop-head-preserved-in-Conti
 loop-head-preserved-in-Continue-branch-2 g c = (
   since_more _ _ _ _ (since_more _ _ _ _ c.loop-head.invariant.0 c.in_ok-head_token.ensures.moves) c.in_ok-read_timescale-in-Timescale.ensures.moves,
   λ i h.
-  let s = c.loop-head.invariant.1 i h in
-  let a = c.in_ok-head_token.ensures.reads i s.0 _ s.1 in
-  let r = c.in_ok-read_timescale-in-Timescale.ensures.reads i s.0 a (sym c.token.ensures ∙ c.in-Timescale.ensures) in
-  (s.0 ++ r.0 ∷ [], r.2, declares_same s.0 r.0 c.loop-head.head r.1 s.2),
+      let s = c.loop-head.invariant.1 i h in
+      let a = c.in_ok-head_token.ensures.reads i s.0 _ s.1 in
+      let r = c.in_ok-read_timescale-in-Timescale.ensures.reads i s.0 a (sym c.token.ensures ∙ c.in-Timescale.ensures) in
+      (s.0 ++ r.0 ∷ [], r.2, declares_same s.0 r.0 c.loop-head.head r.1 s.2),
 )
 
 pub returns-in_err-read_timescale-in-Timescale-clause-reads : goal.returns-in_err-read_timescale-in-Timescale-clause-reads
@@ -39,10 +37,10 @@ pub loop-head-preserved : goal.loop-head-preserved
 loop-head-preserved g c = (
   since_more _ _ _ _ (since_more _ _ _ _ c.loop-head.invariant.0 c.in_ok-head_token.ensures.moves) c.in_ok-read_variable-in-Variable.ensures.moves,
   λ i h.
-  let s = c.loop-head.invariant.1 i h in
-  let a = c.in_ok-head_token.ensures.reads i s.0 _ s.1 in
-  let r = c.in_ok-read_variable-in-Variable.ensures.reads i s.0 a (sym c.token.ensures ∙ c.in-Variable.ensures) s.2 in
-  (s.0 ++ r.0 ∷ [], r.1, r.2),
+      let s = c.loop-head.invariant.1 i h in
+      let a = c.in_ok-head_token.ensures.reads i s.0 _ s.1 in
+      let r = c.in_ok-read_variable-in-Variable.ensures.reads i s.0 a (sym c.token.ensures ∙ c.in-Variable.ensures) s.2 in
+      (s.0 ++ r.0 ∷ [], r.1, r.2),
 )
 
 pub returns-in_err-read_variable-in-Variable-clause-reads : goal.returns-in_err-read_variable-in-Variable-clause-reads

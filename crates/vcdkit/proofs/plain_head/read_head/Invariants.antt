@@ -1,4 +1,4 @@
-use Rattle.std.proofs.Common.{◌≡◌, ◌-◌, ◌^◌, ◌<◌, List, []}
+use Rattle.std.proofs.Common.{◌-◌, ◌^◌, List, []}
 use Rattle.vcd_model.specs.Input.{Input}
 use Rattle.vcd_model.specs.HeaderPhrases.{HeaderPhrase, declarations_of}
 use Rattle.vcd_model.specs.Reading.{Placed, phrases_of}

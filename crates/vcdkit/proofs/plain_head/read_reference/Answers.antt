@@ -1,4 +1,4 @@
-use Rattle.std.proofs.Common.{◌≡◌, [], ◌∷◌, Err, rules, ◌∙◌}
+use Rattle.std.proofs.Common.{◌≡◌, Err, rules, ◌∙◌}
 use Rattle.vcdkit.proofs.Phrases.{since_first, since_more}
 use Rattle.vcdkit.proofs.HeadSteps.{no_reference_read, reference_begins, reference_more, variable_read}
 use Rattle.vcdkit.proofs.plain_head.read_reference.Goals as goal
@@ -32,6 +32,6 @@ loop-feed-preserved g c = (
   since_more _ _ _ _ c.loop-feed.invariant.0 c.in_ok-head_token-2.ensures.moves,
   c.head_token-in-loop-feed.ensures.value ∙ c.loop-feed.invariant.1,
   λ i placed type size code o r.
-  let so_far = c.loop-feed.invariant.2 i placed type size code o r in
-  reference_more i placed c.head_token-in-loop-feed.new.feed type size code so_far.0 so_far.1 o so_far.2 (c.in_ok-head_token-2.ensures.reads i placed _ so_far.3) (cc),
+      let so_far = c.loop-feed.invariant.2 i placed type size code o r in
+      reference_more i placed c.head_token-in-loop-feed.new.feed type size code so_far.0 so_far.1 o so_far.2 (c.in_ok-head_token-2.ensures.reads i placed _ so_far.3) (cc),
 )

@@ -1,4 +1,4 @@
-use Rattle.std.proofs.Common.{◌≡◌, ◌-◌, ◌^◌, List, [], ◌∷◌, ℕ, false, ◌<◌}
+use Rattle.std.proofs.Common.{◌≡◌, ◌-◌, ◌^◌, List, [], ◌∷◌, ℕ, false}
 use Rattle.std.specs.List.{AllByRecursion}
 use Rattle.vcd_model.specs.Input.{Input}
 use Rattle.vcd_model.specs.Keywords.{is_end, keyword_text}

@@ -1,4 +1,4 @@
-use Rattle.std.proofs.Common.{◌≡◌, [], ◌∷◌, Err, rules}
+use Rattle.std.proofs.Common.{◌≡◌, Err, rules}
 use Rattle.vcdkit.proofs.HeadSteps.{scale_read, number_read, unit_read, scale_wrong, unit_wrong}
 use Rattle.vcdkit.proofs.plain_head.read_scale.Goals as goal
 

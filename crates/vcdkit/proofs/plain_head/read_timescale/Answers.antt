@@ -1,4 +1,4 @@
-use Rattle.std.proofs.Common.{◌≡◌, [], ◌∷◌, Err, rules}
+use Rattle.std.proofs.Common.{◌≡◌, Err, rules}
 use Rattle.vcdkit.proofs.HeadSteps.{timescale_starts, timescale_read, timescale_wrong}
 use Rattle.vcdkit.proofs.plain_head.read_timescale.Goals as goal
 

@@ -1,4 +1,4 @@
-use Rattle.std.proofs.Common.{◌≡◌, [], ◌∷◌, Err, rules}
+use Rattle.std.proofs.Common.{◌≡◌, Err, rules}
 use Rattle.vcdkit.proofs.HeadSteps.{type_read, type_wrong}
 use Rattle.vcdkit.proofs.plain_head.read_type.Goals as goal
 

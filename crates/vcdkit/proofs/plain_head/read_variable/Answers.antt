@@ -1,4 +1,4 @@
-use Rattle.std.proofs.Common.{◌≡◌, [], ◌∷◌, Err, ap, ◌∙◌, rules, arith}
+use Rattle.std.proofs.Common.{◌≡◌, Err, ap, ◌∙◌, rules, arith}
 use Rattle.vcdkit.specs.PlainHead.{texts_of, with_text}
 use Rattle.vcdkit.proofs.HeadSteps.{variable_starts, too_many_read, declares_more}
 use Rattle.vcdkit.proofs.plain_head.read_variable.Goals as goal

@@ -1,4 +1,4 @@
-use Rattle.std.proofs.Common.{◌≡◌, Some, None, sym, ◌∙◌, ap, refl, rules}
+use Rattle.std.proofs.Common.{◌≡◌, Some, sym, ◌∙◌, refl}
 use Rattle.vcd_model.specs.Keywords.{keyword_of}
 use Rattle.vcdkit.specs.Keyword.{model_of}
 use Rattle.vcdkit.proofs.Starts.{begins_keyword, begins_as_change, begins_otherwise}

@@ -1,8 +1,6 @@
-use Rattle.std.proofs.Common.{◌≡◌, ℕ, inl, refl, sym, subst}
-use Rattle.vcd_model.specs.Outcome.{Outcome}
+use Rattle.std.proofs.Common.{inl, refl}
 use Rattle.vcd_text.specs.Answer.{whole}
 use Rattle.vcdkit.specs.Reads.{input_of}
-use Rattle.vcdkit.specs.Run.{Gives}
 use Rattle.vcdkit.proofs.Answers.{read_as, refused, gives_same}
 use Rattle.vcdkit.proofs.run.check.Goals as goal
 
@@ -13,8 +11,7 @@ returns-in-Ok-clause-gives g c = λ text h.
 
 pub returns-in-Err-clause-gives : goal.returns-in-Err-clause-gives
 returns-in-Err-clause-gives g c = λ text h.
-    let read = c.in-Err.ensures.gives text c.args.name.now h in
-    (
+    let read = c.in-Err.ensures.gives text c.args.name.now h in (
       input_of c.in-Err.at.fault read.0 (whole text),
       read_as c.in-Err.at.fault text read.0 _ _ c.in-Err.ensures.failures,
       refused c.args.job.limit c.args.name.now text read.0 c.in-Err.at _ _ _ c.refuse.result read.1 c.refuse.ensures.fault c.refuse.ensures.message c.refuse.ensures.memory c.refuse.ensures.wanting,

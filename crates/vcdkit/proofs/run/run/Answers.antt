@@ -1,4 +1,4 @@
-use Rattle.std.proofs.Common.{◌≡◌, [], ◌∷◌, map, get_or, ap, sym, ◌∙◌}
+use Rattle.std.proofs.Common.{[], ◌∷◌, map, get_or, ap, sym, ◌∙◌}
 use Rattle.std.specs.Prelude.{string_bytes}
 use Rattle.vcdkit.proofs.Answers.{one_of, set_one, run_gives}
 use Rattle.vcdkit.proofs.run.run.Goals as goal

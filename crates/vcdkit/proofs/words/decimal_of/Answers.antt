@@ -1,6 +1,5 @@
-use Rattle.std.proofs.Common.{◌≡◌, ℕ, ◌+◌, ◌*◌, ◌-◌, ◌≤◌, ◌<◌, ◌^◌, length, get_or, take, Some, true, false, refl, sym, ◌∙◌, ap, subst, arith, rules}
-use Rattle.vcd_model.specs.Bytes.{is_empty}
-use Rattle.vcdkit.proofs.Digits.{HasRead, read_more, no_digit, product_too_large, sum_too_large, read_all}
+use Rattle.std.proofs.Common.{◌≡◌, ◌+◌, ◌*◌, ◌-◌, get_or, refl, sym, ◌∙◌, subst, arith, rules}
+use Rattle.vcdkit.proofs.Digits.{HasRead, read_more, product_too_large, sum_too_large, read_all}
 use Rattle.vcdkit.proofs.words.decimal_of.Goals as goal
 
 pub loop-digit-init : goal.loop-digit-init
