@@ -11,3 +11,4 @@ mod Asking
 mod Dumps
 mod PlainOutcomes
 mod Answers
+mod PlainRows
