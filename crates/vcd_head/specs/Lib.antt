@@ -1,0 +1,4 @@
+pub mod Fault
+pub mod Shown
+pub mod Views
+pub mod Reads

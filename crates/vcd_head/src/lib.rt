@@ -1,0 +1,6 @@
+//! The header of a dump as slices and numbers.
+#![tactic(auto)]
+
+pub mod fault;
+pub mod head;
+pub mod view;
