@@ -1,0 +1,7 @@
+-- What a watch knows beside its device.
+use Rattle.std.specs.Prelude.{ℕ}
+use Rattle.vcd_text.specs.declared.device.Watch.{Watch}
+
+-- how many calls of the device have failed
+abbrev pub failed_calls : {D : Type 0} → Watch D → ℕ
+failed_calls w = w.failures
