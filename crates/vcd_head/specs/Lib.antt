@@ -2,3 +2,4 @@ pub mod Fault
 pub mod Shown
 pub mod Views
 pub mod Reads
+pub mod Words

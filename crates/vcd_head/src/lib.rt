@@ -4,3 +4,4 @@
 pub mod fault;
 pub mod head;
 pub mod view;
+pub(crate) mod words;

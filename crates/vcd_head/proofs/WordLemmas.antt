@@ -1,0 +1,99 @@
+-- What the tests of words say.
+use Rattle.std.proofs.Common.{◌≡◌, ◌≢◌, ℕ, ◌+◌, ◌-◌, ◌*◌, ◌^◌, ◌<◌, ◌≤◌, Bool, true, false, cond, not, ◌&&◌, ◌||◌, nat_lt, min, List, [], ◌∷◌, ◌++◌, length, take, get_or, find, bytes_eq, Option, Some, None, is_none, refl, sym, ap, ◌∙◌, arith, add-one, pow-suc}
+use Rattle.std.specs.List.{list_all}
+use Rattle.std.specs.Char.{is_ascii_digit}
+use Rattle.std.proofs.lemmas.List.{length_push, take_more}
+use Rattle.std.proofs.lemmas.List.Folds.{list_all_at, list_all_more}
+use Rattle.std.proofs.lemmas.Bool.{and_parts, and_from, and_right, and_left, or_parts, lt-ltb, le-ltb}
+use Rattle.std.proofs.lemmas.Slice.Eq.{bytes_eq-Decides}
+use Rattle.vcd_model.specs.Bytes.{decimal_value, is_decimal, is_empty}
+use Rattle.vcd_model.specs.Checks.{first_failed}
+use Rattle.vcd_model.specs.Keywords.{keyword_of, keyword_text, is_unknown_command, is_command, is_end}
+use Rattle.vcd_model.specs.Keywords as model
+use Rattle.vcd_model.specs.HeaderChecks.{is_size, start_of, begins_change}
+use Rattle.vcd_head.specs.Words.{IsOther, is_body_word, first_fault, size_in}
+use Rattle.vcd_head.specs.declared.words.Keyword.TheVariants as kw
+
+-- ---- sizes
+
+decimal_value-push : (ds : List ℕ) (d : ℕ) → decimal_value (ds ++ d ∷ []) ≡ decimal_value ds * 10 + (d - 48)
+decimal_value-push [] d = omega arith
+decimal_value-push (x ∷ ds) d = rw (decimal_value-push ds d, length_push ds d, add-one, pow-suc) (omega arith)
+
+pub value_more : (token : List ℕ) (i : ℕ) → i < length token → decimal_value (take (i + 1) token) ≡ decimal_value (take i token) * 10 + (get_or token i 0 - 48)
+value_more token i h = rw (take_more token i 0 h) (decimal_value-push (take i token) (get_or token i 0))
+
+not_size : (token : List ℕ) → is_size token ≡ false → size_in token ≡ None
+not_size token e = rw e refl
+
+pub size_of_other : (token : List ℕ) (i : ℕ) → i < length token → is_ascii_digit (get_or token i 0) ≡ false → size_in token ≡ None
+size_of_other token i h e = not_size token (rw (list_all_at is_ascii_digit token i 0 h e) (by_empty (not (is_empty token))))
+  where
+    by_empty : (b : Bool) → ((b && false) && nat_lt 0 (decimal_value token) && nat_lt (decimal_value token) 16777216) ≡ false
+    by_empty true = refl
+    by_empty false = refl
+
+pub size_of_none : (token : List ℕ) → decimal_value token ≡ 0 → size_in token ≡ None
+size_of_none token e = not_size token (rw e (by_decimal (is_decimal token)))
+  where
+    by_decimal : (b : Bool) → (b && false && true) ≡ false
+    by_decimal true = refl
+    by_decimal false = refl
+
+pub size_of_much : (token : List ℕ) → 16777216 ≤ decimal_value token → size_in token ≡ None
+size_of_much token h = not_size token (rw (le-ltb (decimal_value token) 16777216 h) (and_right (is_decimal token && nat_lt 0 (decimal_value token)) false refl))
+
+filled : (token : List ℕ) → 0 < decimal_value token → not (is_empty token) ≡ true
+filled [] h = absurd (omega arith)
+filled (x ∷ token) h = refl
+
+pub size_of_digits : (token : List ℕ) → list_all is_ascii_digit token ≡ true → 0 < decimal_value token → decimal_value token < 16777216 → size_in token ≡ Some (decimal_value token)
+size_of_digits token a h k = rw (filled token h, a, lt-ltb 0 (decimal_value token) h, lt-ltb (decimal_value token) 16777216 k) refl
+
+-- ---- a first token that is no keyword of a header
+
+-- the token is no keyword
+pub no_keyword : (token : List ℕ) → IsOther token → is_body_word token ≡ false → keyword_of token ≡ None
+unfolding keyword_of
+no_keyword token other e =
+    let a = or_parts (bytes_eq (keyword_text model.Keyword.DumpAll) token || bytes_eq (keyword_text model.Keyword.DumpOff) token || bytes_eq (keyword_text model.Keyword.DumpOn) token || bytes_eq (keyword_text model.Keyword.DumpVars) token) (is_end token) e in
+    let b = or_parts (bytes_eq (keyword_text model.Keyword.DumpAll) token || bytes_eq (keyword_text model.Keyword.DumpOff) token || bytes_eq (keyword_text model.Keyword.DumpOn) token) (bytes_eq (keyword_text model.Keyword.DumpVars) token) a.0 in
+    let d = or_parts (bytes_eq (keyword_text model.Keyword.DumpAll) token || bytes_eq (keyword_text model.Keyword.DumpOff) token) (bytes_eq (keyword_text model.Keyword.DumpOn) token) b.0 in
+    let f = or_parts (bytes_eq (keyword_text model.Keyword.DumpAll) token) (bytes_eq (keyword_text model.Keyword.DumpOff) token) d.0 in
+    rw (other kw.Comment, other kw.Date, other kw.EndDefinitions, other kw.Scope, other kw.Timescale, other kw.Upscope, other kw.Var, other kw.Version, f.0, f.1, d.1, b.1, a.1) refl
+
+-- the first of five tests that passes gives its keyword
+body_keyword : Bool → Bool → Bool → Bool → Bool → Option model.Keyword
+body_keyword a b d e f = cond a (Some model.Keyword.DumpAll) (cond b (Some model.Keyword.DumpOff) (cond d (Some model.Keyword.DumpOn) (cond e (Some model.Keyword.DumpVars) (cond f (Some model.Keyword.End) None))))
+
+keyword_is : (token : List ℕ) → IsOther token
+    → keyword_of token ≡ body_keyword (bytes_eq (keyword_text model.Keyword.DumpAll) token) (bytes_eq (keyword_text model.Keyword.DumpOff) token) (bytes_eq (keyword_text model.Keyword.DumpOn) token) (bytes_eq (keyword_text model.Keyword.DumpVars) token) (is_end token)
+unfolding keyword_of body_keyword
+keyword_is token other = rw (other kw.Comment, other kw.Date, other kw.EndDefinitions, other kw.Scope, other kw.Timescale, other kw.Upscope, other kw.Var, other kw.Version) refl
+
+fault_at : (token : List ℕ) (a b d e f : Bool) → (a || b || d || e || f) ≡ true → first_failed (start_of 0 [] token (body_keyword a b d e f)) ≡ Some 4
+unfolding body_keyword
+fault_at token true b d e f h = refl
+fault_at token false true d e f h = refl
+fault_at token false false true e f h = refl
+fault_at token false false false true f h = refl
+fault_at token false false false false true h = refl
+fault_at token false false false false false h = cc
+
+pub fault_of_body_word : (token : List ℕ) → IsOther token → is_body_word token ≡ true → first_fault token ≡ Some 4
+fault_of_body_word token other e =
+    ap (λ k. first_failed (start_of 0 [] token k)) (keyword_is token other)
+    ∙ fault_at token (bytes_eq (keyword_text model.Keyword.DumpAll) token) (bytes_eq (keyword_text model.Keyword.DumpOff) token) (bytes_eq (keyword_text model.Keyword.DumpOn) token) (bytes_eq (keyword_text model.Keyword.DumpVars) token) (is_end token) e
+
+pub fault_of_change : (token : List ℕ) → IsOther token → is_body_word token ≡ false → begins_change token ≡ true → first_fault token ≡ Some 4
+fault_of_change token other e f = rw (no_keyword token other e, f) refl
+
+pub unknown_is : (token : List ℕ) → IsOther token → is_body_word token ≡ false → is_unknown_command token ≡ is_command token
+unfolding is_unknown_command
+unknown_is token other e = ap (λ k. is_none k && is_command token) (no_keyword token other e)
+
+pub fault_of_command : (token : List ℕ) → IsOther token → is_body_word token ≡ false → begins_change token ≡ false → is_command token ≡ true → first_fault token ≡ None
+fault_of_command token other e f h = rw (no_keyword token other e, f, unknown_is token other e, h) refl
+
+pub fault_of_other : (token : List ℕ) → IsOther token → is_body_word token ≡ false → begins_change token ≡ false → is_command token ≡ false → first_fault token ≡ Some 3
+fault_of_other token other e f h = rw (no_keyword token other e, f, unknown_is token other e, h) refl
