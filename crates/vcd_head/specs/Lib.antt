@@ -3,3 +3,4 @@ pub mod Shown
 pub mod Views
 pub mod Reads
 pub mod Words
+pub mod Went

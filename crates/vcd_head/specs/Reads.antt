@@ -1,10 +1,10 @@
 -- How far the reading of a header has come, by what its feed has given.
-use Rattle.std.specs.Prelude.{◌≡◌, ℕ, List, Some}
+use Rattle.std.specs.Prelude.{◌≡◌, ℕ, List, [], ◌∷◌, ◌++◌, Some}
 use Rattle.vcd_model.specs.Input.{Input}
 use Rattle.vcd_model.specs.Tokens.{Token, stream_of}
 use Rattle.vcd_model.specs.HeaderPhrases.{HeaderPhrase}
 use Rattle.vcd_model.specs.HeaderReading.{header_grammar, read_header, header_fault_of}
-use Rattle.vcd_model.specs.Reading.{Placed, reading_of}
+use Rattle.vcd_model.specs.Reading.{Placed, Ending, reading_of}
 use Rattle.vcd_model.specs.Reading.Ending.{AtFault, AtEnd, AtLast}
 use Rattle.vcd_model.specs.SoFar.{IsSoFar, IsWhole}
 use Rattle.vcd_text.specs.Answer.{failed_after}
@@ -21,15 +21,27 @@ pub record Reads {X : Type 0} {g : Ghosts X} (most : ℕ) (i : Input) (placed : 
   pub stands : Stands i given f
   pub so_far : IsSoFar (header_grammar most) given placed before
 
+-- the tokens given but the last are these good phrases, and then these first tokens of the next one; the last one was not looked at
+pub record Looks {X : Type 0} {g : Ghosts X} (most : ℕ) (i : Input) (placed : List (Placed HeaderPhrase)) (before : List (List ℕ)) (f : Feed X g) : Type 0 where
+  pub given : List Token
+  pub stands : Stands i (given ++ token_of f ∷ []) f
+  pub so_far : IsSoFar (header_grammar most) given placed before
+
 -- the tokens given are these good phrases, of which the last one ends the header
 pub record ReadsWhole {X : Type 0} {g : Ghosts X} (most : ℕ) (i : Input) (placed : List (Placed HeaderPhrase)) (f : Feed X g) : Type 0 where
   pub given : List Token
   pub stands : Stands i given f
   pub whole : IsWhole (header_grammar most) given placed
 
+-- a reading that ends so has met no fault
+abbrev pub IsNoFault : Ending → Type 0
+IsNoFault (AtFault f) = ⊥
+IsNoFault AtEnd = Unit {0}
+IsNoFault AtLast = Unit {0}
+
 -- the tokens given so far have no fault
 abbrev pub IsFaultless : ℕ → List Token → Type 0
-IsFaultless most given = elim (reading_of (header_grammar most) given).ending [ AtFault f ↦ ⊥ | AtEnd ↦ Unit {0} | AtLast ↦ Unit {0} ]
+IsFaultless most given = IsNoFault (reading_of (header_grammar most) given).ending
 
 -- the header of this input has this fault
 abbrev pub HasFault : ℕ → ℕ → Input → ℕ → ℕ → Type 0

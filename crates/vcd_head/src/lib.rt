@@ -3,5 +3,6 @@
 
 pub mod fault;
 pub mod head;
+mod tokens;
 pub mod view;
 pub(crate) mod words;

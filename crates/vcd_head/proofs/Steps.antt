@@ -1,0 +1,68 @@
+-- One token on in the reading of a header.
+use Rattle.std.proofs.Common.{◌≡◌, ℕ, ◌+◌, true, false, List, [], ◌∷◌, ◌++◌, Option, Some, None, unwrap_or, refl, sym, ap, subst, ◌∙◌, arith}
+use Rattle.std.proofs.lemmas.List.{append_assoc}
+use Rattle.vcd_model.specs.Input.{Input}
+use Rattle.vcd_model.specs.Laws.{IsPrefixOf}
+use Rattle.vcd_model.specs.Tokens.{Token, Stream, stream_of}
+use Rattle.vcd_model.specs.HeaderPhrases.{HeaderPhrase, header_phrase}
+use Rattle.vcd_model.specs.HeaderChecks.{header_fault}
+use Rattle.vcd_model.specs.HeaderReading.{header_grammar, read_header, header_fault_of, is_last}
+use Rattle.vcd_model.specs.Reading.{Placed, Reading, phrases_of, reading_of}
+use Rattle.vcd_model.specs.SoFar.{IsSoFar}
+use Rattle.vcd_model.proofs.SoFarLemmas.{so_far-token, so_far-phrase, whole-phrase, faulty-token}
+use Rattle.vcd_text.specs.Answer.{Ends}
+use Rattle.vcd_text.specs.Feed.{Stands, token_of, limit_of}
+use Rattle.vcd_text.specs.declared.device.Source.{Ghosts}
+use Rattle.vcd_text.specs.declared.feed.Feed.{Feed}
+use Rattle.vcd_head.specs.Reads.{Reads, Looks, ReadsWhole, IsFaultless, HasFault}
+use Rattle.vcd_head.specs.Went.{Went}
+use Rattle.vcd_head.specs.declared.fault.HeadFault.{HeadFault}
+
+-- a token is missing: the input's stream has no more
+pub missing_token : (most limit : ℕ) (i : Input) (given : List Token) (placed : List (Placed HeaderPhrase)) (before : List (List ℕ)) (halt : Option ℕ) (line : ℕ) → IsSoFar (header_grammar most) given placed before → Ends limit i given halt line
+    → HasFault most limit i (unwrap_or halt 2) line
+unfolding read_header
+missing_token most limit i given placed before halt line h e =
+    subst (λ (s : Stream). header_fault_of s (reading_of (header_grammar most) s.tokens) ≡ Some (record { number = unwrap_or halt 2; line = line })) (sym e)
+    (ap (λ (r : Reading HeaderPhrase). header_fault_of (record { tokens = given; halt = halt; line = line }) r) h)
+
+module _ {X : Type 0} {g : Ghosts X} (most : ℕ) (i : Input) (placed : List (Placed HeaderPhrase)) (before : List (List ℕ)) (f : Feed X g) where
+  -- the token passes its checks, and no phrase is whole with it
+  pub taken : header_fault most (phrases_of placed) before (token_of f).bytes ≡ None → header_phrase (before ++ (token_of f).bytes ∷ []) ≡ None → Looks most i placed before f → Reads most i placed (before ++ (token_of f).bytes ∷ []) f
+  taken e q l = record { given = l.given ++ token_of f ∷ []; stands = l.stands; so_far = so_far-token (header_grammar most) l.given placed before (token_of f) l.so_far e q }
+
+  -- the token passes its checks, and a phrase that others follow is whole with it
+  pub taken_phrase : (p : HeaderPhrase) → header_fault most (phrases_of placed) before (token_of f).bytes ≡ None → header_phrase (before ++ (token_of f).bytes ∷ []) ≡ Some p → is_last p ≡ false → Looks most i placed before f
+      → Reads most i (placed ++ record { phrase = p; line = (token_of f).line } ∷ []) [] f
+  taken_phrase p e q l k = record { given = k.given ++ token_of f ∷ []; stands = k.stands; so_far = so_far-phrase (header_grammar most) k.given placed before (token_of f) p k.so_far e q l }
+
+  -- the token passes its checks, and the last phrase is whole with it
+  pub taken_last : (p : HeaderPhrase) → header_fault most (phrases_of placed) before (token_of f).bytes ≡ None → header_phrase (before ++ (token_of f).bytes ∷ []) ≡ Some p → is_last p ≡ true → Looks most i placed before f
+      → ReadsWhole most i (placed ++ record { phrase = p; line = (token_of f).line } ∷ []) f
+  taken_last p e q l k = record { given = k.given ++ token_of f ∷ []; stands = k.stands; whole = whole-phrase (header_grammar most) k.given placed before (token_of f) p k.so_far e q l }
+
+  -- a check of the token fails
+  pub refused : (n : ℕ) → header_fault most (phrases_of placed) before (token_of f).bytes ≡ Some n → Looks most i placed before f → HasFault most (limit_of f) i n (token_of f).line
+  unfolding read_header
+  refused n e l =
+      let first : IsPrefixOf (l.given ++ token_of f ∷ []) (stream_of (limit_of f) i).tokens = l.stands.given_first in
+      ap (header_fault_of (stream_of (limit_of f) i)) (ap (reading_of (header_grammar most)) (first.1 ∙ append_assoc l.given (token_of f ∷ []) first.0) ∙ faulty-token (header_grammar most) l.given placed before (token_of f) first.0 n l.so_far e)
+
+  -- tokens that were read on have no fault
+  pub faultless : Reads most i placed before f → (given : List Token) × Stands i given f × IsFaultless most given
+  faultless r = (r.given, r.stands, rw (r.so_far, IsFaultless) tt)
+
+pub faultless_whole : {X : Type 0} {g : Ghosts X} (most : ℕ) (i : Input) (placed : List (Placed HeaderPhrase)) (f : Feed X g) → ReadsWhole most i placed f → (given : List Token) × Stands i given f × IsFaultless most given
+faultless_whole most i placed f r = (r.given, r.stands, rw (r.whole, IsFaultless) tt)
+
+-- what two parts of a reading leave of a feed
+pub went_on : {X : Type 0} {g : Ghosts X} (failures : X → ℕ) (old mid new : Feed X g) (fault : Option HeadFault) → Went failures old mid None → Went failures mid new fault → Went failures old new fault
+went_on failures old mid new fault a b = record {
+  loans = record { source = b.loans.source ∙ a.loans.source; chunk = b.loans.chunk ∙ a.loans.chunk; token = b.loans.token ∙ a.loans.token; value = b.loans.value ∙ a.loans.value };
+  limit = b.limit ∙ a.limit;
+  chunk = b.chunk ∙ a.chunk;
+  on = λ e. let first = a.on refl in let second = b.on e in omega arith;
+  goes = λ e o. b.goes e (a.goes refl o);
+  failed = λ e o. b.failed e (a.goes refl o) ∙ ap (λ n. n + 1) (a.same (λ x. cc));
+  same = λ e. b.same e ∙ a.same (λ x. cc);
+}
