@@ -4,3 +4,4 @@ pub mod Views
 pub mod Reads
 pub mod Words
 pub mod Went
+pub mod Texts

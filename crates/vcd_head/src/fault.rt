@@ -1,4 +1,9 @@
 // What is wrong with a header.
+ghost use Rattle.std.specs.Prelude.{◌≡◌};
+ghost use Rattle.vcd_head.specs.declared.fault.HeadFault.TheVariants.{OutOfMemory};
+
+use std::alloc::{AllocError, AllocFailed};
+
 /// Why a header is refused.
 #[derive(Clone, Copy, PartialEq, Eq, Debug)]
 pub enum HeadFault {
@@ -56,5 +61,21 @@ impl HeadFault {
             HeadFault::ReadFailed => 31,
             HeadFault::OutOfMemory => 32,
         }
+    }
+}
+
+impl From<AllocError> for HeadFault {
+    ghost from_gives = { λ _ e. e ≡ OutOfMemory };
+
+    fn from(_e: AllocError) -> HeadFault {
+        HeadFault::OutOfMemory
+    }
+}
+
+impl<T: Drop> From<AllocFailed<T>> for HeadFault {
+    ghost from_gives = { λ _ e. e ≡ OutOfMemory };
+
+    fn from(_e: AllocFailed<T>) -> HeadFault {
+        HeadFault::OutOfMemory
     }
 }

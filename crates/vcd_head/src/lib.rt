@@ -3,6 +3,7 @@
 
 pub mod fault;
 pub mod head;
+mod texts;
 mod tokens;
 pub mod view;
 pub(crate) mod words;

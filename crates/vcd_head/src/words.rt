@@ -9,9 +9,6 @@ ghost use Rattle.vcd_head.specs.Words.{StandsFor, IsOther, is_body_word, first_f
 
 use crate::fault::HeadFault;
 
-
-
-
 // The keywords that begin a phrase of a header.
 #[derive(Clone, Copy, PartialEq, Eq, Debug)]
 pub(crate) enum Keyword {

@@ -15,7 +15,11 @@ pub returns-in-Ok-Finish-clause-went : goal.returns-in-Ok-Finish-clause-went
 returns-in-Ok-Finish-clause-went g c =
     let e = rw c.in-Ok-Finish.field-0-is at c.in-Ok-Finish.ensures in
     record {
-      loans = e.loans; limit = e.lengths.0; chunk = e.lengths.1; on = λ x. cc; goes = λ x o. cc;
+      loans = e.loans;
+      limit = e.lengths.0;
+      chunk = e.lengths.1;
+      on = λ x. cc;
+      goes = λ x o. cc;
       failed = λ x o. cc;
       same = λ x. e.failures (λ y. cc);
     }
@@ -30,7 +34,11 @@ pub returns-in-Err-TokenTooLong-clause-went : goal.returns-in-Err-TokenTooLong-c
 returns-in-Err-TokenTooLong-clause-went g c =
     let e = rw c.in-Err-TokenTooLong.field-0-is at c.in-Err-TokenTooLong.ensures in
     record {
-      loans = e.loans; limit = e.lengths.0; chunk = e.lengths.1; on = λ x. cc; goes = λ x o. cc;
+      loans = e.loans;
+      limit = e.lengths.0;
+      chunk = e.lengths.1;
+      on = λ x. cc;
+      goes = λ x o. cc;
       failed = λ x o. cc;
       same = λ x. e.failures (λ y. cc);
     }
@@ -45,7 +53,11 @@ pub returns-in-Err-InputTooLong-clause-went : goal.returns-in-Err-InputTooLong-c
 returns-in-Err-InputTooLong-clause-went g c =
     let e = rw c.in-Err-InputTooLong.field-0-is at c.in-Err-InputTooLong.ensures in
     record {
-      loans = e.loans; limit = e.lengths.0; chunk = e.lengths.1; on = λ x. cc; goes = λ x o. cc;
+      loans = e.loans;
+      limit = e.lengths.0;
+      chunk = e.lengths.1;
+      on = λ x. cc;
+      goes = λ x o. cc;
       failed = λ x o. cc;
       same = λ x. e.failures (λ y. cc);
     }
@@ -60,7 +72,11 @@ pub returns-in-Err-ReadFailed-clause-went : goal.returns-in-Err-ReadFailed-claus
 returns-in-Err-ReadFailed-clause-went g c =
     let e = rw c.in-Err-ReadFailed.field-0-is at c.in-Err-ReadFailed.ensures in
     record {
-      loans = e.loans; limit = e.lengths.0; chunk = e.lengths.1; on = λ x. cc; goes = λ x o. cc;
+      loans = e.loans;
+      limit = e.lengths.0;
+      chunk = e.lengths.1;
+      on = λ x. cc;
+      goes = λ x o. cc;
       failed = λ x o. e.failed o refl;
       same = λ x. absurd (x refl);
     }
