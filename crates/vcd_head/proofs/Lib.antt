@@ -1,3 +1,5 @@
 pub mod WordLemmas
 pub mod Steps
 pub mod TextSteps
+pub mod Phrases
+pub mod Enclosing

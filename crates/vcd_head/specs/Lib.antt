@@ -5,3 +5,4 @@ pub mod Reads
 pub mod Words
 pub mod Went
 pub mod Texts
+pub mod Holds

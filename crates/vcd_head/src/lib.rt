@@ -1,6 +1,7 @@
 //! The header of a dump as slices and numbers.
 #![tactic(auto)]
 
+mod draft;
 pub mod fault;
 pub mod head;
 mod texts;

@@ -1,10 +1,10 @@
 // Phrases that run to the first `$end`.
-ghost use Rattle.std.specs.Prelude.{◌≡◌, ℕ, ◌-◌, ◌^◌, ◌<◌, List, [], ◌++◌, OnOk, MatchResult};
+ghost use Rattle.std.specs.Prelude.{◌≡◌, ℕ, ◌-◌, ◌^◌, ◌<◌, List, ◌++◌, MatchResult};
 ghost use Rattle.std.specs.List.{join_with_byte};
 ghost use Rattle.vcd_model.specs.Input.{Input};
 ghost use Rattle.vcd_model.specs.HeaderPhrases.{HeaderPhrase};
 ghost use Rattle.vcd_model.specs.Reading.{Placed};
-ghost use Rattle.vcd_text.specs.Feed.{source_of, seen};
+ghost use Rattle.vcd_text.specs.Feed.{source_of};
 ghost use Rattle.vcd_head.specs.Reads.{Reads, Fails};
 ghost use Rattle.vcd_head.specs.Texts.{RunsOn, EndsThere, spaced};
 ghost use Rattle.vcd_head.specs.Went.{Went, fault_of};
@@ -23,7 +23,6 @@ pub(crate) fn skip_to_end<S: Source>(feed: &mut Feed<'_, '_, '_, '_, S>) -> Resu
         → MatchResult result (λ _. EndsThere most i placed before feed.new (λ inner. Unit {0}))
         (λ fault. Fails most i fault feed.new) }
     ensures went { Went S.failures feed.old feed.new (fault_of result) }
-    ensures bounded { seen feed.new < 2 ^ 63 }
 {
     'tokens: loop {
         if next_ends(feed)? {
@@ -43,7 +42,6 @@ pub(crate) fn append_to_end<S: Source>(
         → MatchResult result (λ _. EndsThere most i placed before feed.new (λ inner. text.new.items ≡ text.old.items ++ spaced inner))
         (λ fault. Fails most i fault feed.new) }
     ensures went { Went S.failures feed.old feed.new (fault_of result) }
-    ensures bounded { seen feed.new < 2 ^ 63 }
 {
     'tokens: loop {
         if next_ends(feed)? {
@@ -65,7 +63,6 @@ pub(crate) fn text_to_end<S: Source>(
         → MatchResult result (λ text. EndsThere most i placed before feed.new (λ inner. text.items ≡ join_with_byte 32 inner))
         (λ fault. Fails most i fault feed.new) }
     ensures went { Went S.failures feed.old feed.new (fault_of result) }
-    ensures bounded { seen feed.new < 2 ^ 63 }
 {
     let mut text = Vec::new(alloc);
     if next_ends(feed)? {

@@ -1,0 +1,46 @@
+// A header while it is read.
+use crate::view::{Code, Row, Scale};
+use indexmap::IndexMap;
+use std::alloc::Global;
+
+// What the phrases read so far declare.
+#[derive(Drop)]
+pub(crate) struct Draft {
+    pub(crate) text: Vec<u8>,
+    pub(crate) rows: Vec<Row>,
+    pub(crate) codes: Vec<Code>,
+    // The place of each code in `codes`, by its bytes.
+    pub(crate) places: IndexMap<Vec<u8>, usize>,
+    pub(crate) date: Vec<u8>,
+    pub(crate) version: Vec<u8>,
+    pub(crate) scale: Option<Scale>,
+    // 1 plus the row of the innermost open scope, 0 where none is open.
+    pub(crate) innermost: usize,
+    // How many scopes are open.
+    pub(crate) depth: usize,
+}
+
+impl Draft {
+    pub(crate) fn new(alloc: Global) -> Self {
+        Draft {
+            text: Vec::new(alloc),
+            rows: Vec::new(alloc),
+            codes: Vec::new(alloc),
+            places: IndexMap::new(alloc),
+            date: Vec::new(alloc),
+            version: Vec::new(alloc),
+            scale: None,
+            innermost: 0,
+            depth: 0,
+        }
+    }
+}
+
+// The code of a variable that is read.
+#[derive(Drop)]
+pub(crate) enum Found {
+    // An earlier variable has it: its place in `codes`.
+    Declared(usize),
+    // None has it: its bytes.
+    New(Vec<u8>),
+}
