@@ -3,3 +3,5 @@ pub mod Steps
 pub mod TextSteps
 pub mod Phrases
 pub mod Enclosing
+pub mod Growing
+pub mod Declared

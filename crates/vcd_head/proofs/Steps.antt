@@ -16,6 +16,8 @@ use Rattle.vcd_text.specs.declared.device.Source.{Ghosts}
 use Rattle.vcd_text.specs.declared.feed.Feed.{Feed}
 use Rattle.vcd_head.specs.Reads.{Reads, Looks, ReadsWhole, IsFaultless, HasFault}
 use Rattle.vcd_head.specs.Went.{Went}
+use Rattle.vcd_head.specs.Texts.{Welcomes}
+use Rattle.vcd_model.specs.Keywords.{is_end}
 use Rattle.vcd_head.specs.declared.fault.HeadFault.{HeadFault}
 
 -- a token is missing: the input's stream has no more
@@ -66,3 +68,8 @@ went_on failures old mid new fault a b = record {
   failed = λ e o. b.failed e (a.goes refl o) ∙ ap (λ n. n + 1) (a.same (λ x. cc));
   same = λ e. b.same e ∙ a.same (λ x. cc);
 }
+
+-- a word passes its checks
+pub welcomed : {X : Type 0} {g : Ghosts X} (most : ℕ) (i : Input) (placed : List (Placed HeaderPhrase)) (before : List (List ℕ)) (f : Feed X g) → Welcomes most placed before → is_end (token_of f).bytes ≡ false → Looks most i placed before f
+    → Reads most i placed (before ++ (token_of f).bytes ∷ []) f
+welcomed most i placed before f w e l = let step = w (token_of f).bytes e in taken most i placed before f step.0 step.1 l

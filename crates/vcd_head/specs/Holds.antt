@@ -1,8 +1,8 @@
 -- What a draft holds of the phrases read so far.
-use Rattle.std.specs.Prelude.{◌≡◌, ℕ, suc, ◌+◌, ◌≤◌, List, [], ◌∷◌, length, find, filter_map, count_by, sum_by, bytes_eq, Some, None, is_some, option_map, unwrap_or, slice_get}
+use Rattle.std.specs.Prelude.{◌≡◌, ℕ, suc, ◌+◌, ◌≤◌, List, [], ◌∷◌, length, map, reverse, find, filter_map, count_by, sum_by, bytes_eq, Some, None, is_some, option_map, unwrap_or, slice_get}
 use Rattle.std.specs.Global.{Vec}
 use Rattle.std.specs.List.{AllByRecursion, AllZip, list_any, last_or}
-use Rattle.vcd_model.specs.Declarations.{Declaration, Variable, IdCode, code_of, codes_of, variables_of, has_text, is_scope, is_up, parent, enclosing}
+use Rattle.vcd_model.specs.Declarations.{Declaration, Variable, IdCode, code_of, codes_of, variables_of, has_text, is_scope, is_up, enclosing}
 use Rattle.vcd_model.specs.HeaderPhrases.{HeaderPhrase, declarations_of, date_of, version_of, timescale_of}
 use Rattle.vcd_model.specs.Bound.{kept_bytes}
 use Rattle.vcd_head.specs.declared.view.Code.{Code}
@@ -10,7 +10,7 @@ use Rattle.vcd_head.specs.declared.view.Scale.{Scale}
 use Rattle.vcd_head.specs.declared.draft.Draft.{Draft}
 use Rattle.vcd_head.specs.declared.draft.Found.{Found}
 use Rattle.vcd_head.specs.declared.draft.Found.TheVariants as found
-use Rattle.vcd_head.specs.Views.{counted_from_one, IsCode, IsSize, AreRows}
+use Rattle.vcd_head.specs.Views.{IsCode, IsSize, AreRows}
 
 -- the entries of a map are the bytes of these codes, each with its place; the first has place n
 abbrev pub ArePlaces : ℕ → List (Vec ℕ × ℕ) → List IdCode → Type 0
@@ -36,10 +36,8 @@ IsFound ds v (found.New code) = (code.items ≡ v.code) × (find (has_text v.cod
 pub record Declares (most : ℕ) (d : Draft) (ds : List Declaration) : Type 0 where
   pub codes : HasCodes d.text.items d.codes.items d.places.entries ds
   pub rows : AreRows d.text.items (codes_of ds) [] d.rows.items ds
-  pub innermost : d.innermost ≡ counted_from_one (parent ds)
-  pub nested : length (enclosing ds) ≡ d.depth
-  pub balance : d.depth + count_by is_up ds ≡ count_by is_scope ds
-  pub deep : d.depth ≤ 1000
+  pub nested : d.scopes.items ≡ map suc (reverse (enclosing ds))
+  pub balance : length (enclosing ds) + count_by is_up ds ≡ count_by is_scope ds
   pub held : length d.text.items ≤ sum_by kept_bytes ds
   pub few : length ds ≤ most
 

@@ -6,3 +6,4 @@ pub mod Words
 pub mod Went
 pub mod Texts
 pub mod Holds
+pub mod Carries

@@ -1,5 +1,5 @@
 -- Phrases that run to the first `$end`.
-use Rattle.std.specs.Prelude.{◌≡◌, ℕ, true, false, List, [], ◌∷◌, ◌++◌, flat_map, None}
+use Rattle.std.specs.Prelude.{◌≡◌, ℕ, true, false, List, [], ◌∷◌, ◌++◌, flat_map, length, Option, Some, None}
 use Rattle.std.specs.List.{AllByRecursion}
 use Rattle.vcd_model.specs.Input.{Input}
 use Rattle.vcd_model.specs.Keywords.{is_end}
@@ -38,3 +38,17 @@ pub record EndsThere {X : Type 0} {g : Ghosts X} (most : ℕ) (i : Input) (place
   pub looks : Looks most i placed (before ++ inner) f
   pub ends : is_end (token_of f).bytes ≡ true
   pub grows : Grows inner
+
+-- behind these tokens any token but `$end` may stand, and the phrase is not whole with it
+abbrev pub Welcomes : ℕ → List (Placed HeaderPhrase) → List (List ℕ) → Type 0
+Welcomes most placed before = (t : List ℕ) → is_end t ≡ false → (header_fault most (phrases_of placed) before t ≡ None) × (header_phrase (before ++ t ∷ []) ≡ None)
+
+-- `$end` was looked at, or a word read
+abbrev pub WordRead : {X : Type 0} {g : Ghosts X} → ℕ → Input → List (Placed HeaderPhrase) → List (List ℕ) → Feed X g → Option ℕ → Type 0
+WordRead most i placed before f None = Looks most i placed before f × (is_end (token_of f).bytes ≡ true)
+WordRead most i placed before f (Some n) = Reads most i placed (before ++ (token_of f).bytes ∷ []) f × (is_end (token_of f).bytes ≡ false)
+
+-- a text has grown by the word, of n bytes
+abbrev pub WordTaken : List ℕ → List ℕ → List ℕ → Option ℕ → Type 0
+WordTaken old new word None = new ≡ old
+WordTaken old new word (Some n) = (new ≡ old ++ word) × (n ≡ length word)

@@ -1,4 +1,6 @@
 // A header while it is read.
+ghost use Rattle.std.specs.Prelude.{◌≡◌, ◌-◌, length, unwrap_or, slice_get};
+
 use crate::view::{Code, Row, Scale};
 use indexmap::IndexMap;
 use std::alloc::Global;
@@ -14,10 +16,8 @@ pub(crate) struct Draft {
     pub(crate) date: Vec<u8>,
     pub(crate) version: Vec<u8>,
     pub(crate) scale: Option<Scale>,
-    // 1 plus the row of the innermost open scope, 0 where none is open.
-    pub(crate) innermost: usize,
-    // How many scopes are open.
-    pub(crate) depth: usize,
+    // 1 plus the row of each open scope, outermost first.
+    pub(crate) scopes: Vec<usize>,
 }
 
 impl Draft {
@@ -30,9 +30,15 @@ impl Draft {
             date: Vec::new(alloc),
             version: Vec::new(alloc),
             scale: None,
-            innermost: 0,
-            depth: 0,
+            scopes: Vec::new(alloc),
         }
+    }
+
+    /// 1 plus the row of the innermost open scope, 0 where none is open.
+    pub(crate) fn parent(&self) -> usize
+        ensures { result ≡ unwrap_or (slice_get self.now.scopes.items (length self.now.scopes.items - 1)) 0 }
+    {
+        self.scopes.last().copied().unwrap_or(0)
     }
 }
 

@@ -6,6 +6,7 @@ ghost use Rattle.vcd_model.specs.Reading.{Placed};
 ghost use Rattle.vcd_model.specs.Keywords.{is_end};
 ghost use Rattle.vcd_text.specs.Feed.{source_of, seen, token_of};
 ghost use Rattle.vcd_head.specs.Reads.{Reads, Looks, Fails};
+ghost use Rattle.vcd_head.specs.Texts.{Welcomes, WordRead, WordTaken};
 ghost use Rattle.vcd_head.specs.Went.{Went, fault_of};
 
 use crate::fault::HeadFault;
@@ -46,4 +47,24 @@ pub(crate) fn next_ends<S: Source>(feed: &mut Feed<'_, '_, '_, '_, S>) -> Result
 {
     next_token(feed)?;
     Ok(words::is_end(feed.token()))
+}
+
+/// Puts the next token to the text and answers its length, or answers nothing where it is `$end`.
+pub(crate) fn next_word<S: Source>(
+    feed: &mut Feed<'_, '_, '_, '_, S>,
+    text: &mut Vec<u8>,
+) -> Result<Option<usize>, HeadFault>
+    requires { S.failures (source_of feed.old) < 2 ^ 64 - 1 }
+    ensures reads { (most : ℕ) (i : Input) (placed : List (Placed HeaderPhrase)) (before : List (List ℕ))
+        → Welcomes most placed before → Reads most i placed before feed.old
+        → MatchResult result (WordRead most i placed before feed.new) (λ fault. Fails most i fault feed.new) }
+    ensures text { IfOk result (WordTaken text.old.items text.new.items (token_of feed.new).bytes) }
+    ensures went { Went S.failures feed.old feed.new (fault_of result) }
+{
+    if next_ends(feed)? {
+        return Ok(None);
+    }
+    let word = feed.token();
+    text.extend_from_slice(word)?;
+    Ok(Some(word.len()))
 }
