@@ -5,3 +5,4 @@ pub mod Phrases
 pub mod Enclosing
 pub mod Growing
 pub mod Declared
+pub mod Carrying

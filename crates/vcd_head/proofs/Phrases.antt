@@ -1,9 +1,9 @@
 -- One token on in a phrase that begins with a keyword.
-use Rattle.std.proofs.Common.{◌≡◌, ℕ, true, false, cond, List, [], ◌∷◌, ◌++◌, Option, Some, None, option_map, refl, ap, subst, ◌∙◌}
+use Rattle.std.proofs.Common.{◌≡◌, ℕ, true, false, cond, List, [], ◌∷◌, ◌++◌, Option, Some, None, option_map, option_and_then, refl, ap, subst, ◌∙◌}
 use Rattle.vcd_model.specs.Input.{Input}
 use Rattle.vcd_model.specs.Keywords.{Keyword, keyword_of, keyword_text, is_end, is_unknown_command}
 use Rattle.vcd_model.specs.Checks.{first_failed}
-use Rattle.vcd_model.specs.HeaderPhrases.{HeaderPhrase, header_phrase, phrase_with, phrase_behind, until_end, declarations_of}
+use Rattle.vcd_model.specs.HeaderPhrases.{HeaderPhrase, header_phrase, phrase_with, phrase_behind, variable_with, until_end, declarations_of}
 use Rattle.vcd_model.specs.HeaderChecks.{header_fault, start_checks, start_of, inner_checks, inner_of}
 use Rattle.vcd_model.specs.HeaderReading.{is_last}
 use Rattle.vcd_model.specs.Reading.{Placed, phrases_of}
@@ -11,7 +11,7 @@ use Rattle.vcd_text.specs.Feed.{token_of, limit_of}
 use Rattle.vcd_text.specs.declared.device.Source.{Ghosts}
 use Rattle.vcd_text.specs.declared.feed.Feed.{Feed}
 use Rattle.vcd_head.specs.Reads.{Reads, Looks, ReadsWhole, HasFault}
-use Rattle.vcd_head.specs.Texts.{NoEnds, RunsOn}
+use Rattle.vcd_head.specs.Texts.{NoEnds, RunsOn, Welcomes}
 use Rattle.vcd_head.proofs.Steps.{taken, taken_phrase, taken_last, refused}
 
 pub keyword_at : (k : Keyword) → keyword_of (keyword_text k) ≡ Some k
@@ -110,3 +110,23 @@ unknown_is u ts h = ap (phrase_behind u ts) (no_keyword_of u h) ∙ ap (λ b. co
 pub unknown_runs : (most : ℕ) (placed : List (Placed HeaderPhrase)) (u : List ℕ) → is_unknown_command u ≡ true → RunsOn most placed (u ∷ [])
 unknown_runs most placed u h inner t none =
     (unknown_free most (phrases_of placed) u inner t h, λ e. unknown_is u (inner ++ t ∷ []) h ∙ ap (option_map (HeaderPhrase.Unknown u)) (not_until inner t none e))
+
+-- ---- what may follow
+
+pub scope_welcomes_type : (most : ℕ) (placed : List (Placed HeaderPhrase)) → Welcomes most placed (keyword_text Keyword.Scope ∷ [])
+scope_welcomes_type most placed t e = (inner_fault most (phrases_of placed) Keyword.Scope [] t ∙ rw e refl, phrase_is Keyword.Scope (t ∷ []))
+
+pub scope_welcomes_name : (most : ℕ) (placed : List (Placed HeaderPhrase)) (type : List ℕ) → Welcomes most placed (keyword_text Keyword.Scope ∷ type ∷ [])
+scope_welcomes_name most placed type t e = (inner_fault most (phrases_of placed) Keyword.Scope (type ∷ []) t ∙ rw e refl, phrase_is Keyword.Scope (type ∷ t ∷ []))
+
+pub var_welcomes_type : (most : ℕ) (placed : List (Placed HeaderPhrase)) → Welcomes most placed (keyword_text Keyword.Var ∷ [])
+var_welcomes_type most placed t e = (inner_fault most (phrases_of placed) Keyword.Var [] t ∙ rw e refl, phrase_is Keyword.Var (t ∷ []))
+
+pub var_welcomes_reference : (most : ℕ) (placed : List (Placed HeaderPhrase)) (type size code : List ℕ) → Welcomes most placed (keyword_text Keyword.Var ∷ type ∷ size ∷ code ∷ [])
+var_welcomes_reference most placed type size code t e =
+    (inner_fault most (phrases_of placed) Keyword.Var (type ∷ size ∷ code ∷ []) t ∙ rw e refl, phrase_is Keyword.Var (type ∷ size ∷ code ∷ t ∷ []) ∙ ap (λ o. option_map HeaderPhrase.Declares (option_and_then (variable_with type size code) o)) (not_until [] t tt e))
+
+pub var_runs : (most : ℕ) (placed : List (Placed HeaderPhrase)) (type size code first : List ℕ) → is_end first ≡ false → RunsOn most placed (keyword_text Keyword.Var ∷ type ∷ size ∷ code ∷ first ∷ [])
+var_runs most placed type size code first n =
+    runs_freely most placed Keyword.Var (type ∷ size ∷ code ∷ first ∷ []) (λ inner t. refl)
+    (λ inner t none e. ap (λ o. option_map HeaderPhrase.Declares (option_and_then (variable_with type size code) o)) (not_until (first ∷ inner) t (n, none) e))

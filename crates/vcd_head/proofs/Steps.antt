@@ -1,5 +1,5 @@
 -- One token on in the reading of a header.
-use Rattle.std.proofs.Common.{◌≡◌, ℕ, ◌+◌, true, false, List, [], ◌∷◌, ◌++◌, Option, Some, None, unwrap_or, refl, sym, ap, subst, ◌∙◌, arith}
+use Rattle.std.proofs.Common.{◌≡◌, ℕ, ◌+◌, true, false, List, [], ◌∷◌, ◌++◌, length, Option, Some, None, unwrap_or, refl, sym, ap, subst, ◌∙◌, arith}
 use Rattle.std.proofs.lemmas.List.{append_assoc}
 use Rattle.vcd_model.specs.Input.{Input}
 use Rattle.vcd_model.specs.Laws.{IsPrefixOf}
@@ -16,7 +16,7 @@ use Rattle.vcd_text.specs.declared.device.Source.{Ghosts}
 use Rattle.vcd_text.specs.declared.feed.Feed.{Feed}
 use Rattle.vcd_head.specs.Reads.{Reads, Looks, ReadsWhole, IsFaultless, HasFault}
 use Rattle.vcd_head.specs.Went.{Went}
-use Rattle.vcd_head.specs.Texts.{Welcomes}
+use Rattle.vcd_head.specs.Texts.{Welcomes, WordRead, WordTaken}
 use Rattle.vcd_model.specs.Keywords.{is_end}
 use Rattle.vcd_head.specs.declared.fault.HeadFault.{HeadFault}
 
@@ -73,3 +73,17 @@ went_on failures old mid new fault a b = record {
 pub welcomed : {X : Type 0} {g : Ghosts X} (most : ℕ) (i : Input) (placed : List (Placed HeaderPhrase)) (before : List (List ℕ)) (f : Feed X g) → Welcomes most placed before → is_end (token_of f).bytes ≡ false → Looks most i placed before f
     → Reads most i placed (before ++ (token_of f).bytes ∷ []) f
 welcomed most i placed before f w e l = let step = w (token_of f).bytes e in taken most i placed before f step.0 step.1 l
+
+module _ {X : Type 0} {g : Ghosts X} (most : ℕ) (i : Input) (placed : List (Placed HeaderPhrase)) (before : List (List ℕ)) (f : Feed X g) (o : Option ℕ) where
+  pub word_some : (n : ℕ) → o ≡ Some n → WordRead most i placed before f o → Reads most i placed (before ++ (token_of f).bytes ∷ []) f × (is_end (token_of f).bytes ≡ false)
+  word_some n e w = subst (WordRead most i placed before f) e w
+
+  pub word_none : ((n : ℕ) → o ≡ Some n → ⊥) → WordRead most i placed before f o → Looks most i placed before f × (is_end (token_of f).bytes ≡ true)
+  word_none e w = by_cases o e w
+    where
+      by_cases : (x : Option ℕ) → ((n : ℕ) → x ≡ Some n → ⊥) → WordRead most i placed before f x → Looks most i placed before f × (is_end (token_of f).bytes ≡ true)
+      by_cases None e w = w
+      by_cases (Some n) e w = absurd (e n refl)
+
+pub text_taken : (old new word : List ℕ) (o : Option ℕ) (n : ℕ) → o ≡ Some n → WordTaken old new word o → (new ≡ old ++ word) × (n ≡ length word)
+text_taken old new word o n e w = subst (WordTaken old new word) e w

@@ -4,6 +4,7 @@
 mod draft;
 pub mod fault;
 pub mod head;
+mod scopes;
 mod texts;
 mod tokens;
 pub mod view;
