@@ -10,12 +10,12 @@ use Rattle.vcd_model.specs.Declarations.{Declaration, IdCode, code_of, codes_of,
 use Rattle.vcd_model.specs.HeaderPhrases.{HeaderPhrase, declarations_of, declaration_of, date_of, version_of, timescale_of}
 use Rattle.vcd_head.specs.declared.view.Kind.TheVariants as kind
 use Rattle.vcd_head.specs.declared.view.Row.{Row}
-use Rattle.vcd_head.specs.declared.view.Code.{Code}
 use Rattle.vcd_head.specs.declared.view.Scale.{Scale}
+use Rattle.vcd_head.specs.declared.draft.Coded.{Coded}
 use Rattle.vcd_head.specs.declared.draft.Draft.{Draft}
 use Rattle.vcd_head.specs.Views.{HasTexts, IsRow, AreRows, IsCode, IsSize, counted_from_one}
 use Rattle.vcd_head.specs.Texts.{spaced}
-use Rattle.vcd_head.specs.Holds.{ArePlaces, HasCodes, Declares, Holds}
+use Rattle.vcd_head.specs.Holds.{ArePlaces, codes_in, HasCodes, Declares, Holds}
 use Rattle.vcd_head.proofs.Enclosing.{enclosing-scope, enclosing-up}
 use Rattle.vcd_head.proofs.Growing.{are_codes_grow, are_rows_grow, are_rows_push, rows_len, codes-other, variables_push, slice_get-seam}
 use Rattle.vcd_head.proofs.TextSteps.{joined}
@@ -61,18 +61,18 @@ texts_there text type reference more r s w a n =
 
 -- ---- codes, where no variable is declared
 
-pub has_codes_grow : (text more : List ℕ) (cs : List Code) (es : List (Vec ℕ × ℕ)) (ds : List Declaration) → HasCodes text cs es ds → HasCodes (text ++ more) cs es ds
-has_codes_grow text more cs es ds h = record { stand = are_codes_grow text more cs (codes_of ds) h.stand; numbered = h.numbered; known = h.known; seen = h.seen; sizes = h.sizes }
+pub has_codes_grow : (text more : List ℕ) (es : List (Vec ℕ × Coded)) (ds : List Declaration) → HasCodes text es ds → HasCodes (text ++ more) es ds
+has_codes_grow text more es ds h = record { stand = are_codes_grow text more (codes_in es) (codes_of ds) h.stand; numbered = h.numbered; known = h.known; seen = h.seen; sizes = h.sizes }
 
 same_variables : (ds : List Declaration) (d : Declaration) → variable_of d ≡ None → variables_of (ds ++ d ∷ []) ≡ variables_of ds
 same_variables ds d h = variables_push ds d ∙ rw h (append-nil (variables_of ds))
 
-pub has_codes_other : (text : List ℕ) (cs : List Code) (es : List (Vec ℕ × ℕ)) (ds : List Declaration) (d : Declaration) → variable_of d ≡ None → HasCodes text cs es ds → HasCodes text cs es (ds ++ d ∷ [])
-has_codes_other text cs es ds d n h =
+pub has_codes_other : (text : List ℕ) (es : List (Vec ℕ × Coded)) (ds : List Declaration) (d : Declaration) → variable_of d ≡ None → HasCodes text es ds → HasCodes text es (ds ++ d ∷ [])
+has_codes_other text es ds d n h =
     let c = sym (codes-other ds d n) in
     let v = sym (same_variables ds d n) in
     record {
-      stand = subst (λ ks. AllZip (IsCode text) cs ks) c h.stand;
+      stand = subst (λ ks. AllZip (IsCode text) (codes_in es) ks) c h.stand;
       numbered = subst (λ ks. ArePlaces 0 es ks) c h.numbered;
       known = subst (λ ks. AllByRecursion (λ u. find (has_text u.code) ks ≡ Some (code_of u)) (variables_of (ds ++ d ∷ []))) c (subst (λ vs. AllByRecursion (λ u. find (has_text u.code) (codes_of ds) ≡ Some (code_of u)) vs) v h.known);
       seen = λ t. ap (list_any (λ u. bytes_eq u.code t)) (sym v) ∙ h.seen t ∙ ap (λ ks. is_some (find (has_text t) ks)) c;
@@ -94,9 +94,9 @@ parent_is ds os e = by_cases (enclosing ds) refl e
 
 -- the facts of a declaration that is no variable, where only texts, rows and scopes change
 module _ (most : ℕ) (d d' : Draft) (ds : List Declaration) (x : Declaration) (more : List ℕ) (r : Row) (h : Declares most d ds) (other : variable_of x ≡ None) (few : length ds < most)
-    (text : d'.text.items ≡ d.text.items ++ more) (rows : d'.rows.items ≡ d.rows.items ++ r ∷ []) (codes : d'.codes.items ≡ d.codes.items) (places : d'.places.entries ≡ d.places.entries) where
-  codes_kept : HasCodes d'.text.items d'.codes.items d'.places.entries (ds ++ x ∷ [])
-  codes_kept = rw (text, codes, places) (has_codes_other (d.text.items ++ more) d.codes.items d.places.entries ds x other (has_codes_grow d.text.items more d.codes.items d.places.entries ds h.codes))
+    (text : d'.text.items ≡ d.text.items ++ more) (rows : d'.rows.items ≡ d.rows.items ++ r ∷ []) (codes : d'.codes.entries ≡ d.codes.entries) where
+  codes_kept : HasCodes d'.text.items d'.codes.entries (ds ++ x ∷ [])
+  codes_kept = rw (text, codes) (has_codes_other (d.text.items ++ more) d.codes.entries ds x other (has_codes_grow d.text.items more d.codes.entries ds h.codes))
 
   rows_kept : IsRow d'.text.items (codes_of ds) ds r x → AreRows d'.text.items (codes_of (ds ++ x ∷ [])) [] d'.rows.items (ds ++ x ∷ [])
   rows_kept is =
@@ -111,10 +111,10 @@ module _ (most : ℕ) (d d' : Draft) (ds : List Declaration) (x : Declaration) (
   few_kept = omega (arith, length_push ds x)
 
 pub scope_declared : (most : ℕ) (d d' : Draft) (ds : List Declaration) (type name : List ℕ) (r : Row) → Declares most d ds → length ds < most
-    → d'.text.items ≡ (d.text.items ++ type) ++ name → d'.rows.items ≡ d.rows.items ++ r ∷ [] → d'.codes.items ≡ d.codes.items → d'.places.entries ≡ d.places.entries → d'.scopes.items ≡ d.scopes.items ++ suc (length d.rows.items) ∷ []
+    → d'.text.items ≡ (d.text.items ++ type) ++ name → d'.rows.items ≡ d.rows.items ++ r ∷ [] → d'.codes.entries ≡ d.codes.entries → d'.scopes.items ≡ d.scopes.items ++ suc (length d.rows.items) ∷ []
     → r ≡ record { kind = kind.Scope; parent = unwrap_or (slice_get d.scopes.items (length d.scopes.items - 1)) 0; start = length d.text.items; word = length type; name = length name; all = length name; code = 0 }
     → Declares most d' (ds ++ Declaration.Scope type name ∷ [])
-scope_declared most d d' ds type name r h few text rows codes places scopes is =
+scope_declared most d d' ds type name r h few text rows codes scopes is =
     let x = Declaration.Scope type name in
     let grown : d'.text.items ≡ d.text.items ++ (type ++ name) = text ∙ append_assoc d.text.items type name in
     let there : d'.text.items ≡ d.text.items ++ (type ++ (name ++ [])) = grown ∙ ap (λ l. d.text.items ++ (type ++ l)) (sym (append-nil name)) in
@@ -122,8 +122,8 @@ scope_declared most d d' ds type name r h few text rows codes places scopes is =
     let down = sum_by_push (λ e. cond (is_scope e) 1 0) ds x in
     let balance = h.balance in
     record {
-      codes = codes_kept most d d' ds x (type ++ name) r h refl few grown rows codes places;
-      rows = rows_kept most d d' ds x (type ++ name) r h refl few grown rows codes places (record {
+      codes = codes_kept most d d' ds x (type ++ name) r h refl few grown rows codes;
+      rows = rows_kept most d d' ds x (type ++ name) r h refl few grown rows codes (record {
         parent_is = ap (λ (q : Row). q.parent) is ∙ parent_is ds d.scopes.items h.nested;
         own = (ap (λ (q : Row). q.kind) is, subst (λ t. HasTexts t r type (name ∷ [])) (sym there)
           (texts_there d.text.items type (name ∷ []) [] r (ap (λ (q : Row). q.start) is) (ap (λ (q : Row). q.word) is) (ap (λ (q : Row). q.all) is) (ap (λ (q : Row). q.name) is)), ap (λ (q : Row). q.code) is);
@@ -131,8 +131,8 @@ scope_declared most d d' ds type name r h few text rows codes places scopes is =
       nested = scopes ∙ ap (λ l. l ++ suc (length d.rows.items) ∷ []) h.nested ∙ ap (λ n. map suc (reverse (enclosing ds)) ++ suc n ∷ []) (rows_len d.text.items (codes_of ds) [] d.rows.items ds h.rows)
           ∙ sym (map-append suc (reverse (enclosing ds)) (length ds ∷ [])) ∙ ap (map suc) (sym (reverse-append (length ds ∷ []) (enclosing ds))) ∙ ap (λ l. map suc (reverse l)) (sym (enclosing-scope ds type name));
       balance = rw (enclosing-scope ds type name) (omega arith);
-      held = held_kept most d d' ds x (type ++ name) r h refl few grown rows codes places (omega (arith, length-append type name));
-      few = few_kept most d d' ds x (type ++ name) r h refl few grown rows codes places;
+      held = held_kept most d d' ds x (type ++ name) r h refl few grown rows codes (omega (arith, length-append type name));
+      few = few_kept most d d' ds x (type ++ name) r h refl few grown rows codes;
     }
 
 last_same : (xs ys : List ℕ) (x y : ℕ) → xs ++ x ∷ [] ≡ ys ++ y ∷ [] → (xs ≡ ys) × (x ≡ y)
@@ -143,10 +143,10 @@ last_same (a ∷ xs) (b ∷ ys) x y q = let s : a ≡ b = cc in let t : xs ++ x 
 
 -- the innermost scope is closed
 pub up_declared : (most : ℕ) (d d' : Draft) (ds : List Declaration) (closed : ℕ) (r : Row) → Declares most d ds → length ds < most
-    → d'.text.items ≡ d.text.items → d'.rows.items ≡ d.rows.items ++ r ∷ [] → d'.codes.items ≡ d.codes.items → d'.places.entries ≡ d.places.entries → d.scopes.items ≡ d'.scopes.items ++ closed ∷ []
+    → d'.text.items ≡ d.text.items → d'.rows.items ≡ d.rows.items ++ r ∷ [] → d'.codes.entries ≡ d.codes.entries → d.scopes.items ≡ d'.scopes.items ++ closed ∷ []
     → r ≡ record { kind = kind.Up; parent = closed; start = 0; word = 0; name = 0; all = 0; code = 0 }
     → Declares most d' (ds ++ Declaration.Up ∷ [])
-up_declared most d d' ds closed r h few text rows codes places scopes is = by_cases (enclosing ds) refl
+up_declared most d d' ds closed r h few text rows codes scopes is = by_cases (enclosing ds) refl
   where
     by_cases : (ps : List ℕ) → enclosing ds ≡ ps → Declares most d' (ds ++ Declaration.Up ∷ [])
     by_cases [] e =
@@ -163,15 +163,15 @@ up_declared most d d' ds closed r h few text rows codes places scopes is = by_ca
         let balance = h.balance in
         let len : length (enclosing ds) ≡ suc (length ps) = ap length e in
         record {
-          codes = codes_kept most d d' ds x [] r h refl few grown rows codes places;
-          rows = rows_kept most d d' ds x [] r h refl few grown rows codes places (record {
+          codes = codes_kept most d d' ds x [] r h refl few grown rows codes;
+          rows = rows_kept most d d' ds x [] r h refl few grown rows codes (record {
             parent_is = ap (λ (q : Row). q.parent) is ∙ last.1 ∙ rw (e, parent) refl;
             own = (ap (λ (q : Row). q.kind) is, ap (λ (q : Row). q.start) is, ap (λ (q : Row). q.word) is, ap (λ (q : Row). q.name) is, ap (λ (q : Row). q.all) is, ap (λ (q : Row). q.code) is);
           });
           nested = last.0 ∙ ap (λ l. map suc (reverse l)) (sym inner);
           balance = rw inner (omega arith);
-          held = held_kept most d d' ds x [] r h refl few grown rows codes places (omega arith);
-          few = few_kept most d d' ds x [] r h refl few grown rows codes places;
+          held = held_kept most d d' ds x [] r h refl few grown rows codes (omega arith);
+          few = few_kept most d d' ds x [] r h refl few grown rows codes;
         }
 
 -- how many scopes are open

@@ -7,22 +7,27 @@ use Rattle.vcd_model.specs.HeaderPhrases.{HeaderPhrase, declarations_of, date_of
 use Rattle.vcd_model.specs.Bound.{kept_bytes}
 use Rattle.vcd_head.specs.declared.view.Code.{Code}
 use Rattle.vcd_head.specs.declared.view.Scale.{Scale}
+use Rattle.vcd_head.specs.declared.draft.Coded.{Coded}
 use Rattle.vcd_head.specs.declared.draft.Draft.{Draft}
 use Rattle.vcd_head.specs.declared.draft.Found.{Found}
 use Rattle.vcd_head.specs.declared.draft.Found.TheVariants as found
 use Rattle.vcd_head.specs.Views.{IsCode, IsSize, AreRows}
 
 -- the entries of a map are the bytes of these codes, each with its place; the first has place n
-abbrev pub ArePlaces : ℕ → List (Vec ℕ × ℕ) → List IdCode → Type 0
+abbrev pub ArePlaces : ℕ → List (Vec ℕ × Coded) → List IdCode → Type 0
 ArePlaces n [] [] = Unit {0}
 ArePlaces n [] (c ∷ cs) = ⊥
 ArePlaces n (e ∷ es) [] = ⊥
-ArePlaces n (e ∷ es) (c ∷ cs) = (e.0.items ≡ c.text) × (e.1 ≡ n) × ArePlaces (suc n) es cs
+ArePlaces n (e ∷ es) (c ∷ cs) = (e.0.items ≡ c.text) × (e.1.place ≡ n) × ArePlaces (suc n) es cs
+
+-- the codes of the entries
+abbrev pub codes_in : List (Vec ℕ × Coded) → List Code
+codes_in es = map (λ e. e.1.code) es
 
 -- the codes of these declarations are held
-pub record HasCodes (text : List ℕ) (codes : List Code) (places : List (Vec ℕ × ℕ)) (ds : List Declaration) : Type 0 where
-  pub stand : AllZip (IsCode text) codes (codes_of ds)
-  pub numbered : ArePlaces 0 places (codes_of ds)
+pub record HasCodes (text : List ℕ) (entries : List (Vec ℕ × Coded)) (ds : List Declaration) : Type 0 where
+  pub stand : AllZip (IsCode text) (codes_in entries) (codes_of ds)
+  pub numbered : ArePlaces 0 entries (codes_of ds)
   pub known : AllByRecursion (λ u. find (has_text u.code) (codes_of ds) ≡ Some (code_of u)) (variables_of ds)
   pub seen : (t : List ℕ) → list_any (λ u. bytes_eq u.code t) (variables_of ds) ≡ is_some (find (has_text t) (codes_of ds))
   pub sizes : AllByRecursion (λ (c : IdCode). IsSize c.size) (codes_of ds)
@@ -34,7 +39,7 @@ IsFound ds v (found.New code) = (code.items ≡ v.code) × (find (has_text v.cod
 
 -- the draft holds these declarations, of which `most` are allowed
 pub record Declares (most : ℕ) (d : Draft) (ds : List Declaration) : Type 0 where
-  pub codes : HasCodes d.text.items d.codes.items d.places.entries ds
+  pub codes : HasCodes d.text.items d.codes.entries ds
   pub rows : AreRows d.text.items (codes_of ds) [] d.rows.items ds
   pub nested : d.scopes.items ≡ map suc (reverse (enclosing ds))
   pub balance : length (enclosing ds) + count_by is_up ds ≡ count_by is_scope ds

@@ -5,14 +5,20 @@ use crate::view::{Code, Row, Scale};
 use indexmap::IndexMap;
 use std::alloc::Global;
 
+// A code with its place among the distinct codes.
+#[derive(Clone, Copy)]
+pub(crate) struct Coded {
+    pub(crate) place: usize,
+    pub(crate) code: Code,
+}
+
 // What the phrases read so far declare.
 #[derive(Drop)]
 pub(crate) struct Draft {
     pub(crate) text: Vec<u8>,
     pub(crate) rows: Vec<Row>,
-    pub(crate) codes: Vec<Code>,
-    // The place of each code in `codes`, by its bytes.
-    pub(crate) places: IndexMap<Vec<u8>, usize>,
+    // The distinct codes by their bytes, in order of first declaration.
+    pub(crate) codes: IndexMap<Vec<u8>, Coded>,
     pub(crate) date: Vec<u8>,
     pub(crate) version: Vec<u8>,
     pub(crate) scale: Option<Scale>,
@@ -25,8 +31,7 @@ impl Draft {
         Draft {
             text: Vec::new(alloc),
             rows: Vec::new(alloc),
-            codes: Vec::new(alloc),
-            places: IndexMap::new(alloc),
+            codes: IndexMap::new(alloc),
             date: Vec::new(alloc),
             version: Vec::new(alloc),
             scale: None,
@@ -45,7 +50,7 @@ impl Draft {
 // The code of a variable that is read.
 #[derive(Drop)]
 pub(crate) enum Found {
-    // An earlier variable has it: its place in `codes`.
+    // An earlier variable has it: its place among the distinct codes.
     Declared(usize),
     // None has it: its bytes.
     New(Vec<u8>),

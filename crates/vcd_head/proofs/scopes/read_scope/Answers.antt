@@ -151,6 +151,6 @@ returns-clause-reads g c = λ i b.
       let st : c.len-start.result ≡ length c.args.draft.now.text.items = omega arith in
       carried c.args.most i _ c.next_ends.new.feed b.placed (record { phrase = HeaderPhrase.Declares (Declaration.Scope type name); line = (token_of c.next_ends.new.feed).line }) r3
       (holds_declared c.args.most c.args.draft.now _ (phrases_of b.placed) (Declaration.Scope type name) b.holds
-        (scope_declared c.args.most c.args.draft.now _ (declarations_of (phrases_of b.placed)) type name _ b.holds.declares (few_enough c.args.most c.args.draft.now (phrases_of b.placed) b.holds n) (t2.0 ∙ ap (λ t. t ++ name) t1.0) c.in_ok-push.ensures.items refl refl (c.in_ok-push-2.ensures.items ∙ ap (λ k. c.args.draft.now.scopes.items ++ k ∷ []) len)
+        (scope_declared c.args.most c.args.draft.now _ (declarations_of (phrases_of b.placed)) type name _ b.holds.declares (few_enough c.args.most c.args.draft.now (phrases_of b.placed) b.holds n) (t2.0 ∙ ap (λ t. t ++ name) t1.0) c.in_ok-push.ensures.items refl (c.in_ok-push-2.ensures.items ∙ ap (λ k. c.args.draft.now.scopes.items ++ k ∷ []) len)
           (λ j. record { kind = kind.Scope; parent = c.parent-parent.ensures j; start = st j; word = t1.1 j; name = t2.1 j; all = t2.1 j; code = 0 }))
         refl refl refl)
