@@ -11,7 +11,7 @@ use Rattle.vcd_head.specs.declared.view.Row.{Row}
 use Rattle.vcd_head.specs.declared.view.Code.{Code}
 use Rattle.vcd_head.specs.Views.{HasTexts, IsRow, IsRowOf, AreRows, IsCode}
 use Rattle.vcd_head.specs.declared.draft.Coded.{Coded}
-use Rattle.vcd_head.specs.Holds.{ArePlaces}
+use Rattle.vcd_head.specs.Holds.{ArePlaces, IsOfKind}
 
 -- ---- texts
 
@@ -143,11 +143,11 @@ codes-other ds d h = ap (λ vs. filter_map (λ o. o) (each_after (λ earlier v. 
 
 -- ---- places
 
-pub places_push : (n : ℕ) (es : List (Vec ℕ × Coded)) (cs : List IdCode) (e : Vec ℕ × Coded) (c : IdCode) → ArePlaces n es cs → e.0.items ≡ c.text → e.1.place ≡ n + length cs → ArePlaces n (es ++ e ∷ []) (cs ++ c ∷ [])
-places_push n [] [] e c h t p = (t, omega arith, tt)
-places_push n [] (x ∷ cs) e c h t p = absurd h
-places_push n (y ∷ es) [] e c h t p = absurd h
-places_push n (y ∷ es) (x ∷ cs) e c h t p = (h.0, h.1, places_push (suc n) es cs e c h.2 t (omega arith))
+pub places_push : (n : ℕ) (es : List (Vec ℕ × Coded)) (cs : List IdCode) (e : Vec ℕ × Coded) (c : IdCode) → ArePlaces n es cs → e.0.items ≡ c.text → e.1.place ≡ n + length cs → IsOfKind e.1.code c → ArePlaces n (es ++ e ∷ []) (cs ++ c ∷ [])
+places_push n [] [] e c h t p k = (t, omega arith, k, tt)
+places_push n [] (x ∷ cs) e c h t p k = absurd h
+places_push n (y ∷ es) [] e c h t p k = absurd h
+places_push n (y ∷ es) (x ∷ cs) e c h t p k = (h.0, h.1, h.2, places_push (suc n) es cs e c h.3 t (omega arith) k)
 
 -- a code that was found by its bytes
 pub record IsAt (n : ℕ) (cs : List IdCode) (t : List ℕ) (p : Coded) : Type 0 where
@@ -156,23 +156,31 @@ pub record IsAt (n : ℕ) (cs : List IdCode) (t : List ℕ) (p : Coded) : Type 0
   pub sum : p.place ≡ n + place
   pub at : slice_get cs place ≡ Some code
   pub found : find (has_text t) cs ≡ Some code
+  pub of_kind : IsOfKind p.code code
 
 pub place_found : (n : ℕ) (es : List (Vec ℕ × Coded)) (cs : List IdCode) (t : List ℕ) (p : Coded) → ArePlaces n es cs → lookup (λ (k : Vec ℕ). bytes_eq t k.items) es ≡ Some p → IsAt n cs t p
 place_found n [] [] t p h e = cc
 place_found n [] (c ∷ cs) t p h e = absurd h
 place_found n (y ∷ es) [] t p h e = absurd h
-place_found n (y ∷ es) (c ∷ cs) t p h e = by_test (bytes_eq t y.0.items) refl e (place_found (suc n) es cs t p h.2)
+place_found n (y ∷ es) (c ∷ cs) t p h e = by_test (bytes_eq t y.0.items) refl e (place_found (suc n) es cs t p h.3)
   where
     by_test : (b : Bool) → bytes_eq t y.0.items ≡ b → cond b (Some y.1) (lookup (λ (k : Vec ℕ). bytes_eq t k.items) es) ≡ Some p → (lookup (λ (k : Vec ℕ). bytes_eq t k.items) es ≡ Some p → IsAt (suc n) cs t p) → IsAt n (c ∷ cs) t p
-    by_test true q f more = let same : y.1 ≡ p = cc in record { code = c; place = 0; sum = let z = h.1 in let w = ap (λ (x : Coded). x.place) same in omega arith; at = refl; found = rw (sym (ap (bytes_eq t) h.0) ∙ q) refl }
-    by_test false q f more = let m = more f in let z = m.sum in record { code = m.code; place = suc m.place; sum = omega arith; at = m.at; found = rw (sym (ap (bytes_eq t) h.0) ∙ q) m.found }
+    by_test true q f more = let same : y.1 ≡ p = cc in record { code = c; place = 0; sum = let z = h.1 in let w = ap (λ (x : Coded). x.place) same in omega arith; at = refl; found = rw (sym (ap (bytes_eq t) h.0) ∙ q) refl; of_kind = subst (λ (x : Coded). IsOfKind x.code c) same h.2 }
+    by_test false q f more = let m = more f in let z = m.sum in record { code = m.code; place = suc m.place; sum = omega arith; at = m.at; found = rw (sym (ap (bytes_eq t) h.0) ∙ q) m.found; of_kind = m.of_kind }
 
 pub place_none : (n : ℕ) (es : List (Vec ℕ × Coded)) (cs : List IdCode) (t : List ℕ) → ArePlaces n es cs → lookup (λ (k : Vec ℕ). bytes_eq t k.items) es ≡ None → find (has_text t) cs ≡ None
 place_none n [] [] t h e = refl
 place_none n [] (c ∷ cs) t h e = absurd h
 place_none n (y ∷ es) [] t h e = absurd h
-place_none n (y ∷ es) (c ∷ cs) t h e = by_test (bytes_eq t y.0.items) refl e (place_none (suc n) es cs t h.2)
+place_none n (y ∷ es) (c ∷ cs) t h e = by_test (bytes_eq t y.0.items) refl e (place_none (suc n) es cs t h.3)
   where
     by_test : (b : Bool) → bytes_eq t y.0.items ≡ b → cond b (Some y.1) (lookup (λ (k : Vec ℕ). bytes_eq t k.items) es) ≡ None → (lookup (λ (k : Vec ℕ). bytes_eq t k.items) es ≡ None → find (has_text t) cs ≡ None) → find (has_text t) (c ∷ cs) ≡ None
     by_test true q f more = cc
     by_test false q f more = rw (sym (ap (bytes_eq t) h.0) ∙ q) (more f)
+
+-- there are as many entries as codes
+pub places_len : (n : ℕ) (es : List (Vec ℕ × Coded)) (cs : List IdCode) → ArePlaces n es cs → length es ≡ length cs
+places_len n [] [] h = refl
+places_len n [] (c ∷ cs) h = absurd h
+places_len n (e ∷ es) [] h = absurd h
+places_len n (e ∷ es) (c ∷ cs) h = ap suc (places_len (suc n) es cs h.3)

@@ -6,3 +6,4 @@ pub mod Enclosing
 pub mod Growing
 pub mod Declared
 pub mod Carrying
+pub mod Coding

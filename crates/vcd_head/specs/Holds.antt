@@ -1,5 +1,5 @@
 -- What a draft holds of the phrases read so far.
-use Rattle.std.specs.Prelude.{◌≡◌, ℕ, suc, ◌+◌, ◌≤◌, List, [], ◌∷◌, length, map, reverse, find, filter_map, count_by, sum_by, bytes_eq, Some, None, is_some, option_map, unwrap_or, slice_get}
+use Rattle.std.specs.Prelude.{◌≡◌, ℕ, suc, ◌+◌, ◌≤◌, List, [], ◌∷◌, ◌++◌, length, map, reverse, find, filter_map, count_by, sum_by, bytes_eq, Some, None, is_some, option_map, unwrap_or, slice_get}
 use Rattle.std.specs.Global.{Vec}
 use Rattle.std.specs.List.{AllByRecursion, AllZip, list_any, last_or}
 use Rattle.vcd_model.specs.Declarations.{Declaration, Variable, IdCode, code_of, codes_of, variables_of, has_text, is_scope, is_up, enclosing}
@@ -13,12 +13,17 @@ use Rattle.vcd_head.specs.declared.draft.Found.{Found}
 use Rattle.vcd_head.specs.declared.draft.Found.TheVariants as found
 use Rattle.vcd_head.specs.Views.{IsCode, IsSize, AreRows}
 
+-- the code has this size, and is an event or none
+pub record IsOfKind (c : Code) (k : IdCode) : Type 0 where
+  pub same_size : c.size ≡ k.size
+  pub same_event : c.event ≡ k.event
+
 -- the entries of a map are the bytes of these codes, each with its place; the first has place n
 abbrev pub ArePlaces : ℕ → List (Vec ℕ × Coded) → List IdCode → Type 0
 ArePlaces n [] [] = Unit {0}
 ArePlaces n [] (c ∷ cs) = ⊥
 ArePlaces n (e ∷ es) [] = ⊥
-ArePlaces n (e ∷ es) (c ∷ cs) = (e.0.items ≡ c.text) × (e.1.place ≡ n) × ArePlaces (suc n) es cs
+ArePlaces n (e ∷ es) (c ∷ cs) = (e.0.items ≡ c.text) × (e.1.place ≡ n) × IsOfKind e.1.code c × ArePlaces (suc n) es cs
 
 -- the codes of the entries
 abbrev pub codes_in : List (Vec ℕ × Coded) → List Code
@@ -52,3 +57,19 @@ pub record Holds (most : ℕ) (d : Draft) (ps : List HeaderPhrase) : Type 0 wher
   pub date : d.date.items ≡ unwrap_or (last_or None (filter_map date_of ps)) []
   pub version : d.version.items ≡ unwrap_or (last_or None (filter_map version_of ps)) []
   pub scale : option_map (λ (x : Scale). x.exponent) d.scale ≡ last_or None (filter_map timescale_of ps)
+
+-- the code of the variable is held, at this place
+pub record CodeHeld (old new : Draft) (ds : List Declaration) (v : Variable) (place : ℕ) : Type 0 where
+  pub held_codes : HasCodes new.text.items new.codes.entries (ds ++ Declaration.Var v ∷ [])
+  pub held_at : slice_get (codes_of (ds ++ Declaration.Var v ∷ [])) place ≡ Some (code_of v)
+  pub more : List ℕ
+  pub grown : new.text.items ≡ old.text.items ++ more
+  pub short : length more ≤ length v.code
+
+-- nothing but texts and codes has changed
+pub record IsSameBut (old new : Draft) : Type 0 where
+  pub same_rows : new.rows.items ≡ old.rows.items
+  pub same_date : new.date.items ≡ old.date.items
+  pub same_version : new.version.items ≡ old.version.items
+  pub same_scale : new.scale ≡ old.scale
+  pub same_scopes : new.scopes.items ≡ old.scopes.items

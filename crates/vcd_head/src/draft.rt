@@ -1,6 +1,10 @@
 // A header while it is read.
-ghost use Rattle.std.specs.Prelude.{◌≡◌, ◌-◌, length, unwrap_or, slice_get};
+ghost use Rattle.std.specs.Prelude.{◌≡◌, ◌-◌, List, length, unwrap_or, slice_get, IfOk, IfErr};
+ghost use Rattle.vcd_model.specs.Declarations.{Declaration, Variable, code_of};
+ghost use Rattle.vcd_head.specs.Views.{IsSize};
+ghost use Rattle.vcd_head.specs.Holds.{HasCodes, IsFound, CodeHeld, IsSameBut};
 
+use crate::fault::HeadFault;
 use crate::view::{Code, Row, Scale};
 use indexmap::IndexMap;
 use std::alloc::Global;
@@ -44,6 +48,44 @@ impl Draft {
         ensures { result ≡ unwrap_or (slice_get self.now.scopes.items (length self.now.scopes.items - 1)) 0 }
     {
         self.scopes.last().copied().unwrap_or(0)
+    }
+
+    /// The place of the code of a variable, which is added where it is new.
+    pub(crate) fn place_of(
+        &mut self,
+        found: Found,
+        size: usize,
+        event: bool,
+    ) -> Result<usize, HeadFault>
+        ensures codes { (ds : List Declaration) (v : Variable) → HasCodes self.old.text.items self.old.codes.entries ds
+            → IsFound ds v found → IsSize size → size ≡ (code_of v).size → event ≡ (code_of v).event
+            → IfOk result (CodeHeld self.old self.new ds v) }
+        ensures others { IsSameBut self.old self.new }
+        ensures memory { IfErr result (λ fault. fault ≡ HeadFault.OutOfMemory) }
+    {
+        match found {
+            Found::Declared(place) => Ok(place),
+            Found::New(bytes) => self.add_code(bytes, size, event),
+        }
+    }
+
+    fn add_code(&mut self, bytes: Vec<u8>, size: usize, event: bool) -> Result<usize, HeadFault>
+        ensures codes { (ds : List Declaration) (v : Variable) → HasCodes self.old.text.items self.old.codes.entries ds
+            → IsFound ds v (Found.New bytes) → IsSize size → size ≡ (code_of v).size → event ≡ (code_of v).event
+            → IfOk result (CodeHeld self.old self.new ds v) }
+        ensures others { IsSameBut self.old self.new }
+        ensures memory { IfErr result (λ fault. fault ≡ HeadFault.OutOfMemory) }
+    {
+        let code = Code {
+            start: self.text.len(),
+            len: bytes.len(),
+            size,
+            event,
+        };
+        self.text.extend_from_slice(&bytes)?;
+        let place = self.codes.len();
+        self.codes.insert(bytes, Coded { place, code })?;
+        Ok(place)
     }
 }
 
