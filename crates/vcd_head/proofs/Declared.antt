@@ -6,7 +6,7 @@ use Rattle.std.proofs.lemmas.List.{append_assoc, append-nil, length-append, leng
 use Rattle.std.proofs.lemmas.List.Elements.{filter_map-append}
 use Rattle.std.proofs.lemmas.List.Sums.{sum_by_push}
 use Rattle.vcd_model.specs.Bound.{kept_bytes}
-use Rattle.vcd_model.specs.Declarations.{Declaration, IdCode, code_of, codes_of, variables_of, variable_of, has_text, is_scope, is_up, first_token, parent, enclosing, open_scopes}
+use Rattle.vcd_model.specs.Declarations.{Declaration, Variable, IdCode, code_of, codes_of, variables_of, variable_of, has_text, is_scope, is_up, first_token, parent, enclosing, open_scopes}
 use Rattle.vcd_model.specs.HeaderPhrases.{HeaderPhrase, declarations_of, declaration_of, date_of, version_of, timescale_of}
 use Rattle.vcd_head.specs.declared.view.Kind.TheVariants as kind
 use Rattle.vcd_head.specs.declared.view.Row.{Row}
@@ -16,8 +16,8 @@ use Rattle.vcd_head.specs.declared.draft.Draft.{Draft}
 use Rattle.vcd_head.specs.Views.{HasTexts, IsRow, AreRows, IsCode, IsSize, counted_from_one}
 use Rattle.vcd_head.specs.Texts.{spaced}
 use Rattle.vcd_head.specs.Holds.{ArePlaces, codes_in, HasCodes, Declares, Holds}
-use Rattle.vcd_head.proofs.Enclosing.{enclosing-scope, enclosing-up}
-use Rattle.vcd_head.proofs.Growing.{are_codes_grow, are_rows_grow, are_rows_push, rows_len, codes-other, variables_push, slice_get-seam}
+use Rattle.vcd_head.proofs.Enclosing.{enclosing-scope, enclosing-up, enclosing-var}
+use Rattle.vcd_head.proofs.Growing.{are_codes_grow, are_rows_grow, are_rows_push, rows_len, codes-other, codes_grown, variables_push, slice_get-seam}
 use Rattle.vcd_head.proofs.TextSteps.{joined}
 
 -- ---- texts
@@ -241,3 +241,30 @@ holds_scale most d ps x h = record {
   where
     again : {ds es : List Declaration} → ds ≡ es → Declares most d ds → Declares most (record d { scale = Some x }) es
     again q k = subst (Declares most (record d { scale = Some x })) q (record { codes = k.codes; rows = k.rows; nested = k.nested; balance = k.balance; held = k.held; few = k.few })
+
+-- a variable
+pub var_declared : (most : ℕ) (d d' : Draft) (ds : List Declaration) (v : Variable) (r : Row) (more : List ℕ) → Declares most d ds → length ds < most
+    → d'.text.items ≡ d.text.items ++ (v.type ++ (join_with_byte 32 v.reference ++ more)) → length more ≤ length v.code → d'.rows.items ≡ d.rows.items ++ r ∷ [] → HasCodes d'.text.items d'.codes.entries (ds ++ Declaration.Var v ∷ [])
+    → slice_get (codes_of (ds ++ Declaration.Var v ∷ [])) r.code ≡ Some (code_of v) → d'.scopes.items ≡ d.scopes.items → r.kind ≡ kind.Var → r.parent ≡ unwrap_or (slice_get d.scopes.items (length d.scopes.items - 1)) 0 → r.start ≡ length d.text.items → r.word ≡ length v.type
+    → r.all ≡ length (join_with_byte 32 v.reference) → r.name ≡ length (first_token v.reference) → Declares most d' (ds ++ Declaration.Var v ∷ [])
+var_declared most d d' ds v r more h few text short rows codes at scopes kind parent start word all name =
+    let x = Declaration.Var v in
+    let tail = v.type ++ (join_with_byte 32 v.reference ++ more) in
+    let grown = codes_grown ds v in
+    let up = sum_by_push (λ e. cond (is_up e) 1 0) ds x in
+    let down = sum_by_push (λ e. cond (is_scope e) 1 0) ds x in
+    let balance = h.balance in
+    let held = h.held in
+    record {
+      codes = codes;
+      rows = rw rows (are_rows_push d'.text.items (codes_of (ds ++ x ∷ [])) [] d.rows.items ds r x
+        (subst (λ t. AreRows t (codes_of (ds ++ x ∷ [])) [] d.rows.items ds) (sym text) (subst (λ ks. AreRows (d.text.items ++ tail) ks [] d.rows.items ds) (sym grown.1) (are_rows_grow d.text.items tail (codes_of ds) grown.0 [] d.rows.items ds h.rows)))
+        (record {
+          parent_is = parent ∙ parent_is ds d.scopes.items h.nested;
+          own = (kind, subst (λ t. HasTexts t r v.type v.reference) (sym text) (texts_there d.text.items v.type v.reference more r start word all name), at);
+        }));
+      nested = scopes ∙ h.nested ∙ ap (λ l. map suc (reverse l)) (sym (enclosing-var ds v));
+      balance = rw (enclosing-var ds v) (omega arith);
+      held = omega (arith, ap length text, length-append d.text.items tail, length-append v.type (join_with_byte 32 v.reference ++ more), length-append (join_with_byte 32 v.reference) more, sum_by_push kept_bytes ds x);
+      few = omega (arith, length_push ds x);
+    }

@@ -184,3 +184,7 @@ places_len n [] [] h = refl
 places_len n [] (c ∷ cs) h = absurd h
 places_len n (e ∷ es) [] h = absurd h
 places_len n (e ∷ es) (c ∷ cs) h = ap suc (places_len (suc n) es cs h.3)
+
+-- codes stay where they are
+pub codes_grown : (ds : List Declaration) (v : Variable) → (more : List IdCode) × (codes_of (ds ++ Declaration.Var v ∷ []) ≡ codes_of ds ++ more)
+codes_grown ds v = (filter_map (λ o. o) (new_code_of (variables_of ds) v ∷ []), codes_push ds v)

@@ -7,3 +7,4 @@ pub mod Growing
 pub mod Declared
 pub mod Carrying
 pub mod Coding
+pub mod CodeChecks

@@ -3,6 +3,8 @@ use Rattle.std.proofs.Common.{◌≡◌, ℕ, true, false, cond, List, [], ◌�
 use Rattle.vcd_model.specs.Input.{Input}
 use Rattle.vcd_model.specs.Keywords.{Keyword, keyword_of, keyword_text, is_end, is_unknown_command}
 use Rattle.vcd_model.specs.Checks.{first_failed}
+use Rattle.vcd_model.specs.Bytes.{is_decimal, decimal_value}
+use Rattle.vcd_model.specs.Declarations.{Declaration}
 use Rattle.vcd_model.specs.HeaderPhrases.{HeaderPhrase, header_phrase, phrase_with, phrase_behind, variable_with, until_end, declarations_of}
 use Rattle.vcd_model.specs.HeaderChecks.{header_fault, start_checks, start_of, inner_checks, inner_of}
 use Rattle.vcd_model.specs.HeaderReading.{is_last}
@@ -130,3 +132,10 @@ pub var_runs : (most : ℕ) (placed : List (Placed HeaderPhrase)) (type size cod
 var_runs most placed type size code first n =
     runs_freely most placed Keyword.Var (type ∷ size ∷ code ∷ first ∷ []) (λ inner t. refl)
     (λ inner t none e. ap (λ o. option_map HeaderPhrase.Declares (option_and_then (variable_with type size code) o)) (not_until (first ∷ inner) t (n, none) e))
+
+-- a variable is whole
+pub var_whole : (type digits code first : List ℕ) (inner : List (List ℕ)) (t : List ℕ) → is_end first ≡ false → NoEnds inner → is_end t ≡ true → is_decimal digits ≡ true
+    → phrase_with Keyword.Var (type ∷ digits ∷ code ∷ first ∷ (inner ++ t ∷ [])) ≡ Some (HeaderPhrase.Declares (Declaration.Var (record { type = type; size = decimal_value digits; code = code; reference = first ∷ inner })))
+var_whole type digits code first inner t n none e d =
+    ap (λ o. option_map HeaderPhrase.Declares (option_and_then (variable_with type digits code) o)) (until (first ∷ inner) t (n, none) e)
+    ∙ ap (λ b. option_map HeaderPhrase.Declares (cond b (Some (Declaration.Var (record { type = type; size = decimal_value digits; code = code; reference = first ∷ inner }))) None)) d

@@ -4,7 +4,8 @@ use Rattle.std.specs.List.{list_all}
 use Rattle.std.specs.Char.{is_ascii_digit}
 use Rattle.std.proofs.lemmas.List.{length_push, take_more}
 use Rattle.std.proofs.lemmas.List.Folds.{list_all_at}
-use Rattle.std.proofs.lemmas.Bool.{and_right, or_parts, lt-ltb, le-ltb}
+use Rattle.std.proofs.lemmas.Option.{cond_some}
+use Rattle.std.proofs.lemmas.Bool.{ltb-true, and_parts, and_right, or_parts, lt-ltb, le-ltb}
 use Rattle.vcd_model.specs.Bytes.{decimal_value, is_decimal, is_empty}
 use Rattle.vcd_model.specs.Checks.{first_failed}
 use Rattle.vcd_model.specs.Keywords.{keyword_of, keyword_text, is_unknown_command, is_command, is_end}
@@ -96,3 +97,21 @@ fault_of_command token other e f h = rw (no_keyword token other e, f, unknown_is
 
 pub fault_of_other : (token : List ℕ) → IsOther token → is_body_word token ≡ false → begins_change token ≡ false → is_command token ≡ false → first_fault token ≡ Some 3
 fault_of_other token other e f h = rw (no_keyword token other e, f, unknown_is token other e, h) refl
+
+-- what a size found says
+pub size_found : (token : List ℕ) (n : ℕ) → size_in token ≡ Some n → (is_size token ≡ true) × (decimal_value token ≡ n)
+size_found token n h = cond_some (is_size token) (decimal_value token) n h
+
+pub size_missing : (token : List ℕ) → size_in token ≡ None → is_size token ≡ false
+size_missing token h = by_test (is_size token) h
+  where
+    by_test : (b : Bool) → cond b (Some (decimal_value token)) None ≡ None → b ≡ false
+    by_test true e = cc
+    by_test false e = refl
+
+-- a size is decimal, above 0 and below the limit
+pub size_parts : (token : List ℕ) → is_size token ≡ true → (is_decimal token ≡ true) × (0 < decimal_value token) × (decimal_value token < 16777216)
+size_parts token h =
+    let a = and_parts (is_decimal token && nat_lt 0 (decimal_value token)) (nat_lt (decimal_value token) 16777216) h in
+    let b = and_parts (is_decimal token) (nat_lt 0 (decimal_value token)) a.0 in
+    (b.0, ltb-true 0 (decimal_value token) b.1, ltb-true (decimal_value token) 16777216 a.1)

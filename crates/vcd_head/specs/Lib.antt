@@ -7,3 +7,4 @@ pub mod Went
 pub mod Texts
 pub mod Holds
 pub mod Carries
+pub mod Variables

@@ -7,5 +7,6 @@ pub mod head;
 mod scopes;
 mod texts;
 mod tokens;
+mod variable;
 pub mod view;
 pub(crate) mod words;

@@ -1,5 +1,5 @@
 // Phrases that run to the first `$end`.
-ghost use Rattle.std.specs.Prelude.{◌≡◌, ℕ, ◌-◌, ◌^◌, ◌<◌, List, ◌++◌, MatchResult};
+ghost use Rattle.std.specs.Prelude.{◌≡◌, ℕ, ◌-◌, ◌^◌, ◌<◌, ◌≤◌, List, ◌++◌, length, OnOk, MatchResult};
 ghost use Rattle.std.specs.List.{join_with_byte};
 ghost use Rattle.vcd_model.specs.Input.{Input};
 ghost use Rattle.vcd_model.specs.HeaderPhrases.{HeaderPhrase};
@@ -41,6 +41,7 @@ pub(crate) fn append_to_end<S: Source>(
         → RunsOn most placed before → Reads most i placed before feed.old
         → MatchResult result (λ _. EndsThere most i placed before feed.new (λ inner. text.new.items ≡ text.old.items ++ spaced inner))
         (λ fault. Fails most i fault feed.new) }
+    ensures longer { OnOk result (length text.old.items ≤ length text.new.items) }
     ensures went { Went S.failures feed.old feed.new (fault_of result) }
 {
     'tokens: loop {
