@@ -74,3 +74,8 @@ failed_not b n e = rw e refl
 -- `$end` ends the phrase
 pub whole_test : {X : Type 0} (b : Bool) (x : X) → b ≡ true → cond b (Some x) None ≡ Some x
 whole_test b x e = rw e refl
+
+-- an option that is none of the values
+pub default_none : {X : Type 0} (o : Option X) → ((x : X) → o ≡ Some x → ⊥) → o ≡ None
+default_none None h = refl
+default_none (Some x) h = absurd (h x refl)

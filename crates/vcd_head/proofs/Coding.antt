@@ -25,7 +25,7 @@ same_bytes a b e = (bytes_eq-Decides a b).0 e
 own_bytes : (a : List ℕ) → bytes_eq a a ≡ true
 own_bytes a = (bytes_eq-Decides a a).1 refl
 
-bytes_flip : (a b : List ℕ) → bytes_eq a b ≡ bytes_eq b a
+pub bytes_flip : (a b : List ℕ) → bytes_eq a b ≡ bytes_eq b a
 bytes_flip a b = by_case (bytes_eq a b) refl
   where
     by_case : (r : Bool) → bytes_eq a b ≡ r → r ≡ bytes_eq b a

@@ -8,3 +8,7 @@ pub mod Declared
 pub mod Carrying
 pub mod Coding
 pub mod CodeChecks
+pub mod ScaleLemmas
+pub mod ScaleChecks
+pub mod ReadingSteps
+pub mod Indexing

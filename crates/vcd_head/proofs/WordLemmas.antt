@@ -1,5 +1,5 @@
 -- What the tests of words say.
-use Rattle.std.proofs.Common.{◌≡◌, ℕ, ◌+◌, ◌-◌, ◌*◌, ◌<◌, ◌≤◌, Bool, true, false, cond, not, ◌&&◌, ◌||◌, nat_lt, List, [], ◌∷◌, ◌++◌, length, take, get_or, bytes_eq, Option, Some, None, is_none, refl, ap, ◌∙◌, arith, add-one, pow-suc}
+use Rattle.std.proofs.Common.{◌≡◌, ℕ, ◌+◌, ◌-◌, ◌*◌, ◌<◌, ◌≤◌, Bool, true, false, cond, not, ◌&&◌, ◌||◌, nat_lt, List, [], ◌∷◌, ◌++◌, length, take, get_or, bytes_eq, Option, Some, None, is_none, refl, sym, ap, ◌∙◌, arith, add-one, pow-suc}
 use Rattle.std.specs.List.{list_all}
 use Rattle.std.specs.Char.{is_ascii_digit}
 use Rattle.std.proofs.lemmas.List.{length_push, take_more}
@@ -10,8 +10,10 @@ use Rattle.vcd_model.specs.Bytes.{decimal_value, is_decimal, is_empty}
 use Rattle.vcd_model.specs.Checks.{first_failed}
 use Rattle.vcd_model.specs.Keywords.{keyword_of, keyword_text, is_unknown_command, is_command, is_end}
 use Rattle.vcd_model.specs.Keywords as model
-use Rattle.vcd_model.specs.HeaderChecks.{is_size, start_of, begins_change}
-use Rattle.vcd_head.specs.Words.{IsOther, is_body_word, first_fault, size_in}
+use Rattle.vcd_model.specs.HeaderChecks.{is_size, start_of, begins_change, header_fault}
+use Rattle.vcd_head.specs.Words.{IsOther, is_body_word, size_in}
+use Rattle.vcd_model.specs.HeaderPhrases.{HeaderPhrase, declarations_of}
+use Rattle.vcd_model.specs.Declarations.{Declaration}
 use Rattle.vcd_head.specs.declared.words.Keyword.TheVariants as kw
 
 -- ---- sizes
@@ -71,32 +73,40 @@ keyword_is : (token : List ℕ) → IsOther token
 unfolding keyword_of body_keyword
 keyword_is token other = rw (other kw.Comment, other kw.Date, other kw.EndDefinitions, other kw.Scope, other kw.Timescale, other kw.Upscope, other kw.Var, other kw.Version) refl
 
-fault_at : (token : List ℕ) (a b d e f : Bool) → (a || b || d || e || f) ≡ true → first_failed (start_of 0 [] token (body_keyword a b d e f)) ≡ Some 4
+fault_at : (most : ℕ) (ds : List Declaration) (token : List ℕ) (a b d e f : Bool) → (a || b || d || e || f) ≡ true → first_failed (start_of most ds token (body_keyword a b d e f)) ≡ Some 4
 unfolding body_keyword
-fault_at token true b d e f h = refl
-fault_at token false true d e f h = refl
-fault_at token false false true e f h = refl
-fault_at token false false false true f h = refl
-fault_at token false false false false true h = refl
-fault_at token false false false false false h = cc
+fault_at most ds token true b d e f h = refl
+fault_at most ds token false true d e f h = refl
+fault_at most ds token false false true e f h = refl
+fault_at most ds token false false false true f h = refl
+fault_at most ds token false false false false true h = refl
+fault_at most ds token false false false false false h = cc
 
-pub fault_of_body_word : (token : List ℕ) → IsOther token → is_body_word token ≡ true → first_fault token ≡ Some 4
-fault_of_body_word token other e =
-    ap (λ k. first_failed (start_of 0 [] token k)) (keyword_is token other)
-    ∙ fault_at token (bytes_eq (keyword_text model.Keyword.DumpAll) token) (bytes_eq (keyword_text model.Keyword.DumpOff) token) (bytes_eq (keyword_text model.Keyword.DumpOn) token) (bytes_eq (keyword_text model.Keyword.DumpVars) token) (is_end token) e
-
-pub fault_of_change : (token : List ℕ) → IsOther token → is_body_word token ≡ false → begins_change token ≡ true → first_fault token ≡ Some 4
-fault_of_change token other e f = rw (no_keyword token other e, f) refl
-
-pub unknown_is : (token : List ℕ) → IsOther token → is_body_word token ≡ false → is_unknown_command token ≡ is_command token
+unknown_is : (token : List ℕ) → IsOther token → is_body_word token ≡ false → is_unknown_command token ≡ is_command token
 unfolding is_unknown_command
 unknown_is token other e = ap (λ k. is_none k && is_command token) (no_keyword token other e)
 
-pub fault_of_command : (token : List ℕ) → IsOther token → is_body_word token ≡ false → begins_change token ≡ false → is_command token ≡ true → first_fault token ≡ None
-fault_of_command token other e f h = rw (no_keyword token other e, f, unknown_is token other e, h) refl
+-- a token that stands first, and is none of the keywords that begin a phrase
+pub fault_out_of_place : (most : ℕ) (ps : List HeaderPhrase) (token : List ℕ) → IsOther token → (is_body_word token || begins_change token) ≡ true → header_fault most ps [] token ≡ Some 4
+unfolding header_fault
+fault_out_of_place most ps token other h = by_word (is_body_word token) refl
+  where
+    by_word : (b : Bool) → is_body_word token ≡ b → first_failed (start_of most (declarations_of ps) token (keyword_of token)) ≡ Some 4
+    by_word true e =
+        ap (λ k. first_failed (start_of most (declarations_of ps) token k)) (keyword_is token other)
+        ∙ fault_at most (declarations_of ps) token (bytes_eq (keyword_text model.Keyword.DumpAll) token) (bytes_eq (keyword_text model.Keyword.DumpOff) token) (bytes_eq (keyword_text model.Keyword.DumpOn) token) (bytes_eq (keyword_text model.Keyword.DumpVars) token) (is_end token) e
+    by_word false e = let c : begins_change token ≡ true = sym (ap (λ b. b || begins_change token) e) ∙ h in rw (no_keyword token other e, c) refl
 
-pub fault_of_other : (token : List ℕ) → IsOther token → is_body_word token ≡ false → begins_change token ≡ false → is_command token ≡ false → first_fault token ≡ Some 3
-fault_of_other token other e f h = rw (no_keyword token other e, f, unknown_is token other e, h) refl
+pub fault_of_other : (most : ℕ) (ps : List HeaderPhrase) (token : List ℕ) → IsOther token → (is_body_word token || begins_change token) ≡ false → is_command token ≡ false → header_fault most ps [] token ≡ Some 3
+unfolding header_fault
+fault_of_other most ps token other h k = let p = or_parts (is_body_word token) (begins_change token) h in rw (no_keyword token other p.0, p.1, unknown_is token other p.0, k) refl
+
+pub fault_of_command : (most : ℕ) (ps : List HeaderPhrase) (token : List ℕ) → IsOther token → (is_body_word token || begins_change token) ≡ false → is_command token ≡ true → header_fault most ps [] token ≡ None
+unfolding header_fault
+fault_of_command most ps token other h k = let p = or_parts (is_body_word token) (begins_change token) h in rw (no_keyword token other p.0, p.1, unknown_is token other p.0, k) refl
+
+pub unknown_command : (token : List ℕ) → IsOther token → (is_body_word token || begins_change token) ≡ false → is_command token ≡ true → is_unknown_command token ≡ true
+unknown_command token other h k = unknown_is token other (or_parts (is_body_word token) (begins_change token) h).0 ∙ k
 
 -- what a size found says
 pub size_found : (token : List ℕ) (n : ℕ) → size_in token ≡ Some n → (is_size token ≡ true) × (decimal_value token ≡ n)

@@ -73,3 +73,7 @@ pub record IsSameBut (old new : Draft) : Type 0 where
   pub same_version : new.version.items ≡ old.version.items
   pub same_scale : new.scale ≡ old.scale
   pub same_scopes : new.scopes.items ≡ old.scopes.items
+
+-- the places of the entries
+abbrev pub places_in : List (Vec ℕ × Coded) → List ℕ
+places_in es = map (λ e. e.1.place) es

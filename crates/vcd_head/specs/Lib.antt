@@ -8,3 +8,4 @@ pub mod Texts
 pub mod Holds
 pub mod Carries
 pub mod Variables
+pub mod Scaled

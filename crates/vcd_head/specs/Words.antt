@@ -1,8 +1,7 @@
 -- What a token is that stands where a phrase of a header begins.
-use Rattle.std.specs.Prelude.{◌≡◌, ℕ, ℤ, pos, negsuc, codes, Bool, false, ◌||◌, cond, List, [], bytes_eq, Option, Some, None}
+use Rattle.std.specs.Prelude.{◌≡◌, ℕ, ℤ, pos, negsuc, codes, Bool, true, false, ◌||◌, cond, List, [], bytes_eq, Option, Some, None}
 use Rattle.vcd_model.specs.Bytes.{decimal_value}
-use Rattle.vcd_model.specs.Checks.{first_failed}
-use Rattle.vcd_model.specs.HeaderChecks.{start_of, is_size}
+use Rattle.vcd_model.specs.HeaderChecks.{is_size}
 use Rattle.vcd_model.specs.Keywords as model
 use Rattle.vcd_head.specs.declared.words.Keyword.{Keyword}
 use Rattle.vcd_head.specs.declared.words.Keyword.TheVariants.{Comment, Date, EndDefinitions, Scope, Timescale, Upscope, Var, Version}
@@ -33,10 +32,6 @@ is_body_word token =
     bytes_eq (model.keyword_text model.Keyword.DumpAll) token || bytes_eq (model.keyword_text model.Keyword.DumpOff) token || bytes_eq (model.keyword_text model.Keyword.DumpOn) token
     || bytes_eq (model.keyword_text model.Keyword.DumpVars) token || model.is_end token
 
--- the fault of a token that stands first and is none of the keywords that begin a phrase: the declarations before it do not matter
-abbrev pub first_fault : List ℕ → Option ℕ
-first_fault token = first_failed (start_of 0 [] token (model.keyword_of token))
-
 -- the size that a token spells
 abbrev pub size_in : List ℕ → Option ℕ
 size_in token = cond (is_size token) (Some (decimal_value token)) None
@@ -50,3 +45,9 @@ abbrev pub unit_in : List ℕ → Option ℤ
 unit_in t =
     cond (bytes_eq (codes "s") t) (Some (pos 0)) (cond (bytes_eq (codes "ms") t) (Some (negsuc 2)) (cond (bytes_eq (codes "us") t) (Some (negsuc 5))
     (cond (bytes_eq (codes "ns") t) (Some (negsuc 8)) (cond (bytes_eq (codes "ps") t) (Some (negsuc 11)) (cond (bytes_eq (codes "fs") t) (Some (negsuc 14)) None)))))
+
+-- the keyword begins the last phrase
+abbrev pub is_final : Option Keyword → Bool
+is_final None = false
+is_final (Some EndDefinitions) = true
+is_final (Some k) = false

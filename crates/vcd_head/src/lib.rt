@@ -4,6 +4,8 @@
 mod draft;
 pub mod fault;
 pub mod head;
+mod reading;
+mod scale;
 mod scopes;
 mod texts;
 mod tokens;

@@ -1,13 +1,12 @@
 // The words of a header: keywords, sizes and time scales.
-ghost use Rattle.std.specs.Prelude.{◌≡◌, codes, bytes_eq, option_map};
+ghost use Rattle.std.specs.Prelude.{◌≡◌, codes, bytes_eq, ◌||◌, option_map, pos, ◌≤ℤ◌, ◌+ℤ◌};
 ghost use Rattle.std.specs.List.{list_all};
 ghost use Rattle.vcd_model.specs.Bytes.{is_code_byte};
 ghost use Rattle.vcd_model.specs.Keywords.{is_end as ends, is_command as commands};
+ghost use Rattle.vcd_model.specs.Scales.{exponent_of as exponent_is};
 ghost use Rattle.vcd_model.specs.HeaderChecks.{begins_change as changes};
-ghost use Rattle.vcd_head.specs.Fault.{fault_number};
-ghost use Rattle.vcd_head.specs.Words.{StandsFor, IsOther, is_body_word, first_fault, power_in, unit_in, size_in};
+ghost use Rattle.vcd_head.specs.Words.{StandsFor, is_body_word, power_in, unit_in, size_in};
 
-use crate::fault::HeadFault;
 
 // The keywords that begin a phrase of a header.
 #[derive(Clone, Copy, PartialEq, Eq, Debug)]
@@ -88,26 +87,17 @@ fn begins_change(token: &[u8]) -> bool
 }
 
 // `$` and one or more bytes.
-fn is_command(token: &[u8]) -> bool
+pub(crate) fn is_command(token: &[u8]) -> bool
     ensures { result ≡ commands token.now }
 {
     token.len() > 1 && token[0] == b'$'
 }
 
-/// Why no phrase of a header begins so, where the token is none of the keywords that begin one. Nothing for a command that the
-/// standard does not have.
-pub(crate) fn refusal_of(token: &[u8]) -> Option<HeadFault>
-    ensures { IsOther token.now → option_map fault_number result ≡ first_fault token.now }
+/// It belongs into the body, where it stands first in a phrase.
+pub(crate) fn is_out_of_place(token: &[u8]) -> bool
+    ensures { result ≡ (is_body_word token.now || changes token.now) }
 {
-    if is_body_keyword(token) {
-        Some(HeadFault::OutOfPlace)
-    } else if begins_change(token) {
-        Some(HeadFault::OutOfPlace)
-    } else if is_command(token) {
-        None
-    } else {
-        Some(HeadFault::UnknownCommand)
-    }
+    is_body_keyword(token) || begins_change(token)
 }
 
 /// The power of ten of a time scale's number.
@@ -143,6 +133,34 @@ pub(crate) fn unit_of(unit: &[u8]) -> Option<i8>
         Some(-15)
     } else {
         None
+    }
+}
+
+/// The power of ten of a number and a unit in one token, in seconds.
+pub(crate) fn exponent_of(scale: &[u8]) -> Option<i8>
+    ensures { result ≡ exponent_is scale.now }
+{
+    if let Some(unit) = scale.strip_prefix(b"100") {
+        return raised(unit, 2);
+    }
+    if let Some(unit) = scale.strip_prefix(b"10") {
+        return raised(unit, 1);
+    }
+    if let Some(unit) = scale.strip_prefix(b"1") {
+        return raised(unit, 0);
+    }
+    None
+}
+
+// The power of ten of the unit and a number of this power.
+fn raised(unit: &[u8], power: i8) -> Option<i8>
+    requires low { pos 0 ≤ℤ power }
+    requires high { power ≤ℤ pos 2 }
+    ensures { result ≡ option_map (λ e. e +ℤ power) (unit_in unit.now) }
+{
+    match unit_of(unit) {
+        Some(exponent) => Some(exponent + power),
+        None => None,
     }
 }
 
