@@ -1,11 +1,10 @@
 -- A draft carries one phrase more.
-use Rattle.std.proofs.Common.{◌≡◌, ℕ, ◌+◌, ◌<◌, ◌≤◌, Bool, true, false, not, cond, MatchOption, arith, List, [], ◌∷◌, ◌++◌, length, Option, Some, None, refl, sym, ap, subst, ◌∙◌}
+use Rattle.std.proofs.Common.{◌≡◌, ℕ, ◌+◌, ◌<◌, ◌≤◌, Bool, true, false, not, cond, MatchOption, arith, List, [], ◌∷◌, ◌++◌, length, Option, Some, None, refl, sym, subst}
 use Rattle.std.proofs.lemmas.List.{map-append}
 use Rattle.std.proofs.lemmas.Bool.{lt-ltb, le-ltb}
 use Rattle.vcd_model.specs.Input.{Input}
-use Rattle.vcd_model.specs.Keywords.{Keyword, is_end}
+use Rattle.vcd_model.specs.Keywords.{Keyword}
 use Rattle.vcd_model.specs.Checks.{first_failed}
-use Rattle.vcd_model.specs.Declarations.{Declaration, open_scopes}
 use Rattle.vcd_model.specs.HeaderChecks.{start_checks}
 use Rattle.vcd_model.specs.HeaderPhrases.{HeaderPhrase, declarations_of}
 use Rattle.vcd_model.specs.Reading.{Placed, phrases_of}
@@ -13,7 +12,7 @@ use Rattle.vcd_text.specs.declared.device.Source.{Ghosts}
 use Rattle.vcd_text.specs.declared.feed.Feed.{Feed}
 use Rattle.vcd_head.specs.declared.draft.Draft.{Draft}
 use Rattle.vcd_head.specs.Reads.{Reads}
-use Rattle.vcd_head.specs.Holds.{Declares, Holds}
+use Rattle.vcd_head.specs.Holds.{Holds}
 use Rattle.vcd_head.specs.Carries.{Carries}
 use Rattle.vcd_head.proofs.Growing.{rows_len}
 use Rattle.vcd_head.proofs.Declared.{open_is}

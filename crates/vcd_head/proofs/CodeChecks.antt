@@ -1,5 +1,5 @@
 -- The checks of a variable's code, by what the map of codes has.
-use Rattle.std.proofs.Common.{◌≡◌, ◌≢◌, ℕ, ◌+◌, Bool, true, false, cond, not, List, [], ◌∷◌, find, bytes_eq, codes, slice_get, Option, Some, None, is_some, refl, sym, ap, subst, ◌∙◌, arith, add-zero, zero-add}
+use Rattle.std.proofs.Common.{◌≡◌, ◌≢◌, ℕ, Bool, true, false, cond, not, List, [], ◌∷◌, find, bytes_eq, codes, slice_get, Option, Some, None, refl, sym, ap, subst, ◌∙◌, zero-add}
 use mathlib.Core.Bool.{beq}
 use Rattle.std.specs.Global.{Vec}
 use Rattle.std.specs.Borrow.{Bor}
@@ -9,10 +9,9 @@ use Rattle.std.specs.List.{list_all}
 use Rattle.std.proofs.lemmas.Slice.Eq.{bytes_eq-Decides}
 use Rattle.vcd_model.specs.Bytes.{decimal_value, is_code_byte}
 use Rattle.vcd_model.specs.Checks.{first_failed}
-use Rattle.vcd_model.specs.Declarations.{Declaration, Variable, IdCode, code_of, codes_of, has_text}
+use Rattle.vcd_model.specs.Declarations.{Declaration, Variable, codes_of, has_text}
 use Rattle.vcd_model.specs.HeaderChecks.{agrees, var_checks}
 use Rattle.vcd_head.specs.declared.draft.Coded.{Coded}
-use Rattle.vcd_head.specs.declared.draft.Found.{Found}
 use Rattle.vcd_head.specs.declared.draft.Found.TheVariants as found
 use Rattle.vcd_head.specs.Holds.{HasCodes, IsFound}
 use Rattle.vcd_head.proofs.Growing.{place_found, place_none}

@@ -1,18 +1,18 @@
 -- The codes of one variable more.
-use Rattle.std.proofs.Common.{◌≡◌, ◌≢◌, ℕ, suc, ◌+◌, ◌<◌, ◌≤◌, Bool, true, false, cond, not, ◌&&◌, ◌||◌, ◌==◌, List, [], ◌∷◌, ◌++◌, length, map, find, bytes_eq, slice_get, slice_range, Option, Some, None, is_some, refl, sym, ap, subst, ◌∙◌, arith}
+use Rattle.std.proofs.Common.{◌≡◌, ◌≢◌, ℕ, suc, ◌+◌, Bool, true, false, cond, not, ◌&&◌, ◌||◌, ◌==◌, List, [], ◌∷◌, ◌++◌, length, find, bytes_eq, slice_get, slice_range, Option, Some, None, is_some, refl, sym, ap, subst, ◌∙◌, arith}
 use Rattle.std.specs.Global.{Vec}
 use Rattle.std.specs.Option.{option_or}
 use Rattle.std.specs.List.{AllByRecursion, AllZip, list_any, list_all}
-use Rattle.std.proofs.lemmas.List.{append_assoc, append-nil, map-append, length-append}
+use Rattle.std.proofs.lemmas.List.{append-nil, map-append, length-append}
 use Rattle.std.proofs.lemmas.List.Folds.{find-append, list_any-append}
-use Rattle.std.proofs.lemmas.Bool.{or_right, or_left, or_parts, and_parts, eq-eqb, ne_eqb}
+use Rattle.std.proofs.lemmas.Bool.{or_right, or_parts, eq-eqb, ne_eqb}
 use Rattle.std.proofs.lemmas.Slice.Eq.{bytes_eq-Decides}
 use Rattle.vcd_model.specs.Declarations.{Declaration, Variable, IdCode, code_of, codes_of, variables_of, has_text}
 use Rattle.vcd_model.specs.HeaderChecks.{agrees, same_flag}
 use Rattle.vcd_head.specs.declared.view.Code.{Code}
 use Rattle.vcd_head.specs.declared.draft.Coded.{Coded}
 use Rattle.vcd_head.specs.Views.{IsCode, IsSize}
-use Rattle.vcd_head.specs.Holds.{ArePlaces, IsOfKind, codes_in, HasCodes, CodeHeld}
+use Rattle.vcd_head.specs.Holds.{ArePlaces, codes_in, HasCodes, CodeHeld}
 use Rattle.vcd_head.specs.declared.draft.Draft.{Draft}
 use Rattle.vcd_head.proofs.Declared.{range_at}
 use Rattle.std.specs.Map.{lookup}
@@ -78,9 +78,9 @@ codes_new text more es ds v e h f b p is size =
       numbered = subst (λ ks. ArePlaces 0 (es ++ e ∷ []) ks) c (places_push 0 es (codes_of ds) e (code_of v) h.numbered b (omega arith) (record { same_size = is.size_is; same_event = is.event_is }));
       known = subst (λ ks. AllByRecursion (λ u. find (has_text u.code) ks ≡ Some (code_of u)) (variables_of (ds ++ Declaration.Var v ∷ []))) c
           (subst (λ vs. AllByRecursion (λ u. find (has_text u.code) (codes_of ds ++ code_of v ∷ []) ≡ Some (code_of u)) vs) vars
-            (all_push (λ u. find (has_text u.code) (codes_of ds ++ code_of v ∷ []) ≡ Some (code_of u)) (variables_of ds) v
-              (all_weaker (λ u. find (has_text u.code) (codes_of ds) ≡ Some (code_of u)) (λ u. find (has_text u.code) (codes_of ds ++ code_of v ∷ []) ≡ Some (code_of u)) (variables_of ds) (λ u k. find_more (codes_of ds) u.code (code_of v) ∙ rw k refl) h.known)
-              (find_more (codes_of ds) v.code (code_of v) ∙ rw (f, own_bytes v.code) refl)));
+          (all_push (λ u. find (has_text u.code) (codes_of ds ++ code_of v ∷ []) ≡ Some (code_of u)) (variables_of ds) v
+          (all_weaker (λ u. find (has_text u.code) (codes_of ds) ≡ Some (code_of u)) (λ u. find (has_text u.code) (codes_of ds ++ code_of v ∷ []) ≡ Some (code_of u)) (variables_of ds) (λ u k. find_more (codes_of ds) u.code (code_of v) ∙ rw k refl) h.known)
+          (find_more (codes_of ds) v.code (code_of v) ∙ rw (f, own_bytes v.code) refl)));
       seen = λ t. ap (list_any (λ u. bytes_eq u.code t)) (sym vars) ∙ any_push (variables_of ds) v t ∙ ap (λ x. x || bytes_eq v.code t) (h.seen t) ∙ seen_or t (find (has_text t) (codes_of ds)) (bytes_eq v.code t) (bytes_flip t v.code)
           ∙ sym (ap is_some (find_more (codes_of ds) t (code_of v))) ∙ ap (λ ks. is_some (find (has_text t) ks)) c;
       sizes = subst (λ ks. AllByRecursion (λ (k : IdCode). IsSize k.size) ks) c (all_push (λ (k : IdCode). IsSize k.size) (codes_of ds) (code_of v) h.sizes size);

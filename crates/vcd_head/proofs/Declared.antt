@@ -1,5 +1,5 @@
 -- A draft that holds some declarations holds one more.
-use Rattle.std.proofs.Common.{◌≡◌, ℕ, suc, ◌+◌, ◌-◌, ◌<◌, ◌≤◌, cond, List, [], ◌∷◌, ◌++◌, length, map, reverse, take, drop, slice_range, slice_get, find, filter_map, count_by, sum_by, bytes_eq, Option, Some, None, is_some, option_map, unwrap_or, refl, sym, ap, subst, ◌∙◌, arith}
+use Rattle.std.proofs.Common.{◌≡◌, ℕ, suc, ◌+◌, ◌-◌, ◌<◌, ◌≤◌, cond, List, [], ◌∷◌, ◌++◌, length, map, reverse, take, drop, slice_range, slice_get, find, filter_map, sum_by, bytes_eq, Option, Some, None, is_some, option_map, unwrap_or, refl, sym, ap, subst, ◌∙◌, arith}
 use Rattle.std.specs.Global.{Vec}
 use Rattle.std.specs.List.{AllByRecursion, AllZip, list_any, join_with_byte, last_or}
 use Rattle.std.proofs.lemmas.List.{append_assoc, append-nil, length-append, length_push, reverse-append, length-reverse, length-map, map-append}
@@ -102,7 +102,7 @@ module _ (most : ℕ) (d d' : Draft) (ds : List Declaration) (x : Declaration) (
   rows_kept is =
       rw (rows, codes-other ds x other)
       (are_rows_push d'.text.items (codes_of ds) [] d.rows.items ds r x
-        (subst (λ t. AreRows t (codes_of ds) [] d.rows.items ds) (sym text) (subst (λ ks. AreRows (d.text.items ++ more) ks [] d.rows.items ds) (append-nil (codes_of ds)) (are_rows_grow d.text.items more (codes_of ds) [] [] d.rows.items ds h.rows))) is)
+      (subst (λ t. AreRows t (codes_of ds) [] d.rows.items ds) (sym text) (subst (λ ks. AreRows (d.text.items ++ more) ks [] d.rows.items ds) (append-nil (codes_of ds)) (are_rows_grow d.text.items more (codes_of ds) [] [] d.rows.items ds h.rows))) is)
 
   held_kept : length more ≤ kept_bytes x → length d'.text.items ≤ sum_by kept_bytes (ds ++ x ∷ [])
   held_kept le = let held = h.held in omega (arith, ap length text, length-append d.text.items more, sum_by_push kept_bytes ds x)
@@ -125,8 +125,12 @@ scope_declared most d d' ds type name r h few text rows codes scopes is =
       codes = codes_kept most d d' ds x (type ++ name) r h refl few grown rows codes;
       rows = rows_kept most d d' ds x (type ++ name) r h refl few grown rows codes (record {
         parent_is = ap (λ (q : Row). q.parent) is ∙ parent_is ds d.scopes.items h.nested;
-        own = (ap (λ (q : Row). q.kind) is, subst (λ t. HasTexts t r type (name ∷ [])) (sym there)
-          (texts_there d.text.items type (name ∷ []) [] r (ap (λ (q : Row). q.start) is) (ap (λ (q : Row). q.word) is) (ap (λ (q : Row). q.all) is) (ap (λ (q : Row). q.name) is)), ap (λ (q : Row). q.code) is);
+        own = (
+          ap (λ (q : Row). q.kind) is,
+          subst (λ t. HasTexts t r type (name ∷ [])) (sym there)
+              (texts_there d.text.items type (name ∷ []) [] r (ap (λ (q : Row). q.start) is) (ap (λ (q : Row). q.word) is) (ap (λ (q : Row). q.all) is) (ap (λ (q : Row). q.name) is)),
+          ap (λ (q : Row). q.code) is,
+        );
       });
       nested = scopes ∙ ap (λ l. l ++ suc (length d.rows.items) ∷ []) h.nested ∙ ap (λ n. map suc (reverse (enclosing ds)) ++ suc n ∷ []) (rows_len d.text.items (codes_of ds) [] d.rows.items ds h.rows)
           ∙ sym (map-append suc (reverse (enclosing ds)) (length ds ∷ [])) ∙ ap (map suc) (sym (reverse-append (length ds ∷ []) (enclosing ds))) ∙ ap (λ l. map suc (reverse l)) (sym (enclosing-scope ds type name));
@@ -258,11 +262,11 @@ var_declared most d d' ds v r more h few text short rows codes at scopes kind pa
     record {
       codes = codes;
       rows = rw rows (are_rows_push d'.text.items (codes_of (ds ++ x ∷ [])) [] d.rows.items ds r x
-        (subst (λ t. AreRows t (codes_of (ds ++ x ∷ [])) [] d.rows.items ds) (sym text) (subst (λ ks. AreRows (d.text.items ++ tail) ks [] d.rows.items ds) (sym grown.1) (are_rows_grow d.text.items tail (codes_of ds) grown.0 [] d.rows.items ds h.rows)))
-        (record {
-          parent_is = parent ∙ parent_is ds d.scopes.items h.nested;
-          own = (kind, subst (λ t. HasTexts t r v.type v.reference) (sym text) (texts_there d.text.items v.type v.reference more r start word all name), at);
-        }));
+          (subst (λ t. AreRows t (codes_of (ds ++ x ∷ [])) [] d.rows.items ds) (sym text) (subst (λ ks. AreRows (d.text.items ++ tail) ks [] d.rows.items ds) (sym grown.1) (are_rows_grow d.text.items tail (codes_of ds) grown.0 [] d.rows.items ds h.rows)))
+          (record {
+            parent_is = parent ∙ parent_is ds d.scopes.items h.nested;
+            own = (kind, subst (λ t. HasTexts t r v.type v.reference) (sym text) (texts_there d.text.items v.type v.reference more r start word all name), at);
+          }));
       nested = scopes ∙ h.nested ∙ ap (λ l. map suc (reverse l)) (sym (enclosing-var ds v));
       balance = rw (enclosing-var ds v) (omega arith);
       held = omega (arith, ap length text, length-append d.text.items tail, length-append v.type (join_with_byte 32 v.reference ++ more), length-append (join_with_byte 32 v.reference) more, sum_by_push kept_bytes ds x);

@@ -1,5 +1,5 @@
 -- Whole phrases that declare nothing, and the end of a header.
-use Rattle.std.proofs.Common.{◌≡◌, ℕ, Bool, true, false, cond, ◌||◌, List, [], ◌∷◌, ◌++◌, Option, Some, None, option_map, Result, Ok, Err, MatchResult, refl, sym, ap, subst, ◌∙◌}
+use Rattle.std.proofs.Common.{◌≡◌, ℕ, true, false, ◌||◌, List, [], ◌∷◌, ◌++◌, Option, Some, None, option_map, Result, Ok, Err, MatchResult, IfOk, IfErr, ◌+◌, ◌≤◌, suc, map, reverse, length, arith, refl, sym, ap, subst, ◌∙◌}
 use Rattle.std.specs.Global.{Vec}
 use Rattle.std.specs.List.{join_with_byte}
 use Rattle.std.proofs.lemmas.List.{map-append}
@@ -14,14 +14,24 @@ use Rattle.vcd_text.specs.declared.device.Source.{Ghosts}
 use Rattle.vcd_text.specs.declared.feed.Feed.{Feed}
 use Rattle.vcd_head.specs.declared.draft.Draft.{Draft}
 use Rattle.vcd_head.specs.declared.fault.HeadFault.{HeadFault}
-use Rattle.vcd_head.specs.Reads.{Reads, Looks, ReadsWhole, HasFault, Fails}
+use Rattle.vcd_head.specs.Reads.{Reads, Looks, HasFault, Fails, GivesHead}
 use Rattle.vcd_head.specs.Texts.{NoEnds, RunsOn, EndsThere}
 use Rattle.vcd_head.specs.Words.{StandsFor, is_body_word, is_final}
 use Rattle.vcd_head.specs.declared.words.Keyword.{Keyword as WordOf}
 use Rattle.vcd_head.specs.declared.words.Keyword.TheVariants as word
-use Rattle.vcd_head.specs.Holds.{Holds}
+use Rattle.vcd_head.specs.Holds.{Holds, HasCodes, IsNew}
+use Rattle.vcd_head.specs.Views.{AreRows, Views}
+use Rattle.vcd_head.specs.Shown.{shown}
+use Rattle.vcd_head.specs.declared.head.Head.{Head}
+use Rattle.vcd_head.specs.declared.view.Scale.{Scale}
+use Rattle.vcd_head.specs.declared.fault.HeadFault.TheVariants.{OutOfMemory}
+use Rattle.vcd_model.specs.Declarations.{codes_of, enclosing}
+use Rattle.vcd_model.specs.Header.{header_of}
+use Rattle.vcd_model.specs.HeaderReading.{header_grammar}
+use Rattle.vcd_model.proofs.SoFarLemmas.{so_far-nothing}
+use Rattle.vcd_text.specs.Feed.{Stands}
 use Rattle.vcd_head.specs.Carries.{Begun, BegunBy, BegunOther, Carries, CarriesAll}
-use Rattle.vcd_head.proofs.Steps.{taken, taken_phrase, refused}
+use Rattle.vcd_head.proofs.Steps.{taken, taken_phrase, faultless_whole}
 use Rattle.vcd_head.proofs.Phrases.{begun, ended, ended_all, refused_inside, runs_freely, not_until, until, unknown_runs, unknown_is, unknown_free}
 use Rattle.vcd_head.proofs.WordLemmas.{fault_of_command, unknown_command}
 use Rattle.vcd_head.proofs.Declared.{holds_plain, holds_date, holds_version}
@@ -122,3 +132,39 @@ final_is (Some word.Version) e = cc
 
 pub not_final : (k : Option WordOf) → is_final k ≡ false → k ≡ Some word.EndDefinitions → ⊥
 not_final k e f = let x : is_final k ≡ true = ap is_final f in cc
+
+-- ---- the first and the last
+
+no_codes_yet : (text : List ℕ) → HasCodes text [] []
+unfolding codes_of
+no_codes_yet text = record { stand = tt; numbered = tt; known = tt; seen = λ t. refl; sizes = tt }
+
+no_rows_yet : (text : List ℕ) → AreRows text (codes_of []) [] [] []
+no_rows_yet text = tt
+
+no_scopes_yet : enclosing [] ≡ []
+unfolding enclosing
+no_scopes_yet = refl
+
+pub holds_nothing : (most : ℕ) (d : Draft) → IsNew d → Holds most d []
+holds_nothing most d n = record {
+  declares = record {
+    codes = rw n.no_codes (no_codes_yet d.text.items);
+    rows = rw n.no_rows (no_rows_yet d.text.items);
+    nested = n.no_scopes ∙ ap (λ l. map suc (reverse l)) (sym no_scopes_yet);
+    balance = ap (λ (l : List ℕ). length l + 0) no_scopes_yet;
+    held = let t = ap length n.no_text in omega arith;
+    few = omega arith;
+  };
+  date = n.no_date;
+  version = n.no_version;
+  scale = ap (option_map (λ (x : Scale). x.exponent)) n.no_scale;
+}
+
+pub carries_nothing : {X : Type 0} {g : Ghosts X} (most : ℕ) (i : Input) (d : Draft) (f : Feed X g) → IsNew d → Stands i [] f → Carries most i d f
+carries_nothing most i d f n s = record { placed = []; reads = record { given = []; stands = s; so_far = so_far-nothing (header_grammar most) }; holds = holds_nothing most d n }
+
+pub finished : {X : Type 0} {g : Ghosts X} (most : ℕ) (i : Input) (d : Draft) (f : Feed X g) (r : Result Head HeadFault) → most ≤ 16777216 → CarriesAll most i d f
+    → ((m : ℕ) (ps : List HeaderPhrase) → m ≤ 16777216 → Holds m d ps → IfOk r (λ head. Views (shown head) (header_of ps))) → IfErr r (λ fault. fault ≡ OutOfMemory) → MatchResult r (λ head. GivesHead most i f (shown head)) (λ fault. Fails most i fault f)
+finished most i d f (Ok head) h a v e = record { given = a.reads.given; placed = a.placed; stands = a.reads.stands; whole = a.reads.whole; views = v most (phrases_of a.placed) h a.holds }
+finished most i d f (Err fault) h a v e = subst (λ x. Fails most i x f) (sym e) (faultless_whole most i a.placed f a.reads)

@@ -1,14 +1,12 @@
 -- The checks of a time scale.
-use Rattle.std.proofs.Common.{◌≡◌, ℕ, ℤ, ◌+ℤ◌, true, false, List, [], ◌∷◌, ◌++◌, Option, Some, None, option_map, option_and_then, refl, sym, ap, subst, ◌∙◌}
+use Rattle.std.proofs.Common.{◌≡◌, ℕ, ℤ, ◌+ℤ◌, List, [], ◌∷◌, Some, None, option_map, option_and_then, refl, sym, ap, subst, ◌∙◌}
 use mir.Val.{to_z, of_z}
 use mir.Syntax.{w8}
 use Rattle.vcd_model.specs.Input.{Input}
-use Rattle.vcd_model.specs.Keywords.{Keyword, keyword_text, is_end}
-use Rattle.vcd_model.specs.Checks.{first_failed}
+use Rattle.vcd_model.specs.Keywords.{Keyword, keyword_text}
 use Rattle.vcd_model.specs.Scales.{exponent_of}
-use Rattle.vcd_model.specs.HeaderPhrases.{HeaderPhrase, scale_of, declarations_of}
-use Rattle.vcd_model.specs.HeaderChecks.{timescale_checks}
-use Rattle.vcd_model.specs.Reading.{Placed, phrases_of}
+use Rattle.vcd_model.specs.HeaderPhrases.{HeaderPhrase, scale_of}
+use Rattle.vcd_model.specs.Reading.{Placed}
 use Rattle.vcd_text.specs.Feed.{token_of, limit_of}
 use Rattle.vcd_text.specs.declared.device.Source.{Ghosts}
 use Rattle.vcd_text.specs.declared.feed.Feed.{Feed}
@@ -62,5 +60,5 @@ module _ {X : Type 0} {g : Ghosts X} (most : ℕ) (i : Input) (placed : List (Pl
   pub two_added : (n : List ℕ) (p e : ℤ) → power_in n ≡ Some p → unit_in (token_of f).bytes ≡ Some e → Looks most i placed (keyword_text Keyword.Timescale ∷ n ∷ []) f → ScaleRead most i placed f (to_z w8 (of_z w8 (to_z w8 (of_z w8 e) +ℤ to_z w8 (of_z w8 p))))
   two_added n p e h u l =
       let same : to_z w8 (of_z w8 (to_z w8 (of_z w8 e) +ℤ to_z w8 (of_z w8 p))) ≡ e +ℤ p =
-          ap (λ x. to_z w8 (of_z w8 (x +ℤ to_z w8 (of_z w8 p)))) (unit_fits (token_of f).bytes e u) ∙ ap (λ x. to_z w8 (of_z w8 (e +ℤ x))) (number_fits n p h) ∙ sum_fits n (token_of f).bytes p e h u in
+      ap (λ x. to_z w8 (of_z w8 (x +ℤ to_z w8 (of_z w8 p)))) (unit_fits (token_of f).bytes e u) ∙ ap (λ x. to_z w8 (of_z w8 (e +ℤ x))) (number_fits n p h) ∙ sum_fits n (token_of f).bytes p e h u in
       subst (ScaleRead most i placed f) (sym same) (two_read n p e h u l)

@@ -87,3 +87,7 @@ module _ {X : Type 0} {g : Ghosts X} (most : ℕ) (i : Input) (placed : List (Pl
 
 pub text_taken : (old new word : List ℕ) (o : Option ℕ) (n : ℕ) → o ≡ Some n → WordTaken old new word o → (new ≡ old ++ word) × (n ≡ length word)
 text_taken old new word o n e w = subst (WordTaken old new word) e w
+
+-- nothing was read
+pub went_nowhere : {X : Type 0} {g : Ghosts X} (failures : X → ℕ) (f : Feed X g) → Went failures f f None
+went_nowhere failures f = record { loans = record { source = refl; chunk = refl; token = refl; value = refl }; limit = refl; chunk = refl; on = λ e. omega arith; goes = λ e o. o; failed = λ e o. cc; same = λ e. refl }

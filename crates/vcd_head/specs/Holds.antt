@@ -77,3 +77,13 @@ pub record IsSameBut (old new : Draft) : Type 0 where
 -- the places of the entries
 abbrev pub places_in : List (Vec ℕ × Coded) → List ℕ
 places_in es = map (λ e. e.1.place) es
+
+-- nothing was read yet
+pub record IsNew (d : Draft) : Type 0 where
+  pub no_text : d.text.items ≡ []
+  pub no_rows : d.rows.items ≡ []
+  pub no_codes : d.codes.entries ≡ []
+  pub no_date : d.date.items ≡ []
+  pub no_version : d.version.items ≡ []
+  pub no_scale : d.scale ≡ None
+  pub no_scopes : d.scopes.items ≡ []

@@ -4,7 +4,7 @@ use Rattle.vcd_model.specs.Input.{Input}
 use Rattle.vcd_model.specs.Tokens.{Token, stream_of}
 use Rattle.vcd_model.specs.HeaderPhrases.{HeaderPhrase}
 use Rattle.vcd_model.specs.HeaderReading.{header_grammar, read_header, header_fault_of}
-use Rattle.vcd_model.specs.Reading.{Placed, Ending, reading_of}
+use Rattle.vcd_model.specs.Reading.{Placed, Ending, phrases_of, reading_of}
 use Rattle.vcd_model.specs.Reading.Ending.{AtFault, AtEnd, AtLast}
 use Rattle.vcd_model.specs.SoFar.{IsSoFar, IsWhole}
 use Rattle.vcd_text.specs.Answer.{failed_after}
@@ -14,6 +14,9 @@ use Rattle.vcd_text.specs.declared.feed.Feed.{Feed}
 use Rattle.vcd_head.specs.declared.fault.HeadFault.{HeadFault}
 use Rattle.vcd_head.specs.declared.fault.HeadFault.TheVariants.{ReadFailed, OutOfMemory}
 use Rattle.vcd_head.specs.Fault.{fault_number}
+use Rattle.vcd_head.specs.Shown.{HeadShown}
+use Rattle.vcd_head.specs.Views.{Views}
+use Rattle.vcd_model.specs.Header.{header_of}
 
 -- the tokens given are these good phrases, and then these first tokens of the next one
 pub record Reads {X : Type 0} {g : Ghosts X} (most : ℕ) (i : Input) (placed : List (Placed HeaderPhrase)) (before : List (List ℕ)) (f : Feed X g) : Type 0 where
@@ -52,3 +55,11 @@ abbrev pub Fails : {X : Type 0} {g : Ghosts X} → ℕ → Input → HeadFault �
 Fails most i OutOfMemory f = (given : List Token) × Stands i given f × IsFaultless most given
 Fails most i ReadFailed f = HasFault most (limit_of f) (failed_after (seen f) i) 31 (token_of f).line
 Fails most i fault f = HasFault most (limit_of f) i (fault_number fault) (token_of f).line
+
+-- the tokens given are a whole header, and the head shows it
+pub record GivesHead {X : Type 0} {g : Ghosts X} (most : ℕ) (i : Input) (f : Feed X g) (s : HeadShown) : Type 0 where
+  pub given : List Token
+  pub placed : List (Placed HeaderPhrase)
+  pub stands : Stands i given f
+  pub whole : IsWhole (header_grammar most) given placed
+  pub views : Views s (header_of (phrases_of placed))

@@ -6,8 +6,7 @@ use Rattle.vcd_model.specs.Input.{Input}
 use Rattle.vcd_model.specs.Keywords.{Keyword, keyword_text, is_end}
 use Rattle.vcd_model.specs.HeaderPhrases.{HeaderPhrase, scale_of}
 use Rattle.vcd_model.specs.HeaderChecks.{timescale_checks}
-use Rattle.vcd_model.specs.Checks.{first_failed}
-use Rattle.vcd_model.specs.Checks.{Check, ◌or_fault◌}
+use Rattle.vcd_model.specs.Checks.{◌or_fault◌}
 use Rattle.vcd_model.specs.Reading.{Placed}
 use Rattle.vcd_text.specs.declared.device.Source.{Ghosts}
 use Rattle.vcd_text.specs.declared.feed.Feed.{Feed}

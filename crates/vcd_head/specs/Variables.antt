@@ -1,7 +1,6 @@
 -- How far the phrase of a variable is read.
 use Rattle.std.specs.Prelude.{◌≡◌, ℕ, List, [], ◌∷◌, Some}
 use Rattle.vcd_model.specs.Bytes.{decimal_value}
-use Rattle.vcd_model.specs.Declarations.{Variable}
 use Rattle.vcd_model.specs.Input.{Input}
 use Rattle.vcd_model.specs.Keywords.{Keyword, keyword_text}
 use Rattle.vcd_model.specs.HeaderPhrases.{HeaderPhrase, declarations_of}

@@ -1,5 +1,5 @@
 -- What a token is that stands where a phrase of a header begins.
-use Rattle.std.specs.Prelude.{◌≡◌, ℕ, ℤ, pos, negsuc, codes, Bool, true, false, ◌||◌, cond, List, [], bytes_eq, Option, Some, None}
+use Rattle.std.specs.Prelude.{◌≡◌, ℕ, ℤ, pos, negsuc, codes, Bool, true, false, ◌||◌, cond, List, bytes_eq, Option, Some, None}
 use Rattle.vcd_model.specs.Bytes.{decimal_value}
 use Rattle.vcd_model.specs.HeaderChecks.{is_size}
 use Rattle.vcd_model.specs.Keywords as model

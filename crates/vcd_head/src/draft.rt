@@ -2,7 +2,7 @@
 ghost use Rattle.std.specs.Prelude.{◌≡◌, ◌-◌, List, length, unwrap_or, slice_get, IfOk, IfErr};
 ghost use Rattle.vcd_model.specs.Declarations.{Declaration, Variable, code_of};
 ghost use Rattle.vcd_head.specs.Views.{IsSize};
-ghost use Rattle.vcd_head.specs.Holds.{HasCodes, IsFound, CodeHeld, IsSameBut};
+ghost use Rattle.vcd_head.specs.Holds.{HasCodes, IsFound, CodeHeld, IsSameBut, IsNew};
 
 use crate::fault::HeadFault;
 use crate::view::{Code, Row, Scale};
@@ -31,7 +31,9 @@ pub(crate) struct Draft {
 }
 
 impl Draft {
-    pub(crate) fn new(alloc: Global) -> Self {
+    pub(crate) fn new(alloc: Global) -> Self
+        ensures { IsNew result }
+    {
         Draft {
             text: Vec::new(alloc),
             rows: Vec::new(alloc),

@@ -3,7 +3,9 @@
 
 mod draft;
 pub mod fault;
+mod finish;
 pub mod head;
+pub mod read;
 mod reading;
 mod scale;
 mod scopes;

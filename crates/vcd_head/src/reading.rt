@@ -115,7 +115,7 @@ pub(crate) fn read_phrase<S: Source>(
     requires { S.failures (source_of feed.old) < 2 ^ 64 - 1 }
     ensures reads { (i : Input) → Carries most i draft.old feed.old
         → MatchResult result (λ more. MatchBool more (Carries most i draft.new feed.new) (CarriesAll most i draft.new feed.new))
-            (λ fault. Fails most i fault feed.new) }
+        (λ fault. Fails most i fault feed.new) }
     ensures went { Went S.failures feed.old feed.new (fault_of result) }
     ensures progress { OnOk result (2 ^ 63 - seen feed.new < 2 ^ 63 - seen feed.old) }
 {

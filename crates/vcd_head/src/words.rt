@@ -7,7 +7,6 @@ ghost use Rattle.vcd_model.specs.Scales.{exponent_of as exponent_is};
 ghost use Rattle.vcd_model.specs.HeaderChecks.{begins_change as changes};
 ghost use Rattle.vcd_head.specs.Words.{StandsFor, is_body_word, power_in, unit_in, size_in};
 
-
 // The keywords that begin a phrase of a header.
 #[derive(Clone, Copy, PartialEq, Eq, Debug)]
 pub(crate) enum Keyword {

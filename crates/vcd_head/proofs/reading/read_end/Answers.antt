@@ -1,9 +1,6 @@
-use Rattle.std.proofs.Common.{◌≡◌, ◌∷◌, [], ◌++◌, Some, None, true, false, ◌||◌, option_map, option_and_then, refl, sym, ap, subst, ◌∙◌}
+use Rattle.std.proofs.Common.{◌∷◌, [], sym, ◌∙◌}
 use Rattle.std.proofs.lemmas.Result.{err_from_is_err_and}
-use Rattle.vcd_model.specs.Keywords.{Keyword, keyword_text, is_command}
-use Rattle.vcd_model.specs.HeaderPhrases.{HeaderPhrase, header_phrase}
-use Rattle.vcd_model.specs.Reading.{phrases_of}
-use Rattle.vcd_text.specs.Feed.{token_of}
+use Rattle.vcd_model.specs.Keywords.{Keyword, keyword_text}
 use Rattle.vcd_head.proofs.ReadingSteps as steps
 use Rattle.vcd_head.proofs.reading.read_end.Goals as goal
 

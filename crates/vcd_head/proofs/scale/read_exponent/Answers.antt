@@ -18,8 +18,8 @@ pub returns-in_err-next_token-2-clause-reads : goal.returns-in_err-next_token-2-
 returns-in_err-next_token-2-clause-reads g c =
     let p = err_from_is_err_and c.from_residual-in_err-next_token-2.result c.from_residual-in_err-next_token-2.ensures.1 in
     rw (p.1, p.2) (λ most i placed r.
-      let h : power_in (token_of c.next_token.new.feed).bytes ≡ Some c.in-Some.power = sym (c.power_of.ensures ∙ ap power_in c.token.ensures) ∙ c.in-Some.is in
-      c.in_err-next_token-2.ensures.reads most i placed (keyword_text Keyword.Timescale ∷ (token_of c.next_token.new.feed).bytes ∷ []) (number_read most i placed c.next_token.new.feed c.in-Some.power h (c.in_ok-next_token.ensures.reads most i placed (keyword_text Keyword.Timescale ∷ []) r)))
+    let h : power_in (token_of c.next_token.new.feed).bytes ≡ Some c.in-Some.power = sym (c.power_of.ensures ∙ ap power_in c.token.ensures) ∙ c.in-Some.is in
+    c.in_err-next_token-2.ensures.reads most i placed (keyword_text Keyword.Timescale ∷ (token_of c.next_token.new.feed).bytes ∷ []) (number_read most i placed c.next_token.new.feed c.in-Some.power h (c.in_ok-next_token.ensures.reads most i placed (keyword_text Keyword.Timescale ∷ []) r)))
 
 pub returns-in-Some-unit_of-clause-reads : goal.returns-in-Some-unit_of-clause-reads
 returns-in-Some-unit_of-clause-reads g c = λ most i placed r.

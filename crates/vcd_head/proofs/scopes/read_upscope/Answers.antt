@@ -1,4 +1,4 @@
-use Rattle.std.proofs.Common.{◌≡◌, ◌≤◌, ◌<◌, ℕ, length, [], ◌∷◌, ◌++◌, refl, sym, ap, ◌∙◌, arith, option_map, vec_len}
+use Rattle.std.proofs.Common.{◌≤◌, ◌<◌, length, [], ◌∷◌, ◌++◌, refl, sym, ap, ◌∙◌, arith, option_map, vec_len}
 use Rattle.std.proofs.lemmas.List.{length_push}
 use Rattle.std.proofs.lemmas.Result.{err_from_is_err_and}
 use Rattle.vcd_model.specs.Keywords.{Keyword, keyword_text}
@@ -28,9 +28,9 @@ pub returns-in_err-next_ends-clause-reads : goal.returns-in_err-next_ends-clause
 returns-in_err-next_ends-clause-reads g c =
     let p = err_from_is_err_and c.from_residual.result c.from_residual.ensures.1 in
     rw (p.1, p.2) (λ i b.
-      let n : length c.args.draft.now.rows.items < c.args.most = omega arith in
-      let z : 0 < length c.args.draft.now.scopes.items = omega (arith, ap length c.in-Some.ensures.items, length_push c.pop.new.self.items c.in-Some.closed) in
-      c.in_err-next_ends.ensures.reads c.args.most i b.placed (keyword_text Keyword.Upscope ∷ []) (begun c.args.most i b.placed Keyword.Upscope c.args.feed.now b.keyword (up_checks_pass c.args.most c.args.draft.now (phrases_of b.placed) b.holds n z) refl b.looks))
+    let n : length c.args.draft.now.rows.items < c.args.most = omega arith in
+    let z : 0 < length c.args.draft.now.scopes.items = omega (arith, ap length c.in-Some.ensures.items, length_push c.pop.new.self.items c.in-Some.closed) in
+    c.in_err-next_ends.ensures.reads c.args.most i b.placed (keyword_text Keyword.Upscope ∷ []) (begun c.args.most i b.placed Keyword.Upscope c.args.feed.now b.keyword (up_checks_pass c.args.most c.args.draft.now (phrases_of b.placed) b.holds n z) refl b.looks))
 
 pub returns-then-not-branch-clause-reads : goal.returns-then-not-branch-clause-reads
 returns-then-not-branch-clause-reads g c = λ i b.
@@ -43,21 +43,21 @@ pub returns-in_err-push-clause-reads : goal.returns-in_err-push-clause-reads
 returns-in_err-push-clause-reads g c =
     let p = err_from_is_err_and c.from_residual-in_err-push.result c.from_residual-in_err-push.ensures.1 in
     rw (p.1, p.2) (λ i b.
-      let n : length c.args.draft.now.rows.items < c.args.most = omega arith in
-      let z : 0 < length c.args.draft.now.scopes.items = omega (arith, ap length c.in-Some.ensures.items, length_push c.pop.new.self.items c.in-Some.closed) in
-      let e = sym c.in_ok-next_ends.ensures.end ∙ c.if-not-branch.false in
-      let l = c.in_ok-next_ends.ensures.reads c.args.most i b.placed (keyword_text Keyword.Upscope ∷ []) (begun c.args.most i b.placed Keyword.Upscope c.args.feed.now b.keyword (up_checks_pass c.args.most c.args.draft.now (phrases_of b.placed) b.holds n z) refl b.looks) in
-      let r = ended c.args.most i b.placed Keyword.Upscope c.next_ends.new.feed [] (HeaderPhrase.Declares Declaration.Up) (passed_test _ 6 e) (ap (option_map HeaderPhrase.Declares) (whole_test _ Declaration.Up e)) refl l in
-      faultless c.args.most i (b.placed ++ record { phrase = HeaderPhrase.Declares Declaration.Up; line = (token_of c.next_ends.new.feed).line } ∷ []) [] c.next_ends.new.feed r)
+    let n : length c.args.draft.now.rows.items < c.args.most = omega arith in
+    let z : 0 < length c.args.draft.now.scopes.items = omega (arith, ap length c.in-Some.ensures.items, length_push c.pop.new.self.items c.in-Some.closed) in
+    let e = sym c.in_ok-next_ends.ensures.end ∙ c.if-not-branch.false in
+    let l = c.in_ok-next_ends.ensures.reads c.args.most i b.placed (keyword_text Keyword.Upscope ∷ []) (begun c.args.most i b.placed Keyword.Upscope c.args.feed.now b.keyword (up_checks_pass c.args.most c.args.draft.now (phrases_of b.placed) b.holds n z) refl b.looks) in
+    let r = ended c.args.most i b.placed Keyword.Upscope c.next_ends.new.feed [] (HeaderPhrase.Declares Declaration.Up) (passed_test _ 6 e) (ap (option_map HeaderPhrase.Declares) (whole_test _ Declaration.Up e)) refl l in
+    faultless c.args.most i (b.placed ++ record { phrase = HeaderPhrase.Declares Declaration.Up; line = (token_of c.next_ends.new.feed).line } ∷ []) [] c.next_ends.new.feed r)
 
 pub returns-clause-reads : goal.returns-clause-reads
 returns-clause-reads g c = λ i b.
-      let n : length c.args.draft.now.rows.items < c.args.most = omega arith in
-      let z : 0 < length c.args.draft.now.scopes.items = omega (arith, ap length c.in-Some.ensures.items, length_push c.pop.new.self.items c.in-Some.closed) in
-      let e = sym c.in_ok-next_ends.ensures.end ∙ c.if-not-branch.false in
-      let l = c.in_ok-next_ends.ensures.reads c.args.most i b.placed (keyword_text Keyword.Upscope ∷ []) (begun c.args.most i b.placed Keyword.Upscope c.args.feed.now b.keyword (up_checks_pass c.args.most c.args.draft.now (phrases_of b.placed) b.holds n z) refl b.looks) in
-      let r = ended c.args.most i b.placed Keyword.Upscope c.next_ends.new.feed [] (HeaderPhrase.Declares Declaration.Up) (passed_test _ 6 e) (ap (option_map HeaderPhrase.Declares) (whole_test _ Declaration.Up e)) refl l in
-      carried c.args.most i _ c.next_ends.new.feed b.placed (record { phrase = HeaderPhrase.Declares Declaration.Up; line = (token_of c.next_ends.new.feed).line }) r
-      (holds_declared c.args.most c.args.draft.now _ (phrases_of b.placed) Declaration.Up b.holds
-        (up_declared c.args.most c.args.draft.now _ (declarations_of (phrases_of b.placed)) c.in-Some.closed _ b.holds.declares (few_enough c.args.most c.args.draft.now (phrases_of b.placed) b.holds n) refl c.in_ok-push.ensures.items refl c.in-Some.ensures.items refl)
-        refl refl refl)
+    let n : length c.args.draft.now.rows.items < c.args.most = omega arith in
+    let z : 0 < length c.args.draft.now.scopes.items = omega (arith, ap length c.in-Some.ensures.items, length_push c.pop.new.self.items c.in-Some.closed) in
+    let e = sym c.in_ok-next_ends.ensures.end ∙ c.if-not-branch.false in
+    let l = c.in_ok-next_ends.ensures.reads c.args.most i b.placed (keyword_text Keyword.Upscope ∷ []) (begun c.args.most i b.placed Keyword.Upscope c.args.feed.now b.keyword (up_checks_pass c.args.most c.args.draft.now (phrases_of b.placed) b.holds n z) refl b.looks) in
+    let r = ended c.args.most i b.placed Keyword.Upscope c.next_ends.new.feed [] (HeaderPhrase.Declares Declaration.Up) (passed_test _ 6 e) (ap (option_map HeaderPhrase.Declares) (whole_test _ Declaration.Up e)) refl l in
+    carried c.args.most i _ c.next_ends.new.feed b.placed (record { phrase = HeaderPhrase.Declares Declaration.Up; line = (token_of c.next_ends.new.feed).line }) r
+    (holds_declared c.args.most c.args.draft.now _ (phrases_of b.placed) Declaration.Up b.holds
+    (up_declared c.args.most c.args.draft.now _ (declarations_of (phrases_of b.placed)) c.in-Some.closed _ b.holds.declares (few_enough c.args.most c.args.draft.now (phrases_of b.placed) b.holds n) refl c.in_ok-push.ensures.items refl c.in-Some.ensures.items refl)
+    refl refl refl)

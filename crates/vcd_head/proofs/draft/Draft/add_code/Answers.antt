@@ -1,5 +1,4 @@
-use Rattle.std.proofs.Common.{◌≡◌, ◌++◌, ℕ, length, refl, sym, ap, ◌∙◌, arith, subst}
-use Rattle.vcd_model.specs.Declarations.{code_of}
+use Rattle.std.proofs.Common.{◌≡◌, ◌++◌, length, ap, ◌∙◌, arith, subst}
 use Rattle.vcd_head.specs.Views.{IsSize}
 use Rattle.vcd_head.proofs.Coding.{held_new}
 use Rattle.vcd_head.proofs.draft.Draft.add_code.Goals as goal

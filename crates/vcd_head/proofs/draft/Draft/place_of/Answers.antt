@@ -1,4 +1,4 @@
-use Rattle.std.proofs.Common.{sym, ap, subst}
+use Rattle.std.proofs.Common.{subst}
 use Rattle.vcd_head.specs.Holds.{IsFound}
 use Rattle.vcd_head.proofs.Coding.{held_alias}
 use Rattle.vcd_head.proofs.draft.Draft.place_of.Goals as goal
