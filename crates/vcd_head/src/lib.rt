@@ -9,6 +9,8 @@ pub mod read;
 mod reading;
 mod scale;
 mod scopes;
+#[cfg(test)]
+mod tests;
 mod texts;
 mod tokens;
 mod variable;
