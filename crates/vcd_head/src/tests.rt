@@ -52,7 +52,7 @@ fn row(
 
 #[test]
 fn scopes_and_aliases(rt: HostRuntime) -> Result<(), Fail> {
-    let head = read(rt.alloc(), NESTED, 16_777_216).map_err(|_| Fail::from("refused"))?;
+    let head = read(rt.alloc(), NESTED, 16_777_216).map_err(|refused| refused.0)?;
     let view = head.view();
     assert_eq!(rt; view.rows.len(), 7);
     assert_eq!(rt; view.rows[1], row(Kind::Var, 1, 8, 4, 3, 3, 0));
