@@ -1,0 +1,24 @@
+# make         proves every crate, builds the program as ./vcdkit and shows it on a sample dump
+# make test    the merge gate: every proof from nothing, must-fail edits, tests, the program as two compilers build it
+# make clean   drops what was built, and what the proofs kept
+
+sample := samples/counter.vcd
+
+.PHONY: all test clean vcdkit toolchain
+
+all: vcdkit
+	./vcdkit check < $(sample)
+
+# `rt run` proves the crates below the program and the program, builds it and runs it. With no change it only runs it.
+vcdkit: toolchain
+	cd crates/vcdkit && rt run -- check < ../../$(sample) > /dev/null
+	cp crates/vcdkit/out/vcdkit $@
+
+test: toolchain
+	rt ci
+
+clean:
+	rm -rf vcdkit crates/*/out
+
+toolchain:
+	@command -v rt > /dev/null || { echo "make: there is no command rt. It comes with the Rattle kit: see README.md." >&2; exit 1; }

@@ -1,0 +1,109 @@
+#!/usr/bin/env bash
+# check_speed.sh [MB] [--large]   how fast `vcdkit check` is on a plain dump of so many megabytes (200), beside rivals and
+# `wc -l` on the same dump, and what memory each takes on 1 MB, on that dump and, with --large, on 1 GB. See README.md.
+set -eu
+here=$(cd "$(dirname "$0")" && pwd)
+vcdkit=${VCDKIT:-$here/../vcdkit}
+rivals=${RIVALS:-$here/../../shared/bench/baseline}
+
+megabytes=200
+large=()
+for word in "$@"; do
+    case $word in
+        --large) large=(1000) ;;
+        *[!0-9]* | '' | 0*) sed -n '2,3s/^# //p' "$0" >&2; exit 2 ;;
+        *) megabytes=$word ;;
+    esac
+done
+
+work=$(mktemp -d)
+trap 'rm -rf "$work"' EXIT
+
+[ -x "$vcdkit" ] || { echo "check_speed.sh: there is no program $vcdkit: run make first" >&2; exit 2; }
+cp "$vcdkit" "$work/vcdkit"
+programs=(vcdkit)
+if [ -d "$rivals" ]; then
+    cp -r "$rivals" "$work/rivals" && chmod -R u+w "$work/rivals"
+    (cd "$work/rivals" && cargo build --quiet --release --offline --target-dir "$work/target" --bin simple --bin fast)
+    cp "$work/target/release/simple" "$work/target/release/fast" "$work"
+    programs+=(simple fast)
+else
+    echo "check_speed.sh: there is no folder $rivals, so no rivals: RIVALS names another" >&2
+fi
+
+# Sets `command` to the words that run a program.
+find_command() {
+    case $1 in
+        vcdkit) command=("$work/vcdkit" check) ;;
+        'wc -l') command=(wc -l) ;;
+        *) command=("$work/$1") ;;
+    esac
+}
+
+# Makes the dump of so many megabytes, and says where it is.
+dump_of() {
+    [ -s "$work/$1.vcd" ] || "$here/plain_dump.py" "$1" > "$work/$1.vcd"
+    echo "$work/$1.vcd"
+}
+
+# User and system time together, and wall time, of one run.
+times_of() {
+    local TIMEFORMAT='%3U %3S %3R'
+    find_command "$1"
+    { time "${command[@]}" < "$2" > /dev/null; } 2>&1 | awk '{ print $1 + $2, $3 }'
+}
+
+# The peak resident memory of one run, in kilobytes.
+peak_of() {
+    find_command "$1"
+    if [ -x /usr/bin/time ]; then
+        /usr/bin/time -f %M -o "$work/peak" "${command[@]}" < "$2" > /dev/null
+        cat "$work/peak"
+    else
+        echo '?'
+    fi
+}
+
+dump=$(dump_of "$megabytes")
+for program in "${programs[@]}"; do
+    find_command "$program"
+    "${command[@]}" < "$dump" > "$work/$program.report"
+    cmp "$work/vcdkit.report" "$work/$program.report"
+done
+
+# The programs take turns, so that what else the machine does meets all of them.
+for _ in 1 2 3; do
+    for program in "${programs[@]}" 'wc -l'; do
+        echo "$program:$(times_of "$program" "$dump")"
+    done
+done > "$work/times"
+
+echo "check of a plain dump of $megabytes MB, best of three"
+awk -F: -v bytes="$(wc -c < "$dump")" '
+    function rate(seconds) { return bytes / 1e6 / (seconds + 1e-9) }
+    {
+        split($2, t, " ")
+        if (!($1 in cpu)) { order[++n] = $1; cpu[$1] = t[1]; wall[$1] = t[2] }
+        if (t[1] < cpu[$1]) cpu[$1] = t[1]
+        if (t[2] < wall[$1]) wall[$1] = t[2]
+    }
+    END {
+        printf "%-8s | %17s %8s %8s | %9s %8s %8s\n", "", "user and system s", "MB/s", "ratio", "wall s", "MB/s", "ratio"
+        for (k = 1; k <= n; k++) {
+            p = order[k]
+            printf "%-8s | %17.3f %8.0f %8.2f | %9.3f %8.0f %8.2f\n", p, cpu[p], rate(cpu[p]), cpu[p] / (cpu["vcdkit"] + 1e-9),
+                wall[p], rate(wall[p]), wall[p] / (wall["vcdkit"] + 1e-9)
+        }
+        print "ratio: the speed of vcdkit over that of the program in the line"
+    }' "$work/times"
+
+echo
+echo "peak resident memory, in kilobytes"
+printf '%-8s' ''
+for size in 1 "$megabytes" "${large[@]}"; do printf ' %10s' "$size MB"; done
+echo
+for program in "${programs[@]}"; do
+    printf '%-8s' "$program"
+    for size in 1 "$megabytes" "${large[@]}"; do printf ' %10s' "$(peak_of "$program" "$(dump_of "$size")")"; done
+    echo
+done

@@ -1,0 +1,14 @@
+mod Digits
+mod HeaderSteps
+mod Phrases
+mod HeadSteps
+mod Starts
+mod Codes
+mod BodySteps
+mod BodyEndings
+mod Writing
+mod Asking
+mod Dumps
+mod PlainOutcomes
+mod Answers
+mod PlainRows

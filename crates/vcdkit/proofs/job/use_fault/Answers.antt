@@ -1,0 +1,10 @@
+use Rattle.vcd_model.specs.Outcome.{fault_text}
+use Rattle.vcdkit.proofs.Writing.{takes-shows}
+use Rattle.vcdkit.proofs.job.use_fault.Goals as goal
+
+pub returns-in-BadWords-clause-line : goal.returns-in-BadWords-clause-line
+returns-in-BadWords-clause-line g c = rw c.in-BadWords.is (takes-shows _ _ _ _ _ _ c.put_line.ensures.takes c.put_line.ensures.failures)
+
+pub returns-in-OutOfMemory-clause-line : goal.returns-in-OutOfMemory-clause-line
+unfolding fault_text
+returns-in-OutOfMemory-clause-line g c = rw c.in-OutOfMemory.is (takes-shows _ _ _ _ _ _ c.put_line-in-OutOfMemory.ensures.takes c.put_line-in-OutOfMemory.ensures.failures)
