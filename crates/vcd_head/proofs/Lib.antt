@@ -1,0 +1,14 @@
+pub mod WordLemmas
+pub mod Steps
+pub mod TextSteps
+pub mod Phrases
+pub mod Enclosing
+pub mod Growing
+pub mod Declared
+pub mod Carrying
+pub mod Coding
+pub mod CodeChecks
+pub mod ScaleLemmas
+pub mod ScaleChecks
+pub mod ReadingSteps
+pub mod Indexing

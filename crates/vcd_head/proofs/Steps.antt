@@ -1,0 +1,93 @@
+-- One token on in the reading of a header.
+use Rattle.std.proofs.Common.{◌≡◌, ℕ, ◌+◌, true, false, List, [], ◌∷◌, ◌++◌, length, Option, Some, None, unwrap_or, refl, sym, ap, subst, ◌∙◌, arith}
+use Rattle.std.proofs.lemmas.List.{append_assoc}
+use Rattle.vcd_model.specs.Input.{Input}
+use Rattle.vcd_model.specs.Laws.{IsPrefixOf}
+use Rattle.vcd_model.specs.Tokens.{Token, Stream, stream_of}
+use Rattle.vcd_model.specs.HeaderPhrases.{HeaderPhrase, header_phrase}
+use Rattle.vcd_model.specs.HeaderChecks.{header_fault}
+use Rattle.vcd_model.specs.HeaderReading.{header_grammar, read_header, header_fault_of, is_last}
+use Rattle.vcd_model.specs.Reading.{Placed, Reading, phrases_of, reading_of}
+use Rattle.vcd_model.specs.SoFar.{IsSoFar}
+use Rattle.vcd_model.proofs.SoFarLemmas.{so_far-token, so_far-phrase, whole-phrase, faulty-token}
+use Rattle.vcd_text.specs.Answer.{Ends}
+use Rattle.vcd_text.specs.Feed.{Stands, token_of, limit_of}
+use Rattle.vcd_text.specs.declared.device.Source.{Ghosts}
+use Rattle.vcd_text.specs.declared.feed.Feed.{Feed}
+use Rattle.vcd_head.specs.Reads.{Reads, Looks, ReadsWhole, IsFaultless, HasFault}
+use Rattle.vcd_head.specs.Went.{Went}
+use Rattle.vcd_head.specs.Texts.{Welcomes, WordRead, WordTaken}
+use Rattle.vcd_model.specs.Keywords.{is_end}
+use Rattle.vcd_head.specs.declared.fault.HeadFault.{HeadFault}
+
+-- a token is missing: the input's stream has no more
+pub missing_token : (most limit : ℕ) (i : Input) (given : List Token) (placed : List (Placed HeaderPhrase)) (before : List (List ℕ)) (halt : Option ℕ) (line : ℕ) → IsSoFar (header_grammar most) given placed before → Ends limit i given halt line
+    → HasFault most limit i (unwrap_or halt 2) line
+unfolding read_header
+missing_token most limit i given placed before halt line h e =
+    subst (λ (s : Stream). header_fault_of s (reading_of (header_grammar most) s.tokens) ≡ Some (record { number = unwrap_or halt 2; line = line })) (sym e)
+    (ap (λ (r : Reading HeaderPhrase). header_fault_of (record { tokens = given; halt = halt; line = line }) r) h)
+
+module _ {X : Type 0} {g : Ghosts X} (most : ℕ) (i : Input) (placed : List (Placed HeaderPhrase)) (before : List (List ℕ)) (f : Feed X g) where
+  -- the token passes its checks, and no phrase is whole with it
+  pub taken : header_fault most (phrases_of placed) before (token_of f).bytes ≡ None → header_phrase (before ++ (token_of f).bytes ∷ []) ≡ None → Looks most i placed before f → Reads most i placed (before ++ (token_of f).bytes ∷ []) f
+  taken e q l = record { given = l.given ++ token_of f ∷ []; stands = l.stands; so_far = so_far-token (header_grammar most) l.given placed before (token_of f) l.so_far e q }
+
+  -- the token passes its checks, and a phrase that others follow is whole with it
+  pub taken_phrase : (p : HeaderPhrase) → header_fault most (phrases_of placed) before (token_of f).bytes ≡ None → header_phrase (before ++ (token_of f).bytes ∷ []) ≡ Some p → is_last p ≡ false → Looks most i placed before f
+      → Reads most i (placed ++ record { phrase = p; line = (token_of f).line } ∷ []) [] f
+  taken_phrase p e q l k = record { given = k.given ++ token_of f ∷ []; stands = k.stands; so_far = so_far-phrase (header_grammar most) k.given placed before (token_of f) p k.so_far e q l }
+
+  -- the token passes its checks, and the last phrase is whole with it
+  pub taken_last : (p : HeaderPhrase) → header_fault most (phrases_of placed) before (token_of f).bytes ≡ None → header_phrase (before ++ (token_of f).bytes ∷ []) ≡ Some p → is_last p ≡ true → Looks most i placed before f
+      → ReadsWhole most i (placed ++ record { phrase = p; line = (token_of f).line } ∷ []) f
+  taken_last p e q l k = record { given = k.given ++ token_of f ∷ []; stands = k.stands; whole = whole-phrase (header_grammar most) k.given placed before (token_of f) p k.so_far e q l }
+
+  -- a check of the token fails
+  pub refused : (n : ℕ) → header_fault most (phrases_of placed) before (token_of f).bytes ≡ Some n → Looks most i placed before f → HasFault most (limit_of f) i n (token_of f).line
+  unfolding read_header
+  refused n e l =
+      let first : IsPrefixOf (l.given ++ token_of f ∷ []) (stream_of (limit_of f) i).tokens = l.stands.given_first in
+      ap (header_fault_of (stream_of (limit_of f) i)) (ap (reading_of (header_grammar most)) (first.1 ∙ append_assoc l.given (token_of f ∷ []) first.0) ∙ faulty-token (header_grammar most) l.given placed before (token_of f) first.0 n l.so_far e)
+
+  -- tokens that were read on have no fault
+  pub faultless : Reads most i placed before f → (given : List Token) × Stands i given f × IsFaultless most given
+  faultless r = (r.given, r.stands, rw (r.so_far, IsFaultless) tt)
+
+pub faultless_whole : {X : Type 0} {g : Ghosts X} (most : ℕ) (i : Input) (placed : List (Placed HeaderPhrase)) (f : Feed X g) → ReadsWhole most i placed f → (given : List Token) × Stands i given f × IsFaultless most given
+faultless_whole most i placed f r = (r.given, r.stands, rw (r.whole, IsFaultless) tt)
+
+-- what two parts of a reading leave of a feed
+pub went_on : {X : Type 0} {g : Ghosts X} (failures : X → ℕ) (old mid new : Feed X g) (fault : Option HeadFault) → Went failures old mid None → Went failures mid new fault → Went failures old new fault
+went_on failures old mid new fault a b = record {
+  loans = record { source = b.loans.source ∙ a.loans.source; chunk = b.loans.chunk ∙ a.loans.chunk; token = b.loans.token ∙ a.loans.token; value = b.loans.value ∙ a.loans.value };
+  limit = b.limit ∙ a.limit;
+  chunk = b.chunk ∙ a.chunk;
+  on = λ e. let first = a.on refl in let second = b.on e in omega arith;
+  goes = λ e o. b.goes e (a.goes refl o);
+  failed = λ e o. b.failed e (a.goes refl o) ∙ ap (λ n. n + 1) (a.same (λ x. cc));
+  same = λ e. b.same e ∙ a.same (λ x. cc);
+}
+
+-- a word passes its checks
+pub welcomed : {X : Type 0} {g : Ghosts X} (most : ℕ) (i : Input) (placed : List (Placed HeaderPhrase)) (before : List (List ℕ)) (f : Feed X g) → Welcomes most placed before → is_end (token_of f).bytes ≡ false → Looks most i placed before f
+    → Reads most i placed (before ++ (token_of f).bytes ∷ []) f
+welcomed most i placed before f w e l = let step = w (token_of f).bytes e in taken most i placed before f step.0 step.1 l
+
+module _ {X : Type 0} {g : Ghosts X} (most : ℕ) (i : Input) (placed : List (Placed HeaderPhrase)) (before : List (List ℕ)) (f : Feed X g) (o : Option ℕ) where
+  pub word_some : (n : ℕ) → o ≡ Some n → WordRead most i placed before f o → Reads most i placed (before ++ (token_of f).bytes ∷ []) f × (is_end (token_of f).bytes ≡ false)
+  word_some n e w = subst (WordRead most i placed before f) e w
+
+  pub word_none : ((n : ℕ) → o ≡ Some n → ⊥) → WordRead most i placed before f o → Looks most i placed before f × (is_end (token_of f).bytes ≡ true)
+  word_none e w = by_cases o e w
+    where
+      by_cases : (x : Option ℕ) → ((n : ℕ) → x ≡ Some n → ⊥) → WordRead most i placed before f x → Looks most i placed before f × (is_end (token_of f).bytes ≡ true)
+      by_cases None e w = w
+      by_cases (Some n) e w = absurd (e n refl)
+
+pub text_taken : (old new word : List ℕ) (o : Option ℕ) (n : ℕ) → o ≡ Some n → WordTaken old new word o → (new ≡ old ++ word) × (n ≡ length word)
+text_taken old new word o n e w = subst (WordTaken old new word) e w
+
+-- nothing was read
+pub went_nowhere : {X : Type 0} {g : Ghosts X} (failures : X → ℕ) (f : Feed X g) → Went failures f f None
+went_nowhere failures f = record { loans = record { source = refl; chunk = refl; token = refl; value = refl }; limit = refl; chunk = refl; on = λ e. omega arith; goes = λ e o. o; failed = λ e o. cc; same = λ e. refl }

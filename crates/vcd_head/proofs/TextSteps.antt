@@ -1,0 +1,74 @@
+-- One token on in a phrase that runs to the first `$end`.
+use Rattle.std.proofs.Common.{◌≡◌, ℕ, true, false, List, [], ◌∷◌, ◌++◌, None, sym, ap, subst, ◌∙◌}
+use Rattle.std.specs.List.{join_with_byte}
+use Rattle.std.proofs.lemmas.List.{append_assoc, append-nil}
+use Rattle.vcd_model.specs.Input.{Input}
+use Rattle.vcd_model.specs.Keywords.{is_end}
+use Rattle.vcd_model.specs.HeaderPhrases.{HeaderPhrase, header_phrase}
+use Rattle.vcd_model.specs.HeaderChecks.{header_fault}
+use Rattle.vcd_model.specs.Reading.{Placed, phrases_of}
+use Rattle.vcd_text.specs.Feed.{token_of, Stands}
+use Rattle.vcd_text.specs.declared.device.Source.{Ghosts}
+use Rattle.vcd_text.specs.declared.feed.Feed.{Feed}
+use Rattle.vcd_head.specs.Reads.{Reads, Looks, IsFaultless}
+use Rattle.vcd_head.specs.Texts.{NoEnds, RunsOn, spaced, ReadsOn, EndsThere}
+use Rattle.vcd_head.proofs.Steps.{taken, faultless}
+use Rattle.vcd_model.specs.Tokens.{Token}
+
+pub no_ends_more : (ts : List (List ℕ)) (t : List ℕ) → NoEnds ts → is_end t ≡ false → NoEnds (ts ++ t ∷ [])
+no_ends_more [] t h e = (e, tt)
+no_ends_more (u ∷ ts) t h e = (h.0, no_ends_more ts t h.1 e)
+
+pub spaced_more : (ts : List (List ℕ)) (t : List ℕ) → spaced (ts ++ t ∷ []) ≡ spaced ts ++ 32 ∷ t
+spaced_more [] t = append-nil (32 ∷ t)
+spaced_more (u ∷ ts) t = ap (λ l. 32 ∷ u ++ l) (spaced_more ts t) ∙ sym (append_assoc (32 ∷ u) (spaced ts) (32 ∷ t))
+
+pub joined : (t : List ℕ) (ts : List (List ℕ)) → join_with_byte 32 (t ∷ ts) ≡ t ++ spaced ts
+joined t [] = sym (append-nil t)
+joined t (u ∷ ts) = ap (λ l. t ++ 32 ∷ l) (joined u ts)
+
+module _ {X : Type 0} {g : Ghosts X} (most : ℕ) (i : Input) (placed : List (Placed HeaderPhrase)) (before : List (List ℕ)) (f : Feed X g) where
+  pub one_more : (inner : List (List ℕ)) → RunsOn most placed before → NoEnds inner → is_end (token_of f).bytes ≡ false → Looks most i placed (before ++ inner) f → Reads most i placed (before ++ (inner ++ (token_of f).bytes ∷ [])) f
+  one_more inner runs none e l =
+      let step = runs inner (token_of f).bytes none in
+      subst (λ (b : List (List ℕ)). Reads most i placed b f) (append_assoc before inner ((token_of f).bytes ∷ [])) (taken most i placed (before ++ inner) f step.0 (step.1 e) l)
+
+  -- the first token
+  pub one_first : RunsOn most placed before → is_end (token_of f).bytes ≡ false → Looks most i placed before f → Reads most i placed (before ++ (token_of f).bytes ∷ []) f
+  one_first runs e l = one_more [] runs tt e (subst (λ (b : List (List ℕ)). Looks most i placed b f) (sym (append-nil before)) l)
+
+  -- the first token is `$end`
+  pub ends_at_once : {Grows : List (List ℕ) → Type 0} → is_end (token_of f).bytes ≡ true → Looks most i placed before f → Grows [] → EndsThere most i placed before f Grows
+  ends_at_once e l grows = record { inner = []; none = tt; looks = subst (λ (b : List (List ℕ)). Looks most i placed b f) (sym (append-nil before)) l; ends = e; grows = grows }
+
+  -- nothing was read on yet
+  pub none_yet : {Grows : List (List ℕ) → Type 0} → Grows [] → Reads most i placed before f → ReadsOn most i placed before f Grows
+  none_yet grows r = record { inner = []; none = tt; reads = subst (λ (b : List (List ℕ)). Reads most i placed b f) (sym (append-nil before)) r; grows = grows }
+
+  -- a token more was read on
+  pub reads_more : {Grows' : List (List ℕ) → Type 0} (inner : List (List ℕ)) → RunsOn most placed before → NoEnds inner → is_end (token_of f).bytes ≡ false → Looks most i placed (before ++ inner) f → Grows' (inner ++ (token_of f).bytes ∷ [])
+      → ReadsOn most i placed before f Grows'
+  reads_more inner runs none e l grows = record { inner = inner ++ (token_of f).bytes ∷ []; none = no_ends_more inner (token_of f).bytes none e; reads = one_more inner runs none e l; grows = grows }
+
+  -- so it has no fault
+  pub faultless_more : (inner : List (List ℕ)) → RunsOn most placed before → NoEnds inner → is_end (token_of f).bytes ≡ false → Looks most i placed (before ++ inner) f → (given : List Token) × Stands i given f × IsFaultless most given
+  faultless_more inner runs none e l = faultless most i placed (before ++ (inner ++ (token_of f).bytes ∷ [])) f (one_more inner runs none e l)
+
+-- a first token, and then others with a space before each
+pub ends_behind : {X : Type 0} {g : Ghosts X} (most : ℕ) (i : Input) (placed : List (Placed HeaderPhrase)) (before : List (List ℕ)) (t : List ℕ) (f : Feed X g) (text : List ℕ) → is_end t ≡ false
+    → EndsThere most i placed (before ++ t ∷ []) f (λ inner. text ≡ t ++ spaced inner) → EndsThere most i placed before f (λ inner. text ≡ join_with_byte 32 inner)
+ends_behind most i placed before t f text e h = record {
+  inner = t ∷ h.inner;
+  none = (e, h.none);
+  looks = subst (λ (b : List (List ℕ)). Looks most i placed b f) (append_assoc before (t ∷ []) h.inner) h.looks;
+  ends = h.ends;
+  grows = h.grows ∙ sym (joined t h.inner);
+}
+
+-- what runs on does so behind one token more
+pub runs_behind : (most : ℕ) (placed : List (Placed HeaderPhrase)) (before : List (List ℕ)) (t : List ℕ) → is_end t ≡ false → RunsOn most placed before → RunsOn most placed (before ++ t ∷ [])
+runs_behind most placed before t e runs inner u none =
+    let step = runs (t ∷ inner) u (e, none) in (
+      subst (λ (b : List (List ℕ)). header_fault most (phrases_of placed) b u ≡ None) (sym (append_assoc before (t ∷ []) inner)) step.0,
+      λ n. subst (λ (b : List (List ℕ)). header_phrase (b ++ u ∷ []) ≡ None) (sym (append_assoc before (t ∷ []) inner)) (step.1 n),
+    )

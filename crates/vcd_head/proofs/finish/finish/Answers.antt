@@ -1,0 +1,26 @@
+use Rattle.std.proofs.Common.{length, sym, ap, subst, arith}
+use Rattle.std.specs.List.{AllZip}
+use Rattle.vcd_model.specs.Declarations.{codes_of}
+use Rattle.vcd_model.specs.HeaderPhrases.{declarations_of}
+use Rattle.vcd_model.specs.Header.{header_of}
+use Rattle.vcd_head.specs.Views.{IsCode}
+use Rattle.vcd_head.proofs.Indexing.{is_index}
+use Rattle.vcd_head.proofs.finish.finish.Goals as goal
+
+pub returns-clause-head : goal.returns-clause-head
+unfolding header_of
+returns-clause-head c = λ most ps m h.
+    let ds = declarations_of ps in
+    let held = h.declares.held in
+    let few = h.declares.few in
+    record {
+      rows = h.declares.rows;
+      codes = subst (λ cs. AllZip (IsCode c.args.draft.text.items) cs (codes_of ds)) (sym c.in_ok-codes.ensures) h.declares.codes.stand;
+      index = is_index (codes_of ds) c.args.draft.codes.entries c.sort_keys.new.self.entries c.in_ok-index.index.items h.declares.codes.numbered c.in_ok-sort_keys.ensures.reordered.0 c.in_ok-sort_keys.ensures.sorted c.in_ok-sort_keys.ensures.unique c.in_ok-index.ensures;
+      date = h.date;
+      version = h.version;
+      scale = h.scale;
+      held = omega (arith, held, ap length h.date, ap length h.version);
+      sizes = h.declares.codes.sizes;
+      few = omega arith;
+    }

@@ -1,0 +1,82 @@
+use Rattle.std.proofs.Common.{ℕ, Some, None, refl, sym, subst}
+use Rattle.vcd_text.specs.Answer.{failed_after}
+use Rattle.vcd_text.specs.Feed.{seen, limit_of, token_of}
+use Rattle.vcd_head.proofs.Steps.{missing_token}
+use Rattle.vcd_head.specs.Reads.{HasFault}
+use Rattle.vcd_head.proofs.tokens.next_token.Goals as goal
+
+pub returns-in-Ok-Finish-clause-reads : goal.returns-in-Ok-Finish-clause-reads
+returns-in-Ok-Finish-clause-reads g c = λ most i placed before r.
+    let e = rw c.in-Ok-Finish.field-0-is at c.in-Ok-Finish.ensures in
+    let n = e.gives i r.given r.stands in
+    subst (λ (l : ℕ). HasFault most l (i) 2 (token_of c.next.new.self).line) (sym e.lengths.0) (missing_token most (limit_of c.args.feed.now) (i) r.given placed before (None) (token_of c.next.new.self).line r.so_far n.2)
+
+pub returns-in-Ok-Finish-clause-went : goal.returns-in-Ok-Finish-clause-went
+returns-in-Ok-Finish-clause-went g c =
+    let e = rw c.in-Ok-Finish.field-0-is at c.in-Ok-Finish.ensures in
+    record {
+      loans = e.loans;
+      limit = e.lengths.0;
+      chunk = e.lengths.1;
+      on = λ x. cc;
+      goes = λ x o. cc;
+      failed = λ x o. cc;
+      same = λ x. e.failures (λ y. cc);
+    }
+
+pub returns-in-Err-TokenTooLong-clause-reads : goal.returns-in-Err-TokenTooLong-clause-reads
+returns-in-Err-TokenTooLong-clause-reads g c = λ most i placed before r.
+    let e = rw c.in-Err-TokenTooLong.field-0-is at c.in-Err-TokenTooLong.ensures in
+    let n = e.gives i r.given r.stands in
+    subst (λ (l : ℕ). HasFault most l (i) 1 (token_of c.next.new.self).line) (sym e.lengths.0) (missing_token most (limit_of c.args.feed.now) (i) r.given placed before (Some 1) (token_of c.next.new.self).line r.so_far n.2)
+
+pub returns-in-Err-TokenTooLong-clause-went : goal.returns-in-Err-TokenTooLong-clause-went
+returns-in-Err-TokenTooLong-clause-went g c =
+    let e = rw c.in-Err-TokenTooLong.field-0-is at c.in-Err-TokenTooLong.ensures in
+    record {
+      loans = e.loans;
+      limit = e.lengths.0;
+      chunk = e.lengths.1;
+      on = λ x. cc;
+      goes = λ x o. cc;
+      failed = λ x o. cc;
+      same = λ x. e.failures (λ y. cc);
+    }
+
+pub returns-in-Err-InputTooLong-clause-reads : goal.returns-in-Err-InputTooLong-clause-reads
+returns-in-Err-InputTooLong-clause-reads g c = λ most i placed before r.
+    let e = rw c.in-Err-InputTooLong.field-0-is at c.in-Err-InputTooLong.ensures in
+    let n = e.gives i r.given r.stands in
+    subst (λ (l : ℕ). HasFault most l (i) 21 (token_of c.next.new.self).line) (sym e.lengths.0) (missing_token most (limit_of c.args.feed.now) (i) r.given placed before (Some 21) (token_of c.next.new.self).line r.so_far n.2)
+
+pub returns-in-Err-InputTooLong-clause-went : goal.returns-in-Err-InputTooLong-clause-went
+returns-in-Err-InputTooLong-clause-went g c =
+    let e = rw c.in-Err-InputTooLong.field-0-is at c.in-Err-InputTooLong.ensures in
+    record {
+      loans = e.loans;
+      limit = e.lengths.0;
+      chunk = e.lengths.1;
+      on = λ x. cc;
+      goes = λ x o. cc;
+      failed = λ x o. cc;
+      same = λ x. e.failures (λ y. cc);
+    }
+
+pub returns-in-Err-ReadFailed-clause-reads : goal.returns-in-Err-ReadFailed-clause-reads
+returns-in-Err-ReadFailed-clause-reads g c = λ most i placed before r.
+    let e = rw c.in-Err-ReadFailed.field-0-is at c.in-Err-ReadFailed.ensures in
+    let n = e.gives i r.given r.stands in
+    subst (λ (l : ℕ). HasFault most l (failed_after (seen c.next.new.self) i) 31 (token_of c.next.new.self).line) (sym e.lengths.0) (missing_token most (limit_of c.args.feed.now) (failed_after (seen c.next.new.self) i) r.given placed before (Some 31) (token_of c.next.new.self).line r.so_far n.2)
+
+pub returns-in-Err-ReadFailed-clause-went : goal.returns-in-Err-ReadFailed-clause-went
+returns-in-Err-ReadFailed-clause-went g c =
+    let e = rw c.in-Err-ReadFailed.field-0-is at c.in-Err-ReadFailed.ensures in
+    record {
+      loans = e.loans;
+      limit = e.lengths.0;
+      chunk = e.lengths.1;
+      on = λ x. cc;
+      goes = λ x o. cc;
+      failed = λ x o. e.failed o refl;
+      same = λ x. absurd (x refl);
+    }

@@ -1,0 +1,89 @@
+-- What a draft holds of the phrases read so far.
+use Rattle.std.specs.Prelude.{◌≡◌, ℕ, suc, ◌+◌, ◌≤◌, List, [], ◌∷◌, ◌++◌, length, map, reverse, find, filter_map, count_by, sum_by, bytes_eq, Some, None, is_some, option_map, unwrap_or, slice_get}
+use Rattle.std.specs.Global.{Vec}
+use Rattle.std.specs.List.{AllByRecursion, AllZip, list_any, last_or}
+use Rattle.vcd_model.specs.Declarations.{Declaration, Variable, IdCode, code_of, codes_of, variables_of, has_text, is_scope, is_up, enclosing}
+use Rattle.vcd_model.specs.HeaderPhrases.{HeaderPhrase, declarations_of, date_of, version_of, timescale_of}
+use Rattle.vcd_model.specs.Bound.{kept_bytes}
+use Rattle.vcd_head.specs.declared.view.Code.{Code}
+use Rattle.vcd_head.specs.declared.view.Scale.{Scale}
+use Rattle.vcd_head.specs.declared.draft.Coded.{Coded}
+use Rattle.vcd_head.specs.declared.draft.Draft.{Draft}
+use Rattle.vcd_head.specs.declared.draft.Found.{Found}
+use Rattle.vcd_head.specs.declared.draft.Found.TheVariants as found
+use Rattle.vcd_head.specs.Views.{IsCode, IsSize, AreRows}
+
+-- the code has this size, and is an event or none
+pub record IsOfKind (c : Code) (k : IdCode) : Type 0 where
+  pub same_size : c.size ≡ k.size
+  pub same_event : c.event ≡ k.event
+
+-- the entries of a map are the bytes of these codes, each with its place; the first has place n
+abbrev pub ArePlaces : ℕ → List (Vec ℕ × Coded) → List IdCode → Type 0
+ArePlaces n [] [] = Unit {0}
+ArePlaces n [] (c ∷ cs) = ⊥
+ArePlaces n (e ∷ es) [] = ⊥
+ArePlaces n (e ∷ es) (c ∷ cs) = (e.0.items ≡ c.text) × (e.1.place ≡ n) × IsOfKind e.1.code c × ArePlaces (suc n) es cs
+
+-- the codes of the entries
+abbrev pub codes_in : List (Vec ℕ × Coded) → List Code
+codes_in es = map (λ e. e.1.code) es
+
+-- the codes of these declarations are held
+pub record HasCodes (text : List ℕ) (entries : List (Vec ℕ × Coded)) (ds : List Declaration) : Type 0 where
+  pub stand : AllZip (IsCode text) (codes_in entries) (codes_of ds)
+  pub numbered : ArePlaces 0 entries (codes_of ds)
+  pub known : AllByRecursion (λ u. find (has_text u.code) (codes_of ds) ≡ Some (code_of u)) (variables_of ds)
+  pub seen : (t : List ℕ) → list_any (λ u. bytes_eq u.code t) (variables_of ds) ≡ is_some (find (has_text t) (codes_of ds))
+  pub sizes : AllByRecursion (λ (c : IdCode). IsSize c.size) (codes_of ds)
+
+-- the code of a variable behind these declarations was found among theirs, or is new
+abbrev pub IsFound : List Declaration → Variable → Found → Type 0
+IsFound ds v (found.Declared place) = (slice_get (codes_of ds) place ≡ Some (code_of v)) × (find (has_text v.code) (codes_of ds) ≡ Some (code_of v))
+IsFound ds v (found.New code) = (code.items ≡ v.code) × (find (has_text v.code) (codes_of ds) ≡ None)
+
+-- the draft holds these declarations, of which `most` are allowed
+pub record Declares (most : ℕ) (d : Draft) (ds : List Declaration) : Type 0 where
+  pub codes : HasCodes d.text.items d.codes.entries ds
+  pub rows : AreRows d.text.items (codes_of ds) [] d.rows.items ds
+  pub nested : d.scopes.items ≡ map suc (reverse (enclosing ds))
+  pub balance : length (enclosing ds) + count_by is_up ds ≡ count_by is_scope ds
+  pub held : length d.text.items ≤ sum_by kept_bytes ds
+  pub few : length ds ≤ most
+
+-- the draft holds these phrases
+pub record Holds (most : ℕ) (d : Draft) (ps : List HeaderPhrase) : Type 0 where
+  pub declares : Declares most d (declarations_of ps)
+  pub date : d.date.items ≡ unwrap_or (last_or None (filter_map date_of ps)) []
+  pub version : d.version.items ≡ unwrap_or (last_or None (filter_map version_of ps)) []
+  pub scale : option_map (λ (x : Scale). x.exponent) d.scale ≡ last_or None (filter_map timescale_of ps)
+
+-- the code of the variable is held, at this place
+pub record CodeHeld (old new : Draft) (ds : List Declaration) (v : Variable) (place : ℕ) : Type 0 where
+  pub held_codes : HasCodes new.text.items new.codes.entries (ds ++ Declaration.Var v ∷ [])
+  pub held_at : slice_get (codes_of (ds ++ Declaration.Var v ∷ [])) place ≡ Some (code_of v)
+  pub more : List ℕ
+  pub grown : new.text.items ≡ old.text.items ++ more
+  pub short : length more ≤ length v.code
+
+-- nothing but texts and codes has changed
+pub record IsSameBut (old new : Draft) : Type 0 where
+  pub same_rows : new.rows.items ≡ old.rows.items
+  pub same_date : new.date.items ≡ old.date.items
+  pub same_version : new.version.items ≡ old.version.items
+  pub same_scale : new.scale ≡ old.scale
+  pub same_scopes : new.scopes.items ≡ old.scopes.items
+
+-- the places of the entries
+abbrev pub places_in : List (Vec ℕ × Coded) → List ℕ
+places_in es = map (λ e. e.1.place) es
+
+-- nothing was read yet
+pub record IsNew (d : Draft) : Type 0 where
+  pub no_text : d.text.items ≡ []
+  pub no_rows : d.rows.items ≡ []
+  pub no_codes : d.codes.entries ≡ []
+  pub no_date : d.date.items ≡ []
+  pub no_version : d.version.items ≡ []
+  pub no_scale : d.scale ≡ None
+  pub no_scopes : d.scopes.items ≡ []

@@ -1,0 +1,65 @@
+-- How far the reading of a header has come, by what its feed has given.
+use Rattle.std.specs.Prelude.{◌≡◌, ℕ, List, [], ◌∷◌, ◌++◌, Some}
+use Rattle.vcd_model.specs.Input.{Input}
+use Rattle.vcd_model.specs.Tokens.{Token, stream_of}
+use Rattle.vcd_model.specs.HeaderPhrases.{HeaderPhrase}
+use Rattle.vcd_model.specs.HeaderReading.{header_grammar, read_header, header_fault_of}
+use Rattle.vcd_model.specs.Reading.{Placed, Ending, phrases_of, reading_of}
+use Rattle.vcd_model.specs.Reading.Ending.{AtFault, AtEnd, AtLast}
+use Rattle.vcd_model.specs.SoFar.{IsSoFar, IsWhole}
+use Rattle.vcd_text.specs.Answer.{failed_after}
+use Rattle.vcd_text.specs.Feed.{Stands, token_of, limit_of, seen}
+use Rattle.vcd_text.specs.declared.device.Source.{Ghosts}
+use Rattle.vcd_text.specs.declared.feed.Feed.{Feed}
+use Rattle.vcd_head.specs.declared.fault.HeadFault.{HeadFault}
+use Rattle.vcd_head.specs.declared.fault.HeadFault.TheVariants.{ReadFailed, OutOfMemory}
+use Rattle.vcd_head.specs.Fault.{fault_number}
+use Rattle.vcd_head.specs.Shown.{HeadShown}
+use Rattle.vcd_head.specs.Views.{Views}
+use Rattle.vcd_model.specs.Header.{header_of}
+
+-- the tokens given are these good phrases, and then these first tokens of the next one
+pub record Reads {X : Type 0} {g : Ghosts X} (most : ℕ) (i : Input) (placed : List (Placed HeaderPhrase)) (before : List (List ℕ)) (f : Feed X g) : Type 0 where
+  pub given : List Token
+  pub stands : Stands i given f
+  pub so_far : IsSoFar (header_grammar most) given placed before
+
+-- the tokens given but the last are these good phrases, and then these first tokens of the next one; the last one was not looked at
+pub record Looks {X : Type 0} {g : Ghosts X} (most : ℕ) (i : Input) (placed : List (Placed HeaderPhrase)) (before : List (List ℕ)) (f : Feed X g) : Type 0 where
+  pub given : List Token
+  pub stands : Stands i (given ++ token_of f ∷ []) f
+  pub so_far : IsSoFar (header_grammar most) given placed before
+
+-- the tokens given are these good phrases, of which the last one ends the header
+pub record ReadsWhole {X : Type 0} {g : Ghosts X} (most : ℕ) (i : Input) (placed : List (Placed HeaderPhrase)) (f : Feed X g) : Type 0 where
+  pub given : List Token
+  pub stands : Stands i given f
+  pub whole : IsWhole (header_grammar most) given placed
+
+-- a reading that ends so has met no fault
+abbrev pub IsNoFault : Ending → Type 0
+IsNoFault (AtFault f) = ⊥
+IsNoFault AtEnd = Unit {0}
+IsNoFault AtLast = Unit {0}
+
+-- the tokens given so far have no fault
+abbrev pub IsFaultless : ℕ → List Token → Type 0
+IsFaultless most given = IsNoFault (reading_of (header_grammar most) given).ending
+
+-- the header of this input has this fault
+abbrev pub HasFault : ℕ → ℕ → Input → ℕ → ℕ → Type 0
+HasFault most limit i number line = header_fault_of (stream_of limit i) (read_header most (stream_of limit i)) ≡ Some (record { number = number; line = line })
+
+-- Why a header is refused: its fault, where a source that failed ends the input there. Where memory is refused, no token given so far has a fault.
+abbrev pub Fails : {X : Type 0} {g : Ghosts X} → ℕ → Input → HeadFault → Feed X g → Type 0
+Fails most i OutOfMemory f = (given : List Token) × Stands i given f × IsFaultless most given
+Fails most i ReadFailed f = HasFault most (limit_of f) (failed_after (seen f) i) 31 (token_of f).line
+Fails most i fault f = HasFault most (limit_of f) i (fault_number fault) (token_of f).line
+
+-- the tokens given are a whole header, and the head shows it
+pub record GivesHead {X : Type 0} {g : Ghosts X} (most : ℕ) (i : Input) (f : Feed X g) (s : HeadShown) : Type 0 where
+  pub given : List Token
+  pub placed : List (Placed HeaderPhrase)
+  pub stands : Stands i given f
+  pub whole : IsWhole (header_grammar most) given placed
+  pub views : Views s (header_of (phrases_of placed))

@@ -1,0 +1,25 @@
+-- What a view shows, as lists.
+use Rattle.std.specs.Prelude.{ℕ, List, Option}
+use Rattle.vcd_head.specs.declared.view.Row.{Row}
+use Rattle.vcd_head.specs.declared.view.Code.{Code}
+use Rattle.vcd_head.specs.declared.view.Scale.{Scale}
+use Rattle.vcd_head.specs.declared.view.HeadView.{HeadView}
+use Rattle.vcd_head.specs.declared.head.Head.{Head}
+
+-- the lists of a view
+pub record HeadShown : Type 0 where
+  pub text : List ℕ
+  pub rows : List Row
+  pub codes : List Code
+  pub index : List ℕ
+  pub date : List ℕ
+  pub version : List ℕ
+  pub scale : Option Scale
+
+-- what a view's slices hold
+abbrev pub parts : HeadView → HeadShown
+parts v = record { text = v.text.now; rows = v.rows.now; codes = v.codes.now; index = v.index.now; date = v.date.now; version = v.version.now; scale = v.scale }
+
+-- what the view of a head shows
+abbrev pub shown : Head → HeadShown
+shown h = record { text = h.text.items; rows = h.rows.items; codes = h.codes.items; index = h.index.items; date = h.date.items; version = h.version.items; scale = h.scale }

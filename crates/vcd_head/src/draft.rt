@@ -1,0 +1,101 @@
+// A header while it is read.
+ghost use Rattle.std.specs.Prelude.{◌≡◌, ◌-◌, List, length, unwrap_or, slice_get, IfOk, IfErr};
+ghost use Rattle.vcd_model.specs.Declarations.{Declaration, Variable, code_of};
+ghost use Rattle.vcd_head.specs.Views.{IsSize};
+ghost use Rattle.vcd_head.specs.Holds.{HasCodes, IsFound, CodeHeld, IsSameBut, IsNew};
+
+use crate::fault::HeadFault;
+use crate::view::{Code, Row, Scale};
+use indexmap::IndexMap;
+use std::alloc::Global;
+
+// A code with its place among the distinct codes.
+#[derive(Clone, Copy)]
+pub(crate) struct Coded {
+    pub(crate) place: usize,
+    pub(crate) code: Code,
+}
+
+// What the phrases read so far declare.
+#[derive(Drop)]
+pub(crate) struct Draft {
+    pub(crate) text: Vec<u8>,
+    pub(crate) rows: Vec<Row>,
+    // The distinct codes by their bytes, in order of first declaration.
+    pub(crate) codes: IndexMap<Vec<u8>, Coded>,
+    pub(crate) date: Vec<u8>,
+    pub(crate) version: Vec<u8>,
+    pub(crate) scale: Option<Scale>,
+    // 1 plus the row of each open scope, outermost first.
+    pub(crate) scopes: Vec<usize>,
+}
+
+impl Draft {
+    pub(crate) fn new(alloc: Global) -> Self
+        ensures { IsNew result }
+    {
+        Draft {
+            text: Vec::new(alloc),
+            rows: Vec::new(alloc),
+            codes: IndexMap::new(alloc),
+            date: Vec::new(alloc),
+            version: Vec::new(alloc),
+            scale: None,
+            scopes: Vec::new(alloc),
+        }
+    }
+
+    /// 1 plus the row of the innermost open scope, 0 where none is open.
+    pub(crate) fn parent(&self) -> usize
+        ensures { result ≡ unwrap_or (slice_get self.now.scopes.items (length self.now.scopes.items - 1)) 0 }
+    {
+        self.scopes.last().copied().unwrap_or(0)
+    }
+
+    /// The place of the code of a variable, which is added where it is new.
+    pub(crate) fn place_of(
+        &mut self,
+        found: Found,
+        size: usize,
+        event: bool,
+    ) -> Result<usize, HeadFault>
+        ensures codes { (ds : List Declaration) (v : Variable) → HasCodes self.old.text.items self.old.codes.entries ds
+            → IsFound ds v found → IsSize size → size ≡ (code_of v).size → event ≡ (code_of v).event
+            → IfOk result (CodeHeld self.old self.new ds v) }
+        ensures others { IsSameBut self.old self.new }
+        ensures memory { IfErr result (λ fault. fault ≡ HeadFault.OutOfMemory) }
+    {
+        match found {
+            Found::Declared(place) => Ok(place),
+            Found::New(bytes) => self.add_code(bytes, size, event),
+        }
+    }
+
+    fn add_code(&mut self, bytes: Vec<u8>, size: usize, event: bool) -> Result<usize, HeadFault>
+        ensures codes { (ds : List Declaration) (v : Variable) → HasCodes self.old.text.items self.old.codes.entries ds
+            → IsFound ds v (Found.New bytes) → IsSize size → size ≡ (code_of v).size → event ≡ (code_of v).event
+            → IfOk result (CodeHeld self.old self.new ds v) }
+        ensures others { IsSameBut self.old self.new }
+        ensures memory { IfErr result (λ fault. fault ≡ HeadFault.OutOfMemory) }
+    {
+        let code = Code {
+            start: self.text.len(),
+            len: bytes.len(),
+            size,
+            event,
+        };
+        self.text.extend_from_slice(&bytes)?;
+        let place = self.codes.len();
+        self.codes.insert(bytes, Coded { place, code })?;
+        Ok(place)
+    }
+}
+
+// The code of a variable that is read.
+#[derive(Drop)]
+pub(crate) enum Found {
+    // An earlier variable has it: its place among the distinct codes.
+    Declared(usize),
+    // None has it: its bytes.
+    New(Vec<u8>),
+}

@@ -1,0 +1,113 @@
+// The phrase of a variable, behind its keyword.
+ghost use Rattle.std.specs.Prelude.{◌≡◌, ℕ, ◌-◌, ◌^◌, ◌<◌, List, [], ◌∷◌, Some, MatchResult, codes, bytes_eq};
+ghost use Rattle.vcd_model.specs.Bytes.{decimal_value};
+ghost use Rattle.vcd_model.specs.Input.{Input};
+ghost use Rattle.vcd_model.specs.Keywords.{Keyword, keyword_text};
+ghost use Rattle.vcd_model.specs.HeaderPhrases.{HeaderPhrase, declarations_of};
+ghost use Rattle.vcd_model.specs.Reading.{Placed, phrases_of};
+ghost use Rattle.vcd_text.specs.Feed.{source_of, token_of};
+ghost use Rattle.vcd_head.specs.Reads.{Reads, Fails};
+ghost use Rattle.vcd_head.specs.Carries.{Begun, Carries};
+ghost use Rattle.vcd_head.specs.Holds.{HasCodes};
+ghost use Rattle.vcd_head.specs.Variables.{SizeRead, CodeRead};
+ghost use Rattle.vcd_head.specs.Went.{Went, fault_of};
+
+use crate::draft::{Coded, Draft, Found};
+use crate::fault::HeadFault;
+use crate::texts::append_to_end;
+use crate::tokens::{next_token, next_word};
+use crate::view::{Kind, Row};
+use crate::words::{is_code, is_event, size_of};
+use indexmap::IndexMap;
+use std::alloc::Global;
+use vcd_text::device::Source;
+use vcd_text::feed::Feed;
+
+/// The size of a variable, in bits.
+fn read_size<S: Source>(feed: &mut Feed<'_, '_, '_, '_, S>) -> Result<usize, HeadFault>
+    requires { S.failures (source_of feed.old) < 2 ^ 64 - 1 }
+    ensures reads { (most : ℕ) (i : Input) (placed : List (Placed HeaderPhrase)) (type : List ℕ)
+        → Reads most i placed (keyword_text Keyword.Var ∷ type ∷ []) feed.old
+        → MatchResult result (SizeRead most i placed type feed.new) (λ fault. Fails most i fault feed.new) }
+    ensures went { Went S.failures feed.old feed.new (fault_of result) }
+{
+    next_token(feed)?;
+    match size_of(feed.token()) {
+        Some(size) => Ok(size),
+        None => Err(HeadFault::BadVariable),
+    }
+}
+
+/// The code of a variable of this size, which is an event or none.
+fn read_code<S: Source>(
+    alloc: Global,
+    feed: &mut Feed<'_, '_, '_, '_, S>,
+    known: &IndexMap<Vec<u8>, Coded>,
+    size: usize,
+    event: bool,
+) -> Result<Found, HeadFault>
+    requires { S.failures (source_of feed.old) < 2 ^ 64 - 1 }
+    ensures reads { (most : ℕ) (i : Input) (placed : List (Placed HeaderPhrase)) (type digits text : List ℕ)
+        → HasCodes text known.now.entries (declarations_of (phrases_of placed))
+        → decimal_value digits ≡ size → bytes_eq (codes "event") type ≡ event
+        → Reads most i placed (keyword_text Keyword.Var ∷ type ∷ digits ∷ []) feed.old
+        → MatchResult result (CodeRead most i placed type digits feed.new) (λ fault. Fails most i fault feed.new) }
+    ensures went { Went S.failures feed.old feed.new (fault_of result) }
+{
+    next_token(feed)?;
+    let token = feed.token();
+    if !is_code(token) {
+        return Err(HeadFault::BadVariable);
+    }
+    let Some(coded) = known.get(token) else {
+        return Ok(Found::New(Vec::from_slice(alloc, token)?));
+    };
+    if coded.code.size != size {
+        return Err(HeadFault::CodeDiffers);
+    }
+    if coded.code.event != event {
+        return Err(HeadFault::CodeDiffers);
+    }
+    Ok(Found::Declared(coded.place))
+}
+
+/// A variable: type, size, code, one or more tokens of reference, and `$end`.
+pub(crate) fn read_variable<S: Source>(
+    alloc: Global,
+    feed: &mut Feed<'_, '_, '_, '_, S>,
+    most: u64,
+    draft: &mut Draft,
+) -> Result<(), HeadFault>
+    requires { S.failures (source_of feed.old) < 2 ^ 64 - 1 }
+    ensures reads { (i : Input) → Begun most i Keyword.Var draft.old feed.old
+        → MatchResult result (λ _. Carries most i draft.new feed.new) (λ fault. Fails most i fault feed.new) }
+    ensures went { Went S.failures feed.old feed.new (fault_of result) }
+{
+    if draft.rows.len() as u64 >= most {
+        return Err(HeadFault::TooMany);
+    }
+    let start = draft.text.len();
+    let Some(word) = next_word(feed, &mut draft.text)? else {
+        return Err(HeadFault::BadVariable);
+    };
+    let event = is_event(feed.token());
+    let size = read_size(feed)?;
+    let found = read_code(alloc, feed, &draft.codes, size, event)?;
+    let Some(name) = next_word(feed, &mut draft.text)? else {
+        return Err(HeadFault::BadVariable);
+    };
+    append_to_end(feed, &mut draft.text)?;
+    let all = draft.text.len() - start - word;
+    let code = draft.place_of(found, size, event)?;
+    let parent = draft.parent();
+    draft.rows.push(Row {
+        kind: Kind::Var,
+        parent,
+        start,
+        word,
+        name,
+        all,
+        code,
+    })?;
+    Ok(())
+}

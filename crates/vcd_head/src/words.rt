@@ -1,0 +1,191 @@
+// The words of a header: keywords, sizes and time scales.
+ghost use Rattle.std.specs.Prelude.{◌≡◌, codes, bytes_eq, ◌||◌, option_map, pos, ◌≤ℤ◌, ◌+ℤ◌};
+ghost use Rattle.std.specs.List.{list_all};
+ghost use Rattle.vcd_model.specs.Bytes.{is_code_byte};
+ghost use Rattle.vcd_model.specs.Keywords.{is_end as ends, is_command as commands};
+ghost use Rattle.vcd_model.specs.Scales.{exponent_of as exponent_is};
+ghost use Rattle.vcd_model.specs.HeaderChecks.{begins_change as changes};
+ghost use Rattle.vcd_head.specs.Words.{StandsFor, is_body_word, power_in, unit_in, size_in};
+
+// The keywords that begin a phrase of a header.
+#[derive(Clone, Copy, PartialEq, Eq, Debug)]
+pub(crate) enum Keyword {
+    Comment,
+    Date,
+    EndDefinitions,
+    Scope,
+    Timescale,
+    Upscope,
+    Var,
+    Version,
+}
+
+/// The token is this word.
+fn is(token: &[u8], word: &[u8]) -> bool
+    ensures { result ≡ bytes_eq word.now token.now }
+{
+    word == token
+}
+
+pub(crate) fn is_end(token: &[u8]) -> bool
+    ensures { result ≡ ends token.now }
+{
+    is(token, b"$end")
+}
+
+pub(crate) fn is_event(word: &[u8]) -> bool
+    ensures { result ≡ bytes_eq (codes "event") word.now }
+{
+    is(word, b"event")
+}
+
+/// The keyword that begins a phrase of a header.
+pub(crate) fn keyword_of(token: &[u8]) -> Option<Keyword>
+    ensures { StandsFor token.now result }
+{
+    if is(token, b"$comment") {
+        Some(Keyword::Comment)
+    } else if is(token, b"$date") {
+        Some(Keyword::Date)
+    } else if is(token, b"$enddefinitions") {
+        Some(Keyword::EndDefinitions)
+    } else if is(token, b"$scope") {
+        Some(Keyword::Scope)
+    } else if is(token, b"$timescale") {
+        Some(Keyword::Timescale)
+    } else if is(token, b"$upscope") {
+        Some(Keyword::Upscope)
+    } else if is(token, b"$var") {
+        Some(Keyword::Var)
+    } else if is(token, b"$version") {
+        Some(Keyword::Version)
+    } else {
+        None
+    }
+}
+
+// What belongs into a body, and stands nowhere in a header.
+fn is_body_keyword(token: &[u8]) -> bool
+    ensures { result ≡ is_body_word token.now }
+{
+    is(token, b"$dumpall")
+        || is(token, b"$dumpoff")
+        || is(token, b"$dumpon")
+        || is(token, b"$dumpvars")
+        || is_end(token)
+}
+
+// It could begin a time mark or a value change.
+fn begins_change(token: &[u8]) -> bool
+    ensures { result ≡ changes token.now }
+{
+    match token.first() {
+        Some(first) => b"#01xXzZbBrR".contains(first),
+        None => false,
+    }
+}
+
+// `$` and one or more bytes.
+pub(crate) fn is_command(token: &[u8]) -> bool
+    ensures { result ≡ commands token.now }
+{
+    token.len() > 1 && token[0] == b'$'
+}
+
+/// It belongs into the body, where it stands first in a phrase.
+pub(crate) fn is_out_of_place(token: &[u8]) -> bool
+    ensures { result ≡ (is_body_word token.now || changes token.now) }
+{
+    is_body_keyword(token) || begins_change(token)
+}
+
+/// The power of ten of a time scale's number.
+pub(crate) fn power_of(number: &[u8]) -> Option<i8>
+    ensures { result ≡ power_in number.now }
+{
+    if is(number, b"1") {
+        Some(0)
+    } else if is(number, b"10") {
+        Some(1)
+    } else if is(number, b"100") {
+        Some(2)
+    } else {
+        None
+    }
+}
+
+/// The power of ten of a time scale's unit, in seconds.
+pub(crate) fn unit_of(unit: &[u8]) -> Option<i8>
+    ensures { result ≡ unit_in unit.now }
+{
+    if is(unit, b"s") {
+        Some(0)
+    } else if is(unit, b"ms") {
+        Some(-3)
+    } else if is(unit, b"us") {
+        Some(-6)
+    } else if is(unit, b"ns") {
+        Some(-9)
+    } else if is(unit, b"ps") {
+        Some(-12)
+    } else if is(unit, b"fs") {
+        Some(-15)
+    } else {
+        None
+    }
+}
+
+/// The power of ten of a number and a unit in one token, in seconds.
+pub(crate) fn exponent_of(scale: &[u8]) -> Option<i8>
+    ensures { result ≡ exponent_is scale.now }
+{
+    if let Some(unit) = scale.strip_prefix(b"100") {
+        return raised(unit, 2);
+    }
+    if let Some(unit) = scale.strip_prefix(b"10") {
+        return raised(unit, 1);
+    }
+    if let Some(unit) = scale.strip_prefix(b"1") {
+        return raised(unit, 0);
+    }
+    None
+}
+
+// The power of ten of the unit and a number of this power.
+fn raised(unit: &[u8], power: i8) -> Option<i8>
+    requires low { pos 0 ≤ℤ power }
+    requires high { power ≤ℤ pos 2 }
+    ensures { result ≡ option_map (λ e. e +ℤ power) (unit_in unit.now) }
+{
+    match unit_of(unit) {
+        Some(exponent) => Some(exponent + power),
+        None => None,
+    }
+}
+
+/// The size that the digits spell, 1 to 16,777,215.
+pub(crate) fn size_of(token: &[u8]) -> Option<usize>
+    ensures { result ≡ size_in token.now }
+{
+    let mut size = 0;
+    for digit in token {
+        if !digit.is_ascii_digit() {
+            return None;
+        }
+        size = (size * 10 + (*digit - b'0') as usize).min(TOO_WIDE);
+    }
+    if size == 0 || size == TOO_WIDE {
+        return None;
+    }
+    Some(size)
+}
+
+// One more than the greatest size.
+const TOO_WIDE: usize = 16_777_216;
+
+/// All bytes may stand in a code: 33 to 126 (clause 18.2.1).
+pub(crate) fn is_code(token: &[u8]) -> bool
+    ensures { result ≡ list_all is_code_byte token.now }
+{
+    token.iter().all(|byte| 33 <= *byte && *byte <= 126)
+}
