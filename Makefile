@@ -1,4 +1,4 @@
-# make         proves every crate, builds the program as ./vcdkit and shows it on a sample dump
+# make         proves the program and the crates that it uses, builds it as ./vcdkit and shows it on a sample dump
 # make test    the merge gate: every proof from nothing, must-fail edits, tests, the program as two compilers build it
 # make clean   drops what was built, and what the proofs kept
 
