@@ -1,6 +1,7 @@
 pub mod Fault
 pub mod Shown
 pub mod Views
+pub mod Finds
 pub mod Reads
 pub mod Words
 pub mod Went

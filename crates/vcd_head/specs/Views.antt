@@ -78,3 +78,7 @@ pub record Views (s : HeadShown) (h : Header) : Type 0 where
   pub held : length s.text + length s.date + length s.version ≤ text_bytes h
   pub sizes : AllByRecursion (λ (c : IdCode). IsSize c.size) h.codes
   pub few : length h.declarations ≤ 16777216
+
+-- what is shown is some header: so it is with every view of a head
+abbrev pub IsOfHeader : HeadShown → Type 0
+IsOfHeader s = (h : Header) × Views s h

@@ -1,0 +1,8 @@
+-- Which code a look-up finds.
+use Rattle.std.specs.Prelude.{◌≡◌, ℕ, List, find, Option, Some, None, slice_get}
+use Rattle.vcd_model.specs.Declarations.{IdCode, has_text}
+
+-- the place of the code with this text among these; there is none where none has it
+abbrev pub Finds : List IdCode → List ℕ → Option ℕ → Type 0
+Finds codes text (Some place) = (c : IdCode) × (slice_get codes place ≡ Some c) × (find (has_text text) codes ≡ Some c)
+Finds codes text None = find (has_text text) codes ≡ None
