@@ -1,9 +1,12 @@
 -- The enclosing scopes are a stack: what a declaration does to those that the declarations before it leave open.
-use Rattle.std.proofs.Common.{◌≡◌, ℕ, zero, suc, ◌+◌, true, false, cond, List, [], ◌∷◌, ◌++◌, length, reverse, count_by, drop, refl, sym, ap, ◌∙◌, arith}
+use Rattle.std.proofs.Common.{◌≡◌, ℕ, zero, suc, ◌+◌, ◌<◌, ◌≤◌, true, false, cond, List, [], ◌∷◌, ◌++◌, length, reverse, count_by, filter_map, take, drop, slice_get, Some, option_map, refl, sym, ap, subst, ◌∙◌, arith}
 use Rattle.std.proofs.lemmas.Bool.{eq-eqb, ne_eqb}
-use Rattle.std.proofs.lemmas.List.{reverse-append, length-reverse}
+use Rattle.std.proofs.Math.Seq.{take-append_seam}
+use Rattle.std.proofs.lemmas.List.{append_assoc, reverse-append, reverse-reverse, length-reverse, length-append, length-take-le}
+use Rattle.std.proofs.lemmas.List.Elements.{filter_map-append}
+use Rattle.std.specs.List.{AllByRecursion}
 use Rattle.std.proofs.lemmas.List.Sums.{sum_by-cons, sum_by-append}
-use Rattle.vcd_model.specs.Declarations.{Declaration, Variable, is_scope, is_up, is_balanced, open_scopes, enclosing_back, enclosing}
+use Rattle.vcd_model.specs.Declarations.{Declaration, Variable, is_scope, is_up, is_balanced, open_scopes, enclosing_back, enclosing, name_of, names_at}
 
 -- the enclosing scopes, looking back over these declarations where `closed` more scopes are closed than opened in between
 walk : ℕ → List Declaration → List ℕ
@@ -117,3 +120,95 @@ var_open ds scopes v is =
 -- as many scopes are open as the checks count
 pub open_scopes_is : (ds : List Declaration) (scopes : List ℕ) → LeavesOpen ds scopes → open_scopes ds ≡ length scopes
 open_scopes_is ds scopes is = let n = is.count in omega arith
+
+-- ---- the innermost scope, and those around it
+
+-- the place is that of a scope, and these are the places of the scopes around it
+pub record IsInnermost (ds : List Declaration) (p : ℕ) (around : List ℕ) : Type 0 where
+  pub before : p < length ds
+  pub type : List ℕ
+  pub name : List ℕ
+  pub at : slice_get ds p ≡ Some (Declaration.Scope type name)
+  pub outer : enclosing (take p ds) ≡ around
+
+-- a walk back stops at the nearest scope that is open, and goes on from it
+record Stops (back : List Declaration) (p : ℕ) (around : List ℕ) : Type 0 where
+  nearer : List Declaration
+  type : List ℕ
+  name : List ℕ
+  farther : List Declaration
+  parts : back ≡ nearer ++ Declaration.Scope type name ∷ farther
+  place : p ≡ length farther
+  rest : walk zero farther ≡ around
+
+farther_on : (d : Declaration) (back : List Declaration) (p : ℕ) (around : List ℕ) → Stops back p around → Stops (d ∷ back) p around
+farther_on d back p around s = record { nearer = d ∷ s.nearer; type = s.type; name = s.name; farther = s.farther; parts = ap (λ l. d ∷ l) s.parts; place = s.place; rest = s.rest }
+
+stops : (closed : ℕ) (back : List Declaration) (p : ℕ) (around : List ℕ) → walk closed back ≡ p ∷ around → Stops back p around
+unfolding walk
+stops closed [] p around e = cc
+stops zero (Declaration.Scope type name ∷ back) p around e = record { nearer = []; type = type; name = name; farther = back; parts = refl; place = cc; rest = cc }
+stops (suc closed) (Declaration.Scope type name ∷ back) p around e = farther_on (Declaration.Scope type name) back p around (stops closed back p around e)
+stops closed (Declaration.Up ∷ back) p around e = farther_on Declaration.Up back p around (stops (suc closed) back p around e)
+stops closed (Declaration.Var v ∷ back) p around e = farther_on (Declaration.Var v) back p around (stops closed back p around e)
+
+slice_get-seam : {X : Type 0} (xs : List X) (x : X) (ys : List X) → slice_get (xs ++ x ∷ ys) (length xs) ≡ Some x
+slice_get-seam [] x ys = refl
+slice_get-seam (y ∷ xs) x ys = slice_get-seam xs x ys
+
+pub innermost : (ds : List Declaration) (p : ℕ) (around : List ℕ) → enclosing ds ≡ p ∷ around → IsInnermost ds p around
+innermost ds p around e =
+    let s = stops zero (reverse ds) p around (sym (enclosing_is ds) ∙ e) in
+    let scope = Declaration.Scope s.type s.name in
+    let front = reverse s.farther in
+    let parts : ds ≡ front ++ scope ∷ reverse s.nearer =
+    sym (reverse-reverse ds) ∙ ap reverse s.parts ∙ reverse-append s.nearer (scope ∷ s.farther) ∙ ap (λ l. l ++ reverse s.nearer) (reverse-append (scope ∷ []) s.farther) ∙ append_assoc front (scope ∷ []) (reverse s.nearer) in
+    let place : p ≡ length front = s.place ∙ sym (length-reverse s.farther) in
+    let cut : take p ds ≡ front = ap (take p) parts ∙ ap (λ n. take n (front ++ scope ∷ reverse s.nearer)) place ∙ take-append_seam front (scope ∷ reverse s.nearer) in
+    record {
+      before = omega (arith, place, ap length parts, length-append front (scope ∷ reverse s.nearer));
+      type = s.type;
+      name = s.name;
+      at = ap (λ l. slice_get l p) parts ∙ ap (slice_get (front ++ scope ∷ reverse s.nearer)) place ∙ slice_get-seam front scope (reverse s.nearer);
+      outer = ap enclosing cut ∙ enclosing_is front ∙ ap (walk zero) (reverse-reverse s.farther) ∙ s.rest;
+    }
+
+-- the places of enclosing scopes are before the declaration
+below : (closed : ℕ) (back : List Declaration) (n : ℕ) → length back ≤ n → AllByRecursion (λ i. i < n) (walk closed back)
+unfolding walk
+below closed [] n h = tt
+below zero (Declaration.Scope type name ∷ back) n h = (omega arith, below zero back n (omega arith))
+below (suc closed) (Declaration.Scope type name ∷ back) n h = below closed back n (omega arith)
+below closed (Declaration.Up ∷ back) n h = below (suc closed) back n (omega arith)
+below closed (Declaration.Var v ∷ back) n h = below closed back n (omega arith)
+
+pub enclosing_below : (ds : List Declaration) → AllByRecursion (λ i. i < length ds) (enclosing ds)
+enclosing_below ds = subst (AllByRecursion (λ i. i < length ds)) (sym (enclosing_is ds)) (below zero (reverse ds) (length ds) (omega (arith, length-reverse ds)))
+
+pub slice_get-take : {X : Type 0} (xs : List X) (n i : ℕ) → i < n → slice_get (take n xs) i ≡ slice_get xs i
+slice_get-take xs zero i h = absurd (omega arith)
+slice_get-take [] (suc n) i h = refl
+slice_get-take (x ∷ xs) (suc n) zero h = refl
+slice_get-take (x ∷ xs) (suc n) (suc i) h = slice_get-take xs n i (omega arith)
+
+-- names at places that are before n stand among the first n declarations
+names-take : (ds : List Declaration) (n : ℕ) (places : List ℕ) → AllByRecursion (λ i. i < n) places → names_at (take n ds) (reverse places) ≡ names_at ds (reverse places)
+names-take ds n [] h = refl
+names-take ds n (i ∷ places) h =
+    let f = λ (j : ℕ). option_map name_of (slice_get (take n ds) j) in
+    let g = λ (j : ℕ). option_map name_of (slice_get ds j) in
+    ap (filter_map f) (reverse-append (i ∷ []) places) ∙ filter_map-append f (reverse places) (i ∷ []) ∙ ap (λ l. l ++ filter_map f (i ∷ [])) (names-take ds n places h.1)
+    ∙ ap (λ o. filter_map g (reverse places) ++ filter_map (λ (x : ℕ). option_map name_of o) (i ∷ [])) (slice_get-take ds n i h.0)
+    ∙ sym (ap (filter_map g) (reverse-append (i ∷ []) places) ∙ filter_map-append g (reverse places) (i ∷ []))
+
+-- the names of the scopes around a declaration are those around its innermost scope, and that scope's own
+pub names_around : (ds : List Declaration) (p : ℕ) (around : List ℕ) (type name : List ℕ) → enclosing ds ≡ p ∷ around → slice_get ds p ≡ Some (Declaration.Scope type name)
+    → names_at ds (reverse (enclosing ds)) ≡ names_at (take p ds) (reverse (enclosing (take p ds))) ++ name ∷ []
+names_around ds p around type name e at =
+    let inner = innermost ds p around e in
+    let few = length-take-le p ds (omega (arith, inner.before)) in
+    let under : AllByRecursion (λ i. i < p) around = subst (λ n. AllByRecursion (λ i. i < n) around) few (subst (AllByRecursion (λ i. i < length (take p ds))) inner.outer (enclosing_below (take p ds))) in
+    let g = λ (j : ℕ). option_map name_of (slice_get ds j) in
+    ap (λ ps. names_at ds (reverse ps)) e ∙ ap (filter_map g) (reverse-append (p ∷ []) around) ∙ filter_map-append g (reverse around) (p ∷ [])
+    ∙ ap (λ o. filter_map g (reverse around) ++ filter_map (λ (x : ℕ). option_map name_of o) (p ∷ [])) at
+    ∙ ap (λ l. l ++ name ∷ []) (sym (names-take ds p around under) ∙ ap (λ ps. names_at (take p ds) (reverse ps)) (sym inner.outer))

@@ -1,8 +1,7 @@
 -- One token more: what a reading so far becomes.
 use Rattle.std.proofs.Common.{◌≡◌, ℕ, Bool, true, false, List, [], ◌∷◌, ◌++◌, Option, Some, None, refl, sym, ap, ◌∙◌}
-use Rattle.std.proofs.lemmas.List.{append_assoc, append-nil}
 use Rattle.vcd_model.specs.Tokens.{Token}
-use Rattle.vcd_model.specs.Reading.{Fault, Placed, phrases_of, Ending, Reading, Grammar, read_from, reading_of}
+use Rattle.vcd_model.specs.Reading.{Placed, phrases_of, Reading, Grammar, read_from, reading_of}
 use Rattle.vcd_model.specs.Reading.Ending.{AtFault, AtEnd, AtLast}
 use Rattle.vcd_model.specs.SoFar.{IsSoFar, IsWhole}
 

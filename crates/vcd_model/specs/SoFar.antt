@@ -1,7 +1,7 @@
 -- Readings that go on: the tokens so far are good phrases, and maybe the first tokens of one more.
 use Rattle.std.specs.Prelude.{◌≡◌, ℕ, List, []}
 use Rattle.vcd_model.specs.Tokens.{Token}
-use Rattle.vcd_model.specs.Reading.{Placed, Grammar, Reading, reading_of}
+use Rattle.vcd_model.specs.Reading.{Placed, Grammar, reading_of}
 use Rattle.vcd_model.specs.Reading.Ending.{AtEnd, AtLast}
 
 -- these tokens are these good phrases, none of which is the last of its kind, and then these first tokens of the next one, all without a fault
