@@ -52,7 +52,7 @@ unfolding IsKeyed
 keys_are cs [] h = refl
 keys_are cs (e ∷ es) h = λ j. h.0 j ∷ keys_are cs es h.1 j
 
-to_all : {X : Type 0} (P : X → Type 0) (xs : List X) → AllByRecursion P xs → All P xs
+pub to_all : {X : Type 0} (P : X → Type 0) (xs : List X) → AllByRecursion P xs → All P xs
 to_all P [] h k d l = absurd (omega arith)
 to_all P (x ∷ xs) h zero d l = h.0
 to_all P (x ∷ xs) h (suc k) d l = to_all P xs h.1 k d (omega arith)

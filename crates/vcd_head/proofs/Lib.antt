@@ -1,3 +1,4 @@
+pub mod TextAt
 pub mod WordLemmas
 pub mod Steps
 pub mod TextSteps
@@ -5,6 +6,8 @@ pub mod Phrases
 pub mod Enclosing
 pub mod Growing
 pub mod Declared
+pub mod RowAt
+pub mod PathText
 pub mod Carrying
 pub mod Coding
 pub mod CodeChecks
@@ -12,3 +15,5 @@ pub mod ScaleLemmas
 pub mod ScaleChecks
 pub mod ReadingSteps
 pub mod Indexing
+pub mod Finding
+pub mod Needing

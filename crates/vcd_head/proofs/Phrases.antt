@@ -9,10 +9,10 @@ use Rattle.vcd_model.specs.HeaderPhrases.{HeaderPhrase, header_phrase, phrase_wi
 use Rattle.vcd_model.specs.HeaderChecks.{header_fault, start_checks, start_of, inner_checks, inner_of}
 use Rattle.vcd_model.specs.HeaderReading.{is_last}
 use Rattle.vcd_model.specs.Reading.{Placed, phrases_of}
-use Rattle.vcd_text.specs.Feed.{token_of, limit_of}
+use Rattle.vcd_text.specs.Feed.{token_of}
 use Rattle.vcd_text.specs.declared.device.Source.{Ghosts}
 use Rattle.vcd_text.specs.declared.feed.Feed.{Feed}
-use Rattle.vcd_head.specs.Reads.{Reads, Looks, ReadsWhole, HasFault}
+use Rattle.vcd_head.specs.Reads.{Reads, Looks, ReadsWhole, FailsAtToken}
 use Rattle.vcd_head.specs.Texts.{NoEnds, RunsOn, Welcomes}
 use Rattle.vcd_head.proofs.Steps.{taken, taken_phrase, taken_last, refused}
 
@@ -52,7 +52,7 @@ module _ {X : Type 0} {g : Ghosts X} (most : ℕ) (i : Input) (placed : List (Pl
       (taken most i placed [] f (ap (header_fault most (phrases_of placed) []) e ∙ start_fault most (phrases_of placed) k ∙ c) (ap (λ (t : List ℕ). header_phrase (t ∷ [])) e ∙ phrase_is k [] ∙ q) l)
 
   -- it does not
-  pub not_begun : (n : ℕ) → (token_of f).bytes ≡ keyword_text k → first_failed (start_checks most (declarations_of (phrases_of placed)) k) ≡ Some n → Looks most i placed [] f → HasFault most (limit_of f) i n (token_of f).line
+  pub not_begun : (n : ℕ) → (token_of f).bytes ≡ keyword_text k → first_failed (start_checks most (declarations_of (phrases_of placed)) k) ≡ Some n → Looks most i placed [] f → FailsAtToken most i n f
   not_begun n e c l = refused most i placed [] f n (ap (header_fault most (phrases_of placed) []) e ∙ start_fault most (phrases_of placed) k ∙ c) l
 
   module _ (before : List (List ℕ)) where
@@ -72,7 +72,7 @@ module _ {X : Type 0} {g : Ghosts X} (most : ℕ) (i : Input) (placed : List (Pl
     ended_all p c q last l = taken_last most i placed (keyword_text k ∷ before) f p (inner_fault most (phrases_of placed) k before (token_of f).bytes ∙ c) (phrase_is k (before ++ (token_of f).bytes ∷ []) ∙ q) last l
 
     -- a check of a later token fails
-    pub refused_inside : (n : ℕ) → first_failed (inner_checks (declarations_of (phrases_of placed)) k before (token_of f).bytes) ≡ Some n → Looks most i placed (keyword_text k ∷ before) f → HasFault most (limit_of f) i n (token_of f).line
+    pub refused_inside : (n : ℕ) → first_failed (inner_checks (declarations_of (phrases_of placed)) k before (token_of f).bytes) ≡ Some n → Looks most i placed (keyword_text k ∷ before) f → FailsAtToken most i n f
     refused_inside n c l = refused most i placed (keyword_text k ∷ before) f n (inner_fault most (phrases_of placed) k before (token_of f).bytes ∙ c) l
 
 -- ---- up to `$end`

@@ -9,12 +9,12 @@ use Rattle.vcd_model.specs.Keywords.{Keyword, keyword_text, is_end, is_command, 
 use Rattle.vcd_model.specs.HeaderChecks.{start_checks, inner_checks, begins_change}
 use Rattle.vcd_model.specs.HeaderPhrases.{HeaderPhrase, declarations_of, phrase_with}
 use Rattle.vcd_model.specs.Reading.{Placed, phrases_of}
-use Rattle.vcd_text.specs.Feed.{token_of, limit_of}
+use Rattle.vcd_text.specs.Feed.{token_of}
 use Rattle.vcd_text.specs.declared.device.Source.{Ghosts}
 use Rattle.vcd_text.specs.declared.feed.Feed.{Feed}
 use Rattle.vcd_head.specs.declared.draft.Draft.{Draft}
 use Rattle.vcd_head.specs.declared.fault.HeadFault.{HeadFault}
-use Rattle.vcd_head.specs.Reads.{Reads, Looks, HasFault, Fails, GivesHead}
+use Rattle.vcd_head.specs.Reads.{Reads, Looks, FailsAtToken, Fails, GivesHead}
 use Rattle.vcd_head.specs.Texts.{NoEnds, RunsOn, EndsThere}
 use Rattle.vcd_head.specs.Words.{StandsFor, is_body_word, is_final}
 use Rattle.vcd_head.specs.declared.words.Keyword.{Keyword as WordOf}
@@ -104,7 +104,7 @@ module _ {X : Type 0} {g : Ghosts X} (most : ℕ) (i : Input) where
     holds = subst (Holds most d) (sym (map-append (λ (q : Placed HeaderPhrase). q.phrase) b.placed (record { phrase = HeaderPhrase.EndDefinitions; line = (token_of f').line } ∷ []))) (holds_plain most d (phrases_of b.placed) HeaderPhrase.EndDefinitions refl refl refl refl b.holds);
   }
 
-  pub end_refused : (d : Draft) (f f' : Feed X g) (b : Begun most i Keyword.EndDefinitions d f) → Looks most i b.placed (keyword_text Keyword.EndDefinitions ∷ []) f' → is_end (token_of f').bytes ≡ false → HasFault most (limit_of f') i 4 (token_of f').line
+  pub end_refused : (d : Draft) (f f' : Feed X g) (b : Begun most i Keyword.EndDefinitions d f) → Looks most i b.placed (keyword_text Keyword.EndDefinitions ∷ []) f' → is_end (token_of f').bytes ≡ false → FailsAtToken most i 4 f'
   end_refused d f f' b l e = refused_inside most i b.placed Keyword.EndDefinitions f' [] 4 (failed_test (is_end (token_of f').bytes) 4 e) l
 
 -- the first token of a phrase was looked at
@@ -162,9 +162,9 @@ holds_nothing most d n = record {
 }
 
 pub carries_nothing : {X : Type 0} {g : Ghosts X} (most : ℕ) (i : Input) (d : Draft) (f : Feed X g) → IsNew d → Stands i [] f → Carries most i d f
-carries_nothing most i d f n s = record { placed = []; reads = record { given = []; stands = s; so_far = so_far-nothing (header_grammar most) }; holds = holds_nothing most d n }
+carries_nothing most i d f n s = record { placed = []; reads = record { given = []; stands = s; so_far = so_far-nothing (header_grammar most); last = λ n. absurd (n refl) }; holds = holds_nothing most d n }
 
 pub finished : {X : Type 0} {g : Ghosts X} (most : ℕ) (i : Input) (d : Draft) (f : Feed X g) (r : Result Head HeadFault) → most ≤ 16777216 → CarriesAll most i d f
     → ((m : ℕ) (ps : List HeaderPhrase) → m ≤ 16777216 → Holds m d ps → IfOk r (λ head. Views (shown head) (header_of ps))) → IfErr r (λ fault. fault ≡ OutOfMemory) → MatchResult r (λ head. GivesHead most i f (shown head)) (λ fault. Fails most i fault f)
-finished most i d f (Ok head) h a v e = record { given = a.reads.given; placed = a.placed; stands = a.reads.stands; whole = a.reads.whole; views = v most (phrases_of a.placed) h a.holds }
+finished most i d f (Ok head) h a v e = record { given = a.reads.given ++ token_of f ∷ []; placed = a.placed; stands = a.reads.stands; whole = a.reads.whole; views = v most (phrases_of a.placed) h a.holds }
 finished most i d f (Err fault) h a v e = subst (λ x. Fails most i x f) (sym e) (faultless_whole most i a.placed f a.reads)

@@ -7,11 +7,11 @@ use Rattle.vcd_model.specs.Keywords.{Keyword, keyword_text}
 use Rattle.vcd_model.specs.Scales.{exponent_of}
 use Rattle.vcd_model.specs.HeaderPhrases.{HeaderPhrase, scale_of}
 use Rattle.vcd_model.specs.Reading.{Placed}
-use Rattle.vcd_text.specs.Feed.{token_of, limit_of}
+use Rattle.vcd_text.specs.Feed.{token_of}
 use Rattle.vcd_text.specs.declared.device.Source.{Ghosts}
 use Rattle.vcd_text.specs.declared.feed.Feed.{Feed}
 use Rattle.vcd_head.specs.Words.{power_in, unit_in}
-use Rattle.vcd_head.specs.Reads.{Reads, Looks, HasFault}
+use Rattle.vcd_head.specs.Reads.{Reads, Looks, FailsAtToken}
 use Rattle.vcd_head.specs.Scaled.{ScaleRead}
 use Rattle.vcd_head.proofs.Phrases.{inside, refused_inside, not_until}
 use Rattle.vcd_head.proofs.ScaleLemmas.{exponent_sum, number_test, number_test_none, number_no_end, unit_test, unit_test_none, unit_no_end, exponent_no_end, exponent_fits, sum_fits, unit_fits, number_fits}
@@ -36,7 +36,7 @@ module _ {X : Type 0} {g : Ghosts X} (most : ℕ) (i : Input) (placed : List (Pl
         fits = exponent_fits (token_of f).bytes e x;
       }
 
-  pub one_refused : power_in (token_of f).bytes ≡ None → exponent_of (token_of f).bytes ≡ None → Looks most i placed (keyword_text Keyword.Timescale ∷ []) f → HasFault most (limit_of f) i 5 (token_of f).line
+  pub one_refused : power_in (token_of f).bytes ≡ None → exponent_of (token_of f).bytes ≡ None → Looks most i placed (keyword_text Keyword.Timescale ∷ []) f → FailsAtToken most i 5 f
   one_refused h x l = refused_inside most i placed Keyword.Timescale f [] 5 (rw (number_test_none (token_of f).bytes h, x) refl) l
 
   -- a number and a unit in two tokens
@@ -53,7 +53,7 @@ module _ {X : Type 0} {g : Ghosts X} (most : ℕ) (i : Input) (placed : List (Pl
         fits = sum_fits n (token_of f).bytes p e h u;
       }
 
-  pub two_refused : (n : List ℕ) (p : ℤ) → power_in n ≡ Some p → unit_in (token_of f).bytes ≡ None → Looks most i placed (keyword_text Keyword.Timescale ∷ n ∷ []) f → HasFault most (limit_of f) i 5 (token_of f).line
+  pub two_refused : (n : List ℕ) (p : ℤ) → power_in n ≡ Some p → unit_in (token_of f).bytes ≡ None → Looks most i placed (keyword_text Keyword.Timescale ∷ n ∷ []) f → FailsAtToken most i 5 f
   two_refused n p h u l = refused_inside most i placed Keyword.Timescale f (n ∷ []) 5 (rw (number_test n p h, unit_test_none (token_of f).bytes u) refl) l
 
   -- as the code adds them

@@ -7,13 +7,12 @@ use Rattle.vcd_model.specs.Keywords.{is_end}
 use Rattle.vcd_model.specs.HeaderPhrases.{HeaderPhrase, header_phrase}
 use Rattle.vcd_model.specs.HeaderChecks.{header_fault}
 use Rattle.vcd_model.specs.Reading.{Placed, phrases_of}
-use Rattle.vcd_text.specs.Feed.{token_of, Stands}
+use Rattle.vcd_text.specs.Feed.{token_of}
 use Rattle.vcd_text.specs.declared.device.Source.{Ghosts}
 use Rattle.vcd_text.specs.declared.feed.Feed.{Feed}
-use Rattle.vcd_head.specs.Reads.{Reads, Looks, IsFaultless}
+use Rattle.vcd_head.specs.Reads.{Reads, Looks, IsGoodSoFar}
 use Rattle.vcd_head.specs.Texts.{NoEnds, RunsOn, spaced, ReadsOn, EndsThere}
 use Rattle.vcd_head.proofs.Steps.{taken, faultless}
-use Rattle.vcd_model.specs.Tokens.{Token}
 
 pub no_ends_more : (ts : List (List ℕ)) (t : List ℕ) → NoEnds ts → is_end t ≡ false → NoEnds (ts ++ t ∷ [])
 no_ends_more [] t h e = (e, tt)
@@ -51,8 +50,8 @@ module _ {X : Type 0} {g : Ghosts X} (most : ℕ) (i : Input) (placed : List (Pl
   reads_more inner runs none e l grows = record { inner = inner ++ (token_of f).bytes ∷ []; none = no_ends_more inner (token_of f).bytes none e; reads = one_more inner runs none e l; grows = grows }
 
   -- so it has no fault
-  pub faultless_more : (inner : List (List ℕ)) → RunsOn most placed before → NoEnds inner → is_end (token_of f).bytes ≡ false → Looks most i placed (before ++ inner) f → (given : List Token) × Stands i given f × IsFaultless most given
-  faultless_more inner runs none e l = faultless most i placed (before ++ (inner ++ (token_of f).bytes ∷ [])) f (one_more inner runs none e l)
+  pub faultless_more : (inner : List (List ℕ)) → RunsOn most placed before → NoEnds inner → is_end (token_of f).bytes ≡ false → Looks most i placed (before ++ inner) f → IsGoodSoFar most i f
+  faultless_more inner runs none e l = let step = runs inner (token_of f).bytes none in faultless most i placed (before ++ inner) (token_of f).bytes f (taken most i placed (before ++ inner) f step.0 (step.1 e) l)
 
 -- a first token, and then others with a space before each
 pub ends_behind : {X : Type 0} {g : Ghosts X} (most : ℕ) (i : Input) (placed : List (Placed HeaderPhrase)) (before : List (List ℕ)) (t : List ℕ) (f : Feed X g) (text : List ℕ) → is_end t ≡ false

@@ -2,6 +2,8 @@ pub mod Fault
 pub mod Shown
 pub mod Views
 pub mod Finds
+pub mod Needs
+pub mod Paths
 pub mod Reads
 pub mod Words
 pub mod Went

@@ -1,5 +1,5 @@
 -- How far the reading of a header has come, by what its feed has given.
-use Rattle.std.specs.Prelude.{◌≡◌, ℕ, List, [], ◌∷◌, ◌++◌, Some}
+use Rattle.std.specs.Prelude.{◌≡◌, ◌≢◌, ℕ, List, [], ◌∷◌, ◌++◌, Some}
 use Rattle.vcd_model.specs.Input.{Input}
 use Rattle.vcd_model.specs.Tokens.{Token, stream_of}
 use Rattle.vcd_model.specs.HeaderPhrases.{HeaderPhrase}
@@ -12,17 +12,18 @@ use Rattle.vcd_text.specs.Feed.{Stands, token_of, limit_of, seen}
 use Rattle.vcd_text.specs.declared.device.Source.{Ghosts}
 use Rattle.vcd_text.specs.declared.feed.Feed.{Feed}
 use Rattle.vcd_head.specs.declared.fault.HeadFault.{HeadFault}
-use Rattle.vcd_head.specs.declared.fault.HeadFault.TheVariants.{ReadFailed, OutOfMemory}
+use Rattle.vcd_head.specs.declared.fault.HeadFault.TheVariants.{TokenTooLong, EndOfInput, InputTooLong, ReadFailed, OutOfMemory}
 use Rattle.vcd_head.specs.Fault.{fault_number}
 use Rattle.vcd_head.specs.Shown.{HeadShown}
 use Rattle.vcd_head.specs.Views.{Views}
 use Rattle.vcd_model.specs.Header.{header_of}
 
--- the tokens given are these good phrases, and then these first tokens of the next one
+-- the tokens given are these good phrases, and then these first tokens of the next one; the feed shows the last
 pub record Reads {X : Type 0} {g : Ghosts X} (most : ℕ) (i : Input) (placed : List (Placed HeaderPhrase)) (before : List (List ℕ)) (f : Feed X g) : Type 0 where
   pub given : List Token
   pub stands : Stands i given f
   pub so_far : IsSoFar (header_grammar most) given placed before
+  pub last : given ≢ [] → (front : List Token) × (given ≡ front ++ token_of f ∷ [])
 
 -- the tokens given but the last are these good phrases, and then these first tokens of the next one; the last one was not looked at
 pub record Looks {X : Type 0} {g : Ghosts X} (most : ℕ) (i : Input) (placed : List (Placed HeaderPhrase)) (before : List (List ℕ)) (f : Feed X g) : Type 0 where
@@ -30,11 +31,11 @@ pub record Looks {X : Type 0} {g : Ghosts X} (most : ℕ) (i : Input) (placed : 
   pub stands : Stands i (given ++ token_of f ∷ []) f
   pub so_far : IsSoFar (header_grammar most) given placed before
 
--- the tokens given are these good phrases, of which the last one ends the header
+-- the tokens given are these good phrases, of which the last one ends the header; the feed shows the last token
 pub record ReadsWhole {X : Type 0} {g : Ghosts X} (most : ℕ) (i : Input) (placed : List (Placed HeaderPhrase)) (f : Feed X g) : Type 0 where
   pub given : List Token
-  pub stands : Stands i given f
-  pub whole : IsWhole (header_grammar most) given placed
+  pub stands : Stands i (given ++ token_of f ∷ []) f
+  pub whole : IsWhole (header_grammar most) (given ++ token_of f ∷ []) placed
 
 -- a reading that ends so has met no fault
 abbrev pub IsNoFault : Ending → Type 0
@@ -50,11 +51,26 @@ IsFaultless most given = IsNoFault (reading_of (header_grammar most) given).endi
 abbrev pub HasFault : ℕ → ℕ → Input → ℕ → ℕ → Type 0
 HasFault most limit i number line = header_fault_of (stream_of limit i) (read_header most (stream_of limit i)) ≡ Some (record { number = number; line = line })
 
+-- the header has this fault at the last token given, which the feed shows; no token before it has one
+abbrev pub FailsAtToken : {X : Type 0} {g : Ghosts X} → ℕ → Input → ℕ → Feed X g → Type 0
+FailsAtToken most i number f = HasFault most (limit_of f) i number (token_of f).line × (given : List Token) × Stands i (given ++ token_of f ∷ []) f × IsFaultless most given
+
+-- the header has this fault where no token is left, and the feed shows none
+abbrev pub FailsAtEnd : {X : Type 0} {g : Ghosts X} → ℕ → Input → ℕ → Feed X g → Type 0
+FailsAtEnd most i number f = HasFault most (limit_of f) i number (token_of f).line × ((token_of f).bytes ≡ [])
+
+-- no token given so far has a fault, and the feed shows the last
+abbrev pub IsGoodSoFar : {X : Type 0} {g : Ghosts X} → ℕ → Input → Feed X g → Type 0
+IsGoodSoFar most i f = (given : List Token) × Stands i (given ++ token_of f ∷ []) f × IsFaultless most (given ++ token_of f ∷ [])
+
 -- Why a header is refused: its fault, where a source that failed ends the input there. Where memory is refused, no token given so far has a fault.
 abbrev pub Fails : {X : Type 0} {g : Ghosts X} → ℕ → Input → HeadFault → Feed X g → Type 0
-Fails most i OutOfMemory f = (given : List Token) × Stands i given f × IsFaultless most given
-Fails most i ReadFailed f = HasFault most (limit_of f) (failed_after (seen f) i) 31 (token_of f).line
-Fails most i fault f = HasFault most (limit_of f) i (fault_number fault) (token_of f).line
+Fails most i OutOfMemory f = IsGoodSoFar most i f
+Fails most i ReadFailed f = FailsAtEnd most (failed_after (seen f) i) 31 f
+Fails most i TokenTooLong f = FailsAtEnd most i 1 f
+Fails most i EndOfInput f = FailsAtEnd most i 2 f
+Fails most i InputTooLong f = FailsAtEnd most i 21 f
+Fails most i fault f = FailsAtToken most i (fault_number fault) f
 
 -- the tokens given are a whole header, and the head shows it
 pub record GivesHead {X : Type 0} {g : Ghosts X} (most : ℕ) (i : Input) (f : Feed X g) (s : HeadShown) : Type 0 where

@@ -1,12 +1,12 @@
 -- When a view shows a header.
-use Rattle.std.specs.Prelude.{◌≡◌, ℕ, suc, ◌+◌, ◌<◌, ◌≤◌, List, [], ◌∷◌, ◌++◌, length, map, Option, Some, None, unwrap_or, option_map, slice_get, slice_range, IsPermutation}
+use Rattle.std.specs.Prelude.{◌≡◌, ℕ, suc, ◌+◌, ◌*◌, ◌<◌, ◌≤◌, List, [], ◌∷◌, ◌++◌, length, map, Option, Some, None, unwrap_or, option_map, slice_get, slice_range, IsPermutation}
 use Rattle.std.specs.Ordering.{nat_cmp}
 use Rattle.std.specs.Cmp.Lexicographic.{slice_cmp}
 use Rattle.std.specs.List.{AllByRecursion, AllZip, join_with_byte, range_with_len}
 use Rattle.std.specs.List.Sorted.{IsStrictlySortedBy}
 use Rattle.vcd_model.specs.Declarations.{Declaration, IdCode, code_of, first_token, parent}
 use Rattle.vcd_model.specs.Header.{Header}
-use Rattle.vcd_model.specs.Bound.{text_bytes}
+use Rattle.vcd_model.specs.Bound.{text_bytes, look_up_bytes}
 use Rattle.vcd_head.specs.declared.view.Kind.TheVariants as kind
 use Rattle.vcd_head.specs.declared.view.Row.{Row}
 use Rattle.vcd_head.specs.declared.view.Code.{Code}
@@ -67,7 +67,7 @@ pub record IsSize (size : ℕ) : Type 0 where
   pub some : 0 < size
   pub most : size < 16777216
 
--- what is shown is the header, in no more bytes than its texts have
+-- what is shown is the header, in no more bytes than its texts have and a look-up may keep
 pub record Views (s : HeadShown) (h : Header) : Type 0 where
   pub rows : AreRows s.text h.codes [] s.rows h.declarations
   pub codes : AllZip (IsCode s.text) s.codes h.codes
@@ -76,9 +76,7 @@ pub record Views (s : HeadShown) (h : Header) : Type 0 where
   pub version : s.version ≡ h.version
   pub scale : option_map (λ (x : Scale). x.exponent) s.scale ≡ h.scale
   pub held : length s.text + length s.date + length s.version ≤ text_bytes h
+  pub look_up : 4 * length s.guesses ≤ look_up_bytes * length h.codes
   pub sizes : AllByRecursion (λ (c : IdCode). IsSize c.size) h.codes
   pub few : length h.declarations ≤ 16777216
-
--- what is shown is some header: so it is with every view of a head
-abbrev pub IsOfHeader : HeadShown → Type 0
-IsOfHeader s = (h : Header) × Views s h
+  pub few_codes : length h.codes ≤ length h.declarations

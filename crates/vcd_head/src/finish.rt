@@ -8,6 +8,7 @@ ghost use Rattle.vcd_head.specs.Views.{Views};
 
 use crate::draft::{Coded, Draft};
 use crate::fault::HeadFault;
+use crate::guess::guesses_of;
 use crate::head::Head;
 use crate::view::Code;
 use indexmap::IndexMap;
@@ -51,6 +52,7 @@ pub(crate) fn finish(alloc: Global, draft: Draft) -> Result<Head, HeadFault>
         scopes: _,
     } = draft;
     let codes = codes_of(alloc, &map)?;
+    let guesses = guesses_of(alloc, &map)?;
     map.sort_keys()?;
     let index = places_of(alloc, &map)?;
     Ok(Head {
@@ -58,6 +60,7 @@ pub(crate) fn finish(alloc: Global, draft: Draft) -> Result<Head, HeadFault>
         rows,
         codes,
         index,
+        guesses,
         date,
         version,
         scale,

@@ -3,8 +3,13 @@
 
 mod draft;
 pub mod fault;
+pub mod find;
 mod finish;
+mod guess;
 pub mod head;
+pub mod need;
+pub mod path;
+pub mod probes;
 pub mod read;
 mod reading;
 mod scale;

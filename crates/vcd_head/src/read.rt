@@ -1,5 +1,5 @@
 // The whole header.
-ghost use Rattle.std.specs.Prelude.{◌≡◌, ◌≢◌, ℕ, ◌+◌, ◌-◌, ◌^◌, ◌<◌, ◌≤◌, [], Err, MatchResult};
+ghost use Rattle.std.specs.Prelude.{◌≡◌, ◌≢◌, ℕ, ◌+◌, ◌-◌, ◌^◌, ◌<◌, ◌≤◌, [], Err, MatchResult, OnOk};
 ghost use Rattle.vcd_model.specs.Input.{Input};
 ghost use Rattle.vcd_text.specs.Feed.{Stands, SameLoans, source_of, limit_of, chunk_len_of};
 ghost use Rattle.vcd_head.specs.Reads.{Fails, GivesHead};
@@ -16,7 +16,8 @@ use vcd_text::device::Source;
 use vcd_text::feed::Feed;
 
 /// Reads a header up to the `$end` of `$enddefinitions`, with at most `most` declarations (at most 16,777,216). The feed then
-/// stands behind that token. After a fault the feed's token is the last one given, empty where none was.
+/// stands behind that token. After a fault nothing of the head is left, and the feed's token is the last one given: empty where
+/// the input or its source ended the reading, else the one at which the fault stands.
 pub fn read_head<S: Source>(
     alloc: Global,
     feed: &mut Feed<'_, '_, '_, '_, S>,
@@ -25,8 +26,8 @@ pub fn read_head<S: Source>(
     requires failures { S.failures (source_of feed.old) < 2 ^ 64 - 1 }
     requires most { most ≤ 16777216 }
 
-    // A head shows the header of the phrases that were read. A fault is the header's, at its line; where memory is refused, no
-    // token given so far has one.
+    // A head shows the header of the phrases that were read. A fault is the header's, at the feed's line and token, the first
+    // token given that has one, or empty where none was left; where memory is refused, no token given so far has a fault.
     ensures reads { (i : Input) → Stands i [] feed.old
         → MatchResult result (λ head. GivesHead most i feed.new (shown head)) (λ fault. Fails most i fault feed.new) }
 
@@ -34,6 +35,7 @@ pub fn read_head<S: Source>(
     ensures failed { IsOpen feed.old → result ≡ Err HeadFault.ReadFailed
         → S.failures (source_of feed.new) ≡ S.failures (source_of feed.old) + 1 }
     ensures same { result ≢ Err HeadFault.ReadFailed → S.failures (source_of feed.new) ≡ S.failures (source_of feed.old) }
+    ensures open { IsOpen feed.old → OnOk result (IsOpen feed.new) }
     ensures lengths { (limit_of feed.new ≡ limit_of feed.old) × (chunk_len_of feed.new ≡ chunk_len_of feed.old) }
     ensures loans { SameLoans feed.old feed.new }
 {

@@ -60,10 +60,57 @@ pub struct HeadView<'a> {
     pub codes: &'a [Code],
     /// The places of the codes, in rising order of their bytes.
     pub index: &'a [usize],
+    /// Guesses at the places of codes, which only serve `find`: a power of two of them, from two to
+    /// eight for each code.
+    pub guesses: &'a [u32],
     /// The last date, its tokens with a space between; empty where there is none.
     pub date: &'a [u8],
     /// The last version, likewise.
     pub version: &'a [u8],
     /// The last time scale.
     pub scale: Option<Scale>,
+}
+
+impl<'a> HeadView<'a> {
+    ghost use Rattle.std.specs.Prelude.{◌≡◌, slice_get};
+    ghost use Rattle.vcd_head.specs.Shown.{text_in};
+
+    /// The row at a place.
+    #[inline(always)]
+    pub fn row_at(self, place: usize) -> Option<Row>
+        ensures { result ≡ slice_get self.entry.rows.now place }
+    {
+        self.rows.get(place).copied()
+    }
+
+    /// The code at a place.
+    #[inline(always)]
+    pub fn code_at(self, place: usize) -> Option<Code>
+        ensures { result ≡ slice_get self.entry.codes.now place }
+    {
+        self.codes.get(place).copied()
+    }
+
+    /// So many bytes of the text from a place on; none where it has fewer.
+    #[inline(always)]
+    pub fn text_at(self, start: usize, len: usize) -> &'a [u8]
+        ensures { result.now ≡ text_in self.entry.text.now start len }
+    {
+        match self.text.get(start..start.saturating_add(len)) {
+            Some(bytes) => bytes,
+            None => &[],
+        }
+    }
+}
+
+/// The lengths of the slices that an engine over a header works in.
+#[derive(Clone, Copy, PartialEq, Eq, Debug)]
+pub struct Need {
+    /// Bytes for the current values: for each code a quarter of its size rounded up, and at least
+    /// the 64 of a real text.
+    pub values: usize,
+    /// A place for each code.
+    pub slots: usize,
+    /// A mark for each row.
+    pub marks: usize,
 }

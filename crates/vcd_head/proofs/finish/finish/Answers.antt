@@ -1,9 +1,12 @@
-use Rattle.std.proofs.Common.{length, sym, ap, subst, arith}
+use Rattle.std.proofs.Common.{◌*◌, ◌≤◌, length, sym, ap, subst, arith}
 use Rattle.std.specs.List.{AllZip}
 use Rattle.vcd_model.specs.Declarations.{codes_of}
 use Rattle.vcd_model.specs.HeaderPhrases.{declarations_of}
 use Rattle.vcd_model.specs.Header.{header_of}
+use Rattle.vcd_model.specs.Bound.{look_up_bytes}
 use Rattle.vcd_head.specs.Views.{IsCode}
+use Rattle.vcd_head.proofs.Growing.{places_len}
+use Rattle.vcd_head.proofs.Needing.{codes_few}
 use Rattle.vcd_head.proofs.Indexing.{is_index}
 use Rattle.vcd_head.proofs.finish.finish.Goals as goal
 
@@ -21,6 +24,8 @@ returns-clause-head c = λ most ps m h.
       version = h.version;
       scale = h.scale;
       held = omega (arith, held, ap length h.date, ap length h.version);
+      look_up = subst (λ n. 4 * length c.in_ok-guesses.guesses.items ≤ look_up_bytes * n) (places_len 0 c.args.draft.codes.entries (codes_of ds) h.declares.codes.numbered) c.in_ok-guesses.ensures;
       sizes = h.declares.codes.sizes;
       few = omega arith;
+      few_codes = codes_few ds;
     }

@@ -5,7 +5,7 @@ use Rattle.vcd_model.specs.HeaderPhrases.{HeaderPhrase, declarations_of}
 use Rattle.vcd_model.specs.Declarations.{Declaration}
 use Rattle.vcd_model.specs.Reading.{phrases_of}
 use Rattle.vcd_text.specs.Feed.{token_of}
-use Rattle.vcd_head.proofs.Steps.{faultless, word_some, word_none, text_taken}
+use Rattle.vcd_head.proofs.Steps.{faultless_phrase, word_some, word_none, text_taken}
 use Rattle.vcd_head.proofs.Phrases.{begun, not_begun, ended, refused_inside, scope_welcomes_type, scope_welcomes_name}
 use Rattle.vcd_head.proofs.Carrying.{carried, few_enough, too_many_scope, too_deep, scope_checks_pass, failed_test, passed_test, failed_not, whole_test}
 use Rattle.vcd_head.proofs.Declared.{scope_declared, holds_declared}
@@ -110,7 +110,7 @@ returns-in_err-push-clause-reads g c =
     let l3 = c.in_ok-next_ends.ensures.reads c.args.most i b.placed (keyword_text Keyword.Scope ∷ type ∷ name ∷ []) r2 in
     let e = sym c.in_ok-next_ends.ensures.end ∙ c.if-not-branch.false in
     let r3 = ended c.args.most i b.placed Keyword.Scope c.next_ends.new.feed (type ∷ name ∷ []) (HeaderPhrase.Declares (Declaration.Scope type name)) (passed_test _ 6 e) (ap (option_map HeaderPhrase.Declares) (whole_test _ (Declaration.Scope type name) e)) refl l3 in
-    faultless c.args.most i (b.placed ++ record { phrase = HeaderPhrase.Declares (Declaration.Scope type name); line = (token_of c.next_ends.new.feed).line } ∷ []) [] c.next_ends.new.feed r3)
+    faultless_phrase c.args.most i b.placed (record { phrase = HeaderPhrase.Declares (Declaration.Scope type name); line = (token_of c.next_ends.new.feed).line }) c.next_ends.new.feed r3)
 
 pub returns-in_err-push-2-clause-reads : goal.returns-in_err-push-2-clause-reads
 returns-in_err-push-2-clause-reads g c =
@@ -128,7 +128,7 @@ returns-in_err-push-2-clause-reads g c =
     let l3 = c.in_ok-next_ends.ensures.reads c.args.most i b.placed (keyword_text Keyword.Scope ∷ type ∷ name ∷ []) r2 in
     let e = sym c.in_ok-next_ends.ensures.end ∙ c.if-not-branch.false in
     let r3 = ended c.args.most i b.placed Keyword.Scope c.next_ends.new.feed (type ∷ name ∷ []) (HeaderPhrase.Declares (Declaration.Scope type name)) (passed_test _ 6 e) (ap (option_map HeaderPhrase.Declares) (whole_test _ (Declaration.Scope type name) e)) refl l3 in
-    faultless c.args.most i (b.placed ++ record { phrase = HeaderPhrase.Declares (Declaration.Scope type name); line = (token_of c.next_ends.new.feed).line } ∷ []) [] c.next_ends.new.feed r3)
+    faultless_phrase c.args.most i b.placed (record { phrase = HeaderPhrase.Declares (Declaration.Scope type name); line = (token_of c.next_ends.new.feed).line }) c.next_ends.new.feed r3)
 
 pub returns-clause-reads : goal.returns-clause-reads
 returns-clause-reads g c = λ i b.

@@ -1,4 +1,4 @@
-use Rattle.std.proofs.Common.{◌≤◌, ◌<◌, length, [], ◌∷◌, ◌++◌, refl, sym, ap, ◌∙◌, arith, option_map, vec_len}
+use Rattle.std.proofs.Common.{◌≤◌, ◌<◌, length, [], ◌∷◌, refl, sym, ap, ◌∙◌, arith, option_map, vec_len}
 use Rattle.std.proofs.lemmas.List.{length_push}
 use Rattle.std.proofs.lemmas.Result.{err_from_is_err_and}
 use Rattle.vcd_model.specs.Keywords.{Keyword, keyword_text}
@@ -6,7 +6,7 @@ use Rattle.vcd_model.specs.HeaderPhrases.{HeaderPhrase, declarations_of}
 use Rattle.vcd_model.specs.Declarations.{Declaration}
 use Rattle.vcd_model.specs.Reading.{phrases_of}
 use Rattle.vcd_text.specs.Feed.{token_of}
-use Rattle.vcd_head.proofs.Steps.{faultless}
+use Rattle.vcd_head.proofs.Steps.{faultless_phrase}
 use Rattle.vcd_head.proofs.Phrases.{begun, not_begun, ended, refused_inside}
 use Rattle.vcd_head.proofs.Carrying.{carried, few_enough, too_many_up, no_scope, up_checks_pass, none_popped, failed_test, passed_test, whole_test}
 use Rattle.vcd_head.proofs.Declared.{up_declared, holds_declared}
@@ -48,7 +48,7 @@ returns-in_err-push-clause-reads g c =
     let e = sym c.in_ok-next_ends.ensures.end ∙ c.if-not-branch.false in
     let l = c.in_ok-next_ends.ensures.reads c.args.most i b.placed (keyword_text Keyword.Upscope ∷ []) (begun c.args.most i b.placed Keyword.Upscope c.args.feed.now b.keyword (up_checks_pass c.args.most c.args.draft.now (phrases_of b.placed) b.holds n z) refl b.looks) in
     let r = ended c.args.most i b.placed Keyword.Upscope c.next_ends.new.feed [] (HeaderPhrase.Declares Declaration.Up) (passed_test _ 6 e) (ap (option_map HeaderPhrase.Declares) (whole_test _ Declaration.Up e)) refl l in
-    faultless c.args.most i (b.placed ++ record { phrase = HeaderPhrase.Declares Declaration.Up; line = (token_of c.next_ends.new.feed).line } ∷ []) [] c.next_ends.new.feed r)
+    faultless_phrase c.args.most i b.placed (record { phrase = HeaderPhrase.Declares Declaration.Up; line = (token_of c.next_ends.new.feed).line }) c.next_ends.new.feed r)
 
 pub returns-clause-reads : goal.returns-clause-reads
 returns-clause-reads g c = λ i b.

@@ -20,7 +20,7 @@ pub returns-in_err-extend_from_slice-clause-reads : goal.returns-in_err-extend_f
 returns-in_err-extend_from_slice-clause-reads g c =
     let p = err_from_is_err_and c.from_residual-in_err-extend_from_slice.result c.from_residual-in_err-extend_from_slice.ensures.1 in
     rw (p.1, p.2) (λ most i placed before runs r.
-    faultless most i placed (before ++ (token_of c.next_ends.new.feed).bytes ∷ []) c.next_ends.new.feed
+    faultless most i placed before (token_of c.next_ends.new.feed).bytes c.next_ends.new.feed
     (one_first most i placed before c.next_ends.new.feed runs (sym c.in_ok-next_ends.ensures.end ∙ c.if-branch.false) (c.in_ok-next_ends.ensures.reads most i placed before r)))
 
 pub returns-in_err-append_to_end-clause-reads : goal.returns-in_err-append_to_end-clause-reads

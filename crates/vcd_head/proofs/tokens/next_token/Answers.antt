@@ -9,7 +9,7 @@ pub returns-in-Ok-Finish-clause-reads : goal.returns-in-Ok-Finish-clause-reads
 returns-in-Ok-Finish-clause-reads g c = λ most i placed before r.
     let e = rw c.in-Ok-Finish.field-0-is at c.in-Ok-Finish.ensures in
     let n = e.gives i r.given r.stands in
-    subst (λ (l : ℕ). HasFault most l (i) 2 (token_of c.next.new.self).line) (sym e.lengths.0) (missing_token most (limit_of c.args.feed.now) (i) r.given placed before (None) (token_of c.next.new.self).line r.so_far n.2)
+    (subst (λ (l : ℕ). HasFault most l (i) 2 (token_of c.next.new.self).line) (sym e.lengths.0) (missing_token most (limit_of c.args.feed.now) (i) r.given placed before (None) (token_of c.next.new.self).line r.so_far n.2), e.empty (λ y. cc))
 
 pub returns-in-Ok-Finish-clause-went : goal.returns-in-Ok-Finish-clause-went
 returns-in-Ok-Finish-clause-went g c =
@@ -28,7 +28,7 @@ pub returns-in-Err-TokenTooLong-clause-reads : goal.returns-in-Err-TokenTooLong-
 returns-in-Err-TokenTooLong-clause-reads g c = λ most i placed before r.
     let e = rw c.in-Err-TokenTooLong.field-0-is at c.in-Err-TokenTooLong.ensures in
     let n = e.gives i r.given r.stands in
-    subst (λ (l : ℕ). HasFault most l (i) 1 (token_of c.next.new.self).line) (sym e.lengths.0) (missing_token most (limit_of c.args.feed.now) (i) r.given placed before (Some 1) (token_of c.next.new.self).line r.so_far n.2)
+    (subst (λ (l : ℕ). HasFault most l (i) 1 (token_of c.next.new.self).line) (sym e.lengths.0) (missing_token most (limit_of c.args.feed.now) (i) r.given placed before (Some 1) (token_of c.next.new.self).line r.so_far n.2), e.empty (λ y. cc))
 
 pub returns-in-Err-TokenTooLong-clause-went : goal.returns-in-Err-TokenTooLong-clause-went
 returns-in-Err-TokenTooLong-clause-went g c =
@@ -47,7 +47,7 @@ pub returns-in-Err-InputTooLong-clause-reads : goal.returns-in-Err-InputTooLong-
 returns-in-Err-InputTooLong-clause-reads g c = λ most i placed before r.
     let e = rw c.in-Err-InputTooLong.field-0-is at c.in-Err-InputTooLong.ensures in
     let n = e.gives i r.given r.stands in
-    subst (λ (l : ℕ). HasFault most l (i) 21 (token_of c.next.new.self).line) (sym e.lengths.0) (missing_token most (limit_of c.args.feed.now) (i) r.given placed before (Some 21) (token_of c.next.new.self).line r.so_far n.2)
+    (subst (λ (l : ℕ). HasFault most l (i) 21 (token_of c.next.new.self).line) (sym e.lengths.0) (missing_token most (limit_of c.args.feed.now) (i) r.given placed before (Some 21) (token_of c.next.new.self).line r.so_far n.2), e.empty (λ y. cc))
 
 pub returns-in-Err-InputTooLong-clause-went : goal.returns-in-Err-InputTooLong-clause-went
 returns-in-Err-InputTooLong-clause-went g c =
@@ -66,7 +66,7 @@ pub returns-in-Err-ReadFailed-clause-reads : goal.returns-in-Err-ReadFailed-clau
 returns-in-Err-ReadFailed-clause-reads g c = λ most i placed before r.
     let e = rw c.in-Err-ReadFailed.field-0-is at c.in-Err-ReadFailed.ensures in
     let n = e.gives i r.given r.stands in
-    subst (λ (l : ℕ). HasFault most l (failed_after (seen c.next.new.self) i) 31 (token_of c.next.new.self).line) (sym e.lengths.0) (missing_token most (limit_of c.args.feed.now) (failed_after (seen c.next.new.self) i) r.given placed before (Some 31) (token_of c.next.new.self).line r.so_far n.2)
+    (subst (λ (l : ℕ). HasFault most l (failed_after (seen c.next.new.self) i) 31 (token_of c.next.new.self).line) (sym e.lengths.0) (missing_token most (limit_of c.args.feed.now) (failed_after (seen c.next.new.self) i) r.given placed before (Some 31) (token_of c.next.new.self).line r.so_far n.2), e.empty (λ y. cc))
 
 pub returns-in-Err-ReadFailed-clause-went : goal.returns-in-Err-ReadFailed-clause-went
 returns-in-Err-ReadFailed-clause-went g c =

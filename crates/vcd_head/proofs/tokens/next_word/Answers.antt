@@ -1,4 +1,4 @@
-use Rattle.std.proofs.Common.{sym, ◌∙◌, ◌++◌, ◌∷◌, []}
+use Rattle.std.proofs.Common.{sym, ◌∙◌}
 use Rattle.std.proofs.lemmas.Result.{err_from_is_err_and}
 use Rattle.vcd_text.specs.Feed.{token_of}
 use Rattle.vcd_head.proofs.Steps.{welcomed, faultless}
@@ -13,7 +13,7 @@ pub returns-in_err-extend_from_slice-clause-reads : goal.returns-in_err-extend_f
 returns-in_err-extend_from_slice-clause-reads g c =
     let p = err_from_is_err_and c.from_residual-in_err-extend_from_slice.result c.from_residual-in_err-extend_from_slice.ensures.1 in
     rw (p.1, p.2) (λ most i placed before w r.
-    faultless most i placed (before ++ (token_of c.next_ends.new.feed).bytes ∷ []) c.next_ends.new.feed
+    faultless most i placed before (token_of c.next_ends.new.feed).bytes c.next_ends.new.feed
     (welcomed most i placed before c.next_ends.new.feed w (sym c.in_ok-next_ends.ensures.end ∙ c.if-branch.false) (c.in_ok-next_ends.ensures.reads most i placed before r)))
 
 pub returns-clause-reads : goal.returns-clause-reads

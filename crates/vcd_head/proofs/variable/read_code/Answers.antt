@@ -36,7 +36,7 @@ returns-in_err-from_slice-clause-reads g c =
     let l = c.in_ok-next_token.ensures.reads most i placed (keyword_text Keyword.Var ∷ type ∷ digits ∷ []) r in
     let none : lookup (λ (k : Vec ℕ). bytes_eq tok k.items) es ≡ None = copied_none c.get.result _ (c.get.ensures.value ∙ ap (λ t. lookup (λ (k : Vec ℕ). bytes_eq t k.items) es) c.token-token.ensures) c.in_default.not-Some in
     let read = inside most i placed Keyword.Var c.next_token.new.feed (type ∷ digits ∷ []) (check_new text es ds type digits tok c.args.size c.args.event h s e good none) refl l in
-    faultless most i placed (keyword_text Keyword.Var ∷ type ∷ digits ∷ tok ∷ []) c.next_token.new.feed read)
+    faultless most i placed (keyword_text Keyword.Var ∷ type ∷ digits ∷ []) tok c.next_token.new.feed read)
 
 pub returns-in_default-clause-reads : goal.returns-in_default-clause-reads
 returns-in_default-clause-reads g c = λ most i placed type digits text h s e r.

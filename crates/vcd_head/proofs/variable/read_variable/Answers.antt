@@ -11,7 +11,7 @@ use Rattle.vcd_text.specs.Feed.{token_of}
 use Rattle.vcd_head.specs.Texts.{spaced}
 use Rattle.vcd_head.specs.Views.{IsSize}
 use Rattle.vcd_head.specs.Holds.{HasCodes}
-use Rattle.vcd_head.proofs.Steps.{faultless, word_some, word_none, text_taken}
+use Rattle.vcd_head.proofs.Steps.{faultless_phrase, word_some, word_none, text_taken}
 use Rattle.vcd_head.proofs.TextSteps.{joined}
 use Rattle.vcd_head.proofs.WordLemmas.{size_found, size_parts}
 use Rattle.vcd_head.proofs.Phrases.{begun, not_begun, ended, refused_inside, var_welcomes_type, var_welcomes_reference, var_runs, var_whole}
@@ -159,7 +159,7 @@ returns-in_err-code-clause-reads g c =
     let v : Variable = record { type = type; size = decimal_value digits; code = code; reference = first ∷ inner } in
     let sp = size_parts digits sf.0 in
     let r5 = ended c.args.most i b.placed Keyword.Var c.append_to_end.new.feed (type ∷ digits ∷ code ∷ first ∷ inner) (HeaderPhrase.Declares (Declaration.Var v)) refl (var_whole type digits code first inner (token_of c.append_to_end.new.feed).bytes ws.1 e5.none e5.ends sp.0) refl e5.looks in
-    faultless c.args.most i (b.placed ++ record { phrase = HeaderPhrase.Declares (Declaration.Var v); line = (token_of c.append_to_end.new.feed).line } ∷ []) [] c.append_to_end.new.feed r5)
+    faultless_phrase c.args.most i b.placed (record { phrase = HeaderPhrase.Declares (Declaration.Var v); line = (token_of c.append_to_end.new.feed).line }) c.append_to_end.new.feed r5)
 
 pub returns-in_err-push-clause-reads : goal.returns-in_err-push-clause-reads
 returns-in_err-push-clause-reads g c =
@@ -187,7 +187,7 @@ returns-in_err-push-clause-reads g c =
     let v : Variable = record { type = type; size = decimal_value digits; code = code; reference = first ∷ inner } in
     let sp = size_parts digits sf.0 in
     let r5 = ended c.args.most i b.placed Keyword.Var c.append_to_end.new.feed (type ∷ digits ∷ code ∷ first ∷ inner) (HeaderPhrase.Declares (Declaration.Var v)) refl (var_whole type digits code first inner (token_of c.append_to_end.new.feed).bytes ws.1 e5.none e5.ends sp.0) refl e5.looks in
-    faultless c.args.most i (b.placed ++ record { phrase = HeaderPhrase.Declares (Declaration.Var v); line = (token_of c.append_to_end.new.feed).line } ∷ []) [] c.append_to_end.new.feed r5)
+    faultless_phrase c.args.most i b.placed (record { phrase = HeaderPhrase.Declares (Declaration.Var v); line = (token_of c.append_to_end.new.feed).line }) c.append_to_end.new.feed r5)
 
 pub returns-clause-reads : goal.returns-clause-reads
 returns-clause-reads g c = λ i b.

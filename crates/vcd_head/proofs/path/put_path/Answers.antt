@@ -1,0 +1,15 @@
+use Rattle.std.proofs.Common.{◌≡◌, Err, take, rules}
+use Rattle.std.proofs.lemmas.Option.{slice_get_within}
+use Rattle.vcd_model.specs.Declarations.{name_of}
+use Rattle.vcd_text.proofs.Writes.{appends-first, takes-twice}
+use Rattle.vcd_head.proofs.PathText.{path_is}
+use Rattle.vcd_head.proofs.path.put_path.Goals as goal
+
+pub returns-in_err-put_scopes-clause-takes : goal.returns-in_err-put_scopes-clause-takes
+returns-in_err-put_scopes-clause-takes g c = λ h d v is.
+    let e : c.from_residual.result ≡ Err c.in_err-put_scopes.field-0.0 = search rules in
+    rw (e, path_is (take c.args.row h.declarations) d) (appends-first _ _ _ (name_of d) (c.in_err-put_scopes.ensures.takes h v (slice_get_within h.declarations c.args.row d is)))
+
+pub returns-clause-takes : goal.returns-clause-takes
+returns-clause-takes g c = λ h d v is.
+    rw (path_is (take c.args.row h.declarations) d) (takes-twice _ _ _ _ (name_of d) c.put_name.result (c.in_ok-put_scopes.ensures.takes h v (slice_get_within h.declarations c.args.row d is)) (c.put_name.ensures.takes h d v is))

@@ -1,0 +1,13 @@
+-- What an engine over a header needs.
+use Rattle.std.specs.Prelude.{◌+◌, ◌*◌, length}
+use Rattle.vcd_model.specs.Bound.{RoomSize, ViewSize}
+use Rattle.vcd_head.specs.declared.view.Need.{Need}
+use Rattle.vcd_head.specs.Shown.{HeadShown}
+
+-- what is needed, as room
+abbrev pub room : Need → RoomSize
+room n = record { values = n.values; slots = n.slots; marks = n.marks }
+
+-- the lengths of what is shown; a guess has 4 bytes
+abbrev pub view_size : HeadShown → ViewSize
+view_size s = record { text = length s.text + length s.date + length s.version; rows = length s.rows; codes = length s.codes; index = length s.index; look_up = 4 * length s.guesses }

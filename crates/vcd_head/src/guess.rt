@@ -1,0 +1,49 @@
+// Guesses at the places of codes. Whatever they are, a look-up is right: they only make it fast.
+ghost use Rattle.std.specs.Prelude.{◌*◌, ◌≤◌, ◌≡◌, length, IfOk};
+ghost use Rattle.vcd_model.specs.Bound.{look_up_bytes};
+
+use crate::draft::Coded;
+use indexmap::IndexMap;
+use std::alloc::{AllocError, Global};
+
+/// The entry for a code in a table with so many entries, a power of two.
+///
+/// Simulators number codes from `!` on in base 94, the lowest digit first, in the order of
+/// declaration. Read back as such a number, neighbours have entries of their own.
+#[inline(always)]
+pub(crate) fn entry_of(code: &[u8], entries: usize) -> usize {
+    let mut number: usize = 0;
+    for byte in code.iter().rev() {
+        number = number
+            .wrapping_mul(94)
+            .wrapping_add(usize::from(*byte))
+            .wrapping_sub(32);
+    }
+    number & entries.wrapping_sub(1)
+}
+
+/// A guess for each code, two to four entries a code.
+pub(crate) fn guesses_of(
+    alloc: Global,
+    map: &IndexMap<Vec<u8>, Coded>,
+) -> Result<Vec<u32>, AllocError>
+    ensures { IfOk result (λ guesses. 4 * length guesses.items ≤ look_up_bytes * length map.now.entries) }
+{
+    if map.is_empty() {
+        return Ok(Vec::new(alloc));
+    }
+    let entries = map.len().next_power_of_two().saturating_mul(2);
+    let mut guesses = vec![in alloc; 0u32; entries]?;
+    fill(&mut guesses, map);
+    Ok(guesses)
+}
+
+// Writes the place of each code into its entry.
+fn fill(guesses: &mut [u32], map: &IndexMap<Vec<u8>, Coded>) {
+    for (code, coded) in map.iter() {
+        let entry = entry_of(code, guesses.len());
+        if let (Some(guess), Ok(place)) = (guesses.get_mut(entry), u32::try_from(coded.place)) {
+            *guess = place;
+        }
+    }
+}

@@ -1,0 +1,49 @@
+// Comparisons of codes, counted.
+ghost use Rattle.std.specs.Prelude.{◌≡◌, ℕ, ◌+◌};
+ghost use Rattle.std.specs.Ordering.{nat_cmp};
+ghost use Rattle.std.specs.Cmp.Lexicographic.{slice_cmp};
+ghost use base.Fml.{ftrue};
+
+use std::cmp::Ordering;
+use std::marker::{Model, PhantomData};
+
+/// How many comparisons of codes were made. It takes no bytes.
+#[derive(Drop)]
+pub struct Probes {
+    marker: PhantomData<u8>,
+    pub ghost count: { ℕ },
+}
+
+impl Model for Probes {
+    ghost also_owns = { λ _. ftrue };
+}
+
+impl Probes {
+    /// None yet.
+    pub fn new() -> Self
+        ensures { result.count ≡ 0 }
+    {
+        Probes {
+            marker: PhantomData,
+        }
+    }
+
+    // One more.
+    fn after_one(&self) -> Self
+        ensures { result.count ≡ self.now.count + 1 }
+    {
+        Probes {
+            marker: PhantomData,
+        }
+    }
+
+    /// Compares two codes by their bytes: the first that differ decide, and a code comes before
+    /// those that it begins.
+    pub fn probe(&mut self, code: &[u8], other: &[u8]) -> Ordering
+        ensures order { result ≡ slice_cmp nat_cmp code.now other.now }
+        ensures counted { self.new.count ≡ self.old.count + 1 }
+    {
+        *self = self.after_one();
+        code.cmp(other)
+    }
+}
