@@ -1,0 +1,34 @@
+-- The code that a look-up has found, and its texts.
+use Rattle.std.proofs.Common.{◌≡◌, ℕ, zero, suc, Bool, true, false, cond, ◌&&◌, ◌^◌, nat_lt, List, [], ◌∷◌, Some, None, refl, sym}
+use Rattle.std.specs.Prelude.{slice_get}
+use Rattle.std.specs.List.{AllZip}
+use Rattle.std.proofs.lemmas.Option.{cond_some}
+use Rattle.vcd_model.specs.Bytes.{is_decimal, decimal_value}
+use Rattle.vcd_model.specs.Declarations.{IdCode}
+use Rattle.vcd_model.specs.Header.{Header}
+use Rattle.vcd_head.specs.declared.view.Code.{Code}
+use Rattle.vcd_head.specs.Shown.{HeadShown}
+use Rattle.vcd_head.specs.Views.{Views, IsCode}
+use Rattle.vcd_body.proofs.Digits.{spelled}
+
+zip_at : (text : List ℕ) (xs : List Code) (ys : List IdCode) (k : ℕ) (c : IdCode) → AllZip (IsCode text) xs ys → slice_get ys k ≡ Some c → (code : Code) × (slice_get xs k ≡ Some code) × IsCode text code c
+zip_at text [] [] k c a e = cc
+zip_at text [] (y ∷ ys) k c a e = absurd a
+zip_at text (x ∷ xs) [] k c a e = absurd a
+zip_at text (x ∷ xs) (y ∷ ys) zero c a e = let s : y ≡ c = cc in (x, refl, rw (sym s) a.0)
+zip_at text (x ∷ xs) (y ∷ ys) (suc k) c a e = zip_at text xs ys k c a.1 e
+
+-- the view's code at the place of a header's code
+pub code_at : (s : HeadShown) (h : Header) → Views s h → (place : ℕ) (c : IdCode) → slice_get h.codes place ≡ Some c → (code : Code) × (slice_get s.codes place ≡ Some code) × IsCode s.text code c
+code_at s h v place c e = zip_at s.text s.codes h.codes place c v.codes e
+
+-- a number is what the digits spell, and is below 2^64
+pub time_spelled : (digits : List ℕ) (time : ℕ) → spelled digits ≡ Some time → ((is_decimal digits && nat_lt (decimal_value digits) (2 ^ 64)) ≡ true) × (decimal_value digits ≡ time)
+time_spelled digits time h = cond_some (is_decimal digits && nat_lt (decimal_value digits) (2 ^ 64)) (decimal_value digits) time h
+
+none_of : (b : Bool) (v : ℕ) → cond b (Some v) None ≡ None → b ≡ false
+none_of false v h = refl
+none_of true v h = cc
+
+pub none_spelled : (digits : List ℕ) → spelled digits ≡ None → (is_decimal digits && nat_lt (decimal_value digits) (2 ^ 64)) ≡ false
+none_spelled digits h = none_of (is_decimal digits && nat_lt (decimal_value digits) (2 ^ 64)) (decimal_value digits) h

@@ -1,0 +1,11 @@
+pub mod Digits
+pub mod WordLemmas
+pub mod Steps
+pub mod Judging
+pub mod Found
+pub mod Behind
+pub mod Giving
+pub mod Calling
+pub mod Shortest
+pub mod Writing
+pub mod ChangeLine

@@ -1,0 +1,94 @@
+-- The shortest digits of a value are those from which no digit can be left out on the left.
+use Rattle.std.proofs.Common.{◌≡◌, ◌≢◌, ℕ, zero, suc, ◌+◌, ◌-◌, ◌≤◌, ◌<◌, Bool, true, false, cond, ◌==◌, List, [], ◌∷◌, ◌++◌, length, replicate, drop, get_or, refl, sym, ap, subst, ◌∙◌, arith}
+use Rattle.std.specs.Char.{to_ascii_lowercase}
+use Rattle.std.specs.Str.{str_to_ascii_lowercase}
+use Rattle.std.proofs.lemmas.List.{length-append, length-map, length-replicate}
+use Rattle.vcd_model.specs.Values.{extend, extension, short}
+use Rattle.vcd_model.proofs.ShortLemmas.{short_is_shortest}
+
+-- one digit, or more of which the first is not what the others are extended by
+abbrev pub IsBare : List ℕ → Type 0
+IsBare [] = ⊥
+IsBare (x ∷ []) = Unit {0}
+IsBare (x ∷ y ∷ ds) = x ≢ extension (y ∷ ds)
+
+no_one : (ds : List ℕ) → (extension ds == 49) ≡ false
+no_one [] = refl
+no_one (d ∷ ds) = by_one (d == 49) refl
+  where
+    by_one : (b : Bool) → (d == 49) ≡ b → (cond (d == 49) 48 d == 49) ≡ false
+    by_one true e = rw e refl
+    by_one false e = rw e e
+
+-- what digits are extended by extends itself
+pub extension_again : (ds es : List ℕ) → extension (extension ds ∷ es) ≡ extension ds
+extension_again ds es = ap (λ b. cond b 48 (extension ds)) (no_one ds)
+
+one_more : (n e : ℕ) (l : List ℕ) → replicate n e ++ e ∷ l ≡ e ∷ (replicate n e ++ l)
+one_more zero e l = refl
+one_more (suc n) e l = ap (λ r. e ∷ r) (one_more n e l)
+
+replicate_at : (m n e : ℕ) (l r : List ℕ) → m ≡ n + 1 → replicate n e ++ e ∷ l ≡ r → replicate m e ++ l ≡ r
+replicate_at m n e l r h q = let s : m ≡ suc n = omega arith in ap (λ k. replicate k e ++ l) s ∙ sym (one_more n e l) ∙ q
+
+-- a digit that the others are extended by can be left out
+pub left_out : (x : ℕ) (ds : List ℕ) (n : ℕ) → x ≡ extension ds → length (x ∷ ds) ≤ n → extend ds n ≡ extend (x ∷ ds) n
+left_out x ds n e h =
+    let same : extension (x ∷ ds) ≡ extension ds = ap (λ y. extension (y ∷ ds)) e ∙ extension_again ds ds in
+    let some = h in
+    replicate_at (n - length ds) (n - length (x ∷ ds)) (extension ds) ds (extend (x ∷ ds) n) (omega arith)
+    (ap (λ y. replicate (n - length (x ∷ ds)) (extension ds) ++ y ∷ ds) (sym e) ∙ ap (λ y. replicate (n - length (x ∷ ds)) y ++ x ∷ ds) (sym same))
+
+-- two rows of digits that are one, of which the first has k more of its first digit
+cut_off : (a k e f : ℕ) (xs ys : List ℕ) → replicate (a + k) e ++ xs ≡ replicate a f ++ ys → replicate k e ++ xs ≡ ys
+cut_off zero k e f xs ys h = let s : 0 + k ≡ k = omega arith in ap (λ m. replicate m e ++ xs) (sym s) ∙ h
+cut_off (suc a) k e f xs ys h = let s : suc a + k ≡ suc (a + k) = omega arith in cut_off a k e f xs ys (ap (drop 1) (ap (λ m. replicate m e ++ xs) (sym s) ∙ h))
+
+not_bare : (k : ℕ) (y s : List ℕ) → y ≢ [] → IsBare s → replicate k (extension y) ++ y ≡ s → k ≡ 0
+not_bare zero y s n b h = refl
+not_bare (suc zero) [] s n b h = absurd (n refl)
+not_bare (suc zero) (x ∷ y) s n b h = absurd (subst IsBare (sym h) b refl)
+not_bare (suc (suc k)) y s n b h = absurd (subst IsBare (sym h) b (sym (extension_again y (replicate k (extension y) ++ y))))
+
+bare_some : (s : List ℕ) → IsBare s → 0 < length s
+bare_some [] b = absurd b
+bare_some (x ∷ s) b = omega arith
+
+not_empty : (s : List ℕ) → 0 < length s → s ≢ []
+not_empty [] h = absurd (omega arith)
+not_empty (x ∷ s) h = λ e. cc
+
+pub bare_is_short : (s : List ℕ) (n : ℕ) → IsBare s → length s ≤ n → s ≡ short (extend s n)
+bare_is_short s n b h =
+    let v = extend s n in
+    let some = bare_some s b in
+    let long : length v ≡ n = length-append (replicate (n - length s) (extension s)) s ∙ (let r = length-replicate (n - length s) (extension s) in omega arith) in
+    let q = short_is_shortest v (not_empty v (omega arith)) in
+    let y = short v in
+    let no_longer : length y ≤ length s = q.2 s (not_empty s some) (ap (extend s) long) in
+    let back : extend y n ≡ v = ap (extend y) (sym long) ∙ q.1 in
+    let split : (n - length s) + (length s - length y) ≡ n - length y = omega arith in
+    let c = cut_off (n - length s) (length s - length y) (extension y) (extension s) y s (ap (λ m. replicate m (extension y) ++ y) split ∙ back) in
+    let z = not_bare (length s - length y) y s q.0 b c in
+    sym (ap (λ m. replicate m (extension y) ++ y) (sym z) ∙ c)
+
+-- ---- digits in either case
+
+pub one_bare : (l : List ℕ) → 0 < length l → length l ≤ 1 → IsBare (str_to_ascii_lowercase l)
+one_bare [] some few = absurd (omega arith)
+one_bare (x ∷ []) some few = tt
+one_bare (x ∷ y ∷ l) some few = absurd (omega arith)
+
+pub more_bare : (l : List ℕ) → 1 < length l → (to_ascii_lowercase (get_or l 0 0) ≡ extension (to_ascii_lowercase (get_or l 1 0) ∷ []) → ⊥) → IsBare (str_to_ascii_lowercase l)
+more_bare [] more n = absurd (omega arith)
+more_bare (x ∷ []) more n = absurd (omega arith)
+more_bare (x ∷ y ∷ l) more n = n
+
+pub first_out : (l : List ℕ) (size : ℕ) → 1 < length l → to_ascii_lowercase (get_or l 0 0) ≡ extension (to_ascii_lowercase (get_or l 1 0) ∷ []) → length l ≤ size → extend (str_to_ascii_lowercase (drop 1 l)) size ≡ extend (str_to_ascii_lowercase l) size
+first_out [] size more e h = absurd (omega arith)
+first_out (x ∷ []) size more e h = absurd (omega arith)
+first_out (x ∷ y ∷ l) size more e h = left_out (to_ascii_lowercase x) (str_to_ascii_lowercase (y ∷ l)) size e (let n = length-map (x ∷ y ∷ l) to_ascii_lowercase in omega arith)
+
+-- bare digits that extend to the same as some digits are the shortest of these
+pub shortest_of : (l digits : List ℕ) (size : ℕ) → IsBare (str_to_ascii_lowercase l) → length l ≤ size → extend (str_to_ascii_lowercase l) size ≡ extend (str_to_ascii_lowercase digits) size → str_to_ascii_lowercase l ≡ short (extend (str_to_ascii_lowercase digits) size)
+shortest_of l digits size b h e = bare_is_short (str_to_ascii_lowercase l) size b (let n = length-map l to_ascii_lowercase in omega arith) ∙ ap short e

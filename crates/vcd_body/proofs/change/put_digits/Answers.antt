@@ -1,0 +1,16 @@
+use Rattle.std.proofs.Common.{[], ◌∷◌, ◌++◌}
+use Rattle.std.specs.Str.{str_to_ascii_lowercase}
+use Rattle.std.proofs.lemmas.Result.{err_from_is_err_and}
+use Rattle.vcd_body.proofs.Writing.{appends-some, appends-first, takes-twice}
+use Rattle.vcd_body.proofs.change.put_digits.Goals as goal
+
+pub returns-in_err-put_lower-clause-takes : goal.returns-in_err-put_lower-clause-takes
+returns-in_err-put_lower-clause-takes g c =
+    let p = err_from_is_err_and c.from_residual-in_err-put_lower.result c.from_residual-in_err-put_lower.ensures.1 in
+    let digits = str_to_ascii_lowercase c.args.digits.now in
+    rw p.1 (appends-some _ _ _ (98 ∷ []) (digits ++ 32 ∷ []) c.in_ok-put.ensures.takes (appends-first _ _ digits (32 ∷ []) c.in_err-put_lower.ensures.takes))
+
+pub returns-clause-takes : goal.returns-clause-takes
+returns-clause-takes g c =
+    let digits = str_to_ascii_lowercase c.args.digits.now in
+    takes-twice _ _ _ (98 ∷ []) (digits ++ 32 ∷ []) c.put-2.result c.in_ok-put.ensures.takes (takes-twice _ _ _ digits (32 ∷ []) c.put-2.result c.in_ok-put_lower.ensures.takes c.put-2.ensures.takes)

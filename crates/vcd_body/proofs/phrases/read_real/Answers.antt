@@ -1,0 +1,38 @@
+use Rattle.std.proofs.Common.{◌==◌, [], length, drop, sym, ap, ◌∙◌, arith}
+use Rattle.vcd_model.specs.Reading.{phrases_of}
+use Rattle.vcd_text.specs.Feed.{token_of, value_of}
+use Rattle.vcd_body.proofs.WordLemmas.{filled, empty, some_bytes}
+use Rattle.vcd_body.proofs.Steps.{refused, begun}
+use Rattle.vcd_body.proofs.Behind.{real_read, real_sound}
+use Rattle.vcd_body.proofs.Judging.{no_number, number_too_long, number_begins, number_asks}
+use Rattle.vcd_body.proofs.phrases.read_real.Goals as goal
+
+pub returns-then-is_empty-clause-reads : goal.returns-then-is_empty-clause-reads
+returns-then-is_empty-clause-reads g c = λ h i front placed v l.
+    let t = (token_of c.args.feed.now).bytes in
+    let text = c.rest_of-text.ensures ∙ ap (drop 1) c.token.ensures in
+    refused h.codes i front placed [] c.args.feed.now 15 (no_number h.codes (phrases_of placed) t c.requires.begins (empty (drop 1 t) (ap (λ x. length x == 0) (sym text) ∙ sym c.is_empty.ensures ∙ c.if-is_empty.true))) l
+
+pub returns-then-text-gt64-clause-reads : goal.returns-then-text-gt64-clause-reads
+returns-then-text-gt64-clause-reads g c = λ h i front placed v l.
+    let t = (token_of c.args.feed.now).bytes in
+    let text = c.rest_of-text.ensures ∙ ap (drop 1) c.token.ensures in
+    let n = ap length text in
+    refused h.codes i front placed [] c.args.feed.now 18 (number_too_long h.codes (phrases_of placed) t c.requires.begins (filled (drop 1 t) (ap (λ x. length x == 0) (sym text) ∙ sym c.is_empty.ensures ∙ c.if-is_empty.false)) (omega arith)) l
+
+pub returns-clause-reads : goal.returns-clause-reads
+returns-clause-reads g c = λ h i front placed v l.
+    let t = (token_of c.args.feed.now).bytes in
+    let text = c.rest_of-text.ensures ∙ ap (drop 1) c.token.ensures in
+    let n = ap length text in
+    let b = number_begins h.codes (phrases_of placed) t c.requires.begins (filled (drop 1 t) (ap (λ x. length x == 0) (sym text) ∙ sym c.is_empty.ensures ∙ c.if-is_empty.false)) (omega arith) in
+    real_read h.codes i front placed c.read_code.new.feed t c.requires.begins c.read_code.result c.read_code.ensures.value
+    (c.read_code.ensures.reads h i front placed t v (number_asks h.codes (phrases_of placed) t c.requires.begins) (begun h.codes i front placed c.args.feed.now b.0 b.1 l))
+
+pub returns-clause-sound : goal.returns-clause-sound
+returns-clause-sound g c =
+    let text = c.rest_of-text.ensures ∙ ap (drop 1) c.token.ensures in
+    let n = ap length text in
+    let value = ap (λ x. length (drop 1 x)) c.read_code.ensures.value in
+    let some = some_bytes c.rest_of-text.result.now (sym c.is_empty.ensures ∙ c.if-is_empty.false) in
+    real_sound c.args.view.codes.now (drop 1 (value_of c.read_code.new.feed)) c.read_code.result (omega arith) (omega arith) c.read_code.ensures.within

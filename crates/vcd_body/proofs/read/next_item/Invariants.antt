@@ -1,0 +1,18 @@
+use Rattle.std.proofs.Common.{◌≡◌, ◌-◌, ◌^◌, ◌≤◌, List, None}
+use Rattle.vcd_model.specs.Input.{Input}
+use Rattle.vcd_model.specs.Tokens.{Token}
+use Rattle.vcd_model.specs.Header.{Header}
+use Rattle.vcd_model.specs.Items.{BodyItem}
+use Rattle.vcd_text.specs.Feed.{seen}
+use Rattle.vcd_head.specs.Shown.{parts}
+use Rattle.vcd_head.specs.Views.{Views}
+use Rattle.vcd_body.specs.Reads.{GaveItems}
+use Rattle.vcd_body.specs.Went.{Went}
+use Rattle.vcd_body.proofs.read.next_item.Given as goal
+
+abbrev pub invariant-phrases : goal.invariant-phrases
+invariant-phrases g l = Went g.S.Source.failures l.fn.feed l.feed None × (seen l.fn.feed ≤ seen l.feed) × (l.regs ≡ l.fn.regs)
+    × ((h : Header) (i : Input) (front : List Token) (items : List BodyItem) → Views (parts l.view) h → GaveItems h.codes i front items l.fn.feed l.fn.regs → GaveItems h.codes i front items l.feed l.regs)
+
+abbrev pub decreases-phrases : goal.decreases-phrases
+decreases-phrases g l = 2 ^ 63 - seen l.feed

@@ -1,0 +1,15 @@
+use Rattle.std.proofs.Common.{◌∷◌}
+use Rattle.std.proofs.lemmas.Result.{err_from_is_err_and}
+use Rattle.vcd_text.specs.Feed.{limit_of, token_of}
+use Rattle.vcd_body.proofs.Steps.{cut_short}
+use Rattle.vcd_body.proofs.tokens.next_inner.Goals as goal
+
+pub returns-in_err-next_token-clause-reads : goal.returns-in_err-next_token-clause-reads
+returns-in_err-next_token-clause-reads g c =
+    let p = err_from_is_err_and c.from_residual.result c.from_residual.ensures.1 in
+    rw (p.1, p.2) (λ codes i front placed first before r. c.in_err-next_token.ensures.reads codes i front placed (first ∷ before) r)
+
+pub returns-clause-reads : goal.returns-clause-reads
+returns-clause-reads g c = λ codes i front placed first before r.
+    let a = rw c.if-branch.false at c.in_ok-next_token.ensures.reads codes i front placed (first ∷ before) r in
+    cut_short codes i front placed (limit_of c.next_token.new.feed) a.given first before (token_of c.next_token.new.feed).line a.so_far a.all

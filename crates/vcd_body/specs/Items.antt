@@ -1,0 +1,40 @@
+-- Items, and what is known behind them.
+use Rattle.std.specs.Prelude.{◌≡◌, ◌+◌, true, not, cond, List, count_by, Some, None, is_some, option_map}
+use Rattle.vcd_model.specs.Bytes.{is_empty}
+use Rattle.vcd_model.specs.Items.{SectionKind, ChangeForm, BodyItem, time_after, marks, open_section, is_begin, is_end_of_section}
+use Rattle.vcd_body.specs.declared.item.Section.{Section}
+use Rattle.vcd_body.specs.declared.item.Section.TheVariants.{Vars, Off, On, All}
+use Rattle.vcd_body.specs.declared.item.Form.{Form}
+use Rattle.vcd_body.specs.declared.item.Form.TheVariants.{Scalar, Vector, RealText}
+use Rattle.vcd_body.specs.declared.item.Item.{Item}
+use Rattle.vcd_body.specs.declared.item.Item.TheVariants.{Time, Begin, End, Change, Finish}
+use Rattle.vcd_body.specs.declared.item.Regs.{Regs}
+
+-- the definitions' kind of section
+abbrev pub model_section : Section → SectionKind
+model_section Vars = SectionKind.Vars
+model_section Off = SectionKind.Off
+model_section On = SectionKind.On
+model_section All = SectionKind.All
+
+-- the definitions' form of a change
+abbrev pub model_form : Form → ChangeForm
+model_form Scalar = ChangeForm.Scalar
+model_form Vector = ChangeForm.Vector
+model_form RealText = ChangeForm.RealText
+
+-- the registers tell what is known behind these items
+pub record Known (items : List BodyItem) (r : Regs) : Type 0 where
+  pub time_is : r.time ≡ time_after items
+  pub marked_is : r.marked ≡ not (is_empty (marks items))
+  pub section_is : option_map model_section r.section ≡ open_section items
+  -- as many sections have ended as have begun, but for the open one
+  pub ended : count_by is_begin items ≡ count_by is_end_of_section items + cond (is_some r.section) 1 0
+
+-- the registers behind one item more
+abbrev pub behind : Regs → Item → Regs
+behind r (Time t) = record { time = t; marked = true; section = r.section }
+behind r (Begin s) = record { time = r.time; marked = r.marked; section = Some s }
+behind r End = record { time = r.time; marked = r.marked; section = None }
+behind r (Change code form) = r
+behind r Finish = r

@@ -1,0 +1,52 @@
+-- What a token is that stands where a phrase of a body begins.
+use Rattle.std.specs.Prelude.{◌≡◌, ℕ, Bool, true, false, IsTrue, ◌||◌, ◌==◌, List, [], ◌∷◌, Option, Some, None, bytes_eq}
+use Rattle.std.specs.List.{list_any}
+use Rattle.std.specs.Str.{byte}
+use Rattle.vcd_model.specs.Keywords.{Keyword, keyword_of, keyword_text}
+use Rattle.vcd_model.specs.BodyPhrases.{section_keyword, is_value_digit}
+use Rattle.vcd_body.specs.Items.{model_section}
+use Rattle.vcd_body.specs.declared.words.Command.{Command}
+use Rattle.vcd_body.specs.declared.words.Command.TheVariants.{Comment, Begin, End, OfHeader}
+use Rattle.vcd_body.specs.declared.words.First.{First}
+use Rattle.vcd_body.specs.declared.words.First.TheVariants.{Mark, Digit, Digits, Number, Other}
+
+-- a keyword that belongs into the header
+abbrev pub is_of_header : Keyword → Bool
+is_of_header Keyword.Comment = false
+is_of_header Keyword.DumpAll = false
+is_of_header Keyword.DumpOff = false
+is_of_header Keyword.DumpOn = false
+is_of_header Keyword.DumpVars = false
+is_of_header Keyword.End = false
+is_of_header k = true
+
+-- the token is such a keyword
+abbrev pub is_header_word : List ℕ → Bool
+is_header_word token =
+    bytes_eq (keyword_text Keyword.Date) token || bytes_eq (keyword_text Keyword.EndDefinitions) token || bytes_eq (keyword_text Keyword.Scope) token || bytes_eq (keyword_text Keyword.Timescale) token
+    || bytes_eq (keyword_text Keyword.Upscope) token || bytes_eq (keyword_text Keyword.Var) token || bytes_eq (keyword_text Keyword.Version) token
+
+-- the token is this command, or no keyword
+abbrev pub StandsFor : List ℕ → Option Command → Type 0
+StandsFor token (Some Comment) = token ≡ keyword_text Keyword.Comment
+StandsFor token (Some (Begin s)) = token ≡ keyword_text (section_keyword (model_section s))
+StandsFor token (Some End) = token ≡ keyword_text Keyword.End
+StandsFor token (Some OfHeader) = (k : Keyword) × (token ≡ keyword_text k) × IsTrue (is_of_header k)
+StandsFor token None = keyword_of token ≡ None
+
+-- one of two bytes
+abbrev pub is_either : ℕ → ℕ → ℕ → Bool
+is_either a b x = list_any (λ d. x == d) (a ∷ b ∷ [])
+
+-- no other phrase begins with this byte than one that begins with a command
+abbrev pub BeginsOther : List ℕ → Type 0
+BeginsOther [] = Unit {0}
+BeginsOther (b ∷ rest) = ((b == byte "#") ≡ false) × (is_value_digit b ≡ false) × (is_either (byte "b") (byte "B") b ≡ false) × (is_either (byte "r") (byte "R") b ≡ false)
+
+-- the token begins so
+abbrev pub Begins : List ℕ → First → Type 0
+Begins token Mark = (digits : List ℕ) × (token ≡ byte "#" ∷ digits)
+Begins token Digit = (d : ℕ) × (code : List ℕ) × IsTrue (is_value_digit d) × (token ≡ d ∷ code)
+Begins token Digits = (b : ℕ) × (digits : List ℕ) × IsTrue (is_either (byte "b") (byte "B") b) × (token ≡ b ∷ digits)
+Begins token Number = (r : ℕ) × (text : List ℕ) × IsTrue (is_either (byte "r") (byte "R") r) × (token ≡ r ∷ text)
+Begins token Other = BeginsOther token

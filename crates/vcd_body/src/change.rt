@@ -1,0 +1,133 @@
+// Value changes as they are written.
+ghost use Rattle.std.specs.Prelude.{◌≡◌, ◌≢◌, ℕ, ◌-◌, ◌^◌, ◌<◌, ◌≤◌, ◌++◌, ◌∷◌, ◌==◌, [], false, take, length};
+ghost use Rattle.std.specs.Char.{to_ascii_lowercase as lower};
+ghost use Rattle.std.specs.Str.{str_to_ascii_lowercase};
+ghost use Rattle.vcd_model.specs.Values.{extend, extension, short, change_line};
+ghost use Rattle.vcd_text.specs.Device.{failures_after, Takes};
+ghost use Rattle.vcd_body.specs.Items.{model_form};
+ghost use Rattle.vcd_body.specs.Changes.{value_text};
+
+use crate::item::Form;
+use crate::words::rest_of;
+use vcd_text::device::{Sink, WriteFailed};
+use vcd_text::output::put;
+
+// What a value that begins with this digit is extended by.
+fn extended_by(digit: u8) -> u8
+    ensures { result ≡ extension (lower digit ∷ []) }
+{
+    let digit = digit.to_ascii_lowercase();
+    if digit == b'1' { b'0' } else { digit }
+}
+
+// The shortest digits that extend to the same value.
+fn shortest(digits: &[u8]) -> &[u8]
+    requires { 0 < length digits.now }
+    ensures { (size : ℕ) → length digits.now ≤ size → str_to_ascii_lowercase result.now ≡ short (extend (str_to_ascii_lowercase digits.now) size) }
+{
+    let mut rest = digits;
+    'digits: while rest.len() > 1 {
+        if rest[0].to_ascii_lowercase() != extended_by(rest[1]) {
+            return rest;
+        }
+        rest = rest_of(rest);
+    }
+    rest
+}
+
+// Puts the bytes in lower case at the front.
+fn lower_into(to: &mut [u8], bytes: &[u8])
+    requires { length bytes.now ≤ length to.old }
+    ensures { take (length bytes.now) to.new ≡ str_to_ascii_lowercase bytes.now }
+{
+    for (place, byte) in bytes.iter().enumerate() {
+        to[place] = byte.to_ascii_lowercase();
+    }
+}
+
+// Writes the bytes in lower case.
+fn put_lower<W: Sink>(w: &mut W, bytes: &[u8]) -> Result<(), WriteFailed>
+    requires { W.failures w.old < 2 ^ 64 - 1 }
+    ensures takes { Takes (W.held w.old) (W.held w.new) (str_to_ascii_lowercase bytes.now) result }
+    ensures failures { W.failures w.new ≡ failures_after (W.failures w.old) result }
+{
+    let mut lower = [0u8; 64];
+    let mut rest = bytes;
+    while !rest.is_empty() {
+        let (front, back) = rest.split_at(rest.len().min(64));
+        lower_into(&mut lower, front);
+        put(w, &lower[..front.len()])?;
+        rest = back;
+    }
+    Ok(())
+}
+
+// Writes a real number, and a space.
+fn put_real<W: Sink>(w: &mut W, text: &[u8]) -> Result<(), WriteFailed>
+    requires { W.failures w.old < 2 ^ 64 - 1 }
+    ensures takes { Takes (W.held w.old) (W.held w.new) (114 ∷ text.now ++ 32 ∷ []) result }
+    ensures failures { W.failures w.new ≡ failures_after (W.failures w.old) result }
+{
+    put(w, b"r")?;
+    put(w, text)?;
+    put(w, b" ")
+}
+
+// Writes digits behind `b`, in lower case, and a space.
+fn put_digits<W: Sink>(w: &mut W, digits: &[u8]) -> Result<(), WriteFailed>
+    requires { W.failures w.old < 2 ^ 64 - 1 }
+    ensures takes { Takes (W.held w.old) (W.held w.new) (98 ∷ str_to_ascii_lowercase digits.now ++ 32 ∷ []) result }
+    ensures failures { W.failures w.new ≡ failures_after (W.failures w.old) result }
+{
+    put(w, b"b")?;
+    put_lower(w, digits)?;
+    put(w, b" ")
+}
+
+// Writes a change up to its code.
+fn put_value<W: Sink>(
+    w: &mut W,
+    size: usize,
+    event: bool,
+    form: Form,
+    text: &[u8],
+) -> Result<(), WriteFailed>
+    requires failures { W.failures w.old < 2 ^ 64 - 1 }
+    requires digits { event ≡ false → form ≢ Form.RealText → (0 < length text.now) × (length text.now ≤ size) }
+    ensures takes { Takes (W.held w.old) (W.held w.new) (value_text size event form text.now) result }
+    ensures failures { W.failures w.new ≡ failures_after (W.failures w.old) result }
+{
+    if event {
+        return put(w, b"1");
+    }
+    match form {
+        Form::RealText => put_real(w, text),
+        Form::Scalar | Form::Vector => {
+            if size == 1 {
+                return put_lower(w, text);
+            }
+            put_digits(w, shortest(text))
+        }
+    }
+}
+
+/// Writes a change of a code of this size, or of an event, as its line. A bad text of an event is not looked at. Where a write
+/// fails, some first bytes were written.
+pub fn put_change<W: Sink>(
+    size: usize,
+    event: bool,
+    form: Form,
+    text: &[u8],
+    id: &[u8],
+    w: &mut W,
+) -> Result<(), WriteFailed>
+    requires failures { W.failures w.old < 2 ^ 64 - 1 }
+    requires digits { event ≡ false → form ≢ Form.RealText → (0 < length text.now) × (length text.now ≤ size) }
+    ensures takes { Takes (W.held w.old) (W.held w.new)
+        (change_line (record { code = record { text = id.now; size = size; event = event }; form = model_form form; text = text.now })) result }
+    ensures failures { W.failures w.new ≡ failures_after (W.failures w.old) result }
+{
+    put_value(w, size, event, form, text)?;
+    put(w, id)?;
+    put(w, b"\n")
+}

@@ -1,0 +1,91 @@
+// What a body is made of.
+
+/// What opens a section.
+#[derive(Clone, Copy, PartialEq, Eq, Debug)]
+pub enum Section {
+    /// `$dumpvars`.
+    Vars,
+    /// `$dumpoff`.
+    Off,
+    /// `$dumpon`.
+    On,
+    /// `$dumpall`.
+    All,
+}
+
+/// How a value change is written.
+#[derive(Clone, Copy, PartialEq, Eq, Debug)]
+pub enum Form {
+    /// A digit, and the code at once.
+    Scalar,
+    /// `b` and digits, then the code.
+    Vector,
+    /// `r` and a number, then the code.
+    RealText,
+}
+
+/// An item of a body, or its end.
+#[derive(Clone, Copy, PartialEq, Eq, Debug)]
+pub enum Item {
+    /// A time mark.
+    Time(u64),
+    /// A section begins.
+    Begin(Section),
+    /// The section ends.
+    End,
+    /// A value change of the code at this place among the header's codes. `change_text` gives its text.
+    Change { code: usize, form: Form },
+    /// The body has ended, outside a section.
+    Finish,
+}
+
+/// What is known behind the items read so far.
+#[derive(Clone, Copy, PartialEq, Eq, Debug)]
+pub struct Regs {
+    /// The last time mark, which is the greatest; 0 where there was none.
+    pub time: u64,
+    /// There was a time mark.
+    pub marked: bool,
+    /// The section that is open.
+    pub section: Option<Section>,
+}
+
+impl Regs {
+    ghost use Rattle.std.specs.Prelude.{◌≡◌, [], false, None};
+    ghost use Rattle.vcd_body.specs.Items.{Known, behind};
+
+    /// Before the first item.
+    pub fn new() -> Regs
+        ensures known { Known [] result }
+        ensures value { result ≡ record { time = 0; marked = false; section = None } }
+    {
+        Regs {
+            time: 0,
+            marked: false,
+            section: None,
+        }
+    }
+
+    /// Behind one item more.
+    #[inline(always)]
+    pub(crate) fn behind(self, item: Item) -> Regs
+        ensures { result ≡ behind self item }
+    {
+        match item {
+            Item::Time(time) => Regs {
+                time,
+                marked: true,
+                section: self.section,
+            },
+            Item::Begin(section) => Regs {
+                section: Some(section),
+                ..self
+            },
+            Item::End => Regs {
+                section: None,
+                ..self
+            },
+            Item::Change { .. } | Item::Finish => self,
+        }
+    }
+}

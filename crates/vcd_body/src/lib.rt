@@ -1,0 +1,12 @@
+//! The body of a dump, item by item.
+#![tactic(auto)]
+
+pub mod change;
+pub mod fault;
+pub mod item;
+mod phrases;
+pub mod read;
+#[cfg(test)]
+mod tests;
+mod tokens;
+mod words;

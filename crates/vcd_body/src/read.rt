@@ -1,0 +1,148 @@
+// The items of a body, one after the other.
+ghost use Rattle.std.specs.Prelude.{◌≡◌, ◌≢◌, ℕ, ◌-◌, ◌^◌, ◌<◌, ◌≤◌, List, OnOk, IfOk, Some, MatchResult, MatchOption};
+ghost use Rattle.vcd_model.specs.Input.{Input};
+ghost use Rattle.vcd_model.specs.Tokens.{Token};
+ghost use Rattle.vcd_model.specs.Header.{Header};
+ghost use Rattle.vcd_model.specs.Declarations.{IdCode};
+ghost use Rattle.vcd_model.specs.Items.{BodyItem};
+ghost use Rattle.vcd_text.specs.Feed.{source_of, seen, token_of};
+ghost use Rattle.vcd_head.specs.declared.view.Code.{Code};
+ghost use Rattle.vcd_head.specs.Shown.{parts};
+ghost use Rattle.vcd_head.specs.Views.{Views};
+ghost use Rattle.vcd_body.specs.declared.words.First.TheVariants as first;
+ghost use Rattle.vcd_body.specs.Items.{behind};
+ghost use Rattle.vcd_body.specs.Words.{Begins};
+ghost use Rattle.vcd_body.specs.Reads.{GaveItems, Begun, Fails};
+ghost use Rattle.vcd_body.specs.Gives.{GivesItem, IsSound, text_of};
+ghost use Rattle.vcd_body.specs.Went.{Went, fault_of};
+
+use crate::fault::BodyFault;
+use crate::item::{Form, Item, Regs};
+use crate::phrases::{read_real, read_vector, scalar_code, skip_comment, time_of};
+use crate::tokens::next_token;
+use crate::words::{Command, First, command_of, first_byte_of, first_of, rest_of};
+use vcd_head::view::HeadView;
+use vcd_text::device::Source;
+use vcd_text::feed::Feed;
+
+/// Reads a phrase that begins with a command: a comment gives no item.
+#[inline(never)]
+fn read_command<S: Source>(
+    feed: &mut Feed<'_, '_, '_, '_, S>,
+    regs: Regs,
+) -> Result<Option<Item>, BodyFault>
+    requires failures { S.failures (source_of feed.old) < 2 ^ 64 - 1 }
+    requires begins { Begins (token_of feed.old).bytes first.Other }
+    ensures reads { (codes : List IdCode) (i : Input) (front : List Token) (items : List BodyItem) → Begun codes i front items feed.old regs
+        → MatchResult result
+        (λ item. MatchOption item (GaveItems codes i front items feed.new regs) (λ x. GivesItem codes i front items feed.new (behind regs x) x))
+        (λ fault. Fails codes i front items fault feed.new) }
+    ensures sound { (codes : List Code) → IfOk result (λ item. MatchOption item (Unit {0}) (IsSound codes feed.new)) }
+    ensures went { Went S.failures feed.old feed.new (fault_of result) }
+    ensures further { OnOk result (seen feed.old ≤ seen feed.new) }
+    ensures bounded { seen feed.old < 2 ^ 63 → seen feed.new < 2 ^ 63 }
+{
+    match command_of(feed.token()) {
+        Some(Command::Comment) => {
+            skip_comment(feed)?;
+            Ok(None)
+        }
+        Some(Command::Begin(section)) => {
+            if regs.section.is_some() {
+                return Err(BodyFault::OutOfPlace);
+            }
+            Ok(Some(Item::Begin(section)))
+        }
+        Some(Command::End) => {
+            if regs.section.is_some() {
+                return Ok(Some(Item::End));
+            }
+            Err(BodyFault::OutOfPlace)
+        }
+        Some(Command::OfHeader) => Err(BodyFault::OutOfPlace),
+        None => Err(BodyFault::UnknownCommand),
+    }
+}
+
+/// Reads a phrase, or finds the end: a comment gives no item.
+#[inline(always)]
+fn read_phrase<S: Source>(
+    feed: &mut Feed<'_, '_, '_, '_, S>,
+    view: HeadView<'_>,
+    regs: Regs,
+) -> Result<Option<Item>, BodyFault>
+    requires failures { S.failures (source_of feed.old) < 2 ^ 64 - 1 }
+    ensures reads { (h : Header) (i : Input) (front : List Token) (items : List BodyItem) → Views (parts view.entry) h → GaveItems h.codes i front items feed.old regs
+        → MatchResult result
+        (λ item. MatchOption item (GaveItems h.codes i front items feed.new regs) (λ x. GivesItem h.codes i front items feed.new (behind regs x) x))
+        (λ fault. Fails h.codes i front items fault feed.new) }
+    ensures sound { IfOk result (λ item. MatchOption item (Unit {0}) (IsSound view.entry.codes.now feed.new)) }
+    ensures went { Went S.failures feed.old feed.new (fault_of result) }
+    ensures progress { IfOk result (λ item. item ≢ Some Item.Finish → seen feed.old < seen feed.new) }
+    ensures bounded { seen feed.new < 2 ^ 63 }
+{
+    if !next_token(feed)? {
+        if regs.section.is_some() {
+            return Err(BodyFault::EndOfInput);
+        }
+        return Ok(Some(Item::Finish));
+    }
+    let item = match first_of(feed.token()) {
+        First::Digit => Item::Change {
+            code: scalar_code(feed.token(), view)?,
+            form: Form::Scalar,
+        },
+        First::Digits => Item::Change {
+            code: read_vector(feed, view)?,
+            form: Form::Vector,
+        },
+        First::Mark => Item::Time(time_of(feed.token(), regs)?),
+        First::Number => Item::Change {
+            code: read_real(feed, view)?,
+            form: Form::RealText,
+        },
+        First::Other => return read_command(feed, regs),
+    };
+    Ok(Some(item))
+}
+
+/// Reads the next item of the body of the header that is shown, or finds the end. The feed stands behind the header at first, and
+/// `regs` is new then. After a fault neither is to be used again.
+#[inline(always)]
+pub fn next_item<S: Source>(
+    feed: &mut Feed<'_, '_, '_, '_, S>,
+    view: HeadView<'_>,
+    regs: &mut Regs,
+) -> Result<Item, BodyFault>
+    requires failures { S.failures (source_of feed.old) < 2 ^ 64 - 1 }
+
+    // Behind the items given so far comes this one; at the end they are all of the body's, and it has no fault. A fault is the
+    // body's, behind just these items.
+    ensures reads { (h : Header) (i : Input) (front : List Token) (items : List BodyItem) → Views (parts view.entry) h → GaveItems h.codes i front items feed.old regs.old
+        → MatchResult result (GivesItem h.codes i front items feed.new regs.new) (λ fault. Fails h.codes i front items fault feed.new) }
+
+    // A change is of one of the view's codes, and its text is one that this code may have.
+    ensures sound { IfOk result (IsSound view.entry.codes.now feed.new) }
+    ensures regs { MatchResult result (λ item. regs.new ≡ behind regs.old item) (λ _. regs.new ≡ regs.old) }
+    ensures went { Went S.failures feed.old feed.new (fault_of result) }
+    ensures progress { IfOk result (λ item. item ≢ Item.Finish → seen feed.old < seen feed.new) }
+    ensures bounded { seen feed.new < 2 ^ 63 }
+{
+    'phrases: loop {
+        if let Some(item) = read_phrase(feed, view, *regs)? {
+            *regs = regs.behind(item);
+            return Ok(item);
+        }
+    }
+}
+
+/// The text of a change, right after `next_item` has given it, in the form that it gave: its digits, or the text of the real
+/// number.
+pub fn change_text<'f, S: Source>(feed: &'f Feed<'_, '_, '_, '_, S>, form: Form) -> &'f [u8]
+    ensures { result.now ≡ text_of form feed.now }
+{
+    match form {
+        Form::Scalar => first_byte_of(feed.token()),
+        Form::Vector | Form::RealText => rest_of(feed.value()),
+    }
+}

@@ -1,0 +1,303 @@
+// Bodies that are read to their end, bodies that are refused, a source that fails, and changes that are written.
+ghost use Rattle.std.specs.Prelude.{◌≡◌, ◌≤◌, ◌<◌, Some, length};
+
+use crate::change::put_change;
+use crate::item::{Form, Item, Regs};
+use crate::read::{change_text, next_item};
+use std::alloc::{AllocError, Global};
+use std::test::Fail;
+use vcd_head::read::read_head;
+use vcd_text::device::{ReadFailed, Sink, Source, WriteFailed};
+use vcd_text::feed::Feed;
+
+// Gives at most 5 bytes a call, and fails once they are used up, if it is to.
+#[derive(Drop)]
+struct Pieces<'a> {
+    bytes: &'a [u8],
+    fails: bool,
+    failures: u64,
+}
+
+impl Source for Pieces<'_> {
+    ghost rest = { λ s. Some s.bytes.now };
+
+    ghost failures = { λ s. s.failures };
+
+    fn read(&mut self, into: &mut [u8]) -> Result<usize, ReadFailed> {
+        if self.fails && self.bytes.is_empty() {
+            self.failures += 1;
+            return Err(ReadFailed);
+        }
+        let n = 5.min(into.len()).min(self.bytes.len());
+        let (front, back) = self.bytes.split_at(n);
+        into[..n].copy_from_slice(front);
+        self.bytes = back;
+        Ok(n)
+    }
+
+    fn failures(&self) -> u64 {
+        self.failures
+    }
+}
+
+// Variables of 1 and of 4 bits, in six lines.
+const HEAD: &[u8] =
+    b"$timescale 1ns $end\n$scope module tb $end\n$var wire 1 ! clk $end\n$var reg 4 \" q [3:0] $end\n$upscope $end\n$enddefinitions $end\n";
+
+// An item as it is shown.
+fn shown(alloc: Global, item: Item, text: &[u8]) -> Result<String, AllocError> {
+    match item {
+        Item::Time(time) => format!(in alloc; "#{time} "),
+        Item::Begin(section) => format!(in alloc; "{section:?} "),
+        Item::End => format!(in alloc; "End "),
+        Item::Change { code, form } => {
+            let text = String::from_utf8_lossy(alloc, text)?;
+            format!(in alloc; "{code}:{form:?}:{text} ")
+        }
+        Item::Finish => format!(in alloc; "Finish"),
+    }
+}
+
+// The text of an item, if it is a change.
+fn text_of<'f>(feed: &'f Feed<'_, '_, '_, '_, Pieces<'_>>, item: Item) -> &'f [u8] {
+    match item {
+        Item::Change { form, .. } => change_text(feed, form),
+        _ => &[],
+    }
+}
+
+// The items of the body behind the header, and then the end, or the fault's number and line. A token has at most 72 bytes.
+fn transcript(alloc: Global, header: &[u8], body: &[u8], fails: bool) -> Result<String, Fail> {
+    let mut text = Vec::new(alloc);
+    text.extend_from_slice(header)?;
+    text.extend_from_slice(body)?;
+    let mut source = Pieces {
+        bytes: &text,
+        fails,
+        failures: 0,
+    };
+    let mut chunk = [0u8; 7];
+    let mut token = [0u8; 72];
+    let mut value = [0u8; 72];
+    let mut feed = Feed::new(&mut source, &mut chunk, &mut token, &mut value);
+    let head = read_head(alloc, &mut feed, 16_777_216)?;
+    let mut items = String::new(alloc);
+    let mut regs = Regs::new();
+    'items: for _ in 0..u64::MAX {
+        match next_item(&mut feed, head.view(), &mut regs) {
+            Ok(item) => {
+                items.push_str(&shown(alloc, item, text_of(&feed, item))?)?;
+                if item == Item::Finish {
+                    return Ok(items);
+                }
+            }
+            Err(fault) => {
+                let number = fault.number();
+                let line = feed.line();
+                items.push_str(&format!(in alloc; "fault {number} at {line}")?)?;
+                return Ok(items);
+            }
+        }
+    }
+    Ok(items)
+}
+
+// These are the items of the body behind the header of six lines, and then its end or its fault.
+fn gives(alloc: Global, body: &[u8], items: &str) -> Result<bool, Fail> {
+    Ok(transcript(alloc, HEAD, body, false)?.as_str() == items)
+}
+
+#[test]
+fn items_of_each_form(rt: HostRuntime) -> Result<(), Fail> {
+    let alloc = rt.alloc();
+    assert!(rt; gives(alloc, b"", "Finish")?);
+    assert!(rt;
+        gives(
+            alloc,
+            b"#0\n$dumpvars\nZ!\nBx \"\n$end\n#05\n1!\nb101 \"\n#5\n",
+            "#0 Vars 0:Scalar:Z 1:Vector:x End #5 0:Scalar:1 1:Vector:101 #5 Finish"
+        )?
+    );
+    assert!(rt;
+        gives(
+            alloc,
+            b"$dumpoff $end $dumpon rnan ! $end $dumpall $comment #x x$end $dumpvars $end R-1.5e3 \" $end",
+            "Off End On 0:RealText:nan End All 1:RealText:-1.5e3 End Finish"
+        )?
+    );
+    assert!(rt;
+        gives(
+            alloc,
+            b"#18446744073709551615",
+            "#18446744073709551615 Finish"
+        )?
+    );
+    Ok(())
+}
+
+#[test]
+fn values_and_times_that_are_refused(rt: HostRuntime) -> Result<(), Fail> {
+    let alloc = rt.alloc();
+    assert!(rt;
+        gives(
+            alloc,
+            b"#5\n#5\n1!\n#4\n",
+            "#5 #5 0:Scalar:1 fault 14 at 10"
+        )?
+    );
+    assert!(rt; gives(alloc, b"#5\n$dumpvars\n#4\n", "#5 Vars fault 19 at 9")?);
+    assert!(rt; gives(alloc, b"#x\n", "fault 13 at 7")?);
+    assert!(rt; gives(alloc, b"#18446744073709551616\n", "fault 13 at 7")?);
+    assert!(rt; gives(alloc, b"b101 $end\n", "fault 16 at 7")?);
+    assert!(rt; gives(alloc, b"b10110 ?\n", "fault 16 at 7")?);
+    assert!(rt; gives(alloc, b"b10110 \"\n", "fault 17 at 7")?);
+    assert!(rt; gives(alloc, b"1\n", "fault 15 at 7")?);
+    assert!(rt; gives(alloc, b"b12 \"\n", "fault 15 at 7")?);
+    assert!(rt; gives(alloc, b"r \"\n", "fault 15 at 7")?);
+    assert!(rt;
+        gives(
+            alloc,
+            b"r11111111111111111111111111111111111111111111111111111111111111111 \"\n",
+            "fault 18 at 7"
+        )?
+    );
+    Ok(())
+}
+
+#[test]
+fn commands_and_ends_that_are_refused(rt: HostRuntime) -> Result<(), Fail> {
+    let alloc = rt.alloc();
+    assert!(rt; gives(alloc, b"$end\n", "fault 4 at 7")?);
+    assert!(rt; gives(alloc, b"$var", "fault 4 at 7")?);
+    assert!(rt; gives(alloc, b"$dumpvars\n$dumpon\n", "Vars fault 4 at 8")?);
+    assert!(rt; gives(alloc, b"?\n", "fault 3 at 7")?);
+    assert!(rt; gives(alloc, b"$foo $end\n", "fault 3 at 7")?);
+    assert!(rt; gives(alloc, b"#0\n0!\n#5\nb10", "#0 0:Scalar:0 #5 fault 2 at 10")?);
+    assert!(rt; gives(alloc, b"$dumpvars\n", "Vars fault 2 at 8")?);
+    assert!(rt; gives(alloc, b"$comment x$end", "fault 2 at 7")?);
+    assert!(rt;
+        gives(
+            alloc,
+            b"#0 1234567890123456789012345678901234567890123456789012345678901234567890123",
+            "#0 fault 1 at 7"
+        )?
+    );
+    Ok(())
+}
+
+#[test]
+fn event_wider_than_its_size(rt: HostRuntime) -> Result<(), Fail> {
+    let items = transcript(
+        rt.alloc(),
+        b"$var event 1 % go $end $enddefinitions $end\n",
+        b"b101 % 1%",
+        false,
+    )?;
+    assert_eq!(rt; items.as_str(), "0:Vector:101 0:Scalar:1 Finish");
+    Ok(())
+}
+
+#[test]
+fn source_that_fails(rt: HostRuntime) -> Result<(), Fail> {
+    let items = transcript(rt.alloc(), HEAD, b"#5\n1!\n#4", true)?;
+    assert_eq!(rt; items.as_str(), "#5 0:Scalar:1 fault 31 at 9");
+    Ok(())
+}
+
+// Holds what it took, at most 3 bytes a call, and fails where it has no more room.
+#[derive(Drop)]
+struct Page {
+    bytes: [u8; 80],
+    len: usize,
+    room: usize,
+    failures: u64,
+    ghost in_range: { len ≤ room },
+    ghost fits: { room ≤ 80 },
+}
+
+impl Page {
+    fn new(room: usize) -> Self
+        requires { room ≤ 80 }
+        ensures { result.failures ≡ 0 }
+    {
+        Page {
+            bytes: [0; 80],
+            len: 0,
+            room,
+            failures: 0,
+        }
+    }
+
+    fn held(&self) -> &[u8] {
+        &self.bytes[..self.len]
+    }
+}
+
+impl Sink for Page {
+    ghost failures = { λ s. s.failures };
+
+    fn write(&mut self, from: &[u8]) -> Result<usize, WriteFailed> {
+        let n = from.len().min(3).min(self.room - self.len);
+        if n == 0 && !from.is_empty() {
+            self.failures += 1;
+            return Err(WriteFailed);
+        }
+        self.bytes[self.len..self.len + n].copy_from_slice(&from[..n]);
+        self.len += n;
+        Ok(n)
+    }
+
+    fn failures(&self) -> u64 {
+        self.failures
+    }
+}
+
+// A change of digits is written so, where the code is no event.
+fn writes(size: usize, form: Form, text: &[u8], line: &[u8]) -> bool
+    requires { (0 < length text.now) × (length text.now ≤ size) }
+{
+    let mut page = Page::new(80);
+    put_change(size, false, form, text, b"!", &mut page).is_ok() && page.held() == line
+}
+
+#[test]
+fn shortest_digits_are_written(rt: HostRuntime) {
+    assert!(rt; writes(1, Form::Vector, b"1", b"1!\n"));
+    assert!(rt; writes(1, Form::Scalar, b"Z", b"z!\n"));
+    assert!(rt; writes(4, Form::Scalar, b"1", b"b1 !\n"));
+    assert!(rt; writes(4, Form::Vector, b"0010", b"b10 !\n"));
+    assert!(rt; writes(4, Form::Vector, b"0000", b"b0 !\n"));
+    assert!(rt; writes(4, Form::Vector, b"1111", b"b1111 !\n"));
+    assert!(rt; writes(4, Form::Vector, b"XxXx", b"bx !\n"));
+    assert!(rt; writes(4, Form::Vector, b"00x1", b"b0x1 !\n"));
+    assert!(rt; writes(4, Form::Vector, b"0xxx", b"b0xxx !\n"));
+    assert!(rt; writes(4, Form::Vector, b"Zzx0", b"bzx0 !\n"));
+    assert!(rt; writes(4, Form::Vector, b"xz10", b"bxz10 !\n"));
+    assert!(rt;
+        writes(
+            70,
+            Form::Vector,
+            b"XZXZXZXZXZXZXZXZXZXZXZXZXZXZXZXZXZXZXZXZXZXZXZXZXZXZXZXZXZXZXZXZXZ",
+            b"bxzxzxzxzxzxzxzxzxzxzxzxzxzxzxzxzxzxzxzxzxzxzxzxzxzxzxzxzxzxzxzxzxz !\n"
+        )
+    );
+}
+
+#[test]
+fn numbers_and_events_are_written(rt: HostRuntime) {
+    let mut page = Page::new(80);
+    assert!(rt; put_change(1, false, Form::RealText, b"-1.5E3", b"\"", &mut page).is_ok());
+    assert!(rt; put_change(2, true, Form::Vector, b"b101", b"#", &mut page).is_ok());
+    assert_eq!(rt; page.held(), b"r-1.5E3 \"\n1#\n".as_slice());
+}
+
+#[test]
+fn sink_that_fails(rt: HostRuntime) {
+    let mut page = Page::new(5);
+    assert_eq!(rt;
+        put_change(1, false, Form::RealText, b"1.5", b"!!", &mut page),
+        Err(WriteFailed)
+    );
+    assert_eq!(rt; page.held(), b"r1.5 ".as_slice());
+    assert_eq!(rt; page.failures(), 1);
+}

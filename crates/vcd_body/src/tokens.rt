@@ -1,0 +1,56 @@
+// Tokens of a body, one after the other.
+ghost use Rattle.std.specs.Prelude.{◌≡◌, ℕ, ◌-◌, ◌^◌, ◌<◌, List, ◌∷◌, OnOk, IfOk, true, MatchResult, MatchBool};
+ghost use Rattle.vcd_model.specs.Input.{Input};
+ghost use Rattle.vcd_model.specs.Tokens.{Token};
+ghost use Rattle.vcd_model.specs.Declarations.{IdCode};
+ghost use Rattle.vcd_model.specs.BodyPhrases.{BodyPhrase, items_of};
+ghost use Rattle.vcd_model.specs.Reading.{Placed, phrases_of};
+ghost use Rattle.vcd_text.specs.Feed.{source_of, seen, token_of, value_of};
+ghost use Rattle.vcd_body.specs.Reads.{Reads, ReadsAll, Looks, Fails};
+ghost use Rattle.vcd_body.specs.Went.{Went, fault_of};
+
+use crate::fault::BodyFault;
+use vcd_text::answer::{Halt, Next};
+use vcd_text::device::Source;
+use vcd_text::feed::Feed;
+
+/// Reads the next token, and tells whether there was one.
+#[inline(always)]
+pub(crate) fn next_token<S: Source>(feed: &mut Feed<'_, '_, '_, '_, S>) -> Result<bool, BodyFault>
+    requires { S.failures (source_of feed.old) < 2 ^ 64 - 1 }
+    ensures reads { (codes : List IdCode) (i : Input) (front : List Token) (placed : List (Placed BodyPhrase)) (before : List (List ℕ))
+        → Reads codes i front placed before feed.old
+        → MatchResult result (λ more. MatchBool more (Looks codes i front placed before feed.new) (ReadsAll codes i front placed before feed.new))
+        (λ fault. Fails codes i front (items_of (phrases_of placed)) fault feed.new) }
+    ensures went { Went S.failures feed.old feed.new (fault_of result) }
+    ensures progress { IfOk result (λ more. more ≡ true → seen feed.old < seen feed.new) }
+    ensures bounded { seen feed.new < 2 ^ 63 }
+    ensures value { value_of feed.new ≡ value_of feed.old }
+{
+    match feed.next() {
+        Ok(Next::Token) => Ok(true),
+        Ok(Next::Finish) => Ok(false),
+        Err(Halt::TokenTooLong) => Err(BodyFault::TokenTooLong),
+        Err(Halt::InputTooLong) => Err(BodyFault::InputTooLong),
+        Err(Halt::ReadFailed) => Err(BodyFault::ReadFailed),
+    }
+}
+
+/// The next token of a phrase that has begun.
+#[inline(always)]
+pub(crate) fn next_inner<S: Source>(feed: &mut Feed<'_, '_, '_, '_, S>) -> Result<(), BodyFault>
+    requires { S.failures (source_of feed.old) < 2 ^ 64 - 1 }
+    ensures reads { (codes : List IdCode) (i : Input) (front : List Token) (placed : List (Placed BodyPhrase)) (first : List ℕ) (before : List (List ℕ))
+        → Reads codes i front placed (first ∷ before) feed.old
+        → MatchResult result (λ _. Looks codes i front placed (first ∷ before) feed.new)
+        (λ fault. Fails codes i front (items_of (phrases_of placed)) fault feed.new) }
+    ensures went { Went S.failures feed.old feed.new (fault_of result) }
+    ensures progress { OnOk result (seen feed.old < seen feed.new) }
+    ensures bounded { seen feed.new < 2 ^ 63 }
+    ensures value { value_of feed.new ≡ value_of feed.old }
+{
+    if next_token(feed)? {
+        return Ok(());
+    }
+    Err(BodyFault::EndOfInput)
+}

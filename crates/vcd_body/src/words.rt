@@ -1,0 +1,170 @@
+// What tokens of a body are.
+ghost use Rattle.std.specs.Prelude.{◌≡◌, ℕ, List, drop, take, ◌∷◌, ◌^◌, ◌&&◌, not, nat_lt, cond, Some, None, bytes_eq};
+ghost use Rattle.std.specs.List.{list_all};
+ghost use Rattle.vcd_model.specs.Bytes.{is_decimal, decimal_value, is_empty};
+ghost use Rattle.vcd_model.specs.BodyPhrases.{is_value_digit as is_digit};
+ghost use Rattle.vcd_model.specs.Keywords.{is_end as ends};
+ghost use Rattle.vcd_body.specs.Words.{StandsFor, is_header_word, Begins};
+
+use crate::item::Section;
+
+/// What a phrase begins with, by the token's first byte.
+#[derive(Clone, Copy, PartialEq, Eq, Debug)]
+pub(crate) enum First {
+    /// `#`: a time mark.
+    Mark,
+    /// A digit of a value, with its code at once.
+    Digit,
+    /// `b` or `B`: the digits of a value.
+    Digits,
+    /// `r` or `R`: the text of a real number.
+    Number,
+    /// A command, or what begins no phrase.
+    Other,
+}
+
+/// A keyword where a phrase begins.
+#[derive(Clone, Copy, PartialEq, Eq, Debug)]
+pub(crate) enum Command {
+    Comment,
+    Begin(Section),
+    End,
+    /// One that belongs into the header.
+    OfHeader,
+}
+
+/// What the token begins.
+#[inline(always)]
+pub(crate) fn first_of(token: &[u8]) -> First
+    ensures { Begins token.now result }
+{
+    match token.split_first() {
+        Some((byte, _)) => first_by(*byte),
+        None => First::Other,
+    }
+}
+
+#[inline(always)]
+fn first_by(byte: u8) -> First
+    ensures { (rest : List ℕ) → Begins (byte ∷ rest) result }
+{
+    if is_value_digit(byte) {
+        First::Digit
+    } else if byte == b'b' || byte == b'B' {
+        First::Digits
+    } else if byte == b'#' {
+        First::Mark
+    } else if byte == b'r' || byte == b'R' {
+        First::Number
+    } else {
+        First::Other
+    }
+}
+
+/// The bytes behind the first one, none where there is none.
+#[inline(always)]
+pub(crate) fn rest_of(token: &[u8]) -> &[u8]
+    ensures { result.now ≡ drop 1 token.now }
+{
+    match token.split_first() {
+        Some((_, rest)) => rest,
+        None => &[],
+    }
+}
+
+/// The first byte alone, none where there is none.
+pub(crate) fn first_byte_of(token: &[u8]) -> &[u8]
+    ensures { result.now ≡ take 1 token.now }
+{
+    &token[..token.len().min(1)]
+}
+
+/// The token is this word.
+fn is(token: &[u8], word: &[u8]) -> bool
+    ensures { result ≡ bytes_eq word.now token.now }
+{
+    word == token
+}
+
+pub(crate) fn is_end(token: &[u8]) -> bool
+    ensures { result ≡ ends token.now }
+{
+    is(token, b"$end")
+}
+
+// The token is a keyword that belongs into the header.
+fn is_of_header(token: &[u8]) -> bool
+    ensures { result ≡ is_header_word token.now }
+{
+    is(token, b"$date")
+        || is(token, b"$enddefinitions")
+        || is(token, b"$scope")
+        || is(token, b"$timescale")
+        || is(token, b"$upscope")
+        || is(token, b"$var")
+        || is(token, b"$version")
+}
+
+/// The keyword that the token is.
+pub(crate) fn command_of(token: &[u8]) -> Option<Command>
+    ensures { StandsFor token.now result }
+{
+    if is_end(token) {
+        Some(Command::End)
+    } else if is(token, b"$comment") {
+        Some(Command::Comment)
+    } else if is(token, b"$dumpvars") {
+        Some(Command::Begin(Section::Vars))
+    } else if is(token, b"$dumpoff") {
+        Some(Command::Begin(Section::Off))
+    } else if is(token, b"$dumpon") {
+        Some(Command::Begin(Section::On))
+    } else if is(token, b"$dumpall") {
+        Some(Command::Begin(Section::All))
+    } else if is_of_header(token) {
+        Some(Command::OfHeader)
+    } else {
+        None
+    }
+}
+
+/// The number that decimal digits spell, if it is below 2^64.
+pub(crate) fn decimal_of(digits: &[u8]) -> Option<u64>
+    ensures { result ≡ cond (is_decimal digits.now && nat_lt (decimal_value digits.now) (2 ^ 64)) (Some (decimal_value digits.now)) None }
+{
+    if digits.is_empty() {
+        return None;
+    }
+    let mut number: u64 = 0;
+    for digit in digits {
+        if !digit.is_ascii_digit() {
+            return None;
+        }
+        number = number
+            .checked_mul(10)?
+            .checked_add(u64::from(*digit - b'0'))?;
+    }
+    Some(number)
+}
+
+/// The byte is a digit of a value.
+#[tactic(auto, unfolding(vcd_model::specs::BodyPhrases::is_value_digit))]
+#[inline(always)]
+fn is_value_digit(byte: u8) -> bool
+    ensures { result ≡ is_digit byte }
+{
+    byte == b'0' || byte == b'1' || byte == b'x' || byte == b'X' || byte == b'z' || byte == b'Z'
+}
+
+fn all_are_digits(digits: &[u8]) -> bool
+    ensures { result ≡ list_all is_digit digits.now }
+{
+    digits.iter().all(|digit| is_value_digit(*digit))
+}
+
+/// One or more digits of a value.
+pub(crate) fn are_value_digits(digits: &[u8]) -> bool
+    ensures { result ≡ (not (is_empty digits.now) && list_all is_digit digits.now) }
+{
+    !digits.is_empty() && all_are_digits(digits)
+}
