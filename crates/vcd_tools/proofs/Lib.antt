@@ -1,0 +1,6 @@
+pub mod Variables
+pub mod Listing
+pub mod Lines
+pub mod Taken
+pub mod Ended
+pub mod Following

@@ -1,0 +1,120 @@
+-- What an engine holds behind items, and what a step of it leaves.
+use Rattle.std.specs.Prelude.{◌≡◌, ℕ, ◌+◌, ◌<◌, ◌≤◌, ◌==◌, ◌⊎◌, Bool, true, false, cond, List, [], ◌∷◌, ◌++◌, length, take, count_by, filter_map, Option, Some, None, Result, Ok, Err}
+use Rattle.std.specs.Io.KnownBytes.{Appends}
+use Rattle.vcd_model.specs.Input.{Input}
+use Rattle.vcd_model.specs.Tokens.{Token}
+use Rattle.vcd_model.specs.Header.{Header}
+use Rattle.vcd_model.specs.Items.{BodyItem, marks, is_begin, change_of}
+use Rattle.vcd_model.specs.ItemText.{last_mark}
+use Rattle.vcd_model.specs.Outcome.{Request, ends_early, open_text, close_text}
+use Rattle.vcd_text.specs.Answer.{failed_after}
+use Rattle.vcd_text.specs.Feed.{SameLoans, limit_of, chunk_len_of, seen, source_of}
+use Rattle.vcd_text.specs.declared.device.Source.{Ghosts}
+use Rattle.vcd_text.specs.declared.feed.Feed.{Feed}
+use Rattle.vcd_head.specs.Shown.{parts}
+use Rattle.vcd_head.specs.Views.{Views}
+use Rattle.vcd_head.specs.Went.{IsOpen}
+use Rattle.vcd_body.specs.Items.{Known}
+use Rattle.vcd_body.specs.Reads.{BodyHas, GaveItems}
+use Rattle.vcd_body.specs.declared.item.Regs.{Regs}
+use Rattle.vcd_tools.specs.Follows.{Device, Writes, reads_failed}
+use Rattle.vcd_tools.specs.declared.answer.Done.TheVariants.{Whole, Early}
+use Rattle.vcd_tools.specs.declared.answer.More.{More}
+use Rattle.vcd_tools.specs.declared.answer.More.TheVariants.{Again, Ended}
+use Rattle.vcd_tools.specs.declared.answer.Stop.{Stop}
+use Rattle.vcd_tools.specs.declared.answer.Stop.TheVariants.{Dump, Read, Write}
+use Rattle.vcd_tools.specs.declared.engine.Engine.{Engine}
+use Rattle.vcd_tools.specs.declared.engine.Task.{Task}
+use Rattle.vcd_tools.specs.declared.engine.Task.TheVariants.{Check}
+use Rattle.vcd_tools.specs.declared.report.Counts.{Counts}
+
+-- the definitions' request for a task
+abbrev pub request_of : Task → Request
+request_of Check = Request.Check
+
+-- the request that an engine runs
+abbrev pub task_of : Engine → Request
+task_of e = request_of e.task
+
+-- a time mark may end the run
+abbrev pub may_end_early : Request → Bool
+may_end_early (Request.Cut from to) = true
+may_end_early (Request.Sample times names) = true
+may_end_early task = false
+
+-- the engine has begun, and no step of it has ended the run
+abbrev pub is_going : Engine → Bool
+is_going e = e.going
+
+-- the last time mark, by the registers
+abbrev pub last_of : Regs → Option ℕ
+last_of r = cond r.marked (Some r.time) None
+
+-- how many items were counted
+abbrev pub total : Counts → ℕ
+total c = c.times + c.sections + c.changes
+
+-- the counts are those of these items
+pub record AreCounted (items : List BodyItem) (r : Regs) (c : Counts) : Type 0 where
+  pub times : c.times ≡ length (marks items)
+  pub sections : c.sections ≡ count_by is_begin items
+  pub changes : c.changes ≡ length (filter_map change_of items)
+  pub last_is : last_of r ≡ last_mark items
+
+-- an engine over this header holds what is due behind these items
+pub record Holds (e : Engine) (h : Header) (items : List BodyItem) : Type 0 where
+  pub views : Views (parts e.view) h
+  pub known : Known items e.regs
+  pub counted : AreCounted items e.regs e.counts
+
+-- behind these first tokens, those of the header, the feed has given these items, and the engine holds them
+pub record Runs {X : Type 0} {g : Ghosts X} (e : Engine) (h : Header) (i : Input) (front : List Token) (items : List BodyItem) (f : Feed X g) : Type 0 where
+  pub holds : Holds e h items
+  pub gave : GaveItems h.codes i front items f e.regs
+  -- no count is too great for its number
+  pub few : total e.counts ≤ seen f
+
+-- ---- what is written
+
+-- one text more than the other was written
+abbrev pub Grows : Device → Device → List ℕ → List ℕ → Type 0
+Grows out out' text more = (due : List ℕ) × (more ≡ text ++ due) × Writes out out' due
+
+-- a write failed of what one text has more than the other: a front of it was written
+abbrev pub GrowsSome : Device → Device → List ℕ → List ℕ → Type 0
+GrowsSome out out' text more = (due : List ℕ) × (more ≡ text ++ due) × ((n : ℕ) × Appends out.held out'.held (take n due)) × (out'.failures ≡ out.failures + 1)
+
+-- ---- a step
+
+-- what a step behind these items answers, by the engine, the feed and the output that it leaves
+abbrev pub Gives : {X : Type 0} {g : Ghosts X} → Request → Header → Input → List Token → List BodyItem → Engine → Feed X g → Device → Device → Result More Stop → Type 0
+Gives task h i front items e f out out' (Ok Again) =
+    (x : BodyItem) × Runs e h i front (items ++ x ∷ []) f × Grows out out' (open_text task h items) (open_text task h (items ++ x ∷ []))
+Gives task h i front items e f out out' (Ok (Ended Whole)) = BodyHas h.codes i front (limit_of f) items None × Writes out out' (close_text task h items)
+Gives task h i front items e f out out' (Ok (Ended Early)) =
+    (x : BodyItem) × (ends_early task x ≡ true) × GaveItems h.codes i front (items ++ x ∷ []) f e.regs × Grows out out' (open_text task h items) (open_text task h (items ++ x ∷ []))
+Gives task h i front items e f out out' (Err (Dump input line fault)) =
+    (input ≡ 0) × ((fault == 31) ≡ false) × BodyHas h.codes i front (limit_of f) items (Some (record { number = fault; line = line })) × Writes out out' []
+Gives task h i front items e f out out' (Err (Read input)) =
+    (input ≡ 0) × ((n : ℕ) × (line : ℕ) × BodyHas h.codes (failed_after n i) front (limit_of f) items (Some (record { number = 31; line = line }))) × Writes out out' []
+Gives task h i front items e f out out' (Err Write) =
+    ((x : BodyItem) × GaveItems h.codes i front (items ++ x ∷ []) f e.regs × GrowsSome out out' (open_text task h items) (open_text task h (items ++ x ∷ [])))
+    ⊎ (BodyHas h.codes i front (limit_of f) items None × GrowsSome out out' [] (close_text task h items))
+
+-- what a step leaves of a feed, whatever the input is
+pub record Stepped {X : Type 0} {g : Ghosts X} (failures : X → ℕ) (old new : Feed X g) (result : Result More Stop) : Type 0 where
+  pub loans : SameLoans old new
+  pub limit : limit_of new ≡ limit_of old
+  pub chunk : chunk_len_of new ≡ chunk_len_of old
+  pub goes : result ≡ Ok Again → IsOpen old → IsOpen new
+  pub failed : IsOpen old → failures (source_of new) ≡ failures (source_of old) + reads_failed result
+  -- so a loop over steps ends
+  pub progress : result ≡ Ok Again → seen old < seen new
+
+-- what steps that went on have left of a feed
+pub record Since {X : Type 0} {g : Ghosts X} (failures : X → ℕ) (old new : Feed X g) : Type 0 where
+  pub loans : SameLoans old new
+  pub limit : limit_of new ≡ limit_of old
+  pub chunk : chunk_len_of new ≡ chunk_len_of old
+  pub goes : IsOpen new
+  pub same : failures (source_of new) ≡ failures (source_of old)

@@ -1,0 +1,4 @@
+pub mod Follows
+pub mod Report
+pub mod Counting
+pub mod Holds

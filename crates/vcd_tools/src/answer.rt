@@ -1,0 +1,42 @@
+//! How a run ends.
+ghost use Rattle.std.specs.Prelude.{◌≡◌};
+ghost use Rattle.vcd_tools.specs.declared.answer.Stop.TheVariants.{Write};
+
+use vcd_text::device::WriteFailed;
+
+/// What was written stands for the whole dump, or for its first part.
+#[derive(Clone, Copy, PartialEq, Eq, Debug)]
+pub enum Done {
+    /// All of it was read that had to be.
+    Whole,
+    /// A time mark ended the run; what follows it is not checked.
+    Early,
+}
+
+/// Whether a run goes on.
+#[derive(Clone, Copy, PartialEq, Eq, Debug)]
+pub enum More {
+    /// It does: there is more to read.
+    Again,
+    /// It has ended.
+    Ended(Done),
+}
+
+/// Why a run stopped before its end.
+#[derive(Clone, Copy, PartialEq, Eq, Debug)]
+pub enum Stop {
+    /// The input at this place among all, counted from 0, has a fault: its number and its line.
+    Dump { input: usize, line: u64, fault: u8 },
+    /// A read of the input at this place failed.
+    Read { input: usize },
+    /// A write failed. Some first bytes of the output were written.
+    Write,
+}
+
+impl From<WriteFailed> for Stop {
+    ghost from_gives = { λ _ e. e ≡ Write };
+
+    fn from(_failed: WriteFailed) -> Stop {
+        Stop::Write
+    }
+}

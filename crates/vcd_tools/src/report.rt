@@ -1,0 +1,108 @@
+// The report of `check`: seven lines.
+ghost use Rattle.std.specs.Prelude.{◌≡◌, ◌-◌, ◌^◌, ◌<◌, decimal, flat_map, codes, count_by};
+ghost use Rattle.vcd_model.specs.CheckAndList.{count_line, number_or_dash};
+ghost use Rattle.vcd_text.specs.Device.{Takes, failures_after};
+ghost use Rattle.vcd_tools.specs.Report.{named_line, report_text, opens_scope, declares_variable};
+
+use vcd_head::view::{Kind, Row};
+use vcd_text::device::{Sink, WriteFailed};
+use vcd_text::output::{put, put_number};
+
+/// What was counted in a body.
+#[derive(Clone, Copy, PartialEq, Eq, Debug)]
+pub(crate) struct Counts {
+    pub(crate) times: u64,
+    pub(crate) sections: u64,
+    pub(crate) changes: u64,
+}
+
+/// What `check` says of a dump.
+#[derive(Clone, Copy, PartialEq, Eq, Debug)]
+pub(crate) struct Report {
+    pub(crate) scopes: u64,
+    pub(crate) variables: u64,
+    pub(crate) codes: u64,
+    pub(crate) counts: Counts,
+    // The last time mark.
+    pub(crate) last: Option<u64>,
+}
+
+/// How many scopes are opened.
+pub(crate) fn scopes_in(rows: &[Row]) -> usize
+    ensures { result ≡ count_by (λ r. opens_scope r.kind) rows.now }
+{
+    let mut scopes = 0;
+    for row in rows {
+        if matches!(row.kind, Kind::Scope) {
+            scopes += 1;
+        }
+    }
+    scopes
+}
+
+/// How many variables are declared.
+pub(crate) fn variables_in(rows: &[Row]) -> usize
+    ensures { result ≡ count_by (λ r. declares_variable r.kind) rows.now }
+{
+    let mut variables = 0;
+    for row in rows {
+        if matches!(row.kind, Kind::Var) {
+            variables += 1;
+        }
+    }
+    variables
+}
+
+/// Writes a name and a number as a line.
+fn put_count<W: Sink>(out: &mut W, name: &str, number: u64) -> Result<(), WriteFailed>
+    requires { W.failures out.old < 2 ^ 64 - 1 }
+    ensures takes { Takes (W.held out.old) (W.held out.new) (count_line name.now (decimal number)) result }
+    ensures failures { W.failures out.new ≡ failures_after (W.failures out.old) result }
+{
+    put(out, name.as_bytes())?;
+    put(out, b" ")?;
+    put_number(out, number)?;
+    put(out, b"\n")
+}
+
+/// Writes names and numbers as lines.
+fn put_counts<W: Sink>(out: &mut W, counts: &[(&str, u64)]) -> Result<(), WriteFailed>
+    requires { W.failures out.old < 2 ^ 64 - 1 }
+    ensures takes { Takes (W.held out.old) (W.held out.new) (flat_map named_line counts.now) result }
+    ensures failures { W.failures out.new ≡ failures_after (W.failures out.old) result }
+{
+    for (name, number) in counts {
+        put_count(out, name, *number)?;
+    }
+    Ok(())
+}
+
+/// Writes the last time mark as a line, `-` where there is none.
+fn put_last<W: Sink>(out: &mut W, last: Option<u64>) -> Result<(), WriteFailed>
+    requires { W.failures out.old < 2 ^ 64 - 1 }
+    ensures takes { Takes (W.held out.old) (W.held out.new) (count_line (codes "last") (number_or_dash last)) result }
+    ensures failures { W.failures out.new ≡ failures_after (W.failures out.old) result }
+{
+    match last {
+        Some(time) => put_count(out, "last", time),
+        None => put(out, b"last -\n"),
+    }
+}
+
+/// Writes the report.
+pub(crate) fn put_report<W: Sink>(out: &mut W, report: &Report) -> Result<(), WriteFailed>
+    requires { W.failures out.old < 2 ^ 64 - 1 }
+    ensures takes { Takes (W.held out.old) (W.held out.new) (report_text report.now) result }
+    ensures failures { W.failures out.new ≡ failures_after (W.failures out.old) result }
+{
+    let counts = [
+        ("scopes", report.scopes),
+        ("variables", report.variables),
+        ("codes", report.codes),
+        ("times", report.counts.times),
+        ("sections", report.counts.sections),
+        ("changes", report.counts.changes),
+    ];
+    put_counts(out, &counts)?;
+    put_last(out, report.last)
+}

@@ -1,0 +1,279 @@
+// Headers that are listed, bodies that are counted, and devices that fail.
+ghost use Rattle.std.specs.Prelude.{◌≡◌, ◌≤◌, Some};
+
+use crate::answer::{Done, More, Stop};
+use crate::check::check;
+use crate::engine::{Engine, Task};
+use crate::list::list;
+use std::alloc::Global;
+use std::io;
+use std::test::Fail;
+use vcd_head::fault::HeadFault;
+use vcd_head::head::Head;
+use vcd_head::read::read_head;
+use vcd_text::device::{ReadFailed, Sink, Source, Watch};
+use vcd_text::feed::Feed;
+
+const NESTED: &[u8] =
+    b"$var event 1 % go $end\n$scope module tb $end\n$var wire 1 ! clk $end\n$scope module u $end\n$var reg 4 \" q [3:0] $end\n$upscope $end\n$var real 1 # r $end\n$enddefinitions $end\n";
+
+const NESTED_LIST: &[u8] = b"go event 1 %\ntb.clk wire 1 !\ntb.u.q reg 4 \"\ntb.r real 1 #\n";
+
+// Holds what it took, in pieces of three bytes, and fails where it has no more room.
+#[derive(Drop)]
+struct Narrow {
+    bytes: [u8; 80],
+    len: usize,
+    room: usize,
+    ghost in_range: { len ≤ room },
+    ghost fits: { room ≤ 80 },
+}
+
+impl Narrow {
+    fn new(room: usize) -> Self
+        requires { room ≤ 80 }
+    {
+        Narrow {
+            bytes: [0; 80],
+            len: 0,
+            room,
+        }
+    }
+
+    fn held(&self) -> &[u8] {
+        &self.bytes[..self.len]
+    }
+}
+
+impl io::Write for Narrow {
+    fn write(&mut self, buf: &[u8]) -> io::Result<usize> {
+        let n = buf.len().min(3).min(self.room - self.len);
+        if n == 0 {
+            return Err(io::Error::from(io::ErrorKind::StorageFull));
+        }
+        self.bytes[self.len..self.len + n].copy_from_slice(&buf[..n]);
+        self.len += n;
+        Ok(n)
+    }
+
+    fn flush(&mut self) -> io::Result<()> {
+        Ok(())
+    }
+}
+
+fn read(alloc: Global, text: &[u8]) -> Result<Head, HeadFault> {
+    let mut source = Watch::new(text);
+    let mut chunk = [0u8; 7];
+    let mut token = [0u8; 64];
+    let mut value = [0u8; 64];
+    let mut feed = Feed::new(&mut source, &mut chunk, &mut token, &mut value);
+    read_head(alloc, &mut feed, 16_777_216)
+}
+
+#[test]
+fn list_of_nested_scopes_and_kinds(rt: HostRuntime) -> Result<(), Fail> {
+    let head = read(rt.alloc(), NESTED)?;
+    let mut out = Watch::new(Narrow::new(80));
+    assert_eq!(rt; list(head.view(), &mut out), Ok(Done::Whole));
+    assert_eq!(rt; out.device.held(), NESTED_LIST);
+    Ok(())
+}
+
+#[test]
+fn list_of_a_code_that_is_end(rt: HostRuntime) -> Result<(), Fail> {
+    let head = read(
+        rt.alloc(),
+        b"$timescale 1 ns $end\n$var wire 1 $end a [0] $end\n$enddefinitions $end\n",
+    )?;
+    let mut out = Watch::new(Narrow::new(80));
+    assert_eq!(rt; list(head.view(), &mut out), Ok(Done::Whole));
+    assert_eq!(rt; out.device.held(), b"a wire 1 $end\n".as_slice());
+    Ok(())
+}
+
+#[test]
+fn a_list_ends_where_a_write_fails(rt: HostRuntime) -> Result<(), Fail> {
+    let head = read(rt.alloc(), NESTED)?;
+    for room in 0..NESTED_LIST.len() {
+        let mut out = Watch::new(Narrow::new(room));
+        assert_eq!(rt; list(head.view(), &mut out), Err(Stop::Write), "in {room}");
+        assert_eq!(rt; out.device.held(), &NESTED_LIST[..room], "in {room}");
+    }
+    Ok(())
+}
+
+// Icarus Verilog's way to write a dump.
+const ICARUS: &[u8] =
+    b"$date\n\tTue Mar  5 10:00:00 2024\n$end\n$version\n\tIcarus Verilog\n$end\n$timescale\n\t1ns\n$end\n$scope module tb $end\n$var wire 8 ! data [7:0] $end\n$var reg 1 \" clk $end\n$upscope $end\n$enddefinitions $end\n#0\n$dumpvars\n0\"\nbx !\n$end\n#5\n1\"\nb101 !\n#10\n";
+
+const ICARUS_COUNTS: &[u8] =
+    b"scopes 1\nvariables 2\ncodes 2\ntimes 3\nsections 1\nchanges 4\nlast 10\n";
+
+// Gives its bytes, and then fails.
+#[derive(Drop)]
+struct Broken<'a> {
+    bytes: &'a [u8],
+    failures: u64,
+}
+
+impl Source for Broken<'_> {
+    ghost rest = { λ s. Some s.bytes.now };
+
+    ghost failures = { λ s. s.failures };
+
+    fn read(&mut self, into: &mut [u8]) -> Result<usize, ReadFailed> {
+        if self.bytes.is_empty() {
+            self.failures += 1;
+            return Err(ReadFailed);
+        }
+        let n = into.len().min(self.bytes.len());
+        let (front, back) = self.bytes.split_at(n);
+        into[..n].copy_from_slice(front);
+        self.bytes = back;
+        Ok(n)
+    }
+
+    fn failures(&self) -> u64 {
+        self.failures
+    }
+}
+
+// Runs `check` over a source.
+fn check_over<S: Source, W: Sink>(
+    alloc: Global,
+    source: &mut S,
+    out: &mut W,
+) -> Result<Result<Done, Stop>, HeadFault>
+    requires source { S.failures source.old ≡ 0 }
+    requires out { W.failures out.old ≡ 0 }
+{
+    let mut chunk = [0u8; 7];
+    let mut token = [0u8; 64];
+    let mut value = [0u8; 64];
+    let mut feed = Feed::new(source, &mut chunk, &mut token, &mut value);
+    let head = read_head(alloc, &mut feed, 16_777_216)?;
+    Ok(check(head.view(), &mut feed, out))
+}
+
+// Whether a dump is answered so, and this is written.
+fn is_checked(
+    alloc: Global,
+    text: &[u8],
+    answer: Result<Done, Stop>,
+    written: &[u8],
+) -> Result<bool, HeadFault> {
+    let mut source = Watch::new(text);
+    let mut out = Watch::new(Narrow::new(80));
+    let given = check_over(alloc, &mut source, &mut out)?;
+    Ok(given == answer && out.device.held() == written)
+}
+
+#[test]
+fn check_of_a_whole_dump(rt: HostRuntime) -> Result<(), Fail> {
+    assert!(rt; is_checked(rt.alloc(), ICARUS, Ok(Done::Whole), ICARUS_COUNTS)?);
+    Ok(())
+}
+
+#[test]
+fn check_of_a_body_without_items(rt: HostRuntime) -> Result<(), Fail> {
+    assert!(rt;
+        is_checked(
+            rt.alloc(),
+            b"$timescale 1ns $end $enddefinitions $end $comment none $end",
+            Ok(Done::Whole),
+            b"scopes 0\nvariables 0\ncodes 0\ntimes 0\nsections 0\nchanges 0\nlast -\n",
+        )?
+    );
+    Ok(())
+}
+
+#[test]
+fn check_stops_at_a_fault(rt: HostRuntime) -> Result<(), Fail> {
+    assert!(rt;
+        is_checked(
+            rt.alloc(),
+            b"$timescale 1ns $end $var wire 1 ! clk $end\n$enddefinitions $end\n#5\n1!\n#4\n",
+            Err(Stop::Dump {
+                input: 0,
+                line: 5,
+                fault: 14,
+            }),
+            b"",
+        )?
+    );
+    Ok(())
+}
+
+#[test]
+fn check_of_an_open_section(rt: HostRuntime) -> Result<(), Fail> {
+    assert!(rt;
+        is_checked(
+            rt.alloc(),
+            b"$timescale 1ns $end $var wire 1 ! clk $end\n$enddefinitions $end\n#5\n$dumpvars\n1!\n",
+            Err(Stop::Dump {
+                input: 0,
+                line: 6,
+                fault: 2,
+            }),
+            b"",
+        )?
+    );
+    Ok(())
+}
+
+#[test]
+fn check_stops_where_a_read_fails(rt: HostRuntime) -> Result<(), Fail> {
+    let mut source = Broken {
+        bytes: ICARUS,
+        failures: 0,
+    };
+    let mut out = Watch::new(Narrow::new(80));
+    assert_eq!(rt;
+        check_over(rt.alloc(), &mut source, &mut out)?,
+        Err(Stop::Read { input: 0 })
+    );
+    assert_eq!(rt; out.device.held(), b"".as_slice());
+    assert_eq!(rt; source.failures, 1);
+    Ok(())
+}
+
+#[test]
+fn a_report_ends_where_a_write_fails(rt: HostRuntime) -> Result<(), Fail> {
+    for room in 0..ICARUS_COUNTS.len() {
+        let mut source = Watch::new(ICARUS);
+        let mut out = Watch::new(Narrow::new(room));
+        assert_eq!(rt;
+            check_over(rt.alloc(), &mut source, &mut out)?,
+            Err(Stop::Write),
+            "in {room}"
+        );
+        assert_eq!(rt; out.device.held(), &ICARUS_COUNTS[..room], "in {room}");
+    }
+    Ok(())
+}
+
+#[test]
+fn steps_write_at_the_end_alone(rt: HostRuntime) -> Result<(), Fail> {
+    let mut source = Watch::new(
+        b"$timescale 1ns $end $var wire 1 ! clk $end $enddefinitions $end #5 1!".as_slice(),
+    );
+    let mut chunk = [0u8; 7];
+    let mut token = [0u8; 64];
+    let mut value = [0u8; 64];
+    let mut feed = Feed::new(&mut source, &mut chunk, &mut token, &mut value);
+    let head = read_head(rt.alloc(), &mut feed, 16_777_216)?;
+    let mut out = Watch::new(Narrow::new(80));
+    let mut engine = Engine::start(Task::Check, head.view(), &mut out)?;
+    assert_eq!(rt; out.device.held(), b"".as_slice());
+    assert_eq!(rt; engine.step(&mut feed, &mut out)?, More::Again);
+    assert_eq!(rt; out.device.held(), b"".as_slice());
+    assert_eq!(rt; engine.step(&mut feed, &mut out)?, More::Again);
+    assert_eq!(rt; out.device.held(), b"".as_slice());
+    assert_eq!(rt; engine.step(&mut feed, &mut out)?, More::Ended(Done::Whole));
+    assert!(rt; !engine.going());
+    assert_eq!(rt;
+        out.device.held(),
+        b"scopes 0\nvariables 1\ncodes 1\ntimes 1\nsections 0\nchanges 1\nlast 5\n".as_slice()
+    );
+    Ok(())
+}
