@@ -1,25 +1,39 @@
--- What each command's name asks for.
-use Rattle.std.proofs.Common.{◌≡◌, ◌≢◌, ℕ, cond, List, codes, ap, refl}
-use Rattle.std.proofs.lemmas.Bool.{false_from_ne_true}
-use Rattle.std.proofs.lemmas.Slice.Eq.{bytes_eq-Decides}
-use Rattle.std.specs.Prelude.{Some, None, Ok, Err}
-use Rattle.std.specs.Str.{bytes_eq}
-use Rattle.vcd_model.specs.Job.{Want}
-use Rattle.vcd_model.specs.Words.{Command, Words, UseFault, job_of}
-use Rattle.vcdkit.specs.Asked.{words_behind}
+-- What a command and a word behind `--token-limit` ask for.
+use Rattle.std.proofs.Common.{◌≡◌, ℕ, List, ap, refl, ◌∙◌}
+use Rattle.std.specs.Prelude.{Option, Some, None, Result, Ok, Err, option_map, option_and_then}
+use Rattle.clap.specs.Words.{Row, Text, first_of}
+use Rattle.vcd_model.specs.Words.{Command, Words, UseFault, limit_of, job_of, job_with}
+use Rattle.vcdkit.specs.declared.job.Want.{Want}
+use Rattle.vcdkit.specs.declared.job.Want.TheVariants.{Check, List as Listing}
+use Rattle.vcdkit.specs.declared.job.UseFault.{UseFault as Fault}
+use Rattle.vcdkit.specs.declared.job.UseFault.TheVariants.{BadWords, BadLimit, OutOfMemory}
+use Rattle.vcdkit.specs.Asked.{command_for, want_of, IsFaultOf}
 
--- the words behind the command `check`
-abbrev pub check_words : Words
-check_words = record { command = Command.Check; limit = None }
+-- a command with the word behind its option
+abbrev pub words_of : Option Command → Option (List ℕ) → Option Words
+words_of named limit = option_map (λ command. record { command = command; limit = limit }) named
 
-pub check-asked : (name : List ℕ) → name ≡ codes "check" → job_of (words_behind (Some name)) ≡ Ok (record { want = Want.Check; limit = 1048576 })
+task-asked : (task : Want) (limit : Option (List ℕ)) → job_of (words_of (Some (command_for task)) limit) ≡ job_with (limit_of limit) (Ok (want_of task))
 unfolding job_of
-check-asked name e = ap (λ b. job_of (cond b (Some check_words) None)) ((bytes_eq-Decides name (codes "check")).1 e)
+task-asked Check limit = refl
+task-asked Listing limit = refl
 
-pub other-asked : (name : List ℕ) → name ≢ codes "check" → job_of (words_behind (Some name)) ≡ Err UseFault.BadWords
-unfolding job_of
-other-asked name ne = ap (λ b. job_of (cond b (Some check_words) None)) (false_from_ne_true (bytes_eq name (codes "check")) (λ e. ne ((bytes_eq-Decides name (codes "check")).0 e)))
+-- a task asks for itself, under the limit that is asked for
+pub asked-of : (named : Option Command) (limit : Option (List ℕ)) (task : Want) (r : Result ℕ UseFault) → named ≡ Some (command_for task) → limit_of limit ≡ r → job_of (words_of named limit) ≡ job_with r (Ok (want_of task))
+asked-of named limit task r e l = ap (λ n. job_of (words_of n limit)) e ∙ task-asked task limit ∙ ap (λ x. job_with x (Ok (want_of task))) l
 
-pub none-asked : job_of (words_behind None) ≡ Err UseFault.BadWords
+-- without a command of the table the words are bad
+pub none-asked : (named : Option Command) (limit : Option (List ℕ)) → named ≡ None → job_of (words_of named limit) ≡ Err UseFault.BadWords
 unfolding job_of
-none-asked = refl
+none-asked named limit e = rw e refl
+
+-- a fault of the limit is the job's
+pub limit-fault : (named : Option Command) (limit : Option (List ℕ)) (task : Want) (fault : Fault) → named ≡ Some (command_for task) → IsFaultOf fault (limit_of limit) → IsFaultOf fault (job_of (words_of named limit))
+limit-fault named limit task BadWords e l = asked-of named limit task _ e l
+limit-fault named limit task (BadLimit word) e l = asked-of named limit task _ e l
+limit-fault named limit task OutOfMemory e l = absurd l
+
+-- the first word of an option, by what is known of the command that was used
+pub first-behind : (used : Option (Text × List Row)) (rows : List Row) (id : Text) → Some rows ≡ option_map (λ u. u.1) used → first_of id rows ≡ option_and_then (λ u. first_of id u.1) used
+first-behind None rows id e = cc
+first-behind (Some u) rows id e = let same : rows ≡ u.1 = cc in ap (first_of id) same

@@ -1,14 +1,5 @@
 mod Digits
-mod HeaderSteps
-mod Phrases
-mod HeadSteps
-mod Starts
-mod Codes
-mod BodySteps
-mod BodyEndings
 mod Writing
 mod Asking
-mod Dumps
-mod PlainOutcomes
-mod Answers
-mod PlainRows
+mod Outcomes
+mod Running

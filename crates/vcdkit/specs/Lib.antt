@@ -1,11 +1,4 @@
-pub mod Fault
-pub mod Keyword
-pub mod Plain
-pub mod Reads
-pub mod PlainHead
-pub mod PlainBody
-pub mod Report
-pub mod Check
+pub mod Refusals
 pub mod Message
 pub mod Asked
 pub mod Run

@@ -1,40 +1,47 @@
 -- What a run gives.
-use Rattle.std.specs.Prelude.{◌≡◌, ℕ, ◌+◌, ◌⊎◌, List, [], ◌∷◌, take, codes, Option}
-use Rattle.std.specs.List.{AllByRecursion}
+use Rattle.std.specs.Prelude.{◌≡◌, ℕ, ◌+◌, List, [], ◌∷◌, take, codes, Result, Ok, Err}
 use Rattle.std.specs.Io.KnownBytes.{Appends}
 use Rattle.vcd_model.specs.Input.{Input}
-use Rattle.vcd_model.specs.Job as model
-use Rattle.vcd_model.specs.Outcome.{Outcome, clean_outcome, program_line, name_at}
-use Rattle.vcd_text.specs.Answer.{whole, failed_after}
+use Rattle.vcd_model.specs.Job.{outcome}
+use Rattle.vcd_model.specs.Outcome.{Outcome, Request, program_line}
+use Rattle.vcd_text.specs.Answer.{whole}
+use Rattle.vcd_tools.specs.Follows.{Belongs, Device, IsLeft, Writes}
+use Rattle.vcd_tools.specs.declared.answer.Done.{Done}
+use Rattle.vcdkit.specs.declared.job.Want.{Want}
+use Rattle.vcdkit.specs.declared.job.Want.TheVariants.{Check, List as Listing}
+use Rattle.vcdkit.specs.declared.refusal.Refusal.{Refusal}
+use Rattle.vcdkit.specs.declared.refusal.Refusal.TheVariants.{Stopped, Memory}
+use Rattle.vcdkit.specs.Asked.{want_of}
 use Rattle.vcdkit.specs.Message.{Shows}
-use Rattle.vcdkit.specs.Plain.{IsPlain, plain_outcome}
 
--- the input of a reader whose bytes are this text: all of it, or a front of it that is marked as failed where a read failed
-abbrev pub IsRead : List ℕ → ℕ → ℕ → Input → Type 0
-IsRead text failures failures' i = ((failures' ≡ failures) × (i ≡ whole text)) ⊎ ((failures' ≡ failures + 1) × ((n : ℕ) × (i ≡ failed_after n (whole text))))
+-- ---- one input
 
--- the inputs of readers with these texts, one by one
+-- what a task does over a dump whose header was read
+abbrev pub request_for : Want → Request
+request_for Check = Request.Check
+request_for Listing = Request.Listing
+
+-- the answer and the output of a run that has this outcome; want of memory leaves nothing
+abbrev pub Ends : Outcome → List ℕ → Device → Device → Result Done Refusal → Type 0
+Ends o name out out' (Ok done) = Belongs o name out out' (Ok done)
+Ends o name out out' (Err (Stopped stop)) = Belongs o name out out' (Err stop)
+Ends o name out out' (Err Memory) = Writes out out' []
+
+-- a run of this task over an input with this name
+pub record Runs (want : Want) (limit : ℕ) (i : Input) (name : List ℕ) (failures failures' : ℕ) (out out' : Device) (result : Result Done Refusal) : Type 0 where
+  pub left : Input
+  pub is_left : IsLeft i failures failures' left
+  pub ends : Ends (outcome (want_of want) limit (name ∷ []) (left ∷ [])) name out out' result
+
+-- ---- all inputs
+
+-- the inputs of readers with these texts, one by one: all of a text, or a front of it that is marked as failed where a read failed
 abbrev pub AreRead : List (List ℕ) → List ℕ → List ℕ → List Input → Type 0
 AreRead [] failures failures' inputs = inputs ≡ []
 AreRead (text ∷ texts) [] failures' inputs = ⊥
 AreRead (text ∷ texts) (n ∷ ns) [] inputs = ⊥
 AreRead (text ∷ texts) (n ∷ ns) (m ∷ ms) [] = ⊥
-AreRead (text ∷ texts) (n ∷ ns) (m ∷ ms) (i ∷ is) = IsRead text n m i × AreRead texts ns ms is
-
--- what a run gives where all that is not plain is refused
-abbrev pub plain_run : ℕ → List (List ℕ) → List Input → Outcome
-plain_run limit names [] = clean_outcome []
-plain_run limit names (i ∷ is) = plain_outcome limit (name_at names 0) i
-
--- the outcome of a run over these inputs: what is not plain is refused, and where nothing is refused it is the one of the definitions
-pub record IsOutcome (want : model.Want) (limit : ℕ) (names : List (List ℕ)) (inputs : List Input) (o : Outcome) : Type 0 where
-  pub exact : o ≡ plain_run limit names inputs
-  pub plain : AllByRecursion (IsPlain limit) inputs → o ≡ model.outcome want limit names inputs
-
--- a device before a call and after it: the bytes that it holds, where they are known, and how many calls have failed
-pub record Device : Type 0 where
-  pub held : Option (List ℕ)
-  pub failures : ℕ
+AreRead (text ∷ texts) (n ∷ ns) (m ∷ ms) (i ∷ is) = IsLeft (whole text) n m i × AreRead texts ns ms is
 
 -- what a run leaves on its output and on the error stream, and its status
 pub data Gives (o : Outcome) (out out' err err' : Device) (status : ℕ) : Type 0 where

@@ -1,24 +1,45 @@
 //! The command line: which words it takes, and the exit status where it takes none.
 ghost use Rattle.std.specs.Prelude.{◌≡◌, IfOk, false};
 ghost use Rattle.clap.specs.Words.{app_of, is_broken, kind_of};
-ghost use Rattle.vcdkit.specs.Asked.{parse_status_of, program_app};
+ghost use Rattle.vcdkit.specs.Asked.{one_input_app, parse_status_of, program_app};
 
 use clap::error::ErrorKind;
-use clap::{Command, Error};
+use clap::{Arg, Command, Error};
 use std::alloc::{AllocError, Global};
+
+/// A command over one input, with its options.
+fn one_input<'a>(alloc: Global, name: &'a str, about: &'a str) -> Result<Command<'a>, AllocError>
+    ensures words { IfOk result (λ c. app_of c ≡ one_input_app name.entry.now) }
+    ensures whole { IfOk result (λ c. is_broken c ≡ false) }
+{
+    let input = Arg::new(alloc, "input")
+        .short('i')
+        .value_name("FILE")
+        .help("Reads this file in place of standard input");
+    let limit = Arg::new(alloc, "token-limit")
+        .long("token-limit")
+        .value_name("N")
+        .help("How long a token may be, in bytes: 64 to 16777216 [default: 1048576]");
+    Command::new(alloc, name)
+        .about(about)
+        .arg(input)?
+        .arg(limit)
+}
 
 /// The command `vcdkit` with its commands.
 pub fn command_of<'a>(alloc: Global) -> Result<Command<'a>, AllocError>
     ensures words { IfOk result (λ c. app_of c ≡ program_app) }
     ensures whole { IfOk result (λ c. is_broken c ≡ false) }
 {
-    let check = Command::new(alloc, "check").about("Checks a dump and counts what it has");
+    let check = one_input(alloc, "check", "Checks a dump and counts what it has")?;
+    let list = one_input(alloc, "list", "Lists the variables of a dump")?;
     Command::new(alloc, "vcdkit")
         .version("0.1.0")
         .about("Proved tools for value change dumps")
         .subcommand_required(true)
         .disable_help_subcommand(true)
-        .subcommand(check)
+        .subcommand(check)?
+        .subcommand(list)
 }
 
 /// The exit status where a parse gave no matches.

@@ -3,29 +3,25 @@
 
 ghost use Rattle.std.specs.Prelude.{◌≡◌, ◌-◌, ◌^◌, ◌<◌, ◌≤◌, All, length};
 
-mod check;
 mod command;
-mod fault;
 mod job;
-mod keyword;
 mod message;
-mod plain_body;
-mod plain_head;
+mod refusal;
 mod run;
 #[cfg(test)]
 mod tests;
-mod tokens;
 mod words;
 
 use clap::Error;
 use command::{command_of, parse_status};
-use job::{Job, UseFault, job_of, use_fault};
+use job::{Job, UseFault, input_of, job_of, open_fault, use_fault};
 use message::put_line;
 use run::run;
 use std::alloc::{AllocError, Global};
 use std::env;
 use std::env::Env;
-use std::io::{BufWriter, ErrorKind, Write};
+use std::fs::File;
+use std::io::{BufWriter, ErrorKind, Read, Write};
 use std::process::ExitCode;
 use vcd_text::device::{Sink, Source, Watch};
 
@@ -33,7 +29,7 @@ use vcd_text::device::{Sink, Source, Watch};
 const INPUT: &str = "(stdin)";
 
 /// The words of the command line, the program's name first. They are bad where one is no text.
-fn words_of<R: Env + AllocGlobal>(rt: &R) -> Result<Vec<String>, UseFault> {
+fn words_of<R: Env + AllocGlobal>(rt: &R) -> Result<Vec<String>, UseFault<'static>> {
     let words = env::args(rt).map_err(|error| match error.kind() {
         ErrorKind::OutOfMemory => UseFault::OutOfMemory,
         _ => UseFault::BadWords,
@@ -68,10 +64,10 @@ fn run_job<S: Source, W: Write + Drop, E: Sink>(
 }
 
 /// Prints why a parse gave no matches, and answers the exit status.
-fn print_error(rt: &HostRuntime, error: Error) -> Result<u8, UseFault> {
+fn print_error(rt: &HostRuntime, error: Error) -> Result<u8, AllocError> {
     let status = parse_status(&error);
     if status == 3 {
-        return Err(UseFault::OutOfMemory);
+        return Err(AllocError);
     }
     if error.print(rt).is_err() && status == 0 {
         let _ = put_line(&mut Watch::new(rt.stderr()), "write failed");
@@ -80,33 +76,68 @@ fn print_error(rt: &HostRuntime, error: Error) -> Result<u8, UseFault> {
     Ok(status)
 }
 
-/// Parses the words, and runs the job that they ask for.
-fn follow(rt: &HostRuntime) -> Result<u8, UseFault> {
+/// Runs the job over one input of this name.
+fn run_over<R: Read + Drop>(
+    rt: &HostRuntime,
+    job: Job,
+    name: &str,
+    input: R,
+) -> Result<u8, AllocError>
+    requires limit { (64 ≤ job.limit) × (job.limit ≤ 16777216) }
+    requires chunk { (1 ≤ job.chunk) × (job.chunk ≤ 65536) }
+{
     let alloc = rt.alloc();
-    let words = words_of(rt)?;
-    let command = command_of(alloc)?;
-    let matches = match command.try_get_matches_from(words.as_slice()) {
-        Ok(matches) => matches,
-        Err(error) => return print_error(rt, error),
-    };
-    let job = job_of(alloc, &matches)?;
-    let names = [String::from_str(alloc, INPUT)?];
-    let mut readers = [Watch::new(rt.stdin())];
-    let mut err = Watch::new(rt.stderr());
-    let status = run_job(
+    let names = [String::from_str(alloc, name)?];
+    let mut readers = Vec::new(alloc);
+    readers.push(Watch::new(input))?;
+    run_job(
         alloc,
         job,
         names.as_slice(),
         readers.as_mut_slice(),
         rt.stdout(),
-        &mut err,
-    )?;
-    Ok(status)
+        &mut Watch::new(rt.stderr()),
+    )
+}
+
+/// Opens the file of this name, and runs the job over it.
+fn run_over_file(rt: &HostRuntime, job: Job, name: &str) -> Result<u8, AllocError>
+    requires limit { (64 ≤ job.limit) × (job.limit ≤ 16777216) }
+    requires chunk { (1 ≤ job.chunk) × (job.chunk ≤ 65536) }
+{
+    match File::open(rt, name) {
+        Ok(file) => run_over(rt, job, name, file),
+        Err(error) if error.kind() == ErrorKind::OutOfMemory => Err(AllocError),
+        Err(_) => Ok(open_fault(name, &mut Watch::new(rt.stderr()))),
+    }
+}
+
+/// Parses the words, and runs the job that they ask for.
+fn follow<'a>(rt: &HostRuntime, words: &'a [String]) -> Result<u8, UseFault<'a>> {
+    let alloc = rt.alloc();
+    let matches = match command_of(alloc)?.try_get_matches_from(words) {
+        Ok(matches) => matches,
+        Err(error) => return Ok(print_error(rt, error)?),
+    };
+    let job = job_of(alloc, &matches)?;
+    let status = match input_of(&matches) {
+        Some(name) => run_over_file(rt, job, name),
+        None => run_over(rt, job, INPUT, rt.stdin()),
+    };
+    Ok(status?)
+}
+
+/// Does what the words ask for, and answers the exit status.
+fn status_of(rt: &HostRuntime, words: &[String]) -> u8 {
+    match follow(rt, words) {
+        Ok(status) => status,
+        Err(fault) => use_fault(fault, &mut Watch::new(rt.stderr())),
+    }
 }
 
 fn main(rt: HostRuntime) -> ExitCode {
-    let status = match follow(&rt) {
-        Ok(status) => status,
+    let status = match words_of(&rt) {
+        Ok(words) => status_of(&rt, words.as_slice()),
         Err(fault) => use_fault(fault, &mut Watch::new(rt.stderr())),
     };
     ExitCode::from(status)

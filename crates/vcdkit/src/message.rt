@@ -17,6 +17,18 @@ pub fn put_line<E: Sink>(err: &mut E, text: &str) -> Result<(), WriteFailed>
     put(err, b"\n")
 }
 
+/// Writes `vcdkit: ` and both texts, as one line.
+pub fn put_both<E: Sink>(err: &mut E, first: &str, second: &str) -> Result<(), WriteFailed>
+    requires { E.failures err.old < 2 ^ 64 - 1 }
+    ensures takes { Takes (E.held err.old) (E.held err.new) (program_line (first.now ++ second.now)) result }
+    ensures failures { E.failures err.new ≡ failures_after (E.failures err.old) result }
+{
+    put(err, b"vcdkit: ")?;
+    put(err, first.as_bytes())?;
+    put(err, second.as_bytes())?;
+    put(err, b"\n")
+}
+
 /// Writes `vcdkit: NAME: read failed`.
 pub fn put_read_failed<E: Sink>(err: &mut E, name: &str) -> Result<(), WriteFailed>
     requires { E.failures err.old < 2 ^ 64 - 1 }
@@ -24,9 +36,7 @@ pub fn put_read_failed<E: Sink>(err: &mut E, name: &str) -> Result<(), WriteFail
         (program_line (name.now ++ codes ": read failed")) result }
     ensures failures { E.failures err.new ≡ failures_after (E.failures err.old) result }
 {
-    put(err, b"vcdkit: ")?;
-    put(err, name.as_bytes())?;
-    put(err, b": read failed\n")
+    put_both(err, name, ": read failed")
 }
 
 /// Writes `vcdkit: NAME:LINE: TEXT`, of a fault in the input of that name.

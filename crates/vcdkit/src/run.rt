@@ -1,93 +1,146 @@
 //! A job, from its readers to its output, its message and its status.
-ghost use Rattle.std.specs.Prelude.{◌≡◌, ◌≢◌, ℕ, ◌+◌, ◌-◌, ◌^◌, ◌<◌, ◌≤◌, List, [], Some, map, length, All, codes, string_bytes};
+ghost use Rattle.std.specs.Prelude.{◌≡◌, ℕ, ◌+◌, ◌-◌, ◌^◌, ◌<◌, ◌≤◌, List, Some, map, length, All, string_bytes, unwrap_or, option_map, slice_get, Option};
+ghost use Rattle.vcd_model.specs.Header.{Header};
 ghost use Rattle.vcd_model.specs.Input.{Input};
-ghost use Rattle.vcd_model.specs.Outcome.{Outcome, clean_outcome, fault_outcome, program_line};
+ghost use Rattle.vcd_model.specs.Job.{outcome};
+ghost use Rattle.vcd_model.specs.Outcome.{name_at};
+ghost use Rattle.vcd_model.specs.Tokens.{Token};
+ghost use Rattle.vcd_text.specs.Answer.{whole};
+ghost use Rattle.vcd_text.specs.Feed.{Stands, SameLoans, source_of, limit_of};
+ghost use Rattle.vcd_head.specs.Shown.{parts};
+ghost use Rattle.vcd_head.specs.Views.{Views};
+ghost use Rattle.vcd_head.specs.Went.{IsOpen};
+ghost use Rattle.vcd_tools.specs.Follows.{Follows};
+ghost use Rattle.vcd_tools.specs.Follows as tools;
 ghost use Rattle.vcdkit.specs.Asked.{want_of};
 ghost use Rattle.vcdkit.specs.Message.{Shows};
-ghost use Rattle.vcdkit.specs.Plain.{plain_outcome};
-ghost use Rattle.vcdkit.specs.Reads.{placed_fault};
-ghost use Rattle.vcdkit.specs.Report.{report_text};
-ghost use Rattle.vcdkit.specs.Run.{AreRead, IsRead, IsOutcome, Gives};
-ghost use Rattle.vcdkit.specs.declared.fault.Fault.TheVariants.{OutOfMemory};
+ghost use Rattle.vcdkit.specs.Refusals.{as_end, stop_message, stop_status, refusal_of, refusal_message, refusal_status, reads_failed, writes_failed, end_message, end_status};
+ghost use Rattle.vcdkit.specs.Run.{AreRead, Gives, Runs, request_for};
+ghost use Rattle.vcdkit.specs.declared.refusal.Refusal.{Refusal};
 
-use crate::check::{FaultAt, Report, put_report, read_input};
-use crate::fault::Fault;
 use crate::job::{Job, Want};
 use crate::message::{put_fault, put_line, put_read_failed};
+use crate::refusal::Refusal;
 use std::alloc::Global;
+use vcd_head::read::read_head;
+use vcd_head::view::HeadView;
 use vcd_text::device::{Sink, Source};
 use vcd_text::faults::text_of;
+use vcd_text::feed::Feed;
+use vcd_tools::answer::{Done, Stop};
+use vcd_tools::check::check;
+use vcd_tools::list::list;
 
-/// Writes a report, and answers the status. Nothing stands on the error stream unless the output fails.
-fn report<W: Sink, E: Sink>(report: &Report, out: &mut W, err: &mut E) -> u8
+// How many declarations all inputs of a run may have.
+const MOST: u64 = 16_777_216;
+
+/// What a task does behind the header. It takes no memory.
+fn follow<S: Source, W: Sink>(
+    task: Want,
+    view: HeadView<'_>,
+    feed: &mut Feed<'_, '_, '_, '_, S>,
+    out: &mut W,
+) -> Result<Done, Stop>
+    requires feed_failures { S.failures (source_of feed.old) < 2 ^ 64 - 1 }
     requires out_failures { W.failures out.old < 2 ^ 64 - 1 }
-    requires err_failures { E.failures err.old < 2 ^ 64 - 1 }
-    ensures failures { (W.failures out.new ≤ W.failures out.old + 1) × (E.failures err.new ≤ E.failures err.old + 1) }
-    ensures gives { Gives (clean_outcome (report_text report.now))
-        (record { held = W.held out.old; failures = W.failures out.old }) (record { held = W.held out.new; failures = W.failures out.new })
-        (record { held = E.held err.old; failures = E.failures err.old }) (record { held = E.held err.new; failures = E.failures err.new }) result }
+    requires open { IsOpen feed.old }
+    ensures gives { (h : Header) (i : Input) (front : List Token) (name : List ℕ) → Views (parts view.entry) h → Stands i front feed.old
+        → Follows (request_for task) (limit_of feed.old) i front h name (S.failures (source_of feed.old)) (S.failures (source_of feed.new))
+        (record { held = W.held out.old; failures = W.failures out.old }) (record { held = W.held out.new; failures = W.failures out.new }) result }
+    ensures devices { (S.failures (source_of feed.new) ≡ S.failures (source_of feed.old) + tools.reads_failed result)
+        × (W.failures out.new ≡ W.failures out.old + tools.writes_failed result) }
+    ensures loans { SameLoans feed.old feed.new }
 {
-    match put_report(out, report) {
-        Ok(()) => 0,
-        Err(_) => {
+    match task {
+        Want::Check => check(view, feed, out),
+        Want::List => list(view, out),
+    }
+}
+
+/// The answer of a task as that of its run.
+fn stopped(answer: Result<Done, Stop>) -> Result<Done, Refusal>
+    ensures { result ≡ as_end answer }
+{
+    match answer {
+        Ok(done) => Ok(done),
+        Err(stop) => Err(Refusal::Stopped(stop)),
+    }
+}
+
+/// A job over one input: its windows, its header, and then its task.
+fn run_input<S: Source, W: Sink>(
+    alloc: Global,
+    job: Job,
+    reader: &mut S,
+    out: &mut W,
+) -> Result<Done, Refusal>
+    requires limit { 0 < job.limit }
+    requires chunk { 0 < job.chunk }
+    requires reader_failures { S.failures reader.old < 2 ^ 64 - 1 }
+    requires out_failures { W.failures out.old < 2 ^ 64 - 1 }
+    ensures gives { (text name : List ℕ) → S.rest reader.old ≡ Some text
+        → Runs job.task job.limit (whole text) name (S.failures reader.old) (S.failures reader.new)
+        (record { held = W.held out.old; failures = W.failures out.old }) (record { held = W.held out.new; failures = W.failures out.new }) result }
+    ensures devices { (S.failures reader.new ≡ S.failures reader.old + reads_failed (refusal_of result))
+        × (W.failures out.new ≡ W.failures out.old + writes_failed (refusal_of result)) }
+{
+    let mut chunk = vec![in alloc; 0u8; job.chunk]?;
+    let mut token = vec![in alloc; 0u8; job.limit]?;
+    let mut value = vec![in alloc; 0u8; job.limit]?;
+    let mut feed = Feed::new(reader, &mut chunk, &mut token, &mut value);
+    let head = match read_head(alloc, &mut feed, MOST) {
+        Ok(head) => head,
+        Err(fault) => return Err(Refusal::of_head(fault, 0, feed.line())),
+    };
+    stopped(follow(job.task, head.view(), &mut feed, out))
+}
+
+/// The name of the input at this place.
+fn name_of(names: &[String], input: usize) -> &str
+    ensures { result.now ≡ name_at (map string_bytes names.now) input }
+{
+    match names.get(input) {
+        Some(name) => name.as_str(),
+        None => "",
+    }
+}
+
+/// Says on the error stream why a run over the inputs of these names stops, and answers the exit status.
+fn tell_stop<E: Sink>(stop: Stop, names: &[String], err: &mut E) -> u8
+    requires { E.failures err.old < 2 ^ 64 - 1 }
+    ensures status { result ≡ stop_status stop }
+    ensures line { Shows (E.held err.old) (E.held err.new) (E.failures err.old) (E.failures err.new)
+        (stop_message (map string_bytes names.now) stop) }
+{
+    match stop {
+        Stop::Dump { input, line, fault } => {
+            let _ = put_fault(err, name_of(names, input), line, text_of(fault));
+            1
+        }
+        Stop::Read { input } => {
+            let _ = put_read_failed(err, name_of(names, input));
+            3
+        }
+        Stop::Write => {
             let _ = put_line(err, "write failed");
             3
         }
     }
 }
 
-/// Says on the error stream what is wrong with the input of this name, or that memory is wanting, and answers the status.
-fn refuse<E: Sink>(at: FaultAt, name: &str, err: &mut E) -> u8
+/// Says on the error stream why a run is refused, and answers the exit status.
+fn tell<E: Sink>(refusal: Refusal, names: &[String], err: &mut E) -> u8
     requires { E.failures err.old < 2 ^ 64 - 1 }
-    ensures failures { E.failures err.new ≤ E.failures err.old + 1 }
-    ensures fault { at.fault ≢ OutOfMemory → result ≡ (fault_outcome [] name.now (placed_fault at.fault at.line)).status }
-    ensures message { at.fault ≢ OutOfMemory → Shows (E.held err.old) (E.held err.new) (E.failures err.old) (E.failures err.new)
-        (fault_outcome [] name.now (placed_fault at.fault at.line)).message }
-    ensures memory { at.fault ≡ OutOfMemory → result ≡ 3 }
-    ensures wanting { at.fault ≡ OutOfMemory → Shows (E.held err.old) (E.held err.new) (E.failures err.old) (E.failures err.new)
-        (program_line (codes "out of memory")) }
+    ensures status { result ≡ refusal_status refusal }
+    ensures line { Shows (E.held err.old) (E.held err.new) (E.failures err.old) (E.failures err.new)
+        (refusal_message (map string_bytes names.now) refusal) }
 {
-    match at.fault {
-        Fault::OutOfMemory => {
+    match refusal {
+        Refusal::Stopped(stop) => tell_stop(stop, names, err),
+        Refusal::Memory => {
             let _ = put_line(err, "out of memory");
             3
         }
-        Fault::ReadFailed => {
-            let _ = put_read_failed(err, name);
-            3
-        }
-        fault => {
-            let _ = put_fault(err, name, at.line, text_of(fault.number()));
-            1
-        }
-    }
-}
-
-/// `check` of one input.
-fn check<S: Source, W: Sink, E: Sink>(
-    alloc: Global,
-    job: Job,
-    name: &str,
-    reader: &mut S,
-    out: &mut W,
-    err: &mut E,
-) -> u8
-    requires limit { 0 < job.limit }
-    requires chunk { 0 < job.chunk }
-    requires reader_failures { S.failures reader.old < 2 ^ 64 - 1 }
-    requires out_failures { W.failures out.old < 2 ^ 64 - 1 }
-    requires err_failures { E.failures err.old < 2 ^ 64 - 1 }
-    ensures failures { (S.failures reader.new ≤ S.failures reader.old + 1) × (W.failures out.new ≤ W.failures out.old + 1)
-        × (E.failures err.new ≤ E.failures err.old + 1) }
-    ensures gives { (text : List ℕ) → S.rest reader.old ≡ Some text
-        → (i : Input) × IsRead text (S.failures reader.old) (S.failures reader.new) i
-        × Gives (plain_outcome job.limit name.now i)
-        (record { held = W.held out.old; failures = W.failures out.old }) (record { held = W.held out.new; failures = W.failures out.new })
-        (record { held = E.held err.old; failures = E.failures err.old }) (record { held = E.held err.new; failures = E.failures err.new }) result }
-{
-    match read_input(alloc, job.limit, job.chunk, reader) {
-        Ok(counts) => report(&counts, out, err),
-        Err(at) => refuse(at, name, err),
     }
 }
 
@@ -95,7 +148,8 @@ fn check<S: Source, W: Sink, E: Sink>(
 /// of an input, 3 for a failed read or write and for want of memory. Output goes to `out`, the message to `err`; a fault of
 /// `err` is passed over. `out` is not flushed.
 ///
-/// Memory is taken for the windows and while the header is read; nothing is written on `out` before the whole input was read.
+/// Memory is taken for the windows and while the header is read, and none after that. Nothing is written on `out` before the
+/// header was read.
 pub fn run<S: Source, W: Sink, E: Sink>(
     alloc: Global,
     job: Job,
@@ -113,15 +167,21 @@ pub fn run<S: Source, W: Sink, E: Sink>(
     requires err_failures { E.failures err.old < 2 ^ 64 - 1 }
     ensures failures { (W.failures out.new ≤ W.failures out.old + 1) × (E.failures err.new ≤ E.failures err.old + 1) }
 
-    // Over readers that tell their bytes.
+    // It ends done or refused: over any readers and writers, for a failed read only where one failed, and likewise for a write.
+    ensures ends { (why : Option Refusal) × (map S.failures readers.new ≡ map (λ r. S.failures r + reads_failed why) readers.old)
+        × (W.failures out.new ≡ W.failures out.old + writes_failed why) × (result ≡ end_status why)
+        × Shows (E.held err.old) (E.held err.new) (E.failures err.old) (E.failures err.new)
+        (end_message (map string_bytes names.now) why) }
+
+    // Over readers that tell their bytes: it is the outcome of the definitions.
     ensures gives { (texts : List (List ℕ)) → map S.rest readers.old ≡ map (λ text. Some text) texts
-        → (inputs : List Input) × (o : Outcome) × AreRead texts (map S.failures readers.old) (map S.failures readers.new) inputs
-        × IsOutcome (want_of job.task) job.limit (map string_bytes names.now) inputs o
-        × Gives o
+        → (inputs : List Input) × AreRead texts (map S.failures readers.old) (map S.failures readers.new) inputs
+        × Gives (outcome (want_of job.task) job.limit (map string_bytes names.now) inputs)
         (record { held = W.held out.old; failures = W.failures out.old }) (record { held = W.held out.new; failures = W.failures out.new })
         (record { held = E.held err.old; failures = E.failures err.old }) (record { held = E.held err.new; failures = E.failures err.new }) result }
 {
-    match job.task {
-        Want::Check => check(alloc, job, names[0].as_str(), &mut readers[0], out, err),
+    match run_input(alloc, job, &mut readers[0], out) {
+        Ok(_) => 0,
+        Err(refusal) => tell(refusal, names, err),
     }
 }

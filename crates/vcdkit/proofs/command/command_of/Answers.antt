@@ -1,0 +1,24 @@
+use Rattle.std.proofs.Common.{rules, arith, ap, ap₂, codes, ◌≡◌, ◌∙◌, Bool, true, false, not, ◌&&◌, ◌||◌}
+use Rattle.std.proofs.lemmas.Result.{IfOk-weaker}
+use Rattle.clap.specs.Words.{App, app_of, is_broken, with_subcommand}
+use Rattle.vcdkit.specs.Asked.{bare_app, one_input_app}
+use Rattle.vcdkit.proofs.command.command_of.Goals as goal
+
+-- a plain command has no global argument
+local : (groups external globals rest : Bool) → (groups && (not external && (not globals && rest))) ≡ true → globals ≡ false
+local groups external globals rest e = grind arith
+
+pub returns-clause-words : goal.returns-clause-words
+returns-clause-words c =
+    let bare : app_of c.disable_help_subcommand.result ≡ bare_app = search rules in
+    let check = c.in_ok-check.ensures.words in
+    let list = c.in_ok-list.ensures.words in
+    let first : app_of c.in_ok-subcommand.field-0 ≡ with_subcommand bare_app (one_input_app (codes "check")).top =
+    c.in_ok-subcommand.ensures.shape (local _ _ _ _ (ap (λ (a : App). a.top.is_plain) check)) ∙ ap₂ with_subcommand bare (ap (λ (a : App). a.top) check) in
+    IfOk-weaker c.subcommand-2.result _ _ (λ r h. h.shape (local _ _ _ _ (ap (λ (a : App). a.top.is_plain) list)) ∙ ap₂ with_subcommand first (ap (λ (a : App). a.top) list)) c.subcommand-2.ensures
+
+pub returns-clause-whole : goal.returns-clause-whole
+returns-clause-whole c =
+    let bare : is_broken c.disable_help_subcommand.result ≡ false = search rules in
+    let first : is_broken c.in_ok-subcommand.field-0 ≡ false = c.in_ok-subcommand.ensures.broken ∙ ap₂ ◌||◌ bare c.in_ok-check.ensures.whole in
+    IfOk-weaker c.subcommand-2.result _ _ (λ r h. h.broken ∙ ap₂ ◌||◌ first c.in_ok-list.ensures.whole) c.subcommand-2.ensures
