@@ -1,10 +1,11 @@
 # make         proves the program and the crates that it uses, builds it as ./vcdkit and shows it on a sample dump
 # make test    the merge gate: every proof from nothing, must-fail edits, tests, the program as two compilers build it
+# make memory  lets each request for memory of the reader of headers fail in turn: some minutes
 # make clean   drops what was built, and what the proofs kept
 
 sample := samples/counter.vcd
 
-.PHONY: all test clean vcdkit toolchain
+.PHONY: all test memory clean vcdkit toolchain
 
 all: vcdkit
 	./vcdkit check < $(sample)
@@ -16,6 +17,9 @@ vcdkit: toolchain
 
 test: toolchain
 	rt ci
+
+memory: toolchain
+	bench/refuse_memory.sh
 
 clean:
 	rm -rf vcdkit crates/*/out

@@ -1,0 +1,14 @@
+use Rattle.std.proofs.Common.{◌≡◌, Err, rules}
+use Rattle.vcdkit.proofs.HeadSteps.{end_starts, end_read, end_wrong}
+use Rattle.vcdkit.proofs.plain_head.read_end.Goals as goal
+
+pub returns-in_err-head_token-clause-reads : goal.returns-in_err-head_token-clause-reads
+returns-in_err-head_token-clause-reads g c = λ i placed a t.
+    let r = end_starts i placed c.args.feed.now a t in
+    let e : c.from_residual.result ≡ Err c.in_err-head_token.field-0.0 = search rules in rw e (c.in_err-head_token.ensures.reads i placed _ r)
+
+pub returns-then-is_end-clause-reads : goal.returns-then-is_end-clause-reads
+returns-then-is_end-clause-reads g c = λ i placed a t. let r = end_starts i placed c.args.feed.now a t in end_read i placed c.head_token.new.feed (c.in_ok-head_token.ensures.reads i placed _ r) (cc)
+
+pub returns-else-is_end-clause-reads : goal.returns-else-is_end-clause-reads
+returns-else-is_end-clause-reads g c = λ i placed a t. let r = end_starts i placed c.args.feed.now a t in end_wrong i placed c.head_token.new.feed (c.in_ok-head_token.ensures.reads i placed _ r) (cc)
