@@ -1,24 +1,27 @@
 -- What steps leave when the run has ended.
-use Rattle.std.proofs.Common.{◌≡◌, ℕ, zero, suc, ◌+◌, ◌==◌, inl, inr, Bool, true, false, List, [], ◌∷◌, ◌++◌, take, Option, Some, None, Result, Ok, Err, refl, sym, ap, subst, ◌∙◌, append-nil, append_assoc, arith}
+use Rattle.std.proofs.Common.{◌≡◌, ℕ, ◌+◌, ◌==◌, ◌||◌, inl, inr, Bool, true, false, List, [], ◌∷◌, ◌++◌, Option, Some, None, Result, Ok, Err, refl, sym, ap, subst, ◌∙◌, append-nil, append_assoc, arith}
 use Rattle.std.specs.List.{list_any}
-use Rattle.std.specs.Io.KnownBytes.{Appends}
+use Rattle.vcd_model.specs.Backward.{up_to_first}
 use Rattle.vcd_model.specs.Input.{Input}
 use Rattle.vcd_model.specs.Tokens.{Token, Stream, stream_of}
 use Rattle.vcd_model.specs.Header.{Header}
 use Rattle.vcd_model.specs.Items.{BodyItem}
-use Rattle.vcd_model.specs.CheckAndList.{check_close}
 use Rattle.vcd_model.specs.BodyReading.{body_grammar, read_body, body_items, body_fault_of}
-use Rattle.vcd_model.specs.Outcome.{Outcome, Request, over_dump, over_body, at_end, body_of, ends_early, fault_outcome}
+use Rattle.vcd_model.specs.Outcome.{Outcome, Opened, Request, over_dump, over_body, at_end, body_of, items_in, fault_in, ends_early, fault_outcome, clean_outcome, open_text, close_text}
+use Rattle.vcd_model.specs.Laws.{IsPrefixOf, IsValid}
 use Rattle.vcd_model.specs.Reading.{Fault}
+use Rattle.vcd_model.proofs.CutGrows.{goes_on}
+use Rattle.vcd_model.proofs.Revised.{nothing_revised}
 use Rattle.vcd_model.proofs.SoFarLemmas.{so_far-nothing}
 use Rattle.vcd_text.specs.Answer.{failed_after}
 use Rattle.vcd_text.specs.Feed.{Stands, limit_of}
 use Rattle.vcd_text.specs.declared.device.Source.{Ghosts}
 use Rattle.vcd_text.specs.declared.feed.Feed.{Feed}
-use Rattle.vcd_text.proofs.Writes.{appends-twice}
-use Rattle.vcd_body.specs.Reads.{BodyHas}
+use Rattle.vcd_text.proofs.Writes.{AppendsSome, appends-first, appends-some, appends-twice}
+use Rattle.vcd_body.specs.Reads.{BodyHas, GaveItems}
+use Rattle.vcd_body.specs.declared.item.Regs.{Regs}
 use Rattle.vcd_tools.specs.Follows.{Belongs, Device, Follows, IsLeft, Writes, reads_failed}
-use Rattle.vcd_tools.specs.Holds.{Gives, Holds, Runs, Since, Stepped}
+use Rattle.vcd_tools.specs.Holds.{Gives, GrowsSome, Holds, Runs, Since, Stepped}
 use Rattle.vcd_tools.specs.declared.answer.Done.{Done}
 use Rattle.vcd_tools.specs.declared.answer.Done.TheVariants.{Whole, Early}
 use Rattle.vcd_tools.specs.declared.answer.More.{More}
@@ -26,6 +29,7 @@ use Rattle.vcd_tools.specs.declared.answer.More.TheVariants.{Again, Ended}
 use Rattle.vcd_tools.specs.declared.answer.Stop.{Stop}
 use Rattle.vcd_tools.specs.declared.answer.Stop.TheVariants.{Dump, Read, Write}
 use Rattle.vcd_tools.specs.declared.engine.Engine.{Engine}
+use Rattle.vcd_tools.proofs.Begins.{items_begin}
 
 -- ---- the first step
 
@@ -37,23 +41,24 @@ runs_first e h i front f s st = record {
   few = let t = s.counted.times in let b = s.counted.sections in let c = s.counted.changes in omega arith;
 }
 
--- ---- `check`
+-- ---- the outcome of a body
 
-never_early : (items : List BodyItem) → list_any (ends_early Request.Check) items ≡ false
-never_early [] = refl
-never_early (x ∷ items) = never_early items
+-- the request is one over a body: its names select, and none of these items ends the run
+pub record Lasts (t : Request) (h : Header) (items : List BodyItem) : Type 0 where
+  pub over : (name : List ℕ) (o : Opened) → o.header ≡ h → over_dump t name o ≡ over_body t o.header (items_in o) name (fault_in o)
+  pub on : list_any (ends_early t) items ≡ false
 
-over_body_check : (name : List ℕ) (h : Header) (items : List BodyItem) (f : Option Fault) → over_body Request.Check h items name f ≡ at_end Request.Check h items name f
+to_end : (t : Request) (name : List ℕ) (h : Header) (items : List BodyItem) (fault : Option Fault) → list_any (ends_early t) items ≡ false → over_body t h items name fault ≡ at_end t h items name fault
 unfolding over_body
-over_body_check name h items f = rw (never_early items, over_body) refl
+to_end t name h items fault on = rw (on, over_body) refl
 
--- the outcome of a body with these items and this fault
-over_check : (name : List ℕ) (h : Header) (stream : Stream) (rest : List Token) (items : List BodyItem) (fault : Option Fault) → body_items (read_body h.codes rest) ≡ items → body_fault_of stream (read_body h.codes rest) ≡ fault
-    → over_dump Request.Check name (record { header = h; stream = stream; rest = rest }) ≡ at_end Request.Check h items name fault
-unfolding over_dump body_of
-over_check name h stream rest items fault e f =
+-- so it goes to the end of a body with these items and this fault
+over_task : (t : Request) (name : List ℕ) (h : Header) (stream : Stream) (rest : List Token) (items : List BodyItem) (fault : Option Fault) → Lasts t h items → body_items (read_body h.codes rest) ≡ items → body_fault_of stream (read_body h.codes rest) ≡ fault
+    → over_dump t name (record { header = h; stream = stream; rest = rest }) ≡ at_end t h items name fault
+unfolding body_of
+over_task t name h stream rest items fault l e f =
     let r = read_body h.codes rest in
-    over_body_check name h (body_items r) (body_fault_of stream r) ∙ ap (λ l. at_end Request.Check h l name (body_fault_of stream r)) e ∙ ap (at_end Request.Check h items name) f
+    l.over name (record { header = h; stream = stream; rest = rest }) refl ∙ ap (λ x. over_body t h x name (body_fault_of stream r)) e ∙ ap (over_body t h items name) f ∙ to_end t name h items fault l.on
 
 -- the output before a fault
 output_is : (output name : List ℕ) (f : Fault) → (fault_outcome output name f).output ≡ output
@@ -63,82 +68,174 @@ output_is output name f = by_kind (f.number == 31) refl
     by_kind true e = rw (e, fault_outcome) refl
     by_kind false e = rw (e, fault_outcome) refl
 
-nothing_taken : (n : ℕ) (l : List ℕ) → [] ≡ l → take n l ≡ []
-nothing_taken zero l e = refl
-nothing_taken (suc n) [] e = refl
-nothing_taken (suc n) (x ∷ l) e = cc
+-- a write behind another one
+writes-twice : (out mid new : Device) (a b : List ℕ) → Writes out mid a → Writes mid new b → Writes out new (a ++ b)
+writes-twice out mid new a b first second = (appends-twice out.held mid.held new.held a b first.0 second.0, second.1 ∙ first.1)
 
--- writes behind one that wrote nothing
-after_none : (out mid new : Device) (bytes : List ℕ) → Writes out mid [] → Writes mid new bytes → Writes out new bytes
-after_none out mid new bytes first second = (appends-twice out.held mid.held new.held [] bytes first.0 second.0, second.1 ∙ first.1)
+-- one item more that does not end the run
+none_at : (test : BodyItem → Bool) (p : List BodyItem) (x : BodyItem) → list_any test p ≡ false → test x ≡ false → list_any test (p ++ x ∷ []) ≡ false
+none_at test [] x h e = rw e refl
+none_at test (y ∷ p) x h e = both_false (test y) (list_any test p) (list_any test (p ++ x ∷ [])) h (λ k. none_at test p x k e)
+  where
+    both_false : (b c d : Bool) → (b || c) ≡ false → (c ≡ false → d ≡ false) → (b || d) ≡ false
+    both_false true c d h k = cc
+    both_false false c d h k = k h
 
-module _ (h : Header) (i : Input) (front : List Token) (items : List BodyItem) (name : List ℕ) (limit before after : ℕ) (out mid new : Device) (none : Writes out mid []) where
+-- `mid` holds what is due behind these items; a step took the run from there to `new`
+module _ (t : Request) (h : Header) (i : Input) (front : List Token) (items : List BodyItem) (name : List ℕ) (limit before after : ℕ) (out mid new : Device) (lasts : Lasts t h items) (open_is : Writes out mid (open_text t h items)) where
   -- an answer that belongs to the outcome of a body
-  follows : (left : Input) (fault : Option Fault) (r : Result Done Stop) → IsLeft i before after left → BodyHas h.codes left front limit items fault → Belongs (at_end Request.Check h items name fault) name out new r → Follows Request.Check limit i front h name before after out new r
+  follows : (left : Input) (fault : Option Fault) (r : Result Done Stop) → IsLeft i before after left → BodyHas h.codes left front limit items fault → Belongs (at_end t h items name fault) name out new r → Follows t limit i front h name before after out new r
   follows left fault r is has belongs = record {
     left = left;
     is_left = is;
     rest = has.rest;
     tokens = has.tokens;
-    belongs = subst (λ (o : Outcome). Belongs o name out new r) (sym (over_check name h (stream_of limit left) has.rest items fault has.items_are has.fault_is)) belongs;
+    belongs = subst (λ (o : Outcome). Belongs o name out new r) (sym (over_task t name h (stream_of limit left) has.rest items fault lasts has.items_are has.fault_is)) belongs;
   }
 
   -- a fault in a body
-  faulty : (fault line : ℕ) → Writes mid new [] → let f : Fault = record { number = fault; line = line } in let o = at_end Request.Check h items name (Some f) in (o ≡ fault_outcome o.output name f) × Writes out new o.output
+  faulty : (fault line : ℕ) → Writes mid new [] → let f : Fault = record { number = fault; line = line } in let o = at_end t h items name (Some f) in (o ≡ fault_outcome o.output name f) × Writes out new o.output
   faulty fault line w =
       let f : Fault = record { number = fault; line = line } in
-      let e : (fault_outcome [] name f).output ≡ [] = output_is [] name f in
-      (ap (λ l. fault_outcome l name f) (sym e), subst (Writes out new) (sym e) (after_none out mid new [] none w))
+      let e : (fault_outcome (open_text t h items) name f).output ≡ open_text t h items = output_is (open_text t h items) name f in
+      (ap (λ l. fault_outcome l name f) (sym e), subst (Writes out new) (sym e) (subst (Writes out new) (append-nil (open_text t h items)) (writes-twice out mid new (open_text t h items) [] open_is w)))
 
   module _ {X : Type 0} {g : Ghosts X} (e : Engine) (f : Feed X g) (same : limit_of f ≡ limit) where
     has_here : (left : Input) (fault : Option Fault) → BodyHas h.codes left front (limit_of f) items fault → BodyHas h.codes left front limit items fault
     has_here left fault has = subst (λ (n : ℕ). BodyHas h.codes left front n items fault) same has
 
-    -- the run has ended
-    pub followed : (done : Done) → after ≡ before → Gives Request.Check h i front items e f mid new (Ok (Ended done)) → Follows Request.Check limit i front h name before after out new (Ok done)
-    followed Whole q s = follows i None (Ok Whole) (inl (q, refl)) (has_here i None s.0) (refl, after_none out mid new (check_close h items) none s.1)
-    followed Early q s = let no : false ≡ true = s.1 in cc
+    -- the run has ended, with the body
+    pub ended_whole : after ≡ before → Gives t h i front items e f mid new (Ok (Ended Whole)) → Follows t limit i front h name before after out new (Ok Whole)
+    ended_whole q s = follows i None (Ok Whole) (inl (q, refl)) (has_here i None s.0) (refl, writes-twice out mid new (open_text t h items) (close_text t h items) open_is s.1)
 
-    -- the run has stopped
-    pub followed_stop : (stop : Stop) → after ≡ before + reads_failed {A = Done} (Err stop) → Gives Request.Check h i front items e f mid new (Err stop) → Follows Request.Check limit i front h name before after out new (Err stop)
-    followed_stop (Dump input line fault) q s =
+    -- the run has stopped at a fault
+    pub stopped_dump : (input line fault : ℕ) → after ≡ before → Gives t h i front items e f mid new (Err (Dump input line fault)) → Follows t limit i front h name before after out new (Err (Dump input line fault))
+    stopped_dump input line fault q s =
         let b = faulty fault line s.3 in
-        follows i (Some (record { number = fault; line = line })) (Err (Dump input line fault)) (inl (omega arith, refl)) (has_here i (Some (record { number = fault; line = line })) s.2) (s.0, b.0, s.1, b.1)
-    followed_stop (Read input) q s =
+        follows i (Some (record { number = fault; line = line })) (Err (Dump input line fault)) (inl (q, refl)) (has_here i (Some (record { number = fault; line = line })) s.2) (s.0, b.0, s.1, b.1)
+
+    -- a read failed
+    pub stopped_read : (input : ℕ) → after ≡ before + 1 → Gives t h i front items e f mid new (Err (Read input)) → Follows t limit i front h name before after out new (Err (Read input))
+    stopped_read input q s =
         let n = s.1.0 in let line = s.1.1 in
         let b = faulty 31 line s.2 in
         follows (failed_after n i) (Some (record { number = 31; line = line })) (Err (Read input)) (inr (q, (n, refl))) (has_here (failed_after n i) (Some (record { number = 31; line = line })) s.1.2) (s.0, (line, b.0), b.1)
-    followed_stop Write q s = by_due s
-      where
-        by_due : Gives Request.Check h i front items e f mid new (Err Write) → Follows Request.Check limit i front h name before after out new (Err Write)
-        by_due (inl t) =
-            let due = t.2 in
-            let first = t.1.stands.given_first in
-            record {
-              left = i;
-              is_left = inl (omega arith, refl);
-              rest = t.1.given ++ first.0;
-              tokens = ap (λ n. (stream_of n i).tokens) (sym same) ∙ first.1 ∙ append_assoc front t.1.given first.0;
-              belongs = ((0, appends-twice out.held mid.held new.held [] [] none.0 (subst (Appends mid.held new.held) (nothing_taken due.2.0 due.0 due.1) due.2.1)), due.3 ∙ ap (λ n. n + 1) none.1);
-            }
-        by_due (inr t) =
-            let due = t.1 in
-            let some : Appends out.held new.held (take due.2.0 (check_close h items)) = appends-twice out.held mid.held new.held [] (take due.2.0 (check_close h items)) none.0 (subst (λ (l : List ℕ). Appends mid.held new.held (take due.2.0 l)) (sym due.1) due.2.1) in
-            follows i None (Err Write) (inl (omega arith, refl)) (has_here i None t.0) ((due.2.0, some), due.3 ∙ ap (λ n. n + 1) none.1)
+
+    -- a write of what follows the items failed
+    pub stopped_close : after ≡ before → BodyHas h.codes i front (limit_of f) items None → GrowsSome mid new [] (close_text t h items) → Follows t limit i front h name before after out new (Err Write)
+    stopped_close q has due =
+        let some = appends-some out.held mid.held new.held (open_text t h items) due.0 open_is.0 due.2 in
+        follows i None (Err Write) (inl (q, refl)) (has_here i None has) (subst (AppendsSome out.held new.held) (ap (λ l. open_text t h items ++ l) (sym due.1)) some, due.3 ∙ ap (λ n. n + 1) open_is.1)
+
+    -- the run goes on
+    pub went_on : Gives t h i front items e f mid new (Ok Again) → (more : List BodyItem) × Lasts t h more × Runs e h i front more f × Writes out new (open_text t h more)
+    went_on s =
+        let due = s.3 in
+        (items ++ s.0 ∷ [], record { over = lasts.over; on = none_at (ends_early t) items s.0 lasts.on s.1 }, s.2, subst (Writes out new) (sym due.1) (writes-twice out mid new (open_text t h items) due.0 open_is due.2))
+
+-- ---- runs that end before their body
+
+-- an item that ends the run is one of these items, and the last that counts
+any_at : (test : BodyItem → Bool) (p q : List BodyItem) (x : BodyItem) → test x ≡ true → list_any test (p ++ x ∷ q) ≡ true
+any_at test [] q x e = rw e refl
+any_at test (y ∷ p) q x e = or_true (test y) (list_any test (p ++ x ∷ q)) (any_at test p q x e)
+  where
+    or_true : (b c : Bool) → c ≡ true → (b || c) ≡ true
+    or_true true c h = refl
+    or_true false c h = h
+
+up_to_here : (test : BodyItem → Bool) (p q : List BodyItem) (x : BodyItem) → list_any test p ≡ false → test x ≡ true → up_to_first test (p ++ x ∷ q) ≡ p ++ x ∷ []
+up_to_here test p q x h e = goes_on test p (x ∷ q) h ∙ rw e refl
+
+-- the outcome where this item ends the run
+early_outcome : (t : Request) (h : Header) (items more : List BodyItem) (x : BodyItem) (name : List ℕ) (fault : Option Fault) → list_any (ends_early t) items ≡ false → ends_early t x ≡ true
+    → over_body t h ((items ++ x ∷ []) ++ more) name fault ≡ clean_outcome (open_text t h (items ++ x ∷ []))
+unfolding over_body
+early_outcome t h items more x name fault on e =
+    ap (λ l. over_body t h l name fault) (append_assoc items (x ∷ []) more) ∙ rw (any_at (ends_early t) items more x e, over_body) (ap (λ l. clean_outcome (open_text t h l)) (up_to_here (ends_early t) items more x on e))
+
+-- a body's outcome begins with what is due behind its first items, up to an early end
+begins_with : (t : Request) (h : Header) (p more : List BodyItem) (name : List ℕ) (fault : Option Fault) → IsValid t → list_any (ends_early t) p ≡ false → IsPrefixOf (open_text t h p) (over_body t h (p ++ more) name fault).output
+unfolding over_body
+begins_with t h p more name fault valid on = by_end (list_any (ends_early t) (p ++ more)) refl
+  where
+    by_fault : (f : Option Fault) → IsPrefixOf (open_text t h p) (at_end t h (p ++ more) name f).output
+    by_fault None = let r = nothing_revised t h p more valid on in (r.0 ++ close_text t h (p ++ more), ap (λ l. l ++ close_text t h (p ++ more)) r.1 ∙ append_assoc (open_text t h p) r.0 (close_text t h (p ++ more)))
+    by_fault (Some f) = let r = nothing_revised t h p more valid on in (r.0, output_is (open_text t h (p ++ more)) name f ∙ r.1)
+
+    by_end : (b : Bool) → list_any (ends_early t) (p ++ more) ≡ b → IsPrefixOf (open_text t h p) (over_body t h (p ++ more) name fault).output
+    by_end true e =
+        let r = nothing_revised t h p (up_to_first (ends_early t) more) valid on in
+        rw (e, over_body) (r.0, ap (open_text t h) (goes_on (ends_early t) p more on) ∙ r.1)
+    by_end false e = rw (e, over_body) (by_fault fault)
+
+module _ (t : Request) (h : Header) (i : Input) (front : List Token) (items : List BodyItem) (name : List ℕ) (limit before after : ℕ) (out mid new : Device) (lasts : Lasts t h items) (open_is : Writes out mid (open_text t h items)) where
+  -- and so with what is due behind one item more
+  begins_first : (x : BodyItem) (more : List BodyItem) (fault : Option Fault) → IsValid t → IsPrefixOf (open_text t h (items ++ x ∷ [])) (over_body t h ((items ++ x ∷ []) ++ more) name fault).output
+  begins_first x more fault valid = by_item (ends_early t x) refl
+    where
+      by_item : (b : Bool) → ends_early t x ≡ b → IsPrefixOf (open_text t h (items ++ x ∷ [])) (over_body t h ((items ++ x ∷ []) ++ more) name fault).output
+      by_item true e = ([], ap (λ (o : Outcome). o.output) (early_outcome t h items more x name fault lasts.on e) ∙ sym (append-nil (open_text t h (items ++ x ∷ []))))
+      by_item false e = begins_with t h (items ++ x ∷ []) more name fault valid (none_at (ends_early t) items x lasts.on e)
+
+  module _ {X : Type 0} {g : Ghosts X} (f : Feed X g) (same : limit_of f ≡ limit) where
+    -- an answer that belongs to the outcome of every body that begins with one item more
+    follows_first : (r : Regs) (x : BodyItem) (a : Result Done Stop) → after ≡ before → GaveItems h.codes i front (items ++ x ∷ []) f r → ((more : List BodyItem) (fault : Option Fault) → Belongs (over_body t h ((items ++ x ∷ []) ++ more) name fault) name out new a)
+        → Follows t limit i front h name before after out new a
+    unfolding body_of
+    follows_first r x a q gave belongs =
+        let first = gave.stands.given_first in
+        let rest = gave.given ++ first.0 in
+        let b = items_begin h.codes gave.given first.0 gave.placed gave.so_far in
+        let fault = body_fault_of (stream_of limit i) (read_body h.codes rest) in
+        let is : over_dump t name (record { header = h; stream = stream_of limit i; rest = rest }) ≡ over_body t h ((items ++ x ∷ []) ++ b.0) name fault =
+        lasts.over name (record { header = h; stream = stream_of limit i; rest = rest }) refl ∙ ap (λ l. over_body t h l name fault) (b.1 ∙ ap (λ l. l ++ b.0) gave.items_are) in
+        record {
+          left = i;
+          is_left = inl (q, refl);
+          rest = rest;
+          tokens = ap (λ n. (stream_of n i).tokens) (sym same) ∙ first.1 ∙ append_assoc front gave.given first.0;
+          belongs = subst (λ (o : Outcome). Belongs o name out new a) (sym is) (belongs b.0 fault);
+        }
+
+    -- a time mark ended the run
+    pub ended_early : (e : Engine) → after ≡ before → Gives t h i front items e f mid new (Ok (Ended Early)) → Follows t limit i front h name before after out new (Ok Early)
+    ended_early e q s =
+        let x = s.0 in
+        let due = s.3 in
+        let whole : Writes out new (open_text t h (items ++ x ∷ [])) = subst (Writes out new) (sym due.1) (writes-twice out mid new (open_text t h items) due.0 open_is due.2) in
+        follows_first e.regs x (Ok Early) q s.2 (λ more fault. subst (λ (o : Outcome). Belongs o name out new (Ok Early)) (sym (early_outcome t h items more x name fault lasts.on s.1)) (refl, whole))
+
+    -- a write of what is due behind an item failed
+    pub stopped_item : (r : Regs) (x : BodyItem) → IsValid t → after ≡ before → GaveItems h.codes i front (items ++ x ∷ []) f r → GrowsSome mid new (open_text t h items) (open_text t h (items ++ x ∷ [])) → Follows t limit i front h name before after out new (Err Write)
+    stopped_item r x valid q gave due =
+        let some : AppendsSome out.held new.held (open_text t h (items ++ x ∷ [])) = subst (AppendsSome out.held new.held) (sym due.1) (appends-some out.held mid.held new.held (open_text t h items) due.0 open_is.0 due.2) in
+        follows_first r x (Err Write) q gave
+        (λ more fault.
+        let b = begins_first x more fault valid in
+        (subst (AppendsSome out.held new.held) (sym b.1) (appends-first out.held new.held (open_text t h (items ++ x ∷ [])) b.0 some), due.3 ∙ ap (λ n. n + 1) open_is.1))
+
+-- `mid` holds what is due behind these items; the last step took the run from there to `new`
+module _ {X : Type 0} {g : Ghosts X} (t : Request) (h : Header) (i : Input) (front : List Token) (items : List BodyItem) (name : List ℕ) (limit before after : ℕ) (out mid new : Device) (lasts : Lasts t h items) (open_is : Writes out mid (open_text t h items)) (valid : IsValid t) (e : Engine) (f : Feed X g) (same : limit_of f ≡ limit) where
+  -- the run has ended
+  pub followed : (done : Done) → after ≡ before → Gives t h i front items e f mid new (Ok (Ended done)) → Follows t limit i front h name before after out new (Ok done)
+  followed Whole q s = ended_whole t h i front items name limit before after out mid new lasts open_is e f same q s
+  followed Early q s = ended_early t h i front items name limit before after out mid new lasts open_is f same e q s
+
+  -- the run has stopped
+  pub followed_stop : (stop : Stop) → after ≡ before + reads_failed {A = Done} (Err stop) → Gives t h i front items e f mid new (Err stop) → Follows t limit i front h name before after out new (Err stop)
+  followed_stop (Dump input line fault) q s = stopped_dump t h i front items name limit before after out mid new lasts open_is e f same input line fault (omega arith) s
+  followed_stop (Read input) q s = stopped_read t h i front items name limit before after out mid new lasts open_is e f same input q s
+  followed_stop Write q s = by_due s
+    where
+      by_due : Gives t h i front items e f mid new (Err Write) → Follows t limit i front h name before after out new (Err Write)
+      by_due (inl d) = stopped_item t h i front items name limit before after out mid new lasts open_is f same e.regs d.0 valid (omega arith) d.1 d.2
+      by_due (inr d) = stopped_close t h i front items name limit before after out mid new lasts open_is e f same (omega arith) d.0 d.1
 
 -- a step of this task that answers so
 pub asked : {X : Type 0} {g : Ghosts X} (t t' : Request) (h : Header) (i : Input) (front : List Token) (items : List BodyItem) (e : Engine) (f : Feed X g) (out out' : Device) (r r' : Result More Stop) → t ≡ t' → r ≡ r' → Gives t h i front items e f out out' r
     → Gives t' h i front items e f out out' r'
 asked t t' h i front items e f out out' r r' et er s = subst (λ (q : Result More Stop). Gives t' h i front items e f out out' q) er (subst (λ (q : Request). Gives q h i front items e f out out' r) et s)
-
--- ---- a step that goes on
-
--- so far nothing was written
-pub went_on : {X : Type 0} {g : Ghosts X} (h : Header) (i : Input) (front : List Token) (items : List BodyItem) (out mid new : Device) (e : Engine) (f : Feed X g) → Writes out mid [] → Gives Request.Check h i front items e f mid new (Ok Again)
-    → ((more : List BodyItem) × Runs e h i front more f) × Writes out new []
-went_on h i front items out mid new e f none s =
-    let due = s.2 in
-    ((items ++ s.0 ∷ [], s.1), after_none out mid new [] none (subst (Writes mid new) (sym due.1) due.2))
 
 -- what one step more leaves of a feed
 pub since_step : {X : Type 0} {g : Ghosts X} (failures : X → ℕ) (a b c : Feed X g) (r : Result More Stop) → r ≡ Ok Again → Since failures a b → Stepped failures b c r → Since failures a c
@@ -154,3 +251,13 @@ since_step failures a b c r again s t = record {
   goes = t.goes again s.goes;
   same = let n = t.failed s.goes in let m = s.same in let z = ap (reads_failed {A = More}) again in omega arith;
 }
+
+-- ---- `check`
+
+never_early : (items : List BodyItem) → list_any (ends_early Request.Check) items ≡ false
+never_early [] = refl
+never_early (x ∷ items) = never_early items
+
+pub check_lasts : (h : Header) (items : List BodyItem) → Lasts Request.Check h items
+unfolding over_dump
+check_lasts h items = record { over = λ name o e. refl; on = never_early items }

@@ -4,3 +4,4 @@ pub mod Lines
 pub mod Taken
 pub mod Ended
 pub mod Following
+pub mod Begins

@@ -1,5 +1,5 @@
 -- What an engine holds behind one item more.
-use Rattle.std.proofs.Common.{◌≡◌, ◌≢◌, ℕ, ◌+◌, ◌^◌, ◌<◌, ◌≤◌, cond, List, [], ◌∷◌, ◌++◌, length, count_by, filter_map, Option, Some, None, refl, sym, ap, subst, ◌∙◌, arith, append-nil}
+use Rattle.std.proofs.Common.{◌≡◌, ◌≢◌, ℕ, ◌+◌, ◌^◌, ◌<◌, ◌≤◌, false, cond, List, [], ◌∷◌, ◌++◌, length, count_by, filter_map, Option, Some, None, refl, sym, ap, subst, ◌∙◌, arith, append-nil}
 use Rattle.std.specs.List.{last_or}
 use Rattle.std.proofs.lemmas.List.{length_push}
 use Rattle.std.proofs.lemmas.List.Elements.{filter_map-append}
@@ -8,7 +8,7 @@ use Rattle.vcd_model.specs.Input.{Input}
 use Rattle.vcd_model.specs.Tokens.{Token}
 use Rattle.vcd_model.specs.Header.{Header}
 use Rattle.vcd_model.specs.Items.{BodyItem, Change, marks, time_mark, is_begin, change_of}
-use Rattle.vcd_model.specs.Outcome.{open_text}
+use Rattle.vcd_model.specs.Outcome.{ends_early, open_text}
 use Rattle.vcd_text.specs.Feed.{seen}
 use Rattle.vcd_text.specs.declared.device.Source.{Ghosts}
 use Rattle.vcd_text.specs.declared.feed.Feed.{Feed}
@@ -130,12 +130,16 @@ module _ {X : Type 0} {g : Ghosts X} (e : Engine) (h : Header) (i : Input) (fron
   quiet : (t : Task) (y : BodyItem) (out : Device) → Grows out out (open_text (request_of t) h items) (open_text (request_of t) h (items ++ y ∷ []))
   quiet Check y out = ([], refl, writes-none out)
 
+  -- and no item ends it
+  stays : (t : Task) (y : BodyItem) → ends_early (request_of t) y ≡ false
+  stays Check y = refl
+
   -- an item was taken, by what is said of the call that gave it
   pub step_on : (x : Item) (r : Regs) (c : Counts) (out : Device) → x ≢ Finish → r ≡ behind e.regs x → (total e.counts < 2 ^ 63 → c ≡ counted_with e.counts x) → seen old < seen new → seen new < 2 ^ 63
       → Runs e h i front items old → GivesItem h.codes i front items new r x
-      → (y : BodyItem) × Runs (gone_on e r c) h i front (items ++ y ∷ []) new × Grows out out (open_text (request_of e.task) h items) (open_text (request_of e.task) h (items ++ y ∷ []))
+      → (y : BodyItem) × (ends_early (request_of e.task) y ≡ false) × Runs (gone_on e r c) h i front (items ++ y ∷ []) new × Grows out out (open_text (request_of e.task) h items) (open_text (request_of e.task) h (items ++ y ∷ []))
   step_on x r c out other re ce further few s given =
       let t = taken x other s (subst (λ (q : Regs). GivesItem h.codes i front items new q x) re given) further in
       let n = s.few in
       let same : gone_on e (behind e.regs x) (counted_with e.counts x) ≡ gone_on e r c = rw (re, ce (omega arith)) refl in
-      (t.0, subst (λ (q : Engine). Runs q h i front (items ++ t.0 ∷ []) new) same t.1, quiet e.task t.0 out)
+      (t.0, stays e.task t.0, subst (λ (q : Engine). Runs q h i front (items ++ t.0 ∷ []) new) same t.1, quiet e.task t.0 out)

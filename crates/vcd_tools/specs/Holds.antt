@@ -89,7 +89,7 @@ GrowsSome out out' text more = (due : List ℕ) × (more ≡ text ++ due) × ((n
 -- what a step behind these items answers, by the engine, the feed and the output that it leaves
 abbrev pub Gives : {X : Type 0} {g : Ghosts X} → Request → Header → Input → List Token → List BodyItem → Engine → Feed X g → Device → Device → Result More Stop → Type 0
 Gives task h i front items e f out out' (Ok Again) =
-    (x : BodyItem) × Runs e h i front (items ++ x ∷ []) f × Grows out out' (open_text task h items) (open_text task h (items ++ x ∷ []))
+    (x : BodyItem) × (ends_early task x ≡ false) × Runs e h i front (items ++ x ∷ []) f × Grows out out' (open_text task h items) (open_text task h (items ++ x ∷ []))
 Gives task h i front items e f out out' (Ok (Ended Whole)) = BodyHas h.codes i front (limit_of f) items None × Writes out out' (close_text task h items)
 Gives task h i front items e f out out' (Ok (Ended Early)) =
     (x : BodyItem) × (ends_early task x ≡ true) × GaveItems h.codes i front (items ++ x ∷ []) f e.regs × Grows out out' (open_text task h items) (open_text task h (items ++ x ∷ []))
@@ -100,6 +100,11 @@ Gives task h i front items e f out out' (Err (Read input)) =
 Gives task h i front items e f out out' (Err Write) =
     ((x : BodyItem) × GaveItems h.codes i front (items ++ x ∷ []) f e.regs × GrowsSome out out' (open_text task h items) (open_text task h (items ++ x ∷ [])))
     ⊎ (BodyHas h.codes i front (limit_of f) items None × GrowsSome out out' [] (close_text task h items))
+
+-- the answer is that the run goes on
+abbrev pub goes_on : Result More Stop → Bool
+goes_on (Ok Again) = true
+goes_on result = false
 
 -- what a step leaves of a feed, whatever the input is
 pub record Stepped {X : Type 0} {g : Ghosts X} (failures : X → ℕ) (old new : Feed X g) (result : Result More Stop) : Type 0 where

@@ -99,9 +99,9 @@ impl<'a> Engine<'a> {
     ghost use Rattle.vcd_head.specs.Shown.{parts};
     ghost use Rattle.vcd_head.specs.Views.{Views};
     ghost use Rattle.vcd_tools.specs.Follows.{writes_failed};
-    ghost use Rattle.vcd_tools.specs.Holds.{Gives, Holds, is_going, may_end_early, Runs, Stepped, request_of, task_of};
+    ghost use Rattle.vcd_tools.specs.Holds.{Gives, Holds, goes_on, is_going, may_end_early, Runs, Stepped, request_of, task_of};
     ghost use Rattle.vcd_tools.specs.declared.answer.Done.TheVariants.{Early};
-    ghost use Rattle.vcd_tools.specs.declared.answer.More.TheVariants.{Again, Ended};
+    ghost use Rattle.vcd_tools.specs.declared.answer.More.TheVariants.{Ended};
     ghost use Rattle.vcd_tools.specs.declared.answer.Stop.TheVariants.{Write};
 
     /// Begins a task over the header that is shown, and writes what stands before all items.
@@ -170,7 +170,7 @@ impl<'a> Engine<'a> {
         ensures went { Stepped S.failures feed.old feed.new result }
         ensures bounded { seen feed.new < 2 ^ 63 }
         ensures writes { W.failures out.new ≡ W.failures out.old + writes_failed result }
-        ensures going { result ≡ Ok Again → is_going self.new ≡ true }
+        ensures going { is_going self.new ≡ goes_on result }
         ensures task { task_of self.new ≡ task_of self.old }
         ensures answer { IfOk result (λ more. more ≡ Ended Early → may_end_early (task_of self.old) ≡ true) }
     {

@@ -264,6 +264,7 @@ fn steps_write_at_the_end_alone(rt: HostRuntime) -> Result<(), Fail> {
     let head = read_head(rt.alloc(), &mut feed, 16_777_216)?;
     let mut out = Watch::new(Narrow::new(80));
     let mut engine = Engine::start(Task::Check, head.view(), &mut out)?;
+    assert!(rt; engine.going());
     assert_eq!(rt; out.device.held(), b"".as_slice());
     assert_eq!(rt; engine.step(&mut feed, &mut out)?, More::Again);
     assert_eq!(rt; out.device.held(), b"".as_slice());
