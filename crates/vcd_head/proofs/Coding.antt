@@ -11,6 +11,7 @@ use Rattle.vcd_model.specs.Declarations.{Declaration, Variable, IdCode, code_of,
 use Rattle.vcd_model.specs.HeaderChecks.{agrees, same_flag}
 use Rattle.vcd_head.specs.declared.view.Code.{Code}
 use Rattle.vcd_head.specs.declared.draft.Coded.{Coded}
+use Rattle.vcd_head.specs.Keys.{AreBytes}
 use Rattle.vcd_head.specs.Views.{IsCode, IsSize}
 use Rattle.vcd_head.specs.Holds.{ArePlaces, codes_in, HasCodes, CodeHeld}
 use Rattle.vcd_head.specs.declared.draft.Draft.{Draft}
@@ -56,6 +57,7 @@ codes_alias text es ds v h f =
           (subst (λ vs. AllByRecursion (λ u. find (has_text u.code) (codes_of ds) ≡ Some (code_of u)) vs) vars (all_push (λ u. find (has_text u.code) (codes_of ds) ≡ Some (code_of u)) (variables_of ds) v h.known f));
       seen = λ t. ap (list_any (λ u. bytes_eq u.code t)) (sym vars) ∙ any_push (variables_of ds) v t ∙ seen_or t (bytes_eq v.code t) refl ∙ ap (λ ks. is_some (find (has_text t) ks)) c;
       sizes = subst (λ ks. AllByRecursion (λ (k : IdCode). IsSize k.size) ks) c h.sizes;
+      texts = subst (λ ks. AllByRecursion (λ (k : IdCode). AreBytes k.text) ks) c h.texts;
     }
   where
     seen_or : (t : List ℕ) (b : Bool) → bytes_eq v.code t ≡ b → (list_any (λ u. bytes_eq u.code t) (variables_of ds) || b) ≡ is_some (find (has_text t) (codes_of ds))
@@ -68,8 +70,8 @@ find_more : (cs : List IdCode) (t : List ℕ) (c : IdCode) → find (has_text t)
 find_more cs t c = find-append (has_text t) cs (c ∷ [])
 
 pub codes_new : (text more : List ℕ) (es : List (Vec ℕ × Coded)) (ds : List Declaration) (v : Variable) (e : Vec ℕ × Coded) → HasCodes text es ds → find (has_text v.code) (codes_of ds) ≡ None → e.0.items ≡ v.code → e.1.place ≡ length (codes_of ds)
-    → IsCode (text ++ more) e.1.code (code_of v) → IsSize (code_of v).size → HasCodes (text ++ more) (es ++ e ∷ []) (ds ++ Declaration.Var v ∷ [])
-codes_new text more es ds v e h f b p is size =
+    → IsCode (text ++ more) e.1.code (code_of v) → IsSize (code_of v).size → AreBytes v.code → HasCodes (text ++ more) (es ++ e ∷ []) (ds ++ Declaration.Var v ∷ [])
+codes_new text more es ds v e h f b p is size bytes =
     let c = sym (codes-new ds v (h.seen v.code ∙ ap is_some f)) in
     let vars = sym (variables_push ds (Declaration.Var v)) in
     record {
@@ -84,6 +86,7 @@ codes_new text more es ds v e h f b p is size =
       seen = λ t. ap (list_any (λ u. bytes_eq u.code t)) (sym vars) ∙ any_push (variables_of ds) v t ∙ ap (λ x. x || bytes_eq v.code t) (h.seen t) ∙ seen_or t (find (has_text t) (codes_of ds)) (bytes_eq v.code t) (bytes_flip t v.code)
           ∙ sym (ap is_some (find_more (codes_of ds) t (code_of v))) ∙ ap (λ ks. is_some (find (has_text t) ks)) c;
       sizes = subst (λ ks. AllByRecursion (λ (k : IdCode). IsSize k.size) ks) c (all_push (λ (k : IdCode). IsSize k.size) (codes_of ds) (code_of v) h.sizes size);
+      texts = subst (λ ks. AllByRecursion (λ (k : IdCode). AreBytes k.text) ks) c (all_push (λ (k : IdCode). AreBytes k.text) (codes_of ds) (code_of v) h.texts bytes);
     }
   where
     seen_or : (t : List ℕ) (o : Option IdCode) (x : Bool) → bytes_eq t v.code ≡ x → (is_some o || x) ≡ is_some (option_or o (cond (bytes_eq t v.code) (Some (code_of v)) None))
@@ -184,10 +187,10 @@ inserted (e ∷ es) k x h = by_test (bytes_eq k.items e.0.items) refl h (inserte
     by_test true q f more = cc
     by_test false q f more = rw q (ap (λ l. e ∷ l) (more f))
 
-pub held_new : (old new : Draft) (ds : List Declaration) (v : Variable) (k : Vec ℕ) (x : Coded) → HasCodes old.text.items old.codes.entries ds → find (has_text v.code) (codes_of ds) ≡ None → k.items ≡ v.code → IsSize (code_of v).size → x.place ≡ length old.codes.entries
+pub held_new : (old new : Draft) (ds : List Declaration) (v : Variable) (k : Vec ℕ) (x : Coded) → HasCodes old.text.items old.codes.entries ds → find (has_text v.code) (codes_of ds) ≡ None → k.items ≡ v.code → AreBytes k.items → IsSize (code_of v).size → x.place ≡ length old.codes.entries
     → x.code ≡ record { start = length old.text.items; len = length k.items; size = (code_of v).size; event = (code_of v).event } → new.text.items ≡ old.text.items ++ k.items
     → new.codes.entries ≡ insert_entry (λ (a b : Vec ℕ). bytes_eq a.items b.items) old.codes.entries k x → CodeHeld old new ds v x.place
-held_new old new ds v k x h f b size place code text entries =
+held_new old new ds v k x h f b bytes size place code text entries =
     let fresh = lookup_none 0 old.codes.entries (codes_of ds) k.items h.numbered (ap (λ t. find (has_text t) (codes_of ds)) b ∙ f) in
     let more = entries ∙ inserted old.codes.entries k x fresh in
     let len = places_len 0 old.codes.entries (codes_of ds) h.numbered in
@@ -200,7 +203,7 @@ held_new old new ds v k x h f b size place code text entries =
       event_is = ap (λ (c : Code). c.event) code;
     } in
     record {
-      held_codes = rw (text, more) (codes_new old.text.items k.items old.codes.entries ds v (k, x) h f b (place ∙ len) is size);
+      held_codes = rw (text, more) (codes_new old.text.items k.items old.codes.entries ds v (k, x) h f b (place ∙ len) is size (subst AreBytes b bytes));
       held_at = ap (λ ks. slice_get ks x.place) (codes-new ds v (h.seen v.code ∙ ap is_some f)) ∙ ap (slice_get (codes_of ds ++ code_of v ∷ [])) (place ∙ len) ∙ slice_get-seam (codes_of ds) (code_of v) [];
       more = k.items;
       grown = text;

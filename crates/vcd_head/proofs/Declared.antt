@@ -13,6 +13,7 @@ use Rattle.vcd_head.specs.declared.view.Row.{Row}
 use Rattle.vcd_head.specs.declared.view.Scale.{Scale}
 use Rattle.vcd_head.specs.declared.draft.Coded.{Coded}
 use Rattle.vcd_head.specs.declared.draft.Draft.{Draft}
+use Rattle.vcd_head.specs.Keys.{AreBytes}
 use Rattle.vcd_head.specs.Views.{HasTexts, IsRow, AreRows, IsCode, IsSize, counted_from_one}
 use Rattle.vcd_head.specs.Texts.{spaced}
 use Rattle.vcd_head.specs.Holds.{ArePlaces, codes_in, HasCodes, Declares, Holds}
@@ -62,7 +63,7 @@ texts_there text type reference more r s w a n =
 -- ---- codes, where no variable is declared
 
 pub has_codes_grow : (text more : List ℕ) (es : List (Vec ℕ × Coded)) (ds : List Declaration) → HasCodes text es ds → HasCodes (text ++ more) es ds
-has_codes_grow text more es ds h = record { stand = are_codes_grow text more (codes_in es) (codes_of ds) h.stand; numbered = h.numbered; known = h.known; seen = h.seen; sizes = h.sizes }
+has_codes_grow text more es ds h = record { stand = are_codes_grow text more (codes_in es) (codes_of ds) h.stand; numbered = h.numbered; known = h.known; seen = h.seen; sizes = h.sizes; texts = h.texts }
 
 same_variables : (ds : List Declaration) (d : Declaration) → variable_of d ≡ None → variables_of (ds ++ d ∷ []) ≡ variables_of ds
 same_variables ds d h = variables_push ds d ∙ rw h (append-nil (variables_of ds))
@@ -77,6 +78,7 @@ has_codes_other text es ds d n h =
       known = subst (λ ks. AllByRecursion (λ u. find (has_text u.code) ks ≡ Some (code_of u)) (variables_of (ds ++ d ∷ []))) c (subst (λ vs. AllByRecursion (λ u. find (has_text u.code) (codes_of ds) ≡ Some (code_of u)) vs) v h.known);
       seen = λ t. ap (list_any (λ u. bytes_eq u.code t)) (sym v) ∙ h.seen t ∙ ap (λ ks. is_some (find (has_text t) ks)) c;
       sizes = subst (λ ks. AllByRecursion (λ (k : IdCode). IsSize k.size) ks) c h.sizes;
+      texts = subst (λ ks. AllByRecursion (λ (k : IdCode). AreBytes k.text) ks) c h.texts;
     }
 
 -- ---- scopes

@@ -6,7 +6,8 @@ use Rattle.std.specs.List.{AllByRecursion, All, range_with_len}
 use Rattle.vcd_model.specs.Declarations.{IdCode}
 use Rattle.vcd_head.specs.declared.draft.Coded.{Coded}
 use Rattle.vcd_head.specs.Views.{IsIndex, code_text}
-use Rattle.vcd_head.specs.Holds.{ArePlaces, places_in}
+use Rattle.vcd_head.specs.Keys.{key_in}
+use Rattle.vcd_head.specs.Holds.{ArePlaces, keys_in, places_in}
 use Rattle.vcd_head.proofs.Growing.{slice_get-seam}
 use Rattle.std.proofs.lemmas.List.{append_assoc, get_or-map, length-map}
 use Rattle.std.proofs.lemmas.List.Sorted.{IsPermutation-map, All-permutation}
@@ -21,6 +22,10 @@ use Rattle.vcd_head.proofs.Coding.{bytes_flip}
 pub values_of : {K V W : Type 0} (f : V → W) (es : List (K × V)) → map f (map (λ (e : K × V). e.1) es) ≡ map (λ (e : K × V). f e.1) es
 values_of f [] = refl
 values_of f (e ∷ es) = ap (λ l. f e.1 ∷ l) (values_of f es)
+
+pub firsts_of : {K V W : Type 0} (f : K → W) (es : List (K × V)) → map f (map (λ (e : K × V). e.0) es) ≡ map (λ (e : K × V). f e.0) es
+firsts_of f [] = refl
+firsts_of f (e ∷ es) = ap (λ l. f e.0 ∷ l) (firsts_of f es)
 
 -- the places are the numbers from 0 on
 pub places_range : (n : ℕ) (es : List (Vec ℕ × Coded)) (cs : List IdCode) → ArePlaces n es cs → places_in es ≡ range_with_len n (length cs)
@@ -103,3 +108,10 @@ is_index cs old new index h p s d e =
       places = rw e (subst (λ l. IsPermutation l (places_in new)) (places_range 0 old cs h) (IsPermutation-map (λ (x : Vec ℕ × Coded). x.1.place) old new p));
       rising = subst (IsStrictlySortedBy (slice_cmp nat_cmp)) (keys_map new ∙ sym (keys_are cs new keyed) ∙ ap (map (code_text cs)) (sym e)) (rising (map (λ (x : Vec ℕ × Coded). x.0) new) s d);
     }
+
+-- the keys are those of the codes
+pub keys_stand : (n : ℕ) (es : List (Vec ℕ × Coded)) (cs : List IdCode) → ArePlaces n es cs → keys_in es ≡ map (λ (c : IdCode). key_in c.text) cs
+keys_stand n [] [] h = refl
+keys_stand n [] (c ∷ cs) h = absurd h
+keys_stand n (e ∷ es) [] h = absurd h
+keys_stand n (e ∷ es) (c ∷ cs) h = λ j. ap key_in h.0 j ∷ keys_stand (suc n) es cs h.3 j

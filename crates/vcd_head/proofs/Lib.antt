@@ -17,3 +17,4 @@ pub mod ReadingSteps
 pub mod Indexing
 pub mod Finding
 pub mod Needing
+pub mod Packing

@@ -137,7 +137,7 @@ not_final k e f = let x : is_final k ≡ true = ap is_final f in cc
 
 no_codes_yet : (text : List ℕ) → HasCodes text [] []
 unfolding codes_of
-no_codes_yet text = record { stand = tt; numbered = tt; known = tt; seen = λ t. refl; sizes = tt }
+no_codes_yet text = record { stand = tt; numbered = tt; known = tt; seen = λ t. refl; sizes = tt; texts = tt }
 
 no_rows_yet : (text : List ℕ) → AreRows text (codes_of []) [] [] []
 no_rows_yet text = tt

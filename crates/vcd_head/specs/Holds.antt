@@ -11,6 +11,7 @@ use Rattle.vcd_head.specs.declared.draft.Coded.{Coded}
 use Rattle.vcd_head.specs.declared.draft.Draft.{Draft}
 use Rattle.vcd_head.specs.declared.draft.Found.{Found}
 use Rattle.vcd_head.specs.declared.draft.Found.TheVariants as found
+use Rattle.vcd_head.specs.Keys.{AreBytes, key_in}
 use Rattle.vcd_head.specs.Views.{IsCode, IsSize, AreRows}
 
 -- the code has this size, and is an event or none
@@ -36,6 +37,7 @@ pub record HasCodes (text : List ℕ) (entries : List (Vec ℕ × Coded)) (ds : 
   pub known : AllByRecursion (λ u. find (has_text u.code) (codes_of ds) ≡ Some (code_of u)) (variables_of ds)
   pub seen : (t : List ℕ) → list_any (λ u. bytes_eq u.code t) (variables_of ds) ≡ is_some (find (has_text t) (codes_of ds))
   pub sizes : AllByRecursion (λ (c : IdCode). IsSize c.size) (codes_of ds)
+  pub texts : AllByRecursion (λ (c : IdCode). AreBytes c.text) (codes_of ds)
 
 -- the code of a variable behind these declarations was found among theirs, or is new
 abbrev pub IsFound : List Declaration → Variable → Found → Type 0
@@ -73,6 +75,10 @@ pub record IsSameBut (old new : Draft) : Type 0 where
   pub same_version : new.version.items ≡ old.version.items
   pub same_scale : new.scale ≡ old.scale
   pub same_scopes : new.scopes.items ≡ old.scopes.items
+
+-- the keys of the entries
+abbrev pub keys_in : List (Vec ℕ × Coded) → List ℕ
+keys_in es = map (λ e. key_in e.0.items) es
 
 -- the places of the entries
 abbrev pub places_in : List (Vec ℕ × Coded) → List ℕ

@@ -2,6 +2,7 @@ pub mod Fault
 pub mod Shown
 pub mod Views
 pub mod Finds
+pub mod Keys
 pub mod Needs
 pub mod Paths
 pub mod Reads

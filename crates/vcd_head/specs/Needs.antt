@@ -8,6 +8,6 @@ use Rattle.vcd_head.specs.Shown.{HeadShown}
 abbrev pub room : Need → RoomSize
 room n = record { values = n.values; slots = n.slots; marks = n.marks }
 
--- the lengths of what is shown; a guess has 4 bytes
+-- the lengths of what is shown; a guess has 4 bytes, and a key 8
 abbrev pub view_size : HeadShown → ViewSize
-view_size s = record { text = length s.text + length s.date + length s.version; rows = length s.rows; codes = length s.codes; index = length s.index; look_up = 4 * length s.guesses }
+view_size s = record { text = length s.text + length s.date + length s.version; rows = length s.rows; codes = length s.codes; index = length s.index; look_up = 4 * length s.guesses + 8 * length s.keys }

@@ -13,17 +13,18 @@ pub record HeadShown : Type 0 where
   pub codes : List Code
   pub index : List ℕ
   pub guesses : List ℕ
+  pub keys : List ℕ
   pub date : List ℕ
   pub version : List ℕ
   pub scale : Option Scale
 
 -- what a view's slices hold
 abbrev pub parts : HeadView → HeadShown
-parts v = record { text = v.text.now; rows = v.rows.now; codes = v.codes.now; index = v.index.now; guesses = v.guesses.now; date = v.date.now; version = v.version.now; scale = v.scale }
+parts v = record { text = v.text.now; rows = v.rows.now; codes = v.codes.now; index = v.index.now; guesses = v.guesses.now; keys = v.keys.now; date = v.date.now; version = v.version.now; scale = v.scale }
 
 -- what the view of a head shows
 abbrev pub shown : Head → HeadShown
-shown h = record { text = h.text.items; rows = h.rows.items; codes = h.codes.items; index = h.index.items; guesses = h.guesses.items; date = h.date.items; version = h.version.items; scale = h.scale }
+shown h = record { text = h.text.items; rows = h.rows.items; codes = h.codes.items; index = h.index.items; guesses = h.guesses.items; keys = h.keys.items; date = h.date.items; version = h.version.items; scale = h.scale }
 
 -- so many bytes of a text from a place on, none where it has fewer
 abbrev pub text_in : List ℕ → ℕ → ℕ → List ℕ

@@ -1,5 +1,5 @@
 // Codes that are looked up.
-ghost use Rattle.std.specs.Prelude.{◌≡◌, ◌+◌, ◌≤◌, ◌<◌, length, IfSome, Some};
+ghost use Rattle.std.specs.Prelude.{◌≡◌, ◌+◌, ◌≤◌, ◌<◌, length, unwrap_or, slice_get, IfSome, Some};
 ghost use Rattle.std.specs.Int.Digits.{digits_of};
 ghost use Rattle.vcd_model.specs.Header.{Header};
 ghost use Rattle.vcd_head.specs.Shown.{parts};
@@ -7,6 +7,7 @@ ghost use Rattle.vcd_head.specs.Views.{Views, code_text};
 ghost use Rattle.vcd_head.specs.Finds.{Finds};
 
 use crate::guess::entry_of;
+use crate::key::key_of;
 use crate::probes::Probes;
 use crate::view::HeadView;
 use std::cmp::Ordering;
@@ -52,13 +53,22 @@ fn guessed(view: HeadView<'_>, code: &[u8]) -> Option<usize>
     ensures found { (h : Header) → Views (parts view.entry) h → IfSome result (λ place. Finds h.codes code.now (Some place)) }
     ensures within { IfSome result (λ place. place < length view.entry.codes.now) }
 {
-    let guess = view.guesses.get(entry_of(code, view.guesses.len()))?;
+    let key = key_of(code);
+    let guess = view.guesses.get(entry_of(key, view.guesses.len()))?;
     let place = *guess as usize;
-    if place < view.codes.len() && text_of(view, place) == code {
+    if key != 0 && place < view.codes.len() && key_at(view, place) == key {
         Some(place)
     } else {
         None
     }
+}
+
+// The key of the code at a place.
+#[inline(always)]
+fn key_at(view: HeadView<'_>, place: usize) -> u64
+    ensures { result ≡ unwrap_or (slice_get view.entry.keys.now place) 0 }
+{
+    view.keys.get(place).copied().unwrap_or(0)
 }
 
 // The bytes of the code at a place.

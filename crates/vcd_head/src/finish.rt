@@ -2,7 +2,7 @@
 ghost use Rattle.std.specs.Prelude.{◌≡◌, ℕ, ◌≤◌, List, map, IfOk, IfErr};
 ghost use Rattle.vcd_model.specs.HeaderPhrases.{HeaderPhrase};
 ghost use Rattle.vcd_model.specs.Header.{header_of};
-ghost use Rattle.vcd_head.specs.Holds.{Holds, codes_in, places_in};
+ghost use Rattle.vcd_head.specs.Holds.{Holds, codes_in, keys_in, places_in};
 ghost use Rattle.vcd_head.specs.Shown.{shown};
 ghost use Rattle.vcd_head.specs.Views.{Views};
 
@@ -10,6 +10,7 @@ use crate::draft::{Coded, Draft};
 use crate::fault::HeadFault;
 use crate::guess::guesses_of;
 use crate::head::Head;
+use crate::key::key_of;
 use crate::view::Code;
 use indexmap::IndexMap;
 use std::alloc::{AllocError, Global};
@@ -23,6 +24,17 @@ fn codes_of(alloc: Global, map: &IndexMap<Vec<u8>, Coded>) -> Result<Vec<Code>, 
         codes.push(coded.code)?;
     }
     Ok(codes)
+}
+
+/// The keys of the codes, in the order of the map.
+fn keys_of(alloc: Global, map: &IndexMap<Vec<u8>, Coded>) -> Result<Vec<u64>, AllocError>
+    ensures { IfOk result (λ keys. keys.items ≡ keys_in map.now.entries) }
+{
+    let mut keys = Vec::new(alloc);
+    for code in map.keys() {
+        keys.push(key_of(code))?;
+    }
+    Ok(keys)
 }
 
 /// The places of the codes, in the order of the map.
@@ -53,6 +65,7 @@ pub(crate) fn finish(alloc: Global, draft: Draft) -> Result<Head, HeadFault>
     } = draft;
     let codes = codes_of(alloc, &map)?;
     let guesses = guesses_of(alloc, &map)?;
+    let keys = keys_of(alloc, &map)?;
     map.sort_keys()?;
     let index = places_of(alloc, &map)?;
     Ok(Head {
@@ -61,6 +74,7 @@ pub(crate) fn finish(alloc: Global, draft: Draft) -> Result<Head, HeadFault>
         codes,
         index,
         guesses,
+        keys,
         date,
         version,
         scale,

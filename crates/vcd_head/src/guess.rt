@@ -1,25 +1,22 @@
 // Guesses at the places of codes. Whatever they are, a look-up is right: they only make it fast.
 ghost use Rattle.std.specs.Prelude.{◌*◌, ◌≤◌, ◌≡◌, length, IfOk};
-ghost use Rattle.vcd_model.specs.Bound.{look_up_bytes};
 
 use crate::draft::Coded;
+use crate::key::key_of;
 use indexmap::IndexMap;
 use std::alloc::{AllocError, Global};
 
-/// The entry for a code in a table with so many entries, a power of two.
+/// The entry for a key in a table with so many entries, a power of two.
 ///
-/// Simulators number codes from `!` on in base 94, the lowest digit first, in the order of
-/// declaration. Read back as such a number, neighbours have entries of their own.
+/// Simulators count codes up from `!` in base 94, the lowest digit first, in the order of
+/// declaration. Seven bits of each byte, put together, give neighbours entries of their own, side by
+/// side, and a code and the longer ones that it begins different ones.
 #[inline(always)]
-pub(crate) fn entry_of(code: &[u8], entries: usize) -> usize {
-    let mut number: usize = 0;
-    for byte in code.iter().rev() {
-        number = number
-            .wrapping_mul(94)
-            .wrapping_add(usize::from(*byte))
-            .wrapping_sub(32);
-    }
-    number & entries.wrapping_sub(1)
+pub(crate) fn entry_of(key: u64, entries: usize) -> usize {
+    let pairs = (key & 0x007f_007f_007f_007f) | ((key & 0x7f00_7f00_7f00_7f00) >> 1);
+    let fours = (pairs & 0x0000_3fff_0000_3fff) | ((pairs & 0x3fff_0000_3fff_0000) >> 2);
+    let all = (fours & 0x0fff_ffff) | ((fours & 0x0fff_ffff_0000_0000) >> 4);
+    all as usize & entries.wrapping_sub(1)
 }
 
 /// A guess for each code, two to four entries a code.
@@ -27,7 +24,7 @@ pub(crate) fn guesses_of(
     alloc: Global,
     map: &IndexMap<Vec<u8>, Coded>,
 ) -> Result<Vec<u32>, AllocError>
-    ensures { IfOk result (λ guesses. 4 * length guesses.items ≤ look_up_bytes * length map.now.entries) }
+    ensures { IfOk result (λ guesses. 4 * length guesses.items ≤ 16 * length map.now.entries) }
 {
     if map.is_empty() {
         return Ok(Vec::new(alloc));
@@ -41,7 +38,7 @@ pub(crate) fn guesses_of(
 // Writes the place of each code into its entry.
 fn fill(guesses: &mut [u32], map: &IndexMap<Vec<u8>, Coded>) {
     for (code, coded) in map.iter() {
-        let entry = entry_of(code, guesses.len());
+        let entry = entry_of(key_of(code), guesses.len());
         if let (Some(guess), Ok(place)) = (guesses.get_mut(entry), u32::try_from(coded.place)) {
             *guess = place;
         }

@@ -7,6 +7,7 @@ pub mod find;
 mod finish;
 mod guess;
 pub mod head;
+mod key;
 pub mod need;
 pub mod path;
 pub mod probes;

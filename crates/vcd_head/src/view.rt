@@ -61,8 +61,10 @@ pub struct HeadView<'a> {
     /// The places of the codes, in rising order of their bytes.
     pub index: &'a [usize],
     /// Guesses at the places of codes, which only serve `find`: a power of two of them, from two to
-    /// eight for each code.
+    /// four for each code.
     pub guesses: &'a [u32],
+    /// The codes of at most 7 bytes as numbers, in the order of `codes`, which only serve `find`.
+    pub keys: &'a [u64],
     /// The last date, its tokens with a space between; empty where there is none.
     pub date: &'a [u8],
     /// The last version, likewise.

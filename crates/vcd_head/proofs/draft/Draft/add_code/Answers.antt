@@ -1,11 +1,12 @@
 use Rattle.std.proofs.Common.{◌≡◌, ◌++◌, length, ap, ◌∙◌, arith, subst}
 use Rattle.vcd_head.specs.Views.{IsSize}
 use Rattle.vcd_head.proofs.Coding.{held_new}
+use Rattle.vcd_head.proofs.Packing.{are_bytes}
 use Rattle.vcd_head.proofs.draft.Draft.add_code.Goals as goal
 
 pub returns-clause-codes : goal.returns-clause-codes
 returns-clause-codes c = λ ds v h found size same event.
     let start : c.len.result ≡ length c.args.self.now.text.items = omega arith in
     let len : c.len-2.result ≡ length c.args.bytes.items = omega arith in
-    held_new c.args.self.now _ ds v c.args.bytes (record { place = c.len-place.result; code = record { start = c.len.result; len = c.len-2.result; size = c.args.size; event = c.args.event } }) h found.1 found.0 (subst IsSize same size)
+    held_new c.args.self.now _ ds v c.args.bytes (record { place = c.len-place.result; code = record { start = c.len.result; len = c.len-2.result; size = c.args.size; event = c.args.event } }) h found.1 found.0 (are_bytes c.args.bytes.items (λ i d l. omega arith)) (subst IsSize same size)
     c.len-place.ensures.len (λ j. record { start = start j; len = len j; size = same j; event = event j }) (c.in_ok-extend_from_slice.ensures.items ∙ ap (λ l. c.args.self.now.text.items ++ l) c.deref.ensures.value) c.in_ok-insert.ensures.entries
