@@ -54,7 +54,7 @@ fn guessed(view: HeadView<'_>, code: &[u8]) -> Option<usize>
     ensures within { IfSome result (λ place. place < length view.entry.codes.now) }
 {
     let key = key_of(code);
-    let guess = view.guesses.get(entry_of(key, view.guesses.len()))?;
+    let guess = view.guesses.get(entry_of(code, view.guesses.len()))?;
     let place = *guess as usize;
     if key != 0 && place < view.codes.len() && key_at(view, place) == key {
         Some(place)

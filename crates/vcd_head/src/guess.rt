@@ -2,21 +2,43 @@
 ghost use Rattle.std.specs.Prelude.{◌*◌, ◌≤◌, ◌≡◌, length, IfOk};
 
 use crate::draft::Coded;
-use crate::key::key_of;
 use indexmap::IndexMap;
 use std::alloc::{AllocError, Global};
 
-/// The entry for a key in a table with so many entries, a power of two.
+/// The entry for a code in a table with so many entries, a power of two.
 ///
-/// Simulators count codes up from `!` in base 94, the lowest digit first, in the order of
-/// declaration. Seven bits of each byte, put together, give neighbours entries of their own, side by
-/// side, and a code and the longer ones that it begins different ones.
+/// Simulators number codes from `!` on in base 94, the lowest digit first, in the order of
+/// declaration. Read back as such a number, neighbours have entries of their own.
 #[inline(always)]
-pub(crate) fn entry_of(key: u64, entries: usize) -> usize {
-    let pairs = (key & 0x007f_007f_007f_007f) | ((key & 0x7f00_7f00_7f00_7f00) >> 1);
-    let fours = (pairs & 0x0000_3fff_0000_3fff) | ((pairs & 0x3fff_0000_3fff_0000) >> 2);
-    let all = (fours & 0x0fff_ffff) | ((fours & 0x0fff_ffff_0000_0000) >> 4);
-    all as usize & entries.wrapping_sub(1)
+pub(crate) fn entry_of(code: &[u8], entries: usize) -> usize {
+    let number = match code {
+        [first] => digit_of(*first),
+        [first, second] => above(digit_of(*second), *first),
+        [first, second, third] => above(above(digit_of(*third), *second), *first),
+        _ => number_of(code),
+    };
+    number & entries.wrapping_sub(1)
+}
+
+// The digit that a byte stands for.
+#[inline(always)]
+fn digit_of(byte: u8) -> usize {
+    usize::from(byte).wrapping_sub(32)
+}
+
+// The number with a lower digit behind it.
+#[inline(always)]
+fn above(number: usize, byte: u8) -> usize {
+    number.wrapping_mul(94).wrapping_add(digit_of(byte))
+}
+
+// The number of a code of any length.
+fn number_of(code: &[u8]) -> usize {
+    let mut number: usize = 0;
+    for byte in code.iter().rev() {
+        number = above(number, *byte);
+    }
+    number
 }
 
 /// A guess for each code, two to four entries a code.
@@ -38,7 +60,7 @@ pub(crate) fn guesses_of(
 // Writes the place of each code into its entry.
 fn fill(guesses: &mut [u32], map: &IndexMap<Vec<u8>, Coded>) {
     for (code, coded) in map.iter() {
-        let entry = entry_of(key_of(code), guesses.len());
+        let entry = entry_of(code, guesses.len());
         if let (Some(guess), Ok(place)) = (guesses.get_mut(entry), u32::try_from(coded.place)) {
             *guess = place;
         }
