@@ -266,6 +266,8 @@ fn shortest_digits_are_written(rt: HostRuntime) {
     assert!(rt; writes(1, Form::Scalar, b"Z", b"z!\n"));
     assert!(rt; writes(4, Form::Scalar, b"1", b"b1 !\n"));
     assert!(rt; writes(4, Form::Vector, b"0010", b"b10 !\n"));
+    assert!(rt; writes(4, Form::Vector, b"xX10", b"bx10 !\n"));
+    assert!(rt; writes(4, Form::Scalar, b"Z", b"bz !\n"));
     assert!(rt; writes(4, Form::Vector, b"0000", b"b0 !\n"));
     assert!(rt; writes(4, Form::Vector, b"1111", b"b1111 !\n"));
     assert!(rt; writes(4, Form::Vector, b"XxXx", b"bx !\n"));
@@ -288,7 +290,8 @@ fn numbers_and_events_are_written(rt: HostRuntime) {
     let mut page = Page::new(80);
     assert!(rt; put_change(1, false, Form::RealText, b"-1.5E3", b"\"", &mut page).is_ok());
     assert!(rt; put_change(2, true, Form::Vector, b"b101", b"#", &mut page).is_ok());
-    assert_eq!(rt; page.held(), b"r-1.5E3 \"\n1#\n".as_slice());
+    assert!(rt; put_change(1, true, Form::Scalar, b"x", b"#", &mut page).is_ok());
+    assert_eq!(rt; page.held(), b"r-1.5E3 \"\n1#\n1#\n".as_slice());
 }
 
 #[test]
