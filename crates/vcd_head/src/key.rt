@@ -8,7 +8,7 @@ const MOST_BYTES: usize = 7;
 // What closes a key.
 const BLANK: u64 = b' ' as u64;
 
-/// The number of a code, which no other has, 0 where it has more than 7 bytes.
+/// The number of a code of at most 7 bytes, which no other code has, and 0 for a longer one.
 #[inline(always)]
 pub(crate) fn key_of(code: &[u8]) -> u64
     ensures { result ≡ key_in code.now }
