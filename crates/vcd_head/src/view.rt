@@ -1,4 +1,6 @@
 // A header as slices and numbers.
+ghost use Rattle.std.specs.Prelude.{◌≡◌, slice_get};
+ghost use Rattle.vcd_head.specs.Shown.{text_in};
 
 /// What a row declares.
 #[derive(Clone, Copy, PartialEq, Eq, Debug)]
@@ -74,9 +76,6 @@ pub struct HeadView<'a> {
 }
 
 impl<'a> HeadView<'a> {
-    ghost use Rattle.std.specs.Prelude.{◌≡◌, slice_get};
-    ghost use Rattle.vcd_head.specs.Shown.{text_in};
-
     /// The row at a place.
     #[inline(always)]
     pub fn row_at(self, place: usize) -> Option<Row>
@@ -90,7 +89,7 @@ impl<'a> HeadView<'a> {
     pub fn code_at(self, place: usize) -> Option<Code>
         ensures { result ≡ slice_get self.entry.codes.now place }
     {
-        self.codes.get(place).copied()
+        code_in(self.codes, place)
     }
 
     /// So many bytes of the text from a place on; none where it has fewer.
@@ -98,10 +97,26 @@ impl<'a> HeadView<'a> {
     pub fn text_at(self, start: usize, len: usize) -> &'a [u8]
         ensures { result.now ≡ text_in self.entry.text.now start len }
     {
-        match self.text.get(start..start.saturating_add(len)) {
-            Some(bytes) => bytes,
-            None => &[],
-        }
+        text_in(self.text, start, len)
+    }
+}
+
+/// The code at a place among these.
+#[inline(always)]
+pub(crate) fn code_in(codes: &[Code], place: usize) -> Option<Code>
+    ensures { result ≡ slice_get codes.now place }
+{
+    codes.get(place).copied()
+}
+
+/// So many bytes of a text from a place on; none where it has fewer.
+#[inline(always)]
+pub(crate) fn text_in(text: &[u8], start: usize, len: usize) -> &[u8]
+    ensures { result.now ≡ text_in text.now start len }
+{
+    match text.get(start..start.saturating_add(len)) {
+        Some(bytes) => bytes,
+        None => &[],
     }
 }
 
