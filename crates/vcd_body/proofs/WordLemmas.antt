@@ -1,8 +1,11 @@
 -- What the tests of words say.
-use Rattle.std.proofs.Common.{◌≡◌, ◌<◌, ℕ, Bool, true, false, not, ◌||◌, ◌==◌, IsTrue, List, [], ◌∷◌, length, bytes_eq, None, refl, sym, inl, inr, arith}
-use Rattle.std.proofs.lemmas.Bool.{or_parts, or_cases, eqb-true}
+use Rattle.std.proofs.Common.{◌≡◌, ◌⊎◌, ◌+◌, ◌<◌, ◌≤◌, ◌∙◌, take, get_or, ℕ, Bool, true, false, not, ◌||◌, ◌==◌, IsTrue, List, [], ◌∷◌, length, bytes_eq, None, refl, sym, inl, inr, arith}
+use Rattle.std.specs.List.{list_all}
+use Rattle.std.proofs.lemmas.Bool.{or_parts, or_cases, eqb-true, cases_lt}
+use Rattle.std.proofs.lemmas.List.Folds.{list_all_more}
 use Rattle.std.proofs.lemmas.Slice.Eq.{bytes_eq-Decides}
 use Rattle.vcd_model.specs.Bytes.{is_empty}
+use Rattle.vcd_model.specs.BodyPhrases.{is_value_digit}
 use Rattle.vcd_model.specs.Keywords.{Keyword, keyword_of, keyword_text, is_end}
 use Rattle.vcd_body.specs.Words.{is_of_header, is_header_word}
 
@@ -81,3 +84,21 @@ no_keyword token end comment vars off on all h =
     let f = or_parts (bytes_eq (keyword_text Keyword.Date) token || bytes_eq (keyword_text Keyword.EndDefinitions) token) (bytes_eq (keyword_text Keyword.Scope) token) e.0 in
     let g = or_parts (bytes_eq (keyword_text Keyword.Date) token) (bytes_eq (keyword_text Keyword.EndDefinitions) token) f.0 in
     rw (comment, g.0, g.1, f.1, e.1, d.1, b.1, a.1, all, off, on, vars, end) refl
+
+-- ---- digits of two states
+
+binary : (d : ℕ) → (d ≡ 48) ⊎ (d ≡ 49) → is_value_digit d ≡ true
+unfolding is_value_digit
+binary d (inl e) = rw e refl
+binary d (inr e) = rw e refl
+
+one_of_two : (d : ℕ) → 48 ≤ d → d ≤ 49 → (d ≡ 48) ⊎ (d ≡ 49)
+one_of_two d l h = by_order (cases_lt 48 d)
+  where
+    by_order : (48 < d) ⊎ (d ≤ 48) → (d ≡ 48) ⊎ (d ≡ 49)
+    by_order (inl a) = inr (omega arith)
+    by_order (inr a) = inl (omega arith)
+
+-- one digit more that is 0 or 1
+pub binary_more : (digits : List ℕ) (at : ℕ) → at < length digits → list_all is_value_digit (take at digits) ≡ true → 48 ≤ get_or digits at 0 → get_or digits at 0 ≤ 49 → list_all is_value_digit (take (at + 1) digits) ≡ true
+binary_more digits at inside so_far low high = list_all_more is_value_digit digits at 0 inside ∙ rw (so_far, binary (get_or digits at 0) (one_of_two (get_or digits at 0) low high)) refl

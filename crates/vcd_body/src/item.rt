@@ -52,7 +52,7 @@ pub struct Regs {
 
 impl Regs {
     ghost use Rattle.std.specs.Prelude.{◌≡◌, [], false, None};
-    ghost use Rattle.vcd_body.specs.Items.{Known, behind};
+    ghost use Rattle.vcd_body.specs.Items.{Known};
 
     /// Before the first item.
     pub fn new() -> Regs
@@ -63,29 +63,6 @@ impl Regs {
             time: 0,
             marked: false,
             section: None,
-        }
-    }
-
-    /// Behind one item more.
-    #[inline(always)]
-    pub(crate) fn behind(self, item: Item) -> Regs
-        ensures { result ≡ behind self item }
-    {
-        match item {
-            Item::Time(time) => Regs {
-                time,
-                marked: true,
-                section: self.section,
-            },
-            Item::Begin(section) => Regs {
-                section: Some(section),
-                ..self
-            },
-            Item::End => Regs {
-                section: None,
-                ..self
-            },
-            Item::Change { .. } | Item::Finish => self,
         }
     }
 }

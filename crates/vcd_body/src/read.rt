@@ -26,18 +26,19 @@ use vcd_text::device::Source;
 use vcd_text::feed::Feed;
 
 /// Reads a phrase that begins with a command: a comment gives no item.
-#[inline(never)]
+#[inline(always)]
 fn read_command<S: Source>(
     feed: &mut Feed<'_, '_, '_, '_, S>,
-    regs: Regs,
+    regs: &mut Regs,
 ) -> Result<Option<Item>, BodyFault>
     requires failures { S.failures (source_of feed.old) < 2 ^ 64 - 1 }
     requires begins { Begins (token_of feed.old).bytes first.Other }
-    ensures reads { (codes : List IdCode) (i : Input) (front : List Token) (items : List BodyItem) → Begun codes i front items feed.old regs
+    ensures reads { (codes : List IdCode) (i : Input) (front : List Token) (items : List BodyItem) → Begun codes i front items feed.old regs.old
         → MatchResult result
-        (λ item. MatchOption item (GaveItems codes i front items feed.new regs) (λ x. GivesItem codes i front items feed.new (behind regs x) x))
+        (λ item. MatchOption item (GaveItems codes i front items feed.new regs.new) (λ x. GivesItem codes i front items feed.new regs.new x))
         (λ fault. Fails codes i front items fault feed.new) }
     ensures sound { (codes : List Code) → IfOk result (λ item. MatchOption item (Unit {0}) (IsSound codes feed.new)) }
+    ensures regs { MatchResult result (λ item. MatchOption item (regs.new ≡ regs.old) (λ x. regs.new ≡ behind regs.old x)) (λ _. regs.new ≡ regs.old) }
     ensures went { Went S.failures feed.old feed.new (fault_of result) }
     ensures further { OnOk result (seen feed.old ≤ seen feed.new) }
     ensures bounded { seen feed.old < 2 ^ 63 → seen feed.new < 2 ^ 63 }
@@ -51,10 +52,12 @@ fn read_command<S: Source>(
             if regs.section.is_some() {
                 return Err(BodyFault::OutOfPlace);
             }
+            regs.section = Some(section);
             Ok(Some(Item::Begin(section)))
         }
         Some(Command::End) => {
             if regs.section.is_some() {
+                regs.section = None;
                 return Ok(Some(Item::End));
             }
             Err(BodyFault::OutOfPlace)
@@ -69,14 +72,15 @@ fn read_command<S: Source>(
 fn read_phrase<S: Source>(
     feed: &mut Feed<'_, '_, '_, '_, S>,
     view: HeadView<'_>,
-    regs: Regs,
+    regs: &mut Regs,
 ) -> Result<Option<Item>, BodyFault>
     requires failures { S.failures (source_of feed.old) < 2 ^ 64 - 1 }
-    ensures reads { (h : Header) (i : Input) (front : List Token) (items : List BodyItem) → Views (parts view.entry) h → GaveItems h.codes i front items feed.old regs
+    ensures reads { (h : Header) (i : Input) (front : List Token) (items : List BodyItem) → Views (parts view.entry) h → GaveItems h.codes i front items feed.old regs.old
         → MatchResult result
-        (λ item. MatchOption item (GaveItems h.codes i front items feed.new regs) (λ x. GivesItem h.codes i front items feed.new (behind regs x) x))
+        (λ item. MatchOption item (GaveItems h.codes i front items feed.new regs.new) (λ x. GivesItem h.codes i front items feed.new regs.new x))
         (λ fault. Fails h.codes i front items fault feed.new) }
     ensures sound { IfOk result (λ item. MatchOption item (Unit {0}) (IsSound view.entry.codes.now feed.new)) }
+    ensures regs { MatchResult result (λ item. MatchOption item (regs.new ≡ regs.old) (λ x. regs.new ≡ behind regs.old x)) (λ _. regs.new ≡ regs.old) }
     ensures went { Went S.failures feed.old feed.new (fault_of result) }
     ensures progress { IfOk result (λ item. item ≢ Some Item.Finish → seen feed.old < seen feed.new) }
     ensures bounded { seen feed.new < 2 ^ 63 }
@@ -96,7 +100,12 @@ fn read_phrase<S: Source>(
             code: read_vector(feed, view)?,
             form: Form::Vector,
         },
-        First::Mark => Item::Time(time_of(feed.token(), regs)?),
+        First::Mark => {
+            let time = time_of(feed.token(), *regs)?;
+            regs.time = time;
+            regs.marked = true;
+            Item::Time(time)
+        }
         First::Number => Item::Change {
             code: read_real(feed, view)?,
             form: Form::RealText,
@@ -129,8 +138,7 @@ pub fn next_item<S: Source>(
     ensures bounded { seen feed.new < 2 ^ 63 }
 {
     'phrases: loop {
-        if let Some(item) = read_phrase(feed, view, *regs)? {
-            *regs = regs.behind(item);
+        if let Some(item) = read_phrase(feed, view, regs)? {
             return Ok(item);
         }
     }

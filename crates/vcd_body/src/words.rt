@@ -1,5 +1,5 @@
 // What tokens of a body are.
-ghost use Rattle.std.specs.Prelude.{◌≡◌, ℕ, List, drop, take, ◌∷◌, ◌^◌, ◌&&◌, not, nat_lt, cond, Some, None, bytes_eq};
+ghost use Rattle.std.specs.Prelude.{◌≡◌, ℕ, true, List, drop, take, ◌∷◌, ◌^◌, ◌&&◌, not, nat_lt, cond, Some, None, bytes_eq};
 ghost use Rattle.std.specs.List.{list_all};
 ghost use Rattle.vcd_model.specs.Bytes.{is_decimal, decimal_value, is_empty};
 ghost use Rattle.vcd_model.specs.BodyPhrases.{is_value_digit as is_digit};
@@ -106,6 +106,7 @@ fn is_of_header(token: &[u8]) -> bool
 }
 
 /// The keyword that the token is.
+#[inline(never)]
 pub(crate) fn command_of(token: &[u8]) -> Option<Command>
     ensures { StandsFor token.now result }
 {
@@ -156,10 +157,22 @@ fn is_value_digit(byte: u8) -> bool
     byte == b'0' || byte == b'1' || byte == b'x' || byte == b'X' || byte == b'z' || byte == b'Z'
 }
 
+/// The digits are `0` and `1` alone, as most are. No byte is branched on, so that many are looked at at once.
+fn are_binary(digits: &[u8]) -> bool
+    ensures { result ≡ true → list_all is_digit digits.now ≡ true }
+{
+    let mut most = 0;
+    for digit in digits {
+        let above = digit.wrapping_sub(b'0');
+        most = if most < above { above } else { most };
+    }
+    most <= 1
+}
+
 fn all_are_digits(digits: &[u8]) -> bool
     ensures { result ≡ list_all is_digit digits.now }
 {
-    digits.iter().all(|digit| is_value_digit(*digit))
+    are_binary(digits) || digits.iter().all(|digit| is_value_digit(*digit))
 }
 
 /// One or more digits of a value.

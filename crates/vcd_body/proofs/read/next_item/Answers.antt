@@ -1,9 +1,6 @@
-use Rattle.std.proofs.Common.{sym, subst}
-use Rattle.vcd_body.specs.Gives.{GivesItem}
 use Rattle.vcd_body.proofs.read.next_item.Goals as goal
 
 pub returns-in-Some-clause-reads : goal.returns-in-Some-clause-reads
 returns-in-Some-clause-reads g c = λ h i front items v s.
     let on = c.phrases.invariant.3 h i front items v s in
-    let given = rw c.in-Some.is at c.in_ok-item.ensures.reads h i front items v on in
-    subst (λ r. GivesItem h.codes i front items c.read_phrase.new.feed r c.in-Some.item) (sym c.behind.ensures) given
+    rw c.in-Some.is at c.in_ok-item.ensures.reads h i front items v on

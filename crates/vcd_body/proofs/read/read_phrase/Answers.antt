@@ -8,60 +8,60 @@ pub returns-in_err-next_token-clause-reads : goal.returns-in_err-next_token-clau
 returns-in_err-next_token-clause-reads g c =
     let p = err_from_is_err_and c.from_residual.result c.from_residual.ensures.1 in
     rw (p.1, p.2) (λ h i front items v s.
-    given.fault_given h.codes i front items s.placed _ c.next_token.new.feed s.items_are (c.in_err-next_token.ensures.reads h.codes i front s.placed [] (given.reads_of h.codes i front items c.args.feed.now c.args.regs s)))
+    given.fault_given h.codes i front items s.placed _ c.next_token.new.feed s.items_are (c.in_err-next_token.ensures.reads h.codes i front s.placed [] (given.reads_of h.codes i front items c.args.feed.now c.args.regs.now s)))
 
 pub returns-then-is_some-clause-reads : goal.returns-then-is_some-clause-reads
 returns-then-is_some-clause-reads g c = λ h i front items v s.
-    let a = rw c.if-not-branch.true at c.in_ok-next_token.ensures.reads h.codes i front s.placed [] (given.reads_of h.codes i front items c.args.feed.now c.args.regs s) in
-    given.ends_inside h.codes i front items c.args.feed.now c.next_token.new.feed c.args.regs s a (sym c.is_some.ensures ∙ c.if-is_some.true)
+    let a = rw c.if-not-branch.true at c.in_ok-next_token.ensures.reads h.codes i front s.placed [] (given.reads_of h.codes i front items c.args.feed.now c.args.regs.now s) in
+    given.ends_inside h.codes i front items c.args.feed.now c.next_token.new.feed c.args.regs.now s a (sym c.is_some.ensures ∙ c.if-is_some.true)
 
 pub returns-then-not-branch-clause-reads : goal.returns-then-not-branch-clause-reads
 returns-then-not-branch-clause-reads g c = λ h i front items v s.
-    let a = rw c.if-not-branch.true at c.in_ok-next_token.ensures.reads h.codes i front s.placed [] (given.reads_of h.codes i front items c.args.feed.now c.args.regs s) in
-    given.ends_clean h.codes i front items c.args.feed.now c.next_token.new.feed c.args.regs s a (sym c.is_some.ensures ∙ c.if-is_some.false)
+    let a = rw c.if-not-branch.true at c.in_ok-next_token.ensures.reads h.codes i front s.placed [] (given.reads_of h.codes i front items c.args.feed.now c.args.regs.now s) in
+    given.ends_clean h.codes i front items c.args.feed.now c.next_token.new.feed c.args.regs.now s a (sym c.is_some.ensures ∙ c.if-is_some.false)
 
 pub returns-in_err-scalar_code-in-Digit-clause-reads : goal.returns-in_err-scalar_code-in-Digit-clause-reads
 returns-in_err-scalar_code-in-Digit-clause-reads g c =
     let p = err_from_is_err_and c.from_residual-in_err-scalar_code-in-Digit.result c.from_residual-in_err-scalar_code-in-Digit.ensures.1 in
     rw (p.1, p.2) (λ h i front items v s.
-    let b = given.begun_at h.codes i front items c.args.feed.now c.next_token.new.feed c.args.regs c.in_ok-next_token.field-0 c.if-not-branch.false s (c.in_ok-next_token.ensures.reads h.codes i front s.placed [] (given.reads_of h.codes i front items c.args.feed.now c.args.regs s)) in
-    given.refused_own h.codes i front items c.next_token.new.feed c.args.regs c.token-in-Digit.result.now _ b c.token-in-Digit.ensures (c.in_err-scalar_code-in-Digit.ensures.code h (phrases_of b.placed) v))
+    let b = given.begun_at h.codes i front items c.args.feed.now c.next_token.new.feed c.args.regs.now c.in_ok-next_token.field-0 c.if-not-branch.false s (c.in_ok-next_token.ensures.reads h.codes i front s.placed [] (given.reads_of h.codes i front items c.args.feed.now c.args.regs.now s)) in
+    given.refused_own h.codes i front items c.next_token.new.feed c.args.regs.now c.token-in-Digit.result.now _ b c.token-in-Digit.ensures (c.in_err-scalar_code-in-Digit.ensures.code h (phrases_of b.placed) v))
 
-pub returns-in_err-time_of-in-Mark-clause-reads : goal.returns-in_err-time_of-in-Mark-clause-reads
-returns-in_err-time_of-in-Mark-clause-reads g c =
-    let p = err_from_is_err_and c.from_residual-in_err-time_of-in-Mark.result c.from_residual-in_err-time_of-in-Mark.ensures.1 in
+pub returns-in_err-time-in-Mark-clause-reads : goal.returns-in_err-time-in-Mark-clause-reads
+returns-in_err-time-in-Mark-clause-reads g c =
+    let p = err_from_is_err_and c.from_residual-in_err-time-in-Mark.result c.from_residual-in_err-time-in-Mark.ensures.1 in
     rw (p.1, p.2) (λ h i front items v s.
-    let b = given.begun_at h.codes i front items c.args.feed.now c.next_token.new.feed c.args.regs c.in_ok-next_token.field-0 c.if-not-branch.false s (c.in_ok-next_token.ensures.reads h.codes i front s.placed [] (given.reads_of h.codes i front items c.args.feed.now c.args.regs s)) in
-    given.refused_own h.codes i front items c.next_token.new.feed c.args.regs c.token-in-Mark.result.now _ b c.token-in-Mark.ensures
-    (c.in_err-time_of-in-Mark.ensures.time h.codes (phrases_of b.placed) (given.known_so_far h.codes i front items c.next_token.new.feed c.args.regs b)))
+    let b = given.begun_at h.codes i front items c.args.feed.now c.next_token.new.feed c.args.regs.now c.in_ok-next_token.field-0 c.if-not-branch.false s (c.in_ok-next_token.ensures.reads h.codes i front s.placed [] (given.reads_of h.codes i front items c.args.feed.now c.args.regs.now s)) in
+    given.refused_own h.codes i front items c.next_token.new.feed c.args.regs.now c.token-in-Mark.result.now _ b c.token-in-Mark.ensures
+    (c.in_err-time-in-Mark.ensures.time h.codes (phrases_of b.placed) (given.known_so_far h.codes i front items c.next_token.new.feed c.args.regs.now b)))
 
 pub returns-in_ok-scalar_code-in-Digit-clause-reads : goal.returns-in_ok-scalar_code-in-Digit-clause-reads
 returns-in_ok-scalar_code-in-Digit-clause-reads g c = λ h i front items v s.
-    let b = given.begun_at h.codes i front items c.args.feed.now c.next_token.new.feed c.args.regs c.in_ok-next_token.field-0 c.if-not-branch.false s (c.in_ok-next_token.ensures.reads h.codes i front s.placed [] (given.reads_of h.codes i front items c.args.feed.now c.args.regs s)) in
+    let b = given.begun_at h.codes i front items c.args.feed.now c.next_token.new.feed c.args.regs.now c.in_ok-next_token.field-0 c.if-not-branch.false s (c.in_ok-next_token.ensures.reads h.codes i front s.placed [] (given.reads_of h.codes i front items c.args.feed.now c.args.regs.now s)) in
     let k = c.in_ok-scalar_code-in-Digit.ensures.code h (phrases_of b.placed) v in
-    (k.0, k.1, given.scalar_given h.codes i front items c.next_token.new.feed c.args.regs c.token-in-Digit.result.now k.0 b c.token-in-Digit.ensures k.2)
+    (k.0, k.1, given.scalar_given h.codes i front items c.next_token.new.feed c.args.regs.now c.token-in-Digit.result.now k.0 b c.token-in-Digit.ensures k.2)
 
 pub returns-in_ok-read_vector-in-Digits-clause-reads : goal.returns-in_ok-read_vector-in-Digits-clause-reads
 returns-in_ok-read_vector-in-Digits-clause-reads g c = λ h i front items v s.
-    let b = given.begun_at h.codes i front items c.args.feed.now c.next_token.new.feed c.args.regs c.in_ok-next_token.field-0 c.if-not-branch.false s (c.in_ok-next_token.ensures.reads h.codes i front s.placed [] (given.reads_of h.codes i front items c.args.feed.now c.args.regs s)) in
+    let b = given.begun_at h.codes i front items c.args.feed.now c.next_token.new.feed c.args.regs.now c.in_ok-next_token.field-0 c.if-not-branch.false s (c.in_ok-next_token.ensures.reads h.codes i front s.placed [] (given.reads_of h.codes i front items c.args.feed.now c.args.regs.now s)) in
     let k = c.in_ok-read_vector-in-Digits.ensures.reads h i front b.placed v b.looks in
-    (k.0, k.1, given.change_given h.codes i front items c.next_token.new.feed c.read_vector.new.feed c.args.regs _ b k.2)
+    (k.0, k.1, given.change_given h.codes i front items c.next_token.new.feed c.read_vector.new.feed c.args.regs.now _ b k.2)
 
 pub returns-in_ok-read_real-in-Number-clause-reads : goal.returns-in_ok-read_real-in-Number-clause-reads
 returns-in_ok-read_real-in-Number-clause-reads g c = λ h i front items v s.
-    let b = given.begun_at h.codes i front items c.args.feed.now c.next_token.new.feed c.args.regs c.in_ok-next_token.field-0 c.if-not-branch.false s (c.in_ok-next_token.ensures.reads h.codes i front s.placed [] (given.reads_of h.codes i front items c.args.feed.now c.args.regs s)) in
+    let b = given.begun_at h.codes i front items c.args.feed.now c.next_token.new.feed c.args.regs.now c.in_ok-next_token.field-0 c.if-not-branch.false s (c.in_ok-next_token.ensures.reads h.codes i front s.placed [] (given.reads_of h.codes i front items c.args.feed.now c.args.regs.now s)) in
     let k = c.in_ok-read_real-in-Number.ensures.reads h i front b.placed v b.looks in
-    (k.0, k.1, given.change_given h.codes i front items c.next_token.new.feed c.read_real.new.feed c.args.regs _ b k.2)
+    (k.0, k.1, given.change_given h.codes i front items c.next_token.new.feed c.read_real.new.feed c.args.regs.now _ b k.2)
 
-pub returns-in_ok-time_of-in-Mark-clause-reads : goal.returns-in_ok-time_of-in-Mark-clause-reads
-returns-in_ok-time_of-in-Mark-clause-reads g c = λ h i front items v s.
-    let b = given.begun_at h.codes i front items c.args.feed.now c.next_token.new.feed c.args.regs c.in_ok-next_token.field-0 c.if-not-branch.false s (c.in_ok-next_token.ensures.reads h.codes i front s.placed [] (given.reads_of h.codes i front items c.args.feed.now c.args.regs s)) in
-    given.time_given h.codes i front items c.next_token.new.feed c.args.regs c.token-in-Mark.result.now c.in_ok-time_of-in-Mark.field-0 b c.token-in-Mark.ensures
-    (c.in_ok-time_of-in-Mark.ensures.time h.codes (phrases_of b.placed) (given.known_so_far h.codes i front items c.next_token.new.feed c.args.regs b))
+pub returns-in_ok-time-in-Mark-clause-reads : goal.returns-in_ok-time-in-Mark-clause-reads
+returns-in_ok-time-in-Mark-clause-reads g c = λ h i front items v s.
+    let b = given.begun_at h.codes i front items c.args.feed.now c.next_token.new.feed c.args.regs.now c.in_ok-next_token.field-0 c.if-not-branch.false s (c.in_ok-next_token.ensures.reads h.codes i front s.placed [] (given.reads_of h.codes i front items c.args.feed.now c.args.regs.now s)) in
+    given.time_given h.codes i front items c.next_token.new.feed c.args.regs.now c.token-in-Mark.result.now c.in_ok-time-in-Mark.time b c.token-in-Mark.ensures
+    (c.in_ok-time-in-Mark.ensures.time h.codes (phrases_of b.placed) (given.known_so_far h.codes i front items c.next_token.new.feed c.args.regs.now b))
 
 pub returns-in-Other-clause-reads : goal.returns-in-Other-clause-reads
 returns-in-Other-clause-reads g c = λ h i front items v s.
-    let b = given.begun_at h.codes i front items c.args.feed.now c.next_token.new.feed c.args.regs c.in_ok-next_token.field-0 c.if-not-branch.false s (c.in_ok-next_token.ensures.reads h.codes i front s.placed [] (given.reads_of h.codes i front items c.args.feed.now c.args.regs s)) in
+    let b = given.begun_at h.codes i front items c.args.feed.now c.next_token.new.feed c.args.regs.now c.in_ok-next_token.field-0 c.if-not-branch.false s (c.in_ok-next_token.ensures.reads h.codes i front s.placed [] (given.reads_of h.codes i front items c.args.feed.now c.args.regs.now s)) in
     c.read_command.ensures.reads h.codes i front items b
 
 pub returns-in-Other-clause-sound : goal.returns-in-Other-clause-sound
