@@ -15,6 +15,10 @@ pub(crate) fn entry_of(code: &[u8], entries: usize) -> usize {
         [first] => digit_of(*first),
         [first, second] => above(digit_of(*second), *first),
         [first, second, third] => above(above(digit_of(*third), *second), *first),
+        [first, second, third, fourth] => above(
+            above(above(digit_of(*fourth), *third), *second),
+            *first,
+        ),
         _ => number_of(code),
     };
     number & entries.wrapping_sub(1)

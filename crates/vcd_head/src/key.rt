@@ -17,6 +17,10 @@ pub(crate) fn key_of(code: &[u8]) -> u64
         [first] => behind(BLANK, *first),
         [first, second] => behind(behind(BLANK, *second), *first),
         [first, second, third] => behind(behind(behind(BLANK, *third), *second), *first),
+        [first, second, third, fourth] => behind(
+            behind(behind(behind(BLANK, *fourth), *third), *second),
+            *first,
+        ),
         _ if code.len() <= MOST_BYTES => packed_of(code),
         _ => 0,
     }
