@@ -91,9 +91,10 @@ fn read_phrase<S: Source>(
         }
         return Ok(Some(Item::Finish));
     }
-    let item = match first_of(feed.token()) {
+    let token = feed.token();
+    let item = match first_of(token) {
         First::Digit => Item::Change {
-            code: scalar_code(feed.token(), view)?,
+            code: scalar_code(token, view)?,
             form: Form::Scalar,
         },
         First::Digits => Item::Change {
@@ -101,7 +102,7 @@ fn read_phrase<S: Source>(
             form: Form::Vector,
         },
         First::Mark => {
-            let time = time_of(feed.token(), *regs)?;
+            let time = time_of(token, *regs)?;
             regs.time = time;
             regs.marked = true;
             Item::Time(time)

@@ -25,21 +25,21 @@ returns-in_err-scalar_code-in-Digit-clause-reads g c =
     let p = err_from_is_err_and c.from_residual-in_err-scalar_code-in-Digit.result c.from_residual-in_err-scalar_code-in-Digit.ensures.1 in
     rw (p.1, p.2) (λ h i front items v s.
     let b = given.begun_at h.codes i front items c.args.feed.now c.next_token.new.feed c.args.regs.now c.in_ok-next_token.field-0 c.if-not-branch.false s (c.in_ok-next_token.ensures.reads h.codes i front s.placed [] (given.reads_of h.codes i front items c.args.feed.now c.args.regs.now s)) in
-    given.refused_own h.codes i front items c.next_token.new.feed c.args.regs.now c.token-in-Digit.result.now _ b c.token-in-Digit.ensures (c.in_err-scalar_code-in-Digit.ensures.code h (phrases_of b.placed) v))
+    given.refused_own h.codes i front items c.next_token.new.feed c.args.regs.now c.token-token.result.now _ b c.token-token.ensures (c.in_err-scalar_code-in-Digit.ensures.code h (phrases_of b.placed) v))
 
 pub returns-in_err-time-in-Mark-clause-reads : goal.returns-in_err-time-in-Mark-clause-reads
 returns-in_err-time-in-Mark-clause-reads g c =
     let p = err_from_is_err_and c.from_residual-in_err-time-in-Mark.result c.from_residual-in_err-time-in-Mark.ensures.1 in
     rw (p.1, p.2) (λ h i front items v s.
     let b = given.begun_at h.codes i front items c.args.feed.now c.next_token.new.feed c.args.regs.now c.in_ok-next_token.field-0 c.if-not-branch.false s (c.in_ok-next_token.ensures.reads h.codes i front s.placed [] (given.reads_of h.codes i front items c.args.feed.now c.args.regs.now s)) in
-    given.refused_own h.codes i front items c.next_token.new.feed c.args.regs.now c.token-in-Mark.result.now _ b c.token-in-Mark.ensures
+    given.refused_own h.codes i front items c.next_token.new.feed c.args.regs.now c.token-token.result.now _ b c.token-token.ensures
     (c.in_err-time-in-Mark.ensures.time h.codes (phrases_of b.placed) (given.known_so_far h.codes i front items c.next_token.new.feed c.args.regs.now b)))
 
 pub returns-in_ok-scalar_code-in-Digit-clause-reads : goal.returns-in_ok-scalar_code-in-Digit-clause-reads
 returns-in_ok-scalar_code-in-Digit-clause-reads g c = λ h i front items v s.
     let b = given.begun_at h.codes i front items c.args.feed.now c.next_token.new.feed c.args.regs.now c.in_ok-next_token.field-0 c.if-not-branch.false s (c.in_ok-next_token.ensures.reads h.codes i front s.placed [] (given.reads_of h.codes i front items c.args.feed.now c.args.regs.now s)) in
     let k = c.in_ok-scalar_code-in-Digit.ensures.code h (phrases_of b.placed) v in
-    (k.0, k.1, given.scalar_given h.codes i front items c.next_token.new.feed c.args.regs.now c.token-in-Digit.result.now k.0 b c.token-in-Digit.ensures k.2)
+    (k.0, k.1, given.scalar_given h.codes i front items c.next_token.new.feed c.args.regs.now c.token-token.result.now k.0 b c.token-token.ensures k.2)
 
 pub returns-in_ok-read_vector-in-Digits-clause-reads : goal.returns-in_ok-read_vector-in-Digits-clause-reads
 returns-in_ok-read_vector-in-Digits-clause-reads g c = λ h i front items v s.
@@ -56,7 +56,7 @@ returns-in_ok-read_real-in-Number-clause-reads g c = λ h i front items v s.
 pub returns-in_ok-time-in-Mark-clause-reads : goal.returns-in_ok-time-in-Mark-clause-reads
 returns-in_ok-time-in-Mark-clause-reads g c = λ h i front items v s.
     let b = given.begun_at h.codes i front items c.args.feed.now c.next_token.new.feed c.args.regs.now c.in_ok-next_token.field-0 c.if-not-branch.false s (c.in_ok-next_token.ensures.reads h.codes i front s.placed [] (given.reads_of h.codes i front items c.args.feed.now c.args.regs.now s)) in
-    given.time_given h.codes i front items c.next_token.new.feed c.args.regs.now c.token-in-Mark.result.now c.in_ok-time-in-Mark.time b c.token-in-Mark.ensures
+    given.time_given h.codes i front items c.next_token.new.feed c.args.regs.now c.token-token.result.now c.in_ok-time-in-Mark.time b c.token-token.ensures
     (c.in_ok-time-in-Mark.ensures.time h.codes (phrases_of b.placed) (given.known_so_far h.codes i front items c.next_token.new.feed c.args.regs.now b))
 
 pub returns-in-Other-clause-reads : goal.returns-in-Other-clause-reads

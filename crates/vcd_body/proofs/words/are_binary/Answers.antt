@@ -1,4 +1,4 @@
-use Rattle.std.proofs.Common.{◌≡◌, ◌≤◌, ◌<◌, length, get_or, arith}
+use Rattle.std.proofs.Common.{◌≤◌, ◌<◌, length, get_or, arith}
 use Rattle.vcd_body.proofs.WordLemmas.{binary_more}
 use Rattle.vcd_body.proofs.words.are_binary.Goals.{then-most-above, else-most-above}
 use Rattle.vcd_body.proofs.words.are_binary.Goals as goal
