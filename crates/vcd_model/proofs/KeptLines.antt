@@ -1,0 +1,168 @@
+-- The text of kept items where one item more comes: it is enough to know the time whose line was written last.
+use Rattle.std.proofs.Common.{◌≡◌, ℕ, ◌≤◌, Bool, true, false, cond, ◌&&◌, ◌||◌, ◌==◌, List, [], ◌∷◌, ◌++◌, map, Option, Some, None, refl, sym, ap, ◌∙◌, subst, arith}
+use Rattle.std.specs.List.{list_any, last_or}
+use Rattle.std.proofs.lemmas.Bool.{eq-eqb, eqb-true}
+use Rattle.std.proofs.lemmas.List.{append_assoc, append-nil, map-append}
+use Rattle.vcd_model.specs.Backward.{each_after}
+use Rattle.vcd_model.specs.Header.{Header}
+use Rattle.vcd_model.specs.HeadText.{head_for}
+use Rattle.vcd_model.specs.Items.{BodyItem, Entry, entry_after, entries, time_after, leaves_open}
+use Rattle.vcd_model.specs.ItemText.{item_line, time_line, time_unless, text_after, may_keep, kept_by, closing, last_mark}
+use Rattle.vcd_model.specs.Pick.{is_picked, pick_open, pick_close}
+use Rattle.vcd_model.specs.Selection.{selected}
+use Rattle.vcd_model.proofs.Growing.{text_after-append, kept_by-append, entries-append}
+use Rattle.vcd_model.proofs.Times.{time_after-append}
+
+-- the times of the kept entries
+abbrev pub kept_times : (Entry → Bool) → List BodyItem → List ℕ
+kept_times chosen items = map (λ e. e.time) (kept_by chosen (entries items))
+
+-- the time of the last kept entry, none where there is none
+abbrev pub last_time : (Entry → Bool) → List BodyItem → Option ℕ
+last_time chosen items = last_or None (kept_times chosen items)
+
+-- the line of a time, unless it is the one that was written last
+abbrev pub time_due : Option ℕ → ℕ → List ℕ
+time_due None t = time_line t
+time_due (Some u) t = cond (u == t) [] (time_line t)
+
+-- is the item kept behind these items
+abbrev pub keeps : (Entry → Bool) → List BodyItem → BodyItem → Bool
+keeps chosen items x = chosen (entry_after items x) && may_keep x (leaves_open items)
+
+-- ---- a look at the last time is enough
+
+-- times that never fall, from the first number to the second
+abbrev Rise : ℕ → ℕ → List ℕ → Type 0
+Rise low high [] = low ≤ high
+Rise low high (t ∷ ts) = (low ≤ t) × Rise t high ts
+
+-- the bounds of times that rise
+rise_bounds : (low high : ℕ) (ts : List ℕ) → Rise low high ts → low ≤ high
+rise_bounds low high [] r = r
+rise_bounds low high (t ∷ ts) r = let h = rise_bounds t high ts r.1 in let l = r.0 in omega arith
+
+-- times that rise do so from a lower number too
+rise_from : (lower low high : ℕ) (ts : List ℕ) → lower ≤ low → Rise low high ts → Rise lower high ts
+rise_from lower low high [] l r = omega arith
+rise_from lower low high (t ∷ ts) l r = let m = r.0 in (omega arith, r.1)
+
+-- the times of the kept entries among items that have these before them
+abbrev times_behind : (Entry → Bool) → List BodyItem → List BodyItem → List ℕ
+times_behind chosen earlier items = map (λ e. e.time) (kept_by chosen (each_after entry_after earlier items))
+
+-- the times of kept entries rise up to the time behind all items
+kept_rise : (chosen : Entry → Bool) (b q : List BodyItem) → Rise (time_after b) (time_after (b ++ q)) (times_behind chosen b q)
+kept_rise chosen b [] = time_after-append b []
+kept_rise chosen b (x ∷ q) =
+    by_keep (keeps chosen b x)
+    (rise_from (time_after b) (time_after (b ++ x ∷ [])) (time_after (b ++ x ∷ q)) (times_behind chosen (b ++ x ∷ []) q) (time_after-append b (x ∷ []))
+    (subst (λ (all : List BodyItem). Rise (time_after (b ++ x ∷ [])) (time_after all) (times_behind chosen (b ++ x ∷ []) q)) (append_assoc b (x ∷ []) q) (kept_rise chosen (b ++ x ∷ []) q)))
+  where
+    by_keep : (k : Bool) → Rise (time_after b) (time_after (b ++ x ∷ q)) (times_behind chosen (b ++ x ∷ []) q)
+        → Rise (time_after b) (time_after (b ++ x ∷ q)) (map (λ e. e.time) (cond k (entry_after b x ∷ kept_by chosen (each_after entry_after (b ++ x ∷ []) q)) (kept_by chosen (each_after entry_after (b ++ x ∷ []) q))))
+    by_keep true later = (omega arith, later)
+    by_keep false later = later
+
+-- where times rise up to t, t is among them just where it is the last
+last_is_enough : (t u : ℕ) (ts : List ℕ) → Rise u t ts → time_unless (u ∷ ts) t ≡ time_due (last_or (Some u) ts) t
+last_is_enough t u [] r = by_test (u == t)
+  where
+    by_test : (b : Bool) → cond (b || false) [] (time_line t) ≡ cond b [] (time_line t)
+    by_test true = refl
+    by_test false = refl
+last_is_enough t u (v ∷ ts) r = by_test (u == t) refl (last_is_enough t v ts r.1)
+  where
+    by_test : (b : Bool) → (u == t) ≡ b → time_unless (v ∷ ts) t ≡ time_due (last_or (Some v) ts) t → cond (b || list_any (λ w. w == t) (v ∷ ts)) [] (time_line t) ≡ time_due (last_or (Some v) ts) t
+    by_test true e later =
+        let same = eqb-true u t e in let low = r.0 in let high = rise_bounds v t ts r.1 in
+        let there : (v == t) ≡ true = eq-eqb v t (omega arith) in
+        ap (λ (b : Bool). cond (b || list_any (λ w. w == t) ts) [] (time_line t)) (sym there) ∙ later
+    by_test false e later = later
+
+-- where the line of the time behind all items is asked for, a look at the last written time is enough
+pub time_unless_last : (chosen : Entry → Bool) (items : List BodyItem) → time_unless (kept_times chosen items) (time_after items) ≡ time_due (last_time chosen items) (time_after items)
+time_unless_last chosen items = by_times (kept_times chosen items) (kept_rise chosen [] items)
+  where
+    by_times : (ts : List ℕ) → Rise 0 (time_after items) ts → time_unless ts (time_after items) ≡ time_due (last_or None ts) (time_after items)
+    by_times [] r = refl
+    by_times (u ∷ ts) r = last_is_enough (time_after items) u ts r.1
+
+-- ---- one item more
+
+-- the kept entries, with one item more
+kept_more : (chosen : Entry → Bool) (items : List BodyItem) (x : BodyItem) (k : Bool) → keeps chosen items x ≡ k → kept_by chosen (entries (items ++ x ∷ [])) ≡ kept_by chosen (entries items) ++ cond k (entry_after items x ∷ []) []
+kept_more chosen items x k e =
+    ap (kept_by chosen) (entries-append items (x ∷ []))
+    ∙ kept_by-append chosen (entries items) (entry_after items x ∷ [])
+    ∙ ap (λ (b : Bool). kept_by chosen (entries items) ++ cond b (entry_after items x ∷ []) []) e
+
+-- .. where that one is not kept
+kept_same : (chosen : Entry → Bool) (items : List BodyItem) (x : BodyItem) → keeps chosen items x ≡ false → kept_by chosen (entries (items ++ x ∷ [])) ≡ kept_by chosen (entries items)
+kept_same chosen items x e = kept_more chosen items x false e ∙ append-nil (kept_by chosen (entries items))
+
+-- a kept item adds its line, behind the line of its time where that is due
+pub text_kept : (chosen : Entry → Bool) (items : List BodyItem) (x : BodyItem) → keeps chosen items x ≡ true
+    → text_after [] (kept_by chosen (entries (items ++ x ∷ []))) ≡ text_after [] (kept_by chosen (entries items)) ++ (time_due (last_time chosen items) (time_after items) ++ item_line x)
+text_kept chosen items x e =
+    ap (text_after []) (kept_more chosen items x true e)
+    ∙ text_after-append [] (kept_by chosen (entries items)) (entry_after items x ∷ [])
+    ∙ ap (λ l. text_after [] (kept_by chosen (entries items)) ++ l) (append-nil (time_unless (kept_times chosen items) (time_after items) ++ item_line x) ∙ ap (λ l. l ++ item_line x) (time_unless_last chosen items))
+
+-- an item that is not kept adds nothing
+pub text_dropped : (chosen : Entry → Bool) (items : List BodyItem) (x : BodyItem) → keeps chosen items x ≡ false → text_after [] (kept_by chosen (entries (items ++ x ∷ []))) ≡ text_after [] (kept_by chosen (entries items))
+text_dropped chosen items x e = ap (text_after []) (kept_same chosen items x e)
+
+-- the last of a list with one more at its end
+last_or-snoc : (o : Option ℕ) (ts : List ℕ) (t : ℕ) → last_or o (ts ++ t ∷ []) ≡ Some t
+last_or-snoc o [] t = refl
+last_or-snoc o (u ∷ ts) t = last_or-snoc (Some u) ts t
+
+-- the time of a kept item is the last written one
+pub last_kept : (chosen : Entry → Bool) (items : List BodyItem) (x : BodyItem) → keeps chosen items x ≡ true → last_time chosen (items ++ x ∷ []) ≡ Some (time_after items)
+last_kept chosen items x e =
+    ap (λ es. last_or None (map (λ e. e.time) es)) (kept_more chosen items x true e)
+    ∙ ap (last_or None) (map-append (λ (e : Entry). e.time) (kept_by chosen (entries items)) (entry_after items x ∷ []))
+    ∙ last_or-snoc None (kept_times chosen items) (time_after items)
+
+-- behind an item that is not kept the last written time is the same
+pub last_dropped : (chosen : Entry → Bool) (items : List BodyItem) (x : BodyItem) → keeps chosen items x ≡ false → last_time chosen (items ++ x ∷ []) ≡ last_time chosen items
+last_dropped chosen items x e = ap (λ es. last_or None (map (λ e. e.time) es)) (kept_same chosen items x e)
+
+-- ---- `pick`
+
+-- what `pick` chooses
+abbrev pub picked_by : Header → List (List ℕ) → Entry → Bool
+picked_by h names e = is_picked (selected names h.declarations) e.item
+
+-- before the first item the head alone is written
+pub pick_open_none : (h : Header) (names : List (List ℕ)) → pick_open h names [] ≡ head_for h names
+unfolding pick_open
+pick_open_none h names = append-nil (head_for h names)
+
+-- a kept item adds its line, behind the line of its time where that is due
+pub pick_open_kept : (h : Header) (names : List (List ℕ)) (items : List BodyItem) (x : BodyItem) → keeps (picked_by h names) items x ≡ true
+    → pick_open h names (items ++ x ∷ []) ≡ pick_open h names items ++ (time_due (last_time (picked_by h names) items) (time_after items) ++ item_line x)
+unfolding pick_open
+pick_open_kept h names items x e =
+    ap (λ l. head_for h names ++ l) (text_kept (picked_by h names) items x e)
+    ∙ sym (append_assoc (head_for h names) (text_after [] (kept_by (picked_by h names) (entries items))) (time_due (last_time (picked_by h names) items) (time_after items) ++ item_line x))
+
+-- an item that is not kept adds nothing
+pub pick_open_dropped : (h : Header) (names : List (List ℕ)) (items : List BodyItem) (x : BodyItem) → keeps (picked_by h names) items x ≡ false → pick_open h names (items ++ x ∷ []) ≡ pick_open h names items
+unfolding pick_open
+pick_open_dropped h names items x e = ap (λ l. head_for h names ++ l) (text_dropped (picked_by h names) items x e)
+
+-- without a time mark nothing follows at the end
+pub pick_close_none : (h : Header) (names : List (List ℕ)) (items : List BodyItem) → last_mark items ≡ None → pick_close h names items ≡ []
+unfolding pick_close
+pick_close_none h names items e = ap (closing (kept_times (picked_by h names) items)) e
+
+-- where the last time mark is the greatest, its line follows where it is due
+pub pick_close_some : (h : Header) (names : List (List ℕ)) (items : List BodyItem) (t : ℕ) → last_mark items ≡ Some t → t ≡ time_after items → pick_close h names items ≡ time_due (last_time (picked_by h names) items) t
+unfolding pick_close
+pick_close_some h names items t e same =
+    ap (closing (kept_times (picked_by h names) items)) e
+    ∙ ap (time_unless (kept_times (picked_by h names) items)) same
+    ∙ time_unless_last (picked_by h names) items
+    ∙ ap (time_due (last_time (picked_by h names) items)) (sym same)
