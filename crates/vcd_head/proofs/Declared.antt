@@ -1,5 +1,5 @@
 -- A draft that holds some declarations holds one more.
-use Rattle.std.proofs.Common.{◌≡◌, ℕ, suc, ◌+◌, ◌-◌, ◌<◌, ◌≤◌, cond, List, [], ◌∷◌, ◌++◌, length, map, reverse, take, drop, slice_range, slice_get, find, filter_map, sum_by, bytes_eq, Option, Some, None, is_some, option_map, unwrap_or, refl, sym, ap, subst, ◌∙◌, arith}
+use Rattle.std.proofs.Common.{◌≡◌, ◌≢◌, ℕ, suc, ◌+◌, ◌-◌, ◌<◌, ◌≤◌, cond, List, [], ◌∷◌, ◌++◌, length, map, reverse, take, drop, slice_range, slice_get, find, filter_map, sum_by, bytes_eq, Option, Some, None, is_some, option_map, unwrap_or, refl, sym, ap, subst, ◌∙◌, arith}
 use Rattle.std.specs.Global.{Vec}
 use Rattle.std.specs.List.{AllByRecursion, AllZip, list_any, join_with_byte, last_or}
 use Rattle.std.proofs.lemmas.List.{append_assoc, append-nil, length-append, length_push, reverse-append, length-reverse, length-map, map-append}
@@ -40,10 +40,14 @@ first_joined : (reference : List (List ℕ)) → (rest : List ℕ) × (join_with
 first_joined [] = ([], refl)
 first_joined (t ∷ ts) = (spaced ts, joined t ts)
 
+-- a reference that has a first token
+pub some_token : (t : List ℕ) (ts : List (List ℕ)) → t ∷ ts ≢ []
+some_token t ts e = cc
+
 -- the texts of a row that were put to the text
-pub texts_there : (text type : List ℕ) (reference : List (List ℕ)) (more : List ℕ) (r : Row) → r.start ≡ length text → r.word ≡ length type → r.all ≡ length (join_with_byte 32 reference) → r.name ≡ length (first_token reference)
+pub texts_there : (text type : List ℕ) (reference : List (List ℕ)) (more : List ℕ) (r : Row) → reference ≢ [] → r.start ≡ length text → r.word ≡ length type → r.all ≡ length (join_with_byte 32 reference) → r.name ≡ length (first_token reference)
     → HasTexts (text ++ (type ++ (join_with_byte 32 reference ++ more))) r type reference
-texts_there text type reference more r s w a n =
+texts_there text type reference more r t s w a n =
     let j = join_with_byte 32 reference in
     let f = first_joined reference in
     let split : text ++ (type ++ (j ++ more)) ≡ (text ++ type) ++ (j ++ more) = sym (append_assoc text type (j ++ more)) in
@@ -56,6 +60,7 @@ texts_there text type reference more r s w a n =
       word_is = range_at text type (j ++ more) r.start (r.start + r.word) s (omega arith);
       all_len = a;
       all_is = ap (λ l. slice_range l (r.start + r.word) (r.start + r.word + r.all)) split ∙ range_at (text ++ type) j more (r.start + r.word) (r.start + r.word + r.all) (omega arith) (omega arith);
+      some_token = t;
       name_within = omega arith;
       name_is = ap (λ l. slice_range l (r.start + r.word) (r.start + r.word + r.name)) names ∙ range_at (text ++ type) (first_token reference) (f.0 ++ more) (r.start + r.word) (r.start + r.word + r.name) (omega arith) (omega arith);
     }
@@ -130,7 +135,7 @@ scope_declared most d d' ds type name r h few text rows codes scopes is =
         own = (
           ap (λ (q : Row). q.kind) is,
           subst (λ t. HasTexts t r type (name ∷ [])) (sym there)
-              (texts_there d.text.items type (name ∷ []) [] r (ap (λ (q : Row). q.start) is) (ap (λ (q : Row). q.word) is) (ap (λ (q : Row). q.all) is) (ap (λ (q : Row). q.name) is)),
+              (texts_there d.text.items type (name ∷ []) [] r (some_token name []) (ap (λ (q : Row). q.start) is) (ap (λ (q : Row). q.word) is) (ap (λ (q : Row). q.all) is) (ap (λ (q : Row). q.name) is)),
           ap (λ (q : Row). q.code) is,
         );
       });
@@ -249,11 +254,11 @@ holds_scale most d ps x h = record {
     again q k = subst (Declares most (record d { scale = Some x })) q (record { codes = k.codes; rows = k.rows; nested = k.nested; balance = k.balance; held = k.held; few = k.few })
 
 -- a variable
-pub var_declared : (most : ℕ) (d d' : Draft) (ds : List Declaration) (v : Variable) (r : Row) (more : List ℕ) → Declares most d ds → length ds < most
+pub var_declared : (most : ℕ) (d d' : Draft) (ds : List Declaration) (v : Variable) (r : Row) (more : List ℕ) → Declares most d ds → length ds < most → v.reference ≢ []
     → d'.text.items ≡ d.text.items ++ (v.type ++ (join_with_byte 32 v.reference ++ more)) → length more ≤ length v.code → d'.rows.items ≡ d.rows.items ++ r ∷ [] → HasCodes d'.text.items d'.codes.entries (ds ++ Declaration.Var v ∷ [])
     → slice_get (codes_of (ds ++ Declaration.Var v ∷ [])) r.code ≡ Some (code_of v) → d'.scopes.items ≡ d.scopes.items → r.kind ≡ kind.Var → r.parent ≡ unwrap_or (slice_get d.scopes.items (length d.scopes.items - 1)) 0 → r.start ≡ length d.text.items → r.word ≡ length v.type
     → r.all ≡ length (join_with_byte 32 v.reference) → r.name ≡ length (first_token v.reference) → Declares most d' (ds ++ Declaration.Var v ∷ [])
-var_declared most d d' ds v r more h few text short rows codes at scopes kind parent start word all name =
+var_declared most d d' ds v r more h few named text short rows codes at scopes kind parent start word all name =
     let x = Declaration.Var v in
     let tail = v.type ++ (join_with_byte 32 v.reference ++ more) in
     let grown = codes_grown ds v in
@@ -267,7 +272,7 @@ var_declared most d d' ds v r more h few text short rows codes at scopes kind pa
           (subst (λ t. AreRows t (codes_of (ds ++ x ∷ [])) [] d.rows.items ds) (sym text) (subst (λ ks. AreRows (d.text.items ++ tail) ks [] d.rows.items ds) (sym grown.1) (are_rows_grow d.text.items tail (codes_of ds) grown.0 [] d.rows.items ds h.rows)))
           (record {
             parent_is = parent ∙ parent_is ds d.scopes.items h.nested;
-            own = (kind, subst (λ t. HasTexts t r v.type v.reference) (sym text) (texts_there d.text.items v.type v.reference more r start word all name), at);
+            own = (kind, subst (λ t. HasTexts t r v.type v.reference) (sym text) (texts_there d.text.items v.type v.reference more r named start word all name), at);
           }));
       nested = scopes ∙ h.nested ∙ ap (λ l. map suc (reverse l)) (sym (enclosing-var ds v));
       balance = rw (enclosing-var ds v) (omega arith);

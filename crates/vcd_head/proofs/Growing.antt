@@ -47,6 +47,7 @@ has_texts_grow t more r type reference h =
       word_is = range_grow t more r.start (r.start + r.word) (omega arith) (omega arith) ∙ h.word_is;
       all_len = h.all_len;
       all_is = range_grow t more (r.start + r.word) (r.start + r.word + r.all) (omega arith) (omega arith) ∙ h.all_is;
+      some_token = h.some_token;
       name_within = h.name_within;
       name_is = range_grow t more (r.start + r.word) (r.start + r.word + r.name) (omega arith) (omega arith) ∙ h.name_is;
     }

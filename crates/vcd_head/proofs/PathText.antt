@@ -13,7 +13,7 @@ use Rattle.vcd_head.specs.Views.{Views}
 use Rattle.vcd_head.proofs.Growing.{rows_len}
 use Rattle.vcd_head.proofs.RowAt.{row_at, no_parent, some_parent}
 
-take-take : {X : Type 0} (p i : ℕ) (xs : List X) → p ≤ i → take p (take i xs) ≡ take p xs
+pub take-take : {X : Type 0} (p i : ℕ) (xs : List X) → p ≤ i → take p (take i xs) ≡ take p xs
 take-take zero i xs h = refl
 take-take (suc p) zero xs h = absurd (omega arith)
 take-take (suc p) (suc i) [] h = refl

@@ -13,3 +13,7 @@ pub mod Holds
 pub mod Carries
 pub mod Variables
 pub mod Scaled
+pub mod Marks
+pub mod Lines
+pub mod Selects
+pub mod Marked

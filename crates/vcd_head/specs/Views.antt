@@ -1,5 +1,5 @@
 -- When a view shows a header.
-use Rattle.std.specs.Prelude.{◌≡◌, ℕ, suc, ◌+◌, ◌*◌, ◌<◌, ◌≤◌, List, [], ◌∷◌, ◌++◌, length, map, Option, Some, None, unwrap_or, option_map, slice_get, slice_range, IsPermutation}
+use Rattle.std.specs.Prelude.{◌≡◌, ◌≢◌, ℕ, suc, ◌+◌, ◌*◌, ◌<◌, ◌≤◌, List, [], ◌∷◌, ◌++◌, length, map, Option, Some, None, unwrap_or, option_map, slice_get, slice_range, IsPermutation}
 use Rattle.std.specs.Ordering.{nat_cmp}
 use Rattle.std.specs.Cmp.Lexicographic.{slice_cmp}
 use Rattle.std.specs.List.{AllByRecursion, AllZip, join_with_byte, range_with_len}
@@ -19,13 +19,14 @@ abbrev pub counted_from_one : Option ℕ → ℕ
 counted_from_one None = 0
 counted_from_one (Some p) = suc p
 
--- the row's type and reference stand in the text where it says: the reference's tokens with a space between
+-- the row's type and reference stand in the text where it says: the reference's tokens, of which there is one at least, with a space between
 pub record HasTexts (text : List ℕ) (r : Row) (type : List ℕ) (reference : List (List ℕ)) : Type 0 where
   pub within : r.start + r.word + r.all ≤ length text
   pub word_len : r.word ≡ length type
   pub word_is : slice_range text r.start (r.start + r.word) ≡ type
   pub all_len : r.all ≡ length (join_with_byte 32 reference)
   pub all_is : slice_range text (r.start + r.word) (r.start + r.word + r.all) ≡ join_with_byte 32 reference
+  pub some_token : reference ≢ []
   pub name_within : r.name ≤ r.all
   pub name_is : slice_range text (r.start + r.word) (r.start + r.word + r.name) ≡ first_token reference
 

@@ -15,6 +15,7 @@ pub mod read;
 mod reading;
 mod scale;
 mod scopes;
+pub mod select;
 #[cfg(test)]
 mod tests;
 mod texts;
@@ -22,3 +23,4 @@ mod tokens;
 mod variable;
 pub mod view;
 pub(crate) mod words;
+pub mod written;

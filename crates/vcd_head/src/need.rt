@@ -1,5 +1,5 @@
 // The room of an engine.
-ghost use Rattle.std.specs.Prelude.{◌≡◌, ℕ};
+ghost use Rattle.std.specs.Prelude.{◌≡◌, ℕ, length};
 ghost use Rattle.vcd_model.specs.Header.{Header};
 ghost use Rattle.vcd_model.specs.Bound.{WindowSize, AreWindows, FitsInput, room_of};
 ghost use Rattle.vcd_head.specs.Shown.{parts};
@@ -10,6 +10,7 @@ use crate::view::{HeadView, Need};
 
 /// The room that an engine over this header needs.
 pub fn need(view: HeadView<'_>) -> Need
+    ensures lengths { (result.slots ≡ length view.entry.codes.now) × (result.marks ≡ length view.entry.rows.now) }
     ensures room { (h : Header) → Views (parts view.entry) h → room result ≡ room_of h }
     ensures fits { (limit : ℕ) (h : Header) (w : WindowSize) → Views (parts view.entry) h → AreWindows limit w
         → FitsInput limit h w (view_size (parts view.entry)) (room result) }

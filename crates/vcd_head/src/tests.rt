@@ -8,8 +8,10 @@ use crate::need::need;
 use crate::path::put_path;
 use crate::probes::Probes;
 use crate::read::read_head;
+use crate::select::{select, selects};
 use crate::view::{Code, Kind, Need, Row, Scale};
-use std::alloc::Global;
+use crate::written::put_head;
+use std::alloc::{AllocError, Global};
 use std::test::Fail;
 use vcd_text::device::Watch;
 use vcd_text::feed::Feed;
@@ -294,5 +296,109 @@ fn paths_of_nested_scopes(rt: HostRuntime) -> Result<(), Fail> {
         paths.device.as_slice(),
         b"tb.clk\ntb.u.q\ntb.u.alias\ntb.go\n".as_slice()
     );
+    Ok(())
+}
+
+// Headers that are written.
+
+const SIMULATED: &[u8] =
+    b"$date Tue  Mar 5 $end\n$version Sim 1.0 $end\n$timescale 10 ns $end\n$scope module tb $end\n$var wire 1 ~ clk $end\n$scope module u $end\n$var reg 4 ! q [3:0] $end\n$upscope $end\n$scope task t $end\n$var event 1 !! go $end\n$upscope $end\n$upscope $end\n$enddefinitions $end\n";
+
+const SIMULATED_PART: &[u8] =
+    b"$date\n\tTue Mar 5\n$end\n$version\n\tSim 1.0\n$end\n$timescale\n\t10ns\n$end\n$scope module tb $end\n$scope module u $end\n$var reg 4 ! q [3:0] $end\n$upscope $end\n$upscope $end\n$enddefinitions $end\n";
+
+#[test]
+fn head_of_marked_declarations(rt: HostRuntime) -> Result<(), Fail> {
+    let head = read_good(rt.alloc(), SIMULATED)?;
+    let mut out = Watch::new(Vec::new(rt.alloc()));
+    put_head(head.view(), &[1, 0, 1, 1, 0, 0, 0, 0, 0], &mut out)?;
+    assert_eq!(rt; out.device.as_slice(), SIMULATED_PART);
+    Ok(())
+}
+
+const OPEN: &[u8] =
+    b"$scope module a $end\n$scope fork b $end\n$var wire 1 ! x $end\n$upscope $end\n$scope begin c $end\n$scope module d $end\n$var real 64 r y $end\n$enddefinitions $end\n";
+
+const OPEN_PART: &[u8] =
+    b"$scope module a $end\n$var wire 1 ! x $end\n$scope begin c $end\n$var real 64 r y $end\n$upscope $end\n$upscope $end\n$enddefinitions $end\n";
+
+#[test]
+fn head_with_scopes_left_open(rt: HostRuntime) -> Result<(), Fail> {
+    let head = read_good(rt.alloc(), OPEN)?;
+    let mut out = Watch::new(Vec::new(rt.alloc()));
+    put_head(head.view(), &[1, 0, 1, 0, 1, 0, 1], &mut out)?;
+    assert_eq!(rt; out.device.as_slice(), OPEN_PART);
+    Ok(())
+}
+
+// Selection.
+
+// The rows: tb, tb.a, tb.ab, the scope tb.a, tb.a.x (an alias of tb.a), and two that close a scope.
+const BESIDE: &[u8] =
+    b"$scope module tb $end $var wire 1 ! a $end $var wire 1 \" ab $end $scope module a $end $var wire 1 ! x $end $upscope $end $upscope $end $enddefinitions $end\n";
+
+// Whether the name selects tb.a, tb.ab and tb.a.x.
+fn selected(head: &Head, name: &str) -> [bool; 3] {
+    let view = head.view();
+    [
+        selects(view, 1, name),
+        selects(view, 2, name),
+        selects(view, 4, name),
+    ]
+}
+
+#[test]
+fn names_select_whole_components(rt: HostRuntime) -> Result<(), Fail> {
+    let head = read_good(rt.alloc(), BESIDE)?;
+    assert_eq!(rt; selected(&head, "tb"), [true; 3]);
+    assert_eq!(rt; selected(&head, "tb.a"), [true, false, true]);
+    assert_eq!(rt; selected(&head, "tb.ab"), [false, true, false]);
+    assert_eq!(rt; selected(&head, "tb.a.x"), [false, false, true]);
+    assert_eq!(rt; selected(&head, "t"), [false; 3]);
+    assert_eq!(rt; selected(&head, "tb.a."), [false; 3]);
+    assert_eq!(rt; selected(&head, "a"), [false; 3]);
+    assert_eq!(rt; selected(&head, ""), [false; 3]);
+    Ok(())
+}
+
+fn names(alloc: Global, texts: &[&str]) -> Result<Vec<String>, AllocError> {
+    let mut names = Vec::new(alloc);
+    for text in texts {
+        names.push(String::from_str(alloc, *text)?)?;
+    }
+    Ok(names)
+}
+
+// The marks of the seven rows, or the place of the refused name.
+fn marked(
+    alloc: Global,
+    head: &Head,
+    texts: &[&str],
+) -> Result<Result<[u8; 7], usize>, AllocError> {
+    let view = head.view();
+    let names = names(alloc, texts)?;
+    let mut marks = [9; 7];
+    if view.rows.len() != marks.len() {
+        return Ok(Err(view.rows.len()));
+    }
+    Ok(select(view, &names, &mut marks).map(|_| marks))
+}
+
+#[test]
+fn selected_variables_are_marked(rt: HostRuntime) -> Result<(), Fail> {
+    let alloc = rt.alloc();
+    let head = read_good(alloc, BESIDE)?;
+    assert_eq!(rt; marked(alloc, &head, &[])?, Ok([1, 1, 1, 1, 1, 0, 0]));
+    assert_eq!(rt; marked(alloc, &head, &["tb.a"])?, Ok([1, 1, 0, 1, 1, 0, 0]));
+    assert_eq!(rt;
+        marked(alloc, &head, &["tb.a.x"])?,
+        Ok([1, 0, 0, 1, 1, 0, 0])
+    );
+    assert_eq!(rt;
+        marked(alloc, &head, &["tb.ab", "tb.ab"])?,
+        Ok([1, 0, 1, 0, 0, 0, 0])
+    );
+    assert_eq!(rt; marked(alloc, &head, &["tb", "tb.b", "x"])?, Err(1));
+    assert_eq!(rt; marked(alloc, &head, &["a", "tb"])?, Err(0));
     Ok(())
 }

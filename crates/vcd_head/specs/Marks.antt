@@ -1,0 +1,13 @@
+-- Marks: which declarations a written head has.
+use Rattle.std.specs.Prelude.{ℕ, ◌==◌, Bool, cond, List, length, map, unwrap_or, slice_get}
+use Rattle.std.specs.List.{range_with_len}
+use Rattle.vcd_model.specs.Declarations.{Declaration}
+use Rattle.vcd_model.specs.Selection.{marked_places, is_among}
+
+-- 1 at each selected variable and at the scopes around these, 0 elsewhere
+unfoldable pub marks_of : List (List ℕ) → List Declaration → List ℕ
+marks_of names ds = let places = marked_places names ds in map (λ i. cond (is_among places i) 1 0) (range_with_len 0 (length ds))
+
+-- the declaration at a place is marked
+abbrev pub is_marked : List ℕ → ℕ → Bool
+is_marked marks place = unwrap_or (slice_get marks place) 0 == 1
