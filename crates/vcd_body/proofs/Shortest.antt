@@ -1,5 +1,5 @@
 -- The shortest digits of a value are those from which no digit can be left out on the left.
-use Rattle.std.proofs.Common.{◌≡◌, ◌≢◌, ℕ, zero, suc, ◌+◌, ◌-◌, ◌≤◌, ◌<◌, Bool, true, false, cond, ◌==◌, List, [], ◌∷◌, ◌++◌, length, replicate, drop, get_or, refl, sym, ap, subst, ◌∙◌, arith}
+use Rattle.std.proofs.Common.{◌≡◌, ◌≢◌, ℕ, zero, suc, ◌+◌, ◌-◌, max, ◌≤◌, ◌<◌, Bool, true, false, cond, ◌==◌, List, [], ◌∷◌, ◌++◌, length, replicate, drop, get_or, refl, sym, ap, subst, ◌∙◌, arith}
 use Rattle.std.specs.Char.{to_ascii_lowercase}
 use Rattle.std.specs.Str.{str_to_ascii_lowercase}
 use Rattle.std.proofs.lemmas.List.{length-append, length-map, length-replicate}
@@ -30,6 +30,14 @@ one_more (suc n) e l = ap (λ r. e ∷ r) (one_more n e l)
 
 replicate_at : (m n e : ℕ) (l r : List ℕ) → m ≡ n + 1 → replicate n e ++ e ∷ l ≡ r → replicate m e ++ l ≡ r
 replicate_at m n e l r h q = let s : m ≡ suc n = omega arith in ap (λ k. replicate k e ++ l) s ∙ sym (one_more n e l) ∙ q
+
+-- digits that are as many as their size or more are their own extension
+pub extend_wide : (ds : List ℕ) (size : ℕ) → size ≤ length ds → extend ds size ≡ ds
+extend_wide ds size h = let e : size - length ds ≡ 0 = omega arith in rw e refl
+
+-- where their size is less than the digits, they are extended as at the size that they fill
+extend_where_fits : (ds : List ℕ) (size n : ℕ) → n ≡ max size (length ds) → extend ds size ≡ extend ds n
+extend_where_fits ds size n h = let e : size - length ds ≡ n - length ds = omega arith in ap (λ k. replicate k (extension ds) ++ ds) e
 
 -- a digit that the others are extended by can be left out
 pub left_out : (x : ℕ) (ds : List ℕ) (n : ℕ) → x ≡ extension ds → length (x ∷ ds) ≤ n → extend ds n ≡ extend (x ∷ ds) n
@@ -89,6 +97,8 @@ first_out [] size more e h = absurd (omega arith)
 first_out (x ∷ []) size more e h = absurd (omega arith)
 first_out (x ∷ y ∷ l) size more e h = left_out (to_ascii_lowercase x) (str_to_ascii_lowercase (y ∷ l)) size e (let n = length-map (x ∷ y ∷ l) to_ascii_lowercase in omega arith)
 
--- bare digits that extend to the same as some digits are the shortest of these
-pub shortest_of : (l digits : List ℕ) (size : ℕ) → IsBare (str_to_ascii_lowercase l) → length l ≤ size → extend (str_to_ascii_lowercase l) size ≡ extend (str_to_ascii_lowercase digits) size → str_to_ascii_lowercase l ≡ short (extend (str_to_ascii_lowercase digits) size)
-shortest_of l digits size b h e = bare_is_short (str_to_ascii_lowercase l) size b (let n = length-map l to_ascii_lowercase in omega arith) ∙ ap short e
+-- bare digits that extend to the same as some digits, wherever these fit, are the shortest of these at each size
+pub shortest_of : (l digits : List ℕ) → IsBare (str_to_ascii_lowercase l) → length l ≤ length digits → ((n : ℕ) → length digits ≤ n → extend (str_to_ascii_lowercase l) n ≡ extend (str_to_ascii_lowercase digits) n) → (size : ℕ) → str_to_ascii_lowercase l ≡ short (extend (str_to_ascii_lowercase digits) size)
+shortest_of l digits b few e size =
+    let n = max size (length digits) in
+    bare_is_short (str_to_ascii_lowercase l) n b (let m = length-map l to_ascii_lowercase in omega arith) ∙ ap short (e n (omega arith) ∙ sym (extend_where_fits (str_to_ascii_lowercase digits) size n (let m = length-map digits to_ascii_lowercase in omega arith)))

@@ -5,3 +5,4 @@ pub mod Reads
 pub mod Went
 pub mod Gives
 pub mod Changes
+pub mod Contents

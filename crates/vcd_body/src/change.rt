@@ -23,7 +23,7 @@ fn extended_by(digit: u8) -> u8
 // The shortest digits that extend to the same value.
 fn shortest(digits: &[u8]) -> &[u8]
     requires { 0 < length digits.now }
-    ensures { (size : ℕ) → length digits.now ≤ size → str_to_ascii_lowercase result.now ≡ short (extend (str_to_ascii_lowercase digits.now) size) }
+    ensures { (size : ℕ) → str_to_ascii_lowercase result.now ≡ short (extend (str_to_ascii_lowercase digits.now) size) }
 {
     let mut rest = digits;
     'digits: while rest.len() > 1 {
@@ -93,7 +93,7 @@ fn put_value<W: Sink>(
     text: &[u8],
 ) -> Result<(), WriteFailed>
     requires failures { W.failures w.old < 2 ^ 64 - 1 }
-    requires digits { event ≡ false → form ≢ Form.RealText → (0 < length text.now) × (length text.now ≤ size) }
+    requires digits { event ≡ false → form ≢ Form.RealText → 0 < length text.now }
     ensures takes { Takes (W.held w.old) (W.held w.new) (value_text size event form text.now) result }
     ensures failures { W.failures w.new ≡ failures_after (W.failures w.old) result }
 {
@@ -122,7 +122,7 @@ pub fn put_change<W: Sink>(
     w: &mut W,
 ) -> Result<(), WriteFailed>
     requires failures { W.failures w.old < 2 ^ 64 - 1 }
-    requires digits { event ≡ false → form ≢ Form.RealText → (0 < length text.now) × (length text.now ≤ size) }
+    requires digits { event ≡ false → form ≢ Form.RealText → 0 < length text.now }
     ensures takes { Takes (W.held w.old) (W.held w.new)
         (change_line (record { code = record { text = id.now; size = size; event = event }; form = model_form form; text = text.now })) result }
     ensures failures { W.failures w.new ≡ failures_after (W.failures w.old) result }

@@ -6,6 +6,7 @@ pub mod fault;
 pub mod item;
 mod phrases;
 pub mod read;
+pub mod table;
 #[cfg(test)]
 mod tests;
 mod tokens;

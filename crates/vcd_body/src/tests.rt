@@ -1,12 +1,14 @@
-// Bodies that are read to their end, bodies that are refused, a source that fails, and changes that are written.
+// Bodies that are read to their end, bodies that are refused, a source that fails, changes that are written, and codes that are chosen.
 ghost use Rattle.std.specs.Prelude.{◌≡◌, ◌≤◌, ◌<◌, Some, length};
 
 use crate::change::put_change;
 use crate::item::{Form, Item, Regs};
 use crate::read::{change_text, next_item};
+use crate::table::{Slot, Table};
 use std::alloc::{AllocError, Global};
 use std::test::Fail;
 use vcd_head::read::read_head;
+use vcd_head::view::{Code, HeadView};
 use vcd_text::device::{ReadFailed, Sink, Source, WriteFailed};
 use vcd_text::feed::Feed;
 
@@ -254,7 +256,7 @@ impl Sink for Page {
 
 // A change of digits is written so, where the code is no event.
 fn writes(size: usize, form: Form, text: &[u8], line: &[u8]) -> bool
-    requires { (0 < length text.now) × (length text.now ≤ size) }
+    requires { 0 < length text.now }
 {
     let mut page = Page::new(80);
     put_change(size, false, form, text, b"!", &mut page).is_ok() && page.held() == line
@@ -275,6 +277,9 @@ fn shortest_digits_are_written(rt: HostRuntime) {
     assert!(rt; writes(4, Form::Vector, b"0xxx", b"b0xxx !\n"));
     assert!(rt; writes(4, Form::Vector, b"Zzx0", b"bzx0 !\n"));
     assert!(rt; writes(4, Form::Vector, b"xz10", b"bxz10 !\n"));
+    assert!(rt; writes(2, Form::Vector, b"Xx10", b"bx10 !\n"));
+    assert!(rt; writes(2, Form::Vector, b"0X10", b"b0x10 !\n"));
+    assert!(rt; writes(1, Form::Vector, b"0010", b"0010!\n"));
     assert!(rt;
         writes(
             70,
@@ -303,4 +308,37 @@ fn sink_that_fails(rt: HostRuntime) {
     );
     assert_eq!(rt; page.held(), b"r1.5 ".as_slice());
     assert_eq!(rt; page.failures(), 1);
+}
+
+// A header that shows so many codes, and nothing else.
+fn view_of(codes: &[Code]) -> HeadView<'_>
+    ensures { result.codes.now ≡ codes.now }
+{
+    HeadView {
+        text: &[],
+        rows: &[],
+        codes,
+        index: &[],
+        guesses: &[],
+        keys: &[],
+        date: &[],
+        version: &[],
+        scale: None,
+    }
+}
+
+#[test]
+fn one_of_three_codes_is_chosen(rt: HostRuntime) {
+    let codes = [Code {
+        start: 0,
+        len: 0,
+        size: 1,
+        event: false,
+    }; 3];
+    let mut slots = [Slot::new(); 4];
+    let mut table = Table::new(view_of(&codes), &mut slots);
+    table.choose(1);
+    assert!(rt; !table.chosen(0) && table.chosen(1) && !table.chosen(2));
+    let again = Table::new(view_of(&codes), &mut slots);
+    assert!(rt; !again.chosen(0) && !again.chosen(1) && !again.chosen(2));
 }

@@ -5,11 +5,11 @@ use Rattle.vcd_body.proofs.Shortest.{one_bare, more_bare, first_out, shortest_of
 use Rattle.vcd_body.proofs.change.shortest.Goals as goal
 
 pub returns-then-to_ascii_lowercase-extended_by : goal.returns-then-to_ascii_lowercase-extended_by
-returns-then-to_ascii_lowercase-extended_by c = λ size fits.
+returns-then-to_ascii_lowercase-extended_by c =
     let i = c.digits.invariant in
     let few = i.1 in
     let b = more_bare c.digits.rest.now (omega arith) (λ e. c.if-to_ascii_lowercase-extended_by.true (c.to_ascii_lowercase.ensures.value ∙ e ∙ sym c.extended_by.ensures)) in
-    shortest_of c.digits.rest.now c.args.digits.now size b (omega arith) (i.2 size fits)
+    shortest_of c.digits.rest.now c.args.digits.now b few i.2
 
 pub digits-preserved : goal.digits-preserved
 digits-preserved c =
@@ -27,8 +27,6 @@ digits-preserved c =
     length_drop (x ∷ l) = omega arith
 
 pub returns : goal.returns
-returns c = λ size fits.
+returns c =
     let i = c.digits.invariant in
-    let few = i.1 in
-    let some = i.0 in
-    shortest_of c.digits.rest.now c.args.digits.now size (one_bare c.digits.rest.now (omega arith) (omega arith)) (omega arith) (i.2 size fits)
+    shortest_of c.digits.rest.now c.args.digits.now (one_bare c.digits.rest.now i.0 (omega arith)) i.1 i.2
