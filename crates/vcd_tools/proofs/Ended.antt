@@ -8,12 +8,14 @@ use Rattle.vcd_model.specs.Declarations.{Declaration, IdCode, is_scope, variable
 use Rattle.vcd_model.specs.Header.{Header}
 use Rattle.vcd_model.specs.Items.{BodyItem}
 use Rattle.vcd_model.specs.CheckAndList.{check_close}
-use Rattle.vcd_model.specs.Outcome.{Request, close_text}
+use Rattle.vcd_model.specs.ItemText.{last_mark}
+use Rattle.vcd_model.specs.Outcome.{Request}
 use Rattle.vcd_text.specs.Feed.{limit_of, token_of, seen}
 use Rattle.vcd_text.specs.declared.device.Source.{Ghosts}
 use Rattle.vcd_text.specs.declared.feed.Feed.{Feed}
 use Rattle.vcd_head.specs.Shown.{parts}
-use Rattle.vcd_head.specs.Views.{AreRows, IsCode}
+use Rattle.vcd_head.specs.Views.{AreRows, IsCode, Views}
+use Rattle.vcd_head.specs.declared.view.HeadView.{HeadView}
 use Rattle.vcd_head.specs.declared.view.Row.{Row}
 use Rattle.vcd_body.specs.Gives.{GivesItem}
 use Rattle.vcd_body.specs.Items.{behind}
@@ -25,11 +27,10 @@ use Rattle.vcd_body.specs.declared.fault.BodyFault.{BodyFault}
 use Rattle.vcd_body.specs.declared.fault.BodyFault.TheVariants.{ReadFailed}
 use Rattle.vcd_tools.specs.Counting.{body_stop}
 use Rattle.vcd_tools.specs.Follows.{Device}
-use Rattle.vcd_tools.specs.Holds.{Gives, Holds, last_of, request_of, task_of}
+use Rattle.vcd_tools.specs.Holds.{AreCounted, Gives, Holds, last_of}
 use Rattle.vcd_tools.specs.Report.{report_text, opens_scope, declares_variable}
 use Rattle.vcd_tools.specs.declared.engine.Engine.{Engine}
-use Rattle.vcd_tools.specs.declared.engine.Task.{Task}
-use Rattle.vcd_tools.specs.declared.engine.Task.TheVariants.{Check}
+use Rattle.vcd_tools.specs.declared.report.Counts.{Counts}
 use Rattle.vcd_tools.specs.declared.report.Report.{Report}
 use Rattle.vcd_tools.proofs.Taken.{writes-none}
 
@@ -72,24 +73,14 @@ variables_are text codes earlier (r ∷ rs) (Declaration.Up ∷ ds) a = not_one 
 variables_are text codes earlier (r ∷ rs) (Declaration.Var v ∷ ds) a = one_more r rs (length (variables_of ds)) (ap declares_variable a.0.own.0) (variables_are text codes (earlier ++ Declaration.Var v ∷ []) rs ds a.1)
 
 -- the seven lines
-pub report_is : (e : Engine) (h : Header) (items : List BodyItem) (report : Report) → Holds e h items → report.scopes ≡ count_by (λ r. opens_scope r.kind) e.view.rows.now → report.variables ≡ count_by (λ r. declares_variable r.kind) e.view.rows.now
-    → report.codes ≡ length e.view.codes.now → report.counts ≡ e.counts → report.last ≡ last_of e.regs → check_close h items ≡ report_text report
+pub report_is : (v : HeadView) (h : Header) (items : List BodyItem) (c : Counts) (r : Regs) (report : Report) → Views (parts v) h → AreCounted items c → last_of r ≡ last_mark items → report.scopes ≡ count_by (λ r. opens_scope r.kind) v.rows.now
+    → report.variables ≡ count_by (λ r. declares_variable r.kind) v.rows.now → report.codes ≡ length v.codes.now → report.counts ≡ c → report.last ≡ last_of r → check_close h items ≡ report_text report
 unfolding check_close
-report_is e h items report s scopes variables codes counts last =
-    let v = s.views in
-    let n = s.counted in
-    let declared : count_by is_scope h.declarations ≡ report.scopes = sym (scopes ∙ scopes_are (parts e.view).text h.codes [] e.view.rows.now h.declarations v.rows) in
-    let vars : length (variables_of h.declarations) ≡ report.variables = sym (variables ∙ variables_are (parts e.view).text h.codes [] e.view.rows.now h.declarations v.rows) in
-    let codes_are : length h.codes ≡ report.codes = AllZip-long (IsCode (parts e.view).text) e.view.codes.now h.codes v.codes ∙ sym codes in
-    rw (declared, vars, codes_are, counts, last, sym n.times, sym n.sections, sym n.changes, sym n.last_is) refl
-
--- so what an engine writes at the end is due there
-pub closed : (e : Engine) (h : Header) (items : List BodyItem) (report : Report) → Holds e h items → report.scopes ≡ count_by (λ r. opens_scope r.kind) e.view.rows.now → report.variables ≡ count_by (λ r. declares_variable r.kind) e.view.rows.now
-    → report.codes ≡ length e.view.codes.now → report.counts ≡ e.counts → report.last ≡ last_of e.regs → close_text (task_of e) h items ≡ report_text report
-closed e h items report s scopes variables codes counts last = by_task e.task ∙ report_is e h items report s scopes variables codes counts last
-  where
-    by_task : (t : Task) → close_text (request_of t) h items ≡ check_close h items
-    by_task Check = refl
+report_is v h items c r report views n last_is scopes variables codes counts last =
+    let declared : count_by is_scope h.declarations ≡ report.scopes = sym (scopes ∙ scopes_are (parts v).text h.codes [] v.rows.now h.declarations views.rows) in
+    let vars : length (variables_of h.declarations) ≡ report.variables = sym (variables ∙ variables_are (parts v).text h.codes [] v.rows.now h.declarations views.rows) in
+    let codes_are : length h.codes ≡ report.codes = AllZip-long (IsCode (parts v).text) v.codes.now h.codes views.codes ∙ sym codes in
+    rw (declared, vars, codes_are, counts, last, sym n.times, sym n.sections, sym n.changes, sym last_is) refl
 
 -- ---- a fault
 
@@ -107,10 +98,10 @@ all_given codes i front items f r x is given = (subst (GivesItem codes i front i
 
 -- an engine that has ended with these registers
 abbrev pub ended_with : Engine → Regs → Engine
-ended_with e r = record { task = e.task; view = e.view; regs = r; counts = e.counts; going = false }
+ended_with e r = record { view = e.view; regs = r; work = e.work; going = false }
 
 -- it holds what it held
 pub holds_still : (e : Engine) (h : Header) (items : List BodyItem) (r : Regs) (x : Item) → x ≡ Finish → r ≡ behind e.regs x → Holds e h items → Holds (ended_with e r) h items
 holds_still e h items r x is re s =
     let same : e.regs ≡ r = sym (re ∙ ap (behind e.regs) is) in
-    subst (λ (q : Regs). Holds (ended_with e q) h items) same (record { views = s.views; known = s.known; counted = s.counted })
+    subst (λ (q : Regs). Holds (ended_with e q) h items) same (record { views = s.views; known = s.known; last = s.last; keeps = s.keeps })

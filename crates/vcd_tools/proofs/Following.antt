@@ -1,5 +1,5 @@
 -- What steps leave when the run has ended.
-use Rattle.std.proofs.Common.{◌≡◌, ℕ, ◌+◌, ◌==◌, ◌||◌, inl, inr, Bool, true, false, List, [], ◌∷◌, ◌++◌, Option, Some, None, Result, Ok, Err, refl, sym, ap, subst, ◌∙◌, append-nil, append_assoc, arith}
+use Rattle.std.proofs.Common.{◌≡◌, ℕ, ◌+◌, ◌≤◌, ◌==◌, ◌||◌, inl, inr, Bool, true, false, List, [], ◌∷◌, ◌++◌, Option, Some, None, Result, Ok, Err, refl, sym, ap, subst, ◌∙◌, append-nil, append_assoc, arith}
 use Rattle.std.specs.List.{list_any}
 use Rattle.vcd_model.specs.Backward.{up_to_first}
 use Rattle.vcd_model.specs.Input.{Input}
@@ -7,38 +7,49 @@ use Rattle.vcd_model.specs.Tokens.{Token, Stream, stream_of}
 use Rattle.vcd_model.specs.Header.{Header}
 use Rattle.vcd_model.specs.Items.{BodyItem}
 use Rattle.vcd_model.specs.BodyReading.{body_grammar, read_body, body_items, body_fault_of}
-use Rattle.vcd_model.specs.Outcome.{Outcome, Opened, Request, over_dump, over_body, at_end, body_of, items_in, fault_in, ends_early, fault_outcome, clean_outcome, open_text, close_text}
+use Rattle.vcd_model.specs.Outcome.{Outcome, Opened, Request, over_dump, over_body, at_end, body_of, items_in, fault_in, ends_early, fault_outcome, clean_outcome, name_at, names_of, open_text, close_text, unmatched_outcome}
 use Rattle.vcd_model.specs.Laws.{IsPrefixOf, IsValid}
+use Rattle.vcd_model.specs.Selection.{first_unmatched}
 use Rattle.vcd_model.specs.Reading.{Fault}
 use Rattle.vcd_model.proofs.CutGrows.{goes_on}
 use Rattle.vcd_model.proofs.Revised.{nothing_revised}
 use Rattle.vcd_model.proofs.SoFarLemmas.{so_far-nothing}
 use Rattle.vcd_text.specs.Answer.{failed_after}
-use Rattle.vcd_text.specs.Feed.{Stands, limit_of}
+use Rattle.vcd_text.specs.Feed.{Stands, limit_of, seen}
 use Rattle.vcd_text.specs.declared.device.Source.{Ghosts}
 use Rattle.vcd_text.specs.declared.feed.Feed.{Feed}
 use Rattle.vcd_text.proofs.Writes.{AppendsSome, appends-first, appends-some, appends-twice}
 use Rattle.vcd_body.specs.Reads.{BodyHas, GaveItems}
 use Rattle.vcd_body.specs.declared.item.Regs.{Regs}
 use Rattle.vcd_tools.specs.Follows.{Belongs, Device, Follows, IsLeft, Writes, reads_failed}
-use Rattle.vcd_tools.specs.Holds.{Gives, GrowsSome, Holds, Runs, Since, Stepped}
+use Rattle.vcd_tools.specs.Holds.{Gives, GrowsSome, Holds, Keeps, Runs, Since, Starts, Stepped, asked_of, counted, request_of}
 use Rattle.vcd_tools.specs.declared.answer.Done.{Done}
 use Rattle.vcd_tools.specs.declared.answer.Done.TheVariants.{Whole, Early}
 use Rattle.vcd_tools.specs.declared.answer.More.{More}
 use Rattle.vcd_tools.specs.declared.answer.More.TheVariants.{Again, Ended}
 use Rattle.vcd_tools.specs.declared.answer.Stop.{Stop}
-use Rattle.vcd_tools.specs.declared.answer.Stop.TheVariants.{Dump, Read, Write}
+use Rattle.vcd_tools.specs.declared.answer.Stop.TheVariants.{Dump, Read, Write, Unmatched}
+use Rattle.vcd_tools.specs.Keeps.{names_in}
 use Rattle.vcd_tools.specs.declared.engine.Engine.{Engine}
+use Rattle.vcd_tools.specs.declared.engine.Task.{Task}
+use Rattle.vcd_tools.specs.declared.engine.Task.TheVariants.{Check, Pick}
+use Rattle.vcd_tools.specs.declared.engine.Work.{Work}
+use Rattle.vcd_tools.specs.declared.engine.Work.TheVariants as work
 use Rattle.vcd_tools.proofs.Begins.{items_begin}
+use Rattle.vcd_tools.proofs.Taken.{stays}
 
 -- ---- the first step
+
+none_counted : (w : Work) (h : Header) (n : ℕ) → Keeps w h [] → counted w ≤ n
+none_counted (work.Check c) h n k = let t = k.times in let b = k.sections in let d = k.changes in omega arith
+none_counted (work.Pick p) h n k = omega arith
 
 -- behind the header's tokens no item was given
 pub runs_first : {X : Type 0} {g : Ghosts X} (e : Engine) (h : Header) (i : Input) (front : List Token) (f : Feed X g) → Holds e h [] → Stands i front f → Runs e h i front [] f
 runs_first e h i front f s st = record {
   holds = s;
   gave = record { given = []; placed = []; stands = rw append-nil st; so_far = so_far-nothing (body_grammar h.codes); items_are = refl; known = s.known };
-  few = let t = s.counted.times in let b = s.counted.sections in let c = s.counted.changes in omega arith;
+  few = none_counted e.work h (seen f) s.keeps;
 }
 
 -- ---- the outcome of a body
@@ -84,13 +95,13 @@ none_at test (y ∷ p) x h e = both_false (test y) (list_any test p) (list_any t
 -- `mid` holds what is due behind these items; a step took the run from there to `new`
 module _ (t : Request) (h : Header) (i : Input) (front : List Token) (items : List BodyItem) (name : List ℕ) (limit before after : ℕ) (out mid new : Device) (lasts : Lasts t h items) (open_is : Writes out mid (open_text t h items)) where
   -- an answer that belongs to the outcome of a body
-  follows : (left : Input) (fault : Option Fault) (r : Result Done Stop) → IsLeft i before after left → BodyHas h.codes left front limit items fault → Belongs (at_end t h items name fault) name out new r → Follows t limit i front h name before after out new r
+  follows : (left : Input) (fault : Option Fault) (r : Result Done Stop) → IsLeft i before after left → BodyHas h.codes left front limit items fault → Belongs t (at_end t h items name fault) name out new r → Follows t limit i front h name before after out new r
   follows left fault r is has belongs = record {
     left = left;
     is_left = is;
     rest = has.rest;
     tokens = has.tokens;
-    belongs = subst (λ (o : Outcome). Belongs o name out new r) (sym (over_task t name h (stream_of limit left) has.rest items fault lasts has.items_are has.fault_is)) belongs;
+    belongs = subst (λ (o : Outcome). Belongs t o name out new r) (sym (over_task t name h (stream_of limit left) has.rest items fault lasts has.items_are has.fault_is)) belongs;
   }
 
   -- a fault in a body
@@ -180,7 +191,7 @@ module _ (t : Request) (h : Header) (i : Input) (front : List Token) (items : Li
 
   module _ {X : Type 0} {g : Ghosts X} (f : Feed X g) (same : limit_of f ≡ limit) where
     -- an answer that belongs to the outcome of every body that begins with one item more
-    follows_first : (r : Regs) (x : BodyItem) (a : Result Done Stop) → after ≡ before → GaveItems h.codes i front (items ++ x ∷ []) f r → ((more : List BodyItem) (fault : Option Fault) → Belongs (over_body t h ((items ++ x ∷ []) ++ more) name fault) name out new a)
+    follows_first : (r : Regs) (x : BodyItem) (a : Result Done Stop) → after ≡ before → GaveItems h.codes i front (items ++ x ∷ []) f r → ((more : List BodyItem) (fault : Option Fault) → Belongs t (over_body t h ((items ++ x ∷ []) ++ more) name fault) name out new a)
         → Follows t limit i front h name before after out new a
     unfolding body_of
     follows_first r x a q gave belongs =
@@ -195,7 +206,7 @@ module _ (t : Request) (h : Header) (i : Input) (front : List Token) (items : Li
           is_left = inl (q, refl);
           rest = rest;
           tokens = ap (λ n. (stream_of n i).tokens) (sym same) ∙ first.1 ∙ append_assoc front gave.given first.0;
-          belongs = subst (λ (o : Outcome). Belongs o name out new a) (sym is) (belongs b.0 fault);
+          belongs = subst (λ (o : Outcome). Belongs t o name out new a) (sym is) (belongs b.0 fault);
         }
 
     -- a time mark ended the run
@@ -204,7 +215,7 @@ module _ (t : Request) (h : Header) (i : Input) (front : List Token) (items : Li
         let x = s.0 in
         let due = s.3 in
         let whole : Writes out new (open_text t h (items ++ x ∷ [])) = subst (Writes out new) (sym due.1) (writes-twice out mid new (open_text t h items) due.0 open_is due.2) in
-        follows_first e.regs x (Ok Early) q s.2 (λ more fault. subst (λ (o : Outcome). Belongs o name out new (Ok Early)) (sym (early_outcome t h items more x name fault lasts.on s.1)) (refl, whole))
+        follows_first e.regs x (Ok Early) q s.2 (λ more fault. subst (λ (o : Outcome). Belongs t o name out new (Ok Early)) (sym (early_outcome t h items more x name fault lasts.on s.1)) (refl, whole))
 
     -- a write of what is due behind an item failed
     pub stopped_item : (r : Regs) (x : BodyItem) → IsValid t → after ≡ before → GaveItems h.codes i front (items ++ x ∷ []) f r → GrowsSome mid new (open_text t h items) (open_text t h (items ++ x ∷ [])) → Follows t limit i front h name before after out new (Err Write)
@@ -226,6 +237,7 @@ module _ {X : Type 0} {g : Ghosts X} (t : Request) (h : Header) (i : Input) (fro
   pub followed_stop : (stop : Stop) → after ≡ before + reads_failed {A = Done} (Err stop) → Gives t h i front items e f mid new (Err stop) → Follows t limit i front h name before after out new (Err stop)
   followed_stop (Dump input line fault) q s = stopped_dump t h i front items name limit before after out mid new lasts open_is e f same input line fault (omega arith) s
   followed_stop (Read input) q s = stopped_read t h i front items name limit before after out mid new lasts open_is e f same input q s
+  followed_stop (Unmatched place) q s = absurd s
   followed_stop Write q s = by_due s
     where
       by_due : Gives t h i front items e f mid new (Err Write) → Follows t limit i front h name before after out new (Err Write)
@@ -252,12 +264,63 @@ since_step failures a b c r again s t = record {
   same = let n = t.failed s.goes in let m = s.same in let z = ap (reads_failed {A = More}) again in omega arith;
 }
 
--- ---- `check`
+-- ---- the requests of engines
 
-never_early : (items : List BodyItem) → list_any (ends_early Request.Check) items ≡ false
-never_early [] = refl
-never_early (x ∷ items) = never_early items
+none_early : (w : Work) (items : List BodyItem) → list_any (ends_early (asked_of w)) items ≡ false
+none_early w [] = refl
+none_early w (x ∷ items) = rw (stays w x) (none_early w items)
 
-pub check_lasts : (h : Header) (items : List BodyItem) → Lasts Request.Check h items
+-- an engine that holds items runs a request over a body
+pub lasts : (w : Work) (h : Header) (items : List BodyItem) → Keeps w h items → Lasts (asked_of w) h items
 unfolding over_dump
-check_lasts h items = record { over = λ name o e. refl; on = never_early items }
+lasts (work.Check c) h items k = record { over = λ name o e. refl; on = none_early (work.Check c) items }
+lasts (work.Pick p) h items k = record { over = λ name o e. let m : first_unmatched (names_in p) o.header.declarations ≡ None = ap (λ (x : Header). first_unmatched (names_in p) x.declarations) e ∙ k.matched in rw (m, over_dump) refl; on = none_early (work.Pick p) items }
+
+-- and one that is valid
+pub valid : (w : Work) → IsValid (asked_of w)
+valid (work.Check c) = tt
+valid (work.Pick p) = tt
+
+-- ---- runs that stop at their begin
+
+-- a task is one over a body where each of its names selects something
+over_matched : (t : Task) (name : List ℕ) (o : Opened) → first_unmatched (names_of (request_of t)) o.header.declarations ≡ None → over_dump (request_of t) name o ≡ over_body (request_of t) o.header (items_in o) name (fault_in o)
+unfolding over_dump
+over_matched Check name o e = refl
+over_matched (Pick names) name o e = rw (e, over_dump) refl
+
+-- and is refused where one does not
+over_unmatched : (t : Task) (name : List ℕ) (o : Opened) (place : ℕ) → first_unmatched (names_of (request_of t)) o.header.declarations ≡ Some place → over_dump (request_of t) name o ≡ unmatched_outcome (name_at (names_of (request_of t)) place)
+unfolding over_dump
+over_unmatched Check name o place e = cc
+over_unmatched (Pick names) name o place e = rw (e, over_dump) refl
+
+valid_task : (t : Task) → IsValid (request_of t)
+valid_task Check = tt
+valid_task (Pick names) = tt
+
+no_item : (t : Task) → list_any (ends_early (request_of t)) [] ≡ false
+no_item t = refl
+
+-- a run whose engine was not begun
+pub never_begun : {X : Type 0} {g : Ghosts X} (t : Task) (limit : ℕ) (i : Input) (front : List Token) (h : Header) (name : List ℕ) (failures : ℕ) (out out' : Device) (f : Feed X g) (stop : Stop) → limit_of f ≡ limit → Stands i front f → Starts (request_of t) h out out' (Err stop)
+    → Follows (request_of t) limit i front h name failures failures out out' (Err stop)
+unfolding body_of
+never_begun t limit i front h name failures out out' f stop l st starts = record {
+  left = i;
+  is_left = inl (refl, refl);
+  rest = st.given_first.0;
+  tokens = ap (λ n. (stream_of n i).tokens) (sym l) ∙ st.given_first.1;
+  belongs = by_stop stop starts;
+}
+  where
+    o : Opened
+    o = record { header = h; stream = stream_of limit i; rest = st.given_first.0 }
+
+    by_stop : (s : Stop) → Starts (request_of t) h out out' (Err s) → Belongs (request_of t) (over_dump (request_of t) name o) name out out' (Err s)
+    by_stop Write b =
+        let whole = begins_with (request_of t) h [] (items_in o) name (fault_in o) (valid_task t) (no_item t) in
+        (subst (AppendsSome out.held out'.held) (sym (ap (λ (x : Outcome). x.output) (over_matched t name o b.0) ∙ whole.1)) (appends-first out.held out'.held (open_text (request_of t) h []) whole.0 b.1), b.2)
+    by_stop (Unmatched place) b = let e = over_unmatched t name o place b.0 in (e, subst (λ (x : Outcome). Writes out out' x.output) (sym e) b.1)
+    by_stop (Dump input line fault) b = absurd b
+    by_stop (Read input) b = absurd b

@@ -5,3 +5,6 @@ pub mod Taken
 pub mod Ended
 pub mod Following
 pub mod Begins
+pub mod ItemLines
+pub mod Picked
+pub mod Choosing

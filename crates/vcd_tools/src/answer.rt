@@ -31,6 +31,8 @@ pub enum Stop {
     Read { input: usize },
     /// A write failed. Some first bytes of the output were written.
     Write,
+    /// The name at this place among those of the task, the first such, selects nothing.
+    Unmatched { name: usize },
 }
 
 impl From<WriteFailed> for Stop {

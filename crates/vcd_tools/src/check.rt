@@ -11,8 +11,9 @@ ghost use Rattle.vcd_head.specs.Went.{IsOpen};
 ghost use Rattle.vcd_tools.specs.Follows.{Follows, reads_failed, writes_failed};
 ghost use Rattle.vcd_tools.specs.declared.answer.Done.TheVariants.{Whole};
 
-use crate::answer::{Done, More, Stop};
+use crate::answer::{Done, Stop};
 use crate::engine::{Engine, Task};
+use crate::room::Room;
 use vcd_head::view::HeadView;
 use vcd_text::device::{Sink, Source};
 use vcd_text::feed::Feed;
@@ -34,11 +35,12 @@ pub fn check<S: Source, W: Sink>(
     ensures answer { IfOk result (λ done. done ≡ Whole) }
     ensures windows { (limit_of feed.new ≡ limit_of feed.old) × (chunk_len_of feed.new ≡ chunk_len_of feed.old) × SameLoans feed.old feed.new }
 {
-    let mut engine = Engine::start(Task::Check, view, out)?;
-    'items: loop {
-        match engine.step(feed, out)? {
-            More::Again => {}
-            More::Ended(done) => return Ok(done),
-        }
-    }
+    let mut marks = [];
+    let mut slots = [];
+    let room = Room {
+        marks: &mut marks,
+        slots: &mut slots,
+    };
+    let mut engine = Engine::start(Task::Check, view, room, out)?;
+    engine.finish(feed, out)
 }

@@ -3,8 +3,13 @@
 
 pub mod answer;
 pub mod check;
+mod choice;
 pub mod engine;
+mod items;
 pub mod list;
+pub mod pick;
+mod picking;
 mod report;
+pub mod room;
 #[cfg(test)]
 mod tests;

@@ -1,13 +1,16 @@
-// Headers that are listed, bodies that are counted, and devices that fail.
+// Headers that are listed, bodies that are counted and of which some variables are picked, and devices that fail.
 ghost use Rattle.std.specs.Prelude.{◌≡◌, ◌≤◌, Some};
 
 use crate::answer::{Done, More, Stop};
 use crate::check::check;
 use crate::engine::{Engine, Task};
 use crate::list::list;
+use crate::pick::pick;
+use crate::room::Room;
 use std::alloc::Global;
 use std::io;
 use std::test::Fail;
+use vcd_body::table::Slot;
 use vcd_head::fault::HeadFault;
 use vcd_head::head::Head;
 use vcd_head::read::read_head;
@@ -22,19 +25,19 @@ const NESTED_LIST: &[u8] = b"go event 1 %\ntb.clk wire 1 !\ntb.u.q reg 4 \"\ntb.
 // Holds what it took, in pieces of three bytes, and fails where it has no more room.
 #[derive(Drop)]
 struct Narrow {
-    bytes: [u8; 80],
+    bytes: [u8; 256],
     len: usize,
     room: usize,
     ghost in_range: { len ≤ room },
-    ghost fits: { room ≤ 80 },
+    ghost fits: { room ≤ 256 },
 }
 
 impl Narrow {
     fn new(room: usize) -> Self
-        requires { room ≤ 80 }
+        requires { room ≤ 256 }
     {
         Narrow {
-            bytes: [0; 80],
+            bytes: [0; 256],
             len: 0,
             room,
         }
@@ -73,7 +76,7 @@ fn read(alloc: Global, text: &[u8]) -> Result<Head, HeadFault> {
 #[test]
 fn list_of_nested_scopes_and_kinds(rt: HostRuntime) -> Result<(), Fail> {
     let head = read(rt.alloc(), NESTED)?;
-    let mut out = Watch::new(Narrow::new(80));
+    let mut out = Watch::new(Narrow::new(256));
     assert_eq!(rt; list(head.view(), &mut out), Ok(Done::Whole));
     assert_eq!(rt; out.device.held(), NESTED_LIST);
     Ok(())
@@ -85,7 +88,7 @@ fn list_of_a_code_that_is_end(rt: HostRuntime) -> Result<(), Fail> {
         rt.alloc(),
         b"$timescale 1 ns $end\n$var wire 1 $end a [0] $end\n$enddefinitions $end\n",
     )?;
-    let mut out = Watch::new(Narrow::new(80));
+    let mut out = Watch::new(Narrow::new(256));
     assert_eq!(rt; list(head.view(), &mut out), Ok(Done::Whole));
     assert_eq!(rt; out.device.held(), b"a wire 1 $end\n".as_slice());
     Ok(())
@@ -163,7 +166,7 @@ fn is_checked(
     written: &[u8],
 ) -> Result<bool, HeadFault> {
     let mut source = Watch::new(text);
-    let mut out = Watch::new(Narrow::new(80));
+    let mut out = Watch::new(Narrow::new(256));
     let given = check_over(alloc, &mut source, &mut out)?;
     Ok(given == answer && out.device.held() == written)
 }
@@ -227,7 +230,7 @@ fn check_stops_where_a_read_fails(rt: HostRuntime) -> Result<(), Fail> {
         bytes: ICARUS,
         failures: 0,
     };
-    let mut out = Watch::new(Narrow::new(80));
+    let mut out = Watch::new(Narrow::new(256));
     assert_eq!(rt;
         check_over(rt.alloc(), &mut source, &mut out)?,
         Err(Stop::Read { input: 0 })
@@ -262,8 +265,14 @@ fn steps_write_at_the_end_alone(rt: HostRuntime) -> Result<(), Fail> {
     let mut value = [0u8; 64];
     let mut feed = Feed::new(&mut source, &mut chunk, &mut token, &mut value);
     let head = read_head(rt.alloc(), &mut feed, 16_777_216)?;
-    let mut out = Watch::new(Narrow::new(80));
-    let mut engine = Engine::start(Task::Check, head.view(), &mut out)?;
+    let mut out = Watch::new(Narrow::new(256));
+    let mut marks = [];
+    let mut slots = [];
+    let room = Room {
+        marks: &mut marks,
+        slots: &mut slots,
+    };
+    let mut engine = Engine::start(Task::Check, head.view(), room, &mut out)?;
     assert!(rt; engine.going());
     assert_eq!(rt; out.device.held(), b"".as_slice());
     assert_eq!(rt; engine.step(&mut feed, &mut out)?, More::Again);
@@ -276,5 +285,157 @@ fn steps_write_at_the_end_alone(rt: HostRuntime) -> Result<(), Fail> {
         out.device.held(),
         b"scopes 0\nvariables 1\ncodes 1\ntimes 1\nsections 0\nchanges 1\nlast 5\n".as_slice()
     );
+    Ok(())
+}
+
+// A clock and four bits in a scope, and changes of both whose last digits can be left out.
+const CLOCKED: &[u8] =
+    b"$timescale 1ns $end\n$scope module tb $end\n$var wire 1 ! clk $end\n$var reg 4 \" q [3:0] $end\n$upscope $end\n$enddefinitions $end\n#0\nb0010 \"\nb1 !\n";
+
+const CLOCKED_PICKED: &[u8] =
+    b"$timescale\n\t1ns\n$end\n$scope module tb $end\n$var wire 1 ! clk $end\n$var reg 4 \" q [3:0] $end\n$upscope $end\n$enddefinitions $end\n#0\nb10 \"\n1!\n";
+
+const CLOCK_PICKED: &[u8] =
+    b"$timescale\n\t1ns\n$end\n$scope module tb $end\n$var wire 1 ! clk $end\n$upscope $end\n$enddefinitions $end\n#0\n1!\n";
+
+// Runs `pick` of one name over a source.
+fn pick_over<S: Source, W: Sink>(
+    alloc: Global,
+    source: &mut S,
+    name: &str,
+    out: &mut W,
+) -> Result<Result<Done, Stop>, HeadFault>
+    requires source { S.failures source.old ≡ 0 }
+    requires out { W.failures out.old ≡ 0 }
+{
+    let mut chunk = [0u8; 7];
+    let mut token = [0u8; 64];
+    let mut value = [0u8; 64];
+    let mut feed = Feed::new(source, &mut chunk, &mut token, &mut value);
+    let head = read_head(alloc, &mut feed, 16_777_216)?;
+    let view = head.view();
+    let mut marks = vec![in alloc; 0u8; view.rows.len()]?;
+    let mut slots = vec![in alloc; Slot::new(); view.codes.len()]?;
+    let names = [String::from_str(alloc, name)?];
+    let mut room = Room {
+        marks: &mut marks,
+        slots: &mut slots,
+    };
+    Ok(pick(view, &mut feed, &mut room, &names, out))
+}
+
+// Whether a pick of this name is answered so, and this is written.
+fn is_picked(
+    alloc: Global,
+    text: &[u8],
+    name: &str,
+    answer: Result<Done, Stop>,
+    written: &[u8],
+) -> Result<bool, HeadFault> {
+    let mut source = Watch::new(text);
+    let mut out = Watch::new(Narrow::new(256));
+    let given = pick_over(alloc, &mut source, name, &mut out)?;
+    Ok(given == answer && out.device.held() == written)
+}
+
+#[test]
+fn pick_of_a_scope_and_of_a_variable(rt: HostRuntime) -> Result<(), Fail> {
+    let whole = Ok(Done::Whole);
+    assert!(rt; is_picked(rt.alloc(), CLOCKED, "tb", whole, CLOCKED_PICKED)?);
+    assert!(rt; is_picked(rt.alloc(), CLOCKED, "tb.clk", whole, CLOCK_PICKED)?);
+    Ok(())
+}
+
+#[test]
+fn a_name_that_selects_nothing_is_refused(rt: HostRuntime) -> Result<(), Fail> {
+    let unmatched = Err(Stop::Unmatched { name: 0 });
+    assert!(rt; is_picked(rt.alloc(), CLOCKED, "zz", unmatched, b"")?);
+    assert!(rt; is_picked(rt.alloc(), CLOCKED, "tb.c", unmatched, b"")?);
+    Ok(())
+}
+
+#[test]
+fn a_pick_ends_where_a_write_fails(rt: HostRuntime) -> Result<(), Fail> {
+    for room in 0..CLOCKED_PICKED.len() {
+        let mut source = Watch::new(CLOCKED);
+        let mut out = Watch::new(Narrow::new(room));
+        assert_eq!(rt;
+            pick_over(rt.alloc(), &mut source, "tb", &mut out)?,
+            Err(Stop::Write),
+            "in {room}"
+        );
+        assert_eq!(rt; out.device.held(), &CLOCKED_PICKED[..room], "in {room}");
+    }
+    Ok(())
+}
+
+// A dump that ends in a vector.
+const CUT_SHORT: &[u8] =
+    b"$timescale 1ns $end\n$scope module tb $end\n$var wire 1 ! clk $end\n$var reg 4 \" q [3:0] $end\n$upscope $end\n$enddefinitions $end\n#0\n0!\n#5\nb10";
+
+const CUT_SHORT_HEAD: &[u8] =
+    b"$timescale\n\t1ns\n$end\n$scope module tb $end\n$var wire 1 ! clk $end\n$var reg 4 \" q [3:0] $end\n$upscope $end\n$enddefinitions $end\n";
+
+const CUT_SHORT_PICKED: &[u8] =
+    b"$timescale\n\t1ns\n$end\n$scope module tb $end\n$var wire 1 ! clk $end\n$var reg 4 \" q [3:0] $end\n$upscope $end\n$enddefinitions $end\n#0\n0!\n";
+
+// Gives its bytes, and never fails.
+#[derive(Drop)]
+struct Steady<'a> {
+    bytes: &'a [u8],
+}
+
+impl Source for Steady<'_> {
+    ghost rest = { λ s. Some s.bytes.now };
+
+    ghost failures = { λ s. 0 };
+
+    fn read(&mut self, into: &mut [u8]) -> Result<usize, ReadFailed> {
+        let n = into.len().min(self.bytes.len());
+        let (front, back) = self.bytes.split_at(n);
+        into[..n].copy_from_slice(front);
+        self.bytes = back;
+        Ok(n)
+    }
+
+    fn failures(&self) -> u64 {
+        0
+    }
+}
+
+#[test]
+fn steps_of_a_pick_write_what_is_due(rt: HostRuntime) -> Result<(), Fail> {
+    let alloc = rt.alloc();
+    let mut source = Steady { bytes: CUT_SHORT };
+    let mut chunk = [0u8; 7];
+    let mut token = [0u8; 64];
+    let mut value = [0u8; 64];
+    let mut feed = Feed::new(&mut source, &mut chunk, &mut token, &mut value);
+    let head = read_head(alloc, &mut feed, 16_777_216)?;
+    let view = head.view();
+    let mut marks = vec![in alloc; 0u8; view.rows.len()]?;
+    let mut slots = vec![in alloc; Slot::new(); view.codes.len()]?;
+    let names = [String::from_str(alloc, "tb")?];
+    let room = Room {
+        marks: &mut marks,
+        slots: &mut slots,
+    };
+    let mut out = Watch::new(Narrow::new(256));
+    let mut engine = Engine::start(Task::Pick(&names), view, room, &mut out)?;
+    assert_eq!(rt; out.device.held(), CUT_SHORT_HEAD);
+    assert_eq!(rt; engine.step(&mut feed, &mut out)?, More::Again);
+    assert_eq!(rt; out.device.held(), CUT_SHORT_HEAD);
+    assert_eq!(rt; engine.step(&mut feed, &mut out)?, More::Again);
+    assert_eq!(rt; out.device.held(), CUT_SHORT_PICKED);
+    assert_eq!(rt; engine.step(&mut feed, &mut out)?, More::Again);
+    assert_eq!(rt; out.device.held(), CUT_SHORT_PICKED);
+    let stop = Stop::Dump {
+        input: 0,
+        line: 10,
+        fault: 2,
+    };
+    assert_eq!(rt; engine.step(&mut feed, &mut out), Err(stop));
+    assert!(rt; !engine.going());
+    assert_eq!(rt; out.device.held(), CUT_SHORT_PICKED);
     Ok(())
 }

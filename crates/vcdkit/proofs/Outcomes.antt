@@ -14,9 +14,8 @@ use Rattle.vcd_model.specs.Reading.Ending.{AtLast}
 use Rattle.vcd_model.specs.SoFar.{IsWhole}
 use Rattle.vcd_model.proofs.SoFarLemmas.{whole-more}
 use Rattle.vcdkit.specs.declared.job.Want.{Want}
-use Rattle.vcdkit.specs.declared.job.Want.TheVariants.{Check, List as Listing}
-use Rattle.vcdkit.specs.Asked.{want_of}
-use Rattle.vcdkit.specs.Run.{request_for}
+use Rattle.vcdkit.specs.declared.job.Want.TheVariants.{Check, List as Listing, Pick}
+use Rattle.vcdkit.specs.Asked.{request_for, want_of}
 
 -- the header is read
 abbrev head_of : ℕ → Input → Reading HeaderPhrase
@@ -38,6 +37,7 @@ over_task : (want : Want) (names : List (List ℕ)) (o : Opened) → job.over_op
 unfolding request_of
 over_task Check names o = refl
 over_task Listing names o = refl
+over_task (Pick asked) names o = refl
 
 opened_outcome : (want : job.Want) (limit : ℕ) (names : List (List ℕ)) (i : Input) → header_fault_of (stream_of limit i) (head_of limit i) ≡ None → outcome want limit names (i ∷ []) ≡ job.over_opened want names (opened_as limit i (head_of limit i) ∷ [])
 unfolding outcome

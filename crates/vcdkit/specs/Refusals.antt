@@ -6,7 +6,7 @@ use Rattle.vcd_head.specs.declared.fault.HeadFault.{HeadFault}
 use Rattle.vcd_head.specs.declared.fault.HeadFault.TheVariants as head_fault
 use Rattle.vcd_tools.specs.declared.answer.Done.{Done}
 use Rattle.vcd_tools.specs.declared.answer.Stop.{Stop}
-use Rattle.vcd_tools.specs.declared.answer.Stop.TheVariants.{Dump, Read, Write}
+use Rattle.vcd_tools.specs.declared.answer.Stop.TheVariants.{Dump, Read, Write, Unmatched}
 use Rattle.vcdkit.specs.declared.refusal.Refusal.{Refusal}
 use Rattle.vcdkit.specs.declared.refusal.Refusal.TheVariants.{Stopped, Memory}
 
@@ -16,22 +16,24 @@ head_refusal head_fault.ReadFailed input line = Stopped (Read input)
 head_refusal head_fault.OutOfMemory input line = Memory
 head_refusal fault input line = Stopped (Dump input line (fault_number fault))
 
--- the line on the error stream where a run stops whose inputs have these names
-abbrev pub stop_message : List (List ℕ) → Stop → List ℕ
-stop_message names (Dump input line fault) = program_line (name_at names input ++ codes ":" ++ decimal line ++ codes ": " ++ fault_text fault)
-stop_message names (Read input) = program_line (name_at names input ++ codes ": read failed")
-stop_message names Write = program_line (codes "write failed")
+-- the line on the error stream where a run stops whose inputs have these names, and which was asked for those
+abbrev pub stop_message : (names asked : List (List ℕ)) → Stop → List ℕ
+stop_message names asked (Dump input line fault) = program_line (name_at names input ++ codes ":" ++ decimal line ++ codes ": " ++ fault_text fault)
+stop_message names asked (Read input) = program_line (name_at names input ++ codes ": read failed")
+stop_message names asked Write = program_line (codes "write failed")
+stop_message names asked (Unmatched place) = program_line (name_at asked place ++ codes ": selects nothing")
 
 -- the exit status then
 abbrev pub stop_status : Stop → ℕ
 stop_status (Dump input line fault) = 1
 stop_status (Read input) = 3
 stop_status Write = 3
+stop_status (Unmatched place) = 1
 
 -- the same of a run that is refused
-abbrev pub refusal_message : List (List ℕ) → Refusal → List ℕ
-refusal_message names (Stopped stop) = stop_message names stop
-refusal_message names Memory = program_line (codes "out of memory")
+abbrev pub refusal_message : (names asked : List (List ℕ)) → Refusal → List ℕ
+refusal_message names asked (Stopped stop) = stop_message names asked stop
+refusal_message names asked Memory = program_line (codes "out of memory")
 
 abbrev pub refusal_status : Refusal → ℕ
 refusal_status (Stopped stop) = stop_status stop
@@ -60,9 +62,9 @@ writes_failed (Some (Stopped Write)) = 1
 writes_failed end = 0
 
 -- the line on the error stream, if there is one
-abbrev pub end_message : List (List ℕ) → Option Refusal → List ℕ
-end_message names None = []
-end_message names (Some refusal) = refusal_message names refusal
+abbrev pub end_message : (names asked : List (List ℕ)) → Option Refusal → List ℕ
+end_message names asked None = []
+end_message names asked (Some refusal) = refusal_message names asked refusal
 
 -- the exit status
 abbrev pub end_status : Option Refusal → ℕ

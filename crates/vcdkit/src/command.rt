@@ -1,7 +1,7 @@
 //! The command line: which words it takes, and the exit status where it takes none.
 ghost use Rattle.std.specs.Prelude.{◌≡◌, IfOk, false};
 ghost use Rattle.clap.specs.Words.{app_of, is_broken, kind_of};
-ghost use Rattle.vcdkit.specs.Asked.{one_input_app, parse_status_of, program_app};
+ghost use Rattle.vcdkit.specs.Asked.{named_app, one_input_app, parse_status_of, program_app};
 
 use clap::error::ErrorKind;
 use clap::{Arg, Command, Error};
@@ -26,6 +26,19 @@ fn one_input<'a>(alloc: Global, name: &'a str, about: &'a str) -> Result<Command
         .arg(limit)
 }
 
+/// A command over one input, with its options and names of variables.
+fn named<'a>(alloc: Global, name: &'a str, about: &'a str) -> Result<Command<'a>, AllocError>
+    ensures words { IfOk result (λ c. app_of c ≡ named_app name.entry.now) }
+    ensures whole { IfOk result (λ c. is_broken c ≡ false) }
+{
+    let names = Arg::new(alloc, "names")
+        .value_name("NAME")
+        .num_args(1..)
+        .required(true)
+        .help("A variable, or a scope with all that it has: names joined by points");
+    one_input(alloc, name, about)?.arg(names)
+}
+
 /// The command `vcdkit` with its commands.
 pub fn command_of<'a>(alloc: Global) -> Result<Command<'a>, AllocError>
     ensures words { IfOk result (λ c. app_of c ≡ program_app) }
@@ -33,13 +46,15 @@ pub fn command_of<'a>(alloc: Global) -> Result<Command<'a>, AllocError>
 {
     let check = one_input(alloc, "check", "Checks a dump and counts what it has")?;
     let list = one_input(alloc, "list", "Lists the variables of a dump")?;
+    let pick = named(alloc, "pick", "Writes the dump of some variables")?;
     Command::new(alloc, "vcdkit")
         .version("0.1.0")
         .about("Proved tools for value change dumps")
         .subcommand_required(true)
         .disable_help_subcommand(true)
         .subcommand(check)?
-        .subcommand(list)
+        .subcommand(list)?
+        .subcommand(pick)
 }
 
 /// The exit status where a parse gave no matches.

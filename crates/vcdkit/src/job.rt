@@ -1,8 +1,8 @@
 //! The job that the words of the command line ask for, and the answer where there is none.
-ghost use Rattle.std.specs.Prelude.{◌≡◌, ◌-◌, ◌^◌, ◌<◌, ◌≤◌, IfErr, IfOk, Some, None, cond, option_map};
+ghost use Rattle.std.specs.Prelude.{◌≡◌, ◌-◌, ◌^◌, ◌<◌, ◌≤◌, IfErr, IfOk, Some, None, [], codes, cond, map, option_map, string_bytes, unwrap_or};
 ghost use Rattle.vcd_model.specs.Bytes.{decimal_value};
 ghost use Rattle.vcd_model.specs.Words.{is_limit, limit_of};
-ghost use Rattle.vcdkit.specs.Asked.{asked_by, asked_in, command_for, command_named, input_asked, outcome_without_job, unopened_outcome, word_behind, IsFaultOf};
+ghost use Rattle.vcdkit.specs.Asked.{asked_by, asked_in, command_for, command_named, command_of, complete, input_asked, names_asked, outcome_without_job, unopened_outcome, values_behind, word_behind, IsFaultOf};
 ghost use Rattle.vcdkit.specs.Message.{Shows};
 
 use crate::message::{put_both, put_line};
@@ -12,16 +12,30 @@ use std::alloc::{AllocError, Global};
 use vcd_text::device::Sink;
 
 /// What is done with the input.
-#[derive(Clone, Copy, PartialEq, Eq, Debug)]
+#[derive(PartialEq, Eq, Debug, Drop)]
 pub enum Want {
     /// Counts what the dump has.
     Check,
     /// Lists the variables of the dump.
     List,
+    /// Writes the dump of the variables that these names select.
+    Pick(Vec<String>),
+}
+
+impl Want {
+    /// The names that have to select something.
+    pub fn names(&self) -> &[String]
+        ensures { map string_bytes result.now ≡ names_asked self.now }
+    {
+        match self {
+            Want::Check | Want::List => &[],
+            Want::Pick(names) => names.as_slice(),
+        }
+    }
 }
 
 /// A task, and how its input is read.
-#[derive(Clone, Copy, PartialEq, Eq, Debug)]
+#[derive(PartialEq, Eq, Debug, Drop)]
 pub struct Job {
     /// What is done.
     pub task: Want,
@@ -31,10 +45,18 @@ pub struct Job {
     pub chunk: usize,
 }
 
+/// What a command asks for, with the names behind it.
+#[derive(Clone, Copy, PartialEq, Eq, Debug)]
+pub(crate) enum Asked<'m, 'a> {
+    Check,
+    List,
+    Pick(&'m [&'a str]),
+}
+
 /// Why there is no job.
 #[derive(Clone, Copy, PartialEq, Eq, Debug)]
 pub enum UseFault<'a> {
-    /// The words name no command.
+    /// The words name no command, or one without the names that it needs.
     BadWords,
     /// This word is no token limit.
     BadLimit(&'a str),
@@ -81,15 +103,46 @@ pub fn input_of<'a>(matches: &ArgMatches<'a>) -> Option<&'a str>
     value_of(matches, "input")
 }
 
-/// What is done under the command of this name.
-fn task_named(name: &str) -> Option<Want>
-    ensures { option_map command_for result ≡ command_named name.now }
+/// The names behind the command that was used.
+fn names_of<'m, 'a>(matches: &'m ArgMatches<'a>) -> Option<&'m [&'a str]>
+    ensures { unwrap_or (option_map (λ names. map (λ name. name.now) names.now) result) [] ≡ values_behind matches.now (codes "names") }
+{
+    let (_, options) = matches.subcommand()?;
+    options.get_strs("names")
+}
+
+/// What the command of this name asks for, with these names behind it.
+fn asked_under<'m, 'a>(name: &str, names: &'m [&'a str]) -> Option<Asked<'m, 'a>>
+    ensures { option_map command_of result ≡ complete (command_named name.now (map (λ name. name.now) names.now)) }
 {
     match name {
-        "check" => Some(Want::Check),
-        "list" => Some(Want::List),
+        "check" => Some(Asked::Check),
+        "list" => Some(Asked::List),
+        "pick" => (!names.is_empty()).then_some(Asked::Pick(names)),
         _ => None,
     }
+}
+
+/// A copy of names.
+fn copied(alloc: Global, names: &[&str]) -> Result<Vec<String>, AllocError>
+    ensures { IfOk result (λ copies. map string_bytes copies.items ≡ map (λ name. name.now) names.now) }
+{
+    let mut copies = Vec::new(alloc);
+    for name in names {
+        copies.push(String::from_str(alloc, name)?)?;
+    }
+    Ok(copies)
+}
+
+/// What is done where this is asked for. Its names are copied.
+pub(crate) fn task_of(alloc: Global, asked: Asked<'_, '_>) -> Result<Want, AllocError>
+    ensures { IfOk result (λ task. command_for task ≡ command_of asked.entry) }
+{
+    Ok(match asked {
+        Asked::Check => Want::Check,
+        Asked::List => Want::List,
+        Asked::Pick(names) => Want::Pick(copied(alloc, names)?),
+    })
 }
 
 /// The token limit that a word is, if it is one.
@@ -119,8 +172,8 @@ fn limit_of<'a>(word: Option<&'a str>) -> Result<usize, UseFault<'a>>
     }
 }
 
-/// The job that the matches of the command ask for.
-pub fn job_of<'a>(_alloc: Global, matches: &ArgMatches<'a>) -> Result<Job, UseFault<'a>>
+/// The job that the matches of the command ask for. Memory is taken for its names, once they are known to ask for a job.
+pub fn job_of<'a>(alloc: Global, matches: &ArgMatches<'a>) -> Result<Job, UseFault<'a>>
     ensures job { IfOk result (λ job. asked_by matches.now ≡ Ok (asked_in job)) }
     ensures limit { IfOk result (λ job. (64 ≤ job.limit) × (job.limit ≤ 16777216)) }
     ensures chunk { IfOk result (λ job. job.chunk ≡ 65536) }
@@ -129,10 +182,12 @@ pub fn job_of<'a>(_alloc: Global, matches: &ArgMatches<'a>) -> Result<Job, UseFa
     let Some(name) = matches.subcommand_name() else {
         return Err(UseFault::BadWords);
     };
-    let Some(task) = task_named(name) else {
+    let names = names_of(matches).unwrap_or(&[]);
+    let Some(asked) = asked_under(name, names) else {
         return Err(UseFault::BadWords);
     };
     let limit = limit_of(value_of(matches, "token-limit"))?;
+    let task = task_of(alloc, asked)?;
     Ok(Job {
         task,
         limit,

@@ -2,7 +2,7 @@
 ghost use Rattle.std.specs.Prelude.{◌≡◌, ◌-◌, ◌^◌, ◌<◌, ◌≤◌};
 
 use crate::command::{command_of, parse_status};
-use crate::job::{Job, UseFault, Want, input_of, job_of, open_fault, use_fault};
+use crate::job::{Asked, Job, UseFault, Want, input_of, job_of, open_fault, task_of, use_fault};
 use crate::message::{put_fault, put_line, put_read_failed};
 use crate::run::run;
 use crate::run_job;
@@ -17,19 +17,19 @@ use vcd_text::device::{Sink, Watch, WriteFailed};
 // Holds what it took, in pieces of three bytes, and fails where it has no more room. It cannot be flushed once it is full.
 #[derive(Drop)]
 struct Narrow {
-    bytes: [u8; 80],
+    bytes: [u8; 1024],
     len: usize,
     room: usize,
     ghost in_range: { len ≤ room },
-    ghost fits: { room ≤ 80 },
+    ghost fits: { room ≤ 1024 },
 }
 
 impl Narrow {
     fn new(room: usize) -> Self
-        requires { room ≤ 80 }
+        requires { room ≤ 1024 }
     {
         Narrow {
-            bytes: [0; 80],
+            bytes: [0; 1024],
             len: 0,
             room,
         }
@@ -59,15 +59,21 @@ impl io::Write for Narrow {
     }
 }
 
-// Gives its bytes, and then fails or is at its end.
+// Gives its bytes and others so often, and then fails or is at its end.
 #[derive(Drop)]
 struct Reader<'a> {
     bytes: &'a [u8],
+    again: &'a [u8],
+    times: usize,
     fails: bool,
 }
 
 impl io::Read for Reader<'_> {
     fn read(&mut self, buf: &mut [u8]) -> io::Result<usize> {
+        if self.bytes.is_empty() && 0 < self.times {
+            self.bytes = self.again;
+            self.times -= 1;
+        }
         if self.fails && self.bytes.is_empty() {
             return Err(io::Error::from(io::ErrorKind::Other));
         }
@@ -81,6 +87,10 @@ const DUMP: &[u8] =
 
 const REPORT: &[u8] = b"scopes 0\nvariables 1\ncodes 1\ntimes 2\nsections 0\nchanges 2\nlast 5\n";
 
+// What a pick of its only variable writes.
+const PICKED: &[u8] =
+    b"$timescale\n\t1ns\n$end\n$var wire 1 ! clk $end\n$enddefinitions $end\n#0\n0!\n#5\n1!\n";
+
 // A header with an event, two vectors and a real, and its list.
 const NESTED: &[u8] =
     b"$var event 1 % go $end\n$scope module tb $end\n$var wire 1 ! clk $end\n$scope module u $end\n$var reg 4 \" q [3:0] $end\n$upscope $end\n$var real 1 # r $end\n$enddefinitions $end\n";
@@ -92,7 +102,7 @@ const READ_FAILED: &[u8] = b"vcdkit: (stdin): read failed\n";
 // What both streams hold, and the status, of a task over what a reader gives, so many bytes at a time.
 fn run_on(
     alloc: Global,
-    task: Want,
+    asked: Asked<'_, '_>,
     limit: usize,
     input: Reader<'_>,
     chunk: usize,
@@ -100,8 +110,9 @@ fn run_on(
     requires limit { (64 ≤ limit) × (limit ≤ 16777216) }
     requires chunk { (1 ≤ chunk) × (chunk ≤ 65536) }
 {
-    let mut out = Watch::new(Narrow::new(80));
+    let mut out = Watch::new(Narrow::new(1024));
     let mut err = Watch::new(Narrow::new(80));
+    let task = task_of(alloc, asked)?;
     let job = Job { task, limit, chunk };
     let status = run_into(alloc, job, input, &mut out, &mut err)?;
     Ok((out.device, err.device, status))
@@ -134,21 +145,31 @@ fn run_into(
 
 // A reader that gives the whole text.
 fn whole(bytes: &[u8]) -> Reader<'_> {
+    repeating(bytes, b"", 0)
+}
+
+// A reader that gives a text, and another so often.
+fn repeating<'a>(bytes: &'a [u8], again: &'a [u8], times: usize) -> Reader<'a> {
     Reader {
         bytes,
+        again,
+        times,
         fails: false,
     }
 }
 
 // A reader that gives the text, and fails at every read behind it.
 fn failing(bytes: &[u8]) -> Reader<'_> {
-    Reader { bytes, fails: true }
+    Reader {
+        fails: true,
+        ..whole(bytes)
+    }
 }
 
 // A task answers each text with this output alone.
 fn give_outputs<R: Abort + AllocGlobal>(
     rt: &R,
-    task: Want,
+    asked: Asked<'_, '_>,
     limit: usize,
     rows: &[(&[u8], &[u8])],
 ) -> Result<(), AllocError>
@@ -156,7 +177,7 @@ fn give_outputs<R: Abort + AllocGlobal>(
 {
     for (row, (text, output)) in rows.iter().enumerate() {
         for chunk in [1, 65_536] {
-            let (out, err, status) = run_on(rt.alloc(), task, limit, whole(text), chunk)?;
+            let (out, err, status) = run_on(rt.alloc(), asked, limit, whole(text), chunk)?;
             assert_eq!(rt; err.held(), b"".as_slice(), "in row {row}");
             assert_eq!(rt; out.held(), *output, "in row {row}");
             assert_eq!(rt; status, 0, "in row {row}");
@@ -168,7 +189,7 @@ fn give_outputs<R: Abort + AllocGlobal>(
 // A task answers each text with this message alone.
 fn give_messages<R: Abort + AllocGlobal>(
     rt: &R,
-    task: Want,
+    asked: Asked<'_, '_>,
     limit: usize,
     rows: &[(&[u8], &[u8])],
 ) -> Result<(), AllocError>
@@ -176,7 +197,7 @@ fn give_messages<R: Abort + AllocGlobal>(
 {
     for (row, (text, message)) in rows.iter().enumerate() {
         for chunk in [1, 65_536] {
-            let (out, err, status) = run_on(rt.alloc(), task, limit, whole(text), chunk)?;
+            let (out, err, status) = run_on(rt.alloc(), asked, limit, whole(text), chunk)?;
             assert_eq!(rt; err.held(), *message, "in row {row}");
             assert_eq!(rt; out.held(), b"".as_slice(), "in row {row}");
             assert_eq!(rt; status, 1, "in row {row}");
@@ -210,9 +231,9 @@ fn a_dump_has_its_report(rt: HostRuntime) -> Result<(), Fail> {
             b"scopes 0\nvariables 1\ncodes 1\ntimes 1\nsections 0\nchanges 0\nlast 5\n".as_slice(),
         ),
     ];
-    give_outputs(&rt, Want::Check, 1_048_576, rows.as_slice())?;
+    give_outputs(&rt, Asked::Check, 1_048_576, rows.as_slice())?;
     for chunk in [2, 3, 64] {
-        let (out, _, _) = run_on(rt.alloc(), Want::Check, 64, whole(DUMP), chunk)?;
+        let (out, _, _) = run_on(rt.alloc(), Asked::Check, 64, whole(DUMP), chunk)?;
         assert_eq!(rt; out.held(), REPORT);
     }
     Ok(())
@@ -235,7 +256,7 @@ fn a_list_has_its_lines(rt: HostRuntime) -> Result<(), Fail> {
             b"a wire 1 !\n".as_slice(),
         ),
     ];
-    give_outputs(&rt, Want::List, 1_048_576, rows.as_slice())?;
+    give_outputs(&rt, Asked::List, 1_048_576, rows.as_slice())?;
     Ok(())
 }
 
@@ -267,7 +288,7 @@ fn a_fault_of_a_body_has_its_line(rt: HostRuntime) -> Result<(), Fail> {
             b"vcdkit: (stdin):3: bad time\n".as_slice(),
         ),
     ];
-    give_messages(&rt, Want::Check, 1_048_576, rows.as_slice())?;
+    give_messages(&rt, Asked::Check, 1_048_576, rows.as_slice())?;
     Ok(())
 }
 
@@ -285,7 +306,7 @@ fn a_full_dump_has_its_report(rt: HostRuntime) -> Result<(), Fail> {
             b"scopes 0\nvariables 4\ncodes 4\ntimes 1\nsections 2\nchanges 4\nlast 0\n".as_slice(),
         ),
     ];
-    give_outputs(&rt, Want::Check, 1_048_576, rows.as_slice())?;
+    give_outputs(&rt, Asked::Check, 1_048_576, rows.as_slice())?;
     Ok(())
 }
 
@@ -341,7 +362,7 @@ fn a_fault_of_an_item_has_its_line(rt: HostRuntime) -> Result<(), Fail> {
             b"vcdkit: (stdin):7: unknown command\n".as_slice(),
         ),
     ];
-    give_messages(&rt, Want::Check, 1_048_576, rows.as_slice())?;
+    give_messages(&rt, Asked::Check, 1_048_576, rows.as_slice())?;
     Ok(())
 }
 
@@ -381,8 +402,8 @@ fn a_fault_of_a_header_has_its_line(rt: HostRuntime) -> Result<(), Fail> {
             b"vcdkit: (stdin):1: bad timescale\n".as_slice(),
         ),
     ];
-    give_messages(&rt, Want::Check, 1_048_576, rows.as_slice())?;
-    give_messages(&rt, Want::List, 1_048_576, rows.as_slice())?;
+    give_messages(&rt, Asked::Check, 1_048_576, rows.as_slice())?;
+    give_messages(&rt, Asked::List, 1_048_576, rows.as_slice())?;
     Ok(())
 }
 
@@ -418,8 +439,8 @@ fn a_fault_of_a_declaration_has_its_line(rt: HostRuntime) -> Result<(), Fail> {
             b"vcdkit: (stdin):2: code declared with another size or kind\n".as_slice(),
         ),
     ];
-    give_messages(&rt, Want::Check, 1_048_576, rows.as_slice())?;
-    give_messages(&rt, Want::List, 1_048_576, rows.as_slice())?;
+    give_messages(&rt, Asked::Check, 1_048_576, rows.as_slice())?;
+    give_messages(&rt, Asked::List, 1_048_576, rows.as_slice())?;
     Ok(())
 }
 
@@ -445,7 +466,7 @@ fn a_thousand_scopes_may_be_open(rt: HostRuntime) -> Result<(), Fail> {
     let most = open_scopes(alloc, "", 1000, behind)?;
     let report = b"scopes 1000\nvariables 1\ncodes 1\ntimes 0\nsections 0\nchanges 0\nlast -\n";
     let rows = [(most.as_bytes(), report.as_slice())];
-    give_outputs(&rt, Want::Check, 64, rows.as_slice())?;
+    give_outputs(&rt, Asked::Check, 64, rows.as_slice())?;
 
     let more = open_scopes(alloc, "", 1001, behind)?;
     let merged = open_scopes(
@@ -464,8 +485,8 @@ fn a_thousand_scopes_may_be_open(rt: HostRuntime) -> Result<(), Fail> {
             b"vcdkit: (stdin):1004: scopes too deep\n".as_slice(),
         ),
     ];
-    give_messages(&rt, Want::Check, 64, rows.as_slice())?;
-    give_messages(&rt, Want::List, 64, rows.as_slice())?;
+    give_messages(&rt, Asked::Check, 64, rows.as_slice())?;
+    give_messages(&rt, Asked::List, 64, rows.as_slice())?;
     Ok(())
 }
 
@@ -478,22 +499,22 @@ fn a_token_may_be_as_long_as_the_limit(rt: HostRuntime) -> Result<(), Fail> {
     let report =
         b"scopes 0\nvariables 0\ncodes 0\ntimes 0\nsections 0\nchanges 0\nlast -\n".as_slice();
     let message = b"vcdkit: (stdin):1: token too long\n".as_slice();
-    give_outputs(&rt, Want::Check, 64, [(good, report)].as_slice())?;
-    give_outputs(&rt, Want::List, 64, [(good, b"".as_slice())].as_slice())?;
-    give_messages(&rt, Want::Check, 64, [(long, message)].as_slice())?;
-    give_messages(&rt, Want::List, 64, [(long, message)].as_slice())?;
-    give_outputs(&rt, Want::Check, 65, [(long, report)].as_slice())?;
+    give_outputs(&rt, Asked::Check, 64, [(good, report)].as_slice())?;
+    give_outputs(&rt, Asked::List, 64, [(good, b"".as_slice())].as_slice())?;
+    give_messages(&rt, Asked::Check, 64, [(long, message)].as_slice())?;
+    give_messages(&rt, Asked::List, 64, [(long, message)].as_slice())?;
+    give_outputs(&rt, Asked::Check, 65, [(long, report)].as_slice())?;
     Ok(())
 }
 
 #[test]
 fn a_failed_read_is_said(rt: HostRuntime) -> Result<(), Fail> {
-    for task in [Want::Check, Want::List] {
+    for asked in [Asked::Check, Asked::List, Asked::Pick(&["tb"])] {
         for len in 0..NESTED.len() {
             for chunk in [1, 65_536] {
                 let (out, err, status) = run_on(
                     rt.alloc(),
-                    task,
+                    asked,
                     64,
                     failing(&NESTED[..len]),
                     chunk,
@@ -505,7 +526,7 @@ fn a_failed_read_is_said(rt: HostRuntime) -> Result<(), Fail> {
         }
     }
     for chunk in [1, 65_536] {
-        let (out, err, status) = run_on(rt.alloc(), Want::Check, 64, failing(DUMP), chunk)?;
+        let (out, err, status) = run_on(rt.alloc(), Asked::Check, 64, failing(DUMP), chunk)?;
         assert_eq!(rt; out.held(), b"".as_slice());
         assert_eq!(rt; err.held(), READ_FAILED);
         assert_eq!(rt; status, 3);
@@ -516,7 +537,7 @@ fn a_failed_read_is_said(rt: HostRuntime) -> Result<(), Fail> {
 #[test]
 fn a_list_reads_nothing_behind_the_header(rt: HostRuntime) -> Result<(), Fail> {
     for chunk in [1, NESTED.len(), 65_536] {
-        let (out, err, status) = run_on(rt.alloc(), Want::List, 64, failing(NESTED), chunk)?;
+        let (out, err, status) = run_on(rt.alloc(), Asked::List, 64, failing(NESTED), chunk)?;
         assert_eq!(rt; err.held(), b"".as_slice());
         assert_eq!(rt; out.held(), NESTED_LIST);
         assert_eq!(rt; status, 0);
@@ -526,15 +547,16 @@ fn a_list_reads_nothing_behind_the_header(rt: HostRuntime) -> Result<(), Fail> {
 
 #[test]
 fn a_failed_write_leaves_a_prefix(rt: HostRuntime) -> Result<(), Fail> {
-    for (task, dump, output) in [
-        (Want::Check, DUMP, REPORT),
-        (Want::List, NESTED, NESTED_LIST),
+    for (asked, dump, output) in [
+        (Asked::Check, DUMP, REPORT),
+        (Asked::List, NESTED, NESTED_LIST),
+        (Asked::Pick(&["clk"]), DUMP, PICKED),
     ] {
-        for room in 0..output.len().min(80) {
+        for room in 0..output.len().min(1024) {
             let mut out = Watch::new(Narrow::new(room));
             let mut err = Watch::new(Narrow::new(80));
             let job = Job {
-                task,
+                task: task_of(rt.alloc(), asked)?,
                 limit: 64,
                 chunk: 64,
             };
@@ -831,4 +853,274 @@ fn a_bad_limit_and_an_unopened_file_have_their_lines(rt: HostRuntime) {
         assert_eq!(rt; err.device.held(), &line[..room]);
         assert_eq!(rt; Sink::failures(&err), 1);
     }
+}
+
+// ---- pick
+
+// A header with a scope, and how it is written.
+const TB: &[u8] =
+    b"$timescale 1ns $end\n$scope module tb $end\n$var wire 1 ! clk $end\n$var reg 4 \" q [3:0] $end\n$upscope $end\n$enddefinitions $end\n";
+
+const TB_WRITTEN: &[u8] =
+    b"$timescale\n\t1ns\n$end\n$scope module tb $end\n$var wire 1 ! clk $end\n$var reg 4 \" q [3:0] $end\n$upscope $end\n$enddefinitions $end\n";
+
+// Two names of one code.
+const ALIASES: &[u8] =
+    b"$scope module tb $end\n$var wire 1 ! a $end\n$scope module u $end\n$var wire 1 ! b $end\n$upscope $end\n$upscope $end\n$enddefinitions $end\n#0\n0!\n#5\n1!\n#5\n1!\n#7\n";
+
+// Names, a dump, and what a pick writes.
+const PICKS: [(&[&str], &[u8], &[u8]); 7] = [
+    (
+        &["tb"],
+        b"$timescale 1ns $end\n$scope module tb $end\n$var wire 1 ! clk $end\n$var reg 4 \" q [3:0] $end\n$upscope $end\n$enddefinitions $end\n#0\nb0010 \"\nb1 !\n",
+        b"$timescale\n\t1ns\n$end\n$scope module tb $end\n$var wire 1 ! clk $end\n$var reg 4 \" q [3:0] $end\n$upscope $end\n$enddefinitions $end\n#0\nb10 \"\n1!\n",
+    ),
+    (
+        &["tb.u.b"],
+        ALIASES,
+        b"$scope module tb $end\n$scope module u $end\n$var wire 1 ! b $end\n$upscope $end\n$upscope $end\n$enddefinitions $end\n#0\n0!\n#5\n1!\n1!\n#7\n",
+    ),
+    (
+        &["tb.a"],
+        b"$scope module tb $end\n$var wire 1 ! a $end\n$var wire 1 \" ab $end\n$upscope $end\n$enddefinitions $end\n#0\n0!\n1\"\n",
+        b"$scope module tb $end\n$var wire 1 ! a $end\n$upscope $end\n$enddefinitions $end\n#0\n0!\n",
+    ),
+    (
+        &["a", "e"],
+        b"$var wire 1 ! a $end\n$var real 1 \" r $end\n$var event 1 # e $end\n$var wire 2 % u $end\n$enddefinitions $end\n#0\n$dumpvars\n1#\n0!\n$end\n",
+        b"$var wire 1 ! a $end\n$var event 1 # e $end\n$enddefinitions $end\n#0\n$dumpvars\n0!\n$end\n",
+    ),
+    (
+        &["tb.clk"],
+        b"$date\n\tTue Mar  5 10:00:00 2024\n$end\n$version\n\tIcarus Verilog\n$end\n$timescale\n\t1ns\n$end\n$scope module tb $end\n$var wire 8 ! data [7:0] $end\n$var reg 1 \" clk $end\n$upscope $end\n$enddefinitions $end\n#0\n$dumpvars\n0\"\nbx !\n$end\n#5\n1\"\nb101 !\n#10\n",
+        b"$date\n\tTue Mar 5 10:00:00 2024\n$end\n$version\n\tIcarus Verilog\n$end\n$timescale\n\t1ns\n$end\n$scope module tb $end\n$var reg 1 \" clk $end\n$upscope $end\n$enddefinitions $end\n#0\n$dumpvars\n0\"\n$end\n#5\n1\"\n#10\n",
+    ),
+    (
+        &["c"],
+        b"$foo a #0 $var $end\n$var wire 1 ! c $end\n$enddefinitions $end\n#0\n0!\n",
+        b"$var wire 1 ! c $end\n$enddefinitions $end\n#0\n0!\n",
+    ),
+    (&["clk"], DUMP, PICKED),
+];
+
+#[test]
+fn a_pick_has_its_dump(rt: HostRuntime) -> Result<(), Fail> {
+    for (names, text, output) in PICKS {
+        give_outputs(
+            &rt,
+            Asked::Pick(names),
+            1_048_576,
+            [(text, output)].as_slice(),
+        )?;
+    }
+    Ok(())
+}
+
+// Names, and a dump of which they select a part.
+const DUMPS: [(&[&str], &[u8]); 8] = [
+    (&["tb.u", "go"], NESTED),
+    (
+        &["tb.data"],
+        b"$date\n\tTue Mar  5 10:00:00 2024\n$end\n$version\n\tIcarus Verilog\n$end\n$timescale\n\t1ns\n$end\n$scope module tb $end\n$var wire 8 ! data [7:0] $end\n$var reg 1 \" clk $end\n$upscope $end\n$enddefinitions $end\n#0\n$dumpvars\n0\"\nbx !\n$end\n#5\n1\"\nb101 !\n#10\n",
+    ),
+    (
+        &["r", "u"],
+        b"$var wire 1 ! a $end\n$var real 1 \" r $end\n$var event 1 # e $end\n$var wire 2 % u $end\n$enddefinitions $end\n$dumpall\nrnan \"\n$end\n#0\n$dumpvars\n1#\nbz0 %\n$end\n1#\n",
+    ),
+    (
+        &["a"],
+        b"$timescale 1 ns $end\n$var wire 1 $end a [0] $end\n$enddefinitions $end\n",
+    ),
+    (
+        &["e", "r"],
+        b"$var wire 1 ! a $end\n$var real 1 \" r $end\n$var event 1 # e $end\n$var wire 2 % u $end\n$enddefinitions $end\n#9\n0!\nr1.5 \"\n1#\n#10\n1!\n1#\n#20\nr2 \"\n#21\n0!\n",
+    ),
+    (
+        &["tb.q"],
+        b"$timescale 1ns $end\n$scope module tb $end\n$var wire 1 ! clk $end\n$var reg 4 \" q [3:0] $end\n$upscope $end\n$enddefinitions $end\n#0\n$dumpvars\n0!\nb0 \"\n$end\n#1\nx!\n#2\n1!\n#3\n0!\n#4\n1!\n1!\nb1 \"\n#5\n$dumpoff\nx!\nbx \"\n$end\n",
+    ),
+    (
+        &["e"],
+        b"$var wire 1 ! a $end\n$var real 1 \" r $end\n$var event 1 # e $end\n$var wire 2 % u $end\n$enddefinitions $end\n#0\n$dumpvars\n1#\n$end\n1#\n#1\n1#\n",
+    ),
+    (
+        &["a"],
+        b"$timescale 10ns $end\n$var wire 1 ! a $end\n$enddefinitions $end\n#0\n0!\n#1\n1!\n#2\n0!\n#3\n1!\n",
+    ),
+];
+
+// What a pick of these names writes has a report, and is no less when it is picked again.
+fn give_dump<R: Abort + AllocGlobal>(
+    rt: &R,
+    names: &[&str],
+    text: &[u8],
+) -> Result<(), AllocError> {
+    for chunk in [1, 65_536] {
+        let (out, err, status) = run_on(rt.alloc(), Asked::Pick(names), 64, whole(text), chunk)?;
+        assert_eq!(rt; err.held(), b"".as_slice(), "of {names:?}");
+        assert_eq!(rt; status, 0, "of {names:?}");
+
+        let (report, err, status) = run_on(rt.alloc(), Asked::Check, 64, whole(out.held()), chunk)?;
+        assert_eq!(rt; err.held(), b"".as_slice(), "of {names:?}");
+        assert!(rt; report.held().starts_with(b"scopes "), "of {names:?}");
+        assert_eq!(rt; status, 0, "of {names:?}");
+
+        let (again, _, _) = run_on(rt.alloc(), Asked::Pick(names), 64, whole(out.held()), chunk)?;
+        assert_eq!(rt; again.held(), out.held(), "of {names:?}");
+    }
+    Ok(())
+}
+
+#[test]
+fn what_a_pick_writes_is_a_dump(rt: HostRuntime) -> Result<(), Fail> {
+    for (names, text, _) in PICKS {
+        give_dump(&rt, names, text)?;
+    }
+    for (names, text) in DUMPS {
+        give_dump(&rt, names, text)?;
+    }
+    Ok(())
+}
+
+// A pick of these names over what a text gives, and a failed read behind it where that is said, leaves this output, this message
+// and this status.
+fn give_all<R: Abort + AllocGlobal>(
+    rt: &R,
+    names: &[&str],
+    (text, fails): (&[u8], bool),
+    (output, message, status): (&[u8], &[u8], u8),
+) -> Result<(), AllocError> {
+    for chunk in [1, 65_536] {
+        let input = if fails { failing(text) } else { whole(text) };
+        let (out, err, answer) = run_on(rt.alloc(), Asked::Pick(names), 1_048_576, input, chunk)?;
+        assert_eq!(rt; err.held(), message, "of {names:?}");
+        assert_eq!(rt; out.held(), output, "of {names:?}");
+        assert_eq!(rt; answer, status, "of {names:?}");
+    }
+    Ok(())
+}
+
+#[test]
+fn a_name_that_selects_nothing_is_said(rt: HostRuntime) -> Result<(), Fail> {
+    let none = b"".as_slice();
+    let line = b"vcdkit: tc: selects nothing\n".as_slice();
+    give_all(&rt, &["tc"], (ALIASES, false), (none, line, 1))?;
+    let line = b"vcdkit: tb.zz: selects nothing\n".as_slice();
+    give_all(&rt, &["tb.clk", "tb.zz"], (TB, false), (none, line, 1))?;
+    give_all(&rt, &["tb.zz", "tb.yy"], (TB, false), (none, line, 1))?;
+
+    // The body is not read, and the header is.
+    give_all(&rt, &["tb.zz"], (TB, true), (none, line, 1))?;
+    let line = b"vcdkit: (stdin):2: unexpected end of input\n".as_slice();
+    give_all(&rt, &["tb.zz"], (b"$foo $end\n", false), (none, line, 1))?;
+    Ok(())
+}
+
+#[test]
+fn a_pick_writes_what_stands_before_a_fault(rt: HostRuntime) -> Result<(), Fail> {
+    let text =
+        b"$timescale 1ns $end\n$scope module tb $end\n$var wire 1 ! clk $end\n$var reg 4 \" q [3:0] $end\n$upscope $end\n$enddefinitions $end\n#0\n0!\n#5\nb10".as_slice();
+    let output =
+        b"$timescale\n\t1ns\n$end\n$scope module tb $end\n$var wire 1 ! clk $end\n$var reg 4 \" q [3:0] $end\n$upscope $end\n$enddefinitions $end\n#0\n0!\n".as_slice();
+    let line = b"vcdkit: (stdin):10: unexpected end of input\n".as_slice();
+    give_all(&rt, &["tb"], (text, false), (output, line, 1))?;
+
+    let text =
+        b"$timescale 1ns $end\n$scope module tb $end\n$var wire 1 ! clk $end\n$var reg 4 \" q [3:0] $end\n$upscope $end\n$enddefinitions $end\n#0\n0!\n".as_slice();
+    let output =
+        b"$timescale\n\t1ns\n$end\n$scope module tb $end\n$var wire 1 ! clk $end\n$var reg 4 \" q [3:0] $end\n$upscope $end\n$enddefinitions $end\n#0\n0!\n".as_slice();
+    give_all(&rt, &["tb"], (text, true), (output, READ_FAILED, 3))?;
+    let text =
+        b"$timescale 1ns $end\n$scope module tb $end\n$var wire 1 ! clk $end\n$var reg 4 \" q [3:0] $end\n$upscope $end\n$enddefinitions $end\n#0\n0!".as_slice();
+    give_all(&rt, &["tb"], (text, true), (TB_WRITTEN, READ_FAILED, 3))?;
+    Ok(())
+}
+
+// A pick over so many changes. Where each of its requests for memory fails in turn it answers 3, and it makes equally many over any
+// body.
+fn pick_over<R: Abort + AllocGlobal>(rt: &R, times: usize) -> Result<(), AllocError> {
+    let dump =
+        b"$timescale 1ns $end\n$scope module tb $end\n$var wire 1 ! clk $end\n$var reg 4 \" q [3:0] $end\n$upscope $end\n$enddefinitions $end\n#0\n".as_slice();
+    let input = repeating(dump, b"0!\n1!\n", times);
+    let (_, _, status) = run_on(rt.alloc(), Asked::Pick(&["tb"]), 64, input, 65_536)?;
+    assert_eq!(rt; status, 0);
+    Ok(())
+}
+
+#[test]
+fn memory_for_a_short_pick(rt: HostRuntime) -> Result<(), Fail> {
+    pick_over(&rt, 1)?;
+    Ok(())
+}
+
+#[test]
+fn memory_for_a_long_pick(rt: HostRuntime) -> Result<(), Fail> {
+    pick_over(&rt, 100)?;
+    Ok(())
+}
+
+#[test]
+fn names_are_taken_or_answered(rt: HostRuntime) -> Result<(), Fail> {
+    let alloc = rt.alloc();
+    let help = Some((ErrorKind::DisplayHelp, 0));
+    let missing = Some((ErrorKind::MissingRequiredArgument, 2));
+    let unknown = Some((ErrorKind::UnknownArgument, 2));
+    assert_eq!(rt; answer(alloc, &["vcdkit", "pick", "tb"])?, None);
+    assert_eq!(rt; answer(alloc, &["vcdkit", "pick", "a", "b", "c"])?, None);
+    assert_eq!(rt; answer(alloc, &["vcdkit", "pick", "--help"])?, help);
+    assert_eq!(rt; answer(alloc, &["vcdkit", "pick"])?, missing);
+    assert_eq!(rt; answer(alloc, &["vcdkit", "pick", "-i", "f.vcd"])?, missing);
+    assert_eq!(rt; answer(alloc, &["vcdkit", "pick", "-a"])?, unknown);
+    assert_eq!(rt; answer(alloc, &["vcdkit", "list", "tb"])?, unknown);
+    Ok(())
+}
+
+// A job that picks these names under this token limit.
+fn pick_under(alloc: Global, names: &[&str], limit: usize) -> Result<Job, AllocError> {
+    Ok(job_under(task_of(alloc, Asked::Pick(names))?, limit))
+}
+
+#[test]
+fn a_pick_has_its_names(rt: HostRuntime) -> Result<(), Fail> {
+    let alloc = rt.alloc();
+    let job = asked(alloc, &["vcdkit", "pick", "tb.clk", "u"])?;
+    let wanted = pick_under(alloc, &["tb.clk", "u"], 1_048_576)?;
+    assert_eq!(rt; job, Ok(wanted));
+
+    let words = [
+        "vcdkit",
+        "pick",
+        "-i",
+        "f.vcd",
+        "b",
+        "--token-limit",
+        "64",
+        "a",
+        "b",
+    ];
+    let job = asked(alloc, words.as_slice())?;
+    assert_eq!(rt; job, Ok(pick_under(alloc, &["b", "a", "b"], 64)?));
+
+    Ok(())
+}
+
+#[test]
+fn a_name_may_be_any_text_behind_two_dashes(rt: HostRuntime) -> Result<(), Fail> {
+    let alloc = rt.alloc();
+    let job = asked(alloc, &["vcdkit", "pick", "--", "-i", ""])?;
+    let wanted = pick_under(alloc, &["-i", ""], 1_048_576)?;
+    assert_eq!(rt; job, Ok(wanted));
+    Ok(())
+}
+
+#[test]
+fn a_pick_wants_a_good_limit_and_a_name(rt: HostRuntime) -> Result<(), Fail> {
+    let alloc = rt.alloc();
+    let job = asked(alloc, &["vcdkit", "pick", "a", "--token-limit", "63"])?;
+    assert_eq!(rt; job, Err(UseFault::BadLimit("63")));
+
+    let other = Command::new(alloc, "vcdkit").subcommand(Command::new(alloc, "pick"))?;
+    let matches = other.try_get_matches_from(["vcdkit", "pick"].as_slice())?;
+    assert_eq!(rt; job_of(alloc, &matches), Err(UseFault::BadWords));
+    Ok(())
 }

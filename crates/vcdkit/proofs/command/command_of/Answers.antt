@@ -13,12 +13,16 @@ returns-clause-words c =
     let bare : app_of c.disable_help_subcommand.result ≡ bare_app = search rules in
     let check = c.in_ok-check.ensures.words in
     let list = c.in_ok-list.ensures.words in
+    let pick = c.in_ok-pick.ensures.words in
     let first : app_of c.in_ok-subcommand.field-0 ≡ with_subcommand bare_app (one_input_app (codes "check")).top =
     c.in_ok-subcommand.ensures.shape (local _ _ _ _ (ap (λ (a : App). a.top.is_plain) check)) ∙ ap₂ with_subcommand bare (ap (λ (a : App). a.top) check) in
-    IfOk-weaker c.subcommand-2.result _ _ (λ r h. h.shape (local _ _ _ _ (ap (λ (a : App). a.top.is_plain) list)) ∙ ap₂ with_subcommand first (ap (λ (a : App). a.top) list)) c.subcommand-2.ensures
+    let second : app_of c.in_ok-subcommand-2.field-0 ≡ with_subcommand (with_subcommand bare_app (one_input_app (codes "check")).top) (one_input_app (codes "list")).top =
+    c.in_ok-subcommand-2.ensures.shape (local _ _ _ _ (ap (λ (a : App). a.top.is_plain) list)) ∙ ap₂ with_subcommand first (ap (λ (a : App). a.top) list) in
+    IfOk-weaker c.subcommand-3.result _ _ (λ r h. h.shape (local _ _ _ _ (ap (λ (a : App). a.top.is_plain) pick)) ∙ ap₂ with_subcommand second (ap (λ (a : App). a.top) pick)) c.subcommand-3.ensures
 
 pub returns-clause-whole : goal.returns-clause-whole
 returns-clause-whole c =
     let bare : is_broken c.disable_help_subcommand.result ≡ false = search rules in
     let first : is_broken c.in_ok-subcommand.field-0 ≡ false = c.in_ok-subcommand.ensures.broken ∙ ap₂ ◌||◌ bare c.in_ok-check.ensures.whole in
-    IfOk-weaker c.subcommand-2.result _ _ (λ r h. h.broken ∙ ap₂ ◌||◌ first c.in_ok-list.ensures.whole) c.subcommand-2.ensures
+    let second : is_broken c.in_ok-subcommand-2.field-0 ≡ false = c.in_ok-subcommand-2.ensures.broken ∙ ap₂ ◌||◌ first c.in_ok-list.ensures.whole in
+    IfOk-weaker c.subcommand-3.result _ _ (λ r h. h.broken ∙ ap₂ ◌||◌ second c.in_ok-pick.ensures.whole) c.subcommand-3.ensures

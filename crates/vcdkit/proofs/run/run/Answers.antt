@@ -13,11 +13,11 @@ returns-in-Ok-clause-gives g c = λ texts h. run_gives g.S.Source.rest g.S.Sourc
     (one_of (map string_bytes c.args.names.now) [] (let same : length (map string_bytes c.args.names.now) ≡ length c.args.names.now = simp length-map in same ∙ c.requires.names))
     c.in-Ok.ensures.gives refl (shows-nothing _ _) h
 
-pub returns-in-Err-clause-gives : goal.returns-in-Err-clause-gives
-returns-in-Err-clause-gives g c = λ texts h. run_gives g.S.Source.rest g.S.Source.failures
+pub returns-clause-gives : goal.returns-clause-gives
+returns-clause-gives g c = λ texts h. run_gives g.S.Source.rest g.S.Source.failures
     (get_or c.args.readers.now 0 c.index-readers-0.result) c.run_input.new.reader c.args.job.task c.args.job.limit _ _ _ _ _ c.tell.result (Err c.in-Err.refusal)
     c.args.readers.now _ (map string_bytes c.args.names.now) texts
     (one_of c.args.readers.now c.index-readers-0.result c.requires.readers)
     (set_one c.args.readers.now c.run_input.new.reader c.requires.readers)
     (one_of (map string_bytes c.args.names.now) [] (let same : length (map string_bytes c.args.names.now) ≡ length c.args.names.now = simp length-map in same ∙ c.requires.names))
-    c.in-Err.ensures.gives c.tell.ensures.status c.tell.ensures.line h
+    c.in-Err.ensures.gives c.tell.ensures.status (rw c.names.ensures at c.tell.ensures.line) h

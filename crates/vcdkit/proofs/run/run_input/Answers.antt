@@ -14,27 +14,27 @@ use Rattle.vcdkit.proofs.run.run_input.Goals as goal
 pub returns-in_err-chunk-clause-gives : goal.returns-in_err-chunk-clause-gives
 returns-in_err-chunk-clause-gives g c = λ text name h.
     let e : c.from_residual.result ≡ Err Memory = search rules in
-    rw e (no_memory c.args.job.task c.args.job.limit (whole text) name _ _ _ Memory refl refl)
+    rw e (no_memory c.args.job.now.task c.args.job.now.limit (whole text) name _ _ _ Memory refl refl)
 
 pub returns-in_err-token-clause-gives : goal.returns-in_err-token-clause-gives
 returns-in_err-token-clause-gives g c = λ text name h.
     let e : c.from_residual-in_err-token.result ≡ Err Memory = search rules in
-    rw e (no_memory c.args.job.task c.args.job.limit (whole text) name _ _ _ Memory refl refl)
+    rw e (no_memory c.args.job.now.task c.args.job.now.limit (whole text) name _ _ _ Memory refl refl)
 
 pub returns-in_err-value-clause-gives : goal.returns-in_err-value-clause-gives
 returns-in_err-value-clause-gives g c = λ text name h.
     let e : c.from_residual-in_err-value.result ≡ Err Memory = search rules in
-    rw e (no_memory c.args.job.task c.args.job.limit (whole text) name _ _ _ Memory refl refl)
+    rw e (no_memory c.args.job.now.task c.args.job.now.limit (whole text) name _ _ _ Memory refl refl)
 
 pub returns-in-Err-clause-gives : goal.returns-in-Err-clause-gives
 returns-in-Err-clause-gives g c = λ text name h.
     let stands : Stands (whole text) [] c.new-feed.result = subst (λ (o : Option (List ℕ)). IfSome o (λ t. Stands (whole t) [] c.new-feed.result)) h c.new-feed.ensures.stands in
     let fresh : IsOpen c.new-feed.result = (let n = c.new-feed.ensures.going.1 in λ e. cc) in
-    let limit : limit_of c.read_head.new.feed ≡ c.args.job.limit = c.in-Err.ensures.lengths.0 ∙ omega (arith, c.in_ok-token.ensures.len) in
+    let limit : limit_of c.read_head.new.feed ≡ c.args.job.now.limit = c.in-Err.ensures.lengths.0 ∙ omega (arith, c.in_ok-token.ensures.len) in
     let gone : g.S.Source.failures c.reader-1.given.0 ≡ g.S.Source.failures (source_of c.read_head.new.feed) = search rules in
     let same = ap g.S.Source.failures c.new-feed.ensures.source in
     rw c.of_head.ensures
-    (head_refused c.args.job.task c.args.job.limit (whole text) name _ _ c.read_head.new.feed c.line.result _ c.in-Err.fault
+    (head_refused c.args.job.now.task c.args.job.now.limit (whole text) name _ _ c.read_head.new.feed c.line.result _ c.in-Err.fault
     (λ e. gone ∙ c.in-Err.ensures.failed fresh (ap (λ f. Err f) e) ∙ ap (λ n. n + 1) same)
     (λ n. gone ∙ c.in-Err.ensures.same (λ e. n (cc)) ∙ same)
     limit c.line.ensures (c.in-Err.ensures.reads (whole text) stands))
@@ -42,11 +42,11 @@ returns-in-Err-clause-gives g c = λ text name h.
 pub returns-clause-gives : goal.returns-clause-gives
 returns-clause-gives g c = λ text name h.
     let stands : Stands (whole text) [] c.new-feed.result = subst (λ (o : Option (List ℕ)). IfSome o (λ t. Stands (whole t) [] c.new-feed.result)) h c.new-feed.ensures.stands in
-    let limit : limit_of c.read_head.new.feed ≡ c.args.job.limit = c.in-Ok.ensures.lengths.0 ∙ omega (arith, c.in_ok-token.ensures.len) in
-    let gone : g.S.Source.failures c.reader-2-1.given.0 ≡ g.S.Source.failures (source_of c.follow.new.feed) = search rules in
+    let limit : limit_of c.read_head.new.feed ≡ c.args.job.now.limit = c.in-Ok.ensures.lengths.0 ∙ omega (arith, c.in_ok-token.ensures.len) in
+    let gone : g.S.Source.failures c.reader-2-1.given.0 ≡ g.S.Source.failures (source_of c.follow_in_room.new.feed) = search rules in
     let same : g.S.Source.failures (source_of c.read_head.new.feed) ≡ g.S.Source.failures c.args.reader.now = c.in-Ok.ensures.same (λ e. cc) ∙ ap g.S.Source.failures c.new-feed.ensures.source in
     let head = c.in-Ok.ensures.reads (whole text) stands in
     let views = subst (λ (s : HeadShown). Views s (header_of (phrases_of head.placed))) (sym c.view.ensures) head.views in
     rw gone
-    (head_followed c.args.job.task c.args.job.limit (limit_of c.read_head.new.feed) (whole text) name _ _ _ _ _ c.follow.result c.stopped.result c.read_head.new.feed _ limit same c.stopped.ensures head
-    (c.follow.ensures.gives (header_of (phrases_of head.placed)) (whole text) head.given name views head.stands))
+    (head_followed c.args.job.now.task c.args.job.now.limit (limit_of c.read_head.new.feed) (whole text) name _ _ _ _ _ c.read_head.new.feed _ c.follow_in_room.result limit same head
+    (c.follow_in_room.ensures.gives (header_of (phrases_of head.placed)) (whole text) head.given name views head.stands))

@@ -11,3 +11,7 @@ returns-in-Dump-clause-line g c =
 pub returns-in-Read-clause-line : goal.returns-in-Read-clause-line
 returns-in-Read-clause-line g c =
     rw (c.in-Read.is, ← c.name_of-in-Read.ensures) (takes-shows _ _ _ _ _ c.put_read_failed.result c.put_read_failed.ensures.takes c.put_read_failed.ensures.failures)
+
+pub returns-in-Unmatched-clause-line : goal.returns-in-Unmatched-clause-line
+returns-in-Unmatched-clause-line g c =
+    rw (c.in-Unmatched.is, ← c.name_of-in-Unmatched.ensures) (takes-shows _ _ _ _ _ c.put_both.result c.put_both.ensures.takes c.put_both.ensures.failures)
