@@ -1,31 +1,41 @@
 #!/usr/bin/env python3
-"""plain_dump.py MB  writes a plain dump of so many megabytes (of 1,000,000 bytes) to standard output, the same each time:
-64 variables of one bit, and in steps of 5 a time mark with 16 changes behind it."""
+"""plain_dump.py MB [VARIABLES]  writes a plain dump of so many megabytes (of 1,000,000 bytes) to standard output, the same each
+time: so many variables of one bit (64) in a scope, and in steps of 5 a time mark with 16 changes behind it."""
 import random
 import sys
 
-CODES = [chr(33 + place) for place in range(64)]
+NEAR = 64  # the changes behind a time mark are of variables among so many in a row
 LISTS = 1 << 16  # so many lists of changes are made, and then used again and again
 
 
-def changes(dice):
+def code_of(place):
+    """The code in base 94, lowest digit first."""
+    code = chr(33 + place % 94)
+    return code if place < 94 else code + code_of(place // 94)
+
+
+def changes(dice, codes):
     """Changes of 16 of the variables."""
     bits = dice.getrandbits(16)
-    codes = sorted(CODES, key=lambda _: dice.random())[:16]
+    codes = sorted(codes, key=lambda _: dice.random())[:16]
     return "".join(f"{bits >> place & 1}{code}\n" for place, code in enumerate(codes)).encode()
 
 
 def main():
-    if len(sys.argv) != 2 or not sys.argv[1].isdigit():
+    if len(sys.argv) not in (2, 3) or not all(word.isdigit() for word in sys.argv[1:]):
         sys.exit(__doc__)
-    size = int(sys.argv[1]) * 1_000_000
+    size, variables = (int(word) for word in (sys.argv[1:] + [str(NEAR)])[:2])
+    if variables < NEAR:
+        sys.exit(f"plain_dump.py: at least {NEAR} variables")
+    codes = [code_of(place) for place in range(variables)]
+    around = codes + codes[:NEAR]
     dice = random.Random(1)
-    lists = [changes(dice) for _ in range(LISTS)]
-    variables = "".join(f"$var wire 1 {code} s{place} $end\n" for place, code in enumerate(CODES))
+    lists = [changes(dice, around[first : first + NEAR]) for first in (NEAR * place % variables for place in range(LISTS))]
+    declared = "".join(f"$var wire 1 {code} s{place} $end\n" for place, code in enumerate(codes))
     out = sys.stdout.buffer
-    written = out.write(f"$timescale\n\t1ns\n$end\n{variables}$enddefinitions $end\n".encode())
+    written = out.write(f"$timescale\n\t1ns\n$end\n$scope module top $end\n{declared}$upscope $end\n$enddefinitions $end\n".encode())
     mark = 0
-    while written < size:
+    while written < size * 1_000_000:
         written += out.write(b"#%d\n" % (5 * mark)) + out.write(lists[mark % LISTS])
         mark += 1
 

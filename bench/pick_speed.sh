@@ -1,0 +1,89 @@
+#!/usr/bin/env bash
+# pick_speed.sh [DUMP ...]   how fast `vcdkit pick` is on these dumps (plain ones of 200 MB with 64 and with 20000 variables), of one
+# variable and of all, beside `vcdkit check` and `wc -l` on the same dump. See README.md.
+set -eu -o pipefail
+here=$(cd "$(dirname "$0")" && pwd)
+vcdkit=${VCDKIT:-$here/../vcdkit}
+programs=(check 'pick one' 'pick all' 'wc -l')
+
+for dump in "$@"; do
+    [ -f "$dump" ] || { sed -n '2,3s/^# //p' "$0" >&2; exit 2; }
+done
+[ -x "$vcdkit" ] || { echo "pick_speed.sh: there is no program $vcdkit: run make first" >&2; exit 2; }
+
+work=$(mktemp -d)
+trap 'rm -rf "$work"' EXIT
+cp "$vcdkit" "$work/vcdkit"
+
+# Sets `one` to the path in the middle of the list, and `all` to the names before the first points, which select all that there is.
+find_names() {
+    "$work/vcdkit" list < "$1" > "$work/list"
+    one=$(LC_ALL=C awk -v middle=$((($(wc -l < "$work/list") + 1) / 2)) 'NR == middle { print $1 }' "$work/list")
+    LC_ALL=C awk '{ sub(/\..*/, "", $1) } !($1 in seen) { seen[$1]; print $1 }' "$work/list" > "$work/names"
+    mapfile -t all < "$work/names"
+}
+
+# Sets `command` to the words that run a program.
+find_command() {
+    case $1 in
+        check) command=("$work/vcdkit" check) ;;
+        'pick one') command=("$work/vcdkit" pick -- "$one") ;;
+        'pick all') command=("$work/vcdkit" pick -- "${all[@]}") ;;
+        'wc -l') command=(wc -l) ;;
+    esac
+}
+
+# Makes sure that what a pick writes is read as a dump with the same last time mark, and says how many bytes it has.
+written_by() {
+    find_command "$1"
+    "${command[@]}" < "$2" > "$work/picked"
+    "$work/vcdkit" check < "$work/picked" | grep '^last ' | cmp -s - <("$work/vcdkit" check < "$2" | grep '^last ') ||
+        { echo "pick_speed.sh: $1 of $2 has another last time mark" >&2; exit 1; }
+    wc -c < "$work/picked"
+    rm "$work/picked"
+}
+
+# User and system time together of one run.
+time_of() {
+    local TIMEFORMAT='%3U %3S'
+    find_command "$1"
+    { time "${command[@]}" < "$2" > /dev/null; } 2>&1 | awk '{ print $1 + $2 }'
+}
+
+# Measures all programs on a dump, and prints a line for each.
+measure() {
+    find_names "$1"
+    local written_one written_all
+    written_one=$(written_by 'pick one' "$1")
+    written_all=$(written_by 'pick all' "$1")
+
+    # The programs take turns, so that what else the machine does meets all of them.
+    for _ in 1 2 3; do
+        for program in "${programs[@]}"; do echo "$program:$(time_of "$program" "$1")"; done
+    done > "$work/times"
+
+    echo "${1##*/}: $(wc -l < "$work/list") variables; one is $one"
+    awk -F: -v bytes="$(wc -c < "$1")" -v one="$written_one" -v all="$written_all" '
+        BEGIN { written["pick one"] = one; written["pick all"] = all }
+        !($1 in best) { order[++n] = $1; best[$1] = $2 }
+        $2 < best[$1] { best[$1] = $2 }
+        END {
+            printf "%-8s | %17s %8s %10s | %10s\n", "", "user and system s", "MB/s", "over check", "MB written"
+            for (k = 1; k <= n; k++) {
+                p = order[k]
+                printf "%-8s | %17.3f %8.0f %10.2f | %10s\n", p, best[p], bytes / 1e6 / (best[p] + 1e-9), best[p] / (best["check"] + 1e-9),
+                    p in written ? sprintf("%.1f", written[p] / 1e6) : ""
+            }
+        }' "$work/times"
+    echo
+}
+
+echo 'best of three; over check: the time over that of check, so below 1 where it is faster'
+for dump in "$@"; do measure "$dump"; done
+if [ $# -eq 0 ]; then
+    for variables in 64 20000; do
+        "$here/plain_dump.py" 200 "$variables" > "$work/plain_$variables"
+        measure "$work/plain_$variables"
+        rm "$work/plain_$variables"
+    done
+fi
