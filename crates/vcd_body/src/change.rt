@@ -5,7 +5,7 @@ ghost use Rattle.std.specs.Str.{str_to_ascii_lowercase};
 ghost use Rattle.vcd_model.specs.Values.{extend, extension, short, change_line};
 ghost use Rattle.vcd_text.specs.Device.{failures_after, Takes};
 ghost use Rattle.vcd_body.specs.Items.{model_form};
-ghost use Rattle.vcd_body.specs.Changes.{value_text};
+ghost use Rattle.vcd_body.specs.Changes.{digits_line};
 
 use crate::item::Form;
 use crate::words::rest_of;
@@ -35,6 +35,17 @@ fn shortest(digits: &[u8]) -> &[u8]
     rest
 }
 
+// Whether a byte is a capital letter.
+fn has_capital(bytes: &[u8]) -> bool
+    ensures { result ≡ false → str_to_ascii_lowercase bytes.now ≡ bytes.now }
+{
+    let mut found = false;
+    for byte in bytes {
+        found |= byte.is_ascii_uppercase();
+    }
+    found
+}
+
 // Puts the bytes in lower case at the front.
 fn lower_into(to: &mut [u8], bytes: &[u8])
     requires { length bytes.now ≤ length to.old }
@@ -46,7 +57,9 @@ fn lower_into(to: &mut [u8], bytes: &[u8])
 }
 
 // Writes the bytes in lower case.
-fn put_lower<W: Sink>(w: &mut W, bytes: &[u8]) -> Result<(), WriteFailed>
+#[cold]
+#[inline(never)]
+fn put_lowered<W: Sink>(w: &mut W, bytes: &[u8]) -> Result<(), WriteFailed>
     requires { W.failures w.old < 2 ^ 64 - 1 }
     ensures takes { Takes (W.held w.old) (W.held w.new) (str_to_ascii_lowercase bytes.now) result }
     ensures failures { W.failures w.new ≡ failures_after (W.failures w.old) result }
@@ -62,52 +75,86 @@ fn put_lower<W: Sink>(w: &mut W, bytes: &[u8]) -> Result<(), WriteFailed>
     Ok(())
 }
 
-// Writes a real number, and a space.
-fn put_real<W: Sink>(w: &mut W, text: &[u8]) -> Result<(), WriteFailed>
+// Writes the bytes in lower case. Most are so already.
+fn put_lower<W: Sink>(w: &mut W, bytes: &[u8]) -> Result<(), WriteFailed>
     requires { W.failures w.old < 2 ^ 64 - 1 }
-    ensures takes { Takes (W.held w.old) (W.held w.new) (114 ∷ text.now ++ 32 ∷ []) result }
+    ensures takes { Takes (W.held w.old) (W.held w.new) (str_to_ascii_lowercase bytes.now) result }
+    ensures failures { W.failures w.new ≡ failures_after (W.failures w.old) result }
+{
+    if has_capital(bytes) {
+        return put_lowered(w, bytes);
+    }
+    put(w, bytes)
+}
+
+// Writes a code, and a line feed.
+fn put_code<W: Sink>(w: &mut W, id: &[u8]) -> Result<(), WriteFailed>
+    requires { W.failures w.old < 2 ^ 64 - 1 }
+    ensures takes { Takes (W.held w.old) (W.held w.new) (id.now ++ 10 ∷ []) result }
+    ensures failures { W.failures w.new ≡ failures_after (W.failures w.old) result }
+{
+    put(w, id)?;
+    put(w, b"\n")
+}
+
+// Writes what ends a line: a byte, a code and a line feed. Most codes are short, and take one write of a known length.
+#[inline(always)]
+fn put_end<W: Sink>(w: &mut W, first: u8, id: &[u8]) -> Result<(), WriteFailed>
+    requires { W.failures w.old < 2 ^ 64 - 1 }
+    ensures takes { Takes (W.held w.old) (W.held w.new) (first ∷ id.now ++ 10 ∷ []) result }
+    ensures failures { W.failures w.new ≡ failures_after (W.failures w.old) result }
+{
+    match id {
+        [a] => put(w, &[first, *a, b'\n']),
+        [a, b] => put(w, &[first, *a, *b, b'\n']),
+        [a, b, c] => put(w, &[first, *a, *b, *c, b'\n']),
+        [a, b, c, d] => put(w, &[first, *a, *b, *c, *d, b'\n']),
+        _ => {
+            put(w, &[first])?;
+            put_code(w, id)
+        }
+    }
+}
+
+// Writes a change of a real number.
+#[inline(never)]
+fn put_real<W: Sink>(w: &mut W, text: &[u8], id: &[u8]) -> Result<(), WriteFailed>
+    requires { W.failures w.old < 2 ^ 64 - 1 }
+    ensures takes { Takes (W.held w.old) (W.held w.new) (114 ∷ text.now ++ (32 ∷ id.now ++ 10 ∷ [])) result }
     ensures failures { W.failures w.new ≡ failures_after (W.failures w.old) result }
 {
     put(w, b"r")?;
     put(w, text)?;
-    put(w, b" ")
+    put_end(w, b' ', id)
 }
 
-// Writes digits behind `b`, in lower case, and a space.
-fn put_digits<W: Sink>(w: &mut W, digits: &[u8]) -> Result<(), WriteFailed>
+// Writes a change to these digits behind `b`.
+#[inline(never)]
+fn put_vector<W: Sink>(w: &mut W, digits: &[u8], id: &[u8]) -> Result<(), WriteFailed>
     requires { W.failures w.old < 2 ^ 64 - 1 }
-    ensures takes { Takes (W.held w.old) (W.held w.new) (98 ∷ str_to_ascii_lowercase digits.now ++ 32 ∷ []) result }
+    ensures takes { Takes (W.held w.old) (W.held w.new) (98 ∷ str_to_ascii_lowercase digits.now ++ (32 ∷ id.now ++ 10 ∷ [])) result }
     ensures failures { W.failures w.new ≡ failures_after (W.failures w.old) result }
 {
     put(w, b"b")?;
     put_lower(w, digits)?;
-    put(w, b" ")
+    put_end(w, b' ', id)
 }
 
-// Writes a change up to its code.
-fn put_value<W: Sink>(
-    w: &mut W,
-    size: usize,
-    event: bool,
-    form: Form,
-    text: &[u8],
-) -> Result<(), WriteFailed>
+// Writes a change of digits.
+#[inline(always)]
+fn put_digits<W: Sink>(w: &mut W, size: usize, digits: &[u8], id: &[u8]) -> Result<(), WriteFailed>
     requires failures { W.failures w.old < 2 ^ 64 - 1 }
-    requires digits { event ≡ false → form ≢ Form.RealText → 0 < length text.now }
-    ensures takes { Takes (W.held w.old) (W.held w.new) (value_text size event form text.now) result }
+    requires digits { 0 < length digits.now }
+    ensures takes { Takes (W.held w.old) (W.held w.new) (digits_line size digits.now id.now) result }
     ensures failures { W.failures w.new ≡ failures_after (W.failures w.old) result }
 {
-    if event {
-        return put(w, b"1");
-    }
-    match form {
-        Form::RealText => put_real(w, text),
-        Form::Scalar | Form::Vector => {
-            if size == 1 {
-                return put_lower(w, text);
-            }
-            put_digits(w, shortest(text))
+    match digits {
+        [digit] if size == 1 => put_end(w, digit.to_ascii_lowercase(), id),
+        _ if size == 1 => {
+            put_lower(w, digits)?;
+            put_code(w, id)
         }
+        _ => put_vector(w, shortest(digits), id),
     }
 }
 
@@ -127,7 +174,11 @@ pub fn put_change<W: Sink>(
         (change_line (record { code = record { text = id.now; size = size; event = event }; form = model_form form; text = text.now })) result }
     ensures failures { W.failures w.new ≡ failures_after (W.failures w.old) result }
 {
-    put_value(w, size, event, form, text)?;
-    put(w, id)?;
-    put(w, b"\n")
+    if event {
+        return put_end(w, b'1', id);
+    }
+    match form {
+        Form::RealText => put_real(w, text, id),
+        Form::Scalar | Form::Vector => put_digits(w, size, text, id),
+    }
 }

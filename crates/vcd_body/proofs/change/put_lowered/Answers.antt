@@ -3,7 +3,7 @@ use Rattle.std.proofs.lemmas.List.{drop-drop}
 use Rattle.std.proofs.lemmas.Result.{err_from_is_err_and}
 use Rattle.std.specs.Io.KnownBytes.{Appends}
 use Rattle.vcd_body.proofs.Writing.{AppendsSome, lower-more, lower-some}
-use Rattle.vcd_body.proofs.change.put_lower.Goals as goal
+use Rattle.vcd_body.proofs.change.put_lowered.Goals as goal
 
 pub returns-in_err-put-clause-takes : goal.returns-in_err-put-clause-takes
 returns-in_err-put-clause-takes g c =

@@ -1,7 +1,7 @@
 use Rattle.std.proofs.Common.{◌≡◌, ℕ, length, take, drop}
 use Rattle.std.specs.Io.KnownBytes.{Appends}
 use Rattle.std.specs.Str.{str_to_ascii_lowercase}
-use Rattle.vcd_body.proofs.change.put_lower.Given as goal
+use Rattle.vcd_body.proofs.change.put_lowered.Given as goal
 
 abbrev pub invariant-loop-rest : goal.invariant-loop-rest
 invariant-loop-rest g l = (g.W.Sink.failures l.w ≡ g.W.Sink.failures l.fn.w)
