@@ -23,6 +23,7 @@ use vcd_text::feed::Feed;
 use vcd_text::output::{put, put_number};
 
 /// Writes the line of a time.
+#[inline(never)]
 pub(crate) fn put_time<W: Sink>(time: u64, out: &mut W) -> Result<(), WriteFailed>
     requires { W.failures out.old < 2 ^ 64 - 1 }
     ensures takes { Takes (W.held out.old) (W.held out.new) (time_line time) result }
@@ -34,6 +35,7 @@ pub(crate) fn put_time<W: Sink>(time: u64, out: &mut W) -> Result<(), WriteFaile
 }
 
 /// Writes the line of a time, unless it was written last.
+#[inline(always)]
 pub(crate) fn put_time_unless<W: Sink>(
     written: Option<u64>,
     time: u64,
