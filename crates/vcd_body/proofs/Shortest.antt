@@ -102,3 +102,22 @@ pub shortest_of : (l digits : List ℕ) → IsBare (str_to_ascii_lowercase l) �
 shortest_of l digits b few e size =
     let n = max size (length digits) in
     bare_is_short (str_to_ascii_lowercase l) n b (let m = length-map l to_ascii_lowercase in omega arith) ∙ ap short (e n (omega arith) ∙ sym (extend_where_fits (str_to_ascii_lowercase digits) size n (let m = length-map digits to_ascii_lowercase in omega arith)))
+
+-- some last digits that extend to the same, wherever all of them fit
+abbrev pub Suffices : List ℕ → List ℕ → Type 0
+Suffices rest digits = (0 < length rest) × (length rest ≤ length digits)
+    × ((size : ℕ) → length digits ≤ size → extend (str_to_ascii_lowercase rest) size ≡ extend (str_to_ascii_lowercase digits) size)
+
+-- a first digit that the next one extends to is left out of them
+pub one_out : (l rest digits : List ℕ) → rest ≡ drop 1 l → 1 < length l → to_ascii_lowercase (get_or l 0 0) ≡ extension (to_ascii_lowercase (get_or l 1 0) ∷ []) → Suffices l digits → Suffices rest digits
+one_out l rest digits e more same (some, few, value) =
+    let n = length_drop l in
+    let m = ap length e in (
+      omega arith,
+      omega arith,
+      λ size fits. ap (λ r. extend (str_to_ascii_lowercase r) size) e ∙ first_out l size more same (omega arith) ∙ value size fits,
+    )
+  where
+    length_drop : (l : List ℕ) → length (drop 1 l) ≡ length l - 1
+    length_drop [] = omega arith
+    length_drop (x ∷ l) = omega arith

@@ -20,12 +20,28 @@ fn extended_by(digit: u8) -> u8
     if digit == b'1' { b'0' } else { digit }
 }
 
+// The digits without the zeros that stand before another zero.
+fn cut_zeros(digits: &[u8]) -> &[u8]
+    requires { 0 < length digits.now }
+    ensures some { 0 < length result.now }
+    ensures fewer { length result.now ≤ length digits.now }
+    ensures value { (size : ℕ) → length digits.now ≤ size
+        → extend (str_to_ascii_lowercase result.now) size ≡ extend (str_to_ascii_lowercase digits.now) size }
+{
+    let mut rest = digits;
+    'zeros: while rest.len() > 1 && rest[0] == b'0' && rest[1] == b'0' {
+        rest = rest_of(rest);
+    }
+    rest
+}
+
 // The shortest digits that extend to the same value.
 fn shortest(digits: &[u8]) -> &[u8]
     requires { 0 < length digits.now }
     ensures { (size : ℕ) → str_to_ascii_lowercase result.now ≡ short (extend (str_to_ascii_lowercase digits.now) size) }
 {
-    let mut rest = digits;
+    // Most digits that can be left out are zeros.
+    let mut rest = cut_zeros(digits);
     'digits: while rest.len() > 1 {
         if rest[0].to_ascii_lowercase() != extended_by(rest[1]) {
             return rest;
@@ -87,17 +103,20 @@ fn put_lower<W: Sink>(w: &mut W, bytes: &[u8]) -> Result<(), WriteFailed>
     put(w, bytes)
 }
 
-// Writes a code, and a line feed.
-fn put_code<W: Sink>(w: &mut W, id: &[u8]) -> Result<(), WriteFailed>
+// Writes a byte, a code and a line feed, one after the other.
+#[cold]
+#[inline(never)]
+fn put_long_end<W: Sink>(w: &mut W, first: u8, id: &[u8]) -> Result<(), WriteFailed>
     requires { W.failures w.old < 2 ^ 64 - 1 }
-    ensures takes { Takes (W.held w.old) (W.held w.new) (id.now ++ 10 ∷ []) result }
+    ensures takes { Takes (W.held w.old) (W.held w.new) (first ∷ id.now ++ 10 ∷ []) result }
     ensures failures { W.failures w.new ≡ failures_after (W.failures w.old) result }
 {
+    put(w, &[first])?;
     put(w, id)?;
     put(w, b"\n")
 }
 
-// Writes what ends a line: a byte, a code and a line feed. Most codes are short, and take one write of a known length.
+// Writes a byte, a code and a line feed, with a short code by one write of a known length.
 #[inline(always)]
 fn put_end<W: Sink>(w: &mut W, first: u8, id: &[u8]) -> Result<(), WriteFailed>
     requires { W.failures w.old < 2 ^ 64 - 1 }
@@ -109,11 +128,21 @@ fn put_end<W: Sink>(w: &mut W, first: u8, id: &[u8]) -> Result<(), WriteFailed>
         [a, b] => put(w, &[first, *a, *b, b'\n']),
         [a, b, c] => put(w, &[first, *a, *b, *c, b'\n']),
         [a, b, c, d] => put(w, &[first, *a, *b, *c, *d, b'\n']),
-        _ => {
-            put(w, &[first])?;
-            put_code(w, id)
-        }
+        _ => put_long_end(w, first, id),
     }
+}
+
+// Writes a change of all of these digits, as where there are more than the size.
+#[cold]
+#[inline(never)]
+fn put_all<W: Sink>(w: &mut W, digits: &[u8], id: &[u8]) -> Result<(), WriteFailed>
+    requires { W.failures w.old < 2 ^ 64 - 1 }
+    ensures takes { Takes (W.held w.old) (W.held w.new) (str_to_ascii_lowercase digits.now ++ (id.now ++ 10 ∷ [])) result }
+    ensures failures { W.failures w.new ≡ failures_after (W.failures w.old) result }
+{
+    put_lower(w, digits)?;
+    put(w, id)?;
+    put(w, b"\n")
 }
 
 // Writes a change of a real number.
@@ -128,15 +157,17 @@ fn put_real<W: Sink>(w: &mut W, text: &[u8], id: &[u8]) -> Result<(), WriteFaile
     put_end(w, b' ', id)
 }
 
-// Writes a change to these digits behind `b`.
+// Writes a change of digits behind `b`, the shortest ones.
 #[inline(never)]
 fn put_vector<W: Sink>(w: &mut W, digits: &[u8], id: &[u8]) -> Result<(), WriteFailed>
-    requires { W.failures w.old < 2 ^ 64 - 1 }
-    ensures takes { Takes (W.held w.old) (W.held w.new) (98 ∷ str_to_ascii_lowercase digits.now ++ (32 ∷ id.now ++ 10 ∷ [])) result }
+    requires failures { W.failures w.old < 2 ^ 64 - 1 }
+    requires digits { 0 < length digits.now }
+    ensures takes { (size : ℕ) → Takes (W.held w.old) (W.held w.new)
+        (98 ∷ short (extend (str_to_ascii_lowercase digits.now) size) ++ (32 ∷ id.now ++ 10 ∷ [])) result }
     ensures failures { W.failures w.new ≡ failures_after (W.failures w.old) result }
 {
     put(w, b"b")?;
-    put_lower(w, digits)?;
+    put_lower(w, shortest(digits))?;
     put_end(w, b' ', id)
 }
 
@@ -150,11 +181,8 @@ fn put_digits<W: Sink>(w: &mut W, size: usize, digits: &[u8], id: &[u8]) -> Resu
 {
     match digits {
         [digit] if size == 1 => put_end(w, digit.to_ascii_lowercase(), id),
-        _ if size == 1 => {
-            put_lower(w, digits)?;
-            put_code(w, id)
-        }
-        _ => put_vector(w, shortest(digits), id),
+        _ if size == 1 => put_all(w, digits, id),
+        _ => put_vector(w, digits, id),
     }
 }
 

@@ -1,7 +1,5 @@
-use Rattle.std.proofs.Common.{◌≡◌, ◌-◌, ℕ, List, [], ◌∷◌, length, drop, sym, ap, ◌∙◌, arith}
-use Rattle.std.specs.Str.{str_to_ascii_lowercase}
-use Rattle.vcd_model.specs.Values.{extend}
-use Rattle.vcd_body.proofs.Shortest.{one_bare, more_bare, first_out, shortest_of}
+use Rattle.std.proofs.Common.{sym, ◌∙◌, arith}
+use Rattle.vcd_body.proofs.Shortest.{one_bare, more_bare, one_out, shortest_of}
 use Rattle.vcd_body.proofs.change.shortest.Goals as goal
 
 pub returns-then-to_ascii_lowercase-extended_by : goal.returns-then-to_ascii_lowercase-extended_by
@@ -13,18 +11,8 @@ returns-then-to_ascii_lowercase-extended_by c =
 
 pub digits-preserved : goal.digits-preserved
 digits-preserved c =
-    let i = c.digits.invariant in
-    let few = i.1 in
-    let behind = ap length c.rest_of-rest.ensures in
-    let same = sym c.to_ascii_lowercase.ensures.value ∙ c.if-to_ascii_lowercase-extended_by.false ∙ c.extended_by.ensures in (
-      (let n = length_drop c.digits.rest.now in omega arith),
-      (let n = length_drop c.digits.rest.now in omega arith),
-      λ size fits. ap (λ l. extend (str_to_ascii_lowercase l) size) c.rest_of-rest.ensures ∙ first_out c.digits.rest.now size (omega arith) same (omega arith) ∙ i.2 size fits,
-    )
-  where
-    length_drop : (l : List ℕ) → length (drop 1 l) ≡ length l - 1
-    length_drop [] = omega arith
-    length_drop (x ∷ l) = omega arith
+    let same = sym c.to_ascii_lowercase.ensures.value ∙ c.if-to_ascii_lowercase-extended_by.false ∙ c.extended_by.ensures in
+    one_out c.digits.rest.now c.rest_of-rest.result.now c.args.digits.now c.rest_of-rest.ensures (omega arith) same c.digits.invariant
 
 pub returns : goal.returns
 returns c =
