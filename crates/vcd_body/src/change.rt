@@ -1,5 +1,5 @@
 // Value changes as they are written.
-ghost use Rattle.std.specs.Prelude.{◌≡◌, ◌≢◌, ℕ, ◌-◌, ◌^◌, ◌<◌, ◌≤◌, ◌++◌, ◌∷◌, ◌==◌, [], false, take, length};
+ghost use Rattle.std.specs.Prelude.{◌≡◌, ◌≢◌, ℕ, ◌-◌, ◌^◌, ◌<◌, ◌≤◌, ◌++◌, ◌∷◌, ◌==◌, [], false, take, length, slice_index};
 ghost use Rattle.std.specs.Char.{to_ascii_lowercase as lower};
 ghost use Rattle.std.specs.Str.{str_to_ascii_lowercase};
 ghost use Rattle.vcd_model.specs.Values.{extend, extension, short, change_line};
@@ -20,6 +20,33 @@ fn extended_by(digit: u8) -> u8
     if digit == b'1' { b'0' } else { digit }
 }
 
+// Whether a digit is not a zero.
+#[inline(always)]
+fn has_other(digits: &[u8]) -> bool
+    ensures { result ≡ false → (k : ℕ) → k < length digits.now → slice_index digits.now k ≡ 48 }
+{
+    let mut found = false;
+    for digit in digits {
+        found |= *digit != b'0';
+    }
+    found
+}
+
+// The digits without zeros that stand before other zeros, eight at a time.
+fn cut_blocks(digits: &[u8]) -> &[u8]
+    requires { 0 < length digits.now }
+    ensures some { 0 < length result.now }
+    ensures fewer { length result.now ≤ length digits.now }
+    ensures value { (size : ℕ) → length digits.now ≤ size
+        → extend (str_to_ascii_lowercase result.now) size ≡ extend (str_to_ascii_lowercase digits.now) size }
+{
+    let mut rest = digits;
+    'eights: while rest.len() > 8 && rest[8] == b'0' && !has_other(&rest[..8]) {
+        rest = &rest[8..];
+    }
+    rest
+}
+
 // The digits without the zeros that stand before another zero.
 fn cut_zeros(digits: &[u8]) -> &[u8]
     requires { 0 < length digits.now }
@@ -28,7 +55,8 @@ fn cut_zeros(digits: &[u8]) -> &[u8]
     ensures value { (size : ℕ) → length digits.now ≤ size
         → extend (str_to_ascii_lowercase result.now) size ≡ extend (str_to_ascii_lowercase digits.now) size }
 {
-    let mut rest = digits;
+    // Values in full width have many.
+    let mut rest = cut_blocks(digits);
     'zeros: while rest.len() > 1 && rest[0] == b'0' && rest[1] == b'0' {
         rest = rest_of(rest);
     }
