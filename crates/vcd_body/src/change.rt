@@ -144,6 +144,14 @@ fn put_long_end<W: Sink>(w: &mut W, first: u8, id: &[u8]) -> Result<(), WriteFai
     put(w, b"\n")
 }
 
+// The same bytes, brought together in a number, so that a copy of some of them is not delayed by writes of single ones.
+#[inline(always)]
+fn together(bytes: [u8; 8]) -> [u8; 8]
+    ensures { result ≡ bytes }
+{
+    u64::from_le_bytes(bytes).to_le_bytes()
+}
+
 // Writes a byte, a code and a line feed, with a short code by one write of a known length.
 #[inline(always)]
 fn put_end<W: Sink>(w: &mut W, first: u8, id: &[u8]) -> Result<(), WriteFailed>
@@ -152,10 +160,10 @@ fn put_end<W: Sink>(w: &mut W, first: u8, id: &[u8]) -> Result<(), WriteFailed>
     ensures failures { W.failures w.new ≡ failures_after (W.failures w.old) result }
 {
     match id {
-        [a] => put(w, &[first, *a, b'\n']),
-        [a, b] => put(w, &[first, *a, *b, b'\n']),
-        [a, b, c] => put(w, &[first, *a, *b, *c, b'\n']),
-        [a, b, c, d] => put(w, &[first, *a, *b, *c, *d, b'\n']),
+        [a] => put(w, &together([first, *a, b'\n', 0, 0, 0, 0, 0])[..3]),
+        [a, b] => put(w, &together([first, *a, *b, b'\n', 0, 0, 0, 0])[..4]),
+        [a, b, c] => put(w, &together([first, *a, *b, *c, b'\n', 0, 0, 0])[..5]),
+        [a, b, c, d] => put(w, &together([first, *a, *b, *c, *d, b'\n', 0, 0])[..6]),
         _ => put_long_end(w, first, id),
     }
 }
@@ -214,6 +222,17 @@ fn put_digits<W: Sink>(w: &mut W, size: usize, digits: &[u8], id: &[u8]) -> Resu
     }
 }
 
+// Writes a change of an event.
+#[cold]
+#[inline(never)]
+fn put_event<W: Sink>(w: &mut W, id: &[u8]) -> Result<(), WriteFailed>
+    requires { W.failures w.old < 2 ^ 64 - 1 }
+    ensures takes { Takes (W.held w.old) (W.held w.new) (49 ∷ id.now ++ 10 ∷ []) result }
+    ensures failures { W.failures w.new ≡ failures_after (W.failures w.old) result }
+{
+    put_end(w, b'1', id)
+}
+
 /// Writes a change of a code of this size, or of an event, as its line. A bad text of an event is not looked at. Where a write
 /// fails, some first bytes were written.
 pub fn put_change<W: Sink>(
@@ -231,7 +250,7 @@ pub fn put_change<W: Sink>(
     ensures failures { W.failures w.new ≡ failures_after (W.failures w.old) result }
 {
     if event {
-        return put_end(w, b'1', id);
+        return put_event(w, id);
     }
     match form {
         Form::RealText => put_real(w, text, id),
