@@ -1,5 +1,5 @@
 -- The code that a look-up has found, and its texts.
-use Rattle.std.proofs.Common.{◌≡◌, ℕ, zero, suc, Bool, true, false, cond, ◌&&◌, ◌^◌, nat_lt, List, [], ◌∷◌, Some, None, refl, sym}
+use Rattle.std.proofs.Common.{◌≡◌, ℕ, zero, suc, Bool, true, false, cond, ◌&&◌, ◌^◌, nat_lt, List, [], ◌∷◌, Option, Some, None, refl, sym}
 use Rattle.std.specs.Prelude.{slice_get}
 use Rattle.std.specs.List.{AllZip}
 use Rattle.std.proofs.lemmas.Option.{cond_some}
@@ -9,7 +9,6 @@ use Rattle.vcd_model.specs.Header.{Header}
 use Rattle.vcd_head.specs.declared.view.Code.{Code}
 use Rattle.vcd_head.specs.Shown.{HeadShown}
 use Rattle.vcd_head.specs.Views.{Views, IsCode}
-use Rattle.vcd_body.proofs.Digits.{spelled}
 
 zip_at : (text : List ℕ) (xs : List Code) (ys : List IdCode) (k : ℕ) (c : IdCode) → AllZip (IsCode text) xs ys → slice_get ys k ≡ Some c → (code : Code) × (slice_get xs k ≡ Some code) × IsCode text code c
 zip_at text [] [] k c a e = cc
@@ -21,6 +20,10 @@ zip_at text (x ∷ xs) (y ∷ ys) (suc k) c a e = zip_at text xs ys k c a.1 e
 -- the view's code at the place of a header's code
 pub code_at : (s : HeadShown) (h : Header) → Views s h → (place : ℕ) (c : IdCode) → slice_get h.codes place ≡ Some c → (code : Code) × (slice_get s.codes place ≡ Some code) × IsCode s.text code c
 code_at s h v place c e = zip_at s.text s.codes h.codes place c v.codes e
+
+-- what digits spell, where that is below 2^64
+abbrev pub spelled : List ℕ → Option ℕ
+spelled ds = cond (is_decimal ds && nat_lt (decimal_value ds) (2 ^ 64)) (Some (decimal_value ds)) None
 
 -- a number is what the digits spell, and is below 2^64
 pub time_spelled : (digits : List ℕ) (time : ℕ) → spelled digits ≡ Some time → ((is_decimal digits && nat_lt (decimal_value digits) (2 ^ 64)) ≡ true) × (decimal_value digits ≡ time)

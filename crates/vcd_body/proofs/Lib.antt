@@ -1,4 +1,3 @@
-pub mod Digits
 pub mod WordLemmas
 pub mod Steps
 pub mod Judging

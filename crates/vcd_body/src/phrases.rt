@@ -23,11 +23,12 @@ ghost use Rattle.vcd_body.specs.Went.{Went, fault_of};
 use crate::fault::BodyFault;
 use crate::item::Regs;
 use crate::tokens::next_inner;
-use crate::words::{are_value_digits, decimal_of, is_end, rest_of};
+use crate::words::{are_value_digits, is_end, rest_of};
 use vcd_head::find::find;
 use vcd_head::view::{Code, HeadView};
 use vcd_text::device::Source;
 use vcd_text::feed::Feed;
+use vcd_text::number::decimal_of;
 
 /// The time of a time mark.
 #[inline(always)]

@@ -129,25 +129,6 @@ pub(crate) fn command_of(token: &[u8]) -> Option<Command>
     }
 }
 
-/// The number that decimal digits spell, if it is below 2^64.
-pub(crate) fn decimal_of(digits: &[u8]) -> Option<u64>
-    ensures { result ≡ cond (is_decimal digits.now && nat_lt (decimal_value digits.now) (2 ^ 64)) (Some (decimal_value digits.now)) None }
-{
-    if digits.is_empty() {
-        return None;
-    }
-    let mut number: u64 = 0;
-    for digit in digits {
-        if !digit.is_ascii_digit() {
-            return None;
-        }
-        number = number
-            .checked_mul(10)?
-            .checked_add(u64::from(*digit - b'0'))?;
-    }
-    Some(number)
-}
-
 /// The byte is a digit of a value.
 #[tactic(auto, unfolding(vcd_model::specs::BodyPhrases::is_value_digit))]
 #[inline(always)]

@@ -1,4 +1,3 @@
-mod Digits
 mod Writing
 mod Asking
 mod Outcomes

@@ -6,10 +6,11 @@ ghost use Rattle.vcdkit.specs.Asked.{asked_by, asked_in, command_for, command_na
 ghost use Rattle.vcdkit.specs.Message.{Shows};
 
 use crate::message::{put_both, put_line};
-use crate::words::decimal_of;
+
 use clap::ArgMatches;
 use std::alloc::{AllocError, Global};
 use vcd_text::device::Sink;
+use vcd_text::number::decimal_of;
 
 /// What is done with the input.
 #[derive(PartialEq, Eq, Debug, Drop)]

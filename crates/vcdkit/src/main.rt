@@ -10,7 +10,6 @@ mod refusal;
 mod run;
 #[cfg(test)]
 mod tests;
-mod words;
 
 use clap::Error;
 use command::{command_of, parse_status};

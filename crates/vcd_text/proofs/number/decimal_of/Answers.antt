@@ -1,6 +1,6 @@
 use Rattle.std.proofs.Common.{◌≡◌, ◌+◌, ◌*◌, ◌-◌, get_or, refl, sym, ◌∙◌, subst, arith, rules}
-use Rattle.vcd_body.proofs.Digits.{HasRead, read_more, product_too_large, sum_too_large, read_all}
-use Rattle.vcd_body.proofs.words.decimal_of.Goals as goal
+use Rattle.vcd_text.proofs.Digits.{HasRead, read_more, product_too_large, sum_too_large, read_all}
+use Rattle.vcd_text.proofs.number.decimal_of.Goals as goal
 
 pub loop-digit-init : goal.loop-digit-init
 loop-digit-init c = record { digits = refl; value = refl; small = omega arith }

@@ -1,5 +1,5 @@
-use Rattle.vcdkit.proofs.Digits.{HasRead}
-use Rattle.vcdkit.proofs.words.decimal_of.Given as goal
+use Rattle.vcd_text.proofs.Digits.{HasRead}
+use Rattle.vcd_text.proofs.number.decimal_of.Given as goal
 
 abbrev pub invariant-loop-digit : goal.invariant-loop-digit
 invariant-loop-digit l = HasRead l.fn.digits l.digit-index l.number

@@ -9,7 +9,7 @@ use Rattle.vcd_model.specs.Bytes.{is_empty, is_decimal, decimal_value}
 use Rattle.vcd_model.proofs.Decimals.{decimal_value-push, decimal_value-grows}
 
 -- what the digits spell, where that is below 2^64
-abbrev pub spelled : List ℕ → Option ℕ
+abbrev spelled : List ℕ → Option ℕ
 spelled ds = cond (is_decimal ds && nat_lt (decimal_value ds) (2 ^ 64)) (Some (decimal_value ds)) None
 
 -- after k digits
