@@ -1,5 +1,5 @@
 // Value changes as they are written.
-ghost use Rattle.std.specs.Prelude.{◌≡◌, ◌≢◌, ℕ, ◌-◌, ◌^◌, ◌<◌, ◌≤◌, ◌++◌, ◌∷◌, ◌==◌, [], false, take, length, slice_index};
+ghost use Rattle.std.specs.Prelude.{◌≡◌, ◌≢◌, ℕ, ◌-◌, ◌^◌, ◌<◌, ◌≤◌, ◌++◌, ◌∷◌, ◌==◌, [], false, true, take, length, slice_index};
 ghost use Rattle.std.specs.Char.{to_ascii_lowercase as lower};
 ghost use Rattle.std.specs.Str.{str_to_ascii_lowercase};
 ghost use Rattle.vcd_model.specs.Values.{extend, extension, short, change_line};
@@ -168,7 +168,7 @@ fn put_end<W: Sink>(w: &mut W, first: u8, id: &[u8]) -> Result<(), WriteFailed>
     }
 }
 
-// Writes a change of all of these digits, as where there are more than the size.
+// Writes a change of all of these digits, as of a code of one bit.
 #[cold]
 #[inline(never)]
 fn put_all<W: Sink>(w: &mut W, digits: &[u8], id: &[u8]) -> Result<(), WriteFailed>
@@ -215,11 +215,10 @@ fn put_digits<W: Sink>(w: &mut W, size: usize, digits: &[u8], id: &[u8]) -> Resu
     ensures takes { Takes (W.held w.old) (W.held w.new) (digits_line size digits.now id.now) result }
     ensures failures { W.failures w.new ≡ failures_after (W.failures w.old) result }
 {
-    match digits {
-        [digit] if size == 1 => put_end(w, digit.to_ascii_lowercase(), id),
-        _ if size == 1 => put_all(w, digits, id),
-        _ => put_vector(w, digits, id),
+    if size == 1 {
+        return put_all(w, digits, id);
     }
+    put_vector(w, digits, id)
 }
 
 // Writes a change of an event.
@@ -231,6 +230,14 @@ fn put_event<W: Sink>(w: &mut W, id: &[u8]) -> Result<(), WriteFailed>
     ensures failures { W.failures w.new ≡ failures_after (W.failures w.old) result }
 {
     put_end(w, b'1', id)
+}
+
+// Whether a change of one digit is that of a bit, as most are. One branch tells.
+#[inline(always)]
+fn is_bit(size: usize, event: bool, form: Form) -> bool
+    ensures { result ≡ true → (size ≡ 1) × (event ≡ false) × (form ≡ Form.Scalar) }
+{
+    (size == 1) & !event & (form == Form::Scalar)
 }
 
 /// Writes a change of a code of this size, or of an event, as its line. A bad text of an event is not looked at. Where a write
@@ -249,11 +256,12 @@ pub fn put_change<W: Sink>(
         (change_line (record { code = record { text = id.now; size = size; event = event }; form = model_form form; text = text.now })) result }
     ensures failures { W.failures w.new ≡ failures_after (W.failures w.old) result }
 {
-    if event {
-        return put_event(w, id);
-    }
-    match form {
-        Form::RealText => put_real(w, text, id),
-        Form::Scalar | Form::Vector => put_digits(w, size, text, id),
+    match text {
+        [digit] if is_bit(size, event, form) => put_end(w, digit.to_ascii_lowercase(), id),
+        _ if event => put_event(w, id),
+        _ => match form {
+            Form::RealText => put_real(w, text, id),
+            Form::Scalar | Form::Vector => put_digits(w, size, text, id),
+        },
     }
 }
