@@ -1,7 +1,7 @@
 -- What a command and a word behind `--token-limit` ask for.
-use Rattle.std.proofs.Common.{◌≡◌, ℕ, Bool, true, false, List, [], map, ap, refl, sym, subst, ◌∙◌}
+use Rattle.std.proofs.Common.{◌≡◌, ℕ, Bool, true, false, List, [], map, ap, refl, sym, ◌∙◌}
 use Rattle.std.specs.Borrow.{Bor}
-use Rattle.std.specs.Prelude.{Option, Some, None, Result, Ok, Err, codes, option_map, option_and_then, unwrap_or}
+use Rattle.std.specs.Prelude.{Option, Some, None, Ok, Err, codes, option_map, option_and_then, unwrap_or}
 use Rattle.clap.specs.Words.{Row, Text, all_of, first_of, subcommand_name_of}
 use Rattle.clap.specs.declared.parser.matches.ArgMatches.{ArgMatches}
 use Rattle.vcd_model.specs.Job as any_job

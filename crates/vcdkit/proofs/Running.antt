@@ -28,7 +28,7 @@ use Rattle.vcdkit.specs.declared.refusal.Refusal.{Refusal}
 use Rattle.vcdkit.specs.declared.refusal.Refusal.TheVariants.{Stopped, Memory}
 use Rattle.vcdkit.specs.Asked.{names_asked, request_for, want_of}
 use Rattle.vcdkit.specs.Message.{Shows}
-use Rattle.vcdkit.specs.Refusals.{as_end, head_refusal, refusal_of, end_message, end_status}
+use Rattle.vcdkit.specs.Refusals.{head_refusal, refusal_of, end_message, end_status}
 use Rattle.vcdkit.specs.Run.{AreRead, Ends, Gives, Goes, Runs}
 use Rattle.vcdkit.specs.Run.Gives.{Whole, Part, Nothing}
 use Rattle.vcdkit.proofs.Writing.{appends-none}

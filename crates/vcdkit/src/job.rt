@@ -6,7 +6,6 @@ ghost use Rattle.vcdkit.specs.Asked.{asked_by, asked_in, command_for, command_na
 ghost use Rattle.vcdkit.specs.Message.{Shows};
 
 use crate::message::{put_both, put_line};
-
 use clap::ArgMatches;
 use std::alloc::{AllocError, Global};
 use vcd_text::device::Sink;
