@@ -3,7 +3,6 @@
 # `wc -l` on the same dump, and what memory each takes on 1 MB, on that dump and, with --large, on 1 GB. See README.md.
 set -eu
 here=$(cd "$(dirname "$0")" && pwd)
-vcdkit=${VCDKIT:-$here/../vcdkit}
 rivals=${RIVALS:-$here/../../shared/bench/baseline}
 
 megabytes=200
@@ -16,11 +15,8 @@ for word in "$@"; do
     esac
 done
 
-work=$(mktemp -d)
-trap 'rm -rf "$work"' EXIT
+. "$here/common.sh"
 
-[ -x "$vcdkit" ] || { echo "check_speed.sh: there is no program $vcdkit: run make first" >&2; exit 2; }
-cp "$vcdkit" "$work/vcdkit"
 programs=(vcdkit)
 if [ -d "$rivals" ]; then
     cp -r "$rivals" "$work/rivals" && chmod -R u+w "$work/rivals"
@@ -44,24 +40,6 @@ find_command() {
 dump_of() {
     [ -s "$work/$1.vcd" ] || "$here/plain_dump.py" "$1" > "$work/$1.vcd"
     echo "$work/$1.vcd"
-}
-
-# User and system time together, and wall time, of one run.
-times_of() {
-    local TIMEFORMAT='%3U %3S %3R'
-    find_command "$1"
-    { time "${command[@]}" < "$2" > /dev/null; } 2>&1 | awk '{ print $1 + $2, $3 }'
-}
-
-# The peak resident memory of one run, in kilobytes.
-peak_of() {
-    find_command "$1"
-    if [ -x /usr/bin/time ]; then
-        /usr/bin/time -f %M -o "$work/peak" "${command[@]}" < "$2" > /dev/null
-        cat "$work/peak"
-    else
-        echo '?'
-    fi
 }
 
 dump=$(dump_of "$megabytes")

@@ -3,7 +3,6 @@
 # 1000000), beside `wc -l` on the same file, and what memory they take. See README.md.
 set -eu
 here=$(cd "$(dirname "$0")" && pwd)
-vcdkit=${VCDKIT:-$here/../vcdkit}
 kinds=(ordered shuffled nested)
 programs=(list check 'wc -l')
 
@@ -12,11 +11,7 @@ sizes=("$@")
 for word in "${sizes[@]}"; do
     case $word in *[!0-9]* | '' | 0*) sed -n '2,3s/^# //p' "$0" >&2; exit 2 ;; esac
 done
-[ -x "$vcdkit" ] || { echo "header_speed.sh: there is no program $vcdkit: run make first" >&2; exit 2; }
-
-work=$(mktemp -d)
-trap 'rm -rf "$work"' EXIT
-cp "$vcdkit" "$work/vcdkit"
+. "$here/common.sh"
 
 # Sets `command` to the words that run a program.
 find_command() {
@@ -32,24 +27,6 @@ compare_counts() {
         { echo "header_speed.sh: not $1 variables" >&2; exit 1; }
 }
 
-# User and system time together of one run.
-time_of() {
-    local TIMEFORMAT='%3U %3S'
-    find_command "$1"
-    { time "${command[@]}" < "$work/header" > /dev/null; } 2>&1 | awk '{ print $1 + $2 }'
-}
-
-# The peak resident memory of one run, in kilobytes.
-peak_of() {
-    find_command "$1"
-    if [ -x /usr/bin/time ]; then
-        /usr/bin/time -f %M -o "$work/peak" "${command[@]}" < "$work/header" > /dev/null
-        cat "$work/peak"
-    else
-        echo '?'
-    fi
-}
-
 echo 'user and system seconds, best of three; microseconds for a variable; peak resident memory in kilobytes'
 printf '%-8s %9s %6s |' '' variables MB
 printf ' %8s' "${programs[@]}"
@@ -60,11 +37,12 @@ for kind in "${kinds[@]}"; do
         compare_counts "$size"
         # The programs take turns, so that what else the machine does meets all of them.
         for _ in 1 2 3; do
-            for program in "${programs[@]}"; do echo "$program:$(time_of "$program")"; done
+            for program in "${programs[@]}"; do echo "$program:$(times_of "$program" "$work/header")"; done
         done > "$work/times"
         awk -F: -v kind="$kind" -v size="$size" -v bytes="$(wc -c < "$work/header")" \
-            -v list="$(peak_of list)" -v check="$(peak_of check)" '
-            !($1 in best) || $2 < best[$1] { best[$1] = $2 }
+            -v list="$(peak_of list "$work/header")" -v check="$(peak_of check "$work/header")" '
+            { split($2, t, " ") }
+            !($1 in best) || t[1] < best[$1] { best[$1] = t[1] }
             END {
                 printf "%-8s %9d %6.1f | %8.3f %8.3f %8.3f | %8.3f %8.3f | %9s %9s\n", kind, size, bytes / 1e6, best["list"],
                     best["check"], best["wc -l"], best["list"] / size * 1e6, best["check"] / size * 1e6, list, check

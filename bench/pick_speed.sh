@@ -3,17 +3,12 @@
 # variable and of all, beside `vcdkit check` and `wc -l` on the same dump. See README.md.
 set -eu -o pipefail
 here=$(cd "$(dirname "$0")" && pwd)
-vcdkit=${VCDKIT:-$here/../vcdkit}
 programs=(check 'pick one' 'pick all' 'wc -l')
 
 for dump in "$@"; do
     [ -f "$dump" ] || { sed -n '2,3s/^# //p' "$0" >&2; exit 2; }
 done
-[ -x "$vcdkit" ] || { echo "pick_speed.sh: there is no program $vcdkit: run make first" >&2; exit 2; }
-
-work=$(mktemp -d)
-trap 'rm -rf "$work"' EXIT
-cp "$vcdkit" "$work/vcdkit"
+. "$here/common.sh"
 
 # Sets `one` to the path in the middle of the list, and `all` to the names before the first points, which select all that there is.
 find_names() {
@@ -43,13 +38,6 @@ written_by() {
     rm "$work/picked"
 }
 
-# User and system time together of one run.
-time_of() {
-    local TIMEFORMAT='%3U %3S'
-    find_command "$1"
-    { time "${command[@]}" < "$2" > /dev/null; } 2>&1 | awk '{ print $1 + $2 }'
-}
-
 # Measures all programs on a dump, and prints a line for each.
 measure() {
     find_names "$1"
@@ -59,14 +47,15 @@ measure() {
 
     # The programs take turns, so that what else the machine does meets all of them.
     for _ in 1 2 3; do
-        for program in "${programs[@]}"; do echo "$program:$(time_of "$program" "$1")"; done
+        for program in "${programs[@]}"; do echo "$program:$(times_of "$program" "$1")"; done
     done > "$work/times"
 
     echo "${1##*/}: $(wc -l < "$work/list") variables; one is $one"
     awk -F: -v bytes="$(wc -c < "$1")" -v one="$written_one" -v all="$written_all" '
         BEGIN { written["pick one"] = one; written["pick all"] = all }
-        !($1 in best) { order[++n] = $1; best[$1] = $2 }
-        $2 < best[$1] { best[$1] = $2 }
+        { split($2, t, " ") }
+        !($1 in best) { order[++n] = $1; best[$1] = t[1] }
+        t[1] < best[$1] { best[$1] = t[1] }
         END {
             printf "%-8s | %17s %8s %10s | %10s\n", "", "user and system s", "MB/s", "over check", "MB written"
             for (k = 1; k <= n; k++) {
