@@ -1,5 +1,6 @@
 -- The numbers of the faults of a body.
-use Rattle.std.specs.Prelude.{ℕ}
+use Rattle.std.specs.Prelude.{ℕ, Result, Ok, Err}
+use Rattle.vcd_text.specs.Advances.{CallEnd}
 use Rattle.vcd_body.specs.declared.fault.BodyFault.{BodyFault}
 use Rattle.vcd_body.specs.declared.fault.BodyFault.TheVariants.{TokenTooLong, EndOfInput, UnknownCommand, OutOfPlace, BadTime, TimeBack, BadValue, UnknownCode, TooWide, RealTooLong, TimeInSection, InputTooLong, ReadFailed}
 
@@ -18,3 +19,9 @@ fault_number RealTooLong = 18
 fault_number TimeInSection = 19
 fault_number InputTooLong = 21
 fault_number ReadFailed = 31
+
+-- how a call ends that reads the tokens of a body
+abbrev pub call_end : {A : Type 0} → Result A BodyFault → CallEnd
+call_end (Ok x) = CallEnd.GoesOn
+call_end (Err ReadFailed) = CallEnd.Fails
+call_end (Err fault) = CallEnd.Ends

@@ -1,4 +1,4 @@
--- Items, and what is known behind them.
+-- Items, and what is known after them.
 use Rattle.std.specs.Prelude.{◌≡◌, ◌+◌, true, not, cond, List, count_by, Some, None, is_some, option_map}
 use Rattle.vcd_model.specs.Bytes.{is_empty}
 use Rattle.vcd_model.specs.Items.{SectionKind, ChangeForm, BodyItem, time_after, marks, open_section, is_begin, is_end_of_section}
@@ -23,18 +23,18 @@ model_form Scalar = ChangeForm.Scalar
 model_form Vector = ChangeForm.Vector
 model_form RealText = ChangeForm.RealText
 
--- the registers tell what is known behind these items
-pub record Known (items : List BodyItem) (r : Regs) : Type 0 where
+-- the registers tell what is known after these items
+pub record AreRegsAfter (items : List BodyItem) (r : Regs) : Type 0 where
   pub time_is : r.time ≡ time_after items
   pub marked_is : r.marked ≡ not (is_empty (marks items))
   pub section_is : option_map model_section r.section ≡ open_section items
   -- as many sections have ended as have begun, but for the open one
   pub ended : count_by is_begin items ≡ count_by is_end_of_section items + cond (is_some r.section) 1 0
 
--- the registers behind one item more
-abbrev pub behind : Regs → Item → Regs
-behind r (Time t) = record { time = t; marked = true; section = r.section }
-behind r (Begin s) = record { time = r.time; marked = r.marked; section = Some s }
-behind r End = record { time = r.time; marked = r.marked; section = None }
-behind r (Change code form) = r
-behind r Finish = r
+-- the registers after one item more
+abbrev pub regs_after : Regs → Item → Regs
+regs_after r (Time t) = record { time = t; marked = true; section = r.section }
+regs_after r (Begin s) = record { time = r.time; marked = r.marked; section = Some s }
+regs_after r End = record { time = r.time; marked = r.marked; section = None }
+regs_after r (Change code form) = r
+regs_after r Finish = r

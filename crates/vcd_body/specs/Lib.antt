@@ -2,7 +2,8 @@ pub mod Fault
 pub mod Items
 pub mod Words
 pub mod Reads
-pub mod Went
-pub mod Gives
+pub mod Given
 pub mod Changes
 pub mod Contents
+pub mod Packed
+pub mod Stored

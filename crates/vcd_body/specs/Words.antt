@@ -1,14 +1,17 @@
 -- What a token is that stands where a phrase of a body begins.
-use Rattle.std.specs.Prelude.{◌≡◌, ℕ, Bool, true, false, IsTrue, ◌||◌, ◌==◌, List, [], ◌∷◌, Option, Some, None, bytes_eq}
+use Rattle.std.specs.Prelude.{◌≡◌, ℕ, Bool, true, false, IsTrue, ◌==◌, List, [], ◌∷◌, Option, Some, None}
 use Rattle.std.specs.List.{list_any}
 use Rattle.std.specs.Str.{byte}
 use Rattle.vcd_model.specs.Keywords.{Keyword, keyword_of, keyword_text}
 use Rattle.vcd_model.specs.BodyPhrases.{section_keyword, is_value_digit}
+use Rattle.vcd_head.specs.declared.keyword.Keyword.{Keyword as HeadKeyword}
+use Rattle.vcd_head.specs.declared.keyword.Keyword.TheVariants as head
+use Rattle.vcd_body.specs.declared.item.Section.TheVariants as section
 use Rattle.vcd_body.specs.Items.{model_section}
 use Rattle.vcd_body.specs.declared.words.Command.{Command}
 use Rattle.vcd_body.specs.declared.words.Command.TheVariants.{Comment, Begin, End, OfHeader}
 use Rattle.vcd_body.specs.declared.words.First.{First}
-use Rattle.vcd_body.specs.declared.words.First.TheVariants.{Mark, Digit, Digits, Number, Other}
+use Rattle.vcd_body.specs.declared.words.First.TheVariants.{Mark, Scalar, Vector, Real, Other}
 
 -- a keyword that belongs into the header
 abbrev pub is_of_header : Keyword → Bool
@@ -20,11 +23,21 @@ is_of_header Keyword.DumpVars = false
 is_of_header Keyword.End = false
 is_of_header k = true
 
--- the token is such a keyword
-abbrev pub is_header_word : List ℕ → Bool
-is_header_word token =
-    bytes_eq (keyword_text Keyword.Date) token || bytes_eq (keyword_text Keyword.EndDefinitions) token || bytes_eq (keyword_text Keyword.Scope) token || bytes_eq (keyword_text Keyword.Timescale) token
-    || bytes_eq (keyword_text Keyword.Upscope) token || bytes_eq (keyword_text Keyword.Var) token || bytes_eq (keyword_text Keyword.Version) token
+-- what a keyword is where a phrase begins
+abbrev pub command_is : HeadKeyword → Command
+command_is head.Comment = Comment
+command_is head.Date = OfHeader
+command_is head.EndDefinitions = OfHeader
+command_is head.Scope = OfHeader
+command_is head.Timescale = OfHeader
+command_is head.Upscope = OfHeader
+command_is head.Var = OfHeader
+command_is head.Version = OfHeader
+command_is head.DumpAll = Begin section.All
+command_is head.DumpOff = Begin section.Off
+command_is head.DumpOn = Begin section.On
+command_is head.DumpVars = Begin section.Vars
+command_is head.End = End
 
 -- the token is this command, or no keyword
 abbrev pub StandsFor : List ℕ → Option Command → Type 0
@@ -46,7 +59,7 @@ BeginsOther (b ∷ rest) = ((b == byte "#") ≡ false) × (is_value_digit b ≡ 
 -- the token begins so
 abbrev pub Begins : List ℕ → First → Type 0
 Begins token Mark = (digits : List ℕ) × (token ≡ byte "#" ∷ digits)
-Begins token Digit = (d : ℕ) × (code : List ℕ) × IsTrue (is_value_digit d) × (token ≡ d ∷ code)
-Begins token Digits = (b : ℕ) × (digits : List ℕ) × IsTrue (is_either (byte "b") (byte "B") b) × (token ≡ b ∷ digits)
-Begins token Number = (r : ℕ) × (text : List ℕ) × IsTrue (is_either (byte "r") (byte "R") r) × (token ≡ r ∷ text)
+Begins token Scalar = (d : ℕ) × (code : List ℕ) × IsTrue (is_value_digit d) × (token ≡ d ∷ code)
+Begins token Vector = (b : ℕ) × (digits : List ℕ) × IsTrue (is_either (byte "b") (byte "B") b) × (token ≡ b ∷ digits)
+Begins token Real = (r : ℕ) × (text : List ℕ) × IsTrue (is_either (byte "r") (byte "R") r) × (token ≡ r ∷ text)
 Begins token Other = BeginsOther token

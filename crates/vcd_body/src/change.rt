@@ -3,14 +3,13 @@ ghost use Rattle.std.specs.Prelude.{◌≡◌, ◌≢◌, ℕ, ◌-◌, ◌^◌,
 ghost use Rattle.std.specs.Char.{to_ascii_lowercase as lower};
 ghost use Rattle.std.specs.Str.{str_to_ascii_lowercase};
 ghost use Rattle.vcd_model.specs.Values.{extend, extension, short, change_line};
-ghost use Rattle.vcd_text.specs.Device.{failures_after, Takes};
+ghost use Rattle.vcd_text.specs.Device.{Counts, Puts, Takes, failures_after};
 ghost use Rattle.vcd_body.specs.Items.{model_form};
 ghost use Rattle.vcd_body.specs.Changes.{digits_line};
 
 use crate::item::Form;
 use crate::words::rest_of;
-use vcd_text::device::{Sink, WriteFailed};
-use vcd_text::output::put;
+use vcd_text::{Sink, WriteFailed, put};
 
 // What a value that begins with this digit is extended by.
 fn extended_by(digit: u8) -> u8
@@ -38,7 +37,8 @@ fn cut_blocks(digits: &[u8]) -> &[u8]
     ensures some { 0 < length result.now }
     ensures fewer { length result.now ≤ length digits.now }
     ensures value { (size : ℕ) → length digits.now ≤ size
-        → extend (str_to_ascii_lowercase result.now) size ≡ extend (str_to_ascii_lowercase digits.now) size }
+        → extend (str_to_ascii_lowercase result.now) size
+        ≡ extend (str_to_ascii_lowercase digits.now) size }
 {
     let mut rest = digits;
     'eights: while rest.len() > 8 && rest[8] == b'0' && !has_other(&rest[..8]) {
@@ -53,7 +53,8 @@ fn cut_zeros(digits: &[u8]) -> &[u8]
     ensures some { 0 < length result.now }
     ensures fewer { length result.now ≤ length digits.now }
     ensures value { (size : ℕ) → length digits.now ≤ size
-        → extend (str_to_ascii_lowercase result.now) size ≡ extend (str_to_ascii_lowercase digits.now) size }
+        → extend (str_to_ascii_lowercase result.now) size
+        ≡ extend (str_to_ascii_lowercase digits.now) size }
 {
     // Values in full width have many.
     let mut rest = cut_blocks(digits);
@@ -66,7 +67,8 @@ fn cut_zeros(digits: &[u8]) -> &[u8]
 // The shortest digits that extend to the same value.
 fn shortest(digits: &[u8]) -> &[u8]
     requires { 0 < length digits.now }
-    ensures { (size : ℕ) → str_to_ascii_lowercase result.now ≡ short (extend (str_to_ascii_lowercase digits.now) size) }
+    ensures { (size : ℕ) → str_to_ascii_lowercase result.now
+        ≡ short (extend (str_to_ascii_lowercase digits.now) size) }
 {
     // Most digits that can be left out are zeros.
     let mut rest = cut_zeros(digits);
@@ -104,9 +106,8 @@ fn lower_into(to: &mut [u8], bytes: &[u8])
 #[cold]
 #[inline(never)]
 fn put_lowered<W: Sink>(w: &mut W, bytes: &[u8]) -> Result<(), WriteFailed>
-    requires { W.failures w.old < 2 ^ 64 - 1 }
-    ensures takes { Takes (W.held w.old) (W.held w.new) (str_to_ascii_lowercase bytes.now) result }
-    ensures failures { W.failures w.new ≡ failures_after (W.failures w.old) result }
+    requires { (W.device w.old).failures < 2 ^ 64 - 1 }
+    ensures { Puts (W.device w.old) (W.device w.new) (str_to_ascii_lowercase bytes.now) result }
 {
     let mut lower = [0u8; 64];
     let mut rest = bytes;
@@ -121,9 +122,8 @@ fn put_lowered<W: Sink>(w: &mut W, bytes: &[u8]) -> Result<(), WriteFailed>
 
 // Writes the bytes in lower case. Most are so already.
 fn put_lower<W: Sink>(w: &mut W, bytes: &[u8]) -> Result<(), WriteFailed>
-    requires { W.failures w.old < 2 ^ 64 - 1 }
-    ensures takes { Takes (W.held w.old) (W.held w.new) (str_to_ascii_lowercase bytes.now) result }
-    ensures failures { W.failures w.new ≡ failures_after (W.failures w.old) result }
+    requires { (W.device w.old).failures < 2 ^ 64 - 1 }
+    ensures { Puts (W.device w.old) (W.device w.new) (str_to_ascii_lowercase bytes.now) result }
 {
     if has_capital(bytes) {
         return put_lowered(w, bytes);
@@ -135,9 +135,8 @@ fn put_lower<W: Sink>(w: &mut W, bytes: &[u8]) -> Result<(), WriteFailed>
 #[cold]
 #[inline(never)]
 fn put_long_end<W: Sink>(w: &mut W, first: u8, id: &[u8]) -> Result<(), WriteFailed>
-    requires { W.failures w.old < 2 ^ 64 - 1 }
-    ensures takes { Takes (W.held w.old) (W.held w.new) (first ∷ id.now ++ 10 ∷ []) result }
-    ensures failures { W.failures w.new ≡ failures_after (W.failures w.old) result }
+    requires { (W.device w.old).failures < 2 ^ 64 - 1 }
+    ensures { Puts (W.device w.old) (W.device w.new) (first ∷ id.now ++ 10 ∷ []) result }
 {
     put(w, &[first])?;
     put(w, id)?;
@@ -155,9 +154,8 @@ fn together(bytes: [u8; 8]) -> [u8; 8]
 // Writes a byte, a code and a line feed, with a short code by one write of a known length.
 #[inline(always)]
 fn put_end<W: Sink>(w: &mut W, first: u8, id: &[u8]) -> Result<(), WriteFailed>
-    requires { W.failures w.old < 2 ^ 64 - 1 }
-    ensures takes { Takes (W.held w.old) (W.held w.new) (first ∷ id.now ++ 10 ∷ []) result }
-    ensures failures { W.failures w.new ≡ failures_after (W.failures w.old) result }
+    requires { (W.device w.old).failures < 2 ^ 64 - 1 }
+    ensures { Puts (W.device w.old) (W.device w.new) (first ∷ id.now ++ 10 ∷ []) result }
 {
     match id {
         [a] => put(w, &together([first, *a, b'\n', 0, 0, 0, 0, 0])[..3]),
@@ -172,9 +170,9 @@ fn put_end<W: Sink>(w: &mut W, first: u8, id: &[u8]) -> Result<(), WriteFailed>
 #[cold]
 #[inline(never)]
 fn put_all<W: Sink>(w: &mut W, digits: &[u8], id: &[u8]) -> Result<(), WriteFailed>
-    requires { W.failures w.old < 2 ^ 64 - 1 }
-    ensures takes { Takes (W.held w.old) (W.held w.new) (str_to_ascii_lowercase digits.now ++ (id.now ++ 10 ∷ [])) result }
-    ensures failures { W.failures w.new ≡ failures_after (W.failures w.old) result }
+    requires { (W.device w.old).failures < 2 ^ 64 - 1 }
+    ensures { Puts (W.device w.old) (W.device w.new)
+        (str_to_ascii_lowercase digits.now ++ (id.now ++ 10 ∷ [])) result }
 {
     put_lower(w, digits)?;
     put(w, id)?;
@@ -184,23 +182,24 @@ fn put_all<W: Sink>(w: &mut W, digits: &[u8], id: &[u8]) -> Result<(), WriteFail
 // Writes a change of a real number.
 #[inline(never)]
 fn put_real<W: Sink>(w: &mut W, text: &[u8], id: &[u8]) -> Result<(), WriteFailed>
-    requires { W.failures w.old < 2 ^ 64 - 1 }
-    ensures takes { Takes (W.held w.old) (W.held w.new) (114 ∷ text.now ++ (32 ∷ id.now ++ 10 ∷ [])) result }
-    ensures failures { W.failures w.new ≡ failures_after (W.failures w.old) result }
+    requires { (W.device w.old).failures < 2 ^ 64 - 1 }
+    ensures { Puts (W.device w.old) (W.device w.new)
+        (114 ∷ text.now ++ (32 ∷ id.now ++ 10 ∷ [])) result }
 {
     put(w, b"r")?;
     put(w, text)?;
     put_end(w, b' ', id)
 }
 
-// Writes a change of digits behind `b`, the shortest ones.
+// Writes a change of digits after `b`, the shortest ones.
 #[inline(never)]
 fn put_vector<W: Sink>(w: &mut W, digits: &[u8], id: &[u8]) -> Result<(), WriteFailed>
-    requires failures { W.failures w.old < 2 ^ 64 - 1 }
+    requires failures { (W.device w.old).failures < 2 ^ 64 - 1 }
     requires digits { 0 < length digits.now }
-    ensures takes { (size : ℕ) → Takes (W.held w.old) (W.held w.new)
-        (98 ∷ short (extend (str_to_ascii_lowercase digits.now) size) ++ (32 ∷ id.now ++ 10 ∷ [])) result }
-    ensures failures { W.failures w.new ≡ failures_after (W.failures w.old) result }
+    ensures takes { (size : ℕ) → Takes (W.device w.old) (W.device w.new)
+        (98 ∷ short (extend (str_to_ascii_lowercase digits.now) size)
+        ++ (32 ∷ id.now ++ 10 ∷ [])) result }
+    ensures counts { Counts (W.device w.old) (W.device w.new) result }
 {
     put(w, b"b")?;
     put_lower(w, shortest(digits))?;
@@ -210,10 +209,9 @@ fn put_vector<W: Sink>(w: &mut W, digits: &[u8], id: &[u8]) -> Result<(), WriteF
 // Writes a change of digits.
 #[inline(always)]
 fn put_digits<W: Sink>(w: &mut W, size: usize, digits: &[u8], id: &[u8]) -> Result<(), WriteFailed>
-    requires failures { W.failures w.old < 2 ^ 64 - 1 }
+    requires failures { (W.device w.old).failures < 2 ^ 64 - 1 }
     requires digits { 0 < length digits.now }
-    ensures takes { Takes (W.held w.old) (W.held w.new) (digits_line size digits.now id.now) result }
-    ensures failures { W.failures w.new ≡ failures_after (W.failures w.old) result }
+    ensures { Puts (W.device w.old) (W.device w.new) (digits_line size digits.now id.now) result }
 {
     if size == 1 {
         return put_all(w, digits, id);
@@ -225,9 +223,8 @@ fn put_digits<W: Sink>(w: &mut W, size: usize, digits: &[u8], id: &[u8]) -> Resu
 #[cold]
 #[inline(never)]
 fn put_event<W: Sink>(w: &mut W, id: &[u8]) -> Result<(), WriteFailed>
-    requires { W.failures w.old < 2 ^ 64 - 1 }
-    ensures takes { Takes (W.held w.old) (W.held w.new) (49 ∷ id.now ++ 10 ∷ []) result }
-    ensures failures { W.failures w.new ≡ failures_after (W.failures w.old) result }
+    requires { (W.device w.old).failures < 2 ^ 64 - 1 }
+    ensures { Puts (W.device w.old) (W.device w.new) (49 ∷ id.now ++ 10 ∷ []) result }
 {
     put_end(w, b'1', id)
 }
@@ -241,7 +238,7 @@ fn is_bit(size: usize, event: bool, form: Form) -> bool
 }
 
 /// Writes a change of a code of this size, or of an event, as its line. A bad text of an event is not looked at. Where a write
-/// fails, some first bytes were written.
+/// fails, a prefix was written.
 pub fn put_change<W: Sink>(
     size: usize,
     event: bool,
@@ -250,11 +247,14 @@ pub fn put_change<W: Sink>(
     id: &[u8],
     w: &mut W,
 ) -> Result<(), WriteFailed>
-    requires failures { W.failures w.old < 2 ^ 64 - 1 }
+    requires failures { (W.device w.old).failures < 2 ^ 64 - 1 }
     requires digits { event ≡ false → form ≢ Form.RealText → 0 < length text.now }
-    ensures takes { Takes (W.held w.old) (W.held w.new)
-        (change_line (record { code = record { text = id.now; size = size; event = event }; form = model_form form; text = text.now })) result }
-    ensures failures { W.failures w.new ≡ failures_after (W.failures w.old) result }
+    ensures { Puts (W.device w.old) (W.device w.new)
+        (change_line (record {
+          code = record { text = id.now; size = size; event = event };
+          form = model_form form;
+          text = text.now;
+        })) result }
 {
     match text {
         [digit] if is_bit(size, event, form) => put_end(w, digit.to_ascii_lowercase(), id),

@@ -11,11 +11,11 @@ pub enum BodyFault {
     UnknownCommand,
     /// What belongs into the header, a section inside a section, or `$end` outside of one (fault 4).
     OutOfPlace,
-    /// No decimal number below 2^64 behind `#` (fault 13).
+    /// No decimal number below 2^64 after `#` (fault 13).
     BadTime,
     /// A time mark below one that was read (fault 14).
     TimeBack,
-    /// No digits `0 1 x X z Z` where there should be some, or no code behind a digit, or no text behind `r` (fault 15).
+    /// No digits `0 1 x X z Z` where there should be some, or no code after a digit, or no text after `r` (fault 15).
     BadValue,
     /// No variable has this code (fault 16).
     UnknownCode,

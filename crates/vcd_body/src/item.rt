@@ -39,7 +39,7 @@ pub enum Item {
     Finish,
 }
 
-/// What is known behind the items read so far.
+/// What is known after the items read so far.
 #[derive(Clone, Copy, PartialEq, Eq, Debug)]
 pub struct Regs {
     /// The last time mark, which is the greatest; 0 where there was none.
@@ -52,11 +52,11 @@ pub struct Regs {
 
 impl Regs {
     ghost use Rattle.std.specs.Prelude.{◌≡◌, [], false, None};
-    ghost use Rattle.vcd_body.specs.Items.{Known};
+    ghost use Rattle.vcd_body.specs.Items.{AreRegsAfter};
 
     /// Before the first item.
     pub fn new() -> Regs
-        ensures known { Known [] result }
+        ensures known { AreRegsAfter [] result }
         ensures value { result ≡ record { time = 0; marked = false; section = None } }
     {
         Regs {

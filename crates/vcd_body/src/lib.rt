@@ -1,13 +1,53 @@
 //! The body of a dump, item by item.
+//!
+//! `next_item` reads the next item from a feed that stands after a header: a time mark, the begin or end of a section, a value
+//! change, or the end of the body (`Finish`). `change_text` is the text of the change that was read last, and `put_change`
+//! writes one as its line. A `Table` keeps of each code whether it is chosen. None of them takes memory.
+//!
+//! # The relation
+//!
+//! `GaveItems codes input front items feed regs`: after the tokens of `front`, those of the header, the feed has given whole
+//! phrases with these items, and the registers tell what is known of them. `next_item` takes it to one item more (`GivesItem`).
+//! At the end these are all items of the body, and it has no fault; else it has this fault after exactly these items (`Fails`).
+//! Whatever the input is, `Advances` of `vcd_text` says what is left of the feed, and a change is of one of the view's codes
+//! and has a text that this code may have (`IsGoodChange`).
+//!
+//! # The modules
+//!
+//! - `read`: `next_item`, `change_text`
+//! - `phrases`, `tokens`, `words`: phrases by what they begin with; the next token; what a token is, by its first byte
+//! - `item`, `fault`: `Item`, `Form`, `Section`, `Regs`; `BodyFault`
+//! - `change`: `put_change`
+//! - `table`: `Table`, `Slot`
+//! - `store`, `packed`: a table with values: a cell and a share of bytes for each code, digits four to a byte. No command uses
+//!   it yet; `laid_out` says that the shares follow one another and have room for the values of their codes
+//!
+//! In `specs/` callers read `Items`, `Reads`, `Given`, `Contents` and `Fault`; for values `Stored`.
+//!
+//! # Limits
+//!
+//! A time is below 2^64, a vector has at most as many digits as its code has bits (an event any number), the text of a real
+//! number 1 to 64 bytes.
+//!
+//! Not promised: anything of a body after its first fault; then neither the feed nor the registers are to be used again.
 #![tactic(auto)]
 
-pub mod change;
-pub mod fault;
-pub mod item;
+mod change;
+mod fault;
+mod item;
+mod packed;
 mod phrases;
-pub mod read;
-pub mod table;
+mod read;
+mod store;
+mod table;
 #[cfg(test)]
 mod tests;
 mod tokens;
 mod words;
+
+pub use change::put_change;
+pub use fault::BodyFault;
+pub use item::{Form, Item, Regs, Section};
+pub use read::{change_text, next_item};
+pub use store::laid_out;
+pub use table::{Slot, Table};

@@ -9,34 +9,33 @@ ghost use Rattle.vcd_model.specs.Items.{BodyItem, ChangeForm, time_after, leaves
 ghost use Rattle.vcd_model.specs.BodyPhrases.{BodyPhrase, declared_code, items_of};
 ghost use Rattle.vcd_model.specs.Reading.{Placed, phrases_of};
 ghost use Rattle.vcd_text.specs.Feed.{source_of, seen, token_of, value_of};
-ghost use Rattle.vcd_head.specs.Shown.{parts};
-ghost use Rattle.vcd_head.specs.Views.{Views};
+ghost use Rattle.vcd_head.specs.Views.{IsViewOf};
 ghost use Rattle.vcd_body.specs.declared.words.First.TheVariants as first;
-ghost use Rattle.vcd_body.specs.Items.{Known};
+ghost use Rattle.vcd_body.specs.Items.{AreRegsAfter};
 ghost use Rattle.vcd_body.specs.Words.{Begins};
 ghost use Rattle.vcd_body.specs.Reads.{Reads, ReadsPhrase, Looks, Fails, Passes, Refuses};
 ghost use Rattle.vcd_body.specs.Reads.{AsksForCode};
-ghost use Rattle.vcd_body.specs.Gives.{IsSoundText};
+ghost use Rattle.vcd_body.specs.Given.{IsGoodText};
 ghost use Rattle.vcd_body.specs.declared.item.Form.TheVariants as form;
-ghost use Rattle.vcd_body.specs.Went.{Went, fault_of};
+ghost use Rattle.vcd_text.specs.Advances.{Advances};
+ghost use Rattle.vcd_body.specs.Fault.{call_end};
 
 use crate::fault::BodyFault;
 use crate::item::Regs;
 use crate::tokens::next_inner;
 use crate::words::{are_value_digits, is_end, rest_of};
-use vcd_head::find::find;
-use vcd_head::view::{Code, HeadView};
-use vcd_text::device::Source;
-use vcd_text::feed::Feed;
-use vcd_text::number::decimal_of;
+use vcd_head::{Code, HeadView, find};
+use vcd_text::{Feed, Source, decimal_of};
 
 /// The time of a time mark.
 #[inline(always)]
 pub(crate) fn time_of(token: &[u8], regs: Regs) -> Result<u64, BodyFault>
     requires { Begins token.now first.Mark }
-    ensures time { (codes : List IdCode) (earlier : List BodyPhrase) → Known (items_of earlier) regs
+    ensures time { (codes : List IdCode) (earlier : List BodyPhrase)
+        → AreRegsAfter (items_of earlier) regs
         → MatchResult result
-        (λ time. Passes codes earlier token.now (BodyItem.Time time) × (time_after (items_of earlier) ≤ time))
+        (λ time. Passes codes earlier token.now (BodyItem.Time time)
+        × (time_after (items_of earlier) ≤ time))
         (Refuses codes earlier token.now) }
     ensures own { IfErr result (λ fault. fault ≢ BodyFault.ReadFailed) }
 {
@@ -52,15 +51,22 @@ pub(crate) fn time_of(token: &[u8], regs: Regs) -> Result<u64, BodyFault>
     Ok(time)
 }
 
-/// The place of the code that stands behind a digit, at once.
+/// The place of the code that stands after a digit, at once.
 #[inline(always)]
 pub(crate) fn scalar_code(token: &[u8], view: HeadView<'_>) -> Result<usize, BodyFault>
-    requires begins { Begins token.now first.Digit }
-    ensures code { (h : Header) (earlier : List BodyPhrase) → Views (parts view.entry) h
+    requires begins { Begins token.now first.Scalar }
+    ensures code { (h : Header) (earlier : List BodyPhrase) → IsViewOf view.entry h
         → MatchResult result
-        (λ place. (c : IdCode) × (slice_get h.codes place ≡ Some c) × Passes h.codes earlier token.now (BodyItem.Changes (record { code = c; form = ChangeForm.Scalar; text = take 1 token.now })))
+        (λ place. (c : IdCode) × (slice_get h.codes place ≡ Some c)
+        × Passes h.codes earlier token.now
+        (BodyItem.Changes (record {
+          code = c;
+          form = ChangeForm.Scalar;
+          text = take 1 token.now;
+        })))
         (Refuses h.codes earlier token.now) }
-    ensures sound { IfOk result (λ place. IsSoundText view.entry.codes.now place form.Scalar (take 1 token.now)) }
+    ensures sound { IfOk result
+        (λ place. IsGoodText view.entry.codes.now place form.Scalar (take 1 token.now)) }
     ensures own { IfErr result (λ fault. fault ≢ BodyFault.ReadFailed) }
 {
     let code = rest_of(token);
@@ -73,14 +79,16 @@ pub(crate) fn scalar_code(token: &[u8], view: HeadView<'_>) -> Result<usize, Bod
     }
 }
 
-/// Passes over a comment, behind its keyword.
+/// Passes over a comment, after its keyword.
 pub(crate) fn skip_comment<S: Source>(feed: &mut Feed<'_, '_, '_, '_, S>) -> Result<(), BodyFault>
     requires { S.failures (source_of feed.old) < 2 ^ 64 - 1 }
-    ensures reads { (codes : List IdCode) (i : Input) (front : List Token) (placed : List (Placed BodyPhrase))
+    ensures reads { (codes : List IdCode) (i : Input) (front : List Token)
+        (placed : List (Placed BodyPhrase))
         → Reads codes i front placed (keyword_text Named.Comment ∷ []) feed.old
-        → MatchResult result (λ _. (inner : List (List ℕ)) × ReadsPhrase codes i front placed feed.new (BodyPhrase.Comment inner))
+        → MatchResult result (λ _. (inner : List (List ℕ))
+        × ReadsPhrase codes i front placed feed.new (BodyPhrase.Comment inner))
         (λ fault. Fails codes i front (items_of (phrases_of placed)) fault feed.new) }
-    ensures went { Went S.failures feed.old feed.new (fault_of result) }
+    ensures advances { Advances S.failures feed.old feed.new (call_end result) }
     ensures progress { OnOk result (seen feed.old < seen feed.new) }
     ensures bounded { seen feed.new < 2 ^ 63 }
 {
@@ -92,21 +100,25 @@ pub(crate) fn skip_comment<S: Source>(feed: &mut Feed<'_, '_, '_, '_, S>) -> Res
     }
 }
 
-/// Keeps the value, and reads the code behind it: answers the code's place.
+/// Keeps the value, and reads the code after it: returns the code's place.
 #[inline(always)]
 fn read_code<S: Source>(
     feed: &mut Feed<'_, '_, '_, '_, S>,
     view: HeadView<'_>,
 ) -> Result<usize, BodyFault>
     requires failures { S.failures (source_of feed.old) < 2 ^ 64 - 1 }
-    ensures reads { (h : Header) (i : Input) (front : List Token) (placed : List (Placed BodyPhrase)) (first : List ℕ) → Views (parts view.entry) h
-        → AsksForCode h.codes (phrases_of placed) first → Reads h.codes i front placed (first ∷ []) feed.old
+    ensures reads { (h : Header) (i : Input) (front : List Token)
+        (placed : List (Placed BodyPhrase)) (first : List ℕ) → IsViewOf view.entry h
+        → AsksForCode h.codes (phrases_of placed) first
+        → Reads h.codes i front placed (first ∷ []) feed.old
         → MatchResult result
-        (λ place. (c : IdCode) × (slice_get h.codes place ≡ Some c) × (declared_code h.codes (token_of feed.new).bytes ≡ Some c) × Looks h.codes i front placed (first ∷ []) feed.new)
+        (λ place. (c : IdCode) × (slice_get h.codes place ≡ Some c)
+        × (declared_code h.codes (token_of feed.new).bytes ≡ Some c)
+        × Looks h.codes i front placed (first ∷ []) feed.new)
         (λ fault. Fails h.codes i front (items_of (phrases_of placed)) fault feed.new) }
     ensures value { value_of feed.new ≡ (token_of feed.old).bytes }
     ensures within { IfOk result (λ place. place < length view.entry.codes.now) }
-    ensures went { Went S.failures feed.old feed.new (fault_of result) }
+    ensures advances { Advances S.failures feed.old feed.new (call_end result) }
     ensures progress { OnOk result (seen feed.old < seen feed.new) }
     ensures bounded { seen feed.new < 2 ^ 63 }
 {
@@ -125,21 +137,26 @@ fn takes(code: Code, digits: usize) -> bool
     code.event || digits <= code.size
 }
 
-/// Reads the rest of a vector's change, behind its digits: answers its code's place.
+/// Reads the rest of a vector's change, after its digits: returns its code's place.
 #[inline(always)]
 pub(crate) fn read_vector<S: Source>(
     feed: &mut Feed<'_, '_, '_, '_, S>,
     view: HeadView<'_>,
 ) -> Result<usize, BodyFault>
     requires failures { S.failures (source_of feed.old) < 2 ^ 64 - 1 }
-    requires begins { Begins (token_of feed.old).bytes first.Digits }
-    ensures reads { (h : Header) (i : Input) (front : List Token) (placed : List (Placed BodyPhrase)) → Views (parts view.entry) h
+    requires begins { Begins (token_of feed.old).bytes first.Vector }
+    ensures reads { (h : Header) (i : Input) (front : List Token)
+        (placed : List (Placed BodyPhrase)) → IsViewOf view.entry h
         → Looks h.codes i front placed [] feed.old
         → MatchResult result
-        (λ place. (c : IdCode) × (slice_get h.codes place ≡ Some c) × ReadsPhrase h.codes i front placed feed.new (BodyPhrase.Gives (BodyItem.Changes (record { code = c; form = ChangeForm.Vector; text = drop 1 (value_of feed.new) }))))
+        (λ place. (c : IdCode) × (slice_get h.codes place ≡ Some c)
+        × ReadsPhrase h.codes i front placed feed.new
+        (BodyPhrase.Gives (BodyItem.Changes
+        (record { code = c; form = ChangeForm.Vector; text = drop 1 (value_of feed.new) }))))
         (λ fault. Fails h.codes i front (items_of (phrases_of placed)) fault feed.new) }
-    ensures sound { IfOk result (λ place. IsSoundText view.entry.codes.now place form.Vector (drop 1 (value_of feed.new))) }
-    ensures went { Went S.failures feed.old feed.new (fault_of result) }
+    ensures sound { IfOk result
+        (λ place. IsGoodText view.entry.codes.now place form.Vector (drop 1 (value_of feed.new))) }
+    ensures advances { Advances S.failures feed.old feed.new (call_end result) }
     ensures further { OnOk result (seen feed.old < seen feed.new) }
     ensures bounded { seen feed.old < 2 ^ 63 → seen feed.new < 2 ^ 63 }
 {
@@ -153,20 +170,26 @@ pub(crate) fn read_vector<S: Source>(
     Ok(place)
 }
 
-/// Reads the rest of a real number's change, behind its text: answers its code's place.
+/// Reads the rest of a real number's change, after its text: returns its code's place.
 pub(crate) fn read_real<S: Source>(
     feed: &mut Feed<'_, '_, '_, '_, S>,
     view: HeadView<'_>,
 ) -> Result<usize, BodyFault>
     requires failures { S.failures (source_of feed.old) < 2 ^ 64 - 1 }
-    requires begins { Begins (token_of feed.old).bytes first.Number }
-    ensures reads { (h : Header) (i : Input) (front : List Token) (placed : List (Placed BodyPhrase)) → Views (parts view.entry) h
+    requires begins { Begins (token_of feed.old).bytes first.Real }
+    ensures reads { (h : Header) (i : Input) (front : List Token)
+        (placed : List (Placed BodyPhrase)) → IsViewOf view.entry h
         → Looks h.codes i front placed [] feed.old
         → MatchResult result
-        (λ place. (c : IdCode) × (slice_get h.codes place ≡ Some c) × ReadsPhrase h.codes i front placed feed.new (BodyPhrase.Gives (BodyItem.Changes (record { code = c; form = ChangeForm.RealText; text = drop 1 (value_of feed.new) }))))
+        (λ place. (c : IdCode) × (slice_get h.codes place ≡ Some c)
+        × ReadsPhrase h.codes i front placed feed.new
+        (BodyPhrase.Gives (BodyItem.Changes
+        (record { code = c; form = ChangeForm.RealText; text = drop 1 (value_of feed.new) }))))
         (λ fault. Fails h.codes i front (items_of (phrases_of placed)) fault feed.new) }
-    ensures sound { IfOk result (λ place. IsSoundText view.entry.codes.now place form.RealText (drop 1 (value_of feed.new))) }
-    ensures went { Went S.failures feed.old feed.new (fault_of result) }
+    ensures sound { IfOk result
+        (λ place. IsGoodText view.entry.codes.now place form.RealText
+        (drop 1 (value_of feed.new))) }
+    ensures advances { Advances S.failures feed.old feed.new (call_end result) }
     ensures further { OnOk result (seen feed.old < seen feed.new) }
     ensures bounded { seen feed.old < 2 ^ 63 → seen feed.new < 2 ^ 63 }
 {

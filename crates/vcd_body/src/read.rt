@@ -7,23 +7,22 @@ ghost use Rattle.vcd_model.specs.Declarations.{IdCode};
 ghost use Rattle.vcd_model.specs.Items.{BodyItem};
 ghost use Rattle.vcd_text.specs.Feed.{source_of, seen, token_of};
 ghost use Rattle.vcd_head.specs.declared.view.Code.{Code};
-ghost use Rattle.vcd_head.specs.Shown.{parts};
-ghost use Rattle.vcd_head.specs.Views.{Views};
+ghost use Rattle.vcd_head.specs.Views.{IsViewOf};
 ghost use Rattle.vcd_body.specs.declared.words.First.TheVariants as first;
-ghost use Rattle.vcd_body.specs.Items.{behind};
+ghost use Rattle.vcd_body.specs.Items.{regs_after};
 ghost use Rattle.vcd_body.specs.Words.{Begins};
 ghost use Rattle.vcd_body.specs.Reads.{GaveItems, Begun, Fails};
-ghost use Rattle.vcd_body.specs.Gives.{GivesItem, IsSound, text_of};
-ghost use Rattle.vcd_body.specs.Went.{Went, fault_of};
+ghost use Rattle.vcd_body.specs.Given.{GivesItem, IsGoodChange, text_of};
+ghost use Rattle.vcd_text.specs.Advances.{Advances};
+ghost use Rattle.vcd_body.specs.Fault.{call_end};
 
 use crate::fault::BodyFault;
 use crate::item::{Form, Item, Regs};
 use crate::phrases::{read_real, read_vector, scalar_code, skip_comment, time_of};
 use crate::tokens::next_token;
 use crate::words::{Command, First, command_of, first_byte_of, first_of, rest_of};
-use vcd_head::view::HeadView;
-use vcd_text::device::Source;
-use vcd_text::feed::Feed;
+use vcd_head::HeadView;
+use vcd_text::{Feed, Source};
 
 /// Reads a phrase that begins with a command: a comment gives no item.
 #[inline(always)]
@@ -33,13 +32,18 @@ fn read_command<S: Source>(
 ) -> Result<Option<Item>, BodyFault>
     requires failures { S.failures (source_of feed.old) < 2 ^ 64 - 1 }
     requires begins { Begins (token_of feed.old).bytes first.Other }
-    ensures reads { (codes : List IdCode) (i : Input) (front : List Token) (items : List BodyItem) → Begun codes i front items feed.old regs.old
+    ensures reads { (codes : List IdCode) (i : Input) (front : List Token) (items : List BodyItem)
+        → Begun codes i front items feed.old regs.old
         → MatchResult result
-        (λ item. MatchOption item (GaveItems codes i front items feed.new regs.new) (λ x. GivesItem codes i front items feed.new regs.new x))
+        (λ item. MatchOption item (GaveItems codes i front items feed.new regs.new)
+        (λ x. GivesItem codes i front items feed.new regs.new x))
         (λ fault. Fails codes i front items fault feed.new) }
-    ensures sound { (codes : List Code) → IfOk result (λ item. MatchOption item (Unit {0}) (IsSound codes feed.new)) }
-    ensures regs { MatchResult result (λ item. MatchOption item (regs.new ≡ regs.old) (λ x. regs.new ≡ behind regs.old x)) (λ _. regs.new ≡ regs.old) }
-    ensures went { Went S.failures feed.old feed.new (fault_of result) }
+    ensures sound { (codes : List Code)
+        → IfOk result (λ item. MatchOption item (Unit {0}) (IsGoodChange codes feed.new)) }
+    ensures regs { MatchResult result
+        (λ item. MatchOption item (regs.new ≡ regs.old) (λ x. regs.new ≡ regs_after regs.old x))
+        (λ _. regs.new ≡ regs.old) }
+    ensures advances { Advances S.failures feed.old feed.new (call_end result) }
     ensures further { OnOk result (seen feed.old ≤ seen feed.new) }
     ensures bounded { seen feed.old < 2 ^ 63 → seen feed.new < 2 ^ 63 }
 {
@@ -75,14 +79,20 @@ fn read_phrase<S: Source>(
     regs: &mut Regs,
 ) -> Result<Option<Item>, BodyFault>
     requires failures { S.failures (source_of feed.old) < 2 ^ 64 - 1 }
-    ensures reads { (h : Header) (i : Input) (front : List Token) (items : List BodyItem) → Views (parts view.entry) h → GaveItems h.codes i front items feed.old regs.old
+    ensures reads { (h : Header) (i : Input) (front : List Token) (items : List BodyItem)
+        → IsViewOf view.entry h → GaveItems h.codes i front items feed.old regs.old
         → MatchResult result
-        (λ item. MatchOption item (GaveItems h.codes i front items feed.new regs.new) (λ x. GivesItem h.codes i front items feed.new regs.new x))
+        (λ item. MatchOption item (GaveItems h.codes i front items feed.new regs.new)
+        (λ x. GivesItem h.codes i front items feed.new regs.new x))
         (λ fault. Fails h.codes i front items fault feed.new) }
-    ensures sound { IfOk result (λ item. MatchOption item (Unit {0}) (IsSound view.entry.codes.now feed.new)) }
-    ensures regs { MatchResult result (λ item. MatchOption item (regs.new ≡ regs.old) (λ x. regs.new ≡ behind regs.old x)) (λ _. regs.new ≡ regs.old) }
-    ensures went { Went S.failures feed.old feed.new (fault_of result) }
-    ensures progress { IfOk result (λ item. item ≢ Some Item.Finish → seen feed.old < seen feed.new) }
+    ensures sound { IfOk result
+        (λ item. MatchOption item (Unit {0}) (IsGoodChange view.entry.codes.now feed.new)) }
+    ensures regs { MatchResult result
+        (λ item. MatchOption item (regs.new ≡ regs.old) (λ x. regs.new ≡ regs_after regs.old x))
+        (λ _. regs.new ≡ regs.old) }
+    ensures advances { Advances S.failures feed.old feed.new (call_end result) }
+    ensures progress { IfOk result
+        (λ item. item ≢ Some Item.Finish → seen feed.old < seen feed.new) }
     ensures bounded { seen feed.new < 2 ^ 63 }
 {
     if !next_token(feed)? {
@@ -93,11 +103,11 @@ fn read_phrase<S: Source>(
     }
     let token = feed.token();
     let item = match first_of(token) {
-        First::Digit => Item::Change {
+        First::Scalar => Item::Change {
             code: scalar_code(token, view)?,
             form: Form::Scalar,
         },
-        First::Digits => Item::Change {
+        First::Vector => Item::Change {
             code: read_vector(feed, view)?,
             form: Form::Vector,
         },
@@ -107,7 +117,7 @@ fn read_phrase<S: Source>(
             regs.marked = true;
             Item::Time(time)
         }
-        First::Number => Item::Change {
+        First::Real => Item::Change {
             code: read_real(feed, view)?,
             form: Form::RealText,
         },
@@ -116,7 +126,7 @@ fn read_phrase<S: Source>(
     Ok(Some(item))
 }
 
-/// Reads the next item of the body of the header that is shown, or finds the end. The feed stands behind the header at first, and
+/// Reads the next item of the body of the header that is shown, or finds the end. The feed stands after the header at first, and
 /// `regs` is new then. After a fault neither is to be used again.
 #[inline(always)]
 pub fn next_item<S: Source>(
@@ -126,15 +136,18 @@ pub fn next_item<S: Source>(
 ) -> Result<Item, BodyFault>
     requires failures { S.failures (source_of feed.old) < 2 ^ 64 - 1 }
 
-    // Behind the items given so far comes this one; at the end they are all of the body's, and it has no fault. A fault is the
-    // body's, behind just these items.
-    ensures reads { (h : Header) (i : Input) (front : List Token) (items : List BodyItem) → Views (parts view.entry) h → GaveItems h.codes i front items feed.old regs.old
-        → MatchResult result (GivesItem h.codes i front items feed.new regs.new) (λ fault. Fails h.codes i front items fault feed.new) }
+    // After the items given so far comes this one; at the end they are all of the body's, and it has no fault. A fault is the
+    // body's, after exactly these items.
+    ensures reads { (h : Header) (i : Input) (front : List Token) (items : List BodyItem)
+        → IsViewOf view.entry h → GaveItems h.codes i front items feed.old regs.old
+        → MatchResult result (GivesItem h.codes i front items feed.new regs.new)
+        (λ fault. Fails h.codes i front items fault feed.new) }
 
     // A change is of one of the view's codes, and its text is one that this code may have.
-    ensures sound { IfOk result (IsSound view.entry.codes.now feed.new) }
-    ensures regs { MatchResult result (λ item. regs.new ≡ behind regs.old item) (λ _. regs.new ≡ regs.old) }
-    ensures went { Went S.failures feed.old feed.new (fault_of result) }
+    ensures sound { IfOk result (IsGoodChange view.entry.codes.now feed.new) }
+    ensures regs { MatchResult result (λ item. regs.new ≡ regs_after regs.old item)
+        (λ _. regs.new ≡ regs.old) }
+    ensures advances { Advances S.failures feed.old feed.new (call_end result) }
     ensures progress { IfOk result (λ item. item ≢ Item.Finish → seen feed.old < seen feed.new) }
     ensures bounded { seen feed.new < 2 ^ 63 }
 {

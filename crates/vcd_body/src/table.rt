@@ -2,7 +2,7 @@
 ghost use Rattle.std.specs.Prelude.{◌≡◌, ℕ, ◌<◌, ◌≤◌, ◌==◌, ◌||◌, false, length};
 ghost use Rattle.vcd_body.specs.Contents.{IsUnset, codes_in, is_chosen};
 
-use vcd_head::view::HeadView;
+use vcd_head::HeadView;
 
 /// What is kept of a code.
 #[derive(Clone, Copy, PartialEq, Eq, Debug)]
@@ -41,7 +41,8 @@ impl<'a> Table<'a> {
     pub fn choose(&mut self, code: usize)
         requires { code < codes_in self.old }
         ensures codes { codes_in self.new ≡ codes_in self.old }
-        ensures chosen { (other : ℕ) → is_chosen self.new other ≡ ((other == code) || is_chosen self.old other) }
+        ensures chosen { (other : ℕ)
+            → is_chosen self.new other ≡ ((other == code) || is_chosen self.old other) }
     {
         let slot = &mut self.slots[code];
         slot.chosen = true;

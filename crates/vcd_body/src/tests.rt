@@ -1,5 +1,5 @@
 // Bodies that are read to their end, bodies that are refused, a source that fails, changes that are written, and codes that are chosen.
-ghost use Rattle.std.specs.Prelude.{◌≡◌, ◌≤◌, ◌<◌, Some, length};
+ghost use Rattle.std.specs.Prelude.{◌≡◌, ◌<◌, length};
 
 use crate::change::put_change;
 use crate::item::{Form, Item, Regs};
@@ -7,40 +7,9 @@ use crate::read::{change_text, next_item};
 use crate::table::{Slot, Table};
 use std::alloc::{AllocError, Global};
 use std::test::Fail;
-use vcd_head::read::read_head;
-use vcd_head::view::{Code, HeadView};
-use vcd_text::device::{ReadFailed, Sink, Source, WriteFailed};
-use vcd_text::feed::Feed;
-
-// Gives at most 5 bytes a call, and fails once they are used up, if it is to.
-#[derive(Drop)]
-struct Pieces<'a> {
-    bytes: &'a [u8],
-    fails: bool,
-    failures: u64,
-}
-
-impl Source for Pieces<'_> {
-    ghost rest = { λ s. Some s.bytes.now };
-
-    ghost failures = { λ s. s.failures };
-
-    fn read(&mut self, into: &mut [u8]) -> Result<usize, ReadFailed> {
-        if self.fails && self.bytes.is_empty() {
-            self.failures += 1;
-            return Err(ReadFailed);
-        }
-        let n = 5.min(into.len()).min(self.bytes.len());
-        let (front, back) = self.bytes.split_at(n);
-        into[..n].copy_from_slice(front);
-        self.bytes = back;
-        Ok(n)
-    }
-
-    fn failures(&self) -> u64 {
-        self.failures
-    }
-}
+use vcd_head::{Code, HeadView, read_head};
+use vcd_text::doubles::{Narrow, Pieces};
+use vcd_text::{Feed, Sink, Watch, WriteFailed};
 
 // Variables of 1 and of 4 bits, in six lines.
 const HEAD: &[u8] =
@@ -61,23 +30,21 @@ fn shown(alloc: Global, item: Item, text: &[u8]) -> Result<String, AllocError> {
 }
 
 // The text of an item, if it is a change.
-fn text_of<'f>(feed: &'f Feed<'_, '_, '_, '_, Pieces<'_>>, item: Item) -> &'f [u8] {
+fn text_of<'f>(feed: &'f Feed<'_, '_, '_, '_, Watch<Pieces<'_>>>, item: Item) -> &'f [u8] {
     match item {
         Item::Change { form, .. } => change_text(feed, form),
         _ => &[],
     }
 }
 
-// The items of the body behind the header, and then the end, or the fault's number and line. A token has at most 72 bytes.
+// The items of the body after the header, and then the end, or the fault's number and line. A token has at most 72 bytes.
 fn transcript(alloc: Global, header: &[u8], body: &[u8], fails: bool) -> Result<String, Fail> {
     let mut text = Vec::new(alloc);
     text.extend_from_slice(header)?;
     text.extend_from_slice(body)?;
-    let mut source = Pieces {
-        bytes: &text,
-        fails,
-        failures: 0,
-    };
+    let mut pieces = Pieces::new(&text, 5);
+    pieces.broken = fails;
+    let mut source = Watch::new(pieces);
     let mut chunk = [0u8; 7];
     let mut token = [0u8; 72];
     let mut value = [0u8; 72];
@@ -104,7 +71,7 @@ fn transcript(alloc: Global, header: &[u8], body: &[u8], fails: bool) -> Result<
     Ok(items)
 }
 
-// These are the items of the body behind the header of six lines, and then its end or its fault.
+// These are the items of the body after the header of six lines, and then its end or its fault.
 fn gives(alloc: Global, body: &[u8], items: &str) -> Result<bool, Fail> {
     Ok(transcript(alloc, HEAD, body, false)?.as_str() == items)
 }
@@ -206,60 +173,12 @@ fn source_that_fails(rt: HostRuntime) -> Result<(), Fail> {
     Ok(())
 }
 
-// Holds what it took, at most 3 bytes a call, and fails where it has no more room.
-#[derive(Drop)]
-struct Page {
-    bytes: [u8; 80],
-    len: usize,
-    room: usize,
-    failures: u64,
-    ghost in_range: { len ≤ room },
-    ghost fits: { room ≤ 80 },
-}
-
-impl Page {
-    fn new(room: usize) -> Self
-        requires { room ≤ 80 }
-        ensures { result.failures ≡ 0 }
-    {
-        Page {
-            bytes: [0; 80],
-            len: 0,
-            room,
-            failures: 0,
-        }
-    }
-
-    fn held(&self) -> &[u8] {
-        &self.bytes[..self.len]
-    }
-}
-
-impl Sink for Page {
-    ghost failures = { λ s. s.failures };
-
-    fn write(&mut self, from: &[u8]) -> Result<usize, WriteFailed> {
-        let n = from.len().min(3).min(self.room - self.len);
-        if n == 0 && !from.is_empty() {
-            self.failures += 1;
-            return Err(WriteFailed);
-        }
-        self.bytes[self.len..self.len + n].copy_from_slice(&from[..n]);
-        self.len += n;
-        Ok(n)
-    }
-
-    fn failures(&self) -> u64 {
-        self.failures
-    }
-}
-
 // A change of digits is written so, where the code is no event.
 fn writes(size: usize, form: Form, text: &[u8], line: &[u8]) -> bool
     requires { 0 < length text.now }
 {
-    let mut page = Page::new(80);
-    put_change(size, false, form, text, b"!", &mut page).is_ok() && page.held() == line
+    let mut page = Watch::new(Narrow::new(80));
+    put_change(size, false, form, text, b"!", &mut page).is_ok() && page.device.held() == line
 }
 
 #[test]
@@ -292,22 +211,22 @@ fn shortest_digits_are_written(rt: HostRuntime) {
 
 #[test]
 fn numbers_and_events_are_written(rt: HostRuntime) {
-    let mut page = Page::new(80);
+    let mut page = Watch::new(Narrow::new(80));
     assert!(rt; put_change(1, false, Form::RealText, b"-1.5E3", b"\"", &mut page).is_ok());
     assert!(rt; put_change(2, true, Form::Vector, b"b101", b"#", &mut page).is_ok());
     assert!(rt; put_change(1, true, Form::Scalar, b"x", b"#", &mut page).is_ok());
-    assert_eq!(rt; page.held(), b"r-1.5E3 \"\n1#\n1#\n".as_slice());
+    assert_eq!(rt; page.device.held(), b"r-1.5E3 \"\n1#\n1#\n".as_slice());
 }
 
 #[test]
 fn sink_that_fails(rt: HostRuntime) {
-    let mut page = Page::new(5);
+    let mut page = Watch::new(Narrow::new(5));
     assert_eq!(rt;
         put_change(1, false, Form::RealText, b"1.5", b"!!", &mut page),
         Err(WriteFailed)
     );
-    assert_eq!(rt; page.held(), b"r1.5 ".as_slice());
-    assert_eq!(rt; page.failures(), 1);
+    assert_eq!(rt; page.device.held(), b"r1.5 ".as_slice());
+    assert_eq!(rt; Sink::failures(&page), 1);
 }
 
 // A header that shows so many codes, and nothing else.

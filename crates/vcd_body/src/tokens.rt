@@ -7,22 +7,24 @@ ghost use Rattle.vcd_model.specs.BodyPhrases.{BodyPhrase, items_of};
 ghost use Rattle.vcd_model.specs.Reading.{Placed, phrases_of};
 ghost use Rattle.vcd_text.specs.Feed.{source_of, seen, token_of, value_of};
 ghost use Rattle.vcd_body.specs.Reads.{Reads, ReadsAll, Looks, Fails};
-ghost use Rattle.vcd_body.specs.Went.{Went, fault_of};
+ghost use Rattle.vcd_text.specs.Advances.{Advances};
+ghost use Rattle.vcd_body.specs.Fault.{call_end};
 
 use crate::fault::BodyFault;
-use vcd_text::answer::{Halt, Next};
-use vcd_text::device::Source;
-use vcd_text::feed::Feed;
+use vcd_text::{Feed, Halt, Next, Source};
 
 /// Reads the next token, and tells whether there was one.
 #[inline(always)]
 pub(crate) fn next_token<S: Source>(feed: &mut Feed<'_, '_, '_, '_, S>) -> Result<bool, BodyFault>
     requires { S.failures (source_of feed.old) < 2 ^ 64 - 1 }
-    ensures reads { (codes : List IdCode) (i : Input) (front : List Token) (placed : List (Placed BodyPhrase)) (before : List (List ℕ))
+    ensures reads { (codes : List IdCode) (i : Input) (front : List Token)
+        (placed : List (Placed BodyPhrase)) (before : List (List ℕ))
         → Reads codes i front placed before feed.old
-        → MatchResult result (λ more. MatchBool more (Looks codes i front placed before feed.new) (ReadsAll codes i front placed before feed.new))
+        → MatchResult result (λ more.
+        MatchBool more (Looks codes i front placed before feed.new)
+        (ReadsAll codes i front placed before feed.new))
         (λ fault. Fails codes i front (items_of (phrases_of placed)) fault feed.new) }
-    ensures went { Went S.failures feed.old feed.new (fault_of result) }
+    ensures advances { Advances S.failures feed.old feed.new (call_end result) }
     ensures progress { IfOk result (λ more. more ≡ true → seen feed.old < seen feed.new) }
     ensures bounded { seen feed.new < 2 ^ 63 }
     ensures value { value_of feed.new ≡ value_of feed.old }
@@ -40,11 +42,12 @@ pub(crate) fn next_token<S: Source>(feed: &mut Feed<'_, '_, '_, '_, S>) -> Resul
 #[inline(always)]
 pub(crate) fn next_inner<S: Source>(feed: &mut Feed<'_, '_, '_, '_, S>) -> Result<(), BodyFault>
     requires { S.failures (source_of feed.old) < 2 ^ 64 - 1 }
-    ensures reads { (codes : List IdCode) (i : Input) (front : List Token) (placed : List (Placed BodyPhrase)) (first : List ℕ) (before : List (List ℕ))
+    ensures reads { (codes : List IdCode) (i : Input) (front : List Token)
+        (placed : List (Placed BodyPhrase)) (first : List ℕ) (before : List (List ℕ))
         → Reads codes i front placed (first ∷ before) feed.old
         → MatchResult result (λ _. Looks codes i front placed (first ∷ before) feed.new)
         (λ fault. Fails codes i front (items_of (phrases_of placed)) fault feed.new) }
-    ensures went { Went S.failures feed.old feed.new (fault_of result) }
+    ensures advances { Advances S.failures feed.old feed.new (call_end result) }
     ensures progress { OnOk result (seen feed.old < seen feed.new) }
     ensures bounded { seen feed.new < 2 ^ 63 }
     ensures value { value_of feed.new ≡ value_of feed.old }

@@ -4,9 +4,10 @@ ghost use Rattle.std.specs.List.{list_all};
 ghost use Rattle.vcd_model.specs.Bytes.{is_decimal, decimal_value, is_empty};
 ghost use Rattle.vcd_model.specs.BodyPhrases.{is_value_digit as is_digit};
 ghost use Rattle.vcd_model.specs.Keywords.{is_end as ends};
-ghost use Rattle.vcd_body.specs.Words.{StandsFor, is_header_word, Begins};
+ghost use Rattle.vcd_body.specs.Words.{StandsFor, Begins, command_is};
 
 use crate::item::Section;
+use vcd_head::{Keyword, keyword_of};
 
 /// What a phrase begins with, by the token's first byte.
 #[derive(Clone, Copy, PartialEq, Eq, Debug)]
@@ -14,11 +15,11 @@ pub(crate) enum First {
     /// `#`: a time mark.
     Mark,
     /// A digit of a value, with its code at once.
-    Digit,
+    Scalar,
     /// `b` or `B`: the digits of a value.
-    Digits,
+    Vector,
     /// `r` or `R`: the text of a real number.
-    Number,
+    Real,
     /// A command, or what begins no phrase.
     Other,
 }
@@ -49,19 +50,19 @@ fn first_by(byte: u8) -> First
     ensures { (rest : List ℕ) → Begins (byte ∷ rest) result }
 {
     if is_value_digit(byte) {
-        First::Digit
+        First::Scalar
     } else if byte == b'b' || byte == b'B' {
-        First::Digits
+        First::Vector
     } else if byte == b'#' {
         First::Mark
     } else if byte == b'r' || byte == b'R' {
-        First::Number
+        First::Real
     } else {
         First::Other
     }
 }
 
-/// The bytes behind the first one, none where there is none.
+/// The bytes after the first one, none where there is none.
 #[inline(always)]
 pub(crate) fn rest_of(token: &[u8]) -> &[u8]
     ensures { result.now ≡ drop 1 token.now }
@@ -92,41 +93,33 @@ pub(crate) fn is_end(token: &[u8]) -> bool
     is(token, b"$end")
 }
 
-// The token is a keyword that belongs into the header.
-fn is_of_header(token: &[u8]) -> bool
-    ensures { result ≡ is_header_word token.now }
+/// What a keyword is where a phrase begins.
+fn command_for(keyword: Keyword) -> Command
+    ensures { result ≡ command_is keyword }
 {
-    is(token, b"$date")
-        || is(token, b"$enddefinitions")
-        || is(token, b"$scope")
-        || is(token, b"$timescale")
-        || is(token, b"$upscope")
-        || is(token, b"$var")
-        || is(token, b"$version")
+    match keyword {
+        Keyword::Comment => Command::Comment,
+        Keyword::DumpVars => Command::Begin(Section::Vars),
+        Keyword::DumpOff => Command::Begin(Section::Off),
+        Keyword::DumpOn => Command::Begin(Section::On),
+        Keyword::DumpAll => Command::Begin(Section::All),
+        Keyword::End => Command::End,
+        Keyword::Date
+        | Keyword::EndDefinitions
+        | Keyword::Scope
+        | Keyword::Timescale
+        | Keyword::Upscope
+        | Keyword::Var
+        | Keyword::Version => Command::OfHeader,
+    }
 }
 
-/// The keyword that the token is.
+/// What the keyword is that the token is.
 #[inline(never)]
 pub(crate) fn command_of(token: &[u8]) -> Option<Command>
     ensures { StandsFor token.now result }
 {
-    if is_end(token) {
-        Some(Command::End)
-    } else if is(token, b"$comment") {
-        Some(Command::Comment)
-    } else if is(token, b"$dumpvars") {
-        Some(Command::Begin(Section::Vars))
-    } else if is(token, b"$dumpoff") {
-        Some(Command::Begin(Section::Off))
-    } else if is(token, b"$dumpon") {
-        Some(Command::Begin(Section::On))
-    } else if is(token, b"$dumpall") {
-        Some(Command::Begin(Section::All))
-    } else if is_of_header(token) {
-        Some(Command::OfHeader)
-    } else {
-        None
-    }
+    Some(command_for(keyword_of(token)?))
 }
 
 /// The byte is a digit of a value.

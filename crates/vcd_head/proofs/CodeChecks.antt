@@ -13,9 +13,9 @@ use Rattle.vcd_model.specs.Declarations.{Declaration, Variable, codes_of, has_te
 use Rattle.vcd_model.specs.HeaderChecks.{agrees, var_checks}
 use Rattle.vcd_head.specs.declared.draft.Coded.{Coded}
 use Rattle.vcd_head.specs.declared.draft.Found.TheVariants as found
-use Rattle.vcd_head.specs.Holds.{HasCodes, IsFound}
-use Rattle.vcd_head.proofs.Growing.{place_found, place_none}
-use Rattle.vcd_head.proofs.Coding.{agrees_new, agrees_found, size_differs, event_differs}
+use Rattle.vcd_head.specs.Draft.{HasCodes, IsFound}
+use Rattle.vcd_head.proofs.DraftGrows.{place_found, place_none}
+use Rattle.vcd_head.proofs.DraftCodes.{agrees_new, agrees_found, size_differs, event_differs}
 
 pub copied_none : {X : Type 0} (r : Option (Bor X)) (o : Option X) → option_copied r ≡ o → ((x : Bor X) → r ≡ Some x → ⊥) → o ≡ None
 copied_none None o e h = sym e

@@ -1,13 +1,17 @@
 -- Names and the front of a path.
-use Rattle.std.proofs.Common.{◌≡◌, ◌≢◌, ℕ, true, false, ◌&&◌, List, [], ◌∷◌, ◌++◌, ◌==◌, length, take, nat_eq, inl, inr, refl, sym, ap, ◌∙◌}
+use Rattle.std.proofs.Common.{◌≡◌, ◌≢◌, ℕ, true, false, ◌&&◌, List, [], ◌∷◌, ◌++◌, ◌==◌, length, take, reverse, nat_eq, Some, inl, inr, refl, sym, ap, ◌∙◌}
 use Rattle.std.proofs.lemmas.Bool.{eq-eqb, ne_eqb, eqb-true, cases_eq, and_parts, and_from, false_from_ne_true}
 use Rattle.std.proofs.lemmas.List.{append_assoc, append-nil}
 use Rattle.std.specs.List.{starts_with}
-use Rattle.vcd_model.specs.Declarations.{name_of}
+use Rattle.vcd_model.specs.Declarations.{Declaration, enclosing, name_of, path_of}
 use Rattle.vcd_model.specs.Header.{Header}
 use Rattle.vcd_model.specs.Selection.{selects_path}
-use Rattle.vcd_head.specs.Paths.{scopes_text}
-use Rattle.vcd_head.proofs.PathText.{Encloses}
+use Rattle.vcd_head.specs.declared.enclosing.Enclosing.{Enclosing}
+use Rattle.vcd_head.specs.Paths.{names_text, scopes_text}
+use Rattle.vcd_head.specs.declared.selection.Match.{Match}
+use Rattle.vcd_head.specs.Selects.{selects_after}
+use Rattle.vcd_head.specs.ScopesLeft.{GivesNext, LeavesScopes}
+use Rattle.vcd_head.proofs.PathLemmas.{IsScopeAt, path_is, scope_at}
 use mathlib.Core.Logic.{◌⊎◌}
 
 -- byte by byte
@@ -80,9 +84,48 @@ pub component_differs : (component name text : List ℕ) → selects_path compon
 component_differs component name text not n =
     false_from_ne_true (selects_path (component ++ 46 ∷ text) name) (λ h. elim (selects_split component name text h) [ inl is ↦ cc | inr more ↦ n more.0 more.1 ])
 
--- the text of the scopes around a row goes on with that of the rows around its scope
-pub scopes_go_on : (h : Header) (i p : ℕ) (a : Encloses h i p) (text : List ℕ) → scopes_text (take p h.declarations) ++ (name_of a.scope ++ 46 ∷ text) ≡ scopes_text (take i h.declarations) ++ text
-scopes_go_on h i p a text =
-    let outer = scopes_text (take p h.declarations) in
-    let name = name_of a.scope in
-    sym (ap (λ l. l ++ text) a.text ∙ append_assoc (outer ++ name) (46 ∷ []) text ∙ append_assoc outer name (46 ∷ text))
+-- ---- one scope after the other
+
+-- the outer scopes are matched: what is left of the name decides by the scopes that are left and the declaration's own name
+pub record HasMatched (h : Header) (row : ℕ) (d : Declaration) (e : Enclosing) (name left : List ℕ) : Type 0 where
+  pub rest : List ℕ
+  pub leaves : LeavesScopes h row rest e
+  pub decides : selects_path (path_of (take row h.declarations) d) name ≡ selects_path (names_text (take row h.declarations) rest ++ name_of d) left
+
+pub match_first : (h : Header) (row : ℕ) (d : Declaration) (e : Enclosing) (name left : List ℕ) → left ≡ name → LeavesScopes h row (reverse (enclosing (take row h.declarations))) e → HasMatched h row d e name left
+unfolding scopes_text
+match_first h row d e name left same l = record {
+  rest = reverse (enclosing (take row h.declarations));
+  leaves = l;
+  decides = rw (same, path_is (take row h.declarations) d) refl;
+}
+
+-- the next scope, with the text of what is left after it
+pub record MatchNext (h : Header) (row scope : ℕ) (d : Declaration) (e : Enclosing) (name left : List ℕ) : Type 0 where
+  pub is : IsScopeAt h row scope
+  pub others : List ℕ
+  pub leaves : LeavesScopes h row others e
+  pub decides : selects_path (path_of (take row h.declarations) d) name ≡ selects_path (name_of is.declared ++ 46 ∷ (names_text (take row h.declarations) others ++ name_of d)) left
+
+pub match_next : (h : Header) (row scope : ℕ) (d : Declaration) (e e2 : Enclosing) (name left : List ℕ) (m : HasMatched h row d e name left) → GivesNext h row m.rest e2 (Some scope) → MatchNext h row scope d e2 name left
+match_next h row scope d e e2 name left m g =
+    let is = scope_at h row scope g.2 m.leaves.within in
+    let ds = take row h.declarations in
+    record {
+      is = is;
+      others = g.0;
+      leaves = g.3;
+      decides = m.decides
+          ∙ ap (λ l. selects_path (l ++ name_of d) left) (ap (names_text ds) g.1 ∙ is.text g.0)
+          ∙ ap (λ l. selects_path l left) (append_assoc (name_of is.declared) (46 ∷ names_text ds g.0) (name_of d));
+    }
+
+-- what its name says of the path
+pub match_component : (h : Header) (row scope : ℕ) (d : Declaration) (e : Enclosing) (name left bytes : List ℕ) (m : Match) (n : MatchNext h row scope d e name left) → bytes ≡ name_of n.is.declared
+    → ((text : List ℕ) → selects_after m text ≡ selects_path (bytes ++ 46 ∷ text) left) → selects_path (path_of (take row h.declarations) d) name ≡ selects_after m (names_text (take row h.declarations) n.others ++ name_of d)
+match_component h row scope d e name left bytes m n same says =
+    let after = names_text (take row h.declarations) n.others ++ name_of d in
+    n.decides ∙ ap (λ l. selects_path (l ++ 46 ∷ after) left) (sym same) ∙ sym (says after)
+
+pub match_all : (h : Header) (row : ℕ) (d : Declaration) (e : Enclosing) (name left : List ℕ) (m : HasMatched h row d e name left) → m.rest ≡ [] → selects_path (path_of (take row h.declarations) d) name ≡ selects_path (name_of d) left
+match_all h row d e name left m none = m.decides ∙ ap (λ l. selects_path (names_text (take row h.declarations) l ++ name_of d) left) none

@@ -10,9 +10,9 @@ use Rattle.vcd_model.specs.Reading.{Placed, phrases_of}
 use Rattle.vcd_text.specs.Feed.{token_of}
 use Rattle.vcd_text.specs.declared.device.Source.{Ghosts}
 use Rattle.vcd_text.specs.declared.feed.Feed.{Feed}
-use Rattle.vcd_head.specs.Reads.{Reads, Looks, IsGoodSoFar}
+use Rattle.vcd_head.specs.Reads.{Reads, ReadsToken, IsGoodSoFar}
 use Rattle.vcd_head.specs.Texts.{NoEnds, RunsOn, spaced, ReadsOn, EndsThere}
-use Rattle.vcd_head.proofs.Steps.{taken, faultless}
+use Rattle.vcd_head.proofs.TokenSteps.{taken, faultless}
 
 pub no_ends_more : (ts : List (List ℕ)) (t : List ℕ) → NoEnds ts → is_end t ≡ false → NoEnds (ts ++ t ∷ [])
 no_ends_more [] t h e = (e, tt)
@@ -27,30 +27,30 @@ joined t [] = sym (append-nil t)
 joined t (u ∷ ts) = ap (λ l. t ++ 32 ∷ l) (joined u ts)
 
 module _ {X : Type 0} {g : Ghosts X} (most : ℕ) (i : Input) (placed : List (Placed HeaderPhrase)) (before : List (List ℕ)) (f : Feed X g) where
-  pub one_more : (inner : List (List ℕ)) → RunsOn most placed before → NoEnds inner → is_end (token_of f).bytes ≡ false → Looks most i placed (before ++ inner) f → Reads most i placed (before ++ (inner ++ (token_of f).bytes ∷ [])) f
+  pub one_more : (inner : List (List ℕ)) → RunsOn most placed before → NoEnds inner → is_end (token_of f).bytes ≡ false → ReadsToken most i placed (before ++ inner) f → Reads most i placed (before ++ (inner ++ (token_of f).bytes ∷ [])) f
   one_more inner runs none e l =
       let step = runs inner (token_of f).bytes none in
       subst (λ (b : List (List ℕ)). Reads most i placed b f) (append_assoc before inner ((token_of f).bytes ∷ [])) (taken most i placed (before ++ inner) f step.0 (step.1 e) l)
 
   -- the first token
-  pub one_first : RunsOn most placed before → is_end (token_of f).bytes ≡ false → Looks most i placed before f → Reads most i placed (before ++ (token_of f).bytes ∷ []) f
-  one_first runs e l = one_more [] runs tt e (subst (λ (b : List (List ℕ)). Looks most i placed b f) (sym (append-nil before)) l)
+  pub one_first : RunsOn most placed before → is_end (token_of f).bytes ≡ false → ReadsToken most i placed before f → Reads most i placed (before ++ (token_of f).bytes ∷ []) f
+  one_first runs e l = one_more [] runs tt e (subst (λ (b : List (List ℕ)). ReadsToken most i placed b f) (sym (append-nil before)) l)
 
   -- the first token is `$end`
-  pub ends_at_once : {Grows : List (List ℕ) → Type 0} → is_end (token_of f).bytes ≡ true → Looks most i placed before f → Grows [] → EndsThere most i placed before f Grows
-  ends_at_once e l grows = record { inner = []; none = tt; looks = subst (λ (b : List (List ℕ)). Looks most i placed b f) (sym (append-nil before)) l; ends = e; grows = grows }
+  pub ends_at_once : {Grows : List (List ℕ) → Type 0} → is_end (token_of f).bytes ≡ true → ReadsToken most i placed before f → Grows [] → EndsThere most i placed before f Grows
+  ends_at_once e l grows = record { inner = []; none = tt; token_read = subst (λ (b : List (List ℕ)). ReadsToken most i placed b f) (sym (append-nil before)) l; ends = e; grows = grows }
 
   -- nothing was read on yet
   pub none_yet : {Grows : List (List ℕ) → Type 0} → Grows [] → Reads most i placed before f → ReadsOn most i placed before f Grows
   none_yet grows r = record { inner = []; none = tt; reads = subst (λ (b : List (List ℕ)). Reads most i placed b f) (sym (append-nil before)) r; grows = grows }
 
   -- a token more was read on
-  pub reads_more : {Grows' : List (List ℕ) → Type 0} (inner : List (List ℕ)) → RunsOn most placed before → NoEnds inner → is_end (token_of f).bytes ≡ false → Looks most i placed (before ++ inner) f → Grows' (inner ++ (token_of f).bytes ∷ [])
+  pub reads_more : {Grows' : List (List ℕ) → Type 0} (inner : List (List ℕ)) → RunsOn most placed before → NoEnds inner → is_end (token_of f).bytes ≡ false → ReadsToken most i placed (before ++ inner) f → Grows' (inner ++ (token_of f).bytes ∷ [])
       → ReadsOn most i placed before f Grows'
   reads_more inner runs none e l grows = record { inner = inner ++ (token_of f).bytes ∷ []; none = no_ends_more inner (token_of f).bytes none e; reads = one_more inner runs none e l; grows = grows }
 
   -- so it has no fault
-  pub faultless_more : (inner : List (List ℕ)) → RunsOn most placed before → NoEnds inner → is_end (token_of f).bytes ≡ false → Looks most i placed (before ++ inner) f → IsGoodSoFar most i f
+  pub faultless_more : (inner : List (List ℕ)) → RunsOn most placed before → NoEnds inner → is_end (token_of f).bytes ≡ false → ReadsToken most i placed (before ++ inner) f → IsGoodSoFar most i f
   faultless_more inner runs none e l = let step = runs inner (token_of f).bytes none in faultless most i placed (before ++ inner) (token_of f).bytes f (taken most i placed (before ++ inner) f step.0 (step.1 e) l)
 
 -- a first token, and then others with a space before each
@@ -59,7 +59,7 @@ pub ends_behind : {X : Type 0} {g : Ghosts X} (most : ℕ) (i : Input) (placed :
 ends_behind most i placed before t f text e h = record {
   inner = t ∷ h.inner;
   none = (e, h.none);
-  looks = subst (λ (b : List (List ℕ)). Looks most i placed b f) (append_assoc before (t ∷ []) h.inner) h.looks;
+  token_read = subst (λ (b : List (List ℕ)). ReadsToken most i placed b f) (append_assoc before (t ∷ []) h.inner) h.token_read;
   ends = h.ends;
   grows = h.grows ∙ sym (joined t h.inner);
 }

@@ -1,20 +1,26 @@
 -- What the tests of words say.
-use Rattle.std.proofs.Common.{◌≡◌, ℕ, ◌+◌, ◌-◌, ◌*◌, ◌<◌, ◌≤◌, Bool, true, false, cond, not, ◌&&◌, ◌||◌, nat_lt, List, [], ◌∷◌, ◌++◌, length, take, get_or, bytes_eq, Option, Some, None, is_none, refl, sym, ap, ◌∙◌, arith, add-one, pow-suc}
+use Rattle.std.proofs.Common.{◌≡◌, ℕ, ◌+◌, ◌-◌, ◌*◌, ◌<◌, ◌≤◌, Bool, true, false, cond, not, ◌&&◌, nat_lt, List, [], ◌∷◌, ◌++◌, length, take, get_or, find, bytes_eq, Some, None, is_none, refl, sym, ap, ◌∙◌, arith, add-one, pow-suc}
 use Rattle.std.specs.List.{list_all}
 use Rattle.std.specs.Char.{is_ascii_digit}
 use Rattle.std.proofs.lemmas.List.{length_push, take_more}
 use Rattle.std.proofs.lemmas.List.Folds.{list_all_at}
 use Rattle.std.proofs.lemmas.Option.{cond_some}
-use Rattle.std.proofs.lemmas.Bool.{ltb-true, and_parts, and_right, or_parts, lt-ltb, le-ltb}
+use Rattle.std.proofs.lemmas.Slice.Eq.{bytes_eq-Decides}
+use Rattle.std.proofs.lemmas.Bool.{ltb-true, and_parts, and_right, lt-ltb, le-ltb}
 use Rattle.vcd_model.specs.Bytes.{decimal_value, is_decimal, is_empty}
-use Rattle.vcd_model.specs.Checks.{first_failed}
-use Rattle.vcd_model.specs.Keywords.{keyword_of, keyword_text, is_unknown_command, is_command, is_end}
-use Rattle.vcd_model.specs.Keywords as model
-use Rattle.vcd_model.specs.HeaderChecks.{is_size, start_of, begins_change, header_fault}
-use Rattle.vcd_head.specs.Words.{IsOther, is_body_word, size_in}
-use Rattle.vcd_model.specs.HeaderPhrases.{HeaderPhrase, declarations_of}
-use Rattle.vcd_model.specs.Declarations.{Declaration}
-use Rattle.vcd_head.specs.declared.words.Keyword.TheVariants as kw
+use Rattle.vcd_model.specs.Keywords.{Keyword, keywords, keyword_of, keyword_text, is_unknown_command, is_command}
+use Rattle.vcd_model.specs.HeaderChecks.{is_size, begins_change, header_fault}
+use Rattle.vcd_head.specs.Words.{size_in}
+use Rattle.vcd_model.specs.HeaderPhrases.{HeaderPhrase}
+
+-- what a search finds passes its test
+found : {X : Type 0} (p : X → Bool) (xs : List X) (x : X) → find p xs ≡ Some x → p x ≡ true
+found p [] x e = cc
+found p (y ∷ xs) x e = by_test (p y) refl e (found p xs x)
+  where
+    by_test : (b : Bool) → p y ≡ b → cond b (Some y) (find p xs) ≡ Some x → (find p xs ≡ Some x → p x ≡ true) → p x ≡ true
+    by_test true t f more = let same : y ≡ x = cc in ap p (sym same) ∙ t
+    by_test false t f more = more f
 
 -- ---- sizes
 
@@ -52,61 +58,50 @@ filled (x ∷ token) h = refl
 pub size_of_digits : (token : List ℕ) → list_all is_ascii_digit token ≡ true → 0 < decimal_value token → decimal_value token < 16777216 → size_in token ≡ Some (decimal_value token)
 size_of_digits token a h k = rw (filled token h, a, lt-ltb 0 (decimal_value token) h, lt-ltb (decimal_value token) 16777216 k) refl
 
--- ---- a first token that is no keyword of a header
+-- ---- a first token that is no keyword
 
--- the token is no keyword
-pub no_keyword : (token : List ℕ) → IsOther token → is_body_word token ≡ false → keyword_of token ≡ None
+pub keyword_at : (k : Keyword) → keyword_of (keyword_text k) ≡ Some k
 unfolding keyword_of
-no_keyword token other e =
-    let a = or_parts (bytes_eq (keyword_text model.Keyword.DumpAll) token || bytes_eq (keyword_text model.Keyword.DumpOff) token || bytes_eq (keyword_text model.Keyword.DumpOn) token || bytes_eq (keyword_text model.Keyword.DumpVars) token) (is_end token) e in
-    let b = or_parts (bytes_eq (keyword_text model.Keyword.DumpAll) token || bytes_eq (keyword_text model.Keyword.DumpOff) token || bytes_eq (keyword_text model.Keyword.DumpOn) token) (bytes_eq (keyword_text model.Keyword.DumpVars) token) a.0 in
-    let d = or_parts (bytes_eq (keyword_text model.Keyword.DumpAll) token || bytes_eq (keyword_text model.Keyword.DumpOff) token) (bytes_eq (keyword_text model.Keyword.DumpOn) token) b.0 in
-    let f = or_parts (bytes_eq (keyword_text model.Keyword.DumpAll) token) (bytes_eq (keyword_text model.Keyword.DumpOff) token) d.0 in
-    rw (other kw.Comment, other kw.Date, other kw.EndDefinitions, other kw.Scope, other kw.Timescale, other kw.Upscope, other kw.Var, other kw.Version, f.0, f.1, d.1, b.1, a.1) refl
+keyword_at Keyword.Comment = refl
+keyword_at Keyword.Date = refl
+keyword_at Keyword.EndDefinitions = refl
+keyword_at Keyword.Scope = refl
+keyword_at Keyword.Timescale = refl
+keyword_at Keyword.Upscope = refl
+keyword_at Keyword.Var = refl
+keyword_at Keyword.Version = refl
+keyword_at Keyword.DumpAll = refl
+keyword_at Keyword.DumpOff = refl
+keyword_at Keyword.DumpOn = refl
+keyword_at Keyword.DumpVars = refl
+keyword_at Keyword.End = refl
 
--- the first of five tests that passes gives its keyword
-body_keyword : Bool → Bool → Bool → Bool → Bool → Option model.Keyword
-body_keyword a b d e f = cond a (Some model.Keyword.DumpAll) (cond b (Some model.Keyword.DumpOff) (cond d (Some model.Keyword.DumpOn) (cond e (Some model.Keyword.DumpVars) (cond f (Some model.Keyword.End) None))))
+-- a token of a keyword is its text
+pub is_keyword : (token : List ℕ) (k : Keyword) → keyword_of token ≡ Some k → token ≡ keyword_text k
+unfolding keyword_of
+is_keyword token k e = sym ((bytes_eq-Decides (keyword_text k) token).0 (found (λ k. bytes_eq (keyword_text k) token) keywords k e))
 
-keyword_is : (token : List ℕ) → IsOther token
-    → keyword_of token ≡ body_keyword (bytes_eq (keyword_text model.Keyword.DumpAll) token) (bytes_eq (keyword_text model.Keyword.DumpOff) token) (bytes_eq (keyword_text model.Keyword.DumpOn) token) (bytes_eq (keyword_text model.Keyword.DumpVars) token) (is_end token)
-unfolding keyword_of body_keyword
-keyword_is token other = rw (other kw.Comment, other kw.Date, other kw.EndDefinitions, other kw.Scope, other kw.Timescale, other kw.Upscope, other kw.Var, other kw.Version) refl
+pub keyword_found : (k : Keyword) (token : List ℕ) → bytes_eq (keyword_text k) token ≡ true → Some k ≡ keyword_of token
+keyword_found k token e = sym (ap keyword_of (sym ((bytes_eq-Decides (keyword_text k) token).0 e)) ∙ keyword_at k)
 
-fault_at : (most : ℕ) (ds : List Declaration) (token : List ℕ) (a b d e f : Bool) → (a || b || d || e || f) ≡ true → first_failed (start_of most ds token (body_keyword a b d e f)) ≡ Some 4
-unfolding body_keyword
-fault_at most ds token true b d e f h = refl
-fault_at most ds token false true d e f h = refl
-fault_at most ds token false false true e f h = refl
-fault_at most ds token false false false true f h = refl
-fault_at most ds token false false false false true h = refl
-fault_at most ds token false false false false false h = cc
-
-unknown_is : (token : List ℕ) → IsOther token → is_body_word token ≡ false → is_unknown_command token ≡ is_command token
+unknown_is : (token : List ℕ) → keyword_of token ≡ None → is_unknown_command token ≡ is_command token
 unfolding is_unknown_command
-unknown_is token other e = ap (λ k. is_none k && is_command token) (no_keyword token other e)
+unknown_is token e = ap (λ k. is_none k && is_command token) e
 
--- a token that stands first, and is none of the keywords that begin a phrase
-pub fault_out_of_place : (most : ℕ) (ps : List HeaderPhrase) (token : List ℕ) → IsOther token → (is_body_word token || begins_change token) ≡ true → header_fault most ps [] token ≡ Some 4
+pub fault_of_change : (most : ℕ) (ps : List HeaderPhrase) (token : List ℕ) → keyword_of token ≡ None → begins_change token ≡ true → header_fault most ps [] token ≡ Some 4
 unfolding header_fault
-fault_out_of_place most ps token other h = by_word (is_body_word token) refl
-  where
-    by_word : (b : Bool) → is_body_word token ≡ b → first_failed (start_of most (declarations_of ps) token (keyword_of token)) ≡ Some 4
-    by_word true e =
-        ap (λ k. first_failed (start_of most (declarations_of ps) token k)) (keyword_is token other)
-        ∙ fault_at most (declarations_of ps) token (bytes_eq (keyword_text model.Keyword.DumpAll) token) (bytes_eq (keyword_text model.Keyword.DumpOff) token) (bytes_eq (keyword_text model.Keyword.DumpOn) token) (bytes_eq (keyword_text model.Keyword.DumpVars) token) (is_end token) e
-    by_word false e = let c : begins_change token ≡ true = sym (ap (λ b. b || begins_change token) e) ∙ h in rw (no_keyword token other e, c) refl
+fault_of_change most ps token none h = rw (none, h) refl
 
-pub fault_of_other : (most : ℕ) (ps : List HeaderPhrase) (token : List ℕ) → IsOther token → (is_body_word token || begins_change token) ≡ false → is_command token ≡ false → header_fault most ps [] token ≡ Some 3
+pub fault_of_other : (most : ℕ) (ps : List HeaderPhrase) (token : List ℕ) → keyword_of token ≡ None → begins_change token ≡ false → is_command token ≡ false → header_fault most ps [] token ≡ Some 3
 unfolding header_fault
-fault_of_other most ps token other h k = let p = or_parts (is_body_word token) (begins_change token) h in rw (no_keyword token other p.0, p.1, unknown_is token other p.0, k) refl
+fault_of_other most ps token none h k = rw (none, h, unknown_is token none, k) refl
 
-pub fault_of_command : (most : ℕ) (ps : List HeaderPhrase) (token : List ℕ) → IsOther token → (is_body_word token || begins_change token) ≡ false → is_command token ≡ true → header_fault most ps [] token ≡ None
+pub fault_of_command : (most : ℕ) (ps : List HeaderPhrase) (token : List ℕ) → keyword_of token ≡ None → begins_change token ≡ false → is_command token ≡ true → header_fault most ps [] token ≡ None
 unfolding header_fault
-fault_of_command most ps token other h k = let p = or_parts (is_body_word token) (begins_change token) h in rw (no_keyword token other p.0, p.1, unknown_is token other p.0, k) refl
+fault_of_command most ps token none h k = rw (none, h, unknown_is token none, k) refl
 
-pub unknown_command : (token : List ℕ) → IsOther token → (is_body_word token || begins_change token) ≡ false → is_command token ≡ true → is_unknown_command token ≡ true
-unknown_command token other h k = unknown_is token other (or_parts (is_body_word token) (begins_change token) h).0 ∙ k
+pub unknown_command : (token : List ℕ) → keyword_of token ≡ None → is_command token ≡ true → is_unknown_command token ≡ true
+unknown_command token none k = unknown_is token none ∙ k
 
 -- what a size found says
 pub size_found : (token : List ℕ) (n : ℕ) → size_in token ≡ Some n → (is_size token ≡ true) × (decimal_value token ≡ n)

@@ -1,5 +1,6 @@
 -- The numbers of the faults of a header.
-use Rattle.std.specs.Prelude.{ℕ}
+use Rattle.std.specs.Prelude.{ℕ, Result, Ok, Err}
+use Rattle.vcd_text.specs.Advances.{CallEnd}
 use Rattle.vcd_head.specs.declared.fault.HeadFault.{HeadFault}
 use Rattle.vcd_head.specs.declared.fault.HeadFault.TheVariants.{TokenTooLong, EndOfInput, UnknownCommand, OutOfPlace, BadTimescale, BadScope, BadVariable, CodeDiffers, NoScope, TooDeep, TooMany, InputTooLong, ReadFailed, OutOfMemory}
 
@@ -19,3 +20,9 @@ fault_number TooMany = 11
 fault_number InputTooLong = 21
 fault_number ReadFailed = 31
 fault_number OutOfMemory = 32
+
+-- how a call ends that reads the tokens of a header
+abbrev pub call_end : {A : Type 0} → Result A HeadFault → CallEnd
+call_end (Ok x) = CallEnd.GoesOn
+call_end (Err ReadFailed) = CallEnd.Fails
+call_end (Err fault) = CallEnd.Ends

@@ -1,5 +1,5 @@
--- Marks: which declarations a written head has.
-use Rattle.std.specs.Prelude.{ℕ, ◌==◌, Bool, cond, List, length, map, unwrap_or, slice_get}
+-- Marks: which declarations a written header has.
+use Rattle.std.specs.Prelude.{ℕ, ◌==◌, Bool, cond, List, length, map, unwrap_or, slice_get, ◌≡◌, ◌<◌, slice_index}
 use Rattle.std.specs.List.{range_with_len}
 use Rattle.vcd_model.specs.Declarations.{Declaration}
 use Rattle.vcd_model.specs.Selection.{marked_places, is_among}
@@ -11,3 +11,8 @@ marks_of names ds = let places = marked_places names ds in map (λ i. cond (is_a
 -- the declaration at a place is marked
 abbrev pub is_marked : List ℕ → ℕ → Bool
 is_marked marks place = unwrap_or (slice_get marks place) 0 == 1
+
+-- 1 at these places, the other marks as they were
+pub record Marked (places old new : List ℕ) : Type 0 where
+  pub kept : length new ≡ length old
+  pub marks : (i : ℕ) → i < length old → slice_index new i ≡ cond (is_among places i) 1 (slice_index old i)

@@ -8,7 +8,7 @@ use Rattle.vcd_model.specs.Reading.{Placed, Ending, phrases_of, reading_of}
 use Rattle.vcd_model.specs.Reading.Ending.{AtFault, AtEnd, AtLast}
 use Rattle.vcd_model.specs.SoFar.{IsSoFar, IsWhole}
 use Rattle.vcd_text.specs.Answer.{failed_after}
-use Rattle.vcd_text.specs.Feed.{Stands, token_of, limit_of, seen}
+use Rattle.vcd_text.specs.Feed.{HasGiven, token_of, limit_of, seen}
 use Rattle.vcd_text.specs.declared.device.Source.{Ghosts}
 use Rattle.vcd_text.specs.declared.feed.Feed.{Feed}
 use Rattle.vcd_head.specs.declared.fault.HeadFault.{HeadFault}
@@ -21,20 +21,20 @@ use Rattle.vcd_model.specs.Header.{header_of}
 -- the tokens given are these good phrases, and then these first tokens of the next one; the feed shows the last
 pub record Reads {X : Type 0} {g : Ghosts X} (most : ℕ) (i : Input) (placed : List (Placed HeaderPhrase)) (before : List (List ℕ)) (f : Feed X g) : Type 0 where
   pub given : List Token
-  pub stands : Stands i given f
+  pub stands : HasGiven i given f
   pub so_far : IsSoFar (header_grammar most) given placed before
   pub last : given ≢ [] → (front : List Token) × (given ≡ front ++ token_of f ∷ [])
 
 -- the tokens given but the last are these good phrases, and then these first tokens of the next one; the last one was not looked at
-pub record Looks {X : Type 0} {g : Ghosts X} (most : ℕ) (i : Input) (placed : List (Placed HeaderPhrase)) (before : List (List ℕ)) (f : Feed X g) : Type 0 where
+pub record ReadsToken {X : Type 0} {g : Ghosts X} (most : ℕ) (i : Input) (placed : List (Placed HeaderPhrase)) (before : List (List ℕ)) (f : Feed X g) : Type 0 where
   pub given : List Token
-  pub stands : Stands i (given ++ token_of f ∷ []) f
+  pub stands : HasGiven i (given ++ token_of f ∷ []) f
   pub so_far : IsSoFar (header_grammar most) given placed before
 
 -- the tokens given are these good phrases, of which the last one ends the header; the feed shows the last token
 pub record ReadsWhole {X : Type 0} {g : Ghosts X} (most : ℕ) (i : Input) (placed : List (Placed HeaderPhrase)) (f : Feed X g) : Type 0 where
   pub given : List Token
-  pub stands : Stands i (given ++ token_of f ∷ []) f
+  pub stands : HasGiven i (given ++ token_of f ∷ []) f
   pub whole : IsWhole (header_grammar most) (given ++ token_of f ∷ []) placed
 
 -- a reading that ends so has met no fault
@@ -53,7 +53,7 @@ HasFault most limit i number line = header_fault_of (stream_of limit i) (read_he
 
 -- the header has this fault at the last token given, which the feed shows; no token before it has one
 abbrev pub FailsAtToken : {X : Type 0} {g : Ghosts X} → ℕ → Input → ℕ → Feed X g → Type 0
-FailsAtToken most i number f = HasFault most (limit_of f) i number (token_of f).line × (given : List Token) × Stands i (given ++ token_of f ∷ []) f × IsFaultless most given
+FailsAtToken most i number f = HasFault most (limit_of f) i number (token_of f).line × (given : List Token) × HasGiven i (given ++ token_of f ∷ []) f × IsFaultless most given
 
 -- the header has this fault where no token is left, and the feed shows none
 abbrev pub FailsAtEnd : {X : Type 0} {g : Ghosts X} → ℕ → Input → ℕ → Feed X g → Type 0
@@ -61,7 +61,7 @@ FailsAtEnd most i number f = HasFault most (limit_of f) i number (token_of f).li
 
 -- no token given so far has a fault, and the feed shows the last
 abbrev pub IsGoodSoFar : {X : Type 0} {g : Ghosts X} → ℕ → Input → Feed X g → Type 0
-IsGoodSoFar most i f = (given : List Token) × Stands i (given ++ token_of f ∷ []) f × IsFaultless most (given ++ token_of f ∷ [])
+IsGoodSoFar most i f = (given : List Token) × HasGiven i (given ++ token_of f ∷ []) f × IsFaultless most (given ++ token_of f ∷ [])
 
 -- Why a header is refused: its fault, where a source that failed ends the input there. Where memory is refused, no token given so far has a fault.
 abbrev pub Fails : {X : Type 0} {g : Ghosts X} → ℕ → Input → HeadFault → Feed X g → Type 0
@@ -76,6 +76,6 @@ Fails most i fault f = FailsAtToken most i (fault_number fault) f
 pub record GivesHead {X : Type 0} {g : Ghosts X} (most : ℕ) (i : Input) (f : Feed X g) (s : HeadShown) : Type 0 where
   pub given : List Token
   pub placed : List (Placed HeaderPhrase)
-  pub stands : Stands i given f
+  pub stands : HasGiven i given f
   pub whole : IsWhole (header_grammar most) given placed
   pub views : Views s (header_of (phrases_of placed))

@@ -9,13 +9,13 @@ use Rattle.vcd_model.specs.Reading.{Placed, phrases_of}
 use Rattle.vcd_text.specs.Feed.{token_of}
 use Rattle.vcd_text.specs.declared.device.Source.{Ghosts}
 use Rattle.vcd_text.specs.declared.feed.Feed.{Feed}
-use Rattle.vcd_head.specs.Reads.{Reads, Looks}
+use Rattle.vcd_head.specs.Reads.{Reads, ReadsToken}
 
 -- tokens of which none is `$end`
 abbrev pub NoEnds : List (List ℕ) → Type 0
 NoEnds ts = AllByRecursion (λ t. is_end t ≡ false) ts
 
--- behind these tokens any others may stand, up to the first `$end`
+-- after these tokens any others may stand, up to the first `$end`
 abbrev pub RunsOn : ℕ → List (Placed HeaderPhrase) → List (List ℕ) → Type 0
 RunsOn most placed before = (inner : List (List ℕ)) (t : List ℕ) → NoEnds inner
     → (header_fault most (phrases_of placed) (before ++ inner) t ≡ None) × (is_end t ≡ false → header_phrase (before ++ inner ++ t ∷ []) ≡ None)
@@ -24,7 +24,7 @@ RunsOn most placed before = (inner : List (List ℕ)) (t : List ℕ) → NoEnds 
 abbrev pub spaced : List (List ℕ) → List ℕ
 spaced ts = flat_map (λ t. 32 ∷ t) ts
 
--- these tokens were read behind the first ones, and a text has grown by them
+-- these tokens were read after the first ones, and a text has grown by them
 pub record ReadsOn {X : Type 0} {g : Ghosts X} (most : ℕ) (i : Input) (placed : List (Placed HeaderPhrase)) (before : List (List ℕ)) (f : Feed X g) (Grows : List (List ℕ) → Type 0) : Type 0 where
   pub inner : List (List ℕ)
   pub none : NoEnds inner
@@ -35,17 +35,17 @@ pub record ReadsOn {X : Type 0} {g : Ghosts X} (most : ℕ) (i : Input) (placed 
 pub record EndsThere {X : Type 0} {g : Ghosts X} (most : ℕ) (i : Input) (placed : List (Placed HeaderPhrase)) (before : List (List ℕ)) (f : Feed X g) (Grows : List (List ℕ) → Type 0) : Type 0 where
   pub inner : List (List ℕ)
   pub none : NoEnds inner
-  pub looks : Looks most i placed (before ++ inner) f
+  pub token_read : ReadsToken most i placed (before ++ inner) f
   pub ends : is_end (token_of f).bytes ≡ true
   pub grows : Grows inner
 
--- behind these tokens any token but `$end` may stand, and the phrase is not whole with it
+-- after these tokens any token but `$end` may stand, and the phrase is not whole with it
 abbrev pub Welcomes : ℕ → List (Placed HeaderPhrase) → List (List ℕ) → Type 0
 Welcomes most placed before = (t : List ℕ) → is_end t ≡ false → (header_fault most (phrases_of placed) before t ≡ None) × (header_phrase (before ++ t ∷ []) ≡ None)
 
 -- `$end` was looked at, or a word read
 abbrev pub WordRead : {X : Type 0} {g : Ghosts X} → ℕ → Input → List (Placed HeaderPhrase) → List (List ℕ) → Feed X g → Option ℕ → Type 0
-WordRead most i placed before f None = Looks most i placed before f × (is_end (token_of f).bytes ≡ true)
+WordRead most i placed before f None = ReadsToken most i placed before f × (is_end (token_of f).bytes ≡ true)
 WordRead most i placed before f (Some n) = Reads most i placed (before ++ (token_of f).bytes ∷ []) f × (is_end (token_of f).bytes ≡ false)
 
 -- a text has grown by the word, of n bytes

@@ -10,7 +10,7 @@ use Rattle.vcd_text.specs.declared.device.Source.{Ghosts}
 use Rattle.vcd_text.specs.declared.feed.Feed.{Feed}
 use Rattle.vcd_head.specs.declared.draft.Found.{Found}
 use Rattle.vcd_head.specs.Reads.{Reads}
-use Rattle.vcd_head.specs.Holds.{IsFound}
+use Rattle.vcd_head.specs.Draft.{IsFound}
 use Rattle.vcd_head.specs.Words.{size_in}
 
 -- type and size are read, and the size is this

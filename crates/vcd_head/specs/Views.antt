@@ -12,7 +12,8 @@ use Rattle.vcd_head.specs.declared.view.Row.{Row}
 use Rattle.vcd_head.specs.declared.view.Code.{Code}
 use Rattle.vcd_head.specs.declared.view.Scale.{Scale}
 use Rattle.vcd_head.specs.Keys.{AreBytes, key_in}
-use Rattle.vcd_head.specs.Shown.{HeadShown}
+use Rattle.vcd_head.specs.Shown.{HeadShown, parts}
+use Rattle.vcd_head.specs.declared.view.HeadView.{HeadView}
 
 -- 1 plus the place, 0 where there is none
 abbrev pub counted_from_one : Option ℕ → ℕ
@@ -64,6 +65,18 @@ pub record IsIndex (codes : List IdCode) (index : List ℕ) : Type 0 where
   pub places : IsPermutation (range_with_len 0 (length codes)) index
   pub rising : IsStrictlySortedBy (slice_cmp nat_cmp) (map (code_text codes) index)
 
+-- the type of a scope or a variable
+abbrev pub type_of : Declaration → List ℕ
+type_of (Declaration.Scope type name) = type
+type_of Declaration.Up = []
+type_of (Declaration.Var v) = v.type
+
+-- the whole reference of a scope or a variable, its tokens with a space between
+abbrev pub reference_of : Declaration → List ℕ
+reference_of (Declaration.Scope type name) = name
+reference_of Declaration.Up = []
+reference_of (Declaration.Var v) = join_with_byte 32 v.reference
+
 -- a size that a variable may have, in bits (profile)
 pub record IsSize (size : ℕ) : Type 0 where
   pub some : 0 < size
@@ -84,3 +97,7 @@ pub record Views (s : HeadShown) (h : Header) : Type 0 where
   pub sizes : AllByRecursion (λ (c : IdCode). IsSize c.size) h.codes
   pub few : length h.declarations ≤ 16777216
   pub few_codes : length h.codes ≤ length h.declarations
+
+-- the view is of the header
+abbrev pub IsViewOf : HeadView → Header → Type 0
+IsViewOf v h = Views (parts v) h

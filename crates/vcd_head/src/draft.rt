@@ -2,7 +2,7 @@
 ghost use Rattle.std.specs.Prelude.{◌≡◌, ◌-◌, List, length, unwrap_or, slice_get, IfOk, IfErr};
 ghost use Rattle.vcd_model.specs.Declarations.{Declaration, Variable, code_of};
 ghost use Rattle.vcd_head.specs.Views.{IsSize};
-ghost use Rattle.vcd_head.specs.Holds.{HasCodes, IsFound, CodeHeld, IsSameBut, IsNew};
+ghost use Rattle.vcd_head.specs.Draft.{HasCodes, IsFound, CodeHeld, IsSameBut, IsNew};
 
 use crate::fault::HeadFault;
 use crate::view::{Code, Row, Scale};
@@ -47,7 +47,8 @@ impl Draft {
 
     /// 1 plus the row of the innermost open scope, 0 where none is open.
     pub(crate) fn parent(&self) -> usize
-        ensures { result ≡ unwrap_or (slice_get self.now.scopes.items (length self.now.scopes.items - 1)) 0 }
+        ensures { result ≡ unwrap_or
+            (slice_get self.now.scopes.items (length self.now.scopes.items - 1)) 0 }
     {
         self.scopes.last().copied().unwrap_or(0)
     }
@@ -59,7 +60,8 @@ impl Draft {
         size: usize,
         event: bool,
     ) -> Result<usize, HeadFault>
-        ensures codes { (ds : List Declaration) (v : Variable) → HasCodes self.old.text.items self.old.codes.entries ds
+        ensures codes { (ds : List Declaration) (v : Variable)
+            → HasCodes self.old.text.items self.old.codes.entries ds
             → IsFound ds v found → IsSize size → size ≡ (code_of v).size → event ≡ (code_of v).event
             → IfOk result (CodeHeld self.old self.new ds v) }
         ensures others { IsSameBut self.old self.new }
@@ -72,8 +74,10 @@ impl Draft {
     }
 
     fn add_code(&mut self, bytes: Vec<u8>, size: usize, event: bool) -> Result<usize, HeadFault>
-        ensures codes { (ds : List Declaration) (v : Variable) → HasCodes self.old.text.items self.old.codes.entries ds
-            → IsFound ds v (Found.New bytes) → IsSize size → size ≡ (code_of v).size → event ≡ (code_of v).event
+        ensures codes { (ds : List Declaration) (v : Variable)
+            → HasCodes self.old.text.items self.old.codes.entries ds
+            → IsFound ds v (Found.New bytes) → IsSize size → size ≡ (code_of v).size
+            → event ≡ (code_of v).event
             → IfOk result (CodeHeld self.old self.new ds v) }
         ensures others { IsSameBut self.old self.new }
         ensures memory { IfErr result (λ fault. fault ≡ HeadFault.OutOfMemory) }

@@ -13,13 +13,13 @@ pub enum HeadFault {
     EndOfInput,
     /// A phrase begins with no command (fault 3).
     UnknownCommand,
-    /// What belongs into the body, or no `$end` behind `$enddefinitions` (fault 4).
+    /// What belongs into the body, or no `$end` after `$enddefinitions` (fault 4).
     OutOfPlace,
-    /// No time scale of number and unit behind `$timescale` (fault 5).
+    /// No time scale of number and unit after `$timescale` (fault 5).
     BadTimescale,
-    /// No type, name and `$end` behind `$scope`, or no `$end` behind `$upscope` (fault 6).
+    /// No type, name and `$end` after `$scope`, or no `$end` after `$upscope` (fault 6).
     BadScope,
-    /// No type, size, code and reference behind `$var` (fault 7).
+    /// No type, size, code and reference after `$var` (fault 7).
     BadVariable,
     /// A code has two sizes, or is an event and none (fault 8).
     CodeDiffers,

@@ -2,7 +2,7 @@
 ghost use Rattle.std.specs.Prelude.{◌≡◌, ℕ, ◌≤◌, List, map, IfOk, IfErr};
 ghost use Rattle.vcd_model.specs.HeaderPhrases.{HeaderPhrase};
 ghost use Rattle.vcd_model.specs.Header.{header_of};
-ghost use Rattle.vcd_head.specs.Holds.{Holds, codes_in, keys_in, places_in};
+ghost use Rattle.vcd_head.specs.Draft.{IsDraftOf, codes_in, keys_in, places_in};
 ghost use Rattle.vcd_head.specs.Shown.{shown};
 ghost use Rattle.vcd_head.specs.Views.{Views};
 
@@ -50,7 +50,7 @@ fn places_of(alloc: Global, map: &IndexMap<Vec<u8>, Coded>) -> Result<Vec<usize>
 
 /// The head of a draft that holds all phrases of a header.
 pub(crate) fn finish(alloc: Global, draft: Draft) -> Result<Head, HeadFault>
-    ensures head { (most : ℕ) (ps : List HeaderPhrase) → most ≤ 16777216 → Holds most draft ps
+    ensures head { (most : ℕ) (ps : List HeaderPhrase) → most ≤ 16777216 → IsDraftOf most draft ps
         → IfOk result (λ head. Views (shown head) (header_of ps)) }
     ensures memory { IfErr result (λ fault. fault ≡ HeadFault.OutOfMemory) }
 {

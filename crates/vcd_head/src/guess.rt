@@ -30,7 +30,7 @@ fn digit_of(byte: u8) -> usize {
     usize::from(byte).wrapping_sub(32)
 }
 
-// The number with a lower digit behind it.
+// The number with a lower digit after it.
 #[inline(always)]
 fn above(number: usize, byte: u8) -> usize {
     number.wrapping_mul(94).wrapping_add(digit_of(byte))

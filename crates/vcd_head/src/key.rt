@@ -2,7 +2,7 @@
 ghost use Rattle.std.specs.Prelude.{◌≡◌, ◌+◌, ◌*◌, ◌^◌, ◌≤◌, ◌<◌, length};
 ghost use Rattle.vcd_head.specs.Keys.{key_in, packed};
 
-// The most bytes that fit into a key with a blank behind them.
+// The most bytes that fit into a key with a blank after them.
 const MOST_BYTES: usize = 7;
 
 // What closes a key.
@@ -35,7 +35,7 @@ fn behind(key: u64, byte: u8) -> u64
     key * 256 + u64::from(byte)
 }
 
-// The bytes and a blank behind them, the first one lowest.
+// The bytes and a blank after them, the first one lowest.
 fn packed_of(code: &[u8]) -> u64
     requires { length code.now ≤ 7 }
     ensures { result ≡ packed code.now }

@@ -1,26 +1,75 @@
 //! The header of a dump as slices and numbers.
+//!
+//! `read_head` reads a header from a feed, up to the `$end` of `$enddefinitions`, into a `Head`, which owns its memory. All
+//! else works on its `HeadView`, slices that may be copied: the look-up of a code (`find`), the path of a variable
+//! (`put_path`), the variables that names select (`select`, as marks), the header of marked declarations (`put_head`).
+//!
+//! # The relations
+//!
+//! While a header is read, `Reads most input placed before feed` says how far: the tokens given are these good phrases, and
+//! then these first tokens of the next one. In the end `GivesHead`: the tokens of a whole header were given, and the head shows
+//! it. Else `Fails`: the header's fault, at its line; out of memory, that no token given so far has a fault.
+//!
+//! `IsViewOf view h` says that a view is of a header of the definitions. Each function over a view takes any view, and its
+//! result is that of the definitions where this holds. `find` is right whatever the guesses are.
+//!
+//! # The modules
+//!
+//! - `read`, `phrases`: the whole header; one phrase of it
+//! - `tokens`, `texts`, `words`, `keyword`: the next token; texts up to `$end`; tests of tokens; the keywords
+//! - `scopes`, `variable`, `scale`: what a phrase declares
+//! - `draft`, `finish`: a header while it is read; the head that it becomes
+//! - `head`, `view`, `fault`: `Head`; `HeadView` with its rows and codes, and `Need`; `HeadFault`
+//! - `look_up`, `guess`, `key`, `probes`: a guess, then a binary search; codes as numbers; comparisons, counted
+//! - `enclosing`, `path`: the scopes around a declaration, outermost first; paths
+//! - `selection`: which variables names select
+//! - `write`: headers as they are written
+//! - `room`: `need`, the room that an engine over a header needs
+//!
+//! In `specs/` callers read `Views` and `Shown`, `Reads`, `Fault`, `Finds`, `Marks` and `Needs`.
+//!
+//! # Limits
+//!
+//! At most 16,777,216 declarations, 1,000 open scopes, and 16,777,215 bits a variable. Memory is taken by `read_head` alone.
+//!
+//! Not promised: what a call gives over a view that is of no header, and what `select` leaves in the marks where a name selects
+//! nothing.
 #![tactic(auto)]
 
 mod draft;
-pub mod fault;
-pub mod find;
+mod enclosing;
+mod fault;
 mod finish;
 mod guess;
-pub mod head;
+mod head;
 mod key;
-pub mod need;
-pub mod path;
-pub mod probes;
-pub mod read;
-mod reading;
+mod keyword;
+mod look_up;
+mod path;
+mod phrases;
+mod probes;
+mod read;
+mod room;
 mod scale;
 mod scopes;
-pub mod select;
+mod selection;
 #[cfg(test)]
 mod tests;
 mod texts;
 mod tokens;
 mod variable;
-pub mod view;
-pub(crate) mod words;
-pub mod written;
+mod view;
+mod words;
+mod write;
+
+pub use fault::HeadFault;
+pub use head::Head;
+pub use keyword::{Keyword, keyword_of};
+pub use look_up::{find, find_counted};
+pub use path::put_path;
+pub use probes::Probes;
+pub use read::read_head;
+pub use room::need;
+pub use selection::{select, selects};
+pub use view::{Code, HeadView, Kind, Need, Row, Scale};
+pub use write::put_head;

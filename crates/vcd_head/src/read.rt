@@ -1,22 +1,22 @@
 // The whole header.
 ghost use Rattle.std.specs.Prelude.{◌≡◌, ◌≢◌, ℕ, ◌+◌, ◌-◌, ◌^◌, ◌<◌, ◌≤◌, [], Err, MatchResult, OnOk};
 ghost use Rattle.vcd_model.specs.Input.{Input};
-ghost use Rattle.vcd_text.specs.Feed.{Stands, SameLoans, source_of, limit_of, chunk_len_of};
+ghost use Rattle.vcd_text.specs.Feed.{HasGiven, SameLoans, source_of, limit_of, chunk_len_of};
 ghost use Rattle.vcd_head.specs.Reads.{Fails, GivesHead};
 ghost use Rattle.vcd_head.specs.Shown.{shown};
-ghost use Rattle.vcd_head.specs.Went.{IsOpen, Went, fault_of};
+ghost use Rattle.vcd_text.specs.Advances.{HasNotFailed, Advances};
+ghost use Rattle.vcd_head.specs.Fault.{call_end};
 
 use crate::draft::Draft;
 use crate::fault::HeadFault;
 use crate::finish::finish;
 use crate::head::Head;
-use crate::reading::read_phrase;
+use crate::phrases::read_phrase;
 use std::alloc::Global;
-use vcd_text::device::Source;
-use vcd_text::feed::Feed;
+use vcd_text::{Feed, Source};
 
 /// Reads a header up to the `$end` of `$enddefinitions`, with at most `most` declarations (at most 16,777,216). The feed then
-/// stands behind that token. After a fault nothing of the head is left, and the feed's token is the last one given: empty where
+/// stands after that token. After a fault nothing of the head is left, and the feed's token is the last one given: empty where
 /// the input or its source ended the reading, else the one at which the fault stands.
 pub fn read_head<S: Source>(
     alloc: Global,
@@ -28,15 +28,18 @@ pub fn read_head<S: Source>(
 
     // A head shows the header of the phrases that were read. A fault is the header's, at the feed's line and token, the first
     // token given that has one, or empty where none was left; where memory is refused, no token given so far has a fault.
-    ensures reads { (i : Input) → Stands i [] feed.old
-        → MatchResult result (λ head. GivesHead most i feed.new (shown head)) (λ fault. Fails most i fault feed.new) }
+    ensures reads { (i : Input) → HasGiven i [] feed.old
+        → MatchResult result (λ head. GivesHead most i feed.new (shown head))
+        (λ fault. Fails most i fault feed.new) }
 
-    // A failed read is answered only where the source failed now, or had failed before.
-    ensures failed { IsOpen feed.old → result ≡ Err HeadFault.ReadFailed
+    // A failed read is returned only where the source failed now, or had failed before.
+    ensures failed { HasNotFailed feed.old → result ≡ Err HeadFault.ReadFailed
         → S.failures (source_of feed.new) ≡ S.failures (source_of feed.old) + 1 }
-    ensures same { result ≢ Err HeadFault.ReadFailed → S.failures (source_of feed.new) ≡ S.failures (source_of feed.old) }
-    ensures open { IsOpen feed.old → OnOk result (IsOpen feed.new) }
-    ensures lengths { (limit_of feed.new ≡ limit_of feed.old) × (chunk_len_of feed.new ≡ chunk_len_of feed.old) }
+    ensures same { result ≢ Err HeadFault.ReadFailed
+        → S.failures (source_of feed.new) ≡ S.failures (source_of feed.old) }
+    ensures open { HasNotFailed feed.old → OnOk result (HasNotFailed feed.new) }
+    ensures lengths { (limit_of feed.new ≡ limit_of feed.old)
+        × (chunk_len_of feed.new ≡ chunk_len_of feed.old) }
     ensures loans { SameLoans feed.old feed.new }
 {
     let mut draft = Draft::new(alloc);

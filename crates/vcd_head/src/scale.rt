@@ -1,4 +1,4 @@
-// The phrase of a time scale, behind its keyword.
+// The phrase of a time scale, after its keyword.
 ghost use Rattle.std.specs.Prelude.{◌≡◌, ℕ, ◌-◌, ◌^◌, ◌<◌, List, [], ◌∷◌, MatchResult};
 ghost use Rattle.vcd_model.specs.Input.{Input};
 ghost use Rattle.vcd_model.specs.HeaderPhrases.{HeaderPhrase};
@@ -7,24 +7,25 @@ ghost use Rattle.vcd_model.specs.Reading.{Placed};
 ghost use Rattle.vcd_text.specs.Feed.{source_of};
 ghost use Rattle.vcd_head.specs.Reads.{Reads, Fails};
 ghost use Rattle.vcd_head.specs.Scaled.{ScaleRead};
-ghost use Rattle.vcd_head.specs.Carries.{Begun, Carries};
-ghost use Rattle.vcd_head.specs.Went.{Went, fault_of};
+ghost use Rattle.vcd_head.specs.Draft.{AtKeyword, DraftsUpTo};
+ghost use Rattle.vcd_text.specs.Advances.{Advances};
+ghost use Rattle.vcd_head.specs.Fault.{call_end};
 
 use crate::draft::Draft;
 use crate::fault::HeadFault;
 use crate::tokens::{next_ends, next_token};
 use crate::view::Scale;
 use crate::words::{exponent_of, power_of, unit_of};
-use vcd_text::device::Source;
-use vcd_text::feed::Feed;
+use vcd_text::{Feed, Source};
 
 /// A number and a unit, in one token or two: the power of ten in seconds.
 fn read_exponent<S: Source>(feed: &mut Feed<'_, '_, '_, '_, S>) -> Result<i8, HeadFault>
     requires { S.failures (source_of feed.old) < 2 ^ 64 - 1 }
     ensures reads { (most : ℕ) (i : Input) (placed : List (Placed HeaderPhrase))
         → Reads most i placed (keyword_text Keyword.Timescale ∷ []) feed.old
-        → MatchResult result (ScaleRead most i placed feed.new) (λ fault. Fails most i fault feed.new) }
-    ensures went { Went S.failures feed.old feed.new (fault_of result) }
+        → MatchResult result (ScaleRead most i placed feed.new)
+        (λ fault. Fails most i fault feed.new) }
+    ensures advances { Advances S.failures feed.old feed.new (call_end result) }
 {
     next_token(feed)?;
     let Some(power) = power_of(feed.token()) else {
@@ -46,9 +47,10 @@ pub(crate) fn read_timescale<S: Source>(
     draft: &mut Draft,
 ) -> Result<(), HeadFault>
     requires { S.failures (source_of feed.old) < 2 ^ 64 - 1 }
-    ensures reads { (most : ℕ) (i : Input) → Begun most i Keyword.Timescale draft.old feed.old
-        → MatchResult result (λ _. Carries most i draft.new feed.new) (λ fault. Fails most i fault feed.new) }
-    ensures went { Went S.failures feed.old feed.new (fault_of result) }
+    ensures reads { (most : ℕ) (i : Input) → AtKeyword most i Keyword.Timescale draft.old feed.old
+        → MatchResult result (λ _. DraftsUpTo most i draft.new feed.new)
+        (λ fault. Fails most i fault feed.new) }
+    ensures advances { Advances S.failures feed.old feed.new (call_end result) }
 {
     let exponent = read_exponent(feed)?;
     if !next_ends(feed)? {

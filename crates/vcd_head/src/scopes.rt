@@ -1,18 +1,18 @@
-// Phrases that open and close scopes, behind their keywords.
+// Phrases that open and close scopes, after their keywords.
 ghost use Rattle.std.specs.Prelude.{◌≡◌, ℕ, ◌-◌, ◌^◌, ◌<◌, MatchResult};
 ghost use Rattle.vcd_model.specs.Input.{Input};
 ghost use Rattle.vcd_model.specs.Keywords.{Keyword};
 ghost use Rattle.vcd_text.specs.Feed.{source_of};
 ghost use Rattle.vcd_head.specs.Reads.{Fails};
-ghost use Rattle.vcd_head.specs.Carries.{Begun, Carries};
-ghost use Rattle.vcd_head.specs.Went.{Went, fault_of};
+ghost use Rattle.vcd_head.specs.Draft.{AtKeyword, DraftsUpTo};
+ghost use Rattle.vcd_text.specs.Advances.{Advances};
+ghost use Rattle.vcd_head.specs.Fault.{call_end};
 
 use crate::draft::Draft;
 use crate::fault::HeadFault;
 use crate::tokens::{next_ends, next_word};
 use crate::view::{Kind, Row};
-use vcd_text::device::Source;
-use vcd_text::feed::Feed;
+use vcd_text::{Feed, Source};
 
 // How many scopes may be open (profile).
 const MOST_OPEN: usize = 1000;
@@ -24,9 +24,10 @@ pub(crate) fn read_scope<S: Source>(
     draft: &mut Draft,
 ) -> Result<(), HeadFault>
     requires { S.failures (source_of feed.old) < 2 ^ 64 - 1 }
-    ensures reads { (i : Input) → Begun most i Keyword.Scope draft.old feed.old
-        → MatchResult result (λ _. Carries most i draft.new feed.new) (λ fault. Fails most i fault feed.new) }
-    ensures went { Went S.failures feed.old feed.new (fault_of result) }
+    ensures reads { (i : Input) → AtKeyword most i Keyword.Scope draft.old feed.old
+        → MatchResult result (λ _. DraftsUpTo most i draft.new feed.new)
+        (λ fault. Fails most i fault feed.new) }
+    ensures advances { Advances S.failures feed.old feed.new (call_end result) }
 {
     if draft.rows.len() as u64 >= most {
         return Err(HeadFault::TooMany);
@@ -65,9 +66,10 @@ pub(crate) fn read_upscope<S: Source>(
     draft: &mut Draft,
 ) -> Result<(), HeadFault>
     requires { S.failures (source_of feed.old) < 2 ^ 64 - 1 }
-    ensures reads { (i : Input) → Begun most i Keyword.Upscope draft.old feed.old
-        → MatchResult result (λ _. Carries most i draft.new feed.new) (λ fault. Fails most i fault feed.new) }
-    ensures went { Went S.failures feed.old feed.new (fault_of result) }
+    ensures reads { (i : Input) → AtKeyword most i Keyword.Upscope draft.old feed.old
+        → MatchResult result (λ _. DraftsUpTo most i draft.new feed.new)
+        (λ fault. Fails most i fault feed.new) }
+    ensures advances { Advances S.failures feed.old feed.new (call_end result) }
 {
     if draft.rows.len() as u64 >= most {
         return Err(HeadFault::TooMany);

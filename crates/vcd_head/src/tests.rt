@@ -2,19 +2,18 @@
 ghost use Rattle.std.specs.Prelude.{◌≤◌};
 
 use crate::fault::HeadFault;
-use crate::find::{find, find_counted};
 use crate::head::Head;
-use crate::need::need;
+use crate::look_up::{find, find_counted};
 use crate::path::put_path;
 use crate::probes::Probes;
 use crate::read::read_head;
-use crate::select::{select, selects};
+use crate::room::need;
+use crate::selection::{select, selects};
 use crate::view::{Code, Kind, Need, Row, Scale};
-use crate::written::put_head;
+use crate::write::put_head;
 use std::alloc::{AllocError, Global};
 use std::test::Fail;
-use vcd_text::device::Watch;
-use vcd_text::feed::Feed;
+use vcd_text::{Feed, Watch};
 
 const NESTED: &[u8] =
     b"$date Tue  Mar 5 $end $foo a #0 $var $end\n$timescale 10 ns $end\n$scope module tb $end\n$var wire 1 ~ clk $end\n$scope module u $end\n$var reg 4 ! q [3:0] $end\n$var reg 4 ! alias $end\n$upscope $end\n$var event 1 !! go $end\n$enddefinitions $end\n#0\n";

@@ -7,22 +7,23 @@ ghost use Rattle.vcd_model.specs.Reading.{Placed};
 ghost use Rattle.vcd_text.specs.Feed.{source_of};
 ghost use Rattle.vcd_head.specs.Reads.{Reads, Fails};
 ghost use Rattle.vcd_head.specs.Texts.{RunsOn, EndsThere, spaced};
-ghost use Rattle.vcd_head.specs.Went.{Went, fault_of};
+ghost use Rattle.vcd_text.specs.Advances.{Advances};
+ghost use Rattle.vcd_head.specs.Fault.{call_end};
 
 use crate::fault::HeadFault;
 use crate::tokens::next_ends;
 use std::alloc::Global;
-use vcd_text::device::Source;
-use vcd_text::feed::Feed;
+use vcd_text::{Feed, Source};
 
 /// Passes over the tokens up to the first `$end`.
 pub(crate) fn skip_to_end<S: Source>(feed: &mut Feed<'_, '_, '_, '_, S>) -> Result<(), HeadFault>
     requires { S.failures (source_of feed.old) < 2 ^ 64 - 1 }
-    ensures reads { (most : ℕ) (i : Input) (placed : List (Placed HeaderPhrase)) (before : List (List ℕ))
+    ensures reads { (most : ℕ) (i : Input) (placed : List (Placed HeaderPhrase))
+        (before : List (List ℕ))
         → RunsOn most placed before → Reads most i placed before feed.old
         → MatchResult result (λ _. EndsThere most i placed before feed.new (λ inner. Unit {0}))
         (λ fault. Fails most i fault feed.new) }
-    ensures went { Went S.failures feed.old feed.new (fault_of result) }
+    ensures advances { Advances S.failures feed.old feed.new (call_end result) }
 {
     'tokens: loop {
         if next_ends(feed)? {
@@ -37,12 +38,14 @@ pub(crate) fn append_to_end<S: Source>(
     text: &mut Vec<u8>,
 ) -> Result<(), HeadFault>
     requires { S.failures (source_of feed.old) < 2 ^ 64 - 1 }
-    ensures reads { (most : ℕ) (i : Input) (placed : List (Placed HeaderPhrase)) (before : List (List ℕ))
+    ensures reads { (most : ℕ) (i : Input) (placed : List (Placed HeaderPhrase))
+        (before : List (List ℕ))
         → RunsOn most placed before → Reads most i placed before feed.old
-        → MatchResult result (λ _. EndsThere most i placed before feed.new (λ inner. text.new.items ≡ text.old.items ++ spaced inner))
+        → MatchResult result (λ _. EndsThere most i placed before feed.new
+        (λ inner. text.new.items ≡ text.old.items ++ spaced inner))
         (λ fault. Fails most i fault feed.new) }
     ensures longer { OnOk result (length text.old.items ≤ length text.new.items) }
-    ensures went { Went S.failures feed.old feed.new (fault_of result) }
+    ensures advances { Advances S.failures feed.old feed.new (call_end result) }
 {
     'tokens: loop {
         if next_ends(feed)? {
@@ -59,11 +62,13 @@ pub(crate) fn text_to_end<S: Source>(
     feed: &mut Feed<'_, '_, '_, '_, S>,
 ) -> Result<Vec<u8>, HeadFault>
     requires { S.failures (source_of feed.old) < 2 ^ 64 - 1 }
-    ensures reads { (most : ℕ) (i : Input) (placed : List (Placed HeaderPhrase)) (before : List (List ℕ))
+    ensures reads { (most : ℕ) (i : Input) (placed : List (Placed HeaderPhrase))
+        (before : List (List ℕ))
         → RunsOn most placed before → Reads most i placed before feed.old
-        → MatchResult result (λ text. EndsThere most i placed before feed.new (λ inner. text.items ≡ join_with_byte 32 inner))
+        → MatchResult result (λ text. EndsThere most i placed before feed.new
+        (λ inner. text.items ≡ join_with_byte 32 inner))
         (λ fault. Fails most i fault feed.new) }
-    ensures went { Went S.failures feed.old feed.new (fault_of result) }
+    ensures advances { Advances S.failures feed.old feed.new (call_end result) }
 {
     let mut text = Vec::new(alloc);
     if next_ends(feed)? {

@@ -5,23 +5,24 @@ ghost use Rattle.vcd_model.specs.HeaderPhrases.{HeaderPhrase};
 ghost use Rattle.vcd_model.specs.Reading.{Placed};
 ghost use Rattle.vcd_model.specs.Keywords.{is_end};
 ghost use Rattle.vcd_text.specs.Feed.{source_of, seen, token_of};
-ghost use Rattle.vcd_head.specs.Reads.{Reads, Looks, Fails};
+ghost use Rattle.vcd_head.specs.Reads.{Reads, ReadsToken, Fails};
 ghost use Rattle.vcd_head.specs.Texts.{Welcomes, WordRead, WordTaken};
-ghost use Rattle.vcd_head.specs.Went.{Went, fault_of};
+ghost use Rattle.vcd_text.specs.Advances.{Advances};
+ghost use Rattle.vcd_head.specs.Fault.{call_end};
 
 use crate::fault::HeadFault;
 use crate::words;
-use vcd_text::answer::{Halt, Next};
-use vcd_text::device::Source;
-use vcd_text::feed::Feed;
+use vcd_text::{Feed, Halt, Next, Source};
 
 /// The next token, or the fault of one that is missing.
 pub(crate) fn next_token<S: Source>(feed: &mut Feed<'_, '_, '_, '_, S>) -> Result<(), HeadFault>
     requires { S.failures (source_of feed.old) < 2 ^ 64 - 1 }
-    ensures reads { (most : ℕ) (i : Input) (placed : List (Placed HeaderPhrase)) (before : List (List ℕ))
+    ensures reads { (most : ℕ) (i : Input) (placed : List (Placed HeaderPhrase))
+        (before : List (List ℕ))
         → Reads most i placed before feed.old
-        → MatchResult result (λ _. Looks most i placed before feed.new) (λ fault. Fails most i fault feed.new) }
-    ensures went { Went S.failures feed.old feed.new (fault_of result) }
+        → MatchResult result (λ _. ReadsToken most i placed before feed.new)
+        (λ fault. Fails most i fault feed.new) }
+    ensures advances { Advances S.failures feed.old feed.new (call_end result) }
     ensures progress { OnOk result (seen feed.old < seen feed.new) }
     ensures bounded { seen feed.new < 2 ^ 63 }
 {
@@ -37,11 +38,13 @@ pub(crate) fn next_token<S: Source>(feed: &mut Feed<'_, '_, '_, '_, S>) -> Resul
 /// Reads the next token, and tells whether it is `$end`.
 pub(crate) fn next_ends<S: Source>(feed: &mut Feed<'_, '_, '_, '_, S>) -> Result<bool, HeadFault>
     requires { S.failures (source_of feed.old) < 2 ^ 64 - 1 }
-    ensures reads { (most : ℕ) (i : Input) (placed : List (Placed HeaderPhrase)) (before : List (List ℕ))
+    ensures reads { (most : ℕ) (i : Input) (placed : List (Placed HeaderPhrase))
+        (before : List (List ℕ))
         → Reads most i placed before feed.old
-        → MatchResult result (λ _. Looks most i placed before feed.new) (λ fault. Fails most i fault feed.new) }
+        → MatchResult result (λ _. ReadsToken most i placed before feed.new)
+        (λ fault. Fails most i fault feed.new) }
     ensures end { IfOk result (λ ends. ends ≡ is_end (token_of feed.new).bytes) }
-    ensures went { Went S.failures feed.old feed.new (fault_of result) }
+    ensures advances { Advances S.failures feed.old feed.new (call_end result) }
     ensures progress { OnOk result (seen feed.old < seen feed.new) }
     ensures bounded { seen feed.new < 2 ^ 63 }
 {
@@ -49,17 +52,19 @@ pub(crate) fn next_ends<S: Source>(feed: &mut Feed<'_, '_, '_, '_, S>) -> Result
     Ok(words::is_end(feed.token()))
 }
 
-/// Puts the next token to the text and answers its length, or answers nothing where it is `$end`.
+/// Puts the next token to the text and returns its length, or nothing where it is `$end`.
 pub(crate) fn next_word<S: Source>(
     feed: &mut Feed<'_, '_, '_, '_, S>,
     text: &mut Vec<u8>,
 ) -> Result<Option<usize>, HeadFault>
     requires { S.failures (source_of feed.old) < 2 ^ 64 - 1 }
-    ensures reads { (most : ℕ) (i : Input) (placed : List (Placed HeaderPhrase)) (before : List (List ℕ))
+    ensures reads { (most : ℕ) (i : Input) (placed : List (Placed HeaderPhrase))
+        (before : List (List ℕ))
         → Welcomes most placed before → Reads most i placed before feed.old
-        → MatchResult result (WordRead most i placed before feed.new) (λ fault. Fails most i fault feed.new) }
+        → MatchResult result (WordRead most i placed before feed.new)
+        (λ fault. Fails most i fault feed.new) }
     ensures text { IfOk result (WordTaken text.old.items text.new.items (token_of feed.new).bytes) }
-    ensures went { Went S.failures feed.old feed.new (fault_of result) }
+    ensures advances { Advances S.failures feed.old feed.new (call_end result) }
 {
     if next_ends(feed)? {
         return Ok(None);

@@ -1,4 +1,4 @@
-// The phrase of a variable, behind its keyword.
+// The phrase of a variable, after its keyword.
 ghost use Rattle.std.specs.Prelude.{◌≡◌, ℕ, ◌-◌, ◌^◌, ◌<◌, List, [], ◌∷◌, Some, MatchResult, codes, bytes_eq};
 ghost use Rattle.vcd_model.specs.Bytes.{decimal_value};
 ghost use Rattle.vcd_model.specs.Input.{Input};
@@ -7,10 +7,10 @@ ghost use Rattle.vcd_model.specs.HeaderPhrases.{HeaderPhrase, declarations_of};
 ghost use Rattle.vcd_model.specs.Reading.{Placed, phrases_of};
 ghost use Rattle.vcd_text.specs.Feed.{source_of, token_of};
 ghost use Rattle.vcd_head.specs.Reads.{Reads, Fails};
-ghost use Rattle.vcd_head.specs.Carries.{Begun, Carries};
-ghost use Rattle.vcd_head.specs.Holds.{HasCodes};
+ghost use Rattle.vcd_head.specs.Draft.{AtKeyword, DraftsUpTo, HasCodes};
 ghost use Rattle.vcd_head.specs.Variables.{SizeRead, CodeRead};
-ghost use Rattle.vcd_head.specs.Went.{Went, fault_of};
+ghost use Rattle.vcd_text.specs.Advances.{Advances};
+ghost use Rattle.vcd_head.specs.Fault.{call_end};
 
 use crate::draft::{Coded, Draft, Found};
 use crate::fault::HeadFault;
@@ -20,16 +20,16 @@ use crate::view::{Kind, Row};
 use crate::words::{is_code, is_event, size_of};
 use indexmap::IndexMap;
 use std::alloc::Global;
-use vcd_text::device::Source;
-use vcd_text::feed::Feed;
+use vcd_text::{Feed, Source};
 
 /// The size of a variable, in bits.
 fn read_size<S: Source>(feed: &mut Feed<'_, '_, '_, '_, S>) -> Result<usize, HeadFault>
     requires { S.failures (source_of feed.old) < 2 ^ 64 - 1 }
     ensures reads { (most : ℕ) (i : Input) (placed : List (Placed HeaderPhrase)) (type : List ℕ)
         → Reads most i placed (keyword_text Keyword.Var ∷ type ∷ []) feed.old
-        → MatchResult result (SizeRead most i placed type feed.new) (λ fault. Fails most i fault feed.new) }
-    ensures went { Went S.failures feed.old feed.new (fault_of result) }
+        → MatchResult result (SizeRead most i placed type feed.new)
+        (λ fault. Fails most i fault feed.new) }
+    ensures advances { Advances S.failures feed.old feed.new (call_end result) }
 {
     next_token(feed)?;
     match size_of(feed.token()) {
@@ -47,12 +47,14 @@ fn read_code<S: Source>(
     event: bool,
 ) -> Result<Found, HeadFault>
     requires { S.failures (source_of feed.old) < 2 ^ 64 - 1 }
-    ensures reads { (most : ℕ) (i : Input) (placed : List (Placed HeaderPhrase)) (type digits text : List ℕ)
+    ensures reads { (most : ℕ) (i : Input) (placed : List (Placed HeaderPhrase))
+        (type digits text : List ℕ)
         → HasCodes text known.now.entries (declarations_of (phrases_of placed))
         → decimal_value digits ≡ size → bytes_eq (codes "event") type ≡ event
         → Reads most i placed (keyword_text Keyword.Var ∷ type ∷ digits ∷ []) feed.old
-        → MatchResult result (CodeRead most i placed type digits feed.new) (λ fault. Fails most i fault feed.new) }
-    ensures went { Went S.failures feed.old feed.new (fault_of result) }
+        → MatchResult result (CodeRead most i placed type digits feed.new)
+        (λ fault. Fails most i fault feed.new) }
+    ensures advances { Advances S.failures feed.old feed.new (call_end result) }
 {
     next_token(feed)?;
     let token = feed.token();
@@ -79,9 +81,10 @@ pub(crate) fn read_variable<S: Source>(
     draft: &mut Draft,
 ) -> Result<(), HeadFault>
     requires { S.failures (source_of feed.old) < 2 ^ 64 - 1 }
-    ensures reads { (i : Input) → Begun most i Keyword.Var draft.old feed.old
-        → MatchResult result (λ _. Carries most i draft.new feed.new) (λ fault. Fails most i fault feed.new) }
-    ensures went { Went S.failures feed.old feed.new (fault_of result) }
+    ensures reads { (i : Input) → AtKeyword most i Keyword.Var draft.old feed.old
+        → MatchResult result (λ _. DraftsUpTo most i draft.new feed.new)
+        (λ fault. Fails most i fault feed.new) }
+    ensures advances { Advances S.failures feed.old feed.new (call_end result) }
 {
     if draft.rows.len() as u64 >= most {
         return Err(HeadFault::TooMany);

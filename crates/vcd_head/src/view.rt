@@ -1,6 +1,9 @@
 // A header as slices and numbers.
-ghost use Rattle.std.specs.Prelude.{◌≡◌, slice_get};
+ghost use Rattle.std.specs.Prelude.{◌≡◌, ◌<◌, false, length, take, Some, slice_get, option_map, unwrap_or, IfSome};
+ghost use Rattle.vcd_model.specs.Declarations.{Declaration, name_of, parent};
+ghost use Rattle.vcd_model.specs.Header.{Header};
 ghost use Rattle.vcd_head.specs.Shown.{text_in};
+ghost use Rattle.vcd_head.specs.Views.{code_text, reference_of, type_of, IsViewOf};
 
 /// What a row declares.
 #[derive(Clone, Copy, PartialEq, Eq, Debug)]
@@ -19,7 +22,7 @@ pub struct Row {
     pub kind: Kind,
     /// 1 plus the row of the enclosing scope (for `Up` the one that it closes), 0 where there is none.
     pub parent: usize,
-    /// Where in the text the type begins; the reference stands right behind it.
+    /// Where in the text the type begins; the reference stands right after it.
     pub start: usize,
     /// The bytes of the type.
     pub word: usize,
@@ -76,12 +79,12 @@ pub struct HeadView<'a> {
 }
 
 impl<'a> HeadView<'a> {
-    /// The row at a place.
+    /// A row, by its number from 0.
     #[inline(always)]
-    pub fn row_at(self, place: usize) -> Option<Row>
-        ensures { result ≡ slice_get self.entry.rows.now place }
+    pub fn row_at(self, row: usize) -> Option<Row>
+        ensures { result ≡ slice_get self.entry.rows.now row }
     {
-        self.rows.get(place).copied()
+        self.rows.get(row).copied()
     }
 
     /// The code at a place.
@@ -98,6 +101,78 @@ impl<'a> HeadView<'a> {
         ensures { result.now ≡ text_in self.entry.text.now start len }
     {
         text_in(self.text, start, len)
+    }
+
+    /// The row of the scope that encloses the declaration of a row; for an `$upscope` the one that it closes.
+    #[inline(always)]
+    pub fn scope_of(self, row: usize) -> Option<usize>
+        ensures earlier { IfSome result (λ scope. scope < row) }
+        ensures scope { (h : Header) → IsViewOf self.entry h → row < length h.declarations
+            → result ≡ parent (take row h.declarations) }
+    {
+        let scope = self.row_at(row)?.parent.checked_sub(1)?;
+        (scope < row).then_some(scope)
+    }
+
+    /// The type of the scope or the variable of a row.
+    #[inline(always)]
+    pub fn type_of(self, row: usize) -> &'a [u8]
+        ensures { (h : Header) (d : Declaration) → IsViewOf self.entry h
+            → slice_get h.declarations row ≡ Some d → result.now ≡ type_of d }
+    {
+        match self.row_at(row) {
+            Some(row) => self.text_at(row.start, row.word),
+            None => &[],
+        }
+    }
+
+    /// The name of the scope or the variable of a row: the first token of its reference.
+    #[inline(always)]
+    pub fn name_of(self, row: usize) -> &'a [u8]
+        ensures { (h : Header) (d : Declaration) → IsViewOf self.entry h
+            → slice_get h.declarations row ≡ Some d → result.now ≡ name_of d }
+    {
+        match self.row_at(row) {
+            Some(row) => self.text_at(row.start.saturating_add(row.word), row.name),
+            None => &[],
+        }
+    }
+
+    /// The whole reference of the scope or the variable of a row, its tokens with a space between.
+    #[inline(always)]
+    pub fn reference_of(self, row: usize) -> &'a [u8]
+        ensures { (h : Header) (d : Declaration) → IsViewOf self.entry h
+            → slice_get h.declarations row ≡ Some d → result.now ≡ reference_of d }
+    {
+        match self.row_at(row) {
+            Some(row) => self.text_at(row.start.saturating_add(row.word), row.all),
+            None => &[],
+        }
+    }
+
+    /// The bytes of the code at a place.
+    #[inline(always)]
+    pub fn code_text(self, code: usize) -> &'a [u8]
+        ensures { (h : Header) → IsViewOf self.entry h → result.now ≡ code_text h.codes code }
+    {
+        match self.code_at(code) {
+            Some(code) => self.text_at(code.start, code.len),
+            None => &[],
+        }
+    }
+
+    /// The variables of the code at a place are events.
+    #[inline(always)]
+    pub fn is_event(self, code: usize) -> bool
+        ensures event { (h : Header) → IsViewOf self.entry h
+            → result ≡ unwrap_or (option_map (λ c. c.event) (slice_get h.codes code)) false }
+        ensures value { result ≡ unwrap_or
+            (option_map (λ (c : Code). c.event) (slice_get self.entry.codes.now code)) false }
+    {
+        match self.code_at(code) {
+            Some(code) => code.event,
+            None => false,
+        }
     }
 }
 

@@ -1,31 +1,13 @@
-// The words of a header: keywords, sizes and time scales.
-ghost use Rattle.std.specs.Prelude.{◌≡◌, codes, bytes_eq, ◌||◌, option_map, pos, ◌≤ℤ◌, ◌+ℤ◌};
+// Tests of whole tokens of a header.
+ghost use Rattle.std.specs.Prelude.{◌≡◌, codes, bytes_eq, option_map, pos, ◌≤ℤ◌, ◌+ℤ◌};
 ghost use Rattle.std.specs.List.{list_all};
 ghost use Rattle.vcd_model.specs.Bytes.{is_code_byte};
 ghost use Rattle.vcd_model.specs.Keywords.{is_end as ends, is_command as commands};
 ghost use Rattle.vcd_model.specs.Scales.{exponent_of as exponent_is};
 ghost use Rattle.vcd_model.specs.HeaderChecks.{begins_change as changes};
-ghost use Rattle.vcd_head.specs.Words.{StandsFor, is_body_word, power_in, unit_in, size_in};
+ghost use Rattle.vcd_head.specs.Words.{power_in, unit_in, size_in};
 
-// The keywords that begin a phrase of a header.
-#[derive(Clone, Copy, PartialEq, Eq, Debug)]
-pub(crate) enum Keyword {
-    Comment,
-    Date,
-    EndDefinitions,
-    Scope,
-    Timescale,
-    Upscope,
-    Var,
-    Version,
-}
-
-/// The token is this word.
-fn is(token: &[u8], word: &[u8]) -> bool
-    ensures { result ≡ bytes_eq word.now token.now }
-{
-    word == token
-}
+use crate::keyword::is;
 
 pub(crate) fn is_end(token: &[u8]) -> bool
     ensures { result ≡ ends token.now }
@@ -39,44 +21,8 @@ pub(crate) fn is_event(word: &[u8]) -> bool
     is(word, b"event")
 }
 
-/// The keyword that begins a phrase of a header.
-pub(crate) fn keyword_of(token: &[u8]) -> Option<Keyword>
-    ensures { StandsFor token.now result }
-{
-    if is(token, b"$comment") {
-        Some(Keyword::Comment)
-    } else if is(token, b"$date") {
-        Some(Keyword::Date)
-    } else if is(token, b"$enddefinitions") {
-        Some(Keyword::EndDefinitions)
-    } else if is(token, b"$scope") {
-        Some(Keyword::Scope)
-    } else if is(token, b"$timescale") {
-        Some(Keyword::Timescale)
-    } else if is(token, b"$upscope") {
-        Some(Keyword::Upscope)
-    } else if is(token, b"$var") {
-        Some(Keyword::Var)
-    } else if is(token, b"$version") {
-        Some(Keyword::Version)
-    } else {
-        None
-    }
-}
-
-// What belongs into a body, and stands nowhere in a header.
-fn is_body_keyword(token: &[u8]) -> bool
-    ensures { result ≡ is_body_word token.now }
-{
-    is(token, b"$dumpall")
-        || is(token, b"$dumpoff")
-        || is(token, b"$dumpon")
-        || is(token, b"$dumpvars")
-        || is_end(token)
-}
-
-// It could begin a time mark or a value change.
-fn begins_change(token: &[u8]) -> bool
+/// It could begin a time mark or a value change.
+pub(crate) fn begins_change(token: &[u8]) -> bool
     ensures { result ≡ changes token.now }
 {
     match token.first() {
@@ -90,13 +36,6 @@ pub(crate) fn is_command(token: &[u8]) -> bool
     ensures { result ≡ commands token.now }
 {
     token.len() > 1 && token[0] == b'$'
-}
-
-/// It belongs into the body, where it stands first in a phrase.
-pub(crate) fn is_out_of_place(token: &[u8]) -> bool
-    ensures { result ≡ (is_body_word token.now || changes token.now) }
-{
-    is_body_keyword(token) || begins_change(token)
 }
 
 /// The power of ten of a time scale's number.

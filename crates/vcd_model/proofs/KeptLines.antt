@@ -7,7 +7,7 @@ use Rattle.vcd_model.specs.Backward.{each_after}
 use Rattle.vcd_model.specs.Header.{Header}
 use Rattle.vcd_model.specs.HeadText.{head_for}
 use Rattle.vcd_model.specs.Items.{BodyItem, Entry, entry_after, entries, time_after, leaves_open}
-use Rattle.vcd_model.specs.ItemText.{item_line, time_line, time_unless, text_after, may_keep, kept_by, closing, last_mark}
+use Rattle.vcd_model.specs.ItemText.{item_line, time_line, time_unless, time_due, text_after, may_keep, kept_by, closing, last_mark}
 use Rattle.vcd_model.specs.Pick.{is_picked, pick_open, pick_close}
 use Rattle.vcd_model.specs.Selection.{selected}
 use Rattle.vcd_model.proofs.Growing.{text_after-append, kept_by-append, entries-append}
@@ -21,11 +21,6 @@ kept_times chosen items = map (λ e. e.time) (kept_by chosen (entries items))
 abbrev pub last_time : (Entry → Bool) → List BodyItem → Option ℕ
 last_time chosen items = last_or None (kept_times chosen items)
 
--- the line of a time, unless it is the one that was written last
-abbrev pub time_due : Option ℕ → ℕ → List ℕ
-time_due None t = time_line t
-time_due (Some u) t = cond (u == t) [] (time_line t)
-
 -- is the item kept behind these items
 abbrev pub keeps : (Entry → Bool) → List BodyItem → BodyItem → Bool
 keeps chosen items x = chosen (entry_after items x) && may_keep x (leaves_open items)
@@ -33,7 +28,7 @@ keeps chosen items x = chosen (entry_after items x) && may_keep x (leaves_open i
 -- ---- a look at the last time is enough
 
 -- times that never fall, from the first number to the second
-abbrev Rise : ℕ → ℕ → List ℕ → Type 0
+abbrev pub Rise : ℕ → ℕ → List ℕ → Type 0
 Rise low high [] = low ≤ high
 Rise low high (t ∷ ts) = (low ≤ t) × Rise t high ts
 
@@ -65,7 +60,7 @@ kept_rise chosen b (x ∷ q) =
     by_keep false later = later
 
 -- where times rise up to t, t is among them just where it is the last
-last_is_enough : (t u : ℕ) (ts : List ℕ) → Rise u t ts → time_unless (u ∷ ts) t ≡ time_due (last_or (Some u) ts) t
+pub last_is_enough : (t u : ℕ) (ts : List ℕ) → Rise u t ts → time_unless (u ∷ ts) t ≡ time_due (last_or (Some u) ts) t
 last_is_enough t u [] r = by_test (u == t)
   where
     by_test : (b : Bool) → cond (b || false) [] (time_line t) ≡ cond b [] (time_line t)
@@ -114,7 +109,7 @@ pub text_dropped : (chosen : Entry → Bool) (items : List BodyItem) (x : BodyIt
 text_dropped chosen items x e = ap (text_after []) (kept_same chosen items x e)
 
 -- the last of a list with one more at its end
-last_or-snoc : (o : Option ℕ) (ts : List ℕ) (t : ℕ) → last_or o (ts ++ t ∷ []) ≡ Some t
+pub last_or-snoc : (o : Option ℕ) (ts : List ℕ) (t : ℕ) → last_or o (ts ++ t ∷ []) ≡ Some t
 last_or-snoc o [] t = refl
 last_or-snoc o (u ∷ ts) t = last_or-snoc (Some u) ts t
 

@@ -1,11 +1,15 @@
 -- Rows on the order of checks, on ends of input and on reports, computed.
-use Rattle.std.proofs.Common.{◌≡◌, [], ◌∷◌, map, codes, None, refl}
+use Rattle.std.proofs.Common.{◌≡◌, ℕ, List, [], ◌∷◌, length, map, codes, Some, None, Err, refl}
 use Rattle.vcd_model.proofs.Computing.{model}
+use Rattle.vcd_model.specs.Input.{Input, Mark}
+use Rattle.vcd_model.specs.Tokens.{stream_of}
 use Rattle.vcd_model.specs.Declarations.{Declaration}
 use Rattle.vcd_model.specs.Header.{Header}
+use Rattle.vcd_model.specs.Reading.{Fault}
+use Rattle.vcd_model.specs.HeaderReading.{read_header, header_fault_of}
 use Rattle.vcd_model.specs.Job.{Want, outcome}
-use Rattle.vcd_model.specs.Outcome.{allowed_after}
-use Rattle.vcd_model.proofs.RowText.{clean, limit, on, gives, cut, sample}
+use Rattle.vcd_model.specs.Outcome.{allowed_after, open_from}
+use Rattle.vcd_model.proofs.RowText.{written, clean, limit, on, gives, cut, sample}
 
 -- ---- of two checks that fail the first counts
 
@@ -110,6 +114,22 @@ section_in_section : on Want.Check "$var wire 1 ! a $end;$enddefinitions $end;$d
 unfolding model
 section_in_section = refl
 
+dumpall_in_a_section : on Want.Check "$var wire 1 ! a $end;$enddefinitions $end;$dumpon;$dumpall;" ≡ gives "" "vcdkit: (stdin):4: command out of place;" 1
+unfolding model
+dumpall_in_a_section = refl
+
+dumpoff_in_a_section : on Want.Check "$var wire 1 ! a $end;$enddefinitions $end;$dumpon;$dumpoff;" ≡ gives "" "vcdkit: (stdin):4: command out of place;" 1
+unfolding model
+dumpoff_in_a_section = refl
+
+dumpvars_in_a_section : on Want.Check "$var wire 1 ! a $end;$enddefinitions $end;$dumpon;$dumpvars;" ≡ gives "" "vcdkit: (stdin):4: command out of place;" 1
+unfolding model
+dumpvars_in_a_section = refl
+
+dumpon_in_a_section : on Want.Check "$var wire 1 ! a $end;$enddefinitions $end;$dumpon;$dumpon;" ≡ gives "" "vcdkit: (stdin):4: command out of place;" 1
+unfolding model
+dumpon_in_a_section = refl
+
 -- ---- tokens where a phrase begins
 
 real_in_header : on Want.Check "r1;" ≡ gives "" "vcdkit: (stdin):1: command out of place;" 1
@@ -119,6 +139,10 @@ real_in_header = refl
 section_in_header : on Want.Check "$dumpvars;" ≡ gives "" "vcdkit: (stdin):1: command out of place;" 1
 unfolding model
 section_in_header = refl
+
+upper_case_in_a_header : on Want.Check "X!;" ≡ gives "" "vcdkit: (stdin):1: command out of place;" 1
+unfolding model
+upper_case_in_a_header = refl
 
 end_in_place_of_a_command : on Want.Check "$end;" ≡ gives "" "vcdkit: (stdin):1: command out of place;" 1
 unfolding model
@@ -140,12 +164,48 @@ dumpports_in_body : on Want.Check "$var wire 1 ! a $end;$enddefinitions $end;$du
 unfolding model
 dumpports_in_body = refl
 
+date_in_body : on Want.Check "$var wire 1 ! a $end;$enddefinitions $end;$date $end;" ≡ gives "" "vcdkit: (stdin):3: command out of place;" 1
+unfolding model
+date_in_body = refl
+
+enddefinitions_in_body : on Want.Check "$var wire 1 ! a $end;$enddefinitions $end;$enddefinitions $end;" ≡ gives "" "vcdkit: (stdin):3: command out of place;" 1
+unfolding model
+enddefinitions_in_body = refl
+
+scope_in_body : on Want.Check "$var wire 1 ! a $end;$enddefinitions $end;$scope $end;" ≡ gives "" "vcdkit: (stdin):3: command out of place;" 1
+unfolding model
+scope_in_body = refl
+
+timescale_in_body : on Want.Check "$var wire 1 ! a $end;$enddefinitions $end;$timescale $end;" ≡ gives "" "vcdkit: (stdin):3: command out of place;" 1
+unfolding model
+timescale_in_body = refl
+
+upscope_in_body : on Want.Check "$var wire 1 ! a $end;$enddefinitions $end;$upscope $end;" ≡ gives "" "vcdkit: (stdin):3: command out of place;" 1
+unfolding model
+upscope_in_body = refl
+
+version_in_body : on Want.Check "$var wire 1 ! a $end;$enddefinitions $end;$version $end;" ≡ gives "" "vcdkit: (stdin):3: command out of place;" 1
+unfolding model
+version_in_body = refl
+
 -- ---- reports
 
 -- digits and a real text always differ, and real texts where their bytes do
 digits_and_reals : on (Want.Edges []) "$var wire 1 ! a $end;$enddefinitions $end;0!;r1 !;1!;r1 !;r1.0 !;" ≡ gives "a 4 0 0;" "" 0
 unfolding model
 digits_and_reals = refl
+
+reals_by_their_bytes : on (Want.Edges (codes "r" ∷ [])) "$var wire 1 ! a $end;$var real 1 \" r $end;$var event 1 # e $end;$var wire 2 % u $end;$enddefinitions $end;rNaN \";rnan \";rnan \";" ≡ gives "r 1 0 0;" "" 0
+unfolding model
+reals_by_their_bytes = refl
+
+edges_of_extended_digits : on (Want.Edges []) "$var wire 4 ! a $end;$enddefinitions $end;b0001 !;b1 !;bx !;bxX !;1!;" ≡ gives "a 2 0 0;" "" 0
+unfolding model
+edges_of_extended_digits = refl
+
+event_before_any_mark : on (Want.Edges (codes "e" ∷ [])) "$var wire 1 ! a $end;$var real 1 \" r $end;$var event 1 # e $end;$var wire 2 % u $end;$enddefinitions $end;1#;#0;1#;#2;x#;" ≡ gives "e 3 0 0;" "" 0
+unfolding model
+event_before_any_mark = refl
 
 aliases : on (sample (1 ∷ []) []) "$var wire 2 ! a $end;$var event 1 # e $end;$var reg 2 ! b $end;$enddefinitions $end;#1;bX !;" ≡ gives "1 a xx;1 b xx;" "" 0
 unfolding model
@@ -160,6 +220,10 @@ second_time_at_end : on (sample (1 ∷ 5 ∷ []) (codes "a" ∷ [])) "$var wire 
 unfolding model
 second_time_at_end = refl
 
+times_before_variables : on (sample (7 ∷ 8 ∷ []) []) "$var wire 1 ! a $end;$var real 1 \" r $end;$var event 1 # e $end;$var wire 2 % u $end;$enddefinitions $end;#3;0!;bx %;" ≡ gives "7 a 0;7 r -;7 u xx;8 a 0;8 r -;8 u xx;" "" 0
+unfolding model
+times_before_variables = refl
+
 -- a scope that was left open is closed
 names_that_overlap : on (Want.Pick (codes "t.u" ∷ codes "t" ∷ [])) "$scope m t $end;$scope m u $end;$var wire 1 ! a $end;$upscope $end;$enddefinitions $end;" ≡ gives "$scope m t $end;$scope m u $end;$var wire 1 ! a $end;$upscope $end;$upscope $end;$enddefinitions $end;" "" 0
 unfolding model
@@ -173,6 +237,10 @@ no_marks = refl
 marks_without_changes : on (Want.Pick (codes "a" ∷ [])) "$var wire 1 ! a $end;$enddefinitions $end;#2;#7;#7;" ≡ gives "$var wire 1 ! a $end;$enddefinitions $end;#7;" "" 0
 unfolding model
 marks_without_changes = refl
+
+sections_as_they_were : on (Want.Pick (codes "a" ∷ [])) "$var wire 1 ! a $end;$enddefinitions $end;#1;$dumpvars;0!;$end;$dumpoff;x!;$end;$dumpon;1!;$end;$dumpall;$end;" ≡ gives "$var wire 1 ! a $end;$enddefinitions $end;#1;$dumpvars;0!;$end;$dumpoff;x!;$end;$dumpon;1!;$end;$dumpall;$end;" "" 0
+unfolding model
+sections_as_they_were = refl
 
 cut_closes_above_start : on (cut "0" "9") "$var wire 1 ! a $end;$enddefinitions $end;1!;#0;" ≡ gives "$var wire 1 ! a $end;$enddefinitions $end;#0;$dumpvars;$end;1!;" "" 0
 unfolding model
@@ -199,6 +267,15 @@ too_large_alone : outcome Want.Merge limit (codes "a.vcd" ∷ codes "b.vcd" ∷ 
 unfolding model
 too_large_alone = refl
 
+-- a fault ends a merge where its place comes; items of a later input at the same time come after it
+failed_read_waits_in_a_merge : outcome Want.Merge limit (codes "a.vcd" ∷ codes "b.vcd" ∷ []) (clean "$var wire 1 ! a $end;$enddefinitions $end;#1;1!;#3;0!;#9;1!;" ∷ record { bytes = written "$var wire 1 ! a $end;$enddefinitions $end;#2;0!;#5;"; mark = Mark.Failed } ∷ []) ≡ gives "$timescale;^1s;$end;$scope module in1 $end;$var wire 1 ! a $end;$upscope $end;$scope module in2 $end;$var wire 1 \" a $end;$upscope $end;$enddefinitions $end;#1;1!;#2;0\";#3;0!;" "vcdkit: b.vcd: read failed;" 3
+unfolding model
+failed_read_waits_in_a_merge = refl
+
+fault_before_a_later_input : outcome Want.Merge limit (codes "a.vcd" ∷ codes "b.vcd" ∷ []) (clean "$var wire 1 ! a $end;$enddefinitions $end;#5;?;" ∷ clean "$var wire 1 ! a $end;$enddefinitions $end;#4;0!;#5;1!;" ∷ []) ≡ gives "$timescale;^1s;$end;$scope module in1 $end;$var wire 1 ! a $end;$upscope $end;$scope module in2 $end;$var wire 1 \" a $end;$upscope $end;$enddefinitions $end;#4;0\";" "vcdkit: a.vcd:4: unknown command;" 1
+unfolding model
+fault_before_a_later_input = refl
+
 -- a header with four declarations
 abbrev four : Header
 four = record { declarations = Declaration.Scope (codes "m") (codes "s") ∷ Declaration.Up ∷ Declaration.Scope (codes "m") (codes "s") ∷ Declaration.Up ∷ []; codes = []; date = []; version = []; scale = None }
@@ -207,3 +284,8 @@ four = record { declarations = Declaration.Scope (codes "m") (codes "s") ∷ Dec
 declarations_left : map allowed_after ([] ∷ (four ∷ []) ∷ (four ∷ four ∷ []) ∷ []) ≡ 16777216 ∷ 16777212 ∷ 16777208 ∷ []
 unfolding model
 declarations_left = refl
+
+-- what earlier inputs leave limits the next one
+next_header : (limit : ℕ) (earlier : List Header) (i : Input) (f : Fault) → header_fault_of (stream_of limit i) (read_header (allowed_after earlier) (stream_of limit i)) ≡ Some f → open_from limit earlier (i ∷ []) ≡ Err (length earlier, f)
+unfolding open_from
+next_header limit earlier i f e = rw (open_from, e) refl

@@ -1,5 +1,5 @@
 -- Tables of values, codes, scales and sizes, computed.
-use Rattle.std.proofs.Common.{◌≡◌, ℕ, ℤ, pos, negsuc, ◌+◌, ◌*◌, ◌^◌, Bool, true, false, List, [], ◌∷◌, map, codes, replicate, Option, Some, None, Ok, Err, refl}
+use Rattle.std.proofs.Common.{◌≡◌, ℕ, ℤ, pos, negsuc, ◌+◌, ◌*◌, ◌^◌, Bool, true, false, List, [], ◌∷◌, ◌++◌, map, codes, replicate, Option, Some, None, Ok, Err, refl}
 use Prim.Native.String.{String}
 use Rattle.std.specs.Str.{str_to_ascii_lowercase}
 use Rattle.vcd_model.specs.Scales.{exponent_of, scale_text}
@@ -12,8 +12,8 @@ use Rattle.vcd_model.specs.Items.{ChangeForm}
 use Rattle.vcd_model.specs.Values.{extend, short, change_line}
 use Rattle.vcd_model.specs.HeadText.{new_code}
 use Rattle.vcd_model.specs.Merge.{factor}
-use Rattle.vcd_model.specs.Outcome.{Opened, open_from}
-use Rattle.vcd_model.specs.Bound.{bound, value_room, room_of}
+use Rattle.vcd_model.specs.Outcome.{Opened, fault_text, open_from}
+use Rattle.vcd_model.specs.Bound.{bound, room_count, room_of, value_room, view_count, window_count}
 use Rattle.vcd_model.proofs.Computing.{model}
 use Rattle.vcd_model.proofs.RowText.{written, clean}
 
@@ -89,6 +89,15 @@ no_unknown_commands : map (λ s. is_unknown_command (codes s)) ("$" ∷ "end" �
 unfolding model
 no_unknown_commands = refl
 
+-- what begins a change, a time mark or a section is out of place, and other bytes begin nothing
+begins_a_change_in_a_header : map (λ s. header_fault 16777216 [] [] (codes s)) ("#" ∷ "0" ∷ "1" ∷ "x" ∷ "X" ∷ "z" ∷ "Z" ∷ "b" ∷ "B" ∷ "r" ∷ "R" ∷ "2" ∷ "a" ∷ []) ≡ replicate 11 (Some 4) ++ Some 3 ∷ Some 3 ∷ []
+unfolding model
+begins_a_change_in_a_header = refl
+
+sections_in_a_header : map (λ s. header_fault 16777216 [] [] (codes s)) ("$dumpall" ∷ "$dumpoff" ∷ "$dumpon" ∷ "$dumpvars" ∷ "$end" ∷ []) ≡ replicate 5 (Some 4)
+unfolding model
+sections_in_a_header = refl
+
 -- ---- limits of a header
 
 -- the fault of a token that begins a phrase behind as many open scopes, where this many declarations are allowed
@@ -104,6 +113,17 @@ too_many_before_depth : map (λ token. behind_scopes 1000 1000 token) ("$scope" 
 unfolding model
 too_many_before_depth = refl
 
+-- .. and before the scope that is missing
+upscope_of_too_many : header_fault 0 [] [] (codes "$upscope") ≡ Some 11
+unfolding model
+upscope_of_too_many = refl
+
+-- ---- texts of faults
+
+texts_of_rare_faults : map fault_text (10 ∷ 11 ∷ 21 ∷ 31 ∷ 32 ∷ 0 ∷ 23 ∷ []) ≡ codes "scopes too deep" ∷ codes "too many declarations" ∷ codes "input too long" ∷ codes "read failed" ∷ codes "out of memory" ∷ [] ∷ [] ∷ []
+unfolding model
+texts_of_rare_faults = refl
+
 -- ---- the bound
 
 abbrev opened : String → List Opened
@@ -112,6 +132,10 @@ opened s = elim (open_from 1048576 [] (clean s ∷ [])) [ Ok os ↦ os | Err e �
 bound_of_clock : map (λ o. bound 1048576 (o.header ∷ [])) (opened "$timescale 1ns $end;$scope module tb $end;$var wire 1 ! clk $end;$var reg 4 \" q [3:0] $end;$upscope $end;$enddefinitions $end;") ≡ (65536 + 512 + 2 * 1048576 + 27 + 64 * 4 + (1 + 192) + (4 + 192)) ∷ []
 unfolding model
 bound_of_clock = refl
+
+bound_with_texts : map (λ o. bound 64 (o.header ∷ o.header ∷ [])) (opened "$date ab c $end;$version de $end;$var wire 4 !! v [0] $end;$enddefinitions $end;") ≡ (2 * (65536 + 512 + 2 * 64 + (4 + 2 + 4 + 2 + 5) + 64 + (4 + 192))) ∷ []
+unfolding model
+bound_with_texts = refl
 
 room_of_two_codes : map (λ o. room_of o.header) (opened "$var wire 4 ! v $end;$var wire 8 \" w $end;$enddefinitions $end;") ≡ record { values = 128; slots = 2; marks = 2 } ∷ []
 unfolding model
@@ -124,3 +148,7 @@ room_of_three_codes = refl
 shares : map (λ size. value_room (record { text = codes "!"; size = size; event = false })) (1 ∷ 255 ∷ 256 ∷ 257 ∷ 260 ∷ 261 ∷ 1000 ∷ 16777215 ∷ []) ≡ 64 ∷ 64 ∷ 64 ∷ 65 ∷ 65 ∷ 66 ∷ 250 ∷ 4194304 ∷ []
 unfolding model
 shares = refl
+
+counts_of_parts : (window_count (record { chunk = 1000; token = 200; value = 30 }) ∷ view_count (record { text = 1; rows = 1000; codes = 0; index = 0; look_up = 0 }) ∷ view_count (record { text = 0; rows = 0; codes = 1000; index = 0; look_up = 7 }) ∷ view_count (record { text = 0; rows = 0; codes = 0; index = 1000; look_up = 0 }) ∷ room_count (record { values = 1; slots = 1000; marks = 5 }) ∷ []) ≡ (1230 ∷ 49001 ∷ 25007 ∷ 8000 ∷ 42006 ∷ [])
+unfolding model
+counts_of_parts = refl

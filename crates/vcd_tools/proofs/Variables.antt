@@ -9,7 +9,7 @@ use Rattle.vcd_head.specs.contracts.view.Kind.{the_type}
 use denote.Enum.Bare.{sameb}
 use Rattle.vcd_head.specs.Shown.{HeadShown}
 use Rattle.vcd_head.specs.Views.{Views}
-use Rattle.vcd_head.proofs.RowAt.{read_row, variable_at}
+use Rattle.vcd_head.proofs.RowLemmas.{read_row, variable_at}
 
 -- there is a row at this place, and it is a variable's
 abbrev pub IsVariable : HeadShown → ℕ → Type 0

@@ -1,8 +1,10 @@
 //! How a run ends.
 ghost use Rattle.std.specs.Prelude.{◌≡◌};
+ghost use Rattle.vcd_tools.specs.Answer.{stop_of_body};
 ghost use Rattle.vcd_tools.specs.declared.answer.Stop.TheVariants.{Write};
 
-use vcd_text::device::WriteFailed;
+use vcd_body::BodyFault;
+use vcd_text::WriteFailed;
 
 /// What was written stands for the whole dump, or for its first part.
 #[derive(Clone, Copy, PartialEq, Eq, Debug)]
@@ -29,10 +31,26 @@ pub enum Stop {
     Dump { input: usize, line: u64, fault: u8 },
     /// A read of the input at this place failed.
     Read { input: usize },
-    /// A write failed. Some first bytes of the output were written.
+    /// A write failed. A prefix of the output was written.
     Write,
     /// The name at this place among those of the task, the first such, selects nothing.
     Unmatched { name: usize },
+}
+
+impl Stop {
+    /// The answer to a fault of the body of the input at a place.
+    pub(crate) fn of_body(fault: BodyFault, input: usize, line: u64) -> Stop
+        ensures { result ≡ stop_of_body fault input line }
+    {
+        match fault {
+            BodyFault::ReadFailed => Stop::Read { input },
+            _ => Stop::Dump {
+                input,
+                line,
+                fault: fault.number(),
+            },
+        }
+    }
 }
 
 impl From<WriteFailed> for Stop {

@@ -1,15 +1,65 @@
 //! What is done with a dump whose header was read.
+//!
+//! `list` writes a line for each variable of a view. The other commands over one dump are each a `Task`: `run_task` does it
+//! over the items of the body, in a `Room` of the lengths that `Task::need` says; `check` and `pick` are one call of it each.
+//! An `Engine` is the same run step by step, for callers that have more to do between items. None of them takes memory.
+//!
+//! # The relations
+//!
+//! `Follows task .. result` says what a run leaves: an input, whole, or a prefix of it where a read failed, and that output and
+//! result belong to the definitions' outcome for it. Between steps an engine `Runs`: the feed has given these items, and the
+//! engine `Holds` what is due after them. A step (`StepGives`) takes one item more, and the output grows by exactly what is due
+//! with it; or it ends the run: at the end of the body, where it writes what is due there, at an item that ends the run early,
+//! or at a fault, where it writes nothing. Where a write fails, a prefix was written. What a command keeps is one case of
+//! `Keeps`.
+//!
+//! # The modules
+//!
+//! - `task`: `Task`, `Room`, `Task::need`
+//! - `engine`: `Engine`, and `run_task`, the one loop over items. It names no command
+//! - `machine`, `machine/check`, `machine/pick`: what each task keeps between items, and what it does at the begin, with an
+//!   item and at the end
+//! - `commands`: `check`, `pick`
+//! - `answer`: `Done`, `More`, `Stop`: how a run ends, and whether it goes on
+//! - `item_text`: kept items as lines, each after the line of its time
+//! - `selection`: the variables that names select, as marks and as chosen codes
+//! - `report`, `rows`: the seven lines of `check`; `list`
+//! - `merge`, `merging`, `seat`, `newcode`, `windows`: a step of `merge` over all inputs, and of one of them; where an input
+//!   stands; new codes; the windows of all inputs. No function begins a merge, and no command uses it yet
+//!
+//! In `specs/` callers read `Run` (`Follows`), `Engine`, `Step`, `Room` and `Answer`; of a merge `MergeStep`, `MergeParts`,
+//! `MergeOrder` and `Seat`.
+//!
+//! # Limits
+//!
+//! One dump a task. A call asks for fewer than 2^64 - 1 failures of its devices so far, and `run_task` for a feed of which no
+//! failed read was returned (`HasNotFailed`).
+//!
+//! Not promised: how many bytes of the output were written where a write failed, and what room holds after a run.
 #![tactic(auto)]
 
-pub mod answer;
-pub mod check;
-mod choice;
-pub mod engine;
-mod items;
-pub mod list;
-pub mod pick;
-mod picking;
+mod answer;
+mod commands;
+mod engine;
+mod item_text;
+mod machine;
+mod merge;
+mod merging;
+mod newcode;
 mod report;
-pub mod room;
+mod rows;
+mod seat;
+mod selection;
+mod task;
 #[cfg(test)]
 mod tests;
+mod windows;
+
+pub use answer::{Done, More, Stop};
+pub use commands::{check, pick};
+pub use engine::{Engine, run_task};
+pub use merge::{Merge, merge_step};
+pub use rows::list;
+pub use seat::Seat;
+pub use task::{Room, Task};
+pub use windows::Windows;

@@ -1,20 +1,11 @@
 // The report of `check`: seven lines.
 ghost use Rattle.std.specs.Prelude.{◌≡◌, ◌-◌, ◌^◌, ◌<◌, decimal, flat_map, codes, count_by};
 ghost use Rattle.vcd_model.specs.CheckAndList.{count_line, number_or_dash};
-ghost use Rattle.vcd_text.specs.Device.{Takes, failures_after};
+ghost use Rattle.vcd_text.specs.Device.{Puts, Takes, failures_after};
 ghost use Rattle.vcd_tools.specs.Report.{named_line, report_text, opens_scope, declares_variable};
 
-use vcd_head::view::{Kind, Row};
-use vcd_text::device::{Sink, WriteFailed};
-use vcd_text::output::{put, put_number};
-
-/// What was counted in a body.
-#[derive(Clone, Copy, PartialEq, Eq, Debug)]
-pub(crate) struct Counts {
-    pub(crate) times: u64,
-    pub(crate) sections: u64,
-    pub(crate) changes: u64,
-}
+use vcd_head::{Kind, Row};
+use vcd_text::{Sink, WriteFailed, put, put_number};
 
 /// What `check` says of a dump.
 #[derive(Clone, Copy, PartialEq, Eq, Debug)]
@@ -22,7 +13,9 @@ pub(crate) struct Report {
     pub(crate) scopes: u64,
     pub(crate) variables: u64,
     pub(crate) codes: u64,
-    pub(crate) counts: Counts,
+    pub(crate) times: u64,
+    pub(crate) sections: u64,
+    pub(crate) changes: u64,
     // The last time mark.
     pub(crate) last: Option<u64>,
 }
@@ -55,9 +48,9 @@ pub(crate) fn variables_in(rows: &[Row]) -> usize
 
 /// Writes a name and a number as a line.
 fn put_count<W: Sink>(out: &mut W, name: &str, number: u64) -> Result<(), WriteFailed>
-    requires { W.failures out.old < 2 ^ 64 - 1 }
-    ensures takes { Takes (W.held out.old) (W.held out.new) (count_line name.now (decimal number)) result }
-    ensures failures { W.failures out.new ≡ failures_after (W.failures out.old) result }
+    requires { (W.device out.old).failures < 2 ^ 64 - 1 }
+    ensures { Puts (W.device out.old) (W.device out.new)
+        (count_line name.now (decimal number)) result }
 {
     put(out, name.as_bytes())?;
     put(out, b" ")?;
@@ -67,9 +60,8 @@ fn put_count<W: Sink>(out: &mut W, name: &str, number: u64) -> Result<(), WriteF
 
 /// Writes names and numbers as lines.
 fn put_counts<W: Sink>(out: &mut W, counts: &[(&str, u64)]) -> Result<(), WriteFailed>
-    requires { W.failures out.old < 2 ^ 64 - 1 }
-    ensures takes { Takes (W.held out.old) (W.held out.new) (flat_map named_line counts.now) result }
-    ensures failures { W.failures out.new ≡ failures_after (W.failures out.old) result }
+    requires { (W.device out.old).failures < 2 ^ 64 - 1 }
+    ensures { Puts (W.device out.old) (W.device out.new) (flat_map named_line counts.now) result }
 {
     for (name, number) in counts {
         put_count(out, name, *number)?;
@@ -79,9 +71,9 @@ fn put_counts<W: Sink>(out: &mut W, counts: &[(&str, u64)]) -> Result<(), WriteF
 
 /// Writes the last time mark as a line, `-` where there is none.
 fn put_last<W: Sink>(out: &mut W, last: Option<u64>) -> Result<(), WriteFailed>
-    requires { W.failures out.old < 2 ^ 64 - 1 }
-    ensures takes { Takes (W.held out.old) (W.held out.new) (count_line (codes "last") (number_or_dash last)) result }
-    ensures failures { W.failures out.new ≡ failures_after (W.failures out.old) result }
+    requires { (W.device out.old).failures < 2 ^ 64 - 1 }
+    ensures { Puts (W.device out.old) (W.device out.new)
+        (count_line (codes "last") (number_or_dash last)) result }
 {
     match last {
         Some(time) => put_count(out, "last", time),
@@ -91,17 +83,16 @@ fn put_last<W: Sink>(out: &mut W, last: Option<u64>) -> Result<(), WriteFailed>
 
 /// Writes the report.
 pub(crate) fn put_report<W: Sink>(out: &mut W, report: &Report) -> Result<(), WriteFailed>
-    requires { W.failures out.old < 2 ^ 64 - 1 }
-    ensures takes { Takes (W.held out.old) (W.held out.new) (report_text report.now) result }
-    ensures failures { W.failures out.new ≡ failures_after (W.failures out.old) result }
+    requires { (W.device out.old).failures < 2 ^ 64 - 1 }
+    ensures { Puts (W.device out.old) (W.device out.new) (report_text report.now) result }
 {
     let counts = [
         ("scopes", report.scopes),
         ("variables", report.variables),
         ("codes", report.codes),
-        ("times", report.counts.times),
-        ("sections", report.counts.sections),
-        ("changes", report.counts.changes),
+        ("times", report.times),
+        ("sections", report.sections),
+        ("changes", report.changes),
     ];
     put_counts(out, &counts)?;
     put_last(out, report.last)

@@ -1,68 +1,22 @@
 // Headers that are listed, bodies that are counted and of which some variables are picked, and devices that fail.
-ghost use Rattle.std.specs.Prelude.{◌≡◌, ◌≤◌, Some};
+ghost use Rattle.std.specs.Prelude.{◌≡◌};
 
 use crate::answer::{Done, More, Stop};
-use crate::check::check;
-use crate::engine::{Engine, Task};
-use crate::list::list;
-use crate::pick::pick;
-use crate::room::Room;
+use crate::commands::{check, pick};
+use crate::engine::Engine;
+use crate::rows::list;
+use crate::task::{Room, Task};
 use std::alloc::Global;
-use std::io;
 use std::test::Fail;
-use vcd_body::table::Slot;
-use vcd_head::fault::HeadFault;
-use vcd_head::head::Head;
-use vcd_head::read::read_head;
-use vcd_text::device::{ReadFailed, Sink, Source, Watch};
-use vcd_text::feed::Feed;
+use vcd_body::Slot;
+use vcd_head::{Head, HeadFault, read_head};
+use vcd_text::doubles::{Narrow, Pieces};
+use vcd_text::{Feed, Sink, Source, Watch};
 
 const NESTED: &[u8] =
     b"$var event 1 % go $end\n$scope module tb $end\n$var wire 1 ! clk $end\n$scope module u $end\n$var reg 4 \" q [3:0] $end\n$upscope $end\n$var real 1 # r $end\n$enddefinitions $end\n";
 
 const NESTED_LIST: &[u8] = b"go event 1 %\ntb.clk wire 1 !\ntb.u.q reg 4 \"\ntb.r real 1 #\n";
-
-// Holds what it took, in pieces of three bytes, and fails where it has no more room.
-#[derive(Drop)]
-struct Narrow {
-    bytes: [u8; 256],
-    len: usize,
-    room: usize,
-    ghost in_range: { len ≤ room },
-    ghost fits: { room ≤ 256 },
-}
-
-impl Narrow {
-    fn new(room: usize) -> Self
-        requires { room ≤ 256 }
-    {
-        Narrow {
-            bytes: [0; 256],
-            len: 0,
-            room,
-        }
-    }
-
-    fn held(&self) -> &[u8] {
-        &self.bytes[..self.len]
-    }
-}
-
-impl io::Write for Narrow {
-    fn write(&mut self, buf: &[u8]) -> io::Result<usize> {
-        let n = buf.len().min(3).min(self.room - self.len);
-        if n == 0 {
-            return Err(io::Error::from(io::ErrorKind::StorageFull));
-        }
-        self.bytes[self.len..self.len + n].copy_from_slice(&buf[..n]);
-        self.len += n;
-        Ok(n)
-    }
-
-    fn flush(&mut self) -> io::Result<()> {
-        Ok(())
-    }
-}
 
 fn read(alloc: Global, text: &[u8]) -> Result<Head, HeadFault> {
     let mut source = Watch::new(text);
@@ -112,35 +66,6 @@ const ICARUS: &[u8] =
 const ICARUS_COUNTS: &[u8] =
     b"scopes 1\nvariables 2\ncodes 2\ntimes 3\nsections 1\nchanges 4\nlast 10\n";
 
-// Gives its bytes, and then fails.
-#[derive(Drop)]
-struct Broken<'a> {
-    bytes: &'a [u8],
-    failures: u64,
-}
-
-impl Source for Broken<'_> {
-    ghost rest = { λ s. Some s.bytes.now };
-
-    ghost failures = { λ s. s.failures };
-
-    fn read(&mut self, into: &mut [u8]) -> Result<usize, ReadFailed> {
-        if self.bytes.is_empty() {
-            self.failures += 1;
-            return Err(ReadFailed);
-        }
-        let n = into.len().min(self.bytes.len());
-        let (front, back) = self.bytes.split_at(n);
-        into[..n].copy_from_slice(front);
-        self.bytes = back;
-        Ok(n)
-    }
-
-    fn failures(&self) -> u64 {
-        self.failures
-    }
-}
-
 // Runs `check` over a source.
 fn check_over<S: Source, W: Sink>(
     alloc: Global,
@@ -148,7 +73,7 @@ fn check_over<S: Source, W: Sink>(
     out: &mut W,
 ) -> Result<Result<Done, Stop>, HeadFault>
     requires source { S.failures source.old ≡ 0 }
-    requires out { W.failures out.old ≡ 0 }
+    requires out { (W.device out.old).failures ≡ 0 }
 {
     let mut chunk = [0u8; 7];
     let mut token = [0u8; 64];
@@ -158,7 +83,7 @@ fn check_over<S: Source, W: Sink>(
     Ok(check(head.view(), &mut feed, out))
 }
 
-// Whether a dump is answered so, and this is written.
+// Whether a dump has this result, and this is written.
 fn is_checked(
     alloc: Global,
     text: &[u8],
@@ -226,17 +151,16 @@ fn check_of_an_open_section(rt: HostRuntime) -> Result<(), Fail> {
 
 #[test]
 fn check_stops_where_a_read_fails(rt: HostRuntime) -> Result<(), Fail> {
-    let mut source = Broken {
-        bytes: ICARUS,
-        failures: 0,
-    };
+    let mut pieces = Pieces::new(ICARUS, 5);
+    pieces.broken = true;
+    let mut source = Watch::new(pieces);
     let mut out = Watch::new(Narrow::new(256));
     assert_eq!(rt;
         check_over(rt.alloc(), &mut source, &mut out)?,
         Err(Stop::Read { input: 0 })
     );
     assert_eq!(rt; out.device.held(), b"".as_slice());
-    assert_eq!(rt; source.failures, 1);
+    assert_eq!(rt; Source::failures(&source), 1);
     Ok(())
 }
 
@@ -306,7 +230,7 @@ fn pick_over<S: Source, W: Sink>(
     out: &mut W,
 ) -> Result<Result<Done, Stop>, HeadFault>
     requires source { S.failures source.old ≡ 0 }
-    requires out { W.failures out.old ≡ 0 }
+    requires out { (W.device out.old).failures ≡ 0 }
 {
     let mut chunk = [0u8; 7];
     let mut token = [0u8; 64];
@@ -324,7 +248,7 @@ fn pick_over<S: Source, W: Sink>(
     Ok(pick(view, &mut feed, &mut room, &names, out))
 }
 
-// Whether a pick of this name is answered so, and this is written.
+// Whether a pick of this name has this result, and this is written.
 fn is_picked(
     alloc: Global,
     text: &[u8],
@@ -379,34 +303,10 @@ const CUT_SHORT_HEAD: &[u8] =
 const CUT_SHORT_PICKED: &[u8] =
     b"$timescale\n\t1ns\n$end\n$scope module tb $end\n$var wire 1 ! clk $end\n$var reg 4 \" q [3:0] $end\n$upscope $end\n$enddefinitions $end\n#0\n0!\n";
 
-// Gives its bytes, and never fails.
-#[derive(Drop)]
-struct Steady<'a> {
-    bytes: &'a [u8],
-}
-
-impl Source for Steady<'_> {
-    ghost rest = { λ s. Some s.bytes.now };
-
-    ghost failures = { λ s. 0 };
-
-    fn read(&mut self, into: &mut [u8]) -> Result<usize, ReadFailed> {
-        let n = into.len().min(self.bytes.len());
-        let (front, back) = self.bytes.split_at(n);
-        into[..n].copy_from_slice(front);
-        self.bytes = back;
-        Ok(n)
-    }
-
-    fn failures(&self) -> u64 {
-        0
-    }
-}
-
 #[test]
 fn steps_of_a_pick_write_what_is_due(rt: HostRuntime) -> Result<(), Fail> {
     let alloc = rt.alloc();
-    let mut source = Steady { bytes: CUT_SHORT };
+    let mut source = Watch::new(CUT_SHORT);
     let mut chunk = [0u8; 7];
     let mut token = [0u8; 64];
     let mut value = [0u8; 64];

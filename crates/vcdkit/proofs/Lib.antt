@@ -1,4 +1,4 @@
-mod Writing
-mod Asking
-mod Outcomes
-mod Running
+mod WordsLemmas
+mod MessageLemmas
+mod OutcomeLemmas
+mod RunLemmas

@@ -1,4 +1,5 @@
-pub mod Refusals
+pub mod Words
+pub mod Job
+pub mod Failure
 pub mod Message
-pub mod Asked
 pub mod Run

@@ -1,9 +1,62 @@
--- A line on the error stream, a fault of which is passed over.
-use Rattle.std.specs.Prelude.{◌≡◌, ◌⊎◌, ℕ, ◌+◌, List, take, Option}
-use Rattle.std.specs.Io.KnownBytes.{Appends}
+-- What is said on the error stream of each end, and the exit status.
+use Rattle.std.specs.Prelude.{◌⊎◌, ℕ, List, [], ◌++◌, codes, decimal, Option, Some, None}
+use Rattle.vcd_model.specs.Outcome.{Outcome, name_at, program_line, fault_text}
+use Rattle.vcd_model.specs.Words as model
+use Rattle.vcd_text.specs.Device.{Device, Writes, WritesSome}
+use Rattle.vcd_tools.specs.declared.answer.Stop.{Stop}
+use Rattle.vcd_tools.specs.declared.answer.Stop.TheVariants.{Dump, Read, Write, Unmatched}
+use Rattle.vcdkit.specs.declared.failure.Failure.{Failure}
+use Rattle.vcdkit.specs.declared.failure.Failure.TheVariants.{Stopped, OutOfMemory}
+use Rattle.vcdkit.specs.declared.job.UseFault.{UseFault}
+use Rattle.vcdkit.specs.declared.job.UseFault.TheVariants as use_fault
 
--- the sink took the whole line, or failed once behind some first bytes of it
-abbrev pub Shows : (old new : Option (List ℕ)) (failures_before failures_now : ℕ) → List ℕ → Type 0
-Shows old new failures_before failures_now line =
-    (Appends old new line × (failures_now ≡ failures_before))
-    ⊎ (((n : ℕ) × Appends old new (take n line)) × (failures_now ≡ failures_before + 1))
+-- the stream took the whole line, or failed once after a prefix of it; a fault of it is passed over
+abbrev pub Shows : Device → Device → List ℕ → Type 0
+Shows old new line = Writes old new line ⊎ WritesSome old new line
+
+-- ---- a run
+
+-- the line where a run stops whose inputs have these names, and which was asked for those
+abbrev pub stop_message : (names asked : List (List ℕ)) → Stop → List ℕ
+stop_message names asked (Dump input line fault) = program_line (name_at names input ++ codes ":" ++ decimal line ++ codes ": " ++ fault_text fault)
+stop_message names asked (Read input) = program_line (name_at names input ++ codes ": read failed")
+stop_message names asked Write = program_line (codes "write failed")
+stop_message names asked (Unmatched place) = program_line (name_at asked place ++ codes ": selects nothing")
+
+-- the exit status then
+abbrev pub stop_status : Stop → ℕ
+stop_status (Dump input line fault) = 1
+stop_status (Read input) = 3
+stop_status Write = 3
+stop_status (Unmatched place) = 1
+
+-- the same of a run that fails
+abbrev pub failure_message : (names asked : List (List ℕ)) → Failure → List ℕ
+failure_message names asked (Stopped stop) = stop_message names asked stop
+failure_message names asked OutOfMemory = program_line (codes "out of memory")
+
+abbrev pub failure_status : Failure → ℕ
+failure_status (Stopped stop) = stop_status stop
+failure_status OutOfMemory = 3
+
+-- the line of a run, if there is one
+abbrev pub end_message : (names asked : List (List ℕ)) → Option Failure → List ℕ
+end_message names asked None = []
+end_message names asked (Some failure) = failure_message names asked failure
+
+-- its exit status
+abbrev pub end_status : Option Failure → ℕ
+end_status None = 0
+end_status (Some failure) = failure_status failure
+
+-- ---- no job, or no input: there is no output
+
+-- why there is no job
+abbrev pub use_outcome : UseFault → Outcome
+use_outcome use_fault.BadWords = model.use_outcome model.UseFault.BadWords
+use_outcome (use_fault.BadLimit word) = model.use_outcome (model.UseFault.BadLimit word.now)
+use_outcome use_fault.OutOfMemory = record { output = []; message = program_line (fault_text 32); status = 3 }
+
+-- the file of this name cannot be opened
+abbrev pub unopened_outcome : List ℕ → Outcome
+unopened_outcome name = record { output = []; message = program_line (name ++ codes ": cannot be opened"); status = 3 }

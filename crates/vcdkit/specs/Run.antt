@@ -1,65 +1,47 @@
--- What a run gives.
-use Rattle.std.specs.Prelude.{◌≡◌, ℕ, ◌+◌, ◌≤◌, List, [], ◌∷◌, length, take, codes, Result, Ok, Err}
-use Rattle.std.specs.Io.KnownBytes.{Appends}
+-- What a run leaves.
+use Rattle.std.specs.Prelude.{◌≡◌, ℕ, List, [], ◌∷◌, ◌++◌, codes, Result, Ok, Err}
 use Rattle.vcd_model.specs.Input.{Input}
-use Rattle.vcd_model.specs.Job.{outcome}
-use Rattle.vcd_model.specs.Outcome.{Outcome, Request, program_line}
+use Rattle.vcd_model.specs.Job as model
+use Rattle.vcd_model.specs.Outcome.{Outcome, Request, over_dump, program_line}
 use Rattle.vcd_model.specs.Header.{Header}
-use Rattle.vcd_model.specs.Tokens.{Token}
+use Rattle.vcd_model.specs.Tokens.{Token, stream_of}
 use Rattle.vcd_text.specs.Answer.{whole}
-use Rattle.vcd_head.specs.declared.view.HeadView.{HeadView}
-use Rattle.vcd_tools.specs.Follows.{Belongs, Device, Follows, IsLeft, Writes}
+use Rattle.vcd_text.specs.Device.{Device, Writes, WritesSome}
+use Rattle.vcd_tools.specs.Run.{Belongs, IsLeft}
 use Rattle.vcd_tools.specs.declared.answer.Done.{Done}
-use Rattle.vcd_tools.specs.declared.room.Room.{Room}
-use Rattle.vcdkit.specs.declared.job.Want.{Want}
-use Rattle.vcdkit.specs.declared.job.Want.TheVariants.{Check, List as Listing, Pick}
-use Rattle.vcdkit.specs.declared.refusal.Refusal.{Refusal}
-use Rattle.vcdkit.specs.declared.refusal.Refusal.TheVariants.{Stopped, Memory}
-use Rattle.vcdkit.specs.Asked.{request_for, want_of}
+use Rattle.vcdkit.specs.declared.failure.Failure.{Failure}
+use Rattle.vcdkit.specs.declared.failure.Failure.TheVariants.{Stopped, OutOfMemory}
 use Rattle.vcdkit.specs.Message.{Shows}
 
 -- ---- one input
 
--- the answer and the output of a run of this task that has this outcome; want of memory leaves nothing
-abbrev pub Ends : Request → Outcome → List ℕ → Device → Device → Result Done Refusal → Type 0
-Ends task o name out out' (Ok done) = Belongs task o name out out' (Ok done)
-Ends task o name out out' (Err (Stopped stop)) = Belongs task o name out out' (Err stop)
-Ends task o name out out' (Err Memory) = Writes out out' []
+-- the output of a run of this task that returns this and has this outcome; out of memory it leaves nothing
+abbrev pub Leaves : Request → Outcome → List ℕ → Device → Device → Result Done Failure → Type 0
+Leaves task o name out out' (Ok done) = Belongs task o name out out' (Ok done)
+Leaves task o name out out' (Err (Stopped stop)) = Belongs task o name out out' (Err stop)
+Leaves task o name out out' (Err OutOfMemory) = Writes out out' []
 
--- a run of this task over an input with this name
-pub record Runs (want : Want) (limit : ℕ) (i : Input) (name : List ℕ) (failures failures' : ℕ) (out out' : Device) (result : Result Done Refusal) : Type 0 where
+-- how a run of this task ends over an input with this name: with an outcome that is due for what is left of the input
+pub record Ends (task : Request) (IsDue : Input → Outcome → Type 0) (i : Input) (name : List ℕ) (failures failures' : ℕ) (out out' : Device) (result : Result Done Failure) : Type 0 where
   pub left : Input
   pub is_left : IsLeft i failures failures' left
-  pub ends : Ends (request_for want) (outcome (want_of want) limit (name ∷ []) (left ∷ [])) name out out' result
+  pub due : Outcome
+  pub is_due : IsDue left due
+  pub leaves : Leaves task due name out out' result
 
--- what a task does behind these tokens, which are those of this header, unless memory is wanting before it starts
-abbrev pub Goes : Request → ℕ → Input → List Token → Header → List ℕ → ℕ → ℕ → Device → Device → Result Done Refusal → Type 0
-Goes task limit i front h name failures failures' out out' (Ok done) = Follows task limit i front h name failures failures' out out' (Ok done)
-Goes task limit i front h name failures failures' out out' (Err (Stopped stop)) = Follows task limit i front h name failures failures' out out' (Err stop)
-Goes task limit i front h name failures failures' out out' (Err Memory) = (failures' ≡ failures) × Writes out out' []
+-- the outcome of a job of this input alone
+abbrev pub IsOfJob : model.Want → ℕ → List ℕ → Input → Outcome → Type 0
+IsOfJob want limit name left o = o ≡ model.outcome want limit (name ∷ []) (left ∷ [])
 
--- ---- the room of a task
-
--- how many marks it works with
-abbrev pub marks_for : Want → HeadView → ℕ
-marks_for Check view = 0
-marks_for Listing view = 0
-marks_for (Pick names) view = length view.rows.now
-
--- how many places for codes
-abbrev pub slots_for : Want → HeadView → ℕ
-slots_for Check view = 0
-slots_for Listing view = 0
-slots_for (Pick names) view = length view.codes.now
-
--- the room is large enough for the task
-pub record HasRoomFor (want : Want) (view : HeadView) (room : Room) : Type 0 where
-  pub marks : marks_for want view ≤ length room.marks.now
-  pub slots : slots_for want view ≤ length room.slots.now
+-- the outcome after these tokens, which are those of this header
+abbrev pub IsAfter : Request → ℕ → List Token → Header → List ℕ → Input → Outcome → Type 0
+IsAfter task limit front h name left o =
+    (rest : List Token) × ((stream_of limit left).tokens ≡ front ++ rest)
+    × (o ≡ over_dump task name (record { header = h; stream = stream_of limit left; rest = rest }))
 
 -- ---- all inputs
 
--- the inputs of readers with these texts, one by one: all of a text, or a front of it that is marked as failed where a read failed
+-- the inputs of readers with these texts, one by one: all of a text, or a prefix of it that is marked as failed where a read failed
 abbrev pub AreRead : List (List ℕ) → List ℕ → List ℕ → List Input → Type 0
 AreRead [] failures failures' inputs = inputs ≡ []
 AreRead (text ∷ texts) [] failures' inputs = ⊥
@@ -67,11 +49,11 @@ AreRead (text ∷ texts) (n ∷ ns) [] inputs = ⊥
 AreRead (text ∷ texts) (n ∷ ns) (m ∷ ms) [] = ⊥
 AreRead (text ∷ texts) (n ∷ ns) (m ∷ ms) (i ∷ is) = IsLeft (whole text) n m i × AreRead texts ns ms is
 
--- what a run leaves on its output and on the error stream, and its status
-pub data Gives (o : Outcome) (out out' err err' : Device) (status : ℕ) : Type 0 where
+-- a run leaves this outcome on its output, on the error stream and in its status, as far as its devices let it
+pub data IsOutcome (o : Outcome) (out out' err err' : Device) (status : ℕ) : Type 0 where
   -- all of the outcome
-  Whole : (written : Appends out.held out'.held o.output) (no_failure : out'.failures ≡ out.failures) (shown : Shows err.held err'.held err.failures err'.failures o.message) (status_is : status ≡ o.status) → Gives o out out' err err' status
-  -- a front of the output, where a write of it failed
-  Part : (written : (n : ℕ) × Appends out.held out'.held (take n o.output)) (one_failure : out'.failures ≡ out.failures + 1) (shown : Shows err.held err'.held err.failures err'.failures (program_line (codes "write failed"))) (status_is : status ≡ 3) → Gives o out out' err err' status
-  -- no output, where memory was wanting
-  Nothing : (written : Appends out.held out'.held []) (no_failure : out'.failures ≡ out.failures) (shown : Shows err.held err'.held err.failures err'.failures (program_line (codes "out of memory"))) (status_is : status ≡ 3) → Gives o out out' err err' status
+  Whole : (written : Writes out out' o.output) (shown : Shows err err' o.message) (status_is : status ≡ o.status) → IsOutcome o out out' err err' status
+  -- a prefix of the output, where a write of it failed
+  Part : (written : WritesSome out out' o.output) (shown : Shows err err' (program_line (codes "write failed"))) (status_is : status ≡ 3) → IsOutcome o out out' err err' status
+  -- no output, where memory ran out
+  Nothing : (written : Writes out out' []) (shown : Shows err err' (program_line (codes "out of memory"))) (status_is : status ≡ 3) → IsOutcome o out out' err err' status

@@ -1,7 +1,7 @@
 //! The command line: which words it takes, and the exit status where it takes none.
 ghost use Rattle.std.specs.Prelude.{◌≡◌, IfOk, false};
 ghost use Rattle.clap.specs.Words.{app_of, is_broken, kind_of};
-ghost use Rattle.vcdkit.specs.Asked.{named_app, one_input_app, parse_status_of, program_app};
+ghost use Rattle.vcdkit.specs.Words.{named_app, one_input_app, parse_status_of, program_app};
 
 use clap::error::ErrorKind;
 use clap::{Arg, Command, Error};

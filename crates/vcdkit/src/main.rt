@@ -1,20 +1,47 @@
-//! `vcdkit`: answers about four-state value change dumps (IEEE Std 1364-2005, clause 18), each of them proved.
+//! `vcdkit`: tools over four-state value change dumps (IEEE Std 1364-2005, clause 18).
+//!
+//! `main` reads the words, opens the input, runs the job over it, flushes the output and returns the status. It owns the
+//! devices. `run` works on any readers and sinks, so that its contract can say what is left on them: output, message and status
+//! are those of the definitions' outcome (`IsOutcome`), or a prefix of the output where a write failed, or none of it where out
+//! of memory.
+//!
+//! # The modules
+//!
+//! - `command`: the words that the command line takes, and the status where it takes none
+//! - `words`: what the words ask for, borrowed from their matches
+//! - `job`: `Job`, `Want` with its task and its names, `UseFault`; `job_of`
+//! - `inputs`: the memory of windows; the header of an input
+//! - `run`: a job over readers: windows, header, then `list` over the view or `run_task` in room that is taken for it
+//! - `failure`: why a run ends before it is done
+//! - `message`: the lines on the error stream, and the statuses
+//!
+//! In `specs/`: `Words`, what the command line takes and asks for; `Job`; `Failure`; `Message`; and `Run`, what a run leaves.
+//!
+//! # Limits
+//!
+//! One input a job. `run` takes memory for the windows, for the header and for the room of the task, all of it before the first
+//! byte of output. A fault of the error stream is passed over.
+//!
+//! Not promised: what the functions of this file do with words, files and streams of the host. They have no clauses on it;
+//! those that they call have.
 #![tactic(auto)]
 
-ghost use Rattle.std.specs.Prelude.{◌≡◌, ◌-◌, ◌^◌, ◌<◌, ◌≤◌, All, length};
+ghost use Rattle.std.specs.Prelude.{◌≡◌, ◌-◌, ◌^◌, ◌<◌, All, length};
 
 mod command;
+mod failure;
+mod inputs;
 mod job;
 mod message;
-mod refusal;
 mod run;
 #[cfg(test)]
 mod tests;
+mod words;
 
 use clap::Error;
 use command::{command_of, parse_status};
-use job::{Job, UseFault, input_of, job_of, open_fault, use_fault};
-use message::put_line;
+use job::{Job, UseFault, job_of};
+use message::{open_fault, use_fault, write_fault};
 use run::run;
 use std::alloc::{AllocError, Global};
 use std::env;
@@ -22,7 +49,8 @@ use std::env::Env;
 use std::fs::File;
 use std::io::{BufWriter, ErrorKind, Read, Write};
 use std::process::ExitCode;
-use vcd_text::device::{Sink, Source, Watch};
+use vcd_text::{Sink, Source, Watch};
+use words::input_of;
 
 /// What standard input is called.
 const INPUT: &str = "(stdin)";
@@ -36,7 +64,7 @@ fn words_of<R: Env + AllocGlobal>(rt: &R) -> Result<Vec<String>, UseFault<'stati
     Ok(words.collect(rt.alloc())?)
 }
 
-/// Runs the job over these inputs, flushes the output, and answers the exit status.
+/// Runs the job over these inputs, flushes the output, and returns the exit status.
 fn run_job<S: Source, W: Write + Drop, E: Sink>(
     alloc: Global,
     job: Job,
@@ -47,30 +75,26 @@ fn run_job<S: Source, W: Write + Drop, E: Sink>(
 ) -> Result<u8, AllocError>
     requires names { length names.now ≡ 1 }
     requires readers { length readers.old ≡ 1 }
-    requires limit { (64 ≤ job.limit) × (job.limit ≤ 16777216) }
-    requires chunk { (1 ≤ job.chunk) × (job.chunk ≤ 65536) }
     requires reader_failures { All (λ r. S.failures r < 2 ^ 64 - 1) readers.old }
-    requires err_failures { E.failures err.old < 2 ^ 64 - 2 }
+    requires err_failures { (E.device err.old).failures < 2 ^ 64 - 2 }
 {
     let mut out = Watch::new(BufWriter::new(alloc, output).map_err(|_| AllocError)?);
     let status = run(alloc, job, names, readers, &mut out, err);
     let flushed = out.device.flush();
     if status < 3 && flushed.is_err() {
-        let _ = put_line(err, "write failed");
-        return Ok(3);
+        return Ok(write_fault(err));
     }
     Ok(status)
 }
 
-/// Prints why a parse gave no matches, and answers the exit status.
+/// Prints why a parse gave no matches, and returns the exit status.
 fn print_error(rt: &HostRuntime, error: Error) -> Result<u8, AllocError> {
     let status = parse_status(&error);
     if status == 3 {
         return Err(AllocError);
     }
     if error.print(rt).is_err() && status == 0 {
-        let _ = put_line(&mut Watch::new(rt.stderr()), "write failed");
-        return Ok(3);
+        return Ok(write_fault(&mut Watch::new(rt.stderr())));
     }
     Ok(status)
 }
@@ -81,10 +105,7 @@ fn run_over<R: Read + Drop>(
     job: Job,
     name: &str,
     input: R,
-) -> Result<u8, AllocError>
-    requires limit { (64 ≤ job.limit) × (job.limit ≤ 16777216) }
-    requires chunk { (1 ≤ job.chunk) × (job.chunk ≤ 65536) }
-{
+) -> Result<u8, AllocError> {
     let alloc = rt.alloc();
     let names = [String::from_str(alloc, name)?];
     let mut readers = Vec::new(alloc);
@@ -100,10 +121,7 @@ fn run_over<R: Read + Drop>(
 }
 
 /// Opens the file of this name, and runs the job over it.
-fn run_over_file(rt: &HostRuntime, job: Job, name: &str) -> Result<u8, AllocError>
-    requires limit { (64 ≤ job.limit) × (job.limit ≤ 16777216) }
-    requires chunk { (1 ≤ job.chunk) × (job.chunk ≤ 65536) }
-{
+fn run_over_file(rt: &HostRuntime, job: Job, name: &str) -> Result<u8, AllocError> {
     match File::open(rt, name) {
         Ok(file) => run_over(rt, job, name, file),
         Err(error) if error.kind() == ErrorKind::OutOfMemory => Err(AllocError),
@@ -112,7 +130,7 @@ fn run_over_file(rt: &HostRuntime, job: Job, name: &str) -> Result<u8, AllocErro
 }
 
 /// Parses the words, and runs the job that they ask for.
-fn follow<'a>(rt: &HostRuntime, words: &'a [String]) -> Result<u8, UseFault<'a>> {
+fn run_words<'a>(rt: &HostRuntime, words: &'a [String]) -> Result<u8, UseFault<'a>> {
     let alloc = rt.alloc();
     let matches = match command_of(alloc)?.try_get_matches_from(words) {
         Ok(matches) => matches,
@@ -126,9 +144,9 @@ fn follow<'a>(rt: &HostRuntime, words: &'a [String]) -> Result<u8, UseFault<'a>>
     Ok(status?)
 }
 
-/// Does what the words ask for, and answers the exit status.
+/// Does what the words ask for, and returns the exit status.
 fn status_of(rt: &HostRuntime, words: &[String]) -> u8 {
-    match follow(rt, words) {
+    match run_words(rt, words) {
         Ok(status) => status,
         Err(fault) => use_fault(fault, &mut Watch::new(rt.stderr())),
     }

@@ -1,16 +1,21 @@
-//! The lines on the error stream. Each begins with the program's name; where a write fails, some first bytes of it were written.
-ghost use Rattle.std.specs.Prelude.{◌≡◌, ◌-◌, ◌^◌, ◌<◌, ◌++◌, codes, decimal};
-ghost use Rattle.vcd_model.specs.Outcome.{program_line};
-ghost use Rattle.vcd_text.specs.Device.{failures_after, Takes};
+//! The lines on the error stream, and the exit statuses. A line begins with the program's name; where a write of it fails, a
+//! prefix of it was written.
+ghost use Rattle.std.specs.Prelude.{◌≡◌, ◌-◌, ◌^◌, ◌<◌, ◌++◌, [], codes, decimal, map, string_bytes};
+ghost use Rattle.vcd_model.specs.Outcome.{name_at, program_line};
+ghost use Rattle.vcd_text.specs.Device.{Puts, Takes, failures_after};
+ghost use Rattle.vcd_tools.specs.declared.answer.Stop.TheVariants.{Write};
+ghost use Rattle.vcdkit.specs.Message.{failure_message, failure_status, stop_message, stop_status, unopened_outcome, use_outcome, Shows};
+ghost use Rattle.vcdkit.specs.declared.failure.Failure.TheVariants.{OutOfMemory};
 
-use vcd_text::device::{Sink, WriteFailed};
-use vcd_text::output::{put, put_number};
+use crate::failure::Failure;
+use crate::job::UseFault;
+use vcd_text::{Sink, WriteFailed, put, put_number, text_of};
+use vcd_tools::Stop;
 
 /// Writes `vcdkit: TEXT`.
 pub fn put_line<E: Sink>(err: &mut E, text: &str) -> Result<(), WriteFailed>
-    requires { E.failures err.old < 2 ^ 64 - 1 }
-    ensures takes { Takes (E.held err.old) (E.held err.new) (program_line text.now) result }
-    ensures failures { E.failures err.new ≡ failures_after (E.failures err.old) result }
+    requires { (E.device err.old).failures < 2 ^ 64 - 1 }
+    ensures { Puts (E.device err.old) (E.device err.new) (program_line text.now) result }
 {
     put(err, b"vcdkit: ")?;
     put(err, text.as_bytes())?;
@@ -19,9 +24,9 @@ pub fn put_line<E: Sink>(err: &mut E, text: &str) -> Result<(), WriteFailed>
 
 /// Writes `vcdkit: ` and both texts, as one line.
 pub fn put_both<E: Sink>(err: &mut E, first: &str, second: &str) -> Result<(), WriteFailed>
-    requires { E.failures err.old < 2 ^ 64 - 1 }
-    ensures takes { Takes (E.held err.old) (E.held err.new) (program_line (first.now ++ second.now)) result }
-    ensures failures { E.failures err.new ≡ failures_after (E.failures err.old) result }
+    requires { (E.device err.old).failures < 2 ^ 64 - 1 }
+    ensures { Puts (E.device err.old) (E.device err.new)
+        (program_line (first.now ++ second.now)) result }
 {
     put(err, b"vcdkit: ")?;
     put(err, first.as_bytes())?;
@@ -31,20 +36,18 @@ pub fn put_both<E: Sink>(err: &mut E, first: &str, second: &str) -> Result<(), W
 
 /// Writes `vcdkit: NAME: read failed`.
 pub fn put_read_failed<E: Sink>(err: &mut E, name: &str) -> Result<(), WriteFailed>
-    requires { E.failures err.old < 2 ^ 64 - 1 }
-    ensures takes { Takes (E.held err.old) (E.held err.new)
+    requires { (E.device err.old).failures < 2 ^ 64 - 1 }
+    ensures { Puts (E.device err.old) (E.device err.new)
         (program_line (name.now ++ codes ": read failed")) result }
-    ensures failures { E.failures err.new ≡ failures_after (E.failures err.old) result }
 {
     put_both(err, name, ": read failed")
 }
 
 /// Writes `vcdkit: NAME:LINE: TEXT`, of a fault in the input of that name.
 pub fn put_fault<E: Sink>(err: &mut E, name: &str, line: u64, text: &str) -> Result<(), WriteFailed>
-    requires { E.failures err.old < 2 ^ 64 - 1 }
-    ensures takes { Takes (E.held err.old) (E.held err.new)
+    requires { (E.device err.old).failures < 2 ^ 64 - 1 }
+    ensures { Puts (E.device err.old) (E.device err.new)
         (program_line (name.now ++ codes ":" ++ decimal line ++ codes ": " ++ text.now)) result }
-    ensures failures { E.failures err.new ≡ failures_after (E.failures err.old) result }
 {
     put(err, b"vcdkit: ")?;
     put(err, name.as_bytes())?;
@@ -53,4 +56,104 @@ pub fn put_fault<E: Sink>(err: &mut E, name: &str, line: u64, text: &str) -> Res
     put(err, b": ")?;
     put(err, text.as_bytes())?;
     put(err, b"\n")
+}
+
+/// The name at this place.
+fn name_of(names: &[String], place: usize) -> &str
+    ensures { result.now ≡ name_at (map string_bytes names.now) place }
+{
+    match names.get(place) {
+        Some(name) => name.as_str(),
+        None => "",
+    }
+}
+
+/// Says why a run stops over the inputs of these names, which was asked for those, and returns the exit status.
+fn report_stop<E: Sink>(stop: Stop, names: &[String], asked: &[String], err: &mut E) -> u8
+    requires { (E.device err.old).failures < 2 ^ 64 - 1 }
+    ensures line { Shows (E.device err.old) (E.device err.new)
+        (stop_message (map string_bytes names.now) (map string_bytes asked.now) stop) }
+    ensures status { result ≡ stop_status stop }
+{
+    match stop {
+        Stop::Dump { input, line, fault } => {
+            let _ = put_fault(err, name_of(names, input), line, text_of(fault));
+            1
+        }
+        Stop::Read { input } => {
+            let _ = put_read_failed(err, name_of(names, input));
+            3
+        }
+        Stop::Write => {
+            let _ = put_line(err, "write failed");
+            3
+        }
+        Stop::Unmatched { name } => {
+            let _ = put_both(err, name_of(asked, name), ": selects nothing");
+            1
+        }
+    }
+}
+
+/// Says why a run fails over the inputs of these names, which was asked for those, and returns the exit status. A fault of the
+/// stream is passed over.
+pub(crate) fn report<E: Sink>(
+    failure: Failure,
+    names: &[String],
+    asked: &[String],
+    err: &mut E,
+) -> u8
+    requires { (E.device err.old).failures < 2 ^ 64 - 1 }
+    ensures line { Shows (E.device err.old) (E.device err.new)
+        (failure_message (map string_bytes names.now) (map string_bytes asked.now) failure) }
+    ensures status { result ≡ failure_status failure }
+{
+    match failure {
+        Failure::Stopped(stop) => report_stop(stop, names, asked, err),
+        Failure::OutOfMemory => {
+            let _ = put_line(err, "out of memory");
+            3
+        }
+    }
+}
+
+/// Says that the output could not be written, and returns the exit status. A fault of the stream is passed over.
+pub fn write_fault<E: Sink>(err: &mut E) -> u8
+    requires { (E.device err.old).failures < 2 ^ 64 - 1 }
+    ensures line { Shows (E.device err.old) (E.device err.new)
+        (stop_message [] [] Write) }
+    ensures status { result ≡ stop_status Write }
+{
+    report_stop(Stop::Write, &[], &[], err)
+}
+
+/// Says why there is no job, and returns the exit status. A fault of the stream is passed over.
+pub fn use_fault<E: Sink>(fault: UseFault<'_>, err: &mut E) -> u8
+    requires { (E.device err.old).failures < 2 ^ 64 - 1 }
+    ensures line { Shows (E.device err.old) (E.device err.new)
+        (use_outcome fault.entry).message }
+    ensures status { result ≡ (use_outcome fault.entry).status }
+{
+    match fault {
+        UseFault::BadWords => {
+            let _ = put_line(err, "bad words");
+            2
+        }
+        UseFault::BadLimit(word) => {
+            let _ = put_both(err, "bad token limit: ", word);
+            2
+        }
+        UseFault::OutOfMemory => report(Failure::OutOfMemory, &[], &[], err),
+    }
+}
+
+/// Says that the file of this name cannot be opened, and returns the exit status. A fault of the stream is passed over.
+pub fn open_fault<E: Sink>(name: &str, err: &mut E) -> u8
+    requires { (E.device err.old).failures < 2 ^ 64 - 1 }
+    ensures line { Shows (E.device err.old) (E.device err.new)
+        (unopened_outcome name.now).message }
+    ensures status { result ≡ (unopened_outcome name.now).status }
+{
+    let _ = put_both(err, name, ": cannot be opened");
+    3
 }

@@ -2,9 +2,9 @@ use Rattle.std.proofs.Common.{◌==◌, [], length, drop, sym, ap, ◌∙◌, ar
 use Rattle.vcd_model.specs.Reading.{phrases_of}
 use Rattle.vcd_text.specs.Feed.{token_of, value_of}
 use Rattle.vcd_body.proofs.WordLemmas.{filled, empty, some_bytes}
-use Rattle.vcd_body.proofs.Steps.{refused, begun}
-use Rattle.vcd_body.proofs.Behind.{real_read, real_sound}
-use Rattle.vcd_body.proofs.Judging.{no_number, number_too_long, number_begins, number_asks}
+use Rattle.vcd_body.proofs.TokenLemmas.{refused, begun}
+use Rattle.vcd_body.proofs.RegsLemmas.{real_read, real_sound}
+use Rattle.vcd_body.proofs.PhraseLemmas.{no_number, number_too_long, number_begins, number_asks}
 use Rattle.vcd_body.proofs.phrases.read_real.Goals as goal
 
 pub returns-then-is_empty-clause-reads : goal.returns-then-is_empty-clause-reads

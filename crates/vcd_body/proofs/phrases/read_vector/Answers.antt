@@ -6,9 +6,9 @@ use Rattle.vcd_model.specs.BodyPhrases.{is_value_digit}
 use Rattle.vcd_model.specs.Reading.{phrases_of}
 use Rattle.vcd_text.specs.Feed.{token_of, value_of}
 use Rattle.vcd_head.specs.Shown.{parts}
-use Rattle.vcd_body.proofs.Steps.{refused, begun}
-use Rattle.vcd_body.proofs.Judging.{bad_digits, digits_begin, digits_ask, too_wide}
-use Rattle.vcd_body.proofs.Behind.{the_code, same_room, vector_read, vector_sound}
+use Rattle.vcd_body.proofs.TokenLemmas.{refused, begun}
+use Rattle.vcd_body.proofs.PhraseLemmas.{bad_digits, digits_begin, digits_ask, too_wide}
+use Rattle.vcd_body.proofs.RegsLemmas.{the_code, same_room, vector_read, vector_sound}
 use Rattle.vcd_body.proofs.WordLemmas.{filled_some}
 use Rattle.std.proofs.lemmas.Bool.{and_parts}
 use Rattle.vcd_body.proofs.phrases.read_vector.Goals as goal

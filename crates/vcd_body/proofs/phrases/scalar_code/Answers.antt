@@ -2,8 +2,8 @@ use Rattle.std.proofs.Common.{◌==◌, Some, None, drop, length, subst, sym, ap
 use Rattle.std.proofs.lemmas.Option.{slice_get-get_or}
 use Rattle.vcd_head.specs.Finds.{Finds}
 use Rattle.vcd_body.proofs.WordLemmas.{filled, empty}
-use Rattle.vcd_body.proofs.Behind.{the_code}
-use Rattle.vcd_body.proofs.Judging.{no_code, unknown_code, scalar_passes, first_byte}
+use Rattle.vcd_body.proofs.RegsLemmas.{the_code}
+use Rattle.vcd_body.proofs.PhraseLemmas.{no_code, unknown_code, scalar_passes, first_byte}
 use Rattle.vcd_body.proofs.phrases.scalar_code.Goals as goal
 
 pub returns-then-is_empty-clause-code : goal.returns-then-is_empty-clause-code

@@ -1,3 +1,4 @@
+use Rattle.vcd_text.proofs.AdvancesLemmas.{advances_on, advances_nowhere}
 use Rattle.std.proofs.Common.{◌≡◌, ◌∷◌, [], ◌++◌, true, false, sym, ap, ◌∙◌, arith}
 use Rattle.std.proofs.lemmas.Result.{err_from_is_err_and}
 use Rattle.vcd_model.specs.Keywords.{Keyword, keyword_text, is_end}
@@ -5,12 +6,12 @@ use Rattle.vcd_model.specs.BodyPhrases.{BodyPhrase}
 use Rattle.vcd_model.specs.Reading.{phrases_of}
 use Rattle.vcd_text.specs.Feed.{token_of}
 use Rattle.vcd_head.proofs.TextSteps.{no_ends_more}
-use Rattle.vcd_body.proofs.Steps.{taken, taken_phrase, went_on, went_nowhere}
-use Rattle.vcd_body.proofs.Judging.{comment_goes_on, comment_open, comment_whole}
+use Rattle.vcd_body.proofs.TokenLemmas.{taken, taken_phrase}
+use Rattle.vcd_body.proofs.PhraseLemmas.{comment_goes_on, comment_open, comment_whole}
 use Rattle.vcd_body.proofs.phrases.skip_comment.Goals as goal
 
 pub tokens-init : goal.tokens-init
-tokens-init g c = (went_nowhere g.S.Source.failures c.args.feed.now, omega arith, λ codes i front placed r. ([], tt, r))
+tokens-init g c = (advances_nowhere g.S.Source.failures c.args.feed.now, omega arith, λ codes i front placed r. ([], tt, r))
 
 pub returns-in_err-next_inner-clause-reads : goal.returns-in_err-next_inner-clause-reads
 returns-in_err-next_inner-clause-reads g c =
@@ -27,7 +28,7 @@ returns-then-is_end-clause-reads g c = λ codes i front placed r.
 
 pub tokens-preserved : goal.tokens-preserved
 tokens-preserved g c = (
-  went_on g.S.Source.failures _ _ _ _ c.tokens.invariant.0 c.in_ok-next_inner.ensures.went,
+  advances_on g.S.Source.failures _ _ _ _ c.tokens.invariant.0 c.in_ok-next_inner.ensures.advances,
   (let so_far = c.tokens.invariant.1 in let more = c.in_ok-next_inner.ensures.progress in omega arith),
   λ codes i front placed r.
       let on = c.tokens.invariant.2 codes i front placed r in

@@ -1,4 +1,4 @@
-use Rattle.std.proofs.Common.{ℕ, ◌-◌, ◌^◌, ◌≤◌, List, [], ◌∷◌, None}
+use Rattle.std.proofs.Common.{ℕ, ◌-◌, ◌^◌, ◌≤◌, List, [], ◌∷◌}
 use Rattle.vcd_model.specs.Input.{Input}
 use Rattle.vcd_model.specs.Tokens.{Token}
 use Rattle.vcd_model.specs.Keywords.{Keyword, keyword_text}
@@ -8,11 +8,11 @@ use Rattle.vcd_model.specs.Reading.{Placed}
 use Rattle.vcd_text.specs.Feed.{seen}
 use Rattle.vcd_head.specs.Texts.{NoEnds}
 use Rattle.vcd_body.specs.Reads.{Reads}
-use Rattle.vcd_body.specs.Went.{Went}
+use Rattle.vcd_text.specs.Advances.{Advances, CallEnd}
 use Rattle.vcd_body.proofs.phrases.skip_comment.Given as goal
 
 abbrev pub invariant-tokens : goal.invariant-tokens
-invariant-tokens g l = Went g.S.Source.failures l.fn.feed l.feed None × (seen l.fn.feed ≤ seen l.feed)
+invariant-tokens g l = Advances g.S.Source.failures l.fn.feed l.feed CallEnd.GoesOn × (seen l.fn.feed ≤ seen l.feed)
     × ((codes : List IdCode) (i : Input) (front : List Token) (placed : List (Placed BodyPhrase)) → Reads codes i front placed (keyword_text Keyword.Comment ∷ []) l.fn.feed
     → (inner : List (List ℕ)) × NoEnds inner × Reads codes i front placed (keyword_text Keyword.Comment ∷ inner) l.feed)
 

@@ -2,8 +2,8 @@ use Rattle.std.proofs.Common.{◌≤◌, ℕ, drop, subst, sym, ap, ◌∙◌, a
 use Rattle.vcd_model.specs.Items.{BodyItem, time_after}
 use Rattle.vcd_model.specs.BodyPhrases.{items_of}
 use Rattle.vcd_body.specs.Reads.{Passes}
-use Rattle.vcd_body.proofs.Found.{none_spelled, spelled, time_spelled}
-use Rattle.vcd_body.proofs.Judging.{bad_time, time_in_section, time_back, time_passes}
+use Rattle.vcd_body.proofs.FindLemmas.{none_spelled, spelled, time_spelled}
+use Rattle.vcd_body.proofs.PhraseLemmas.{bad_time, time_in_section, time_back, time_passes}
 use Rattle.vcd_body.proofs.phrases.time_of.Goals as goal
 
 pub returns-in_default-clause-time : goal.returns-in_default-clause-time

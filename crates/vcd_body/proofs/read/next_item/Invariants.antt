@@ -1,4 +1,4 @@
-use Rattle.std.proofs.Common.{◌≡◌, ◌-◌, ◌^◌, ◌≤◌, List, None}
+use Rattle.std.proofs.Common.{◌≡◌, ◌-◌, ◌^◌, ◌≤◌, List}
 use Rattle.vcd_model.specs.Input.{Input}
 use Rattle.vcd_model.specs.Tokens.{Token}
 use Rattle.vcd_model.specs.Header.{Header}
@@ -7,11 +7,11 @@ use Rattle.vcd_text.specs.Feed.{seen}
 use Rattle.vcd_head.specs.Shown.{parts}
 use Rattle.vcd_head.specs.Views.{Views}
 use Rattle.vcd_body.specs.Reads.{GaveItems}
-use Rattle.vcd_body.specs.Went.{Went}
+use Rattle.vcd_text.specs.Advances.{Advances, CallEnd}
 use Rattle.vcd_body.proofs.read.next_item.Given as goal
 
 abbrev pub invariant-phrases : goal.invariant-phrases
-invariant-phrases g l = Went g.S.Source.failures l.fn.feed l.feed None × (seen l.fn.feed ≤ seen l.feed) × (l.regs ≡ l.fn.regs)
+invariant-phrases g l = Advances g.S.Source.failures l.fn.feed l.feed CallEnd.GoesOn × (seen l.fn.feed ≤ seen l.feed) × (l.regs ≡ l.fn.regs)
     × ((h : Header) (i : Input) (front : List Token) (items : List BodyItem) → Views (parts l.view) h → GaveItems h.codes i front items l.fn.feed l.fn.regs → GaveItems h.codes i front items l.feed l.regs)
 
 abbrev pub decreases-phrases : goal.decreases-phrases

@@ -4,10 +4,10 @@ use Rattle.vcd_model.specs.Keywords.{keyword_of}
 use Rattle.vcd_model.specs.Items.{BodyItem}
 use Rattle.vcd_model.specs.Reading.{phrases_of}
 use Rattle.vcd_text.specs.Feed.{token_of}
-use Rattle.vcd_body.specs.Items.{behind, model_section}
+use Rattle.vcd_body.specs.Items.{regs_after, model_section}
 use Rattle.vcd_body.specs.declared.item.Item.TheVariants as item
-use Rattle.vcd_body.proofs.Judging.{begin_passes, begin_inside, end_passes, end_outside, of_header, no_phrase}
-use Rattle.vcd_body.proofs.Giving.{own_given, none_given, fault_given, known_so_far, comment_begun, refused_first, known_begin, known_end}
+use Rattle.vcd_body.proofs.PhraseLemmas.{begin_passes, begin_inside, end_passes, end_outside, of_header, no_phrase}
+use Rattle.vcd_body.proofs.ReadLemmas.{own_given, none_given, fault_given, known_so_far, comment_begun, refused_first, known_begin, known_end}
 use Rattle.vcd_body.proofs.read.read_command.Goals as goal
 
 pub returns-in_err-skip_comment-in-Some-Comment-clause-reads : goal.returns-in_err-skip_comment-in-Some-Comment-clause-reads
@@ -30,14 +30,14 @@ returns-else-is_some-clause-reads g c = λ codes i front items b.
     let word = rw c.in-Some-Begin.field-0-is at c.in-Some-Begin.ensures in
     let s = c.in-Some-Begin.section in
     let closed = sym c.is_some.ensures ∙ c.if-is_some.false in
-    own_given codes i front items c.args.feed.now c.args.regs.now (behind c.args.regs.now (item.Begin s)) (BodyItem.Begin (model_section s)) b
+    own_given codes i front items c.args.feed.now c.args.regs.now (regs_after c.args.regs.now (item.Begin s)) (BodyItem.Begin (model_section s)) b
     (begin_passes codes (phrases_of b.placed) (token_of c.args.feed.now).bytes c.args.regs.now (known_so_far codes i front items c.args.feed.now c.args.regs.now b) (model_section s) (sym c.token.ensures ∙ word) closed) (known_begin items c.args.regs.now s closed b.known)
 
 pub returns-then-is_some-2-clause-reads : goal.returns-then-is_some-2-clause-reads
 returns-then-is_some-2-clause-reads g c = λ codes i front items b.
     let word = rw c.in-Some-End.field-0-is at c.in-Some-End.ensures in
     let inside = sym c.is_some-in-Some-End.ensures ∙ c.if-is_some-2.true in
-    own_given codes i front items c.args.feed.now c.args.regs.now (behind c.args.regs.now item.End) BodyItem.End b
+    own_given codes i front items c.args.feed.now c.args.regs.now (regs_after c.args.regs.now item.End) BodyItem.End b
     (end_passes codes (phrases_of b.placed) (token_of c.args.feed.now).bytes c.args.regs.now (known_so_far codes i front items c.args.feed.now c.args.regs.now b) (sym c.token.ensures ∙ word) inside) (known_end items c.args.regs.now inside b.known)
 
 pub returns-in_ok-skip_comment-in-Some-Comment-clause-reads : goal.returns-in_ok-skip_comment-in-Some-Comment-clause-reads

@@ -4,16 +4,17 @@ use Rattle.vcd_model.specs.Reading.{phrases_of}
 use Rattle.vcd_text.specs.Answer.{failed_after}
 use Rattle.vcd_text.specs.Feed.{seen, limit_of, token_of}
 use Rattle.vcd_body.specs.Reads.{BodyHas}
-use Rattle.vcd_body.proofs.Steps.{halted}
+use Rattle.vcd_body.proofs.TokenLemmas.{halted}
 use Rattle.vcd_body.proofs.tokens.next_token.Goals as goal
 
-pub returns-in-Ok-Finish-clause-went : goal.returns-in-Ok-Finish-clause-went
-returns-in-Ok-Finish-clause-went g c =
+pub returns-in-Ok-Finish-clause-advances : goal.returns-in-Ok-Finish-clause-advances
+returns-in-Ok-Finish-clause-advances g c =
     let e = rw c.in-Ok-Finish.field-0-is at c.in-Ok-Finish.ensures in
     record {
       loans = e.loans;
       limit = e.lengths.0;
       chunk = e.lengths.1;
+      on = λ x. e.further;
       goes = λ x o q. let s = e.settles (λ y. cc) in cc;
       failed = λ x o. cc;
       same = λ x. e.failures (λ y. cc);

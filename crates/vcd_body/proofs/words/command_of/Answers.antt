@@ -1,11 +1,11 @@
-use Rattle.std.proofs.Common.{sym, ◌∙◌}
-use Rattle.vcd_body.proofs.WordLemmas.{no_keyword, header_word}
+use Rattle.std.proofs.Common.{◌≡◌, Some, rules}
+use Rattle.vcd_model.specs.Keywords.{keyword_of}
+use Rattle.vcd_head.specs.Keywords.{model_keyword}
+use Rattle.vcd_body.proofs.WordLemmas.{stands_for}
 use Rattle.vcd_body.proofs.words.command_of.Goals as goal
 
-pub returns-then-is_of_header : goal.returns-then-is_of_header
-returns-then-is_of_header c = header_word c.args.token.now (sym c.is_of_header.ensures ∙ c.if-is_of_header.true)
-
-pub returns-else-is_of_header : goal.returns-else-is_of_header
-returns-else-is_of_header c =
-    no_keyword c.args.token.now (sym c.is_end.ensures ∙ c.if-is_end.false) (sym c.is.ensures ∙ c.if-is.false) (sym c.is-else-is.ensures ∙ c.if-is-2.false) (sym c.is-else-is-2.ensures ∙ c.if-is-3.false)
-    (sym c.is-else-is-3.ensures ∙ c.if-is-4.false) (sym c.is-else-is-4.ensures ∙ c.if-is-5.false) (sym c.is_of_header.ensures ∙ c.if-is_of_header.false)
+pub returns : goal.returns
+returns c =
+    let k = c.in_ok-keyword_of.field-0 in
+    let known : keyword_of c.args.token.now ≡ Some (model_keyword k) = search rules in
+    rw c.command_for.ensures (stands_for c.args.token.now k known)

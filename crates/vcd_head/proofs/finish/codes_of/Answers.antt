@@ -1,6 +1,6 @@
 use Rattle.std.proofs.Common.{ap, ◌∙◌, map, ◌++◌}
 use Rattle.vcd_head.specs.declared.draft.Coded.{Coded}
-use Rattle.vcd_head.proofs.Indexing.{values_of}
+use Rattle.vcd_head.proofs.FinishLemmas.{values_of}
 use Rattle.vcd_head.proofs.finish.codes_of.Goals as goal
 
 pub loop-coded-init : goal.loop-coded-init

@@ -6,9 +6,9 @@ use Rattle.vcd_head.specs.Keys.{key_in}
 use Rattle.vcd_model.specs.HeaderPhrases.{declarations_of}
 use Rattle.vcd_model.specs.Header.{header_of}
 use Rattle.vcd_head.specs.Views.{IsCode}
-use Rattle.vcd_head.proofs.Growing.{places_len}
-use Rattle.vcd_head.proofs.Needing.{codes_few}
-use Rattle.vcd_head.proofs.Indexing.{is_index, keys_stand}
+use Rattle.vcd_head.proofs.DraftGrows.{places_len}
+use Rattle.vcd_head.proofs.RoomLemmas.{codes_few}
+use Rattle.vcd_head.proofs.FinishLemmas.{is_index, keys_stand}
 use Rattle.vcd_head.proofs.finish.finish.Goals as goal
 
 pub returns-clause-head : goal.returns-clause-head

@@ -1,6 +1,6 @@
 use Rattle.std.proofs.Common.{ap, ◌∙◌, map, ◌++◌}
 use Rattle.vcd_head.specs.Keys.{key_in}
-use Rattle.vcd_head.proofs.Indexing.{firsts_of}
+use Rattle.vcd_head.proofs.FinishLemmas.{firsts_of}
 use Rattle.vcd_head.proofs.finish.keys_of.Goals as goal
 
 pub loop-code-init : goal.loop-code-init

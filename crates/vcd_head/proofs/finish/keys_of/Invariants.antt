@@ -1,5 +1,5 @@
 use Rattle.std.proofs.Common.{◌≡◌, ◌++◌, map}
-use Rattle.vcd_head.specs.Holds.{keys_in}
+use Rattle.vcd_head.specs.Draft.{keys_in}
 use Rattle.vcd_head.specs.Keys.{key_in}
 use Rattle.vcd_head.proofs.finish.keys_of.Given as goal
 

@@ -1,6 +1,6 @@
 use Rattle.std.proofs.Common.{◌≡◌, ◌-◌, ◌<◌, ◌*◌, ◌+◌, ◌^◌, length, ap, sym, subst, arith}
 use Rattle.std.proofs.lemmas.List.{drop_more}
-use Rattle.vcd_head.proofs.Packing.{grown, fits}
+use Rattle.vcd_head.proofs.KeyLemmas.{grown, fits}
 use Rattle.vcd_head.proofs.key.packed_of.Goals as goal
 
 byte : (c : goal.After-from) → c.from.result < 256

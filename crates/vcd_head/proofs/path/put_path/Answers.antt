@@ -1,8 +1,9 @@
-use Rattle.std.proofs.Common.{◌≡◌, Err, take, rules}
+use Rattle.std.proofs.Common.{◌≡◌, List, ℕ, Err, take, subst, rules}
 use Rattle.std.proofs.lemmas.Option.{slice_get_within}
 use Rattle.vcd_model.specs.Declarations.{name_of}
+use Rattle.vcd_text.specs.Device.{Takes}
 use Rattle.vcd_text.proofs.Writes.{appends-first, takes-twice}
-use Rattle.vcd_head.proofs.PathText.{path_is}
+use Rattle.vcd_head.proofs.PathLemmas.{path_is}
 use Rattle.vcd_head.proofs.path.put_path.Goals as goal
 
 pub returns-in_err-put_scopes-clause-takes : goal.returns-in_err-put_scopes-clause-takes
@@ -12,4 +13,5 @@ returns-in_err-put_scopes-clause-takes g c = λ h d v is.
 
 pub returns-clause-takes : goal.returns-clause-takes
 returns-clause-takes g c = λ h d v is.
-    rw (path_is (take c.args.row h.declarations) d) (takes-twice _ _ _ _ (name_of d) c.put_name.result (c.in_ok-put_scopes.ensures.takes h v (slice_get_within h.declarations c.args.row d is)) (c.put_name.ensures.takes h d v is))
+    let name = subst (λ (l : List ℕ). Takes (g.W.Sink.device c.put_scopes.new.w) (g.W.Sink.device c.put.new.w) l c.put.result) (c.name_of.ensures h d v is) c.put.ensures.0 in
+    rw (path_is (take c.args.row h.declarations) d) (takes-twice _ _ _ _ (name_of d) c.put.result (c.in_ok-put_scopes.ensures.takes h v (slice_get_within h.declarations c.args.row d is)) name)

@@ -1,11 +1,19 @@
-use Rattle.std.proofs.lemmas.Bool.{MatchBool-at_false}
-use Rattle.vcd_head.proofs.Steps.{went_nowhere}
-use Rattle.vcd_head.proofs.ReadingSteps.{carries_nothing, finished}
+use Rattle.vcd_text.specs.Advances.{CallEnd}
+use Rattle.vcd_text.proofs.AdvancesLemmas.{advances_on, advances_nowhere}
+use Rattle.std.proofs.lemmas.Bool.{MatchBool-at_false, MatchBool-at_true}
+use Rattle.std.specs.Prelude.{None}
+use Rattle.vcd_head.proofs.PhraseSteps.{carries_nothing, finished}
 use Rattle.vcd_head.proofs.read.read_head.Goals as goal
 
 pub phrases-init : goal.phrases-init
-phrases-init g c = (went_nowhere g.S.Source.failures c.args.feed.now, λ i s. carries_nothing c.args.most i c.new-draft.result c.args.feed.now c.new-draft.ensures s)
+phrases-init g c = (advances_nowhere g.S.Source.failures c.args.feed.now, λ i s. carries_nothing c.args.most i c.new-draft.result c.args.feed.now c.new-draft.ensures s)
 
 pub returns-then-not-branch-clause-reads : goal.returns-then-not-branch-clause-reads
 returns-then-not-branch-clause-reads g c = λ i s.
     finished c.args.most i c.read_phrase.new.draft c.read_phrase.new.feed c.finish.result c.requires.most (MatchBool-at_false _ _ c.if-not-branch.true (c.in_ok-read_phrase.ensures.reads i (c.phrases.invariant.1 i s))) c.finish.ensures.head c.finish.ensures.memory
+
+pub phrases-preserved : goal.phrases-preserved
+phrases-preserved g c = (
+  advances_on g.S.Source.failures c.args.feed.now c.phrases.feed c.read_phrase.new.feed CallEnd.GoesOn c.phrases.invariant.0 c.in_ok-read_phrase.ensures.advances,
+  λ i s. MatchBool-at_true _ _ c.if-not-branch.false (c.in_ok-read_phrase.ensures.reads i (c.phrases.invariant.1 i s)),
+)

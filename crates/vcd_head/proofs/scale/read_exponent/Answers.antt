@@ -5,7 +5,7 @@ use Rattle.vcd_model.specs.Keywords.{Keyword, keyword_text}
 use Rattle.vcd_model.specs.Scales.{exponent_of}
 use Rattle.vcd_text.specs.Feed.{token_of}
 use Rattle.vcd_head.specs.Words.{power_in, unit_in}
-use Rattle.vcd_head.proofs.Carrying.{default_none}
+use Rattle.vcd_head.proofs.DraftSteps.{default_none}
 use Rattle.vcd_head.proofs.ScaleChecks.{number_read, one_read, one_refused, two_added, two_refused}
 use Rattle.vcd_head.proofs.scale.read_exponent.Goals as goal
 

@@ -5,23 +5,23 @@ use Rattle.vcd_model.specs.HeaderPhrases.{HeaderPhrase, declarations_of}
 use Rattle.vcd_model.specs.Declarations.{Declaration}
 use Rattle.vcd_model.specs.Reading.{phrases_of}
 use Rattle.vcd_text.specs.Feed.{token_of}
-use Rattle.vcd_head.proofs.Steps.{faultless_phrase, word_some, word_none, text_taken}
-use Rattle.vcd_head.proofs.Phrases.{begun, not_begun, ended, refused_inside, scope_welcomes_type, scope_welcomes_name}
-use Rattle.vcd_head.proofs.Carrying.{carried, few_enough, too_many_scope, too_deep, scope_checks_pass, failed_test, passed_test, failed_not, whole_test}
-use Rattle.vcd_head.proofs.Declared.{scope_declared, holds_declared}
+use Rattle.vcd_head.proofs.TokenSteps.{faultless_phrase, word_some, word_none, text_taken}
+use Rattle.vcd_head.proofs.PhraseLemmas.{begun, not_begun, ended, refused_inside, scope_welcomes_type, scope_welcomes_name}
+use Rattle.vcd_head.proofs.DraftSteps.{carried, few_enough, too_many_scope, too_deep, scope_checks_pass, failed_test, passed_test, failed_not, whole_test}
+use Rattle.vcd_head.proofs.DraftLemmas.{scope_declared, holds_declared}
 use Rattle.vcd_head.specs.declared.view.Kind.TheVariants as kind
 use Rattle.vcd_head.proofs.scopes.read_scope.Goals as goal
 
 pub returns-then-len-most-clause-reads : goal.returns-then-len-most-clause-reads
 returns-then-len-most-clause-reads g c = λ i b.
     let n : c.args.most ≤ length c.args.draft.now.rows.items = omega arith in
-    not_begun c.args.most i b.placed Keyword.Scope c.args.feed.now 11 b.keyword (too_many_scope c.args.most c.args.draft.now (phrases_of b.placed) b.holds n) b.looks
+    not_begun c.args.most i b.placed Keyword.Scope c.args.feed.now 11 b.keyword (too_many_scope c.args.most c.args.draft.now (phrases_of b.placed) b.holds n) b.token_read
 
 pub returns-then-len-ge-MOST_OPEN-clause-reads : goal.returns-then-len-ge-MOST_OPEN-clause-reads
 returns-then-len-ge-MOST_OPEN-clause-reads g c = λ i b.
     let n : length c.args.draft.now.rows.items < c.args.most = omega arith in
     let z : 1000 ≤ length c.args.draft.now.scopes.items = omega arith in
-    not_begun c.args.most i b.placed Keyword.Scope c.args.feed.now 10 b.keyword (too_deep c.args.most c.args.draft.now (phrases_of b.placed) b.holds n z) b.looks
+    not_begun c.args.most i b.placed Keyword.Scope c.args.feed.now 10 b.keyword (too_deep c.args.most c.args.draft.now (phrases_of b.placed) b.holds n z) b.token_read
 
 pub returns-in_err-word-clause-reads : goal.returns-in_err-word-clause-reads
 returns-in_err-word-clause-reads g c =
@@ -29,14 +29,14 @@ returns-in_err-word-clause-reads g c =
     rw (p.1, p.2) (λ i b.
     let n : length c.args.draft.now.rows.items < c.args.most = omega arith in
     let z : length c.args.draft.now.scopes.items < 1000 = omega arith in
-    let r0 = begun c.args.most i b.placed Keyword.Scope c.args.feed.now b.keyword (scope_checks_pass c.args.most c.args.draft.now (phrases_of b.placed) b.holds n z) refl b.looks in
+    let r0 = begun c.args.most i b.placed Keyword.Scope c.args.feed.now b.keyword (scope_checks_pass c.args.most c.args.draft.now (phrases_of b.placed) b.holds n z) refl b.token_read in
     c.in_err-word.ensures.reads c.args.most i b.placed (keyword_text Keyword.Scope ∷ []) (scope_welcomes_type c.args.most b.placed) r0)
 
 pub returns-in_default-clause-reads : goal.returns-in_default-clause-reads
 returns-in_default-clause-reads g c = λ i b.
     let n : length c.args.draft.now.rows.items < c.args.most = omega arith in
     let z : length c.args.draft.now.scopes.items < 1000 = omega arith in
-    let r0 = begun c.args.most i b.placed Keyword.Scope c.args.feed.now b.keyword (scope_checks_pass c.args.most c.args.draft.now (phrases_of b.placed) b.holds n z) refl b.looks in
+    let r0 = begun c.args.most i b.placed Keyword.Scope c.args.feed.now b.keyword (scope_checks_pass c.args.most c.args.draft.now (phrases_of b.placed) b.holds n z) refl b.token_read in
     let w1 = c.in_ok-word.ensures.reads c.args.most i b.placed (keyword_text Keyword.Scope ∷ []) (scope_welcomes_type c.args.most b.placed) r0 in
     let e = word_none c.args.most i b.placed (keyword_text Keyword.Scope ∷ []) c.next_word.new.feed c.in_ok-word.field-0 c.in_default.not-Some w1 in
     refused_inside c.args.most i b.placed Keyword.Scope c.next_word.new.feed [] 6 (failed_not _ 6 e.1) e.0
@@ -47,7 +47,7 @@ returns-in_err-name-clause-reads g c =
     rw (p.1, p.2) (λ i b.
     let n : length c.args.draft.now.rows.items < c.args.most = omega arith in
     let z : length c.args.draft.now.scopes.items < 1000 = omega arith in
-    let r0 = begun c.args.most i b.placed Keyword.Scope c.args.feed.now b.keyword (scope_checks_pass c.args.most c.args.draft.now (phrases_of b.placed) b.holds n z) refl b.looks in
+    let r0 = begun c.args.most i b.placed Keyword.Scope c.args.feed.now b.keyword (scope_checks_pass c.args.most c.args.draft.now (phrases_of b.placed) b.holds n z) refl b.token_read in
     let w1 = c.in_ok-word.ensures.reads c.args.most i b.placed (keyword_text Keyword.Scope ∷ []) (scope_welcomes_type c.args.most b.placed) r0 in
     let type = (token_of c.next_word.new.feed).bytes in
     let r1 = (word_some c.args.most i b.placed (keyword_text Keyword.Scope ∷ []) c.next_word.new.feed c.in_ok-word.field-0 c.in-Some.word c.in-Some.is w1).0 in
@@ -57,7 +57,7 @@ pub returns-in_default-2-clause-reads : goal.returns-in_default-2-clause-reads
 returns-in_default-2-clause-reads g c = λ i b.
     let n : length c.args.draft.now.rows.items < c.args.most = omega arith in
     let z : length c.args.draft.now.scopes.items < 1000 = omega arith in
-    let r0 = begun c.args.most i b.placed Keyword.Scope c.args.feed.now b.keyword (scope_checks_pass c.args.most c.args.draft.now (phrases_of b.placed) b.holds n z) refl b.looks in
+    let r0 = begun c.args.most i b.placed Keyword.Scope c.args.feed.now b.keyword (scope_checks_pass c.args.most c.args.draft.now (phrases_of b.placed) b.holds n z) refl b.token_read in
     let w1 = c.in_ok-word.ensures.reads c.args.most i b.placed (keyword_text Keyword.Scope ∷ []) (scope_welcomes_type c.args.most b.placed) r0 in
     let type = (token_of c.next_word.new.feed).bytes in
     let r1 = (word_some c.args.most i b.placed (keyword_text Keyword.Scope ∷ []) c.next_word.new.feed c.in_ok-word.field-0 c.in-Some.word c.in-Some.is w1).0 in
@@ -71,7 +71,7 @@ returns-in_err-next_ends-clause-reads g c =
     rw (p.1, p.2) (λ i b.
     let n : length c.args.draft.now.rows.items < c.args.most = omega arith in
     let z : length c.args.draft.now.scopes.items < 1000 = omega arith in
-    let r0 = begun c.args.most i b.placed Keyword.Scope c.args.feed.now b.keyword (scope_checks_pass c.args.most c.args.draft.now (phrases_of b.placed) b.holds n z) refl b.looks in
+    let r0 = begun c.args.most i b.placed Keyword.Scope c.args.feed.now b.keyword (scope_checks_pass c.args.most c.args.draft.now (phrases_of b.placed) b.holds n z) refl b.token_read in
     let w1 = c.in_ok-word.ensures.reads c.args.most i b.placed (keyword_text Keyword.Scope ∷ []) (scope_welcomes_type c.args.most b.placed) r0 in
     let type = (token_of c.next_word.new.feed).bytes in
     let r1 = (word_some c.args.most i b.placed (keyword_text Keyword.Scope ∷ []) c.next_word.new.feed c.in_ok-word.field-0 c.in-Some.word c.in-Some.is w1).0 in
@@ -84,7 +84,7 @@ pub returns-then-not-branch-clause-reads : goal.returns-then-not-branch-clause-r
 returns-then-not-branch-clause-reads g c = λ i b.
     let n : length c.args.draft.now.rows.items < c.args.most = omega arith in
     let z : length c.args.draft.now.scopes.items < 1000 = omega arith in
-    let r0 = begun c.args.most i b.placed Keyword.Scope c.args.feed.now b.keyword (scope_checks_pass c.args.most c.args.draft.now (phrases_of b.placed) b.holds n z) refl b.looks in
+    let r0 = begun c.args.most i b.placed Keyword.Scope c.args.feed.now b.keyword (scope_checks_pass c.args.most c.args.draft.now (phrases_of b.placed) b.holds n z) refl b.token_read in
     let w1 = c.in_ok-word.ensures.reads c.args.most i b.placed (keyword_text Keyword.Scope ∷ []) (scope_welcomes_type c.args.most b.placed) r0 in
     let type = (token_of c.next_word.new.feed).bytes in
     let r1 = (word_some c.args.most i b.placed (keyword_text Keyword.Scope ∷ []) c.next_word.new.feed c.in_ok-word.field-0 c.in-Some.word c.in-Some.is w1).0 in
@@ -100,7 +100,7 @@ returns-in_err-push-clause-reads g c =
     rw (p.1, p.2) (λ i b.
     let n : length c.args.draft.now.rows.items < c.args.most = omega arith in
     let z : length c.args.draft.now.scopes.items < 1000 = omega arith in
-    let r0 = begun c.args.most i b.placed Keyword.Scope c.args.feed.now b.keyword (scope_checks_pass c.args.most c.args.draft.now (phrases_of b.placed) b.holds n z) refl b.looks in
+    let r0 = begun c.args.most i b.placed Keyword.Scope c.args.feed.now b.keyword (scope_checks_pass c.args.most c.args.draft.now (phrases_of b.placed) b.holds n z) refl b.token_read in
     let w1 = c.in_ok-word.ensures.reads c.args.most i b.placed (keyword_text Keyword.Scope ∷ []) (scope_welcomes_type c.args.most b.placed) r0 in
     let type = (token_of c.next_word.new.feed).bytes in
     let r1 = (word_some c.args.most i b.placed (keyword_text Keyword.Scope ∷ []) c.next_word.new.feed c.in_ok-word.field-0 c.in-Some.word c.in-Some.is w1).0 in
@@ -118,7 +118,7 @@ returns-in_err-push-2-clause-reads g c =
     rw (p.1, p.2) (λ i b.
     let n : length c.args.draft.now.rows.items < c.args.most = omega arith in
     let z : length c.args.draft.now.scopes.items < 1000 = omega arith in
-    let r0 = begun c.args.most i b.placed Keyword.Scope c.args.feed.now b.keyword (scope_checks_pass c.args.most c.args.draft.now (phrases_of b.placed) b.holds n z) refl b.looks in
+    let r0 = begun c.args.most i b.placed Keyword.Scope c.args.feed.now b.keyword (scope_checks_pass c.args.most c.args.draft.now (phrases_of b.placed) b.holds n z) refl b.token_read in
     let w1 = c.in_ok-word.ensures.reads c.args.most i b.placed (keyword_text Keyword.Scope ∷ []) (scope_welcomes_type c.args.most b.placed) r0 in
     let type = (token_of c.next_word.new.feed).bytes in
     let r1 = (word_some c.args.most i b.placed (keyword_text Keyword.Scope ∷ []) c.next_word.new.feed c.in_ok-word.field-0 c.in-Some.word c.in-Some.is w1).0 in
@@ -134,7 +134,7 @@ pub returns-clause-reads : goal.returns-clause-reads
 returns-clause-reads g c = λ i b.
     let n : length c.args.draft.now.rows.items < c.args.most = omega arith in
     let z : length c.args.draft.now.scopes.items < 1000 = omega arith in
-    let r0 = begun c.args.most i b.placed Keyword.Scope c.args.feed.now b.keyword (scope_checks_pass c.args.most c.args.draft.now (phrases_of b.placed) b.holds n z) refl b.looks in
+    let r0 = begun c.args.most i b.placed Keyword.Scope c.args.feed.now b.keyword (scope_checks_pass c.args.most c.args.draft.now (phrases_of b.placed) b.holds n z) refl b.token_read in
     let w1 = c.in_ok-word.ensures.reads c.args.most i b.placed (keyword_text Keyword.Scope ∷ []) (scope_welcomes_type c.args.most b.placed) r0 in
     let type = (token_of c.next_word.new.feed).bytes in
     let r1 = (word_some c.args.most i b.placed (keyword_text Keyword.Scope ∷ []) c.next_word.new.feed c.in_ok-word.field-0 c.in-Some.word c.in-Some.is w1).0 in

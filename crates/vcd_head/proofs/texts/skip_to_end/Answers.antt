@@ -1,6 +1,6 @@
+use Rattle.vcd_text.proofs.AdvancesLemmas.{advances_on}
 use Rattle.std.proofs.Common.{sym, ◌∙◌, ◌++◌}
 use Rattle.std.proofs.lemmas.Result.{err_from_is_err_and}
-use Rattle.vcd_head.proofs.Steps.{went_on}
 use Rattle.vcd_head.proofs.TextSteps.{reads_more}
 use Rattle.vcd_head.proofs.texts.skip_to_end.Goals as goal
 
@@ -12,11 +12,11 @@ returns-in_err-next_ends-clause-reads g c =
 pub returns-then-branch-clause-reads : goal.returns-then-branch-clause-reads
 returns-then-branch-clause-reads g c = λ most i placed before runs r.
     let on = c.tokens.invariant.1 most i placed before runs r in
-    record { inner = on.inner; none = on.none; looks = c.in_ok-next_ends.ensures.reads most i placed (before ++ on.inner) on.reads; ends = sym c.in_ok-next_ends.ensures.end ∙ c.if-branch.true; grows = tt }
+    record { inner = on.inner; none = on.none; token_read = c.in_ok-next_ends.ensures.reads most i placed (before ++ on.inner) on.reads; ends = sym c.in_ok-next_ends.ensures.end ∙ c.if-branch.true; grows = tt }
 
 pub tokens-preserved : goal.tokens-preserved
 tokens-preserved g c = (
-  went_on g.S.Source.failures _ _ _ _ c.tokens.invariant.0 c.in_ok-next_ends.ensures.went,
+  advances_on g.S.Source.failures _ _ _ _ c.tokens.invariant.0 c.in_ok-next_ends.ensures.advances,
   λ most i placed before runs r.
       let on = c.tokens.invariant.1 most i placed before runs r in
       reads_more most i placed before c.next_ends.new.feed on.inner runs on.none (sym c.in_ok-next_ends.ensures.end ∙ c.if-branch.false) (c.in_ok-next_ends.ensures.reads most i placed (before ++ on.inner) on.reads) tt,

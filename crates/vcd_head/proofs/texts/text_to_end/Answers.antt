@@ -3,7 +3,7 @@ use Rattle.std.proofs.lemmas.Result.{err_from_is_err_and}
 use Rattle.vcd_text.specs.Feed.{token_of}
 use Rattle.std.specs.List.{join_with_byte}
 use Rattle.vcd_head.specs.Texts.{spaced}
-use Rattle.vcd_head.proofs.Steps.{faultless}
+use Rattle.vcd_head.proofs.TokenSteps.{faultless}
 use Rattle.vcd_head.proofs.TextSteps.{ends_at_once, one_first, runs_behind, ends_behind}
 use Rattle.vcd_head.proofs.texts.text_to_end.Goals as goal
 
@@ -39,7 +39,7 @@ returns-clause-reads g c = λ most i placed before runs r.
     ends_behind most i placed before t c.append_to_end.new.feed c.append_to_end.new.text.items n (record {
       inner = h.inner;
       none = h.none;
-      looks = h.looks;
+      token_read = h.token_read;
       ends = h.ends;
       grows = h.grows ∙ ap (λ x. x ++ spaced h.inner) (c.in_ok-extend_from_slice.ensures.items ∙ ap (λ x. x ++ c.token.result.now) c.new-text.ensures.items ∙ c.token.ensures);
     })

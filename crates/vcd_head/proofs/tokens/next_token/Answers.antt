@@ -1,7 +1,7 @@
 use Rattle.std.proofs.Common.{ℕ, Some, None, refl, sym, subst}
 use Rattle.vcd_text.specs.Answer.{failed_after}
 use Rattle.vcd_text.specs.Feed.{seen, limit_of, token_of}
-use Rattle.vcd_head.proofs.Steps.{missing_token}
+use Rattle.vcd_head.proofs.TokenSteps.{missing_token}
 use Rattle.vcd_head.specs.Reads.{HasFault}
 use Rattle.vcd_head.proofs.tokens.next_token.Goals as goal
 
@@ -11,8 +11,8 @@ returns-in-Ok-Finish-clause-reads g c = λ most i placed before r.
     let n = e.gives i r.given r.stands in
     (subst (λ (l : ℕ). HasFault most l (i) 2 (token_of c.next.new.self).line) (sym e.lengths.0) (missing_token most (limit_of c.args.feed.now) (i) r.given placed before (None) (token_of c.next.new.self).line r.so_far n.2), e.empty (λ y. cc))
 
-pub returns-in-Ok-Finish-clause-went : goal.returns-in-Ok-Finish-clause-went
-returns-in-Ok-Finish-clause-went g c =
+pub returns-in-Ok-Finish-clause-advances : goal.returns-in-Ok-Finish-clause-advances
+returns-in-Ok-Finish-clause-advances g c =
     let e = rw c.in-Ok-Finish.field-0-is at c.in-Ok-Finish.ensures in
     record {
       loans = e.loans;
@@ -30,8 +30,8 @@ returns-in-Err-TokenTooLong-clause-reads g c = λ most i placed before r.
     let n = e.gives i r.given r.stands in
     (subst (λ (l : ℕ). HasFault most l (i) 1 (token_of c.next.new.self).line) (sym e.lengths.0) (missing_token most (limit_of c.args.feed.now) (i) r.given placed before (Some 1) (token_of c.next.new.self).line r.so_far n.2), e.empty (λ y. cc))
 
-pub returns-in-Err-TokenTooLong-clause-went : goal.returns-in-Err-TokenTooLong-clause-went
-returns-in-Err-TokenTooLong-clause-went g c =
+pub returns-in-Err-TokenTooLong-clause-advances : goal.returns-in-Err-TokenTooLong-clause-advances
+returns-in-Err-TokenTooLong-clause-advances g c =
     let e = rw c.in-Err-TokenTooLong.field-0-is at c.in-Err-TokenTooLong.ensures in
     record {
       loans = e.loans;
@@ -49,8 +49,8 @@ returns-in-Err-InputTooLong-clause-reads g c = λ most i placed before r.
     let n = e.gives i r.given r.stands in
     (subst (λ (l : ℕ). HasFault most l (i) 21 (token_of c.next.new.self).line) (sym e.lengths.0) (missing_token most (limit_of c.args.feed.now) (i) r.given placed before (Some 21) (token_of c.next.new.self).line r.so_far n.2), e.empty (λ y. cc))
 
-pub returns-in-Err-InputTooLong-clause-went : goal.returns-in-Err-InputTooLong-clause-went
-returns-in-Err-InputTooLong-clause-went g c =
+pub returns-in-Err-InputTooLong-clause-advances : goal.returns-in-Err-InputTooLong-clause-advances
+returns-in-Err-InputTooLong-clause-advances g c =
     let e = rw c.in-Err-InputTooLong.field-0-is at c.in-Err-InputTooLong.ensures in
     record {
       loans = e.loans;
@@ -68,8 +68,8 @@ returns-in-Err-ReadFailed-clause-reads g c = λ most i placed before r.
     let n = e.gives i r.given r.stands in
     (subst (λ (l : ℕ). HasFault most l (failed_after (seen c.next.new.self) i) 31 (token_of c.next.new.self).line) (sym e.lengths.0) (missing_token most (limit_of c.args.feed.now) (failed_after (seen c.next.new.self) i) r.given placed before (Some 31) (token_of c.next.new.self).line r.so_far n.2), e.empty (λ y. cc))
 
-pub returns-in-Err-ReadFailed-clause-went : goal.returns-in-Err-ReadFailed-clause-went
-returns-in-Err-ReadFailed-clause-went g c =
+pub returns-in-Err-ReadFailed-clause-advances : goal.returns-in-Err-ReadFailed-clause-advances
+returns-in-Err-ReadFailed-clause-advances g c =
     let e = rw c.in-Err-ReadFailed.field-0-is at c.in-Err-ReadFailed.ensures in
     record {
       loans = e.loans;
@@ -80,3 +80,8 @@ returns-in-Err-ReadFailed-clause-went g c =
       failed = λ x o. e.failed o refl;
       same = λ x. absurd (x refl);
     }
+
+pub returns-in-Ok-Token-clause-reads : goal.returns-in-Ok-Token-clause-reads
+returns-in-Ok-Token-clause-reads g c = λ most i placed before r.
+    let e = rw c.in-Ok-Token.field-0-is at c.in-Ok-Token.ensures in
+    record { given = r.given; stands = e.gives i r.given r.stands; so_far = r.so_far }

@@ -1,7 +1,7 @@
 use Rattle.std.proofs.Common.{sym, ◌∙◌}
 use Rattle.std.proofs.lemmas.Result.{err_from_is_err_and}
 use Rattle.vcd_text.specs.Feed.{token_of}
-use Rattle.vcd_head.proofs.Steps.{welcomed, faultless}
+use Rattle.vcd_head.proofs.TokenSteps.{welcomed, faultless}
 use Rattle.vcd_head.proofs.tokens.next_word.Goals as goal
 
 pub returns-in_err-next_ends-clause-reads : goal.returns-in_err-next_ends-clause-reads

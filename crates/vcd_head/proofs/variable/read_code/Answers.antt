@@ -9,8 +9,8 @@ use Rattle.std.specs.Map.{lookup}
 use Rattle.std.specs.Option.{option_copied}
 use Rattle.std.specs.Global.{Vec}
 use Rattle.vcd_text.specs.Feed.{token_of}
-use Rattle.vcd_head.proofs.Steps.{faultless}
-use Rattle.vcd_head.proofs.Phrases.{inside, refused_inside}
+use Rattle.vcd_head.proofs.TokenSteps.{faultless}
+use Rattle.vcd_head.proofs.PhraseLemmas.{inside, refused_inside}
 use Rattle.vcd_head.proofs.CodeChecks.{copied_none, code_bad, check_new, check_same, check_size, check_event, found_new, found_same, flags_same, flags_differ}
 use Rattle.vcd_head.proofs.variable.read_code.Goals as goal
 

@@ -4,8 +4,8 @@ use Rattle.vcd_model.specs.Keywords.{Keyword, keyword_text}
 use Rattle.vcd_text.specs.Feed.{token_of}
 use Rattle.vcd_head.specs.Words.{size_in}
 use Rattle.vcd_head.proofs.WordLemmas.{size_found, size_missing}
-use Rattle.vcd_head.proofs.Phrases.{inside, refused_inside}
-use Rattle.vcd_head.proofs.Carrying.{passed_test, failed_test}
+use Rattle.vcd_head.proofs.PhraseLemmas.{inside, refused_inside}
+use Rattle.vcd_head.proofs.DraftSteps.{passed_test, failed_test}
 use Rattle.vcd_head.proofs.variable.read_size.Goals as goal
 
 pub returns-in_err-next_token-clause-reads : goal.returns-in_err-next_token-clause-reads

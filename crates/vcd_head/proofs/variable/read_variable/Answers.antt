@@ -10,13 +10,13 @@ use Rattle.vcd_model.specs.Reading.{phrases_of}
 use Rattle.vcd_text.specs.Feed.{token_of}
 use Rattle.vcd_head.specs.Texts.{spaced}
 use Rattle.vcd_head.specs.Views.{IsSize}
-use Rattle.vcd_head.specs.Holds.{HasCodes}
-use Rattle.vcd_head.proofs.Steps.{faultless_phrase, word_some, word_none, text_taken}
+use Rattle.vcd_head.specs.Draft.{HasCodes}
+use Rattle.vcd_head.proofs.TokenSteps.{faultless_phrase, word_some, word_none, text_taken}
 use Rattle.vcd_head.proofs.TextSteps.{joined}
 use Rattle.vcd_head.proofs.WordLemmas.{size_found, size_parts}
-use Rattle.vcd_head.proofs.Phrases.{begun, not_begun, ended, refused_inside, var_welcomes_type, var_welcomes_reference, var_runs, var_whole}
-use Rattle.vcd_head.proofs.Carrying.{carried, few_enough, too_many_var, var_checks_pass, failed_not}
-use Rattle.vcd_head.proofs.Declared.{some_token, var_declared, holds_declared, has_codes_grow}
+use Rattle.vcd_head.proofs.PhraseLemmas.{begun, not_begun, ended, refused_inside, var_welcomes_type, var_welcomes_reference, var_runs, var_whole}
+use Rattle.vcd_head.proofs.DraftSteps.{carried, few_enough, too_many_var, var_checks_pass, failed_not}
+use Rattle.vcd_head.proofs.DraftLemmas.{some_token, var_declared, holds_declared, has_codes_grow}
 use Rattle.vcd_head.specs.declared.view.Kind.TheVariants as kind
 use Rattle.vcd_head.specs.declared.view.Row.{Row}
 use Rattle.vcd_head.proofs.variable.read_variable.Goals as goal
@@ -24,20 +24,20 @@ use Rattle.vcd_head.proofs.variable.read_variable.Goals as goal
 pub returns-then-len-most-clause-reads : goal.returns-then-len-most-clause-reads
 returns-then-len-most-clause-reads g c = λ i b.
     let n : c.args.most ≤ length c.args.draft.now.rows.items = omega arith in
-    not_begun c.args.most i b.placed Keyword.Var c.args.feed.now 11 b.keyword (too_many_var c.args.most c.args.draft.now (phrases_of b.placed) b.holds n) b.looks
+    not_begun c.args.most i b.placed Keyword.Var c.args.feed.now 11 b.keyword (too_many_var c.args.most c.args.draft.now (phrases_of b.placed) b.holds n) b.token_read
 
 pub returns-in_err-word-clause-reads : goal.returns-in_err-word-clause-reads
 returns-in_err-word-clause-reads g c =
     let p = err_from_is_err_and c.from_residual.result c.from_residual.ensures.1 in
     rw (p.1, p.2) (λ i b.
     let n : length c.args.draft.now.rows.items < c.args.most = omega arith in
-    let r0 = begun c.args.most i b.placed Keyword.Var c.args.feed.now b.keyword (var_checks_pass c.args.most c.args.draft.now (phrases_of b.placed) b.holds n) refl b.looks in
+    let r0 = begun c.args.most i b.placed Keyword.Var c.args.feed.now b.keyword (var_checks_pass c.args.most c.args.draft.now (phrases_of b.placed) b.holds n) refl b.token_read in
     c.in_err-word.ensures.reads c.args.most i b.placed (keyword_text Keyword.Var ∷ []) (var_welcomes_type c.args.most b.placed) r0)
 
 pub returns-in_default-clause-reads : goal.returns-in_default-clause-reads
 returns-in_default-clause-reads g c = λ i b.
     let n : length c.args.draft.now.rows.items < c.args.most = omega arith in
-    let r0 = begun c.args.most i b.placed Keyword.Var c.args.feed.now b.keyword (var_checks_pass c.args.most c.args.draft.now (phrases_of b.placed) b.holds n) refl b.looks in
+    let r0 = begun c.args.most i b.placed Keyword.Var c.args.feed.now b.keyword (var_checks_pass c.args.most c.args.draft.now (phrases_of b.placed) b.holds n) refl b.token_read in
     let w1 = c.in_ok-word.ensures.reads c.args.most i b.placed (keyword_text Keyword.Var ∷ []) (var_welcomes_type c.args.most b.placed) r0 in
     let e = word_none c.args.most i b.placed (keyword_text Keyword.Var ∷ []) c.next_word.new.feed c.in_ok-word.field-0 c.in_default.not-Some w1 in
     refused_inside c.args.most i b.placed Keyword.Var c.next_word.new.feed [] 7 (failed_not _ 7 e.1) e.0
@@ -47,7 +47,7 @@ returns-in_err-size-clause-reads g c =
     let p = err_from_is_err_and c.from_residual-in_err-size.result c.from_residual-in_err-size.ensures.1 in
     rw (p.1, p.2) (λ i b.
     let n : length c.args.draft.now.rows.items < c.args.most = omega arith in
-    let r0 = begun c.args.most i b.placed Keyword.Var c.args.feed.now b.keyword (var_checks_pass c.args.most c.args.draft.now (phrases_of b.placed) b.holds n) refl b.looks in
+    let r0 = begun c.args.most i b.placed Keyword.Var c.args.feed.now b.keyword (var_checks_pass c.args.most c.args.draft.now (phrases_of b.placed) b.holds n) refl b.token_read in
     let w1 = c.in_ok-word.ensures.reads c.args.most i b.placed (keyword_text Keyword.Var ∷ []) (var_welcomes_type c.args.most b.placed) r0 in
     let type = (token_of c.next_word.new.feed).bytes in
     let r1 = (word_some c.args.most i b.placed (keyword_text Keyword.Var ∷ []) c.next_word.new.feed c.in_ok-word.field-0 c.in-Some.word c.in-Some.is w1).0 in
@@ -58,7 +58,7 @@ returns-in_err-found-clause-reads g c =
     let p = err_from_is_err_and c.from_residual-in_err-found.result c.from_residual-in_err-found.ensures.1 in
     rw (p.1, p.2) (λ i b.
     let n : length c.args.draft.now.rows.items < c.args.most = omega arith in
-    let r0 = begun c.args.most i b.placed Keyword.Var c.args.feed.now b.keyword (var_checks_pass c.args.most c.args.draft.now (phrases_of b.placed) b.holds n) refl b.looks in
+    let r0 = begun c.args.most i b.placed Keyword.Var c.args.feed.now b.keyword (var_checks_pass c.args.most c.args.draft.now (phrases_of b.placed) b.holds n) refl b.token_read in
     let w1 = c.in_ok-word.ensures.reads c.args.most i b.placed (keyword_text Keyword.Var ∷ []) (var_welcomes_type c.args.most b.placed) r0 in
     let type = (token_of c.next_word.new.feed).bytes in
     let r1 = (word_some c.args.most i b.placed (keyword_text Keyword.Var ∷ []) c.next_word.new.feed c.in_ok-word.field-0 c.in-Some.word c.in-Some.is w1).0 in
@@ -75,7 +75,7 @@ returns-in_err-name-clause-reads g c =
     let p = err_from_is_err_and c.from_residual-in_err-name.result c.from_residual-in_err-name.ensures.1 in
     rw (p.1, p.2) (λ i b.
     let n : length c.args.draft.now.rows.items < c.args.most = omega arith in
-    let r0 = begun c.args.most i b.placed Keyword.Var c.args.feed.now b.keyword (var_checks_pass c.args.most c.args.draft.now (phrases_of b.placed) b.holds n) refl b.looks in
+    let r0 = begun c.args.most i b.placed Keyword.Var c.args.feed.now b.keyword (var_checks_pass c.args.most c.args.draft.now (phrases_of b.placed) b.holds n) refl b.token_read in
     let w1 = c.in_ok-word.ensures.reads c.args.most i b.placed (keyword_text Keyword.Var ∷ []) (var_welcomes_type c.args.most b.placed) r0 in
     let type = (token_of c.next_word.new.feed).bytes in
     let r1 = (word_some c.args.most i b.placed (keyword_text Keyword.Var ∷ []) c.next_word.new.feed c.in_ok-word.field-0 c.in-Some.word c.in-Some.is w1).0 in
@@ -93,7 +93,7 @@ returns-in_err-name-clause-reads g c =
 pub returns-in_default-2-clause-reads : goal.returns-in_default-2-clause-reads
 returns-in_default-2-clause-reads g c = λ i b.
     let n : length c.args.draft.now.rows.items < c.args.most = omega arith in
-    let r0 = begun c.args.most i b.placed Keyword.Var c.args.feed.now b.keyword (var_checks_pass c.args.most c.args.draft.now (phrases_of b.placed) b.holds n) refl b.looks in
+    let r0 = begun c.args.most i b.placed Keyword.Var c.args.feed.now b.keyword (var_checks_pass c.args.most c.args.draft.now (phrases_of b.placed) b.holds n) refl b.token_read in
     let w1 = c.in_ok-word.ensures.reads c.args.most i b.placed (keyword_text Keyword.Var ∷ []) (var_welcomes_type c.args.most b.placed) r0 in
     let type = (token_of c.next_word.new.feed).bytes in
     let r1 = (word_some c.args.most i b.placed (keyword_text Keyword.Var ∷ []) c.next_word.new.feed c.in_ok-word.field-0 c.in-Some.word c.in-Some.is w1).0 in
@@ -115,7 +115,7 @@ returns-in_err-append_to_end-clause-reads g c =
     let p = err_from_is_err_and c.from_residual-in_err-append_to_end.result c.from_residual-in_err-append_to_end.ensures.1 in
     rw (p.1, p.2) (λ i b.
     let n : length c.args.draft.now.rows.items < c.args.most = omega arith in
-    let r0 = begun c.args.most i b.placed Keyword.Var c.args.feed.now b.keyword (var_checks_pass c.args.most c.args.draft.now (phrases_of b.placed) b.holds n) refl b.looks in
+    let r0 = begun c.args.most i b.placed Keyword.Var c.args.feed.now b.keyword (var_checks_pass c.args.most c.args.draft.now (phrases_of b.placed) b.holds n) refl b.token_read in
     let w1 = c.in_ok-word.ensures.reads c.args.most i b.placed (keyword_text Keyword.Var ∷ []) (var_welcomes_type c.args.most b.placed) r0 in
     let type = (token_of c.next_word.new.feed).bytes in
     let r1 = (word_some c.args.most i b.placed (keyword_text Keyword.Var ∷ []) c.next_word.new.feed c.in_ok-word.field-0 c.in-Some.word c.in-Some.is w1).0 in
@@ -138,7 +138,7 @@ returns-in_err-code-clause-reads g c =
     let p = err_from_is_err_and c.from_residual-in_err-code.result c.from_residual-in_err-code.ensures.1 in
     rw (p.1, p.2, c.in_err-code.ensures.memory) (λ i b.
     let n : length c.args.draft.now.rows.items < c.args.most = omega arith in
-    let r0 = begun c.args.most i b.placed Keyword.Var c.args.feed.now b.keyword (var_checks_pass c.args.most c.args.draft.now (phrases_of b.placed) b.holds n) refl b.looks in
+    let r0 = begun c.args.most i b.placed Keyword.Var c.args.feed.now b.keyword (var_checks_pass c.args.most c.args.draft.now (phrases_of b.placed) b.holds n) refl b.token_read in
     let w1 = c.in_ok-word.ensures.reads c.args.most i b.placed (keyword_text Keyword.Var ∷ []) (var_welcomes_type c.args.most b.placed) r0 in
     let type = (token_of c.next_word.new.feed).bytes in
     let r1 = (word_some c.args.most i b.placed (keyword_text Keyword.Var ∷ []) c.next_word.new.feed c.in_ok-word.field-0 c.in-Some.word c.in-Some.is w1).0 in
@@ -158,7 +158,7 @@ returns-in_err-code-clause-reads g c =
     let inner = e5.inner in
     let v : Variable = record { type = type; size = decimal_value digits; code = code; reference = first ∷ inner } in
     let sp = size_parts digits sf.0 in
-    let r5 = ended c.args.most i b.placed Keyword.Var c.append_to_end.new.feed (type ∷ digits ∷ code ∷ first ∷ inner) (HeaderPhrase.Declares (Declaration.Var v)) refl (var_whole type digits code first inner (token_of c.append_to_end.new.feed).bytes ws.1 e5.none e5.ends sp.0) refl e5.looks in
+    let r5 = ended c.args.most i b.placed Keyword.Var c.append_to_end.new.feed (type ∷ digits ∷ code ∷ first ∷ inner) (HeaderPhrase.Declares (Declaration.Var v)) refl (var_whole type digits code first inner (token_of c.append_to_end.new.feed).bytes ws.1 e5.none e5.ends sp.0) refl e5.token_read in
     faultless_phrase c.args.most i b.placed (record { phrase = HeaderPhrase.Declares (Declaration.Var v); line = (token_of c.append_to_end.new.feed).line }) c.append_to_end.new.feed r5)
 
 pub returns-in_err-push-clause-reads : goal.returns-in_err-push-clause-reads
@@ -166,7 +166,7 @@ returns-in_err-push-clause-reads g c =
     let p = err_from_is_err_and c.from_residual-in_err-push.result c.from_residual-in_err-push.ensures.1 in
     rw (p.1, p.2) (λ i b.
     let n : length c.args.draft.now.rows.items < c.args.most = omega arith in
-    let r0 = begun c.args.most i b.placed Keyword.Var c.args.feed.now b.keyword (var_checks_pass c.args.most c.args.draft.now (phrases_of b.placed) b.holds n) refl b.looks in
+    let r0 = begun c.args.most i b.placed Keyword.Var c.args.feed.now b.keyword (var_checks_pass c.args.most c.args.draft.now (phrases_of b.placed) b.holds n) refl b.token_read in
     let w1 = c.in_ok-word.ensures.reads c.args.most i b.placed (keyword_text Keyword.Var ∷ []) (var_welcomes_type c.args.most b.placed) r0 in
     let type = (token_of c.next_word.new.feed).bytes in
     let r1 = (word_some c.args.most i b.placed (keyword_text Keyword.Var ∷ []) c.next_word.new.feed c.in_ok-word.field-0 c.in-Some.word c.in-Some.is w1).0 in
@@ -186,13 +186,13 @@ returns-in_err-push-clause-reads g c =
     let inner = e5.inner in
     let v : Variable = record { type = type; size = decimal_value digits; code = code; reference = first ∷ inner } in
     let sp = size_parts digits sf.0 in
-    let r5 = ended c.args.most i b.placed Keyword.Var c.append_to_end.new.feed (type ∷ digits ∷ code ∷ first ∷ inner) (HeaderPhrase.Declares (Declaration.Var v)) refl (var_whole type digits code first inner (token_of c.append_to_end.new.feed).bytes ws.1 e5.none e5.ends sp.0) refl e5.looks in
+    let r5 = ended c.args.most i b.placed Keyword.Var c.append_to_end.new.feed (type ∷ digits ∷ code ∷ first ∷ inner) (HeaderPhrase.Declares (Declaration.Var v)) refl (var_whole type digits code first inner (token_of c.append_to_end.new.feed).bytes ws.1 e5.none e5.ends sp.0) refl e5.token_read in
     faultless_phrase c.args.most i b.placed (record { phrase = HeaderPhrase.Declares (Declaration.Var v); line = (token_of c.append_to_end.new.feed).line }) c.append_to_end.new.feed r5)
 
 pub returns-clause-reads : goal.returns-clause-reads
 returns-clause-reads g c = λ i b.
     let n : length c.args.draft.now.rows.items < c.args.most = omega arith in
-    let r0 = begun c.args.most i b.placed Keyword.Var c.args.feed.now b.keyword (var_checks_pass c.args.most c.args.draft.now (phrases_of b.placed) b.holds n) refl b.looks in
+    let r0 = begun c.args.most i b.placed Keyword.Var c.args.feed.now b.keyword (var_checks_pass c.args.most c.args.draft.now (phrases_of b.placed) b.holds n) refl b.token_read in
     let w1 = c.in_ok-word.ensures.reads c.args.most i b.placed (keyword_text Keyword.Var ∷ []) (var_welcomes_type c.args.most b.placed) r0 in
     let type = (token_of c.next_word.new.feed).bytes in
     let r1 = (word_some c.args.most i b.placed (keyword_text Keyword.Var ∷ []) c.next_word.new.feed c.in_ok-word.field-0 c.in-Some.word c.in-Some.is w1).0 in
@@ -212,7 +212,7 @@ returns-clause-reads g c = λ i b.
     let inner = e5.inner in
     let v : Variable = record { type = type; size = decimal_value digits; code = code; reference = first ∷ inner } in
     let sp = size_parts digits sf.0 in
-    let r5 = ended c.args.most i b.placed Keyword.Var c.append_to_end.new.feed (type ∷ digits ∷ code ∷ first ∷ inner) (HeaderPhrase.Declares (Declaration.Var v)) refl (var_whole type digits code first inner (token_of c.append_to_end.new.feed).bytes ws.1 e5.none e5.ends sp.0) refl e5.looks in
+    let r5 = ended c.args.most i b.placed Keyword.Var c.append_to_end.new.feed (type ∷ digits ∷ code ∷ first ∷ inner) (HeaderPhrase.Declares (Declaration.Var v)) refl (var_whole type digits code first inner (token_of c.append_to_end.new.feed).bytes ws.1 e5.none e5.ends sp.0) refl e5.token_read in
     let t1 = text_taken c.args.draft.now.text.items c.next_word.new.text.items type c.in_ok-word.field-0 c.in-Some.word c.in-Some.is c.in_ok-word.ensures.text in
     let t2 = text_taken c.next_word.new.text.items c.next_word-2.new.text.items first c.in_ok-name.field-0 c.in-Some-2.name c.in-Some-2.is c.in_ok-name.ensures.text in
     let join = join_with_byte 32 (first ∷ inner) in

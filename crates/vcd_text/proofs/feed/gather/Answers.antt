@@ -2,7 +2,7 @@ use Rattle.std.specs.Prelude.{Ok, Err}
 use Rattle.vcd_text.specs.declared.answer.Next.TheVariants.{Token}
 use Rattle.std.proofs.Common.{◌≡◌, ◌≤◌, length, arith, refl, sym, ◌∙◌}
 use Rattle.vcd_text.specs.declared.registers.Place.TheVariants.{Window}
-use Rattle.vcd_text.proofs.Turns.{after-skip, whole-stands, part-within, more-within, again-gives, long-gives, input-gives, fail-gives, finish-stands, in-window}
+use Rattle.vcd_text.proofs.WindowLemmas.{after-skip, whole-stands, part-within, more-within, again-gives, long-gives, input-gives, fail-gives, finish-stands, in-window}
 use Rattle.vcd_text.proofs.feed.gather.Goals as goal
 
 pub returns-in-Halted-clause-gives : goal.returns-in-Halted-clause-gives
@@ -10,47 +10,47 @@ returns-in-Halted-clause-gives g c = λ i given st. again-gives _ _ _ c.args.tok
 
 pub returns-in-Whole-clause-gives : goal.returns-in-Whole-clause-gives
 returns-in-Whole-clause-gives g c = λ i given st.
-    let t = c.loop-now.invariant.1 in
-    let fits : length c.loop-now.chunk ≡ length c.args.chunk.now = omega arith in
-    let full : length c.loop-now.token ≡ length c.args.token.now = omega arith in
+    let t = c.loop-parked.invariant.1 in
+    let fits : length c.loop-parked.chunk ≡ length c.args.chunk.now = omega arith in
+    let full : length c.loop-parked.token ≡ length c.args.token.now = omega arith in
     let range = c.skip.ensures.fits (length c.args.token.now) (rw fits t.fits) in
     let phase = c.in-Whole.ensures.phase ∙ (c.skip.ensures.phase ∙ t.going) in
-    let place : c.collect.new.now.place ≡ Window = c.in-Whole.ensures.place ∙ (c.skip.ensures.place ∙ c.loop-now.invariant.4) in
-    in-window (length c.args.token.now) (g.S.Source.rest c.loop-now.source) c.loop-now.chunk c.collect.new.token c.collect.new.now i given (Ok Token) place (whole-stands _ _ _ _ _ _ _ i given (t.clean i given st) range full phase c.in-Whole.ensures.collects
+    let place : c.collect.new.parked.place ≡ Window = c.in-Whole.ensures.place ∙ (c.skip.ensures.place ∙ c.loop-parked.invariant.4) in
+    in-window (length c.args.token.now) (g.S.Source.rest c.loop-parked.source) c.loop-parked.chunk c.collect.new.token c.collect.new.parked i given (Ok Token) place (whole-stands _ _ _ _ _ _ _ i given (t.clean i given st) range full phase c.in-Whole.ensures.collects
     (after-skip _ _ _ _ _ _ _ _ t fits c.skip.ensures.begun c.skip.ensures.skips i given st))
 
 pub returns-in-TooLong-clause-gives : goal.returns-in-TooLong-clause-gives
 returns-in-TooLong-clause-gives g c = λ i given st.
-    let t = c.loop-now.invariant.1 in
-    let fits : length c.loop-now.chunk ≡ length c.args.chunk.now = omega arith in
-    let full : length c.loop-now.token ≡ length c.args.token.now = omega arith in
+    let t = c.loop-parked.invariant.1 in
+    let fits : length c.loop-parked.chunk ≡ length c.args.chunk.now = omega arith in
+    let full : length c.loop-parked.token ≡ length c.args.token.now = omega arith in
     let range = c.skip.ensures.fits (length c.args.token.now) (rw fits t.fits) in
-    let place : c.halted.new.now.place ≡ Window = c.halted.ensures.place ∙ (c.in-TooLong.ensures.place ∙ (c.skip.ensures.place ∙ c.loop-now.invariant.4)) in
-    in-window (length c.args.token.now) (g.S.Source.rest c.loop-now.source) c.loop-now.chunk c.collect.new.token c.halted.new.now i given (Err c.halted.result) place (long-gives _ _ _ _ _ _ _ _ i given _ (t.clean i given st) range full c.in-TooLong.ensures.collects
+    let place : c.halted.new.parked.place ≡ Window = c.halted.ensures.place ∙ (c.in-TooLong.ensures.place ∙ (c.skip.ensures.place ∙ c.loop-parked.invariant.4)) in
+    in-window (length c.args.token.now) (g.S.Source.rest c.loop-parked.source) c.loop-parked.chunk c.collect.new.token c.halted.new.parked i given (Err c.halted.result) place (long-gives _ _ _ _ _ _ _ _ i given _ (t.clean i given st) range full c.in-TooLong.ensures.collects
     (after-skip _ _ _ _ _ _ _ _ t fits c.skip.ensures.begun c.skip.ensures.skips i given st) c.halted.ensures.result c.halted.ensures.halts)
 
-pub returns-then-now-clause-gives : goal.returns-then-now-clause-gives
-returns-then-now-clause-gives g c = λ i given st.
-    let t = c.loop-now.invariant.1 in
-    let fits : length c.loop-now.chunk ≡ length c.args.chunk.now = omega arith in
-    let full : length c.loop-now.token ≡ length c.args.token.now = omega arith in
+pub returns-then-parked-clause-gives : goal.returns-then-parked-clause-gives
+returns-then-parked-clause-gives g c = λ i given st.
+    let t = c.loop-parked.invariant.1 in
+    let fits : length c.loop-parked.chunk ≡ length c.args.chunk.now = omega arith in
+    let full : length c.loop-parked.token ≡ length c.args.token.now = omega arith in
     let range = c.skip.ensures.fits (length c.args.token.now) (rw fits t.fits) in
     let full' : length c.collect.new.token ≡ length c.args.token.now = omega arith in
     let range' = rw full at (c.in-Part.ensures.fits (rw full range)) in
     let w = part-within _ _ _ _ _ _ _ i.bytes given range full c.in-Part.ensures.collects
     (after-skip _ _ _ _ _ _ _ _ t fits c.skip.ensures.begun c.skip.ensures.skips i given st) in
-    let place : c.halted-then-now.new.now.place ≡ Window = c.halted-then-now.ensures.place ∙ (c.in-Part.ensures.place ∙ (c.skip.ensures.place ∙ c.loop-now.invariant.4)) in
-    in-window (length c.args.token.now) (g.S.Source.rest c.loop-now.source) c.loop-now.chunk c.collect.new.token c.halted-then-now.new.now i given (Err c.halted-then-now.result) place (input-gives _ _ _ _ _ _ i given _ (t.clean i given st) range' (c.in-Part.ensures.part refl) c.if-now.true w c.halted-then-now.ensures.result c.halted-then-now.ensures.halts)
+    let place : c.halted-then-parked.new.parked.place ≡ Window = c.halted-then-parked.ensures.place ∙ (c.in-Part.ensures.place ∙ (c.skip.ensures.place ∙ c.loop-parked.invariant.4)) in
+    in-window (length c.args.token.now) (g.S.Source.rest c.loop-parked.source) c.loop-parked.chunk c.collect.new.token c.halted-then-parked.new.parked i given (Err c.halted-then-parked.result) place (input-gives _ _ _ _ _ _ i given _ (t.clean i given st) range' (c.in-Part.ensures.part refl) c.if-parked.true w c.halted-then-parked.ensures.result c.halted-then-parked.ensures.halts)
 
-pub loop-now-preserved : goal.loop-now-preserved
-loop-now-preserved g c =
-    let t = c.loop-now.invariant.1 in
-    let fits : length c.loop-now.chunk ≡ length c.args.chunk.now = omega arith in
-    let full : length c.loop-now.token ≡ length c.args.token.now = omega arith in
+pub loop-parked-preserved : goal.loop-parked-preserved
+loop-parked-preserved g c =
+    let t = c.loop-parked.invariant.1 in
+    let fits : length c.loop-parked.chunk ≡ length c.args.chunk.now = omega arith in
+    let full : length c.loop-parked.token ≡ length c.args.token.now = omega arith in
     let range = c.skip.ensures.fits (length c.args.token.now) (rw fits t.fits) in
     let range' = rw full at (c.in-Part.ensures.fits (rw full range)) in
-    let used : c.collect.new.now.end ≤ c.collect.new.now.at = omega (arith, c.in-Part.ensures.part refl, c.if-now.false) in (
-      c.in-More.ensures.failures (λ e. cc) ∙ c.loop-now.invariant.0,
+    let used : c.collect.new.parked.end ≤ c.collect.new.parked.at = omega (arith, c.in-Part.ensures.part refl, c.if-parked.false) in (
+      c.in-More.ensures.failures (λ e. cc) ∙ c.loop-parked.invariant.0,
       record {
         fits = rw (sym fits) (c.in-More.ensures.fits _ range');
         going = c.in-More.ensures.phase ∙ (c.in-Part.ensures.phase ∙ (c.skip.ensures.phase ∙ t.going));
@@ -59,30 +59,30 @@ loop-now-preserved g c =
             (part-within _ _ _ _ _ _ _ i.bytes given range full c.in-Part.ensures.collects
             (after-skip _ _ _ _ _ _ _ _ t fits c.skip.ensures.begun c.skip.ensures.skips i given st));
       },
-      c.in-More.ensures.kept ∙ (c.in-Part.ensures.kept ∙ (c.skip.ensures.kept ∙ c.loop-now.invariant.2)),
-      omega (arith, c.in-More.ensures.looked.0, c.in-More.ensures.looked.1, c.in-Part.ensures.looked, c.skip.ensures.looked, c.loop-now.invariant.3),
-      c.in-More.ensures.place ∙ (c.in-Part.ensures.place ∙ (c.skip.ensures.place ∙ c.loop-now.invariant.4)),
+      c.in-More.ensures.kept ∙ (c.in-Part.ensures.kept ∙ (c.skip.ensures.kept ∙ c.loop-parked.invariant.2)),
+      omega (arith, c.in-More.ensures.looked.0, c.in-More.ensures.looked.1, c.in-Part.ensures.looked, c.skip.ensures.looked, c.loop-parked.invariant.3),
+      c.in-More.ensures.place ∙ (c.in-Part.ensures.place ∙ (c.skip.ensures.place ∙ c.loop-parked.invariant.4)),
     )
 
 pub returns-in-End-clause-gives : goal.returns-in-End-clause-gives
 returns-in-End-clause-gives g c = λ i given st.
-    let t = c.loop-now.invariant.1 in
-    let fits : length c.loop-now.chunk ≡ length c.args.chunk.now = omega arith in
-    let full : length c.loop-now.token ≡ length c.args.token.now = omega arith in
+    let t = c.loop-parked.invariant.1 in
+    let fits : length c.loop-parked.chunk ≡ length c.args.chunk.now = omega arith in
+    let full : length c.loop-parked.token ≡ length c.args.token.now = omega arith in
     let range = c.skip.ensures.fits (length c.args.token.now) (rw fits t.fits) in
-    let used : c.collect.new.now.end ≤ c.collect.new.now.at = omega (arith, c.in-Part.ensures.part refl, c.if-now.false) in
+    let used : c.collect.new.parked.end ≤ c.collect.new.parked.at = omega (arith, c.in-Part.ensures.part refl, c.if-parked.false) in
     let w = part-within _ _ _ _ _ _ _ i.bytes given range full c.in-Part.ensures.collects
     (after-skip _ _ _ _ _ _ _ _ t fits c.skip.ensures.begun c.skip.ensures.skips i given st) in
-    let place : c.finish.new.now.place ≡ Window = c.finish.ensures.place ∙ (c.in-End.ensures.place ∙ (c.in-Part.ensures.place ∙ (c.skip.ensures.place ∙ c.loop-now.invariant.4))) in
-    in-window (length c.args.token.now) (g.S.Source.rest c.fill.new.source) c.fill.new.chunk c.collect.new.token c.finish.new.now i given (Ok c.finish.result) place (finish-stands _ _ _ _ _ _ _ _ i given _ (t.clean i given st) used c.in-End.ensures.fills.1 (rw c.in-End.ensures.fills.0 at c.finish.ensures.finishes) w)
+    let place : c.finish.new.parked.place ≡ Window = c.finish.ensures.place ∙ (c.in-End.ensures.place ∙ (c.in-Part.ensures.place ∙ (c.skip.ensures.place ∙ c.loop-parked.invariant.4))) in
+    in-window (length c.args.token.now) (g.S.Source.rest c.fill.new.source) c.fill.new.chunk c.collect.new.token c.finish.new.parked i given (Ok c.finish.result) place (finish-stands _ _ _ _ _ _ _ _ i given _ (t.clean i given st) used c.in-End.ensures.fills.1 (rw c.in-End.ensures.fills.0 at c.finish.ensures.finishes) w)
 
 pub returns-in-Failed-clause-gives : goal.returns-in-Failed-clause-gives
 returns-in-Failed-clause-gives g c = λ i given st.
-    let t = c.loop-now.invariant.1 in
-    let fits : length c.loop-now.chunk ≡ length c.args.chunk.now = omega arith in
-    let full : length c.loop-now.token ≡ length c.args.token.now = omega arith in
+    let t = c.loop-parked.invariant.1 in
+    let fits : length c.loop-parked.chunk ≡ length c.args.chunk.now = omega arith in
+    let full : length c.loop-parked.token ≡ length c.args.token.now = omega arith in
     let range = c.skip.ensures.fits (length c.args.token.now) (rw fits t.fits) in
     let w = part-within _ _ _ _ _ _ _ i.bytes given range full c.in-Part.ensures.collects
     (after-skip _ _ _ _ _ _ _ _ t fits c.skip.ensures.begun c.skip.ensures.skips i given st) in
-    let place : c.halted-in-Failed.new.now.place ≡ Window = c.halted-in-Failed.ensures.place ∙ (c.in-Failed.ensures.place ∙ (c.in-Part.ensures.place ∙ (c.skip.ensures.place ∙ c.loop-now.invariant.4))) in
-    in-window (length c.args.token.now) (g.S.Source.rest c.fill.new.source) c.fill.new.chunk c.collect.new.token c.halted-in-Failed.new.now i given (Err c.halted-in-Failed.result) place (fail-gives _ _ _ _ _ _ _ _ _ i given _ (t.clean i given st) c.in-Failed.ensures.fills w c.halted-in-Failed.ensures.result c.halted-in-Failed.ensures.halts)
+    let place : c.halted-in-Failed.new.parked.place ≡ Window = c.halted-in-Failed.ensures.place ∙ (c.in-Failed.ensures.place ∙ (c.in-Part.ensures.place ∙ (c.skip.ensures.place ∙ c.loop-parked.invariant.4))) in
+    in-window (length c.args.token.now) (g.S.Source.rest c.fill.new.source) c.fill.new.chunk c.collect.new.token c.halted-in-Failed.new.parked i given (Err c.halted-in-Failed.result) place (fail-gives _ _ _ _ _ _ _ _ _ i given _ (t.clean i given st) c.in-Failed.ensures.fills w c.halted-in-Failed.ensures.result c.halted-in-Failed.ensures.halts)

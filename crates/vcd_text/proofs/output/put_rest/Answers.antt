@@ -8,7 +8,7 @@ loop-rest-preserved g c =
     let i = c.loop-rest.invariant in
     let taken = c.in_ok-taken.taken in
     let e = c.in_ok-taken.ensures in (
-      e.failures ∙ i.0,
+      e.counts ∙ i.0,
       (
         i.1.0 + taken,
         take_rest c.loop-rest.rest.now taken ∙ (ap (drop taken) i.1.1 ∙ drop-drop taken i.1.0 c.args.bytes.now),

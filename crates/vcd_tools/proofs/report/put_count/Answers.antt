@@ -1,35 +1,35 @@
 use Rattle.std.proofs.Common.{◌≡◌, ℕ, List, [], ◌∷◌, ◌++◌, Err, append_assoc, ap, subst, decimal, rules}
-use Rattle.std.specs.Io.KnownBytes.{Appends}
 use Rattle.vcd_model.specs.CheckAndList.{count_line}
-use Rattle.vcd_text.proofs.Writes.{AppendsSome, appends-twice, takes-twice, appends-some, appends-first}
+use Rattle.vcd_text.specs.Device.{Writes, WritesSome}
+use Rattle.vcd_text.proofs.Writes.{both-written, puts-twice, some-behind, some-first}
 use Rattle.vcd_tools.proofs.report.put_count.Goals as goal
 
 -- the line in the parts that are written
 parts : (name value : List ℕ) → ((name ++ 32 ∷ []) ++ value) ++ 10 ∷ [] ≡ count_line name value
 parts name value = ap (λ l. l ++ 10 ∷ []) (append_assoc name (32 ∷ []) value)
 
-pub returns-in_err-put-clause-takes : goal.returns-in_err-put-clause-takes
-returns-in_err-put-clause-takes g c =
+pub returns-in_err-put : goal.returns-in_err-put
+returns-in_err-put g c =
     let e : c.from_residual.result ≡ Err c.in_err-put.field-0.0 = search rules in
-    let name : AppendsSome (g.W.Sink.held c.args.out.now) (g.W.Sink.held c.put.new.w) c.args.name.now = subst (λ (t : List ℕ). AppendsSome (g.W.Sink.held c.args.out.now) (g.W.Sink.held c.put.new.w) t) c.as_bytes.ensures.value c.in_err-put.ensures.takes in
-    rw (e, ← parts c.args.name.now (decimal c.args.number)) (appends-first _ _ _ (10 ∷ []) (appends-first _ _ _ (decimal c.args.number) (appends-first _ _ _ (32 ∷ []) name)))
+    let name = subst (WritesSome (g.W.Sink.device c.args.out.now) (g.W.Sink.device c.put.new.w)) c.as_bytes.ensures.value c.in_err-put.ensures in
+    rw (e, ← parts c.args.name.now (decimal c.args.number)) (some-first _ _ _ (10 ∷ []) (some-first _ _ _ (decimal c.args.number) (some-first _ _ _ (32 ∷ []) name)))
 
-pub returns-in_err-put-2-clause-takes : goal.returns-in_err-put-2-clause-takes
-returns-in_err-put-2-clause-takes g c =
+pub returns-in_err-put-2 : goal.returns-in_err-put-2
+returns-in_err-put-2 g c =
     let e : c.from_residual-in_err-put-2.result ≡ Err c.in_err-put-2.field-0.0 = search rules in
-    let name : Appends (g.W.Sink.held c.args.out.now) (g.W.Sink.held c.put.new.w) c.args.name.now = subst (λ (t : List ℕ). Appends (g.W.Sink.held c.args.out.now) (g.W.Sink.held c.put.new.w) t) c.as_bytes.ensures.value c.in_ok-put.ensures.takes in
-    rw (e, ← parts c.args.name.now (decimal c.args.number)) (appends-first _ _ _ (10 ∷ []) (appends-first _ _ _ (decimal c.args.number) (appends-some _ _ _ _ (32 ∷ []) name c.in_err-put-2.ensures.takes)))
+    let name = subst (Writes (g.W.Sink.device c.args.out.now) (g.W.Sink.device c.put.new.w)) c.as_bytes.ensures.value c.in_ok-put.ensures in
+    rw (e, ← parts c.args.name.now (decimal c.args.number)) (some-first _ _ _ (10 ∷ []) (some-first _ _ _ (decimal c.args.number) (some-behind _ _ _ _ (32 ∷ []) name c.in_err-put-2.ensures)))
 
-pub returns-in_err-put_number-clause-takes : goal.returns-in_err-put_number-clause-takes
-returns-in_err-put_number-clause-takes g c =
+pub returns-in_err-put_number : goal.returns-in_err-put_number
+returns-in_err-put_number g c =
     let e : c.from_residual-in_err-put_number.result ≡ Err c.in_err-put_number.field-0.0 = search rules in
-    let name : Appends (g.W.Sink.held c.args.out.now) (g.W.Sink.held c.put.new.w) c.args.name.now = subst (λ (t : List ℕ). Appends (g.W.Sink.held c.args.out.now) (g.W.Sink.held c.put.new.w) t) c.as_bytes.ensures.value c.in_ok-put.ensures.takes in
-    let spaced = appends-twice _ _ _ _ (32 ∷ []) name c.in_ok-put-2.ensures.takes in
-    rw (e, ← parts c.args.name.now (decimal c.args.number)) (appends-first _ _ _ (10 ∷ []) (appends-some _ _ _ _ (decimal c.args.number) spaced c.in_err-put_number.ensures.takes))
+    let name = subst (Writes (g.W.Sink.device c.args.out.now) (g.W.Sink.device c.put.new.w)) c.as_bytes.ensures.value c.in_ok-put.ensures in
+    let spaced = both-written _ _ _ _ (32 ∷ []) name c.in_ok-put-2.ensures in
+    rw (e, ← parts c.args.name.now (decimal c.args.number)) (some-first _ _ _ (10 ∷ []) (some-behind _ _ _ _ (decimal c.args.number) spaced c.in_err-put_number.ensures))
 
-pub returns-clause-takes : goal.returns-clause-takes
-returns-clause-takes g c =
-    let name : Appends (g.W.Sink.held c.args.out.now) (g.W.Sink.held c.put.new.w) c.args.name.now = subst (λ (t : List ℕ). Appends (g.W.Sink.held c.args.out.now) (g.W.Sink.held c.put.new.w) t) c.as_bytes.ensures.value c.in_ok-put.ensures.takes in
-    let spaced = appends-twice _ _ _ _ (32 ∷ []) name c.in_ok-put-2.ensures.takes in
-    let numbered = appends-twice _ _ _ _ (decimal c.args.number) spaced c.in_ok-put_number.ensures.takes in
-    rw (← parts c.args.name.now (decimal c.args.number)) (takes-twice _ _ _ _ (10 ∷ []) c.put-3.result numbered c.put-3.ensures.takes)
+pub returns : goal.returns
+returns g c =
+    let name = subst (Writes (g.W.Sink.device c.args.out.now) (g.W.Sink.device c.put.new.w)) c.as_bytes.ensures.value c.in_ok-put.ensures in
+    let spaced = both-written _ _ _ _ (32 ∷ []) name c.in_ok-put-2.ensures in
+    let numbered = both-written _ _ _ _ (decimal c.args.number) spaced c.in_ok-put_number.ensures in
+    rw (← parts c.args.name.now (decimal c.args.number)) (puts-twice _ _ _ _ (10 ∷ []) c.put-3.result numbered c.put-3.ensures)

@@ -5,4 +5,4 @@ use Rattle.vcd_tools.specs.Report.{named_line}
 use Rattle.vcd_tools.proofs.report.put_counts.Given as goal
 
 abbrev pub invariant-loop-name : goal.invariant-loop-name
-invariant-loop-name g l = (g.W.Sink.failures l.out ≡ g.W.Sink.failures l.fn.out) × Appends (g.W.Sink.held l.fn.out) (g.W.Sink.held l.out) (flat_map named_line (take l.name-index l.counts))
+invariant-loop-name g l = ((g.W.Sink.device l.out).failures ≡ (g.W.Sink.device l.fn.out).failures) × Appends (g.W.Sink.device l.fn.out).held (g.W.Sink.device l.out).held (flat_map named_line (take l.name-index l.counts))

@@ -1,7 +1,7 @@
 use Rattle.std.proofs.Common.{rules, arith, ap, ap₂, codes, ◌≡◌, ◌∙◌, Bool, true, false, not, ◌&&◌, ◌||◌}
 use Rattle.std.proofs.lemmas.Result.{IfOk-weaker}
 use Rattle.clap.specs.Words.{App, app_of, is_broken, with_subcommand}
-use Rattle.vcdkit.specs.Asked.{bare_app, one_input_app}
+use Rattle.vcdkit.specs.Words.{bare_app, one_input_app}
 use Rattle.vcdkit.proofs.command.command_of.Goals as goal
 
 -- a plain command has no global argument

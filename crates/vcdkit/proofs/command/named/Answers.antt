@@ -6,7 +6,7 @@ use Rattle.clap.specs.Lexer.{usize_max}
 use Rattle.clap.specs.Words.{Rule, new_rule, rule_of, with_rule}
 use Rattle.clap.specs.declared.builder.arg.Arg.{Arg}
 use Rattle.clap.specs.declared.builder.range.ValueRange.{ValueRange}
-use Rattle.vcdkit.specs.Asked.{names_rule}
+use Rattle.vcdkit.specs.Words.{names_rule}
 use Rattle.vcdkit.proofs.command.named.Goals as goal
 
 some-is : (range : Option ValueRange) (wanted : ValueRange) → IsSomeAnd range (λ r. r ≡ wanted) → range ≡ Some wanted

@@ -1,7 +1,7 @@
 use Rattle.std.proofs.Common.{rules, ap₂, ◌≡◌, ◌∙◌}
 use Rattle.std.proofs.lemmas.Result.{IfOk-weaker}
 use Rattle.clap.specs.Words.{app_of, new_app, rule_of, with_rule}
-use Rattle.vcdkit.specs.Asked.{input_rule, limit_rule}
+use Rattle.vcdkit.specs.Words.{input_rule, limit_rule}
 use Rattle.vcdkit.proofs.command.one_input.Goals as goal
 
 pub returns-clause-words : goal.returns-clause-words

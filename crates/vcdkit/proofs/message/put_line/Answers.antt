@@ -1,16 +1,16 @@
 use Rattle.std.proofs.Common.{◌++◌, codes, [], ◌∷◌}
-use Rattle.vcdkit.proofs.Writing.{takes-first, takes-twice}
+use Rattle.vcd_text.proofs.Writes.{puts-first, puts-twice}
 use Rattle.vcdkit.proofs.message.put_line.Goals as goal
 
-pub returns-in_err-put-clause-takes : goal.returns-in_err-put-clause-takes
-returns-in_err-put-clause-takes g c = takes-first _ _ (codes "vcdkit: ") (c.args.text.now ++ 10 ∷ []) _ c.from_residual.ensures.0 c.in_err-put.ensures.takes
+pub returns-in_err-put : goal.returns-in_err-put
+returns-in_err-put g c = puts-first _ _ (codes "vcdkit: ") (c.args.text.now ++ 10 ∷ []) _ c.from_residual.ensures.0 c.in_err-put.ensures
 
-pub returns-in_err-put-2-clause-takes : goal.returns-in_err-put-2-clause-takes
-returns-in_err-put-2-clause-takes g c =
-    rw (← c.as_bytes.ensures.value) (takes-twice _ _ _ (codes "vcdkit: ") _ _ c.in_ok-put.ensures.takes
-    (takes-first _ _ _ (10 ∷ []) _ c.from_residual-in_err-put-2.ensures.0 c.in_err-put-2.ensures.takes))
+pub returns-in_err-put-2 : goal.returns-in_err-put-2
+returns-in_err-put-2 g c =
+    rw (← c.as_bytes.ensures.value) (puts-twice _ _ _ (codes "vcdkit: ") _ _ c.in_ok-put.ensures
+    (puts-first _ _ _ (10 ∷ []) _ c.from_residual-in_err-put-2.ensures.0 c.in_err-put-2.ensures))
 
-pub returns-clause-takes : goal.returns-clause-takes
-returns-clause-takes g c =
-    rw (← c.as_bytes.ensures.value) (takes-twice _ _ _ (codes "vcdkit: ") _ _ c.in_ok-put.ensures.takes
-    (takes-twice _ _ _ _ (10 ∷ []) _ c.in_ok-put-2.ensures.takes c.put-3.ensures.takes))
+pub returns : goal.returns
+returns g c =
+    rw (← c.as_bytes.ensures.value) (puts-twice _ _ _ (codes "vcdkit: ") _ _ c.in_ok-put.ensures
+    (puts-twice _ _ _ _ (10 ∷ []) _ c.in_ok-put-2.ensures c.put-3.ensures))

@@ -1,7 +1,7 @@
 use Rattle.std.proofs.Common.{◌≡◌, ◌++◌, length, ap, ◌∙◌, arith, subst}
 use Rattle.vcd_head.specs.Views.{IsSize}
-use Rattle.vcd_head.proofs.Coding.{held_new}
-use Rattle.vcd_head.proofs.Packing.{are_bytes}
+use Rattle.vcd_head.proofs.DraftCodes.{held_new}
+use Rattle.vcd_head.proofs.KeyLemmas.{are_bytes}
 use Rattle.vcd_head.proofs.draft.Draft.add_code.Goals as goal
 
 pub returns-clause-codes : goal.returns-clause-codes

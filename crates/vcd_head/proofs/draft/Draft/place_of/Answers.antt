@@ -1,6 +1,6 @@
 use Rattle.std.proofs.Common.{subst}
-use Rattle.vcd_head.specs.Holds.{IsFound}
-use Rattle.vcd_head.proofs.Coding.{held_alias}
+use Rattle.vcd_head.specs.Draft.{IsFound}
+use Rattle.vcd_head.proofs.DraftCodes.{held_alias}
 use Rattle.vcd_head.proofs.draft.Draft.place_of.Goals as goal
 
 pub returns-in-Declared-clause-codes : goal.returns-in-Declared-clause-codes

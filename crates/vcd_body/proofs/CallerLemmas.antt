@@ -1,0 +1,75 @@
+-- What callers use: nothing was given yet, and what was given stands first in the body.
+use Rattle.std.proofs.Common.{◌≡◌, ℕ, List, [], ◌∷◌, ◌++◌, Option, Some, None, refl, sym, ap, subst, ◌∙◌, append-nil}
+use Rattle.std.proofs.lemmas.List.{append_assoc, map-append}
+use Rattle.std.proofs.lemmas.List.Elements.{filter_map-append}
+use Rattle.vcd_model.specs.Input.{Input}
+use Rattle.vcd_model.specs.Tokens.{Token, stream_of}
+use Rattle.vcd_model.specs.Laws.{IsPrefixOf}
+use Rattle.vcd_model.specs.Declarations.{IdCode}
+use Rattle.vcd_model.specs.Items.{BodyItem}
+use Rattle.vcd_model.specs.BodyPhrases.{BodyPhrase, body_phrase, items_of}
+use Rattle.vcd_model.specs.BodyReading.{body_grammar, read_body, body_items}
+use Rattle.vcd_model.specs.BodyChecks.{body_fault}
+use Rattle.vcd_model.specs.Reading.{Placed, Reading, phrases_of, reading_of}
+use Rattle.vcd_model.specs.SoFar.{IsSoFar}
+use Rattle.vcd_model.proofs.SoFarLemmas.{so_far-nothing, so_far-token, so_far-phrase, faulty-token}
+use Rattle.vcd_text.specs.Feed.{HasGiven, limit_of}
+use Rattle.vcd_text.specs.declared.device.Source.{Ghosts}
+use Rattle.vcd_text.specs.declared.feed.Feed.{Feed}
+use Rattle.vcd_body.specs.declared.item.Regs.{Regs}
+use Rattle.vcd_body.specs.Items.{AreRegsAfter}
+use Rattle.vcd_body.specs.Reads.{GaveItems}
+
+-- nothing was given behind the header
+pub gave_nothing : {X : Type 0} {g : Ghosts X} (codes : List IdCode) (i : Input) (front : List Token) (f : Feed X g) (r : Regs) → HasGiven i front f → AreRegsAfter [] r → GaveItems codes i front [] f r
+gave_nothing codes i front f r s k = record {
+  given = [];
+  placed = [];
+  stands = subst (λ (l : List Token). HasGiven i l f) (sym (append-nil front)) s;
+  so_far = so_far-nothing (body_grammar codes);
+  items_are = refl;
+  known = k;
+}
+
+-- the phrases of a reading so far are the first ones of any reading that goes on
+module _ (codes : List IdCode) where
+  abbrev GoesOnWith : List Token → List Token → List (Placed BodyPhrase) → Type 0
+  GoesOnWith given ts placed = (more : List (Placed BodyPhrase)) × ((reading_of (body_grammar codes) (given ++ ts)).placed ≡ placed ++ more)
+
+  -- one token more was read
+  on_by_one : (given : List Token) (t : Token) (ts : List Token) (placed : List (Placed BodyPhrase)) → GoesOnWith (given ++ t ∷ []) ts placed → GoesOnWith given (t ∷ ts) placed
+  on_by_one given t ts placed h = (h.0, ap (λ (l : List Token). (reading_of (body_grammar codes) l).placed) (sym (append_assoc given (t ∷ []) ts)) ∙ h.1)
+
+  -- any reading so far goes on with these tokens
+  abbrev AllGoOn : List Token → Type 0
+  AllGoOn ts = (given : List Token) (placed : List (Placed BodyPhrase)) (before : List (List ℕ)) → IsSoFar (body_grammar codes) given placed before → GoesOnWith given ts placed
+
+  on_token : (t : Token) (ts : List Token) → AllGoOn ts → (given : List Token) (placed : List (Placed BodyPhrase)) (before : List (List ℕ)) → IsSoFar (body_grammar codes) given placed before → (o : Option ℕ) (q : Option BodyPhrase)
+      → body_fault codes (phrases_of placed) before t.bytes ≡ o → body_phrase codes (before ++ t.bytes ∷ []) ≡ q → GoesOnWith given (t ∷ ts) placed
+  on_token t ts on given placed before h (Some n) q e f = ([], ap (λ (r : Reading BodyPhrase). r.placed) (faulty-token (body_grammar codes) given placed before t ts n h e) ∙ sym (append-nil placed))
+  on_token t ts on given placed before h None None e f = on_by_one given t ts placed (on (given ++ t ∷ []) placed (before ++ t.bytes ∷ []) (so_far-token (body_grammar codes) given placed before t h e f))
+  on_token t ts on given placed before h None (Some p) e f =
+      let one : Placed BodyPhrase = record { phrase = p; line = t.line } in
+      let more = on (given ++ t ∷ []) (placed ++ one ∷ []) [] (so_far-phrase (body_grammar codes) given placed before t p h e f refl) in
+      on_by_one given t ts placed (one ∷ more.0, more.1 ∙ append_assoc placed (one ∷ []) more.0)
+
+  goes_on : (ts : List Token) → AllGoOn ts
+  goes_on [] given placed before h = ([], ap (λ (l : List Token). (reading_of (body_grammar codes) l).placed) (append-nil given) ∙ ap (λ (r : Reading BodyPhrase). r.placed) h ∙ sym (append-nil placed))
+  goes_on (t ∷ ts) given placed before h = on_token t ts (goes_on ts) given placed before h (body_fault codes (phrases_of placed) before t.bytes) (body_phrase codes (before ++ t.bytes ∷ [])) refl refl
+
+same_behind : (front xs ys : List Token) → front ++ xs ≡ front ++ ys → xs ≡ ys
+same_behind [] xs ys e = e
+same_behind (t ∷ front) xs ys e = same_behind front xs ys (let s : front ++ xs ≡ front ++ ys = cc in s)
+
+-- the items given so far are the first ones of the body, whatever follows them
+pub items_first : {X : Type 0} {g : Ghosts X} (codes : List IdCode) (i : Input) (front : List Token) (items : List BodyItem) (f : Feed X g) (r : Regs) (rest : List Token) → GaveItems codes i front items f r
+    → (stream_of (limit_of f) i).tokens ≡ front ++ rest → IsPrefixOf items (body_items (read_body codes rest))
+unfolding read_body
+items_first codes i front items f r rest h e =
+    let first : IsPrefixOf (front ++ h.given) (stream_of (limit_of f) i).tokens = h.stands.given_first in
+    let same = same_behind front rest (h.given ++ first.0) (sym e ∙ first.1 ∙ append_assoc front h.given first.0) in
+    let on = goes_on codes first.0 h.given h.placed [] h.so_far in (
+      items_of (phrases_of on.0),
+      ap (λ (l : List Token). body_items (reading_of (body_grammar codes) l)) same ∙ ap (λ (l : List (Placed BodyPhrase)). items_of (phrases_of l)) on.1
+          ∙ rw (map-append, filter_map-append) (ap (λ (l : List BodyItem). l ++ items_of (phrases_of on.0)) h.items_are),
+    )

@@ -1,0 +1,227 @@
+-- What each token of a body is: its fault, and the phrase that it is.
+use Rattle.std.proofs.Common.{◌≡◌, ℕ, ◌+◌, ◌^◌, ◌<◌, ◌≤◌, Bool, true, false, cond, not, ◌&&◌, ◌||◌, nat_lt, nat_le, List, [], ◌∷◌, ◌++◌, length, take, drop, count_by, Some, None, is_some, option_map, refl, sym, ap, ◌∙◌, arith}
+use Rattle.std.specs.List.{list_all}
+use Rattle.std.proofs.lemmas.Bool.{le-ltb, lt-ltb, le-leb, and_parts}
+use Rattle.vcd_model.specs.Bytes.{is_decimal, decimal_value, is_empty}
+use Rattle.vcd_model.specs.Keywords.{Keyword, keyword_of, keyword_text, is_end}
+use Rattle.vcd_model.specs.Declarations.{IdCode}
+use Rattle.vcd_model.specs.Items.{SectionKind, BodyItem, ChangeForm, time_after, leaves_open, is_begin, is_end_of_section}
+use Rattle.vcd_model.specs.BodyPhrases.{BodyPhrase, Start, start_of, is_value_digit, declared_code, section_keyword, body_phrase, phrase_with, items_of}
+use Rattle.vcd_model.specs.BodyPhrases.Start.{Command, Mark, Digit, Digits, Number}
+use Rattle.vcd_model.specs.BodyChecks.{body_fault, start_checks, inner_checks, command_checks}
+use Rattle.vcd_model.specs.Checks.{first_failed}
+use Rattle.vcd_model.proofs.BodyGrammar.{start_of-keyword, start_of-mark, start_of-digit, start_of-digits, start_of-number}
+use Rattle.vcd_head.specs.Texts.{NoEnds}
+use Rattle.vcd_head.proofs.PhraseLemmas.{until, not_until}
+use Rattle.vcd_body.specs.declared.item.Regs.{Regs}
+use Rattle.vcd_body.specs.declared.words.First.TheVariants as first
+use Rattle.vcd_body.specs.Items.{AreRegsAfter}
+use Rattle.vcd_body.specs.Words.{Begins, is_of_header}
+use Rattle.vcd_body.specs.Reads.{Passes}
+
+-- ---- the parts of a first token
+
+head_and_rest : (token : List ℕ) (b : ℕ) (rest : List ℕ) → token ≡ b ∷ rest → token ≡ b ∷ drop 1 token
+head_and_rest token b rest e = e ∙ ap (λ l. b ∷ l) (sym (ap (drop 1) e))
+
+pub filled_token : (token : List ℕ) (b : ℕ) (rest : List ℕ) → token ≡ b ∷ rest → 1 ≤ length token
+filled_token token b rest e = let n = ap length e in omega arith
+
+pub first_byte : (token : List ℕ) (b : ℕ) (rest : List ℕ) → token ≡ b ∷ rest → take 1 token ≡ b ∷ []
+first_byte token b rest e = ap (take 1) e
+
+module _ (codes : List IdCode) where
+  start_mark : (token : List ℕ) → Begins token first.Mark → start_of token ≡ Mark (drop 1 token)
+  start_mark token b = ap start_of (head_and_rest token 35 b.0 b.1) ∙ start_of-mark codes (drop 1 token)
+
+  start_digit : (token : List ℕ) (b : Begins token first.Scalar) → start_of token ≡ Digit b.0 (drop 1 token)
+  start_digit token b = ap start_of (head_and_rest token b.0 b.1 b.3) ∙ start_of-digit codes b.0 (drop 1 token) b.2
+
+  start_digits : (token : List ℕ) → Begins token first.Vector → start_of token ≡ Digits (drop 1 token)
+  start_digits token b = ap start_of (head_and_rest token b.0 b.1 b.3) ∙ start_of-digits codes b.0 (drop 1 token) b.2
+
+  start_number : (token : List ℕ) → Begins token first.Real → start_of token ≡ Number (drop 1 token)
+  start_number token b = ap start_of (head_and_rest token b.0 b.1 b.3) ∙ start_of-number codes b.0 (drop 1 token) b.2
+
+  start_keyword : (token : List ℕ) (k : Keyword) → token ≡ keyword_text k → start_of token ≡ Command k
+  start_keyword token k e = ap start_of e ∙ start_of-keyword codes k
+
+  -- ---- faults and phrases, by what the first token is
+
+  start_fault : (earlier : List BodyPhrase) (token : List ℕ) (s : Start) → start_of token ≡ s → body_fault codes earlier [] token ≡ first_failed (start_checks codes (items_of earlier) s)
+  unfolding body_fault
+  start_fault earlier token s e = ap (λ x. first_failed (start_checks codes (items_of earlier) x)) e
+
+  inner_fault : (earlier : List BodyPhrase) (token : List ℕ) (before : List (List ℕ)) (t : List ℕ) (s : Start) → start_of token ≡ s → body_fault codes earlier (token ∷ before) t ≡ first_failed (inner_checks codes s t)
+  unfolding body_fault
+  inner_fault earlier token before t s e = ap (λ x. first_failed (inner_checks codes x t)) e
+
+  phrase_is : (token : List ℕ) (ts : List (List ℕ)) (s : Start) → start_of token ≡ s → body_phrase codes (token ∷ ts) ≡ phrase_with codes s ts
+  unfolding body_phrase
+  phrase_is token ts s e = ap (λ x. phrase_with codes x ts) e
+
+  -- ---- what the registers tell
+
+  open_is : (b e : ℕ) (o : Bool) → b ≡ e + cond o 1 0 → nat_lt e b ≡ o
+  open_is b e true h = lt-ltb e b (omega arith)
+  open_is b e false h = le-ltb e b (omega arith)
+
+  pub section_open : (items : List BodyItem) (r : Regs) (o : Bool) → AreRegsAfter items r → is_some r.section ≡ o → leaves_open items ≡ o
+  section_open items r o k e = open_is (count_by is_begin items) (count_by is_end_of_section items) (is_some r.section) k.ended ∙ e
+
+  -- ---- time marks
+
+  module _ (earlier : List BodyPhrase) (token : List ℕ) (b : Begins token first.Mark) where
+    pub bad_time : (is_decimal (drop 1 token) && nat_lt (decimal_value (drop 1 token)) (2 ^ 64)) ≡ false → body_fault codes earlier [] token ≡ Some 13
+    bad_time h = start_fault earlier token (Mark (drop 1 token)) (start_mark token b) ∙ rw h refl
+
+    module _ (r : Regs) (k : AreRegsAfter (items_of earlier) r) (h : (is_decimal (drop 1 token) && nat_lt (decimal_value (drop 1 token)) (2 ^ 64)) ≡ true) where
+      pub time_in_section : is_some r.section ≡ true → body_fault codes earlier [] token ≡ Some 19
+      time_in_section o = start_fault earlier token (Mark (drop 1 token)) (start_mark token b) ∙ rw (h, section_open (items_of earlier) r true k o) refl
+
+      pub time_back : is_some r.section ≡ false → decimal_value (drop 1 token) < r.time → body_fault codes earlier [] token ≡ Some 14
+      time_back o less =
+          let t = k.time_is in
+          let back : nat_le (time_after (items_of earlier)) (decimal_value (drop 1 token)) ≡ false = lt-leb-false (decimal_value (drop 1 token)) (time_after (items_of earlier)) (omega arith) in
+          start_fault earlier token (Mark (drop 1 token)) (start_mark token b) ∙ rw (h, section_open (items_of earlier) r false k o, back) refl
+        where
+          lt-leb-false : (x y : ℕ) → x < y → nat_le y x ≡ false
+          lt-leb-false x y l = grind arith
+
+      pub time_passes : is_some r.section ≡ false → r.time ≤ decimal_value (drop 1 token) → Passes codes earlier token (BodyItem.Time (decimal_value (drop 1 token))) × (time_after (items_of earlier) ≤ decimal_value (drop 1 token))
+      time_passes o less =
+          let t = k.time_is in
+          let within : time_after (items_of earlier) ≤ decimal_value (drop 1 token) = omega arith in
+          let forth : nat_le (time_after (items_of earlier)) (decimal_value (drop 1 token)) ≡ true = le-leb (time_after (items_of earlier)) (decimal_value (drop 1 token)) within in
+          let d = and_parts (is_decimal (drop 1 token)) (nat_lt (decimal_value (drop 1 token)) (2 ^ 64)) h in (
+            (
+              start_fault earlier token (Mark (drop 1 token)) (start_mark token b) ∙ rw (h, section_open (items_of earlier) r false k o, forth) refl,
+              phrase_is token [] (Mark (drop 1 token)) (start_mark token b) ∙ rw d.0 refl,
+            ),
+            within,
+          )
+
+  -- ---- a digit and a code
+
+  module _ (earlier : List BodyPhrase) (token : List ℕ) (b : Begins token first.Scalar) where
+    pub no_code : is_empty (drop 1 token) ≡ true → body_fault codes earlier [] token ≡ Some 15
+    no_code h = start_fault earlier token (Digit b.0 (drop 1 token)) (start_digit token b) ∙ rw h refl
+
+    pub unknown_code : is_empty (drop 1 token) ≡ false → declared_code codes (drop 1 token) ≡ None → body_fault codes earlier [] token ≡ Some 16
+    unknown_code h d = start_fault earlier token (Digit b.0 (drop 1 token)) (start_digit token b) ∙ rw (h, d) refl
+
+    pub scalar_passes : (c : IdCode) → is_empty (drop 1 token) ≡ false → declared_code codes (drop 1 token) ≡ Some c → Passes codes earlier token (BodyItem.Changes (record { code = c; form = ChangeForm.Scalar; text = take 1 token }))
+    scalar_passes c h d = (
+      start_fault earlier token (Digit b.0 (drop 1 token)) (start_digit token b) ∙ rw (h, d) refl,
+      phrase_is token [] (Digit b.0 (drop 1 token)) (start_digit token b) ∙ rw d (ap (λ t. Some (BodyPhrase.Gives (BodyItem.Changes (record { code = c; form = ChangeForm.Scalar; text = t })))) (sym (first_byte token b.0 b.1 b.3))),
+    )
+
+  -- ---- digits, and the code behind them
+
+  module _ (earlier : List BodyPhrase) (token : List ℕ) (b : Begins token first.Vector) where
+    pub bad_digits : (not (is_empty (drop 1 token)) && list_all is_value_digit (drop 1 token)) ≡ false → body_fault codes earlier [] token ≡ Some 15
+    bad_digits h = start_fault earlier token (Digits (drop 1 token)) (start_digits token b) ∙ rw h refl
+
+    pub digits_begin : (not (is_empty (drop 1 token)) && list_all is_value_digit (drop 1 token)) ≡ true → (body_fault codes earlier [] token ≡ None) × (body_phrase codes (token ∷ []) ≡ None)
+    digits_begin h = (start_fault earlier token (Digits (drop 1 token)) (start_digits token b) ∙ rw h refl, phrase_is token [] (Digits (drop 1 token)) (start_digits token b))
+
+    pub digits_ask : (t : List ℕ) → declared_code codes t ≡ None → body_fault codes earlier (token ∷ []) t ≡ Some 16
+    digits_ask t d = inner_fault earlier token [] t (Digits (drop 1 token)) (start_digits token b) ∙ rw d refl
+
+    pub too_wide : (t : List ℕ) (c : IdCode) → declared_code codes t ≡ Some c → (c.event || nat_le (length (drop 1 token)) c.size) ≡ false → body_fault codes earlier (token ∷ []) t ≡ Some 17
+    too_wide t c d f = inner_fault earlier token [] t (Digits (drop 1 token)) (start_digits token b) ∙ rw (d, f) refl
+
+    pub vector_passes : (t : List ℕ) (c : IdCode) → declared_code codes t ≡ Some c → (c.event || nat_le (length (drop 1 token)) c.size) ≡ true
+        → (body_fault codes earlier (token ∷ []) t ≡ None) × (body_phrase codes (token ∷ t ∷ []) ≡ Some (BodyPhrase.Gives (BodyItem.Changes (record { code = c; form = ChangeForm.Vector; text = drop 1 token }))))
+    vector_passes t c d f = (
+      inner_fault earlier token [] t (Digits (drop 1 token)) (start_digits token b) ∙ rw (d, f) refl,
+      phrase_is token (t ∷ []) (Digits (drop 1 token)) (start_digits token b) ∙ rw d refl,
+    )
+
+  -- ---- the text of a real number, and the code behind it
+
+  module _ (earlier : List BodyPhrase) (token : List ℕ) (b : Begins token first.Real) where
+    pub no_number : is_empty (drop 1 token) ≡ true → body_fault codes earlier [] token ≡ Some 15
+    no_number h = start_fault earlier token (Number (drop 1 token)) (start_number token b) ∙ rw h refl
+
+    pub number_too_long : is_empty (drop 1 token) ≡ false → 64 < length (drop 1 token) → body_fault codes earlier [] token ≡ Some 18
+    number_too_long h less =
+        let long : nat_le (length (drop 1 token)) 64 ≡ false = lt-leb-false 64 (length (drop 1 token)) less in
+        start_fault earlier token (Number (drop 1 token)) (start_number token b) ∙ rw (h, long) refl
+      where
+        lt-leb-false : (x y : ℕ) → x < y → nat_le y x ≡ false
+        lt-leb-false x y l = grind arith
+
+    pub number_begins : is_empty (drop 1 token) ≡ false → length (drop 1 token) ≤ 64 → (body_fault codes earlier [] token ≡ None) × (body_phrase codes (token ∷ []) ≡ None)
+    number_begins h less = (
+      start_fault earlier token (Number (drop 1 token)) (start_number token b) ∙ rw (h, le-leb (length (drop 1 token)) 64 less) refl,
+      phrase_is token [] (Number (drop 1 token)) (start_number token b),
+    )
+
+    pub number_asks : (t : List ℕ) → declared_code codes t ≡ None → body_fault codes earlier (token ∷ []) t ≡ Some 16
+    number_asks t d = inner_fault earlier token [] t (Number (drop 1 token)) (start_number token b) ∙ rw d refl
+
+    pub real_passes : (t : List ℕ) (c : IdCode) → declared_code codes t ≡ Some c
+        → (body_fault codes earlier (token ∷ []) t ≡ None) × (body_phrase codes (token ∷ t ∷ []) ≡ Some (BodyPhrase.Gives (BodyItem.Changes (record { code = c; form = ChangeForm.RealText; text = drop 1 token }))))
+    real_passes t c d = (
+      inner_fault earlier token [] t (Number (drop 1 token)) (start_number token b) ∙ rw d refl,
+      phrase_is token (t ∷ []) (Number (drop 1 token)) (start_number token b) ∙ rw d refl,
+    )
+
+  -- ---- comments
+
+  pub comment_begins : (earlier : List BodyPhrase) (token : List ℕ) → token ≡ keyword_text Keyword.Comment → (body_fault codes earlier [] token ≡ None) × (body_phrase codes (token ∷ []) ≡ None)
+  comment_begins earlier token e = (start_fault earlier token (Command Keyword.Comment) (start_keyword token Keyword.Comment e), phrase_is token [] (Command Keyword.Comment) (start_keyword token Keyword.Comment e))
+
+  pub comment_goes_on : (earlier : List BodyPhrase) (inner : List (List ℕ)) (t : List ℕ) → body_fault codes earlier (keyword_text Keyword.Comment ∷ inner) t ≡ None
+  comment_goes_on earlier inner t = inner_fault earlier (keyword_text Keyword.Comment) inner t (Command Keyword.Comment) (start_of-keyword codes Keyword.Comment)
+
+  pub comment_open : (inner : List (List ℕ)) (t : List ℕ) → NoEnds inner → is_end t ≡ false → body_phrase codes (keyword_text Keyword.Comment ∷ inner ++ t ∷ []) ≡ None
+  comment_open inner t none e = phrase_is (keyword_text Keyword.Comment) (inner ++ t ∷ []) (Command Keyword.Comment) (start_of-keyword codes Keyword.Comment) ∙ ap (option_map BodyPhrase.Comment) (not_until inner t none e)
+
+  pub comment_whole : (inner : List (List ℕ)) (t : List ℕ) → NoEnds inner → is_end t ≡ true → body_phrase codes (keyword_text Keyword.Comment ∷ inner ++ t ∷ []) ≡ Some (BodyPhrase.Comment inner)
+  comment_whole inner t none e = phrase_is (keyword_text Keyword.Comment) (inner ++ t ∷ []) (Command Keyword.Comment) (start_of-keyword codes Keyword.Comment) ∙ ap (option_map BodyPhrase.Comment) (until inner t none e)
+
+  -- ---- sections, and what is no phrase
+
+  module _ (earlier : List BodyPhrase) (token : List ℕ) (r : Regs) (k : AreRegsAfter (items_of earlier) r) where
+    pub begin_passes : (s : SectionKind) → token ≡ keyword_text (section_keyword s) → is_some r.section ≡ false → Passes codes earlier token (BodyItem.Begin s)
+    begin_passes SectionKind.Vars e o = (start_fault earlier token (Command Keyword.DumpVars) (start_keyword token Keyword.DumpVars e) ∙ rw (section_open (items_of earlier) r false k o) refl, phrase_is token [] (Command Keyword.DumpVars) (start_keyword token Keyword.DumpVars e))
+    begin_passes SectionKind.Off e o = (start_fault earlier token (Command Keyword.DumpOff) (start_keyword token Keyword.DumpOff e) ∙ rw (section_open (items_of earlier) r false k o) refl, phrase_is token [] (Command Keyword.DumpOff) (start_keyword token Keyword.DumpOff e))
+    begin_passes SectionKind.On e o = (start_fault earlier token (Command Keyword.DumpOn) (start_keyword token Keyword.DumpOn e) ∙ rw (section_open (items_of earlier) r false k o) refl, phrase_is token [] (Command Keyword.DumpOn) (start_keyword token Keyword.DumpOn e))
+    begin_passes SectionKind.All e o = (start_fault earlier token (Command Keyword.DumpAll) (start_keyword token Keyword.DumpAll e) ∙ rw (section_open (items_of earlier) r false k o) refl, phrase_is token [] (Command Keyword.DumpAll) (start_keyword token Keyword.DumpAll e))
+
+    pub begin_inside : (s : SectionKind) → token ≡ keyword_text (section_keyword s) → is_some r.section ≡ true → body_fault codes earlier [] token ≡ Some 4
+    begin_inside SectionKind.Vars e o = start_fault earlier token (Command Keyword.DumpVars) (start_keyword token Keyword.DumpVars e) ∙ rw (section_open (items_of earlier) r true k o) refl
+    begin_inside SectionKind.Off e o = start_fault earlier token (Command Keyword.DumpOff) (start_keyword token Keyword.DumpOff e) ∙ rw (section_open (items_of earlier) r true k o) refl
+    begin_inside SectionKind.On e o = start_fault earlier token (Command Keyword.DumpOn) (start_keyword token Keyword.DumpOn e) ∙ rw (section_open (items_of earlier) r true k o) refl
+    begin_inside SectionKind.All e o = start_fault earlier token (Command Keyword.DumpAll) (start_keyword token Keyword.DumpAll e) ∙ rw (section_open (items_of earlier) r true k o) refl
+
+    pub end_passes : token ≡ keyword_text Keyword.End → is_some r.section ≡ true → Passes codes earlier token BodyItem.End
+    end_passes e o = (start_fault earlier token (Command Keyword.End) (start_keyword token Keyword.End e) ∙ rw (section_open (items_of earlier) r true k o) refl, phrase_is token [] (Command Keyword.End) (start_keyword token Keyword.End e))
+
+    pub end_outside : token ≡ keyword_text Keyword.End → is_some r.section ≡ false → body_fault codes earlier [] token ≡ Some 4
+    end_outside e o = start_fault earlier token (Command Keyword.End) (start_keyword token Keyword.End e) ∙ rw (section_open (items_of earlier) r false k o) refl
+
+  pub of_header : (earlier : List BodyPhrase) (token : List ℕ) (k : Keyword) → token ≡ keyword_text k → is_of_header k ≡ true → body_fault codes earlier [] token ≡ Some 4
+  of_header earlier token k e h = start_fault earlier token (Command k) (start_keyword token k e) ∙ misplaced k h
+    where
+      misplaced : (x : Keyword) → is_of_header x ≡ true → first_failed (command_checks (items_of earlier) x) ≡ Some 4
+      misplaced Keyword.Comment h = cc
+      misplaced Keyword.DumpAll h = cc
+      misplaced Keyword.DumpOff h = cc
+      misplaced Keyword.DumpOn h = cc
+      misplaced Keyword.DumpVars h = cc
+      misplaced Keyword.End h = cc
+      misplaced Keyword.Date h = refl
+      misplaced Keyword.EndDefinitions h = refl
+      misplaced Keyword.Scope h = refl
+      misplaced Keyword.Timescale h = refl
+      misplaced Keyword.Upscope h = refl
+      misplaced Keyword.Var h = refl
+      misplaced Keyword.Version h = refl
+
+  pub no_phrase : (earlier : List BodyPhrase) (token : List ℕ) → Begins token first.Other → keyword_of token ≡ None → body_fault codes earlier [] token ≡ Some 3
+  unfolding start_of body_fault keyword_of
+  no_phrase earlier [] b k = refl
+  no_phrase earlier (x ∷ rest) b k = rw (k, b.0, b.1, b.2, b.3) refl

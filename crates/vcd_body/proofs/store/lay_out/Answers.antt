@@ -1,0 +1,22 @@
+use Rattle.std.proofs.Common.{◌∙◌, arith}
+use Rattle.std.proofs.Math.ListN.{length-set}
+use Rattle.std.proofs.lemmas.Option.{slice_get_within}
+use Rattle.vcd_body.proofs.LayoutLemmas.{laid_more, start_next}
+use Rattle.vcd_body.proofs.StoreLemmas.{some_at}
+use Rattle.vcd_body.proofs.store.lay_out.Goals as goal
+
+pub loop-place-preserved : goal.loop-place-preserved
+loop-place-preserved c =
+    let i = c.loop-place.invariant in
+    let d = some_at c.args.codes.now c.loop-place.place (let e = i.0 in omega (arith, e)) in
+    let s = start_next c.args.codes.now c.args.values c.loop-place.place d.0 d.1 in
+    let at = i.1 in
+    let one = c.share_at.ensures d.0 d.1 in
+    let more = laid_more c.args.codes.now c.loop-place.cells c.args.values c.loop-place.place (omega arith) i.2 in (
+      length-set _ _ _ ∙ i.0,
+      omega (arith, s, at, one, c.saturating_add.ensures, c.min-at.ensures),
+      rw at more,
+    )
+
+pub returns-clause-cells : goal.returns-clause-cells
+returns-clause-cells c = λ k d at. c.loop-place.invariant.2 k d (let w = slice_get_within c.loop-place.cells k d at in omega arith) at

@@ -1,0 +1,52 @@
+-- What a call gives: an item, its text, and what the body has where it ends.
+use Rattle.std.specs.Prelude.{◌≡◌, ℕ, ◌<◌, ◌≤◌, false, IsTrue, List, [], ◌∷◌, ◌++◌, length, take, drop, Some, None, slice_get}
+use Rattle.std.specs.List.{list_all}
+use Rattle.vcd_model.specs.Input.{Input}
+use Rattle.vcd_model.specs.Tokens.{Token}
+use Rattle.vcd_model.specs.Declarations.{IdCode}
+use Rattle.vcd_model.specs.Items.{BodyItem}
+use Rattle.vcd_model.specs.BodyPhrases.{is_value_digit}
+use Rattle.vcd_text.specs.Feed.{token_of, value_of, limit_of}
+use Rattle.vcd_text.specs.declared.device.Source.{Ghosts}
+use Rattle.vcd_text.specs.declared.feed.Feed.{Feed}
+use Rattle.vcd_head.specs.declared.view.Code.{Code}
+use Rattle.vcd_body.specs.declared.item.Form.{Form}
+use Rattle.vcd_body.specs.declared.item.Form.TheVariants.{Scalar, Vector, RealText}
+use Rattle.vcd_body.specs.declared.item.Item.{Item}
+use Rattle.vcd_body.specs.declared.item.Item.TheVariants.{Time, Begin, End, Change, Finish}
+use Rattle.vcd_body.specs.declared.item.Regs.{Regs}
+use Rattle.vcd_body.specs.Items.{model_section, model_form}
+use Rattle.vcd_body.specs.Reads.{GaveItems, GaveMark, BodyHas}
+
+-- the text of the change that was read last
+abbrev pub text_of : {X : Type 0} {g : Ghosts X} → Form → Feed X g → List ℕ
+text_of Scalar f = take 1 (token_of f).bytes
+text_of Vector f = drop 1 (value_of f)
+text_of RealText f = drop 1 (value_of f)
+
+-- one item more was given; at the end the body has all of them, and no fault
+abbrev pub GivesItem : {X : Type 0} {g : Ghosts X} → List IdCode → Input → List Token → List BodyItem → Feed X g → Regs → Item → Type 0
+GivesItem codes i front items f r (Time t) = GaveMark codes i front items t f r
+GivesItem codes i front items f r (Begin s) = GaveItems codes i front (items ++ BodyItem.Begin (model_section s) ∷ []) f r
+GivesItem codes i front items f r End = GaveItems codes i front (items ++ BodyItem.End ∷ []) f r
+GivesItem codes i front items f r (Change code form) =
+    (c : IdCode) × (slice_get codes code ≡ Some c) × GaveItems codes i front (items ++ BodyItem.Changes (record { code = c; form = model_form form; text = text_of form f }) ∷ []) f r
+GivesItem codes i front items f r Finish = GaveItems codes i front items f r × BodyHas codes i front (limit_of f) items None
+
+-- a text that a change may give this code: a digit; one or more digits, of which no more than its size unless it is an event; or 1 to 64 bytes
+abbrev pub IsText : Form → Code → List ℕ → Type 0
+IsText Scalar code text = (d : ℕ) × IsTrue (is_value_digit d) × (text ≡ d ∷ [])
+IsText Vector code text = (0 < length text) × IsTrue (list_all is_value_digit text) × (code.event ≡ false → length text ≤ code.size)
+IsText RealText code text = (0 < length text) × (length text ≤ 64)
+
+-- the code at this place may have this text
+abbrev pub IsGoodText : List Code → ℕ → Form → List ℕ → Type 0
+IsGoodText codes place form text = (code : Code) × (slice_get codes place ≡ Some code) × IsText form code text
+
+-- a change is one of these codes, and has a text that the code may have
+abbrev pub IsGoodChange : {X : Type 0} {g : Ghosts X} → List Code → Feed X g → Item → Type 0
+IsGoodChange codes f (Time t) = Unit {0}
+IsGoodChange codes f (Begin s) = Unit {0}
+IsGoodChange codes f End = Unit {0}
+IsGoodChange codes f (Change place form) = IsGoodText codes place form (text_of form f)
+IsGoodChange codes f Finish = Unit {0}

@@ -1,0 +1,27 @@
+-- Digits, four to a byte, the first in the lowest bits.
+use Rattle.std.specs.Prelude.{ℕ, ◌/◌, ◌%◌, ◌==◌, ◌||◌, nat_lt, cond, List, [], ◌∷◌, ◌++◌, length, take, get_or}
+use Rattle.std.specs.Str.{byte}
+
+-- a digit as a number below 4
+abbrev pub code_of : ℕ → ℕ
+code_of d = cond (d == byte "0") 0 (cond (d == byte "1") 1 (cond ((d == byte "x") || (d == byte "X")) 2 3))
+
+-- and back, in lower case
+abbrev pub digit_of : ℕ → ℕ
+digit_of c = cond (c == 0) (byte "0") (cond (c == 1) (byte "1") (cond (c == 2) (byte "x") (byte "z")))
+
+-- the code of the digit at a place, 0 after the last
+abbrev pub code_or : List ℕ → ℕ → ℕ
+code_or text place = cond (nat_lt place (length text)) (code_of (get_or text place 0)) 0
+
+-- the four digits of a byte
+abbrev pub fours : ℕ → List ℕ
+fours b = digit_of (b % 4) ∷ digit_of (b / 4 % 4) ∷ digit_of (b / 16 % 4) ∷ digit_of (b / 64 % 4) ∷ []
+
+abbrev pub unpacked : List ℕ → List ℕ
+unpacked [] = []
+unpacked (b ∷ bs) = fours b ++ unpacked bs
+
+-- the first n digits that bytes hold
+abbrev pub digits_in : ℕ → List ℕ → List ℕ
+digits_in n bytes = take n (unpacked bytes)

@@ -1,0 +1,70 @@
+// Digits, four to a byte.
+ghost use Rattle.std.specs.Prelude.{◌≡◌, ◌≤◌, ◌<◌, ◌+◌, ◌*◌, ◌/◌, ◌^◌, length, take, drop, IsTrue, slice_index_or};
+ghost use Rattle.std.specs.List.{list_all};
+ghost use Rattle.std.specs.Str.{str_to_ascii_lowercase};
+ghost use Rattle.vcd_model.specs.BodyPhrases.{is_value_digit};
+ghost use Rattle.vcd_body.specs.Packed.{code_of, code_or, digit_of, digits_in};
+
+/// A digit as two bits.
+#[inline(always)]
+fn code_of(digit: u8) -> u8
+    ensures code { result ≡ code_of digit }
+    ensures small { result < 4 }
+{
+    match digit {
+        b'0' => 0,
+        b'1' => 1,
+        b'x' | b'X' => 2,
+        _ => 3,
+    }
+}
+
+/// Two bits as a digit, in lower case.
+#[inline(always)]
+pub(crate) fn digit_of(code: u8) -> u8
+    ensures { result ≡ digit_of code }
+{
+    match code {
+        0 => b'0',
+        1 => b'1',
+        2 => b'x',
+        _ => b'z',
+    }
+}
+
+/// The code of the digit at a place, 0 where there is none.
+#[inline(always)]
+fn code_at(text: &[u8], place: usize) -> u8
+    ensures small { result < 4 }
+    ensures code { result ≡ code_or text.now place }
+{
+    match text.get(place) {
+        Some(digit) => code_of(*digit),
+        None => 0,
+    }
+}
+
+/// Four digits from a place on as a byte.
+#[inline(always)]
+fn four_at(text: &[u8], place: usize) -> u8
+    requires { place + 3 < 2 ^ 63 }
+    ensures { result ≡ code_or text.now place + 4 * code_or text.now (place + 1)
+        + 16 * code_or text.now (place + 2) + 64 * code_or text.now (place + 3) }
+{
+    code_at(text, place)
+        + 4 * code_at(text, place + 1)
+        + 16 * code_at(text, place + 2)
+        + 64 * code_at(text, place + 3)
+}
+
+/// Packs digits into the first bytes of a share.
+pub(crate) fn pack(share: &mut [u8], text: &[u8])
+    requires room { length text.now ≤ 4 * length share.old }
+    requires digits { IsTrue (list_all is_value_digit text.now) }
+    ensures packed { digits_in (length text.now) share.new ≡ str_to_ascii_lowercase text.now }
+{
+    let count = text.len().div_ceil(4);
+    for i in 0..count {
+        share[i] = four_at(text, 4 * i);
+    }
+}

@@ -1,0 +1,191 @@
+-- What is held stays held where texts, codes and rows grow.
+use Rattle.std.proofs.Common.{◌≡◌, ℕ, zero, suc, ◌+◌, ◌-◌, ◌≤◌, Bool, true, false, cond, List, [], ◌∷◌, ◌++◌, length, take, drop, slice_range, slice_get, find, filter_map, bytes_eq, Option, Some, None, refl, sym, ap, subst, ◌∙◌, arith}
+use Rattle.std.specs.Global.{Vec}
+use Rattle.std.specs.Map.{lookup}
+use Rattle.std.specs.List.{AllByRecursion, AllZip, list_any}
+use Rattle.std.proofs.lemmas.List.{append_assoc, append-nil, take-append-le, length-append, length-drop}
+use Rattle.std.proofs.lemmas.List.Elements.{filter_map-append}
+use Rattle.vcd_model.specs.Backward.{each_after}
+use Rattle.vcd_model.specs.Declarations.{Declaration, Variable, IdCode, code_of, codes_of, variables_of, variable_of, has_text}
+use Rattle.vcd_head.specs.declared.view.Row.{Row}
+use Rattle.vcd_head.specs.declared.view.Code.{Code}
+use Rattle.vcd_head.specs.Views.{HasTexts, IsRow, IsRowOf, AreRows, IsCode}
+use Rattle.vcd_head.specs.declared.draft.Coded.{Coded}
+use Rattle.vcd_head.specs.Draft.{ArePlaces, IsOfKind}
+
+-- ---- texts
+
+drop_grow : (a : ℕ) (t more : List ℕ) → a ≤ length t → drop a (t ++ more) ≡ drop a t ++ more
+drop_grow zero t more h = refl
+drop_grow (suc a) [] more h = absurd (omega arith)
+drop_grow (suc a) (x ∷ t) more h = drop_grow a t more (omega arith)
+
+pub range_grow : (t more : List ℕ) (a b : ℕ) → a ≤ b → b ≤ length t → slice_range (t ++ more) a b ≡ slice_range t a b
+range_grow t more a b h k = ap (take (b - a)) (drop_grow a t more (omega arith)) ∙ take-append-le (b - a) (drop a t) more (omega (arith, length-drop a t))
+
+pub is_code_grow : (t more : List ℕ) (c : Code) (k : IdCode) → IsCode t c k → IsCode (t ++ more) c k
+is_code_grow t more c k h = record {
+  within = let w = h.within in omega (arith, length-append t more);
+  text_is = range_grow t more c.start (c.start + c.len) (omega arith) h.within ∙ h.text_is;
+  size_is = h.size_is;
+  event_is = h.event_is;
+}
+
+pub are_codes_grow : (t more : List ℕ) (cs : List Code) (ks : List IdCode) → AllZip (IsCode t) cs ks → AllZip (IsCode (t ++ more)) cs ks
+are_codes_grow t more [] [] h = tt
+are_codes_grow t more [] (k ∷ ks) h = h
+are_codes_grow t more (c ∷ cs) [] h = h
+are_codes_grow t more (c ∷ cs) (k ∷ ks) h = (is_code_grow t more c k h.0, are_codes_grow t more cs ks h.1)
+
+pub has_texts_grow : (t more : List ℕ) (r : Row) (type : List ℕ) (reference : List (List ℕ)) → HasTexts t r type reference → HasTexts (t ++ more) r type reference
+has_texts_grow t more r type reference h =
+    let w = h.within in
+    let n = h.name_within in
+    record {
+      within = omega (arith, length-append t more);
+      word_len = h.word_len;
+      word_is = range_grow t more r.start (r.start + r.word) (omega arith) (omega arith) ∙ h.word_is;
+      all_len = h.all_len;
+      all_is = range_grow t more (r.start + r.word) (r.start + r.word + r.all) (omega arith) (omega arith) ∙ h.all_is;
+      some_token = h.some_token;
+      name_within = h.name_within;
+      name_is = range_grow t more (r.start + r.word) (r.start + r.word + r.name) (omega arith) (omega arith) ∙ h.name_is;
+    }
+
+-- ---- lists
+
+pub slice_get-front : {X : Type 0} (xs ys : List X) (i : ℕ) (x : X) → slice_get xs i ≡ Some x → slice_get (xs ++ ys) i ≡ Some x
+slice_get-front [] ys i x h = cc
+slice_get-front (y ∷ xs) ys zero x h = h
+slice_get-front (y ∷ xs) ys (suc i) x h = slice_get-front xs ys i x h
+
+pub slice_get-seam : {X : Type 0} (xs : List X) (x : X) (ys : List X) → slice_get (xs ++ x ∷ ys) (length xs) ≡ Some x
+slice_get-seam [] x ys = refl
+slice_get-seam (y ∷ xs) x ys = slice_get-seam xs x ys
+
+pub all_zip_push : {X Y : Type 0} (R : X → Y → Type 0) (xs : List X) (ys : List Y) (x : X) (y : Y) → AllZip R xs ys → R x y → AllZip R (xs ++ x ∷ []) (ys ++ y ∷ [])
+all_zip_push R [] [] x y h r = (r, tt)
+all_zip_push R [] (b ∷ ys) x y h r = absurd h
+all_zip_push R (a ∷ xs) [] x y h r = absurd h
+all_zip_push R (a ∷ xs) (b ∷ ys) x y h r = (h.0, all_zip_push R xs ys x y h.1 r)
+
+pub all_push : {X : Type 0} (P : X → Type 0) (xs : List X) (x : X) → AllByRecursion P xs → P x → AllByRecursion P (xs ++ x ∷ [])
+all_push P [] x h p = (p, tt)
+all_push P (y ∷ xs) x h p = (h.0, all_push P xs x h.1 p)
+
+pub all_weaker : {X : Type 0} (P Q : X → Type 0) (xs : List X) → ((x : X) → P x → Q x) → AllByRecursion P xs → AllByRecursion Q xs
+all_weaker P Q [] f h = tt
+all_weaker P Q (x ∷ xs) f h = (f x h.0, all_weaker P Q xs f h.1)
+
+-- ---- rows
+
+row_of_grow : (t more : List ℕ) (cs ks : List IdCode) (r : Row) (d : Declaration) → IsRowOf t cs r d → IsRowOf (t ++ more) (cs ++ ks) r d
+row_of_grow t more cs ks r (Declaration.Scope type name) h = (h.0, has_texts_grow t more r type (name ∷ []) h.1, h.2)
+row_of_grow t more cs ks r Declaration.Up h = h
+row_of_grow t more cs ks r (Declaration.Var v) h = (h.0, has_texts_grow t more r v.type v.reference h.1, slice_get-front cs ks r.code (code_of v) h.2)
+
+pub are_rows_grow : (t more : List ℕ) (cs ks : List IdCode) (e : List Declaration) (rs : List Row) (ds : List Declaration) → AreRows t cs e rs ds → AreRows (t ++ more) (cs ++ ks) e rs ds
+are_rows_grow t more cs ks e [] [] h = tt
+are_rows_grow t more cs ks e [] (d ∷ ds) h = h
+are_rows_grow t more cs ks e (r ∷ rs) [] h = h
+are_rows_grow t more cs ks e (r ∷ rs) (d ∷ ds) h = (record { parent_is = h.0.parent_is; own = row_of_grow t more cs ks r d h.0.own }, are_rows_grow t more cs ks (e ++ d ∷ []) rs ds h.1)
+
+pub are_rows_push : (t : List ℕ) (cs : List IdCode) (e : List Declaration) (rs : List Row) (ds : List Declaration) (r : Row) (d : Declaration) → AreRows t cs e rs ds → IsRow t cs (e ++ ds) r d → AreRows t cs e (rs ++ r ∷ []) (ds ++ d ∷ [])
+are_rows_push t cs e [] [] r d h k = (subst (λ x. IsRow t cs x r d) (append-nil e) k, tt)
+are_rows_push t cs e [] (x ∷ ds) r d h k = absurd h
+are_rows_push t cs e (s ∷ rs) [] r d h k = absurd h
+are_rows_push t cs e (s ∷ rs) (x ∷ ds) r d h k = (h.0, are_rows_push t cs (e ++ x ∷ []) rs ds r d h.1 (subst (λ y. IsRow t cs y r d) (sym (append_assoc e (x ∷ []) ds)) k))
+
+-- there are as many rows as declarations
+pub rows_len : (t : List ℕ) (cs : List IdCode) (e : List Declaration) (rs : List Row) (ds : List Declaration) → AreRows t cs e rs ds → length rs ≡ length ds
+rows_len t cs e [] [] h = refl
+rows_len t cs e [] (d ∷ ds) h = absurd h
+rows_len t cs e (r ∷ rs) [] h = absurd h
+rows_len t cs e (r ∷ rs) (d ∷ ds) h = ap suc (rows_len t cs (e ++ d ∷ []) rs ds h.1)
+
+-- the row of a declaration
+pub row_at : (t : List ℕ) (cs : List IdCode) (e : List Declaration) (rs : List Row) (front back : List Declaration) (d : Declaration) → AreRows t cs e rs (front ++ d ∷ back) → (r : Row) × (slice_get rs (length front) ≡ Some r) × IsRow t cs (e ++ front) r d
+row_at t cs e [] [] back d h = absurd h
+row_at t cs e [] (x ∷ front) back d h = absurd h
+row_at t cs e (r ∷ rs) [] back d h = (r, refl, subst (λ x. IsRow t cs x r d) (sym (append-nil e)) h.0)
+row_at t cs e (r ∷ rs) (x ∷ front) back d h =
+    let m = row_at t cs (e ++ x ∷ []) rs front back d h.1 in
+    (m.0, m.1, subst (λ y. IsRow t cs y m.0 d) (append_assoc e (x ∷ []) front) m.2)
+
+-- ---- codes, one declaration on
+
+each_push : {X Y : Type 0} (f : List X → X → Y) (e xs : List X) (x : X) → each_after f e (xs ++ x ∷ []) ≡ each_after f e xs ++ f (e ++ xs) x ∷ []
+each_push f e [] x = ap (λ l. f l x ∷ []) (sym (append-nil e))
+each_push f e (y ∷ xs) x = ap (λ l. f e y ∷ l) (each_push f (e ++ y ∷ []) xs x ∙ ap (λ l. each_after f (e ++ y ∷ []) xs ++ f l x ∷ []) (append_assoc e (y ∷ []) xs))
+
+new_code_of : List Variable → Variable → Option IdCode
+new_code_of earlier v = cond (list_any (λ u. bytes_eq u.code v.code) earlier) None (Some (code_of v))
+
+pub variables_push : (ds : List Declaration) (d : Declaration) → variables_of (ds ++ d ∷ []) ≡ variables_of ds ++ variables_of (d ∷ [])
+variables_push ds d = filter_map-append variable_of ds (d ∷ [])
+
+codes_push : (ds : List Declaration) (v : Variable) → codes_of (ds ++ Declaration.Var v ∷ []) ≡ codes_of ds ++ filter_map (λ o. o) (new_code_of (variables_of ds) v ∷ [])
+unfolding codes_of new_code_of
+codes_push ds v =
+    ap (λ vs. filter_map (λ o. o) (each_after new_code_of [] vs)) (variables_push ds (Declaration.Var v)) ∙ ap (filter_map (λ o. o)) (each_push new_code_of [] (variables_of ds) v)
+    ∙ filter_map-append (λ o. o) (each_after new_code_of [] (variables_of ds)) (new_code_of (variables_of ds) v ∷ [])
+
+pub codes-alias : (ds : List Declaration) (v : Variable) → list_any (λ u. bytes_eq u.code v.code) (variables_of ds) ≡ true → codes_of (ds ++ Declaration.Var v ∷ []) ≡ codes_of ds
+unfolding new_code_of
+codes-alias ds v h = codes_push ds v ∙ rw h (append-nil (codes_of ds))
+
+pub codes-new : (ds : List Declaration) (v : Variable) → list_any (λ u. bytes_eq u.code v.code) (variables_of ds) ≡ false → codes_of (ds ++ Declaration.Var v ∷ []) ≡ codes_of ds ++ code_of v ∷ []
+unfolding new_code_of
+codes-new ds v h = codes_push ds v ∙ rw h refl
+
+pub codes-other : (ds : List Declaration) (d : Declaration) → variable_of d ≡ None → codes_of (ds ++ d ∷ []) ≡ codes_of ds
+unfolding codes_of
+codes-other ds d h = ap (λ vs. filter_map (λ o. o) (each_after (λ earlier v. cond (list_any (λ u. bytes_eq u.code v.code) earlier) None (Some (code_of v))) [] vs)) (variables_push ds d ∙ rw h (append-nil (variables_of ds)))
+
+-- ---- places
+
+pub places_push : (n : ℕ) (es : List (Vec ℕ × Coded)) (cs : List IdCode) (e : Vec ℕ × Coded) (c : IdCode) → ArePlaces n es cs → e.0.items ≡ c.text → e.1.place ≡ n + length cs → IsOfKind e.1.code c → ArePlaces n (es ++ e ∷ []) (cs ++ c ∷ [])
+places_push n [] [] e c h t p k = (t, omega arith, k, tt)
+places_push n [] (x ∷ cs) e c h t p k = absurd h
+places_push n (y ∷ es) [] e c h t p k = absurd h
+places_push n (y ∷ es) (x ∷ cs) e c h t p k = (h.0, h.1, h.2, places_push (suc n) es cs e c h.3 t (omega arith) k)
+
+-- a code that was found by its bytes
+pub record IsAt (n : ℕ) (cs : List IdCode) (t : List ℕ) (p : Coded) : Type 0 where
+  pub code : IdCode
+  pub place : ℕ
+  pub sum : p.place ≡ n + place
+  pub at : slice_get cs place ≡ Some code
+  pub found : find (has_text t) cs ≡ Some code
+  pub of_kind : IsOfKind p.code code
+
+pub place_found : (n : ℕ) (es : List (Vec ℕ × Coded)) (cs : List IdCode) (t : List ℕ) (p : Coded) → ArePlaces n es cs → lookup (λ (k : Vec ℕ). bytes_eq t k.items) es ≡ Some p → IsAt n cs t p
+place_found n [] [] t p h e = cc
+place_found n [] (c ∷ cs) t p h e = absurd h
+place_found n (y ∷ es) [] t p h e = absurd h
+place_found n (y ∷ es) (c ∷ cs) t p h e = by_test (bytes_eq t y.0.items) refl e (place_found (suc n) es cs t p h.3)
+  where
+    by_test : (b : Bool) → bytes_eq t y.0.items ≡ b → cond b (Some y.1) (lookup (λ (k : Vec ℕ). bytes_eq t k.items) es) ≡ Some p → (lookup (λ (k : Vec ℕ). bytes_eq t k.items) es ≡ Some p → IsAt (suc n) cs t p) → IsAt n (c ∷ cs) t p
+    by_test true q f more = let same : y.1 ≡ p = cc in record { code = c; place = 0; sum = let z = h.1 in let w = ap (λ (x : Coded). x.place) same in omega arith; at = refl; found = rw (sym (ap (bytes_eq t) h.0) ∙ q) refl; of_kind = subst (λ (x : Coded). IsOfKind x.code c) same h.2 }
+    by_test false q f more = let m = more f in let z = m.sum in record { code = m.code; place = suc m.place; sum = omega arith; at = m.at; found = rw (sym (ap (bytes_eq t) h.0) ∙ q) m.found; of_kind = m.of_kind }
+
+pub place_none : (n : ℕ) (es : List (Vec ℕ × Coded)) (cs : List IdCode) (t : List ℕ) → ArePlaces n es cs → lookup (λ (k : Vec ℕ). bytes_eq t k.items) es ≡ None → find (has_text t) cs ≡ None
+place_none n [] [] t h e = refl
+place_none n [] (c ∷ cs) t h e = absurd h
+place_none n (y ∷ es) [] t h e = absurd h
+place_none n (y ∷ es) (c ∷ cs) t h e = by_test (bytes_eq t y.0.items) refl e (place_none (suc n) es cs t h.3)
+  where
+    by_test : (b : Bool) → bytes_eq t y.0.items ≡ b → cond b (Some y.1) (lookup (λ (k : Vec ℕ). bytes_eq t k.items) es) ≡ None → (lookup (λ (k : Vec ℕ). bytes_eq t k.items) es ≡ None → find (has_text t) cs ≡ None) → find (has_text t) (c ∷ cs) ≡ None
+    by_test true q f more = cc
+    by_test false q f more = rw (sym (ap (bytes_eq t) h.0) ∙ q) (more f)
+
+-- there are as many entries as codes
+pub places_len : (n : ℕ) (es : List (Vec ℕ × Coded)) (cs : List IdCode) → ArePlaces n es cs → length es ≡ length cs
+places_len n [] [] h = refl
+places_len n [] (c ∷ cs) h = absurd h
+places_len n (e ∷ es) [] h = absurd h
+places_len n (e ∷ es) (c ∷ cs) h = ap suc (places_len (suc n) es cs h.3)
+
+-- codes stay where they are
+pub codes_grown : (ds : List Declaration) (v : Variable) → (more : List IdCode) × (codes_of (ds ++ Declaration.Var v ∷ []) ≡ codes_of ds ++ more)
+codes_grown ds v = (filter_map (λ o. o) (new_code_of (variables_of ds) v ∷ []), codes_push ds v)

@@ -1,0 +1,68 @@
+-- Marks that are set, one place after the other.
+use Rattle.std.proofs.Common.{◌≡◌, ℕ, ◌<◌, ◌≤◌, Bool, true, false, cond, ◌||◌, ◌==◌, List, [], ◌∷◌, ◌++◌, length, map, take, set, IfSome, get_or, Option, Some, None, inl, inr, refl, sym, ap, subst, ◌∙◌, arith}
+use Rattle.std.specs.List.{range_with_len}
+use Rattle.std.proofs.lemmas.Bool.{cases_eq, eq-eqb, ne_eqb}
+use Rattle.std.proofs.lemmas.List.{get_or-set_other, get_or-set_same, length-set}
+use Rattle.std.proofs.lemmas.List.FromFn.{fill_by_all}
+use Rattle.vcd_model.specs.Declarations.{Declaration, enclosing, parent}
+use Rattle.vcd_model.specs.Selection.{is_among, marked_places}
+use Rattle.vcd_head.specs.Marks.{Marked}
+use Rattle.vcd_head.specs.Views.{counted_from_one}
+use Rattle.vcd_head.proofs.EnclosingLemmas.{with_scopes, scopes_around}
+
+-- ---- places in a row
+
+pub marked_none : (marks : List ℕ) → Marked [] marks marks
+marked_none marks = record { kept = refl; marks = λ i l. refl }
+
+both_or : (a b : Bool) (x y z : ℕ) → y ≡ cond a 1 x → z ≡ cond b 1 y → z ≡ cond (a || b) 1 x
+both_or true true x y z p q = q
+both_or true false x y z p q = q ∙ p
+both_or false true x y z p q = q
+both_or false false x y z p q = q ∙ p
+
+among-append : (xs ys : List ℕ) (i : ℕ) → is_among (xs ++ ys) i ≡ (is_among xs i || is_among ys i)
+among-append [] ys i = refl
+among-append (x ∷ xs) ys i = ap (λ b. (i == x) || b) (among-append xs ys i) ∙ or_assoc (i == x) (is_among xs i) (is_among ys i)
+  where
+    or_assoc : (a b c : Bool) → (a || (b || c)) ≡ ((a || b) || c)
+    or_assoc true b c = refl
+    or_assoc false b c = refl
+
+pub marked_both : (xs ys old mid new : List ℕ) → Marked xs old mid → Marked ys mid new → Marked (xs ++ ys) old new
+marked_both xs ys old mid new a b = record {
+  kept = b.kept ∙ a.kept;
+  marks = λ i l. both_or (is_among xs i) (is_among ys i) (get_or old i 0) (get_or mid i 0) (get_or new i 0) (a.marks i l) (b.marks i (omega (arith, a.kept))) ∙ ap (λ b. cond b 1 (get_or old i 0)) (sym (among-append xs ys i));
+}
+
+-- one place
+pub marked_one : (marks : List ℕ) (p : ℕ) → p < length marks → Marked (p ∷ []) marks (set marks p 1)
+marked_one marks p l = record {
+  kept = length-set marks p 1;
+  marks = λ i w. elim (cases_eq i p) [
+    | inl e ↦ rw (eq-eqb i p e, e) (get_or-set_same marks p 1 0 l)
+    | inr n ↦ rw (ne_eqb i p n) (get_or-set_other marks p i 1 0 n)
+  ];
+}
+
+-- marks that were 0
+pub marked_all : (places zeros marks : List ℕ) (n : ℕ) → length zeros ≡ n → ((i : ℕ) → i < n → get_or zeros i 0 ≡ 0) → Marked places zeros marks → marks ≡ map (λ i. cond (is_among places i) 1 0) (range_with_len 0 n)
+marked_all places zeros marks n e z m =
+    fill_by_all (λ i. cond (is_among places i) 1 0) marks n 0 (m.kept ∙ e) (λ i l. m.marks i (omega arith) ∙ ap (cond (is_among places i) 1) (z i l))
+
+-- ---- the scopes around
+
+-- 1 plus a place below n, or 0, is at most n
+pub counted_within : (o : Option ℕ) (n : ℕ) → IfSome o (λ p. p < n) → counted_from_one o ≤ n
+counted_within None n h = omega arith
+counted_within (Some p) n h = h
+
+-- what is left to be marked, behind one more place
+pub walk_on : (ds : List Declaration) (p : ℕ) (marks new : List ℕ) → p < length marks → Marked (with_scopes ds (parent (take p ds))) (set marks p 1) new → Marked (p ∷ enclosing (take p ds)) marks new
+walk_on ds p marks new l m = subst (λ ps. Marked (p ∷ ps) marks new) (sym (scopes_around ds p)) (marked_both (p ∷ []) (with_scopes ds (parent (take p ds))) marks (set marks p 1) new (marked_one marks p l) m)
+
+-- ---- all rows
+
+pub marked_first : (names : List (List ℕ)) (ds : List Declaration) (marks : List ℕ) → Marked (marked_places names (take 0 ds)) marks marks
+unfolding marked_places
+marked_first names ds marks = marked_none marks

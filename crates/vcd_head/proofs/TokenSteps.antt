@@ -1,0 +1,102 @@
+-- One token on in the reading of a header.
+use Rattle.std.proofs.Common.{◌≡◌, ◌≢◌, ℕ, ◌+◌, true, false, List, [], ◌∷◌, ◌++◌, length, Option, Some, None, unwrap_or, refl, sym, ap, subst, ◌∙◌, arith}
+use Rattle.std.proofs.lemmas.List.{append_assoc}
+use Rattle.vcd_model.specs.Input.{Input}
+use Rattle.vcd_model.specs.Laws.{IsPrefixOf}
+use Rattle.vcd_model.specs.Tokens.{Token, Stream, stream_of}
+use Rattle.vcd_model.specs.HeaderPhrases.{HeaderPhrase, header_phrase}
+use Rattle.vcd_model.specs.HeaderChecks.{header_fault}
+use Rattle.vcd_model.specs.HeaderReading.{header_grammar, read_header, header_fault_of, is_last}
+use Rattle.vcd_model.specs.Reading.{Placed, Reading, phrases_of, reading_of}
+use Rattle.vcd_model.specs.SoFar.{IsSoFar}
+use Rattle.vcd_model.proofs.SoFarLemmas.{so_far-nothing, so_far-token, so_far-phrase, whole-phrase, faulty-token}
+use Rattle.vcd_text.specs.Answer.{Ends}
+use Rattle.vcd_text.specs.Feed.{HasGiven, token_of, limit_of}
+use Rattle.vcd_text.specs.declared.device.Source.{Ghosts}
+use Rattle.vcd_text.specs.declared.feed.Feed.{Feed}
+use Rattle.vcd_head.specs.Reads.{Reads, ReadsToken, ReadsWhole, IsFaultless, HasFault, FailsAtToken, IsGoodSoFar}
+use Rattle.vcd_head.specs.Texts.{Welcomes, WordRead, WordTaken}
+use Rattle.vcd_model.specs.Keywords.{is_end}
+use Rattle.vcd_head.specs.declared.fault.HeadFault.{HeadFault}
+
+-- a token is missing: the input's stream has no more
+pub missing_token : (most limit : ℕ) (i : Input) (given : List Token) (placed : List (Placed HeaderPhrase)) (before : List (List ℕ)) (halt : Option ℕ) (line : ℕ) → IsSoFar (header_grammar most) given placed before → Ends limit i given halt line
+    → HasFault most limit i (unwrap_or halt 2) line
+unfolding read_header
+missing_token most limit i given placed before halt line h e =
+    subst (λ (s : Stream). header_fault_of s (reading_of (header_grammar most) s.tokens) ≡ Some (record { number = unwrap_or halt 2; line = line })) (sym e)
+    (ap (λ (r : Reading HeaderPhrase). header_fault_of (record { tokens = given; halt = halt; line = line }) r) h)
+
+module _ {X : Type 0} {g : Ghosts X} (most : ℕ) (i : Input) (placed : List (Placed HeaderPhrase)) (before : List (List ℕ)) (f : Feed X g) where
+  -- the token passes its checks, and no phrase is whole with it
+  pub taken : header_fault most (phrases_of placed) before (token_of f).bytes ≡ None → header_phrase (before ++ (token_of f).bytes ∷ []) ≡ None → ReadsToken most i placed before f → Reads most i placed (before ++ (token_of f).bytes ∷ []) f
+  taken e q l = record { given = l.given ++ token_of f ∷ []; stands = l.stands; so_far = so_far-token (header_grammar most) l.given placed before (token_of f) l.so_far e q; last = λ n. (l.given, refl) }
+
+  -- the token passes its checks, and a phrase that others follow is whole with it
+  pub taken_phrase : (p : HeaderPhrase) → header_fault most (phrases_of placed) before (token_of f).bytes ≡ None → header_phrase (before ++ (token_of f).bytes ∷ []) ≡ Some p → is_last p ≡ false → ReadsToken most i placed before f
+      → Reads most i (placed ++ record { phrase = p; line = (token_of f).line } ∷ []) [] f
+  taken_phrase p e q l k = record { given = k.given ++ token_of f ∷ []; stands = k.stands; so_far = so_far-phrase (header_grammar most) k.given placed before (token_of f) p k.so_far e q l; last = λ n. (k.given, refl) }
+
+  -- the token passes its checks, and the last phrase is whole with it
+  pub taken_last : (p : HeaderPhrase) → header_fault most (phrases_of placed) before (token_of f).bytes ≡ None → header_phrase (before ++ (token_of f).bytes ∷ []) ≡ Some p → is_last p ≡ true → ReadsToken most i placed before f
+      → ReadsWhole most i (placed ++ record { phrase = p; line = (token_of f).line } ∷ []) f
+  taken_last p e q l k = record { given = k.given; stands = k.stands; whole = whole-phrase (header_grammar most) k.given placed before (token_of f) p k.so_far e q l }
+
+  -- a check of the token fails
+  pub refused : (n : ℕ) → header_fault most (phrases_of placed) before (token_of f).bytes ≡ Some n → ReadsToken most i placed before f → FailsAtToken most i n f
+  unfolding read_header
+  refused n e l =
+      let first : IsPrefixOf (l.given ++ token_of f ∷ []) (stream_of (limit_of f) i).tokens = l.stands.given_first in (
+        ap (header_fault_of (stream_of (limit_of f) i)) (ap (reading_of (header_grammar most)) (first.1 ∙ append_assoc l.given (token_of f ∷ []) first.0) ∙ faulty-token (header_grammar most) l.given placed before (token_of f) first.0 n l.so_far e),
+        l.given,
+        l.stands,
+        rw (l.so_far, IsFaultless) tt,
+      )
+
+-- what was read on ends with the token that the feed shows, and has no fault
+good_so_far : {X : Type 0} {g : Ghosts X} (most : ℕ) (i : Input) (placed : List (Placed HeaderPhrase)) (before : List (List ℕ)) (f : Feed X g) (r : Reads most i placed before f) → r.given ≢ [] → IsGoodSoFar most i f
+good_so_far most i placed before f r n =
+    let at = r.last n in
+    let so_far = subst (λ ts. IsSoFar (header_grammar most) ts placed before) at.1 r.so_far in
+    (at.0, subst (λ ts. HasGiven i ts f) at.1 r.stands, rw (so_far, IsFaultless) tt)
+
+-- where no token was given, nothing was read
+nothing_read : (most : ℕ) (given : List Token) (placed : List (Placed HeaderPhrase)) (before : List (List ℕ)) → IsSoFar (header_grammar most) given placed before → given ≡ [] → (placed ≡ []) × (before ≡ [])
+nothing_read most given placed before h e =
+    let same = sym h ∙ ap (reading_of (header_grammar most)) e ∙ so_far-nothing (header_grammar most) in
+    (ap (λ r. r.placed) same, ap (λ r. r.before) same)
+
+append_not_nil : {A : Type 0} (xs : List A) (x : A) → xs ++ x ∷ [] ≡ [] → ⊥
+append_not_nil [] x e = cc
+append_not_nil (y ∷ ys) x e = cc
+
+-- where memory is refused in a phrase
+pub faultless : {X : Type 0} {g : Ghosts X} (most : ℕ) (i : Input) (placed : List (Placed HeaderPhrase)) (before : List (List ℕ)) (t : List ℕ) (f : Feed X g) → Reads most i placed (before ++ t ∷ []) f → IsGoodSoFar most i f
+faultless most i placed before t f r = good_so_far most i placed (before ++ t ∷ []) f r (λ e. append_not_nil before t (nothing_read most r.given placed (before ++ t ∷ []) r.so_far e).1)
+
+-- and behind one
+pub faultless_phrase : {X : Type 0} {g : Ghosts X} (most : ℕ) (i : Input) (placed : List (Placed HeaderPhrase)) (p : Placed HeaderPhrase) (f : Feed X g) → Reads most i (placed ++ p ∷ []) [] f → IsGoodSoFar most i f
+faultless_phrase most i placed p f r = good_so_far most i (placed ++ p ∷ []) [] f r (λ e. append_not_nil placed p (nothing_read most r.given (placed ++ p ∷ []) [] r.so_far e).0)
+
+-- and behind the last
+pub faultless_whole : {X : Type 0} {g : Ghosts X} (most : ℕ) (i : Input) (placed : List (Placed HeaderPhrase)) (f : Feed X g) → ReadsWhole most i placed f → IsGoodSoFar most i f
+faultless_whole most i placed f r = (r.given, r.stands, rw (r.whole, IsFaultless) tt)
+
+-- a word passes its checks
+pub welcomed : {X : Type 0} {g : Ghosts X} (most : ℕ) (i : Input) (placed : List (Placed HeaderPhrase)) (before : List (List ℕ)) (f : Feed X g) → Welcomes most placed before → is_end (token_of f).bytes ≡ false → ReadsToken most i placed before f
+    → Reads most i placed (before ++ (token_of f).bytes ∷ []) f
+welcomed most i placed before f w e l = let step = w (token_of f).bytes e in taken most i placed before f step.0 step.1 l
+
+module _ {X : Type 0} {g : Ghosts X} (most : ℕ) (i : Input) (placed : List (Placed HeaderPhrase)) (before : List (List ℕ)) (f : Feed X g) (o : Option ℕ) where
+  pub word_some : (n : ℕ) → o ≡ Some n → WordRead most i placed before f o → Reads most i placed (before ++ (token_of f).bytes ∷ []) f × (is_end (token_of f).bytes ≡ false)
+  word_some n e w = subst (WordRead most i placed before f) e w
+
+  pub word_none : ((n : ℕ) → o ≡ Some n → ⊥) → WordRead most i placed before f o → ReadsToken most i placed before f × (is_end (token_of f).bytes ≡ true)
+  word_none e w = by_cases o e w
+    where
+      by_cases : (x : Option ℕ) → ((n : ℕ) → x ≡ Some n → ⊥) → WordRead most i placed before f x → ReadsToken most i placed before f × (is_end (token_of f).bytes ≡ true)
+      by_cases None e w = w
+      by_cases (Some n) e w = absurd (e n refl)
+
+pub text_taken : (old new word : List ℕ) (o : Option ℕ) (n : ℕ) → o ≡ Some n → WordTaken old new word o → (new ≡ old ++ word) × (n ≡ length word)
+text_taken old new word o n e w = subst (WordTaken old new word) e w

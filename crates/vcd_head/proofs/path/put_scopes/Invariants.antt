@@ -1,0 +1,15 @@
+use Rattle.std.proofs.Common.{◌≡◌, ◌<◌, length}
+use Rattle.vcd_model.specs.Header.{Header}
+use Rattle.vcd_head.specs.Shown.{parts}
+use Rattle.vcd_head.specs.Views.{Views}
+use Rattle.vcd_head.proofs.PathLemmas.{HasNames}
+use Rattle.vcd_head.proofs.path.put_scopes.Given as goal
+
+abbrev pub invariant-loop-scope : goal.invariant-loop-scope
+invariant-loop-scope g l = record {
+  same : (g.W.Sink.device l.w).failures ≡ (g.W.Sink.device l.fn.w).failures;
+  names : (h : Header) → Views (parts l.view) h → l.row < length h.declarations → HasNames h l.row l.scopes (g.W.Sink.device l.fn.w).held (g.W.Sink.device l.w).held;
+}
+
+abbrev pub decreases-loop-scope : goal.decreases-loop-scope
+decreases-loop-scope g l = l.scopes.left

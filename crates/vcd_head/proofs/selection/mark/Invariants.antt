@@ -1,0 +1,17 @@
+use Rattle.std.proofs.Common.{◌≤◌, ◌<◌, List, ℕ, suc, ◌∷◌, length, take}
+use Rattle.vcd_model.specs.Declarations.{enclosing}
+use Rattle.vcd_model.specs.Header.{Header}
+use Rattle.vcd_head.specs.Marks.{Marked}
+use Rattle.vcd_head.specs.Shown.{parts}
+use Rattle.vcd_head.specs.Views.{Views, counted_from_one}
+use Rattle.vcd_head.proofs.EnclosingLemmas.{with_scopes}
+use Rattle.vcd_head.proofs.selection.mark.Given as goal
+
+abbrev pub invariant-loop-next : goal.invariant-loop-next
+invariant-loop-next l = record {
+  within : counted_from_one l.next ≤ suc l.row;
+  left : (h : Header) (new : List ℕ) → Views (parts l.view) h → l.row < length h.declarations → Marked (with_scopes h.declarations l.next) l.marks new → Marked (l.row ∷ enclosing (take l.row h.declarations)) l.initial.marks new;
+}
+
+abbrev pub decreases-loop-next : goal.decreases-loop-next
+decreases-loop-next l = counted_from_one l.next

@@ -1,0 +1,13 @@
+use Rattle.std.proofs.Common.{◌≡◌, Some, slice_get}
+use Rattle.vcd_model.specs.Declarations.{Declaration, Variable}
+use Rattle.vcd_model.specs.Header.{Header}
+use Rattle.vcd_head.specs.Shown.{parts}
+use Rattle.vcd_head.specs.Views.{Views}
+use Rattle.vcd_head.proofs.NamePaths.{HasMatched}
+use Rattle.vcd_head.proofs.selection.selects.Given as goal
+
+abbrev pub invariant-loop-scope : goal.invariant-loop-scope
+invariant-loop-scope l = (h : Header) (v : Variable) → Views (parts l.view) h → slice_get h.declarations l.row ≡ Some (Declaration.Var v) → HasMatched h l.row (Declaration.Var v) l.scopes l.name l.rest
+
+abbrev pub decreases-loop-scope : goal.decreases-loop-scope
+decreases-loop-scope l = l.scopes.left

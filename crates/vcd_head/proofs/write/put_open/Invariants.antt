@@ -1,0 +1,16 @@
+use Rattle.std.proofs.Common.{◌≡◌}
+use Rattle.vcd_model.specs.Header.{Header}
+use Rattle.vcd_head.specs.Marks.{is_marked}
+use Rattle.vcd_head.specs.Shown.{parts}
+use Rattle.vcd_head.specs.Views.{Views, counted_from_one}
+use Rattle.vcd_head.proofs.OpenScopes.{Closes}
+use Rattle.vcd_head.proofs.write.put_open.Given as goal
+
+abbrev pub invariant-loop-next : goal.invariant-loop-next
+invariant-loop-next g l = record {
+  same : (g.W.Sink.device l.w).failures ≡ (g.W.Sink.device l.fn.w).failures;
+  closes : (h : Header) → Views (parts l.view) h → Closes (is_marked l.marks) h.declarations l.next (g.W.Sink.device l.fn.w).held (g.W.Sink.device l.w).held;
+}
+
+abbrev pub decreases-loop-next : goal.decreases-loop-next
+decreases-loop-next g l = counted_from_one l.next

@@ -1,0 +1,141 @@
+-- What a draft holds of the phrases read so far, beside the feed that they come from.
+use Rattle.std.specs.Prelude.{◌≡◌, ℕ, suc, ◌+◌, ◌≤◌, List, [], ◌∷◌, ◌++◌, length, map, reverse, find, filter_map, count_by, sum_by, bytes_eq, Some, None, is_some, option_map, unwrap_or, slice_get, Bool, true, false, Option}
+use Rattle.std.specs.Global.{Vec}
+use Rattle.std.specs.List.{AllByRecursion, AllZip, list_any, last_or}
+use Rattle.vcd_model.specs.Declarations.{Declaration, Variable, IdCode, code_of, codes_of, variables_of, has_text, is_scope, is_up, enclosing}
+use Rattle.vcd_model.specs.HeaderPhrases.{HeaderPhrase, declarations_of, date_of, version_of, timescale_of}
+use Rattle.vcd_model.specs.Bound.{kept_bytes}
+use Rattle.vcd_head.specs.declared.view.Code.{Code}
+use Rattle.vcd_head.specs.declared.view.Scale.{Scale}
+use Rattle.vcd_head.specs.declared.draft.Coded.{Coded}
+use Rattle.vcd_head.specs.declared.draft.Draft.{Draft}
+use Rattle.vcd_head.specs.declared.draft.Found.{Found}
+use Rattle.vcd_head.specs.declared.draft.Found.TheVariants as found
+use Rattle.vcd_head.specs.Keys.{AreBytes, key_in}
+use Rattle.vcd_head.specs.Views.{IsCode, IsSize, AreRows}
+use Rattle.vcd_model.specs.Input.{Input}
+use Rattle.vcd_model.specs.Keywords.{Keyword, keyword_of, keyword_text}
+use Rattle.vcd_model.specs.Reading.{Placed, phrases_of}
+use Rattle.vcd_text.specs.Feed.{token_of}
+use Rattle.vcd_text.specs.declared.device.Source.{Ghosts}
+use Rattle.vcd_text.specs.declared.feed.Feed.{Feed}
+use Rattle.vcd_head.specs.Reads.{Reads, ReadsToken, ReadsWhole}
+use Rattle.vcd_head.specs.Keywords.{model_keyword}
+use Rattle.vcd_head.specs.declared.keyword.Keyword.{Keyword as WordOf}
+use Rattle.vcd_head.specs.declared.keyword.Keyword.TheVariants as word
+
+-- the code has this size, and is an event or none
+pub record IsOfKind (c : Code) (k : IdCode) : Type 0 where
+  pub same_size : c.size ≡ k.size
+  pub same_event : c.event ≡ k.event
+
+-- the entries of a map are the bytes of these codes, each with its place; the first has place n
+abbrev pub ArePlaces : ℕ → List (Vec ℕ × Coded) → List IdCode → Type 0
+ArePlaces n [] [] = Unit {0}
+ArePlaces n [] (c ∷ cs) = ⊥
+ArePlaces n (e ∷ es) [] = ⊥
+ArePlaces n (e ∷ es) (c ∷ cs) = (e.0.items ≡ c.text) × (e.1.place ≡ n) × IsOfKind e.1.code c × ArePlaces (suc n) es cs
+
+-- the codes of the entries
+abbrev pub codes_in : List (Vec ℕ × Coded) → List Code
+codes_in es = map (λ e. e.1.code) es
+
+-- the codes of these declarations are held
+pub record HasCodes (text : List ℕ) (entries : List (Vec ℕ × Coded)) (ds : List Declaration) : Type 0 where
+  pub stand : AllZip (IsCode text) (codes_in entries) (codes_of ds)
+  pub numbered : ArePlaces 0 entries (codes_of ds)
+  pub known : AllByRecursion (λ u. find (has_text u.code) (codes_of ds) ≡ Some (code_of u)) (variables_of ds)
+  pub seen : (t : List ℕ) → list_any (λ u. bytes_eq u.code t) (variables_of ds) ≡ is_some (find (has_text t) (codes_of ds))
+  pub sizes : AllByRecursion (λ (c : IdCode). IsSize c.size) (codes_of ds)
+  pub texts : AllByRecursion (λ (c : IdCode). AreBytes c.text) (codes_of ds)
+
+-- the code of a variable after these declarations was found among theirs, or is new
+abbrev pub IsFound : List Declaration → Variable → Found → Type 0
+IsFound ds v (found.Declared place) = (slice_get (codes_of ds) place ≡ Some (code_of v)) × (find (has_text v.code) (codes_of ds) ≡ Some (code_of v))
+IsFound ds v (found.New code) = (code.items ≡ v.code) × (find (has_text v.code) (codes_of ds) ≡ None)
+
+-- the draft holds these declarations, of which `most` are allowed
+pub record Declares (most : ℕ) (d : Draft) (ds : List Declaration) : Type 0 where
+  pub codes : HasCodes d.text.items d.codes.entries ds
+  pub rows : AreRows d.text.items (codes_of ds) [] d.rows.items ds
+  pub nested : d.scopes.items ≡ map suc (reverse (enclosing ds))
+  pub balance : length (enclosing ds) + count_by is_up ds ≡ count_by is_scope ds
+  pub held : length d.text.items ≤ sum_by kept_bytes ds
+  pub few : length ds ≤ most
+
+-- the draft holds these phrases
+pub record IsDraftOf (most : ℕ) (d : Draft) (ps : List HeaderPhrase) : Type 0 where
+  pub declares : Declares most d (declarations_of ps)
+  pub date : d.date.items ≡ unwrap_or (last_or None (filter_map date_of ps)) []
+  pub version : d.version.items ≡ unwrap_or (last_or None (filter_map version_of ps)) []
+  pub scale : option_map (λ (x : Scale). x.exponent) d.scale ≡ last_or None (filter_map timescale_of ps)
+
+-- the code of the variable is held, at this place
+pub record CodeHeld (old new : Draft) (ds : List Declaration) (v : Variable) (place : ℕ) : Type 0 where
+  pub held_codes : HasCodes new.text.items new.codes.entries (ds ++ Declaration.Var v ∷ [])
+  pub held_at : slice_get (codes_of (ds ++ Declaration.Var v ∷ [])) place ≡ Some (code_of v)
+  pub more : List ℕ
+  pub grown : new.text.items ≡ old.text.items ++ more
+  pub short : length more ≤ length v.code
+
+-- nothing but texts and codes has changed
+pub record IsSameBut (old new : Draft) : Type 0 where
+  pub same_rows : new.rows.items ≡ old.rows.items
+  pub same_date : new.date.items ≡ old.date.items
+  pub same_version : new.version.items ≡ old.version.items
+  pub same_scale : new.scale ≡ old.scale
+  pub same_scopes : new.scopes.items ≡ old.scopes.items
+
+-- the keys of the entries
+abbrev pub keys_in : List (Vec ℕ × Coded) → List ℕ
+keys_in es = map (λ e. key_in e.0.items) es
+
+-- the places of the entries
+abbrev pub places_in : List (Vec ℕ × Coded) → List ℕ
+places_in es = map (λ e. e.1.place) es
+
+-- nothing was read yet
+pub record IsNew (d : Draft) : Type 0 where
+  pub no_text : d.text.items ≡ []
+  pub no_rows : d.rows.items ≡ []
+  pub no_codes : d.codes.entries ≡ []
+  pub no_date : d.date.items ≡ []
+  pub no_version : d.version.items ≡ []
+  pub no_scale : d.scale ≡ None
+  pub no_scopes : d.scopes.items ≡ []
+
+-- the draft holds the phrases that were read, and the feed stands after the last of them
+pub record DraftsUpTo {X : Type 0} {g : Ghosts X} (most : ℕ) (i : Input) (d : Draft) (f : Feed X g) : Type 0 where
+  pub placed : List (Placed HeaderPhrase)
+  pub reads : Reads most i placed [] f
+  pub holds : IsDraftOf most d (phrases_of placed)
+
+-- the draft holds the phrases that were read, and the feed stands after the keyword that begins the next one
+pub record AtKeyword {X : Type 0} {g : Ghosts X} (most : ℕ) (i : Input) (k : Keyword) (d : Draft) (f : Feed X g) : Type 0 where
+  pub placed : List (Placed HeaderPhrase)
+  pub token_read : ReadsToken most i placed [] f
+  pub keyword : (token_of f).bytes ≡ keyword_text k
+  pub holds : IsDraftOf most d (phrases_of placed)
+
+-- the feed stands after a token that is no keyword
+pub record AtOther {X : Type 0} {g : Ghosts X} (most : ℕ) (i : Input) (d : Draft) (f : Feed X g) : Type 0 where
+  pub placed : List (Placed HeaderPhrase)
+  pub token_read : ReadsToken most i placed [] f
+  pub other : keyword_of (token_of f).bytes ≡ None
+  pub holds : IsDraftOf most d (phrases_of placed)
+
+-- the feed stands after the first token of a phrase, which is this keyword or none
+abbrev pub AtFirstToken : {X : Type 0} {g : Ghosts X} → ℕ → Input → Option WordOf → Draft → Feed X g → Type 0
+AtFirstToken most i (Some k) d f = AtKeyword most i (model_keyword k) d f
+AtFirstToken most i None d f = AtOther most i d f
+
+-- the draft holds the phrases that were read, of which the last one ends the header
+pub record DraftsAll {X : Type 0} {g : Ghosts X} (most : ℕ) (i : Input) (d : Draft) (f : Feed X g) : Type 0 where
+  pub placed : List (Placed HeaderPhrase)
+  pub reads : ReadsWhole most i placed f
+  pub holds : IsDraftOf most d (phrases_of placed)
+
+-- others may follow a phrase that begins with this keyword, or with none
+abbrev pub goes_on : Option WordOf → Bool
+goes_on (Some word.EndDefinitions) = false
+goes_on k = true

@@ -1,0 +1,76 @@
+// The scopes around a declaration, from the outermost inwards.
+ghost use Rattle.std.specs.Prelude.{◌≡◌, ℕ, ◌<◌, ◌≤◌, List, take, length, reverse, IfSome};
+ghost use Rattle.vcd_model.specs.Declarations.{enclosing};
+ghost use Rattle.vcd_model.specs.Header.{Header};
+ghost use Rattle.vcd_head.specs.ScopesLeft.{GivesNext, LeavesScopes, Walks};
+ghost use Rattle.vcd_head.specs.Views.{IsViewOf};
+
+use crate::view::HeadView;
+
+// How many rows are held at a time.
+const HELD: usize = 128;
+
+/// The scopes around the declaration of a row, given outermost first.
+///
+/// Rows tell of the scope around them alone. So it walks outwards, holds the last rows that it passes, gives them, and walks
+/// again where more are left: once where at most 128 scopes enclose the declaration, at most eight times in a header. It takes
+/// 1 KB of stack, whatever the depth, and no memory.
+#[derive(Drop)]
+pub(crate) struct Enclosing {
+    row: usize,
+    // The rows that were passed last, each at its number, counted outwards from 0, modulo their number.
+    rows: [usize; HELD],
+    // At most so many scopes are left.
+    left: usize,
+    // So many of them, the outermost, are held.
+    held: usize,
+}
+
+impl Enclosing {
+    #[inline(always)]
+    pub(crate) fn new(row: usize) -> Self
+        ensures { (h : Header) → row < length h.declarations
+            → LeavesScopes h row (reverse (enclosing (take row h.declarations))) result }
+    {
+        Enclosing {
+            row,
+            rows: [0; HELD],
+            left: row,
+            held: 0,
+        }
+    }
+
+    /// The row of the next scope.
+    #[inline(always)]
+    pub(crate) fn next(&mut self, view: HeadView<'_>) -> Option<usize>
+        ensures gives { (h : Header) (row : ℕ) (rest : List ℕ) → IsViewOf view.entry h
+            → LeavesScopes h row rest self.old
+            → GivesNext h row rest self.new result }
+        ensures fewer { IfSome result (λ _. self.new.left < self.old.left) }
+    {
+        if self.held == 0 {
+            self.left = walk(view, self.row, self.left, &mut self.rows);
+            self.held = self.left.min(HELD);
+        }
+        self.left = self.left.checked_sub(1)?;
+        self.held = self.held.saturating_sub(1);
+        Some(self.rows[self.left % HELD])
+    }
+}
+
+// Walks outwards from a row by at most so many scopes, and holds the last ones; tells how many it passed.
+fn walk(view: HeadView<'_>, row: usize, most: usize, rows: &mut [usize; HELD]) -> usize
+    ensures walks { (h : Header) → IsViewOf view.entry h → row < length h.declarations
+        → Walks h row most rows.new result }
+    ensures within { result ≤ most }
+{
+    let mut scope = row;
+    for passed in 0..most {
+        let Some(outer) = view.scope_of(scope) else {
+            return passed;
+        };
+        rows[passed % HELD] = outer;
+        scope = outer;
+    }
+    most
+}

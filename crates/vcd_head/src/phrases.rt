@@ -1,0 +1,167 @@
+// The phrases of a header, one after the other.
+ghost use Rattle.std.specs.Prelude.{◌≡◌, ℕ, ◌-◌, ◌^◌, ◌<◌, MatchResult, MatchBool, OnOk};
+ghost use Rattle.vcd_model.specs.Input.{Input};
+ghost use Rattle.vcd_model.specs.Keywords.{Keyword as Named};
+ghost use Rattle.vcd_text.specs.Feed.{source_of, token_of, seen};
+ghost use Rattle.vcd_head.specs.Reads.{Fails};
+ghost use Rattle.vcd_head.specs.Draft.{AtKeyword, AtFirstToken, AtOther, DraftsUpTo, DraftsAll, goes_on as goes_on_after};
+ghost use Rattle.vcd_text.specs.Advances.{Advances};
+ghost use Rattle.vcd_head.specs.Fault.{call_end};
+
+use crate::draft::Draft;
+use crate::fault::HeadFault;
+use crate::keyword::{Keyword, keyword_of};
+use crate::scale::read_timescale;
+use crate::scopes::{read_scope, read_upscope};
+use crate::texts::{skip_to_end, text_to_end};
+use crate::tokens::{next_ends, next_token};
+use crate::variable::read_variable;
+use crate::words::{begins_change, is_command};
+use std::alloc::Global;
+use vcd_text::{Feed, Source};
+
+fn read_comment<S: Source>(
+    feed: &mut Feed<'_, '_, '_, '_, S>,
+    draft: &mut Draft,
+) -> Result<(), HeadFault>
+    requires { S.failures (source_of feed.old) < 2 ^ 64 - 1 }
+    ensures reads { (most : ℕ) (i : Input) → AtKeyword most i Named.Comment draft.old feed.old
+        → MatchResult result (λ _. DraftsUpTo most i draft.new feed.new)
+        (λ fault. Fails most i fault feed.new) }
+    ensures advances { Advances S.failures feed.old feed.new (call_end result) }
+{
+    skip_to_end(feed)
+}
+
+fn read_date<S: Source>(
+    alloc: Global,
+    feed: &mut Feed<'_, '_, '_, '_, S>,
+    draft: &mut Draft,
+) -> Result<(), HeadFault>
+    requires { S.failures (source_of feed.old) < 2 ^ 64 - 1 }
+    ensures reads { (most : ℕ) (i : Input) → AtKeyword most i Named.Date draft.old feed.old
+        → MatchResult result (λ _. DraftsUpTo most i draft.new feed.new)
+        (λ fault. Fails most i fault feed.new) }
+    ensures advances { Advances S.failures feed.old feed.new (call_end result) }
+{
+    draft.date = text_to_end(alloc, feed)?;
+    Ok(())
+}
+
+fn read_version<S: Source>(
+    alloc: Global,
+    feed: &mut Feed<'_, '_, '_, '_, S>,
+    draft: &mut Draft,
+) -> Result<(), HeadFault>
+    requires { S.failures (source_of feed.old) < 2 ^ 64 - 1 }
+    ensures reads { (most : ℕ) (i : Input) → AtKeyword most i Named.Version draft.old feed.old
+        → MatchResult result (λ _. DraftsUpTo most i draft.new feed.new)
+        (λ fault. Fails most i fault feed.new) }
+    ensures advances { Advances S.failures feed.old feed.new (call_end result) }
+{
+    draft.version = text_to_end(alloc, feed)?;
+    Ok(())
+}
+
+/// A command that the standard does not have, or what no phrase begins with.
+fn read_other<S: Source>(
+    feed: &mut Feed<'_, '_, '_, '_, S>,
+    draft: &mut Draft,
+) -> Result<(), HeadFault>
+    requires { S.failures (source_of feed.old) < 2 ^ 64 - 1 }
+    ensures reads { (most : ℕ) (i : Input) → AtOther most i draft.old feed.old
+        → MatchResult result (λ _. DraftsUpTo most i draft.new feed.new)
+        (λ fault. Fails most i fault feed.new) }
+    ensures advances { Advances S.failures feed.old feed.new (call_end result) }
+{
+    if begins_change(feed.token()) {
+        return Err(HeadFault::OutOfPlace);
+    }
+    if !is_command(feed.token()) {
+        return Err(HeadFault::UnknownCommand);
+    }
+    skip_to_end(feed)
+}
+
+/// The end of the header, after its keyword.
+fn read_end<S: Source>(
+    feed: &mut Feed<'_, '_, '_, '_, S>,
+    draft: &mut Draft,
+) -> Result<(), HeadFault>
+    requires { S.failures (source_of feed.old) < 2 ^ 64 - 1 }
+    ensures reads { (most : ℕ) (i : Input)
+        → AtKeyword most i Named.EndDefinitions draft.old feed.old
+        → MatchResult result (λ _. DraftsAll most i draft.new feed.new)
+        (λ fault. Fails most i fault feed.new) }
+    ensures advances { Advances S.failures feed.old feed.new (call_end result) }
+{
+    if next_ends(feed)? {
+        return Ok(());
+    }
+    Err(HeadFault::OutOfPlace)
+}
+
+// Others may follow a phrase that begins so.
+fn goes_on(keyword: Option<Keyword>) -> bool
+    ensures { result ≡ goes_on_after keyword }
+{
+    match keyword {
+        Some(Keyword::EndDefinitions) => false,
+        _ => true,
+    }
+}
+
+/// Reads a phrase, and tells whether more may follow.
+pub(crate) fn read_phrase<S: Source>(
+    alloc: Global,
+    feed: &mut Feed<'_, '_, '_, '_, S>,
+    most: u64,
+    draft: &mut Draft,
+) -> Result<bool, HeadFault>
+    requires { S.failures (source_of feed.old) < 2 ^ 64 - 1 }
+    ensures reads { (i : Input) → DraftsUpTo most i draft.old feed.old
+        → MatchResult result (λ more.
+        MatchBool more (DraftsUpTo most i draft.new feed.new)
+        (DraftsAll most i draft.new feed.new))
+        (λ fault. Fails most i fault feed.new) }
+    ensures advances { Advances S.failures feed.old feed.new (call_end result) }
+    ensures progress { OnOk result (2 ^ 63 - seen feed.new < 2 ^ 63 - seen feed.old) }
+{
+    next_token(feed)?;
+    let keyword = keyword_of(feed.token());
+    read_rest(alloc, feed, most, keyword, draft)?;
+    Ok(goes_on(keyword))
+}
+
+// The rest of a phrase that begins with this keyword, or with none.
+fn read_rest<S: Source>(
+    alloc: Global,
+    feed: &mut Feed<'_, '_, '_, '_, S>,
+    most: u64,
+    keyword: Option<Keyword>,
+    draft: &mut Draft,
+) -> Result<(), HeadFault>
+    requires { S.failures (source_of feed.old) < 2 ^ 64 - 1 }
+    ensures reads { (i : Input) → AtFirstToken most i keyword draft.old feed.old
+        → MatchResult result
+        (λ _. MatchBool (goes_on_after keyword) (DraftsUpTo most i draft.new feed.new)
+        (DraftsAll most i draft.new feed.new)) (λ fault. Fails most i fault feed.new) }
+    ensures advances { Advances S.failures feed.old feed.new (call_end result) }
+{
+    match keyword {
+        Some(Keyword::Comment) => read_comment(feed, draft),
+        Some(Keyword::Date) => read_date(alloc, feed, draft),
+        Some(Keyword::Version) => read_version(alloc, feed, draft),
+        Some(Keyword::Timescale) => read_timescale(feed, draft),
+        Some(Keyword::Scope) => read_scope(feed, most, draft),
+        Some(Keyword::Upscope) => read_upscope(feed, most, draft),
+        Some(Keyword::Var) => read_variable(alloc, feed, most, draft),
+        Some(Keyword::EndDefinitions) => read_end(feed, draft),
+        Some(Keyword::DumpAll) => Err(HeadFault::OutOfPlace),
+        Some(Keyword::DumpOff) => Err(HeadFault::OutOfPlace),
+        Some(Keyword::DumpOn) => Err(HeadFault::OutOfPlace),
+        Some(Keyword::DumpVars) => Err(HeadFault::OutOfPlace),
+        Some(Keyword::End) => Err(HeadFault::OutOfPlace),
+        None => read_other(feed, draft),
+    }
+}

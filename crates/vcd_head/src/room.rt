@@ -1,0 +1,29 @@
+// The room of an engine.
+ghost use Rattle.std.specs.Prelude.{◌≡◌, ℕ, length};
+ghost use Rattle.vcd_model.specs.Header.{Header};
+ghost use Rattle.vcd_model.specs.Bound.{WindowSize, AreWindows, FitsInput, room_of};
+ghost use Rattle.vcd_head.specs.Shown.{parts};
+ghost use Rattle.vcd_head.specs.Views.{IsViewOf};
+ghost use Rattle.vcd_head.specs.Needs.{room, view_size};
+
+use crate::view::{HeadView, Need};
+
+/// The room that an engine over this header needs.
+pub fn need(view: HeadView<'_>) -> Need
+    ensures lengths { (result.slots ≡ length view.entry.codes.now)
+        × (result.marks ≡ length view.entry.rows.now) }
+    ensures room { (h : Header) → IsViewOf view.entry h → room result ≡ room_of h }
+    ensures fits { (limit : ℕ) (h : Header) (w : WindowSize) → IsViewOf view.entry h
+        → AreWindows limit w
+        → FitsInput limit h w (view_size (parts view.entry)) (room result) }
+{
+    let mut values = 0;
+    for code in view.codes {
+        values = usize::saturating_add(values, code.size.div_ceil(4).max(64));
+    }
+    Need {
+        values,
+        slots: view.codes.len(),
+        marks: view.rows.len(),
+    }
+}

@@ -1,0 +1,151 @@
+//! Selection of variables by their paths (profile).
+ghost use Rattle.std.specs.Prelude.{◌≡◌, ◌<◌, ◌∷◌, ◌++◌, ℕ, List, take, length, map, string_bytes, Some, None, MatchResult, IfOk, slice_get, []};
+ghost use Rattle.vcd_model.specs.Bytes.{is_empty};
+ghost use Rattle.vcd_model.specs.Declarations.{Declaration, Variable, enclosing, path_of};
+ghost use Rattle.vcd_model.specs.Header.{Header};
+ghost use Rattle.vcd_model.specs.Selection.{first_unmatched as first_unmatched_of, is_selected as is_selected_by, selected, selects_path, is_variable as is_variable_of};
+ghost use Rattle.vcd_head.specs.Marks.{Marked, marks_of};
+ghost use Rattle.vcd_head.specs.Selects.{selects_after};
+ghost use Rattle.vcd_head.specs.Views.{IsViewOf};
+
+use crate::enclosing::Enclosing;
+use crate::view::{HeadView, Kind};
+
+// What a name says of a path whose prefix it was compared with.
+enum Match<'n> {
+    // This much of the name is left.
+    Rest(&'n [u8]),
+    // The name ended at a point.
+    Selected,
+    // The name differs.
+    Differs,
+}
+
+// The text is the name, or begins with it and a point.
+fn is_or_goes_on(text: &[u8], name: &[u8]) -> bool
+    ensures { result ≡ selects_path text.now name.now }
+{
+    match text.strip_prefix(name) {
+        Some(rest) => rest.is_empty() || rest.starts_with(b"."),
+        None => false,
+    }
+}
+
+// What a name says of a path that begins with this component and a point.
+fn after_component<'n>(name: &'n [u8], component: &[u8]) -> Match<'n>
+    ensures { (text : List ℕ)
+        → selects_after result text ≡ selects_path (component.now ++ 46 ∷ text) name.now }
+{
+    if is_or_goes_on(component, name) {
+        return Match::Selected;
+    }
+    let Some(after) = name.strip_prefix(component) else {
+        return Match::Differs;
+    };
+    match after.strip_prefix(b".") {
+        Some(rest) => Match::Rest(rest),
+        None => Match::Differs,
+    }
+}
+
+/// A name selects the variable of a row: the variable's path is the name, or begins with it and a point.
+pub fn selects(view: HeadView<'_>, row: usize, name: &str) -> bool
+    ensures { (h : Header) (v : Variable) → IsViewOf view.entry h
+        → slice_get h.declarations row ≡ Some (Declaration.Var v)
+        → result ≡ selects_path (path_of (take row h.declarations) (Declaration.Var v)) name.now }
+{
+    let mut rest = name.as_bytes();
+    let mut scopes = Enclosing::new(row);
+    while let Some(scope) = scopes.next(view) {
+        match after_component(rest, view.name_of(scope)) {
+            Match::Rest(after) => rest = after,
+            Match::Selected => return true,
+            Match::Differs => return false,
+        }
+    }
+    is_or_goes_on(view.name_of(row), rest)
+}
+
+// The row declares a variable.
+fn is_variable(view: HeadView<'_>, row: usize) -> bool
+    ensures { (h : Header) (d : Declaration) → IsViewOf view.entry h
+        → slice_get h.declarations row ≡ Some d → result ≡ is_variable_of d }
+{
+    match view.row_at(row) {
+        Some(row) => row.kind == Kind::Var,
+        None => false,
+    }
+}
+
+// The row is a variable's that some name selects, any variable's where there are no names.
+fn is_selected(view: HeadView<'_>, row: usize, names: &[String]) -> bool
+    ensures { (h : Header) (d : Declaration) → IsViewOf view.entry h
+        → slice_get h.declarations row ≡ Some d
+        → result ≡ is_selected_by (map string_bytes names.now) (take row h.declarations) d }
+{
+    is_variable(view, row)
+        && (names.is_empty() || names.iter().any(|name| selects(view, row, name.as_str())))
+}
+
+// The row is a variable's that the name selects.
+fn selects_row(view: HeadView<'_>, row: usize, name: &str) -> bool
+    ensures { (h : Header) (d : Declaration) → IsViewOf view.entry h
+        → slice_get h.declarations row ≡ Some d
+        → result ≡ is_selected_by (name.now ∷ []) (take row h.declarations) d }
+{
+    is_variable(view, row) && selects(view, row, name)
+}
+
+// No variable is selected by the name.
+fn selects_nothing(view: HeadView<'_>, name: &str) -> bool
+    ensures { (h : Header) → IsViewOf view.entry h
+        → result ≡ is_empty (selected (name.now ∷ []) h.declarations) }
+{
+    !(0..view.rows.len()).any(|row| selects_row(view, row, name))
+}
+
+// The place of the first name that selects nothing.
+fn first_unmatched(view: HeadView<'_>, names: &[String]) -> Option<usize>
+    ensures { (h : Header) → IsViewOf view.entry h
+        → result ≡ first_unmatched_of (map string_bytes names.now) h.declarations }
+{
+    names
+        .iter()
+        .position(|name| selects_nothing(view, name.as_str()))
+}
+
+// Sets the marks of a row and of the scopes around it.
+fn mark(view: HeadView<'_>, row: usize, marks: &mut [u8])
+    requires { row < length marks.old }
+    ensures { (h : Header) → IsViewOf view.entry h → row < length h.declarations
+        → Marked (row ∷ enclosing (take row h.declarations)) marks.old marks.new }
+{
+    let mut next = Some(row);
+    while let Some(marked) = next {
+        marks[marked] = 1;
+        next = view.scope_of(marked);
+    }
+}
+
+/// Marks the variables that the names select, all where there are no names, and the scopes around them: a mark is 1 there and 0
+/// elsewhere. A name that selects nothing is refused by its place, the first one; the marks then hold anything.
+pub fn select(view: HeadView<'_>, names: &[String], marks: &mut [u8]) -> Result<(), usize>
+    requires marks { length marks.old ≡ length view.rows.now }
+    ensures marks { (h : Header) → IsViewOf view.entry h
+        → IfOk result (λ _. marks.new ≡ marks_of (map string_bytes names.now) h.declarations) }
+    ensures names { (h : Header) → IsViewOf view.entry h
+        → MatchResult result (λ _. first_unmatched_of (map string_bytes names.now) h.declarations
+        ≡ None)
+        (λ name. first_unmatched_of (map string_bytes names.now) h.declarations ≡ Some name) }
+{
+    if let Some(name) = first_unmatched(view, names) {
+        return Err(name);
+    }
+    marks.fill(0);
+    for row in 0..view.rows.len() {
+        if is_selected(view, row, names) {
+            mark(view, row, marks);
+        }
+    }
+    Ok(())
+}

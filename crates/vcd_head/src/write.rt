@@ -1,0 +1,251 @@
+//! Headers as they are written.
+ghost use Rattle.std.specs.Prelude.{◌≡◌, true, false, ℕ, ℤ, ◌-◌, ◌^◌, ◌<◌, ◌≤◌, List, [], ◌∷◌, flat_map, length, take, Some, slice_get, option_map, unwrap_or};
+ghost use Rattle.std.specs.List.{concat};
+ghost use Rattle.vcd_model.specs.Backward.{each};
+ghost use Rattle.vcd_model.specs.Declarations.{Declaration, Variable, enclosing, parent};
+ghost use Rattle.vcd_model.specs.Header.{Header};
+ghost use Rattle.vcd_model.specs.HeadText.{head_text, head_for, rows_text, row_line, scope_line, var_line, up_lines_at, three_lines_of};
+ghost use Rattle.vcd_model.specs.Keywords.{Keyword, keyword_text};
+ghost use Rattle.vcd_model.specs.Scales.{scale_text};
+ghost use Rattle.vcd_text.specs.Device.{Counts, Puts, Takes, failures_after};
+ghost use Rattle.vcd_head.specs.Marks.{is_marked, marks_of};
+ghost use Rattle.vcd_head.specs.Views.{IsViewOf};
+
+use crate::view::{HeadView, Kind, Scale};
+use vcd_text::{Sink, WriteFailed, put, put_number};
+
+/// Writes texts one after the other.
+fn put_texts<W: Sink>(w: &mut W, texts: &[&[u8]]) -> Result<(), WriteFailed>
+    requires failures { (W.device w.old).failures < 2 ^ 64 - 1 }
+    ensures { Puts (W.device w.old) (W.device w.new)
+        (flat_map (λ text. text.now) texts.now) result }
+{
+    for text in texts {
+        put(w, text)?;
+    }
+    Ok(())
+}
+
+/// Writes a keyword, a text and `$end`, on three lines; nothing where there is no text.
+fn put_section<W: Sink>(w: &mut W, keyword: &[u8], text: &[u8]) -> Result<(), WriteFailed>
+    requires failures { (W.device w.old).failures < 2 ^ 64 - 1 }
+    ensures takes { (k : Keyword) → keyword.now ≡ keyword_text k
+        → Takes (W.device w.old) (W.device w.new) (three_lines_of k text.now) result }
+    ensures counts { Counts (W.device w.old) (W.device w.new) result }
+{
+    if text.is_empty() {
+        return Ok(());
+    }
+    put_texts(w, &[keyword, b"\n\t", text, b"\n$end\n"])
+}
+
+/// The number and the unit of the time scale of an exponent; no bytes where no scale has it.
+fn text_of_exponent(exponent: i8) -> &'static [u8]
+    ensures { result.now ≡ scale_text exponent }
+{
+    match exponent {
+        2 => b"100s",
+        1 => b"10s",
+        0 => b"1s",
+        -1 => b"100ms",
+        -2 => b"10ms",
+        -3 => b"1ms",
+        -4 => b"100us",
+        -5 => b"10us",
+        -6 => b"1us",
+        -7 => b"100ns",
+        -8 => b"10ns",
+        -9 => b"1ns",
+        -10 => b"100ps",
+        -11 => b"10ps",
+        -12 => b"1ps",
+        -13 => b"100fs",
+        -14 => b"10fs",
+        -15 => b"1fs",
+        _ => b"",
+    }
+}
+
+/// The number and the unit of a time scale; no bytes where there is none.
+fn text_of_scale(scale: Option<Scale>) -> &'static [u8]
+    ensures { result.now ≡ unwrap_or
+        (option_map scale_text (option_map (λ x. x.exponent) scale)) [] }
+{
+    match scale {
+        Some(scale) => text_of_exponent(scale.exponent),
+        None => &[],
+    }
+}
+
+/// The declaration of a row is marked.
+fn has_mark(marks: &[u8], row: usize) -> bool
+    ensures { result ≡ is_marked marks.now row }
+{
+    marks.get(row).copied().unwrap_or(0) == 1
+}
+
+/// Writes the line that opens the scope of a row.
+fn put_scope<W: Sink>(view: HeadView<'_>, row: usize, w: &mut W) -> Result<(), WriteFailed>
+    requires failures { (W.device w.old).failures < 2 ^ 64 - 1 }
+    ensures takes { (h : Header) (type name : List ℕ) → IsViewOf view.entry h
+        → slice_get h.declarations row ≡ Some (Declaration.Scope type name)
+        → Takes (W.device w.old) (W.device w.new) (scope_line type name) result }
+    ensures counts { Counts (W.device w.old) (W.device w.new) result }
+{
+    let type_text = view.type_of(row);
+    let name = view.reference_of(row);
+    put_texts(w, &[b"$scope ", type_text, b" ", name, b" $end\n"])
+}
+
+/// Writes the line of the variable of a row, which has this size, with this code.
+fn put_variable<W: Sink>(
+    view: HeadView<'_>,
+    row: usize,
+    size: usize,
+    code: &[u8],
+    w: &mut W,
+) -> Result<(), WriteFailed>
+    requires failures { (W.device w.old).failures < 2 ^ 64 - 1 }
+    ensures takes { (h : Header) (v : Variable) → IsViewOf view.entry h
+        → slice_get h.declarations row ≡ Some (Declaration.Var v)
+        → v.size ≡ size → Takes (W.device w.old) (W.device w.new) (var_line v code.now) result }
+    ensures counts { Counts (W.device w.old) (W.device w.new) result }
+{
+    let type_text = view.type_of(row);
+    let reference = view.reference_of(row);
+    put_texts(w, &[b"$var ", type_text, b" "])?;
+    put_number(w, size as u64)?;
+    put_texts(w, &[b" ", code, b" ", reference, b" $end\n"])
+}
+
+/// Writes the line of the variable of a row, with its own code.
+fn put_declared<W: Sink>(view: HeadView<'_>, row: usize, w: &mut W) -> Result<(), WriteFailed>
+    requires failures { (W.device w.old).failures < 2 ^ 64 - 1 }
+    ensures takes { (h : Header) (v : Variable) → IsViewOf view.entry h
+        → slice_get h.declarations row ≡ Some (Declaration.Var v)
+        → Takes (W.device w.old) (W.device w.new) (var_line v v.code) result }
+    ensures counts { Counts (W.device w.old) (W.device w.new) result }
+{
+    let Some(declared) = view.row_at(row) else {
+        return Ok(());
+    };
+    match view.code_at(declared.code) {
+        Some(code) => put_variable(view, row, code.size, view.text_at(code.start, code.len), w),
+        None => Ok(()),
+    }
+}
+
+/// Writes the line that closes the scope of a row, where that is marked.
+fn put_up<W: Sink>(marks: &[u8], scope: usize, w: &mut W) -> Result<(), WriteFailed>
+    requires failures { (W.device w.old).failures < 2 ^ 64 - 1 }
+    ensures { Puts (W.device w.old) (W.device w.new)
+        (up_lines_at (is_marked marks.now) (scope ∷ [])) result }
+{
+    if has_mark(marks, scope) {
+        return put(w, b"$upscope $end\n");
+    }
+    Ok(())
+}
+
+/// Writes the line of the declaration of a row: a scope or a variable where it is marked, an `$upscope` where the scope that it
+/// closes is.
+fn put_row<W: Sink>(
+    view: HeadView<'_>,
+    marks: &[u8],
+    row: usize,
+    w: &mut W,
+) -> Result<(), WriteFailed>
+    requires failures { (W.device w.old).failures < 2 ^ 64 - 1 }
+    ensures takes { (h : Header) (d : Declaration) → IsViewOf view.entry h
+        → slice_get h.declarations row ≡ Some d
+        → Takes (W.device w.old) (W.device w.new)
+        (row_line (λ code. code) (is_marked marks.now) (take row h.declarations) d) result }
+    ensures counts { Counts (W.device w.old) (W.device w.new) result }
+{
+    let Some(declared) = view.row_at(row) else {
+        return Ok(());
+    };
+    match declared.kind {
+        Kind::Up => match view.scope_of(row) {
+            Some(scope) => put_up(marks, scope, w),
+            None => Ok(()),
+        },
+        Kind::Scope if has_mark(marks, row) => put_scope(view, row, w),
+        Kind::Var if has_mark(marks, row) => put_declared(view, row, w),
+        _ => Ok(()),
+    }
+}
+
+/// Writes the lines of the rows, in order.
+fn put_rows<W: Sink>(view: HeadView<'_>, marks: &[u8], w: &mut W) -> Result<(), WriteFailed>
+    requires failures { (W.device w.old).failures < 2 ^ 64 - 1 }
+    ensures takes { (h : Header) → IsViewOf view.entry h
+        → Takes (W.device w.old) (W.device w.new)
+        (concat (each (row_line (λ code. code) (is_marked marks.now)) h.declarations)) result }
+    ensures counts { Counts (W.device w.old) (W.device w.new) result }
+{
+    for row in 0..view.rows.len() {
+        put_row(view, marks, row, w)?;
+    }
+    Ok(())
+}
+
+/// The row of the innermost scope that is open after the last row.
+fn innermost(view: HeadView<'_>) -> Option<usize>
+    ensures { (h : Header) → IsViewOf view.entry h → result ≡ parent h.declarations }
+{
+    let last = view.rows.len().checked_sub(1)?;
+    match view.rows[last].kind {
+        Kind::Scope => Some(last),
+        Kind::Up => view.scope_of(view.scope_of(last)?),
+        Kind::Var => view.scope_of(last),
+    }
+}
+
+/// Writes the lines that close the marked scopes still open after the last row, innermost first.
+fn put_open<W: Sink>(view: HeadView<'_>, marks: &[u8], w: &mut W) -> Result<(), WriteFailed>
+    requires failures { (W.device w.old).failures < 2 ^ 64 - 1 }
+    ensures takes { (h : Header) → IsViewOf view.entry h
+        → Takes (W.device w.old) (W.device w.new)
+        (up_lines_at (is_marked marks.now) (enclosing h.declarations)) result }
+    ensures counts { Counts (W.device w.old) (W.device w.new) result }
+{
+    let mut next = innermost(view);
+    while let Some(scope) = next {
+        put_up(marks, scope, w)?;
+        next = view.scope_of(scope);
+    }
+    Ok(())
+}
+
+/// Writes the marked declarations in order, and an `$upscope` for each marked scope that is still open.
+fn put_declarations<W: Sink>(view: HeadView<'_>, marks: &[u8], w: &mut W) -> Result<(), WriteFailed>
+    requires failures { (W.device w.old).failures < 2 ^ 64 - 1 }
+    ensures takes { (h : Header) → IsViewOf view.entry h
+        → Takes (W.device w.old) (W.device w.new)
+        (rows_text (λ code. code) (is_marked marks.now) h.declarations) result }
+    ensures counts { Counts (W.device w.old) (W.device w.new) result }
+{
+    put_rows(view, marks, w)?;
+    put_open(view, marks, w)
+}
+
+/// Writes the header of the marked declarations: date, version and time scale where there are some, the marked scopes and
+/// variables in order, an `$upscope` for each marked scope, and `$enddefinitions`. Where a write fails, a prefix was written.
+pub fn put_head<W: Sink>(view: HeadView<'_>, marks: &[u8], w: &mut W) -> Result<(), WriteFailed>
+    requires failures { (W.device w.old).failures < 2 ^ 64 - 1 }
+    ensures takes { (h : Header) → IsViewOf view.entry h
+        → Takes (W.device w.old) (W.device w.new) (head_text h (is_marked marks.now)) result }
+
+    // The marks that names give make it the header for these names.
+    ensures selected { (h : Header) (names : List (List ℕ)) → IsViewOf view.entry h
+        → marks.now ≡ marks_of names h.declarations
+        → Takes (W.device w.old) (W.device w.new) (head_for h names) result }
+    ensures counts { Counts (W.device w.old) (W.device w.new) result }
+{
+    put_section(w, b"$date", view.date)?;
+    put_section(w, b"$version", view.version)?;
+    put_section(w, b"$timescale", text_of_scale(view.scale))?;
+    put_declarations(view, marks, w)?;
+    put(w, b"$enddefinitions $end\n")
+}

@@ -1,0 +1,26 @@
+-- What a call that reads tokens leaves of a feed, whatever the tokens are.
+use Rattle.std.specs.Prelude.{◌≡◌, ◌≢◌, ℕ, ◌+◌, ◌≤◌, Some, Err}
+use Rattle.vcd_text.specs.Feed.{SameLoans, limit_of, chunk_len_of, answer_of, seen, source_of}
+use Rattle.vcd_text.specs.declared.device.Source.{Ghosts}
+use Rattle.vcd_text.specs.declared.feed.Feed.{Feed}
+use Rattle.vcd_text.specs.declared.answer.Halt.TheVariants as halt
+
+-- how a call ends: the reading goes on, or it has ended or is refused, or the source has failed
+pub data CallEnd : Type 0 where
+  GoesOn : CallEnd
+  Ends : CallEnd
+  Fails : CallEnd
+
+-- no failed read was returned
+abbrev pub HasNotFailed : {X : Type 0} {g : Ghosts X} → Feed X g → Type 0
+HasNotFailed f = answer_of f ≢ Some (Err halt.ReadFailed)
+
+-- The loans and lengths stay, and what was looked at grows. A failure of the source is told where the source failed, and nothing else where it did.
+pub record Advances {X : Type 0} {g : Ghosts X} (failures : X → ℕ) (old new : Feed X g) (end : CallEnd) : Type 0 where
+  pub loans : SameLoans old new
+  pub limit : limit_of new ≡ limit_of old
+  pub chunk : chunk_len_of new ≡ chunk_len_of old
+  pub on : end ≡ GoesOn → seen old ≤ seen new
+  pub goes : end ≡ GoesOn → HasNotFailed old → HasNotFailed new
+  pub failed : end ≡ Fails → HasNotFailed old → failures (source_of new) ≡ failures (source_of old) + 1
+  pub same : end ≢ Fails → failures (source_of new) ≡ failures (source_of old)

@@ -1,0 +1,106 @@
+//! Devices for tests, of this crate and of those above: a reader that gives its bytes in pieces and may fail, and a writer that
+//! holds so much and no more.
+ghost use Rattle.std.specs.Prelude.{◌≡◌, ◌≤◌};
+
+use std::io;
+
+/// Gives its bytes, so many a call at most, and then is at its end; or fails at one call, or from its end on.
+#[derive(Drop)]
+pub struct Pieces<'a> {
+    /// What it has still to give.
+    pub bytes: &'a [u8],
+    /// How many bytes a call gives at most.
+    pub most: usize,
+    /// How many calls there were.
+    pub calls: u64,
+    /// The call that fails, counted from 1; none where it is 0.
+    pub fails_at: u64,
+    /// Each call fails once all bytes are given.
+    pub broken: bool,
+}
+
+impl<'a> Pieces<'a> {
+    /// Never fails.
+    pub fn new(bytes: &'a [u8], most: usize) -> Self
+        ensures bytes { result.bytes.now ≡ bytes.now }
+        ensures rest { (result.most ≡ most) × (result.calls ≡ 0) × (result.fails_at ≡ 0) }
+    {
+        Pieces {
+            bytes,
+            most,
+            calls: 0,
+            fails_at: 0,
+            broken: false,
+        }
+    }
+}
+
+impl io::Read for Pieces<'_> {
+    fn read(&mut self, into: &mut [u8]) -> io::Result<usize> {
+        self.calls = self.calls.saturating_add(1);
+        if self.calls == self.fails_at || self.broken && self.bytes.is_empty() {
+            return Err(io::Error::from(io::ErrorKind::Other));
+        }
+        let n = self.most.min(into.len()).min(self.bytes.len());
+        let (front, back) = self.bytes.split_at(n);
+        into[..n].copy_from_slice(front);
+        self.bytes = back;
+        Ok(n)
+    }
+}
+
+/// How many bytes a `Narrow` holds at most.
+pub const MOST_HELD: usize = 1024;
+
+/// Takes three bytes a call at most, and fails where it is full; then it cannot be flushed either.
+#[derive(Drop)]
+pub struct Narrow {
+    bytes: [u8; MOST_HELD],
+    len: usize,
+    room: usize,
+    ghost in_range: { len ≤ room },
+    ghost fits: { room ≤ 1024 },
+}
+
+impl Narrow {
+    ghost use Rattle.std.specs.Prelude.{[]};
+    ghost use Rattle.vcd_text.specs.Doubles.{held_by};
+
+    /// Holds so many bytes, and none yet.
+    pub fn new(room: usize) -> Self
+        requires { room ≤ 1024 }
+        ensures { held_by result ≡ [] }
+    {
+        Narrow {
+            bytes: [0; MOST_HELD],
+            len: 0,
+            room,
+        }
+    }
+
+    /// What it took so far.
+    pub fn held(&self) -> &[u8]
+        ensures { result.now ≡ held_by self.now }
+    {
+        &self.bytes[..self.len]
+    }
+}
+
+impl io::Write for Narrow {
+    fn write(&mut self, buf: &[u8]) -> io::Result<usize> {
+        let n = buf.len().min(3).min(self.room - self.len);
+        if n == 0 && !buf.is_empty() {
+            return Err(io::Error::from(io::ErrorKind::StorageFull));
+        }
+        self.bytes[self.len..self.len + n].copy_from_slice(&buf[..n]);
+        self.len += n;
+        Ok(n)
+    }
+
+    fn flush(&mut self) -> io::Result<()> {
+        if self.len == self.room {
+            return Err(io::Error::from(io::ErrorKind::StorageFull));
+        }
+        Ok(())
+    }
+}

@@ -1,0 +1,45 @@
+-- What a merge writes of one item.
+use Rattle.std.proofs.Common.{◌≡◌, ℕ, ◌+◌, ◌^◌, ◌<◌, List, length, slice_get, Some, is_some, refl, sym, ap, ◌∙◌, arith}
+use Rattle.std.proofs.lemmas.Option.{slice_get_within}
+use Rattle.vcd_model.specs.Declarations.{IdCode}
+use Rattle.vcd_model.specs.Header.{Header}
+use Rattle.vcd_model.specs.HeadText.{new_code, code_place}
+use Rattle.vcd_model.specs.Items.{BodyItem, ChangeForm, leaves_open, time_after}
+use Rattle.vcd_model.specs.Values.{change_line}
+use Rattle.vcd_model.proofs.ItemStates.{leaves_open_is}
+use Rattle.vcd_head.specs.Shown.{HeadShown}
+use Rattle.vcd_head.specs.declared.view.Code.{Code}
+use Rattle.vcd_head.proofs.RowLemmas.{code_at}
+use Rattle.vcd_head.proofs.LookUpLemmas.{place_is as place_of}
+use Rattle.vcd_head.specs.Views.{Views}
+use Rattle.vcd_body.specs.Items.{AreRegsAfter}
+use Rattle.vcd_body.specs.declared.item.Regs.{Regs}
+
+-- a section is open
+pub section_is : (items : List BodyItem) (r : Regs) → AreRegsAfter items r → is_some r.section ≡ leaves_open items
+section_is items r known = sym (leaves_open_is items (time_after items) (is_some r.section) (record { time = refl; opens = known.ended }))
+
+-- codes have different texts, so a code stands at its first place
+pub place_is : (s : HeadShown) (h : Header) (place : ℕ) (c : IdCode) → Views s h → slice_get h.codes place ≡ Some c → code_place h c.text ≡ place
+place_is s h place c v e = place_of h.codes s.index place c v.index e
+
+-- the written line is that of the code with its new text
+pub line_is : (first place number : ℕ) (s : HeadShown) (h : Header) (c : IdCode) (d : Code) (form : ChangeForm) (text id : List ℕ) → Views s h → slice_get h.codes place ≡ Some c → slice_get s.codes place ≡ Some d → number ≡ first + place → id ≡ new_code number
+    → change_line (record { code = record { text = id; size = d.size; event = d.event }; form = form; text = text }) ≡ change_line (record { code = record { text = new_code (first + code_place h c.text); size = c.size; event = c.event }; form = form; text = text })
+line_is first place number s h c d form text id v at shown n e =
+    let m = code_at s.text s.codes h.codes place c v.codes at in
+    let same : d ≡ m.0 = cc (sym shown ∙ m.1) in
+    let size : d.size ≡ c.size = ap (λ (x : Code). x.size) same ∙ m.2.size_is in
+    let event : d.event ≡ c.event = ap (λ (x : Code). x.event) same ∙ m.2.event_is in
+    rw (size, event, e, n, place_is s h place c v at) refl
+
+-- the code that is shown is an event where the definitions' is
+pub event_of : (s : HeadShown) (h : Header) (place : ℕ) (c : IdCode) (d : Code) → Views s h → slice_get h.codes place ≡ Some c → slice_get s.codes place ≡ Some d → d.event ≡ c.event
+event_of s h place c d v at shown =
+    let m = code_at s.text s.codes h.codes place c v.codes at in
+    let same : d ≡ m.0 = cc (sym shown ∙ m.1) in
+    ap (λ (x : Code). x.event) same ∙ m.2.event_is
+
+-- no number of a code is too great
+pub number_fits : (h : Header) (place : ℕ) (c : IdCode) → slice_get h.codes place ≡ Some c → (first : ℕ) → first + length h.codes < 2 ^ 64 → first + place < 2 ^ 64
+number_fits h place c at first few = let w = slice_get_within h.codes place c at in omega arith

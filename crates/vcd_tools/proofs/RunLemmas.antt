@@ -1,0 +1,293 @@
+-- What steps leave when the run has ended.
+use Rattle.std.proofs.Common.{◌≡◌, ℕ, ◌+◌, ◌==◌, ◌||◌, inl, inr, Bool, true, false, List, [], ◌∷◌, ◌++◌, Option, Some, None, Result, Ok, Err, refl, sym, ap, subst, ◌∙◌, append-nil, append_assoc, arith}
+use Rattle.std.specs.List.{list_any}
+use Rattle.vcd_model.specs.Backward.{up_to_first}
+use Rattle.vcd_model.specs.Input.{Input}
+use Rattle.vcd_model.specs.Tokens.{Token, Stream, stream_of}
+use Rattle.vcd_model.specs.Header.{Header}
+use Rattle.vcd_model.specs.Items.{BodyItem}
+use Rattle.vcd_model.specs.BodyReading.{body_grammar, read_body, body_items, body_fault_of}
+use Rattle.vcd_model.specs.Outcome.{Outcome, Opened, Request, over_dump, over_body, at_end, body_of, items_in, fault_in, ends_early, fault_outcome, clean_outcome, name_at, names_of, open_text, close_text, unmatched_outcome}
+use Rattle.vcd_model.specs.Laws.{IsPrefixOf, IsValid}
+use Rattle.vcd_model.specs.Selection.{first_unmatched}
+use Rattle.vcd_model.specs.Reading.{Fault}
+use Rattle.vcd_model.proofs.CutGrows.{goes_on}
+use Rattle.vcd_model.proofs.Revised.{nothing_revised}
+use Rattle.vcd_model.proofs.SoFarLemmas.{so_far-nothing}
+use Rattle.vcd_text.specs.Answer.{failed_after}
+use Rattle.vcd_text.specs.Feed.{HasGiven, limit_of, source_of}
+use Rattle.vcd_text.specs.declared.device.Source.{Ghosts}
+use Rattle.vcd_text.specs.declared.feed.Feed.{Feed}
+use Rattle.vcd_text.proofs.Writes.{AppendsSome, appends-first, both-written, some-behind, some-first}
+use Rattle.vcd_body.specs.Reads.{BodyHas, GaveItems}
+use Rattle.vcd_body.specs.declared.item.Regs.{Regs}
+use Rattle.vcd_tools.specs.Answer.{reads_failed}
+use Rattle.vcd_text.specs.Device.{Device, Writes, WritesSome}
+use Rattle.vcd_tools.specs.Device.{GrowsSome}
+use Rattle.vcd_tools.specs.Engine.{CanRun, Holds, Runs, StopsAtStart, reads_body, request_of_engine}
+use Rattle.vcd_tools.specs.Run.{Belongs, Follows, IsLeft}
+use Rattle.vcd_tools.specs.Step.{StepGives, step_end}
+use Rattle.vcd_text.specs.Advances.{Advances, HasNotFailed}
+use Rattle.vcd_tools.specs.declared.answer.Done.{Done}
+use Rattle.vcd_tools.specs.declared.answer.Done.TheVariants.{Whole, Early}
+use Rattle.vcd_tools.specs.declared.answer.More.{More}
+use Rattle.vcd_tools.specs.declared.answer.More.TheVariants.{Again, Ended}
+use Rattle.vcd_tools.specs.declared.answer.Stop.{Stop}
+use Rattle.vcd_tools.specs.declared.answer.Stop.TheVariants.{Dump, Read, Write, Unmatched}
+use Rattle.vcd_tools.specs.declared.engine.Engine.{Engine}
+use Rattle.vcd_tools.proofs.EngineLemmas.{none_at}
+use Rattle.vcd_model.proofs.BodyPrefix.{items_begin}
+
+-- ---- the first step
+
+-- behind the header's tokens no item was given
+pub runs_first : {X : Type 0} {g : Ghosts X} (e : Engine) (h : Header) (i : Input) (front : List Token) (f : Feed X g) → Holds e h [] → HasGiven i front f → Runs e h i front [] f
+runs_first e h i front f s st = record {
+  holds = s;
+  gave = record { given = []; placed = []; stands = rw append-nil st; so_far = so_far-nothing (body_grammar h.codes); items_are = refl; known = s.known };
+  on = refl;
+  few = omega arith;
+}
+
+-- ---- the outcome of a body
+
+-- each name of the request selects something
+over_matched : (t : Request) (name : List ℕ) (o : Opened) → reads_body t ≡ true → first_unmatched (names_of t) o.header.declarations ≡ None → over_dump t name o ≡ over_body t o.header (items_in o) name (fault_in o)
+unfolding over_dump
+over_matched Request.Check name o b e = refl
+over_matched Request.Listing name o b e = cc
+over_matched (Request.Pick names) name o b e = rw (e, over_dump) refl
+over_matched (Request.Cut from to) name o b e = refl
+over_matched (Request.Sample times names) name o b e = rw (e, over_dump) refl
+over_matched (Request.Edges names) name o b e = rw (e, over_dump) refl
+over_matched Request.Merge name o b e = refl
+
+-- or one of them does not
+over_unmatched : (t : Request) (name : List ℕ) (o : Opened) (place : ℕ) → first_unmatched (names_of t) o.header.declarations ≡ Some place → over_dump t name o ≡ unmatched_outcome (name_at (names_of t) place)
+unfolding over_dump
+over_unmatched Request.Check name o place e = cc
+over_unmatched Request.Listing name o place e = cc
+over_unmatched (Request.Pick names) name o place e = rw (e, over_dump) refl
+over_unmatched (Request.Cut from to) name o place e = cc
+over_unmatched (Request.Sample times names) name o place e = rw (e, over_dump) refl
+over_unmatched (Request.Edges names) name o place e = rw (e, over_dump) refl
+over_unmatched Request.Merge name o place e = cc
+
+to_end : (t : Request) (name : List ℕ) (h : Header) (items : List BodyItem) (fault : Option Fault) → list_any (ends_early t) items ≡ false → over_body t h items name fault ≡ at_end t h items name fault
+unfolding over_body
+to_end t name h items fault on = rw (on, over_body) refl
+
+-- so it goes to the end of a body with these items and this fault
+over_task : (t : Request) (name : List ℕ) (h : Header) (stream : Stream) (rest : List Token) (items : List BodyItem) (fault : Option Fault) → CanRun t h → list_any (ends_early t) items ≡ false → body_items (read_body h.codes rest) ≡ items → body_fault_of stream (read_body h.codes rest) ≡ fault
+    → over_dump t name (record { header = h; stream = stream; rest = rest }) ≡ at_end t h items name fault
+unfolding body_of
+over_task t name h stream rest items fault can on e f =
+    let r = read_body h.codes rest in
+    over_matched t name (record { header = h; stream = stream; rest = rest }) can.body can.matched ∙ ap (λ x. over_body t h x name (body_fault_of stream r)) e ∙ ap (over_body t h items name) f ∙ to_end t name h items fault on
+
+-- the output before a fault
+output_is : (output name : List ℕ) (f : Fault) → (fault_outcome output name f).output ≡ output
+output_is output name f = by_kind (f.number == 31) refl
+  where
+    by_kind : (b : Bool) → (f.number == 31) ≡ b → (fault_outcome output name f).output ≡ output
+    by_kind true e = rw (e, fault_outcome) refl
+    by_kind false e = rw (e, fault_outcome) refl
+
+-- `mid` holds what is due behind these items; a step took the run from there to `new`
+module _ (t : Request) (h : Header) (i : Input) (front : List Token) (items : List BodyItem) (name : List ℕ) (limit before after : ℕ) (out mid new : Device) (can : CanRun t h) (on : list_any (ends_early t) items ≡ false) (open_is : Writes out mid (open_text t h items)) where
+  -- an answer that belongs to the outcome of a body
+  follows : (left : Input) (fault : Option Fault) (r : Result Done Stop) → IsLeft i before after left → BodyHas h.codes left front limit items fault → Belongs t (at_end t h items name fault) name out new r → Follows t limit i front h name before after out new r
+  follows left fault r is has belongs = record {
+    left = left;
+    is_left = is;
+    rest = has.rest;
+    tokens = has.tokens;
+    belongs = subst (λ (o : Outcome). Belongs t o name out new r) (sym (over_task t name h (stream_of limit left) has.rest items fault can on has.items_are has.fault_is)) belongs;
+  }
+
+  -- a fault in a body
+  faulty : (fault line : ℕ) → Writes mid new [] → let f : Fault = record { number = fault; line = line } in let o = at_end t h items name (Some f) in (o ≡ fault_outcome o.output name f) × Writes out new o.output
+  faulty fault line w =
+      let f : Fault = record { number = fault; line = line } in
+      let e : (fault_outcome (open_text t h items) name f).output ≡ open_text t h items = output_is (open_text t h items) name f in
+      (ap (λ l. fault_outcome l name f) (sym e), subst (Writes out new) (sym e) (subst (Writes out new) (append-nil (open_text t h items)) (both-written out mid new (open_text t h items) [] open_is w)))
+
+  module _ {X : Type 0} {g : Ghosts X} (e : Engine) (f : Feed X g) (same : limit_of f ≡ limit) where
+    has_here : (left : Input) (fault : Option Fault) → BodyHas h.codes left front (limit_of f) items fault → BodyHas h.codes left front limit items fault
+    has_here left fault has = subst (λ (n : ℕ). BodyHas h.codes left front n items fault) same has
+
+    -- the run has ended, with the body
+    pub ended_whole : after ≡ before → StepGives t h i front items e f mid new (Ok (Ended Whole)) → Follows t limit i front h name before after out new (Ok Whole)
+    ended_whole q s = follows i None (Ok Whole) (inl (q, refl)) (has_here i None s.0) (refl, both-written out mid new (open_text t h items) (close_text t h items) open_is s.1)
+
+    -- the run has stopped at a fault
+    pub stopped_dump : (input line fault : ℕ) → after ≡ before → StepGives t h i front items e f mid new (Err (Dump input line fault)) → Follows t limit i front h name before after out new (Err (Dump input line fault))
+    stopped_dump input line fault q s =
+        let b = faulty fault line s.3 in
+        follows i (Some (record { number = fault; line = line })) (Err (Dump input line fault)) (inl (q, refl)) (has_here i (Some (record { number = fault; line = line })) s.2) (s.0, b.0, s.1, b.1)
+
+    -- a read failed
+    pub stopped_read : (input : ℕ) → after ≡ before + 1 → StepGives t h i front items e f mid new (Err (Read input)) → Follows t limit i front h name before after out new (Err (Read input))
+    stopped_read input q s =
+        let n = s.1.0 in let line = s.1.1 in
+        let b = faulty 31 line s.2 in
+        follows (failed_after n i) (Some (record { number = 31; line = line })) (Err (Read input)) (inr (q, (n, refl))) (has_here (failed_after n i) (Some (record { number = 31; line = line })) s.1.2) (s.0, (line, b.0), b.1)
+
+    -- a write of what follows the items failed
+    pub stopped_close : after ≡ before → BodyHas h.codes i front (limit_of f) items None → GrowsSome mid new [] (close_text t h items) → Follows t limit i front h name before after out new (Err Write)
+    stopped_close q has due =
+        let some = some-behind out mid new (open_text t h items) due.0 open_is due.2 in
+        follows i None (Err Write) (inl (q, refl)) (has_here i None has) (subst (WritesSome out new) (ap (λ l. open_text t h items ++ l) (sym due.1)) some)
+
+    -- the run goes on
+    pub run_goes_on : StepGives t h i front items e f mid new (Ok Again) → (more : List BodyItem) × Runs e h i front more f × Writes out new (open_text t h more)
+    run_goes_on s =
+        let due = s.2 in
+        (items ++ s.0 ∷ [], s.1, subst (Writes out new) (sym due.1) (both-written out mid new (open_text t h items) due.0 open_is due.2))
+
+-- ---- runs that end before their body
+
+-- an item that ends the run is one of these items, and the last that counts
+any_at : (test : BodyItem → Bool) (p q : List BodyItem) (x : BodyItem) → test x ≡ true → list_any test (p ++ x ∷ q) ≡ true
+any_at test [] q x e = rw e refl
+any_at test (y ∷ p) q x e = or_true (test y) (list_any test (p ++ x ∷ q)) (any_at test p q x e)
+  where
+    or_true : (b c : Bool) → c ≡ true → (b || c) ≡ true
+    or_true true c h = refl
+    or_true false c h = h
+
+up_to_here : (test : BodyItem → Bool) (p q : List BodyItem) (x : BodyItem) → list_any test p ≡ false → test x ≡ true → up_to_first test (p ++ x ∷ q) ≡ p ++ x ∷ []
+up_to_here test p q x h e = goes_on test p (x ∷ q) h ∙ rw e refl
+
+-- the outcome where this item ends the run
+early_outcome : (t : Request) (h : Header) (items more : List BodyItem) (x : BodyItem) (name : List ℕ) (fault : Option Fault) → list_any (ends_early t) items ≡ false → ends_early t x ≡ true
+    → over_body t h ((items ++ x ∷ []) ++ more) name fault ≡ clean_outcome (open_text t h (items ++ x ∷ []))
+unfolding over_body
+early_outcome t h items more x name fault on e =
+    ap (λ l. over_body t h l name fault) (append_assoc items (x ∷ []) more) ∙ rw (any_at (ends_early t) items more x e, over_body) (ap (λ l. clean_outcome (open_text t h l)) (up_to_here (ends_early t) items more x on e))
+
+-- a body's outcome begins with what is due behind its first items, up to an early end
+begins_with : (t : Request) (h : Header) (p more : List BodyItem) (name : List ℕ) (fault : Option Fault) → IsValid t → list_any (ends_early t) p ≡ false → IsPrefixOf (open_text t h p) (over_body t h (p ++ more) name fault).output
+unfolding over_body
+begins_with t h p more name fault valid on = by_end (list_any (ends_early t) (p ++ more)) refl
+  where
+    by_fault : (f : Option Fault) → IsPrefixOf (open_text t h p) (at_end t h (p ++ more) name f).output
+    by_fault None = let r = nothing_revised t h p more valid on in (r.0 ++ close_text t h (p ++ more), ap (λ l. l ++ close_text t h (p ++ more)) r.1 ∙ append_assoc (open_text t h p) r.0 (close_text t h (p ++ more)))
+    by_fault (Some f) = let r = nothing_revised t h p more valid on in (r.0, output_is (open_text t h (p ++ more)) name f ∙ r.1)
+
+    by_end : (b : Bool) → list_any (ends_early t) (p ++ more) ≡ b → IsPrefixOf (open_text t h p) (over_body t h (p ++ more) name fault).output
+    by_end true e =
+        let r = nothing_revised t h p (up_to_first (ends_early t) more) valid on in
+        rw (e, over_body) (r.0, ap (open_text t h) (goes_on (ends_early t) p more on) ∙ r.1)
+    by_end false e = rw (e, over_body) (by_fault fault)
+
+module _ (t : Request) (h : Header) (i : Input) (front : List Token) (items : List BodyItem) (name : List ℕ) (limit before after : ℕ) (out mid new : Device) (can : CanRun t h) (on : list_any (ends_early t) items ≡ false) (open_is : Writes out mid (open_text t h items)) where
+  -- and so with what is due behind one item more
+  begins_first : (x : BodyItem) (more : List BodyItem) (fault : Option Fault) → IsPrefixOf (open_text t h (items ++ x ∷ [])) (over_body t h ((items ++ x ∷ []) ++ more) name fault).output
+  begins_first x more fault = by_item (ends_early t x) refl
+    where
+      by_item : (b : Bool) → ends_early t x ≡ b → IsPrefixOf (open_text t h (items ++ x ∷ [])) (over_body t h ((items ++ x ∷ []) ++ more) name fault).output
+      by_item true e = ([], ap (λ (o : Outcome). o.output) (early_outcome t h items more x name fault on e) ∙ sym (append-nil (open_text t h (items ++ x ∷ []))))
+      by_item false e = begins_with t h (items ++ x ∷ []) more name fault can.valid (none_at (ends_early t) items x on e)
+
+  module _ {X : Type 0} {g : Ghosts X} (f : Feed X g) (same : limit_of f ≡ limit) where
+    -- an answer that belongs to the outcome of every body that begins with one item more
+    follows_first : (r : Regs) (x : BodyItem) (a : Result Done Stop) → after ≡ before → GaveItems h.codes i front (items ++ x ∷ []) f r → ((more : List BodyItem) (fault : Option Fault) → Belongs t (over_body t h ((items ++ x ∷ []) ++ more) name fault) name out new a)
+        → Follows t limit i front h name before after out new a
+    unfolding body_of
+    follows_first r x a q gave belongs =
+        let first = gave.stands.given_first in
+        let rest = gave.given ++ first.0 in
+        let b = items_begin h.codes gave.given first.0 gave.placed gave.so_far in
+        let fault = body_fault_of (stream_of limit i) (read_body h.codes rest) in
+        let is : over_dump t name (record { header = h; stream = stream_of limit i; rest = rest }) ≡ over_body t h ((items ++ x ∷ []) ++ b.0) name fault =
+        over_matched t name (record { header = h; stream = stream_of limit i; rest = rest }) can.body can.matched ∙ ap (λ l. over_body t h l name fault) (b.1 ∙ ap (λ l. l ++ b.0) gave.items_are) in
+        record {
+          left = i;
+          is_left = inl (q, refl);
+          rest = rest;
+          tokens = ap (λ n. (stream_of n i).tokens) (sym same) ∙ first.1 ∙ append_assoc front gave.given first.0;
+          belongs = subst (λ (o : Outcome). Belongs t o name out new a) (sym is) (belongs b.0 fault);
+        }
+
+    -- a time mark ended the run
+    pub ended_early : (e : Engine) → after ≡ before → StepGives t h i front items e f mid new (Ok (Ended Early)) → Follows t limit i front h name before after out new (Ok Early)
+    ended_early e q s =
+        let x = s.0 in
+        let due = s.3 in
+        let whole : Writes out new (open_text t h (items ++ x ∷ [])) = subst (Writes out new) (sym due.1) (both-written out mid new (open_text t h items) due.0 open_is due.2) in
+        follows_first e.regs x (Ok Early) q s.2 (λ more fault. subst (λ (o : Outcome). Belongs t o name out new (Ok Early)) (sym (early_outcome t h items more x name fault on s.1)) (refl, whole))
+
+    -- a write of what is due behind an item failed
+    pub stopped_item : (r : Regs) (x : BodyItem) → after ≡ before → GaveItems h.codes i front (items ++ x ∷ []) f r → GrowsSome mid new (open_text t h items) (open_text t h (items ++ x ∷ [])) → Follows t limit i front h name before after out new (Err Write)
+    stopped_item r x q gave due =
+        let some : WritesSome out new (open_text t h (items ++ x ∷ [])) = subst (WritesSome out new) (sym due.1) (some-behind out mid new (open_text t h items) due.0 open_is due.2) in
+        follows_first r x (Err Write) q gave
+        (λ more fault.
+        let b = begins_first x more fault in
+        subst (WritesSome out new) (sym b.1) (some-first out new (open_text t h (items ++ x ∷ [])) b.0 some))
+
+-- `mid` holds what is due behind these items; the last step took the run from there to `new`
+module _ {X : Type 0} {g : Ghosts X} (t : Request) (h : Header) (i : Input) (front : List Token) (items : List BodyItem) (name : List ℕ) (limit before after : ℕ) (out mid new : Device) (can : CanRun t h) (on : list_any (ends_early t) items ≡ false) (open_is : Writes out mid (open_text t h items)) (e : Engine) (f : Feed X g) (same : limit_of f ≡ limit) where
+  -- the run has ended
+  pub followed : (done : Done) → after ≡ before → StepGives t h i front items e f mid new (Ok (Ended done)) → Follows t limit i front h name before after out new (Ok done)
+  followed Whole q s = ended_whole t h i front items name limit before after out mid new can on open_is e f same q s
+  followed Early q s = ended_early t h i front items name limit before after out mid new can on open_is f same e q s
+
+  -- the run has stopped
+  pub followed_stop : (stop : Stop) → after ≡ before + reads_failed {A = Done} (Err stop) → StepGives t h i front items e f mid new (Err stop) → Follows t limit i front h name before after out new (Err stop)
+  followed_stop (Dump input line fault) q s = stopped_dump t h i front items name limit before after out mid new can on open_is e f same input line fault (omega arith) s
+  followed_stop (Read input) q s = stopped_read t h i front items name limit before after out mid new can on open_is e f same input q s
+  followed_stop (Unmatched place) q s = absurd s
+  followed_stop Write q s = by_due s
+    where
+      by_due : StepGives t h i front items e f mid new (Err Write) → Follows t limit i front h name before after out new (Err Write)
+      by_due (inl d) = stopped_item t h i front items name limit before after out mid new can on open_is f same e.regs d.0 (omega arith) d.1 d.2
+      by_due (inr d) = stopped_close t h i front items name limit before after out mid new can on open_is e f same (omega arith) d.0 d.1
+
+-- a step of this task that answers so
+pub asked : {X : Type 0} {g : Ghosts X} (t t' : Request) (h : Header) (i : Input) (front : List Token) (items : List BodyItem) (e : Engine) (f : Feed X g) (out out' : Device) (r r' : Result More Stop) → t ≡ t' → r ≡ r' → StepGives t h i front items e f out out' r
+    → StepGives t' h i front items e f out out' r'
+asked t t' h i front items e f out out' r r' et er s = subst (λ (q : Result More Stop). StepGives t' h i front items e f out out' q) er (subst (λ (q : Request). StepGives q h i front items e f out out' r) et s)
+
+-- what holds of the request of an engine that runs
+pub can_run : {X : Type 0} {g : Ghosts X} (t : Request) (e : Engine) (h : Header) (i : Input) (front : List Token) (items : List BodyItem) (f : Feed X g) → request_of_engine e ≡ t → Runs e h i front items f → CanRun t h
+can_run t e h i front items f same r = subst (λ (q : Request). CanRun q h) same r.holds.can
+
+pub none_ends : {X : Type 0} {g : Ghosts X} (t : Request) (e : Engine) (h : Header) (i : Input) (front : List Token) (items : List BodyItem) (f : Feed X g) → request_of_engine e ≡ t → Runs e h i front items f → list_any (ends_early t) items ≡ false
+none_ends t e h i front items f same r = subst (λ (q : Request). list_any (ends_early q) items ≡ false) same r.on
+
+-- ---- runs that stop at their begin
+
+-- a run whose engine was not begun
+pub never_begun : {X : Type 0} {g : Ghosts X} (t : Request) (limit : ℕ) (i : Input) (front : List Token) (h : Header) (name : List ℕ) (failures : ℕ) (out out' : Device) (f : Feed X g) (stop : Stop) → limit_of f ≡ limit → HasGiven i front f → StopsAtStart t h out out' stop
+    → Follows t limit i front h name failures failures out out' (Err stop)
+unfolding body_of
+never_begun t limit i front h name failures out out' f stop l st starts = record {
+  left = i;
+  is_left = inl (refl, refl);
+  rest = st.given_first.0;
+  tokens = ap (λ n. (stream_of n i).tokens) (sym l) ∙ st.given_first.1;
+  belongs = by_stop stop starts;
+}
+  where
+    o : Opened
+    o = record { header = h; stream = stream_of limit i; rest = st.given_first.0 }
+
+    by_stop : (s : Stop) → StopsAtStart t h out out' s → Belongs t (over_dump t name o) name out out' (Err s)
+    by_stop Write b =
+        let can = b.0 in
+        let whole = begins_with t h [] (items_in o) name (fault_in o) can.valid refl in
+        (subst (AppendsSome out.held out'.held) (sym (ap (λ (x : Outcome). x.output) (over_matched t name o can.body can.matched) ∙ whole.1)) (appends-first out.held out'.held (open_text t h []) whole.0 b.1.0), b.1.1)
+    by_stop (Unmatched place) b = let e = over_unmatched t name o place b.0 in (e, subst (λ (x : Outcome). Writes out out' x.output) (sym e) b.1)
+    by_stop (Dump input line fault) b = absurd b
+    by_stop (Read input) b = absurd b
+
+-- what a step counts of its source's failures
+pub step_reads : {X : Type 0} {g : Ghosts X} (failures : X → ℕ) (old new : Feed X g) (r : Result More Stop) → HasNotFailed old → Advances failures old new (step_end r) → failures (source_of new) ≡ failures (source_of old) + reads_failed r
+step_reads failures old new (Ok Again) o a = let e = a.same (λ x. cc) in omega (arith, e)
+step_reads failures old new (Ok (Ended done)) o a = let e = a.same (λ x. cc) in omega (arith, e)
+step_reads failures old new (Err (Dump input line fault)) o a = let e = a.same (λ x. cc) in omega (arith, e)
+step_reads failures old new (Err (Read input)) o a = a.failed refl o
+step_reads failures old new (Err Write) o a = let e = a.same (λ x. cc) in omega (arith, e)
+step_reads failures old new (Err (Unmatched name)) o a = let e = a.same (λ x. cc) in omega (arith, e)

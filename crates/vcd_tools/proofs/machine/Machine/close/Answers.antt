@@ -1,0 +1,8 @@
+use Rattle.std.proofs.Common.{subst}
+use Rattle.vcd_tools.specs.Engine.{Keeps}
+use Rattle.vcd_tools.specs.declared.machine.Machine.{Machine}
+use Rattle.vcd_tools.proofs.machine.Machine.close.Goals as goal
+
+pub returns-in-Pick-clause-takes : goal.returns-in-Pick-clause-takes
+returns-in-Pick-clause-takes g c = λ h items views known last keeps.
+    rw c.in-Pick.is (c.close-in-Pick.ensures.takes h items known last (subst (λ (m : Machine). Keeps m h items) c.in-Pick.is keeps))

@@ -1,0 +1,9 @@
+use Rattle.std.proofs.Common.{refl, subst}
+use Rattle.vcd_tools.specs.Engine.{Keeps}
+use Rattle.vcd_tools.specs.declared.machine.Machine.{Machine}
+use Rattle.vcd_tools.proofs.machine.Machine.take.Goals as goal
+
+pub returns-in_ok-take-in-Pick-clause-takes : goal.returns-in_ok-take-in-Pick-clause-takes
+returns-in_ok-take-in-Pick-clause-takes g c = λ h items before x views known re is few keeps.
+    let t = c.in_ok-take-in-Pick.ensures.takes h items before x views known re is (subst (λ (m : Machine). Keeps m h items) c.in-Pick.is keeps) in
+    rw c.in-Pick.is (record { due = t.0; ends = refl; keeps = λ e. t.1 })

@@ -1,0 +1,76 @@
+//! The commands over items: each is its task.
+ghost use Rattle.std.specs.Prelude.{◌≡◌, ℕ, ◌+◌, ◌-◌, ◌^◌, ◌<◌, List, IfOk, map, string_bytes};
+ghost use Rattle.vcd_model.specs.Header.{Header};
+ghost use Rattle.vcd_model.specs.Input.{Input};
+ghost use Rattle.vcd_model.specs.Outcome.{Request};
+ghost use Rattle.vcd_model.specs.Tokens.{Token};
+ghost use Rattle.vcd_text.specs.Feed.{HasGiven, SameLoans, source_of, limit_of, chunk_len_of};
+ghost use Rattle.vcd_head.specs.Views.{IsViewOf};
+ghost use Rattle.vcd_text.specs.Advances.{HasNotFailed};
+ghost use Rattle.vcd_tools.specs.Run.{Follows};
+ghost use Rattle.vcd_tools.specs.Answer.{reads_failed, writes_failed};
+ghost use Rattle.vcd_tools.specs.Room.{HasRoomFor};
+ghost use Rattle.vcd_tools.specs.declared.answer.Done.TheVariants.{Whole};
+
+use crate::answer::{Done, Stop};
+use crate::engine::run_task;
+use crate::task::{Room, Task};
+use vcd_head::HeadView;
+use vcd_text::{Feed, Sink, Source};
+
+/// Reads the body after the header that is shown, and writes the seven lines.
+pub fn check<S: Source, W: Sink>(
+    view: HeadView<'_>,
+    feed: &mut Feed<'_, '_, '_, '_, S>,
+    out: &mut W,
+) -> Result<Done, Stop>
+    requires feed_failures { S.failures (source_of feed.old) < 2 ^ 64 - 1 }
+    requires out_failures { (W.device out.old).failures < 2 ^ 64 - 1 }
+    requires open { HasNotFailed feed.old }
+    ensures gives { (h : Header) (i : Input) (front : List Token) (name : List ℕ)
+        → IsViewOf view.entry h → HasGiven i front feed.old
+        → Follows Request.Check (limit_of feed.old) i front h name (S.failures (source_of feed.old))
+        (S.failures (source_of feed.new))
+        (W.device out.old) (W.device out.new) result }
+    ensures devices { (S.failures (source_of feed.new)
+        ≡ S.failures (source_of feed.old) + reads_failed result)
+        × ((W.device out.new).failures ≡ (W.device out.old).failures + writes_failed result) }
+    ensures answer { IfOk result (λ done. done ≡ Whole) }
+    ensures windows { (limit_of feed.new ≡ limit_of feed.old)
+        × (chunk_len_of feed.new ≡ chunk_len_of feed.old) × SameLoans feed.old feed.new }
+{
+    let mut room = Room {
+        marks: &mut [],
+        slots: &mut [],
+    };
+    run_task(Task::Check, view, feed, &mut room, out)
+}
+
+/// Writes the header of the variables that the names select and of the scopes around them, and then reads the body after the
+/// header that is shown, and writes its sections and the changes of these variables, each after the line of its time. A name
+/// that selects nothing is refused before anything is read or written.
+pub fn pick<S: Source, W: Sink>(
+    view: HeadView<'_>,
+    feed: &mut Feed<'_, '_, '_, '_, S>,
+    room: &mut Room<'_>,
+    names: &[String],
+    out: &mut W,
+) -> Result<Done, Stop>
+    requires feed_failures { S.failures (source_of feed.old) < 2 ^ 64 - 1 }
+    requires out_failures { (W.device out.old).failures < 2 ^ 64 - 1 }
+    requires open { HasNotFailed feed.old }
+    requires room { HasRoomFor (Task.Pick names) view room.old }
+    ensures gives { (h : Header) (i : Input) (front : List Token) (name : List ℕ)
+        → IsViewOf view.entry h → HasGiven i front feed.old
+        → Follows (Request.Pick (map string_bytes names.now)) (limit_of feed.old) i front h name
+        (S.failures (source_of feed.old)) (S.failures (source_of feed.new))
+        (W.device out.old) (W.device out.new) result }
+    ensures devices { (S.failures (source_of feed.new)
+        ≡ S.failures (source_of feed.old) + reads_failed result)
+        × ((W.device out.new).failures ≡ (W.device out.old).failures + writes_failed result) }
+    ensures answer { IfOk result (λ done. done ≡ Whole) }
+    ensures windows { (limit_of feed.new ≡ limit_of feed.old)
+        × (chunk_len_of feed.new ≡ chunk_len_of feed.old) × SameLoans feed.old feed.new }
+{
+    run_task(Task::Pick(names), view, feed, room, out)
+}

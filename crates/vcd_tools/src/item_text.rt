@@ -1,0 +1,165 @@
+//! The text of kept items: each as its line, after the line of its time where that does not stand yet.
+ghost use Rattle.std.specs.Prelude.{◌≡◌, ℕ, ◌-◌, ◌^◌, ◌<◌, ◌∷◌, ◌++◌, [], List, Some, IfOk};
+ghost use Rattle.vcd_model.specs.Bytes.{as_line};
+ghost use Rattle.vcd_model.specs.BodyPhrases.{section_keyword};
+ghost use Rattle.vcd_model.specs.Header.{Header};
+ghost use Rattle.vcd_model.specs.Items.{BodyItem, Entry};
+ghost use Rattle.vcd_model.specs.ItemText.{closing, item_line, text_after, time_line};
+ghost use Rattle.vcd_model.specs.ItemText.{time_due};
+ghost use Rattle.vcd_model.specs.Keywords.{keyword_text};
+ghost use Rattle.vcd_text.specs.Device.{Counts, Puts, Takes, failures_after};
+ghost use Rattle.vcd_head.specs.Views.{IsViewOf};
+ghost use Rattle.vcd_body.specs.Given.{IsGoodChange};
+ghost use Rattle.vcd_body.specs.Items.{model_section};
+ghost use Rattle.vcd_tools.specs.Device.{TakesDue};
+ghost use Rattle.vcd_tools.specs.ItemText.{AsItem, HasWritten, LastTells, times_with};
+
+use vcd_body::{Form, Item, Section, change_text, put_change};
+use vcd_head::HeadView;
+use vcd_text::{Feed, Sink, Source, WriteFailed, put, put_number};
+
+/// The text of kept items, as far as it goes on from here: the time whose line was written last.
+#[derive(Clone, Copy)]
+pub(crate) struct ItemText {
+    written: Option<u64>,
+}
+
+/// Writes the line of a time.
+#[inline(never)]
+fn put_time<W: Sink>(time: u64, out: &mut W) -> Result<(), WriteFailed>
+    requires { (W.device out.old).failures < 2 ^ 64 - 1 }
+    ensures { Puts (W.device out.old) (W.device out.new) (time_line time) result }
+{
+    put(out, b"#")?;
+    put_number(out, time)?;
+    put(out, b"\n")
+}
+
+/// Writes the line of a time, unless it was written last.
+#[inline(always)]
+pub(crate) fn put_time_unless<W: Sink>(
+    written: Option<u64>,
+    time: u64,
+    out: &mut W,
+) -> Result<(), WriteFailed>
+    requires { (W.device out.old).failures < 2 ^ 64 - 1 }
+    ensures { Puts (W.device out.old) (W.device out.new) (time_due written time) result }
+{
+    if written == Some(time) {
+        return Ok(());
+    }
+    put_time(time, out)
+}
+
+/// The keyword that begins a section, as its line.
+fn begin_line(section: Section) -> &'static [u8]
+    ensures { result.now ≡ as_line (keyword_text (section_keyword (model_section section))) }
+{
+    match section {
+        Section::Vars => b"$dumpvars\n",
+        Section::Off => b"$dumpoff\n",
+        Section::On => b"$dumpon\n",
+        Section::All => b"$dumpall\n",
+    }
+}
+
+/// Writes the change that was read last as its line.
+#[inline(always)]
+fn put_change_line<S: Source, W: Sink>(
+    view: HeadView<'_>,
+    code: usize,
+    form: Form,
+    feed: &Feed<'_, '_, '_, '_, S>,
+    out: &mut W,
+) -> Result<(), WriteFailed>
+    requires failures { (W.device out.old).failures < 2 ^ 64 - 1 }
+    requires sound { IsGoodChange view.codes.now feed.now (Item.Change code form) }
+    ensures takes { (h : Header) (x : BodyItem) → IsViewOf view.entry h
+        → AsItem h.codes feed.now (Item.Change code form) x
+        → Takes (W.device out.old) (W.device out.new) (item_line x) result }
+    ensures counts { Counts (W.device out.old) (W.device out.new) result }
+{
+    let Some(declared) = view.code_at(code) else {
+        return Ok(());
+    };
+    put_change(
+        declared.size,
+        declared.event,
+        form,
+        change_text(feed, form),
+        view.code_text(code),
+        out,
+    )
+}
+
+/// Writes the item that was read last as its line; a time mark has none of its own.
+#[inline(always)]
+fn put_item<S: Source, W: Sink>(
+    view: HeadView<'_>,
+    item: Item,
+    feed: &Feed<'_, '_, '_, '_, S>,
+    out: &mut W,
+) -> Result<(), WriteFailed>
+    requires failures { (W.device out.old).failures < 2 ^ 64 - 1 }
+    requires sound { IsGoodChange view.codes.now feed.now item }
+    ensures takes { (h : Header) (x : BodyItem) → IsViewOf view.entry h
+        → AsItem h.codes feed.now item x
+        → Takes (W.device out.old) (W.device out.new) (item_line x) result }
+    ensures counts { Counts (W.device out.old) (W.device out.new) result }
+{
+    match item {
+        Item::Time(_) | Item::Finish => Ok(()),
+        Item::Begin(section) => put(out, begin_line(section)),
+        Item::End => put(out, b"$end\n"),
+        Item::Change { code, form } => put_change_line(view, code, form, feed, out),
+    }
+}
+
+impl ItemText {
+    /// Before all items.
+    pub(crate) fn new() -> ItemText
+        ensures { HasWritten [] [] result }
+    {
+        ItemText { written: None }
+    }
+
+    /// Writes the item that was read last as an entry at this time. A time mark has no line of its own.
+    #[inline(always)]
+    pub(crate) fn put<S: Source, W: Sink>(
+        &mut self,
+        view: HeadView<'_>,
+        time: u64,
+        item: Item,
+        feed: &Feed<'_, '_, '_, '_, S>,
+        out: &mut W,
+    ) -> Result<(), WriteFailed>
+        requires failures { (W.device out.old).failures < 2 ^ 64 - 1 }
+        requires sound { IsGoodChange view.codes.now feed.now item }
+        ensures text { (h : Header) (before : List ℕ) (kept : List Entry) (e : Entry)
+            → IsViewOf view.entry h → AsItem h.codes feed.now item e.item → e.time ≡ time
+            → HasWritten before kept self.old → LastTells (times_with before kept) time
+            → TakesDue (W.device out.old) (W.device out.new) (text_after before kept)
+            (text_after before (kept ++ e ∷ [])) result
+            × IfOk result (λ _. HasWritten before (kept ++ e ∷ []) self.new) }
+        ensures counts { Counts (W.device out.old) (W.device out.new) result }
+    {
+        put_time_unless(self.written, time, out)?;
+        self.written = Some(time);
+        put_item(view, item, feed, out)
+    }
+
+    /// Writes what closes the text where this is the last time mark: its line, where it does not stand yet.
+    pub(crate) fn close<W: Sink>(&self, last: Option<u64>, out: &mut W) -> Result<(), WriteFailed>
+        requires { (W.device out.old).failures < 2 ^ 64 - 1 }
+        ensures takes { (before : List ℕ) (kept : List Entry) → HasWritten before kept self.now
+            → ((t : ℕ) → last ≡ Some t → LastTells (times_with before kept) t)
+            → Takes (W.device out.old) (W.device out.new)
+            (closing (times_with before kept) last) result }
+        ensures counts { Counts (W.device out.old) (W.device out.new) result }
+    {
+        match last {
+            Some(time) => put_time_unless(self.written, time, out),
+            None => Ok(()),
+        }
+    }
+}

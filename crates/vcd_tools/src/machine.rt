@@ -1,0 +1,116 @@
+//! What each task keeps between items, and what it does with an item.
+ghost use Rattle.std.specs.Prelude.{◌≡◌, ◌-◌, ◌^◌, ◌<◌, ◌+◌, ◌∷◌, ◌++◌, [], List, length, true, IfOk, MatchResult};
+ghost use Rattle.vcd_model.specs.Header.{Header};
+ghost use Rattle.vcd_model.specs.Items.{BodyItem};
+ghost use Rattle.vcd_model.specs.ItemText.{last_mark};
+ghost use Rattle.vcd_model.specs.Outcome.{close_text, ends_early};
+ghost use Rattle.vcd_text.specs.Device.{Counts, Takes, failures_after};
+ghost use Rattle.vcd_head.specs.Views.{IsViewOf};
+ghost use Rattle.vcd_body.specs.Given.{IsGoodChange};
+ghost use Rattle.vcd_body.specs.Items.{AreRegsAfter, regs_after};
+ghost use Rattle.vcd_tools.specs.Answer.{writes_failed};
+ghost use Rattle.vcd_tools.specs.Engine.{Keeps, Starts, StopsUnread, TakesOne, last_of, may_end_early, request_in, request_of};
+ghost use Rattle.vcd_tools.specs.ItemText.{AsItem};
+ghost use Rattle.vcd_tools.specs.Room.{HasRoomFor};
+
+pub(crate) mod check;
+pub(crate) mod pick;
+
+use crate::answer::Stop;
+use crate::task::{Room, Task};
+use vcd_body::{Item, Regs};
+use vcd_head::HeadView;
+use vcd_text::{Feed, Sink, Source, WriteFailed};
+
+/// What a task keeps between items.
+#[derive(Drop)]
+pub(crate) enum Machine<'n, 'r> {
+    Check(check::Check),
+    Pick(pick::Pick<'n, 'r>),
+}
+
+/// The last time mark.
+pub(crate) fn last_of(regs: Regs) -> Option<u64>
+    ensures { result ≡ last_of regs }
+{
+    if regs.marked {
+        return Some(regs.time);
+    }
+    None
+}
+
+impl<'n, 'r> Machine<'n, 'r> {
+    /// Begins a task, and writes what stands before all items. A name that selects nothing is refused, and then nothing is
+    /// written.
+    pub(crate) fn start<W: Sink>(
+        task: Task<'n>,
+        view: HeadView<'_>,
+        room: Room<'r>,
+        out: &mut W,
+    ) -> Result<Machine<'n, 'r>, Stop>
+        requires failures { (W.device out.old).failures < 2 ^ 64 - 1 }
+        requires room { HasRoomFor task view room }
+        ensures starts { (h : Header) → IsViewOf view.entry h
+            → Starts (λ m. Keeps m h []) (request_of task.entry) h
+            (W.device out.old) (W.device out.new) result }
+        ensures request { MatchResult result
+            (λ m. request_in m ≡ request_of task.entry) StopsUnread }
+        ensures failures { (W.device out.new).failures
+            ≡ (W.device out.old).failures + writes_failed result }
+    {
+        match task {
+            Task::Check => Ok(Machine::Check(check::Check::start())),
+            Task::Pick(names) => Ok(Machine::Pick(pick::Pick::start(view, room, names, out)?)),
+        }
+    }
+
+    /// Takes the item that was read last, writes what is due after it, and returns whether it ended the run. The registers are
+    /// those after it.
+    #[inline(always)]
+    pub(crate) fn take<S: Source, W: Sink>(
+        &mut self,
+        view: HeadView<'_>,
+        regs: Regs,
+        item: Item,
+        feed: &Feed<'_, '_, '_, '_, S>,
+        out: &mut W,
+    ) -> Result<bool, WriteFailed>
+        requires failures { (W.device out.old).failures < 2 ^ 64 - 1 }
+        requires sound { IsGoodChange view.codes.now feed.now item }
+        ensures takes { (h : Header) (items : List BodyItem) (before : Regs) (x : BodyItem)
+            → IsViewOf view.entry h → AreRegsAfter items before → regs ≡ regs_after before item
+            → AsItem h.codes feed.now item x → length items < 2 ^ 63 → Keeps self.old h items
+            → TakesOne (request_in self.old) h items x self.new (W.device out.old)
+            (W.device out.new) result }
+        ensures counts { Counts (W.device out.old) (W.device out.new) result }
+        ensures request { request_in self.new ≡ request_in self.old }
+        ensures early { IfOk result
+            (λ ended. ended ≡ true → may_end_early (request_in self.old) ≡ true) }
+    {
+        match self {
+            Machine::Check(check) => check.take(item),
+            Machine::Pick(pick) => pick.take(view, regs, item, feed, out)?,
+        }
+        Ok(false)
+    }
+
+    /// Writes what stands at the clean end of a body after which the registers are these.
+    pub(crate) fn close<W: Sink>(
+        &self,
+        view: HeadView<'_>,
+        regs: Regs,
+        out: &mut W,
+    ) -> Result<(), WriteFailed>
+        requires { (W.device out.old).failures < 2 ^ 64 - 1 }
+        ensures takes { (h : Header) (items : List BodyItem) → IsViewOf view.entry h
+            → AreRegsAfter items regs → last_of regs ≡ last_mark items → Keeps self.now h items
+            → Takes (W.device out.old) (W.device out.new)
+            (close_text (request_in self.now) h items) result }
+        ensures counts { Counts (W.device out.old) (W.device out.new) result }
+    {
+        match self {
+            Machine::Check(check) => check.close(view, regs, out),
+            Machine::Pick(pick) => pick.close(regs, out),
+        }
+    }
+}

@@ -1,0 +1,120 @@
+//! `pick`: the dump of the selected variables.
+ghost use Rattle.std.specs.Prelude.{◌≡◌, ◌-◌, ◌^◌, ◌<◌, ◌+◌, map, string_bytes, IfOk, MatchResult, ◌∷◌, ◌++◌, [], List};
+ghost use Rattle.vcd_model.specs.Header.{Header};
+ghost use Rattle.vcd_model.specs.Items.{BodyItem};
+ghost use Rattle.vcd_model.specs.ItemText.{last_mark};
+ghost use Rattle.vcd_model.specs.Outcome.{Request};
+ghost use Rattle.vcd_model.specs.Pick.{pick_open, pick_close};
+ghost use Rattle.vcd_text.specs.Device.{Counts, Takes, failures_after};
+ghost use Rattle.vcd_head.specs.Views.{IsViewOf};
+ghost use Rattle.vcd_body.specs.Given.{IsGoodChange};
+ghost use Rattle.vcd_body.specs.Items.{AreRegsAfter, regs_after};
+ghost use Rattle.vcd_tools.specs.Answer.{writes_failed};
+ghost use Rattle.vcd_tools.specs.Device.{TakesDue};
+ghost use Rattle.vcd_tools.specs.Engine.{Starts, StopsUnread, last_of};
+ghost use Rattle.vcd_tools.specs.ItemText.{AsItem};
+ghost use Rattle.vcd_tools.specs.Pick.{ArePicked, is_event_at, is_kept, names_in};
+ghost use Rattle.vcd_tools.specs.Room.{HasRoomFor};
+ghost use Rattle.vcd_tools.specs.declared.task.Task.TheVariants as task;
+
+use crate::answer::Stop;
+use crate::item_text::ItemText;
+use crate::machine::last_of;
+use crate::selection::select_codes;
+use crate::task::Room;
+use vcd_body::{Item, Regs, Table};
+use vcd_head::{HeadView, put_head};
+use vcd_text::{Feed, Sink, Source, WriteFailed};
+
+/// The names that were asked for, the codes of the variables that they select, and the text of what was kept.
+#[derive(Drop)]
+pub(crate) struct Pick<'n, 'r> {
+    names: &'n [String],
+    table: Table<'r>,
+    text: ItemText,
+}
+
+impl<'n, 'r> Pick<'n, 'r> {
+    /// Selects the variables, and writes their header.
+    pub(crate) fn start<W: Sink>(
+        view: HeadView<'_>,
+        room: Room<'r>,
+        names: &'n [String],
+        out: &mut W,
+    ) -> Result<Pick<'n, 'r>, Stop>
+        requires failures { (W.device out.old).failures < 2 ^ 64 - 1 }
+        requires room { HasRoomFor (task.Pick names) view room }
+        ensures starts { (h : Header) → IsViewOf view.entry h
+            → Starts (λ p. ArePicked p h []) (Request.Pick (map string_bytes names.entry.now)) h
+            (W.device out.old) (W.device out.new) result }
+        ensures names { MatchResult result
+            (λ p. names_in p ≡ map string_bytes names.entry.now) StopsUnread }
+        ensures failures { (W.device out.new).failures
+            ≡ (W.device out.old).failures + writes_failed result }
+    {
+        let Room { marks, slots } = room;
+        let marks = &mut marks[..view.rows.len()];
+        let mut table = Table::new(view, slots);
+        select_codes(view, names, marks, &mut table)?;
+        put_head(view, marks, out)?;
+        Ok(Pick {
+            names,
+            table,
+            text: ItemText::new(),
+        })
+    }
+
+    /// Whether the item, after which the registers stand so, is written: a section's begin or end, or a change of a chosen
+    /// code that is no event inside a section.
+    #[inline(always)]
+    fn keeps(&self, view: HeadView<'_>, regs: Regs, item: Item) -> bool
+        ensures { result ≡ is_kept self.now.table view.entry regs item }
+    {
+        match item {
+            Item::Time(_) | Item::Finish => false,
+            Item::Begin(_) | Item::End => true,
+            Item::Change { code, .. } => {
+                self.table.chosen(code) && !(regs.section.is_some() && view.is_event(code))
+            }
+        }
+    }
+
+    /// Writes the item that was read last, where it is kept, after the line of its time. The registers are those after it.
+    #[inline(always)]
+    pub(crate) fn take<S: Source, W: Sink>(
+        &mut self,
+        view: HeadView<'_>,
+        regs: Regs,
+        item: Item,
+        feed: &Feed<'_, '_, '_, '_, S>,
+        out: &mut W,
+    ) -> Result<(), WriteFailed>
+        requires failures { (W.device out.old).failures < 2 ^ 64 - 1 }
+        requires sound { IsGoodChange view.codes.now feed.now item }
+        ensures takes { (h : Header) (items : List BodyItem) (before : Regs) (x : BodyItem)
+            → IsViewOf view.entry h → AreRegsAfter items before → regs ≡ regs_after before item
+            → AsItem h.codes feed.now item x → ArePicked self.old h items
+            → TakesDue (W.device out.old) (W.device out.new) (pick_open h (names_in self.old) items)
+            (pick_open h (names_in self.old) (items ++ x ∷ [])) result
+            × IfOk result (λ _. ArePicked self.new h (items ++ x ∷ [])) }
+        ensures counts { Counts (W.device out.old) (W.device out.new) result }
+        ensures names { names_in self.new ≡ names_in self.old }
+    {
+        if !self.keeps(view, regs, item) {
+            return Ok(());
+        }
+        self.text.put(view, regs.time, item, feed, out)
+    }
+
+    /// Writes the line of the last time mark, where it does not stand yet.
+    pub(crate) fn close<W: Sink>(&self, regs: Regs, out: &mut W) -> Result<(), WriteFailed>
+        requires { (W.device out.old).failures < 2 ^ 64 - 1 }
+        ensures takes { (h : Header) (items : List BodyItem) → AreRegsAfter items regs
+            → last_of regs ≡ last_mark items → ArePicked self.now h items
+            → Takes (W.device out.old) (W.device out.new)
+            (pick_close h (names_in self.now) items) result }
+        ensures counts { Counts (W.device out.old) (W.device out.new) result }
+    {
+        self.text.close(last_of(regs), out)
+    }
+}

@@ -1,0 +1,39 @@
+//! Where each input of a merge stands.
+ghost use Rattle.std.specs.Prelude.{◌≡◌, false};
+
+use vcd_body::Regs;
+use vcd_text::Parked;
+
+/// An input of a merge between two of its items: its parked feed, what is known after its items, and what the merge adds.
+#[derive(Clone, Copy, PartialEq, Eq, Debug)]
+pub struct Seat {
+    /// Where its feed goes on.
+    pub(crate) parked: Parked,
+    /// What is known after the items that it gave.
+    pub(crate) regs: Regs,
+    /// By how much its times are scaled.
+    pub(crate) factor: u64,
+    /// Its time, scaled.
+    pub(crate) time: u64,
+    /// The number of its first code among the codes of all inputs.
+    pub(crate) first: u64,
+    /// It has no item any more.
+    pub(crate) finished: bool,
+}
+
+impl Seat {
+    /// An input whose feed stands after its header. The rest is set where the merge begins.
+    pub fn new(parked: Parked) -> Seat
+        ensures parked { result.parked ≡ parked }
+        ensures open { result.finished ≡ false }
+    {
+        Seat {
+            parked,
+            regs: Regs::new(),
+            factor: 1,
+            time: 0,
+            first: 0,
+            finished: false,
+        }
+    }
+}

@@ -1,0 +1,52 @@
+//! What is done with the items of a body, and the slices that it works in.
+ghost use Rattle.std.specs.Prelude.{◌≡◌, ◌≤◌, ℕ, length};
+ghost use Rattle.vcd_model.specs.Bound.{AreWindows, FitsInput, WindowSize};
+ghost use Rattle.vcd_model.specs.Header.{Header};
+ghost use Rattle.vcd_head.specs.Needs.{room, view_size};
+ghost use Rattle.vcd_head.specs.Shown.{parts};
+ghost use Rattle.vcd_head.specs.Views.{IsViewOf};
+ghost use Rattle.vcd_tools.specs.Room.{HasRoomFor, marks_for, slots_for};
+ghost use Rattle.vcd_tools.specs.declared.task.Room.{Room};
+
+use vcd_body::Slot;
+use vcd_head::{HeadView, Need, need};
+
+/// What is done with the items of a body.
+#[derive(Clone, Copy)]
+pub enum Task<'n> {
+    /// Counts them, and reports at the end.
+    Check,
+    /// Writes those of the variables that these names select, after their header.
+    Pick(&'n [String]),
+}
+
+/// What a run is lent beside its windows, of lengths at least as `Task::need` returns for its header. No memory is taken beyond it.
+#[derive(Drop)]
+pub struct Room<'r> {
+    /// A mark for each declaration.
+    pub marks: &'r mut [u8],
+    /// A place for each code.
+    pub slots: &'r mut [Slot],
+}
+
+impl<'n> Task<'n> {
+    /// The room that the task works in over the header that is shown.
+    pub fn need(&self, view: HeadView<'_>) -> Need
+        ensures lengths { (result.marks ≡ marks_for self.now view.entry)
+            × (result.slots ≡ slots_for self.now view.entry) }
+        ensures room { (r : Room) → result.marks ≤ length r.marks.now
+            → result.slots ≤ length r.slots.now → HasRoomFor self.now view.entry r }
+        ensures fits { (limit : ℕ) (h : Header) (w : WindowSize) → IsViewOf view.entry h
+            → AreWindows limit w
+            → FitsInput limit h w (view_size (parts view.entry)) (room result) }
+    {
+        match self {
+            Task::Check => Need {
+                values: 0,
+                slots: 0,
+                marks: 0,
+            },
+            Task::Pick(_) => need(view),
+        }
+    }
+}

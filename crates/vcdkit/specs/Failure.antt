@@ -1,0 +1,49 @@
+-- Why a run ends before it is done, and which calls of its devices failed.
+use Rattle.std.specs.Prelude.{◌≡◌, ℕ, ◌+◌, ◌<◌, List, length, slice_set, slice_index, Option, Some, None, Result, Ok, Err}
+use Rattle.vcd_head.specs.Fault.{fault_number}
+use Rattle.vcd_head.specs.declared.fault.HeadFault.{HeadFault}
+use Rattle.vcd_head.specs.declared.fault.HeadFault.TheVariants as head_fault
+use Rattle.vcd_tools.specs.declared.answer.Done.{Done}
+use Rattle.vcd_tools.specs.declared.answer.Stop.{Stop}
+use Rattle.vcd_tools.specs.declared.answer.Stop.TheVariants.{Dump, Read, Write}
+use Rattle.vcdkit.specs.declared.failure.Failure.{Failure}
+use Rattle.vcdkit.specs.declared.failure.Failure.TheVariants.{Stopped, OutOfMemory}
+
+-- the fault of the header of the input at this place, at this line
+abbrev pub head_failure : HeadFault → ℕ → ℕ → Failure
+head_failure head_fault.ReadFailed input line = Stopped (Read input)
+head_failure head_fault.OutOfMemory input line = OutOfMemory
+head_failure fault input line = Stopped (Dump input line (fault_number fault))
+
+-- the stop of a task whose only input has this place
+abbrev pub stop_failure : Stop → ℕ → Failure
+stop_failure (Dump only line fault) input = Stopped (Dump input line fault)
+stop_failure (Read only) input = Stopped (Read input)
+stop_failure stop input = Stopped stop
+
+-- the end of a run whose task returned this of the input at this place
+abbrev pub end_of : Result Done Stop → ℕ → Result Done Failure
+end_of (Ok done) input = Ok done
+end_of (Err stop) input = Err (stop_failure stop input)
+
+-- why a call failed, if it did
+abbrev pub failure_of : {A : Type 0} → Result A Failure → Option Failure
+failure_of (Ok done) = None
+failure_of (Err failure) = Some failure
+
+-- ---- the devices
+
+-- of the reader at this place a read failed where the failure says so, and it is this place that it names
+abbrev pub CountsRead : (place before after : ℕ) → Option Failure → Type 0
+CountsRead place before after (Some (Stopped (Read input))) = (input ≡ place) × (after ≡ before + 1)
+CountsRead place before after why = after ≡ before
+
+-- of all readers, the one at the place that the failure names, if it is a failed read
+abbrev pub CountsReads : (before after : List ℕ) → Option Failure → Type 0
+CountsReads before after (Some (Stopped (Read input))) = (input < length before) × (after ≡ slice_set before input (slice_index before input + 1))
+CountsReads before after why = after ≡ before
+
+-- how many writes of the output failed
+abbrev pub writes_failed : Option Failure → ℕ
+writes_failed (Some (Stopped Write)) = 1
+writes_failed why = 0

@@ -1,0 +1,118 @@
+-- The words of the command line: how they are read, and what they ask for.
+use Rattle.std.specs.Prelude.{◌≡◌, ℕ, true, cond, List, [], map, codes, string_bytes, Option, Some, None, option_map, option_and_then, unwrap_or, Result, Ok, Err}
+use Rattle.std.specs.Str.{bytes_eq}
+use Rattle.clap.specs.Lexer.{usize_max}
+use Rattle.clap.specs.Words.{App, Rule, Text, all_of, first_of, new_app, new_rule, subcommand_name_of, subcommand_rows_of, with_rule, with_subcommand}
+use Rattle.clap.specs.declared.parser.matches.ArgMatches.{ArgMatches}
+use Rattle.clap.specs.declared.error.kind.ErrorKind.{ErrorKind}
+use Rattle.clap.specs.declared.error.kind.ErrorKind.TheVariants as kind
+use Rattle.vcd_model.specs.Bytes.{is_empty}
+use Rattle.vcd_model.specs.Words as model
+use Rattle.vcdkit.specs.declared.words.Words.{Words}
+use Rattle.vcdkit.specs.declared.words.Words.TheVariants as words
+use Rattle.vcdkit.specs.declared.job.Want.{Want}
+use Rattle.vcdkit.specs.declared.job.Want.TheVariants as want
+use Rattle.vcdkit.specs.declared.job.UseFault.{UseFault}
+use Rattle.vcdkit.specs.declared.job.UseFault.TheVariants.{BadWords, BadLimit, OutOfMemory}
+
+-- ---- how words are read
+
+-- `-i FILE`
+abbrev pub input_rule : Rule
+input_rule = record (new_rule (codes "input")) { short = Some 105; value_names = 1 }
+
+-- `--token-limit N`; which texts are good is no matter of the parse
+abbrev pub limit_rule : Rule
+limit_rule = record (new_rule (codes "token-limit")) { long = Some (codes "token-limit"); value_names = 1 }
+
+-- `NAME..`, of which there is at least one
+abbrev pub names_rule : Rule
+names_rule = record (new_rule (codes "names")) { range = Some (record { start_inclusive = 1; end_inclusive = usize_max }); value_names = 1; required = true }
+
+-- a command of this name over one input
+abbrev pub one_input_app : Text → App
+one_input_app name = with_rule (with_rule (new_app name) input_rule) limit_rule
+
+-- the same with names
+abbrev pub named_app : Text → App
+named_app name = with_rule (one_input_app name) names_rule
+
+-- `vcdkit` has a version (so `--version` and `-V`), wants a command and has no command `help`
+abbrev pub bare_app : App
+bare_app =
+    let program = new_app (codes "vcdkit") in
+    record program { top = record program.top { has_version = true; subcommand_required = true; disable_help_subcommand = true } }
+
+-- `vcdkit` with its commands
+abbrev pub program_app : App
+program_app =
+    with_subcommand (with_subcommand (with_subcommand bare_app (one_input_app (codes "check")).top) (one_input_app (codes "list")).top)
+    (named_app (codes "pick")).top
+
+-- help and the version are no fault, and out of memory has a status of its own
+abbrev pub parse_status_of : ErrorKind → ℕ
+parse_status_of kind.DisplayHelp = 0
+parse_status_of kind.DisplayVersion = 0
+parse_status_of kind.OutOfMemory = 3
+parse_status_of other = 2
+
+-- ---- the words that were used
+
+-- the first word after an option of the command that was used
+abbrev pub word_after : ArgMatches → Text → Option Text
+word_after matches id = option_and_then (λ used. first_of id used.1) (subcommand_rows_of matches)
+
+-- all words of an argument of the command that was used
+abbrev pub values_after : ArgMatches → Text → List Text
+values_after matches id = unwrap_or (option_and_then (λ used. all_of id used.1) (subcommand_rows_of matches)) []
+
+-- words, where there are some
+abbrev pub some_of : List Text → Option (List Text)
+some_of words = cond (is_empty words) None (Some words)
+
+-- the file that the matches name, none where standard input is read
+abbrev pub input_asked : ArgMatches → Option Text
+input_asked matches = word_after matches (codes "input")
+
+-- the command of this name, with its words
+abbrev pub command_named : Text → ArgMatches → Option model.Command
+command_named name matches =
+    cond (bytes_eq name (codes "check")) (Some model.Command.Check)
+    (cond (bytes_eq name (codes "list")) (Some model.Command.Listing)
+    (cond (bytes_eq name (codes "pick")) (Some (model.Command.Pick (values_after matches (codes "names")))) None))
+
+-- the command that was used, with its words
+abbrev pub command_used : ArgMatches → Option model.Command
+command_used matches = option_and_then (λ name. command_named name matches) (subcommand_name_of matches)
+
+-- a command that has the words that it needs
+abbrev pub complete : Option model.Command → Option model.Command
+complete named = option_and_then (λ command. cond (model.has_words command) (Some command) None) named
+
+-- ---- what they ask for
+
+-- the words that were used, where they have a command of the table
+abbrev pub words_used : ArgMatches → Option model.Words
+words_used matches = option_map (λ command. record { command = command; limit = word_after matches (codes "token-limit") }) (command_used matches)
+
+-- what the matches ask for
+abbrev pub job_asked : ArgMatches → Result model.Job model.UseFault
+job_asked matches = model.job_of (words_used matches)
+
+-- the command of borrowed words
+abbrev pub words_command : Words → model.Command
+words_command words.Check = model.Command.Check
+words_command words.List = model.Command.Listing
+words_command (words.Pick names) = model.Command.Pick (map (λ name. name.now) names.now)
+
+-- the command that asks for this
+abbrev pub want_command : Want → model.Command
+want_command want.Check = model.Command.Check
+want_command want.List = model.Command.Listing
+want_command (want.Pick names) = model.Command.Pick (map string_bytes names.items)
+
+-- the fault is the one that the words have; memory runs out only where they have none
+abbrev pub IsFaultOf : {X : Type 0} → UseFault → Result X model.UseFault → Type 0
+IsFaultOf {X} BadWords asked = asked ≡ Err model.UseFault.BadWords
+IsFaultOf {X} (BadLimit word) asked = asked ≡ Err (model.UseFault.BadLimit word.now)
+IsFaultOf {X} OutOfMemory asked = (x : X) × (asked ≡ Ok x)

@@ -1,0 +1,54 @@
+// Why a run ends before it is done.
+use std::alloc::AllocError;
+use vcd_head::HeadFault;
+use vcd_tools::Stop;
+
+#[derive(Clone, Copy, PartialEq, Eq, Debug)]
+pub(crate) enum Failure {
+    /// A fault of an input or of a device, or a name that selects nothing.
+    Stopped(Stop),
+    /// Memory ran out.
+    OutOfMemory,
+}
+
+impl Failure {
+    ghost use Rattle.std.specs.Prelude.{◌≡◌};
+    ghost use Rattle.vcdkit.specs.Failure.{head_failure, stop_failure};
+
+    /// The fault of a header, whose input has this place among all, and whose feed is at this line.
+    pub(crate) fn of_head(fault: HeadFault, input: usize, line: u64) -> Failure
+        ensures { result ≡ head_failure fault input line }
+    {
+        match fault {
+            HeadFault::ReadFailed => Failure::Stopped(Stop::Read { input }),
+            HeadFault::OutOfMemory => Failure::OutOfMemory,
+            fault => Failure::Stopped(Stop::Dump {
+                input,
+                line,
+                fault: fault.number(),
+            }),
+        }
+    }
+
+    /// The stop of a task, whose only input has this place among all.
+    pub(crate) fn of_stop(stop: Stop, input: usize) -> Failure
+        ensures { result ≡ stop_failure stop input }
+    {
+        Failure::Stopped(match stop {
+            Stop::Dump { line, fault, .. } => Stop::Dump { input, line, fault },
+            Stop::Read { .. } => Stop::Read { input },
+            Stop::Write | Stop::Unmatched { .. } => stop,
+        })
+    }
+}
+
+impl From<AllocError> for Failure {
+    ghost use Rattle.std.specs.Prelude.{◌≡◌};
+    ghost use Rattle.vcdkit.specs.declared.failure.Failure.TheVariants.{OutOfMemory};
+
+    ghost from_gives = { λ _ failure. failure ≡ OutOfMemory };
+
+    fn from(_error: AllocError) -> Failure {
+        Failure::OutOfMemory
+    }
+}

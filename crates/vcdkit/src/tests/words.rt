@@ -1,0 +1,267 @@
+// Command lines: which are taken, and what they ask for.
+ghost use Rattle.std.specs.Prelude.{◌≤◌};
+
+use crate::command::{command_of, parse_status};
+use crate::job::{Job, UseFault, Want, job_of};
+use crate::words::{Words, input_of, want_of};
+use clap::error::ErrorKind;
+use clap::{Command, Error};
+use std::alloc::{AllocError, Global};
+use std::test::Fail;
+
+// What the parse of these words returns: nothing where they are taken, else its kind and the exit status.
+fn answer<'a>(alloc: Global, words: &'a [&'a str]) -> Result<Option<(ErrorKind, u8)>, AllocError> {
+    match command_of(alloc)?.try_get_matches_from(words) {
+        Ok(_) => Ok(None),
+        Err(error) => Ok(Some((error.kind(), parse_status(&error)))),
+    }
+}
+
+#[test]
+fn words_are_taken_or_answered(rt: HostRuntime) -> Result<(), Fail> {
+    let alloc = rt.alloc();
+    let help = Some((ErrorKind::DisplayHelp, 0));
+    let version = Some((ErrorKind::DisplayVersion, 0));
+    let missing = Some((ErrorKind::MissingSubcommand, 2));
+    let no_command = Some((ErrorKind::InvalidSubcommand, 2));
+    let no_argument = Some((ErrorKind::UnknownArgument, 2));
+    assert_eq!(rt; answer(alloc, &["vcdkit", "check"])?, None);
+    assert_eq!(rt; answer(alloc, &["vcdkit", "--help"])?, help);
+    assert_eq!(rt; answer(alloc, &["vcdkit", "check", "--help"])?, help);
+    assert_eq!(rt; answer(alloc, &["vcdkit", "--version"])?, version);
+    assert_eq!(rt; answer(alloc, &["vcdkit", "-V"])?, version);
+    assert_eq!(rt; answer(alloc, &["vcdkit"])?, missing);
+    assert_eq!(rt; answer(alloc, &["vcdkit", "chek"])?, no_command);
+    assert_eq!(rt; answer(alloc, &["vcdkit", "help"])?, no_command);
+    assert_eq!(rt; answer(alloc, &["vcdkit", "check", "more"])?, no_argument);
+    assert_eq!(rt; answer(alloc, &["vcdkit", "--more"])?, no_argument);
+    assert_eq!(rt; parse_status(&Error::from(AllocError)), 3);
+    Ok(())
+}
+
+#[test]
+fn the_version_is_said(rt: HostRuntime) -> Result<(), Fail> {
+    let alloc = rt.alloc();
+    for word in ["--version", "-V"] {
+        let words = ["vcdkit", word];
+        let text = match command_of(alloc)?.try_get_matches_from(words.as_slice()) {
+            Ok(_) => String::from_str(alloc, "matches")?,
+            Err(error) => format!(in alloc; "{error}")?,
+        };
+        assert_eq!(rt; text.as_str(), "vcdkit 0.1.0\n");
+    }
+    Ok(())
+}
+
+#[test]
+fn options_are_taken_or_answered(rt: HostRuntime) -> Result<(), Fail> {
+    let alloc = rt.alloc();
+    let help = Some((ErrorKind::DisplayHelp, 0));
+    let no_value = Some((ErrorKind::InvalidValue, 2));
+    let unknown = Some((ErrorKind::UnknownArgument, 2));
+    let twice = Some((ErrorKind::ArgumentConflict, 2));
+    assert_eq!(rt; answer(alloc, &["vcdkit", "list"])?, None);
+    assert_eq!(rt; answer(alloc, &["vcdkit", "list", "--help"])?, help);
+    assert_eq!(rt; answer(alloc, &["vcdkit", "list", "-h"])?, help);
+    assert_eq!(rt; answer(alloc, &["vcdkit", "check", "-i", "-"])?, None);
+    assert_eq!(rt; answer(alloc, &["vcdkit", "check", "-i"])?, no_value);
+    assert_eq!(rt;
+        answer(alloc, &["vcdkit", "check", "--token-limit"])?,
+        no_value
+    );
+    assert_eq!(rt;
+        answer(alloc, &["vcdkit", "list", "--limit", "64"])?,
+        unknown
+    );
+    assert_eq!(rt;
+        answer(alloc, &["vcdkit", "list", "--input", "a.vcd"])?,
+        unknown
+    );
+    assert_eq!(rt;
+        answer(alloc, &["vcdkit", "-i", "a.vcd", "check"])?,
+        unknown
+    );
+    let words = ["vcdkit", "check", "-i", "a.vcd", "-i", "b.vcd"];
+    assert_eq!(rt; answer(alloc, words.as_slice())?, twice);
+    Ok(())
+}
+
+#[test]
+fn names_are_taken_or_answered(rt: HostRuntime) -> Result<(), Fail> {
+    let alloc = rt.alloc();
+    let help = Some((ErrorKind::DisplayHelp, 0));
+    let missing = Some((ErrorKind::MissingRequiredArgument, 2));
+    let unknown = Some((ErrorKind::UnknownArgument, 2));
+    assert_eq!(rt; answer(alloc, &["vcdkit", "pick", "tb"])?, None);
+    assert_eq!(rt; answer(alloc, &["vcdkit", "pick", "a", "b", "c"])?, None);
+    assert_eq!(rt; answer(alloc, &["vcdkit", "pick", "--help"])?, help);
+    assert_eq!(rt; answer(alloc, &["vcdkit", "pick"])?, missing);
+    assert_eq!(rt; answer(alloc, &["vcdkit", "pick", "-i", "f.vcd"])?, missing);
+    assert_eq!(rt; answer(alloc, &["vcdkit", "pick", "-a"])?, unknown);
+    assert_eq!(rt; answer(alloc, &["vcdkit", "list", "tb"])?, unknown);
+    Ok(())
+}
+
+// What these words ask for.
+fn asked<'a>(alloc: Global, words: &'a [&'a str]) -> Result<Result<Job, UseFault<'a>>, Fail> {
+    let matches = command_of(alloc)?.try_get_matches_from(words)?;
+    Ok(job_of(alloc, &matches))
+}
+
+// A job under this token limit.
+fn job_under(want: Want, limit: usize) -> Job
+    requires { (64 ≤ limit) × (limit ≤ 16777216) }
+{
+    Job {
+        want,
+        limit,
+        chunk: 65_536,
+    }
+}
+
+// A job that picks these names under this token limit.
+fn pick_under(alloc: Global, names: &[&str], limit: usize) -> Result<Job, AllocError>
+    requires { (64 ≤ limit) × (limit ≤ 16777216) }
+{
+    Ok(job_under(want_of(alloc, Words::Pick(names))?, limit))
+}
+
+#[test]
+fn a_command_asks_for_its_job(rt: HostRuntime) -> Result<(), Fail> {
+    let alloc = rt.alloc();
+    let job = Job {
+        want: Want::Check,
+        limit: 1_048_576,
+        chunk: 65_536,
+    };
+    let matches = command_of(alloc)?.try_get_matches_from(["vcdkit", "check"].as_slice())?;
+    assert_eq!(rt; job_of(alloc, &matches), Ok(job));
+
+    let bare = Command::new(alloc, "vcdkit");
+    let matches = bare.try_get_matches_from(["vcdkit"].as_slice())?;
+    assert_eq!(rt; job_of(alloc, &matches), Err(UseFault::BadWords));
+
+    let other = Command::new(alloc, "vcdkit").subcommand(Command::new(alloc, "checks"))?;
+    let matches = other.try_get_matches_from(["vcdkit", "checks"].as_slice())?;
+    assert_eq!(rt; job_of(alloc, &matches), Err(UseFault::BadWords));
+    Ok(())
+}
+
+#[test]
+fn words_ask_for_a_want_and_a_limit(rt: HostRuntime) -> Result<(), Fail> {
+    let alloc = rt.alloc();
+    let check = Ok(job_under(Want::Check, 1_048_576));
+    let list = Ok(job_under(Want::List, 1_048_576));
+    assert_eq!(rt; asked(alloc, &["vcdkit", "check"])?, check);
+    assert_eq!(rt; asked(alloc, &["vcdkit", "check", "-i", "63"])?, check);
+    assert_eq!(rt; asked(alloc, &["vcdkit", "list", "-i", "f.vcd"])?, list);
+    let words = ["vcdkit", "list", "--token-limit=100", "-if.vcd"];
+    let job = asked(alloc, words.as_slice())?;
+    assert_eq!(rt; job, Ok(job_under(Want::List, 100)));
+    Ok(())
+}
+
+#[test]
+fn a_token_limit_is_a_number_in_its_range(rt: HostRuntime) -> Result<(), Fail> {
+    let alloc = rt.alloc();
+    let good = [
+        ("64", 64),
+        ("065", 65),
+        ("16777216", 16_777_216),
+        ("00000000000000000064", 64),
+    ];
+    for (word, limit) in good {
+        assert!(rt; 64 <= limit && limit <= 16_777_216);
+        let words = ["vcdkit", "check", "--token-limit", word];
+        let job = asked(alloc, words.as_slice())?;
+        assert_eq!(rt; job, Ok(job_under(Want::Check, limit)));
+    }
+    let bad = [
+        "",
+        "0",
+        "63",
+        "16777217",
+        "000000000000000000064",
+        "18446744073709551680",
+        "99999999999999999999",
+        "+64",
+        "6 4",
+        "64 ",
+        "0x64",
+        "1e3",
+        "1_000",
+        "６４",
+    ];
+    for word in bad {
+        let words = ["vcdkit", "check", "--token-limit", word];
+        let job = asked(alloc, words.as_slice())?;
+        assert_eq!(rt; job, Err(UseFault::BadLimit(word)));
+    }
+    Ok(())
+}
+
+#[test]
+fn an_input_is_named_by_its_option(rt: HostRuntime) -> Result<(), Fail> {
+    let alloc = rt.alloc();
+    let words = ["vcdkit", "check", "--token-limit", "64"];
+    let matches = command_of(alloc)?.try_get_matches_from(words.as_slice())?;
+    assert_eq!(rt; input_of(&matches), None);
+
+    let words = ["vcdkit", "list", "-i", "f.vcd"];
+    let matches = command_of(alloc)?.try_get_matches_from(words.as_slice())?;
+    assert_eq!(rt; input_of(&matches), Some("f.vcd"));
+
+    let words = ["vcdkit", "check", "-i", ""];
+    let matches = command_of(alloc)?.try_get_matches_from(words.as_slice())?;
+    assert_eq!(rt; input_of(&matches), Some(""));
+
+    let bare = Command::new(alloc, "vcdkit");
+    let matches = bare.try_get_matches_from(["vcdkit"].as_slice())?;
+    assert_eq!(rt; input_of(&matches), None);
+    Ok(())
+}
+
+#[test]
+fn a_pick_has_its_names(rt: HostRuntime) -> Result<(), Fail> {
+    let alloc = rt.alloc();
+    let job = asked(alloc, &["vcdkit", "pick", "tb.clk", "u"])?;
+    let wanted = pick_under(alloc, &["tb.clk", "u"], 1_048_576)?;
+    assert_eq!(rt; job, Ok(wanted));
+
+    let words = [
+        "vcdkit",
+        "pick",
+        "-i",
+        "f.vcd",
+        "b",
+        "--token-limit",
+        "64",
+        "a",
+        "b",
+    ];
+    let job = asked(alloc, words.as_slice())?;
+    assert_eq!(rt; job, Ok(pick_under(alloc, &["b", "a", "b"], 64)?));
+
+    Ok(())
+}
+
+#[test]
+fn a_name_may_be_any_text_after_two_dashes(rt: HostRuntime) -> Result<(), Fail> {
+    let alloc = rt.alloc();
+    let job = asked(alloc, &["vcdkit", "pick", "--", "-i", ""])?;
+    let wanted = pick_under(alloc, &["-i", ""], 1_048_576)?;
+    assert_eq!(rt; job, Ok(wanted));
+    Ok(())
+}
+
+#[test]
+fn a_pick_wants_a_good_limit_and_a_name(rt: HostRuntime) -> Result<(), Fail> {
+    let alloc = rt.alloc();
+    let job = asked(alloc, &["vcdkit", "pick", "a", "--token-limit", "63"])?;
+    assert_eq!(rt; job, Err(UseFault::BadLimit("63")));
+
+    let other = Command::new(alloc, "vcdkit").subcommand(Command::new(alloc, "pick"))?;
+    let matches = other.try_get_matches_from(["vcdkit", "pick"].as_slice())?;
+    assert_eq!(rt; job_of(alloc, &matches), Err(UseFault::BadWords));
+    Ok(())
+}

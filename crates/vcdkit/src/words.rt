@@ -1,0 +1,89 @@
+//! What the words of the command line ask for, borrowed from their matches.
+ghost use Rattle.std.specs.Prelude.{◌≡◌, IfOk, codes, map, option_map, string_bytes};
+ghost use Rattle.vcdkit.specs.Words.{command_named, command_used, complete, input_asked, some_of, values_after, want_command, word_after, words_command};
+
+use crate::job::Want;
+use clap::ArgMatches;
+use std::alloc::{AllocError, Global};
+
+/// A command with its words.
+#[derive(Clone, Copy, PartialEq, Eq, Debug)]
+pub(crate) enum Words<'m, 'a> {
+    Check,
+    List,
+    Pick(&'m [&'a str]),
+}
+
+/// The first word after an option of the command that was used.
+fn word_of<'a>(matches: &ArgMatches<'a>, id: &str) -> Option<&'a str>
+    ensures { option_map (λ word. word.now) result ≡ word_after matches.now id.now }
+{
+    let (_, options) = matches.subcommand()?;
+    options.get_str(id)
+}
+
+/// The file that the matches of the command name; without one standard input is read.
+pub fn input_of<'a>(matches: &ArgMatches<'a>) -> Option<&'a str>
+    ensures { option_map (λ name. name.now) result ≡ input_asked matches.now }
+{
+    word_of(matches, "input")
+}
+
+/// The word after `--token-limit`.
+pub(crate) fn limit_word<'a>(matches: &ArgMatches<'a>) -> Option<&'a str>
+    ensures { option_map (λ word. word.now) result ≡ word_after matches.now (codes "token-limit") }
+{
+    word_of(matches, "token-limit")
+}
+
+/// The names after the command that was used, where there are some.
+fn names_of<'m, 'a>(matches: &'m ArgMatches<'a>) -> Option<&'m [&'a str]>
+    ensures { option_map (λ names. map (λ name. name.now) names.now) result
+        ≡ some_of (values_after matches.now (codes "names")) }
+{
+    let (_, options) = matches.subcommand()?;
+    let names = options.get_strs("names")?;
+    (!names.is_empty()).then_some(names)
+}
+
+/// The command of this name with its words, where it has all that it needs.
+fn words_named<'m, 'a>(name: &str, matches: &'m ArgMatches<'a>) -> Option<Words<'m, 'a>>
+    ensures { option_map words_command result ≡ complete (command_named name.now matches.now) }
+{
+    match name {
+        "check" => Some(Words::Check),
+        "list" => Some(Words::List),
+        "pick" => Some(Words::Pick(names_of(matches)?)),
+        _ => None,
+    }
+}
+
+/// The command that was used with its words, where it has all that it needs.
+pub(crate) fn words_in<'m, 'a>(matches: &'m ArgMatches<'a>) -> Option<Words<'m, 'a>>
+    ensures { option_map words_command result ≡ complete (command_used matches.now) }
+{
+    words_named(matches.subcommand_name()?, matches)
+}
+
+/// A copy of names.
+fn copied(alloc: Global, names: &[&str]) -> Result<Vec<String>, AllocError>
+    ensures { IfOk result (λ copies. map string_bytes copies.items
+        ≡ map (λ name. name.now) names.now) }
+{
+    let mut copies = Vec::new(alloc);
+    for name in names {
+        copies.push(String::from_str(alloc, name)?)?;
+    }
+    Ok(copies)
+}
+
+/// What these words ask for. Their names are copied.
+pub(crate) fn want_of(alloc: Global, words: Words<'_, '_>) -> Result<Want, AllocError>
+    ensures { IfOk result (λ want. want_command want ≡ words_command words.entry) }
+{
+    Ok(match words {
+        Words::Check => Want::Check,
+        Words::List => Want::List,
+        Words::Pick(names) => Want::Pick(copied(alloc, names)?),
+    })
+}
