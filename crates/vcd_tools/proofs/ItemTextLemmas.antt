@@ -1,5 +1,5 @@
 -- The line of the item that was read last, and the text with it.
-use Rattle.std.proofs.Common.{◌≡◌, ℕ, ◌<◌, List, [], ◌∷◌, ◌++◌, length, map, slice_get, unwrap_or, option_map, Some, None, refl, sym, ap, subst, ◌∙◌, append-nil, append_assoc, arith}
+use Rattle.std.proofs.Common.{◌≡◌, ℕ, ◌<◌, List, [], ◌∷◌, ◌++◌, length, map, slice_get, Some, None, refl, sym, ap, subst, ◌∙◌, append-nil, append_assoc, arith}
 use Rattle.std.specs.List.{last_or}
 use Rattle.std.proofs.lemmas.List.{map-append}
 use Rattle.vcd_model.specs.Declarations.{IdCode}
@@ -10,10 +10,11 @@ use Rattle.vcd_model.proofs.Growing.{text_after-append}
 use Rattle.vcd_model.specs.Values.{change_line}
 use Rattle.vcd_text.specs.declared.device.Source.{Ghosts}
 use Rattle.vcd_text.specs.declared.feed.Feed.{Feed}
-use Rattle.vcd_head.specs.Shown.{HeadShown}
-use Rattle.vcd_head.specs.Views.{IsCode, Views, code_text}
+use Rattle.vcd_head.specs.Shown.{HeadShown, text_in}
+use Rattle.vcd_head.specs.Views.{IsCode, Views}
 use Rattle.vcd_head.specs.declared.view.Code.{Code}
 use Rattle.vcd_head.proofs.RowLemmas.{code_at}
+use Rattle.vcd_head.proofs.RowLemmas.{text_within}
 use Rattle.vcd_body.specs.Given.{IsText, text_of}
 use Rattle.vcd_body.specs.Items.{model_form}
 use Rattle.vcd_body.specs.declared.item.Form.{Form}
@@ -40,11 +41,11 @@ code_is s h place c code views declared there =
 
 -- so what is written for a change is the line of its item
 pub change_is : {X : Type 0} {g : Ghosts X} (s : HeadShown) (h : Header) (f : Feed X g) (place : ℕ) (form : Form) (x : BodyItem) (code : Code) (id text : List ℕ) → Views s h → AsItem h.codes f (Change place form) x → slice_get s.codes place ≡ Some code
-    → id ≡ code_text h.codes place → text ≡ text_of form f
+    → id ≡ text_in s.text code.start code.len → text ≡ text_of form f
     → change_line (record { code = record { text = id; size = code.size; event = code.event }; form = model_form form; text = text }) ≡ item_line x
 change_is s h f place form x code id text views is there ids texts =
     let k = code_is s h place is.0 code views is.1 there in
-    let name : id ≡ is.0.text = ids ∙ ap (λ found. unwrap_or (option_map (λ (c : IdCode). c.text) found) []) is.1 in
+    let name : id ≡ is.0.text = ids ∙ text_within s.text code.start code.len k.within ∙ k.text_is in
     let same : record { text = id; size = code.size; event = code.event } ≡ is.0 = rw (name, k.size_is, k.event_is) refl in
     ap (λ (c : IdCode). change_line (record { code = c; form = model_form form; text = text })) same ∙ ap (λ l. change_line (record { code = is.0; form = model_form form; text = l })) texts ∙ ap item_line (sym is.2)
 

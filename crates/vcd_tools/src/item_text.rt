@@ -79,15 +79,16 @@ fn put_change_line<S: Source, W: Sink>(
         → Takes (W.device out.old) (W.device out.new) (item_line x) result }
     ensures counts { Counts (W.device out.old) (W.device out.new) result }
 {
-    let Some(declared) = view.code_at(code) else {
+    let Some(code) = view.code_at(code) else {
         return Ok(());
     };
+    let id = view.text_at(code.start, code.len);
     put_change(
-        declared.size,
-        declared.event,
+        code.size,
+        code.event,
         form,
         change_text(feed, form),
-        view.code_text(code),
+        id,
         out,
     )
 }

@@ -16,5 +16,5 @@ returns-in_default-clause-takes g c = let s = c.requires.sound in let there = s.
 pub returns-clause-takes : goal.returns-clause-takes
 returns-clause-takes g c = λ h x views is.
     subst (λ l. Takes (g.W.Sink.device c.args.out.now) (g.W.Sink.device c.put_change.new.w) l c.put_change.result)
-    (change_is (parts c.args.view) h c.args.feed.now c.args.code c.args.form x c.in-Some.declared c.code_text.result.now c.change_text.result.now views is (sym c.code_at.ensures ∙ c.in-Some.is) (c.code_text.ensures h views) c.change_text.ensures)
+    (change_is (parts c.args.view) h c.args.feed.now c.args.code c.args.form x c.in-Some.code c.text_at-id.result.now c.change_text.result.now views is (sym c.code_at.ensures ∙ c.in-Some.is) c.text_at-id.ensures c.change_text.ensures)
     c.put_change.ensures.0
