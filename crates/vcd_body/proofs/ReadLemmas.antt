@@ -8,7 +8,7 @@ use Rattle.std.proofs.lemmas.List.Elements.{filter_map-append}
 use Rattle.std.proofs.lemmas.List.Sums.{sum_by-append}
 use Rattle.vcd_model.specs.Bytes.{is_empty}
 use Rattle.vcd_model.specs.Input.{Input}
-use Rattle.vcd_model.specs.Tokens.{Token}
+use Rattle.vcd_model.specs.Tokens.{Token, Stream}
 use Rattle.vcd_model.specs.Declarations.{IdCode}
 use Rattle.vcd_model.specs.Items.{BodyItem, Change, ChangeForm, marks, time_mark, time_after, leaves_open, open_section, section_of, is_begin, is_end_of_section}
 use Rattle.vcd_model.specs.BodyPhrases.{BodyPhrase, items_of}
@@ -24,8 +24,8 @@ use Rattle.vcd_body.specs.declared.item.Section.{Section}
 use Rattle.vcd_body.specs.declared.item.Item.TheVariants as item
 use Rattle.vcd_body.specs.declared.item.Regs.{Regs}
 use Rattle.vcd_body.specs.Items.{AreRegsAfter, regs_after, model_section}
-use Rattle.vcd_body.specs.Reads.{GaveItems, GaveMark, Begun, Looks, Reads, ReadsAll, ReadsPhrase, BodyHas, Fails, Passes, Refuses}
-use Rattle.vcd_body.proofs.TokenLemmas.{taken_own, taken_phrase, begun, refused, fails, ended, ended_open}
+use Rattle.vcd_body.specs.Reads.{GaveItems, GaveItem, GaveAll, Begun, Looks, Reads, ReadsAll, ReadsPhrase, BodyHas, FailsOver, Fails, Passes, Refuses}
+use Rattle.vcd_body.proofs.TokenLemmas.{taken_phrase, begun, refused_at, fails, stopped_at_end, ended, ended_open}
 use Rattle.vcd_body.proofs.PhraseLemmas.{section_open, comment_begins}
 
 -- ---- lists that grow
@@ -109,28 +109,34 @@ items_push : (placed : List (Placed BodyPhrase)) (p : Placed BodyPhrase) → ite
 items_push placed p = rw (map-append, filter_map-append) refl
 
 module _ {X : Type 0} {g : Ghosts X} (codes : List IdCode) (i : Input) (front : List Token) (items : List BodyItem) where
-  pub item_given : (old new : Feed X g) (r r' : Regs) (x : BodyItem) (b : Begun codes i front items old r) → ReadsPhrase codes i front b.placed new (BodyPhrase.Gives x) → AreRegsAfter (items ++ x ∷ []) r' → GaveItems codes i front (items ++ x ∷ []) new r'
+  pub item_given : (old new : Feed X g) (r r' : Regs) (x : BodyItem) (b : Begun codes i front items old r) → ReadsPhrase codes i front b.placed new (BodyPhrase.Gives x) → AreRegsAfter (items ++ x ∷ []) r' → GaveItem codes i front items x new r'
   item_given old new r r' x b p k = record {
-    given = p.reads.given;
-    placed = b.placed ++ record { phrase = BodyPhrase.Gives x; line = p.line } ∷ [];
-    stands = p.reads.stands;
-    so_far = p.reads.so_far;
-    items_are = items_push b.placed (record { phrase = BodyPhrase.Gives x; line = p.line }) ∙ ap (λ l. l ++ x ∷ []) b.items_are;
-    known = k;
+    gave = record {
+      given = p.reads.given;
+      placed = b.placed ++ record { phrase = BodyPhrase.Gives x; line = (token_of new).line } ∷ [];
+      stands = p.reads.stands;
+      so_far = p.reads.so_far;
+      items_are = items_push b.placed (record { phrase = BodyPhrase.Gives x; line = (token_of new).line }) ∙ ap (λ l. l ++ x ∷ []) b.items_are;
+      known = k;
+    };
+    before = b.placed;
+    before_are = b.items_are;
+    last = refl;
+    near = p.near;
   }
 
   -- an item of one token
-  pub own_given : (f : Feed X g) (r r' : Regs) (x : BodyItem) (b : Begun codes i front items f r) → Passes codes (phrases_of b.placed) (token_of f).bytes x → AreRegsAfter (items ++ x ∷ []) r' → GaveItems codes i front (items ++ x ∷ []) f r'
+  pub own_given : (f : Feed X g) (r r' : Regs) (x : BodyItem) (b : Begun codes i front items f r) → Passes codes (phrases_of b.placed) (token_of f).bytes x → AreRegsAfter (items ++ x ∷ []) r' → GaveItem codes i front items x f r'
   own_given f r r' x b p k = item_given f f r r' x b (taken_phrase codes i front b.placed [] f (BodyPhrase.Gives x) p.0 p.1 b.looks) k
 
   -- a comment gives none
   pub none_given : (old new : Feed X g) (r : Regs) (inner : List (List ℕ)) (b : Begun codes i front items old r) → ReadsPhrase codes i front b.placed new (BodyPhrase.Comment inner) → GaveItems codes i front items new r
   none_given old new r inner b p = record {
     given = p.reads.given;
-    placed = b.placed ++ record { phrase = BodyPhrase.Comment inner; line = p.line } ∷ [];
+    placed = b.placed ++ record { phrase = BodyPhrase.Comment inner; line = (token_of new).line } ∷ [];
     stands = p.reads.stands;
     so_far = p.reads.so_far;
-    items_are = items_push b.placed (record { phrase = BodyPhrase.Comment inner; line = p.line }) ∙ append-nil (items_of (phrases_of b.placed)) ∙ b.items_are;
+    items_are = items_push b.placed (record { phrase = BodyPhrase.Comment inner; line = (token_of new).line }) ∙ append-nil (items_of (phrases_of b.placed)) ∙ b.items_are;
     known = b.known;
   }
 
@@ -153,16 +159,17 @@ module _ {X : Type 0} {g : Ghosts X} (codes : List IdCode) (i : Input) (front : 
   begun_at old new r more e h m = begun_of old new r h (subst (λ (b : Bool). MatchBool b (Looks codes i front h.placed [] new) (ReadsAll codes i front h.placed [] new)) e m)
 
   -- the end, outside a section and inside one
-  pub ends_clean : (old new : Feed X g) (r : Regs) (h : GaveItems codes i front items old r) → ReadsAll codes i front h.placed [] new → is_some r.section ≡ false → GaveItems codes i front items new r × BodyHas codes i front (limit_of new) items None
-  ends_clean old new r h a closed = (
-    record { given = a.given; placed = h.placed; stands = a.stands; so_far = a.so_far; items_are = h.items_are; known = h.known },
-    subst (λ (l : List BodyItem). BodyHas codes i front (limit_of new) l None) h.items_are (ended codes i front h.placed (limit_of new) a.given (token_of new).line a.so_far a.all (ap leaves_open h.items_are ∙ section_open codes items r false h.known closed)),
-  )
+  pub ends_clean : (old new : Feed X g) (r : Regs) (h : GaveItems codes i front items old r) → ReadsAll codes i front h.placed [] new → is_some r.section ≡ false → GaveAll codes i front items new r
+  ends_clean old new r h a closed = record {
+    gave = record { given = a.given; placed = h.placed; stands = a.stands; so_far = a.so_far; items_are = h.items_are; known = h.known };
+    all = ap (λ (s : Stream). s.tokens) a.all;
+    has = subst (λ (l : List BodyItem). BodyHas codes i front (limit_of new) l None) h.items_are (ended codes i front h.placed (limit_of new) a.given (token_of new).line a.so_far a.all (ap leaves_open h.items_are ∙ section_open codes items r false h.known closed));
+  }
 
-  pub ends_inside : (old new : Feed X g) (r : Regs) (h : GaveItems codes i front items old r) → ReadsAll codes i front h.placed [] new → is_some r.section ≡ true → BodyHas codes i front (limit_of new) items (Some (record { number = 2; line = (token_of new).line }))
+  pub ends_inside : (old new : Feed X g) (r : Regs) (h : GaveItems codes i front items old r) → ReadsAll codes i front h.placed [] new → is_some r.section ≡ true → FailsOver codes i front items 2 new
   ends_inside old new r h a inside =
-      subst (λ (l : List BodyItem). BodyHas codes i front (limit_of new) l (Some (record { number = 2; line = (token_of new).line }))) h.items_are
-      (ended_open codes i front h.placed (limit_of new) a.given (token_of new).line a.so_far a.all (ap leaves_open h.items_are ∙ section_open codes items r true h.known inside))
+      subst (λ (l : List BodyItem). FailsOver codes i front l 2 new) h.items_are
+      (ended_open codes i front h.placed (limit_of new) a.given (token_of new).line a.so_far a.all (ap leaves_open h.items_are ∙ section_open codes items r true h.known inside), stopped_at_end codes i front h.placed [] new (limit_of new) a.given None (token_of new).line refl a.stands a.so_far a.all)
 
   -- a comment begins
   pub comment_begun : (f : Feed X g) (r : Regs) (b : Begun codes i front items f r) → (token_of f).bytes ≡ keyword_text Keyword.Comment → Reads codes i front b.placed (keyword_text Keyword.Comment ∷ []) f
@@ -171,33 +178,24 @@ module _ {X : Type 0} {g : Ghosts X} (codes : List IdCode) (i : Input) (front : 
       subst (λ (t : List ℕ). Reads codes i front b.placed (t ∷ []) f) e (begun codes i front b.placed f p.0 p.1 b.looks)
 
   -- a check of the first token fails
-  pub refused_first : (f : Feed X g) (r : Regs) (n : ℕ) (b : Begun codes i front items f r) → body_fault codes (phrases_of b.placed) [] (token_of f).bytes ≡ Some n → BodyHas codes i front (limit_of f) items (Some (record { number = n; line = (token_of f).line }))
-  refused_first f r n b e = subst (λ (l : List BodyItem). BodyHas codes i front (limit_of f) l (Some (record { number = n; line = (token_of f).line }))) b.items_are (refused codes i front b.placed [] f n e b.looks)
+  pub refused_first : (f : Feed X g) (r : Regs) (n : ℕ) (b : Begun codes i front items f r) → body_fault codes (phrases_of b.placed) [] (token_of f).bytes ≡ Some n → FailsOver codes i front items n f
+  refused_first f r n b e = subst (λ (l : List BodyItem). FailsOver codes i front l n f) b.items_are (refused_at codes i front b.placed [] f n e b.looks)
 
   pub refused_own : (f : Feed X g) (r : Regs) (t : List ℕ) (fault : BodyFault) (b : Begun codes i front items f r) → t ≡ (token_of f).bytes → Refuses codes (phrases_of b.placed) t fault → Fails codes i front items fault f
   refused_own f r t fault b e h = fault_given b.placed fault f b.items_are (fails codes i front b.placed [] f fault h.0 (ap (body_fault codes (phrases_of b.placed) []) (sym e) ∙ h.1) b.looks)
 
   -- a change of one token
   pub scalar_given : (f : Feed X g) (r : Regs) (t : List ℕ) (c : IdCode) (b : Begun codes i front items f r) → t ≡ (token_of f).bytes → Passes codes (phrases_of b.placed) t (BodyItem.Changes (record { code = c; form = ChangeForm.Scalar; text = take 1 t }))
-      → GaveItems codes i front (items ++ BodyItem.Changes (record { code = c; form = ChangeForm.Scalar; text = take 1 (token_of f).bytes }) ∷ []) f r
+      → GaveItem codes i front items (BodyItem.Changes (record { code = c; form = ChangeForm.Scalar; text = take 1 (token_of f).bytes })) f r
   scalar_given f r t c b e p =
       let x : Change = record { code = c; form = ChangeForm.Scalar; text = take 1 (token_of f).bytes } in
       own_given f r r (BodyItem.Changes x) b (subst (λ (l : List ℕ). Passes codes (phrases_of b.placed) l (BodyItem.Changes (record { code = c; form = ChangeForm.Scalar; text = take 1 l }))) e p) (known_change items r x b.known)
 
-  pub change_given : (old new : Feed X g) (r : Regs) (x : Change) (b : Begun codes i front items old r) → ReadsPhrase codes i front b.placed new (BodyPhrase.Gives (BodyItem.Changes x)) → GaveItems codes i front (items ++ BodyItem.Changes x ∷ []) new r
+  pub change_given : (old new : Feed X g) (r : Regs) (x : Change) (b : Begun codes i front items old r) → ReadsPhrase codes i front b.placed new (BodyPhrase.Gives (BodyItem.Changes x)) → GaveItem codes i front items (BodyItem.Changes x) new r
   change_given old new r x b p = item_given old new r r (BodyItem.Changes x) b p (known_change items r x b.known)
 
   pub time_given : (f : Feed X g) (r : Regs) (t : List ℕ) (time : ℕ) (b : Begun codes i front items f r) → t ≡ (token_of f).bytes → Passes codes (phrases_of b.placed) t (BodyItem.Time time) × (time_after (items_of (phrases_of b.placed)) ≤ time)
-      → GaveMark codes i front items time f (regs_after r (item.Time time))
-  unfolding item_given
+      → GaveItem codes i front items (BodyItem.Time time) f (regs_after r (item.Time time))
   time_given f r t time b e p =
-      let x = BodyItem.Time time in
-      let q : Passes codes (phrases_of b.placed) (token_of f).bytes x = subst (λ (l : List ℕ). Passes codes (phrases_of b.placed) l x) e p.0 in
-      let k = known_time items r time (subst (λ (l : List BodyItem). time_after l ≤ time) b.items_are p.1) b.known in
-      let reads = taken_own codes i front b.placed [] f (BodyPhrase.Gives x) q.0 q.1 b.looks in
-      record {
-        gave = item_given f f r (regs_after r (item.Time time)) x b (record { line = (token_of f).line; reads = reads }) k;
-        before = b.placed;
-        before_are = b.items_are;
-        last = refl;
-      }
+      let q : Passes codes (phrases_of b.placed) (token_of f).bytes (BodyItem.Time time) = subst (λ (l : List ℕ). Passes codes (phrases_of b.placed) l (BodyItem.Time time)) e p.0 in
+      own_given f r (regs_after r (item.Time time)) (BodyItem.Time time) b q (known_time items r time (subst (λ (l : List BodyItem). time_after l ≤ time) b.items_are p.1) b.known)

@@ -1,11 +1,11 @@
 -- One token on in the reading of a body.
-use Rattle.std.proofs.Common.{◌≡◌, ◌≢◌, ℕ, true, false, List, [], ◌∷◌, ◌++◌, Some, None, refl, sym, ap, subst, ◌∙◌}
+use Rattle.std.proofs.Common.{◌≡◌, ◌≢◌, ℕ, true, false, List, [], ◌∷◌, ◌++◌, Option, Some, None, refl, sym, ap, subst, ◌∙◌}
 use Rattle.std.proofs.lemmas.List.{append_assoc}
 use Rattle.vcd_model.specs.Input.{Input}
 use Rattle.vcd_model.specs.Laws.{IsPrefixOf}
 use Rattle.vcd_model.specs.Tokens.{Token, Stream, stream_of}
 use Rattle.vcd_model.specs.Declarations.{IdCode}
-use Rattle.vcd_model.specs.Items.{leaves_open}
+use Rattle.vcd_model.specs.Items.{BodyItem, leaves_open}
 use Rattle.vcd_model.specs.BodyPhrases.{BodyPhrase, body_phrase, items_of}
 use Rattle.vcd_model.specs.BodyChecks.{body_fault}
 use Rattle.vcd_model.specs.BodyReading.{body_grammar, read_body, body_items, body_fault_of}
@@ -13,29 +13,35 @@ use Rattle.vcd_model.specs.Reading.{Placed, phrases_of, reading_of}
 use Rattle.vcd_model.specs.SoFar.{IsSoFar}
 use Rattle.vcd_model.proofs.SoFarLemmas.{so_far-token, so_far-phrase, faulty-token}
 use Rattle.vcd_text.specs.Answer.{Ends}
-use Rattle.vcd_text.specs.Feed.{HasGiven, token_of, limit_of, seen}
+use Rattle.vcd_text.specs.Feed.{HasGiven, HasReadTo, token_of, limit_of}
+use Rattle.vcd_text.proofs.ShownLemmas.{read_to_shown}
 use Rattle.vcd_text.specs.declared.device.Source.{Ghosts}
 use Rattle.vcd_text.specs.declared.feed.Feed.{Feed}
 use Rattle.vcd_body.specs.declared.fault.BodyFault.{BodyFault}
 use Rattle.vcd_body.specs.declared.fault.BodyFault.TheVariants as fault
 use Rattle.vcd_body.specs.Fault.{fault_number}
-use Rattle.vcd_body.specs.Reads.{Reads, ReadsPhrase, Looks, BodyHas, Fails, input_of}
+use Rattle.vcd_body.specs.Reads.{Reads, ReadsPhrase, Looks, BodyHas, StopsAt, FailsOver, Fails}
+use Rattle.vcd_body.specs.Reads.StopsAt.{AtToken, AtEnd}
 
--- a fault that is not the source's leaves the input as it is
-pub same_input : (f : BodyFault) (n : ℕ) (i : Input) → f ≢ fault.ReadFailed → input_of f n i ≡ i
-same_input fault.ReadFailed n i h = absurd (h refl)
-same_input fault.TokenTooLong n i h = refl
-same_input fault.EndOfInput n i h = refl
-same_input fault.UnknownCommand n i h = refl
-same_input fault.OutOfPlace n i h = refl
-same_input fault.BadTime n i h = refl
-same_input fault.TimeBack n i h = refl
-same_input fault.BadValue n i h = refl
-same_input fault.UnknownCode n i h = refl
-same_input fault.TooWide n i h = refl
-same_input fault.RealTooLong n i h = refl
-same_input fault.TimeInSection n i h = refl
-same_input fault.InputTooLong n i h = refl
+-- a fault that is not the source's is one of the input as it is
+pub own_fault : {X : Type 0} {g : Ghosts X} (codes : List IdCode) (i : Input) (front : List Token) (items : List BodyItem) (b : BodyFault) (f : Feed X g) → b ≢ fault.ReadFailed → FailsOver codes i front items (fault_number b) f → Fails codes i front items b f
+own_fault codes i front items fault.ReadFailed f own h = absurd (own refl)
+own_fault codes i front items fault.TokenTooLong f own h = h
+own_fault codes i front items fault.EndOfInput f own h = h
+own_fault codes i front items fault.UnknownCommand f own h = h
+own_fault codes i front items fault.OutOfPlace f own h = h
+own_fault codes i front items fault.BadTime f own h = h
+own_fault codes i front items fault.TimeBack f own h = h
+own_fault codes i front items fault.BadValue f own h = h
+own_fault codes i front items fault.UnknownCode f own h = h
+own_fault codes i front items fault.TooWide f own h = h
+own_fault codes i front items fault.RealTooLong f own h = h
+own_fault codes i front items fault.TimeInSection f own h = h
+own_fault codes i front items fault.InputTooLong f own h = h
+
+-- at most a chunk was read past a token that was not looked at
+looked_near : {X : Type 0} {g : Ghosts X} (codes : List IdCode) (i : Input) (front : List Token) (placed : List (Placed BodyPhrase)) (before : List (List ℕ)) (f : Feed X g) (l : Looks codes i front placed before f) → HasReadTo i (front ++ l.given ++ token_of f ∷ []) f
+looked_near codes i front placed before f l = read_to_shown i (front ++ l.given) f l.stands
 
 module _ (codes : List IdCode) (i : Input) (front : List Token) (placed : List (Placed BodyPhrase)) where
   -- a token is missing: the input's stream is halted there
@@ -105,7 +111,8 @@ module _ (codes : List IdCode) (i : Input) (front : List Token) (placed : List (
     }
 
     pub taken_phrase : (p : BodyPhrase) → body_fault codes (phrases_of placed) before (token_of f).bytes ≡ None → body_phrase codes (before ++ (token_of f).bytes ∷ []) ≡ Some p → Looks codes i front placed before f → ReadsPhrase codes i front placed f p
-    taken_phrase p e q l = record { line = (token_of f).line; reads = taken_own p e q l }
+    unfolding taken_own
+    taken_phrase p e q l = record { reads = taken_own p e q l; near = subst (λ ts. HasReadTo i ts f) (append_assoc front l.given (token_of f ∷ [])) (looked_near codes i front placed before f l) }
 
     -- a check of the token fails
     pub refused : (n : ℕ) → body_fault codes (phrases_of placed) before (token_of f).bytes ≡ Some n → Looks codes i front placed before f
@@ -121,8 +128,27 @@ module _ (codes : List IdCode) (i : Input) (front : List Token) (placed : List (
           fault_is = ap (body_fault_of (stream_of (limit_of f) i)) reads;
         }
 
+    pub stopped : Looks codes i front placed before f → StopsAt codes i front (items_of (phrases_of placed)) f
+    stopped l = AtToken placed before refl l (looked_near codes i front placed before f l)
+
+    pub refused_at : (n : ℕ) → body_fault codes (phrases_of placed) before (token_of f).bytes ≡ Some n → Looks codes i front placed before f → FailsOver codes i front (items_of (phrases_of placed)) n f
+    refused_at n e l = (refused n e l, stopped l)
+
     pub fails : (b : BodyFault) → b ≢ fault.ReadFailed → body_fault codes (phrases_of placed) before (token_of f).bytes ≡ Some (fault_number b) → Looks codes i front placed before f → Fails codes i front (items_of (phrases_of placed)) b f
-    fails b own e l = subst (λ (j : Input). BodyHas codes j front (limit_of f) (items_of (phrases_of placed)) (Some (record { number = fault_number b; line = (token_of f).line }))) (sym (same_input b (seen f) i own)) (refused (fault_number b) e l)
+    fails b own e l = own_fault codes i front (items_of (phrases_of placed)) b f own (refused_at (fault_number b) e l)
+
+    -- the reading stops where no token is left
+    pub stopped_at_end : (limit : ℕ) (given : List Token) (halt : Option ℕ) (line : ℕ) → limit_of f ≡ limit → HasGiven i (front ++ given) f → IsSoFar (body_grammar codes) given placed before → Ends limit i (front ++ given) halt line
+        → StopsAt codes i front (items_of (phrases_of placed)) f
+    stopped_at_end limit given halt line l stands h e = AtEnd placed before refl (record { reads = record { given = given; stands = stands; so_far = h }; all = ap (λ n. (stream_of n i).tokens) l ∙ ap (λ (s : Stream). s.tokens) e })
+
+  -- a halt stands where a token is asked for
+  pub halted_at : {X : Type 0} {g : Ghosts X} (limit : ℕ) (given : List Token) (before : List (List ℕ)) (n : ℕ) (f : Feed X g) → limit_of f ≡ limit → IsSoFar (body_grammar codes) given placed before → Ends limit i (front ++ given) (Some n) (token_of f).line
+      → HasGiven i (front ++ given) f → FailsOver codes i front (items_of (phrases_of placed)) n f
+  halted_at limit given before n f l h e stands = (
+    halted (limit_of f) given before n (token_of f).line h (subst (λ m. Ends m i (front ++ given) (Some n) (token_of f).line) (sym l) e),
+    stopped_at_end before f limit given (Some n) (token_of f).line l stands h e,
+  )
 
   -- the first token of a phrase passes its checks, and others follow
   pub begun : {X : Type 0} {g : Ghosts X} (f : Feed X g) → body_fault codes (phrases_of placed) [] (token_of f).bytes ≡ None → body_phrase codes ((token_of f).bytes ∷ []) ≡ None → Looks codes i front placed [] f → Reads codes i front placed ((token_of f).bytes ∷ []) f

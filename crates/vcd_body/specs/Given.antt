@@ -6,7 +6,7 @@ use Rattle.vcd_model.specs.Tokens.{Token}
 use Rattle.vcd_model.specs.Declarations.{IdCode}
 use Rattle.vcd_model.specs.Items.{BodyItem}
 use Rattle.vcd_model.specs.BodyPhrases.{is_value_digit}
-use Rattle.vcd_text.specs.Feed.{token_of, value_of, limit_of}
+use Rattle.vcd_text.specs.Feed.{token_of, value_of}
 use Rattle.vcd_text.specs.declared.device.Source.{Ghosts}
 use Rattle.vcd_text.specs.declared.feed.Feed.{Feed}
 use Rattle.vcd_head.specs.declared.view.Code.{Code}
@@ -16,7 +16,7 @@ use Rattle.vcd_body.specs.declared.item.Item.{Item}
 use Rattle.vcd_body.specs.declared.item.Item.TheVariants.{Time, Begin, End, Change, Finish}
 use Rattle.vcd_body.specs.declared.item.Regs.{Regs}
 use Rattle.vcd_body.specs.Items.{model_section, model_form}
-use Rattle.vcd_body.specs.Reads.{GaveItems, GaveMark, BodyHas}
+use Rattle.vcd_body.specs.Reads.{GaveItem, GaveAll}
 
 -- the text of the change that was read last
 abbrev pub text_of : {X : Type 0} {g : Ghosts X} → Form → Feed X g → List ℕ
@@ -26,12 +26,12 @@ text_of RealText f = drop 1 (value_of f)
 
 -- one item more was given; at the end the body has all of them, and no fault
 abbrev pub GivesItem : {X : Type 0} {g : Ghosts X} → List IdCode → Input → List Token → List BodyItem → Feed X g → Regs → Item → Type 0
-GivesItem codes i front items f r (Time t) = GaveMark codes i front items t f r
-GivesItem codes i front items f r (Begin s) = GaveItems codes i front (items ++ BodyItem.Begin (model_section s) ∷ []) f r
-GivesItem codes i front items f r End = GaveItems codes i front (items ++ BodyItem.End ∷ []) f r
+GivesItem codes i front items f r (Time t) = GaveItem codes i front items (BodyItem.Time t) f r
+GivesItem codes i front items f r (Begin s) = GaveItem codes i front items (BodyItem.Begin (model_section s)) f r
+GivesItem codes i front items f r End = GaveItem codes i front items BodyItem.End f r
 GivesItem codes i front items f r (Change code form) =
-    (c : IdCode) × (slice_get codes code ≡ Some c) × GaveItems codes i front (items ++ BodyItem.Changes (record { code = c; form = model_form form; text = text_of form f }) ∷ []) f r
-GivesItem codes i front items f r Finish = GaveItems codes i front items f r × BodyHas codes i front (limit_of f) items None
+    (c : IdCode) × (slice_get codes code ≡ Some c) × GaveItem codes i front items (BodyItem.Changes (record { code = c; form = model_form form; text = text_of form f })) f r
+GivesItem codes i front items f r Finish = GaveAll codes i front items f r
 
 -- a text that a change may give this code: a digit; one or more digits, of which no more than its size unless it is an event; or 1 to 64 bytes
 abbrev pub IsText : Form → Code → List ℕ → Type 0

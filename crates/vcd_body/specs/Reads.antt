@@ -10,7 +10,7 @@ use Rattle.vcd_model.specs.BodyReading.{body_grammar, read_body, body_items, bod
 use Rattle.vcd_model.specs.Reading.{Fault, Placed, phrases_of}
 use Rattle.vcd_model.specs.SoFar.{IsSoFar}
 use Rattle.vcd_text.specs.Answer.{failed_after, Ends}
-use Rattle.vcd_text.specs.Feed.{HasGiven, token_of, limit_of, seen}
+use Rattle.vcd_text.specs.Feed.{HasGiven, HasReadTo, GaveOnlySeen, token_of, limit_of, seen}
 use Rattle.vcd_text.specs.declared.device.Source.{Ghosts}
 use Rattle.vcd_text.specs.declared.feed.Feed.{Feed}
 use Rattle.vcd_body.specs.declared.fault.BodyFault.{BodyFault}
@@ -18,11 +18,6 @@ use Rattle.vcd_body.specs.declared.fault.BodyFault.TheVariants.{ReadFailed}
 use Rattle.vcd_body.specs.declared.item.Regs.{Regs}
 use Rattle.vcd_body.specs.Fault.{fault_number}
 use Rattle.vcd_body.specs.Items.{AreRegsAfter}
-
--- the input that a fault leaves, where n bytes were looked at: at a failed read those and no more
-abbrev pub input_of : BodyFault → ℕ → Input → Input
-input_of ReadFailed n i = failed_after n i
-input_of fault n i = i
 
 -- the body after these first tokens has these items and this fault, or none
 pub record BodyHas (codes : List IdCode) (i : Input) (front : List Token) (limit : ℕ) (items : List BodyItem) (fault : Option Fault) : Type 0 where
@@ -41,12 +36,19 @@ module _ {X : Type 0} {g : Ghosts X} (codes : List IdCode) (i : Input) (front : 
     pub items_are : items_of (phrases_of placed) ≡ items
     pub known : AreRegsAfter items r
 
-  -- the last of these phrases is a time mark, the feed's last token, at its line
-  pub record GaveMark (items : List BodyItem) (time : ℕ) (f : Feed X g) (r : Regs) : Type 0 where
-    pub gave : GaveItems (items ++ BodyItem.Time time ∷ []) f r
+  -- The last of these phrases is an item that ends with the feed's last token, at its line, and at most a chunk was read past it.
+  pub record GaveItem (items : List BodyItem) (x : BodyItem) (f : Feed X g) (r : Regs) : Type 0 where
+    pub gave : GaveItems (items ++ x ∷ []) f r
     pub before : List (Placed BodyPhrase)
     pub before_are : items_of (phrases_of before) ≡ items
-    pub last : gave.placed ≡ before ++ record { phrase = BodyPhrase.Gives (BodyItem.Time time); line = (token_of f).line } ∷ []
+    pub last : gave.placed ≡ before ++ record { phrase = BodyPhrase.Gives x; line = (token_of f).line } ∷ []
+    pub near : HasReadTo i (front ++ gave.given) f
+
+  -- these are all tokens, and the body has just these items and no fault
+  pub record GaveAll (items : List BodyItem) (f : Feed X g) (r : Regs) : Type 0 where
+    pub gave : GaveItems items f r
+    pub all : (stream_of (limit_of f) i).tokens ≡ front ++ gave.given
+    pub has : BodyHas codes i front (limit_of f) items None
 
   -- ---- within a phrase
 
@@ -69,10 +71,21 @@ module _ {X : Type 0} {g : Ghosts X} (codes : List IdCode) (i : Input) (front : 
     pub all : Ends (limit_of f) i (front ++ given) None (token_of f).line
     pub so_far : IsSoFar (body_grammar codes) given placed before
 
-  -- and one phrase more
+  -- and no more, where the tokens end
+  pub record ReadsToEnd (placed : List (Placed BodyPhrase)) (before : List (List ℕ)) (f : Feed X g) : Type 0 where
+    pub reads : Reads placed before f
+    pub all : (stream_of (limit_of f) i).tokens ≡ front ++ reads.given
+
+  -- and one phrase more, which ends with the feed's last token; at most a chunk was read past it
   pub record ReadsPhrase (placed : List (Placed BodyPhrase)) (f : Feed X g) (p : BodyPhrase) : Type 0 where
-    pub line : ℕ
-    pub reads : Reads (placed ++ record { phrase = p; line = line } ∷ []) [] f
+    pub reads : Reads (placed ++ record { phrase = p; line = (token_of f).line } ∷ []) [] f
+    pub near : HasReadTo i (front ++ reads.given) f
+
+  -- where a body is refused behind these items: at the feed's token, which was not looked at, or where no token is left
+  pub data StopsAt (items : List BodyItem) (f : Feed X g) : Type 0 where
+    AtToken : (placed : List (Placed BodyPhrase)) (before : List (List ℕ)) (items_are : items_of (phrases_of placed) ≡ items) (looks : Looks placed before f)
+        (near : HasReadTo i (front ++ looks.given ++ token_of f ∷ []) f) → StopsAt items f
+    AtEnd : (placed : List (Placed BodyPhrase)) (before : List (List ℕ)) (items_are : items_of (phrases_of placed) ≡ items) (ends : ReadsToEnd placed before f) → StopsAt items f
 
 -- items were given, and then a token, which was not looked at, where a phrase begins
 pub record Begun {X : Type 0} {g : Ghosts X} (codes : List IdCode) (i : Input) (front : List Token) (items : List BodyItem) (f : Feed X g) (r : Regs) : Type 0 where
@@ -81,9 +94,14 @@ pub record Begun {X : Type 0} {g : Ghosts X} (codes : List IdCode) (i : Input) (
   pub items_are : items_of (phrases_of placed) ≡ items
   pub known : AreRegsAfter items r
 
--- why a body is refused: it has these items, and then this fault at the feed's line; where the source failed, over what it gave until then
+-- over this input the body has these items and then this fault, at the feed's line, and the reading stopped there
+abbrev pub FailsOver : {X : Type 0} {g : Ghosts X} → List IdCode → Input → List Token → List BodyItem → ℕ → Feed X g → Type 0
+FailsOver codes i front items number f = BodyHas codes i front (limit_of f) items (Some (record { number = number; line = (token_of f).line })) × StopsAt codes i front items f
+
+-- why a body is refused: its fault; where the source failed, that of what it gave until then
 abbrev pub Fails : {X : Type 0} {g : Ghosts X} → List IdCode → Input → List Token → List BodyItem → BodyFault → Feed X g → Type 0
-Fails codes i front items fault f = BodyHas codes (input_of fault (seen f) i) front (limit_of f) items (Some (record { number = fault_number fault; line = (token_of f).line }))
+Fails codes i front items ReadFailed f = FailsOver codes (failed_after (seen f) i) front items 31 f × GaveOnlySeen i f
+Fails codes i front items fault f = FailsOver codes i front items (fault_number fault) f
 
 -- a token is a phrase of its own, which gives this item
 abbrev pub Passes : List IdCode → List BodyPhrase → List ℕ → BodyItem → Type 0

@@ -9,6 +9,7 @@ use Rattle.vcd_model.specs.Keywords.{Keyword, keyword_text, is_end, is_command, 
 use Rattle.vcd_model.specs.HeaderChecks.{start_checks, inner_checks, begins_change}
 use Rattle.vcd_model.specs.HeaderPhrases.{HeaderPhrase, declarations_of, phrase_with}
 use Rattle.vcd_model.specs.Reading.{Placed, phrases_of}
+use Rattle.vcd_text.proofs.ShownLemmas.{read_to_shown}
 use Rattle.vcd_text.specs.Feed.{token_of}
 use Rattle.vcd_text.specs.declared.device.Source.{Ghosts}
 use Rattle.vcd_text.specs.declared.feed.Feed.{Feed}
@@ -143,5 +144,5 @@ carries_nothing most i d f n s = record { placed = []; reads = record { given = 
 
 pub finished : {X : Type 0} {g : Ghosts X} (most : ℕ) (i : Input) (d : Draft) (f : Feed X g) (r : Result Head HeadFault) → most ≤ 16777216 → DraftsAll most i d f
     → ((m : ℕ) (ps : List HeaderPhrase) → m ≤ 16777216 → IsDraftOf m d ps → IfOk r (λ head. Views (shown head) (header_of ps))) → IfErr r (λ fault. fault ≡ OutOfMemory) → MatchResult r (λ head. GivesHead most i f (shown head)) (λ fault. Fails most i fault f)
-finished most i d f (Ok head) h a v e = record { given = a.reads.given ++ token_of f ∷ []; placed = a.placed; stands = a.reads.stands; whole = a.reads.whole; views = v most (phrases_of a.placed) h a.holds }
+finished most i d f (Ok head) h a v e = record { given = a.reads.given ++ token_of f ∷ []; placed = a.placed; stands = a.reads.stands; whole = a.reads.whole; near = read_to_shown i a.reads.given f a.reads.stands; front = a.reads.given; last = token_of f; is = refl; going = a.reads.going; views = v most (phrases_of a.placed) h a.holds }
 finished most i d f (Err fault) h a v e = subst (λ x. Fails most i x f) (sym e) (faultless_whole most i a.placed f a.reads)

@@ -9,12 +9,13 @@ use Rattle.vcd_model.specs.HeaderChecks.{header_fault}
 use Rattle.vcd_model.specs.HeaderReading.{header_grammar, read_header, header_fault_of, is_last}
 use Rattle.vcd_model.specs.Reading.{Placed, Reading, phrases_of, reading_of}
 use Rattle.vcd_model.specs.SoFar.{IsSoFar}
-use Rattle.vcd_model.proofs.SoFarLemmas.{so_far-nothing, so_far-token, so_far-phrase, whole-phrase, faulty-token}
+use Rattle.vcd_model.proofs.SoFarLemmas.{so_far-nothing, so_far-token, so_far-phrase, whole-phrase, faulty-token, without-last, earlier-so_far}
 use Rattle.vcd_text.specs.Answer.{Ends}
 use Rattle.vcd_text.specs.Feed.{HasGiven, token_of, limit_of}
+use Rattle.vcd_text.proofs.ShownLemmas.{read_to_shown}
 use Rattle.vcd_text.specs.declared.device.Source.{Ghosts}
 use Rattle.vcd_text.specs.declared.feed.Feed.{Feed}
-use Rattle.vcd_head.specs.Reads.{Reads, ReadsToken, ReadsWhole, IsFaultless, HasFault, FailsAtToken, IsGoodSoFar}
+use Rattle.vcd_head.specs.Reads.{Reads, ReadsToken, ReadsWhole, IsFaultless, HasFault, FailsAtEnd, FailsAtToken, IsGoodSoFar}
 use Rattle.vcd_head.specs.Texts.{Welcomes, WordRead, WordTaken}
 use Rattle.vcd_model.specs.Keywords.{is_end}
 use Rattle.vcd_head.specs.declared.fault.HeadFault.{HeadFault}
@@ -26,6 +27,13 @@ unfolding read_header
 missing_token most limit i given placed before halt line h e =
     subst (λ (s : Stream). header_fault_of s (reading_of (header_grammar most) s.tokens) ≡ Some (record { number = unwrap_or halt 2; line = line })) (sym e)
     (ap (λ (r : Reading HeaderPhrase). header_fault_of (record { tokens = given; halt = halt; line = line }) r) h)
+
+-- a token is missing, and the feed shows none
+pub fails_at_end : {X : Type 0} {g : Ghosts X} (most limit : ℕ) (i : Input) (given : List Token) (placed : List (Placed HeaderPhrase)) (before : List (List ℕ)) (halt : Option ℕ) (f : Feed X g) → limit_of f ≡ limit → IsSoFar (header_grammar most) given placed before
+    → Ends limit i given halt (token_of f).line → (token_of f).bytes ≡ [] → HasGiven i given f → FailsAtEnd most i (unwrap_or halt 2) f
+fails_at_end most limit i given placed before halt f l h e none stands =
+    let e' = subst (λ n. Ends n i given halt (token_of f).line) (sym l) e in
+    (missing_token most (limit_of f) i given placed before halt (token_of f).line h e', none, given, stands, ap (λ (s : Stream). s.tokens) e', ap (λ r. r.ending) h)
 
 module _ {X : Type 0} {g : Ghosts X} (most : ℕ) (i : Input) (placed : List (Placed HeaderPhrase)) (before : List (List ℕ)) (f : Feed X g) where
   -- the token passes its checks, and no phrase is whole with it
@@ -40,7 +48,7 @@ module _ {X : Type 0} {g : Ghosts X} (most : ℕ) (i : Input) (placed : List (Pl
   -- the token passes its checks, and the last phrase is whole with it
   pub taken_last : (p : HeaderPhrase) → header_fault most (phrases_of placed) before (token_of f).bytes ≡ None → header_phrase (before ++ (token_of f).bytes ∷ []) ≡ Some p → is_last p ≡ true → ReadsToken most i placed before f
       → ReadsWhole most i (placed ++ record { phrase = p; line = (token_of f).line } ∷ []) f
-  taken_last p e q l k = record { given = k.given; stands = k.stands; whole = whole-phrase (header_grammar most) k.given placed before (token_of f) p k.so_far e q l }
+  taken_last p e q l k = record { given = k.given; stands = k.stands; going = ap (λ r. r.ending) k.so_far; whole = whole-phrase (header_grammar most) k.given placed before (token_of f) p k.so_far e q l }
 
   -- a check of the token fails
   pub refused : (n : ℕ) → header_fault most (phrases_of placed) before (token_of f).bytes ≡ Some n → ReadsToken most i placed before f → FailsAtToken most i n f
@@ -49,8 +57,8 @@ module _ {X : Type 0} {g : Ghosts X} (most : ℕ) (i : Input) (placed : List (Pl
       let first : IsPrefixOf (l.given ++ token_of f ∷ []) (stream_of (limit_of f) i).tokens = l.stands.given_first in (
         ap (header_fault_of (stream_of (limit_of f) i)) (ap (reading_of (header_grammar most)) (first.1 ∙ append_assoc l.given (token_of f ∷ []) first.0) ∙ faulty-token (header_grammar most) l.given placed before (token_of f) first.0 n l.so_far e),
         l.given,
-        l.stands,
-        rw (l.so_far, IsFaultless) tt,
+        (l.stands, read_to_shown i l.given f l.stands),
+        ap (λ r. r.ending) l.so_far,
       )
 
 -- what was read on ends with the token that the feed shows, and has no fault
@@ -58,7 +66,9 @@ good_so_far : {X : Type 0} {g : Ghosts X} (most : ℕ) (i : Input) (placed : Lis
 good_so_far most i placed before f r n =
     let at = r.last n in
     let so_far = subst (λ ts. IsSoFar (header_grammar most) ts placed before) at.1 r.so_far in
-    (at.0, subst (λ ts. HasGiven i ts f) at.1 r.stands, rw (so_far, IsFaultless) tt)
+    let stands = subst (λ ts. HasGiven i ts f) at.1 r.stands in
+    let going = earlier-so_far (header_grammar most) at.0 placed before (without-last (header_grammar most) at.0 (token_of f) placed before so_far) in
+    (at.0, (stands, read_to_shown i at.0 f stands), ap (λ r. r.ending) going, rw (so_far, IsFaultless) tt)
 
 -- where no token was given, nothing was read
 nothing_read : (most : ℕ) (given : List Token) (placed : List (Placed HeaderPhrase)) (before : List (List ℕ)) → IsSoFar (header_grammar most) given placed before → given ≡ [] → (placed ≡ []) × (before ≡ [])
@@ -80,7 +90,7 @@ faultless_phrase most i placed p f r = good_so_far most i (placed ++ p ∷ []) [
 
 -- and behind the last
 pub faultless_whole : {X : Type 0} {g : Ghosts X} (most : ℕ) (i : Input) (placed : List (Placed HeaderPhrase)) (f : Feed X g) → ReadsWhole most i placed f → IsGoodSoFar most i f
-faultless_whole most i placed f r = (r.given, r.stands, rw (r.whole, IsFaultless) tt)
+faultless_whole most i placed f r = (r.given, (r.stands, read_to_shown i r.given f r.stands), r.going, rw (r.whole, IsFaultless) tt)
 
 -- a word passes its checks
 pub welcomed : {X : Type 0} {g : Ghosts X} (most : ℕ) (i : Input) (placed : List (Placed HeaderPhrase)) (before : List (List ℕ)) (f : Feed X g) → Welcomes most placed before → is_end (token_of f).bytes ≡ false → ReadsToken most i placed before f

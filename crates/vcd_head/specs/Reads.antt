@@ -8,7 +8,7 @@ use Rattle.vcd_model.specs.Reading.{Placed, Ending, phrases_of, reading_of}
 use Rattle.vcd_model.specs.Reading.Ending.{AtFault, AtEnd, AtLast}
 use Rattle.vcd_model.specs.SoFar.{IsSoFar, IsWhole}
 use Rattle.vcd_text.specs.Answer.{failed_after}
-use Rattle.vcd_text.specs.Feed.{HasGiven, token_of, limit_of, seen}
+use Rattle.vcd_text.specs.Feed.{HasGiven, HasReadTo, GaveOnlySeen, token_of, limit_of, seen}
 use Rattle.vcd_text.specs.declared.device.Source.{Ghosts}
 use Rattle.vcd_text.specs.declared.feed.Feed.{Feed}
 use Rattle.vcd_head.specs.declared.fault.HeadFault.{HeadFault}
@@ -17,6 +17,10 @@ use Rattle.vcd_head.specs.Fault.{fault_number}
 use Rattle.vcd_head.specs.Shown.{HeadShown}
 use Rattle.vcd_head.specs.Views.{Views}
 use Rattle.vcd_model.specs.Header.{header_of}
+
+-- the tokens given so far have no fault, and the header goes on behind them
+abbrev pub IsGoing : ℕ → List Token → Type 0
+IsGoing most given = (reading_of (header_grammar most) given).ending ≡ AtEnd
 
 -- the tokens given are these good phrases, and then these first tokens of the next one; the feed shows the last
 pub record Reads {X : Type 0} {g : Ghosts X} (most : ℕ) (i : Input) (placed : List (Placed HeaderPhrase)) (before : List (List ℕ)) (f : Feed X g) : Type 0 where
@@ -35,6 +39,7 @@ pub record ReadsToken {X : Type 0} {g : Ghosts X} (most : ℕ) (i : Input) (plac
 pub record ReadsWhole {X : Type 0} {g : Ghosts X} (most : ℕ) (i : Input) (placed : List (Placed HeaderPhrase)) (f : Feed X g) : Type 0 where
   pub given : List Token
   pub stands : HasGiven i (given ++ token_of f ∷ []) f
+  pub going : IsGoing most given
   pub whole : IsWhole (header_grammar most) (given ++ token_of f ∷ []) placed
 
 -- a reading that ends so has met no fault
@@ -51,22 +56,28 @@ IsFaultless most given = IsNoFault (reading_of (header_grammar most) given).endi
 abbrev pub HasFault : ℕ → ℕ → Input → ℕ → ℕ → Type 0
 HasFault most limit i number line = header_fault_of (stream_of limit i) (read_header most (stream_of limit i)) ≡ Some (record { number = number; line = line })
 
+-- the tokens given end with the one that the feed shows, and at most a chunk was read past it
+abbrev pub HasReadToShown : {X : Type 0} {g : Ghosts X} → Input → List Token → Feed X g → Type 0
+HasReadToShown i given f = HasGiven i (given ++ token_of f ∷ []) f × HasReadTo i (given ++ token_of f ∷ []) f
+
 -- the header has this fault at the last token given, which the feed shows; no token before it has one
 abbrev pub FailsAtToken : {X : Type 0} {g : Ghosts X} → ℕ → Input → ℕ → Feed X g → Type 0
-FailsAtToken most i number f = HasFault most (limit_of f) i number (token_of f).line × (given : List Token) × HasGiven i (given ++ token_of f ∷ []) f × IsFaultless most given
+FailsAtToken most i number f = HasFault most (limit_of f) i number (token_of f).line × (given : List Token) × HasReadToShown i given f × IsGoing most given
 
--- the header has this fault where no token is left, and the feed shows none
+-- the header has this fault where no token is left, and the feed shows none; no token before has one
 abbrev pub FailsAtEnd : {X : Type 0} {g : Ghosts X} → ℕ → Input → ℕ → Feed X g → Type 0
-FailsAtEnd most i number f = HasFault most (limit_of f) i number (token_of f).line × ((token_of f).bytes ≡ [])
+FailsAtEnd most i number f =
+    HasFault most (limit_of f) i number (token_of f).line × ((token_of f).bytes ≡ [])
+    × (given : List Token) × HasGiven i given f × ((stream_of (limit_of f) i).tokens ≡ given) × IsGoing most given
 
--- no token given so far has a fault, and the feed shows the last
+-- no token given so far has a fault, and the feed shows the last; without it the header is not whole
 abbrev pub IsGoodSoFar : {X : Type 0} {g : Ghosts X} → ℕ → Input → Feed X g → Type 0
-IsGoodSoFar most i f = (given : List Token) × HasGiven i (given ++ token_of f ∷ []) f × IsFaultless most (given ++ token_of f ∷ [])
+IsGoodSoFar most i f = (given : List Token) × HasReadToShown i given f × IsGoing most given × IsFaultless most (given ++ token_of f ∷ [])
 
 -- Why a header is refused: its fault, where a source that failed ends the input there. Where memory is refused, no token given so far has a fault.
 abbrev pub Fails : {X : Type 0} {g : Ghosts X} → ℕ → Input → HeadFault → Feed X g → Type 0
 Fails most i OutOfMemory f = IsGoodSoFar most i f
-Fails most i ReadFailed f = FailsAtEnd most (failed_after (seen f) i) 31 f
+Fails most i ReadFailed f = FailsAtEnd most (failed_after (seen f) i) 31 f × GaveOnlySeen i f
 Fails most i TokenTooLong f = FailsAtEnd most i 1 f
 Fails most i EndOfInput f = FailsAtEnd most i 2 f
 Fails most i InputTooLong f = FailsAtEnd most i 21 f
@@ -78,4 +89,10 @@ pub record GivesHead {X : Type 0} {g : Ghosts X} (most : ℕ) (i : Input) (f : F
   pub placed : List (Placed HeaderPhrase)
   pub stands : HasGiven i given f
   pub whole : IsWhole (header_grammar most) given placed
+  -- at most a chunk was read past the last of them, without which the header is not whole
+  pub near : HasReadTo i given f
+  pub front : List Token
+  pub last : Token
+  pub is : given ≡ front ++ last ∷ []
+  pub going : IsGoing most front
   pub views : Views s (header_of (phrases_of placed))

@@ -115,3 +115,64 @@ module _ {P : Type 0} (g : Grammar P) where
   pub whole-more : (given : List Token) (placed : List (Placed P)) (more : List Token) → IsWhole g given placed → reading_of g (given ++ more) ≡ record { placed = placed; before = []; ending = AtLast; rest = more }
   unfolding reading_of
   whole-more given placed more h = stops given [] placed [] more h
+
+  -- ---- before the last token
+
+  -- where reading goes on behind these tokens and one more, it goes on behind them; if all are whole phrases, the last one is whole with the last token
+  pub record AllButLast (placed : List (Placed P)) (before : List (List ℕ)) (xs : List Token) (whole : List (Placed P)) (inner : List (List ℕ)) : Type 0 where
+    pub earlier : List (Placed P)
+    pub begun : List (List ℕ)
+    pub reads : read_from g placed before xs ≡ record { placed = earlier; before = begun; ending = AtEnd; rest = [] }
+    pub last : inner ≡ [] → (p : Placed P) × (whole ≡ earlier ++ p ∷ [])
+
+  abbrev CutsLast : List Token → Type 0
+  CutsLast xs = (placed whole : List (Placed P)) (before inner : List (List ℕ)) (t : Token)
+      → read_from g placed before (xs ++ t ∷ []) ≡ record { placed = whole; before = inner; ending = AtEnd; rest = [] } → AllButLast placed before xs whole inner
+
+  not_begun : {A : Type 0} (ts : List (List ℕ)) (t : List ℕ) → ts ++ t ∷ [] ≡ [] → A
+  not_begun [] t e = cc
+  not_begun (u ∷ ts) t e = cc
+
+  last_behind : (placed whole : List (Placed P)) (before inner : List (List ℕ)) (p : Placed P) (b : Bool)
+      → behind_phrase (placed ++ p ∷ []) [] b ≡ record { placed = whole; before = inner; ending = AtEnd; rest = [] } → AllButLast placed before [] whole inner
+  last_behind placed whole before inner p true h = let bad : AtLast ≡ AtEnd = ap (λ r. r.ending) h in cc
+  last_behind placed whole before inner p false h = record { earlier = placed; begun = before; reads = refl; last = λ none. (p, sym (ap (λ r. r.placed) h)) }
+
+  last_token : (placed whole : List (Placed P)) (before inner : List (List ℕ)) (t : Token) (o : Option ℕ) (q : Option P)
+      → at_token placed before t [] o q ≡ record { placed = whole; before = inner; ending = AtEnd; rest = [] } → AllButLast placed before [] whole inner
+  last_token placed whole before inner t (Some n) q h = let bad : AtFault (record { number = n; line = t.line }) ≡ AtEnd = ap (λ r. r.ending) h in cc
+  last_token placed whole before inner t None None h = record { earlier = placed; begun = before; reads = refl; last = λ none. not_begun before t.bytes (ap (λ r. r.before) h ∙ none) }
+  last_token placed whole before inner t None (Some p) h = last_behind placed whole before inner (record { phrase = p; line = t.line }) (g.is_last p) h
+
+  -- one token on
+  cut_on : (placed placed' whole : List (Placed P)) (before before' inner : List (List ℕ)) (x : Token) (xs : List Token) → read_from g placed before (x ∷ xs) ≡ read_from g placed' before' xs → AllButLast placed' before' xs whole inner → AllButLast placed before (x ∷ xs) whole inner
+  cut_on placed placed' whole before before' inner x xs step a = record { earlier = a.earlier; begun = a.begun; reads = step ∙ a.reads; last = a.last }
+
+  cut_behind : (xs : List Token) → CutsLast xs → (placed whole : List (Placed P)) (before inner : List (List ℕ)) (x t : Token) (p : Placed P) (b : Bool) → read_from g placed before (x ∷ xs) ≡ behind_phrase (placed ++ p ∷ []) xs b
+      → behind_phrase (placed ++ p ∷ []) (xs ++ t ∷ []) b ≡ record { placed = whole; before = inner; ending = AtEnd; rest = [] } → AllButLast placed before (x ∷ xs) whole inner
+  cut_behind xs more placed whole before inner x t p true step h = let bad : AtLast ≡ AtEnd = ap (λ r. r.ending) h in cc
+  cut_behind xs more placed whole before inner x t p false step h = cut_on placed (placed ++ p ∷ []) whole before [] inner x xs step (more (placed ++ p ∷ []) whole [] inner t h)
+
+  cut_token : (xs : List Token) → CutsLast xs → (placed whole : List (Placed P)) (before inner : List (List ℕ)) (x t : Token) (o : Option ℕ) (q : Option P) → read_from g placed before (x ∷ xs) ≡ at_token placed before x xs o q
+      → at_token placed before x (xs ++ t ∷ []) o q ≡ record { placed = whole; before = inner; ending = AtEnd; rest = [] } → AllButLast placed before (x ∷ xs) whole inner
+  cut_token xs more placed whole before inner x t (Some n) q step h = let bad : AtFault (record { number = n; line = x.line }) ≡ AtEnd = ap (λ r. r.ending) h in cc
+  cut_token xs more placed whole before inner x t None None step h = cut_on placed placed whole before (before ++ x.bytes ∷ []) inner x xs step (more placed whole (before ++ x.bytes ∷ []) inner t h)
+  cut_token xs more placed whole before inner x t None (Some p) step h = cut_behind xs more placed whole before inner x t (record { phrase = p; line = x.line }) (g.is_last p) step h
+
+  cuts_last : (xs : List Token) → CutsLast xs
+  cuts_last [] placed whole before inner t h =
+      last_token placed whole before inner t (g.fault (phrases_of placed) before t.bytes) (g.phrase (before ++ t.bytes ∷ []))
+      (sym (token_step placed before t [] (g.fault (phrases_of placed) before t.bytes) (g.phrase (before ++ t.bytes ∷ [])) refl refl) ∙ h)
+  cuts_last (x ∷ xs) placed whole before inner t h =
+      let o = g.fault (phrases_of placed) before x.bytes in
+      let q = g.phrase (before ++ x.bytes ∷ []) in
+      cut_token xs (cuts_last xs) placed whole before inner x t o q (token_step placed before x xs o q refl refl) (sym (token_step placed before x (xs ++ t ∷ []) o q refl refl) ∙ h)
+
+  -- tokens behind which reading goes on, without the last of them
+  pub without-last : (xs : List Token) (t : Token) (whole : List (Placed P)) (inner : List (List ℕ)) → IsSoFar g (xs ++ t ∷ []) whole inner → AllButLast [] [] xs whole inner
+  unfolding reading_of
+  without-last xs t whole inner h = cuts_last xs [] whole [] inner t h
+
+  pub earlier-so_far : (xs : List Token) (whole : List (Placed P)) (inner : List (List ℕ)) (a : AllButLast [] [] xs whole inner) → IsSoFar g xs a.earlier a.begun
+  unfolding reading_of
+  earlier-so_far xs whole inner a = a.reads

@@ -3,14 +3,15 @@ use Rattle.std.proofs.Common.{◌≡◌, ℕ, zero, suc, ◌+◌, ◌-◌, ◌^�
 use Rattle.std.specs.Prelude.{slice_index, slice_range, ◌==◌, nat_lt, if◌then◌else◌, Option, Some, None, Result, Ok, Err}
 use Rattle.std.proofs.lemmas.List.{drop_more, take-take, length-take, length-take-le}
 use Rattle.std.proofs.lemmas.Bool.Decides.{nat_tests}
-use Rattle.std.specs.Io.KnownBytes.{Consumes, IsAtEnd}
+use Rattle.std.specs.Io.KnownBytes.{Consumes, IsAtEnd, Keeps}
 use Rattle.vcd_model.specs.Bytes.{is_white_space}
 use Rattle.vcd_model.specs.Input.{Input, Mark, Clean, Failed}
-use Rattle.vcd_model.specs.Tokens.{Token, line_at, stream_of}
-use Rattle.vcd_text.specs.Window.{line_feeds_in, skipped, gathered, ended, refilled, Whites, Gathers, Skips, TakesInPlace, Collects, Fills, Finishes, Halts}
+use Rattle.vcd_model.specs.Tokens.{Token, end_of_tokens, line_at, stream_of}
+use Rattle.vcd_text.specs.Window.{line_feeds_in, skipped, gathered, ended, refilled, Whites, Gathers, Skips, IsNext, TakesInPlace, Collects, Fills, Finishes, Halts}
 use Rattle.vcd_text.specs.Registers.{looked, Fits, halt_number, bytes_at}
 use Rattle.vcd_text.specs.Answer.{whole, failed_after, Ends, NextGives}
-use Rattle.vcd_text.specs.Given.{AtPlace, At, Near, Marks, InPhase, HasGivenAt}
+use Rattle.vcd_text.specs.ReadAhead.{Near, HasRest}
+use Rattle.vcd_text.specs.Given.{AtPlace, At, Marks, NoHaltBefore, InPhase, HasGivenAt}
 use Rattle.vcd_text.specs.declared.registers.Parked.{Parked}
 use Rattle.vcd_text.specs.declared.registers.Kept.{Kept}
 use Rattle.vcd_text.specs.declared.registers.Phase.{Phase}
@@ -18,12 +19,12 @@ use Rattle.vcd_text.specs.declared.registers.Phase.TheVariants.{Going, Ended, Ha
 use Rattle.vcd_text.specs.declared.registers.Place.TheVariants.{Window}
 use Rattle.vcd_text.specs.declared.answer.Halt.{Halt}
 use Rattle.vcd_text.specs.declared.window.Collected.TheVariants.{Whole, Part, TooLong}
-use Rattle.vcd_text.specs.declared.window.Filled.TheVariants.{More}
+use Rattle.vcd_text.specs.declared.window.Filled.TheVariants.{More, Failed as fill-failed}
 use Rattle.vcd_text.specs.declared.answer.Next.{Next}
 use Rattle.vcd_text.specs.declared.answer.Next.TheVariants.{Token as token-given, Finish}
 use Rattle.vcd_text.specs.declared.answer.Halt.TheVariants.{TokenTooLong, InputTooLong, ReadFailed}
 use Rattle.vcd_text.proofs.Steps.{live-others, live-whites, live-end, live-take, token_to}
-use Rattle.vcd_text.proofs.Streams.{much-stream, long-stream, failed-stream, clean-stream}
+use Rattle.vcd_text.proofs.Streams.{much-stream, long-stream, failed-stream, clean-stream, halts-from, end-of-token}
 use Rattle.vcd_text.proofs.Ahead.{ahead-index, ahead-length, ahead-drop, ahead-slice, line_feeds_in-more, line_feeds_in-other, slice_range-append}
 
 -- what has come of the next token stands in the window
@@ -122,14 +123,18 @@ not-none n h = omega arith
 true-false : (b : Bool) → b ≡ true → b ≡ false → ⊥
 true-false b t f = cc
 
+-- some bytes of it have come
+ended-some : (limit : ℕ) (rest : Option (List ℕ)) (chunk token : List ℕ) (p : Parked) (text : List ℕ) (given : List Token) (d : ℕ) → p.at + d < p.stop → is_white_space (slice_index chunk (p.at + d)) ≡ true → Ready limit rest chunk token p text given → 0 < p.size + d
+ended-some limit rest chunk token p text given d lt white w = not-none (p.size + d) (λ e.
+    let a : p.size ≡ 0 = omega arith in
+    let b : p.at + d ≡ p.at = omega arith in
+    true-false (is_white_space (slice_index chunk p.at)) (rw b at white) (w.begins a (omega arith)))
+
 pub end-at : (limit : ℕ) (rest : Option (List ℕ)) (chunk token token' : List ℕ) (p : Parked) (text : List ℕ) (given : List Token) (d : ℕ) → Fits p (length chunk) limit → length token ≡ limit → Gathers chunk token token' p d → p.at + d < p.stop → is_white_space (slice_index chunk (p.at + d)) ≡ true → Ready limit rest chunk token p text given
     → At limit rest chunk (ended chunk p d) text (given ++ (record { bytes = take (p.size + d) token'; line = p.line }) ∷ []) 0
 end-at limit rest chunk token token' p text given d r full s lt white w =
     let v = gathered-within limit rest chunk token token' p text given d r full s w in
-    let some : 0 < p.size + d = not-none (p.size + d) (λ e.
-    let a : p.size ≡ 0 = omega arith in
-    let b : p.at + d ≡ p.at = omega arith in
-    true-false (is_white_space (slice_index chunk p.at)) (rw b at white) (w.begins a (omega arith))) in
+    let some = ended-some limit rest chunk token p text given d lt white w in
     let q : ℕ = p.base + (p.at + d) in
     let begun = v.at.begun in
     let less : p.base + (p.at + d) - (p.size + d) ≡ looked p - p.size = omega (arith, w.within.at.begun) in
@@ -287,10 +292,19 @@ pub record Turns (limit : ℕ) (stands : Input → List Token → Type 0) (rest 
 is-whole : (i : Input) → i.mark ≡ Clean → whole i.bytes ≡ i
 is-whole i e = sym (ap (λ m. record { bytes = i.bytes; mark = m }) e)
 
+-- no halt stands before what was looked at
+no-halt-within : (limit : ℕ) (rest : Option (List ℕ)) (chunk token : List ℕ) (p : Parked) (i : Input) (given : List Token) → Within limit rest chunk token p i.bytes given → NoHaltBefore limit i (looked p)
+no-halt-within limit rest chunk token p i given w = halts-from limit i.bytes (looked p) (looked p - p.size) given w.at.place.live w.at.place.within i.mark
+
+no-halt-cut : (limit : ℕ) (rest : Option (List ℕ)) (chunk token : List ℕ) (p : Parked) (text : List ℕ) (given : List Token) → Within limit rest chunk token p text given → NoHaltBefore limit (record { bytes = take (looked p) text; mark = Failed }) (looked p)
+no-halt-cut limit rest chunk token p text given w =
+    let place = w.at.place in
+    halts-from limit (take (looked p) text) (looked p) (looked p - p.size) given (live-take limit text (looked p) (looked p - p.size) given place.within place.live) (omega (arith, length-take-le (looked p) text place.within)) Failed
+
 -- a halt stands, and the window is empty
-pub halted-stands : (limit : ℕ) (rest : Option (List ℕ)) (chunk token : List ℕ) (p : Parked) (i : Input) (given : List Token) (h : Halt) → p.phase ≡ Halted h → p.size ≡ 0 → Near (length chunk) rest (looked p) i → Marks h i.mark → Ends limit i given (Some (halt_number h)) p.line
+pub halted-stands : (limit : ℕ) (rest : Option (List ℕ)) (chunk token : List ℕ) (p : Parked) (i : Input) (given : List Token) (h : Halt) → p.phase ≡ Halted h → p.size ≡ 0 → Near (length chunk) rest (looked p) i → Marks h i.mark → Ends limit i given (Some (halt_number h)) p.line → NoHaltBefore limit i (looked p)
     → HasGivenAt limit rest chunk p i given × (take p.size token ≡ []) × Ends limit i given (Some (halt_number h)) p.line
-halted-stands limit rest chunk token p i given h phase empty near marks e = (rw phase (near, marks, e), rw empty refl, e)
+halted-stands limit rest chunk token p i given h phase empty near marks e before = (rw phase (near, marks, e, before), rw empty refl, e)
 
 pub after-skip : (limit : ℕ) (stands : Input → List Token → Type 0) (rest : Option (List ℕ)) (chunk token : List ℕ) (size : ℕ) (old mid : Parked) → Turns limit stands rest chunk token size old → length chunk ≡ size → (0 < old.size → mid ≡ old) → (old.size ≡ 0 → Skips chunk old mid)
     → (i : Input) (given : List Token) → stands i given → Ready limit rest chunk token mid i.bytes given
@@ -332,7 +346,7 @@ again-gives limit rest chunk token p i given ReadFailed phase st =
     let e = rw phase at st in
     let failed = e.1 in
     let same : i ≡ failed_after (looked p) i = rw failed refl in
-    let e' = subst (λ j. Near (length chunk) rest (looked p) j × (j.mark ≡ Failed) × Ends limit j given (Some 31) p.line) same e in
+    let e' = subst (λ j. Near (length chunk) rest (looked p) j × (j.mark ≡ Failed) × Ends limit j given (Some 31) p.line × NoHaltBefore limit j (looked p)) same e in
     (rw phase e', refl, e'.2)
 
 pub long-gives : (limit : ℕ) (rest : Option (List ℕ)) (chunk token token' : List ℕ) (mid new last : Parked) (i : Input) (given : List Token) (r : Halt) → i.mark ≡ Clean → Fits mid (length chunk) limit → length token ≡ limit → Collects chunk token token' mid new TooLong → Ready limit rest chunk token mid i.bytes given
@@ -344,7 +358,7 @@ long-gives limit rest chunk token token' mid new last i given r clean range full
     let e = long-ends limit rest chunk token mid i.bytes given (length token - mid.size) range room cs.1 cs.2 w in
     let last-is : last ≡ record mid { size = 0; phase = Halted TokenTooLong } = h ∙ rw cs.0 refl in
     let near = near-place limit rest chunk i.bytes given mid.at mid.end (looked mid) (looked mid - mid.size) mid.line_feeds i.mark w.within.at.place in
-    rw (is, last-is) (halted-stands limit rest chunk token' (record mid { size = 0; phase = Halted TokenTooLong }) i given TokenTooLong refl refl near tt (subst (λ j. Ends limit j given (Some 1) mid.line) (is-whole i clean) e))
+    rw (is, last-is) (halted-stands limit rest chunk token' (record mid { size = 0; phase = Halted TokenTooLong }) i given TokenTooLong refl refl near tt (subst (λ j. Ends limit j given (Some 1) mid.line) (is-whole i clean) e) (no-halt-within limit rest chunk token mid i given w.within))
 
 pub input-gives : (limit : ℕ) (rest : Option (List ℕ)) (chunk token : List ℕ) (old last : Parked) (i : Input) (given : List Token) (r : Halt) → i.mark ≡ Clean → Fits old (length chunk) limit → old.at ≡ old.stop → old.stop < old.end → Within limit rest chunk token old i.bytes given
     → r ≡ InputTooLong → Halts InputTooLong old last
@@ -352,17 +366,18 @@ pub input-gives : (limit : ℕ) (rest : Option (List ℕ)) (chunk token : List �
 input-gives limit rest chunk token old last i given r clean range used lt w is h =
     let near = near-place limit rest chunk i.bytes given old.at old.end (looked old) (looked old - old.size) old.line_feeds i.mark w.at.place in
     rw (is, h) (halted-stands limit rest chunk token (record old { size = 0; line = old.line_feeds + 1; phase = Halted InputTooLong }) i given InputTooLong refl refl near tt
-    (subst (λ j. Ends limit j given (Some 21) (old.line_feeds + 1)) (is-whole i clean) (input-ends limit rest chunk token old i.bytes given range used lt w)))
+    (subst (λ j. Ends limit j given (Some 21) (old.line_feeds + 1)) (is-whole i clean) (input-ends limit rest chunk token old i.bytes given range used lt w)) (no-halt-within limit rest chunk token old i given w))
 
-pub fail-gives : (limit : ℕ) (rest rest' : Option (List ℕ)) (chunk chunk' token : List ℕ) (old mid last : Parked) (i : Input) (given : List Token) (r : Halt) → i.mark ≡ Clean → mid ≡ old → Within limit rest chunk token old i.bytes given
+pub fail-gives : (limit : ℕ) (rest rest' : Option (List ℕ)) (chunk chunk' token : List ℕ) (old mid last : Parked) (i : Input) (given : List Token) (r : Halt) → i.mark ≡ Clean → Fills rest rest' chunk' old mid fill-failed → Within limit rest chunk token old i.bytes given
     → r ≡ ReadFailed → Halts ReadFailed mid last
     → NextGives (HasGivenAt limit rest' chunk' last) limit i given (Err r) (record { bytes = take last.size token; line = last.line }) (looked last)
-fail-gives limit rest rest' chunk chunk' token old mid last i given r clean same w is h =
+fail-gives limit rest rest' chunk chunk' token old mid last i given r clean fills w is h =
+    let same = fills.0 in
     let stopped : Input = record { bytes = take (looked old) i.bytes; mark = Failed } in
     let at : failed_after (looked old) i ≡ stopped = rw clean refl in
     let last-is : last ≡ record old { size = 0; line = old.line_feeds + 1; phase = Halted ReadFailed } = h ∙ rw same refl in
     let near = near-short (length chunk') rest' (looked old) stopped (simp length-take (omega arith)) in
-    rw (is, last-is, at) (halted-stands limit rest' chunk' token (record old { size = 0; line = old.line_feeds + 1; phase = Halted ReadFailed }) stopped given ReadFailed refl refl near refl (fail-ends limit rest chunk token old i.bytes given w))
+    rw (is, last-is, at) (halted-stands limit rest' chunk' token (record old { size = 0; line = old.line_feeds + 1; phase = Halted ReadFailed }) stopped given ReadFailed refl refl near refl (fail-ends limit rest chunk token old i.bytes given w) (no-halt-cut limit rest chunk token old i.bytes given w))
 
 -- the registers, where the last token is let go
 abbrev pub cleared : Parked → Parked
@@ -404,19 +419,24 @@ skipped-stands limit rest chunk token old new i given r phase skips clean a =
     let b : InPhase Going limit rest chunk new i given = (clean, record { place = at.place; begun = at.begun }) in
     subst (λ q. InPhase q limit rest chunk new i given) (sym phase) b
 
+-- a token that lies in the chunk, as one that was gathered there
+taken-gathers : (chunk token : List ℕ) (limit : ℕ) (mid : Parked) (d : ℕ) → IsNext chunk limit mid d → length token ≡ limit → Gathers chunk token (drop mid.at chunk) (cleared mid) d
+taken-gathers chunk token limit mid d s full =
+    let e : mid.at + d - mid.at ≡ d = omega arith in
+    record {
+      to = omega (arith, s.to);
+      room = omega (arith, s.room);
+      other = s.other;
+      bytes = rw (zero-add, e) refl;
+    }
+
 -- a token is given where it lies in the chunk
 pub taken-stands : (limit : ℕ) (rest : Option (List ℕ)) (chunk token : List ℕ) (mid new : Parked) (i : Input) (given : List Token) → i.mark ≡ Clean → Fits mid (length chunk) limit → length token ≡ limit → new.phase ≡ Going → TakesInPlace chunk limit mid new true → Ready limit rest chunk token (cleared mid) i.bytes given
     → HasGivenAt limit rest chunk new i (given ++ (record { bytes = take new.size (bytes_at new.place chunk token); line = new.line }) ∷ [])
 taken-stands limit rest chunk token mid new i given clean r full phase ps w =
     let d : ℕ = ps.0 in
     let s = ps.1 in
-    let e : mid.at + d - mid.at ≡ d = omega arith in
-    let puts : Gathers chunk token (drop mid.at chunk) (cleared mid) d = record {
-      to = omega (arith, s.to);
-      room = omega (arith, s.room);
-      other = s.other;
-      bytes = rw (zero-add, e) refl;
-    } in
+    let puts = taken-gathers chunk token limit mid d s full in
     let a = end-at limit rest chunk token (drop mid.at chunk) (cleared mid) i.bytes given d (cleared-fits mid (length chunk) limit r) full puts s.to s.white w in
     let same : 0 + d ≡ d = omega arith in
     let text : List Token = given ++ (record { bytes = take d (drop mid.at chunk); line = mid.line }) ∷ [] in
@@ -437,3 +457,57 @@ pub in-window : (limit : ℕ) (rest : Option (List ℕ)) (chunk token : List ℕ
 in-window limit rest chunk token p i given r e g =
     let same : bytes_at p.place chunk token ≡ token = rw e refl in
     subst (λ bs. NextGives (HasGivenAt limit rest chunk p) limit i given r (record { bytes = take p.size bs; line = p.line }) (looked p)) (sym same) g
+
+-- ---- how far was read
+
+-- a token that has ended in the chunk
+ended-near : (limit : ℕ) (rest : Option (List ℕ)) (chunk token token' : List ℕ) (p : Parked) (i : Input) (given : List Token) (d : ℕ) → Fits p (length chunk) limit → length token ≡ limit → Gathers chunk token token' p d → p.at + d < p.stop → is_white_space (slice_index chunk (p.at + d)) ≡ true → Ready limit rest chunk token p i.bytes given
+    → Near (length chunk) rest (end_of_tokens i.bytes (suc (length given))) i
+ended-near limit rest chunk token token' p i given d r full s lt white w =
+    let v = gathered-within limit rest chunk token token' p i.bytes given d r full s w in
+    let place = v.at.place in
+    let q : ℕ = p.base + (p.at + d) in
+    let some = ended-some limit rest chunk token p i.bytes given d lt white w in
+    let byte : slice_index i.bytes (q + 0) ≡ slice_index chunk (p.at + d + 0) = ahead-index i.bytes chunk place.more q (p.at + d) p.end 0 place.ahead r.end (omega (arith, r.stop)) in
+    let white' : is_white_space (slice_index i.bytes q) ≡ true = ap is_white_space (rw (add-zero, add-zero) at byte) ∙ white in
+    let end = end-of-token limit i.bytes q (q - (p.size + d)) given place.live place.within (omega (arith, v.at.begun)) (λ _. white') in
+    rw end (near-place limit rest chunk i.bytes given (p.at + d) p.end q (q - (p.size + d)) p.line_feeds i.mark place)
+
+pub whole-near : (limit : ℕ) (rest : Option (List ℕ)) (chunk token token' : List ℕ) (mid new : Parked) (i : Input) (given : List Token) → Fits mid (length chunk) limit → length token ≡ limit → Collects chunk token token' mid new Whole → Ready limit rest chunk token mid i.bytes given
+    → Near (length chunk) rest (end_of_tokens i.bytes (suc (length given))) i
+whole-near limit rest chunk token token' mid new i given r full cs w = ended-near limit rest chunk token token' mid i given cs.0 r full cs.1 cs.2 cs.3 w
+
+pub taken-near : (limit : ℕ) (rest : Option (List ℕ)) (chunk token : List ℕ) (mid new : Parked) (i : Input) (given : List Token) → Fits mid (length chunk) limit → length token ≡ limit → TakesInPlace chunk limit mid new true → Ready limit rest chunk token (cleared mid) i.bytes given
+    → Near (length chunk) rest (end_of_tokens i.bytes (suc (length given))) i
+taken-near limit rest chunk token mid new i given r full ps w =
+    ended-near limit rest chunk token (drop mid.at chunk) (cleared mid) i given ps.0 (cleared-fits mid (length chunk) limit r) full (taken-gathers chunk token limit mid ps.0 ps.1 full) ps.1.to ps.1.white w
+
+-- a token that ends with the input
+pub finish-near : (limit : ℕ) (rest rest' : Option (List ℕ)) (chunk chunk' token : List ℕ) (p : Parked) (i : Input) (given : List Token) → p.end ≤ p.at → IsAtEnd rest → 0 < p.size → Within limit rest chunk token p i.bytes given
+    → Near (length chunk') rest' (end_of_tokens i.bytes (suc (length given))) i
+finish-near limit rest rest' chunk chunk' token p i given used none some w =
+    let place = w.at.place in
+    let n = used-up limit rest chunk i.bytes given p.at p.end (looked p) (looked p - p.size) p.line_feeds place used none in
+    let end = end-of-token limit i.bytes (looked p) (looked p - p.size) given place.live place.within (omega (arith, w.at.begun)) (λ lt. absurd (omega arith)) in
+    near-short (length chunk') rest' (end_of_tokens i.bytes (suc (length given))) i (omega arith)
+
+-- where the source fails it has all that was not looked at
+pub fail-rest : (limit : ℕ) (rest rest' : Option (List ℕ)) (chunk chunk' token : List ℕ) (old mid : Parked) (i : Input) (given : List Token) → old.end ≤ old.at → Fills rest rest' chunk' old mid fill-failed → Within limit rest chunk token old i.bytes given
+    → HasRest rest' (looked old) i
+fail-rest limit rest rest' chunk chunk' token old mid i given used fills w =
+    let place = w.at.place in
+    let none : old.end - old.at ≡ 0 = omega arith in
+    let ahead : drop (looked old) i.bytes ≡ place.more = rw none at place.ahead in
+    kept-rest rest rest' place.more place.known fills.1 ∙ ap Some (sym ahead)
+  where
+    kept-rest : (rest rest' : Option (List ℕ)) (more : List ℕ) → rest ≡ Some more → Keeps rest rest' → rest' ≡ Some more
+    kept-rest None rest' more e k = absurd (cc)
+    kept-rest (Some xs) None more e k = absurd k
+    kept-rest (Some xs) (Some ys) more e k = ap Some k ∙ e
+
+-- once a read has failed the input is marked
+pub failed-marked : (limit : ℕ) (rest : Option (List ℕ)) (chunk : List ℕ) (p : Parked) (i : Input) (given : List Token) → HasGivenAt limit rest chunk p i given → p.phase ≡ Halted ReadFailed → i.mark ≡ Clean → ⊥
+failed-marked limit rest chunk p i given st phase clean =
+    let e = subst (λ q. InPhase q limit rest chunk p i given) phase st in
+    let marked : i.mark ≡ Failed = e.1 in
+    cc

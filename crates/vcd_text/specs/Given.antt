@@ -1,11 +1,12 @@
 -- Where a feed stands in its input, by its registers. No caller needs it.
 use Rattle.std.specs.Prelude.{◌≡◌, ℕ, ◌+◌, ◌-◌, ◌≤◌, List, ◌++◌, length, take, drop, slice_range, Option, Some, None, IfSome}
 use Rattle.vcd_model.specs.Input.{Input, Mark, Clean, Failed}
-use Rattle.vcd_model.specs.Tokens.{Token}
+use Rattle.vcd_model.specs.Tokens.{Token, halt_place}
 use Rattle.vcd_text.specs.LookedAt.{HasLookedAt}
 use Rattle.vcd_text.specs.Window.{line_feeds_in}
 use Rattle.vcd_text.specs.Registers.{looked, halt_number}
 use Rattle.vcd_text.specs.Answer.{Ends}
+use Rattle.vcd_text.specs.ReadAhead.{Near}
 use Rattle.vcd_text.specs.declared.registers.Parked.{Parked}
 use Rattle.vcd_text.specs.declared.answer.Halt.{Halt}
 use Rattle.vcd_text.specs.declared.answer.Halt.TheVariants.{TokenTooLong, InputTooLong, ReadFailed}
@@ -26,9 +27,9 @@ pub record At (limit : ℕ) (rest : Option (List ℕ)) (chunk : List ℕ) (p : P
   pub place : AtPlace limit rest chunk text given p.at p.end (looked p) (looked p - n) p.line_feeds
   pub begun : n ≤ looked p
 
--- what was read and not looked at is no more than a chunk
-abbrev pub Near : ℕ → Option (List ℕ) → ℕ → Input → Type 0
-Near chunk rest n i = IfSome rest (λ more. length i.bytes ≤ n + chunk + length more)
+-- no halt of the input stands before place p
+abbrev pub NoHaltBefore : ℕ → Input → ℕ → Type 0
+NoHaltBefore limit i p = IfSome (halt_place limit i) (λ place. p ≤ place)
 
 -- a failed read marks the input
 abbrev pub Marks : Halt → Mark → Type 0
@@ -39,7 +40,7 @@ Marks ReadFailed m = m ≡ Failed
 abbrev pub InPhase : Phase → ℕ → Option (List ℕ) → List ℕ → Parked → Input → List Token → Type 0
 InPhase Going limit rest chunk p i given = (i.mark ≡ Clean) × At limit rest chunk p i.bytes given 0
 InPhase Ended limit rest chunk p i given = Near (length chunk) rest (looked p) i × Ends limit i given None (p.line_feeds + 1) × (i.mark ≡ Clean)
-InPhase (Halted h) limit rest chunk p i given = Near (length chunk) rest (looked p) i × Marks h i.mark × Ends limit i given (Some (halt_number h)) p.line
+InPhase (Halted h) limit rest chunk p i given = Near (length chunk) rest (looked p) i × Marks h i.mark × Ends limit i given (Some (halt_number h)) p.line × NoHaltBefore limit i (looked p)
 
 -- with these registers these tokens of the input have been given
 abbrev pub HasGivenAt : ℕ → Option (List ℕ) → List ℕ → Parked → Input → List Token → Type 0

@@ -1,6 +1,6 @@
 -- What the steps of a feed do to its registers and windows.
 use Rattle.std.specs.Prelude.{◌≡◌, ℕ, ◌+◌, ◌-◌, ◌^◌, ◌≤◌, ◌<◌, Bool, true, false, ◌==◌, List, ◌++◌, length, take, slice_index, slice_range, count_by, if◌then◌else◌, min, Option}
-use Rattle.std.specs.Io.KnownBytes.{Consumes, IsAtEnd}
+use Rattle.std.specs.Io.KnownBytes.{Consumes, IsAtEnd, Keeps}
 use Rattle.vcd_model.specs.Bytes.{is_white_space}
 use Rattle.vcd_text.specs.declared.registers.Parked.{Parked}
 use Rattle.vcd_text.specs.declared.answer.Halt.{Halt}
@@ -79,7 +79,7 @@ abbrev pub Fills : Option (List ℕ) → Option (List ℕ) → List ℕ → Park
 Fills rest rest' chunk old new More = (0 < new.end) × (new.end ≤ length chunk) × Consumes rest rest' (take new.end chunk)
     × (new ≡ refilled old new.end)
 Fills rest rest' chunk old new End = (new ≡ old) × IsAtEnd rest
-Fills rest rest' chunk old new Failed = new ≡ old
+Fills rest rest' chunk old new Failed = (new ≡ old) × Keeps rest rest'
 
 abbrev pub Halts : Halt → Parked → Parked → Type 0
 Halts TokenTooLong old new = new ≡ record old { size = 0; phase = Halted TokenTooLong }

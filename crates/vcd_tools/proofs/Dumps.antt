@@ -15,7 +15,7 @@ use Rattle.vcd_model.proofs.DumpItems.{dump_marked, dump_whole}
 use Rattle.vcd_text.specs.Feed.{limit_of, token_of}
 use Rattle.vcd_text.specs.declared.device.Source.{Ghosts}
 use Rattle.vcd_text.specs.declared.feed.Feed.{Feed}
-use Rattle.vcd_body.specs.Reads.{BodyHas, GaveMark}
+use Rattle.vcd_body.specs.Reads.{BodyHas, GaveItem}
 use Rattle.vcd_body.specs.declared.item.Regs.{Regs}
 use Rattle.vcd_tools.specs.Seat.{HasDump}
 
@@ -34,7 +34,7 @@ module _ (scale limit : ℕ) (h : Header) (front : List Token) (i : Input) (item
       }
 
   -- a time mark that was given, and that is too large
-  pub marked_dump : {X : Type 0} {g : Ghosts X} (f : Feed X g) (time : ℕ) (r : Regs) → limit_of f ≡ limit → is_too_large scale (BodyItem.Time time) ≡ true → GaveMark h.codes i front items time f r → HasDump scale limit h front i items (Some (record { number = 20; line = (token_of f).line }))
+  pub marked_dump : {X : Type 0} {g : Ghosts X} (f : Feed X g) (time : ℕ) (r : Regs) → limit_of f ≡ limit → is_too_large scale (BodyItem.Time time) ≡ true → GaveItem h.codes i front items (BodyItem.Time time) f r → HasDump scale limit h front i items (Some (record { number = 20; line = (token_of f).line }))
   marked_dump f time r same large m =
       let first = m.gave.stands.given_first in
       let rest = m.gave.given ++ first.0 in

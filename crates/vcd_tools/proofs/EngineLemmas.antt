@@ -10,13 +10,13 @@ use Rattle.vcd_model.specs.Items.{BodyItem, marks, time_mark}
 use Rattle.vcd_model.specs.ItemText.{last_mark}
 use Rattle.vcd_model.specs.Outcome.{Request, ends_early, names_of}
 use Rattle.vcd_model.specs.Tokens.{Token}
-use Rattle.vcd_text.specs.Feed.{limit_of, token_of, seen}
+use Rattle.vcd_text.specs.Feed.{token_of, seen}
 use Rattle.vcd_text.specs.declared.device.Source.{Ghosts}
 use Rattle.vcd_text.specs.declared.feed.Feed.{Feed}
 use Rattle.vcd_text.proofs.Writes.{appends-none}
 use Rattle.vcd_body.specs.Given.{GivesItem, text_of}
 use Rattle.vcd_body.specs.Items.{regs_after, model_section, model_form}
-use Rattle.vcd_body.specs.Reads.{BodyHas, Fails, GaveItems}
+use Rattle.vcd_body.specs.Reads.{Fails, GaveAll, GaveItem, GaveItems}
 use Rattle.vcd_body.specs.declared.fault.BodyFault.{BodyFault}
 use Rattle.vcd_body.specs.declared.fault.BodyFault.TheVariants.{ReadFailed}
 use Rattle.vcd_body.specs.declared.item.Item.{Item}
@@ -78,8 +78,8 @@ last_more codes f items r Finish x is last = absurd is
 
 module _ {X : Type 0} {g : Ghosts X} (h : Header) (i : Input) (front : List Token) (items : List BodyItem) (new : Feed X g) where
   -- the item that was given, in the definitions' terms
-  pub item_given : (item : Item) (r : Regs) → item ≢ Finish → GivesItem h.codes i front items new r item → (x : BodyItem) × AsItem h.codes new item x × GaveItems h.codes i front (items ++ x ∷ []) new r
-  item_given (Time t) r other given = (BodyItem.Time t, refl, given.gave)
+  pub item_given : (item : Item) (r : Regs) → item ≢ Finish → GivesItem h.codes i front items new r item → (x : BodyItem) × AsItem h.codes new item x × GaveItem h.codes i front items x new r
+  item_given (Time t) r other given = (BodyItem.Time t, refl, given)
   item_given (Begin s) r other given = (BodyItem.Begin (model_section s), refl, given)
   item_given End r other given = (BodyItem.End, refl, given)
   item_given (Change code form) r other given = (BodyItem.Changes (record { code = given.0; form = model_form form; text = text_of form new }), (given.0, given.1, refl), given.2)
@@ -110,14 +110,14 @@ module _ {X : Type 0} {g : Ghosts X} (h : Header) (i : Input) (front : List Toke
 -- the fault of a body, as the answer; nothing is written
 pub stopped : {X : Type 0} {g : Ghosts X} (task : Request) (h : Header) (i : Input) (front : List Token) (items : List BodyItem) (e : Engine) (f : Feed X g) (out : Device) (fault : BodyFault) (line : ℕ) → line ≡ (token_of f).line → Fails h.codes i front items fault f
     → StepGives task h i front items e f out out (Err (stop_of_body fault 0 line))
-stopped task h i front items e f out ReadFailed line is fails = (refl, (seen f, line, rw is fails), writes-none out)
-stopped task h i front items e f out fault line is fails = (refl, refl, rw is fails, writes-none out)
+stopped task h i front items e f out ReadFailed line is fails = (refl, fails.0, fails.1, writes-none out)
+stopped task h i front items e f out fault line is fails = (refl, refl, is, fails, writes-none out)
 
 -- ---- the end
 
 -- at its end the body has just the items that were given
-pub all_given : {X : Type 0} {g : Ghosts X} (codes : List IdCode) (i : Input) (front : List Token) (items : List BodyItem) (f : Feed X g) (r : Regs) (x : Item) → x ≡ Finish → GivesItem codes i front items f r x → BodyHas codes i front (limit_of f) items None
-all_given codes i front items f r x is given = (subst (GivesItem codes i front items f r) is given).1
+pub all_given : {X : Type 0} {g : Ghosts X} (codes : List IdCode) (i : Input) (front : List Token) (items : List BodyItem) (f : Feed X g) (r : Regs) (x : Item) → x ≡ Finish → GivesItem codes i front items f r x → GaveAll codes i front items f r
+all_given codes i front items f r x is given = subst (GivesItem codes i front items f r) is given
 
 -- an engine that has ended with these registers
 abbrev pub ended_with : Engine → Regs → Engine

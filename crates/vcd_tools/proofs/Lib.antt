@@ -4,6 +4,8 @@ pub mod ListLemmas
 pub mod Lines
 pub mod EngineLemmas
 pub mod CheckLemmas
+pub mod AskedLemmas
+pub mod RoomLemmas
 pub mod RunLemmas
 pub mod ItemTextLemmas
 pub mod PickLemmas

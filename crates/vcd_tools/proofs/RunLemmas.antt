@@ -1,5 +1,6 @@
 -- What steps leave when the run has ended.
 use Rattle.std.proofs.Common.{◌≡◌, ℕ, ◌+◌, ◌==◌, ◌||◌, inl, inr, Bool, true, false, List, [], ◌∷◌, ◌++◌, Option, Some, None, Result, Ok, Err, refl, sym, ap, subst, ◌∙◌, append-nil, append_assoc, arith}
+use Rattle.std.specs.Prelude.{IfErr, IfOk}
 use Rattle.std.specs.List.{list_any}
 use Rattle.vcd_model.specs.Backward.{up_to_first}
 use Rattle.vcd_model.specs.Input.{Input}
@@ -13,19 +14,23 @@ use Rattle.vcd_model.specs.Selection.{first_unmatched}
 use Rattle.vcd_model.specs.Reading.{Fault}
 use Rattle.vcd_model.proofs.CutGrows.{goes_on}
 use Rattle.vcd_model.proofs.Revised.{nothing_revised}
+use Rattle.vcd_model.specs.Settled.{is_settled_behind}
 use Rattle.vcd_model.proofs.SoFarLemmas.{so_far-nothing}
 use Rattle.vcd_text.specs.Answer.{failed_after}
-use Rattle.vcd_text.specs.Feed.{HasGiven, limit_of, source_of}
+use Rattle.vcd_text.specs.Feed.{HasGiven, chunk_len_of, limit_of, seen, source_of, supply_of, token_of}
+use Rattle.vcd_text.specs.ReadAhead.{ReadsAsNeeded}
+use Rattle.vcd_text.specs.ReadAhead.ReadsAsNeeded.{Nothing}
 use Rattle.vcd_text.specs.declared.device.Source.{Ghosts}
 use Rattle.vcd_text.specs.declared.feed.Feed.{Feed}
 use Rattle.vcd_text.proofs.Writes.{AppendsSome, appends-first, both-written, some-behind, some-first}
-use Rattle.vcd_body.specs.Reads.{BodyHas, GaveItems}
+use Rattle.vcd_body.specs.Reads.{BodyHas, GaveAll, GaveItem}
 use Rattle.vcd_body.specs.declared.item.Regs.{Regs}
 use Rattle.vcd_tools.specs.Answer.{reads_failed}
-use Rattle.vcd_text.specs.Device.{Device, Writes, WritesSome}
+use Rattle.vcd_text.specs.Device.{Device, Supply, Writes, WritesSome}
 use Rattle.vcd_tools.specs.Device.{GrowsSome}
 use Rattle.vcd_tools.specs.Engine.{CanRun, Holds, Runs, StopsAtStart, reads_body, request_of_engine}
-use Rattle.vcd_tools.specs.Run.{Belongs, Follows, IsLeft}
+use Rattle.vcd_tools.specs.Run.{Belongs, Follows, IsLeft, IsRefused, is_early}
+use Rattle.vcd_tools.proofs.AskedLemmas.{read_to_end, read_to_item, read_to_stop}
 use Rattle.vcd_tools.specs.Step.{StepGives, step_end}
 use Rattle.vcd_text.specs.Advances.{Advances, HasNotFailed}
 use Rattle.vcd_tools.specs.declared.answer.Done.{Done}
@@ -94,16 +99,26 @@ output_is output name f = by_kind (f.number == 31) refl
     by_kind false e = rw (e, fault_outcome) refl
 
 -- `mid` holds what is due behind these items; a step took the run from there to `new`
-module _ (t : Request) (h : Header) (i : Input) (front : List Token) (items : List BodyItem) (name : List ℕ) (limit before after : ℕ) (out mid new : Device) (can : CanRun t h) (on : list_any (ends_early t) items ≡ false) (open_is : Writes out mid (open_text t h items)) where
+module _ {X : Type 0} {g : Ghosts X} (t : Request) (h : Header) (i : Input) (front : List Token) (items : List BodyItem) (name : List ℕ) (limit chunk : ℕ) (before : Supply) (out mid new : Device) (can : CanRun t h) (on : list_any (ends_early t) items ≡ false) (open_is : Writes out mid (open_text t h items)) (f : Feed X g) (same : limit_of f ≡ limit) (size : chunk_len_of f ≡ chunk) where
   -- an answer that belongs to the outcome of a body
-  follows : (left : Input) (fault : Option Fault) (r : Result Done Stop) → IsLeft i before after left → BodyHas h.codes left front limit items fault → Belongs t (at_end t h items name fault) name out new r → Follows t limit i front h name before after out new r
-  follows left fault r is has belongs = record {
-    left = left;
-    is_left = is;
-    rest = has.rest;
-    tokens = has.tokens;
-    belongs = subst (λ (o : Outcome). Belongs t o name out new r) (sym (over_task t name h (stream_of limit left) has.rest items fault can on has.items_are has.fault_is)) belongs;
-  }
+  follows : (left : Input) (fault : Option Fault) (r : Result Done Stop) → IsLeft i before (supply_of f) left → BodyHas h.codes left front (limit_of f) items fault → ReadsAsNeeded limit chunk before (supply_of f) left front (is_settled_behind t h)
+      → IfOk r (λ done. is_early done ≡ false) → IfErr r (IsRefused t h) → Belongs t (at_end t h items name fault) name out new r → Follows t limit chunk i front h name before (supply_of f) out new r
+  follows left fault r is here read early refused belongs =
+      let has = subst (λ (n : ℕ). BodyHas h.codes left front n items fault) same here in
+      record {
+        left = left;
+        is_left = is;
+        rest = has.rest;
+        tokens = has.tokens;
+        belongs = subst (λ (o : Outcome). Belongs t o name out new r) (sym (over_task t name h (stream_of limit left) has.rest items fault can on has.items_are has.fault_is)) belongs;
+        read = read;
+        early = no_early r (sym (ap (list_any (ends_early t)) has.items_are ∙ on)) early;
+        refused = refused;
+      }
+    where
+      no_early : {b : Bool} (r : Result Done Stop) → false ≡ b → IfOk r (λ done. is_early done ≡ false) → IfOk r (λ done. is_early done ≡ b)
+      no_early (Ok done) e h = h ∙ e
+      no_early (Err stop) e h = tt
 
   -- a fault in a body
   faulty : (fault line : ℕ) → Writes mid new [] → let f : Fault = record { number = fault; line = line } in let o = at_end t h items name (Some f) in (o ≡ fault_outcome o.output name f) × Writes out new o.output
@@ -112,38 +127,38 @@ module _ (t : Request) (h : Header) (i : Input) (front : List Token) (items : Li
       let e : (fault_outcome (open_text t h items) name f).output ≡ open_text t h items = output_is (open_text t h items) name f in
       (ap (λ l. fault_outcome l name f) (sym e), subst (Writes out new) (sym e) (subst (Writes out new) (append-nil (open_text t h items)) (both-written out mid new (open_text t h items) [] open_is w)))
 
-  module _ {X : Type 0} {g : Ghosts X} (e : Engine) (f : Feed X g) (same : limit_of f ≡ limit) where
-    has_here : (left : Input) (fault : Option Fault) → BodyHas h.codes left front (limit_of f) items fault → BodyHas h.codes left front limit items fault
-    has_here left fault has = subst (λ (n : ℕ). BodyHas h.codes left front n items fault) same has
-
+  module _ (e : Engine) where
     -- the run has ended, with the body
-    pub ended_whole : after ≡ before → StepGives t h i front items e f mid new (Ok (Ended Whole)) → Follows t limit i front h name before after out new (Ok Whole)
-    ended_whole q s = follows i None (Ok Whole) (inl (q, refl)) (has_here i None s.0) (refl, both-written out mid new (open_text t h items) (close_text t h items) open_is s.1)
+    pub ended_whole : (supply_of f).failures ≡ before.failures → StepGives t h i front items e f mid new (Ok (Ended Whole)) → Follows t limit chunk i front h name before (supply_of f) out new (Ok Whole)
+    ended_whole q s = follows i None (Ok Whole) (inl (q, refl)) s.0.has (read_to_end t h i front items f limit chunk before same size can on e.regs s.0) refl tt (refl, both-written out mid new (open_text t h items) (close_text t h items) open_is s.1)
 
     -- the run has stopped at a fault
-    pub stopped_dump : (input line fault : ℕ) → after ≡ before → StepGives t h i front items e f mid new (Err (Dump input line fault)) → Follows t limit i front h name before after out new (Err (Dump input line fault))
+    pub stopped_dump : (input line fault : ℕ) → (supply_of f).failures ≡ before.failures → StepGives t h i front items e f mid new (Err (Dump input line fault)) → Follows t limit chunk i front h name before (supply_of f) out new (Err (Dump input line fault))
     stopped_dump input line fault q s =
-        let b = faulty fault line s.3 in
-        follows i (Some (record { number = fault; line = line })) (Err (Dump input line fault)) (inl (q, refl)) (has_here i (Some (record { number = fault; line = line })) s.2) (s.0, b.0, s.1, b.1)
+        let b = faulty fault line s.4 in
+        let has = subst (λ (n : ℕ). BodyHas h.codes i front (limit_of f) items (Some (record { number = fault; line = n }))) (sym s.2) s.3.0 in
+        follows i (Some (record { number = fault; line = line })) (Err (Dump input line fault)) (inl (q, refl)) has (read_to_stop t h i front items f limit chunk before same size can on s.3.1) tt tt (s.0, b.0, s.1, b.1)
 
     -- a read failed
-    pub stopped_read : (input : ℕ) → after ≡ before + 1 → StepGives t h i front items e f mid new (Err (Read input)) → Follows t limit i front h name before after out new (Err (Read input))
+    pub stopped_read : (input : ℕ) → (supply_of f).failures ≡ before.failures + 1 → StepGives t h i front items e f mid new (Err (Read input)) → Follows t limit chunk i front h name before (supply_of f) out new (Err (Read input))
     stopped_read input q s =
-        let n = s.1.0 in let line = s.1.1 in
-        let b = faulty 31 line s.2 in
-        follows (failed_after n i) (Some (record { number = 31; line = line })) (Err (Read input)) (inr (q, (n, refl))) (has_here (failed_after n i) (Some (record { number = 31; line = line })) s.1.2) (s.0, (line, b.0), b.1)
+        let left = failed_after (seen f) i in
+        let line = (token_of f).line in
+        let b = faulty 31 line s.3 in
+        follows left (Some (record { number = 31; line = line })) (Err (Read input)) (inr (q, seen f, refl, s.2)) s.1.0 (read_to_stop t h left front items f limit chunk before same size can on s.1.1) tt tt (s.0, (line, b.0), b.1)
 
     -- a write of what follows the items failed
-    pub stopped_close : after ≡ before → BodyHas h.codes i front (limit_of f) items None → GrowsSome mid new [] (close_text t h items) → Follows t limit i front h name before after out new (Err Write)
+    pub stopped_close : (supply_of f).failures ≡ before.failures → GaveAll h.codes i front items f e.regs → GrowsSome mid new [] (close_text t h items) → Follows t limit chunk i front h name before (supply_of f) out new (Err Write)
     stopped_close q has due =
         let some = some-behind out mid new (open_text t h items) due.0 open_is due.2 in
-        follows i None (Err Write) (inl (q, refl)) (has_here i None has) (subst (WritesSome out new) (ap (λ l. open_text t h items ++ l) (sym due.1)) some)
+        follows i None (Err Write) (inl (q, refl)) has.has (read_to_end t h i front items f limit chunk before same size can on e.regs has) tt tt (subst (WritesSome out new) (ap (λ l. open_text t h items ++ l) (sym due.1)) some)
 
-    -- the run goes on
-    pub run_goes_on : StepGives t h i front items e f mid new (Ok Again) → (more : List BodyItem) × Runs e h i front more f × Writes out new (open_text t h more)
-    run_goes_on s =
-        let due = s.2 in
-        (items ++ s.0 ∷ [], s.1, subst (Writes out new) (sym due.1) (both-written out mid new (open_text t h items) due.0 open_is due.2))
+-- the run goes on
+pub run_goes_on : {X : Type 0} {g : Ghosts X} (t : Request) (h : Header) (i : Input) (front : List Token) (items : List BodyItem) (out mid new : Device) → Writes out mid (open_text t h items) → (e : Engine) (f : Feed X g) → StepGives t h i front items e f mid new (Ok Again)
+    → (more : List BodyItem) × Runs e h i front more f × Writes out new (open_text t h more)
+run_goes_on t h i front items out mid new open_is e f s =
+    let due = s.2 in
+    (items ++ s.0 ∷ [], s.1, subst (Writes out new) (sym due.1) (both-written out mid new (open_text t h items) due.0 open_is due.2))
 
 -- ---- runs that end before their body
 
@@ -181,7 +196,7 @@ begins_with t h p more name fault valid on = by_end (list_any (ends_early t) (p 
         rw (e, over_body) (r.0, ap (open_text t h) (goes_on (ends_early t) p more on) ∙ r.1)
     by_end false e = rw (e, over_body) (by_fault fault)
 
-module _ (t : Request) (h : Header) (i : Input) (front : List Token) (items : List BodyItem) (name : List ℕ) (limit before after : ℕ) (out mid new : Device) (can : CanRun t h) (on : list_any (ends_early t) items ≡ false) (open_is : Writes out mid (open_text t h items)) where
+module _ {X : Type 0} {g : Ghosts X} (t : Request) (h : Header) (i : Input) (front : List Token) (items : List BodyItem) (name : List ℕ) (limit chunk : ℕ) (before : Supply) (out mid new : Device) (can : CanRun t h) (on : list_any (ends_early t) items ≡ false) (open_is : Writes out mid (open_text t h items)) (f : Feed X g) (same : limit_of f ≡ limit) (size : chunk_len_of f ≡ chunk) where
   -- and so with what is due behind one item more
   begins_first : (x : BodyItem) (more : List BodyItem) (fault : Option Fault) → IsPrefixOf (open_text t h (items ++ x ∷ [])) (over_body t h ((items ++ x ∷ []) ++ more) name fault).output
   begins_first x more fault = by_item (ends_early t x) refl
@@ -190,60 +205,65 @@ module _ (t : Request) (h : Header) (i : Input) (front : List Token) (items : Li
       by_item true e = ([], ap (λ (o : Outcome). o.output) (early_outcome t h items more x name fault on e) ∙ sym (append-nil (open_text t h (items ++ x ∷ []))))
       by_item false e = begins_with t h (items ++ x ∷ []) more name fault can.valid (none_at (ends_early t) items x on e)
 
-  module _ {X : Type 0} {g : Ghosts X} (f : Feed X g) (same : limit_of f ≡ limit) where
-    -- an answer that belongs to the outcome of every body that begins with one item more
-    follows_first : (r : Regs) (x : BodyItem) (a : Result Done Stop) → after ≡ before → GaveItems h.codes i front (items ++ x ∷ []) f r → ((more : List BodyItem) (fault : Option Fault) → Belongs t (over_body t h ((items ++ x ∷ []) ++ more) name fault) name out new a)
-        → Follows t limit i front h name before after out new a
-    unfolding body_of
-    follows_first r x a q gave belongs =
-        let first = gave.stands.given_first in
-        let rest = gave.given ++ first.0 in
-        let b = items_begin h.codes gave.given first.0 gave.placed gave.so_far in
-        let fault = body_fault_of (stream_of limit i) (read_body h.codes rest) in
-        let is : over_dump t name (record { header = h; stream = stream_of limit i; rest = rest }) ≡ over_body t h ((items ++ x ∷ []) ++ b.0) name fault =
-        over_matched t name (record { header = h; stream = stream_of limit i; rest = rest }) can.body can.matched ∙ ap (λ l. over_body t h l name fault) (b.1 ∙ ap (λ l. l ++ b.0) gave.items_are) in
-        record {
-          left = i;
-          is_left = inl (q, refl);
-          rest = rest;
-          tokens = ap (λ n. (stream_of n i).tokens) (sym same) ∙ first.1 ∙ append_assoc front gave.given first.0;
-          belongs = subst (λ (o : Outcome). Belongs t o name out new a) (sym is) (belongs b.0 fault);
-        }
+  -- an answer that belongs to the outcome of every body that begins with one item more
+  follows_first : (r : Regs) (x : BodyItem) (a : Result Done Stop) → (supply_of f).failures ≡ before.failures → GaveItem h.codes i front items x f r → ((more : List BodyItem) (fault : Option Fault) → Belongs t (over_body t h ((items ++ x ∷ []) ++ more) name fault) name out new a)
+      → ((more : List BodyItem) → IfOk a (λ done. is_early done ≡ list_any (ends_early t) ((items ++ x ∷ []) ++ more))) → IfErr a (IsRefused t h) → Follows t limit chunk i front h name before (supply_of f) out new a
+  unfolding body_of
+  follows_first r x a q m belongs early refused =
+      let gave = m.gave in
+      let first = gave.stands.given_first in
+      let rest = gave.given ++ first.0 in
+      let b = items_begin h.codes gave.given first.0 gave.placed gave.so_far in
+      let items_are = b.1 ∙ ap (λ l. l ++ b.0) gave.items_are in
+      let fault = body_fault_of (stream_of limit i) (read_body h.codes rest) in
+      let is : over_dump t name (record { header = h; stream = stream_of limit i; rest = rest }) ≡ over_body t h ((items ++ x ∷ []) ++ b.0) name fault =
+      over_matched t name (record { header = h; stream = stream_of limit i; rest = rest }) can.body can.matched ∙ ap (λ l. over_body t h l name fault) items_are in
+      record {
+        left = i;
+        is_left = inl (q, refl);
+        rest = rest;
+        tokens = ap (λ n. (stream_of n i).tokens) (sym same) ∙ first.1 ∙ append_assoc front gave.given first.0;
+        belongs = subst (λ (o : Outcome). Belongs t o name out new a) (sym is) (belongs b.0 fault);
+        read = read_to_item t h i front items f limit chunk before same size can on x r m;
+        early = subst (λ l. IfOk a (λ done. is_early done ≡ list_any (ends_early t) l)) (sym items_are) (early b.0);
+        refused = refused;
+      }
 
-    -- a time mark ended the run
-    pub ended_early : (e : Engine) → after ≡ before → StepGives t h i front items e f mid new (Ok (Ended Early)) → Follows t limit i front h name before after out new (Ok Early)
-    ended_early e q s =
-        let x = s.0 in
-        let due = s.3 in
-        let whole : Writes out new (open_text t h (items ++ x ∷ [])) = subst (Writes out new) (sym due.1) (both-written out mid new (open_text t h items) due.0 open_is due.2) in
-        follows_first e.regs x (Ok Early) q s.2 (λ more fault. subst (λ (o : Outcome). Belongs t o name out new (Ok Early)) (sym (early_outcome t h items more x name fault on s.1)) (refl, whole))
+  -- a time mark ended the run
+  pub ended_early : (e : Engine) → (supply_of f).failures ≡ before.failures → StepGives t h i front items e f mid new (Ok (Ended Early)) → Follows t limit chunk i front h name before (supply_of f) out new (Ok Early)
+  ended_early e q s =
+      let x = s.0 in
+      let due = s.3 in
+      let whole : Writes out new (open_text t h (items ++ x ∷ [])) = subst (Writes out new) (sym due.1) (both-written out mid new (open_text t h items) due.0 open_is due.2) in
+      follows_first e.regs x (Ok Early) q s.2 (λ more fault. subst (λ (o : Outcome). Belongs t o name out new (Ok Early)) (sym (early_outcome t h items more x name fault on s.1)) (refl, whole))
+      (λ more. sym (ap (list_any (ends_early t)) (append_assoc items (x ∷ []) more) ∙ any_at (ends_early t) items more x s.1)) tt
 
-    -- a write of what is due behind an item failed
-    pub stopped_item : (r : Regs) (x : BodyItem) → after ≡ before → GaveItems h.codes i front (items ++ x ∷ []) f r → GrowsSome mid new (open_text t h items) (open_text t h (items ++ x ∷ [])) → Follows t limit i front h name before after out new (Err Write)
-    stopped_item r x q gave due =
-        let some : WritesSome out new (open_text t h (items ++ x ∷ [])) = subst (WritesSome out new) (sym due.1) (some-behind out mid new (open_text t h items) due.0 open_is due.2) in
-        follows_first r x (Err Write) q gave
-        (λ more fault.
-        let b = begins_first x more fault in
-        subst (WritesSome out new) (sym b.1) (some-first out new (open_text t h (items ++ x ∷ [])) b.0 some))
+  -- a write of what is due behind an item failed
+  pub stopped_item : (r : Regs) (x : BodyItem) → (supply_of f).failures ≡ before.failures → GaveItem h.codes i front items x f r → GrowsSome mid new (open_text t h items) (open_text t h (items ++ x ∷ [])) → Follows t limit chunk i front h name before (supply_of f) out new (Err Write)
+  stopped_item r x q gave due =
+      let some : WritesSome out new (open_text t h (items ++ x ∷ [])) = subst (WritesSome out new) (sym due.1) (some-behind out mid new (open_text t h items) due.0 open_is due.2) in
+      follows_first r x (Err Write) q gave
+      (λ more fault.
+      let b = begins_first x more fault in
+      subst (WritesSome out new) (sym b.1) (some-first out new (open_text t h (items ++ x ∷ [])) b.0 some)) (λ more. tt) tt
 
 -- `mid` holds what is due behind these items; the last step took the run from there to `new`
-module _ {X : Type 0} {g : Ghosts X} (t : Request) (h : Header) (i : Input) (front : List Token) (items : List BodyItem) (name : List ℕ) (limit before after : ℕ) (out mid new : Device) (can : CanRun t h) (on : list_any (ends_early t) items ≡ false) (open_is : Writes out mid (open_text t h items)) (e : Engine) (f : Feed X g) (same : limit_of f ≡ limit) where
+module _ {X : Type 0} {g : Ghosts X} (t : Request) (h : Header) (i : Input) (front : List Token) (items : List BodyItem) (name : List ℕ) (limit chunk : ℕ) (before : Supply) (out mid new : Device) (can : CanRun t h) (on : list_any (ends_early t) items ≡ false) (open_is : Writes out mid (open_text t h items)) (e : Engine) (f : Feed X g) (same : limit_of f ≡ limit) (size : chunk_len_of f ≡ chunk) where
   -- the run has ended
-  pub followed : (done : Done) → after ≡ before → StepGives t h i front items e f mid new (Ok (Ended done)) → Follows t limit i front h name before after out new (Ok done)
-  followed Whole q s = ended_whole t h i front items name limit before after out mid new can on open_is e f same q s
-  followed Early q s = ended_early t h i front items name limit before after out mid new can on open_is f same e q s
+  pub followed : (done : Done) → (supply_of f).failures ≡ before.failures → StepGives t h i front items e f mid new (Ok (Ended done)) → Follows t limit chunk i front h name before (supply_of f) out new (Ok done)
+  followed Whole q s = ended_whole t h i front items name limit chunk before out mid new can on open_is f same size e q s
+  followed Early q s = ended_early t h i front items name limit chunk before out mid new can on open_is f same size e q s
 
   -- the run has stopped
-  pub followed_stop : (stop : Stop) → after ≡ before + reads_failed {A = Done} (Err stop) → StepGives t h i front items e f mid new (Err stop) → Follows t limit i front h name before after out new (Err stop)
-  followed_stop (Dump input line fault) q s = stopped_dump t h i front items name limit before after out mid new can on open_is e f same input line fault (omega arith) s
-  followed_stop (Read input) q s = stopped_read t h i front items name limit before after out mid new can on open_is e f same input q s
+  pub followed_stop : (stop : Stop) → (supply_of f).failures ≡ before.failures + reads_failed {A = Done} (Err stop) → StepGives t h i front items e f mid new (Err stop) → Follows t limit chunk i front h name before (supply_of f) out new (Err stop)
+  followed_stop (Dump input line fault) q s = stopped_dump t h i front items name limit chunk before out mid new can on open_is f same size e input line fault (omega arith) s
+  followed_stop (Read input) q s = stopped_read t h i front items name limit chunk before out mid new can on open_is f same size e input q s
   followed_stop (Unmatched place) q s = absurd s
   followed_stop Write q s = by_due s
     where
-      by_due : StepGives t h i front items e f mid new (Err Write) → Follows t limit i front h name before after out new (Err Write)
-      by_due (inl d) = stopped_item t h i front items name limit before after out mid new can on open_is f same e.regs d.0 (omega arith) d.1 d.2
-      by_due (inr d) = stopped_close t h i front items name limit before after out mid new can on open_is e f same (omega arith) d.0 d.1
+      by_due : StepGives t h i front items e f mid new (Err Write) → Follows t limit chunk i front h name before (supply_of f) out new (Err Write)
+      by_due (inl d) = stopped_item t h i front items name limit chunk before out mid new can on open_is f same size e.regs d.0 (omega arith) d.1 d.2
+      by_due (inr d) = stopped_close t h i front items name limit chunk before out mid new can on open_is f same size e (omega arith) d.0 d.1
 
 -- a step of this task that answers so
 pub asked : {X : Type 0} {g : Ghosts X} (t t' : Request) (h : Header) (i : Input) (front : List Token) (items : List BodyItem) (e : Engine) (f : Feed X g) (out out' : Device) (r r' : Result More Stop) → t ≡ t' → r ≡ r' → StepGives t h i front items e f out out' r
@@ -260,19 +280,28 @@ none_ends t e h i front items f same r = subst (λ (q : Request). list_any (ends
 -- ---- runs that stop at their begin
 
 -- a run whose engine was not begun
-pub never_begun : {X : Type 0} {g : Ghosts X} (t : Request) (limit : ℕ) (i : Input) (front : List Token) (h : Header) (name : List ℕ) (failures : ℕ) (out out' : Device) (f : Feed X g) (stop : Stop) → limit_of f ≡ limit → HasGiven i front f → StopsAtStart t h out out' stop
-    → Follows t limit i front h name failures failures out out' (Err stop)
+pub never_begun : {X : Type 0} {g : Ghosts X} (t : Request) (limit : ℕ) (i : Input) (front : List Token) (h : Header) (name : List ℕ) (chunk : ℕ) (before : Supply) (out out' : Device) (f : Feed X g) (stop : Stop) → limit_of f ≡ limit → HasGiven i front f → StopsAtStart t h out out' stop
+    → Follows t limit chunk i front h name before before out out' (Err stop)
 unfolding body_of
-never_begun t limit i front h name failures out out' f stop l st starts = record {
+never_begun t limit i front h name chunk before out out' f stop l st starts = record {
   left = i;
   is_left = inl (refl, refl);
   rest = st.given_first.0;
   tokens = ap (λ n. (stream_of n i).tokens) (sym l) ∙ st.given_first.1;
   belongs = by_stop stop starts;
+  read = Nothing refl;
+  early = tt;
+  refused = by_refusal stop starts;
 }
   where
     o : Opened
     o = record { header = h; stream = stream_of limit i; rest = st.given_first.0 }
+
+    by_refusal : (s : Stop) → StopsAtStart t h out out' s → IsRefused t h s
+    by_refusal Write b = tt
+    by_refusal (Unmatched place) b = b.0
+    by_refusal (Dump input line fault) b = absurd b
+    by_refusal (Read input) b = absurd b
 
     by_stop : (s : Stop) → StopsAtStart t h out out' s → Belongs t (over_dump t name o) name out out' (Err s)
     by_stop Write b =

@@ -49,20 +49,20 @@ module _ {X : Type 0} {g : Ghosts X} (scale first : ℕ) (l : Lane) (items : Lis
   -- at its end
   pub ended : (s : Seat) (r : Regs) (b : Bool) (old new : Feed X g) → AtSeat scale first l items (spot_with s old) → GivesItem l.header.codes l.input l.front items new r Finish → AtSeat scale first l items (spot_with (seat_with s r s.time b) new)
   ended s r b old new a end = record {
-    gave = parks items new r end.0;
+    gave = parks items new r end.gave;
     small = a.small;
     factor_is = a.factor_is;
     time_is = a.time_is;
     first_is = a.first_is;
     few = a.few;
-    finished = λ e. has_dump scale (limit_of new) l.header l.front l.input items a.small None end.1;
+    finished = λ e. has_dump scale (limit_of new) l.header l.front l.input items a.small None end.has;
   }
 
   -- at a fault of its body
   pub faulty : (A : Type 0) (k : ℕ) (s : Seat) (r : Regs) (time : ℕ) (b : Bool) (old new : Feed X g) (written : Option ℕ) (out : Device) (fault : BodyFault) (line : ℕ) → AtSeat scale first l items (spot_with s old) → line ≡ (token_of new).line → Fails l.header.codes l.input l.front items fault new
       → Turns {A = A} k scale first l items written written (spot_with (seat_with s r time b) new) out out (Err (stop_of_body fault k line))
-  faulty A k s r time b old new written out ReadFailed line a is fails = (refl, (seen new, line, rw is (has_dump scale (limit_of new) l.header l.front _ items a.small _ fails)), writes-none out)
-  faulty A k s r time b old new written out fault line a is fails = (refl, refl, rw is (has_dump scale (limit_of new) l.header l.front _ items a.small _ fails), writes-none out)
+  faulty A k s r time b old new written out ReadFailed line a is fails = (refl, (seen new, line, rw is (has_dump scale (limit_of new) l.header l.front _ items a.small _ fails.0.0)), writes-none out)
+  faulty A k s r time b old new written out fault line a is fails = (refl, refl, rw is (has_dump scale (limit_of new) l.header l.front _ items a.small _ fails.0), writes-none out)
 
 -- whether a time is too large once it is scaled
 pub large : (scale time : ℕ) → 2 ^ 64 ≤ time * scale → is_too_large scale (BodyItem.Time time) ≡ true

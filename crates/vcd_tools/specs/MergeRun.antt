@@ -1,15 +1,19 @@
 -- What a whole merge leaves: what is left of its inputs, and what stands on the output.
-use Rattle.std.specs.Prelude.{◌≡◌, ◌==◌, false, ℕ, List, [], ◌∷◌, ◌++◌, Result, Ok, Err}
+use Rattle.std.specs.Prelude.{◌≡◌, ◌==◌, false, ℕ, List, [], ◌∷◌, ◌++◌, ◌+◌, ◌⊎◌, Result, Ok, Err}
 use Rattle.vcd_model.specs.Input.{Input}
 use Rattle.vcd_model.specs.Tokens.{stream_of}
 use Rattle.vcd_model.specs.Outcome.{Opened, Outcome, clean_outcome, dumps_of, fault_outcome, merge_outcome, name_at}
 use Rattle.vcd_text.specs.Device.{Device, Writes, WritesSome}
-use Rattle.vcd_tools.specs.Run.{IsLeft}
+use Rattle.vcd_text.specs.Answer.{failed_after}
 use Rattle.vcd_tools.specs.Seat.{Lane}
 use Rattle.vcd_tools.specs.declared.answer.Done.{Done}
 use Rattle.vcd_tools.specs.declared.answer.Done.TheVariants.{Whole, Early}
 use Rattle.vcd_tools.specs.declared.answer.Stop.{Stop}
 use Rattle.vcd_tools.specs.declared.answer.Stop.TheVariants.{Dump as Faulty, Read, Write, Unmatched}
+
+-- what is left of an input: all of it, or a prefix of it that is marked as failed where a read failed
+abbrev pub IsLeft : Input → ℕ → ℕ → Input → Type 0
+IsLeft i failures failures' left = ((failures' ≡ failures) × (left ≡ i)) ⊎ ((failures' ≡ failures + 1) × ((n : ℕ) × (left ≡ failed_after n i)))
 
 -- what is left of the inputs, one by one: all of an input, or a prefix of it that is marked as failed where a read failed
 abbrev pub AreLeft : List Lane → List ℕ → List ℕ → List Input → Type 0

@@ -5,7 +5,7 @@ use Rattle.vcd_model.specs.Items.{BodyItem}
 use Rattle.vcd_model.specs.Pick.{pick_kept}
 use Rattle.vcd_head.specs.declared.view.Code.{Code}
 use Rattle.vcd_head.specs.declared.view.HeadView.{HeadView}
-use Rattle.vcd_body.specs.Contents.{is_chosen}
+use Rattle.vcd_body.specs.Contents.{codes_in, is_chosen}
 use Rattle.vcd_body.specs.declared.item.Item.{Item}
 use Rattle.vcd_body.specs.declared.item.Item.TheVariants.{Time, Begin, End, Change, Finish}
 use Rattle.vcd_body.specs.declared.item.Regs.{Regs}
@@ -17,6 +17,10 @@ use Rattle.vcd_tools.specs.declared.machine.pick.Pick.{Pick}
 -- the names that were asked for
 abbrev pub names_in : Pick → List (List ℕ)
 names_in p = map string_bytes p.names.now
+
+-- how many slots it works in
+abbrev pub slots_in : Pick → ℕ
+slots_in p = codes_in p.table
 
 -- over this header and after these items: the codes of the selected variables are chosen, and the text is that of the kept items
 pub record ArePicked (p : Pick) (h : Header) (items : List BodyItem) : Type 0 where

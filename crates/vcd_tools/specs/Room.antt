@@ -1,5 +1,14 @@
--- Whether room is large enough for a task.
+-- Whether room is large enough for a task, and small enough for the bound.
 use Rattle.std.specs.Prelude.{ℕ, ◌≤◌, length}
+use Rattle.vcd_model.specs.Bound.{FitsInput, RoomSize, no_room}
+use Rattle.vcd_model.specs.Header.{Header}
+use Rattle.vcd_head.specs.Needs.{view_size}
+use Rattle.vcd_head.specs.Shown.{parts}
+use Rattle.vcd_head.specs.Views.{IsViewOf}
+use Rattle.vcd_tools.specs.Pick.{slots_in}
+use Rattle.vcd_tools.specs.declared.engine.Engine.{Engine}
+use Rattle.vcd_tools.specs.declared.machine.Machine.{Machine}
+use Rattle.vcd_tools.specs.declared.machine.Machine.TheVariants as machine
 use Rattle.vcd_head.specs.declared.view.HeadView.{HeadView}
 use Rattle.vcd_tools.specs.declared.task.Room.{Room}
 use Rattle.vcd_tools.specs.declared.task.Task.{Task}
@@ -19,3 +28,31 @@ slots_for (Pick names) v = length v.codes.now
 pub record HasRoomFor (t : Task) (v : HeadView) (r : Room) : Type 0 where
   pub marks : marks_for t v ≤ length r.marks.now
   pub slots : slots_for t v ≤ length r.slots.now
+
+-- ---- what is lent
+
+-- the lengths of room
+abbrev pub room_size : Room → RoomSize
+room_size r = record { values = 0; slots = length r.slots.now; marks = length r.marks.now }
+
+-- those of the room that a machine holds
+abbrev pub room_of : Machine → RoomSize
+room_of (machine.Check c) = no_room
+room_of (machine.Pick p) = record { values = 0; slots = slots_in p; marks = 0 }
+
+-- what an engine holds beside its registers: a view, and room
+abbrev pub view_in : Engine → HeadView
+view_in e = e.view
+
+abbrev pub room_in : Engine → RoomSize
+room_in e = room_of e.machine
+
+-- no more room than this
+pub record IsWithin (r most : RoomSize) : Type 0 where
+  pub values : r.values ≤ most.values
+  pub slots : r.slots ≤ most.slots
+  pub marks : r.marks ≤ most.marks
+
+-- windows of these lengths, the view and room of this size count at most the bound of the header that is shown, with 512 bytes to spare
+abbrev pub AreWithinBound : (limit chunk : ℕ) → HeadView → RoomSize → Type 0
+AreWithinBound limit chunk v r = (h : Header) → IsViewOf v h → FitsInput limit h (record { chunk = chunk; token = limit; value = limit }) (view_size (parts v)) r

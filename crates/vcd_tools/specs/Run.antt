@@ -1,18 +1,24 @@
--- What a run over a body leaves: what is left of the input, and what stands on the output.
-use Rattle.std.specs.Prelude.{◌≡◌, ℕ, List, ◌++◌, Result, ◌+◌, ◌==◌, ◌⊎◌, false, Ok, Err}
-use Rattle.vcd_model.specs.Input.{Input}
+-- What a run over a body leaves: what is left of the input, how much of it was read, and what stands on the output.
+use Rattle.std.specs.Prelude.{◌≡◌, ℕ, List, ◌++◌, Result, IfOk, IfErr, ◌+◌, ◌==◌, ◌⊎◌, Bool, true, false, Some, Ok, Err}
+use Rattle.std.specs.List.{list_any}
+use Rattle.vcd_model.specs.BodyReading.{read_body, body_items}
+use Rattle.vcd_model.specs.Input.{Clean, Input}
 use Rattle.vcd_model.specs.Tokens.{Token, stream_of}
 use Rattle.vcd_model.specs.Header.{Header}
-use Rattle.vcd_model.specs.Outcome.{Request, names_of, Outcome, clean_outcome, fault_outcome, name_at, over_dump, unmatched_outcome}
+use Rattle.vcd_model.specs.Outcome.{Request, names_of, Outcome, clean_outcome, ends_early, fault_outcome, name_at, over_dump, unmatched_outcome}
+use Rattle.vcd_model.specs.Selection.{first_unmatched}
+use Rattle.vcd_model.specs.Settled.{is_settled_behind}
 use Rattle.vcd_text.specs.Answer.{failed_after}
+use Rattle.vcd_text.specs.Device.{Device, Supply, Writes, WritesSome}
+use Rattle.vcd_text.specs.ReadAhead.{HasRest, ReadsAsNeeded}
 use Rattle.vcd_tools.specs.declared.answer.Stop.{Stop}
 use Rattle.vcd_tools.specs.declared.answer.Stop.TheVariants.{Dump, Read, Write, Unmatched}
-use Rattle.vcd_text.specs.Device.{Device, Writes, WritesSome}
 use Rattle.vcd_tools.specs.declared.answer.Done.{Done}
+use Rattle.vcd_tools.specs.declared.answer.Done.TheVariants.{Whole, Early}
 
--- what is left of an input: all of it, or a prefix of it that is marked as failed where a read failed
-abbrev pub IsLeft : Input → ℕ → ℕ → Input → Type 0
-IsLeft i failures failures' left = ((failures' ≡ failures) × (left ≡ i)) ⊎ ((failures' ≡ failures + 1) × ((n : ℕ) × (left ≡ failed_after n i)))
+-- what is left of an input: all of it; or, where a read failed, what its source gave until then, which has the others still
+abbrev pub IsLeft : Input → (old new : Supply) → Input → Type 0
+IsLeft i old new left = ((new.failures ≡ old.failures) × (left ≡ i)) ⊎ ((new.failures ≡ old.failures + 1) × (n : ℕ) × (left ≡ failed_after n i) × (i.mark ≡ Clean → HasRest new.rest n i))
 
 -- the answer and the output of a run of this task over the one input, which has this name and this outcome; a failed write leaves a prefix of the output
 abbrev pub Belongs : Request → Outcome → List ℕ → Device → Device → Result Done Stop → Type 0
@@ -22,10 +28,25 @@ Belongs task o name out out' (Err (Read input)) = (input ≡ 0) × ((line : ℕ)
 Belongs task o name out out' (Err Write) = WritesSome out out' o.output
 Belongs task o name out out' (Err (Unmatched place)) = (o ≡ unmatched_outcome (name_at (names_of task) place)) × Writes out out' o.output
 
+-- a time mark ended the run
+abbrev pub is_early : Done → Bool
+is_early Whole = false
+is_early Early = true
+
+-- a name that is refused is the first that selects nothing
+abbrev pub IsRefused : Request → Header → Stop → Type 0
+IsRefused task h (Unmatched place) = first_unmatched (names_of task) h.declarations ≡ Some place
+IsRefused task h stop = Unit {0}
+
 -- after these tokens, which are those of this header, a run does this task
-pub record Follows (task : Request) (limit : ℕ) (i : Input) (front : List Token) (h : Header) (name : List ℕ) (failures failures' : ℕ) (out out' : Device) (result : Result Done Stop) : Type 0 where
+pub record Follows (task : Request) (limit chunk : ℕ) (i : Input) (front : List Token) (h : Header) (name : List ℕ) (old new : Supply) (out out' : Device) (result : Result Done Stop) : Type 0 where
   pub left : Input
-  pub is_left : IsLeft i failures failures' left
+  pub is_left : IsLeft i old new left
   pub rest : List Token
   pub tokens : (stream_of limit left).tokens ≡ front ++ rest
   pub belongs : Belongs task (over_dump task name (record { header = h; stream = stream_of limit left; rest = rest })) name out out' result
+  -- no more was read than what settles the task
+  pub read : ReadsAsNeeded limit chunk old new left front (is_settled_behind task h)
+  -- it ended early exactly where an item ends it
+  pub early : IfOk result (λ done. is_early done ≡ list_any (ends_early task) (body_items (read_body h.codes rest)))
+  pub refused : IfErr result (IsRefused task h)

@@ -4,12 +4,13 @@ ghost use Rattle.vcd_model.specs.Header.{Header};
 ghost use Rattle.vcd_model.specs.Input.{Input};
 ghost use Rattle.vcd_model.specs.Outcome.{Request};
 ghost use Rattle.vcd_model.specs.Tokens.{Token};
-ghost use Rattle.vcd_text.specs.Feed.{HasGiven, SameLoans, source_of, limit_of, chunk_len_of};
+ghost use Rattle.vcd_text.specs.Feed.{HasGiven, SameLoans, source_of, supply_of, limit_of, chunk_len_of};
 ghost use Rattle.vcd_head.specs.Views.{IsViewOf};
 ghost use Rattle.vcd_text.specs.Advances.{HasNotFailed};
 ghost use Rattle.vcd_tools.specs.Run.{Follows};
 ghost use Rattle.vcd_tools.specs.Answer.{reads_failed, writes_failed};
-ghost use Rattle.vcd_tools.specs.Room.{HasRoomFor};
+ghost use Rattle.vcd_model.specs.Bound.{no_room};
+ghost use Rattle.vcd_tools.specs.Room.{AreWithinBound, HasRoomFor, room_size};
 ghost use Rattle.vcd_tools.specs.declared.answer.Done.TheVariants.{Whole};
 
 use crate::answer::{Done, Stop};
@@ -27,10 +28,11 @@ pub fn check<S: Source, W: Sink>(
     requires feed_failures { S.failures (source_of feed.old) < 2 ^ 64 - 1 }
     requires out_failures { (W.device out.old).failures < 2 ^ 64 - 1 }
     requires open { HasNotFailed feed.old }
+    requires bound { AreWithinBound (limit_of feed.old) (chunk_len_of feed.old) view no_room }
     ensures gives { (h : Header) (i : Input) (front : List Token) (name : List ℕ)
         → IsViewOf view.entry h → HasGiven i front feed.old
-        → Follows Request.Check (limit_of feed.old) i front h name (S.failures (source_of feed.old))
-        (S.failures (source_of feed.new))
+        → Follows Request.Check (limit_of feed.old) (chunk_len_of feed.old) i front h name
+        (supply_of feed.old) (supply_of feed.new)
         (W.device out.old) (W.device out.new) result }
     ensures devices { (S.failures (source_of feed.new)
         ≡ S.failures (source_of feed.old) + reads_failed result)
@@ -60,10 +62,12 @@ pub fn pick<S: Source, W: Sink>(
     requires out_failures { (W.device out.old).failures < 2 ^ 64 - 1 }
     requires open { HasNotFailed feed.old }
     requires room { HasRoomFor (Task.Pick names) view room.old }
+    requires bound { AreWithinBound (limit_of feed.old) (chunk_len_of feed.old) view
+        (room_size room.old) }
     ensures gives { (h : Header) (i : Input) (front : List Token) (name : List ℕ)
         → IsViewOf view.entry h → HasGiven i front feed.old
-        → Follows (Request.Pick (map string_bytes names.now)) (limit_of feed.old) i front h name
-        (S.failures (source_of feed.old)) (S.failures (source_of feed.new))
+        → Follows (Request.Pick (map string_bytes names.now)) (limit_of feed.old)
+        (chunk_len_of feed.old) i front h name (supply_of feed.old) (supply_of feed.new)
         (W.device out.old) (W.device out.new) result }
     ensures devices { (S.failures (source_of feed.new)
         ≡ S.failures (source_of feed.old) + reads_failed result)

@@ -5,7 +5,7 @@ ghost use Rattle.vcd_model.specs.Input.{Input};
 ghost use Rattle.vcd_model.specs.Items.{BodyItem};
 ghost use Rattle.vcd_model.specs.Outcome.{open_text};
 ghost use Rattle.vcd_model.specs.Tokens.{Token};
-ghost use Rattle.vcd_text.specs.Feed.{HasGiven, SameLoans, source_of, seen, limit_of, chunk_len_of};
+ghost use Rattle.vcd_text.specs.Feed.{HasGiven, SameLoans, source_of, supply_of, seen, limit_of, chunk_len_of};
 ghost use Rattle.vcd_head.specs.Shown.{parts};
 ghost use Rattle.vcd_head.specs.Views.{IsViewOf};
 ghost use Rattle.vcd_text.specs.Advances.{Advances, HasNotFailed};
@@ -13,7 +13,7 @@ ghost use Rattle.vcd_body.specs.declared.item.Item.TheVariants.{Finish};
 ghost use Rattle.vcd_tools.specs.Answer.{reads_failed, writes_failed};
 ghost use Rattle.vcd_text.specs.Device.{Device, Writes};
 ghost use Rattle.vcd_tools.specs.Engine.{Holds, Runs, Starts, StopsUnread, is_going, may_end_early, request_of, request_of_engine};
-ghost use Rattle.vcd_tools.specs.Room.{HasRoomFor};
+ghost use Rattle.vcd_tools.specs.Room.{AreWithinBound, HasRoomFor, IsWithin, room_in, room_size, view_in};
 ghost use Rattle.vcd_tools.specs.Run.{Follows};
 ghost use Rattle.vcd_tools.specs.Step.{StepGives, goes_on, step_end};
 ghost use Rattle.vcd_tools.specs.declared.answer.Done.TheVariants.{Early};
@@ -63,6 +63,8 @@ impl<'v, 'n, 'r> Engine<'v, 'n, 'r> {
             (W.device out.old) (W.device out.new) result }
         ensures answer { MatchResult result
             (λ e. (is_going e ≡ true) × (request_of_engine e ≡ request_of task.entry)) StopsUnread }
+        ensures holds { IfOk result
+            (λ e. (view_in e ≡ view.entry) × IsWithin (room_in e) (room_size room.entry)) }
         ensures failures { (W.device out.new).failures
             ≡ (W.device out.old).failures + writes_failed result }
     {
@@ -94,6 +96,8 @@ impl<'v, 'n, 'r> Engine<'v, 'n, 'r> {
         requires feed_failures { S.failures (source_of feed.old) < 2 ^ 64 - 1 }
         requires out_failures { (W.device out.old).failures < 2 ^ 64 - 1 }
         requires going { is_going self.old ≡ true }
+        requires bound { AreWithinBound (limit_of feed.old) (chunk_len_of feed.old)
+            (view_in self.old) (room_in self.old) }
         ensures gives { (h : Header) (i : Input) (front : List Token) (items : List BodyItem)
             → Runs self.old h i front items feed.old
             → StepGives (request_of_engine self.old) h i front items self.new feed.new
@@ -104,6 +108,8 @@ impl<'v, 'n, 'r> Engine<'v, 'n, 'r> {
         ensures writes { (W.device out.new).failures
             ≡ (W.device out.old).failures + writes_failed result }
         ensures going { is_going self.new ≡ goes_on result }
+        ensures holds { (view_in self.new ≡ view_in self.old)
+            × (room_in self.new ≡ room_in self.old) }
         ensures request { request_of_engine self.new ≡ request_of_engine self.old }
         ensures answer { IfOk result
             (λ more. more ≡ Ended Early → may_end_early (request_of_engine self.old) ≡ true) }
@@ -122,6 +128,8 @@ impl<'v, 'n, 'r> Engine<'v, 'n, 'r> {
         requires feed_failures { S.failures (source_of feed.old) < 2 ^ 64 - 1 }
         requires out_failures { (W.device out.old).failures < 2 ^ 64 - 1 }
         requires going { is_going self.old ≡ true }
+        requires bound { AreWithinBound (limit_of feed.old) (chunk_len_of feed.old)
+            (view_in self.old) (room_in self.old) }
         requires view { parts view ≡ parts self.old.view }
         ensures gives { (h : Header) (i : Input) (front : List Token) (items : List BodyItem)
             → Runs self.old h i front items feed.old
@@ -134,7 +142,8 @@ impl<'v, 'n, 'r> Engine<'v, 'n, 'r> {
             ≡ (W.device out.old).failures + writes_failed result }
         ensures going { is_going self.new ≡ goes_on result }
         ensures request { request_of_engine self.new ≡ request_of_engine self.old }
-        ensures view { self.new.view ≡ self.old.view }
+        ensures holds { (view_in self.new ≡ view_in self.old)
+            × (room_in self.new ≡ room_in self.old) }
         ensures answer { IfOk result
             (λ more. more ≡ Ended Early → may_end_early (request_of_engine self.old) ≡ true) }
     {
@@ -173,13 +182,15 @@ impl<'v, 'n, 'r> Engine<'v, 'n, 'r> {
         requires out_failures { (W.device out.old).failures < 2 ^ 64 - 1 }
         requires open { HasNotFailed feed.old }
         requires going { is_going self.old ≡ true }
+        requires bound { AreWithinBound (limit_of feed.old) (chunk_len_of feed.old)
+            (view_in self.old) (room_in self.old) }
 
         // Where the engine was begun over an output that has what stands before all items, it is the run of its task.
         ensures gives { (h : Header) (i : Input) (front : List Token) (name : List ℕ)
             (begin : Device) → Holds self.old h [] → HasGiven i front feed.old
             → Writes begin (W.device out.old) (open_text (request_of_engine self.old) h [])
-            → Follows (request_of_engine self.old) (limit_of feed.old) i front h name
-            (S.failures (source_of feed.old)) (S.failures (source_of feed.new))
+            → Follows (request_of_engine self.old) (limit_of feed.old) (chunk_len_of feed.old)
+            i front h name (supply_of feed.old) (supply_of feed.new)
             begin (W.device out.new) result }
         ensures devices { (S.failures (source_of feed.new)
             ≡ S.failures (source_of feed.old) + reads_failed result)
@@ -212,10 +223,12 @@ pub fn run_task<S: Source, W: Sink>(
     requires out_failures { (W.device out.old).failures < 2 ^ 64 - 1 }
     requires open { HasNotFailed feed.old }
     requires room { HasRoomFor task view room.old }
+    requires bound { AreWithinBound (limit_of feed.old) (chunk_len_of feed.old) view
+        (room_size room.old) }
     ensures gives { (h : Header) (i : Input) (front : List Token) (name : List ℕ)
         → IsViewOf view.entry h → HasGiven i front feed.old
-        → Follows (request_of task.entry) (limit_of feed.old) i front h name
-        (S.failures (source_of feed.old)) (S.failures (source_of feed.new))
+        → Follows (request_of task.entry) (limit_of feed.old) (chunk_len_of feed.old)
+        i front h name (supply_of feed.old) (supply_of feed.new)
         (W.device out.old) (W.device out.new) result }
     ensures devices { (S.failures (source_of feed.new)
         ≡ S.failures (source_of feed.old) + reads_failed result)

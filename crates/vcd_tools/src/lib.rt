@@ -6,9 +6,9 @@
 //!
 //! # The relations
 //!
-//! `Follows task .. result` says what a run leaves: an input, whole, or a prefix of it where a read failed, and that output and
-//! result belong to the definitions' outcome for it. Between steps an engine `Runs`: the feed has given these items, and the
-//! engine `Holds` what is due after them. A step (`StepGives`) takes one item more, and the output grows by exactly what is due
+//! `Follows task .. result` says what a run leaves: an input, whole, or what its source gave until a read failed; that no more of
+//! it was read than settles the task; and that output and result belong to the definitions' outcome for it. Between steps an
+//! engine `Runs`: the feed has given these items, and the engine `Holds` what is due after them. A step (`StepGives`) takes one item more, and the output grows by exactly what is due
 //! with it; or it ends the run: at the end of the body, where it writes what is due there, at an item that ends the run early,
 //! or at a fault, where it writes nothing. Where a write fails, a prefix was written. What a command keeps is one case of
 //! `Keeps`.

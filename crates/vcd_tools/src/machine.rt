@@ -11,7 +11,7 @@ ghost use Rattle.vcd_body.specs.Items.{AreRegsAfter, regs_after};
 ghost use Rattle.vcd_tools.specs.Answer.{writes_failed};
 ghost use Rattle.vcd_tools.specs.Engine.{Keeps, Starts, StopsUnread, TakesOne, last_of, may_end_early, request_in, request_of};
 ghost use Rattle.vcd_tools.specs.ItemText.{AsItem};
-ghost use Rattle.vcd_tools.specs.Room.{HasRoomFor};
+ghost use Rattle.vcd_tools.specs.Room.{HasRoomFor, IsWithin, room_of, room_size};
 
 pub(crate) mod check;
 pub(crate) mod pick;
@@ -55,6 +55,7 @@ impl<'n, 'r> Machine<'n, 'r> {
             (W.device out.old) (W.device out.new) result }
         ensures request { MatchResult result
             (λ m. request_in m ≡ request_of task.entry) StopsUnread }
+        ensures room { IfOk result (λ m. IsWithin (room_of m) (room_size room.entry)) }
         ensures failures { (W.device out.new).failures
             ≡ (W.device out.old).failures + writes_failed result }
     {
@@ -84,6 +85,7 @@ impl<'n, 'r> Machine<'n, 'r> {
             (W.device out.new) result }
         ensures counts { Counts (W.device out.old) (W.device out.new) result }
         ensures request { request_in self.new ≡ request_in self.old }
+        ensures room { room_of self.new ≡ room_of self.old }
         ensures early { IfOk result
             (λ ended. ended ≡ true → may_end_early (request_in self.old) ≡ true) }
     {

@@ -1,11 +1,11 @@
 //! What is done with the items of a body, and the slices that it works in.
 ghost use Rattle.std.specs.Prelude.{◌≡◌, ◌≤◌, ℕ, length};
-ghost use Rattle.vcd_model.specs.Bound.{AreWindows, FitsInput, WindowSize};
+ghost use Rattle.vcd_model.specs.Bound.{AreWindows, FitsInput, RoomSize, WindowSize};
 ghost use Rattle.vcd_model.specs.Header.{Header};
 ghost use Rattle.vcd_head.specs.Needs.{room, view_size};
 ghost use Rattle.vcd_head.specs.Shown.{parts};
 ghost use Rattle.vcd_head.specs.Views.{IsViewOf};
-ghost use Rattle.vcd_tools.specs.Room.{HasRoomFor, marks_for, slots_for};
+ghost use Rattle.vcd_tools.specs.Room.{AreWithinBound, HasRoomFor, IsWithin, marks_for, slots_for};
 ghost use Rattle.vcd_tools.specs.declared.task.Room.{Room};
 
 use vcd_body::Slot;
@@ -39,6 +39,8 @@ impl<'n> Task<'n> {
         ensures fits { (limit : ℕ) (h : Header) (w : WindowSize) → IsViewOf view.entry h
             → AreWindows limit w
             → FitsInput limit h w (view_size (parts view.entry)) (room result) }
+        ensures bound { (limit chunk : ℕ) (lent : RoomSize) → chunk ≤ 65536
+            → IsWithin lent (room result) → AreWithinBound limit chunk view.entry lent }
     {
         match self {
             Task::Check => Need {

@@ -1,25 +1,35 @@
 -- How a run ends, and what it leaves.
-use Rattle.std.proofs.Common.{◌≡◌, ◌==◌, ℕ, false, inl, inr, List, [], ◌∷◌, length, map, get_or, set, Option, Some, Result, Ok, Err, refl, sym, ap, subst, ◌∙◌, arith}
-use Rattle.std.specs.Prelude.{MatchResult}
+use Rattle.std.proofs.Common.{◌≡◌, ◌==◌, ℕ, ◌+◌, Bool, true, false, ◌++◌, inl, inr, List, [], ◌∷◌, length, map, get_or, set, Option, Some, Result, Ok, Err, refl, sym, ap, subst, ◌∙◌, arith}
+use Rattle.std.specs.Prelude.{ℤ, MatchResult, IfOk, IfErr, IfSome, codes}
+use Rattle.std.specs.List.{list_any}
 use Rattle.vcd_model.specs.Input.{Input}
-use Rattle.vcd_model.specs.Job.{outcome}
+use Rattle.vcd_model.specs.Job.{outcome, request_of}
+use Rattle.vcd_model.specs.Laws.{IsPrefixOf}
+use Rattle.vcd_model.specs.Settled.{is_header_over, is_settled, is_settled_behind}
+use Rattle.vcd_model.specs.SoFar.{IsWhole}
+use Rattle.vcd_model.specs.HeaderPhrases.{HeaderPhrase}
+use Rattle.vcd_model.specs.Items.{BodyItem}
+use Rattle.vcd_model.specs.BodyReading.{body_items, read_body}
+use Rattle.vcd_model.proofs.SoFarLemmas.{whole-more}
 use Rattle.vcd_model.specs.Header.{Header, header_of}
-use Rattle.vcd_model.specs.HeaderReading.{read_header, header_fault_of}
+use Rattle.vcd_model.specs.HeaderReading.{header_grammar, read_header, header_fault_of}
 use Rattle.vcd_model.specs.CheckAndList.{list_text}
-use Rattle.vcd_model.specs.Outcome.{Outcome, Request, fault_outcome, declarations_allowed, names_of, over_dump}
-use Rattle.vcd_model.specs.Reading.{Fault, phrases_of}
-use Rattle.vcd_model.specs.Tokens.{Token, stream_of}
+use Rattle.vcd_model.specs.Outcome.{Outcome, Request, ends_early, fault_outcome, declarations_allowed, names_of, over_dump, program_line}
+use Rattle.vcd_model.specs.Reading.{Fault, Placed, phrases_of}
+use Rattle.vcd_model.specs.Tokens.{Token, end_of_tokens, halt_place, stream_of}
 use Rattle.vcd_text.specs.Answer.{whole, failed_after}
-use Rattle.vcd_text.specs.Device.{Counts, Device, Takes, Writes}
-use Rattle.vcd_text.specs.Feed.{HasGiven, limit_of, token_of, seen}
+use Rattle.vcd_text.specs.Device.{Counts, Device, Supply, Takes, Writes, supply}
+use Rattle.vcd_text.specs.ReadAhead.{Near, ReadsAsNeeded}
+use Rattle.vcd_text.specs.ReadAhead.ReadsAsNeeded.{Nothing, ToToken, ToEnd}
+use Rattle.vcd_text.specs.Feed.{HasGiven, chunk_len_of, limit_of, supply_of, token_of, seen}
 use Rattle.vcd_text.specs.declared.device.Source.{Ghosts}
 use Rattle.vcd_text.specs.declared.feed.Feed.{Feed}
 use Rattle.vcd_text.proofs.Writes.{appends-none}
-use Rattle.vcd_head.specs.Reads.{Fails, GivesHead, HasFault}
+use Rattle.vcd_head.specs.Reads.{Fails, FailsAtEnd, FailsAtToken, GivesHead, HasFault, HasReadToShown, IsGoing}
 use Rattle.vcd_head.specs.Shown.{HeadShown}
 use Rattle.vcd_head.specs.declared.fault.HeadFault.{HeadFault}
 use Rattle.vcd_head.specs.declared.fault.HeadFault.TheVariants.{TokenTooLong, EndOfInput, UnknownCommand, OutOfPlace, BadTimescale, BadScope, BadVariable, CodeDiffers, NoScope, TooDeep, TooMany, InputTooLong, ReadFailed, OutOfMemory}
-use Rattle.vcd_tools.specs.Run.{Belongs, Follows, IsLeft}
+use Rattle.vcd_tools.specs.Run.{Belongs, Follows, IsLeft, IsRefused, is_early}
 use Rattle.vcd_tools.specs.declared.answer.Done.{Done}
 use Rattle.vcd_tools.specs.declared.answer.Stop.{Stop}
 use Rattle.vcd_tools.specs.declared.answer.Stop.TheVariants.{Dump, Read, Write, Unmatched}
@@ -29,8 +39,9 @@ use Rattle.vcdkit.specs.declared.failure.Failure.TheVariants as failure
 use Rattle.vcdkit.specs.Failure.{end_of, failure_of, head_failure, CountsRead}
 use Rattle.vcdkit.specs.Job.{model_want, names_asked, request_for}
 use Rattle.vcdkit.specs.Message.{end_message, end_status, Shows}
-use Rattle.vcdkit.specs.Run.{AreRead, Ends, IsAfter, IsOfJob, IsOutcome, Leaves}
-use Rattle.vcdkit.specs.Run.IsOutcome.{Whole, Part, Nothing}
+use Rattle.vcdkit.specs.Run.{Ends, HasRun, IsAfter, IsOfJob, IsOutcome, Leaves, settled_for}
+use Rattle.vcdkit.specs.Run.HasRun.{WithOutcome, NoMemory}
+use Rattle.vcdkit.specs.Run.IsOutcome.{Whole, Part}
 use Rattle.vcdkit.proofs.OutcomeLemmas.{after_header, at_header}
 
 writes-none : (out : Device) → Writes out out []
@@ -48,21 +59,36 @@ list_belongs limit i rest h name out out' (Err (Dump input line fault)) t f w = 
 list_belongs limit i rest h name out out' (Err (Read input)) t f w = let e : Read input ≡ Write = w (Read input) refl in cc
 list_belongs limit i rest h name out out' (Err (Unmatched place)) t f w = let e : Unmatched place ≡ Write = w (Unmatched place) refl in cc
 
-pub listed : {X : Type 0} {x : Ghosts X} (limit : ℕ) (i : Input) (front : List Token) (h : Header) (name : List ℕ) (before : ℕ) (old : Feed X x) (out out' : Device) (r : Result Done Stop)
-    → limit_of old ≡ limit → HasGiven i front old → Takes out out' (list_text h) r → Counts out out' r → ((stop : Stop) → r ≡ Err stop → stop ≡ Write)
-    → Follows Request.Listing limit i front h name before before out out' r
-listed limit i front h name before old out out' r l st t f w = record {
+-- the one way in which a list stops
+only_write : (r : Result Done Stop) → MatchResult r (λ done. done ≡ Done.Whole) (λ stop. stop ≡ Write) → (stop : Stop) → r ≡ Err stop → stop ≡ Write
+only_write (Ok done) m stop e = cc
+only_write (Err x) m stop e = cc
+
+none_listed : (items : List BodyItem) → list_any (ends_early Request.Listing) items ≡ false
+none_listed [] = refl
+none_listed (x ∷ items) = none_listed items
+
+list_ends : (items : List BodyItem) (r : Result Done Stop) → MatchResult r (λ done. done ≡ Done.Whole) (λ stop. stop ≡ Write) → IfOk r (λ done. is_early done ≡ list_any (ends_early Request.Listing) items)
+list_ends items (Ok done) m = rw m (sym (none_listed items))
+list_ends items (Err stop) m = tt
+
+list_stops : (h : Header) (r : Result Done Stop) → MatchResult r (λ done. done ≡ Done.Whole) (λ stop. stop ≡ Write) → IfErr r (IsRefused Request.Listing h)
+list_stops h (Ok done) m = tt
+list_stops h (Err stop) m = rw m tt
+
+pub listed : {X : Type 0} {x : Ghosts X} (limit chunk : ℕ) (i : Input) (front : List Token) (h : Header) (name : List ℕ) (before : Supply) (old : Feed X x) (out out' : Device) (r : Result Done Stop)
+    → limit_of old ≡ limit → HasGiven i front old → Takes out out' (list_text h) r → Counts out out' r → MatchResult r (λ done. done ≡ Done.Whole) (λ stop. stop ≡ Write)
+    → Follows Request.Listing limit chunk i front h name before before out out' r
+listed limit chunk i front h name before old out out' r l st t f answer = record {
   left = i;
   is_left = inl (refl, refl);
   rest = st.given_first.0;
   tokens = ap (λ n. (stream_of n i).tokens) (sym l) ∙ st.given_first.1;
-  belongs = list_belongs limit i st.given_first.0 h name out out' r t f w;
+  belongs = list_belongs limit i st.given_first.0 h name out out' r t f (only_write r answer);
+  read = Nothing refl;
+  early = list_ends (body_items (read_body h.codes st.given_first.0)) r answer;
+  refused = list_stops h r answer;
 }
-
--- the one way in which a list stops
-pub only_write : (r : Result Done Stop) → MatchResult r (λ done. done ≡ Done.Whole) (λ stop. stop ≡ Write) → (stop : Stop) → r ≡ Err stop → stop ≡ Write
-only_write (Ok done) m stop e = cc
-only_write (Err x) m stop e = cc
 
 -- ---- after the header
 
@@ -74,23 +100,33 @@ leaves-placed task o name out out' (Err (Read input)) b = (refl, b.1, b.2)
 leaves-placed task o name out out' (Err Write) b = b
 leaves-placed task o name out out' (Err (Unmatched place)) b = b
 
+-- it is settled as its task is
+settled_placed : (r : Result Done Stop) (run header : List Token → Bool) → settled_for (end_of r 0) run header ≡ run
+settled_placed (Ok done) run header = refl
+settled_placed (Err (Dump input line fault)) run header = refl
+settled_placed (Err (Read input)) run header = refl
+settled_placed (Err Write) run header = refl
+settled_placed (Err (Unmatched place)) run header = refl
+
 -- a task, or a list, was done
-pub followed : (task : Request) (limit : ℕ) (i : Input) (front : List Token) (h : Header) (name : List ℕ) (before after : ℕ) (out out' : Device) (r : Result Done Stop) → Follows task limit i front h name before after out out' r
-    → Ends task (IsAfter task limit front h name) i name before after out out' (end_of r 0)
-followed task limit i front h name before after out out' r f = record {
+pub followed : (task : Request) (limit chunk : ℕ) (i : Input) (front : List Token) (h : Header) (name : List ℕ) (before after : Supply) (out out' : Device) (r : Result Done Stop) → Follows task limit chunk i front h name before after out out' r
+    → Ends task (IsAfter task limit front h name) limit chunk i name front (settled_for (end_of r 0) (is_settled_behind task h) (λ _. true)) before after out out' (end_of r 0)
+followed task limit chunk i front h name before after out out' r f = record {
   left = f.left;
   is_left = f.is_left;
+  read = subst (ReadsAsNeeded limit chunk before after f.left front) (sym (settled_placed r (is_settled_behind task h) (λ _. true))) f.read;
   due = over_dump task name (record { header = h; stream = stream_of limit f.left; rest = f.rest });
   is_due = (f.rest, f.tokens, refl);
   leaves = leaves-placed task _ name out out' r f.belongs;
 }
 
 -- memory ran out before it was
-pub no_room : {X : Type 0} {x : Ghosts X} (task : Request) (limit : ℕ) (i : Input) (front : List Token) (h : Header) (name : List ℕ) (before : ℕ) (feed : Feed X x) (out : Device) → limit_of feed ≡ limit → HasGiven i front feed
-    → Ends task (IsAfter task limit front h name) i name before before out out (Err failure.OutOfMemory)
-no_room task limit i front h name before feed out l st = record {
+pub no_room : {X : Type 0} {x : Ghosts X} (task : Request) (limit chunk : ℕ) (i : Input) (front : List Token) (h : Header) (name : List ℕ) (before : Supply) (feed : Feed X x) (out : Device) → limit_of feed ≡ limit → HasGiven i front feed
+    → Ends task (IsAfter task limit front h name) limit chunk i name front (λ _. true) before before out out (Err failure.OutOfMemory)
+no_room task limit chunk i front h name before feed out l st = record {
   left = i;
   is_left = inl (refl, refl);
+  read = Nothing refl;
   due = over_dump task name (record { header = h; stream = stream_of limit i; rest = st.given_first.0 });
   is_due = (st.given_first.0, ap (λ n. (stream_of n i).tokens) (sym l) ∙ st.given_first.1, refl);
   leaves = writes-none out;
@@ -98,14 +134,23 @@ no_room task limit i front h name before feed out l st = record {
 
 -- ---- the header
 
+-- what settles a run over one input
+abbrev pub settles : Want → Result Done Failure → List Token → Bool
+settles wanted r = settled_for r (is_settled (model_want wanted) declarations_allowed) (is_header_over declarations_allowed)
+
+-- how a run of one input ends
+abbrev pub InputEnds : Want → (limit chunk : ℕ) → Input → List ℕ → (old new : Supply) → (out out' : Device) → Result Done Failure → Type 0
+InputEnds wanted limit chunk i name old new out out' r = Ends (request_for wanted) (IsOfJob (model_want wanted) limit name) limit chunk i name [] (settles wanted r) old new out out' r
+
 -- a run that memory ends before anything was read
-pub no_memory : (wanted : Want) (limit : ℕ) (i : Input) (name : List ℕ) (before after : ℕ) (out : Device) (r : Failure) → after ≡ before → r ≡ failure.OutOfMemory → Ends (request_for wanted) (IsOfJob (model_want wanted) limit name) i name before after out out (Err r)
-no_memory wanted limit i name before after out r e f = record {
+pub no_memory : (wanted : Want) (limit chunk : ℕ) (i : Input) (name : List ℕ) (before : Supply) (out : Device) → InputEnds wanted limit chunk i name before before out out (Err failure.OutOfMemory)
+no_memory wanted limit chunk i name before out = record {
   left = i;
-  is_left = inl (e, refl);
+  is_left = inl (refl, refl);
+  read = Nothing refl;
   due = outcome (model_want wanted) limit (name ∷ []) (i ∷ []);
   is_due = refl;
-  leaves = subst (λ (q : Failure). Leaves (request_for wanted) (outcome (model_want wanted) limit (name ∷ []) (i ∷ [])) name out out (Err q)) (sym f) (writes-none out);
+  leaves = writes-none out;
 }
 
 -- a fault of a dump, and a failed read, end a run without output
@@ -118,76 +163,191 @@ dump_leaves task name n line out k =
 read_leaves : (task : Request) (name : List ℕ) (line : ℕ) (out : Device) → Leaves task (fault_outcome [] name (record { number = 31; line = line })) name out out (Err (failure.Stopped (Read 0)))
 read_leaves task name line out = (refl, (line, refl), writes-none out)
 
-module _ {X : Type 0} {x : Ghosts X} (wanted : Want) (limit : ℕ) (i : Input) (name : List ℕ) (before after : ℕ) (feed : Feed X x) (line : ℕ) (out : Device) where
+-- a header that goes on settles nothing
+going_run : (wanted : Want) (given : List Token) → IsGoing declarations_allowed given → is_settled (model_want wanted) declarations_allowed given ≡ false
+unfolding is_settled
+going_run wanted given e = rw e refl
+
+going_header : (given : List Token) → IsGoing declarations_allowed given → is_header_over declarations_allowed given ≡ false
+unfolding is_header_over
+going_header given e = rw e refl
+
+going : (wanted : Want) (r : Result Done Failure) (given : List Token) → IsGoing declarations_allowed given → settles wanted r given ≡ false
+going wanted (Ok done) given e = going_run wanted given e
+going wanted (Err (failure.Stopped stop)) given e = going_run wanted given e
+going wanted (Err failure.OutOfMemory) given e = going_header given e
+
+module _ {X : Type 0} {x : Ghosts X} (wanted : Want) (limit chunk : ℕ) (i : Input) (name : List ℕ) (before : Supply) (feed : Feed X x) (line : ℕ) (out : Device) (l : limit_of feed ≡ limit) (size : chunk_len_of feed ≡ chunk) where
   -- how a run ends with this answer
   abbrev EndsWith : Failure → Type 0
-  EndsWith why = Ends (request_for wanted) (IsOfJob (model_want wanted) limit name) i name before after out out (Err why)
+  EndsWith why = InputEnds wanted limit chunk i name before (supply_of feed) out out (Err why)
 
   -- the fault that the header has, at the line
   abbrev HeaderHas : ℕ → Input → Type 0
   HeaderHas n left = HasFault declarations_allowed (limit_of feed) left n (token_of feed).line
 
-  placed : (n : ℕ) (left : Input) → limit_of feed ≡ limit → line ≡ (token_of feed).line → HeaderHas n left → fault_outcome [] name (record { number = n; line = line }) ≡ outcome (model_want wanted) limit (name ∷ []) (left ∷ [])
-  placed n left l k f =
+  placed : (n : ℕ) (left : Input) → line ≡ (token_of feed).line → HeaderHas n left → fault_outcome [] name (record { number = n; line = line }) ≡ outcome (model_want wanted) limit (name ∷ []) (left ∷ [])
+  placed n left k f =
       sym (at_header (model_want wanted) limit (name ∷ []) left (record { number = n; line = line })
       (ap (λ m. header_fault_of (stream_of m left) (read_header declarations_allowed (stream_of m left))) (sym l) ∙ f ∙ ap (λ m. Some (record { number = n; line = m })) (sym k)))
 
-  at_fault : (n : ℕ) → (n == 31) ≡ false → after ≡ before → limit_of feed ≡ limit → line ≡ (token_of feed).line → HeaderHas n i → EndsWith (failure.Stopped (Dump 0 line n))
-  at_fault n d e l k f = record { left = i; is_left = inl (e, refl); due = _; is_due = placed n i l k f; leaves = dump_leaves (request_for wanted) name n line out d }
+  -- the header was read to the token that is shown
+  read_to_token : (r : Result Done Failure) (given : List Token) → HasReadToShown i given feed → IsGoing declarations_allowed given → ReadsAsNeeded limit chunk before (supply_of feed) i [] (settles wanted r)
+  read_to_token r given h e =
+      ToToken given (token_of feed) (subst (λ n. IsPrefixOf (given ++ token_of feed ∷ []) (stream_of n i).tokens) l h.0.given_first) (going wanted r given e)
+      (subst (λ n. Near n (supply_of feed).rest (end_of_tokens i.bytes (length (given ++ token_of feed ∷ []))) i) size h.1)
+
+  -- or to where no token is left
+  read_to_end : (r : Result Done Failure) (left : Input) (given : List Token) → HasGiven left given feed → (stream_of (limit_of feed) left).tokens ≡ given → IsGoing declarations_allowed given → ReadsAsNeeded limit chunk before (supply_of feed) left [] (settles wanted r)
+  read_to_end r left given h all e =
+      ToEnd given (ap (λ n. (stream_of n left).tokens) (sym l) ∙ all) (going wanted r given e)
+      (subst (λ n. IfSome (halt_place limit left) (λ place. Near n (supply_of feed).rest place left)) size
+      (subst (λ n. IfSome (halt_place n left) (λ place. Near (chunk_len_of feed) (supply_of feed).rest place left)) l h.near_halt))
+
+  at_token : (n : ℕ) → (n == 31) ≡ false → (supply_of feed).failures ≡ before.failures → line ≡ (token_of feed).line → FailsAtToken declarations_allowed i n feed → EndsWith (failure.Stopped (Dump 0 line n))
+  at_token n d e k f = record {
+    left = i;
+    is_left = inl (e, refl);
+    read = read_to_token (Err (failure.Stopped (Dump 0 line n))) f.1 f.2 f.3;
+    due = _;
+    is_due = placed n i k f.0;
+    leaves = dump_leaves (request_for wanted) name n line out d;
+  }
+
+  at_end : (n : ℕ) → (n == 31) ≡ false → (supply_of feed).failures ≡ before.failures → line ≡ (token_of feed).line → FailsAtEnd declarations_allowed i n feed → EndsWith (failure.Stopped (Dump 0 line n))
+  at_end n d e k f = record {
+    left = i;
+    is_left = inl (e, refl);
+    read = read_to_end (Err (failure.Stopped (Dump 0 line n))) i f.2 f.3 f.4 f.5;
+    due = _;
+    is_due = placed n i k f.0;
+    leaves = dump_leaves (request_for wanted) name n line out d;
+  }
 
   -- how a run ends whose header is refused
-  head_refused : (fault : HeadFault) → CountsRead 0 before after (Some (head_failure fault 0 line)) → limit_of feed ≡ limit → line ≡ (token_of feed).line → Fails declarations_allowed i fault feed → EndsWith (head_failure fault 0 line)
-  head_refused ReadFailed counted l k f = record {
-    left = failed_after (seen feed) i;
-    is_left = inr (counted.1, (seen feed, refl));
-    due = _;
-    is_due = placed 31 (failed_after (seen feed) i) l k f.0;
-    leaves = read_leaves (request_for wanted) name line out;
+  head_refused : (fault : HeadFault) → CountsRead 0 before.failures (supply_of feed).failures (Some (head_failure fault 0 line)) → line ≡ (token_of feed).line → Fails declarations_allowed i fault feed → EndsWith (head_failure fault 0 line)
+  head_refused ReadFailed counted k f =
+      let left = failed_after (seen feed) i in
+      record {
+        left = left;
+        is_left = inr (counted.1, seen feed, refl, f.1);
+        read = read_to_end (Err (failure.Stopped (Read 0))) left f.0.2 f.0.3 f.0.4 f.0.5;
+        due = _;
+        is_due = placed 31 left k f.0.0;
+        leaves = read_leaves (request_for wanted) name line out;
+      }
+  head_refused OutOfMemory counted k f = record {
+    left = i;
+    is_left = inl (counted, refl);
+    read = read_to_token (Err failure.OutOfMemory) f.0 f.1 f.2;
+    due = outcome (model_want wanted) limit (name ∷ []) (i ∷ []);
+    is_due = refl;
+    leaves = writes-none out;
   }
-  head_refused OutOfMemory counted l k f = no_memory wanted limit i name before after out failure.OutOfMemory counted refl
-  head_refused TokenTooLong counted l k f = at_fault 1 refl counted l k f.0
-  head_refused EndOfInput counted l k f = at_fault 2 refl counted l k f.0
-  head_refused UnknownCommand counted l k f = at_fault 3 refl counted l k f.0
-  head_refused OutOfPlace counted l k f = at_fault 4 refl counted l k f.0
-  head_refused BadTimescale counted l k f = at_fault 5 refl counted l k f.0
-  head_refused BadScope counted l k f = at_fault 6 refl counted l k f.0
-  head_refused BadVariable counted l k f = at_fault 7 refl counted l k f.0
-  head_refused CodeDiffers counted l k f = at_fault 8 refl counted l k f.0
-  head_refused NoScope counted l k f = at_fault 9 refl counted l k f.0
-  head_refused TooDeep counted l k f = at_fault 10 refl counted l k f.0
-  head_refused TooMany counted l k f = at_fault 11 refl counted l k f.0
-  head_refused InputTooLong counted l k f = at_fault 21 refl counted l k f.0
+  head_refused TokenTooLong counted k f = at_end 1 refl counted k f
+  head_refused EndOfInput counted k f = at_end 2 refl counted k f
+  head_refused UnknownCommand counted k f = at_token 3 refl counted k f
+  head_refused OutOfPlace counted k f = at_token 4 refl counted k f
+  head_refused BadTimescale counted k f = at_token 5 refl counted k f
+  head_refused BadScope counted k f = at_token 6 refl counted k f
+  head_refused BadVariable counted k f = at_token 7 refl counted k f
+  head_refused CodeDiffers counted k f = at_token 8 refl counted k f
+  head_refused NoScope counted k f = at_token 9 refl counted k f
+  head_refused TooDeep counted k f = at_token 10 refl counted k f
+  head_refused TooMany counted k f = at_token 11 refl counted k f
+  head_refused InputTooLong counted k f = at_end 21 refl counted k f
 
 -- the same of the failure that was answered
-pub refused : {X : Type 0} {x : Ghosts X} (wanted : Want) (limit : ℕ) (i : Input) (name : List ℕ) (before after : ℕ) (feed : Feed X x) (out : Device) (why : Failure) → CountsRead 0 before after (Some why) → limit_of feed ≡ limit
+pub refused : {X : Type 0} {x : Ghosts X} (wanted : Want) (limit chunk : ℕ) (i : Input) (name : List ℕ) (before : Supply) (feed : Feed X x) (out : Device) (why : Failure) → CountsRead 0 before.failures (supply_of feed).failures (Some why) → limit_of feed ≡ limit → chunk_len_of feed ≡ chunk
     → ((fault : HeadFault) × (why ≡ head_failure fault 0 (token_of feed).line) × Fails declarations_allowed i fault feed)
-    → Ends (request_for wanted) (IsOfJob (model_want wanted) limit name) i name before after out out (Err why)
-refused wanted limit i name before after feed out why counted l (fault, is, f) =
+    → InputEnds wanted limit chunk i name before (supply_of feed) out out (Err why)
+refused wanted limit chunk i name before feed out why counted l size (fault, is, f) =
     let line = (token_of feed).line in
-    let same = subst (λ (q : Failure). CountsRead 0 before after (Some q)) is counted in
-    subst (λ (q : Failure). Ends (request_for wanted) (IsOfJob (model_want wanted) limit name) i name before after out out (Err q)) (sym is)
-    (head_refused wanted limit i name before after feed line out fault same l refl f)
+    let same = subst (λ (q : Failure). CountsRead 0 before.failures (supply_of feed).failures (Some q)) is counted in
+    subst (λ (q : Failure). InputEnds wanted limit chunk i name before (supply_of feed) out out (Err q)) (sym is)
+    (head_refused wanted limit chunk i name before feed line out l size fault same refl f)
+
+-- ---- behind the header
+
+-- a request of times has none of these commands
+asked_for : (wanted : Want) (scale : Option ℤ) → request_of scale (model_want wanted) ≡ Ok (request_for wanted)
+unfolding request_of
+asked_for Want.Check scale = refl
+asked_for Want.List scale = refl
+asked_for (Want.Pick names) scale = refl
+
+-- what settles a run behind its header settles it
+settled_run : (wanted : Want) (given ts : List Token) (placed : List (Placed HeaderPhrase)) → IsWhole (header_grammar declarations_allowed) given placed → is_settled (model_want wanted) declarations_allowed (given ++ ts) ≡ is_settled_behind (request_for wanted) (header_of (phrases_of placed)) ts
+unfolding is_settled
+settled_run wanted given ts placed w = rw (whole-more (header_grammar declarations_allowed) given placed ts w, asked_for wanted) refl
+
+settled_header : (given ts : List Token) (placed : List (Placed HeaderPhrase)) → IsWhole (header_grammar declarations_allowed) given placed → is_header_over declarations_allowed (given ++ ts) ≡ true
+unfolding is_header_over
+settled_header given ts placed w = rw (whole-more (header_grammar declarations_allowed) given placed ts w) refl
+
+settled_both : (wanted : Want) (r : Result Done Failure) (given ts : List Token) (placed : List (Placed HeaderPhrase)) → IsWhole (header_grammar declarations_allowed) given placed
+    → settles wanted r (given ++ ts) ≡ settled_for r (is_settled_behind (request_for wanted) (header_of (phrases_of placed))) (λ _. true) ts
+settled_both wanted (Ok done) given ts placed w = settled_run wanted given ts placed w
+settled_both wanted (Err (failure.Stopped stop)) given ts placed w = settled_run wanted given ts placed w
+settled_both wanted (Err failure.OutOfMemory) given ts placed w = settled_header given ts placed w
+
+module _ {X : Type 0} {x : Ghosts X} (wanted : Want) (limit chunk : ℕ) (i : Input) (before : Supply) (feed : Feed X x) (s : HeadShown) (r : Result Done Failure) (l : limit_of feed ≡ limit) (size : chunk_len_of feed ≡ chunk) (head : GivesHead declarations_allowed i feed s) where
+  abbrev Behind : List Token → Bool
+  Behind = settled_for r (is_settled_behind (request_for wanted) (header_of (phrases_of head.placed))) (λ _. true)
+
+  unsettled : (ts : List Token) → Behind ts ≡ false → settles wanted r (head.given ++ ts) ≡ false
+  unsettled ts e = settled_both wanted r head.given ts head.placed head.whole ∙ e
+
+  -- nothing was read behind the header
+  header_only : (after : Supply) → after.rest ≡ (supply_of feed).rest → ReadsAsNeeded limit chunk before after i [] (settles wanted r)
+  header_only after same =
+      let first = subst (λ n. IsPrefixOf head.given (stream_of n i).tokens) l head.stands.given_first in
+      let near = subst (λ n. Near n (supply_of feed).rest (end_of_tokens i.bytes (length head.given)) i) size head.near in
+      ToToken head.front head.last (subst (λ ts. IsPrefixOf ts (stream_of limit i).tokens) head.is first) (going wanted r head.front head.going)
+      (subst (λ rest. Near chunk rest (end_of_tokens i.bytes (length (head.front ++ head.last ∷ []))) i) (sym same) (subst (λ ts. Near chunk (supply_of feed).rest (end_of_tokens i.bytes (length ts)) i) head.is near))
+
+  -- or so much
+  all_read : (after : Supply) (left : Input) → IsLeft i (supply_of feed) after left → ReadsAsNeeded limit chunk (supply_of feed) after left head.given Behind → ReadsAsNeeded limit chunk before after left [] (settles wanted r)
+  all_read after left (inl is) (Nothing same) = subst (λ j. ReadsAsNeeded limit chunk before after j [] (settles wanted r)) (sym is.1) (header_only after (ap (λ (s : Supply). s.rest) same))
+  all_read after left (inr is) (Nothing same) = let e = ap (λ (s : Supply). s.failures) same in let f = is.0 in absurd (omega arith)
+  all_read after left is (ToToken asked last first so_far near) = ToToken (head.given ++ asked) last first (unsettled asked so_far) near
+  all_read after left is (ToEnd asked all so_far near) = ToEnd (head.given ++ asked) all (unsettled asked so_far) near
 
 -- how a run ends whose header was read
-pub read_on : {X : Type 0} {x : Ghosts X} (wanted : Want) (limit limit' : ℕ) (i : Input) (name : List ℕ) (before mid after : ℕ) (out out' : Device) (feed : Feed X x) (s : HeadShown) (end : Result Done Failure) → limit' ≡ limit → mid ≡ before
-    → (g : GivesHead declarations_allowed i feed s) → Ends (request_for wanted) (IsAfter (request_for wanted) limit' g.given (header_of (phrases_of g.placed)) name) i name mid after out out' end
-    → Ends (request_for wanted) (IsOfJob (model_want wanted) limit name) i name before after out out' end
-read_on wanted limit limit' i name before mid after out out' feed s end l m g f =
-    let e : Ends (request_for wanted) (IsAfter (request_for wanted) limit g.given (header_of (phrases_of g.placed)) name) i name mid after out out' end =
-    subst (λ (n : ℕ). Ends (request_for wanted) (IsAfter (request_for wanted) n g.given (header_of (phrases_of g.placed)) name) i name mid after out out' end) l f in
+pub read_on : {X : Type 0} {x : Ghosts X} (wanted : Want) (limit chunk limit' chunk' : ℕ) (i : Input) (name : List ℕ) (before after : Supply) (out out' : Device) (feed : Feed X x) (s : HeadShown) (end : Result Done Failure) → limit_of feed ≡ limit → chunk_len_of feed ≡ chunk → limit' ≡ limit → chunk' ≡ chunk → (supply_of feed).failures ≡ before.failures
+    → (g : GivesHead declarations_allowed i feed s)
+    → Ends (request_for wanted) (IsAfter (request_for wanted) limit' g.given (header_of (phrases_of g.placed)) name) limit' chunk' i name g.given (settled_for end (is_settled_behind (request_for wanted) (header_of (phrases_of g.placed))) (λ _. true)) (supply_of feed) after out out' end
+    → InputEnds wanted limit chunk i name before after out out' end
+read_on wanted limit chunk limit' chunk' i name before after out out' feed s end l size l' size' m g f =
+    let h = header_of (phrases_of g.placed) in
+    let behind = settled_for end (is_settled_behind (request_for wanted) h) (λ _. true) in
+    let e : Ends (request_for wanted) (IsAfter (request_for wanted) limit g.given h name) limit chunk i name g.given behind (supply_of feed) after out out' end =
+    subst (λ (n : ℕ). Ends (request_for wanted) (IsAfter (request_for wanted) limit g.given h name) limit n i name g.given behind (supply_of feed) after out out' end) size'
+    (subst (λ (n : ℕ). Ends (request_for wanted) (IsAfter (request_for wanted) n g.given h name) n chunk' i name g.given behind (supply_of feed) after out out' end) l' f) in
     record {
       left = e.left;
-      is_left = subst (λ (n : ℕ). IsLeft i n after e.left) m e.is_left;
+      is_left = since e.left m e.is_left;
+      read = all_read wanted limit chunk i before feed s end l size g after e.left e.is_left e.read;
       due = e.due;
       is_due = e.is_due.2 ∙ sym (after_header wanted limit (name ∷ []) e.left g.given e.is_due.0 g.placed g.whole e.is_due.1);
       leaves = e.leaves;
     }
+  where
+    since : (left : Input) → (supply_of feed).failures ≡ before.failures → IsLeft i (supply_of feed) after left → IsLeft i before after left
+    since left e (inl is) = inl (is.0 ∙ e, is.1)
+    since left e (inr is) = inr (is.0 ∙ ap (λ n. n + 1) e, is.1, is.2, is.3)
 
 -- ---- what is said
 
+-- what a run that ends so has left and said
+abbrev Said : Outcome → (out out' err err' : Device) → ℕ → Result Done Failure → Type 0
+Said o out out' err err' status (Ok done) = IsOutcome o out out' err err' status
+Said o out out' err err' status (Err (failure.Stopped stop)) = IsOutcome o out out' err err' status
+Said o out out' err err' status (Err failure.OutOfMemory) = Writes out out' [] × Shows err err' (program_line (codes "out of memory")) × (status ≡ 3)
+
 -- the line and the status belong to what a run leaves
 leaves_outcome : (task : Request) (o : Outcome) (name : List ℕ) (out out' err err' : Device) (status : ℕ) (r : Result Done Failure) → Leaves task o name out out' r → status ≡ end_status (failure_of r)
-    → Shows err err' (end_message (name ∷ []) (names_of task) (failure_of r)) → IsOutcome o out out' err err' status
+    → Shows err err' (end_message (name ∷ []) (names_of task) (failure_of r)) → Said o out out' err err' status r
 leaves_outcome task o name out out' err err' status (Ok u) e k s = Whole e.1 (subst (λ (l : List ℕ). Shows err err' l) (sym (ap (λ (o : Outcome). o.message) e.0)) s) (k ∙ sym (ap (λ (o : Outcome). o.status) e.0))
 leaves_outcome task o name out out' err err' status (Err (failure.Stopped (Dump input line fault))) e k s =
     let f : Fault = record { number = fault; line = line } in
@@ -202,7 +362,7 @@ leaves_outcome task o name out out' err err' status (Err (failure.Stopped (Read 
 leaves_outcome task o name out out' err err' status (Err (failure.Stopped Write)) e k s = Part e s k
 leaves_outcome task o name out out' err err' status (Err (failure.Stopped (Unmatched place))) e k s =
     Whole e.1 (subst (λ (l : List ℕ). Shows err err' l) (sym (ap (λ (o : Outcome). o.message) e.0)) s) (k ∙ sym (ap (λ (o : Outcome). o.status) e.0))
-leaves_outcome task o name out out' err err' status (Err failure.OutOfMemory) e k s = Nothing e s k
+leaves_outcome task o name out out' err err' status (Err failure.OutOfMemory) e k s = (e, s, k)
 
 -- nothing is said
 pub shows_nothing : (err : Device) → Shows err err []
@@ -221,28 +381,35 @@ set_one (x ∷ []) y h = refl
 set_one (x ∷ z ∷ xs) y h = absurd (omega arith)
 
 -- what a run leaves over its readers
-abbrev pub RunLeaves : {X : Type 0} → (X → ℕ) → List X → List X → Want → ℕ → List (List ℕ) → List (List ℕ) → Device → Device → Device → Device → ℕ → Type 0
-RunLeaves failures readers readers' wanted limit names texts out out' err err' status =
-    (inputs : List Input) × AreRead texts (map failures readers) (map failures readers') inputs × IsOutcome (outcome (model_want wanted) limit names inputs) out out' err err' status
+abbrev pub RunLeaves : {X : Type 0} → (X → Option (List ℕ)) → (X → ℕ) → List X → List X → Want → (limit chunk : ℕ) → List (List ℕ) → List (List ℕ) → Device → Device → Device → Device → ℕ → Type 0
+RunLeaves rest failures readers readers' wanted limit chunk names texts out out' err err' status =
+    HasRun (model_want wanted) limit chunk names texts (map (supply rest failures) readers) (map (supply rest failures) readers') out out' err err' status
 
-module _ {X : Type 0} (rest : X → Option (List ℕ)) (failures : X → ℕ) (r r' : X) (wanted : Want) (limit : ℕ) (name : List ℕ) (out out' err err' : Device) (status : ℕ) (end : Result Done Failure) where
-  abbrev ReaderEnds : Type 0
-  ReaderEnds = (text name : List ℕ) → rest r ≡ Some text → Ends (request_for wanted) (IsOfJob (model_want wanted) limit name) (whole text) name (failures r) (failures r') out out' end
+module _ {X : Type 0} (rest : X → Option (List ℕ)) (failures : X → ℕ) (r r' : X) (wanted : Want) (limit chunk : ℕ) (name : List ℕ) (out out' err err' : Device) (status : ℕ) where
+  -- by how it ended
+  has_run : (text : List ℕ) (end : Result Done Failure) → (g : InputEnds wanted limit chunk (whole text) name (supply rest failures r) (supply rest failures r') out out' end) → Said g.due out out' err err' status end
+      → RunLeaves rest failures (r ∷ []) (r' ∷ []) wanted limit chunk (name ∷ []) (text ∷ []) out out' err err' status
+  has_run text (Ok done) g said = WithOutcome (g.left ∷ []) (g.is_left, g.read, refl) (subst (λ (o : Outcome). IsOutcome o out out' err err' status) g.is_due said)
+  has_run text (Err (failure.Stopped stop)) g said = WithOutcome (g.left ∷ []) (g.is_left, g.read, refl) (subst (λ (o : Outcome). IsOutcome o out out' err err' status) g.is_due said)
+  has_run text (Err failure.OutOfMemory) g said = NoMemory (g.left ∷ []) (g.is_left, g.read, refl) said.0 said.1 said.2
 
-  abbrev Says : List (List ℕ) → Type 0
-  Says names = Shows err err' (end_message names (names_asked wanted) (failure_of end))
+  module _ (end : Result Done Failure) where
+    abbrev ReaderEnds : Type 0
+    ReaderEnds = (text name : List ℕ) → rest r ≡ Some text → InputEnds wanted limit chunk (whole text) name (supply rest failures r) (supply rest failures r') out out' end
 
-  one_run : (texts : List (List ℕ)) → ReaderEnds → status ≡ end_status (failure_of end) → Says (name ∷ []) → map rest (r ∷ []) ≡ map (λ text. Some text) texts
-      → RunLeaves failures (r ∷ []) (r' ∷ []) wanted limit (name ∷ []) texts out out' err err' status
-  one_run [] c k s h = cc
-  one_run (t ∷ []) c k s h = let g = c t name (cc) in
-      (g.left ∷ [], (g.is_left, refl), subst (λ (o : Outcome). IsOutcome o out out' err err' status) g.is_due (leaves_outcome (request_for wanted) g.due name out out' err err' status end g.leaves k s))
-  one_run (t ∷ u ∷ texts) c k s h = cc
+    abbrev Says : List (List ℕ) → Type 0
+    Says names = Shows err err' (end_message names (names_asked wanted) (failure_of end))
 
-  pub run_leaves : (readers readers' : List X) (names texts : List (List ℕ)) → readers ≡ r ∷ [] → readers' ≡ r' ∷ [] → names ≡ name ∷ [] → ReaderEnds → status ≡ end_status (failure_of end)
-      → Says names → map rest readers ≡ map (λ text. Some text) texts → RunLeaves failures readers readers' wanted limit names texts out out' err err' status
-  run_leaves readers readers' names texts e f n c k s h =
-      subst (λ (l : List X). RunLeaves failures l readers' wanted limit names texts out out' err err' status) (sym e)
-      (subst (λ (l : List X). RunLeaves failures (r ∷ []) l wanted limit names texts out out' err err' status) (sym f)
-      (subst (λ (l : List (List ℕ)). RunLeaves failures (r ∷ []) (r' ∷ []) wanted limit l texts out out' err err' status) (sym n)
-      (one_run texts c k (subst (λ (l : List (List ℕ)). Says l) n s) (ap (map rest) (sym e) ∙ h))))
+    one_run : (texts : List (List ℕ)) → ReaderEnds → status ≡ end_status (failure_of end) → Says (name ∷ []) → map rest (r ∷ []) ≡ map (λ text. Some text) texts
+        → RunLeaves rest failures (r ∷ []) (r' ∷ []) wanted limit chunk (name ∷ []) texts out out' err err' status
+    one_run [] c k s h = cc
+    one_run (t ∷ []) c k s h = let g = c t name (cc) in has_run t end g (leaves_outcome (request_for wanted) g.due name out out' err err' status end g.leaves k s)
+    one_run (t ∷ u ∷ texts) c k s h = cc
+
+    pub run_leaves : (readers readers' : List X) (names texts : List (List ℕ)) → readers ≡ r ∷ [] → readers' ≡ r' ∷ [] → names ≡ name ∷ [] → ReaderEnds → status ≡ end_status (failure_of end)
+        → Says names → map rest readers ≡ map (λ text. Some text) texts → RunLeaves rest failures readers readers' wanted limit chunk names texts out out' err err' status
+    run_leaves readers readers' names texts e f n c k s h =
+        subst (λ (l : List X). RunLeaves rest failures l readers' wanted limit chunk names texts out out' err err' status) (sym e)
+        (subst (λ (l : List X). RunLeaves rest failures (r ∷ []) l wanted limit chunk names texts out out' err err' status) (sym f)
+        (subst (λ (l : List (List ℕ)). RunLeaves rest failures (r ∷ []) (r' ∷ []) wanted limit chunk l texts out out' err err' status) (sym n)
+        (one_run texts c k (subst (λ (l : List (List ℕ)). Says l) n s) (ap (map rest) (sym e) ∙ h))))

@@ -1,12 +1,16 @@
 -- What a run leaves.
-use Rattle.std.specs.Prelude.{◌≡◌, ℕ, List, [], ◌∷◌, ◌++◌, codes, Result, Ok, Err}
+use Rattle.std.specs.Prelude.{◌≡◌, ℕ, Bool, List, [], ◌∷◌, ◌++◌, codes, Result, Ok, Err}
 use Rattle.vcd_model.specs.Input.{Input}
 use Rattle.vcd_model.specs.Job as model
-use Rattle.vcd_model.specs.Outcome.{Outcome, Request, over_dump, program_line}
-use Rattle.vcd_model.specs.Header.{Header}
+use Rattle.vcd_model.specs.Header.{Header, header_of}
+use Rattle.vcd_model.specs.HeaderReading.{read_header}
+use Rattle.vcd_model.specs.Outcome.{Outcome, Request, allowed_after, over_dump, program_line}
+use Rattle.vcd_model.specs.Reading.{phrases_of}
+use Rattle.vcd_model.specs.Settled.{is_header_over, is_settled}
 use Rattle.vcd_model.specs.Tokens.{Token, stream_of}
 use Rattle.vcd_text.specs.Answer.{whole}
-use Rattle.vcd_text.specs.Device.{Device, Writes, WritesSome}
+use Rattle.vcd_text.specs.Device.{Device, Supply, Writes, WritesSome}
+use Rattle.vcd_text.specs.ReadAhead.{ReadsAsNeeded}
 use Rattle.vcd_tools.specs.Run.{Belongs, IsLeft}
 use Rattle.vcd_tools.specs.declared.answer.Done.{Done}
 use Rattle.vcdkit.specs.declared.failure.Failure.{Failure}
@@ -21,10 +25,17 @@ Leaves task o name out out' (Ok done) = Belongs task o name out out' (Ok done)
 Leaves task o name out out' (Err (Stopped stop)) = Belongs task o name out out' (Err stop)
 Leaves task o name out out' (Err OutOfMemory) = Writes out out' []
 
--- how a run of this task ends over an input with this name: with an outcome that is due for what is left of the input
-pub record Ends (task : Request) (IsDue : Input → Outcome → Type 0) (i : Input) (name : List ℕ) (failures failures' : ℕ) (out out' : Device) (result : Result Done Failure) : Type 0 where
+-- which first tokens settle a run: where memory ran out those that settle the header
+abbrev pub settled_for : Result Done Failure → (run header : List Token → Bool) → List Token → Bool
+settled_for (Ok done) run header = run
+settled_for (Err (Stopped stop)) run header = run
+settled_for (Err OutOfMemory) run header = header
+
+-- how a run of this task ends over an input with this name, of which these tokens were given: with an outcome that is due for what is left of the input, and no more was read than what settles it
+pub record Ends (task : Request) (IsDue : Input → Outcome → Type 0) (limit chunk : ℕ) (i : Input) (name : List ℕ) (front : List Token) (settled : List Token → Bool) (old new : Supply) (out out' : Device) (result : Result Done Failure) : Type 0 where
   pub left : Input
-  pub is_left : IsLeft i failures failures' left
+  pub is_left : IsLeft i old new left
+  pub read : ReadsAsNeeded limit chunk old new left front settled
   pub due : Outcome
   pub is_due : IsDue left due
   pub leaves : Leaves task due name out out' result
@@ -41,13 +52,19 @@ IsAfter task limit front h name left o =
 
 -- ---- all inputs
 
--- the inputs of readers with these texts, one by one: all of a text, or a prefix of it that is marked as failed where a read failed
-abbrev pub AreRead : List (List ℕ) → List ℕ → List ℕ → List Input → Type 0
-AreRead [] failures failures' inputs = inputs ≡ []
-AreRead (text ∷ texts) [] failures' inputs = ⊥
-AreRead (text ∷ texts) (n ∷ ns) [] inputs = ⊥
-AreRead (text ∷ texts) (n ∷ ns) (m ∷ ms) [] = ⊥
-AreRead (text ∷ texts) (n ∷ ns) (m ∷ ms) (i ∷ is) = IsLeft (whole text) n m i × AreRead texts ns ms is
+-- the header of an input behind others with these headers
+abbrev pub header_behind : List Header → ℕ → Input → Header
+header_behind earlier limit i = header_of (phrases_of (read_header (allowed_after earlier) (stream_of limit i)).placed)
+
+-- The inputs of readers with these texts, one by one: all of a text; or, where a read failed, what the reader gave until then. No more was read of each than what settles it, where so many declarations are allowed.
+abbrev pub AreRead : (ℕ → List Token → Bool) → (limit chunk : ℕ) → List Header → List (List ℕ) → (old new : List Supply) → List Input → Type 0
+AreRead settled limit chunk earlier [] old new inputs = inputs ≡ []
+AreRead settled limit chunk earlier (text ∷ texts) [] new inputs = ⊥
+AreRead settled limit chunk earlier (text ∷ texts) (s ∷ old) [] inputs = ⊥
+AreRead settled limit chunk earlier (text ∷ texts) (s ∷ old) (t ∷ new) [] = ⊥
+AreRead settled limit chunk earlier (text ∷ texts) (s ∷ old) (t ∷ new) (i ∷ inputs) =
+    IsLeft (whole text) s t i × ReadsAsNeeded limit chunk s t i [] (settled (allowed_after earlier))
+    × AreRead settled limit chunk (earlier ++ header_behind earlier limit i ∷ []) texts old new inputs
 
 -- a run leaves this outcome on its output, on the error stream and in its status, as far as its devices let it
 pub data IsOutcome (o : Outcome) (out out' err err' : Device) (status : ℕ) : Type 0 where
@@ -55,5 +72,12 @@ pub data IsOutcome (o : Outcome) (out out' err err' : Device) (status : ℕ) : T
   Whole : (written : Writes out out' o.output) (shown : Shows err err' o.message) (status_is : status ≡ o.status) → IsOutcome o out out' err err' status
   -- a prefix of the output, where a write of it failed
   Part : (written : WritesSome out out' o.output) (shown : Shows err err' (program_line (codes "write failed"))) (status_is : status ≡ 3) → IsOutcome o out out' err err' status
-  -- no output, where memory ran out
-  Nothing : (written : Writes out out' []) (shown : Shows err err' (program_line (codes "out of memory"))) (status_is : status ≡ 3) → IsOutcome o out out' err err' status
+
+-- how a job ends over readers with these texts
+pub data HasRun (want : model.Want) (limit chunk : ℕ) (names texts : List (List ℕ)) (old new : List Supply) (out out' err err' : Device) (status : ℕ) : Type 0 where
+  -- with the outcome of its inputs
+  WithOutcome : (inputs : List Input) (read : AreRead (is_settled want) limit chunk [] texts old new inputs) (leaves : IsOutcome (model.outcome want limit names inputs) out out' err err' status)
+      → HasRun want limit chunk names texts old new out out' err err' status
+  -- without output, where memory ran out; no more was read than the headers
+  NoMemory : (inputs : List Input) (read : AreRead is_header_over limit chunk [] texts old new inputs) (written : Writes out out' []) (shown : Shows err err' (program_line (codes "out of memory"))) (status_is : status ≡ 3)
+      → HasRun want limit chunk names texts old new out out' err err' status

@@ -2,7 +2,7 @@
 ghost use Rattle.std.specs.Prelude.{◌≡◌, ◌-◌, ◌^◌, ◌<◌, [], IfOk, MatchResult, OnOk, vec_len};
 ghost use Rattle.vcd_model.specs.Input.{Input};
 ghost use Rattle.vcd_model.specs.Outcome.{declarations_allowed};
-ghost use Rattle.vcd_text.specs.Feed.{HasGiven, SameLoans, source_of, limit_of, token_of};
+ghost use Rattle.vcd_text.specs.Feed.{HasGiven, SameLoans, source_of, limit_of, chunk_len_of, token_of};
 ghost use Rattle.vcd_head.specs.Reads.{Fails, GivesHead};
 ghost use Rattle.vcd_head.specs.Shown.{shown};
 ghost use Rattle.vcd_text.specs.Advances.{HasNotFailed};
@@ -59,7 +59,8 @@ pub(crate) fn open_input<S: Source>(
         (failure_of result) }
     ensures no_write { writes_failed (failure_of result) ≡ 0 }
     ensures open { OnOk result (HasNotFailed feed.new) }
-    ensures limit { limit_of feed.new ≡ limit_of feed.old }
+    ensures lengths { (limit_of feed.new ≡ limit_of feed.old)
+        × (chunk_len_of feed.new ≡ chunk_len_of feed.old) }
     ensures loans { SameLoans feed.old feed.new }
 {
     match read_head(alloc, feed, MOST_DECLARATIONS) {

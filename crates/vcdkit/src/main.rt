@@ -2,7 +2,7 @@
 //!
 //! `main` reads the words, opens the input, runs the job over it, flushes the output and returns the status. It owns the
 //! devices. `run` works on any readers and sinks, so that its contract can say what is left on them: output, message and status
-//! are those of the definitions' outcome (`IsOutcome`), or a prefix of the output where a write failed, or none of it where out
+//! are those of the definitions' outcome (`HasRun`), or a prefix of the output where a write failed, or none of it where out
 //! of memory.
 //!
 //! # The modules

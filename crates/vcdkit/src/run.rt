@@ -1,17 +1,19 @@
 //! A job, from its readers to its output, its message and its status.
-ghost use Rattle.std.specs.Prelude.{◌≡◌, ℕ, ◌+◌, ◌-◌, ◌^◌, ◌<◌, ◌≤◌, List, Some, map, length, All, string_bytes, Option};
+ghost use Rattle.std.specs.Prelude.{◌≡◌, ℕ, ◌+◌, ◌-◌, ◌^◌, ◌<◌, ◌≤◌, List, [], Some, map, length, All, string_bytes, true, Option};
 ghost use Rattle.vcd_model.specs.Header.{Header};
 ghost use Rattle.vcd_model.specs.Input.{Input};
-ghost use Rattle.vcd_model.specs.Job.{outcome};
+ghost use Rattle.vcd_model.specs.Outcome.{declarations_allowed};
+ghost use Rattle.vcd_model.specs.Settled.{is_header_over, is_settled, is_settled_behind};
 ghost use Rattle.vcd_model.specs.Tokens.{Token};
 ghost use Rattle.vcd_text.specs.Answer.{whole};
-ghost use Rattle.vcd_text.specs.Feed.{HasGiven, SameLoans, source_of, limit_of};
+ghost use Rattle.vcd_text.specs.Device.{supply};
+ghost use Rattle.vcd_text.specs.Feed.{HasGiven, SameLoans, source_of, supply_of, limit_of, chunk_len_of};
 ghost use Rattle.vcd_head.specs.Views.{IsViewOf};
 ghost use Rattle.vcd_text.specs.Advances.{HasNotFailed};
 ghost use Rattle.vcdkit.specs.Failure.{end_of, failure_of, writes_failed, CountsRead, CountsReads};
 ghost use Rattle.vcdkit.specs.Job.{model_want, names_asked, request_for};
 ghost use Rattle.vcdkit.specs.Message.{end_message, end_status, Shows};
-ghost use Rattle.vcdkit.specs.Run.{AreRead, Ends, IsAfter, IsOfJob, IsOutcome};
+ghost use Rattle.vcdkit.specs.Run.{Ends, HasRun, IsAfter, IsOfJob, settled_for};
 ghost use Rattle.vcdkit.specs.declared.failure.Failure.{Failure};
 
 use crate::failure::Failure;
@@ -45,12 +47,14 @@ fn run_want<S: Source, W: Sink>(
     requires feed_failures { S.failures (source_of feed.old) < 2 ^ 64 - 1 }
     requires out_failures { (W.device out.old).failures < 2 ^ 64 - 1 }
     requires open { HasNotFailed feed.old }
+    requires chunk { chunk_len_of feed.old ≤ 65536 }
     ensures ends { (h : Header) (i : Input) (front : List Token) (name : List ℕ)
         → IsViewOf view.entry h → HasGiven i front feed.old
         → Ends (request_for want.now)
-        (IsAfter (request_for want.now) (limit_of feed.old) front h name) i name
-        (S.failures (source_of feed.old)) (S.failures (source_of feed.new))
-        (W.device out.old) (W.device out.new) result }
+        (IsAfter (request_for want.now) (limit_of feed.old) front h name)
+        (limit_of feed.old) (chunk_len_of feed.old) i name front
+        (settled_for result (is_settled_behind (request_for want.now) h) (λ _. true))
+        (supply_of feed.old) (supply_of feed.new) (W.device out.old) (W.device out.new) result }
     ensures reads { CountsRead 0 (S.failures (source_of feed.old)) (S.failures (source_of feed.new))
         (failure_of result) }
     ensures writes { (W.device out.new).failures
@@ -81,8 +85,10 @@ fn run_input<S: Source, W: Sink>(
     requires out_failures { (W.device out.old).failures < 2 ^ 64 - 1 }
     ensures ends { (text name : List ℕ) → S.rest reader.old ≡ Some text
         → Ends (request_for job.now.want) (IsOfJob (model_want job.now.want) job.now.limit name)
-        (whole text) name
-        (S.failures reader.old) (S.failures reader.new)
+        job.now.limit job.now.chunk (whole text) name []
+        (settled_for result (is_settled (model_want job.now.want) declarations_allowed)
+        (is_header_over declarations_allowed))
+        (supply S.rest S.failures reader.old) (supply S.rest S.failures reader.new)
         (W.device out.old) (W.device out.new) result }
     ensures reads { CountsRead 0 (S.failures reader.old) (S.failures reader.new)
         (failure_of result) }
@@ -131,13 +137,11 @@ pub fn run<S: Source, W: Sink, E: Sink>(
         × Shows (E.device err.old) (E.device err.new)
         (end_message (map string_bytes names.now) (names_asked job.want) why) }
 
-    // Over readers that tell their bytes: it is the outcome of the definitions.
+    // Over readers that tell their bytes: it is the outcome of the definitions, and no more was read than what settles it.
     ensures gives { (texts : List (List ℕ)) → map S.rest readers.old ≡ map (λ text. Some text) texts
-        → (inputs : List Input) × AreRead texts (map S.failures readers.old)
-        (map S.failures readers.new) inputs
-        × IsOutcome (outcome (model_want job.want) job.limit (map string_bytes names.now) inputs)
-        (W.device out.old) (W.device out.new)
-        (E.device err.old) (E.device err.new) result }
+        → HasRun (model_want job.want) job.limit job.chunk (map string_bytes names.now) texts
+        (map (supply S.rest S.failures) readers.old) (map (supply S.rest S.failures) readers.new)
+        (W.device out.old) (W.device out.new) (E.device err.old) (E.device err.new) result }
 {
     match run_input(alloc, &job, &mut readers[0], out) {
         Ok(_) => 0,

@@ -1,5 +1,5 @@
 //! `pick`: the dump of the selected variables.
-ghost use Rattle.std.specs.Prelude.{◌≡◌, ◌-◌, ◌^◌, ◌<◌, ◌+◌, map, string_bytes, IfOk, MatchResult, ◌∷◌, ◌++◌, [], List};
+ghost use Rattle.std.specs.Prelude.{◌≡◌, ◌-◌, ◌^◌, ◌<◌, ◌+◌, map, string_bytes, IfOk, MatchResult, ◌∷◌, ◌++◌, [], List, length};
 ghost use Rattle.vcd_model.specs.Header.{Header};
 ghost use Rattle.vcd_model.specs.Items.{BodyItem};
 ghost use Rattle.vcd_model.specs.ItemText.{last_mark};
@@ -13,7 +13,7 @@ ghost use Rattle.vcd_tools.specs.Answer.{writes_failed};
 ghost use Rattle.vcd_tools.specs.Device.{TakesDue};
 ghost use Rattle.vcd_tools.specs.Engine.{Starts, StopsUnread, last_of};
 ghost use Rattle.vcd_tools.specs.ItemText.{AsItem};
-ghost use Rattle.vcd_tools.specs.Pick.{ArePicked, is_event_at, is_kept, names_in};
+ghost use Rattle.vcd_tools.specs.Pick.{ArePicked, is_event_at, is_kept, names_in, slots_in};
 ghost use Rattle.vcd_tools.specs.Room.{HasRoomFor};
 ghost use Rattle.vcd_tools.specs.declared.task.Task.TheVariants as task;
 
@@ -49,6 +49,7 @@ impl<'n, 'r> Pick<'n, 'r> {
             (W.device out.old) (W.device out.new) result }
         ensures names { MatchResult result
             (λ p. names_in p ≡ map string_bytes names.entry.now) StopsUnread }
+        ensures room { IfOk result (λ p. slots_in p ≡ length view.entry.codes.now) }
         ensures failures { (W.device out.new).failures
             ≡ (W.device out.old).failures + writes_failed result }
     {
@@ -99,6 +100,7 @@ impl<'n, 'r> Pick<'n, 'r> {
             × IfOk result (λ _. ArePicked self.new h (items ++ x ∷ [])) }
         ensures counts { Counts (W.device out.old) (W.device out.new) result }
         ensures names { names_in self.new ≡ names_in self.old }
+        ensures room { slots_in self.new ≡ slots_in self.old }
     {
         if !self.keeps(view, regs, item) {
             return Ok(());

@@ -2,7 +2,7 @@ use Rattle.std.proofs.Common.{◌==◌, [], length, drop, sym, ap, ◌∙◌, ar
 use Rattle.vcd_model.specs.Reading.{phrases_of}
 use Rattle.vcd_text.specs.Feed.{token_of, value_of}
 use Rattle.vcd_body.proofs.WordLemmas.{filled, empty, some_bytes}
-use Rattle.vcd_body.proofs.TokenLemmas.{refused, begun}
+use Rattle.vcd_body.proofs.TokenLemmas.{refused_at, begun}
 use Rattle.vcd_body.proofs.RegsLemmas.{real_read, real_sound}
 use Rattle.vcd_body.proofs.PhraseLemmas.{no_number, number_too_long, number_begins, number_asks}
 use Rattle.vcd_body.proofs.phrases.read_real.Goals as goal
@@ -11,14 +11,14 @@ pub returns-then-is_empty-clause-reads : goal.returns-then-is_empty-clause-reads
 returns-then-is_empty-clause-reads g c = λ h i front placed v l.
     let t = (token_of c.args.feed.now).bytes in
     let text = c.rest_of-text.ensures ∙ ap (drop 1) c.token.ensures in
-    refused h.codes i front placed [] c.args.feed.now 15 (no_number h.codes (phrases_of placed) t c.requires.begins (empty (drop 1 t) (ap (λ x. length x == 0) (sym text) ∙ sym c.is_empty.ensures ∙ c.if-is_empty.true))) l
+    refused_at h.codes i front placed [] c.args.feed.now 15 (no_number h.codes (phrases_of placed) t c.requires.begins (empty (drop 1 t) (ap (λ x. length x == 0) (sym text) ∙ sym c.is_empty.ensures ∙ c.if-is_empty.true))) l
 
 pub returns-then-text-gt64-clause-reads : goal.returns-then-text-gt64-clause-reads
 returns-then-text-gt64-clause-reads g c = λ h i front placed v l.
     let t = (token_of c.args.feed.now).bytes in
     let text = c.rest_of-text.ensures ∙ ap (drop 1) c.token.ensures in
     let n = ap length text in
-    refused h.codes i front placed [] c.args.feed.now 18 (number_too_long h.codes (phrases_of placed) t c.requires.begins (filled (drop 1 t) (ap (λ x. length x == 0) (sym text) ∙ sym c.is_empty.ensures ∙ c.if-is_empty.false)) (omega arith)) l
+    refused_at h.codes i front placed [] c.args.feed.now 18 (number_too_long h.codes (phrases_of placed) t c.requires.begins (filled (drop 1 t) (ap (λ x. length x == 0) (sym text) ∙ sym c.is_empty.ensures ∙ c.if-is_empty.false)) (omega arith)) l
 
 pub returns-clause-reads : goal.returns-clause-reads
 returns-clause-reads g c = λ h i front placed v l.

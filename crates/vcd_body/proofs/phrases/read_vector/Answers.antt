@@ -6,7 +6,7 @@ use Rattle.vcd_model.specs.BodyPhrases.{is_value_digit}
 use Rattle.vcd_model.specs.Reading.{phrases_of}
 use Rattle.vcd_text.specs.Feed.{token_of, value_of}
 use Rattle.vcd_head.specs.Shown.{parts}
-use Rattle.vcd_body.proofs.TokenLemmas.{refused, begun}
+use Rattle.vcd_body.proofs.TokenLemmas.{refused_at, begun}
 use Rattle.vcd_body.proofs.PhraseLemmas.{bad_digits, digits_begin, digits_ask, too_wide}
 use Rattle.vcd_body.proofs.RegsLemmas.{the_code, same_room, vector_read, vector_sound}
 use Rattle.vcd_body.proofs.WordLemmas.{filled_some}
@@ -17,7 +17,7 @@ pub returns-then-not-are_value_digits-clause-reads : goal.returns-then-not-are_v
 returns-then-not-are_value_digits-clause-reads g c = λ h i front placed v l.
     let t = (token_of c.args.feed.now).bytes in
     let text = c.rest_of.ensures ∙ ap (drop 1) c.token.ensures in
-    refused h.codes i front placed [] c.args.feed.now 15 (bad_digits h.codes (phrases_of placed) t c.requires.begins (ap (λ x. not (is_empty x) && list_all is_value_digit x) (sym text) ∙ sym c.are_value_digits.ensures ∙ c.if-not-are_value_digits.true)) l
+    refused_at h.codes i front placed [] c.args.feed.now 15 (bad_digits h.codes (phrases_of placed) t c.requires.begins (ap (λ x. not (is_empty x) && list_all is_value_digit x) (sym text) ∙ sym c.are_value_digits.ensures ∙ c.if-not-are_value_digits.true)) l
 
 pub returns-in_err-place-clause-reads : goal.returns-in_err-place-clause-reads
 returns-in_err-place-clause-reads g c =
@@ -35,7 +35,7 @@ returns-then-not-takes-clause-reads g c = λ h i front placed v l.
     let b = digits_begin h.codes (phrases_of placed) t c.requires.begins (ap (λ x. not (is_empty x) && list_all is_value_digit x) (sym text) ∙ sym c.are_value_digits.ensures ∙ c.if-not-are_value_digits.false) in
     let k = c.in_ok-place.ensures.reads h i front placed t v (digits_ask h.codes (phrases_of placed) t c.requires.begins) (begun h.codes i front placed c.args.feed.now b.0 b.1 l) in
     let n = ap length (sym (c.rest_of-2.ensures ∙ ap (drop 1) (c.value.ensures ∙ c.in_ok-place.ensures.value))) in
-    refused h.codes i front placed (t ∷ []) c.read_code.new.feed 17
+    refused_at h.codes i front placed (t ∷ []) c.read_code.new.feed 17
     (too_wide h.codes (phrases_of placed) t c.requires.begins (token_of c.read_code.new.feed).bytes k.0 k.2
     (same_room (parts c.args.view) h v c.in_ok-place.place k.0 (length (drop 1 t)) false k.1 (ap (λ m. (get_or c.args.view.codes.now c.in_ok-place.place the_code).event || nat_le m (get_or c.args.view.codes.now c.in_ok-place.place the_code).size) n ∙ sym c.takes.ensures ∙ c.if-not-takes.true))) k.3
 

@@ -1,7 +1,7 @@
-use Rattle.std.proofs.Common.{◌∷◌}
+use Rattle.std.proofs.Common.{◌∷◌, None, refl}
 use Rattle.std.proofs.lemmas.Result.{err_from_is_err_and}
 use Rattle.vcd_text.specs.Feed.{limit_of, token_of}
-use Rattle.vcd_body.proofs.TokenLemmas.{cut_short}
+use Rattle.vcd_body.proofs.TokenLemmas.{cut_short, stopped_at_end}
 use Rattle.vcd_body.proofs.tokens.next_inner.Goals as goal
 
 pub returns-in_err-next_token-clause-reads : goal.returns-in_err-next_token-clause-reads
@@ -12,4 +12,7 @@ returns-in_err-next_token-clause-reads g c =
 pub returns-clause-reads : goal.returns-clause-reads
 returns-clause-reads g c = λ codes i front placed first before r.
     let a = rw c.if-branch.false at c.in_ok-next_token.ensures.reads codes i front placed (first ∷ before) r in
-    cut_short codes i front placed (limit_of c.next_token.new.feed) a.given first before (token_of c.next_token.new.feed).line a.so_far a.all
+    let feed = c.next_token.new.feed in (
+      cut_short codes i front placed (limit_of feed) a.given first before (token_of feed).line a.so_far a.all,
+      stopped_at_end codes i front placed (first ∷ before) feed (limit_of feed) a.given None (token_of feed).line refl a.stands a.so_far a.all,
+    )

@@ -1,10 +1,7 @@
-use Rattle.std.proofs.Common.{◌++◌, Some, sym, subst}
-use Rattle.vcd_model.specs.BodyPhrases.{items_of}
-use Rattle.vcd_model.specs.Reading.{phrases_of}
+use Rattle.std.proofs.Common.{◌++◌, refl}
 use Rattle.vcd_text.specs.Answer.{failed_after}
-use Rattle.vcd_text.specs.Feed.{seen, limit_of, token_of}
-use Rattle.vcd_body.specs.Reads.{BodyHas}
-use Rattle.vcd_body.proofs.TokenLemmas.{halted}
+use Rattle.vcd_text.specs.Feed.{seen, limit_of}
+use Rattle.vcd_body.proofs.TokenLemmas.{halted_at}
 use Rattle.vcd_body.proofs.tokens.next_token.Goals as goal
 
 pub returns-in-Ok-Finish-clause-advances : goal.returns-in-Ok-Finish-clause-advances
@@ -24,20 +21,16 @@ pub returns-in-Err-TokenTooLong-clause-reads : goal.returns-in-Err-TokenTooLong-
 returns-in-Err-TokenTooLong-clause-reads g c = λ codes i front placed before r.
     let e = rw c.in-Err-TokenTooLong.field-0-is at c.in-Err-TokenTooLong.ensures in
     let n = e.gives i (front ++ r.given) r.stands in
-    subst (λ l. BodyHas codes i front l (items_of (phrases_of placed)) (Some (record { number = 1; line = (token_of c.next.new.self).line }))) (sym e.lengths.0)
-    (halted codes i front placed (limit_of c.args.feed.now) r.given before 1 (token_of c.next.new.self).line r.so_far n.2)
+    halted_at codes i front placed (limit_of c.args.feed.now) r.given before 1 c.next.new.self e.lengths.0 r.so_far n.2 n.0
 
 pub returns-in-Err-InputTooLong-clause-reads : goal.returns-in-Err-InputTooLong-clause-reads
 returns-in-Err-InputTooLong-clause-reads g c = λ codes i front placed before r.
     let e = rw c.in-Err-InputTooLong.field-0-is at c.in-Err-InputTooLong.ensures in
     let n = e.gives i (front ++ r.given) r.stands in
-    subst (λ l. BodyHas codes i front l (items_of (phrases_of placed)) (Some (record { number = 21; line = (token_of c.next.new.self).line }))) (sym e.lengths.0)
-    (halted codes i front placed (limit_of c.args.feed.now) r.given before 21 (token_of c.next.new.self).line r.so_far n.2)
+    halted_at codes i front placed (limit_of c.args.feed.now) r.given before 21 c.next.new.self e.lengths.0 r.so_far n.2 n.0
 
 pub returns-in-Err-ReadFailed-clause-reads : goal.returns-in-Err-ReadFailed-clause-reads
 returns-in-Err-ReadFailed-clause-reads g c = λ codes i front placed before r.
     let e = rw c.in-Err-ReadFailed.field-0-is at c.in-Err-ReadFailed.ensures in
     let n = e.gives i (front ++ r.given) r.stands in
-    let j = failed_after (seen c.next.new.self) i in
-    subst (λ l. BodyHas codes j front l (items_of (phrases_of placed)) (Some (record { number = 31; line = (token_of c.next.new.self).line }))) (sym e.lengths.0)
-    (halted codes j front placed (limit_of c.args.feed.now) r.given before 31 (token_of c.next.new.self).line r.so_far n.2)
+    (halted_at codes (failed_after (seen c.next.new.self) i) front placed (limit_of c.args.feed.now) r.given before 31 c.next.new.self e.lengths.0 r.so_far n.2 n.0, e.left refl i (front ++ r.given) r.stands)

@@ -1,15 +1,14 @@
-use Rattle.std.proofs.Common.{ℕ, Some, None, refl, sym, subst}
+use Rattle.std.proofs.Common.{Some, None, refl}
 use Rattle.vcd_text.specs.Answer.{failed_after}
-use Rattle.vcd_text.specs.Feed.{seen, limit_of, token_of}
-use Rattle.vcd_head.proofs.TokenSteps.{missing_token}
-use Rattle.vcd_head.specs.Reads.{HasFault}
+use Rattle.vcd_text.specs.Feed.{seen, limit_of}
+use Rattle.vcd_head.proofs.TokenSteps.{fails_at_end}
 use Rattle.vcd_head.proofs.tokens.next_token.Goals as goal
 
 pub returns-in-Ok-Finish-clause-reads : goal.returns-in-Ok-Finish-clause-reads
 returns-in-Ok-Finish-clause-reads g c = λ most i placed before r.
     let e = rw c.in-Ok-Finish.field-0-is at c.in-Ok-Finish.ensures in
     let n = e.gives i r.given r.stands in
-    (subst (λ (l : ℕ). HasFault most l (i) 2 (token_of c.next.new.self).line) (sym e.lengths.0) (missing_token most (limit_of c.args.feed.now) (i) r.given placed before (None) (token_of c.next.new.self).line r.so_far n.2), e.empty (λ y. cc))
+    fails_at_end most (limit_of c.args.feed.now) i r.given placed before None c.next.new.self e.lengths.0 r.so_far n.2 n.1 n.0
 
 pub returns-in-Ok-Finish-clause-advances : goal.returns-in-Ok-Finish-clause-advances
 returns-in-Ok-Finish-clause-advances g c =
@@ -28,7 +27,7 @@ pub returns-in-Err-TokenTooLong-clause-reads : goal.returns-in-Err-TokenTooLong-
 returns-in-Err-TokenTooLong-clause-reads g c = λ most i placed before r.
     let e = rw c.in-Err-TokenTooLong.field-0-is at c.in-Err-TokenTooLong.ensures in
     let n = e.gives i r.given r.stands in
-    (subst (λ (l : ℕ). HasFault most l (i) 1 (token_of c.next.new.self).line) (sym e.lengths.0) (missing_token most (limit_of c.args.feed.now) (i) r.given placed before (Some 1) (token_of c.next.new.self).line r.so_far n.2), e.empty (λ y. cc))
+    fails_at_end most (limit_of c.args.feed.now) i r.given placed before (Some 1) c.next.new.self e.lengths.0 r.so_far n.2 n.1 n.0
 
 pub returns-in-Err-TokenTooLong-clause-advances : goal.returns-in-Err-TokenTooLong-clause-advances
 returns-in-Err-TokenTooLong-clause-advances g c =
@@ -47,7 +46,7 @@ pub returns-in-Err-InputTooLong-clause-reads : goal.returns-in-Err-InputTooLong-
 returns-in-Err-InputTooLong-clause-reads g c = λ most i placed before r.
     let e = rw c.in-Err-InputTooLong.field-0-is at c.in-Err-InputTooLong.ensures in
     let n = e.gives i r.given r.stands in
-    (subst (λ (l : ℕ). HasFault most l (i) 21 (token_of c.next.new.self).line) (sym e.lengths.0) (missing_token most (limit_of c.args.feed.now) (i) r.given placed before (Some 21) (token_of c.next.new.self).line r.so_far n.2), e.empty (λ y. cc))
+    fails_at_end most (limit_of c.args.feed.now) i r.given placed before (Some 21) c.next.new.self e.lengths.0 r.so_far n.2 n.1 n.0
 
 pub returns-in-Err-InputTooLong-clause-advances : goal.returns-in-Err-InputTooLong-clause-advances
 returns-in-Err-InputTooLong-clause-advances g c =
@@ -66,7 +65,7 @@ pub returns-in-Err-ReadFailed-clause-reads : goal.returns-in-Err-ReadFailed-clau
 returns-in-Err-ReadFailed-clause-reads g c = λ most i placed before r.
     let e = rw c.in-Err-ReadFailed.field-0-is at c.in-Err-ReadFailed.ensures in
     let n = e.gives i r.given r.stands in
-    (subst (λ (l : ℕ). HasFault most l (failed_after (seen c.next.new.self) i) 31 (token_of c.next.new.self).line) (sym e.lengths.0) (missing_token most (limit_of c.args.feed.now) (failed_after (seen c.next.new.self) i) r.given placed before (Some 31) (token_of c.next.new.self).line r.so_far n.2), e.empty (λ y. cc))
+    (fails_at_end most (limit_of c.args.feed.now) (failed_after (seen c.next.new.self) i) r.given placed before (Some 31) c.next.new.self e.lengths.0 r.so_far n.2 n.1 n.0, e.left refl i r.given r.stands)
 
 pub returns-in-Err-ReadFailed-clause-advances : goal.returns-in-Err-ReadFailed-clause-advances
 returns-in-Err-ReadFailed-clause-advances g c =

@@ -1,9 +1,19 @@
 use Rattle.std.specs.Prelude.{Ok, Err}
 use Rattle.vcd_text.specs.declared.answer.Next.TheVariants.{Token}
-use Rattle.std.proofs.Common.{◌≡◌, ◌≤◌, length, arith, refl, sym, ◌∙◌}
+use Rattle.std.proofs.Common.{◌≡◌, ◌≤◌, ◌<◌, length, arith, refl, ap, sym, subst, ◌∙◌, add-one}
+use Rattle.vcd_text.specs.ReadAhead.{HasRest}
+use Rattle.vcd_text.specs.Registers.{looked}
+use Rattle.std.specs.Prelude.{Result}
+use Rattle.vcd_text.specs.declared.answer.Next.{Next}
+use Rattle.vcd_text.specs.declared.answer.Halt.{Halt}
+use Rattle.vcd_text.specs.declared.answer.Halt.TheVariants.{ReadFailed}
+use Rattle.vcd_text.specs.declared.registers.Phase.TheVariants.{Halted}
 use Rattle.vcd_text.specs.declared.registers.Place.TheVariants.{Window}
-use Rattle.vcd_text.proofs.WindowLemmas.{after-skip, whole-stands, part-within, more-within, again-gives, long-gives, input-gives, fail-gives, finish-stands, in-window}
+use Rattle.vcd_text.proofs.WindowLemmas.{after-skip, whole-stands, part-within, more-within, again-gives, long-gives, input-gives, fail-gives, finish-stands, in-window, whole-near, finish-near, fail-rest, failed-marked}
 use Rattle.vcd_text.proofs.feed.gather.Goals as goal
+
+err-is : (h : Halt) → ◌≡◌ {A = Result Next Halt} (Err h) (Err ReadFailed) → h ≡ ReadFailed
+err-is h e = cc
 
 pub returns-in-Halted-clause-gives : goal.returns-in-Halted-clause-gives
 returns-in-Halted-clause-gives g c = λ i given st. again-gives _ _ _ c.args.token.now _ i given _ c.in-Halted.is st
@@ -86,3 +96,40 @@ returns-in-Failed-clause-gives g c = λ i given st.
     (after-skip _ _ _ _ _ _ _ _ t fits c.skip.ensures.begun c.skip.ensures.skips i given st) in
     let place : c.halted-in-Failed.new.parked.place ≡ Window = c.halted-in-Failed.ensures.place ∙ (c.in-Failed.ensures.place ∙ (c.in-Part.ensures.place ∙ (c.skip.ensures.place ∙ c.loop-parked.invariant.4))) in
     in-window (length c.args.token.now) (g.S.Source.rest c.fill.new.source) c.fill.new.chunk c.collect.new.token c.halted-in-Failed.new.parked i given (Err c.halted-in-Failed.result) place (fail-gives _ _ _ _ _ _ _ _ _ i given _ (t.clean i given st) c.in-Failed.ensures.fills w c.halted-in-Failed.ensures.result c.halted-in-Failed.ensures.halts)
+
+pub returns-in-Whole-clause-near : goal.returns-in-Whole-clause-near
+returns-in-Whole-clause-near g c = λ _ i given st.
+    let t = c.loop-parked.invariant.1 in
+    let fits : length c.loop-parked.chunk ≡ length c.args.chunk.now = omega arith in
+    let full : length c.loop-parked.token ≡ length c.args.token.now = omega arith in
+    let range = c.skip.ensures.fits (length c.args.token.now) (rw fits t.fits) in
+    rw add-one (whole-near _ _ _ _ _ _ _ i given range full c.in-Whole.ensures.collects
+    (after-skip _ _ _ _ _ _ _ _ t fits c.skip.ensures.begun c.skip.ensures.skips i given st))
+
+pub returns-in-End-clause-near : goal.returns-in-End-clause-near
+returns-in-End-clause-near g c = λ is i given st.
+    let t = c.loop-parked.invariant.1 in
+    let fits : length c.loop-parked.chunk ≡ length c.args.chunk.now = omega arith in
+    let full : length c.loop-parked.token ≡ length c.args.token.now = omega arith in
+    let range = c.skip.ensures.fits (length c.args.token.now) (rw fits t.fits) in
+    let used : c.collect.new.parked.end ≤ c.collect.new.parked.at = omega (arith, c.in-Part.ensures.part refl, c.if-parked.false) in
+    let w = part-within _ _ _ _ _ _ _ i.bytes given range full c.in-Part.ensures.collects
+    (after-skip _ _ _ _ _ _ _ _ t fits c.skip.ensures.begun c.skip.ensures.skips i given st) in
+    let some : 0 < c.collect.new.parked.size = rw c.in-End.ensures.fills.0 at (c.finish.ensures.looked.1 (cc)) in
+    rw add-one (finish-near _ _ _ _ _ _ _ i given used c.in-End.ensures.fills.1 some w)
+
+pub returns-in-Halted-clause-left : goal.returns-in-Halted-clause-left
+returns-in-Halted-clause-left g c = λ e i given st clean. absurd (failed-marked _ _ _ _ i given st (c.in-Halted.is ∙ ap Halted (err-is _ e)) clean)
+
+pub returns-in-Failed-clause-left : goal.returns-in-Failed-clause-left
+returns-in-Failed-clause-left g c = λ _ i given st _.
+    let t = c.loop-parked.invariant.1 in
+    let fits : length c.loop-parked.chunk ≡ length c.args.chunk.now = omega arith in
+    let full : length c.loop-parked.token ≡ length c.args.token.now = omega arith in
+    let range = c.skip.ensures.fits (length c.args.token.now) (rw fits t.fits) in
+    let used : c.collect.new.parked.end ≤ c.collect.new.parked.at = omega (arith, c.in-Part.ensures.part refl, c.if-parked.false) in
+    let w = part-within _ _ _ _ _ _ _ i.bytes given range full c.in-Part.ensures.collects
+    (after-skip _ _ _ _ _ _ _ _ t fits c.skip.ensures.begun c.skip.ensures.skips i given st) in
+    let rest = fail-rest _ _ _ _ c.fill.new.chunk _ _ _ i given used c.in-Failed.ensures.fills w in
+    let same : looked c.halted-in-Failed.new.parked ≡ looked c.collect.new.parked = omega (arith, c.in-Failed.ensures.looked.0, ap looked (c.halted-in-Failed.ensures.halts)) in
+    subst (λ n. HasRest (g.S.Source.rest c.fill.new.source) n i) (sym same) rest

@@ -10,4 +10,4 @@ returns-in_err-engine-clause-gives g c = λ h i front name views st.
     let e : c.from_residual.result ≡ Err stop = search rules in
     let out : Device = (g.W.Sink.device c.args.out.now) in
     let new : Device = (g.W.Sink.device c.start.new.out) in
-    rw e (never_begun (request_of c.args.task) _ i front h name _ out new c.args.feed.now stop refl st (c.in_err-engine.ensures.starts h views))
+    rw e (never_begun (request_of c.args.task) _ i front h name _ _ out new c.args.feed.now stop refl st (c.in_err-engine.ensures.starts h views))

@@ -33,7 +33,7 @@ returns-in_err-put_change_at-in-Change-clause-turns g c = λ scale first l items
     let known = subst (AreRegsAfter items) (sym same) at.gave.known in
     let e : c.from_residual.result ≡ Err Write = search rules in
     let takes = c.in_err-put_change_at-in-Change.ensures.takes scale first l.header items x views known at.time_is at.first_is at.few (gives.0, gives.1, refl) in
-    rw e (x, turned scale first l items s r s.time s.finished c.args.feed.now c.next_item.new.feed x at gives.2 refl (timed scale items s r at.gave.known (ap (λ (q : Regs). q.time) same) at.time_is) c.requires.unfinished, (takes.0, c.in_err-put_change_at-in-Change.ensures.counts))
+    rw e (x, turned scale first l items s r s.time s.finished c.args.feed.now c.next_item.new.feed x at gives.2.gave refl (timed scale items s r at.gave.known (ap (λ (q : Regs). q.time) same) at.time_is) c.requires.unfinished, (takes.0, c.in_err-put_change_at-in-Change.ensures.counts))
 
 pub returns-in-Finish-clause-turns : goal.returns-in-Finish-clause-turns
 returns-in-Finish-clause-turns g c = λ scale first l items views at.
@@ -59,7 +59,7 @@ returns-in_ok-put_change_at-in-Change-clause-turns g c = λ scale first l items 
     let x = BodyItem.Changes (record { code = gives.0; form = model_form c.in-Change.form; text = text_of c.in-Change.form c.next_item.new.feed }) in
     let known = subst (AreRegsAfter items) (sym same) at.gave.known in
     let takes = c.in_ok-put_change_at-in-Change.ensures.takes scale first l.header items x views known at.time_is at.first_is at.few (gives.0, gives.1, refl) in
-    (inl (x, (c.requires.unfinished, turned scale first l items s r s.time s.finished c.args.feed.now c.next_item.new.feed x at gives.2 refl (timed scale items s r at.gave.known (ap (λ (q : Regs). q.time) same) at.time_is) c.requires.unfinished, takes.1), (takes.0, c.in_ok-put_change_at-in-Change.ensures.counts)))
+    (inl (x, (c.requires.unfinished, turned scale first l items s r s.time s.finished c.args.feed.now c.next_item.new.feed x at gives.2.gave refl (timed scale items s r at.gave.known (ap (λ (q : Regs). q.time) same) at.time_is) c.requires.unfinished, takes.1), (takes.0, c.in_ok-put_change_at-in-Change.ensures.counts)))
 
 pub returns-in-Begin-clause-turns : goal.returns-in-Begin-clause-turns
 returns-in-Begin-clause-turns g c = λ scale first l items views at.
@@ -68,7 +68,7 @@ returns-in-Begin-clause-turns g c = λ scale first l items views at.
     let gives = rw c.in-Begin.is at c.in-Ok.ensures.reads l.header l.input l.front items views (out_of scale first l items s c.args.feed.now at) in
     let regs = rw c.in-Begin.is at c.in-Ok.ensures.regs in
     let x = BodyItem.Begin (model_section c.in-Begin.field-0) in
-    inl (x, (c.requires.unfinished, turned scale first l items s r s.time s.finished c.args.feed.now c.next_item.new.feed x at gives refl (timed scale items s r at.gave.known (ap (λ (q : Regs). q.time) regs) at.time_is) c.requires.unfinished, refl), writes-none _)
+    inl (x, (c.requires.unfinished, turned scale first l items s r s.time s.finished c.args.feed.now c.next_item.new.feed x at gives.gave refl (timed scale items s r at.gave.known (ap (λ (q : Regs). q.time) regs) at.time_is) c.requires.unfinished, refl), writes-none _)
 
 pub returns-in-End-clause-turns : goal.returns-in-End-clause-turns
 returns-in-End-clause-turns g c = λ scale first l items views at.
@@ -76,4 +76,4 @@ returns-in-End-clause-turns g c = λ scale first l items views at.
     let r = c.next_item.new.regs in
     let gives = rw c.in-End.is at c.in-Ok.ensures.reads l.header l.input l.front items views (out_of scale first l items s c.args.feed.now at) in
     let regs = rw c.in-End.is at c.in-Ok.ensures.regs in
-    inl (BodyItem.End, (c.requires.unfinished, turned scale first l items s r s.time s.finished c.args.feed.now c.next_item.new.feed BodyItem.End at gives refl (timed scale items s r at.gave.known (ap (λ (q : Regs). q.time) regs) at.time_is) c.requires.unfinished, refl), writes-none _)
+    inl (BodyItem.End, (c.requires.unfinished, turned scale first l items s r s.time s.finished c.args.feed.now c.next_item.new.feed BodyItem.End at gives.gave refl (timed scale items s r at.gave.known (ap (λ (q : Regs). q.time) regs) at.time_is) c.requires.unfinished, refl), writes-none _)

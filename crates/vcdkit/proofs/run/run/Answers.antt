@@ -6,7 +6,7 @@ use Rattle.vcdkit.proofs.run.run.Goals as goal
 
 pub returns-in-Ok-clause-gives : goal.returns-in-Ok-clause-gives
 returns-in-Ok-clause-gives g c = λ texts h. run_leaves g.S.Source.rest g.S.Source.failures
-    (get_or c.args.readers.now 0 c.index-readers-0.result) c.run_input.new.reader c.args.job.want c.args.job.limit _ _ _ _ _ 0 (Ok c.in-Ok.field-0)
+    (get_or c.args.readers.now 0 c.index-readers-0.result) c.run_input.new.reader c.args.job.want c.args.job.limit c.args.job.chunk _ _ _ _ _ 0 (Ok c.in-Ok.field-0)
     c.args.readers.now _ (map string_bytes c.args.names.now) texts
     (one_of c.args.readers.now c.index-readers-0.result c.requires.readers)
     (set_one c.args.readers.now c.run_input.new.reader c.requires.readers)
@@ -15,7 +15,7 @@ returns-in-Ok-clause-gives g c = λ texts h. run_leaves g.S.Source.rest g.S.Sour
 
 pub returns-clause-gives : goal.returns-clause-gives
 returns-clause-gives g c = λ texts h. run_leaves g.S.Source.rest g.S.Source.failures
-    (get_or c.args.readers.now 0 c.index-readers-0.result) c.run_input.new.reader c.args.job.want c.args.job.limit _ _ _ _ _ c.report.result (Err c.in-Err.failure)
+    (get_or c.args.readers.now 0 c.index-readers-0.result) c.run_input.new.reader c.args.job.want c.args.job.limit c.args.job.chunk _ _ _ _ _ c.report.result (Err c.in-Err.failure)
     c.args.readers.now _ (map string_bytes c.args.names.now) texts
     (one_of c.args.readers.now c.index-readers-0.result c.requires.readers)
     (set_one c.args.readers.now c.run_input.new.reader c.requires.readers)

@@ -17,9 +17,14 @@ items-init g c = (
   c.requires.going,
   refl,
   refl,
-  refl,
+  (refl, refl),
   λ h i front begin holds st w. ([], runs_first c.args.self.now h i front c.args.feed.now holds st, w),
 )
+
+pub step_over-requires-clause-bound : goal.step_over-requires-clause-bound
+step_over-requires-clause-bound g c =
+    let since = c.items.invariant.0 in
+    rw (since.limit, since.chunk, c.items.invariant.4.0, c.items.invariant.4.1) c.requires.bound
 
 pub returns-in_err-step_over-clause-gives : goal.returns-in_err-step_over-clause-gives
 returns-in_err-step_over-clause-gives g c = λ h i front name begin holds st w.
@@ -36,7 +41,7 @@ returns-in_err-step_over-clause-gives g c = λ h i front name begin holds st w.
     let failed = step_reads g.S.Source.failures c.items.feed c.step_over.new.feed (Err stop) unfailed c.in_err-step_over.ensures.advances ∙ ap (λ n. n + reads_failed {A = Done} (Err stop)) (since.same (λ x. cc)) in
     let can = can_run t c.items.self h i front s.0 c.items.feed same s.1 in
     let on = none_ends t c.items.self h i front s.0 c.items.feed same s.1 in
-    rw e (followed_stop t h i front s.0 name _ _ _ begin out new can on s.2 c.step_over.new.self c.step_over.new.feed (c.in_err-step_over.ensures.advances.limit ∙ since.limit) stop failed gives)
+    rw e (followed_stop t h i front s.0 name _ _ _ begin out new can on s.2 c.step_over.new.self c.step_over.new.feed (c.in_err-step_over.ensures.advances.limit ∙ since.limit) (c.in_err-step_over.ensures.advances.chunk ∙ since.chunk) stop failed gives)
 
 pub returns-in-Ended-clause-gives : goal.returns-in-Ended-clause-gives
 returns-in-Ended-clause-gives g c = λ h i front name begin holds st w.
@@ -51,7 +56,7 @@ returns-in-Ended-clause-gives g c = λ h i front name begin holds st w.
     let ended = subst (λ (a : More). Advances g.S.Source.failures c.items.feed c.step_over.new.feed (step_end (Ok a))) c.in-Ended.is c.in_ok-step_over.ensures.advances in
     let can = can_run t c.items.self h i front s.0 c.items.feed same s.1 in
     let on = none_ends t c.items.self h i front s.0 c.items.feed same s.1 in
-    followed t h i front s.0 name _ _ _ begin out new can on s.2 c.step_over.new.self c.step_over.new.feed (c.in_ok-step_over.ensures.advances.limit ∙ since.limit) done (step_reads g.S.Source.failures c.items.feed c.step_over.new.feed (Ok (Ended done)) (since.goes refl c.requires.open) ended ∙ add-zero _ ∙ since.same (λ x. cc)) gives
+    followed t h i front s.0 name _ _ _ begin out new can on s.2 c.step_over.new.self c.step_over.new.feed (c.in_ok-step_over.ensures.advances.limit ∙ since.limit) (c.in_ok-step_over.ensures.advances.chunk ∙ since.chunk) done (step_reads g.S.Source.failures c.items.feed c.step_over.new.feed (Ok (Ended done)) (since.goes refl c.requires.open) ended ∙ add-zero _ ∙ since.same (λ x. cc)) gives
 
 pub items-preserved : goal.items-preserved
 items-preserved g c =
@@ -64,10 +69,10 @@ items-preserved g c =
       c.in_ok-step_over.ensures.going ∙ ap goes_on again,
       c.in_ok-step_over.ensures.request ∙ same,
       c.in_ok-step_over.ensures.writes ∙ add-zero _ ∙ c.items.invariant.3,
-      c.in_ok-step_over.ensures.view ∙ c.items.invariant.4,
+      (c.in_ok-step_over.ensures.holds.0 ∙ c.items.invariant.4.0, c.in_ok-step_over.ensures.holds.1 ∙ c.items.invariant.4.1),
       λ h i front begin holds st w.
           let s = c.items.invariant.5 h i front begin holds st w in
           let can = can_run t c.items.self h i front s.0 c.items.feed same s.1 in
           let on = none_ends t c.items.self h i front s.0 c.items.feed same s.1 in
-          run_goes_on t h i front s.0 [] _ 0 0 begin out new can on s.2 c.step_over.new.self c.step_over.new.feed refl (asked (request_of_engine c.items.self) t h i front s.0 c.step_over.new.self c.step_over.new.feed out new _ (Ok Again) same again (c.in_ok-step_over.ensures.gives h i front s.0 s.1)),
+          run_goes_on t h i front s.0 begin out new s.2 c.step_over.new.self c.step_over.new.feed (asked (request_of_engine c.items.self) t h i front s.0 c.step_over.new.self c.step_over.new.feed out new _ (Ok Again) same again (c.in_ok-step_over.ensures.gives h i front s.0 s.1)),
     )

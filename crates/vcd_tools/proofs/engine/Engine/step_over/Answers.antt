@@ -42,10 +42,11 @@ returns-in-Ok-false-clause-gives g c = λ h i front items s.
     let t = c.in-Ok-false.ensures.takes h items e.regs x.0 v s.holds.known regs x.1 (few_items h i front items new e c.args.feed.now s more c.in-Ok.ensures.bounded) s.holds.keeps in
     let due = t.due in
     let no = c.in-Ok-false.field-0-test in
-    let gave = subst (λ (q : Regs). GaveItems h.codes i front (items ++ x.0 ∷ []) new q) regs x.2 in (
+    let gave = subst (λ (q : Regs). GaveItems h.codes i front (items ++ x.0 ∷ []) new q) regs x.2.gave in (
       x.0,
       runs_on h i front items new e (record { view = e.view; regs = r; machine = c.take.new.self; going = e.going }) c.args.feed.now c.in-Ok.item x.0 s x.1 gave (t.keeps (ap (λ b. Ok b) no)) (sym t.ends ∙ no) c.in-Ok-false.ensures.request more refl regs,
       (due.0, due.1, (due.2, c.in-Ok-false.ensures.counts)),
+      x.2,
     )
 
 pub returns-in-Ok-true-clause-gives : goal.returns-in-Ok-true-clause-gives
