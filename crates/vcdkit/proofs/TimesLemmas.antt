@@ -14,7 +14,7 @@ use Rattle.vcd_head.specs.Moments.{asked, with_unit}
 use Rattle.vcdkit.specs.declared.job.UseFault.{UseFault}
 use Rattle.vcdkit.specs.declared.job.UseFault.TheVariants.{BadWords, BadLimit, BadTime, FromAboveTo, NotRising, OutOfMemory}
 use Rattle.vcdkit.specs.declared.moment_word.Order.{Order}
-use Rattle.vcdkit.specs.Times.{parts, last_of, IsOrderOf}
+use Rattle.vcdkit.specs.Times.{last_of, times_with, IsOrderOf}
 use Rattle.vcdkit.specs.Words.{IsFaultIn, IsFaultOf}
 
 -- ---- a word
@@ -172,7 +172,7 @@ sample_falls names ms o is e =
     let test : (not (has_unit ms) && not (do_rise (map (λ m. m.number) ms))) ≡ true = rw (← is.has_unit_is, ← is.rises_is) e in
     rw test refl
 
--- ---- the words that are times, copied
+-- ---- numbers and units apart
 
 -- the time in the program's words
 abbrev pub kept : Moment → head.Moment
@@ -182,10 +182,16 @@ pub same_moment : (o : Option head.Moment) (m : Option Moment) → option_map as
 same_moment None m e = ap (option_map kept) e
 same_moment (Some x) m e = ap (option_map kept) e
 
-pub all_kept : (words : List (List ℕ)) → map asked (filter_map (λ word. option_map kept (moment_of word)) words) ≡ filter_map moment_of words
-all_kept [] = refl
-all_kept (word ∷ words) = by_first (moment_of word) (all_kept words)
+-- what is read of each time
+pub read_of_kept : {X : Type 0} (read : head.Moment → X) (words : List (List ℕ)) → map read (filter_map (λ word. option_map kept (moment_of word)) words) ≡ map (λ m. read (kept m)) (filter_map moment_of words)
+read_of_kept read [] = refl
+read_of_kept {X} read (word ∷ words) = by_first (moment_of word) (read_of_kept read words)
   where
-    by_first : (o : Option Moment) → map asked (filter_map (λ w. option_map kept (moment_of w)) words) ≡ filter_map moment_of words → map asked (cons_option (option_map kept o) (filter_map (λ w. option_map kept (moment_of w)) words)) ≡ cons_option o (filter_map moment_of words)
-    by_first (Some m) more = ap (λ ms. m ∷ ms) more
+    by_first : (o : Option Moment) → map read (filter_map (λ w. option_map kept (moment_of w)) words) ≡ map (λ m. read (kept m)) (filter_map moment_of words)
+        → map read (cons_option (option_map kept o) (filter_map (λ w. option_map kept (moment_of w)) words)) ≡ map (λ m. read (kept m)) (cons_option o (filter_map moment_of words))
+    by_first (Some m) more = ap (λ xs. read (kept m) ∷ xs) more
     by_first None more = more
+
+pub put_together : (ms : List Moment) → times_with (map (λ (m : Moment). m.number) ms) (map (λ (m : Moment). m.unit) ms) ≡ ms
+put_together [] = refl
+put_together (m ∷ ms) = ap (λ rest. m ∷ rest) (put_together ms)

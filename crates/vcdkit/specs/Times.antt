@@ -1,9 +1,10 @@
 -- The times that words ask for.
-use Rattle.std.specs.Prelude.{◌≡◌, ◌==◌, ℕ, List, [], ◌∷◌, map, Option, Some, None, Result, Ok, Err}
+use Rattle.std.specs.Prelude.{◌≡◌, ◌==◌, ℕ, ℤ, List, [], ◌∷◌, map, Option, Some, None, Result, Ok, Err}
 use Rattle.std.specs.List.{slice_split}
 use Rattle.vcd_model.specs.Job.{has_unit, do_rise}
 use Rattle.vcd_model.specs.Ticks.{Moment}
 use Rattle.vcdkit.specs.declared.moment_word.Order.{Order}
+use Rattle.vcdkit.specs.declared.times.Times.{Times}
 
 -- the words between the commas of a word
 abbrev pub parts : List ℕ → List (List ℕ)
@@ -20,3 +21,13 @@ pub record IsOrderOf (times : List Moment) (o : Order) : Type 0 where
   pub has_unit_is : o.has_unit ≡ has_unit times
   pub rises_is : o.rises ≡ do_rise (map (λ m. m.number) times)
   pub last_is : o.last ≡ last_of (map (λ m. m.number) times)
+
+-- times with these numbers and units, one by one
+abbrev pub times_with : List ℕ → List (Option ℤ) → List Moment
+times_with [] units = []
+times_with (n ∷ ns) [] = []
+times_with (n ∷ ns) (u ∷ us) = record { number = n; unit = u } ∷ times_with ns us
+
+-- the times that are asked for
+abbrev pub times_asked : Times → List Moment
+times_asked t = times_with t.numbers.items t.units.items

@@ -11,6 +11,7 @@
 //! - `words`: what the words ask for, borrowed from their matches
 //! - `job`: `Job`, `Want` with its task and its names, `UseFault`; `job_of`
 //! - `moment_word`: the times that words are, and the fault of those that are none
+//! - `times`: the times of a sample
 //! - `inputs`: the memory of windows; the header of an input
 //! - `run`: a job over readers: windows, header, then `list` over the view or `run_task` in room that is taken for it
 //! - `failure`: why a run ends before it is done
@@ -38,6 +39,7 @@ mod moment_word;
 mod run;
 #[cfg(test)]
 mod tests;
+mod times;
 mod words;
 
 use clap::Error;

@@ -7,10 +7,11 @@ ghost use Rattle.vcd_model.specs.Job as model_job;
 ghost use Rattle.vcd_model.specs.Ticks as model_ticks;
 ghost use Rattle.vcd_model.specs.Words as model;
 ghost use Rattle.vcd_head.specs.Moments.{asked};
-ghost use Rattle.vcdkit.specs.Times.{parts};
+ghost use Rattle.vcdkit.specs.Times.{parts, times_asked};
 ghost use Rattle.vcdkit.specs.Words.{IsFaultIn, IsFaultOf};
 
 use crate::job::UseFault;
+use crate::times::Times;
 use std::alloc::{AllocError, Global};
 use vcd_head::Moment;
 use vcd_text::decimal_of;
@@ -129,23 +130,41 @@ fn check_times<'a>(at: &'a str) -> Result<(), UseFault<'a>>
     Ok(())
 }
 
-/// The times that words between commas are; those that are none are left out.
-fn times_in(alloc: Global, at: &str) -> Result<Vec<Moment>, AllocError>
-    ensures { IfOk result (λ times. map asked times.items
-        ≡ filter_map model_job.moment_of (parts at.now)) }
+/// The numbers of the times between commas; words that are no times are left out.
+fn numbers_in(alloc: Global, at: &str) -> Result<Vec<u64>, AllocError>
+    ensures { IfOk result (λ numbers. numbers.items
+        ≡ map (λ (m : model_ticks.Moment). m.number)
+        (filter_map model_job.moment_of (parts at.now))) }
 {
-    at.split(',').filter_map(moment_of).collect(alloc)
+    at.split(',')
+        .filter_map(moment_of)
+        .map(|time| time.number)
+        .collect(alloc)
+}
+
+/// The units of the times between commas; words that are no times are left out.
+fn units_in(alloc: Global, at: &str) -> Result<Vec<Option<i8>>, AllocError>
+    ensures { IfOk result (λ units. units.items
+        ≡ map (λ (m : model_ticks.Moment). m.unit)
+        (filter_map model_job.moment_of (parts at.now))) }
+{
+    at.split(',')
+        .filter_map(moment_of)
+        .map(|time| time.unit)
+        .collect(alloc)
 }
 
 /// The times of a sample, which stand between commas, or the first fault of these words. Memory is taken for them, once they are
 /// known to be times that a sample may have.
-pub(crate) fn sample_times<'a>(alloc: Global, at: &'a str) -> Result<Vec<Moment>, UseFault<'a>>
+pub(crate) fn sample_times<'a>(alloc: Global, at: &'a str) -> Result<Times, UseFault<'a>>
     ensures times { IfOk result (λ times. (names : List (List ℕ))
         → model.sample_of names (model.times_of (parts at.entry.now))
-        ≡ Ok (model_job.Want.Sample (map asked times.items) names)) }
+        ≡ Ok (model_job.Want.Sample (times_asked times) names)) }
     ensures fault { IfErr result (λ fault. (names : List (List ℕ))
         → IsFaultOf fault (model.sample_of names (model.times_of (parts at.entry.now)))) }
 {
     check_times(at)?;
-    Ok(times_in(alloc, at)?)
+    let numbers = numbers_in(alloc, at)?;
+    let units = units_in(alloc, at)?;
+    Ok(Times { numbers, units })
 }
