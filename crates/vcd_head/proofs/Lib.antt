@@ -24,3 +24,4 @@ pub mod FinishLemmas
 pub mod LookUpLemmas
 pub mod RoomLemmas
 pub mod KeyLemmas
+pub mod MomentLemmas

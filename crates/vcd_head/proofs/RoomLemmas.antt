@@ -11,7 +11,7 @@ use Rattle.vcd_model.proofs.BoundLemmas.{room_fits}
 use Rattle.vcd_head.specs.declared.view.Code.{Code}
 use Rattle.vcd_head.specs.Shown.{HeadShown}
 use Rattle.vcd_head.specs.Views.{Views, IsCode, IsSize}
-use Rattle.vcd_head.specs.Needs.{view_size}
+use Rattle.vcd_head.specs.Needs.{value_bytes, view_size}
 use Rattle.vcd_head.proofs.LookUpLemmas.{codes_len, index_len}
 use Rattle.vcd_head.proofs.DraftGrows.{rows_len}
 
@@ -37,28 +37,24 @@ codes_few ds =
 
 -- ---- the sum
 
--- a code's part of the values
-abbrev pub room_at : Code → ℕ
-room_at c = max (div_ceil c.size 4) 64
-
-pub same_sum : (text : List ℕ) (cs : List Code) (ks : List IdCode) → AllZip (IsCode text) cs ks → sum_by room_at cs ≡ sum_by value_room ks
+pub same_sum : (text : List ℕ) (cs : List Code) (ks : List IdCode) → AllZip (IsCode text) cs ks → sum_by value_bytes cs ≡ sum_by value_room ks
 same_sum text [] [] h = refl
 same_sum text [] (k ∷ ks) h = absurd h
 same_sum text (c ∷ cs) [] h = absurd h
-same_sum text (c ∷ cs) (k ∷ ks) h = sum_by-cons room_at c cs ∙ ap (λ n. n + sum_by room_at cs) (ap (λ n. max (div_ceil n 4) 64) h.0.size_is) ∙ ap (λ n. value_room k + n) (same_sum text cs ks h.1) ∙ sym (sum_by-cons value_room k ks)
+same_sum text (c ∷ cs) (k ∷ ks) h = sum_by-cons value_bytes c cs ∙ ap (λ n. n + sum_by value_bytes cs) (ap (λ n. max (div_ceil n 4) 64) h.0.size_is) ∙ ap (λ n. value_room k + n) (same_sum text cs ks h.1) ∙ sym (sum_by-cons value_room k ks)
 
 -- a size is below 2 ^ 24
-room_bound : (text : List ℕ) (cs : List Code) (ks : List IdCode) → AllZip (IsCode text) cs ks → AllByRecursion (λ (k : IdCode). IsSize k.size) ks → sum_by room_at cs ≤ length cs * 4194304
+room_bound : (text : List ℕ) (cs : List Code) (ks : List IdCode) → AllZip (IsCode text) cs ks → AllByRecursion (λ (k : IdCode). IsSize k.size) ks → sum_by value_bytes cs ≤ length cs * 4194304
 room_bound text [] [] h s = omega arith
 room_bound text [] (k ∷ ks) h s = absurd h
 room_bound text (c ∷ cs) [] h s = absurd h
 room_bound text (c ∷ cs) (k ∷ ks) h s =
     let size = h.0.size_is in let most = s.0.most in
-    let more = sum_by-cons room_at c cs in
+    let more = sum_by-cons value_bytes c cs in
     let rest = room_bound text cs ks h.1 s.1 in
     omega arith
 
-pub sum_fits : (s : HeadShown) (h : Header) → Views s h → sum_by room_at s.codes < 2 ^ 63
+pub sum_fits : (s : HeadShown) (h : Header) → Views s h → sum_by value_bytes s.codes < 2 ^ 63
 sum_fits s h v = omega (arith, room_bound s.text s.codes h.codes v.codes v.sizes, codes_len s.text s.codes h.codes v.codes, v.few, v.few_codes)
 
 -- ---- the bound
@@ -72,7 +68,7 @@ is_view s h v = record {
   look_up = v.look_up;
 }
 
-pub is_room : (s : HeadShown) (h : Header) (values : ℕ) → Views s h → values ≡ sum_by room_at s.codes → record { values = values; slots = length s.codes; marks = length s.rows } ≡ room_of h
+pub is_room : (s : HeadShown) (h : Header) (values : ℕ) → Views s h → values ≡ sum_by value_bytes s.codes → record { values = values; slots = length s.codes; marks = length s.rows } ≡ room_of h
 is_room s h values v e = λ j. record {
   values = (e ∙ same_sum s.text s.codes h.codes v.codes) j;
   slots = codes_len s.text s.codes h.codes v.codes j;

@@ -7,6 +7,7 @@ use mir.Val.{to_z, of_z}
 use mir.Syntax.{w8}
 use Rattle.std.specs.List.{AllByRecursion}
 use Rattle.vcd_model.specs.Scales.{scales, exponent_of, is_scale_number, is_scale_unit}
+use Rattle.vcd_model.specs.Job.{unit_exponent}
 use Rattle.vcd_head.specs.Words.{power_in, unit_in}
 use Rattle.vcd_head.proofs.DraftCodes.{bytes_flip}
 
@@ -87,6 +88,15 @@ unit_no_end u e h = unit_cases u e (λ m q. is_end m ≡ false) h refl refl refl
 pub unit_test_none : (u : List ℕ) → unit_in u ≡ None → is_scale_unit u ≡ false
 unfolding is_scale_unit
 unit_test_none u h = let c = unit_cases_none u h in rw (bytes_flip u (codes "s") ∙ c.0, bytes_flip u (codes "ms") ∙ c.1, bytes_flip u (codes "us") ∙ c.2, bytes_flip u (codes "ns") ∙ c.3, bytes_flip u (codes "ps") ∙ c.4, bytes_flip u (codes "fs") ∙ c.5) refl
+
+-- the exponent of a unit is that of the scale of one unit
+pub unit_exponent_is : (u : List ℕ) → unit_in u ≡ unit_exponent u
+unfolding is_scale_unit exponent_of
+unit_exponent_is u = by_unit (unit_in u) refl
+  where
+    by_unit : (o : Option ℤ) → unit_in u ≡ o → o ≡ unit_exponent u
+    by_unit (Some e) h = unit_cases u e (λ w x. Some x ≡ unit_exponent w) h refl refl refl refl refl refl
+    by_unit None h = rw (unit_test_none u h) refl
 
 none_there : (x : ℤ) → exponent_of (codes "$end") ≡ Some x → ⊥
 unfolding exponent_of

@@ -1,8 +1,14 @@
 -- What an engine over a header needs.
-use Rattle.std.specs.Prelude.{◌+◌, ◌*◌, length}
+use Rattle.std.specs.Prelude.{ℕ, ◌+◌, ◌*◌, max, length}
+use Rattle.std.specs.Int.{div_ceil}
 use Rattle.vcd_model.specs.Bound.{RoomSize, ViewSize}
+use Rattle.vcd_head.specs.declared.view.Code.{Code}
 use Rattle.vcd_head.specs.declared.view.Need.{Need}
 use Rattle.vcd_head.specs.Shown.{HeadShown}
+
+-- a code's part of the values, in bytes: one for each four digits, and at least the 64 of a real text
+abbrev pub value_bytes : Code → ℕ
+value_bytes c = max (div_ceil c.size 4) 64
 
 -- what is needed, as room
 abbrev pub room : Need → RoomSize

@@ -25,8 +25,9 @@
 //! - `selection`: which variables names select
 //! - `write`: headers as they are written
 //! - `room`: `need`, the room that an engine over a header needs
+//! - `moment`: `ticks`, a time with a unit in ticks of the header's scale
 //!
-//! In `specs/` callers read `Views` and `Shown`, `Reads`, `Fault`, `Finds`, `Marks` and `Needs`.
+//! In `specs/` callers read `Views` and `Shown`, `Reads`, `Fault`, `Finds`, `Marks`, `Moments` and `Needs`.
 //!
 //! # Limits
 //!
@@ -45,6 +46,7 @@ mod head;
 mod key;
 mod keyword;
 mod look_up;
+mod moment;
 mod path;
 mod phrases;
 mod probes;
@@ -66,6 +68,7 @@ pub use fault::HeadFault;
 pub use head::Head;
 pub use keyword::{Keyword, keyword_of};
 pub use look_up::{find, find_counted};
+pub use moment::{Moment, TickFault, ticks};
 pub use path::put_path;
 pub use probes::Probes;
 pub use read::read_head;

@@ -1,10 +1,10 @@
 // The room of an engine.
-ghost use Rattle.std.specs.Prelude.{◌≡◌, ℕ, length};
+ghost use Rattle.std.specs.Prelude.{◌≡◌, ℕ, ◌-◌, ◌^◌, length, min, sum_by};
 ghost use Rattle.vcd_model.specs.Header.{Header};
 ghost use Rattle.vcd_model.specs.Bound.{WindowSize, AreWindows, FitsInput, room_of};
 ghost use Rattle.vcd_head.specs.Shown.{parts};
 ghost use Rattle.vcd_head.specs.Views.{IsViewOf};
-ghost use Rattle.vcd_head.specs.Needs.{room, view_size};
+ghost use Rattle.vcd_head.specs.Needs.{room, value_bytes, view_size};
 
 use crate::view::{HeadView, Need};
 
@@ -12,6 +12,7 @@ use crate::view::{HeadView, Need};
 pub fn need(view: HeadView<'_>) -> Need
     ensures lengths { (result.slots ≡ length view.entry.codes.now)
         × (result.marks ≡ length view.entry.rows.now) }
+    ensures values { result.values ≡ min (sum_by value_bytes view.entry.codes.now) (2 ^ 64 - 1) }
     ensures room { (h : Header) → IsViewOf view.entry h → room result ≡ room_of h }
     ensures fits { (limit : ℕ) (h : Header) (w : WindowSize) → IsViewOf view.entry h
         → AreWindows limit w

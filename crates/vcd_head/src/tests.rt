@@ -15,6 +15,8 @@ use std::alloc::{AllocError, Global};
 use std::test::Fail;
 use vcd_text::{Feed, Watch};
 
+mod moments;
+
 const NESTED: &[u8] =
     b"$date Tue  Mar 5 $end $foo a #0 $var $end\n$timescale 10 ns $end\n$scope module tb $end\n$var wire 1 ~ clk $end\n$scope module u $end\n$var reg 4 ! q [3:0] $end\n$var reg 4 ! alias $end\n$upscope $end\n$var event 1 !! go $end\n$enddefinitions $end\n#0\n";
 

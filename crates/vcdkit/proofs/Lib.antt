@@ -2,3 +2,4 @@ mod WordsLemmas
 mod MessageLemmas
 mod OutcomeLemmas
 mod RunLemmas
+pub mod TimesLemmas

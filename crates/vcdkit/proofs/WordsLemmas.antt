@@ -12,7 +12,7 @@ use Rattle.vcdkit.specs.declared.words.Words.TheVariants as words
 use Rattle.vcdkit.specs.declared.job.Want.{Want}
 use Rattle.vcdkit.specs.declared.job.Want.TheVariants as want
 use Rattle.vcdkit.specs.declared.job.UseFault.{UseFault}
-use Rattle.vcdkit.specs.declared.job.UseFault.TheVariants.{BadWords, BadLimit, OutOfMemory}
+use Rattle.vcdkit.specs.declared.job.UseFault.TheVariants.{BadWords, BadLimit, BadTime, FromAboveTo, NotRising, OutOfMemory}
 use Rattle.vcdkit.specs.Job.{model_want}
 use Rattle.vcdkit.specs.Words.{complete, some_of, want_command, words_command, IsFaultOf}
 
@@ -74,6 +74,9 @@ no-job (Some command) limit e = let h = complete-none command (sym e) in rw h re
 pub fault-is : (named : Option model.Command) (limit : Option Text) (w : Words) (fault : UseFault) → Some (words_command w) ≡ complete named → IsFaultOf fault (model.limit_of limit) → IsFaultOf fault (model.job_of (with_limit named limit))
 fault-is named limit w BadWords e l = with-complete named _ limit (sym e) ∙ ap (λ x. model.job_with x (model.want_of (words_command w))) l
 fault-is named limit w (BadLimit word) e l = with-complete named _ limit (sym e) ∙ ap (λ x. model.job_with x (model.want_of (words_command w))) l
+fault-is named limit w (BadTime word) e l = with-complete named _ limit (sym e) ∙ ap (λ x. model.job_with x (model.want_of (words_command w))) l
+fault-is named limit w FromAboveTo e l = with-complete named _ limit (sym e) ∙ ap (λ x. model.job_with x (model.want_of (words_command w))) l
+fault-is named limit w NotRising e l = with-complete named _ limit (sym e) ∙ ap (λ x. model.job_with x (model.want_of (words_command w))) l
 fault-is named limit w OutOfMemory e (n, l) =
     let asked = want-of-words w in
     (record { want = asked.0; limit = n }, with-complete named _ limit (sym e) ∙ ap (λ x. model.job_with x (model.want_of (words_command w))) l ∙ ap (model.job_with (Ok n)) asked.1)

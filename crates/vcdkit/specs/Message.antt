@@ -55,6 +55,9 @@ end_status (Some failure) = failure_status failure
 abbrev pub use_outcome : UseFault → Outcome
 use_outcome use_fault.BadWords = model.use_outcome model.UseFault.BadWords
 use_outcome (use_fault.BadLimit word) = model.use_outcome (model.UseFault.BadLimit word.now)
+use_outcome (use_fault.BadTime word) = model.use_outcome (model.UseFault.BadTime word.now)
+use_outcome use_fault.FromAboveTo = model.use_outcome model.UseFault.FromAboveTo
+use_outcome use_fault.NotRising = model.use_outcome model.UseFault.NotRising
 use_outcome use_fault.OutOfMemory = record { output = []; message = program_line (fault_text 32); status = 3 }
 
 -- the file of this name cannot be opened

@@ -13,7 +13,7 @@ use Rattle.vcdkit.specs.declared.words.Words.TheVariants as words
 use Rattle.vcdkit.specs.declared.job.Want.{Want}
 use Rattle.vcdkit.specs.declared.job.Want.TheVariants as want
 use Rattle.vcdkit.specs.declared.job.UseFault.{UseFault}
-use Rattle.vcdkit.specs.declared.job.UseFault.TheVariants.{BadWords, BadLimit, OutOfMemory}
+use Rattle.vcdkit.specs.declared.job.UseFault.TheVariants.{BadWords, BadLimit, BadTime, FromAboveTo, NotRising, OutOfMemory}
 
 -- ---- how words are read
 
@@ -111,8 +111,16 @@ want_command want.Check = model.Command.Check
 want_command want.List = model.Command.Listing
 want_command (want.Pick names) = model.Command.Pick (map string_bytes names.items)
 
--- the fault is the one that the words have; memory runs out only where they have none
+-- the fault is the one that the words have; memory is none of theirs
+abbrev pub IsFaultIn : {X : Type 0} → UseFault → Result X model.UseFault → Type 0
+IsFaultIn {X} BadWords asked = asked ≡ Err model.UseFault.BadWords
+IsFaultIn {X} (BadLimit word) asked = asked ≡ Err (model.UseFault.BadLimit word.now)
+IsFaultIn {X} (BadTime word) asked = asked ≡ Err (model.UseFault.BadTime word.now)
+IsFaultIn {X} FromAboveTo asked = asked ≡ Err model.UseFault.FromAboveTo
+IsFaultIn {X} NotRising asked = asked ≡ Err model.UseFault.NotRising
+IsFaultIn {X} OutOfMemory asked = ⊥
+
+-- the same, or memory ran out, which it does only where the words have no fault
 abbrev pub IsFaultOf : {X : Type 0} → UseFault → Result X model.UseFault → Type 0
-IsFaultOf {X} BadWords asked = asked ≡ Err model.UseFault.BadWords
-IsFaultOf {X} (BadLimit word) asked = asked ≡ Err (model.UseFault.BadLimit word.now)
 IsFaultOf {X} OutOfMemory asked = (x : X) × (asked ≡ Ok x)
+IsFaultOf {X} fault asked = IsFaultIn fault asked

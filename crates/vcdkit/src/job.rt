@@ -5,10 +5,10 @@ ghost use Rattle.vcd_model.specs.Words.{is_limit, limit_of};
 ghost use Rattle.vcdkit.specs.Job.{model_want};
 ghost use Rattle.vcdkit.specs.Words.{job_asked, IsFaultOf};
 
+use crate::moment_word::number_of;
 use crate::words::{limit_word, want_of, words_in};
 use clap::ArgMatches;
 use std::alloc::{AllocError, Global};
-use vcd_text::decimal_of;
 use vcd_tools::Task;
 
 /// What is done with the input.
@@ -71,6 +71,12 @@ pub enum UseFault<'a> {
     BadWords,
     /// This word is no token limit.
     BadLimit(&'a str),
+    /// This word is no time.
+    BadTime(&'a str),
+    /// The start of a cut is above its end.
+    FromAboveTo,
+    /// The times of a sample do not rise.
+    NotRising,
     /// Memory ran out.
     OutOfMemory,
 }
@@ -93,9 +99,6 @@ const LEAST_LIMIT: u64 = 64;
 
 const MOST_LIMIT: u64 = 16_777_216;
 
-/// How many digits a number may have.
-const MOST_DIGITS: usize = 20;
-
 /// How much is read at once.
 const CHUNK: usize = 65_536;
 
@@ -103,11 +106,7 @@ const CHUNK: usize = 65_536;
 fn limit_in(word: &str) -> Option<usize>
     ensures { result ≡ cond (is_limit word.now) (Some (decimal_value word.now)) None }
 {
-    let digits = word.as_bytes();
-    if digits.len() > MOST_DIGITS {
-        return None;
-    }
-    let limit = decimal_of(digits)?;
+    let limit = number_of(word.as_bytes())?;
     if limit < LEAST_LIMIT || MOST_LIMIT < limit {
         return None;
     }

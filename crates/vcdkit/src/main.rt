@@ -10,6 +10,8 @@
 //! - `command`: the words that the command line takes, and the status where it takes none
 //! - `words`: what the words ask for, borrowed from their matches
 //! - `job`: `Job`, `Want` with its task and its names, `UseFault`; `job_of`
+//! - `moment_word`: the times that words are, and the fault of those that are none
+//! - `times`: the times of a sample
 //! - `inputs`: the memory of windows; the header of an input
 //! - `run`: a job over readers: windows, header, then `list` over the view or `run_task` in room that is taken for it
 //! - `failure`: why a run ends before it is done
@@ -33,9 +35,11 @@ mod failure;
 mod inputs;
 mod job;
 mod message;
+mod moment_word;
 mod run;
 #[cfg(test)]
 mod tests;
+mod times;
 mod words;
 
 use clap::Error;

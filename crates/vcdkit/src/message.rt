@@ -143,6 +143,18 @@ pub fn use_fault<E: Sink>(fault: UseFault<'_>, err: &mut E) -> u8
             let _ = put_both(err, "bad token limit: ", word);
             2
         }
+        UseFault::BadTime(word) => {
+            let _ = put_both(err, "bad time: ", word);
+            2
+        }
+        UseFault::FromAboveTo => {
+            let _ = put_line(err, "--from is above --to");
+            2
+        }
+        UseFault::NotRising => {
+            let _ = put_line(err, "times must rise");
+            2
+        }
         UseFault::OutOfMemory => report(Failure::OutOfMemory, &[], &[], err),
     }
 }

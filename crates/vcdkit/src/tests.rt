@@ -6,4 +6,5 @@ mod memory;
 mod messages;
 mod pick;
 mod runs;
+mod times;
 mod words;

@@ -37,6 +37,21 @@ fn a_use_fault_has_its_line_and_status(rt: HostRuntime) {
     let faults = [
         (UseFault::BadWords, b"vcdkit: bad words\n".as_slice(), 2),
         (
+            UseFault::BadTime("15NS"),
+            b"vcdkit: bad time: 15NS\n".as_slice(),
+            2,
+        ),
+        (
+            UseFault::FromAboveTo,
+            b"vcdkit: --from is above --to\n".as_slice(),
+            2,
+        ),
+        (
+            UseFault::NotRising,
+            b"vcdkit: times must rise\n".as_slice(),
+            2,
+        ),
+        (
             UseFault::OutOfMemory,
             b"vcdkit: out of memory\n".as_slice(),
             3,

@@ -1,23 +1,25 @@
-use Rattle.std.proofs.Common.{◌≡◌, sum_by, ap, ◌∙◌, arith}
+use Rattle.std.proofs.Common.{◌≡◌, ◌-◌, ◌^◌, min, sum_by, ap, ◌∙◌, arith}
 use Rattle.std.proofs.lemmas.List.{take_all}
-use Rattle.std.proofs.lemmas.List.Sums.{sum_by_more, sum_by_more_le}
+use Rattle.std.proofs.lemmas.List.Sums.{sum_by_more}
 use Rattle.vcd_model.specs.Header.{Header}
+use Rattle.vcd_head.specs.Needs.{value_bytes}
 use Rattle.vcd_head.specs.Shown.{parts}
 use Rattle.vcd_head.specs.Views.{Views}
 use Rattle.vcd_head.proofs.LookUpLemmas.{blank}
-use Rattle.vcd_head.proofs.RoomLemmas.{room_at, sum_fits, is_room, fits}
+use Rattle.vcd_head.proofs.RoomLemmas.{sum_fits, is_room, fits}
 use Rattle.vcd_head.proofs.room.need.Goals as goal
 
 pub loop-code-preserved : goal.loop-code-preserved
-loop-code-preserved c = λ h v.
-    let all = sum_fits (parts c.args.view) h v in
-    let so_far = c.loop-code.invariant h v in
-    let more = sum_by_more_le room_at c.args.view.codes.now c.loop-code.code-index blank (omega arith) in
-    let one = sum_by_more room_at c.args.view.codes.now c.loop-code.code-index blank (omega arith) in
+loop-code-preserved c =
+    let one = sum_by_more value_bytes c.args.view.codes.now c.loop-code.code-index blank (omega arith) in
     omega (arith, one)
 
-whole : (c : goal.After-loop-code) (h : Header) → Views (parts c.args.view) h → c.loop-code.values ≡ sum_by room_at c.args.view.codes.now
-whole c h v = c.loop-code.invariant h v ∙ ap (sum_by room_at) (take_all c.loop-code.code-index c.args.view.codes.now (omega arith))
+pub returns-clause-values : goal.returns-clause-values
+returns-clause-values c = c.loop-code.invariant ∙ ap (λ codes. min (sum_by value_bytes codes) (2 ^ 64 - 1)) (take_all c.loop-code.code-index c.args.view.codes.now (omega arith))
+
+-- the sum over a header's codes is in range
+whole : (c : goal.After-loop-code) (h : Header) → Views (parts c.args.view) h → c.loop-code.values ≡ sum_by value_bytes c.args.view.codes.now
+whole c h v = let small = sum_fits (parts c.args.view) h v in let most = returns-clause-values c in omega arith
 
 pub returns-clause-room : goal.returns-clause-room
 returns-clause-room c = λ h v. is_room (parts c.args.view) h c.loop-code.values v (whole c h v)

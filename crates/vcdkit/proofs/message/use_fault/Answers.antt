@@ -8,6 +8,15 @@ returns-in-BadWords-clause-line g c = rw c.in-BadWords.is (puts-shows _ _ _ _ c.
 pub returns-in-BadLimit-clause-line : goal.returns-in-BadLimit-clause-line
 returns-in-BadLimit-clause-line g c = rw c.in-BadLimit.is (puts-shows _ _ _ _ c.put_both.ensures)
 
+pub returns-in-BadTime-clause-line : goal.returns-in-BadTime-clause-line
+returns-in-BadTime-clause-line g c = rw c.in-BadTime.is (puts-shows _ _ _ _ c.put_both-in-BadTime.ensures)
+
+pub returns-in-FromAboveTo-clause-line : goal.returns-in-FromAboveTo-clause-line
+returns-in-FromAboveTo-clause-line g c = rw c.in-FromAboveTo.is (puts-shows _ _ _ _ c.put_line-in-FromAboveTo.ensures)
+
+pub returns-in-NotRising-clause-line : goal.returns-in-NotRising-clause-line
+returns-in-NotRising-clause-line g c = rw c.in-NotRising.is (puts-shows _ _ _ _ c.put_line-in-NotRising.ensures)
+
 pub returns-in-OutOfMemory-clause-line : goal.returns-in-OutOfMemory-clause-line
 unfolding fault_text
 returns-in-OutOfMemory-clause-line g c = rw c.in-OutOfMemory.is c.report.ensures.line

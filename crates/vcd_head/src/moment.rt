@@ -1,0 +1,143 @@
+// Times with a unit, in ticks of a header's time scale.
+ghost use Rattle.std.specs.Prelude.{◌≡◌, ◌*◌, ◌/◌, ◌^◌, ◌<◌, pos, ◌+ℤ◌, nat_abs, option_map};
+ghost use Rattle.std.specs.Int.{div_ceil};
+ghost use Rattle.std.specs.Option.{SomeIff};
+ghost use Rattle.vcd_model.specs.Header.{Header};
+ghost use Rattle.vcd_model.specs.Ticks.{moment_ticks, ticks as ticks_of};
+ghost use Rattle.vcd_head.specs.declared.view.Scale.{Scale};
+ghost use Rattle.vcd_head.specs.Moments.{asked, told};
+ghost use Rattle.vcd_head.specs.Views.{IsViewOf};
+
+use crate::view::HeadView;
+use crate::words::unit_of;
+
+/// A time as it is asked for.
+#[derive(Clone, Copy, PartialEq, Eq, Debug)]
+pub struct Moment {
+    /// How many units it is after the time 0; without a unit, how many ticks.
+    pub number: u64,
+    /// The unit's power of ten in seconds: -9 for `ns`.
+    pub unit: Option<i8>,
+}
+
+impl Moment {
+    ghost use Rattle.std.specs.Prelude.{◌≡◌, option_map};
+    ghost use Rattle.vcd_head.specs.Moments.{asked, with_unit};
+
+    /// So many units of this name, or so many ticks where the name is empty; none where it is no unit: `s`, `ms`, `us`, `ns`,
+    /// `ps` or `fs`.
+    pub fn from_parts(number: u64, unit: &[u8]) -> Option<Moment>
+        ensures { option_map asked result ≡ with_unit number unit.now }
+    {
+        if unit.is_empty() {
+            return Some(Moment { number, unit: None });
+        }
+        let unit = unit_of(unit)?;
+        Some(Moment {
+            number,
+            unit: Some(unit),
+        })
+    }
+}
+
+/// Why a moment has no number of ticks.
+#[derive(Clone, Copy, PartialEq, Eq, Debug)]
+pub enum TickFault {
+    /// It has a unit, and the header declares no time scale (fault 12).
+    NoTimescale,
+    /// It is 2^64 ticks or more (fault 22).
+    OutOfRange,
+}
+
+impl TickFault {
+    ghost use Rattle.std.specs.Prelude.{◌≡◌};
+    ghost use Rattle.vcd_head.specs.Moments.{tick_fault_number};
+
+    /// The number of the fault.
+    pub fn number(self) -> u8
+        ensures { result ≡ tick_fault_number self }
+    {
+        match self {
+            TickFault::NoTimescale => 12,
+            TickFault::OutOfRange => 22,
+        }
+    }
+}
+
+/// A moment in ticks of the header's time scale: where it is between two ticks, the later one if `up`, else the earlier one. It
+/// is exact for every unit and every scale. Without a unit the number is that of the ticks, whatever the scale.
+///
+/// # Errors
+///
+/// `NoTimescale` where there is a unit and the header declares no time scale, else `OutOfRange` where there would be 2^64 ticks
+/// or more.
+pub fn ticks(view: HeadView<'_>, moment: Moment, up: bool) -> Result<u64, TickFault>
+    ensures ticks { told result
+        ≡ moment_ticks (option_map (λ (s : Scale). s.exponent) view.entry.scale) (asked moment) up }
+    ensures header { (h : Header) → IsViewOf view.entry h
+        → told result ≡ moment_ticks h.scale (asked moment) up }
+{
+    let Some(unit) = moment.unit else {
+        return Ok(moment.number);
+    };
+    let Some(scale) = view.scale else {
+        return Err(TickFault::NoTimescale);
+    };
+    unit_ticks(moment.number, unit, scale.exponent, up).ok_or(TickFault::OutOfRange)
+}
+
+/// So many units in ticks, if they are fewer than 2^64. Unit and tick are powers of ten in seconds.
+fn unit_ticks(number: u64, unit: i8, tick: i8, up: bool) -> Option<u64>
+    ensures { SomeIff result (ticks_of number unit tick up < 2 ^ 64)
+        (ticks_of number unit tick up) }
+{
+    let unit = power_of(unit);
+    let tick = power_of(tick);
+    if tick <= unit {
+        multiplied(number, unit - tick)
+    } else if up {
+        Some(divided_up(number, tick - unit))
+    } else {
+        Some(divided(number, tick - unit))
+    }
+}
+
+/// The power of ten in seconds of a femtosecond.
+const FEMTOSECOND: i8 = -15;
+
+/// The power of ten in femtoseconds of this one in seconds.
+fn power_of(exponent: i8) -> u8
+    ensures { result ≡ nat_abs (exponent +ℤ pos 15) }
+{
+    exponent.abs_diff(FEMTOSECOND)
+}
+
+/// A number times a power of ten, if that is below 2^64.
+fn multiplied(number: u64, power: u8) -> Option<u64>
+    ensures { SomeIff result (number * 10 ^ power < 2 ^ 64) (number * 10 ^ power) }
+{
+    if number == 0 {
+        return Some(0);
+    }
+    number.checked_mul(10u64.checked_pow(u32::from(power))?)
+}
+
+/// A number divided by a power of ten, rounded down.
+fn divided(number: u64, power: u8) -> u64
+    ensures { result ≡ number / 10 ^ power }
+{
+    match 10u64.checked_pow(u32::from(power)) {
+        Some(divisor) => number / divisor,
+        None => 0,
+    }
+}
+
+/// A number divided by a power of ten, rounded up.
+fn divided_up(number: u64, power: u8) -> u64
+    ensures { result ≡ div_ceil number (10 ^ power) }
+{
+    match 10u64.checked_pow(u32::from(power)) {
+        Some(divisor) => number.div_ceil(divisor),
+        None => number.min(1),
+    }
+}
