@@ -11,3 +11,5 @@ pub mod ChangeLine
 pub mod PackedLemmas
 pub mod StoreLemmas
 pub mod LayoutLemmas
+pub mod HeldLemmas
+pub mod TableLemmas

@@ -11,12 +11,18 @@ use crate::item::Form;
 use crate::words::rest_of;
 use vcd_text::{Sink, WriteFailed, put};
 
+// What digits that begin with this one, in lower case, are extended by.
+pub(crate) fn extension_of(digit: u8) -> u8
+    ensures { result ≡ extension (digit ∷ []) }
+{
+    if digit == b'1' { b'0' } else { digit }
+}
+
 // What a value that begins with this digit is extended by.
 fn extended_by(digit: u8) -> u8
     ensures { result ≡ extension (lower digit ∷ []) }
 {
-    let digit = digit.to_ascii_lowercase();
-    if digit == b'1' { b'0' } else { digit }
+    extension_of(digit.to_ascii_lowercase())
 }
 
 // Whether a digit is not a zero.

@@ -4,7 +4,8 @@ ghost use Rattle.std.specs.Prelude.{◌≡◌, ◌<◌, length};
 use crate::change::put_change;
 use crate::item::{Form, Item, Regs};
 use crate::read::{change_text, next_item};
-use crate::table::{Slot, Table};
+use crate::slot::Slot;
+use crate::table::Table;
 use std::alloc::{AllocError, Global};
 use std::test::Fail;
 use vcd_head::{Code, HeadView, read_head};
@@ -255,9 +256,9 @@ fn one_of_three_codes_is_chosen(rt: HostRuntime) {
         event: false,
     }; 3];
     let mut slots = [Slot::new(); 4];
-    let mut table = Table::new(view_of(&codes), &mut slots);
+    let mut table = Table::new(view_of(&codes), &mut [], &mut slots);
     table.choose(1);
     assert!(rt; !table.chosen(0) && table.chosen(1) && !table.chosen(2));
-    let again = Table::new(view_of(&codes), &mut slots);
+    let again = Table::new(view_of(&codes), &mut [], &mut slots);
     assert!(rt; !again.chosen(0) && !again.chosen(1) && !again.chosen(2));
 }
