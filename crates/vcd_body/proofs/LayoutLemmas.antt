@@ -1,12 +1,12 @@
 -- Shares that are laid out one behind the other.
-use Rattle.std.proofs.Common.{◌≡◌, ◌≢◌, ℕ, ◌+◌, ◌-◌, ◌<◌, ◌≤◌, min, List, length, take, slice_get, slice_set, Option, Some, None, refl, sym, ap, ◌∙◌, arith, ◌⊎◌, inl, inr}
+use Rattle.std.proofs.Common.{◌≡◌, ◌≢◌, ℕ, ◌+◌, ◌-◌, ◌<◌, ◌≤◌, min, List, length, slice_get, slice_set, Option, Some, None, refl, sym, ap, ◌∙◌, arith, ◌⊎◌, inl, inr}
 use Rattle.std.specs.Prelude.{option_map}
 use Rattle.std.proofs.Math.Seq.{take-length}
 use Rattle.std.proofs.lemmas.Bool.{cases_lt}
 use Rattle.std.proofs.lemmas.List.Sums.{sum_by_more, sum_by_more_le}
 use Rattle.std.proofs.lemmas.Option.{slice_get_past, slice_get_within, get_or_from_slice_get}
 use Rattle.vcd_head.specs.declared.view.Code.{Code}
-use Rattle.vcd_body.specs.Kept.{Kept, unset}
+use Rattle.vcd_body.specs.Kept.{unset}
 use Rattle.vcd_body.specs.Contents.{new_at}
 use Rattle.vcd_body.specs.Stored.{AreLaidOut, end_at, kept_in, kept_with, room_of, share_of, some_by, start_of, start_or, unset_at, used}
 use Rattle.vcd_body.specs.declared.slot.Slot.{Slot}

@@ -13,3 +13,6 @@ pub mod StoreLemmas
 pub mod LayoutLemmas
 pub mod HeldLemmas
 pub mod TableLemmas
+pub mod Pieces
+pub mod HeldShort
+pub mod HeldLines

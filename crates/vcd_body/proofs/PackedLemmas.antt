@@ -1,5 +1,5 @@
 -- Packed digits are the digits again, as they are held; the digit at a place of a share.
-use Rattle.std.proofs.Common.{◌≡◌, ℕ, zero, suc, ◌+◌, ◌*◌, ◌/◌, ◌%◌, ◌<◌, ◌≤◌, Bool, true, false, cond, ◌||◌, ◌&&◌, ◌==◌, nat_lt, List, [], ◌∷◌, ◌++◌, length, take, map, refl, sym, ap, ◌∙◌, arith, ◌⊎◌, inl, inr, slice_get, Option, Some, None}
+use Rattle.std.proofs.Common.{◌≡◌, ℕ, zero, suc, ◌+◌, ◌*◌, ◌/◌, ◌%◌, ◌<◌, ◌≤◌, Bool, true, false, cond, ◌||◌, ◌==◌, nat_lt, List, [], ◌∷◌, ◌++◌, length, take, map, refl, sym, ap, ◌∙◌, arith, ◌⊎◌, inl, inr, slice_get, Some, None}
 use Rattle.std.specs.Prelude.{get_or}
 use Rattle.std.specs.List.{list_all}
 use Rattle.std.specs.Str.{byte, str_to_ascii_lowercase}

@@ -1,11 +1,12 @@
 -- The value of a code of a view, as the table has it.
-use Rattle.std.proofs.Common.{◌≡◌, ◌≢◌, ◌<◌, ◌==◌, ◌||◌, Bool, false, cond, ◌⊎◌, inl, inr, ℕ, ◌+◌, ◌≤◌, take, drop, length-take, length-drop, arith, List, map, slice_get, Option, Some, None, refl, sym, ap, ◌∙◌}
+use Rattle.std.proofs.Common.{◌≡◌, ◌≢◌, [], ◌<◌, ◌==◌, ◌||◌, Bool, false, cond, ◌⊎◌, inl, inr, ℕ, ◌+◌, ◌≤◌, take, drop, length-take, length-drop, arith, List, slice_get, Option, Some, None, refl, sym, ap, ◌∙◌}
 use Rattle.std.specs.Prelude.{option_map, option_and_then, unwrap_or, length}
 use Rattle.std.proofs.lemmas.Option.{slice_get-map}
+use Rattle.vcd_model.specs.Cut.{line_if_set}
 use Rattle.vcd_model.specs.Declarations.{IdCode}
 use Rattle.vcd_head.specs.declared.view.Code.{Code}
 use Rattle.vcd_head.specs.declared.view.HeadView.{HeadView}
-use Rattle.vcd_body.specs.Contents.{ChangesCode, codes_in, codes_shown, held_at, is_chosen, kept_at, shown_code, value_in}
+use Rattle.vcd_body.specs.Contents.{ChangesCode, codes_in, codes_shown, held_at, is_chosen, kept_at, line_of, shown_code, value_in}
 use Rattle.vcd_body.specs.Kept.{Held, Kept, as_chosen, value_at_size}
 use Rattle.vcd_body.specs.Stored.{AreLaidOut, end_at, held_of, kept_with, used}
 use Rattle.vcd_body.specs.declared.slot.Slot.{Slot}
@@ -28,6 +29,11 @@ code_nowhere v code at = slice_get-map (shown_code v.text.now) v.codes.now code 
 pub value_there : (v : HeadView) (t : Table) (code : ℕ) (c : Code) (s : Slot) → slice_get v.codes.now code ≡ Some c → slice_get t.slots.now code ≡ Some s → value_in (codes_shown v) t code ≡ value_at_size c.size (held_of t.values.now s)
 value_there v t code c s e at =
     ap (option_and_then (λ (x : IdCode). value_at_size x.size (held_at t code))) (code_there v code c e) ∙ ap (value_at_size c.size) (held_there t code s at)
+
+pub line_there : (v : HeadView) (t : Table) (code : ℕ) (c : Code) (s : Slot) → slice_get v.codes.now code ≡ Some c → slice_get t.slots.now code ≡ Some s → line_of (codes_shown v) t code ≡ line_if_set (shown_code v.text.now c) (value_at_size c.size (held_of t.values.now s))
+line_there v t code c s e at =
+    ap (λ (o : Option IdCode). unwrap_or (option_map (λ (x : IdCode). line_if_set x (value_in (codes_shown v) t code)) o) []) (code_there v code c e)
+    ∙ ap (line_if_set (shown_code v.text.now c)) (value_there v t code c s e at)
 
 -- of what is no code's there is no value
 pub value_nowhere : (v : HeadView) (t : Table) (code : ℕ) → slice_get v.codes.now code ≡ None → value_in (codes_shown v) t code ≡ None

@@ -1,8 +1,9 @@
 -- How a table keeps it: a slot for each code, and a share of the bytes of values.
-use Rattle.std.specs.Prelude.{◌≡◌, ℕ, ◌+◌, ◌-◌, ◌≤◌, ◌==◌, min, max, cond, List, [], ◌∷◌, length, take, drop, sum_by, false, slice_get, Option, Some, None, option_map}
+use Rattle.std.specs.Prelude.{◌≡◌, ℕ, ◌+◌, ◌-◌, ◌≤◌, ◌==◌, min, max, cond, List, [], ◌∷◌, ◌++◌, length, take, drop, sum_by, false, slice_get, Option, Some, None, option_map}
 use Rattle.std.specs.Str.{byte}
 use Rattle.vcd_head.specs.declared.view.Code.{Code}
 use Rattle.vcd_body.specs.Kept.{Held, Kept, bytes_for}
+use Rattle.vcd_model.specs.Values.{extend, short}
 use Rattle.vcd_body.specs.Packed.{digits_in}
 use Rattle.vcd_body.specs.declared.slot.Slot.{Slot}
 use Rattle.vcd_body.specs.declared.slot.State.{State}
@@ -46,6 +47,17 @@ abbrev pub digits_held : Held → List ℕ
 digits_held Held.Unset = []
 digits_held (Held.Digits ds) = ds
 digits_held (Held.Text text) = []
+
+-- what a slot holds, with these bytes of its share, and its digits
+abbrev pub held_with : Slot → List ℕ → Held
+held_with s bytes = held_by s.state s.len bytes
+
+abbrev pub digits_with : Slot → List ℕ → List ℕ
+digits_with s bytes = digits_held (held_with s bytes)
+
+-- the line of a value of these digits: all of them at size 1, or the shortest after `b`
+abbrev pub held_line : ℕ → List ℕ → List ℕ → List ℕ
+held_line size ds id = cond (size == 1) (ds ++ (id ++ 10 ∷ [])) (byte "b" ∷ short (extend ds size) ++ (byte " " ∷ id ++ 10 ∷ []))
 
 abbrev pub held_of : List ℕ → Slot → Held
 held_of values s = held_by s.state s.len (take (used s) (drop s.start values))

@@ -35,6 +35,7 @@
 mod change;
 mod fault;
 mod held;
+mod held_text;
 mod item;
 mod packed;
 mod phrases;

@@ -1,13 +1,17 @@
 //! The current values of the codes of a header, in lent slices.
-ghost use Rattle.std.specs.Prelude.{◌≡◌, ℕ, ◌+◌, ◌<◌, ◌≤◌, length};
+ghost use Rattle.std.specs.Prelude.{◌≡◌, ℕ, ◌+◌, ◌-◌, ◌^◌, ◌<◌, ◌≤◌, length};
+ghost use Rattle.vcd_model.specs.Sample.{shown};
+ghost use Rattle.vcd_text.specs.Device.{Counts, Puts, Takes, failures_after};
 ghost use Rattle.vcd_body.specs.Kept.{Held, as_chosen, digit_in, one_more, real_text, with_text};
 ghost use Rattle.vcd_body.specs.Stored.{AreLaidOut, room_of};
 
 use crate::held::digit_shown;
+use crate::held_text::{put_value, put_value_line};
 use crate::item::Form;
 use crate::slot::{Shown, Slot, State};
 use crate::store::{bump_at, choose_at, lay_out, set_at, share_in, slot_at};
 use vcd_head::HeadView;
+use vcd_text::{Sink, WriteFailed, put};
 
 /// What is kept of the codes of a header, by their places: the value of each, as it was last written, three counters, and
 /// whether it is chosen. A call changes what it names and nothing else. It is total: of a place that is no code's nothing is
@@ -24,7 +28,7 @@ impl<'a> Table<'a> {
     ghost use Rattle.vcd_head.specs.declared.view.Code.{Code};
     ghost use Rattle.vcd_body.specs.Kept.{unset};
     ghost use Rattle.vcd_body.specs.Stored.{share_of};
-    ghost use Rattle.vcd_body.specs.Contents.{ChangesCode, codes_in, codes_shown, counts_at, held_at, is_chosen, kept_at, new_at, shown_as, value_in};
+    ghost use Rattle.vcd_body.specs.Contents.{ChangesCode, codes_in, codes_shown, counts_at, held_at, is_chosen, kept_at, line_of, new_at, shown_as, value_in};
 
     /// A table of the codes of the header that is shown: each is unset, its counters are 0, and it is not chosen. A code's value
     /// has a quarter of its size of the bytes of `values`, rounded up, and at least 64; where there are fewer, the last codes go
@@ -96,6 +100,49 @@ impl<'a> Table<'a> {
             Some(slot) if slot.state == State::Real => share_in(self.values, slot),
             _ => &[],
         }
+    }
+
+    /// Writes the line of a change that gives the code at a place its value, with the shortest digits; nothing where it has no
+    /// value. Where a write fails, a prefix was written.
+    pub fn put_short<W: Sink>(
+        &self,
+        view: HeadView<'_>,
+        code: usize,
+        w: &mut W,
+    ) -> Result<(), WriteFailed>
+        requires { (W.device w.old).failures < 2 ^ 64 - 1 }
+        ensures { Puts (W.device w.old) (W.device w.new)
+            (line_of (codes_shown view.entry) self.now code) result }
+    {
+        let Some(declared) = view.code_at(code) else {
+            return Ok(());
+        };
+        let Some(slot) = slot_at(self.slots, code) else {
+            return Ok(());
+        };
+        let id = view.text_at(declared.start, declared.len);
+        put_value_line(slot, share_in(self.values, slot), declared.size, id, w)
+    }
+
+    /// Writes the value of the code at a place in full: all its digits, or `r` and the text of a real number; `-` where it has no
+    /// value. Where a write fails, a prefix was written.
+    pub fn put_full<W: Sink>(
+        &self,
+        view: HeadView<'_>,
+        code: usize,
+        w: &mut W,
+    ) -> Result<(), WriteFailed>
+        requires { (W.device w.old).failures < 2 ^ 64 - 1 }
+        ensures { Puts (W.device w.old) (W.device w.new)
+            (shown (value_in (codes_shown view.entry) self.now code)) result }
+    {
+        let Some(declared) = view.code_at(code) else {
+            return put(w, b"-");
+        };
+        let Some(slot) = slot_at(self.slots, code) else {
+            return put(w, b"-");
+        };
+        put_value(slot, share_in(self.values, slot), declared.size, w)
     }
 
     /// The three counters of the code at a place.

@@ -1,4 +1,4 @@
-use Rattle.std.proofs.Common.{◌/◌, ◌%◌, ◌<◌, sym, ◌∙◌, arith}
+use Rattle.std.proofs.Common.{◌/◌, ◌%◌, sym, ◌∙◌, arith}
 use Rattle.vcd_body.proofs.PackedLemmas.{digit_there, none_there}
 use Rattle.vcd_body.proofs.StoreLemmas.{length_past}
 use Rattle.vcd_body.proofs.packed.digit_at.Goals as goal

@@ -1,9 +1,9 @@
-use Rattle.std.proofs.Common.{◌≡◌, ◌<◌, ◌≤◌, ◌-◌, sym, ap, ◌∙◌, refl, arith, length, take, drop, length-take, length-drop}
+use Rattle.std.proofs.Common.{◌≡◌, ◌-◌, sym, ap, ◌∙◌, refl, arith, length, take, drop, length-take, length-drop}
 use Rattle.vcd_body.specs.Kept.{with_text}
 use Rattle.vcd_body.specs.Stored.{end_at}
 use Rattle.vcd_body.specs.declared.item.Form.TheVariants as form
 use Rattle.vcd_body.specs.declared.slot.State.TheVariants as state
-use Rattle.vcd_body.proofs.StoreLemmas.{already_so, digits_kept, kept_still, laid_set, none_fits, set_slot, share_changes, some_text, too_long, vector_room}
+use Rattle.vcd_body.proofs.StoreLemmas.{digits_kept, laid_set, set_slot, share_changes, some_text}
 use Rattle.vcd_body.proofs.store.set_digits.Goals as goal
 
 pub overflow_sub-end : goal.overflow_sub-end
