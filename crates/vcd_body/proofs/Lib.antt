@@ -16,3 +16,4 @@ pub mod TableLemmas
 pub mod Pieces
 pub mod HeldShort
 pub mod HeldLines
+pub mod SetLemmas

@@ -234,7 +234,7 @@ part_read start end m values ys fits most same =
     let part : take (end - start) (drop start whole) ≡ ys = between-put_mid start (end - start) values ys end (omega arith) same in
     sym (take-take m (end - start) (drop start whole) (omega arith)) ∙ ap (take m) part
 
-text_fits : (f : Form) (n room : ℕ) → 0 < n → room_for f n ≤ room → fits f n room ≡ true
+pub text_fits : (f : Form) (n room : ℕ) → 0 < n → room_for f n ≤ room → fits f n room ≡ true
 text_fits f n room some most = rw (lt-ltb 0 n some, le-leb (room_for f n) room most) refl
 
 -- a text that is empty, or too long for the room

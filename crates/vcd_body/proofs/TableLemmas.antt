@@ -1,9 +1,13 @@
 -- The value of a code of a view, as the table has it.
 use Rattle.std.proofs.Common.{◌≡◌, ◌≢◌, [], ◌<◌, ◌==◌, ◌||◌, Bool, false, cond, ◌⊎◌, inl, inr, ℕ, ◌+◌, ◌≤◌, take, drop, length-take, length-drop, arith, List, slice_get, Option, Some, None, refl, sym, ap, ◌∙◌}
-use Rattle.std.specs.Prelude.{option_map, option_and_then, unwrap_or, length}
+use Rattle.std.specs.Prelude.{option_map, option_and_then, unwrap_or, length, map, slice_range, ◌∷◌}
+use Rattle.std.specs.List.{AllZip}
 use Rattle.std.proofs.lemmas.Option.{slice_get-map}
 use Rattle.vcd_model.specs.Cut.{line_if_set}
 use Rattle.vcd_model.specs.Declarations.{IdCode}
+use Rattle.vcd_model.specs.Header.{Header}
+use Rattle.vcd_head.specs.Shown.{text_in}
+use Rattle.vcd_head.specs.Views.{IsCode, IsViewOf}
 use Rattle.vcd_head.specs.declared.view.Code.{Code}
 use Rattle.vcd_head.specs.declared.view.HeadView.{HeadView}
 use Rattle.vcd_body.specs.Contents.{ChangesCode, codes_in, codes_shown, held_at, is_chosen, kept_at, line_of, shown_code, value_in}
@@ -12,7 +16,7 @@ use Rattle.vcd_body.specs.Stored.{AreLaidOut, end_at, held_of, kept_with, used}
 use Rattle.vcd_body.specs.declared.slot.Slot.{Slot}
 use Rattle.vcd_body.specs.declared.table.Table.{Table}
 use Rattle.vcd_body.proofs.StoreLemmas.{same_or_not, some_at}
-use Rattle.std.proofs.lemmas.Bool.{eq-eqb, ne_eqb}
+use Rattle.std.proofs.lemmas.Bool.{eq-eqb, le-leb, ne_eqb}
 
 pub held_there : (t : Table) (code : ℕ) (s : Slot) → slice_get t.slots.now code ≡ Some s → held_at t code ≡ held_of t.values.now s
 held_there t code s at = ap (λ (o : Option Slot). unwrap_or (option_map (λ (k : Kept). k.held) (option_map (kept_with t.values.now (end_at t.slots.now (length t.values.now) code)) o)) Held.Unset) at
@@ -82,3 +86,18 @@ chosen_after old new code within changed other = by_place (same_or_not other cod
         ap choice (changed other)
         ∙ ap (λ (b : Bool). choice (cond b (option_map as_chosen (kept_at old other)) (kept_at old other))) test
         ∙ sym (ap (λ (b : Bool). b || is_chosen old other) test)
+
+-- ---- the codes of a header
+
+same_codes : (text : List ℕ) (xs : List Code) (ys : List IdCode) → AllZip (IsCode text) xs ys → map (shown_code text) xs ≡ ys
+same_codes text [] [] a = refl
+same_codes text [] (y ∷ ys) a = absurd a
+same_codes text (x ∷ xs) [] a = absurd a
+same_codes text (x ∷ xs) (y ∷ ys) (is, are) =
+    let bytes : text_in text x.start x.len ≡ y.text = ap (λ (b : Bool). cond b (slice_range text x.start (x.start + x.len)) []) (le-leb (x.start + x.len) (length text) is.within) ∙ is.text_is in
+    let one : shown_code text x ≡ y = rw (bytes, is.size_is, is.event_is) refl in
+    ap (λ l. shown_code text x ∷ l) (same_codes text xs ys are) ∙ ap (λ c. c ∷ ys) one
+
+-- the codes that the view of a header shows are the header's
+pub shown_are : (v : HeadView) (h : Header) → IsViewOf v h → codes_shown v ≡ h.codes
+shown_are v h views = same_codes v.text.now v.codes.now h.codes views.codes

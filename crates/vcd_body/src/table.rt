@@ -24,9 +24,12 @@ pub struct Table<'a> {
 }
 
 impl<'a> Table<'a> {
-    ghost use Rattle.std.specs.Prelude.{Some, option_map, slice_get};
+    ghost use Rattle.std.specs.Prelude.{Some, false, option_map, slice_get};
     ghost use Rattle.vcd_head.specs.declared.view.Code.{Code};
-    ghost use Rattle.vcd_body.specs.Kept.{unset};
+    ghost use Rattle.vcd_model.specs.Values.{value_with};
+    ghost use Rattle.vcd_body.specs.Given.{IsText};
+    ghost use Rattle.vcd_body.specs.Items.{model_form};
+    ghost use Rattle.vcd_body.specs.Kept.{Kept, unset, value_at_size};
     ghost use Rattle.vcd_body.specs.Stored.{share_of};
     ghost use Rattle.vcd_body.specs.Contents.{ChangesCode, codes_in, codes_shown, counts_at, held_at, is_chosen, kept_at, line_of, new_at, shown_as, value_in};
 
@@ -54,6 +57,10 @@ impl<'a> Table<'a> {
     #[inline(always)]
     pub fn set(&mut self, code: usize, form: Form, text: &[u8])
         ensures changes { ChangesCode code (with_text form text.now) self.old self.new }
+        ensures value { (c : Code) (k : Kept) → IsText form c text.now → c.event ≡ false
+            → kept_at self.old code ≡ Some k → share_of c.size ≤ k.room
+            → value_at_size c.size (held_at self.new code)
+            ≡ Some (value_with c.size (model_form form) text.now) }
         ensures codes { codes_in self.new ≡ codes_in self.old }
     {
         set_at(self.slots, self.values, code, form, text);
