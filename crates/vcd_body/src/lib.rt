@@ -44,6 +44,8 @@ mod slot;
 mod store;
 mod table;
 #[cfg(test)]
+mod table_tests;
+#[cfg(test)]
 mod tests;
 mod tokens;
 mod words;
