@@ -1,13 +1,15 @@
 -- Shares that are laid out one behind the other.
-use Rattle.std.proofs.Common.{◌≡◌, ◌≢◌, ℕ, ◌+◌, ◌<◌, ◌≤◌, min, List, length, slice_get, slice_set, sum_by, Option, Some, None, refl, sym, ap, ◌∙◌, arith, ◌⊎◌, inl, inr}
+use Rattle.std.proofs.Common.{◌≡◌, ◌≢◌, ℕ, ◌+◌, ◌-◌, ◌<◌, ◌≤◌, min, List, length, slice_get, slice_set, Option, Some, None, refl, sym, ap, ◌∙◌, arith, ◌⊎◌, inl, inr}
+use Rattle.std.specs.Prelude.{option_map}
+use Rattle.std.proofs.Math.Seq.{take-length}
 use Rattle.std.proofs.lemmas.Bool.{cases_lt}
 use Rattle.std.proofs.lemmas.List.Sums.{sum_by_more, sum_by_more_le}
 use Rattle.std.proofs.lemmas.Option.{slice_get_past, slice_get_within, get_or_from_slice_get}
-use Rattle.std.proofs.lemmas.Grind.{div_ceil_times}
 use Rattle.vcd_head.specs.declared.view.Code.{Code}
-use Rattle.vcd_body.specs.Stored.{IsLaidOut, end_at, fits_in, fits_text, share_of, shown_at, shown_in, start_of, start_or, unset_at, used}
-use Rattle.vcd_body.specs.Stored.Shown.{Unset}
-use Rattle.vcd_body.specs.declared.store.Cell.{Cell}
+use Rattle.vcd_body.specs.Kept.{unset}
+use Rattle.vcd_body.specs.Contents.{new_at}
+use Rattle.vcd_body.specs.Stored.{AreLaidOut, end_at, kept_in, kept_with, room_of, share_of, some_by, start_of, start_or, unset_at, used}
+use Rattle.vcd_body.specs.declared.slot.Slot.{Slot}
 use Rattle.vcd_body.proofs.StoreLemmas.{get_other, get_set, same_or_not, some_at}
 
 abbrev share_at : Code → ℕ
@@ -22,63 +24,78 @@ start_next codes n k c at =
     let s = ap share_at g in
     omega (arith, e, s)
 
--- a cell more is laid out
-pub laid_more : (codes : List Code) (cells : List Cell) (n k : ℕ) → k < length cells → ((j : ℕ) (c : Cell) → j < k → slice_get cells j ≡ Some c → c ≡ unset_at (start_of codes n j))
-    → (j : ℕ) (c : Cell) → j < k + 1 → slice_get (slice_set cells k (unset_at (start_of codes n k))) j ≡ Some c → c ≡ unset_at (start_of codes n j)
-laid_more codes cells n k within so_far j c h at = by_place (same_or_not j k)
+-- it lies within all
+start_most : (codes : List Code) (n k : ℕ) (c : Code) → slice_get codes k ≡ Some c → start_of codes n (k + 1) ≤ start_of codes n (length codes)
+start_most codes n k c at =
+    let w = slice_get_within codes k c at in
+    let e = sum_by_more share_at codes k c w in
+    let l = sum_by_more_le share_at codes k c w in
+    let all = ap room_of (take-length codes) in
+    omega (arith, e, l, all)
+
+-- a slot more is laid out
+pub laid_more : (codes : List Code) (slots : List Slot) (n k : ℕ) → k < length slots → ((j : ℕ) (s : Slot) → j < k → slice_get slots j ≡ Some s → s ≡ unset_at (start_of codes n j))
+    → (j : ℕ) (s : Slot) → j < k + 1 → slice_get (slice_set slots k (unset_at (start_of codes n k))) j ≡ Some s → s ≡ unset_at (start_of codes n j)
+laid_more codes slots n k within so_far j s h at = by_place (same_or_not j k)
   where
-    by_place : (j ≡ k) ⊎ (j ≢ k) → c ≡ unset_at (start_of codes n j)
+    by_place : (j ≡ k) ⊎ (j ≢ k) → s ≡ unset_at (start_of codes n j)
     by_place (inl e) =
-        let same : unset_at (start_of codes n k) ≡ c = cc (sym (get_set cells k (unset_at (start_of codes n k)) within) ∙ ap (slice_get (slice_set cells k (unset_at (start_of codes n k)))) (sym e) ∙ at) in
+        let same : unset_at (start_of codes n k) ≡ s = cc (sym (get_set slots k (unset_at (start_of codes n k)) within) ∙ ap (slice_get (slice_set slots k (unset_at (start_of codes n k)))) (sym e) ∙ at) in
         sym same ∙ ap (λ i. unset_at (start_of codes n i)) (sym e)
-    by_place (inr e) = so_far j c (omega arith) (sym (get_other cells k j (unset_at (start_of codes n k)) e) ∙ at)
+    by_place (inr e) = so_far j s (omega arith) (sym (get_other slots k j (unset_at (start_of codes n k)) e) ∙ at)
 
-module _ (codes : List Code) (cells : List Cell) (n : ℕ) (same : length codes ≡ length cells) (are : (k : ℕ) (c : Cell) → slice_get cells k ≡ Some c → c ≡ unset_at (start_of codes n k)) where
-  end_is : (k : ℕ) → (start_of codes n (k + 1) ≤ end_at cells n k) × (end_at cells n k ≤ n)
-  end_is k = by_end (cases_lt (k + 1) (length cells))
+module _ (codes : List Code) (slots : List Slot) (n end : ℕ) (same : length codes ≡ length slots) (ends : end ≡ start_of codes n (length codes)) (are : (k : ℕ) (s : Slot) → slice_get slots k ≡ Some s → s ≡ unset_at (start_of codes n k)) where
+  end_is : (k : ℕ) (s : Slot) → slice_get slots k ≡ Some s → end_at slots end k ≡ start_of codes n (k + 1)
+  end_is k s at = by_end (cases_lt (k + 1) (length slots))
     where
-      by_end : (k + 1 < length cells) ⊎ (length cells ≤ k + 1) → (start_of codes n (k + 1) ≤ end_at cells n k) × (end_at cells n k ≤ n)
-      by_end (inl h) =
-          let c = some_at cells (k + 1) h in
-          let s = ap (start_or n) c.1 in
-          let t = ap (λ (x : Cell). x.start) (are (k + 1) c.0 c.1) in
-          (omega (arith, s, t), omega (arith, s, t))
-      by_end (inr h) = let s = ap (start_or n) (slice_get_past cells (k + 1) h) in (omega (arith, s), omega (arith, s))
+      by_end : (k + 1 < length slots) ⊎ (length slots ≤ k + 1) → end_at slots end k ≡ start_of codes n (k + 1)
+      by_end (inl h) = let t = some_at slots (k + 1) h in ap (start_or end) t.1 ∙ ap (λ (x : Slot). x.start) (are (k + 1) t.0 t.1)
+      by_end (inr h) =
+          let w = slice_get_within slots k s at in
+          let last : length codes ≡ k + 1 = omega arith in
+          ap (start_or end) (slice_get_past slots (k + 1) h) ∙ ends ∙ ap (start_of codes n) last
 
-  code_there : (k : ℕ) (c : Cell) → slice_get cells k ≡ Some c → (d : Code) × (slice_get codes k ≡ Some d)
-  code_there k c at = let w = slice_get_within cells k c at in some_at codes k (omega arith)
+  code_there : (k : ℕ) (s : Slot) → slice_get slots k ≡ Some s → (c : Code) × (slice_get codes k ≡ Some c)
+  code_there k s at = let w = slice_get_within slots k s at in some_at codes k (omega arith)
 
-  pub laid : IsLaidOut cells n
-  laid = λ k c at.
-      let d = code_there k c at in
-      let s = start_next codes n k d.0 d.1 in
-      let e = are k c at in
-      let t = ap (λ (x : Cell). x.start + used x) e in
-      let m = end_is k in
-      let low = m.0 in
-      (omega (arith, s, t, low), m.1)
+  pub laid : AreLaidOut slots end
+  laid = λ k s at.
+      let c = code_there k s at in
+      let next = start_next codes n k c.0 c.1 in
+      let most = start_most codes n k c.0 c.1 in
+      let e = are k s at in
+      let t = ap (λ (x : Slot). x.start + used x) e in
+      let o = ap (λ (x : Slot). some_by x.state x.len) e in
+      let m = end_is k s at in
+      (omega (arith, next, t, m), omega (arith, most, m, ends), omega (arith, o))
 
-  -- each share has room for the values of its code
-  room : sum_by share_at codes ≤ n → (k : ℕ) (d : Code) (c : Cell) → slice_get codes k ≡ Some d → slice_get cells k ≡ Some c → c.start + share_of d.size ≤ end_at cells n k
-  room most k d c at there =
-      let w = slice_get_within codes k d at in
-      let e = sum_by_more share_at codes k d w in
-      let g = ap share_at (get_or_from_slice_get codes k d d at) in
-      let l = sum_by_more_le share_at codes k d w in
-      let t = ap (λ (x : Cell). x.start) (are k c there) in
-      let m = end_is k in
-      let low = m.0 in
-      omega (arith, e, g, l, t, low, most)
-
-  pub has_room : sum_by share_at codes ≤ n → (k : ℕ) (d : Code) (len : ℕ) → slice_get codes k ≡ Some d → (len ≤ d.size → fits_in cells n k len) × (len ≤ 64 → fits_text cells n k len)
-  has_room most k d len at = (
-    (λ h c there. let r = room most k d c at there in let a = div_ceil_times len 4 (omega arith) in let b = div_ceil_times d.size 4 (omega arith) in omega (arith, r, a, b, h)),
-    (λ h c there. let r = room most k d c at there in omega (arith, r, h)),
-  )
-
-  pub none_set : (values : List ℕ) (k : ℕ) → shown_at cells values k ≡ Unset
-  none_set values k = by_cell (slice_get cells k) refl
+  -- nothing is known of any code
+  pub new_kept : (values : List ℕ) → length values ≡ end → (k : ℕ) → kept_in values slots k ≡ new_at codes n k
+  new_kept values long k = by_slot (slice_get slots k) refl
     where
-      by_cell : (o : Option Cell) → slice_get cells k ≡ o → shown_in values o ≡ Unset
-      by_cell None e = refl
-      by_cell (Some c) e = rw (are k c e) refl
+      by_slot : (o : Option Slot) → slice_get slots k ≡ o → kept_in values slots k ≡ new_at codes n k
+      by_slot None e =
+          let past : length slots ≤ k = by_order (cases_lt k (length slots)) in
+          let none = slice_get_past codes k (omega arith) in
+          ap (option_map (kept_with values (end_at slots (length values) k))) e ∙ sym (ap (option_map (λ (c : Code). unset (start_of codes n (k + 1) - start_of codes n k))) none)
+        where
+          by_order : (k < length slots) ⊎ (length slots ≤ k) → length slots ≤ k
+          by_order (inl h) = let t = some_at slots k h in absurd (let f : None ≡ Some t.0 = sym e ∙ t.1 in cc)
+          by_order (inr h) = h
+      by_slot (Some s) e =
+          let c = code_there k s e in
+          let is = are k s e in
+          let m : end_at slots (length values) k ≡ start_of codes n (k + 1) = ap (λ i. end_at slots i k) long ∙ end_is k s e in
+          ap (option_map (kept_with values (end_at slots (length values) k))) e
+          ∙ ap (λ (x : Slot). Some (kept_with values (end_at slots (length values) k) x)) is
+          ∙ ap (λ i. Some (unset (i - start_of codes n k))) m
+          ∙ sym (ap (option_map (λ (x : Code). unset (start_of codes n (k + 1) - start_of codes n k))) c.1)
+
+-- where there is room for all, each code has its share
+pub whole_share : (codes : List Code) (n k : ℕ) (c : Code) → room_of codes ≤ n → slice_get codes k ≡ Some c → start_of codes n (k + 1) - start_of codes n k ≡ share_of c.size
+whole_share codes n k c most at =
+    let w = slice_get_within codes k c at in
+    let e = sum_by_more share_at codes k c w in
+    let g = ap share_at (get_or_from_slice_get codes k c c at) in
+    let l = sum_by_more_le share_at codes k c w in
+    omega (arith, e, g, l, most)

@@ -11,3 +11,9 @@ pub mod ChangeLine
 pub mod PackedLemmas
 pub mod StoreLemmas
 pub mod LayoutLemmas
+pub mod HeldLemmas
+pub mod TableLemmas
+pub mod Pieces
+pub mod HeldShort
+pub mod HeldLines
+pub mod SetLemmas

@@ -1,12 +1,13 @@
--- Packed digits are the digits again, in lower case.
-use Rattle.std.proofs.Common.{◌≡◌, ℕ, suc, ◌+◌, ◌*◌, ◌/◌, ◌%◌, ◌<◌, ◌≤◌, Bool, true, false, cond, ◌||◌, ◌==◌, nat_lt, List, [], ◌∷◌, ◌++◌, length, take, refl, sym, ap, ◌∙◌, arith, ◌⊎◌, inl, inr}
+-- Packed digits are the digits again, as they are held; the digit at a place of a share.
+use Rattle.std.proofs.Common.{◌≡◌, ℕ, zero, suc, ◌+◌, ◌*◌, ◌/◌, ◌%◌, ◌<◌, ◌≤◌, Bool, true, false, cond, ◌||◌, ◌==◌, nat_lt, List, [], ◌∷◌, ◌++◌, length, take, map, refl, sym, ap, ◌∙◌, arith, ◌⊎◌, inl, inr, slice_get, Some, None}
 use Rattle.std.specs.Prelude.{get_or}
 use Rattle.std.specs.List.{list_all}
 use Rattle.std.specs.Str.{byte, str_to_ascii_lowercase}
 use Rattle.std.specs.Char.{to_ascii_lowercase}
 use Rattle.std.proofs.lemmas.Bool.{or_cases, and_parts, cases_lt, eqb-true, le-ltb, lt-ltb}
+use Rattle.std.proofs.lemmas.Option.{slice_get_past}
 use Rattle.vcd_model.specs.BodyPhrases.{is_value_digit}
-use Rattle.vcd_body.specs.Packed.{code_of, code_or, digit_of, digits_in, fours, unpacked}
+use Rattle.vcd_body.specs.Packed.{code_of, code_or, digit_of, digits_in, fours, held_digit, unpacked}
 
 -- ---- one digit
 
@@ -36,16 +37,35 @@ which d h = elim (or_cases (d == 48) _ h) [
   ]
 ]
 
-pub digit_again : (d : ℕ) → is_value_digit d ≡ true → digit_of (code_of d) ≡ to_ascii_lowercase d
-digit_again d h = by_digit (which d h)
+-- a digit of a value is held in lower case
+lower_digit : (d : ℕ) → is_value_digit d ≡ true → held_digit d ≡ to_ascii_lowercase d
+lower_digit d h = by_digit (which d h)
   where
-    by_digit : IsDigit d → digit_of (code_of d) ≡ to_ascii_lowercase d
+    by_digit : IsDigit d → held_digit d ≡ to_ascii_lowercase d
     by_digit (inl e) = rw e refl
     by_digit (inr (inl e)) = rw e refl
     by_digit (inr (inr (inl e))) = rw e refl
     by_digit (inr (inr (inr (inl e)))) = rw e refl
     by_digit (inr (inr (inr (inr (inl e))))) = rw e refl
     by_digit (inr (inr (inr (inr (inr e))))) = rw e refl
+
+-- so are the digits of a change
+pub lower_digits : (text : List ℕ) → list_all is_value_digit text ≡ true → map held_digit text ≡ str_to_ascii_lowercase text
+lower_digits [] h = refl
+lower_digits (d ∷ text) h =
+    let p = and_parts (is_value_digit d) (list_all is_value_digit text) h in
+    let e = lower_digit d p.0 in
+    let es = lower_digits text p.1 in
+    rw (e, es) refl
+
+pub digit_again : (d : ℕ) → digit_of (code_of d) ≡ held_digit d
+digit_again d = by_tests (d == byte "0") (d == byte "1") ((d == byte "x") || (d == byte "X"))
+  where
+    by_tests : (a b c : Bool) → digit_of (cond a 0 (cond b 1 (cond c 2 3))) ≡ cond a (byte "0") (cond b (byte "1") (cond c (byte "x") (byte "z")))
+    by_tests true b c = refl
+    by_tests false true c = refl
+    by_tests false false true = refl
+    by_tests false false false = refl
 
 code_small : (d : ℕ) → code_of d < 4
 code_small d = by_tests (d == byte "0") (d == byte "1") ((d == byte "x") || (d == byte "X"))
@@ -98,48 +118,42 @@ further a b c d text p q e = by_end (cases_lt p (length text))
         in_text (a ∷ b ∷ c ∷ d ∷ text) q (omega arith) ∙ ap (λ n. code_of (get_or (a ∷ b ∷ c ∷ d ∷ text) n 0)) same ∙ sym (in_text text p h)
     by_end (inr h) = past_text (a ∷ b ∷ c ∷ d ∷ text) q (omega arith) ∙ sym (past_text text p h)
 
-digit_at : (a r : ℕ) → is_value_digit a ≡ true → r ≡ code_of a → digit_of r ≡ to_ascii_lowercase a
-digit_at a r h e = ap digit_of e ∙ digit_again a h
+digit_at : (a r : ℕ) → r ≡ code_of a → digit_of r ≡ held_digit a
+digit_at a r e = ap digit_of e ∙ digit_again a
 
-pub packs_again : (text bytes : List ℕ) → length text ≤ 4 * length bytes → list_all is_value_digit text ≡ true → Packs text bytes → digits_in (length text) bytes ≡ str_to_ascii_lowercase text
-packs_again [] bytes room digits packs = refl
-packs_again (a ∷ text) [] room digits packs = absurd (omega arith)
-packs_again (a ∷ []) (y ∷ ys) room digits packs =
+pub packs_again : (text bytes : List ℕ) → length text ≤ 4 * length bytes → Packs text bytes → digits_in (length text) bytes ≡ map held_digit text
+packs_again [] bytes room packs = refl
+packs_again (a ∷ text) [] room packs = absurd (omega arith)
+packs_again (a ∷ []) (y ∷ ys) room packs =
     let t = a ∷ [] in
     let e0 = in_text t 0 (omega arith) in
     let p = packs 0 (omega arith) in
     let s0 = code_small a in
-    let da = and_parts (is_value_digit a) true digits in
     let r0 : y % 4 ≡ code_of a = omega (arith, p, e0, or_small t 1, or_small t 2, or_small t 3) in
-    ap (λ x. x ∷ []) (digit_at a (y % 4) da.0 r0)
-packs_again (a ∷ b ∷ []) (y ∷ ys) room digits packs =
+    ap (λ x. x ∷ []) (digit_at a (y % 4) r0)
+packs_again (a ∷ b ∷ []) (y ∷ ys) room packs =
     let t = a ∷ b ∷ [] in
     let e0 = in_text t 0 (omega arith) in
     let e1 = in_text t 1 (omega arith) in
     let p = packs 0 (omega arith) in
     let s0 = code_small a in let s1 = code_small b in
-    let da = and_parts (is_value_digit a) (list_all is_value_digit (b ∷ [])) digits in
-    let db = and_parts (is_value_digit b) true da.1 in
     let r0 : y % 4 ≡ code_of a = omega (arith, p, e0, e1, or_small t 2, or_small t 3) in
     let r1 : y / 4 % 4 ≡ code_of b = omega (arith, p, e0, e1, or_small t 2, or_small t 3) in
-    ap (λ x. x ∷ digit_of (y / 4 % 4) ∷ []) (digit_at a (y % 4) da.0 r0) ∙ ap (λ x. to_ascii_lowercase a ∷ x ∷ []) (digit_at b (y / 4 % 4) db.0 r1)
-packs_again (a ∷ b ∷ c ∷ []) (y ∷ ys) room digits packs =
+    ap (λ x. x ∷ digit_of (y / 4 % 4) ∷ []) (digit_at a (y % 4) r0) ∙ ap (λ x. held_digit a ∷ x ∷ []) (digit_at b (y / 4 % 4) r1)
+packs_again (a ∷ b ∷ c ∷ []) (y ∷ ys) room packs =
     let t = a ∷ b ∷ c ∷ [] in
     let e0 = in_text t 0 (omega arith) in
     let e1 = in_text t 1 (omega arith) in
     let e2 = in_text t 2 (omega arith) in
     let p = packs 0 (omega arith) in
     let s0 = code_small a in let s1 = code_small b in let s2 = code_small c in
-    let da = and_parts (is_value_digit a) (list_all is_value_digit (b ∷ c ∷ [])) digits in
-    let db = and_parts (is_value_digit b) (list_all is_value_digit (c ∷ [])) da.1 in
-    let dc = and_parts (is_value_digit c) true db.1 in
     let r0 : y % 4 ≡ code_of a = omega (arith, p, e0, e1, e2, or_small t 3) in
     let r1 : y / 4 % 4 ≡ code_of b = omega (arith, p, e0, e1, e2, or_small t 3) in
     let r2 : y / 16 % 4 ≡ code_of c = omega (arith, p, e0, e1, e2, or_small t 3) in
-    ap (λ x. x ∷ digit_of (y / 4 % 4) ∷ digit_of (y / 16 % 4) ∷ []) (digit_at a (y % 4) da.0 r0)
-    ∙ ap (λ x. to_ascii_lowercase a ∷ x ∷ digit_of (y / 16 % 4) ∷ []) (digit_at b (y / 4 % 4) db.0 r1)
-    ∙ ap (λ x. to_ascii_lowercase a ∷ to_ascii_lowercase b ∷ x ∷ []) (digit_at c (y / 16 % 4) dc.0 r2)
-packs_again (a ∷ b ∷ c ∷ d ∷ text) (y ∷ ys) room digits packs =
+    ap (λ x. x ∷ digit_of (y / 4 % 4) ∷ digit_of (y / 16 % 4) ∷ []) (digit_at a (y % 4) r0)
+    ∙ ap (λ x. held_digit a ∷ x ∷ digit_of (y / 16 % 4) ∷ []) (digit_at b (y / 4 % 4) r1)
+    ∙ ap (λ x. held_digit a ∷ held_digit b ∷ x ∷ []) (digit_at c (y / 16 % 4) r2)
+packs_again (a ∷ b ∷ c ∷ d ∷ text) (y ∷ ys) room packs =
     let t = a ∷ b ∷ c ∷ d ∷ text in
     let e0 = in_text t 0 (omega arith) in
     let e1 = in_text t 1 (omega arith) in
@@ -147,11 +161,34 @@ packs_again (a ∷ b ∷ c ∷ d ∷ text) (y ∷ ys) room digits packs =
     let e3 = in_text t 3 (omega arith) in
     let p : y ≡ code_of a + 4 * code_of b + 16 * code_of c + 64 * code_of d = omega (arith, packs 0 (omega arith), e0, e1, e2, e3) in
     let f = fours_of (code_of a) (code_of b) (code_of c) (code_of d) y (code_small a) (code_small b) (code_small c) (code_small d) p in
-    let da = and_parts (is_value_digit a) (list_all is_value_digit (b ∷ c ∷ d ∷ text)) digits in
-    let db = and_parts (is_value_digit b) (list_all is_value_digit (c ∷ d ∷ text)) da.1 in
-    let dc = and_parts (is_value_digit c) (list_all is_value_digit (d ∷ text)) db.1 in
-    let dd = and_parts (is_value_digit d) (list_all is_value_digit text) dc.1 in
     let rest : Packs text ys = λ j h. packs (suc j) (omega arith) ∙ rw (further a b c d text (4 * j) (4 * suc j) (omega arith), further a b c d text (4 * j + 1) (4 * suc j + 1) (omega arith), further a b c d text (4 * j + 2) (4 * suc j + 2) (omega arith), further a b c d text (4 * j + 3) (4 * suc j + 3) (omega arith)) refl in
-    let more = packs_again text ys (omega arith) dd.1 rest in
+    let more = packs_again text ys (omega arith) rest in
     ap (λ (l : List ℕ). take (suc (suc (suc (suc (length text))))) (l ++ unpacked ys)) f
-    ∙ rw (digit_again a da.0, digit_again b db.0, digit_again c dc.0, digit_again d dd.0) (ap (λ l. to_ascii_lowercase a ∷ to_ascii_lowercase b ∷ to_ascii_lowercase c ∷ to_ascii_lowercase d ∷ l) more)
+    ∙ rw (digit_again a, digit_again b, digit_again c, digit_again d) (ap (λ l. held_digit a ∷ held_digit b ∷ held_digit c ∷ held_digit d ∷ l) more)
+
+-- ---- one digit of a share
+
+first_four : (b r p : ℕ) (rest : List ℕ) → r < 4 → p ≡ r → slice_get (fours b ++ rest) p ≡ slice_get (fours b) r
+first_four b zero p rest h e = ap (slice_get (fours b ++ rest)) e
+first_four b (suc zero) p rest h e = ap (slice_get (fours b ++ rest)) e
+first_four b (suc (suc zero)) p rest h e = ap (slice_get (fours b ++ rest)) e
+first_four b (suc (suc (suc zero))) p rest h e = ap (slice_get (fours b ++ rest)) e
+first_four b (suc (suc (suc (suc r)))) p rest h e = absurd (omega arith)
+
+-- it is one of the four of its byte
+pub digit_there : (bytes : List ℕ) (j r p b : ℕ) → r < 4 → p ≡ 4 * j + r → slice_get bytes j ≡ Some b → slice_get (unpacked bytes) p ≡ slice_get (fours b) r
+digit_there [] j r p b h e at = cc
+digit_there (y ∷ ys) zero r p b h e at =
+    let same : y ≡ b = cc in
+    ap (λ x. slice_get (fours x ++ unpacked ys) p) same ∙ first_four b r p (unpacked ys) h (omega arith)
+digit_there (y ∷ ys) (suc j) r p b h e at =
+    let s : p ≡ suc (suc (suc (suc (4 * j + r)))) = omega arith in
+    ap (slice_get (fours y ++ unpacked ys)) s ∙ digit_there ys j r (4 * j + r) b h refl at
+
+pub length_unpacked : (bytes : List ℕ) → length (unpacked bytes) ≡ 4 * length bytes
+length_unpacked [] = refl
+length_unpacked (y ∷ ys) = let e = length_unpacked ys in omega arith
+
+-- behind the last byte there is none
+pub none_there : (bytes : List ℕ) (j r p : ℕ) → p ≡ 4 * j + r → length bytes ≤ j → slice_get (unpacked bytes) p ≡ None
+none_there bytes j r p e h = slice_get_past (unpacked bytes) p (let l = length_unpacked bytes in omega arith)

@@ -37,7 +37,7 @@ pub extend_wide : (ds : List ℕ) (size : ℕ) → size ≤ length ds → extend
 extend_wide ds size h = let e : size - length ds ≡ 0 = omega arith in rw e refl
 
 -- where their size is less than the digits, they are extended as at the size that they fill
-extend_where_fits : (ds : List ℕ) (size n : ℕ) → n ≡ max size (length ds) → extend ds size ≡ extend ds n
+pub extend_where_fits : (ds : List ℕ) (size n : ℕ) → n ≡ max size (length ds) → extend ds size ≡ extend ds n
 extend_where_fits ds size n h = let e : size - length ds ≡ n - length ds = omega arith in ap (λ k. replicate k (extension ds) ++ ds) e
 
 -- a digit that the others are extended by can be left out

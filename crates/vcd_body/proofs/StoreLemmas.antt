@@ -1,18 +1,22 @@
--- A table where the value of one code was set: what it holds of it, and that it holds of the others what it held.
-use Rattle.std.proofs.Common.{◌≡◌, ◌≢◌, ℕ, zero, suc, ◌+◌, ◌-◌, ◌*◌, ◌<◌, ◌≤◌, List, [], ◌∷◌, ◌++◌, length, take, drop, map, slice_get, slice_set, Option, Some, None, refl, sym, ap, ◌∙◌, arith, ◌⊎◌, inl, inr}
-use Rattle.std.specs.Prelude.{get_or}
-use Rattle.std.proofs.lemmas.Bool.{cases_lt}
-use Rattle.std.proofs.lemmas.List.{drop-take}
-use Rattle.std.proofs.lemmas.Option.{slice_get_within, slice_get-get_or}
+-- A table where one slot was written, and perhaps its share: what it keeps of that code, and that it keeps of the others what it kept.
+use Rattle.std.proofs.Common.{◌≡◌, ◌≢◌, ℕ, zero, suc, ◌+◌, ◌-◌, ◌*◌, ◌<◌, ◌≤◌, ◌==◌, nat_lt, nat_le, Bool, true, false, cond, List, [], ◌∷◌, ◌++◌, length, take, drop, map, slice_get, slice_set, Option, Some, None, refl, sym, ap, ◌∙◌, arith, ◌⊎◌, inl, inr}
+use Rattle.std.specs.Prelude.{get_or, option_map}
+use Rattle.std.proofs.lemmas.Bool.{and_right, cases_lt, eq-eqb, eqb-false, ne_eqb, le-leb, lt-leb, lt-ltb}
+use Rattle.std.proofs.lemmas.List.{drop-take, length-append, length-drop, length-take}
+use Rattle.std.specs.Str.{byte}
+use Rattle.std.proofs.lemmas.Option.{slice_get_within}
 use Rattle.std.proofs.lemmas.Slice.{take-put_mid_below, drop-put_mid, between-put_mid}
 use Rattle.std.proofs.lemmas.Grind.{div_ceil_times}
 use Rattle.std.proofs.Math.Seq.{take-take}
 use borrow.Rule.Slice.PartMut.{put_mid}
-use Rattle.vcd_body.specs.Packed.{digits_in, fours}
-use Rattle.vcd_body.specs.Stored.{IsLaidOut, bytes_for, end_at, shown_at, shown_by, shown_in, start_or, used, used_by}
-use Rattle.vcd_body.specs.Stored.Shown.{Digits, Text}
-use Rattle.vcd_body.specs.declared.store.Cell.{Cell}
-use Rattle.vcd_body.specs.declared.store.Held.TheVariants as held
+use Rattle.vcd_body.specs.Kept.{Held, Kept, bytes_for, counts_with, fits, held_as, one_more, room_for, with_held, with_text}
+use Rattle.vcd_body.specs.Packed.{digits_in, fours, held_digit}
+use Rattle.vcd_body.specs.Stored.{AreLaidOut, ChangesAt, end_at, held_by, held_of, kept_in, kept_with, one_digit, some_by, start_or, used, used_by}
+use Rattle.vcd_body.specs.declared.item.Form.{Form}
+use Rattle.vcd_body.specs.declared.item.Form.TheVariants as form
+use Rattle.vcd_body.specs.declared.slot.Slot.{Slot}
+use Rattle.vcd_body.specs.declared.slot.State.{State}
+use Rattle.vcd_body.specs.declared.slot.State.TheVariants as state
 
 -- ---- elements
 
@@ -20,6 +24,11 @@ pub some_at : {X : Type 0} (xs : List X) (k : ℕ) → k < length xs → (x : X)
 some_at [] k h = absurd (omega arith)
 some_at (x ∷ xs) zero h = (x, refl)
 some_at (x ∷ xs) (suc k) h = some_at xs k (omega arith)
+
+pub length_past : {X : Type 0} (xs : List X) (k : ℕ) → slice_get xs k ≡ None → length xs ≤ k
+length_past [] k h = omega arith
+length_past (x ∷ xs) zero h = absurd (let f : Some x ≡ None = h in cc)
+length_past (x ∷ xs) (suc k) h = let l = length_past xs k h in omega arith
 
 pub get_set : {X : Type 0} (xs : List X) (k : ℕ) (x : X) → k < length xs → slice_get (slice_set xs k x) k ≡ Some x
 get_set [] k x h = absurd (omega arith)
@@ -33,11 +42,6 @@ get_other (y ∷ xs) zero (suc j) x h = refl
 get_other (y ∷ xs) (suc k) zero x h = refl
 get_other (y ∷ xs) (suc k) (suc j) x h = get_other xs k j x (λ e. h (ap suc e))
 
-pub map_set : {X Y : Type 0} (f : X → Y) (xs : List X) (k : ℕ) (x y : X) → slice_get xs k ≡ Some y → f x ≡ f y → map f (slice_set xs k x) ≡ map f xs
-map_set f [] k x y h e = refl
-map_set f (z ∷ xs) zero x y h e = let same : z ≡ y = cc in ap (λ w. w ∷ map f xs) (e ∙ ap f (sym same))
-map_set f (z ∷ xs) (suc k) x y h e = ap (λ l. f z ∷ l) (map_set f xs k x y h e)
-
 pub same_or_not : (j k : ℕ) → (j ≡ k) ⊎ (j ≢ k)
 same_or_not j k = by_order (cases_lt j k) (cases_lt k j)
   where
@@ -46,11 +50,10 @@ same_or_not j k = by_order (cases_lt j k) (cases_lt k j)
     by_order (inr l) (inl m) = inr (λ e. omega arith)
     by_order (inr l) (inr m) = inl (omega arith)
 
--- the cell at a place
-pub cell_there : (cells : List Cell) (k : ℕ) (d : Cell) → k < length cells → slice_get cells k ≡ Some (get_or cells k d)
-cell_there cells k d h = slice_get-get_or cells k d h
-
 -- ---- bytes
+
+length-put_mid : (a k : ℕ) (xs ys : List ℕ) → a + k ≤ length xs → length ys ≡ k → length (put_mid a k xs ys) ≡ length xs
+length-put_mid a k xs ys within same = simp (length-append, length-take, length-drop) (omega arith)
 
 -- bytes that lie before a written part, or behind it
 reads_same : (a u s k : ℕ) (xs ys : List ℕ) → s + k ≤ length xs → length ys ≡ k → (a + u ≤ s) ⊎ (s + k ≤ a) → take u (drop a (put_mid s k xs ys)) ≡ take u (drop a xs)
@@ -69,109 +72,246 @@ digits_first (suc (suc (suc (suc n)))) (suc m) (y ∷ ys) h = ap (λ l. fours y 
 
 -- ---- shares
 
-module _ (cells : List Cell) (n : ℕ) (laid : IsLaidOut cells n) where
+module _ (slots : List Slot) (k : ℕ) (s s' : Slot) (at : slice_get slots k ≡ Some s) (start : s'.start ≡ s.start) where
+  starts_same : (n j : ℕ) → start_or n (slice_get (slice_set slots k s') j) ≡ start_or n (slice_get slots j)
+  starts_same n j = by_place (same_or_not j k)
+    where
+      by_place : (j ≡ k) ⊎ (j ≢ k) → start_or n (slice_get (slice_set slots k s') j) ≡ start_or n (slice_get slots j)
+      by_place (inl e) = rw e (ap (start_or n) (get_set slots k s' (slice_get_within slots k s at)) ∙ start ∙ sym (ap (start_or n) at))
+      by_place (inr e) = ap (start_or n) (get_other slots k j s' e)
+
+  -- the slot was written, and of the values nothing that others hold
+  pub changes : (values values' : List ℕ) (f : Kept → Kept) → length values' ≡ length values
+      → kept_with values' (end_at slots (length values) k) s' ≡ f (kept_with values (end_at slots (length values) k) s)
+      → ((j : ℕ) (d : Slot) → j ≢ k → slice_get slots j ≡ Some d → held_of values' d ≡ held_of values d)
+      → ChangesAt k f values slots values' (slice_set slots k s')
+  changes values values' f same one others = λ j. by_place j (same_or_not j k)
+    where
+      ends_same : (j : ℕ) → end_at (slice_set slots k s') (length values') j ≡ end_at slots (length values) j
+      ends_same j = ap (λ n. end_at (slice_set slots k s') n j) same ∙ starts_same (length values) (j + 1)
+
+      other_kept : (j : ℕ) → j ≢ k → (o : Option Slot) → slice_get slots j ≡ o → option_map (kept_with values' (end_at slots (length values) j)) o ≡ option_map (kept_with values (end_at slots (length values) j)) o
+      other_kept j e None is = refl
+      other_kept j e (Some d) is = ap (λ (h : Held). Some (record { held = h; counts = d.counts; chosen = d.chosen; room = end_at slots (length values) j - d.start })) (others j d e is)
+
+      by_place : (j : ℕ) → (j ≡ k) ⊎ (j ≢ k) → kept_in values' (slice_set slots k s') j ≡ cond (j == k) (option_map f (kept_in values slots j)) (kept_in values slots j)
+      by_place j (inl e) =
+          let test = eq-eqb j k e in
+          let there : slice_get (slice_set slots k s') j ≡ Some s' = ap (slice_get (slice_set slots k s')) e ∙ get_set slots k s' (slice_get_within slots k s at) in
+          let was : slice_get slots j ≡ Some s = ap (slice_get slots) e ∙ at in
+          let ends = ends_same j in
+          let ended : end_at slots (length values) k ≡ end_at slots (length values) j = ap (end_at slots (length values)) (sym e) in
+          ap (option_map (kept_with values' (end_at (slice_set slots k s') (length values') j))) there
+          ∙ ap (λ (i : ℕ). Some (kept_with values' i s')) (ends ∙ sym ended)
+          ∙ ap (λ (x : Kept). Some x) one
+          ∙ ap (λ (i : ℕ). Some (f (kept_with values i s))) ended
+          ∙ sym (ap (λ (b : Bool). cond b (option_map f (kept_in values slots j)) (kept_in values slots j)) test ∙ ap (λ (o : Option Slot). option_map f (option_map (kept_with values (end_at slots (length values) j)) o)) was)
+      by_place j (inr e) =
+          let test = ne_eqb j k e in
+          let there = get_other slots k j s' e in
+          ap (option_map (kept_with values' (end_at (slice_set slots k s') (length values') j))) there
+          ∙ ap (λ (i : ℕ). option_map (kept_with values' i) (slice_get slots j)) (ends_same j)
+          ∙ other_kept j e (slice_get slots j) refl
+          ∙ sym (ap (λ (b : Bool). cond b (option_map f (kept_in values slots j)) (kept_in values slots j)) test)
+
+  -- the slot alone was written
+  pub slot_changes : (values : List ℕ) (f : Kept → Kept) → ((end : ℕ) → kept_with values end s' ≡ f (kept_with values end s)) → ChangesAt k f values slots values (slice_set slots k s')
+  slot_changes values f one = changes values values f refl (one (end_at slots (length values) k)) (λ j d e there. refl)
+
+-- there is no such code
+pub nothing_there : (values : List ℕ) (slots : List Slot) (k : ℕ) (f : Kept → Kept) → slice_get slots k ≡ None → ChangesAt k f values slots values slots
+nothing_there values slots k f none = λ j. by_place j (same_or_not j k)
+  where
+    by_place : (j : ℕ) → (j ≡ k) ⊎ (j ≢ k) → kept_in values slots j ≡ cond (j == k) (option_map f (kept_in values slots j)) (kept_in values slots j)
+    by_place j (inl e) =
+        let was : slice_get slots j ≡ None = ap (slice_get slots) e ∙ none in
+        let is : kept_in values slots j ≡ None = ap (option_map (kept_with values (end_at slots (length values) j))) was in
+        rw (eq-eqb j k e) (is ∙ sym (ap (option_map f) is))
+    by_place j (inr e) = rw (ne_eqb j k e) refl
+
+-- what is kept of the code is what it is to be
+pub already_so : (values : List ℕ) (slots : List Slot) (k : ℕ) (s : Slot) (f : Kept → Kept) → slice_get slots k ≡ Some s → kept_with values (end_at slots (length values) k) s ≡ f (kept_with values (end_at slots (length values) k) s) → ChangesAt k f values slots values slots
+already_so values slots k s f at same = λ j. by_place j (same_or_not j k)
+  where
+    by_place : (j : ℕ) → (j ≡ k) ⊎ (j ≢ k) → kept_in values slots j ≡ cond (j == k) (option_map f (kept_in values slots j)) (kept_in values slots j)
+    by_place j (inl e) =
+        let was : slice_get slots j ≡ Some s = ap (slice_get slots) e ∙ at in
+        let is : kept_in values slots j ≡ Some (kept_with values (end_at slots (length values) j) s) = ap (option_map (kept_with values (end_at slots (length values) j))) was in
+        let so : kept_with values (end_at slots (length values) j) s ≡ f (kept_with values (end_at slots (length values) j) s) = rw e same in
+        rw (eq-eqb j k e) (is ∙ ap (λ (x : Kept). Some x) so ∙ sym (ap (option_map f) is))
+    by_place j (inr e) = rw (ne_eqb j k e) refl
+
+module _ (slots : List Slot) (n : ℕ) (laid : AreLaidOut slots n) where
   -- a share ends where a later one begins, or before
-  ends_before : (m j : ℕ) (d : Cell) → slice_get cells (j + 1 + m) ≡ Some d → end_at cells n j ≤ d.start
+  ends_before : (m j : ℕ) (d : Slot) → slice_get slots (j + 1 + m) ≡ Some d → end_at slots n j ≤ d.start
   ends_before zero j d at =
       let e : j + 1 + 0 ≡ j + 1 = omega arith in
-      let s = ap (start_or n) (ap (slice_get cells) (sym e) ∙ at) in
+      let s = ap (start_or n) (ap (slice_get slots) (sym e) ∙ at) in
       omega (arith, s)
   ends_before (suc m) j d at =
-      let w = slice_get_within cells (j + 1 + suc m) d at in
-      let c = some_at cells (j + 1) (omega arith) in
+      let w = slice_get_within slots (j + 1 + suc m) d at in
+      let c = some_at slots (j + 1) (omega arith) in
       let l = laid (j + 1) c.0 c.1 in
       let e : j + 1 + suc m ≡ j + 1 + 1 + m = omega arith in
-      let more = ends_before m (j + 1) d (ap (slice_get cells) (sym e) ∙ at) in
+      let more = ends_before m (j + 1) d (ap (slice_get slots) (sym e) ∙ at) in
       let s = ap (start_or n) c.1 in
       let low = l.0 in
       omega (arith, s, low, more)
 
-  module _ (k : ℕ) (c c' : Cell) (at : slice_get cells k ≡ Some c) (start : c'.start ≡ c.start) (fits : c'.start + used c' ≤ end_at cells n k) where
-    starts_same : (j : ℕ) → start_or n (slice_get (slice_set cells k c') j) ≡ start_or n (slice_get cells j)
-    starts_same j = by_place (same_or_not j k)
+  module _ (k : ℕ) (s s' : Slot) (at : slice_get slots k ≡ Some s) (start : s'.start ≡ s.start) where
+    pub laid_set : s'.start + used s' ≤ end_at slots n k → 1 ≤ some_by s'.state s'.len → AreLaidOut (slice_set slots k s') n
+    laid_set fits some = λ j d there. by_place j d there (same_or_not j k)
       where
-        by_place : (j ≡ k) ⊎ (j ≢ k) → start_or n (slice_get (slice_set cells k c') j) ≡ start_or n (slice_get cells j)
-        by_place (inl e) = rw e (ap (start_or n) (get_set cells k c' (slice_get_within cells k c at)) ∙ start ∙ sym (ap (start_or n) at))
-        by_place (inr e) = ap (start_or n) (get_other cells k j c' e)
-
-    pub laid_set : IsLaidOut (slice_set cells k c') n
-    laid_set = λ j d there. by_place j d there (same_or_not j k)
-      where
-        by_place : (j : ℕ) (d : Cell) → slice_get (slice_set cells k c') j ≡ Some d → (j ≡ k) ⊎ (j ≢ k) → (d.start + used d ≤ end_at (slice_set cells k c') n j) × (end_at (slice_set cells k c') n j ≤ n)
+        by_place : (j : ℕ) (d : Slot) → slice_get (slice_set slots k s') j ≡ Some d → (j ≡ k) ⊎ (j ≢ k) → (d.start + used d ≤ end_at (slice_set slots k s') n j) × (end_at (slice_set slots k s') n j ≤ n) × (1 ≤ some_by d.state d.len)
         by_place j d there (inl e) =
-            let s = starts_same (j + 1) in
-            let same : c' ≡ d = cc (sym (get_set cells k c' (slice_get_within cells k c at)) ∙ ap (slice_get (slice_set cells k c')) (sym e) ∙ there) in
-            let l = laid k c at in
-            let t = ap (λ i. end_at cells n i) e in
-            let m = ap (λ (x : Cell). x.start + used x) same in
-            (omega (arith, s, t, m, fits), omega (arith, s, t, l.1))
+            let t = starts_same slots k s s' at start n (j + 1) in
+            let same : s' ≡ d = cc (sym (get_set slots k s' (slice_get_within slots k s at)) ∙ ap (slice_get (slice_set slots k s')) (sym e) ∙ there) in
+            let l = laid k s at in
+            let u = ap (λ i. end_at slots n i) e in
+            let m = ap (λ (x : Slot). x.start + used x) same in
+            let o = ap (λ (x : Slot). some_by x.state x.len) same in
+            let high = l.1 in
+            (omega (arith, t, u, m, fits), omega (arith, t, u, high), omega (arith, o, some))
         by_place j d there (inr e) =
-            let s = starts_same (j + 1) in
-            let l = laid j d (sym (get_other cells k j c' e) ∙ there) in
-            (omega (arith, s, l.0), omega (arith, s, l.1))
+            let t = starts_same slots k s s' at start n (j + 1) in
+            let l = laid j d (sym (get_other slots k j s' e) ∙ there) in
+            let low = l.0 in let high = l.1 in
+            (omega (arith, t, low), omega (arith, t, high), l.2)
 
+  module _ (k : ℕ) (s : Slot) (at : slice_get slots k ≡ Some s) where
     -- other shares lie apart
-    apart : (j : ℕ) (d : Cell) → j ≢ k → slice_get cells j ≡ Some d → (d.start + used d ≤ c.start) ⊎ (end_at cells n k ≤ d.start)
+    apart : (j : ℕ) (d : Slot) → j ≢ k → slice_get slots j ≡ Some d → (d.start + used d ≤ s.start) ⊎ (end_at slots n k ≤ d.start)
     apart j d other there = by_order (cases_lt j k)
       where
-        by_order : (j < k) ⊎ (k ≤ j) → (d.start + used d ≤ c.start) ⊎ (end_at cells n k ≤ d.start)
+        by_order : (j < k) ⊎ (k ≤ j) → (d.start + used d ≤ s.start) ⊎ (end_at slots n k ≤ d.start)
         by_order (inl h) =
             let e : k ≡ j + 1 + (k - (j + 1)) = omega arith in
-            let b = ends_before (k - (j + 1)) j c (ap (slice_get cells) (sym e) ∙ at) in
+            let b = ends_before (k - (j + 1)) j s (ap (slice_get slots) (sym e) ∙ at) in
             let l = laid j d there in
             inl (omega (arith, l.0, b))
         by_order (inr h) =
             let less : k < j = by_apart (cases_lt k j) in
             let e : j ≡ k + 1 + (j - (k + 1)) = omega arith in
-            inr (ends_before (j - (k + 1)) k d (ap (slice_get cells) (sym e) ∙ there))
+            inr (ends_before (j - (k + 1)) k d (ap (slice_get slots) (sym e) ∙ there))
           where
             by_apart : (k < j) ⊎ (j ≤ k) → k < j
             by_apart (inl l) = l
             by_apart (inr l) = absurd (other (omega arith))
 
     -- where the share alone was written, the others hold what they held
-    pub others_hold : (values ys : List ℕ) → length values ≡ n → length ys ≡ end_at cells n k - c.start → (j : ℕ) → j ≢ k
-        → shown_at (slice_set cells k c') (put_mid c.start (end_at cells n k - c.start) values ys) j ≡ shown_at cells values j
-    others_hold values ys long same j other = ap (shown_in (put_mid c.start (end_at cells n k - c.start) values ys)) (get_other cells k j c' other) ∙ by_cell (slice_get cells j) refl
+    others_hold : (values ys : List ℕ) → length values ≡ n → length ys ≡ end_at slots n k - s.start → (j : ℕ) (d : Slot) → j ≢ k → slice_get slots j ≡ Some d
+        → held_of (put_mid s.start (end_at slots n k - s.start) values ys) d ≡ held_of values d
+    others_hold values ys long same j d other there =
+        let l = laid k s at in
+        let low = l.0 in let high = l.1 in
+        ap (held_by d.state d.len) (reads_same d.start (used d) s.start (end_at slots n k - s.start) values ys (omega (arith, low, high)) same (by_apart (apart j d other there)))
       where
-        by_cell : (o : Option Cell) → slice_get cells j ≡ o → shown_in (put_mid c.start (end_at cells n k - c.start) values ys) o ≡ shown_in values o
-        by_cell None e = refl
-        by_cell (Some d) e =
-            let l = laid k c at in
-            let low = l.0 in let high = l.1 in
-            ap (shown_by d.held d.len) (reads_same d.start (used d) c.start (end_at cells n k - c.start) values ys (omega (arith, low, high)) same (by_apart (apart j d other e)))
-          where
-            by_apart : (d.start + used d ≤ c.start) ⊎ (end_at cells n k ≤ d.start) → (d.start + used d ≤ c.start) ⊎ (c.start + (end_at cells n k - c.start) ≤ d.start)
-            by_apart (inl h) = inl h
-            by_apart (inr h) = let l = laid k c at in let low = l.0 in inr (omega (arith, low))
+        by_apart : (d.start + used d ≤ s.start) ⊎ (end_at slots n k ≤ d.start) → (d.start + used d ≤ s.start) ⊎ (s.start + (end_at slots n k - s.start) ≤ d.start)
+        by_apart (inl h) = inl h
+        by_apart (inr h) = let l = laid k s at in let low = l.0 in inr (omega (arith, low))
+
+    -- the share was written, and its slot with it
+    pub share_changes : (s' : Slot) (values ys : List ℕ) (f : Kept → Kept) → s'.start ≡ s.start → length values ≡ n → length ys ≡ end_at slots n k - s.start
+        → kept_with (put_mid s.start (end_at slots n k - s.start) values ys) (end_at slots n k) s' ≡ f (kept_with values (end_at slots n k) s)
+        → ChangesAt k f values slots (put_mid s.start (end_at slots n k - s.start) values ys) (slice_set slots k s')
+    share_changes s' values ys f start long same one =
+        let l = laid k s at in
+        let low = l.0 in let high = l.1 in
+        let whole = put_mid s.start (end_at slots n k - s.start) values ys in
+        let size : length whole ≡ length values = length-put_mid s.start (end_at slots n k - s.start) values ys (omega (arith, low, high)) same in
+        changes slots k s s' at start values whole f size (rw long one) (λ j d e there. others_hold values ys long same j d e there)
+
+-- ---- what is kept of the code
+
+-- with another value
+abbrev kept_as : ℕ → Slot → Held → Kept
+kept_as end s h = record { held = h; counts = s.counts; chosen = s.chosen; room = end - s.start }
+
+-- what is read of a written part
+part_read : (start end m : ℕ) (values ys : List ℕ) → start + m ≤ end → end ≤ length values → length ys ≡ end - start → take m (drop start (put_mid start (end - start) values ys)) ≡ take m ys
+part_read start end m values ys fits most same =
+    let whole = put_mid start (end - start) values ys in
+    let part : take (end - start) (drop start whole) ≡ ys = between-put_mid start (end - start) values ys end (omega arith) same in
+    sym (take-take m (end - start) (drop start whole) (omega arith)) ∙ ap (take m) part
+
+pub text_fits : (f : Form) (n room : ℕ) → 0 < n → room_for f n ≤ room → fits f n room ≡ true
+text_fits f n room some most = rw (lt-ltb 0 n some, le-leb (room_for f n) room most) refl
+
+-- a text that is empty, or too long for the room
+pub none_fits : (f : Form) (n room : ℕ) → n ≡ 0 → fits f n room ≡ false
+none_fits f n room none = rw none refl
+
+pub too_long : (f : Form) (n room : ℕ) → room < room_for f n → fits f n room ≡ false
+too_long f n room long = and_right (nat_lt 0 n) (nat_le (room_for f n) room) (lt-leb (room_for f n) room long)
+
+-- digits take a byte for four, where they are not one alone
+pub vector_room : (n : ℕ) → n ≢ 1 → room_for form.Vector n ≡ bytes_for n
+vector_room n h = ap (λ (b : Bool). cond b 0 (bytes_for n)) (ne_eqb n 1 h)
+
+-- where the text does not fit, its value stays
+pub kept_still : (f : Form) (text values : List ℕ) (end : ℕ) (s : Slot) → fits f (length text) (end - s.start) ≡ false → kept_with values end s ≡ with_text f text (kept_with values end s)
+kept_still f text values end s out = sym (ap (λ (b : Bool). kept_as end s (cond b (held_as f text) (held_of values s))) out)
+
+-- the slot of a code whose value was set in its share
+abbrev pub set_slot : State → ℕ → Slot → Slot
+set_slot st len s = record { state = st; start = s.start; len = len; counts = s.counts; chosen = s.chosen }
 
 -- the digits that were packed
-pub digits_set : (cells : List Cell) (k : ℕ) (c' : Cell) (end : ℕ) (values ys text : List ℕ) → k < length cells → c'.held ≡ held.Digits → c'.start + bytes_for c'.len ≤ end → end ≤ length values → length ys ≡ end - c'.start → digits_in c'.len ys ≡ text
-    → shown_at (slice_set cells k c') (put_mid c'.start (end - c'.start) values ys) k ≡ Digits text
-digits_set cells k c' end values ys text within is fits most same packed =
-    let whole = put_mid c'.start (end - c'.start) values ys in
-    let m = bytes_for c'.len in
-    let part : take (end - c'.start) (drop c'.start whole) ≡ ys = between-put_mid c'.start (end - c'.start) values ys end (omega arith) same in
-    let first : take m (drop c'.start whole) ≡ take m ys = sym (take-take m (end - c'.start) (drop c'.start whole) (omega arith)) ∙ ap (take m) part in
-    let d = div_ceil_times c'.len 4 (omega arith) in
-    ap (shown_in whole) (get_set cells k c' within)
-    ∙ ap (λ h. shown_by h c'.len (take (used_by h c'.len) (drop c'.start whole))) is
-    ∙ ap (λ (l : List ℕ). Digits (digits_in c'.len l)) first
-    ∙ ap (λ (l : List ℕ). Digits l) (digits_first c'.len m ys (omega (arith, d)) ∙ packed)
+pub digits_kept : (s : Slot) (end : ℕ) (values ys text : List ℕ) → length text ≢ 1 → 0 < length text → s.start + bytes_for (length text) ≤ end → end ≤ length values → length ys ≡ end - s.start → digits_in (length text) ys ≡ map held_digit text
+    → kept_with (put_mid s.start (end - s.start) values ys) end (set_slot state.Digits (length text) s) ≡ with_text form.Vector text (kept_with values end s)
+digits_kept s end values ys text several some within most same packed =
+    let n = length text in
+    let m = bytes_for n in
+    let d = div_ceil_times n 4 (omega arith) in
+    let read = part_read s.start end m values ys within most same in
+    let room = vector_room n several in
+    let yes = text_fits form.Vector n (end - s.start) some (omega (arith, room, within)) in
+    ap (λ (l : List ℕ). kept_as end s (Held.Digits (digits_in n l))) read
+    ∙ ap (λ (l : List ℕ). kept_as end s (Held.Digits l)) (digits_first n m ys (omega (arith, d)) ∙ packed)
+    ∙ sym (ap (λ (b : Bool). kept_as end s (cond b (Held.Digits (map held_digit text)) (held_of values s))) yes)
 
 -- the text that was copied
-pub text_set : (cells : List Cell) (k : ℕ) (c' : Cell) (end : ℕ) (values ys text : List ℕ) → k < length cells → c'.held ≡ held.Real → c'.start + c'.len ≤ end → end ≤ length values → length ys ≡ end - c'.start → take c'.len ys ≡ text
-    → shown_at (slice_set cells k c') (put_mid c'.start (end - c'.start) values ys) k ≡ Text text
-text_set cells k c' end values ys text within is fits most same copied =
-    let whole = put_mid c'.start (end - c'.start) values ys in
-    let part : take (end - c'.start) (drop c'.start whole) ≡ ys = between-put_mid c'.start (end - c'.start) values ys end (omega arith) same in
-    let first : take c'.len (drop c'.start whole) ≡ take c'.len ys = sym (take-take c'.len (end - c'.start) (drop c'.start whole) (omega arith)) ∙ ap (take c'.len) part in
-    ap (shown_in whole) (get_set cells k c' within)
-    ∙ ap (λ h. shown_by h c'.len (take (used_by h c'.len) (drop c'.start whole))) is
-    ∙ ap (λ (l : List ℕ). Text l) (first ∙ copied)
+pub text_kept : (s : Slot) (end : ℕ) (values ys text : List ℕ) → 0 < length text → s.start + length text ≤ end → end ≤ length values → length ys ≡ end - s.start → take (length text) ys ≡ text
+    → kept_with (put_mid s.start (end - s.start) values ys) end (set_slot state.Real (length text) s) ≡ with_text form.RealText text (kept_with values end s)
+text_kept s end values ys text some within most same copied =
+    let n = length text in
+    let yes = text_fits form.RealText n (end - s.start) some (omega (arith, within)) in
+    ap (λ (l : List ℕ). kept_as end s (Held.Text l)) (part_read s.start end n values ys within most same ∙ copied)
+    ∙ sym (ap (λ (b : Bool). kept_as end s (cond b (Held.Text text) (held_of values s))) yes)
+
+-- a state that holds one digit
+pub held_one : (st : State) (len d : ℕ) (bytes : List ℕ) → one_digit st ≡ Some d → held_by st len bytes ≡ Held.Digits (d ∷ [])
+held_one state.Unset len d bytes h = cc
+held_one state.Zero len d bytes h = let e : byte "0" ≡ d = cc in ap (λ x. Held.Digits (x ∷ [])) e
+held_one state.One len d bytes h = let e : byte "1" ≡ d = cc in ap (λ x. Held.Digits (x ∷ [])) e
+held_one state.Unknown len d bytes h = let e : byte "x" ≡ d = cc in ap (λ x. Held.Digits (x ∷ [])) e
+held_one state.High len d bytes h = let e : byte "z" ≡ d = cc in ap (λ x. Held.Digits (x ∷ [])) e
+held_one state.Digits len d bytes h = cc
+held_one state.Real len d bytes h = cc
+
+pub used_none : (st : State) (len d : ℕ) → one_digit st ≡ Some d → (used_by st len ≡ 0) × (some_by st len ≡ 1)
+used_none state.Unset len d h = cc
+used_none state.Zero len d h = (refl, refl)
+used_none state.One len d h = (refl, refl)
+used_none state.Unknown len d h = (refl, refl)
+used_none state.High len d h = (refl, refl)
+used_none state.Digits len d h = cc
+used_none state.Real len d h = cc
+
+-- one digit is held in the slot
+pub digit_kept : (st : State) (s : Slot) (d end : ℕ) (values : List ℕ) → one_digit st ≡ Some d → kept_with values end (set_slot st s.len s) ≡ with_held (Held.Digits (d ∷ [])) (kept_with values end s)
+digit_kept st s d end values h = ap (λ (x : Held). kept_as end s x) (held_one st s.len d (take (used (set_slot st s.len s)) (drop s.start values)) h)
 
 -- a text of one digit
-pub one_digit : (text : List ℕ) → 1 ≤ length text → length text < 2 → get_or text 0 0 ∷ [] ≡ text
-one_digit [] h k = absurd (omega arith)
-one_digit (a ∷ []) h k = refl
-one_digit (a ∷ b ∷ text) h k = absurd (omega arith)
+pub alone : (text : List ℕ) → 1 ≤ length text → length text < 2 → get_or text 0 0 ∷ [] ≡ text
+alone [] h k = absurd (omega arith)
+alone (a ∷ []) h k = refl
+alone (a ∷ b ∷ text) h k = absurd (omega arith)
+
+-- with other counters
+pub counts_kept : (s : Slot) (counts : List ℕ) (which end : ℕ) (values : List ℕ) → counts ≡ counts_with s.counts which → kept_with values end (record { state = s.state; start = s.start; len = s.len; counts = counts; chosen = s.chosen }) ≡ one_more which (kept_with values end s)
+counts_kept s counts which end values e = rw e refl
+
+-- a text that is not empty
+pub some_text : (text : List ℕ) → (length text == 0) ≡ false → 0 < length text
+some_text text h = let n : length text ≢ 0 = eqb-false (length text) 0 h in omega arith

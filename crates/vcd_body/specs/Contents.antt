@@ -1,16 +1,64 @@
--- What a table holds of the codes.
-use Rattle.std.specs.Prelude.{◌≡◌, ℕ, Bool, false, length, unwrap_or, option_map, slice_get}
-use Rattle.vcd_body.specs.declared.table.Slot.{Slot}
+-- What a table keeps of the codes, as a map from a code's place.
+use Rattle.std.specs.Prelude.{ℕ, ◌+◌, ◌-◌, Bool, false, List, [], ◌∷◌, length, map, unwrap_or, option_map, option_and_then, slice_get, Option}
+use Rattle.vcd_model.specs.Cut.{line_if_set}
+use Rattle.vcd_model.specs.Declarations.{IdCode}
+use Rattle.vcd_model.specs.Values.{Value}
+use Rattle.vcd_head.specs.Shown.{text_in}
+use Rattle.vcd_head.specs.declared.view.Code.{Code}
+use Rattle.vcd_head.specs.declared.view.HeadView.{HeadView}
+use Rattle.vcd_body.specs.Kept.{Held, Kept, unset, value_at_size}
+use Rattle.vcd_body.specs.Stored.{ChangesAt, kept_in, start_of}
+use Rattle.vcd_body.specs.declared.slot.Shown.{Shown}
+use Rattle.vcd_body.specs.declared.slot.Shown.TheVariants as shown
 use Rattle.vcd_body.specs.declared.table.Table.{Table}
-
--- nothing is kept of a code
-pub record IsUnset (s : Slot) : Type 0 where
-  pub not_chosen : s.chosen ≡ false
 
 -- how many codes it has places for
 abbrev pub codes_in : Table → ℕ
 codes_in t = length t.slots.now
 
+-- what is kept of the code at a place, none where there is no code
+abbrev pub kept_at : Table → ℕ → Option Kept
+kept_at t code = kept_in t.values.now t.slots.now code
+
+-- a call changes what is kept of the code at a place, and nothing else; where there is no code it changes nothing
+abbrev pub ChangesCode : ℕ → (Kept → Kept) → Table → Table → Type 0
+ChangesCode code f old new = ChangesAt code f old.values.now old.slots.now new.values.now new.slots.now
+
+-- the value of the code at a place, as it was last written
+abbrev pub held_at : Table → ℕ → Held
+held_at t code = unwrap_or (option_map (λ (k : Kept). k.held) (kept_at t code)) Held.Unset
+
+-- its counters
+abbrev pub counts_at : Table → ℕ → List ℕ
+counts_at t code = unwrap_or (option_map (λ (k : Kept). k.counts) (kept_at t code)) (0 ∷ 0 ∷ 0 ∷ [])
+
 -- the code at a place is chosen
 abbrev pub is_chosen : Table → ℕ → Bool
-is_chosen t code = unwrap_or (option_map (λ (s : Slot). s.chosen) (slice_get t.slots.now code)) false
+is_chosen t code = unwrap_or (option_map (λ (k : Kept). k.chosen) (kept_at t code)) false
+
+-- whether it is set, and to what
+abbrev pub shown_as : Held → Shown
+shown_as Held.Unset = shown.Unset
+shown_as (Held.Digits ds) = shown.Bits
+shown_as (Held.Text text) = shown.Real
+
+-- a new table: each code is unset, and has its share of n bytes
+abbrev pub new_at : List Code → ℕ → ℕ → Option Kept
+new_at codes n code = option_map (λ (c : Code). unset (start_of codes n (code + 1) - start_of codes n code)) (slice_get codes code)
+
+-- ---- over a header
+
+-- the codes that a view shows
+abbrev pub shown_code : List ℕ → Code → IdCode
+shown_code text c = record { text = text_in text c.start c.len; size = c.size; event = c.event }
+
+abbrev pub codes_shown : HeadView → List IdCode
+codes_shown v = map (shown_code v.text.now) v.codes.now
+
+-- the value of the code at a place among these, at its size
+abbrev pub value_in : List IdCode → Table → ℕ → Option Value
+value_in codes t code = option_and_then (λ (c : IdCode). value_at_size c.size (held_at t code)) (slice_get codes code)
+
+-- the line that gives the code at a place its value, nothing where it is unset
+abbrev pub line_of : List IdCode → Table → ℕ → List ℕ
+line_of codes t code = unwrap_or (option_map (λ (c : IdCode). line_if_set c (value_in codes t code)) (slice_get codes code)) []

@@ -6,4 +6,5 @@ pub mod Given
 pub mod Changes
 pub mod Contents
 pub mod Packed
+pub mod Kept
 pub mod Stored

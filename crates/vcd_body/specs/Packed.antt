@@ -2,6 +2,10 @@
 use Rattle.std.specs.Prelude.{ℕ, ◌/◌, ◌%◌, ◌==◌, ◌||◌, nat_lt, cond, List, [], ◌∷◌, ◌++◌, length, take, get_or}
 use Rattle.std.specs.Str.{byte}
 
+-- a digit as it is held: in lower case; any byte that is no digit counts as z
+abbrev pub held_digit : ℕ → ℕ
+held_digit d = cond (d == byte "0") (byte "0") (cond (d == byte "1") (byte "1") (cond ((d == byte "x") || (d == byte "X")) (byte "x") (byte "z")))
+
 -- a digit as a number below 4
 abbrev pub code_of : ℕ → ℕ
 code_of d = cond (d == byte "0") 0 (cond (d == byte "1") 1 (cond ((d == byte "x") || (d == byte "X")) 2 3))

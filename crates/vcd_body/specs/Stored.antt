@@ -1,107 +1,118 @@
--- What a table holds of each code: the value of its last change, by its digits or its text.
-use Rattle.std.specs.Prelude.{◌≡◌, ℕ, ◌+◌, ◌/◌, ◌≤◌, min, ◌%◌, Bool, List, [], ◌∷◌, take, drop, map, max, sum_by, false, slice_get, Option, Some, None}
-use Rattle.std.specs.Str.{str_to_ascii_lowercase}
-use Rattle.vcd_model.specs.Values.{Value, extend}
-use Rattle.vcd_body.specs.Packed.{digits_in}
+-- How a table keeps it: a slot for each code, and a share of the bytes of values.
+use Rattle.std.specs.Prelude.{◌≡◌, ℕ, ◌+◌, ◌-◌, ◌≤◌, ◌==◌, min, max, cond, List, [], ◌∷◌, ◌++◌, length, take, drop, sum_by, false, slice_get, Option, Some, None, option_map}
+use Rattle.std.specs.Str.{byte}
 use Rattle.vcd_head.specs.declared.view.Code.{Code}
-use Rattle.vcd_body.specs.declared.item.Form.{Form}
-use Rattle.vcd_body.specs.declared.item.Form.TheVariants as form
-use Rattle.vcd_body.specs.declared.store.Cell.{Cell}
-use Rattle.vcd_body.specs.declared.store.Held.{Held}
-use Rattle.vcd_body.specs.declared.store.Held.TheVariants as held
+use Rattle.vcd_body.specs.Kept.{Held, Kept, bytes_for}
+use Rattle.vcd_model.specs.Values.{extend, short}
+use Rattle.vcd_body.specs.Packed.{digits_in}
+use Rattle.vcd_body.specs.declared.slot.Slot.{Slot}
+use Rattle.vcd_body.specs.declared.slot.State.{State}
+use Rattle.vcd_body.specs.declared.slot.State.TheVariants as state
 
--- nothing, digits that extend to the value, or the text of a real number
-pub data Shown : Type 0 where
-  Unset : Shown
-  Digits : (digits : List ℕ) → Shown
-  Text : (text : List ℕ) → Shown
-
--- how many bytes n digits take
-abbrev pub bytes_for : ℕ → ℕ
-bytes_for n = n / 4 + min 1 (n % 4)
+-- the digit of a state that holds one
+abbrev pub one_digit : State → Option ℕ
+one_digit state.Unset = None
+one_digit state.Zero = Some (byte "0")
+one_digit state.One = Some (byte "1")
+one_digit state.Unknown = Some (byte "x")
+one_digit state.High = Some (byte "z")
+one_digit state.Digits = None
+one_digit state.Real = None
 
 -- how many bytes of its share are in use
-abbrev pub used_by : Held → ℕ → ℕ
-used_by held.Unset len = 0
-used_by (held.Digit d) len = 0
-used_by held.Digits len = bytes_for len
-used_by held.Real len = len
+abbrev pub used_by : State → ℕ → ℕ
+used_by state.Unset len = 0
+used_by state.Zero len = 0
+used_by state.One len = 0
+used_by state.Unknown len = 0
+used_by state.High len = 0
+used_by state.Digits len = bytes_for len
+used_by state.Real len = len
 
-abbrev pub used : Cell → ℕ
-used c = used_by c.held c.len
+abbrev pub used : Slot → ℕ
+used s = used_by s.state s.len
 
 -- what is held so, with these bytes of the share
-abbrev pub shown_by : Held → ℕ → List ℕ → Shown
-shown_by held.Unset len bytes = Unset
-shown_by (held.Digit d) len bytes = Digits (d ∷ [])
-shown_by held.Digits len bytes = Digits (digits_in len bytes)
-shown_by held.Real len bytes = Text bytes
+abbrev pub held_by : State → ℕ → List ℕ → Held
+held_by state.Unset len bytes = Held.Unset
+held_by state.Zero len bytes = Held.Digits (byte "0" ∷ [])
+held_by state.One len bytes = Held.Digits (byte "1" ∷ [])
+held_by state.Unknown len bytes = Held.Digits (byte "x" ∷ [])
+held_by state.High len bytes = Held.Digits (byte "z" ∷ [])
+held_by state.Digits len bytes = Held.Digits (digits_in len bytes)
+held_by state.Real len bytes = Held.Text bytes
 
-abbrev pub shown_of : List ℕ → Cell → Shown
-shown_of values c = shown_by c.held c.len (take (used c) (drop c.start values))
+-- the digits, none where there are none
+abbrev pub digits_held : Held → List ℕ
+digits_held Held.Unset = []
+digits_held (Held.Digits ds) = ds
+digits_held (Held.Text text) = []
 
-abbrev pub shown_in : List ℕ → Option Cell → Shown
-shown_in values None = Unset
-shown_in values (Some c) = shown_of values c
+-- what a slot holds, with these bytes of its share, and its digits
+abbrev pub held_with : Slot → List ℕ → Held
+held_with s bytes = held_by s.state s.len bytes
 
--- what is held of the code at a place
-abbrev pub shown_at : List Cell → List ℕ → ℕ → Shown
-shown_at cells values code = shown_in values (slice_get cells code)
+abbrev pub digits_with : Slot → List ℕ → List ℕ
+digits_with s bytes = digits_held (held_with s bytes)
+
+-- the line of a value of these digits: all of them at size 1, or the shortest after `b`
+abbrev pub held_line : ℕ → List ℕ → List ℕ → List ℕ
+held_line size ds id = cond (size == 1) (ds ++ (id ++ 10 ∷ [])) (byte "b" ∷ short (extend ds size) ++ (byte " " ∷ id ++ 10 ∷ []))
+
+abbrev pub held_of : List ℕ → Slot → Held
+held_of values s = held_by s.state s.len (take (used s) (drop s.start values))
 
 -- where the share at a place ends: where the next begins, or where the values end
-abbrev pub start_or : ℕ → Option Cell → ℕ
+abbrev pub start_or : ℕ → Option Slot → ℕ
 start_or n None = n
-start_or n (Some c) = c.start
+start_or n (Some s) = s.start
 
-abbrev pub end_at : List Cell → ℕ → ℕ → ℕ
-end_at cells n code = start_or n (slice_get cells (code + 1))
+abbrev pub end_at : List Slot → ℕ → ℕ → ℕ
+end_at slots n code = start_or n (slice_get slots (code + 1))
+
+-- what is kept of a code, whose share ends here
+abbrev pub kept_with : List ℕ → ℕ → Slot → Kept
+kept_with values end s = record { held = held_of values s; counts = s.counts; chosen = s.chosen; room = end - s.start }
+
+-- what is kept of the code at a place
+abbrev pub kept_in : List ℕ → List Slot → ℕ → Option Kept
+kept_in values slots code = option_map (kept_with values (end_at slots (length values) code)) (slice_get slots code)
+
+-- of the code at a place is kept what f makes of it, and of the others what was kept
+abbrev pub ChangesAt : ℕ → (Kept → Kept) → List ℕ → List Slot → List ℕ → List Slot → Type 0
+ChangesAt code f values slots values' slots' = (place : ℕ) → kept_in values' slots' place ≡ cond (place == code) (option_map f (kept_in values slots place)) (kept_in values slots place)
+
+-- packed digits are one or more
+abbrev pub some_by : State → ℕ → ℕ
+some_by state.Unset len = 1
+some_by state.Zero len = 1
+some_by state.One len = 1
+some_by state.Unknown len = 1
+some_by state.High len = 1
+some_by state.Digits len = len
+some_by state.Real len = 1
 
 -- the shares follow one another, and each is large enough for what it holds
-abbrev pub IsLaidOut : List Cell → ℕ → Type 0
-IsLaidOut cells n = (k : ℕ) (c : Cell) → slice_get cells k ≡ Some c → (c.start + used c ≤ end_at cells n k) × (end_at cells n k ≤ n)
-
--- so many digits fit into the share at a place
-abbrev pub fits_in : List Cell → ℕ → ℕ → ℕ → Type 0
-fits_in cells n code digits = (c : Cell) → slice_get cells code ≡ Some c → c.start + bytes_for digits ≤ end_at cells n code
-
--- all but the values: shares, counters and flags
-abbrev pub rest_of : Cell → (ℕ × ℕ × ℕ × ℕ × Bool)
-rest_of c = (c.start, c.changes, c.rises, c.falls, c.chosen)
-
-abbrev pub SameButHeld : List Cell → List Cell → Type 0
-SameButHeld old new = map rest_of new ≡ map rest_of old
-
-abbrev pub fits_text : List Cell → ℕ → ℕ → ℕ → Type 0
-fits_text cells n code bytes = (c : Cell) → slice_get cells code ≡ Some c → c.start + bytes ≤ end_at cells n code
-
--- a change of this form with a text of this length fits
-abbrev pub fits_form : List Cell → ℕ → ℕ → Form → ℕ → Type 0
-fits_form cells n code form.Scalar len = fits_in cells n code len
-fits_form cells n code form.Vector len = fits_in cells n code len
-fits_form cells n code form.RealText len = fits_text cells n code len
-
--- what is held after such a change
-abbrev pub shown_with : Form → List ℕ → Shown
-shown_with form.Scalar text = Digits (str_to_ascii_lowercase text)
-shown_with form.Vector text = Digits (str_to_ascii_lowercase text)
-shown_with form.RealText text = Text text
-
--- the definitions' value at a size, none where there is no value
-abbrev pub value_at_size : ℕ → Shown → Option Value
-value_at_size size Unset = None
-value_at_size size (Digits ds) = Some (Value.Bits (extend ds size))
-value_at_size size (Text text) = Some (Value.Real text)
+abbrev pub AreLaidOut : List Slot → ℕ → Type 0
+AreLaidOut slots n = (k : ℕ) (s : Slot) → slice_get slots k ≡ Some s → (s.start + used s ≤ end_at slots n k) × (end_at slots n k ≤ n) × (1 ≤ some_by s.state s.len)
 
 -- ---- shares
 
--- how many bytes the value of a code of this size takes at most
+-- how many bytes the value of a code of this size takes at most: its digits, or a real text of 64 bytes
 abbrev pub share_of : ℕ → ℕ
 share_of size = max (bytes_for size) 64
 
+-- how many bytes the values of these codes take at most
+abbrev pub room_of : List Code → ℕ
+room_of codes = sum_by (λ (c : Code). share_of c.size) codes
+
 -- where the share of the code at a place begins, among n bytes
 abbrev pub start_of : List Code → ℕ → ℕ → ℕ
-start_of codes n k = min (sum_by (λ (c : Code). share_of c.size) (take k codes)) n
+start_of codes n k = min (room_of (take k codes)) n
 
 -- a code of which nothing is known
-abbrev pub unset_at : ℕ → Cell
-unset_at start = record { held = held.Unset; start = start; len = 0; changes = 0; rises = 0; falls = 0; chosen = false }
+abbrev pub unset_at : ℕ → Slot
+unset_at start = record { state = state.Unset; start = start; len = 0; counts = 0 ∷ 0 ∷ 0 ∷ []; chosen = false }
+
+abbrev pub IsUnset : Slot → Type 0
+IsUnset s = s ≡ unset_at 0

@@ -11,12 +11,18 @@ use crate::item::Form;
 use crate::words::rest_of;
 use vcd_text::{Sink, WriteFailed, put};
 
+// What digits that begin with this one, in lower case, are extended by.
+pub(crate) fn extension_of(digit: u8) -> u8
+    ensures { result ≡ extension (digit ∷ []) }
+{
+    if digit == b'1' { b'0' } else { digit }
+}
+
 // What a value that begins with this digit is extended by.
 fn extended_by(digit: u8) -> u8
     ensures { result ≡ extension (lower digit ∷ []) }
 {
-    let digit = digit.to_ascii_lowercase();
-    if digit == b'1' { b'0' } else { digit }
+    extension_of(digit.to_ascii_lowercase())
 }
 
 // Whether a digit is not a zero.
@@ -153,7 +159,7 @@ fn together(bytes: [u8; 8]) -> [u8; 8]
 
 // Writes a byte, a code and a line feed, with a short code by one write of a known length.
 #[inline(always)]
-fn put_end<W: Sink>(w: &mut W, first: u8, id: &[u8]) -> Result<(), WriteFailed>
+pub(crate) fn put_end<W: Sink>(w: &mut W, first: u8, id: &[u8]) -> Result<(), WriteFailed>
     requires { (W.device w.old).failures < 2 ^ 64 - 1 }
     ensures { Puts (W.device w.old) (W.device w.new) (first ∷ id.now ++ 10 ∷ []) result }
 {
@@ -181,7 +187,7 @@ fn put_all<W: Sink>(w: &mut W, digits: &[u8], id: &[u8]) -> Result<(), WriteFail
 
 // Writes a change of a real number.
 #[inline(never)]
-fn put_real<W: Sink>(w: &mut W, text: &[u8], id: &[u8]) -> Result<(), WriteFailed>
+pub(crate) fn put_real<W: Sink>(w: &mut W, text: &[u8], id: &[u8]) -> Result<(), WriteFailed>
     requires { (W.device w.old).failures < 2 ^ 64 - 1 }
     ensures { Puts (W.device w.old) (W.device w.new)
         (114 ∷ text.now ++ (32 ∷ id.now ++ 10 ∷ [])) result }

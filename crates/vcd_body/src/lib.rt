@@ -34,12 +34,17 @@
 
 mod change;
 mod fault;
+mod held;
+mod held_text;
 mod item;
 mod packed;
 mod phrases;
 mod read;
+mod slot;
 mod store;
 mod table;
+#[cfg(test)]
+mod table_tests;
 #[cfg(test)]
 mod tests;
 mod tokens;
@@ -49,5 +54,5 @@ pub use change::put_change;
 pub use fault::BodyFault;
 pub use item::{Form, Item, Regs, Section};
 pub use read::{change_text, next_item};
-pub use store::laid_out;
-pub use table::{Slot, Table};
+pub use slot::{Shown, Slot};
+pub use table::Table;

@@ -1,9 +1,6 @@
 // Digits, four to a byte.
-ghost use Rattle.std.specs.Prelude.{◌≡◌, ◌≤◌, ◌<◌, ◌+◌, ◌*◌, ◌/◌, ◌^◌, length, take, drop, IsTrue, slice_index_or};
-ghost use Rattle.std.specs.List.{list_all};
-ghost use Rattle.std.specs.Str.{str_to_ascii_lowercase};
-ghost use Rattle.vcd_model.specs.BodyPhrases.{is_value_digit};
-ghost use Rattle.vcd_body.specs.Packed.{code_of, code_or, digit_of, digits_in};
+ghost use Rattle.std.specs.Prelude.{◌≡◌, ◌≤◌, ◌<◌, ◌+◌, ◌*◌, ◌/◌, ◌^◌, length, map, slice_get, slice_index_or};
+ghost use Rattle.vcd_body.specs.Packed.{code_of, code_or, digit_of, digits_in, fours, held_digit, unpacked};
 
 /// A digit as two bits.
 #[inline(always)]
@@ -21,7 +18,7 @@ fn code_of(digit: u8) -> u8
 
 /// Two bits as a digit, in lower case.
 #[inline(always)]
-pub(crate) fn digit_of(code: u8) -> u8
+fn digit_of(code: u8) -> u8
     ensures { result ≡ digit_of code }
 {
     match code {
@@ -60,11 +57,44 @@ fn four_at(text: &[u8], place: usize) -> u8
 /// Packs digits into the first bytes of a share.
 pub(crate) fn pack(share: &mut [u8], text: &[u8])
     requires room { length text.now ≤ 4 * length share.old }
-    requires digits { IsTrue (list_all is_value_digit text.now) }
-    ensures packed { digits_in (length text.now) share.new ≡ str_to_ascii_lowercase text.now }
+    ensures { digits_in (length text.now) share.new ≡ map held_digit text.now }
 {
     let count = text.len().div_ceil(4);
     for i in 0..count {
         share[i] = four_at(text, 4 * i);
+    }
+}
+
+/// The digit at a place of a byte, from its lowest bits.
+#[inline(always)]
+fn digit_in_byte(byte: u8, place: usize) -> u8
+    requires { place < 4 }
+    ensures { Some result ≡ slice_get (fours byte) place }
+{
+    let code = match place {
+        0 => byte % 4,
+        1 => byte / 4 % 4,
+        2 => byte / 16 % 4,
+        _ => byte / 64 % 4,
+    };
+    digit_of(code)
+}
+
+/// The byte at a place.
+#[inline(always)]
+fn byte_at(share: &[u8], place: usize) -> Option<u8>
+    ensures { result ≡ slice_get share.now place }
+{
+    share.get(place).copied()
+}
+
+/// The digit at a place of a share; none behind its end.
+#[inline(always)]
+pub(crate) fn digit_at(share: &[u8], place: usize) -> Option<u8>
+    ensures { result ≡ slice_get (unpacked share.now) place }
+{
+    match byte_at(share, place / 4) {
+        Some(byte) => Some(digit_in_byte(byte, place % 4)),
+        None => None,
     }
 }

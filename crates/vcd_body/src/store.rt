@@ -1,135 +1,116 @@
-//! What is kept of each code, in lent slices: a draft of `Table` with values.
-ghost use Rattle.std.specs.Prelude.{List, ◌≡◌, ◌≢◌, ℕ, ◌+◌, ◌*◌, ◌-◌, ◌<◌, ◌≤◌, ◌∷◌, [], length, take, sum_by, IsTrue, Some, slice_get, slice_set, MatchBool};
-ghost use Rattle.std.specs.List.{list_all};
-ghost use Rattle.std.specs.Char.{to_ascii_lowercase};
-ghost use Rattle.std.specs.Str.{str_to_ascii_lowercase};
-ghost use Rattle.vcd_model.specs.BodyPhrases.{is_value_digit};
+// What is kept of each code, in lent slices: slots, and a share of the values for each.
+ghost use Rattle.std.specs.Prelude.{◌≡◌, ◌≢◌, ℕ, ◌+◌, ◌-◌, ◌<◌, ◌≤◌, ◌∷◌, [], List, length, take, drop, map, sum_by, Some, slice_get, slice_index};
 ghost use Rattle.vcd_head.specs.declared.view.Code.{Code};
-ghost use Rattle.vcd_body.specs.Stored.{IsLaidOut, share_of, start_of, unset_at, SameButHeld, end_at, fits_form, fits_in, fits_text, shown_at, shown_with};
-ghost use Rattle.vcd_body.specs.Stored.Shown.{Unset as unset, Digits as digits, Text as text_shown};
+ghost use Rattle.vcd_body.specs.Kept.{Held, as_chosen, one_more, counts_with, with_held, with_text};
+ghost use Rattle.vcd_body.specs.Packed.{held_digit};
+ghost use Rattle.vcd_body.specs.Stored.{AreLaidOut, ChangesAt, end_at, share_of, start_of, unset_at, used};
 
 use crate::item::Form;
 use crate::packed::pack;
+use crate::slot::{Slot, State, state_of};
 use vcd_head::Code;
 
-/// How the value of a code is held.
-#[derive(Clone, Copy, PartialEq, Eq, Debug)]
-pub(crate) enum Held {
-    /// No change gave it a value.
-    Unset,
-    /// By the one digit that extends to it, in lower case.
-    Digit(u8),
-    /// By digits that extend to it, packed in its share of the values.
-    Digits,
-    /// By the text of a real number, in its share of the values.
-    Real,
-}
-
-/// What is kept of a code.
-#[derive(Clone, Copy, PartialEq, Eq, Debug)]
-pub struct Cell {
-    pub(crate) held: Held,
-    // Where its share of the values begins. It ends where the next one begins.
-    pub(crate) start: usize,
-    // How many digits, or bytes of a text, are held in the share.
-    pub(crate) len: usize,
-    pub(crate) changes: u64,
-    pub(crate) rises: u64,
-    pub(crate) falls: u64,
-    pub(crate) chosen: bool,
-}
-
-/// The cell of the code at a place.
+/// The slot of the code at a place.
 #[inline(always)]
-fn cell_at(cells: &[Cell], code: usize) -> Option<Cell>
-    ensures { result ≡ slice_get cells.now code }
+pub(crate) fn slot_at(slots: &[Slot], code: usize) -> Option<Slot>
+    ensures { result ≡ slice_get slots.now code }
 {
-    cells.get(code).copied()
+    slots.get(code).copied()
 }
 
 /// Where the share of the code at a place ends.
 #[inline(always)]
-fn end_of(cells: &[Cell], values: usize, code: usize) -> usize
-    requires { code < length cells.now }
-    ensures { result ≡ end_at cells.now values code }
+fn end_of(slots: &[Slot], values: usize, code: usize) -> usize
+    requires { code < length slots.now }
+    ensures { result ≡ end_at slots.now values code }
 {
-    match cells.get(code + 1) {
+    match slots.get(code + 1) {
         Some(next) => next.start,
         None => values,
     }
 }
 
+/// How many bytes of its share are in use.
+#[inline(always)]
+fn used_by(slot: Slot) -> usize
+    ensures { result ≡ used slot }
+{
+    match slot.state {
+        State::Digits => slot.len.div_ceil(4),
+        State::Real => slot.len,
+        State::Unset | State::Zero | State::One | State::Unknown | State::High => 0,
+    }
+}
+
+/// The bytes of its share that are in use.
+#[inline(always)]
+pub(crate) fn share_in(values: &[u8], slot: Slot) -> &[u8]
+    requires { slot.start + used slot ≤ length values.now }
+    ensures { result.now ≡ take (used slot) (drop slot.start values.now) }
+{
+    &values[slot.start..slot.start + used_by(slot)]
+}
+
 /// Sets the value of a code to one digit. Its share is left alone, and need not be looked at.
 #[inline(always)]
-fn set_digit(cells: &mut [Cell], code: usize, digit: u8)
-    requires code { code < length cells.old }
-    ensures set { (values : List ℕ)
-        → shown_at cells.new values code ≡ digits (to_ascii_lowercase digit ∷ []) }
-    ensures others { (values : List ℕ) (other : ℕ) → other ≢ code
-        → shown_at cells.new values other ≡ shown_at cells.old values other }
-    ensures laid { (n : ℕ) → IsLaidOut cells.old n → IsLaidOut cells.new n }
-    ensures same { SameButHeld cells.old cells.new }
+fn set_digit(slots: &mut [Slot], code: usize, digit: u8)
+    ensures changes { (values : List ℕ)
+        → ChangesAt code (with_held (Held.Digits (held_digit digit ∷ []))) values slots.old
+        values slots.new }
+    ensures laid { (n : ℕ) → AreLaidOut slots.old n → AreLaidOut slots.new n }
 {
-    let Some(cell) = cell_at(cells, code) else {
+    let Some(slot) = slot_at(slots, code) else {
         return;
     };
-    cells[code] = Cell {
-        held: Held::Digit(digit.to_ascii_lowercase()),
-        ..cell
+    slots[code] = Slot {
+        state: state_of(digit),
+        ..slot
     };
 }
 
-/// Sets the value of a code to digits, which fit its share.
-fn set_digits(cells: &mut [Cell], values: &mut [u8], code: usize, text: &[u8])
-    requires code { code < length cells.old }
-    requires laid { IsLaidOut cells.old (length values.old) }
-    requires digits { IsTrue (list_all is_value_digit text.now) }
-    ensures set { fits_in cells.old (length values.old) code (length text.now)
-        → shown_at cells.new values.new code ≡ digits (str_to_ascii_lowercase text.now) }
-    ensures others { (other : ℕ) → other ≢ code
-        → shown_at cells.new values.new other ≡ shown_at cells.old values.old other }
-    ensures laid { IsLaidOut cells.new (length values.old) }
-    ensures same { SameButHeld cells.old cells.new }
+/// Sets the value of a code to digits, where they fit its share.
+fn set_digits(slots: &mut [Slot], values: &mut [u8], code: usize, text: &[u8])
+    requires laid { AreLaidOut slots.old (length values.old) }
+    requires several { length text.now ≢ 1 }
+    ensures changes { ChangesAt code (with_text Form.Vector text.now) values.old slots.old
+        values.new slots.new }
+    ensures laid { AreLaidOut slots.new (length values.old) }
 {
-    let Some(cell) = cell_at(cells, code) else {
+    let Some(slot) = slot_at(slots, code) else {
         return;
     };
-    let end = end_of(cells, values.len(), code);
-    if text.len().div_ceil(4) > end - cell.start {
+    let end = end_of(slots, values.len(), code);
+    if text.is_empty() || text.len().div_ceil(4) > end - slot.start {
         return;
     }
-    pack(&mut values[cell.start..end], text);
-    cells[code] = Cell {
-        held: Held::Digits,
+    slots[code] = Slot {
+        state: State::Digits,
         len: text.len(),
-        ..cell
+        ..slot
     };
+    pack(&mut values[slot.start..end], text);
 }
 
-/// Sets the value of a code to the text of a real number, which fits its share.
-fn set_real(cells: &mut [Cell], values: &mut [u8], code: usize, text: &[u8])
-    requires code { code < length cells.old }
-    requires laid { IsLaidOut cells.old (length values.old) }
-    ensures set { fits_text cells.old (length values.old) code (length text.now)
-        → shown_at cells.new values.new code ≡ text_shown text.now }
-    ensures others { (other : ℕ) → other ≢ code
-        → shown_at cells.new values.new other ≡ shown_at cells.old values.old other }
-    ensures laid { IsLaidOut cells.new (length values.old) }
-    ensures same { SameButHeld cells.old cells.new }
+/// Sets the value of a code to the text of a real number, where it fits its share.
+fn set_real(slots: &mut [Slot], values: &mut [u8], code: usize, text: &[u8])
+    requires laid { AreLaidOut slots.old (length values.old) }
+    ensures changes { ChangesAt code (with_text Form.RealText text.now) values.old slots.old
+        values.new slots.new }
+    ensures laid { AreLaidOut slots.new (length values.old) }
 {
-    let Some(cell) = cell_at(cells, code) else {
+    let Some(slot) = slot_at(slots, code) else {
         return;
     };
-    let end = end_of(cells, values.len(), code);
-    if text.len() > end - cell.start {
+    let end = end_of(slots, values.len(), code);
+    if text.is_empty() || text.len() > end - slot.start {
         return;
     }
-    copy_front(&mut values[cell.start..end], text);
-    cells[code] = Cell {
-        held: Held::Real,
+    slots[code] = Slot {
+        state: State::Real,
         len: text.len(),
-        ..cell
+        ..slot
     };
+    copy_front(&mut values[slot.start..end], text);
 }
 
 /// Copies bytes to the front.
@@ -140,43 +121,76 @@ fn copy_front(to: &mut [u8], from: &[u8])
     to[..from.len()].copy_from_slice(from);
 }
 
-/// Sets the value of a code to digits. Most changes are of one digit, and touch one cell alone.
+/// Sets the value of a code to digits. Most changes are of one digit, and touch one slot alone.
 #[inline(always)]
-fn set_bits(cells: &mut [Cell], values: &mut [u8], code: usize, text: &[u8])
-    requires code { code < length cells.old }
-    requires laid { IsLaidOut cells.old (length values.old) }
-    requires digits { IsTrue (list_all is_value_digit text.now) }
-    ensures set { fits_in cells.old (length values.old) code (length text.now)
-        → shown_at cells.new values.new code ≡ digits (str_to_ascii_lowercase text.now) }
-    ensures others { (other : ℕ) → other ≢ code
-        → shown_at cells.new values.new other ≡ shown_at cells.old values.old other }
-    ensures laid { IsLaidOut cells.new (length values.old) }
-    ensures same { SameButHeld cells.old cells.new }
+fn set_bits(slots: &mut [Slot], values: &mut [u8], code: usize, text: &[u8])
+    requires laid { AreLaidOut slots.old (length values.old) }
+    ensures changes { ChangesAt code (with_text Form.Vector text.now) values.old slots.old
+        values.new slots.new }
+    ensures laid { AreLaidOut slots.new (length values.old) }
 {
     match text {
-        [digit] => set_digit(cells, code, *digit),
-        _ => set_digits(cells, values, code, text),
+        [digit] => set_digit(slots, code, *digit),
+        _ => set_digits(slots, values, code, text),
     }
 }
 
 /// Sets the value of a code: digits, or the text of a real number.
 #[inline(always)]
-pub(crate) fn set_at(cells: &mut [Cell], values: &mut [u8], code: usize, form: Form, text: &[u8])
-    requires code { code < length cells.old }
-    requires laid { IsLaidOut cells.old (length values.old) }
-    requires digits { form ≢ Form.RealText → IsTrue (list_all is_value_digit text.now) }
-    ensures set { fits_form cells.old (length values.old) code form (length text.now)
-        → shown_at cells.new values.new code ≡ shown_with form text.now }
-    ensures others { (other : ℕ) → other ≢ code
-        → shown_at cells.new values.new other ≡ shown_at cells.old values.old other }
-    ensures laid { IsLaidOut cells.new (length values.old) }
-    ensures same { SameButHeld cells.old cells.new }
+pub(crate) fn set_at(slots: &mut [Slot], values: &mut [u8], code: usize, form: Form, text: &[u8])
+    requires laid { AreLaidOut slots.old (length values.old) }
+    ensures changes { ChangesAt code (with_text form text.now) values.old slots.old
+        values.new slots.new }
+    ensures laid { AreLaidOut slots.new (length values.old) }
 {
     match form {
-        Form::RealText => set_real(cells, values, code, text),
-        Form::Scalar => set_bits(cells, values, code, text),
-        Form::Vector => set_bits(cells, values, code, text),
+        Form::RealText => set_real(slots, values, code, text),
+        Form::Scalar => set_bits(slots, values, code, text),
+        Form::Vector => set_bits(slots, values, code, text),
     }
+}
+
+/// Adds one to a counter of a code. A full one stays.
+#[inline(always)]
+pub(crate) fn bump_at(slots: &mut [Slot], code: usize, which: usize)
+    ensures changes { (values : List ℕ)
+        → ChangesAt code (one_more which) values slots.old values slots.new }
+    ensures laid { (n : ℕ) → AreLaidOut slots.old n → AreLaidOut slots.new n }
+{
+    let Some(slot) = slot_at(slots, code) else {
+        return;
+    };
+    slots[code] = Slot {
+        counts: counts_with(slot.counts, which),
+        ..slot
+    };
+}
+
+/// Counters, with one more in one of them.
+#[inline(always)]
+fn counts_with(mut counts: [u64; 3], which: usize) -> [u64; 3]
+    ensures { result ≡ counts_with counts which }
+{
+    if which < counts.len() {
+        counts[which] = counts[which].saturating_add(1);
+    }
+    counts
+}
+
+/// Chooses a code.
+#[inline(always)]
+pub(crate) fn choose_at(slots: &mut [Slot], code: usize)
+    ensures changes { (values : List ℕ)
+        → ChangesAt code as_chosen values slots.old values slots.new }
+    ensures laid { (n : ℕ) → AreLaidOut slots.old n → AreLaidOut slots.new n }
+{
+    let Some(slot) = slot_at(slots, code) else {
+        return;
+    };
+    slots[code] = Slot {
+        chosen: true,
+        ..slot
+    };
 }
 
 /// How many bytes the value of a code of this size takes at most.
@@ -197,36 +211,18 @@ fn share_at(codes: &[Code], place: usize) -> usize
 }
 
 /// Gives each code its share of the values, one after the other, and unsets all. Where the values have no room for all shares,
-/// the last ones are cut.
-pub(crate) fn lay_out(codes: &[Code], cells: &mut [Cell], values: usize)
-    requires { length codes.now ≡ length cells.old }
-    ensures length { length cells.new ≡ length cells.old }
-    ensures cells { (k : ℕ) (c : Cell) → slice_get cells.new k ≡ Some c
-        → c ≡ unset_at (start_of codes.now values k) }
+/// the last ones are cut. Returns where the last share ends.
+pub(crate) fn lay_out(codes: &[Code], slots: &mut [Slot], values: usize) -> usize
+    requires { length codes.now ≡ length slots.old }
+    ensures length { length slots.new ≡ length slots.old }
+    ensures slots { (k : ℕ) (s : Slot) → slice_get slots.new k ≡ Some s
+        → s ≡ unset_at (start_of codes.now values k) }
+    ensures end { result ≡ start_of codes.now values (length codes.now) }
 {
     let mut at = 0;
-    for place in 0..cells.len() {
-        cells[place] = Cell {
-            held: Held::Unset,
-            start: at,
-            len: 0,
-            changes: 0,
-            rises: 0,
-            falls: 0,
-            chosen: false,
-        };
+    for place in 0..slots.len() {
+        slots[place] = Slot::at(at);
         at = at.saturating_add(share_at(codes, place)).min(values);
     }
+    at
 }
-
-/// In cells that are laid out the shares follow one another, and each has room for the values of its code where the values have
-/// room for all.
-pub fn laid_out()
-    ensures { (codes : List Code) (cells : List Cell) (n : ℕ) → length codes ≡ length cells
-        → ((k : ℕ) (c : Cell) → slice_get cells k ≡ Some c → c ≡ unset_at (start_of codes n k))
-        → IsLaidOut cells n
-        × (sum_by (λ (c : Code). share_of c.size) codes ≤ n → (k : ℕ) (c : Code) (len : ℕ)
-        → slice_get codes k ≡ Some c
-        → (len ≤ c.size → fits_in cells n k len) × (len ≤ 64 → fits_text cells n k len))
-        × ((values : List ℕ) (k : ℕ) → shown_at cells values k ≡ unset) }
-{}

@@ -1,54 +1,187 @@
-//! What is kept of each code, in lent slices.
-ghost use Rattle.std.specs.Prelude.{◌≡◌, ℕ, ◌<◌, ◌≤◌, ◌==◌, ◌||◌, false, length};
-ghost use Rattle.vcd_body.specs.Contents.{IsUnset, codes_in, is_chosen};
+//! The current values of the codes of a header, in lent slices.
+ghost use Rattle.std.specs.Prelude.{◌≡◌, ℕ, ◌+◌, ◌-◌, ◌^◌, ◌<◌, ◌≤◌, length};
+ghost use Rattle.vcd_model.specs.Sample.{shown};
+ghost use Rattle.vcd_text.specs.Device.{Counts, Puts, Takes, failures_after};
+ghost use Rattle.vcd_body.specs.Kept.{Held, as_chosen, digit_in, one_more, real_text, with_text};
+ghost use Rattle.vcd_body.specs.Stored.{AreLaidOut, room_of};
 
+use crate::held::digit_shown;
+use crate::held_text::{put_value, put_value_line};
+use crate::item::Form;
+use crate::slot::{Shown, Slot, State};
+use crate::store::{bump_at, choose_at, lay_out, set_at, share_in, slot_at};
 use vcd_head::HeadView;
+use vcd_text::{Sink, WriteFailed, put};
 
-/// What is kept of a code.
-#[derive(Clone, Copy, PartialEq, Eq, Debug)]
-pub struct Slot {
-    chosen: bool,
-}
-
-impl Slot {
-    /// Nothing is known of the code, and it is not chosen.
-    pub fn new() -> Slot
-        ensures { IsUnset result }
-    {
-        Slot { chosen: false }
-    }
-}
-
-/// A table of the codes of a header, by their places.
+/// What is kept of the codes of a header, by their places: the value of each, as it was last written, three counters, and
+/// whether it is chosen. A call changes what it names and nothing else. It is total: of a place that is no code's nothing is
+/// kept, and nothing changes.
 #[derive(Drop)]
 pub struct Table<'a> {
+    values: &'a mut [u8],
     slots: &'a mut [Slot],
+    ghost laid: { AreLaidOut slots.now (length values.now) },
 }
 
 impl<'a> Table<'a> {
-    /// A table of the codes of the header that is shown; none of them is chosen. Slots beyond the codes are left alone.
-    pub fn new(view: HeadView<'_>, slots: &'a mut [Slot]) -> Table<'a>
-        requires room { length view.codes.now ≤ length slots.old }
+    ghost use Rattle.std.specs.Prelude.{Some, false, option_map, slice_get};
+    ghost use Rattle.vcd_head.specs.declared.view.Code.{Code};
+    ghost use Rattle.vcd_model.specs.Values.{value_with};
+    ghost use Rattle.vcd_body.specs.Given.{IsText};
+    ghost use Rattle.vcd_body.specs.Items.{model_form};
+    ghost use Rattle.vcd_body.specs.Kept.{Kept, unset, value_at_size};
+    ghost use Rattle.vcd_body.specs.Stored.{share_of};
+    ghost use Rattle.vcd_body.specs.Contents.{ChangesCode, codes_in, codes_shown, counts_at, held_at, is_chosen, kept_at, line_of, new_at, shown_as, value_in};
+
+    /// A table of the codes of the header that is shown: each is unset, its counters are 0, and it is not chosen. A code's value
+    /// has a quarter of its size of the bytes of `values`, rounded up, and at least 64; where there are fewer, the last codes go
+    /// short. Slots and bytes beyond these are left alone.
+    pub fn new(view: HeadView<'_>, values: &'a mut [u8], slots: &'a mut [Slot]) -> Table<'a>
+        requires slots { length view.codes.now ≤ length slots.old }
         ensures codes { codes_in result ≡ length view.entry.codes.now }
-        ensures chosen { (code : ℕ) → is_chosen result code ≡ false }
+        ensures kept { (code : ℕ) → kept_at result code
+            ≡ new_at view.entry.codes.now (length values.old) code }
+        ensures room { room_of view.entry.codes.now ≤ length values.old → (code : ℕ) (c : Code)
+            → slice_get view.entry.codes.now code ≡ Some c
+            → kept_at result code ≡ Some (unset (share_of c.size)) }
     {
         let slots = &mut slots[..view.codes.len()];
-        slots.fill(Slot::new());
-        Table { slots }
+        let end = lay_out(view.codes, slots, values.len());
+        let values = &mut values[..end];
+        Table { values, slots }
+    }
+
+    /// Sets the value of the code at a place by the text of a change: digits, or that of a real number, as `change_text` gives
+    /// it. A text that is empty or has no room is passed over. It takes as long as the text is, and one digit touches the
+    /// code's slot alone.
+    #[inline(always)]
+    pub fn set(&mut self, code: usize, form: Form, text: &[u8])
+        ensures changes { ChangesCode code (with_text form text.now) self.old self.new }
+        ensures value { (c : Code) (k : Kept) → IsText form c text.now → c.event ≡ false
+            → kept_at self.old code ≡ Some k → share_of c.size ≤ k.room
+            → value_at_size c.size (held_at self.new code)
+            ≡ Some (value_with c.size (model_form form) text.now) }
+        ensures codes { codes_in self.new ≡ codes_in self.old }
+    {
+        set_at(self.slots, self.values, code, form, text);
+    }
+
+    /// What the value of the code at a place is.
+    #[inline]
+    pub fn get(&self, code: usize) -> Shown
+        ensures { result ≡ shown_as (held_at self.now code) }
+    {
+        match slot_at(self.slots, code) {
+            None => Shown::Unset,
+            Some(slot) => match slot.state {
+                State::Unset => Shown::Unset,
+                State::Real => Shown::Real,
+                State::Zero | State::One | State::Unknown | State::High | State::Digits => {
+                    Shown::Bits
+                }
+            },
+        }
+    }
+
+    /// The digit at a place of the value of a code, extended to the code's size, from the left and in lower case. None where the
+    /// value has no digits, or fewer.
+    #[inline]
+    pub fn digit(&self, view: HeadView<'_>, code: usize, place: usize) -> Option<u8>
+        ensures { result ≡ digit_in (value_in (codes_shown view.entry) self.now code) place }
+    {
+        let Some(declared) = view.code_at(code) else {
+            return None;
+        };
+        let Some(slot) = slot_at(self.slots, code) else {
+            return None;
+        };
+        digit_shown(slot, share_in(self.values, slot), declared.size, place)
+    }
+
+    /// The text of the real number that is the value of the code at a place; empty where it has no such value.
+    #[inline]
+    pub fn real(&self, code: usize) -> &[u8]
+        ensures { result.now ≡ real_text (held_at self.now code) }
+    {
+        match slot_at(self.slots, code) {
+            Some(slot) if slot.state == State::Real => share_in(self.values, slot),
+            _ => &[],
+        }
+    }
+
+    /// Writes the line of a change that gives the code at a place its value, with the shortest digits; nothing where it has no
+    /// value. Where a write fails, a prefix was written.
+    pub fn put_short<W: Sink>(
+        &self,
+        view: HeadView<'_>,
+        code: usize,
+        w: &mut W,
+    ) -> Result<(), WriteFailed>
+        requires { (W.device w.old).failures < 2 ^ 64 - 1 }
+        ensures { Puts (W.device w.old) (W.device w.new)
+            (line_of (codes_shown view.entry) self.now code) result }
+    {
+        let Some(declared) = view.code_at(code) else {
+            return Ok(());
+        };
+        let Some(slot) = slot_at(self.slots, code) else {
+            return Ok(());
+        };
+        let id = view.text_at(declared.start, declared.len);
+        put_value_line(slot, share_in(self.values, slot), declared.size, id, w)
+    }
+
+    /// Writes the value of the code at a place in full: all its digits, or `r` and the text of a real number; `-` where it has no
+    /// value. Where a write fails, a prefix was written.
+    pub fn put_full<W: Sink>(
+        &self,
+        view: HeadView<'_>,
+        code: usize,
+        w: &mut W,
+    ) -> Result<(), WriteFailed>
+        requires { (W.device w.old).failures < 2 ^ 64 - 1 }
+        ensures { Puts (W.device w.old) (W.device w.new)
+            (shown (value_in (codes_shown view.entry) self.now code)) result }
+    {
+        let Some(declared) = view.code_at(code) else {
+            return put(w, b"-");
+        };
+        let Some(slot) = slot_at(self.slots, code) else {
+            return put(w, b"-");
+        };
+        put_value(slot, share_in(self.values, slot), declared.size, w)
+    }
+
+    /// The three counters of the code at a place.
+    #[inline]
+    pub fn tally(&self, code: usize) -> [u64; 3]
+        ensures { result ≡ counts_at self.now code }
+    {
+        match slot_at(self.slots, code) {
+            Some(slot) => slot.counts,
+            None => [0; 3],
+        }
+    }
+
+    /// Adds one to the counter `which`, 0 to 2, of the code at a place. A full one stays.
+    #[inline(always)]
+    pub fn bump(&mut self, code: usize, which: usize)
+        ensures changes { ChangesCode code (one_more which) self.old self.new }
+        ensures codes { codes_in self.new ≡ codes_in self.old }
+    {
+        bump_at(self.slots, code, which);
     }
 
     /// Chooses the code at a place.
+    #[inline]
     pub fn choose(&mut self, code: usize)
-        requires { code < codes_in self.old }
+        ensures changes { ChangesCode code as_chosen self.old self.new }
         ensures codes { codes_in self.new ≡ codes_in self.old }
-        ensures chosen { (other : ℕ)
-            → is_chosen self.new other ≡ ((other == code) || is_chosen self.old other) }
     {
-        let slot = &mut self.slots[code];
-        slot.chosen = true;
+        choose_at(self.slots, code);
     }
 
-    /// Whether the code at a place is chosen; where there is no code, none is. It takes the same time for every table.
+    /// Whether the code at a place is chosen. It takes the same time for every table.
     #[inline]
     pub fn chosen(&self, code: usize) -> bool
         ensures { result ≡ is_chosen self.now code }

@@ -1,13 +1,12 @@
-// Bodies that are read to their end, bodies that are refused, a source that fails, changes that are written, and codes that are chosen.
-ghost use Rattle.std.specs.Prelude.{◌≡◌, ◌<◌, length};
+// Bodies that are read to their end, bodies that are refused, a source that fails, and changes that are written.
+ghost use Rattle.std.specs.Prelude.{◌<◌, length};
 
 use crate::change::put_change;
 use crate::item::{Form, Item, Regs};
 use crate::read::{change_text, next_item};
-use crate::table::{Slot, Table};
 use std::alloc::{AllocError, Global};
 use std::test::Fail;
-use vcd_head::{Code, HeadView, read_head};
+use vcd_head::read_head;
 use vcd_text::doubles::{Narrow, Pieces};
 use vcd_text::{Feed, Sink, Watch, WriteFailed};
 
@@ -227,37 +226,4 @@ fn sink_that_fails(rt: HostRuntime) {
     );
     assert_eq!(rt; page.device.held(), b"r1.5 ".as_slice());
     assert_eq!(rt; Sink::failures(&page), 1);
-}
-
-// A header that shows so many codes, and nothing else.
-fn view_of(codes: &[Code]) -> HeadView<'_>
-    ensures { result.codes.now ≡ codes.now }
-{
-    HeadView {
-        text: &[],
-        rows: &[],
-        codes,
-        index: &[],
-        guesses: &[],
-        keys: &[],
-        date: &[],
-        version: &[],
-        scale: None,
-    }
-}
-
-#[test]
-fn one_of_three_codes_is_chosen(rt: HostRuntime) {
-    let codes = [Code {
-        start: 0,
-        len: 0,
-        size: 1,
-        event: false,
-    }; 3];
-    let mut slots = [Slot::new(); 4];
-    let mut table = Table::new(view_of(&codes), &mut slots);
-    table.choose(1);
-    assert!(rt; !table.chosen(0) && table.chosen(1) && !table.chosen(2));
-    let again = Table::new(view_of(&codes), &mut slots);
-    assert!(rt; !again.chosen(0) && !again.chosen(1) && !again.chosen(2));
 }

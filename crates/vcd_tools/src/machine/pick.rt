@@ -55,7 +55,7 @@ impl<'n, 'r> Pick<'n, 'r> {
     {
         let Room { marks, slots } = room;
         let marks = &mut marks[..view.rows.len()];
-        let mut table = Table::new(view, slots);
+        let mut table = Table::new(view, &mut [], slots);
         select_codes(view, names, marks, &mut table)?;
         put_head(view, marks, out)?;
         Ok(Pick {

@@ -8,4 +8,4 @@ returns c =
     let n = length c.args.text.now in
     let d = div_ceil_times n 4 (omega arith) in
     let e = c.div_ceil-count.ensures in
-    record { packed = packs_again c.args.text.now c.loop-i.share (omega arith) c.requires.digits (λ j h. c.loop-i.invariant j (omega arith)) }
+    packs_again c.args.text.now c.loop-i.share (omega arith) (λ j h. c.loop-i.invariant j (omega arith))

@@ -12,11 +12,11 @@ loop-place-preserved c =
     let s = start_next c.args.codes.now c.args.values c.loop-place.place d.0 d.1 in
     let at = i.1 in
     let one = c.share_at.ensures d.0 d.1 in
-    let more = laid_more c.args.codes.now c.loop-place.cells c.args.values c.loop-place.place (omega arith) i.2 in (
+    let more = laid_more c.args.codes.now c.loop-place.slots c.args.values c.loop-place.place (omega arith) i.2 in (
       length-set _ _ _ ∙ i.0,
       omega (arith, s, at, one, c.saturating_add.ensures, c.min-at.ensures),
-      rw at more,
+      rw (c.at.ensures, at) more,
     )
 
-pub returns-clause-cells : goal.returns-clause-cells
-returns-clause-cells c = λ k d at. c.loop-place.invariant.2 k d (let w = slice_get_within c.loop-place.cells k d at in omega arith) at
+pub returns-clause-slots : goal.returns-clause-slots
+returns-clause-slots c = λ k d at. c.loop-place.invariant.2 k d (let w = slice_get_within c.loop-place.slots k d at in omega arith) at

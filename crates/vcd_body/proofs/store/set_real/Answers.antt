@@ -1,69 +1,44 @@
 use Rattle.std.proofs.Common.{◌≡◌, ◌-◌, sym, ap, ◌∙◌, refl, arith, length, take, drop, length-take, length-drop}
-use Rattle.vcd_body.specs.Stored.{rest_of}
-use Rattle.vcd_body.proofs.StoreLemmas.{text_set, laid_set, map_set, others_hold}
+use Rattle.vcd_body.specs.Kept.{with_text}
+use Rattle.vcd_body.specs.Stored.{end_at}
+use Rattle.vcd_body.specs.declared.item.Form.TheVariants as form
+use Rattle.vcd_body.specs.declared.slot.State.TheVariants as state
+use Rattle.vcd_body.proofs.StoreLemmas.{text_kept, laid_set, set_slot, share_changes, some_text}
 use Rattle.vcd_body.proofs.store.set_real.Goals as goal
 
 pub overflow_sub-end : goal.overflow_sub-end
 overflow_sub-end c =
-    let l = c.requires.laid c.args.code c.in-Some.cell (sym c.cell_at.ensures ∙ c.in-Some.is) in
-    let low = l.0 in
-    omega (arith, low, c.end_of-end.ensures)
-
-pub slice_bounds-copy_front-count : goal.slice_bounds-copy_front-count
-slice_bounds-copy_front-count c =
-    let l = c.requires.laid c.args.code c.in-Some.cell (sym c.cell_at.ensures ∙ c.in-Some.is) in
-    let low = l.0 in
-    omega (arith, low, c.end_of-end.ensures)
-
-pub slice_bounds-copy_front-start : goal.slice_bounds-copy_front-start
-slice_bounds-copy_front-start c =
-    let l = c.requires.laid c.args.code c.in-Some.cell (sym c.cell_at.ensures ∙ c.in-Some.is) in
+    let l = c.requires.laid c.args.code c.in-Some.slot (sym c.slot_at.ensures ∙ c.in-Some.is) in
     let low = l.0 in
     omega (arith, low, c.end_of-end.ensures)
 
 pub slice_bounds-copy_front-end : goal.slice_bounds-copy_front-end
 slice_bounds-copy_front-end c =
-    let l = c.requires.laid c.args.code c.in-Some.cell (sym c.cell_at.ensures ∙ c.in-Some.is) in
+    let l = c.requires.laid c.args.code c.in-Some.slot (sym c.slot_at.ensures ∙ c.in-Some.is) in
     let high = l.1 in
     omega (arith, high, c.end_of-end.ensures)
 
-pub returns-then-text-end-clause-set : goal.returns-then-text-end-clause-set
-returns-then-text-end-clause-set c = λ fits.
-    let f = fits c.in-Some.cell (sym c.cell_at.ensures ∙ c.in-Some.is) in
-    absurd (omega (arith, f, c.end_of-end.ensures, c.if-text-end.true))
-
-pub returns-clause-set : goal.returns-clause-set
-returns-clause-set c = λ fits.
-    let cell = c.in-Some.cell in
-    let at = sym c.cell_at.ensures ∙ c.in-Some.is in
-    let l = c.requires.laid c.args.code cell at in
+pub returns-clause-changes : goal.returns-clause-changes
+returns-clause-changes c =
+    let slot = c.in-Some.slot in
+    let text = c.args.text.now in
+    let values = c.args.values.now in
+    let slots = c.args.slots.now in
+    let at = sym c.slot_at.ensures ∙ c.in-Some.is in
+    let l = c.requires.laid c.args.code slot at in
     let low = l.0 in
     let high = l.1 in
-    let n = length c.args.values.now in
-    let len = c.copy_front.auto.to in
-    let lent : length (take (c.end_of-end.result - cell.start) (drop cell.start c.args.values.now)) ≡ c.end_of-end.result - cell.start = omega (arith, low, high, c.end_of-end.ensures, length-take (c.end_of-end.result - cell.start) (drop cell.start c.args.values.now), length-drop cell.start c.args.values.now) in
-    text_set c.args.cells.now c.args.code _ c.end_of-end.result c.args.values.now c.copy_front.new.to _ c.requires.code refl (omega (arith, low, c.end_of-end.ensures, c.if-text-end.false)) (omega (arith, high, c.end_of-end.ensures)) (len ∙ lent) c.copy_front.ensures
-
-pub returns-clause-others : goal.returns-clause-others
-returns-clause-others c =
-    let cell = c.in-Some.cell in
-    let at = sym c.cell_at.ensures ∙ c.in-Some.is in
-    let l = c.requires.laid c.args.code cell at in
-    let low = l.0 in
-    let high = l.1 in
-    let len = c.copy_front.auto.to in
-    let lent : length (take (c.end_of-end.result - cell.start) (drop cell.start c.args.values.now)) ≡ c.end_of-end.result - cell.start = omega (arith, low, high, c.end_of-end.ensures, length-take (c.end_of-end.result - cell.start) (drop cell.start c.args.values.now), length-drop cell.start c.args.values.now) in
-    rw c.end_of-end.ensures (λ j other. others_hold c.args.cells.now (length c.args.values.now) c.requires.laid c.args.code cell _ at refl (omega (arith, low, c.end_of-end.ensures, c.if-text-end.false)) c.args.values.now c.copy_front.new.to refl (len ∙ lent ∙ ap (λ e. e - cell.start) c.end_of-end.ensures) j other)
+    let some = some_text text (sym c.is_empty.ensures ∙ c.if-is_empty.false) in
+    let lent : length (take (c.end_of-end.result - slot.start) (drop slot.start values)) ≡ c.end_of-end.result - slot.start = omega (arith, low, high, c.end_of-end.ensures, length-take (c.end_of-end.result - slot.start) (drop slot.start values), length-drop slot.start values) in
+    let size : length c.copy_front.new.to ≡ end_at slots (length values) c.args.code - slot.start = c.copy_front.auto.to ∙ lent ∙ ap (λ e. e - slot.start) c.end_of-end.ensures in
+    rw c.end_of-end.ensures (share_changes slots (length values) c.requires.laid c.args.code slot at (set_slot state.Real (length text) slot) values c.copy_front.new.to (with_text form.RealText text) refl refl size
+    (text_kept slot (end_at slots (length values) c.args.code) values c.copy_front.new.to text some (omega (arith, low, c.end_of-end.ensures, c.if-text-end.false)) high size c.copy_front.ensures))
 
 pub returns-clause-laid : goal.returns-clause-laid
 returns-clause-laid c =
-    let cell = c.in-Some.cell in
-    let at = sym c.cell_at.ensures ∙ c.in-Some.is in
-    let l = c.requires.laid c.args.code cell at in
+    let slot = c.in-Some.slot in
+    let at = sym c.slot_at.ensures ∙ c.in-Some.is in
+    let l = c.requires.laid c.args.code slot at in
     let low = l.0 in
-    laid_set c.args.cells.now (length c.args.values.now) c.requires.laid c.args.code cell _ at refl (omega (arith, low, c.end_of-end.ensures, c.if-text-end.false))
-
-pub returns-clause-same : goal.returns-clause-same
-returns-clause-same c =
-    let at = sym c.cell_at.ensures ∙ c.in-Some.is in
-    map_set rest_of c.args.cells.now c.args.code _ c.in-Some.cell at refl
+    let some = some_text c.args.text.now (sym c.is_empty.ensures ∙ c.if-is_empty.false) in
+    laid_set c.args.slots.now (length c.args.values.now) c.requires.laid c.args.code slot _ at refl (omega (arith, low, c.end_of-end.ensures, c.if-text-end.false)) (omega (arith, some))

@@ -1,10 +1,11 @@
-use Rattle.std.proofs.Common.{◌≡◌, ◌+◌, ◌∙◌, refl, sym, subst, length, rules}
+use Rattle.std.proofs.Common.{◌≡◌, ◌+◌, ◌∙◌, refl, sym, subst, length, rules, arith}
 use Rattle.std.specs.Iterator.Adapters.{zip_first, zip_second}
 use Rattle.std.specs.Slice.Iter.{iter_rest}
 use Rattle.std.proofs.lemmas.List.{length_push}
 use Rattle.std.proofs.lemmas.Slice.Zip.{zip_turn, zip_end}
 use Rattle.vcd_head.specs.Shown.{parts}
 use Rattle.vcd_body.specs.Contents.{is_chosen}
+use Rattle.vcd_body.proofs.TableLemmas.{chosen_after}
 use Rattle.vcd_tools.proofs.SelectionLemmas.{HaveChosen, are_at, none_chosen, next_chosen, next_other, next_unmarked, next_outside, all_chosen}
 use Rattle.vcd_tools.proofs.selection.choose_marked.Goals as goal
 use Rattle.vcd_tools.proofs.selection.choose_marked.Goals.{else-eq-via-then-eq+then-mark-eq1+else-row-view, else-eq-via-then-eq+else-mark-eq1, else-eq-via-else-eq}
@@ -21,7 +22,7 @@ loop-row-preserved-then-row-view c =
     let second : iter_rest (zip_second c.into_iter-row-iterator.result) ≡ c.args.marks.now = search rules in
     let turn = zip_turn c.args.view.rows.now c.args.marks.now c.loop-row.yielded c.into_iter-row-iterator.result c.loop-row.row-iterator c.next.new.self c.next.result first second c.loop-row.yielded_by (c.in-Some.row, c.in-Some.mark) c.in-Some.is c.next.ensures.steps in
     let there = are_at c.args.view.rows.now c.args.marks.now i c.in-Some.row.now c.in-Some.mark.now turn in
-    let more = next_chosen s c.args.marks.now old (is_chosen c.loop-row.table) i c.in-Some.row.now c.in-Some.mark.now c.loop-row.invariant.1 there (is_chosen c.choose.new.self) (sym c.eq.ensures ∙ c.if-eq.true) c.if-mark-eq1.true c.choose.ensures.chosen in
+    let more = next_chosen s c.args.marks.now old (is_chosen c.loop-row.table) i c.in-Some.row.now c.in-Some.mark.now c.loop-row.invariant.1 there (is_chosen c.choose.new.self) (sym c.eq.ensures ∙ c.if-eq.true) c.if-mark-eq1.true (chosen_after c.loop-row.table c.choose.new.self c.in-Some.row.now.code (let codes = c.loop-row.invariant.0 in omega (arith, codes, c.requires.codes, c.if-row-view.true)) c.choose.ensures.changes) in
     (c.choose.ensures.codes ∙ c.loop-row.invariant.0, subst (HaveChosen s c.args.marks.now old (is_chosen c.choose.new.self)) (sym (length_push c.loop-row.yielded (c.in-Some.row, c.in-Some.mark))) more)
 
 pub loop-row-preserved : goal.loop-row-preserved

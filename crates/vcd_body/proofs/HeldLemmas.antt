@@ -1,0 +1,104 @@
+-- The value that a slot holds, digit by digit.
+use Rattle.std.proofs.Common.{◌≡◌, ◌≢◌, ℕ, zero, suc, ◌-◌, ◌<◌, ◌≤◌, List, [], ◌∷◌, ◌++◌, length, take, replicate, slice_get, Some, None, refl, sym, ap, ◌∙◌, arith}
+use Rattle.std.proofs.lemmas.List.{length-take}
+use Rattle.std.proofs.lemmas.Grind.{div_ceil_times}
+use Rattle.std.proofs.lemmas.Option.{slice_get_past}
+use Rattle.vcd_model.specs.Values.{extend, extension}
+use Rattle.vcd_body.specs.Kept.{Held, bytes_for, digit_in, value_at_size}
+use Rattle.vcd_body.specs.Packed.{digits_in, unpacked}
+use Rattle.vcd_body.specs.Stored.{digits_held, held_by, one_digit, some_by, used_by}
+use Rattle.vcd_body.specs.declared.slot.State.{State}
+use Rattle.vcd_body.specs.declared.slot.State.TheVariants as state
+use Rattle.vcd_body.proofs.PackedLemmas.{length_unpacked}
+
+-- ---- one digit
+
+-- of a state that does not pack digits, the first one is that of the state
+pub first_held : (st : State) (len : ℕ) (bytes : List ℕ) → st ≢ state.Digits → slice_get (digits_held (held_by st len bytes)) 0 ≡ one_digit st
+first_held state.Unset len bytes h = refl
+first_held state.Zero len bytes h = refl
+first_held state.One len bytes h = refl
+first_held state.Unknown len bytes h = refl
+first_held state.High len bytes h = refl
+first_held state.Digits len bytes h = absurd (h refl)
+first_held state.Real len bytes h = refl
+
+-- and there are no others
+pub none_held : (st : State) (len place : ℕ) (bytes : List ℕ) → st ≢ state.Digits → place ≢ 0 → slice_get (digits_held (held_by st len bytes)) place ≡ None
+none_held st len zero bytes h n = absurd (n refl)
+none_held state.Unset len (suc p) bytes h n = refl
+none_held state.Zero len (suc p) bytes h n = refl
+none_held state.One len (suc p) bytes h n = refl
+none_held state.Unknown len (suc p) bytes h n = refl
+none_held state.High len (suc p) bytes h n = refl
+none_held state.Digits len (suc p) bytes h n = absurd (h refl)
+none_held state.Real len (suc p) bytes h n = refl
+
+pub get_taken : {X : Type 0} (xs : List X) (n i : ℕ) → i < n → slice_get (take n xs) i ≡ slice_get xs i
+get_taken xs zero i h = absurd (omega arith)
+get_taken [] (suc n) i h = refl
+get_taken (x ∷ xs) (suc n) zero h = refl
+get_taken (x ∷ xs) (suc n) (suc i) h = get_taken xs n i (omega arith)
+
+pub none_taken : {X : Type 0} (xs : List X) (n i : ℕ) → n ≤ i → slice_get (take n xs) i ≡ None
+none_taken xs n i h = slice_get_past (take n xs) i (let l = length-take n xs in omega arith)
+
+-- so many packed digits are held
+pub length_held : (len : ℕ) (bytes : List ℕ) → bytes_for len ≤ length bytes → length (digits_in len bytes) ≡ len
+length_held len bytes h =
+    let d = div_ceil_times len 4 (omega arith) in
+    let u = length_unpacked bytes in
+    let l = length-take len (unpacked bytes) in
+    omega arith
+
+pub count_held : (st : State) (len : ℕ) (bytes : List ℕ) → st ≡ state.Digits → used_by st len ≤ length bytes → len ≡ length (digits_held (held_by st len bytes))
+count_held st len bytes is h = rw is (sym (length_held len bytes (let u = ap (λ (x : State). used_by x len) is in omega (arith, u, h))))
+
+-- ---- extended digits
+
+pub digit_before : (m e i : ℕ) (ds : List ℕ) → i < m → slice_get (replicate m e ++ ds) i ≡ Some e
+digit_before zero e i ds h = absurd (omega arith)
+digit_before (suc m) e zero ds h = refl
+digit_before (suc m) e (suc i) ds h = digit_before m e i ds (omega arith)
+
+pub digit_behind : (m e i : ℕ) (ds : List ℕ) → m ≤ i → slice_get (replicate m e ++ ds) i ≡ slice_get ds (i - m)
+digit_behind zero e i ds h = let same : i ≡ i - 0 = omega arith in ap (slice_get ds) same
+digit_behind (suc m) e zero ds h = absurd (omega arith)
+digit_behind (suc m) e (suc i) ds h = let same : i - m ≡ suc i - suc m = omega arith in digit_behind m e i ds (omega arith) ∙ ap (slice_get ds) same
+
+-- where the first digit is known, the value is digits
+pub digits_of : (h : Held) (size place first : ℕ) → slice_get (digits_held h) 0 ≡ Some first → digit_in (value_at_size size h) place ≡ slice_get (extend (digits_held h) size) place
+digits_of Held.Unset size place first e = cc
+digits_of (Held.Digits ds) size place first e = refl
+digits_of (Held.Text text) size place first e = cc
+
+-- where there is none, the value has no digits
+pub no_digits : (st : State) (len size place : ℕ) (bytes : List ℕ) → used_by st len ≤ length bytes → 1 ≤ some_by st len → slice_get (digits_held (held_by st len bytes)) 0 ≡ None → digit_in (value_at_size size (held_by st len bytes)) place ≡ None
+no_digits state.Unset len size place bytes u s e = refl
+no_digits state.Zero len size place bytes u s e = cc
+no_digits state.One len size place bytes u s e = cc
+no_digits state.Unknown len size place bytes u s e = cc
+no_digits state.High len size place bytes u s e = cc
+no_digits state.Digits len size place bytes u s e = absurd (some (digits_in len bytes) (let l = length_held len bytes u in omega arith) e)
+  where
+    some : (ds : List ℕ) → 0 < length ds → slice_get ds 0 ≡ None → ⊥
+    some [] h e = omega arith
+    some (d ∷ ds) h e = let f : Some d ≡ None = e in cc
+no_digits state.Real len size place bytes u s e = refl
+
+-- the digit that others are extended by is that of the first one
+pub extension_first : (ds : List ℕ) (first : ℕ) → slice_get ds 0 ≡ Some first → extension ds ≡ extension (first ∷ [])
+extension_first [] first e = cc
+extension_first (d ∷ ds) first e = let s : d ≡ first = cc in ap (λ x. extension (x ∷ [])) s
+
+-- ---- the value, digit by digit
+
+pub shown_before : (h : Held) (size place first : ℕ) → slice_get (digits_held h) 0 ≡ Some first → place < size - length (digits_held h) → digit_in (value_at_size size h) place ≡ Some (extension (first ∷ []))
+shown_before h size place first e before =
+    let ds = digits_held h in
+    digits_of h size place first e ∙ digit_before (size - length ds) (extension ds) place ds before ∙ ap (λ x. Some x) (extension_first ds first e)
+
+pub shown_behind : (h : Held) (size place first : ℕ) → slice_get (digits_held h) 0 ≡ Some first → size - length (digits_held h) ≤ place → digit_in (value_at_size size h) place ≡ slice_get (digits_held h) (place - (size - length (digits_held h)))
+shown_behind h size place first e behind =
+    let ds = digits_held h in
+    digits_of h size place first e ∙ digit_behind (size - length ds) (extension ds) place ds behind

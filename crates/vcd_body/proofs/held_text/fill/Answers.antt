@@ -1,0 +1,11 @@
+use Rattle.std.proofs.Common.{take, drop, ap, ◌∙◌, arith}
+use Rattle.vcd_body.specs.Stored.{digits_with}
+use Rattle.vcd_body.proofs.Pieces.{same_part}
+use Rattle.vcd_body.proofs.held_text.fill.Goals as goal
+
+pub returns : goal.returns
+returns c =
+    let ds = digits_with c.args.slot c.args.share.now in
+    let long = c.loop-place.auto.to in
+    same_part c.loop-place.to ds c.args.from (omega (arith, long, c.requires)) (λ k few. c.loop-place.invariant k (omega (arith, long, few)))
+    ∙ ap (λ n. take n (drop c.args.from ds)) long

@@ -1,0 +1,10 @@
+use Rattle.std.proofs.Common.{◌-◌}
+use Rattle.vcd_body.specs.Stored.{digits_with}
+use Rattle.vcd_body.proofs.HeldShort.{Serves}
+use Rattle.vcd_body.proofs.held_text.first_needed.Given as goal
+
+abbrev pub invariant-digits : goal.invariant-digits
+invariant-digits l = Serves l.from (digits_with l.slot l.share)
+
+abbrev pub decreases-digits : goal.decreases-digits
+decreases-digits l = l.count - l.from

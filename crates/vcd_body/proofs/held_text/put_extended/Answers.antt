@@ -1,0 +1,27 @@
+use Rattle.std.proofs.Common.{◌≡◌, ◌-◌, ◌∷◌, [], length, replicate, subst, sym, ap, ◌∙◌, arith}
+use Rattle.std.proofs.lemmas.Result.{err_from_is_err_and}
+use Rattle.vcd_model.specs.Values.{extension}
+use Rattle.vcd_text.specs.Device.{Writes, WritesSome}
+use Rattle.vcd_text.proofs.Writes.{puts-twice, some-first}
+use Rattle.vcd_body.specs.Stored.{digits_with}
+use Rattle.vcd_body.proofs.HeldShort.{extension_at}
+use Rattle.vcd_body.proofs.held_text.put_extended.Goals as goal
+
+pub returns-in_err-put_repeated : goal.returns-in_err-put_repeated
+returns-in_err-put_repeated g c =
+    let p = err_from_is_err_and c.from_residual.result c.from_residual.ensures.1 in
+    let ds = digits_with c.args.slot c.args.share.now in
+    let m = c.args.size - length ds in
+    let count : c.saturating_sub-missing.result ≡ m = omega (arith, c.saturating_sub-missing.ensures, c.count_of.ensures) in
+    let digit = c.extension_of.ensures ∙ ap (λ d. extension (d ∷ [])) c.digit_or.ensures ∙ sym (extension_at ds 0 c.requires.some) in
+    let front = ap (λ n. replicate n c.extension_of.result) count ∙ ap (replicate m) digit in
+    rw p.1 (some-first _ _ (replicate m (extension ds)) ds (subst (WritesSome (g.W.Sink.device c.args.w.now) (g.W.Sink.device c.put_repeated.new.w)) front c.in_err-put_repeated.ensures))
+
+pub returns : goal.returns
+returns g c =
+    let ds = digits_with c.args.slot c.args.share.now in
+    let m = c.args.size - length ds in
+    let count : c.saturating_sub-missing.result ≡ m = omega (arith, c.saturating_sub-missing.ensures, c.count_of.ensures) in
+    let digit = c.extension_of.ensures ∙ ap (λ d. extension (d ∷ [])) c.digit_or.ensures ∙ sym (extension_at ds 0 c.requires.some) in
+    let front = ap (λ n. replicate n c.extension_of.result) count ∙ ap (replicate m) digit in
+    puts-twice _ _ _ (replicate m (extension ds)) ds c.put_from.result (subst (Writes (g.W.Sink.device c.args.w.now) (g.W.Sink.device c.put_repeated.new.w)) front c.in_ok-put_repeated.ensures) c.put_from.ensures

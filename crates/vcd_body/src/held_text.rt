@@ -1,0 +1,207 @@
+// The value that a slot holds, as it is written.
+ghost use Rattle.std.specs.Prelude.{◌≡◌, ◌≢◌, ℕ, ◌+◌, ◌-◌, ◌^◌, ◌<◌, ◌≤◌, ◌++◌, ◌∷◌, [], Bool, drop, get_or, take, length, replicate};
+ghost use Rattle.vcd_model.specs.Cut.{line_if_set};
+ghost use Rattle.vcd_model.specs.Sample.{shown};
+ghost use Rattle.vcd_model.specs.Values.{extend, short};
+ghost use Rattle.vcd_text.specs.Device.{Counts, Puts, Takes, failures_after};
+ghost use Rattle.vcd_body.specs.Kept.{value_at_size};
+ghost use Rattle.vcd_body.specs.Stored.{digits_with, held_line, held_with, some_by, used};
+
+use crate::change::{extension_of, put_end, put_real};
+use crate::held::{count_of, digit_held};
+use crate::slot::{Slot, State};
+use vcd_text::{Sink, WriteFailed, put};
+
+// Writes a digit so many times.
+fn put_repeated<W: Sink>(digit: u8, count: usize, w: &mut W) -> Result<(), WriteFailed>
+    requires { (W.device w.old).failures < 2 ^ 64 - 1 }
+    ensures { Puts (W.device w.old) (W.device w.new) (replicate count digit) result }
+{
+    let block = [digit; 64];
+    let mut rest = count;
+    while rest > 0 {
+        let some = rest.min(64);
+        put(w, &block[..some])?;
+        rest -= some;
+    }
+    Ok(())
+}
+
+// The digit at a place of those that are held, 0 where there is none.
+#[inline(always)]
+fn digit_or(slot: Slot, share: &[u8], place: usize) -> u8
+    ensures { result ≡ get_or (digits_with slot share.now) place 0 }
+{
+    match digit_held(slot, share, place) {
+        Some(digit) => digit,
+        None => 0,
+    }
+}
+
+// Puts the digits from a place on at the front.
+fn fill(slot: Slot, share: &[u8], from: usize, to: &mut [u8])
+    requires { from + length to.old ≤ length (digits_with slot share.now) }
+    ensures { to.new ≡ take (length to.old) (drop from (digits_with slot share.now)) }
+{
+    for place in 0..to.len() {
+        to[place] = digit_or(slot, share, from + place);
+    }
+}
+
+// Writes the digits that are held, from a place on.
+fn put_from<W: Sink>(slot: Slot, share: &[u8], from: usize, w: &mut W) -> Result<(), WriteFailed>
+    requires failures { (W.device w.old).failures < 2 ^ 64 - 1 }
+    requires used { used slot ≤ length share.now }
+    ensures { Puts (W.device w.old) (W.device w.new)
+        (drop from (digits_with slot share.now)) result }
+{
+    let count = count_of(slot, share);
+    let mut block = [0u8; 64];
+    let mut at = from;
+    while at < count {
+        let some = (count - at).min(64);
+        fill(slot, share, at, &mut block[..some]);
+        put(w, &block[..some])?;
+        at += some;
+    }
+    Ok(())
+}
+
+// Where the shortest digits begin that extend to the same value.
+fn first_needed(slot: Slot, share: &[u8]) -> usize
+    requires used { used slot ≤ length share.now }
+    requires some { 0 < length (digits_with slot share.now) }
+    ensures { (size : ℕ) → drop result (digits_with slot share.now)
+        ≡ short (extend (digits_with slot share.now) size) }
+{
+    let count = count_of(slot, share);
+    let mut from = 0;
+    'digits: while from + 1 < count {
+        if digit_or(slot, share, from) != extension_of(digit_or(slot, share, from + 1)) {
+            return from;
+        }
+        from += 1;
+    }
+    from
+}
+
+// Writes all digits that are held, and the code, as a line.
+fn put_all_held<W: Sink>(slot: Slot, share: &[u8], id: &[u8], w: &mut W) -> Result<(), WriteFailed>
+    requires failures { (W.device w.old).failures < 2 ^ 64 - 1 }
+    requires used { used slot ≤ length share.now }
+    ensures { Puts (W.device w.old) (W.device w.new)
+        (digits_with slot share.now ++ (id.now ++ 10 ∷ [])) result }
+{
+    put_from(slot, share, 0, w)?;
+    put(w, id)?;
+    put(w, b"\n")
+}
+
+// Writes the shortest digits after `b`, and the code, as a line.
+fn put_short_held<W: Sink>(
+    slot: Slot,
+    share: &[u8],
+    id: &[u8],
+    w: &mut W,
+) -> Result<(), WriteFailed>
+    requires failures { (W.device w.old).failures < 2 ^ 64 - 1 }
+    requires used { used slot ≤ length share.now }
+    requires some { 0 < length (digits_with slot share.now) }
+    ensures takes { (size : ℕ) → Takes (W.device w.old) (W.device w.new)
+        (98 ∷ short (extend (digits_with slot share.now) size)
+        ++ (32 ∷ id.now ++ 10 ∷ [])) result }
+    ensures counts { Counts (W.device w.old) (W.device w.new) result }
+{
+    put(w, b"b")?;
+    put_from(slot, share, first_needed(slot, share), w)?;
+    put_end(w, b' ', id)
+}
+
+// Writes the line of digits that are held.
+fn put_digits_held<W: Sink>(
+    slot: Slot,
+    share: &[u8],
+    size: usize,
+    id: &[u8],
+    w: &mut W,
+) -> Result<(), WriteFailed>
+    requires failures { (W.device w.old).failures < 2 ^ 64 - 1 }
+    requires used { used slot ≤ length share.now }
+    requires some { 0 < length (digits_with slot share.now) }
+    ensures { Puts (W.device w.old) (W.device w.new)
+        (held_line size (digits_with slot share.now) id.now) result }
+{
+    if size == 1 {
+        return put_all_held(slot, share, id, w);
+    }
+    put_short_held(slot, share, id, w)
+}
+
+/// Writes the line that gives a code of this size its value; nothing where it has none.
+pub(crate) fn put_value_line<W: Sink>(
+    slot: Slot,
+    share: &[u8],
+    size: usize,
+    id: &[u8],
+    w: &mut W,
+) -> Result<(), WriteFailed>
+    requires failures { (W.device w.old).failures < 2 ^ 64 - 1 }
+    requires used { used slot ≤ length share.now }
+    requires some { 1 ≤ some_by slot.state slot.len }
+    ensures { (event : Bool) → Puts (W.device w.old) (W.device w.new)
+        (line_if_set (record { text = id.now; size = size; event = event })
+        (value_at_size size (held_with slot share.now))) result }
+{
+    match slot.state {
+        State::Unset => Ok(()),
+        State::Real => put_real(w, share, id),
+        _ => put_digits_held(slot, share, size, id, w),
+    }
+}
+
+// Writes the digits that are held, extended to a size.
+fn put_extended<W: Sink>(
+    slot: Slot,
+    share: &[u8],
+    size: usize,
+    w: &mut W,
+) -> Result<(), WriteFailed>
+    requires failures { (W.device w.old).failures < 2 ^ 64 - 1 }
+    requires used { used slot ≤ length share.now }
+    requires some { 0 < length (digits_with slot share.now) }
+    ensures { Puts (W.device w.old) (W.device w.new)
+        (extend (digits_with slot share.now) size) result }
+{
+    let missing = size.saturating_sub(count_of(slot, share));
+    put_repeated(extension_of(digit_or(slot, share, 0)), missing, w)?;
+    put_from(slot, share, 0, w)
+}
+
+// Writes the text of a real number in full.
+fn put_real_text<W: Sink>(text: &[u8], w: &mut W) -> Result<(), WriteFailed>
+    requires { (W.device w.old).failures < 2 ^ 64 - 1 }
+    ensures { Puts (W.device w.old) (W.device w.new) (114 ∷ text.now) result }
+{
+    put(w, b"r")?;
+    put(w, text)
+}
+
+/// Writes the value at a size in full, `-` where there is none.
+pub(crate) fn put_value<W: Sink>(
+    slot: Slot,
+    share: &[u8],
+    size: usize,
+    w: &mut W,
+) -> Result<(), WriteFailed>
+    requires failures { (W.device w.old).failures < 2 ^ 64 - 1 }
+    requires used { used slot ≤ length share.now }
+    requires some { 1 ≤ some_by slot.state slot.len }
+    ensures { Puts (W.device w.old) (W.device w.new)
+        (shown (value_at_size size (held_with slot share.now))) result }
+{
+    match slot.state {
+        State::Unset => put(w, b"-"),
+        State::Real => put_real_text(share, w),
+        _ => put_extended(slot, share, size, w),
+    }
+}

@@ -1,0 +1,95 @@
+//! What is kept of a code.
+ghost use Rattle.std.specs.Prelude.{◌≡◌};
+ghost use Rattle.vcd_body.specs.Packed.{held_digit};
+ghost use Rattle.vcd_body.specs.Stored.{IsUnset, one_digit, unset_at};
+
+/// How the value of a code is held. Each digit has a state of its own, so that a value of one digit is in the slot alone.
+#[derive(Clone, Copy, PartialEq, Eq, Debug)]
+pub(crate) enum State {
+    /// It has no value.
+    Unset,
+    /// By the digit 0.
+    Zero,
+    /// By the digit 1.
+    One,
+    /// By the digit x.
+    Unknown,
+    /// By the digit z.
+    High,
+    /// By several digits, packed in its share of the values.
+    Digits,
+    /// By the text of a real number, in its share of the values.
+    Real,
+}
+
+/// What is kept of a code.
+#[derive(Clone, Copy, PartialEq, Eq, Debug)]
+pub struct Slot {
+    // Where its share of the values begins. It ends where the next one begins.
+    pub(crate) start: usize,
+    // How many digits, or bytes of a text, are held in the share.
+    pub(crate) len: usize,
+    pub(crate) counts: [u64; 3],
+    pub(crate) state: State,
+    pub(crate) chosen: bool,
+}
+
+/// What the value of a code is.
+#[derive(Clone, Copy, PartialEq, Eq, Debug)]
+pub enum Shown {
+    /// It has none.
+    Unset,
+    /// Digits, as many as the code has bits.
+    Bits,
+    /// The text of a real number.
+    Real,
+}
+
+impl Slot {
+    /// Nothing is known of the code: it has no value, its counters are 0, and it is not chosen.
+    pub fn new() -> Slot
+        ensures { IsUnset result }
+    {
+        Slot::at(0)
+    }
+
+    /// The same, with a share that begins here.
+    pub(crate) fn at(start: usize) -> Slot
+        ensures { result ≡ unset_at start }
+    {
+        Slot {
+            start,
+            len: 0,
+            counts: [0; 3],
+            state: State::Unset,
+            chosen: false,
+        }
+    }
+}
+
+/// The state that holds one digit.
+#[inline(always)]
+pub(crate) fn state_of(digit: u8) -> State
+    ensures { one_digit result ≡ Some (held_digit digit) }
+{
+    match digit {
+        b'0' => State::Zero,
+        b'1' => State::One,
+        b'x' | b'X' => State::Unknown,
+        _ => State::High,
+    }
+}
+
+/// The digit of a state that holds one.
+#[inline(always)]
+pub(crate) fn digit_of_state(state: State) -> Option<u8>
+    ensures { result ≡ one_digit state }
+{
+    match state {
+        State::Zero => Some(b'0'),
+        State::One => Some(b'1'),
+        State::Unknown => Some(b'x'),
+        State::High => Some(b'z'),
+        State::Unset | State::Digits | State::Real => None,
+    }
+}
