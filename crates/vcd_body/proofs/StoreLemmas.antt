@@ -223,6 +223,10 @@ module _ (slots : List Slot) (n : ℕ) (laid : AreLaidOut slots n) where
 
 -- ---- what is kept of the code
 
+-- what an index outside the slots would give in a proof
+abbrev pub blank : Slot
+blank = record { start = 0; len = 0; counts = []; state = state.Unset; chosen = false }
+
 -- with another value
 abbrev kept_as : ℕ → Slot → Held → Kept
 kept_as end s h = record { held = h; counts = s.counts; chosen = s.chosen; room = end - s.start }

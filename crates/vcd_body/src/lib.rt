@@ -2,7 +2,8 @@
 //!
 //! `next_item` reads the next item from a feed that stands after a header: a time mark, the begin or end of a section, a value
 //! change, or the end of the body (`Finish`). `change_text` is the text of the change that was read last, and `put_change`
-//! writes one as its line. A `Table` keeps of each code whether it is chosen. None of them takes memory.
+//! writes one as its line. A `Table` keeps of each code its current value, three counters, and whether it is chosen. None of
+//! them takes memory.
 //!
 //! # The relation
 //!
@@ -12,17 +13,20 @@
 //! Whatever the input is, `Advances` of `vcd_text` says what is left of the feed, and a change is of one of the view's codes
 //! and has a text that this code may have (`IsGoodChange`).
 //!
+//! What is kept of a code is told by `kept_at t code`, over each place. A call of a table changes what is kept of the code at
+//! the place that it names, and nothing else (`ChangesCode`).
+//!
 //! # The modules
 //!
 //! - `read`: `next_item`, `change_text`
 //! - `phrases`, `tokens`, `words`: phrases by what they begin with; the next token; what a token is, by its first byte
 //! - `item`, `fault`: `Item`, `Form`, `Section`, `Regs`; `BodyFault`
 //! - `change`: `put_change`
-//! - `table`: `Table`, `Slot`
-//! - `store`, `packed`: a table with values: a cell and a share of bytes for each code, digits four to a byte. No command uses
-//!   it yet; `laid_out` says that the shares follow one another and have room for the values of their codes
+//! - `table`, `slot`: `Table`, `Shown`; `Slot`
+//! - `store`: slots and shares of the values, and how they are set; `packed`: digits, four to a byte
+//! - `held`, `held_text`: the digits of a held value, and how it is written
 //!
-//! In `specs/` callers read `Items`, `Reads`, `Given`, `Contents` and `Fault`; for values `Stored`.
+//! In `specs/` callers read `Items`, `Reads`, `Given` and `Fault`, and for the table `Contents` and `Kept`.
 //!
 //! # Limits
 //!

@@ -59,13 +59,9 @@ fn set_digit(slots: &mut [Slot], code: usize, digit: u8)
         values slots.new }
     ensures laid { (n : ℕ) → AreLaidOut slots.old n → AreLaidOut slots.new n }
 {
-    let Some(slot) = slot_at(slots, code) else {
-        return;
-    };
-    slots[code] = Slot {
-        state: state_of(digit),
-        ..slot
-    };
+    if code < slots.len() {
+        slots[code].state = state_of(digit);
+    }
 }
 
 /// Sets the value of a code to digits, where they fit its share.
@@ -157,13 +153,9 @@ pub(crate) fn bump_at(slots: &mut [Slot], code: usize, which: usize)
         → ChangesAt code (one_more which) values slots.old values slots.new }
     ensures laid { (n : ℕ) → AreLaidOut slots.old n → AreLaidOut slots.new n }
 {
-    let Some(slot) = slot_at(slots, code) else {
-        return;
-    };
-    slots[code] = Slot {
-        counts: counts_with(slot.counts, which),
-        ..slot
-    };
+    if code < slots.len() {
+        slots[code].counts = counts_with(slots[code].counts, which);
+    }
 }
 
 /// Counters, with one more in one of them.
@@ -184,13 +176,9 @@ pub(crate) fn choose_at(slots: &mut [Slot], code: usize)
         → ChangesAt code as_chosen values slots.old values slots.new }
     ensures laid { (n : ℕ) → AreLaidOut slots.old n → AreLaidOut slots.new n }
 {
-    let Some(slot) = slot_at(slots, code) else {
-        return;
-    };
-    slots[code] = Slot {
-        chosen: true,
-        ..slot
-    };
+    if code < slots.len() {
+        slots[code].chosen = true;
+    }
 }
 
 /// How many bytes the value of a code of this size takes at most.

@@ -1,17 +1,25 @@
-use Rattle.std.proofs.Common.{refl, sym, ◌∙◌}
+use Rattle.std.proofs.Common.{get_or, refl}
+use Rattle.std.proofs.lemmas.Option.{slice_get-get_or, slice_get_past}
 use Rattle.vcd_body.specs.Kept.{one_more}
-use Rattle.vcd_body.proofs.StoreLemmas.{counts_kept, laid_set, slot_changes}
+use Rattle.vcd_body.proofs.StoreLemmas.{blank, counts_kept, laid_set, nothing_there, slot_changes}
 use Rattle.vcd_body.proofs.store.bump_at.Goals as goal
 
-pub returns-clause-changes : goal.returns-clause-changes
-returns-clause-changes c = λ values.
-    let slot = c.in-Some.slot in
-    let at = sym c.slot_at.ensures ∙ c.in-Some.is in
-    slot_changes c.args.slots.now c.args.code slot _ at refl values (one_more c.args.which) (λ end. counts_kept slot c.counts_with.result c.args.which end values c.counts_with.ensures)
+pub returns-then-code-slots-clause-changes : goal.returns-then-code-slots-clause-changes
+returns-then-code-slots-clause-changes c = λ values.
+    let slots = c.args.slots.now in
+    let slot = get_or slots c.args.code blank in
+    let at = slice_get-get_or slots c.args.code blank c.if-code-slots.true in
+    slot_changes slots c.args.code slot _ at refl values (one_more c.args.which) (λ end. counts_kept slot c.counts_with.result c.args.which end values c.counts_with.ensures)
 
-pub returns-clause-laid : goal.returns-clause-laid
-returns-clause-laid c = λ n laid.
-    let slot = c.in-Some.slot in
-    let at = sym c.slot_at.ensures ∙ c.in-Some.is in
+pub returns-then-code-slots-clause-laid : goal.returns-then-code-slots-clause-laid
+returns-then-code-slots-clause-laid c = λ n laid.
+    let slots = c.args.slots.now in
+    let slot = get_or slots c.args.code blank in
+    let at = slice_get-get_or slots c.args.code blank c.if-code-slots.true in
     let l = laid c.args.code slot at in
-    laid_set c.args.slots.now n laid c.args.code slot _ at refl l.0 l.2
+    laid_set slots n laid c.args.code slot _ at refl l.0 l.2
+
+pub returns-else-code-slots-clause-changes : goal.returns-else-code-slots-clause-changes
+returns-else-code-slots-clause-changes c = λ values.
+    let slots = c.args.slots.now in
+    nothing_there values slots c.args.code (one_more c.args.which) (slice_get_past slots c.args.code c.if-code-slots.false)
