@@ -33,21 +33,21 @@ Rise low high [] = low ≤ high
 Rise low high (t ∷ ts) = (low ≤ t) × Rise t high ts
 
 -- the bounds of times that rise
-rise_bounds : (low high : ℕ) (ts : List ℕ) → Rise low high ts → low ≤ high
+pub rise_bounds : (low high : ℕ) (ts : List ℕ) → Rise low high ts → low ≤ high
 rise_bounds low high [] r = r
 rise_bounds low high (t ∷ ts) r = let h = rise_bounds t high ts r.1 in let l = r.0 in omega arith
 
 -- times that rise do so from a lower number too
-rise_from : (lower low high : ℕ) (ts : List ℕ) → lower ≤ low → Rise low high ts → Rise lower high ts
+pub rise_from : (lower low high : ℕ) (ts : List ℕ) → lower ≤ low → Rise low high ts → Rise lower high ts
 rise_from lower low high [] l r = omega arith
 rise_from lower low high (t ∷ ts) l r = let m = r.0 in (omega arith, r.1)
 
 -- the times of the kept entries among items that have these before them
-abbrev times_behind : (Entry → Bool) → List BodyItem → List BodyItem → List ℕ
+abbrev pub times_behind : (Entry → Bool) → List BodyItem → List BodyItem → List ℕ
 times_behind chosen earlier items = map (λ e. e.time) (kept_by chosen (each_after entry_after earlier items))
 
 -- the times of kept entries rise up to the time behind all items
-kept_rise : (chosen : Entry → Bool) (b q : List BodyItem) → Rise (time_after b) (time_after (b ++ q)) (times_behind chosen b q)
+pub kept_rise : (chosen : Entry → Bool) (b q : List BodyItem) → Rise (time_after b) (time_after (b ++ q)) (times_behind chosen b q)
 kept_rise chosen b [] = time_after-append b []
 kept_rise chosen b (x ∷ q) =
     by_keep (keeps chosen b x)
@@ -86,14 +86,14 @@ time_unless_last chosen items = by_times (kept_times chosen items) (kept_rise ch
 -- ---- one item more
 
 -- the kept entries, with one item more
-kept_more : (chosen : Entry → Bool) (items : List BodyItem) (x : BodyItem) (k : Bool) → keeps chosen items x ≡ k → kept_by chosen (entries (items ++ x ∷ [])) ≡ kept_by chosen (entries items) ++ cond k (entry_after items x ∷ []) []
+pub kept_more : (chosen : Entry → Bool) (items : List BodyItem) (x : BodyItem) (k : Bool) → keeps chosen items x ≡ k → kept_by chosen (entries (items ++ x ∷ [])) ≡ kept_by chosen (entries items) ++ cond k (entry_after items x ∷ []) []
 kept_more chosen items x k e =
     ap (kept_by chosen) (entries-append items (x ∷ []))
     ∙ kept_by-append chosen (entries items) (entry_after items x ∷ [])
     ∙ ap (λ (b : Bool). kept_by chosen (entries items) ++ cond b (entry_after items x ∷ []) []) e
 
 -- .. where that one is not kept
-kept_same : (chosen : Entry → Bool) (items : List BodyItem) (x : BodyItem) → keeps chosen items x ≡ false → kept_by chosen (entries (items ++ x ∷ [])) ≡ kept_by chosen (entries items)
+pub kept_same : (chosen : Entry → Bool) (items : List BodyItem) (x : BodyItem) → keeps chosen items x ≡ false → kept_by chosen (entries (items ++ x ∷ [])) ≡ kept_by chosen (entries items)
 kept_same chosen items x e = kept_more chosen items x false e ∙ append-nil (kept_by chosen (entries items))
 
 -- a kept item adds its line, behind the line of its time where that is due
