@@ -15,6 +15,7 @@ pub mod NamePaths
 pub mod SelectionLemmas
 pub mod DraftSteps
 pub mod DraftCodes
+pub mod CodesLemmas
 pub mod CodeChecks
 pub mod ScaleLemmas
 pub mod ScaleChecks

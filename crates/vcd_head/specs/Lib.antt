@@ -10,6 +10,7 @@ pub mod Reads
 pub mod Words
 pub mod Keywords
 pub mod Texts
+pub mod Codes
 pub mod Draft
 pub mod Variables
 pub mod Scaled

@@ -36,6 +36,7 @@
 //! nothing.
 #![tactic(auto)]
 
+mod codes;
 mod draft;
 mod enclosing;
 mod fault;
