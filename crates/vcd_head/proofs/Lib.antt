@@ -12,6 +12,7 @@ pub mod WriteLemmas
 pub mod MarkedHead
 pub mod MarkLemmas
 pub mod NamePaths
+pub mod InsideLemmas
 pub mod SelectionLemmas
 pub mod DraftSteps
 pub mod DraftCodes

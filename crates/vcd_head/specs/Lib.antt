@@ -16,3 +16,4 @@ pub mod Variables
 pub mod Scaled
 pub mod Marks
 pub mod Selects
+pub mod Inside

@@ -43,6 +43,7 @@ mod fault;
 mod finish;
 mod guess;
 mod head;
+mod inside;
 mod key;
 mod keyword;
 mod look_up;

@@ -1,18 +1,19 @@
 //! Selection of variables by their paths (profile).
-ghost use Rattle.std.specs.Prelude.{◌≡◌, ◌<◌, ◌∷◌, ◌++◌, ℕ, List, take, length, map, string_bytes, Some, None, MatchResult, IfOk, slice_get, []};
+ghost use Rattle.std.specs.Prelude.{◌≡◌, ◌+◌, ◌<◌, ◌∷◌, ◌++◌, ℕ, List, take, length, map, string_bytes, Some, None, MatchResult, IfOk, slice_get, []};
 ghost use Rattle.vcd_model.specs.Bytes.{is_empty};
 ghost use Rattle.vcd_model.specs.Declarations.{Declaration, Variable, enclosing, path_of};
 ghost use Rattle.vcd_model.specs.Header.{Header};
 ghost use Rattle.vcd_model.specs.Selection.{first_unmatched as first_unmatched_of, is_selected as is_selected_by, selected, selects_path, is_variable as is_variable_of};
 ghost use Rattle.vcd_head.specs.Marks.{Marked, marks_of};
-ghost use Rattle.vcd_head.specs.Selects.{selects_after};
+ghost use Rattle.vcd_head.specs.Selects.{IsBehind, selects_after};
 ghost use Rattle.vcd_head.specs.Views.{IsViewOf};
 
 use crate::enclosing::Enclosing;
+use crate::inside::Open;
 use crate::view::{HeadView, Kind};
 
 // What a name says of a path whose prefix it was compared with.
-enum Match<'n> {
+pub(crate) enum Match<'n> {
     // This much of the name is left.
     Rest(&'n [u8]),
     // The name ended at a point.
@@ -22,7 +23,7 @@ enum Match<'n> {
 }
 
 // The text is the name, or begins with it and a point.
-fn is_or_goes_on(text: &[u8], name: &[u8]) -> bool
+pub(crate) fn is_or_goes_on(text: &[u8], name: &[u8]) -> bool
     ensures { result ≡ selects_path text.now name.now }
 {
     match text.strip_prefix(name) {
@@ -32,8 +33,9 @@ fn is_or_goes_on(text: &[u8], name: &[u8]) -> bool
 }
 
 // What a name says of a path that begins with this component and a point.
-fn after_component<'n>(name: &'n [u8], component: &[u8]) -> Match<'n>
-    ensures { (text : List ℕ)
+pub(crate) fn after_component<'n>(name: &'n [u8], component: &[u8]) -> Match<'n>
+    ensures rest { IsBehind result name.now (length component.now + 1) }
+    ensures selects { (text : List ℕ)
         → selects_after result text ≡ selects_path (component.now ++ 46 ∷ text) name.now }
 {
     if is_or_goes_on(component, name) {
@@ -78,7 +80,7 @@ fn is_variable(view: HeadView<'_>, row: usize) -> bool
 }
 
 // The row is a variable's that some name selects, any variable's where there are no names.
-fn is_selected(view: HeadView<'_>, row: usize, names: &[String]) -> bool
+pub(crate) fn is_selected(view: HeadView<'_>, row: usize, names: &[String]) -> bool
     ensures { (h : Header) (d : Declaration) → IsViewOf view.entry h
         → slice_get h.declarations row ≡ Some d
         → result ≡ is_selected_by (map string_bytes names.now) (take row h.declarations) d }
@@ -142,8 +144,9 @@ pub fn select(view: HeadView<'_>, names: &[String], marks: &mut [u8]) -> Result<
         return Err(name);
     }
     marks.fill(0);
+    let mut open = Open::new();
     for row in 0..view.rows.len() {
-        if is_selected(view, row, names) {
+        if open.take(view, row, names) {
             mark(view, row, marks);
         }
     }

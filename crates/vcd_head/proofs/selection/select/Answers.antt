@@ -7,29 +7,32 @@ use Rattle.vcd_head.proofs.DraftGrows.{rows_len}
 use Rattle.vcd_head.proofs.MarkLemmas.{marked_all, marked_both, marked_first}
 use Rattle.vcd_head.proofs.SelectionLemmas.{marks_more, marks_same, there}
 use Rattle.vcd_head.proofs.selection.select.Goals as goal
-use Rattle.vcd_head.proofs.selection.select.Goals.{then-is_selected, else-is_selected}
+use Rattle.vcd_head.proofs.selection.select.Goals.{then-take, else-take}
 
 pub loop-row-init : goal.loop-row-init
-loop-row-init c = λ h v. marked_first (map string_bytes c.args.names.now) h.declarations c.fill.new.self
+loop-row-init c = record { marks = λ h v. marked_first (map string_bytes c.args.names.now) h.declarations c.fill.new.self; held = λ h v. c.new-open.ensures h (map string_bytes c.args.names.now) }
 
 pub loop-row-preserved : goal.loop-row-preserved
-loop-row-preserved c = λ h v.
-    let ds = h.declarations in
-    let names = map string_bytes c.args.names.now in
-    let row = c.loop-row.row in
-    let zeros = c.fill.new.self in
-    let rows = rows_len c.args.view.text.now h.codes [] c.args.view.rows.now h.declarations v.rows in
-    let d = there ds row (omega (arith, rows)) in
-    let selected = c.is_selected.ensures h d.0 v d.1 in
-    elim c.if-is_selected.branch [
-      | then-is_selected w ↦
-          let more = subst (Marked (row ∷ enclosing (take row ds)) c.loop-row.marks) (sym w.marks-is) (w.mark.ensures h v (omega (arith, rows))) in
-          subst (λ ps. Marked ps zeros c.if-is_selected.marks) (sym (marks_more names ds row d.0 d.1 (sym selected ∙ w.if-is_selected.true)))
-          (marked_both (marked_places names (take row ds)) (row ∷ enclosing (take row ds)) zeros c.loop-row.marks c.if-is_selected.marks (c.loop-row.invariant h v) more)
-      | else-is_selected w ↦
-          subst (λ ps. Marked ps zeros c.if-is_selected.marks) (sym (marks_same names ds row d.0 d.1 (sym selected ∙ w.if-is_selected.false)))
-          (subst (Marked (marked_places names (take row ds)) zeros) (sym w.marks-is) (c.loop-row.invariant h v))
-    ]
+loop-row-preserved c = record {
+  marks = λ h v.
+      let ds = h.declarations in
+      let names = map string_bytes c.args.names.now in
+      let row = c.loop-row.row in
+      let zeros = c.fill.new.self in
+      let rows = rows_len c.args.view.text.now h.codes [] c.args.view.rows.now h.declarations v.rows in
+      let d = there ds row (omega (arith, rows)) in
+      let selected = c.take.ensures.selected h d.0 v d.1 (c.loop-row.invariant.held h v) in
+      elim c.if-take.branch [
+        | then-take w ↦
+            let more = subst (Marked (row ∷ enclosing (take row ds)) c.loop-row.marks) (sym w.marks-is) (w.mark.ensures h v (omega (arith, rows))) in
+            subst (λ ps. Marked ps zeros c.if-take.marks) (sym (marks_more names ds row d.0 d.1 (sym selected ∙ w.if-take.true)))
+            (marked_both (marked_places names (take row ds)) (row ∷ enclosing (take row ds)) zeros c.loop-row.marks c.if-take.marks (c.loop-row.invariant.marks h v) more)
+        | else-take w ↦
+            subst (λ ps. Marked ps zeros c.if-take.marks) (sym (marks_same names ds row d.0 d.1 (sym selected ∙ w.if-take.false)))
+            (subst (Marked (marked_places names (take row ds)) zeros) (sym w.marks-is) (c.loop-row.invariant.marks h v))
+      ];
+  held = λ h v. c.take.ensures.open h v (c.loop-row.invariant.held h v);
+}
 
 pub returns-clause-marks : goal.returns-clause-marks
 unfolding marks_of
@@ -37,5 +40,5 @@ returns-clause-marks c = λ h v.
     let ds = h.declarations in
     let names = map string_bytes c.args.names.now in
     let rows = rows_len c.args.view.text.now h.codes [] c.args.view.rows.now h.declarations v.rows in
-    let whole = subst (λ l. Marked (marked_places names l) c.fill.new.self c.loop-row.marks) (take_all c.loop-row.row ds (omega (arith, rows))) (c.loop-row.invariant h v) in
+    let whole = subst (λ l. Marked (marked_places names l) c.fill.new.self c.loop-row.marks) (take_all c.loop-row.row ds (omega (arith, rows))) (c.loop-row.invariant.marks h v) in
     marked_all (marked_places names ds) c.fill.new.self c.loop-row.marks (length ds) (omega (arith, rows, c.fill.ensures.len)) (λ i l. c.fill.ensures.clones i 0 (omega (arith, rows)) refl) whole
