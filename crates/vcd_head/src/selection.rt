@@ -11,6 +11,7 @@ ghost use Rattle.vcd_head.specs.Views.{IsViewOf};
 use crate::enclosing::Enclosing;
 use crate::inside::Open;
 use crate::view::{HeadView, Kind};
+use std::slice;
 
 // What a name says of a path whose prefix it was compared with.
 pub(crate) enum Match<'n> {
@@ -89,21 +90,19 @@ pub(crate) fn is_selected(view: HeadView<'_>, row: usize, names: &[String]) -> b
         && (names.is_empty() || names.iter().any(|name| selects(view, row, name.as_str())))
 }
 
-// The row is a variable's that the name selects.
-fn selects_row(view: HeadView<'_>, row: usize, name: &str) -> bool
-    ensures { (h : Header) (d : Declaration) → IsViewOf view.entry h
-        → slice_get h.declarations row ≡ Some d
-        → result ≡ is_selected_by (name.now ∷ []) (take row h.declarations) d }
-{
-    is_variable(view, row) && selects(view, row, name)
-}
-
 // No variable is selected by the name.
-fn selects_nothing(view: HeadView<'_>, name: &str) -> bool
+fn selects_nothing(view: HeadView<'_>, name: &String) -> bool
     ensures { (h : Header) → IsViewOf view.entry h
-        → result ≡ is_empty (selected (name.now ∷ []) h.declarations) }
+        → result ≡ is_empty (selected (string_bytes name.now ∷ []) h.declarations) }
 {
-    !(0..view.rows.len()).any(|row| selects_row(view, row, name))
+    let names = slice::from_ref(name);
+    let mut open = Open::new();
+    for row in 0..view.rows.len() {
+        if open.take(view, row, names) {
+            return false;
+        }
+    }
+    true
 }
 
 // The place of the first name that selects nothing.
@@ -111,9 +110,7 @@ fn first_unmatched(view: HeadView<'_>, names: &[String]) -> Option<usize>
     ensures { (h : Header) → IsViewOf view.entry h
         → result ≡ first_unmatched_of (map string_bytes names.now) h.declarations }
 {
-    names
-        .iter()
-        .position(|name| selects_nothing(view, name.as_str()))
+    names.iter().position(|name| selects_nothing(view, name))
 }
 
 // Sets the marks of a row and of the scopes around it.
