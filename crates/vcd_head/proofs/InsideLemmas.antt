@@ -1,10 +1,11 @@
 -- What is left of names inside open scopes.
-use Rattle.std.proofs.Common.{◌≡◌, ◌≢◌, ℕ, zero, suc, ◌+◌, ◌<◌, ◌≤◌, Bool, true, false, ◌||◌, ◌==◌, List, [], ◌∷◌, ◌++◌, length, map, take, drop, reverse, replicate, set, slice_get, Option, Some, None, option_map, inl, inr, refl, sym, ap, subst, ◌∙◌, arith, add-one}
+use Rattle.std.proofs.Common.{◌≡◌, ◌≢◌, ℕ, zero, suc, ◌+◌, ◌-◌, ◌<◌, ◌≤◌, Bool, true, false, ◌||◌, ◌==◌, List, [], ◌∷◌, ◌++◌, length, map, take, drop, slice_range, reverse, replicate, set, slice_get, Option, Some, None, option_map, inl, inr, refl, sym, ap, subst, ◌∙◌, arith, add-one}
 use mathlib.Core.Logic.{◌⊎◌}
 use Rattle.std.specs.List.{AllByRecursion, list_any}
 use Rattle.std.proofs.lemmas.Bool.{ne_eqb}
 use Rattle.std.proofs.lemmas.Grind.{flat_map-append}
-use Rattle.std.proofs.lemmas.List.{append_assoc, append-nil, reverse-append, length-take}
+use Rattle.std.proofs.lemmas.List.{append_assoc, append-nil, reverse-append, length-drop, length-take, length-take-le, take-append-drop}
+use Rattle.std.proofs.Math.Seq.{take-append-add}
 use Rattle.std.proofs.lemmas.List.Elements.{filter_map-append}
 use Rattle.std.proofs.lemmas.Option.{none-some, same_Some}
 use Rattle.vcd_model.specs.Bytes.{is_empty}
@@ -129,3 +130,19 @@ is_empty-map f (x ∷ xs) = sym (ne_eqb (length (x ∷ xs)) 0 (λ e. omega (arit
 pub both_some : (r : Option Inside) (names : List (List ℕ)) (ds : List Declaration) (scope : ℕ) → IfSome r (λ s. s.scope ≡ scope) → IfSome r (AreLeft names (front ds scope)) → IfSome r (λ s. AreLeft names (front ds s.scope) s)
 both_some None names ds scope a b = b
 both_some (Some s) names ds scope a b = subst (λ n. AreLeft names (front ds n) s) (sym a) b
+
+-- ---- names in groups
+
+pub take_group : {X : Type 0} (a b : ℕ) (xs : List X) → a ≤ b → b ≤ length xs → take b xs ≡ take a xs ++ slice_range xs a b
+take_group a b xs l m =
+    let here : b ≡ length (take a xs) + (b - a) = omega (arith, length-take-le a xs (omega arith)) in
+    ap (λ n. take n xs) here ∙ ap (take (length (take a xs) + (b - a))) (sym (take-append-drop a xs)) ∙ take-append-add (take a xs) (drop a xs) (b - a)
+
+not_empty : {X Y : Type 0} (f : X → Y) (xs : List X) → 0 < length xs → is_empty (map f xs) ≡ false
+not_empty f xs l = is_empty-map f xs ∙ ne_eqb (length xs) 0 (λ e. omega (arith, e))
+
+pub some_taken : {X Y : Type 0} (f : X → Y) (a : ℕ) (xs : List X) → 0 < a → a ≤ length xs → is_empty (map f (take a xs)) ≡ false
+some_taken f a xs s l = not_empty f (take a xs) (omega (arith, length-take-le a xs l))
+
+pub some_grouped : {X Y : Type 0} (f : X → Y) (a b : ℕ) (xs : List X) → a < b → b ≤ length xs → is_empty (map f (slice_range xs a b)) ≡ false
+some_grouped f a b xs s l = not_empty f (slice_range xs a b) (omega (arith, length-drop a xs, length-take-le (b - a) (drop a xs) (omega (arith, length-drop a xs))))

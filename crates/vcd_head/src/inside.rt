@@ -12,7 +12,7 @@ use crate::selection::{Match, after_component, is_or_goes_on, is_selected};
 use crate::view::{HeadView, Kind};
 
 // So many names are followed together.
-const TOGETHER: usize = 64;
+pub(crate) const TOGETHER: usize = 64;
 
 // So many scopes may be open, and what is outside of all.
 const MOST_HELD: usize = 1001;

@@ -3,13 +3,13 @@ ghost use Rattle.std.specs.Prelude.{◌≡◌, ◌+◌, ◌<◌, ◌∷◌, ◌+
 ghost use Rattle.vcd_model.specs.Bytes.{is_empty};
 ghost use Rattle.vcd_model.specs.Declarations.{Declaration, Variable, enclosing, path_of};
 ghost use Rattle.vcd_model.specs.Header.{Header};
-ghost use Rattle.vcd_model.specs.Selection.{first_unmatched as first_unmatched_of, is_selected as is_selected_by, selected, selects_path, is_variable as is_variable_of};
+ghost use Rattle.vcd_model.specs.Selection.{first_unmatched as first_unmatched_of, is_selected as is_selected_by, marked_places, selected, selects_path, is_variable as is_variable_of};
 ghost use Rattle.vcd_head.specs.Marks.{Marked, marks_of};
 ghost use Rattle.vcd_head.specs.Selects.{IsBehind, selects_after};
 ghost use Rattle.vcd_head.specs.Views.{IsViewOf};
 
 use crate::enclosing::Enclosing;
-use crate::inside::Open;
+use crate::inside::{Open, TOGETHER};
 use crate::view::{HeadView, Kind};
 use std::slice;
 
@@ -126,6 +126,21 @@ fn mark(view: HeadView<'_>, row: usize, marks: &mut [u8])
     }
 }
 
+// Sets the marks of the variables that some name selects, of all where there are no names, and of the scopes around them.
+fn mark_selected(view: HeadView<'_>, names: &[String], marks: &mut [u8])
+    requires { length marks.old ≡ length view.rows.now }
+    ensures marks { (h : Header) → IsViewOf view.entry h
+        → Marked (marked_places (map string_bytes names.now) h.declarations) marks.old marks.new }
+    ensures len { length marks.new ≡ length marks.old }
+{
+    let mut open = Open::new();
+    for row in 0..view.rows.len() {
+        if open.take(view, row, names) {
+            mark(view, row, marks);
+        }
+    }
+}
+
 /// Marks the variables that the names select, all where there are no names, and the scopes around them: a mark is 1 there and 0
 /// elsewhere. A name that selects nothing is refused by its place, the first one; the marks then hold anything.
 pub fn select(view: HeadView<'_>, names: &[String], marks: &mut [u8]) -> Result<(), usize>
@@ -141,11 +156,12 @@ pub fn select(view: HeadView<'_>, names: &[String], marks: &mut [u8]) -> Result<
         return Err(name);
     }
     marks.fill(0);
-    let mut open = Open::new();
-    for row in 0..view.rows.len() {
-        if open.take(view, row, names) {
-            mark(view, row, marks);
-        }
+    let mut done = names.len().min(TOGETHER);
+    mark_selected(view, &names[..done], marks);
+    while done < names.len() {
+        let from = done;
+        done = names.len().min(from.saturating_add(TOGETHER));
+        mark_selected(view, &names[from..done], marks);
     }
     Ok(())
 }
