@@ -1,5 +1,5 @@
 -- Marks that are set, one place after the other.
-use Rattle.std.proofs.Common.{◌≡◌, ℕ, ◌<◌, ◌≤◌, Bool, true, false, cond, ◌&&◌, ◌||◌, ◌==◌, flat_map, List, [], ◌∷◌, ◌++◌, length, map, take, set, IfSome, get_or, Option, Some, None, inl, inr, refl, sym, ap, subst, ◌∙◌, arith}
+use Rattle.std.proofs.Common.{◌≡◌, ℕ, zero, suc, ◌<◌, ◌≤◌, Bool, true, false, cond, ◌&&◌, ◌||◌, ◌==◌, flat_map, List, [], ◌∷◌, ◌++◌, length, map, take, set, IfSome, get_or, Option, Some, None, inl, inr, refl, sym, ap, subst, ◌∙◌, arith}
 use Rattle.std.specs.List.{range_with_len}
 use Rattle.std.proofs.lemmas.Bool.{cases_eq, eq-eqb, ne_eqb}
 use Rattle.std.proofs.lemmas.List.{get_or-set_other, get_or-set_same, length-set}
@@ -10,7 +10,7 @@ use Rattle.std.proofs.lemmas.List.Folds.{list_any-append}
 use Rattle.vcd_model.specs.Backward.{each_after}
 use Rattle.vcd_model.specs.Bytes.{is_empty}
 use Rattle.vcd_model.specs.Selection.{is_among, is_selected, is_variable, marked_places, selects_path}
-use Rattle.vcd_head.specs.Marks.{Marked}
+use Rattle.vcd_head.specs.Marks.{AllMarked, Marked, scopes_at}
 use Rattle.vcd_head.specs.Views.{counted_from_one}
 use Rattle.vcd_head.proofs.EnclosingLemmas.{with_scopes, scopes_around}
 
@@ -70,6 +70,51 @@ walk_on ds p marks new l m = subst (λ ps. Marked (p ∷ ps) marks new) (sym (sc
 pub marked_first : (names : List (List ℕ)) (ds : List Declaration) (marks : List ℕ) → Marked (marked_places names (take 0 ds)) marks marks
 unfolding marked_places
 marked_first names ds marks = marked_none marks
+
+-- ---- scopes that are marked already
+
+pub around_is : (ds : List Declaration) (i : ℕ) → enclosing (take i ds) ≡ scopes_at ds (counted_from_one (parent (take i ds)))
+around_is ds i = scopes_around ds i ∙ by_parent (parent (take i ds))
+  where
+    by_parent : (o : Option ℕ) → with_scopes ds o ≡ scopes_at ds (counted_from_one o)
+    by_parent None = refl
+    by_parent (Some p) = refl
+
+-- to mark them again changes nothing
+marked_again : (places marks : List ℕ) → AllMarked places marks → Marked places marks marks
+marked_again places marks h = record { kept = refl; marks = λ i l. by_test (get_or marks i 0) (is_among places i) (h i l) }
+  where
+    by_test : (x : ℕ) (b : Bool) → (b ≡ true → x ≡ 1) → x ≡ cond b 1 x
+    by_test x true f = f refl
+    by_test x false f = refl
+
+pub marked_alone : (ds : List Declaration) (row n : ℕ) (marks : List ℕ) → row < length marks → n ≡ counted_from_one (parent (take row ds)) → AllMarked (scopes_at ds n) marks → Marked (row ∷ enclosing (take row ds)) marks (set marks row 1)
+marked_alone ds row n marks l e h =
+    subst (λ ps. Marked (row ∷ ps) marks (set marks row 1)) (sym (around_is ds row ∙ ap (scopes_at ds) (sym e)))
+    (moved (row ∷ scopes_at ds n) (marked_both (scopes_at ds n) (row ∷ []) marks marks (set marks row 1) (marked_again (scopes_at ds n) marks h) (marked_one marks row l)))
+  where
+    swap : (i : ℕ) → is_among (scopes_at ds n ++ row ∷ []) i ≡ is_among (row ∷ scopes_at ds n) i
+    swap i = among-append (scopes_at ds n) (row ∷ []) i ∙ either_way (is_among (scopes_at ds n) i) (i == row)
+      where
+        either_way : (a b : Bool) → (a || (b || false)) ≡ (b || a)
+        either_way true true = refl
+        either_way true false = refl
+        either_way false true = refl
+        either_way false false = refl
+
+    moved : (ps : List ℕ) → Marked (scopes_at ds n ++ row ∷ []) marks (set marks row 1) → Marked (row ∷ scopes_at ds n) marks (set marks row 1)
+    moved ps m = record { kept = m.kept; marks = λ i q. m.marks i q ∙ ap (λ b. cond b 1 (get_or marks i 0)) (swap i) }
+
+-- those around a row that was marked with them
+pub now_marked : (ds : List Declaration) (row n : ℕ) (old new : List ℕ) → n ≡ counted_from_one (parent (take row ds)) → Marked (row ∷ enclosing (take row ds)) old new → AllMarked (scopes_at ds n) new
+now_marked ds row n old new e m = λ i l b.
+    let among : is_among (enclosing (take row ds)) i ≡ true = ap (λ ps. is_among ps i) (around_is ds row ∙ ap (scopes_at ds) (sym e)) ∙ b in
+    m.marks i (omega (arith, m.kept)) ∙ by_test (get_or old i 0) (i == row) (is_among (enclosing (take row ds)) i) among
+  where
+    by_test : (x : ℕ) (a b : Bool) → b ≡ true → cond (a || b) 1 x ≡ 1
+    by_test x true b f = refl
+    by_test x false true f = refl
+    by_test x false false f = cc
 
 -- ---- names in two groups
 

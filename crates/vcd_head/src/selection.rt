@@ -1,12 +1,12 @@
 //! Selection of variables by their paths (profile).
 ghost use Rattle.std.specs.Prelude.{◌≡◌, ◌+◌, ◌<◌, ◌∷◌, ◌++◌, ℕ, List, take, length, map, string_bytes, Some, None, MatchResult, IfOk, slice_get, []};
 ghost use Rattle.vcd_model.specs.Bytes.{is_empty};
-ghost use Rattle.vcd_model.specs.Declarations.{Declaration, Variable, enclosing, path_of};
+ghost use Rattle.vcd_model.specs.Declarations.{Declaration, Variable, enclosing, parent, path_of};
 ghost use Rattle.vcd_model.specs.Header.{Header};
 ghost use Rattle.vcd_model.specs.Selection.{first_unmatched as first_unmatched_of, is_selected as is_selected_by, marked_places, selected, selects_path, is_variable as is_variable_of};
-ghost use Rattle.vcd_head.specs.Marks.{Marked, marks_of};
+ghost use Rattle.vcd_head.specs.Marks.{AllMarked, Marked, marks_of, scopes_at};
 ghost use Rattle.vcd_head.specs.Selects.{IsBehind, selects_after};
-ghost use Rattle.vcd_head.specs.Views.{IsViewOf};
+ghost use Rattle.vcd_head.specs.Views.{IsViewOf, counted_from_one};
 
 use crate::enclosing::Enclosing;
 use crate::inside::{Open, TOGETHER};
@@ -126,6 +126,37 @@ fn mark(view: HeadView<'_>, row: usize, marks: &mut [u8])
     }
 }
 
+// The same, where a scope, counted from 1, is marked with those around it; gives the scope around the row.
+fn mark_behind(view: HeadView<'_>, row: usize, marked: usize, marks: &mut [u8]) -> usize
+    requires { row < length marks.old }
+    ensures marks { (h : Header) → IsViewOf view.entry h → row < length h.declarations
+        → AllMarked (scopes_at h.declarations marked) marks.old
+        → Marked (row ∷ enclosing (take row h.declarations)) marks.old marks.new }
+    ensures around { (h : Header) → IsViewOf view.entry h → row < length h.declarations
+        → AllMarked (scopes_at h.declarations marked) marks.old
+        → AllMarked (scopes_at h.declarations result) marks.new }
+    ensures len { length marks.new ≡ length marks.old }
+{
+    let parent = parent_of(view, row);
+    if parent == marked {
+        marks[row] = 1;
+    } else {
+        mark(view, row, marks);
+    }
+    parent
+}
+
+// 1 plus the row of the scope around a row, 0 where there is none.
+fn parent_of(view: HeadView<'_>, row: usize) -> usize
+    ensures { (h : Header) → IsViewOf view.entry h → row < length h.declarations
+        → result ≡ counted_from_one (parent (take row h.declarations)) }
+{
+    match view.row_at(row) {
+        Some(declared) => declared.parent,
+        None => 0,
+    }
+}
+
 // Sets the marks of the variables that some name selects, of all where there are no names, and of the scopes around them.
 fn mark_selected(view: HeadView<'_>, names: &[String], marks: &mut [u8])
     requires { length marks.old ≡ length view.rows.now }
@@ -134,9 +165,11 @@ fn mark_selected(view: HeadView<'_>, names: &[String], marks: &mut [u8])
     ensures len { length marks.new ≡ length marks.old }
 {
     let mut open = Open::new();
+    // 1 plus the row of a scope that is marked, with those around it; 0 before.
+    let mut marked = 0;
     for row in 0..view.rows.len() {
         if open.take(view, row, names) {
-            mark(view, row, marks);
+            marked = mark_behind(view, row, marked, marks);
         }
     }
 }
