@@ -1,25 +1,23 @@
--- The checks of a variable's code, by what the map of codes has.
-use Rattle.std.proofs.Common.{◌≡◌, ◌≢◌, ℕ, Bool, true, false, cond, not, List, [], ◌∷◌, find, bytes_eq, codes, slice_get, Option, Some, None, refl, sym, ap, subst, ◌∙◌, zero-add}
+-- The checks of a variable's code, by what was found of it.
+use Rattle.std.proofs.Common.{◌≡◌, ◌≢◌, ℕ, Bool, true, false, cond, not, List, [], ◌∷◌, find, bytes_eq, codes, Option, Some, None, refl, sym, ap, subst, ◌∙◌}
 use mathlib.Core.Bool.{beq}
 use Rattle.std.specs.Global.{Vec}
-use Rattle.std.specs.Borrow.{Bor}
-use Rattle.std.specs.Option.{option_copied}
-use Rattle.std.specs.Map.{lookup}
 use Rattle.std.specs.List.{list_all}
 use Rattle.std.proofs.lemmas.Slice.Eq.{bytes_eq-Decides}
 use Rattle.vcd_model.specs.Bytes.{decimal_value, is_code_byte}
 use Rattle.vcd_model.specs.Checks.{first_failed}
 use Rattle.vcd_model.specs.Declarations.{Declaration, Variable, codes_of, has_text}
 use Rattle.vcd_model.specs.HeaderChecks.{agrees, var_checks}
-use Rattle.vcd_head.specs.declared.draft.Coded.{Coded}
+use Rattle.vcd_head.specs.declared.codes.Coded.{Coded}
+use Rattle.vcd_head.specs.declared.codes.Codes.{Codes}
+use Rattle.vcd_head.specs.Codes.{IsKnown}
 use Rattle.vcd_head.specs.declared.draft.Found.TheVariants as found
 use Rattle.vcd_head.specs.Draft.{HasCodes, IsFound}
-use Rattle.vcd_head.proofs.DraftGrows.{place_found, place_none}
 use Rattle.vcd_head.proofs.DraftCodes.{agrees_new, agrees_found, size_differs, event_differs}
 
-pub copied_none : {X : Type 0} (r : Option (Bor X)) (o : Option X) → option_copied r ≡ o → ((x : Bor X) → r ≡ Some x → ⊥) → o ≡ None
-copied_none None o e h = sym e
-copied_none (Some x) o e h = absurd (h x refl)
+pub not_some : {X : Type 0} (o : Option X) → ((x : X) → o ≡ Some x → ⊥) → o ≡ None
+not_some None h = refl
+not_some (Some x) h = absurd (h x refl)
 
 found_passes : {X : Type 0} (test : X → Bool) (xs : List X) (y : X) → find test xs ≡ Some y → test y ≡ true
 found_passes test [] y e = cc
@@ -32,7 +30,7 @@ found_passes test (x ∷ xs) y e = by_test (test x) refl e (found_passes test xs
 pub code_bad : (ds : List Declaration) (type digits tok : List ℕ) → list_all is_code_byte tok ≡ false → first_failed (var_checks ds (type ∷ digits ∷ []) tok) ≡ Some 7
 code_bad ds type digits tok e = rw e refl
 
-module _ (text : List ℕ) (es : List (Vec ℕ × Coded)) (ds : List Declaration) (type digits tok : List ℕ) (size : ℕ) (event : Bool) (h : HasCodes text es ds) (s : decimal_value digits ≡ size) (e : bytes_eq (codes "event") type ≡ event) where
+module _ (text : List ℕ) (es : Codes) (ds : List Declaration) (type digits tok : List ℕ) (size : ℕ) (event : Bool) (h : HasCodes text es ds) (s : decimal_value digits ≡ size) (e : bytes_eq (codes "event") type ≡ event) where
   read_variable : List (List ℕ) → Variable
   read_variable reference = record { type = type; size = decimal_value digits; code = tok; reference = reference }
 
@@ -40,38 +38,34 @@ module _ (text : List ℕ) (es : List (Vec ℕ × Coded)) (ds : List Declaration
   unfolding read_variable
   checked b q good = rw (good, q) refl
 
-  pub check_new : list_all is_code_byte tok ≡ true → lookup (λ (k : Vec ℕ). bytes_eq tok k.items) es ≡ None → first_failed (var_checks ds (type ∷ digits ∷ []) tok) ≡ None
+  pub check_new : list_all is_code_byte tok ≡ true → IsKnown (codes_of ds) tok None → first_failed (var_checks ds (type ∷ digits ∷ []) tok) ≡ None
   unfolding read_variable
-  check_new good l = checked true (agrees_new text es ds (read_variable []) h (place_none 0 es (codes_of ds) tok h.numbered l)) good
+  check_new good l = checked true (agrees_new text es ds (read_variable []) h l) good
 
-  pub check_same : (x : Coded) → list_all is_code_byte tok ≡ true → lookup (λ (k : Vec ℕ). bytes_eq tok k.items) es ≡ Some x → x.code.size ≡ size → x.code.event ≡ event → first_failed (var_checks ds (type ∷ digits ∷ []) tok) ≡ None
+  pub check_same : (x : Coded) → list_all is_code_byte tok ≡ true → IsKnown (codes_of ds) tok (Some x) → x.code.size ≡ size → x.code.event ≡ event → first_failed (var_checks ds (type ∷ digits ∷ []) tok) ≡ None
   unfolding read_variable
   check_same x good l a b =
-      let at = place_found 0 es (codes_of ds) tok x h.numbered l in
-      checked true (agrees_found text es ds (read_variable []) at.code h at.found (sym at.of_kind.same_size ∙ a ∙ sym s) (sym at.of_kind.same_event ∙ b ∙ sym e)) good
+      checked true (agrees_found text es ds (read_variable []) l.0 h l.2 (sym l.3.same_size ∙ a ∙ sym s) (sym l.3.same_event ∙ b ∙ sym e)) good
 
-  pub check_size : (x : Coded) → list_all is_code_byte tok ≡ true → lookup (λ (k : Vec ℕ). bytes_eq tok k.items) es ≡ Some x → x.code.size ≢ size → first_failed (var_checks ds (type ∷ digits ∷ []) tok) ≡ Some 8
+  pub check_size : (x : Coded) → list_all is_code_byte tok ≡ true → IsKnown (codes_of ds) tok (Some x) → x.code.size ≢ size → first_failed (var_checks ds (type ∷ digits ∷ []) tok) ≡ Some 8
   unfolding read_variable
   check_size x good l a =
-      let at = place_found 0 es (codes_of ds) tok x h.numbered l in
-      checked false (size_differs text es ds (read_variable []) at.code h at.found (λ q. a (at.of_kind.same_size ∙ q ∙ s))) good
+      checked false (size_differs text es ds (read_variable []) l.0 h l.2 (λ q. a (l.3.same_size ∙ q ∙ s))) good
 
-  pub check_event : (x : Coded) → list_all is_code_byte tok ≡ true → lookup (λ (k : Vec ℕ). bytes_eq tok k.items) es ≡ Some x → x.code.size ≡ size → x.code.event ≢ event → first_failed (var_checks ds (type ∷ digits ∷ []) tok) ≡ Some 8
+  pub check_event : (x : Coded) → list_all is_code_byte tok ≡ true → IsKnown (codes_of ds) tok (Some x) → x.code.size ≡ size → x.code.event ≢ event → first_failed (var_checks ds (type ∷ digits ∷ []) tok) ≡ Some 8
   unfolding read_variable
   check_event x good l a b =
-      let at = place_found 0 es (codes_of ds) tok x h.numbered l in
-      checked false (event_differs text es ds (read_variable []) at.code h at.found (sym at.of_kind.same_size ∙ a ∙ sym s) (λ q. b (at.of_kind.same_event ∙ q ∙ e))) good
+      checked false (event_differs text es ds (read_variable []) l.0 h l.2 (sym l.3.same_size ∙ a ∙ sym s) (λ q. b (l.3.same_event ∙ q ∙ e))) good
 
-  pub found_new : (bytes : Vec ℕ) (reference : List (List ℕ)) → lookup (λ (k : Vec ℕ). bytes_eq tok k.items) es ≡ None → bytes.items ≡ tok → IsFound ds (record { type = type; size = decimal_value digits; code = tok; reference = reference }) (found.New bytes)
-  found_new bytes reference l b = (b, place_none 0 es (codes_of ds) tok h.numbered l)
+  pub found_new : (bytes : Vec ℕ) (reference : List (List ℕ)) → IsKnown (codes_of ds) tok None → bytes.items ≡ tok → IsFound ds (record { type = type; size = decimal_value digits; code = tok; reference = reference }) (found.New bytes)
+  found_new bytes reference l b = (b, l)
 
-  pub found_same : (x : Coded) (reference : List (List ℕ)) → lookup (λ (k : Vec ℕ). bytes_eq tok k.items) es ≡ Some x → x.code.size ≡ size → x.code.event ≡ event
+  pub found_same : (x : Coded) (reference : List (List ℕ)) → IsKnown (codes_of ds) tok (Some x) → x.code.size ≡ size → x.code.event ≡ event
       → IsFound ds (record { type = type; size = decimal_value digits; code = tok; reference = reference }) (found.Declared x.place)
   found_same x reference l a b =
-      let at = place_found 0 es (codes_of ds) tok x h.numbered l in
-      let t : tok ≡ at.code.text = (bytes_eq-Decides tok at.code.text).0 (found_passes (has_text tok) (codes_of ds) at.code at.found) in
-      let k : at.code ≡ record { text = tok; size = decimal_value digits; event = bytes_eq (codes "event") type } = λ j. record { text = sym t j; size = (sym at.of_kind.same_size ∙ a ∙ sym s) j; event = (sym at.of_kind.same_event ∙ b ∙ sym e) j } in
-      (ap (slice_get (codes_of ds)) (at.sum ∙ zero-add at.place) ∙ at.at ∙ ap Some k, at.found ∙ ap Some k)
+      let t : tok ≡ l.0.text = (bytes_eq-Decides tok l.0.text).0 (found_passes (has_text tok) (codes_of ds) l.0 l.2) in
+      let k : l.0 ≡ record { text = tok; size = decimal_value digits; event = bytes_eq (codes "event") type } = λ j. record { text = sym t j; size = (sym l.3.same_size ∙ a ∙ sym s) j; event = (sym l.3.same_event ∙ b ∙ sym e) j } in
+      (l.1 ∙ ap Some k, l.2 ∙ ap Some k)
 
 pub flags_same : (a b : Bool) → not (beq a b) ≡ false → a ≡ b
 flags_same true true e = refl

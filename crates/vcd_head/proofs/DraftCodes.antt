@@ -1,41 +1,28 @@
 -- The codes of one variable more.
-use Rattle.std.proofs.Common.{◌≡◌, ◌≢◌, ℕ, suc, ◌+◌, Bool, true, false, cond, not, ◌&&◌, ◌||◌, ◌==◌, List, [], ◌∷◌, ◌++◌, length, find, bytes_eq, slice_get, slice_range, Option, Some, None, is_some, refl, sym, ap, subst, ◌∙◌, arith}
+use Rattle.std.proofs.Common.{◌≡◌, ◌≢◌, ℕ, ◌+◌, Bool, true, false, cond, not, ◌&&◌, ◌||◌, ◌==◌, List, [], ◌∷◌, ◌++◌, length, find, bytes_eq, slice_get, slice_range, Option, Some, None, is_some, refl, sym, ap, subst, ◌∙◌, arith}
 use Rattle.std.specs.Global.{Vec}
 use Rattle.std.specs.Option.{option_or}
 use Rattle.std.specs.List.{AllByRecursion, AllZip, list_any, list_all}
-use Rattle.std.proofs.lemmas.List.{append-nil, map-append, length-append}
+use Rattle.std.proofs.lemmas.List.{append-nil, length-append}
 use Rattle.std.proofs.lemmas.List.Folds.{find-append, list_any-append}
 use Rattle.std.proofs.lemmas.Bool.{or_right, or_parts, eq-eqb, ne_eqb}
 use Rattle.std.proofs.lemmas.Slice.Eq.{bytes_eq-Decides}
 use Rattle.vcd_model.specs.Declarations.{Declaration, Variable, IdCode, code_of, codes_of, variables_of, has_text}
 use Rattle.vcd_model.specs.HeaderChecks.{agrees, same_flag}
 use Rattle.vcd_head.specs.declared.view.Code.{Code}
-use Rattle.vcd_head.specs.declared.draft.Coded.{Coded}
+use Rattle.vcd_head.specs.declared.codes.Codes.{Codes}
+use Rattle.vcd_head.specs.Codes.{ArePlaces, IsAdded}
 use Rattle.vcd_head.specs.Keys.{AreBytes}
 use Rattle.vcd_head.specs.Views.{IsCode, IsSize}
-use Rattle.vcd_head.specs.Draft.{ArePlaces, codes_in, HasCodes, CodeHeld}
+use Rattle.vcd_head.specs.Draft.{HasCodes, CodeHeld}
 use Rattle.vcd_head.specs.declared.draft.Draft.{Draft}
 use Rattle.vcd_head.proofs.DraftLemmas.{range_at}
-use Rattle.std.specs.Map.{lookup}
-use Rattle.indexmap.specs.IndexMap.{insert_entry}
-use Rattle.vcd_head.proofs.DraftGrows.{all_push, all_zip_push, are_codes_grow, places_push, places_len, variables_push, codes-alias, codes-new, all_weaker, slice_get-seam}
-
-same_bytes : (a b : List ℕ) → bytes_eq a b ≡ true → a ≡ b
-same_bytes a b e = (bytes_eq-Decides a b).0 e
+use Rattle.vcd_head.proofs.CodesLemmas.{places_push}
+use Rattle.vcd_head.proofs.LookUpLemmas.{codes_len}
+use Rattle.vcd_head.proofs.DraftGrows.{all_push, all_zip_push, are_codes_grow, same_bytes, bytes_flip, variables_push, codes-alias, codes-new, all_weaker, slice_get-seam}
 
 own_bytes : (a : List ℕ) → bytes_eq a a ≡ true
 own_bytes a = (bytes_eq-Decides a a).1 refl
-
-pub bytes_flip : (a b : List ℕ) → bytes_eq a b ≡ bytes_eq b a
-bytes_flip a b = by_case (bytes_eq a b) refl
-  where
-    by_case : (r : Bool) → bytes_eq a b ≡ r → r ≡ bytes_eq b a
-    by_case true e = sym ((bytes_eq-Decides b a).1 (sym (same_bytes a b e)))
-    by_case false e = by_other (bytes_eq b a) refl
-      where
-        by_other : (q : Bool) → bytes_eq b a ≡ q → false ≡ q
-        by_other false f = refl
-        by_other true f = let g : bytes_eq a b ≡ true = (bytes_eq-Decides a b).1 (sym (same_bytes b a f)) in cc
 
 or_false : (x : Bool) → (x || false) ≡ x
 or_false true = refl
@@ -46,13 +33,13 @@ any_push vs v t = list_any-append (λ u. bytes_eq u.code t) vs (v ∷ []) ∙ ap
 
 -- ---- an alias
 
-pub codes_alias : (text : List ℕ) (es : List (Vec ℕ × Coded)) (ds : List Declaration) (v : Variable) → HasCodes text es ds → find (has_text v.code) (codes_of ds) ≡ Some (code_of v) → HasCodes text es (ds ++ Declaration.Var v ∷ [])
+pub codes_alias : (text : List ℕ) (es : Codes) (ds : List Declaration) (v : Variable) → HasCodes text es ds → find (has_text v.code) (codes_of ds) ≡ Some (code_of v) → HasCodes text es (ds ++ Declaration.Var v ∷ [])
 codes_alias text es ds v h f =
     let c = sym (codes-alias ds v (h.seen v.code ∙ ap is_some f)) in
     let vars = sym (variables_push ds (Declaration.Var v)) in
     record {
-      stand = subst (λ ks. AllZip (IsCode text) (codes_in es) ks) c h.stand;
-      numbered = subst (λ ks. ArePlaces 0 es ks) c h.numbered;
+      stand = subst (λ ks. AllZip (IsCode text) es.list.items ks) c h.stand;
+      numbered = subst (λ ks. ArePlaces es.places.entries ks) c h.numbered;
       known = subst (λ ks. AllByRecursion (λ u. find (has_text u.code) ks ≡ Some (code_of u)) (variables_of (ds ++ Declaration.Var v ∷ []))) c
           (subst (λ vs. AllByRecursion (λ u. find (has_text u.code) (codes_of ds) ≡ Some (code_of u)) vs) vars (all_push (λ u. find (has_text u.code) (codes_of ds) ≡ Some (code_of u)) (variables_of ds) v h.known f));
       seen = λ t. ap (list_any (λ u. bytes_eq u.code t)) (sym vars) ∙ any_push (variables_of ds) v t ∙ seen_or t (bytes_eq v.code t) refl ∙ ap (λ ks. is_some (find (has_text t) ks)) c;
@@ -69,15 +56,16 @@ codes_alias text es ds v h f =
 find_more : (cs : List IdCode) (t : List ℕ) (c : IdCode) → find (has_text t) (cs ++ c ∷ []) ≡ option_or (find (has_text t) cs) (cond (has_text t c) (Some c) None)
 find_more cs t c = find-append (has_text t) cs (c ∷ [])
 
-pub codes_new : (text more : List ℕ) (es : List (Vec ℕ × Coded)) (ds : List Declaration) (v : Variable) (e : Vec ℕ × Coded) → HasCodes text es ds → find (has_text v.code) (codes_of ds) ≡ None → e.0.items ≡ v.code → e.1.place ≡ length (codes_of ds)
-    → IsCode (text ++ more) e.1.code (code_of v) → IsSize (code_of v).size → AreBytes v.code → HasCodes (text ++ more) (es ++ e ∷ []) (ds ++ Declaration.Var v ∷ [])
-codes_new text more es ds v e h f b p is size bytes =
+pub codes_new : (text more : List ℕ) (old new : Codes) (ds : List Declaration) (v : Variable) (k : Vec ℕ) (code : Code) (place : ℕ) → HasCodes text old ds → find (has_text v.code) (codes_of ds) ≡ None → k.items ≡ v.code → IsAdded old new k code place
+    → IsCode (text ++ more) code (code_of v) → IsSize (code_of v).size → AreBytes v.code → HasCodes (text ++ more) new (ds ++ Declaration.Var v ∷ [])
+codes_new text more old new ds v k code place h f b added is size bytes =
     let c = sym (codes-new ds v (h.seen v.code ∙ ap is_some f)) in
     let vars = sym (variables_push ds (Declaration.Var v)) in
     record {
-      stand = subst (λ ks. AllZip (IsCode (text ++ more)) (codes_in (es ++ e ∷ [])) ks) c
-          (subst (λ xs. AllZip (IsCode (text ++ more)) xs (codes_of ds ++ code_of v ∷ [])) (sym (map-append (λ (x : Vec ℕ × Coded). x.1.code) es (e ∷ []))) (all_zip_push (IsCode (text ++ more)) (codes_in es) (codes_of ds) e.1.code (code_of v) (are_codes_grow text more (codes_in es) (codes_of ds) h.stand) is));
-      numbered = subst (λ ks. ArePlaces 0 (es ++ e ∷ []) ks) c (places_push 0 es (codes_of ds) e (code_of v) h.numbered b (omega arith) (record { same_size = is.size_is; same_event = is.event_is }));
+      stand = subst (λ ks. AllZip (IsCode (text ++ more)) new.list.items ks) c
+          (subst (λ xs. AllZip (IsCode (text ++ more)) xs (codes_of ds ++ code_of v ∷ [])) (sym added.listed) (all_zip_push (IsCode (text ++ more)) old.list.items (codes_of ds) code (code_of v) (are_codes_grow text more old.list.items (codes_of ds) h.stand) is));
+      numbered = subst (λ ks. ArePlaces new.places.entries ks) c
+          (places_push old.places.entries new.places.entries (codes_of ds) k place (code_of v) h.numbered (ap (λ t. find (has_text t) (codes_of ds)) b ∙ f) b (added.last ∙ codes_len text old.list.items (codes_of ds) h.stand) added.placed added.ordered);
       known = subst (λ ks. AllByRecursion (λ u. find (has_text u.code) ks ≡ Some (code_of u)) (variables_of (ds ++ Declaration.Var v ∷ []))) c
           (subst (λ vs. AllByRecursion (λ u. find (has_text u.code) (codes_of ds ++ code_of v ∷ []) ≡ Some (code_of u)) vs) vars
           (all_push (λ u. find (has_text u.code) (codes_of ds ++ code_of v ∷ []) ≡ Some (code_of u)) (variables_of ds) v
@@ -100,7 +88,7 @@ none_agrees : (vs : List Variable) (v : Variable) → list_any (λ u. bytes_eq u
 none_agrees [] v h = refl
 none_agrees (u ∷ vs) v h = let p = or_parts (bytes_eq u.code v.code) (list_any (λ x. bytes_eq x.code v.code) vs) h in rw (p.0, none_agrees vs v p.1) refl
 
-pub agrees_new : (text : List ℕ) (es : List (Vec ℕ × Coded)) (ds : List Declaration) (v : Variable) → HasCodes text es ds → find (has_text v.code) (codes_of ds) ≡ None → agrees ds v ≡ true
+pub agrees_new : (text : List ℕ) (es : Codes) (ds : List Declaration) (v : Variable) → HasCodes text es ds → find (has_text v.code) (codes_of ds) ≡ None → agrees ds v ≡ true
 agrees_new text es ds v h f = none_agrees (variables_of ds) v (h.seen v.code ∙ ap is_some f)
 
 -- whether the code found has this size, and is an event where the variable is one
@@ -135,7 +123,7 @@ some_differ ks (u ∷ vs) v k f h e any = by_code (bytes_eq u.code v.code) refl 
         let d : code_of u ≡ k = cc in
         rw (ap (λ (x : IdCode). (x.size == v.size) && same_flag x.event (code_of v).event) d ∙ e) refl
 
-pub agrees_found : (text : List ℕ) (es : List (Vec ℕ × Coded)) (ds : List Declaration) (v : Variable) (k : IdCode) → HasCodes text es ds → find (has_text v.code) (codes_of ds) ≡ Some k → k.size ≡ v.size → k.event ≡ (code_of v).event → agrees ds v ≡ true
+pub agrees_found : (text : List ℕ) (es : Codes) (ds : List Declaration) (v : Variable) (k : IdCode) → HasCodes text es ds → find (has_text v.code) (codes_of ds) ≡ Some k → k.size ≡ v.size → k.event ≡ (code_of v).event → agrees ds v ≡ true
 unfolding same_kind
 agrees_found text es ds v k h f s e = all_agree (codes_of ds) (variables_of ds) v k f h.known (rw (eq-eqb k.size v.size s, e) (flag_same (code_of v).event))
   where
@@ -143,11 +131,11 @@ agrees_found text es ds v k h f s e = all_agree (codes_of ds) (variables_of ds) 
     flag_same true = refl
     flag_same false = refl
 
-pub size_differs : (text : List ℕ) (es : List (Vec ℕ × Coded)) (ds : List Declaration) (v : Variable) (k : IdCode) → HasCodes text es ds → find (has_text v.code) (codes_of ds) ≡ Some k → k.size ≢ v.size → agrees ds v ≡ false
+pub size_differs : (text : List ℕ) (es : Codes) (ds : List Declaration) (v : Variable) (k : IdCode) → HasCodes text es ds → find (has_text v.code) (codes_of ds) ≡ Some k → k.size ≢ v.size → agrees ds v ≡ false
 unfolding same_kind
 size_differs text es ds v k h f s = some_differ (codes_of ds) (variables_of ds) v k f h.known (rw (ne_eqb k.size v.size s) refl) (h.seen v.code ∙ ap is_some f)
 
-pub event_differs : (text : List ℕ) (es : List (Vec ℕ × Coded)) (ds : List Declaration) (v : Variable) (k : IdCode) → HasCodes text es ds → find (has_text v.code) (codes_of ds) ≡ Some k → k.size ≡ v.size → k.event ≢ (code_of v).event → agrees ds v ≡ false
+pub event_differs : (text : List ℕ) (es : Codes) (ds : List Declaration) (v : Variable) (k : IdCode) → HasCodes text es ds → find (has_text v.code) (codes_of ds) ≡ Some k → k.size ≡ v.size → k.event ≢ (code_of v).event → agrees ds v ≡ false
 unfolding same_kind
 event_differs text es ds v k h f s e = some_differ (codes_of ds) (variables_of ds) v k f h.known (rw (eq-eqb k.size v.size s) (flag_differs k.event (code_of v).event e)) (h.seen v.code ∙ ap is_some f)
   where
@@ -159,52 +147,30 @@ event_differs text es ds v k h f s e = some_differ (codes_of ds) (variables_of d
 
 -- ---- a draft with one code more
 
-pub held_alias : (d : Draft) (ds : List Declaration) (v : Variable) (place : ℕ) → HasCodes d.text.items d.codes.entries ds → slice_get (codes_of ds) place ≡ Some (code_of v) → find (has_text v.code) (codes_of ds) ≡ Some (code_of v) → CodeHeld d d ds v place
+pub held_alias : (d : Draft) (ds : List Declaration) (v : Variable) (place : ℕ) → HasCodes d.text.items d.codes ds → slice_get (codes_of ds) place ≡ Some (code_of v) → find (has_text v.code) (codes_of ds) ≡ Some (code_of v) → CodeHeld d d ds v place
 held_alias d ds v place h at f = record {
-  held_codes = codes_alias d.text.items d.codes.entries ds v h f;
+  held_codes = codes_alias d.text.items d.codes ds v h f;
   held_at = ap (λ ks. slice_get ks place) (codes-alias ds v (h.seen v.code ∙ ap is_some f)) ∙ at;
   more = [];
   grown = sym (append-nil d.text.items);
   short = omega arith;
 }
 
-lookup_none : (n : ℕ) (es : List (Vec ℕ × Coded)) (cs : List IdCode) (t : List ℕ) → ArePlaces n es cs → find (has_text t) cs ≡ None → lookup (λ (k : Vec ℕ). bytes_eq t k.items) es ≡ None
-lookup_none n [] [] t h e = refl
-lookup_none n [] (c ∷ cs) t h e = absurd h
-lookup_none n (y ∷ es) [] t h e = absurd h
-lookup_none n (y ∷ es) (c ∷ cs) t h e = by_test (has_text t c) refl e (lookup_none (suc n) es cs t h.3)
-  where
-    by_test : (b : Bool) → has_text t c ≡ b → cond b (Some c) (find (has_text t) cs) ≡ None → (find (has_text t) cs ≡ None → lookup (λ (k : Vec ℕ). bytes_eq t k.items) es ≡ None) → lookup (λ (k : Vec ℕ). bytes_eq t k.items) (y ∷ es) ≡ None
-    by_test true q f more = cc
-    by_test false q f more = rw (ap (bytes_eq t) h.0 ∙ q) (more f)
-
-inserted : (es : List (Vec ℕ × Coded)) (k : Vec ℕ) (x : Coded) → lookup (λ (y : Vec ℕ). bytes_eq k.items y.items) es ≡ None → insert_entry (λ (a b : Vec ℕ). bytes_eq a.items b.items) es k x ≡ es ++ (k, x) ∷ []
-inserted [] k x h = refl
-inserted (e ∷ es) k x h = by_test (bytes_eq k.items e.0.items) refl h (inserted es k x)
-  where
-    by_test : (b : Bool) → bytes_eq k.items e.0.items ≡ b → cond b (Some e.1) (lookup (λ (y : Vec ℕ). bytes_eq k.items y.items) es) ≡ None
-        → (lookup (λ (y : Vec ℕ). bytes_eq k.items y.items) es ≡ None → insert_entry (λ (a b : Vec ℕ). bytes_eq a.items b.items) es k x ≡ es ++ (k, x) ∷ []) → insert_entry (λ (a b : Vec ℕ). bytes_eq a.items b.items) (e ∷ es) k x ≡ e ∷ (es ++ (k, x) ∷ [])
-    by_test true q f more = cc
-    by_test false q f more = rw q (ap (λ l. e ∷ l) (more f))
-
-pub held_new : (old new : Draft) (ds : List Declaration) (v : Variable) (k : Vec ℕ) (x : Coded) → HasCodes old.text.items old.codes.entries ds → find (has_text v.code) (codes_of ds) ≡ None → k.items ≡ v.code → AreBytes k.items → IsSize (code_of v).size → x.place ≡ length old.codes.entries
-    → x.code ≡ record { start = length old.text.items; len = length k.items; size = (code_of v).size; event = (code_of v).event } → new.text.items ≡ old.text.items ++ k.items
-    → new.codes.entries ≡ insert_entry (λ (a b : Vec ℕ). bytes_eq a.items b.items) old.codes.entries k x → CodeHeld old new ds v x.place
-held_new old new ds v k x h f b bytes size place code text entries =
-    let fresh = lookup_none 0 old.codes.entries (codes_of ds) k.items h.numbered (ap (λ t. find (has_text t) (codes_of ds)) b ∙ f) in
-    let more = entries ∙ inserted old.codes.entries k x fresh in
-    let len = places_len 0 old.codes.entries (codes_of ds) h.numbered in
-    let from = ap (λ (c : Code). c.start) code in
-    let size_of = ap (λ (c : Code). c.len) code in
-    let is : IsCode (old.text.items ++ k.items) x.code (code_of v) = record {
+pub held_new : (old new : Draft) (ds : List Declaration) (v : Variable) (k : Vec ℕ) (code : Code) (place : ℕ) → HasCodes old.text.items old.codes ds → find (has_text v.code) (codes_of ds) ≡ None → k.items ≡ v.code → AreBytes k.items → IsSize (code_of v).size
+    → code ≡ record { start = length old.text.items; len = length k.items; size = (code_of v).size; event = (code_of v).event } → new.text.items ≡ old.text.items ++ k.items → IsAdded old.codes new.codes k code place → CodeHeld old new ds v place
+held_new old new ds v k code place h f b bytes size is_code text added =
+    let at : place ≡ length (codes_of ds) = added.last ∙ codes_len old.text.items old.codes.list.items (codes_of ds) h.stand in
+    let from = ap (λ (c : Code). c.start) is_code in
+    let size_of = ap (λ (c : Code). c.len) is_code in
+    let is : IsCode (old.text.items ++ k.items) code (code_of v) = record {
       within = omega (arith, length-append old.text.items k.items);
-      text_is = ap (λ l. slice_range l x.code.start (x.code.start + x.code.len)) (ap (λ l. old.text.items ++ l) (sym (append-nil k.items))) ∙ range_at old.text.items k.items [] x.code.start (x.code.start + x.code.len) from (omega arith) ∙ b;
-      size_is = ap (λ (c : Code). c.size) code;
-      event_is = ap (λ (c : Code). c.event) code;
+      text_is = ap (λ l. slice_range l code.start (code.start + code.len)) (ap (λ l. old.text.items ++ l) (sym (append-nil k.items))) ∙ range_at old.text.items k.items [] code.start (code.start + code.len) from (omega arith) ∙ b;
+      size_is = ap (λ (c : Code). c.size) is_code;
+      event_is = ap (λ (c : Code). c.event) is_code;
     } in
     record {
-      held_codes = rw (text, more) (codes_new old.text.items k.items old.codes.entries ds v (k, x) h f b (place ∙ len) is size (subst AreBytes b bytes));
-      held_at = ap (λ ks. slice_get ks x.place) (codes-new ds v (h.seen v.code ∙ ap is_some f)) ∙ ap (slice_get (codes_of ds ++ code_of v ∷ [])) (place ∙ len) ∙ slice_get-seam (codes_of ds) (code_of v) [];
+      held_codes = rw text (codes_new old.text.items k.items old.codes new.codes ds v k code place h f b added is size (subst AreBytes b bytes));
+      held_at = ap (λ ks. slice_get ks place) (codes-new ds v (h.seen v.code ∙ ap is_some f)) ∙ ap (slice_get (codes_of ds ++ code_of v ∷ [])) at ∙ slice_get-seam (codes_of ds) (code_of v) [];
       more = k.items;
       grown = text;
       short = omega (arith, ap length b);

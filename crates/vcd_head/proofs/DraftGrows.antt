@@ -1,17 +1,14 @@
 -- What is held stays held where texts, codes and rows grow.
-use Rattle.std.proofs.Common.{◌≡◌, ℕ, zero, suc, ◌+◌, ◌-◌, ◌≤◌, Bool, true, false, cond, List, [], ◌∷◌, ◌++◌, length, take, drop, slice_range, slice_get, find, filter_map, bytes_eq, Option, Some, None, refl, sym, ap, subst, ◌∙◌, arith}
-use Rattle.std.specs.Global.{Vec}
-use Rattle.std.specs.Map.{lookup}
-use Rattle.std.specs.List.{AllByRecursion, AllZip, list_any}
+use Rattle.std.proofs.Common.{◌≡◌, ℕ, zero, suc, ◌+◌, ◌-◌, ◌≤◌, Bool, true, false, cond, List, [], ◌∷◌, ◌++◌, length, take, drop, slice_range, slice_get, filter_map, bytes_eq, Option, Some, None, refl, sym, ap, subst, ◌∙◌, arith}
+use Rattle.std.specs.List.{All, AllByRecursion, AllZip, list_any}
 use Rattle.std.proofs.lemmas.List.{append_assoc, append-nil, take-append-le, length-append, length-drop}
 use Rattle.std.proofs.lemmas.List.Elements.{filter_map-append}
+use Rattle.std.proofs.lemmas.Slice.Eq.{bytes_eq-Decides}
 use Rattle.vcd_model.specs.Backward.{each_after}
-use Rattle.vcd_model.specs.Declarations.{Declaration, Variable, IdCode, code_of, codes_of, variables_of, variable_of, has_text}
+use Rattle.vcd_model.specs.Declarations.{Declaration, Variable, IdCode, code_of, codes_of, variables_of, variable_of}
 use Rattle.vcd_head.specs.declared.view.Row.{Row}
 use Rattle.vcd_head.specs.declared.view.Code.{Code}
 use Rattle.vcd_head.specs.Views.{HasTexts, IsRow, IsRowOf, AreRows, IsCode}
-use Rattle.vcd_head.specs.declared.draft.Coded.{Coded}
-use Rattle.vcd_head.specs.Draft.{ArePlaces, IsOfKind}
 
 -- ---- texts
 
@@ -76,6 +73,31 @@ all_push P (y ∷ xs) x h p = (h.0, all_push P xs x h.1 p)
 pub all_weaker : {X : Type 0} (P Q : X → Type 0) (xs : List X) → ((x : X) → P x → Q x) → AllByRecursion P xs → AllByRecursion Q xs
 all_weaker P Q [] f h = tt
 all_weaker P Q (x ∷ xs) f h = (f x h.0, all_weaker P Q xs f h.1)
+
+pub to_all : {X : Type 0} (P : X → Type 0) (xs : List X) → AllByRecursion P xs → All P xs
+to_all P [] h k d l = absurd (omega arith)
+to_all P (x ∷ xs) h zero d l = h.0
+to_all P (x ∷ xs) h (suc k) d l = to_all P xs h.1 k d (omega arith)
+
+pub from_all : {X : Type 0} (P : X → Type 0) (xs : List X) → All P xs → AllByRecursion P xs
+from_all P [] h = tt
+from_all P (x ∷ xs) h = (h 0 x (omega arith), from_all P xs (λ k d l. h (suc k) d (omega arith)))
+
+-- ---- bytes
+
+pub same_bytes : (a b : List ℕ) → bytes_eq a b ≡ true → a ≡ b
+same_bytes a b e = (bytes_eq-Decides a b).0 e
+
+pub bytes_flip : (a b : List ℕ) → bytes_eq a b ≡ bytes_eq b a
+bytes_flip a b = by_case (bytes_eq a b) refl
+  where
+    by_case : (r : Bool) → bytes_eq a b ≡ r → r ≡ bytes_eq b a
+    by_case true e = sym ((bytes_eq-Decides b a).1 (sym (same_bytes a b e)))
+    by_case false e = by_other (bytes_eq b a) refl
+      where
+        by_other : (q : Bool) → bytes_eq b a ≡ q → false ≡ q
+        by_other false f = refl
+        by_other true f = let g : bytes_eq a b ≡ true = (bytes_eq-Decides a b).1 (sym (same_bytes b a f)) in cc
 
 -- ---- rows
 
@@ -142,49 +164,7 @@ pub codes-other : (ds : List Declaration) (d : Declaration) → variable_of d �
 unfolding codes_of
 codes-other ds d h = ap (λ vs. filter_map (λ o. o) (each_after (λ earlier v. cond (list_any (λ u. bytes_eq u.code v.code) earlier) None (Some (code_of v))) [] vs)) (variables_push ds d ∙ rw h (append-nil (variables_of ds)))
 
--- ---- places
-
-pub places_push : (n : ℕ) (es : List (Vec ℕ × Coded)) (cs : List IdCode) (e : Vec ℕ × Coded) (c : IdCode) → ArePlaces n es cs → e.0.items ≡ c.text → e.1.place ≡ n + length cs → IsOfKind e.1.code c → ArePlaces n (es ++ e ∷ []) (cs ++ c ∷ [])
-places_push n [] [] e c h t p k = (t, omega arith, k, tt)
-places_push n [] (x ∷ cs) e c h t p k = absurd h
-places_push n (y ∷ es) [] e c h t p k = absurd h
-places_push n (y ∷ es) (x ∷ cs) e c h t p k = (h.0, h.1, h.2, places_push (suc n) es cs e c h.3 t (omega arith) k)
-
--- a code that was found by its bytes
-pub record IsAt (n : ℕ) (cs : List IdCode) (t : List ℕ) (p : Coded) : Type 0 where
-  pub code : IdCode
-  pub place : ℕ
-  pub sum : p.place ≡ n + place
-  pub at : slice_get cs place ≡ Some code
-  pub found : find (has_text t) cs ≡ Some code
-  pub of_kind : IsOfKind p.code code
-
-pub place_found : (n : ℕ) (es : List (Vec ℕ × Coded)) (cs : List IdCode) (t : List ℕ) (p : Coded) → ArePlaces n es cs → lookup (λ (k : Vec ℕ). bytes_eq t k.items) es ≡ Some p → IsAt n cs t p
-place_found n [] [] t p h e = cc
-place_found n [] (c ∷ cs) t p h e = absurd h
-place_found n (y ∷ es) [] t p h e = absurd h
-place_found n (y ∷ es) (c ∷ cs) t p h e = by_test (bytes_eq t y.0.items) refl e (place_found (suc n) es cs t p h.3)
-  where
-    by_test : (b : Bool) → bytes_eq t y.0.items ≡ b → cond b (Some y.1) (lookup (λ (k : Vec ℕ). bytes_eq t k.items) es) ≡ Some p → (lookup (λ (k : Vec ℕ). bytes_eq t k.items) es ≡ Some p → IsAt (suc n) cs t p) → IsAt n (c ∷ cs) t p
-    by_test true q f more = let same : y.1 ≡ p = cc in record { code = c; place = 0; sum = let z = h.1 in let w = ap (λ (x : Coded). x.place) same in omega arith; at = refl; found = rw (sym (ap (bytes_eq t) h.0) ∙ q) refl; of_kind = subst (λ (x : Coded). IsOfKind x.code c) same h.2 }
-    by_test false q f more = let m = more f in let z = m.sum in record { code = m.code; place = suc m.place; sum = omega arith; at = m.at; found = rw (sym (ap (bytes_eq t) h.0) ∙ q) m.found; of_kind = m.of_kind }
-
-pub place_none : (n : ℕ) (es : List (Vec ℕ × Coded)) (cs : List IdCode) (t : List ℕ) → ArePlaces n es cs → lookup (λ (k : Vec ℕ). bytes_eq t k.items) es ≡ None → find (has_text t) cs ≡ None
-place_none n [] [] t h e = refl
-place_none n [] (c ∷ cs) t h e = absurd h
-place_none n (y ∷ es) [] t h e = absurd h
-place_none n (y ∷ es) (c ∷ cs) t h e = by_test (bytes_eq t y.0.items) refl e (place_none (suc n) es cs t h.3)
-  where
-    by_test : (b : Bool) → bytes_eq t y.0.items ≡ b → cond b (Some y.1) (lookup (λ (k : Vec ℕ). bytes_eq t k.items) es) ≡ None → (lookup (λ (k : Vec ℕ). bytes_eq t k.items) es ≡ None → find (has_text t) cs ≡ None) → find (has_text t) (c ∷ cs) ≡ None
-    by_test true q f more = cc
-    by_test false q f more = rw (sym (ap (bytes_eq t) h.0) ∙ q) (more f)
-
--- there are as many entries as codes
-pub places_len : (n : ℕ) (es : List (Vec ℕ × Coded)) (cs : List IdCode) → ArePlaces n es cs → length es ≡ length cs
-places_len n [] [] h = refl
-places_len n [] (c ∷ cs) h = absurd h
-places_len n (e ∷ es) [] h = absurd h
-places_len n (e ∷ es) (c ∷ cs) h = ap suc (places_len (suc n) es cs h.3)
+-- ---- codes, one variable on
 
 -- codes stay where they are
 pub codes_grown : (ds : List Declaration) (v : Variable) → (more : List IdCode) × (codes_of (ds ++ Declaration.Var v ∷ []) ≡ codes_of ds ++ more)

@@ -11,12 +11,13 @@ use Rattle.vcd_model.specs.HeaderPhrases.{HeaderPhrase, declarations_of, declara
 use Rattle.vcd_head.specs.declared.view.Kind.TheVariants as kind
 use Rattle.vcd_head.specs.declared.view.Row.{Row}
 use Rattle.vcd_head.specs.declared.view.Scale.{Scale}
-use Rattle.vcd_head.specs.declared.draft.Coded.{Coded}
+use Rattle.vcd_head.specs.declared.codes.Codes.{Codes}
+use Rattle.vcd_head.specs.Codes.{ArePlaces}
 use Rattle.vcd_head.specs.declared.draft.Draft.{Draft}
 use Rattle.vcd_head.specs.Keys.{AreBytes}
 use Rattle.vcd_head.specs.Views.{HasTexts, IsRow, AreRows, IsCode, IsSize, counted_from_one}
 use Rattle.vcd_head.specs.Texts.{spaced}
-use Rattle.vcd_head.specs.Draft.{ArePlaces, codes_in, HasCodes, Declares, IsDraftOf}
+use Rattle.vcd_head.specs.Draft.{HasCodes, Declares, IsDraftOf}
 use Rattle.vcd_model.proofs.ScopeLemmas.{enclosing-scope, enclosing-up, enclosing-var}
 use Rattle.vcd_head.proofs.DraftGrows.{are_codes_grow, are_rows_grow, are_rows_push, rows_len, codes-other, codes_grown, variables_push, slice_get-seam}
 use Rattle.vcd_head.proofs.TextSteps.{joined}
@@ -67,19 +68,19 @@ texts_there text type reference more r t s w a n =
 
 -- ---- codes, where no variable is declared
 
-pub has_codes_grow : (text more : List ℕ) (es : List (Vec ℕ × Coded)) (ds : List Declaration) → HasCodes text es ds → HasCodes (text ++ more) es ds
-has_codes_grow text more es ds h = record { stand = are_codes_grow text more (codes_in es) (codes_of ds) h.stand; numbered = h.numbered; known = h.known; seen = h.seen; sizes = h.sizes; texts = h.texts }
+pub has_codes_grow : (text more : List ℕ) (es : Codes) (ds : List Declaration) → HasCodes text es ds → HasCodes (text ++ more) es ds
+has_codes_grow text more es ds h = record { stand = are_codes_grow text more es.list.items (codes_of ds) h.stand; numbered = h.numbered; known = h.known; seen = h.seen; sizes = h.sizes; texts = h.texts }
 
 same_variables : (ds : List Declaration) (d : Declaration) → variable_of d ≡ None → variables_of (ds ++ d ∷ []) ≡ variables_of ds
 same_variables ds d h = variables_push ds d ∙ rw h (append-nil (variables_of ds))
 
-pub has_codes_other : (text : List ℕ) (es : List (Vec ℕ × Coded)) (ds : List Declaration) (d : Declaration) → variable_of d ≡ None → HasCodes text es ds → HasCodes text es (ds ++ d ∷ [])
+pub has_codes_other : (text : List ℕ) (es : Codes) (ds : List Declaration) (d : Declaration) → variable_of d ≡ None → HasCodes text es ds → HasCodes text es (ds ++ d ∷ [])
 has_codes_other text es ds d n h =
     let c = sym (codes-other ds d n) in
     let v = sym (same_variables ds d n) in
     record {
-      stand = subst (λ ks. AllZip (IsCode text) (codes_in es) ks) c h.stand;
-      numbered = subst (λ ks. ArePlaces 0 es ks) c h.numbered;
+      stand = subst (λ ks. AllZip (IsCode text) es.list.items ks) c h.stand;
+      numbered = subst (λ ks. ArePlaces es.places.entries ks) c h.numbered;
       known = subst (λ ks. AllByRecursion (λ u. find (has_text u.code) ks ≡ Some (code_of u)) (variables_of (ds ++ d ∷ []))) c (subst (λ vs. AllByRecursion (λ u. find (has_text u.code) (codes_of ds) ≡ Some (code_of u)) vs) v h.known);
       seen = λ t. ap (list_any (λ u. bytes_eq u.code t)) (sym v) ∙ h.seen t ∙ ap (λ ks. is_some (find (has_text t) ks)) c;
       sizes = subst (λ ks. AllByRecursion (λ (k : IdCode). IsSize k.size) ks) c h.sizes;
@@ -101,9 +102,9 @@ parent_is ds os e = by_cases (enclosing ds) refl e
 
 -- the facts of a declaration that is no variable, where only texts, rows and scopes change
 module _ (most : ℕ) (d d' : Draft) (ds : List Declaration) (x : Declaration) (more : List ℕ) (r : Row) (h : Declares most d ds) (other : variable_of x ≡ None) (few : length ds < most)
-    (text : d'.text.items ≡ d.text.items ++ more) (rows : d'.rows.items ≡ d.rows.items ++ r ∷ []) (codes : d'.codes.entries ≡ d.codes.entries) where
-  codes_kept : HasCodes d'.text.items d'.codes.entries (ds ++ x ∷ [])
-  codes_kept = rw (text, codes) (has_codes_other (d.text.items ++ more) d.codes.entries ds x other (has_codes_grow d.text.items more d.codes.entries ds h.codes))
+    (text : d'.text.items ≡ d.text.items ++ more) (rows : d'.rows.items ≡ d.rows.items ++ r ∷ []) (codes : d'.codes ≡ d.codes) where
+  codes_kept : HasCodes d'.text.items d'.codes (ds ++ x ∷ [])
+  codes_kept = rw (text, codes) (has_codes_other (d.text.items ++ more) d.codes ds x other (has_codes_grow d.text.items more d.codes ds h.codes))
 
   rows_kept : IsRow d'.text.items (codes_of ds) ds r x → AreRows d'.text.items (codes_of (ds ++ x ∷ [])) [] d'.rows.items (ds ++ x ∷ [])
   rows_kept is =
@@ -118,7 +119,7 @@ module _ (most : ℕ) (d d' : Draft) (ds : List Declaration) (x : Declaration) (
   few_kept = omega (arith, length_push ds x)
 
 pub scope_declared : (most : ℕ) (d d' : Draft) (ds : List Declaration) (type name : List ℕ) (r : Row) → Declares most d ds → length ds < most
-    → d'.text.items ≡ (d.text.items ++ type) ++ name → d'.rows.items ≡ d.rows.items ++ r ∷ [] → d'.codes.entries ≡ d.codes.entries → d'.scopes.items ≡ d.scopes.items ++ suc (length d.rows.items) ∷ []
+    → d'.text.items ≡ (d.text.items ++ type) ++ name → d'.rows.items ≡ d.rows.items ++ r ∷ [] → d'.codes ≡ d.codes → d'.scopes.items ≡ d.scopes.items ++ suc (length d.rows.items) ∷ []
     → r ≡ record { kind = kind.Scope; parent = unwrap_or (slice_get d.scopes.items (length d.scopes.items - 1)) 0; start = length d.text.items; word = length type; name = length name; all = length name; code = 0 }
     → Declares most d' (ds ++ Declaration.Scope type name ∷ [])
 scope_declared most d d' ds type name r h few text rows codes scopes is =
@@ -154,7 +155,7 @@ last_same (a ∷ xs) (b ∷ ys) x y q = let s : a ≡ b = cc in let t : xs ++ x 
 
 -- the innermost scope is closed
 pub up_declared : (most : ℕ) (d d' : Draft) (ds : List Declaration) (closed : ℕ) (r : Row) → Declares most d ds → length ds < most
-    → d'.text.items ≡ d.text.items → d'.rows.items ≡ d.rows.items ++ r ∷ [] → d'.codes.entries ≡ d.codes.entries → d.scopes.items ≡ d'.scopes.items ++ closed ∷ []
+    → d'.text.items ≡ d.text.items → d'.rows.items ≡ d.rows.items ++ r ∷ [] → d'.codes ≡ d.codes → d.scopes.items ≡ d'.scopes.items ++ closed ∷ []
     → r ≡ record { kind = kind.Up; parent = closed; start = 0; word = 0; name = 0; all = 0; code = 0 }
     → Declares most d' (ds ++ Declaration.Up ∷ [])
 up_declared most d d' ds closed r h few text rows codes scopes is = by_cases (enclosing ds) refl
@@ -255,7 +256,7 @@ holds_scale most d ps x h = record {
 
 -- a variable
 pub var_declared : (most : ℕ) (d d' : Draft) (ds : List Declaration) (v : Variable) (r : Row) (more : List ℕ) → Declares most d ds → length ds < most → v.reference ≢ []
-    → d'.text.items ≡ d.text.items ++ (v.type ++ (join_with_byte 32 v.reference ++ more)) → length more ≤ length v.code → d'.rows.items ≡ d.rows.items ++ r ∷ [] → HasCodes d'.text.items d'.codes.entries (ds ++ Declaration.Var v ∷ [])
+    → d'.text.items ≡ d.text.items ++ (v.type ++ (join_with_byte 32 v.reference ++ more)) → length more ≤ length v.code → d'.rows.items ≡ d.rows.items ++ r ∷ [] → HasCodes d'.text.items d'.codes (ds ++ Declaration.Var v ∷ [])
     → slice_get (codes_of (ds ++ Declaration.Var v ∷ [])) r.code ≡ Some (code_of v) → d'.scopes.items ≡ d.scopes.items → r.kind ≡ kind.Var → r.parent ≡ unwrap_or (slice_get d.scopes.items (length d.scopes.items - 1)) 0 → r.start ≡ length d.text.items → r.word ≡ length v.type
     → r.all ≡ length (join_with_byte 32 v.reference) → r.name ≡ length (first_token v.reference) → Declares most d' (ds ++ Declaration.Var v ∷ [])
 var_declared most d d' ds v r more h few named text short rows codes at scopes kind parent start word all name =

@@ -31,7 +31,7 @@ counted_some : (o : Option ℕ) (p : ℕ) → suc p ≡ counted_from_one o → o
 counted_some None p e = cc
 counted_some (Some q) p e = cc
 
-parent_of_row : (s : HeadShown) (h : Header) (i : ℕ) (r : Row) → Views s h → slice_get s.rows i ≡ Some r → r.parent ≡ counted_from_one (parent (take i h.declarations))
+pub parent_of_row : (s : HeadShown) (h : Header) (i : ℕ) (r : Row) → Views s h → slice_get s.rows i ≡ Some r → r.parent ≡ counted_from_one (parent (take i h.declarations))
 parent_of_row s h i r v at = (row_at s h i r v at).2.parent_is
 
 pub says_none : (s : HeadShown) (h : Header) (i : ℕ) (r : Row) → Views s h → slice_get s.rows i ≡ Some r → r.parent ≡ 0 → parent (take i h.declarations) ≡ None

@@ -12,9 +12,11 @@ pub mod WriteLemmas
 pub mod MarkedHead
 pub mod MarkLemmas
 pub mod NamePaths
+pub mod InsideLemmas
 pub mod SelectionLemmas
 pub mod DraftSteps
 pub mod DraftCodes
+pub mod CodesLemmas
 pub mod CodeChecks
 pub mod ScaleLemmas
 pub mod ScaleChecks

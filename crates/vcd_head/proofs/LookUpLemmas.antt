@@ -23,9 +23,7 @@ use Rattle.vcd_model.specs.Declarations.{IdCode, has_text}
 use Rattle.vcd_head.specs.declared.view.Code.{Code}
 use Rattle.vcd_head.specs.Views.{IsCode, IsIndex, code_text}
 use Rattle.vcd_head.specs.Finds.{Finds}
-use Rattle.vcd_head.proofs.DraftGrows.{slice_get-seam}
-use Rattle.vcd_head.proofs.DraftCodes.{bytes_flip}
-use Rattle.vcd_head.proofs.FinishLemmas.{to_all}
+use Rattle.vcd_head.proofs.DraftGrows.{slice_get-seam, bytes_flip, to_all}
 
 -- ---- the codes of a view
 
@@ -96,7 +94,7 @@ pub found_at : (ks : List IdCode) (index : List ℕ) (t : List ℕ) (p : ℕ) (k
 found_at ks index t p k h e s = (k, e, first_with ks t p k (distinct ks index h) e s)
 
 -- no code has a text that differs from all
-none_with : (ks : List IdCode) (t : List ℕ) → ((p : ℕ) → p < length ks → bytes_eq t (code_text ks p) ≡ false) → find (has_text t) ks ≡ None
+pub none_with : (ks : List IdCode) (t : List ℕ) → ((p : ℕ) → p < length ks → bytes_eq t (code_text ks p) ≡ false) → find (has_text t) ks ≡ None
 none_with [] t h = refl
 none_with (k ∷ ks) t h = rw (h 0 (omega arith)) (none_with ks t (λ p l. h (suc p) (omega arith)))
 

@@ -1,5 +1,5 @@
 -- Names and the front of a path.
-use Rattle.std.proofs.Common.{◌≡◌, ◌≢◌, ℕ, true, false, ◌&&◌, List, [], ◌∷◌, ◌++◌, ◌==◌, length, take, reverse, nat_eq, Some, inl, inr, refl, sym, ap, ◌∙◌}
+use Rattle.std.proofs.Common.{◌≡◌, ◌≢◌, ℕ, true, false, ◌&&◌, List, [], ◌∷◌, ◌++◌, ◌==◌, ◌+◌, length, drop, take, reverse, nat_eq, Some, inl, inr, refl, sym, ap, ◌∙◌, suc, add-one}
 use Rattle.std.proofs.lemmas.Bool.{eq-eqb, ne_eqb, eqb-true, cases_eq, and_parts, and_from, false_from_ne_true}
 use Rattle.std.proofs.lemmas.List.{append_assoc, append-nil}
 use Rattle.std.specs.List.{starts_with}
@@ -83,6 +83,14 @@ name_goes_on component name rest text e = rw e (selects-front component (46 ∷ 
 pub component_differs : (component name text : List ℕ) → selects_path component name ≡ false → ((rest : List ℕ) → name ≢ component ++ 46 ∷ rest) → selects_path (component ++ 46 ∷ text) name ≡ false
 component_differs component name text not n =
     false_from_ne_true (selects_path (component ++ 46 ∷ text) name) (λ h. elim (selects_split component name text h) [ inl is ↦ cc | inr more ↦ n more.0 more.1 ])
+
+-- what stands behind a component and a point
+pub behind_component : (component name rest : List ℕ) → name ≡ component ++ 46 ∷ rest → rest ≡ drop (length component + 1) name
+behind_component component name rest e = sym (ap (drop (length component + 1)) e ∙ ap (λ n. drop n (component ++ 46 ∷ rest)) (add-one (length component)) ∙ passed component)
+  where
+    passed : (component : List ℕ) → drop (suc (length component)) (component ++ 46 ∷ rest) ≡ rest
+    passed [] = refl
+    passed (x ∷ component) = passed component
 
 -- ---- one scope after the other
 

@@ -19,6 +19,9 @@ use Rattle.vcd_head.specs.Reads.{Reads, ReadsToken, FailsAtToken, Fails, GivesHe
 use Rattle.vcd_head.specs.Texts.{NoEnds, RunsOn, EndsThere}
 use Rattle.vcd_head.specs.Keywords.{model_keyword}
 use Rattle.vcd_head.specs.declared.keyword.Keyword.{Keyword as WordOf}
+use Rattle.vcd_head.specs.declared.codes.Codes.{Codes}
+use Rattle.vcd_head.specs.Codes.{HasNone}
+use Rattle.vcd_head.proofs.CodesLemmas.{no_places}
 use Rattle.vcd_head.specs.Draft.{IsDraftOf, HasCodes, IsNew, AtKeyword, AtFirstToken, AtOther, DraftsUpTo, DraftsAll}
 use Rattle.vcd_head.specs.Views.{AreRows, Views}
 use Rattle.vcd_head.specs.Shown.{shown}
@@ -113,9 +116,9 @@ begun_by most i d f placed (Some k) e l h = record { placed = placed; token_read
 
 -- ---- the first and the last
 
-no_codes_yet : (text : List ℕ) → HasCodes text [] []
+no_codes_yet : (text : List ℕ) (c : Codes) → HasNone c → HasCodes text c []
 unfolding codes_of
-no_codes_yet text = record { stand = tt; numbered = tt; known = tt; seen = λ t. refl; sizes = tt; texts = tt }
+no_codes_yet text c n = record { stand = rw n.no_codes tt; numbered = rw n.no_places no_places; known = tt; seen = λ t. refl; sizes = tt; texts = tt }
 
 no_rows_yet : (text : List ℕ) → AreRows text (codes_of []) [] [] []
 no_rows_yet text = tt
@@ -127,7 +130,7 @@ no_scopes_yet = refl
 pub holds_nothing : (most : ℕ) (d : Draft) → IsNew d → IsDraftOf most d []
 holds_nothing most d n = record {
   declares = record {
-    codes = rw n.no_codes (no_codes_yet d.text.items);
+    codes = no_codes_yet d.text.items d.codes n.no_codes;
     rows = rw n.no_rows (no_rows_yet d.text.items);
     nested = n.no_scopes ∙ ap (λ l. map suc (reverse l)) (sym no_scopes_yet);
     balance = ap (λ (l : List ℕ). length l + 0) no_scopes_yet;

@@ -1,17 +1,16 @@
 -- What a draft holds of the phrases read so far, beside the feed that they come from.
 use Rattle.std.specs.Prelude.{◌≡◌, ℕ, suc, ◌+◌, ◌≤◌, List, [], ◌∷◌, ◌++◌, length, map, reverse, find, filter_map, count_by, sum_by, bytes_eq, Some, None, is_some, option_map, unwrap_or, slice_get, Bool, true, false, Option}
-use Rattle.std.specs.Global.{Vec}
 use Rattle.std.specs.List.{AllByRecursion, AllZip, list_any, last_or}
 use Rattle.vcd_model.specs.Declarations.{Declaration, Variable, IdCode, code_of, codes_of, variables_of, has_text, is_scope, is_up, enclosing}
 use Rattle.vcd_model.specs.HeaderPhrases.{HeaderPhrase, declarations_of, date_of, version_of, timescale_of}
 use Rattle.vcd_model.specs.Bound.{kept_bytes}
-use Rattle.vcd_head.specs.declared.view.Code.{Code}
 use Rattle.vcd_head.specs.declared.view.Scale.{Scale}
-use Rattle.vcd_head.specs.declared.draft.Coded.{Coded}
+use Rattle.vcd_head.specs.declared.codes.Codes.{Codes}
+use Rattle.vcd_head.specs.Codes.{ArePlaces, HasNone}
 use Rattle.vcd_head.specs.declared.draft.Draft.{Draft}
 use Rattle.vcd_head.specs.declared.draft.Found.{Found}
 use Rattle.vcd_head.specs.declared.draft.Found.TheVariants as found
-use Rattle.vcd_head.specs.Keys.{AreBytes, key_in}
+use Rattle.vcd_head.specs.Keys.{AreBytes}
 use Rattle.vcd_head.specs.Views.{IsCode, IsSize, AreRows}
 use Rattle.vcd_model.specs.Input.{Input}
 use Rattle.vcd_model.specs.Keywords.{Keyword, keyword_of, keyword_text}
@@ -24,26 +23,10 @@ use Rattle.vcd_head.specs.Keywords.{model_keyword}
 use Rattle.vcd_head.specs.declared.keyword.Keyword.{Keyword as WordOf}
 use Rattle.vcd_head.specs.declared.keyword.Keyword.TheVariants as word
 
--- the code has this size, and is an event or none
-pub record IsOfKind (c : Code) (k : IdCode) : Type 0 where
-  pub same_size : c.size ≡ k.size
-  pub same_event : c.event ≡ k.event
-
--- the entries of a map are the bytes of these codes, each with its place; the first has place n
-abbrev pub ArePlaces : ℕ → List (Vec ℕ × Coded) → List IdCode → Type 0
-ArePlaces n [] [] = Unit {0}
-ArePlaces n [] (c ∷ cs) = ⊥
-ArePlaces n (e ∷ es) [] = ⊥
-ArePlaces n (e ∷ es) (c ∷ cs) = (e.0.items ≡ c.text) × (e.1.place ≡ n) × IsOfKind e.1.code c × ArePlaces (suc n) es cs
-
--- the codes of the entries
-abbrev pub codes_in : List (Vec ℕ × Coded) → List Code
-codes_in es = map (λ e. e.1.code) es
-
 -- the codes of these declarations are held
-pub record HasCodes (text : List ℕ) (entries : List (Vec ℕ × Coded)) (ds : List Declaration) : Type 0 where
-  pub stand : AllZip (IsCode text) (codes_in entries) (codes_of ds)
-  pub numbered : ArePlaces 0 entries (codes_of ds)
+pub record HasCodes (text : List ℕ) (c : Codes) (ds : List Declaration) : Type 0 where
+  pub stand : AllZip (IsCode text) c.list.items (codes_of ds)
+  pub numbered : ArePlaces c.places.entries (codes_of ds)
   pub known : AllByRecursion (λ u. find (has_text u.code) (codes_of ds) ≡ Some (code_of u)) (variables_of ds)
   pub seen : (t : List ℕ) → list_any (λ u. bytes_eq u.code t) (variables_of ds) ≡ is_some (find (has_text t) (codes_of ds))
   pub sizes : AllByRecursion (λ (c : IdCode). IsSize c.size) (codes_of ds)
@@ -56,7 +39,7 @@ IsFound ds v (found.New code) = (code.items ≡ v.code) × (find (has_text v.cod
 
 -- the draft holds these declarations, of which `most` are allowed
 pub record Declares (most : ℕ) (d : Draft) (ds : List Declaration) : Type 0 where
-  pub codes : HasCodes d.text.items d.codes.entries ds
+  pub codes : HasCodes d.text.items d.codes ds
   pub rows : AreRows d.text.items (codes_of ds) [] d.rows.items ds
   pub nested : d.scopes.items ≡ map suc (reverse (enclosing ds))
   pub balance : length (enclosing ds) + count_by is_up ds ≡ count_by is_scope ds
@@ -72,7 +55,7 @@ pub record IsDraftOf (most : ℕ) (d : Draft) (ps : List HeaderPhrase) : Type 0 
 
 -- the code of the variable is held, at this place
 pub record CodeHeld (old new : Draft) (ds : List Declaration) (v : Variable) (place : ℕ) : Type 0 where
-  pub held_codes : HasCodes new.text.items new.codes.entries (ds ++ Declaration.Var v ∷ [])
+  pub held_codes : HasCodes new.text.items new.codes (ds ++ Declaration.Var v ∷ [])
   pub held_at : slice_get (codes_of (ds ++ Declaration.Var v ∷ [])) place ≡ Some (code_of v)
   pub more : List ℕ
   pub grown : new.text.items ≡ old.text.items ++ more
@@ -86,19 +69,11 @@ pub record IsSameBut (old new : Draft) : Type 0 where
   pub same_scale : new.scale ≡ old.scale
   pub same_scopes : new.scopes.items ≡ old.scopes.items
 
--- the keys of the entries
-abbrev pub keys_in : List (Vec ℕ × Coded) → List ℕ
-keys_in es = map (λ e. key_in e.0.items) es
-
--- the places of the entries
-abbrev pub places_in : List (Vec ℕ × Coded) → List ℕ
-places_in es = map (λ e. e.1.place) es
-
 -- nothing was read yet
 pub record IsNew (d : Draft) : Type 0 where
   pub no_text : d.text.items ≡ []
   pub no_rows : d.rows.items ≡ []
-  pub no_codes : d.codes.entries ≡ []
+  pub no_codes : HasNone d.codes
   pub no_date : d.date.items ≡ []
   pub no_version : d.version.items ≡ []
   pub no_scale : d.scale ≡ None

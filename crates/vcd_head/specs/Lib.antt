@@ -11,8 +11,10 @@ pub mod Reads
 pub mod Words
 pub mod Keywords
 pub mod Texts
+pub mod Codes
 pub mod Draft
 pub mod Variables
 pub mod Scaled
 pub mod Marks
 pub mod Selects
+pub mod Inside

@@ -1,7 +1,7 @@
 -- Marks: which declarations a written header has.
-use Rattle.std.specs.Prelude.{ℕ, ◌==◌, Bool, cond, List, length, map, unwrap_or, slice_get, ◌≡◌, ◌<◌, slice_index}
+use Rattle.std.specs.Prelude.{true, zero, suc, [], ◌∷◌, take, get_or, ℕ, ◌==◌, Bool, cond, List, length, map, unwrap_or, slice_get, ◌≡◌, ◌<◌, slice_index}
 use Rattle.std.specs.List.{range_with_len}
-use Rattle.vcd_model.specs.Declarations.{Declaration}
+use Rattle.vcd_model.specs.Declarations.{Declaration, enclosing}
 use Rattle.vcd_model.specs.Selection.{marked_places, is_among}
 
 -- 1 at each selected variable and at the scopes around these, 0 elsewhere
@@ -16,3 +16,12 @@ is_marked marks place = unwrap_or (slice_get marks place) 0 == 1
 pub record Marked (places old new : List ℕ) : Type 0 where
   pub kept : length new ≡ length old
   pub marks : (i : ℕ) → i < length old → slice_index new i ≡ cond (is_among places i) 1 (slice_index old i)
+
+-- a scope, counted from 1, and those around it
+abbrev pub scopes_at : List Declaration → ℕ → List ℕ
+scopes_at ds zero = []
+scopes_at ds (suc p) = p ∷ enclosing (take p ds)
+
+-- these are marked
+abbrev pub AllMarked : List ℕ → List ℕ → Type 0
+AllMarked places marks = (i : ℕ) → i < length marks → is_among places i ≡ true → get_or marks i 0 ≡ 1

@@ -4,25 +4,17 @@ ghost use Rattle.vcd_model.specs.Declarations.{Declaration, Variable, code_of};
 ghost use Rattle.vcd_head.specs.Views.{IsSize};
 ghost use Rattle.vcd_head.specs.Draft.{HasCodes, IsFound, CodeHeld, IsSameBut, IsNew};
 
+use crate::codes::Codes;
 use crate::fault::HeadFault;
 use crate::view::{Code, Row, Scale};
-use indexmap::IndexMap;
 use std::alloc::Global;
-
-// A code with its place among the distinct codes.
-#[derive(Clone, Copy)]
-pub(crate) struct Coded {
-    pub(crate) place: usize,
-    pub(crate) code: Code,
-}
 
 // What the phrases read so far declare.
 #[derive(Drop)]
 pub(crate) struct Draft {
     pub(crate) text: Vec<u8>,
     pub(crate) rows: Vec<Row>,
-    // The distinct codes by their bytes, in order of first declaration.
-    pub(crate) codes: IndexMap<Vec<u8>, Coded>,
+    pub(crate) codes: Codes,
     pub(crate) date: Vec<u8>,
     pub(crate) version: Vec<u8>,
     pub(crate) scale: Option<Scale>,
@@ -37,7 +29,7 @@ impl Draft {
         Draft {
             text: Vec::new(alloc),
             rows: Vec::new(alloc),
-            codes: IndexMap::new(alloc),
+            codes: Codes::new(alloc),
             date: Vec::new(alloc),
             version: Vec::new(alloc),
             scale: None,
@@ -61,7 +53,7 @@ impl Draft {
         event: bool,
     ) -> Result<usize, HeadFault>
         ensures codes { (ds : List Declaration) (v : Variable)
-            → HasCodes self.old.text.items self.old.codes.entries ds
+            → HasCodes self.old.text.items self.old.codes ds
             → IsFound ds v found → IsSize size → size ≡ (code_of v).size → event ≡ (code_of v).event
             → IfOk result (CodeHeld self.old self.new ds v) }
         ensures others { IsSameBut self.old self.new }
@@ -75,7 +67,7 @@ impl Draft {
 
     fn add_code(&mut self, bytes: Vec<u8>, size: usize, event: bool) -> Result<usize, HeadFault>
         ensures codes { (ds : List Declaration) (v : Variable)
-            → HasCodes self.old.text.items self.old.codes.entries ds
+            → HasCodes self.old.text.items self.old.codes ds
             → IsFound ds v (Found.New bytes) → IsSize size → size ≡ (code_of v).size
             → event ≡ (code_of v).event
             → IfOk result (CodeHeld self.old self.new ds v) }
@@ -89,9 +81,7 @@ impl Draft {
             event,
         };
         self.text.extend_from_slice(&bytes)?;
-        let place = self.codes.len();
-        self.codes.insert(bytes, Coded { place, code })?;
-        Ok(place)
+        self.codes.push(bytes, code)
     }
 }
 

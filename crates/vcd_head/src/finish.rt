@@ -2,50 +2,41 @@
 ghost use Rattle.std.specs.Prelude.{◌≡◌, ℕ, ◌≤◌, List, map, IfOk, IfErr};
 ghost use Rattle.vcd_model.specs.HeaderPhrases.{HeaderPhrase};
 ghost use Rattle.vcd_model.specs.Header.{header_of};
-ghost use Rattle.vcd_head.specs.Draft.{IsDraftOf, codes_in, keys_in, places_in};
+ghost use Rattle.vcd_head.specs.Draft.{IsDraftOf};
+ghost use Rattle.vcd_head.specs.Codes.{keys_in, places_in};
 ghost use Rattle.vcd_head.specs.Shown.{shown};
 ghost use Rattle.vcd_head.specs.Views.{Views};
 
-use crate::draft::{Coded, Draft};
+use crate::codes::Codes;
+use crate::draft::Draft;
 use crate::fault::HeadFault;
 use crate::guess::guesses_of;
 use crate::head::Head;
 use crate::key::key_of;
-use crate::view::Code;
-use indexmap::IndexMap;
+use crate::view::{Code, text_in};
 use std::alloc::{AllocError, Global};
+use std::collections::BTreeMap;
 
-/// The codes, in the order of the map.
-fn codes_of(alloc: Global, map: &IndexMap<Vec<u8>, Coded>) -> Result<Vec<Code>, AllocError>
-    ensures { IfOk result (λ codes. codes.items ≡ codes_in map.now.entries) }
+/// The keys of the codes, whose bytes lie in the text.
+fn keys_of(alloc: Global, text: &[u8], codes: &[Code]) -> Result<Vec<u64>, AllocError>
+    ensures { IfOk result (λ keys. keys.items ≡ keys_in text.now codes.now) }
 {
-    let mut codes = Vec::new(alloc);
-    for coded in map.values() {
-        codes.push(coded.code)?;
-    }
-    Ok(codes)
-}
-
-/// The keys of the codes, in the order of the map.
-fn keys_of(alloc: Global, map: &IndexMap<Vec<u8>, Coded>) -> Result<Vec<u64>, AllocError>
-    ensures { IfOk result (λ keys. keys.items ≡ keys_in map.now.entries) }
-{
-    let mut keys = Vec::new(alloc);
-    for code in map.keys() {
-        keys.push(key_of(code))?;
+    let mut keys = Vec::with_capacity(alloc, codes.len())?;
+    for code in codes {
+        keys.push(key_of(text_in(text, code.start, code.len)))?;
     }
     Ok(keys)
 }
 
-/// The places of the codes, in the order of the map.
-fn places_of(alloc: Global, map: &IndexMap<Vec<u8>, Coded>) -> Result<Vec<usize>, AllocError>
-    ensures { IfOk result (λ places. places.items ≡ places_in map.now.entries) }
+/// The places of the codes, in the order of their bytes.
+fn places_of(alloc: Global, places: &BTreeMap<Vec<u8>, usize>) -> Result<Vec<usize>, AllocError>
+    ensures { IfOk result (λ index. index.items ≡ places_in places.now.entries) }
 {
-    let mut places = Vec::new(alloc);
-    for coded in map.values() {
-        places.push(coded.place)?;
+    let mut index = Vec::with_capacity(alloc, places.len())?;
+    for place in places.values() {
+        index.push(*place)?;
     }
-    Ok(places)
+    Ok(index)
 }
 
 /// The head of a draft that holds all phrases of a header.
@@ -57,17 +48,19 @@ pub(crate) fn finish(alloc: Global, draft: Draft) -> Result<Head, HeadFault>
     let Draft {
         text,
         rows,
-        codes: mut map,
+        codes,
         date,
         version,
         scale,
         scopes: _,
     } = draft;
-    let codes = codes_of(alloc, &map)?;
-    let guesses = guesses_of(alloc, &map)?;
-    let keys = keys_of(alloc, &map)?;
-    map.sort_keys()?;
-    let index = places_of(alloc, &map)?;
+    let Codes {
+        list: codes,
+        places,
+    } = codes;
+    let index = places_of(alloc, &places)?;
+    let keys = keys_of(alloc, &text, &codes)?;
+    let guesses = guesses_of(alloc, &text, &codes)?;
     Ok(Head {
         text,
         rows,

@@ -1,8 +1,7 @@
 // Guesses at the places of codes. Whatever they are, a look-up is right: they only make it fast.
 ghost use Rattle.std.specs.Prelude.{◌*◌, ◌≤◌, ◌≡◌, length, IfOk};
 
-use crate::draft::Coded;
-use indexmap::IndexMap;
+use crate::view::{Code, text_in};
 use std::alloc::{AllocError, Global};
 
 /// The entry for a code in a table with so many entries, a power of two.
@@ -45,27 +44,24 @@ fn number_of(code: &[u8]) -> usize {
     number
 }
 
-/// A guess for each code, two to four entries a code.
-pub(crate) fn guesses_of(
-    alloc: Global,
-    map: &IndexMap<Vec<u8>, Coded>,
-) -> Result<Vec<u32>, AllocError>
-    ensures { IfOk result (λ guesses. 4 * length guesses.items ≤ 16 * length map.now.entries) }
+/// A guess for each code, two to four entries a code. Their bytes lie in the text.
+pub(crate) fn guesses_of(alloc: Global, text: &[u8], codes: &[Code]) -> Result<Vec<u32>, AllocError>
+    ensures { IfOk result (λ guesses. 4 * length guesses.items ≤ 16 * length codes.now) }
 {
-    if map.is_empty() {
+    if codes.is_empty() {
         return Ok(Vec::new(alloc));
     }
-    let entries = map.len().next_power_of_two().saturating_mul(2);
+    let entries = codes.len().next_power_of_two().saturating_mul(2);
     let mut guesses = vec![in alloc; 0u32; entries]?;
-    fill(&mut guesses, map);
+    fill(&mut guesses, text, codes);
     Ok(guesses)
 }
 
 // Writes the place of each code into its entry.
-fn fill(guesses: &mut [u32], map: &IndexMap<Vec<u8>, Coded>) {
-    for (code, coded) in map.iter() {
-        let entry = entry_of(code, guesses.len());
-        if let (Some(guess), Ok(place)) = (guesses.get_mut(entry), u32::try_from(coded.place)) {
+fn fill(guesses: &mut [u32], text: &[u8], codes: &[Code]) {
+    for (place, code) in codes.iter().enumerate() {
+        let entry = entry_of(text_in(text, code.start, code.len), guesses.len());
+        if let (Some(guess), Ok(place)) = (guesses.get_mut(entry), u32::try_from(place)) {
             *guess = place;
         }
     }

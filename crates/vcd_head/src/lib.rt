@@ -18,11 +18,11 @@
 //! - `read`, `phrases`: the whole header; one phrase of it
 //! - `tokens`, `texts`, `words`, `keyword`: the next token; texts up to `$end`; tests of tokens; the keywords
 //! - `scopes`, `variable`, `scale`: what a phrase declares
-//! - `draft`, `finish`: a header while it is read; the head that it becomes
+//! - `draft`, `codes`, `finish`: a header while it is read, and its codes; the head that it becomes
 //! - `head`, `view`, `fault`: `Head`; `HeadView` with its rows and codes, and `Need`; `HeadFault`
 //! - `look_up`, `guess`, `key`, `probes`: a guess, then a binary search; codes as numbers; comparisons, counted
 //! - `enclosing`, `path`: the scopes around a declaration, outermost first; paths
-//! - `selection`: which variables names select
+//! - `selection`, `inside`: which variables names select; what is left of names inside open scopes
 //! - `write`: headers as they are written
 //! - `room`: `need`, the room that an engine over a header needs
 //! - `moment`: `ticks`, a time with a unit in ticks of the header's scale
@@ -37,12 +37,14 @@
 //! nothing.
 #![tactic(auto)]
 
+mod codes;
 mod draft;
 mod enclosing;
 mod fault;
 mod finish;
 mod guess;
 mod head;
+mod inside;
 mod key;
 mod keyword;
 mod look_up;

@@ -1,18 +1,20 @@
 //! Selection of variables by their paths (profile).
-ghost use Rattle.std.specs.Prelude.{◌≡◌, ◌<◌, ◌∷◌, ◌++◌, ℕ, List, take, length, map, string_bytes, Some, None, MatchResult, IfOk, slice_get, []};
+ghost use Rattle.std.specs.Prelude.{◌≡◌, ◌+◌, ◌<◌, ◌∷◌, ◌++◌, ℕ, List, take, length, map, string_bytes, Some, None, MatchResult, IfOk, slice_get, []};
 ghost use Rattle.vcd_model.specs.Bytes.{is_empty};
-ghost use Rattle.vcd_model.specs.Declarations.{Declaration, Variable, enclosing, path_of};
+ghost use Rattle.vcd_model.specs.Declarations.{Declaration, Variable, enclosing, parent, path_of};
 ghost use Rattle.vcd_model.specs.Header.{Header};
-ghost use Rattle.vcd_model.specs.Selection.{first_unmatched as first_unmatched_of, is_selected as is_selected_by, selected, selects_path, is_variable as is_variable_of};
-ghost use Rattle.vcd_head.specs.Marks.{Marked, marks_of};
-ghost use Rattle.vcd_head.specs.Selects.{selects_after};
-ghost use Rattle.vcd_head.specs.Views.{IsViewOf};
+ghost use Rattle.vcd_model.specs.Selection.{first_unmatched as first_unmatched_of, is_selected as is_selected_by, marked_places, selected, selects_path, is_variable as is_variable_of};
+ghost use Rattle.vcd_head.specs.Marks.{AllMarked, Marked, marks_of, scopes_at};
+ghost use Rattle.vcd_head.specs.Selects.{IsBehind, selects_after};
+ghost use Rattle.vcd_head.specs.Views.{IsViewOf, counted_from_one};
 
 use crate::enclosing::Enclosing;
+use crate::inside::{Open, TOGETHER};
 use crate::view::{HeadView, Kind};
+use std::slice;
 
 // What a name says of a path whose prefix it was compared with.
-enum Match<'n> {
+pub(crate) enum Match<'n> {
     // This much of the name is left.
     Rest(&'n [u8]),
     // The name ended at a point.
@@ -22,7 +24,7 @@ enum Match<'n> {
 }
 
 // The text is the name, or begins with it and a point.
-fn is_or_goes_on(text: &[u8], name: &[u8]) -> bool
+pub(crate) fn is_or_goes_on(text: &[u8], name: &[u8]) -> bool
     ensures { result ≡ selects_path text.now name.now }
 {
     match text.strip_prefix(name) {
@@ -32,8 +34,9 @@ fn is_or_goes_on(text: &[u8], name: &[u8]) -> bool
 }
 
 // What a name says of a path that begins with this component and a point.
-fn after_component<'n>(name: &'n [u8], component: &[u8]) -> Match<'n>
-    ensures { (text : List ℕ)
+pub(crate) fn after_component<'n>(name: &'n [u8], component: &[u8]) -> Match<'n>
+    ensures rest { IsBehind result name.now (length component.now + 1) }
+    ensures selects { (text : List ℕ)
         → selects_after result text ≡ selects_path (component.now ++ 46 ∷ text) name.now }
 {
     if is_or_goes_on(component, name) {
@@ -78,7 +81,7 @@ fn is_variable(view: HeadView<'_>, row: usize) -> bool
 }
 
 // The row is a variable's that some name selects, any variable's where there are no names.
-fn is_selected(view: HeadView<'_>, row: usize, names: &[String]) -> bool
+pub(crate) fn is_selected(view: HeadView<'_>, row: usize, names: &[String]) -> bool
     ensures { (h : Header) (d : Declaration) → IsViewOf view.entry h
         → slice_get h.declarations row ≡ Some d
         → result ≡ is_selected_by (map string_bytes names.now) (take row h.declarations) d }
@@ -87,21 +90,19 @@ fn is_selected(view: HeadView<'_>, row: usize, names: &[String]) -> bool
         && (names.is_empty() || names.iter().any(|name| selects(view, row, name.as_str())))
 }
 
-// The row is a variable's that the name selects.
-fn selects_row(view: HeadView<'_>, row: usize, name: &str) -> bool
-    ensures { (h : Header) (d : Declaration) → IsViewOf view.entry h
-        → slice_get h.declarations row ≡ Some d
-        → result ≡ is_selected_by (name.now ∷ []) (take row h.declarations) d }
-{
-    is_variable(view, row) && selects(view, row, name)
-}
-
 // No variable is selected by the name.
-fn selects_nothing(view: HeadView<'_>, name: &str) -> bool
+fn selects_nothing(view: HeadView<'_>, name: &String) -> bool
     ensures { (h : Header) → IsViewOf view.entry h
-        → result ≡ is_empty (selected (name.now ∷ []) h.declarations) }
+        → result ≡ is_empty (selected (string_bytes name.now ∷ []) h.declarations) }
 {
-    !(0..view.rows.len()).any(|row| selects_row(view, row, name))
+    let names = slice::from_ref(name);
+    let mut open = Open::new();
+    for row in 0..view.rows.len() {
+        if open.take(view, row, names) {
+            return false;
+        }
+    }
+    true
 }
 
 // The place of the first name that selects nothing.
@@ -109,9 +110,7 @@ fn first_unmatched(view: HeadView<'_>, names: &[String]) -> Option<usize>
     ensures { (h : Header) → IsViewOf view.entry h
         → result ≡ first_unmatched_of (map string_bytes names.now) h.declarations }
 {
-    names
-        .iter()
-        .position(|name| selects_nothing(view, name.as_str()))
+    names.iter().position(|name| selects_nothing(view, name))
 }
 
 // Sets the marks of a row and of the scopes around it.
@@ -124,6 +123,54 @@ fn mark(view: HeadView<'_>, row: usize, marks: &mut [u8])
     while let Some(marked) = next {
         marks[marked] = 1;
         next = view.scope_of(marked);
+    }
+}
+
+// The same, where a scope, counted from 1, is marked with those around it; gives the scope around the row.
+fn mark_behind(view: HeadView<'_>, row: usize, marked: usize, marks: &mut [u8]) -> usize
+    requires { row < length marks.old }
+    ensures marks { (h : Header) → IsViewOf view.entry h → row < length h.declarations
+        → AllMarked (scopes_at h.declarations marked) marks.old
+        → Marked (row ∷ enclosing (take row h.declarations)) marks.old marks.new }
+    ensures around { (h : Header) → IsViewOf view.entry h → row < length h.declarations
+        → AllMarked (scopes_at h.declarations marked) marks.old
+        → AllMarked (scopes_at h.declarations result) marks.new }
+    ensures len { length marks.new ≡ length marks.old }
+{
+    let parent = parent_of(view, row);
+    if parent == marked {
+        marks[row] = 1;
+    } else {
+        mark(view, row, marks);
+    }
+    parent
+}
+
+// 1 plus the row of the scope around a row, 0 where there is none.
+fn parent_of(view: HeadView<'_>, row: usize) -> usize
+    ensures { (h : Header) → IsViewOf view.entry h → row < length h.declarations
+        → result ≡ counted_from_one (parent (take row h.declarations)) }
+{
+    match view.row_at(row) {
+        Some(declared) => declared.parent,
+        None => 0,
+    }
+}
+
+// Sets the marks of the variables that some name selects, of all where there are no names, and of the scopes around them.
+fn mark_selected(view: HeadView<'_>, names: &[String], marks: &mut [u8])
+    requires { length marks.old ≡ length view.rows.now }
+    ensures marks { (h : Header) → IsViewOf view.entry h
+        → Marked (marked_places (map string_bytes names.now) h.declarations) marks.old marks.new }
+    ensures len { length marks.new ≡ length marks.old }
+{
+    let mut open = Open::new();
+    // 1 plus the row of a scope that is marked, with those around it; 0 before.
+    let mut marked = 0;
+    for row in 0..view.rows.len() {
+        if open.take(view, row, names) {
+            marked = mark_behind(view, row, marked, marks);
+        }
     }
 }
 
@@ -142,10 +189,12 @@ pub fn select(view: HeadView<'_>, names: &[String], marks: &mut [u8]) -> Result<
         return Err(name);
     }
     marks.fill(0);
-    for row in 0..view.rows.len() {
-        if is_selected(view, row, names) {
-            mark(view, row, marks);
-        }
+    let mut done = names.len().min(TOGETHER);
+    mark_selected(view, &names[..done], marks);
+    while done < names.len() {
+        let from = done;
+        done = names.len().min(from.saturating_add(TOGETHER));
+        mark_selected(view, &names[from..done], marks);
     }
     Ok(())
 }

@@ -12,13 +12,13 @@ ghost use Rattle.vcd_head.specs.Variables.{SizeRead, CodeRead};
 ghost use Rattle.vcd_text.specs.Advances.{Advances};
 ghost use Rattle.vcd_head.specs.Fault.{call_end};
 
-use crate::draft::{Coded, Draft, Found};
+use crate::codes::Codes;
+use crate::draft::{Draft, Found};
 use crate::fault::HeadFault;
 use crate::texts::append_to_end;
 use crate::tokens::{next_token, next_word};
 use crate::view::{Kind, Row};
 use crate::words::{is_code, is_event, size_of};
-use indexmap::IndexMap;
 use std::alloc::Global;
 use vcd_text::{Feed, Source};
 
@@ -42,14 +42,14 @@ fn read_size<S: Source>(feed: &mut Feed<'_, '_, '_, '_, S>) -> Result<usize, Hea
 fn read_code<S: Source>(
     alloc: Global,
     feed: &mut Feed<'_, '_, '_, '_, S>,
-    known: &IndexMap<Vec<u8>, Coded>,
+    known: &Codes,
     size: usize,
     event: bool,
 ) -> Result<Found, HeadFault>
     requires { S.failures (source_of feed.old) < 2 ^ 64 - 1 }
     ensures reads { (most : ℕ) (i : Input) (placed : List (Placed HeaderPhrase))
         (type digits text : List ℕ)
-        → HasCodes text known.now.entries (declarations_of (phrases_of placed))
+        → HasCodes text known.now (declarations_of (phrases_of placed))
         → decimal_value digits ≡ size → bytes_eq (codes "event") type ≡ event
         → Reads most i placed (keyword_text Keyword.Var ∷ type ∷ digits ∷ []) feed.old
         → MatchResult result (CodeRead most i placed type digits feed.new)
@@ -61,7 +61,7 @@ fn read_code<S: Source>(
     if !is_code(token) {
         return Err(HeadFault::BadVariable);
     }
-    let Some(coded) = known.get(token) else {
+    let Some(coded) = known.find(token) else {
         return Ok(Found::New(Vec::from_slice(alloc, token)?));
     };
     if coded.code.size != size {

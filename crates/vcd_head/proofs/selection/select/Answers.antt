@@ -1,41 +1,35 @@
-use Rattle.std.proofs.Common.{[], ◌∷◌, map, take, length, string_bytes, refl, sym, subst, ◌∙◌, arith}
-use Rattle.std.proofs.lemmas.List.{take_all}
-use Rattle.vcd_model.specs.Declarations.{enclosing}
+use Rattle.std.proofs.Common.{◌≡◌, [], map, take, drop, length, slice_range, string_bytes, refl, sym, ap, subst, ◌∙◌, ◌-◌, arith}
+use Rattle.std.proofs.lemmas.List.{take_all, map-append}
 use Rattle.vcd_model.specs.Selection.{marked_places}
 use Rattle.vcd_head.specs.Marks.{Marked, marks_of}
 use Rattle.vcd_head.proofs.DraftGrows.{rows_len}
-use Rattle.vcd_head.proofs.MarkLemmas.{marked_all, marked_both, marked_first}
-use Rattle.vcd_head.proofs.SelectionLemmas.{marks_more, marks_same, there}
+use Rattle.vcd_head.proofs.InsideLemmas.{take_group, some_taken, some_grouped}
+use Rattle.vcd_head.proofs.MarkLemmas.{marked_all, marked_group}
 use Rattle.vcd_head.proofs.selection.select.Goals as goal
-use Rattle.vcd_head.proofs.selection.select.Goals.{then-is_selected, else-is_selected}
 
-pub loop-row-init : goal.loop-row-init
-loop-row-init c = λ h v. marked_first (map string_bytes c.args.names.now) h.declarations c.fill.new.self
-
-pub loop-row-preserved : goal.loop-row-preserved
-loop-row-preserved c = λ h v.
-    let ds = h.declarations in
-    let names = map string_bytes c.args.names.now in
-    let row = c.loop-row.row in
-    let zeros = c.fill.new.self in
-    let rows = rows_len c.args.view.text.now h.codes [] c.args.view.rows.now h.declarations v.rows in
-    let d = there ds row (omega (arith, rows)) in
-    let selected = c.is_selected.ensures h d.0 v d.1 in
-    elim c.if-is_selected.branch [
-      | then-is_selected w ↦
-          let more = subst (Marked (row ∷ enclosing (take row ds)) c.loop-row.marks) (sym w.marks-is) (w.mark.ensures h v (omega (arith, rows))) in
-          subst (λ ps. Marked ps zeros c.if-is_selected.marks) (sym (marks_more names ds row d.0 d.1 (sym selected ∙ w.if-is_selected.true)))
-          (marked_both (marked_places names (take row ds)) (row ∷ enclosing (take row ds)) zeros c.loop-row.marks c.if-is_selected.marks (c.loop-row.invariant h v) more)
-      | else-is_selected w ↦
-          subst (λ ps. Marked ps zeros c.if-is_selected.marks) (sym (marks_same names ds row d.0 d.1 (sym selected ∙ w.if-is_selected.false)))
-          (subst (Marked (marked_places names (take row ds)) zeros) (sym w.marks-is) (c.loop-row.invariant h v))
-    ]
+pub loop-done-preserved : goal.loop-done-preserved
+loop-done-preserved c =
+    let names = c.args.names.now in
+    let from = c.loop-done.done in
+    let to = c.min-done-in-loop-done.result in
+    record {
+      within = omega arith;
+      some = λ l. omega (arith, l);
+      len = c.mark_selected-in-loop-done.ensures.len ∙ c.loop-done.invariant.len;
+      marks = λ h zeros v first.
+          let split = ap (map string_bytes) (take_group from to names (omega arith) (omega arith)) ∙ map-append string_bytes (take from names) (slice_range names from to) in
+          subst (λ l. Marked (marked_places l h.declarations) zeros c.mark_selected-in-loop-done.new.marks) (sym split)
+          (marked_group (map string_bytes (take from names)) (map string_bytes (slice_range names from to)) h.declarations zeros c.loop-done.marks c.mark_selected-in-loop-done.new.marks
+          (some_taken string_bytes from names (c.loop-done.invariant.some c.loop-done-test.true) (omega arith)) (some_grouped string_bytes from to names (omega arith) (omega arith))
+          (c.loop-done.invariant.marks h zeros v first) (c.mark_selected-in-loop-done.ensures.marks h v));
+    }
 
 pub returns-clause-marks : goal.returns-clause-marks
 unfolding marks_of
 returns-clause-marks c = λ h v.
     let ds = h.declarations in
-    let names = map string_bytes c.args.names.now in
+    let names = c.args.names.now in
+    let zeros = c.fill.new.self in
     let rows = rows_len c.args.view.text.now h.codes [] c.args.view.rows.now h.declarations v.rows in
-    let whole = subst (λ l. Marked (marked_places names l) c.fill.new.self c.loop-row.marks) (take_all c.loop-row.row ds (omega (arith, rows))) (c.loop-row.invariant h v) in
-    marked_all (marked_places names ds) c.fill.new.self c.loop-row.marks (length ds) (omega (arith, rows, c.fill.ensures.len)) (λ i l. c.fill.ensures.clones i 0 (omega (arith, rows)) refl) whole
+    let whole = subst (λ l. Marked (marked_places (map string_bytes l) ds) zeros c.loop-done.marks) (take_all c.loop-done.done names (omega arith)) (c.loop-done.invariant.marks h zeros v (c.mark_selected.ensures.marks h v)) in
+    marked_all (marked_places (map string_bytes names) ds) zeros c.loop-done.marks (length ds) (omega (arith, rows, c.fill.ensures.len)) (λ i l. c.fill.ensures.clones i 0 (omega (arith, rows)) refl) whole

@@ -1,4 +1,4 @@
-use Rattle.std.proofs.Common.{map, take, string_bytes}
+use Rattle.std.proofs.Common.{◌≡◌, ◌-◌, ◌<◌, ◌≤◌, List, ℕ, length, map, take, string_bytes}
 use Rattle.vcd_model.specs.Header.{Header}
 use Rattle.vcd_model.specs.Selection.{marked_places}
 use Rattle.vcd_head.specs.Marks.{Marked}
@@ -6,5 +6,14 @@ use Rattle.vcd_head.specs.Shown.{parts}
 use Rattle.vcd_head.specs.Views.{Views}
 use Rattle.vcd_head.proofs.selection.select.Given as goal
 
-abbrev pub invariant-loop-row : goal.invariant-loop-row
-invariant-loop-row l = (h : Header) → Views (parts l.view) h → Marked (marked_places (map string_bytes l.names) (take l.row h.declarations)) l.initial.marks l.marks
+abbrev pub invariant-loop-done : goal.invariant-loop-done
+invariant-loop-done l = record {
+  within : l.done ≤ length l.names;
+  some : l.done < length l.names → 0 < l.done;
+  len : length l.marks ≡ length l.view.rows.now;
+  marks : (h : Header) (zeros : List ℕ) → Views (parts l.view) h → Marked (marked_places (map string_bytes (take l.initial.done l.names)) h.declarations) zeros l.initial.marks
+      → Marked (marked_places (map string_bytes (take l.done l.names)) h.declarations) zeros l.marks;
+}
+
+abbrev pub decreases-loop-done : goal.decreases-loop-done
+decreases-loop-done l = length l.names - l.done

@@ -218,7 +218,7 @@ returns-clause-reads g c = λ i b.
     let join = join_with_byte 32 (first ∷ inner) in
     let text : c.append_to_end.new.text.items ≡ c.args.draft.now.text.items ++ (type ++ join) = e5.grows ∙ ap (λ t. t ++ spaced inner) (t2.0 ∙ ap (λ t. t ++ first) t1.0) ∙ append_assoc (c.args.draft.now.text.items ++ type) first (spaced inner)
     ∙ ap (λ t. (c.args.draft.now.text.items ++ type) ++ t) (sym (joined first inner)) ∙ append_assoc c.args.draft.now.text.items type join in
-    let hc3 : HasCodes c.append_to_end.new.text.items c.args.draft.now.codes.entries (declarations_of (phrases_of b.placed)) = subst (λ t. HasCodes t c.args.draft.now.codes.entries (declarations_of (phrases_of b.placed))) (sym text) (has_codes_grow c.args.draft.now.text.items (type ++ join) c.args.draft.now.codes.entries (declarations_of (phrases_of b.placed)) hc) in
+    let hc3 : HasCodes c.append_to_end.new.text.items c.args.draft.now.codes (declarations_of (phrases_of b.placed)) = subst (λ t. HasCodes t c.args.draft.now.codes (declarations_of (phrases_of b.placed))) (sym text) (has_codes_grow c.args.draft.now.text.items (type ++ join) c.args.draft.now.codes (declarations_of (phrases_of b.placed)) hc) in
     let z1 = sp.1 in
     let z2 = sp.2 in
     let z3 = sf.1 in

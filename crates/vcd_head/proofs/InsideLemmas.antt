@@ -1,0 +1,148 @@
+-- What is left of names inside open scopes.
+use Rattle.std.proofs.Common.{◌≡◌, ◌≢◌, ℕ, zero, suc, ◌+◌, ◌-◌, ◌<◌, ◌≤◌, Bool, true, false, ◌||◌, ◌==◌, List, [], ◌∷◌, ◌++◌, length, map, take, drop, slice_range, reverse, replicate, set, slice_get, Option, Some, None, option_map, inl, inr, refl, sym, ap, subst, ◌∙◌, arith, add-one}
+use mathlib.Core.Logic.{◌⊎◌}
+use Rattle.std.specs.List.{AllByRecursion, list_any}
+use Rattle.std.proofs.lemmas.Bool.{ne_eqb}
+use Rattle.std.proofs.lemmas.Grind.{flat_map-append}
+use Rattle.std.proofs.lemmas.List.{append_assoc, append-nil, reverse-append, length-drop, length-take, length-take-le, take-append-drop}
+use Rattle.std.proofs.Math.Seq.{take-append-add}
+use Rattle.std.proofs.lemmas.List.Elements.{filter_map-append}
+use Rattle.std.proofs.lemmas.Option.{none-some, same_Some}
+use Rattle.vcd_model.specs.Bytes.{is_empty}
+use Rattle.vcd_model.specs.Declarations.{Declaration, IdCode, enclosing, name_of, names_at, parent, path_of}
+use Rattle.vcd_model.specs.Selection.{is_selected, is_variable, selects_path}
+use Rattle.vcd_model.proofs.ScopeLemmas.{enclosing_below, slice_get-take}
+use Rattle.std.specs.Option.{IfSome}
+use Rattle.vcd_head.specs.declared.inside.Inside.{Inside}
+use Rattle.vcd_head.specs.Inside.{AreLeft, front}
+use Rattle.vcd_head.specs.Paths.{names_text, scopes_text}
+use Rattle.vcd_head.specs.declared.view.Kind.TheVariants as kind
+use Rattle.vcd_head.specs.declared.view.Row.{Row}
+use Rattle.vcd_head.specs.Views.{IsRow, counted_from_one}
+use Rattle.vcd_head.proofs.DraftGrows.{all_weaker}
+use Rattle.vcd_head.proofs.EnclosingLemmas.{around_none, around_some}
+
+-- ---- lists
+
+pub same_everywhere : {X : Type 0} (n i : ℕ) (x y : X) → slice_get (replicate n x) i ≡ Some y → x ≡ y
+same_everywhere zero i x y e = absurd (none-some y e)
+same_everywhere (suc n) zero x y e = same_Some x y e
+same_everywhere (suc n) (suc i) x y e = same_everywhere n i x y e
+
+-- what stands in a list where one element was written
+pub get_written : {X : Type 0} (xs : List X) (p i : ℕ) (v y : X) → p < length xs → slice_get (set xs p v) i ≡ Some y → ((i ≡ p) × (v ≡ y)) ⊎ ((i ≢ p) × (slice_get xs i ≡ Some y))
+get_written [] p i v y l e = absurd (omega arith)
+get_written (x ∷ xs) zero zero v y l e = inl (refl, same_Some v y e)
+get_written (x ∷ xs) zero (suc i) v y l e = inr ((λ q. omega (arith, q)), e)
+get_written (x ∷ xs) (suc p) zero v y l e = inr ((λ q. omega (arith, q)), e)
+get_written (x ∷ xs) (suc p) (suc i) v y l e = elim (get_written xs p i v y (omega arith) e) [ inl q ↦ inl (ap suc q.0, q.1) | inr q ↦ inr ((λ s. q.0 (omega (arith, s))), q.1) ]
+
+pub get_mapped : {X Y : Type 0} (f : X → Y) (xs : List X) (i : ℕ) (x : X) → slice_get xs i ≡ Some x → slice_get (map f xs) i ≡ Some (f x)
+get_mapped f [] i x e = absurd (none-some x e)
+get_mapped f (y ∷ xs) zero x e = ap (option_map f) e
+get_mapped f (y ∷ xs) (suc i) x e = get_mapped f xs i x e
+
+pub any_at : {X : Type 0} (test : X → Bool) (xs : List X) (i : ℕ) (x : X) → slice_get xs i ≡ Some x → test x ≡ true → list_any test xs ≡ true
+any_at test [] i x e h = absurd (none-some x e)
+any_at test (y ∷ xs) zero x e h = rw (ap test (same_Some y x e) ∙ h) refl
+any_at test (y ∷ xs) (suc i) x e h = by_test (test y) (any_at test xs i x e h)
+  where
+    by_test : (b : Bool) → list_any test xs ≡ true → (b || list_any test xs) ≡ true
+    by_test true q = refl
+    by_test false q = q
+
+none_further : {X : Type 0} (test : X → Bool) (xs : List X) (i : ℕ) (x : X) → slice_get xs i ≡ Some x → list_any test (take i xs) ≡ false → test x ≡ false → list_any test (take (suc i) xs) ≡ false
+none_further test [] i x e a b = absurd (none-some x e)
+none_further test (y ∷ xs) zero x e a b = rw (ap test (same_Some y x e) ∙ b) refl
+none_further test (y ∷ xs) (suc i) x e a b = by_test (test y) a (λ q. none_further test xs i x e q b)
+  where
+    by_test : (c : Bool) → (c || list_any test (take i xs)) ≡ false → (list_any test (take i xs) ≡ false → list_any test (take (suc i) xs) ≡ false) → (c || list_any test (take (suc i) xs)) ≡ false
+    by_test true q more = cc
+    by_test false q more = more q
+
+pub none_next : {X : Type 0} (test : X → Bool) (xs : List X) (i : ℕ) (x : X) → slice_get xs i ≡ Some x → list_any test (take i xs) ≡ false → test x ≡ false → list_any test (take (i + 1) xs) ≡ false
+none_next test xs i x e a b = ap (λ n. list_any test (take n xs)) (add-one i) ∙ none_further test xs i x e a b
+
+-- ---- the front of a path
+
+names_append : (ds : List Declaration) (ps qs : List ℕ) → names_text ds (ps ++ qs) ≡ names_text ds ps ++ names_text ds qs
+names_append ds ps qs =
+    ap (flat_map-text) (filter_map-append (λ i. option_map name_of (slice_get ds i)) ps qs) ∙ flat_map-append (λ name. name ++ 46 ∷ []) (names_at ds ps) (names_at ds qs)
+  where
+    flat_map-text : List (List ℕ) → List ℕ
+    flat_map-text names = Rattle.std.specs.Prelude.flat_map (λ name. name ++ 46 ∷ []) names
+
+one_taken : (ds : List Declaration) (n q : ℕ) → q < n → names_text (take n ds) (q ∷ []) ≡ names_text ds (q ∷ [])
+one_taken ds n q l = rw (slice_get-take ds n q l) refl
+
+names_taken : (ds : List Declaration) (n : ℕ) (ps : List ℕ) → AllByRecursion (λ p. p < n) ps → names_text (take n ds) (reverse ps) ≡ names_text ds (reverse ps)
+names_taken ds n [] h = refl
+names_taken ds n (p ∷ ps) h =
+    ap (names_text (take n ds)) (reverse-append (p ∷ []) ps) ∙ names_append (take n ds) (reverse ps) (p ∷ []) ∙ (λ j. names_taken ds n ps h.1 j ++ one_taken ds n p h.0 j)
+    ∙ sym (names_append ds (reverse ps) (p ∷ [])) ∙ sym (ap (names_text ds) (reverse-append (p ∷ []) ps))
+
+-- the scopes around a declaration, among all declarations
+scopes_are : (ds : List Declaration) (i : ℕ) → scopes_text (take i ds) ≡ names_text ds (reverse (enclosing (take i ds)))
+unfolding scopes_text
+scopes_are ds i = names_taken ds i (enclosing (take i ds)) (all_weaker (λ x. x < length (take i ds)) (λ x. x < i) (enclosing (take i ds)) (λ x l. omega (arith, length-take i ds)) (enclosing_below (take i ds)))
+
+-- they are what paths begin with in the scope around
+pub front_is : (ds : List Declaration) (i : ℕ) → scopes_text (take i ds) ≡ front ds (counted_from_one (parent (take i ds)))
+front_is ds i = scopes_are ds i ∙ by_parent (parent (take i ds)) refl
+  where
+    by_parent : (o : Option ℕ) → parent (take i ds) ≡ o → names_text ds (reverse (enclosing (take i ds))) ≡ front ds (counted_from_one o)
+    by_parent None e = ap (λ ps. names_text ds (reverse ps)) (around_none ds i e)
+    by_parent (Some p) e = ap (λ ps. names_text ds (reverse ps)) (around_some ds i p e)
+
+-- inside the scope of a row
+pub front_next : (ds : List Declaration) (i : ℕ) (d : Declaration) → slice_get ds i ≡ Some d → front ds (suc i) ≡ scopes_text (take i ds) ++ (name_of d ++ 46 ∷ [])
+front_next ds i d at =
+    ap (names_text ds) (reverse-append (i ∷ []) (enclosing (take i ds))) ∙ names_append ds (reverse (enclosing (take i ds))) (i ∷ []) ∙ (λ j. sym (scopes_are ds i) j ++ one_name j)
+  where
+    one_name : names_text ds (i ∷ []) ≡ name_of d ++ 46 ∷ []
+    one_name = rw at (append-nil (name_of d ++ 46 ∷ []))
+
+-- ---- rows
+
+pub no_variable : (text : List ℕ) (cs : List IdCode) (e : List Declaration) (r : Row) (d : Declaration) → IsRow text cs e r d → (r.kind ≡ kind.Var → ⊥) → is_variable d ≡ false
+no_variable text cs e r (Declaration.Scope type name) row n = refl
+no_variable text cs e r Declaration.Up row n = refl
+no_variable text cs e r (Declaration.Var v) row n = absurd (n row.own.0)
+
+pub some_variable : (text : List ℕ) (cs : List IdCode) (e : List Declaration) (r : Row) (d : Declaration) → IsRow text cs e r d → r.kind ≡ kind.Var → is_variable d ≡ true
+some_variable text cs e r (Declaration.Scope type name) row k = let own = row.own.0 in cc
+some_variable text cs e r Declaration.Up row k = let own = row.own.0 in cc
+some_variable text cs e r (Declaration.Var v) row k = refl
+
+pub none_selects : (names : List (List ℕ)) (e : List Declaration) (d : Declaration) → is_variable d ≡ false → is_selected names e d ≡ false
+none_selects names e d h = rw h refl
+
+pub all_selected : (names : List (List ℕ)) (e : List Declaration) (d : Declaration) → is_variable d ≡ true → is_empty names ≡ true → is_selected names e d ≡ true
+all_selected names e d h n = rw (h, n) refl
+
+pub some_selects : (names : List (List ℕ)) (e : List Declaration) (d : Declaration) (path : List ℕ) → is_variable d ≡ true → is_empty names ≡ false → path ≡ path_of e d → list_any (selects_path path) names ≡ is_selected names e d
+some_selects names e d path h n p = rw (h, n) (ap (λ (t : List ℕ). list_any (selects_path t) names) p)
+
+pub is_empty-map : {X Y : Type 0} (f : X → Y) (xs : List X) → is_empty (map f xs) ≡ (length xs == 0)
+is_empty-map f [] = refl
+is_empty-map f (x ∷ xs) = sym (ne_eqb (length (x ∷ xs)) 0 (λ e. omega (arith, e)))
+
+pub both_some : (r : Option Inside) (names : List (List ℕ)) (ds : List Declaration) (scope : ℕ) → IfSome r (λ s. s.scope ≡ scope) → IfSome r (AreLeft names (front ds scope)) → IfSome r (λ s. AreLeft names (front ds s.scope) s)
+both_some None names ds scope a b = b
+both_some (Some s) names ds scope a b = subst (λ n. AreLeft names (front ds n) s) (sym a) b
+
+-- ---- names in groups
+
+pub take_group : {X : Type 0} (a b : ℕ) (xs : List X) → a ≤ b → b ≤ length xs → take b xs ≡ take a xs ++ slice_range xs a b
+take_group a b xs l m =
+    let here : b ≡ length (take a xs) + (b - a) = omega (arith, length-take-le a xs (omega arith)) in
+    ap (λ n. take n xs) here ∙ ap (take (length (take a xs) + (b - a))) (sym (take-append-drop a xs)) ∙ take-append-add (take a xs) (drop a xs) (b - a)
+
+not_empty : {X Y : Type 0} (f : X → Y) (xs : List X) → 0 < length xs → is_empty (map f xs) ≡ false
+not_empty f xs l = is_empty-map f xs ∙ ne_eqb (length xs) 0 (λ e. omega (arith, e))
+
+pub some_taken : {X Y : Type 0} (f : X → Y) (a : ℕ) (xs : List X) → 0 < a → a ≤ length xs → is_empty (map f (take a xs)) ≡ false
+some_taken f a xs s l = not_empty f (take a xs) (omega (arith, length-take-le a xs l))
+
+pub some_grouped : {X Y : Type 0} (f : X → Y) (a b : ℕ) (xs : List X) → a < b → b ≤ length xs → is_empty (map f (slice_range xs a b)) ≡ false
+some_grouped f a b xs s l = not_empty f (slice_range xs a b) (omega (arith, length-drop a xs, length-take-le (b - a) (drop a xs) (omega (arith, length-drop a xs))))

@@ -1,0 +1,49 @@
+use Rattle.std.proofs.Common.{[], ◌∷◌, map, take, length, string_bytes, refl, sym, subst, ◌∙◌, arith}
+use Rattle.std.proofs.lemmas.List.{take_all}
+use Rattle.vcd_model.specs.Declarations.{enclosing}
+use Rattle.vcd_model.specs.Selection.{marked_places}
+use Rattle.vcd_head.specs.Marks.{AllMarked, Marked, scopes_at}
+use Rattle.vcd_head.proofs.DraftGrows.{rows_len}
+use Rattle.vcd_head.proofs.MarkLemmas.{marked_both, marked_first}
+use Rattle.vcd_head.proofs.SelectionLemmas.{marks_more, marks_same, there}
+use Rattle.vcd_head.proofs.selection.mark_selected.Goals as goal
+use Rattle.vcd_head.proofs.selection.mark_selected.Goals.{then-take, else-take}
+
+pub loop-row-init : goal.loop-row-init
+loop-row-init c = record { marks = λ h v. marked_first (map string_bytes c.args.names.now) h.declarations c.args.marks.now; around = λ h v i l b. cc; held = λ h v. c.new-open.ensures h (map string_bytes c.args.names.now) }
+
+pub loop-row-preserved : goal.loop-row-preserved
+loop-row-preserved c = record {
+  marks = λ h v.
+      let ds = h.declarations in
+      let names = map string_bytes c.args.names.now in
+      let row = c.loop-row.row in
+      let zeros = c.args.marks.now in
+      let rows = rows_len c.args.view.text.now h.codes [] c.args.view.rows.now h.declarations v.rows in
+      let d = there ds row (omega (arith, rows)) in
+      let selected = c.take.ensures.selected h d.0 v d.1 (c.loop-row.invariant.held h v) in
+      elim c.if-take.branch [
+        | then-take w ↦
+            let more = subst (Marked (row ∷ enclosing (take row ds)) c.loop-row.marks) (sym w.marks-is) (w.mark_behind-marked.ensures.marks h v (omega (arith, rows)) (c.loop-row.invariant.around h v)) in
+            subst (λ ps. Marked ps zeros c.if-take.marks) (sym (marks_more names ds row d.0 d.1 (sym selected ∙ w.if-take.true)))
+            (marked_both (marked_places names (take row ds)) (row ∷ enclosing (take row ds)) zeros c.loop-row.marks c.if-take.marks (c.loop-row.invariant.marks h v) more)
+        | else-take w ↦
+            subst (λ ps. Marked ps zeros c.if-take.marks) (sym (marks_same names ds row d.0 d.1 (sym selected ∙ w.if-take.false)))
+            (subst (Marked (marked_places names (take row ds)) zeros) (sym w.marks-is) (c.loop-row.invariant.marks h v))
+      ];
+  around = λ h v.
+      let ds = h.declarations in
+      let rows = rows_len c.args.view.text.now h.codes [] c.args.view.rows.now h.declarations v.rows in
+      elim c.if-take.branch [
+        | then-take w ↦ subst (λ n. AllMarked (scopes_at ds n) c.if-take.marks) (sym w.marked-is) (subst (AllMarked (scopes_at ds w.mark_behind-marked.result)) (sym w.marks-is) (w.mark_behind-marked.ensures.around h v (omega (arith, rows)) (c.loop-row.invariant.around h v)))
+        | else-take w ↦ subst (λ n. AllMarked (scopes_at ds n) c.if-take.marks) (sym w.marked-is) (subst (AllMarked (scopes_at ds c.loop-row.marked)) (sym w.marks-is) (c.loop-row.invariant.around h v))
+      ];
+  held = λ h v. c.take.ensures.open h v (c.loop-row.invariant.held h v);
+}
+
+pub returns-clause-marks : goal.returns-clause-marks
+returns-clause-marks c = λ h v.
+    let ds = h.declarations in
+    let names = map string_bytes c.args.names.now in
+    let rows = rows_len c.args.view.text.now h.codes [] c.args.view.rows.now h.declarations v.rows in
+    subst (λ l. Marked (marked_places names l) c.args.marks.now c.loop-row.marks) (take_all c.loop-row.row ds (omega (arith, rows))) (c.loop-row.invariant.marks h v)

@@ -1,0 +1,29 @@
+-- What is left of names inside a scope.
+use Rattle.std.specs.Prelude.{◌≡◌, ℕ, zero, suc, ◌<◌, Bool, true, false, List, [], ◌∷◌, ◌++◌, length, drop, take, reverse, slice_get, Some}
+use Rattle.vcd_model.specs.Declarations.{Declaration, enclosing}
+use Rattle.vcd_model.specs.Header.{Header}
+use Rattle.vcd_model.specs.Selection.{selects_path}
+use Rattle.vcd_head.specs.declared.inside.Left.{Left}
+use Rattle.vcd_head.specs.declared.inside.Left.TheVariants.{Rest, Selected, Differs}
+use Rattle.vcd_head.specs.declared.inside.Inside.{Inside}
+use Rattle.vcd_head.specs.declared.inside.Open.{Open}
+use Rattle.vcd_head.specs.Paths.{names_text}
+
+-- the name of which this is left selects a path that goes on with this text
+abbrev pub left_selects : Left → List ℕ → List ℕ → Bool
+left_selects Rest rest text = selects_path text rest
+left_selects Selected rest text = true
+left_selects Differs rest text = false
+
+-- what paths begin with inside the scope of a row, which is counted from 1
+abbrev pub front : List Declaration → ℕ → List ℕ
+front ds zero = []
+front ds (suc p) = names_text ds (reverse (p ∷ enclosing (take p ds)))
+
+-- this is left of the names behind this front of a path
+abbrev pub AreLeft : List (List ℕ) → List ℕ → Inside → Type 0
+AreLeft names front s = (i : ℕ) (name : List ℕ) (left : Left) → slice_get names i ≡ Some name → slice_get s.left i ≡ Some left → (text : List ℕ) → selects_path (front ++ text) name ≡ left_selects left (drop s.passed name) text
+
+-- what is held of each scope is right
+abbrev pub AreOpen : Header → List (List ℕ) → Open → Type 0
+AreOpen h names o = (k : ℕ) (s : Inside) → slice_get o.inside k ≡ Some s → AreLeft names (front h.declarations s.scope) s

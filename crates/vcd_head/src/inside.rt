@@ -1,0 +1,231 @@
+// What is left of names inside the scopes that are open, so that a row is compared by its own name alone.
+ghost use Rattle.std.specs.Prelude.{◌≡◌, ◌==◌, false, ◌+◌, ◌<◌, ◌≤◌, [], ◌∷◌, ◌++◌, ℕ, List, length, drop, map, string_bytes, slice_get, take, true, Some, IfSome};
+ghost use Rattle.std.specs.List.{list_any};
+ghost use Rattle.vcd_model.specs.Declarations.{Declaration};
+ghost use Rattle.vcd_model.specs.Header.{Header};
+ghost use Rattle.vcd_model.specs.Selection.{is_selected as is_selected_by, is_variable, selects_path};
+ghost use Rattle.vcd_head.specs.Inside.{AreLeft, AreOpen, front, left_selects};
+ghost use Rattle.vcd_head.specs.Paths.{scopes_text};
+ghost use Rattle.vcd_head.specs.Views.{IsViewOf};
+
+use crate::selection::{Match, after_component, is_or_goes_on, is_selected};
+use crate::view::{HeadView, Kind};
+
+// So many names are followed together.
+pub(crate) const TOGETHER: usize = 64;
+
+// So many scopes may be open, and what is outside of all.
+const MOST_HELD: usize = 1001;
+
+// What is left of a name inside a scope.
+#[derive(Clone, Copy)]
+pub(crate) enum Left {
+    // What is behind the scope's path and a point.
+    Rest,
+    // It selects all that is inside.
+    Selected,
+    // It differs.
+    Differs,
+}
+
+// What is left of names inside a scope.
+#[derive(Clone, Copy)]
+pub(crate) struct Inside {
+    // 1 plus the row of the scope, 0 outside of all.
+    scope: usize,
+    // The bytes of the scope's path and the point behind it.
+    passed: usize,
+    // Of each name.
+    left: [Left; TOGETHER],
+}
+
+impl Inside {
+    // Outside of all scopes.
+    fn outermost() -> Self
+        ensures left { (names : List (List ℕ)) → AreLeft names [] result }
+        ensures scope { result.scope ≡ 0 }
+    {
+        Inside {
+            scope: 0,
+            passed: 0,
+            left: [Left::Rest; TOGETHER],
+        }
+    }
+
+    // Inside a scope that stands here, none where its path is too long to count.
+    fn enter(&self, names: &[String], scope: usize, component: &[u8]) -> Option<Self>
+        requires { length names.now ≤ 64 }
+        ensures scope { IfSome result (λ inner. inner.scope ≡ scope) }
+        ensures left { (f : List ℕ) → AreLeft (map string_bytes names.now) f self.now → IfSome result
+            (AreLeft (map string_bytes names.now) (f ++ (component.now ++ 46 ∷ []))) }
+    {
+        let passed = self.passed.checked_add(component.len() + 1)?;
+        let mut left = self.left;
+        for place in 0..names.len() {
+            let rest = behind(names[place].as_str(), self.passed);
+            left[place] = left_inside(self.left[place], rest, component);
+        }
+        Some(Inside {
+            scope,
+            passed,
+            left,
+        })
+    }
+
+    // Some name selects a variable that stands here.
+    fn selects(&self, names: &[String], own: &[u8]) -> bool
+        requires { length names.now ≤ 64 }
+        ensures { (f : List ℕ) → AreLeft (map string_bytes names.now) f self.now
+            → result ≡ list_any (selects_path (f ++ own.now)) (map string_bytes names.now) }
+    {
+        for place in 0..names.len() {
+            let rest = behind(names[place].as_str(), self.passed);
+            if selects_own(self.left[place], rest, own) {
+                return true;
+            }
+        }
+        false
+    }
+}
+
+// The scopes that are open, the innermost last. What it holds of a scope is right whatever order rows are taken in, and is looked
+// at where it is of the scope around the row that is taken.
+#[derive(Drop)]
+pub(crate) struct Open {
+    inside: [Inside; MOST_HELD],
+    // The place of the innermost.
+    depth: usize,
+}
+
+impl Open {
+    pub(crate) fn new() -> Self
+        ensures { (h : Header) (names : List (List ℕ)) → AreOpen h names result }
+    {
+        Open {
+            inside: [Inside::outermost(); MOST_HELD],
+            depth: 0,
+        }
+    }
+
+    // Takes the next row; tells whether it is a variable's that some name selects, any variable's where there are no names.
+    pub(crate) fn take(&mut self, view: HeadView<'_>, row: usize, names: &[String]) -> bool
+        ensures open { (h : Header) → IsViewOf view.entry h
+            → AreOpen h (map string_bytes names.now) self.old
+            → AreOpen h (map string_bytes names.now) self.new }
+        ensures selected { (h : Header) (d : Declaration) → IsViewOf view.entry h
+            → slice_get h.declarations row ≡ Some d → AreOpen h (map string_bytes names.now) self.old
+            → result ≡ is_selected_by (map string_bytes names.now) (take row h.declarations) d }
+    {
+        let Some(declared) = view.row_at(row) else {
+            return false;
+        };
+        if names.len() > TOGETHER {
+            return is_selected(view, row, names);
+        }
+        match declared.kind {
+            Kind::Scope => {
+                self.enter(view, row, names);
+                false
+            }
+            Kind::Up => {
+                self.depth = self.depth.saturating_sub(1);
+                false
+            }
+            Kind::Var => names.is_empty() || self.selects(view, row, names),
+        }
+    }
+
+    // Enters the scope of a row.
+    fn enter(&mut self, view: HeadView<'_>, row: usize, names: &[String])
+        requires { length names.now ≤ 64 }
+        ensures { (h : Header) → IsViewOf view.entry h
+            → AreOpen h (map string_bytes names.now) self.old
+            → AreOpen h (map string_bytes names.now) self.new }
+    {
+        let inner = self.inner(view, row, names);
+        self.depth = self.depth.saturating_add(1);
+        if let Some(inner) = inner {
+            if self.depth < MOST_HELD {
+                self.inside[self.depth] = inner;
+            }
+        }
+    }
+
+    // What is left inside the scope of a row, where it is known of the scope around.
+    fn inner(&self, view: HeadView<'_>, row: usize, names: &[String]) -> Option<Inside>
+        requires { length names.now ≤ 64 }
+        ensures { (h : Header) → IsViewOf view.entry h
+            → AreOpen h (map string_bytes names.now) self.now
+            → IfSome result (λ s. AreLeft (map string_bytes names.now) (front h.declarations s.scope) s) }
+    {
+        let outer = self.around(view, row)?;
+        let scope = row.checked_add(1)?;
+        outer.enter(names, scope, view.name_of(row))
+    }
+
+    // Some name selects the variable of a row.
+    fn selects(&self, view: HeadView<'_>, row: usize, names: &[String]) -> bool
+        requires { length names.now ≤ 64 }
+        ensures { (h : Header) (d : Declaration) → IsViewOf view.entry h
+            → slice_get h.declarations row ≡ Some d → is_variable d ≡ true
+            → (length names.now == 0) ≡ false → AreOpen h (map string_bytes names.now) self.now
+            → result ≡ is_selected_by (map string_bytes names.now) (take row h.declarations) d }
+    {
+        match self.around(view, row) {
+            Some(inside) => inside.selects(names, view.name_of(row)),
+            None => is_selected(view, row, names),
+        }
+    }
+
+    // What is left inside the scope around a row, where it is the innermost that is held.
+    fn around(&self, view: HeadView<'_>, row: usize) -> Option<&Inside>
+        ensures row { IfSome result (λ _. row < length view.entry.rows.now) }
+        ensures left { (h : Header) (names : List (List ℕ)) → IsViewOf view.entry h
+            → AreOpen h names self.now
+            → IfSome result (λ s. AreLeft names (scopes_text (take row h.declarations)) s.now) }
+    {
+        let declared = view.row_at(row)?;
+        let inside = self.inside.get(self.depth)?;
+        if inside.scope != declared.parent {
+            return None;
+        }
+        Some(inside)
+    }
+}
+
+// What is left of a name inside a scope with this name.
+fn left_inside(left: Left, rest: &[u8], component: &[u8]) -> Left
+    ensures { (text : List ℕ) → left_selects result (drop (length component.now + 1) rest.now) text
+        ≡ left_selects left rest.now (component.now ++ 46 ∷ text) }
+{
+    match left {
+        Left::Rest => match after_component(rest, component) {
+            Match::Rest(_) => Left::Rest,
+            Match::Selected => Left::Selected,
+            Match::Differs => Left::Differs,
+        },
+        Left::Selected => Left::Selected,
+        Left::Differs => Left::Differs,
+    }
+}
+
+// What is left of a name selects a variable with this name.
+fn selects_own(left: Left, rest: &[u8], own: &[u8]) -> bool
+    ensures { result ≡ left_selects left rest.now own.now }
+{
+    match left {
+        Left::Rest => is_or_goes_on(own, rest),
+        Left::Selected => true,
+        Left::Differs => false,
+    }
+}
+
+// The bytes behind these first ones.
+fn behind(name: &str, passed: usize) -> &[u8]
+    ensures { result.now ≡ drop passed name.now }
+{
+    match name.as_bytes().get(passed..) {
+        Some(rest) => rest,
+        None => &[],
+    }
+}
