@@ -1,8 +1,10 @@
 -- The value of a code of a view, as the table has it.
 use Rattle.std.proofs.Common.{◌≡◌, ◌≢◌, [], ◌<◌, ◌==◌, ◌||◌, Bool, false, cond, ◌⊎◌, inl, inr, ℕ, ◌+◌, ◌≤◌, take, drop, length-take, length-drop, arith, List, slice_get, Option, Some, None, refl, sym, ap, ◌∙◌}
-use Rattle.std.specs.Prelude.{option_map, option_and_then, unwrap_or, length, map, slice_range, ◌∷◌}
+use Rattle.std.specs.Prelude.{option_map, option_and_then, unwrap_or, length, map, slice_range, ◌∷◌, sum_by}
 use Rattle.std.specs.List.{AllZip}
+use Rattle.std.proofs.lemmas.List.Sums.{sum_by-cons}
 use Rattle.std.proofs.lemmas.Option.{slice_get-map}
+use Rattle.vcd_model.specs.Bound.{value_room}
 use Rattle.vcd_model.specs.Cut.{line_if_set}
 use Rattle.vcd_model.specs.Declarations.{IdCode}
 use Rattle.vcd_model.specs.Header.{Header}
@@ -12,7 +14,7 @@ use Rattle.vcd_head.specs.declared.view.Code.{Code}
 use Rattle.vcd_head.specs.declared.view.HeadView.{HeadView}
 use Rattle.vcd_body.specs.Contents.{ChangesCode, codes_in, codes_shown, held_at, is_chosen, kept_at, line_of, shown_code, value_in}
 use Rattle.vcd_body.specs.Kept.{Held, Kept, as_chosen, value_at_size}
-use Rattle.vcd_body.specs.Stored.{AreLaidOut, end_at, held_of, kept_with, used}
+use Rattle.vcd_body.specs.Stored.{AreLaidOut, end_at, held_of, kept_with, room_of, share_of, used}
 use Rattle.vcd_body.specs.declared.slot.Slot.{Slot}
 use Rattle.vcd_body.specs.declared.table.Table.{Table}
 use Rattle.vcd_body.proofs.StoreLemmas.{same_or_not, some_at}
@@ -101,3 +103,14 @@ same_codes text (x ∷ xs) (y ∷ ys) (is, are) =
 -- the codes that the view of a header shows are the header's
 pub shown_are : (v : HeadView) (h : Header) → IsViewOf v h → codes_shown v ≡ h.codes
 shown_are v h views = same_codes v.text.now v.codes.now h.codes views.codes
+
+same_room : (text : List ℕ) (xs : List Code) (ys : List IdCode) → AllZip (IsCode text) xs ys → room_of xs ≡ sum_by value_room ys
+same_room text [] [] a = refl
+same_room text [] (y ∷ ys) a = absurd a
+same_room text (x ∷ xs) [] a = absurd a
+same_room text (x ∷ xs) (y ∷ ys) (is, are) =
+    sum_by-cons (λ (c : Code). share_of c.size) x xs ∙ ap (λ n. n + room_of xs) (ap share_of is.size_is) ∙ ap (λ n. value_room y + n) (same_room text xs ys are) ∙ sym (sum_by-cons value_room y ys)
+
+-- the bytes that a header needs are those of all shares
+pub room_needed : (v : HeadView) (h : Header) → IsViewOf v h → room_of v.codes.now ≡ sum_by value_room h.codes
+room_needed v h views = same_room v.text.now v.codes.now h.codes views.codes
