@@ -56,7 +56,8 @@ impl Inside {
     fn enter(&self, names: &[String], scope: usize, component: &[u8]) -> Option<Self>
         requires { length names.now ≤ 64 }
         ensures scope { IfSome result (λ inner. inner.scope ≡ scope) }
-        ensures left { (f : List ℕ) → AreLeft (map string_bytes names.now) f self.now → IfSome result
+        ensures left { (f : List ℕ) → AreLeft (map string_bytes names.now) f self.now
+            → IfSome result
             (AreLeft (map string_bytes names.now) (f ++ (component.now ++ 46 ∷ []))) }
     {
         let passed = self.passed.checked_add(component.len() + 1)?;
@@ -113,7 +114,8 @@ impl Open {
             → AreOpen h (map string_bytes names.now) self.old
             → AreOpen h (map string_bytes names.now) self.new }
         ensures selected { (h : Header) (d : Declaration) → IsViewOf view.entry h
-            → slice_get h.declarations row ≡ Some d → AreOpen h (map string_bytes names.now) self.old
+            → slice_get h.declarations row ≡ Some d
+            → AreOpen h (map string_bytes names.now) self.old
             → result ≡ is_selected_by (map string_bytes names.now) (take row h.declarations) d }
     {
         let Some(declared) = view.row_at(row) else {
@@ -156,7 +158,8 @@ impl Open {
         requires { length names.now ≤ 64 }
         ensures { (h : Header) → IsViewOf view.entry h
             → AreOpen h (map string_bytes names.now) self.now
-            → IfSome result (λ s. AreLeft (map string_bytes names.now) (front h.declarations s.scope) s) }
+            → IfSome result
+            (λ s. AreLeft (map string_bytes names.now) (front h.declarations s.scope) s) }
     {
         let outer = self.around(view, row)?;
         let scope = row.checked_add(1)?;
