@@ -1,5 +1,6 @@
 pub mod Device
 pub mod Answer
+pub mod Choice
 pub mod Room
 pub mod Run
 pub mod ItemText

@@ -5,7 +5,7 @@ use Rattle.vcd_model.specs.Header.{Header}
 use Rattle.vcd_head.specs.Needs.{view_size}
 use Rattle.vcd_head.specs.Shown.{parts}
 use Rattle.vcd_head.specs.Views.{IsViewOf}
-use Rattle.vcd_tools.specs.Pick.{slots_in}
+use Rattle.vcd_tools.specs.Pick.{flags_in}
 use Rattle.vcd_tools.specs.declared.engine.Engine.{Engine}
 use Rattle.vcd_tools.specs.declared.machine.Machine.{Machine}
 use Rattle.vcd_tools.specs.declared.machine.Machine.TheVariants as machine
@@ -14,7 +14,12 @@ use Rattle.vcd_tools.specs.declared.task.Room.{Room}
 use Rattle.vcd_tools.specs.declared.task.Task.{Task}
 use Rattle.vcd_tools.specs.declared.task.Task.TheVariants.{Check, Pick}
 
--- how many marks a task works with
+-- how many bytes of values a task works with
+abbrev pub values_for : Task → HeadView → ℕ
+values_for Check v = 0
+values_for (Pick names) v = length v.codes.now
+
+-- how many marks
 abbrev pub marks_for : Task → HeadView → ℕ
 marks_for Check v = 0
 marks_for (Pick names) v = length v.rows.now
@@ -22,10 +27,11 @@ marks_for (Pick names) v = length v.rows.now
 -- how many places for codes
 abbrev pub slots_for : Task → HeadView → ℕ
 slots_for Check v = 0
-slots_for (Pick names) v = length v.codes.now
+slots_for (Pick names) v = 0
 
 -- the room is large enough for the task over the header that is shown
 pub record HasRoomFor (t : Task) (v : HeadView) (r : Room) : Type 0 where
+  pub values : values_for t v ≤ length r.values.now
   pub marks : marks_for t v ≤ length r.marks.now
   pub slots : slots_for t v ≤ length r.slots.now
 
@@ -33,12 +39,12 @@ pub record HasRoomFor (t : Task) (v : HeadView) (r : Room) : Type 0 where
 
 -- the lengths of room
 abbrev pub room_size : Room → RoomSize
-room_size r = record { values = 0; slots = length r.slots.now; marks = length r.marks.now }
+room_size r = record { values = length r.values.now; slots = length r.slots.now; marks = length r.marks.now }
 
 -- those of the room that a machine holds
 abbrev pub room_of : Machine → RoomSize
 room_of (machine.Check c) = no_room
-room_of (machine.Pick p) = record { values = 0; slots = slots_in p; marks = 0 }
+room_of (machine.Pick p) = record { values = flags_in p; slots = 0; marks = 0 }
 
 -- what an engine holds beside its registers: a view, and room
 abbrev pub view_in : Engine → HeadView

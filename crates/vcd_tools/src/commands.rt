@@ -42,8 +42,9 @@ pub fn check<S: Source, W: Sink>(
         × (chunk_len_of feed.new ≡ chunk_len_of feed.old) × SameLoans feed.old feed.new }
 {
     let mut room = Room {
-        marks: &mut [],
+        values: &mut [],
         slots: &mut [],
+        marks: &mut [],
     };
     run_task(Task::Check, view, feed, &mut room, out)
 }

@@ -239,8 +239,9 @@ pub fn run_task<S: Source, W: Sink>(
         × (chunk_len_of feed.new ≡ chunk_len_of feed.old) × SameLoans feed.old feed.new }
 {
     let room = Room {
-        marks: &mut *room.marks,
+        values: &mut *room.values,
         slots: &mut *room.slots,
+        marks: &mut *room.marks,
     };
     let mut engine = Engine::start(task, view, room, out)?;
     engine.finish(feed, out)

@@ -39,6 +39,7 @@
 #![tactic(auto)]
 
 mod answer;
+mod choice;
 mod commands;
 mod engine;
 mod item_text;

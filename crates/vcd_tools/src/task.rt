@@ -5,11 +5,11 @@ ghost use Rattle.vcd_model.specs.Header.{Header};
 ghost use Rattle.vcd_head.specs.Needs.{room, view_size};
 ghost use Rattle.vcd_head.specs.Shown.{parts};
 ghost use Rattle.vcd_head.specs.Views.{IsViewOf};
-ghost use Rattle.vcd_tools.specs.Room.{AreWithinBound, HasRoomFor, IsWithin, marks_for, slots_for};
+ghost use Rattle.vcd_tools.specs.Room.{AreWithinBound, HasRoomFor, IsWithin, marks_for, slots_for, values_for};
 ghost use Rattle.vcd_tools.specs.declared.task.Room.{Room};
 
 use vcd_body::Slot;
-use vcd_head::{HeadView, Need, need};
+use vcd_head::{HeadView, Need};
 
 /// What is done with the items of a body.
 #[derive(Clone, Copy)]
@@ -23,19 +23,23 @@ pub enum Task<'n> {
 /// What a run is lent beside its windows, of lengths at least as `Task::need` returns for its header. No memory is taken beyond it.
 #[derive(Drop)]
 pub struct Room<'r> {
-    /// A mark for each declaration.
-    pub marks: &'r mut [u8],
+    /// Bytes for the values of codes; `pick` has a flag of one byte for each code there.
+    pub values: &'r mut [u8],
     /// A place for each code.
     pub slots: &'r mut [Slot],
+    /// A mark for each declaration.
+    pub marks: &'r mut [u8],
 }
 
 impl<'n> Task<'n> {
     /// The room that the task works in over the header that is shown.
     pub fn need(&self, view: HeadView<'_>) -> Need
-        ensures lengths { (result.marks ≡ marks_for self.now view.entry)
-            × (result.slots ≡ slots_for self.now view.entry) }
-        ensures room { (r : Room) → result.marks ≤ length r.marks.now
-            → result.slots ≤ length r.slots.now → HasRoomFor self.now view.entry r }
+        ensures lengths { (result.values ≡ values_for self.now view.entry)
+            × (result.slots ≡ slots_for self.now view.entry)
+            × (result.marks ≡ marks_for self.now view.entry) }
+        ensures room { (r : Room) → result.values ≤ length r.values.now
+            → result.slots ≤ length r.slots.now → result.marks ≤ length r.marks.now
+            → HasRoomFor self.now view.entry r }
         ensures fits { (limit : ℕ) (h : Header) (w : WindowSize) → IsViewOf view.entry h
             → AreWindows limit w
             → FitsInput limit h w (view_size (parts view.entry)) (room result) }
@@ -48,7 +52,11 @@ impl<'n> Task<'n> {
                 slots: 0,
                 marks: 0,
             },
-            Task::Pick(_) => need(view),
+            Task::Pick(_) => Need {
+                values: view.codes.len(),
+                slots: 0,
+                marks: view.rows.len(),
+            },
         }
     }
 }

@@ -8,7 +8,6 @@ use crate::rows::list;
 use crate::task::{Room, Task};
 use std::alloc::Global;
 use std::test::Fail;
-use vcd_body::Slot;
 use vcd_head::{Head, HeadFault, read_head};
 use vcd_text::doubles::{Narrow, Pieces};
 use vcd_text::{Feed, Sink, Source, Watch};
@@ -193,8 +192,9 @@ fn steps_write_at_the_end_alone(rt: HostRuntime) -> Result<(), Fail> {
     let mut marks = [];
     let mut slots = [];
     let room = Room {
+        values: &mut values,
+        slots: &mut [],
         marks: &mut marks,
-        slots: &mut slots,
     };
     let mut engine = Engine::start(Task::Check, head.view(), room, &mut out)?;
     assert!(rt; engine.going());
@@ -239,11 +239,12 @@ fn pick_over<S: Source, W: Sink>(
     let head = read_head(alloc, &mut feed, 16_777_216)?;
     let view = head.view();
     let mut marks = vec![in alloc; 0u8; view.rows.len()]?;
-    let mut slots = vec![in alloc; Slot::new(); view.codes.len()]?;
+    let mut values = vec![in alloc; 0u8; view.codes.len()]?;
     let names = [String::from_str(alloc, name)?];
     let mut room = Room {
+        values: &mut values,
+        slots: &mut [],
         marks: &mut marks,
-        slots: &mut slots,
     };
     Ok(pick(view, &mut feed, &mut room, &names, out))
 }
@@ -314,11 +315,12 @@ fn steps_of_a_pick_write_what_is_due(rt: HostRuntime) -> Result<(), Fail> {
     let head = read_head(alloc, &mut feed, 16_777_216)?;
     let view = head.view();
     let mut marks = vec![in alloc; 0u8; view.rows.len()]?;
-    let mut slots = vec![in alloc; Slot::new(); view.codes.len()]?;
+    let mut values = vec![in alloc; 0u8; view.codes.len()]?;
     let names = [String::from_str(alloc, "tb")?];
     let room = Room {
+        values: &mut values,
+        slots: &mut [],
         marks: &mut marks,
-        slots: &mut slots,
     };
     let mut out = Watch::new(Narrow::new(256));
     let mut engine = Engine::start(Task::Pick(&names), view, room, &mut out)?;

@@ -65,11 +65,13 @@ fn run_want<S: Source, W: Sink>(
         return ended(list(view, out), 0);
     };
     let need = task.need(view);
-    let mut marks = vec![in alloc; 0u8; need.marks]?;
+    let mut values = vec![in alloc; 0u8; need.values]?;
     let mut slots = vec![in alloc; Slot::new(); need.slots]?;
+    let mut marks = vec![in alloc; 0u8; need.marks]?;
     let mut room = Room {
-        marks: &mut marks,
+        values: &mut values,
         slots: &mut slots,
+        marks: &mut marks,
     };
     ended(run_task(task, view, feed, &mut room, out), 0)
 }

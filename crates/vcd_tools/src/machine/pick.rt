@@ -13,16 +13,17 @@ ghost use Rattle.vcd_tools.specs.Answer.{writes_failed};
 ghost use Rattle.vcd_tools.specs.Device.{TakesDue};
 ghost use Rattle.vcd_tools.specs.Engine.{Starts, StopsUnread, last_of};
 ghost use Rattle.vcd_tools.specs.ItemText.{AsItem};
-ghost use Rattle.vcd_tools.specs.Pick.{ArePicked, is_event_at, is_kept, names_in, slots_in};
+ghost use Rattle.vcd_tools.specs.Pick.{ArePicked, is_event_at, is_kept, names_in, flags_in};
 ghost use Rattle.vcd_tools.specs.Room.{HasRoomFor};
 ghost use Rattle.vcd_tools.specs.declared.task.Task.TheVariants as task;
 
 use crate::answer::Stop;
+use crate::choice::Choice;
 use crate::item_text::ItemText;
 use crate::machine::last_of;
 use crate::selection::select_codes;
 use crate::task::Room;
-use vcd_body::{Item, Regs, Table};
+use vcd_body::{Item, Regs};
 use vcd_head::{HeadView, put_head};
 use vcd_text::{Feed, Sink, Source, WriteFailed};
 
@@ -30,7 +31,7 @@ use vcd_text::{Feed, Sink, Source, WriteFailed};
 #[derive(Drop)]
 pub(crate) struct Pick<'n, 'r> {
     names: &'n [String],
-    table: Table<'r>,
+    choice: Choice<'r>,
     text: ItemText,
 }
 
@@ -49,18 +50,18 @@ impl<'n, 'r> Pick<'n, 'r> {
             (W.device out.old) (W.device out.new) result }
         ensures names { MatchResult result
             (λ p. names_in p ≡ map string_bytes names.entry.now) StopsUnread }
-        ensures room { IfOk result (λ p. slots_in p ≡ length view.entry.codes.now) }
+        ensures room { IfOk result (λ p. flags_in p ≡ length view.entry.codes.now) }
         ensures failures { (W.device out.new).failures
             ≡ (W.device out.old).failures + writes_failed result }
     {
-        let Room { marks, slots } = room;
+        let Room { values, marks, .. } = room;
         let marks = &mut marks[..view.rows.len()];
-        let mut table = Table::new(view, &mut [], slots);
-        select_codes(view, names, marks, &mut table)?;
+        let mut choice = Choice::new(view, values);
+        select_codes(view, names, marks, &mut choice)?;
         put_head(view, marks, out)?;
         Ok(Pick {
             names,
-            table,
+            choice,
             text: ItemText::new(),
         })
     }
@@ -69,13 +70,13 @@ impl<'n, 'r> Pick<'n, 'r> {
     /// code that is no event inside a section.
     #[inline(always)]
     fn keeps(&self, view: HeadView<'_>, regs: Regs, item: Item) -> bool
-        ensures { result ≡ is_kept self.now.table view.entry regs item }
+        ensures { result ≡ is_kept self.now.choice view.entry regs item }
     {
         match item {
             Item::Time(_) | Item::Finish => false,
             Item::Begin(_) | Item::End => true,
             Item::Change { code, .. } => {
-                self.table.chosen(code) && !(regs.section.is_some() && view.is_event(code))
+                self.choice.chosen(code) && !(regs.section.is_some() && view.is_event(code))
             }
         }
     }
@@ -100,7 +101,7 @@ impl<'n, 'r> Pick<'n, 'r> {
             × IfOk result (λ _. ArePicked self.new h (items ++ x ∷ [])) }
         ensures counts { Counts (W.device out.old) (W.device out.new) result }
         ensures names { names_in self.new ≡ names_in self.old }
-        ensures room { slots_in self.new ≡ slots_in self.old }
+        ensures room { flags_in self.new ≡ flags_in self.old }
     {
         if !self.keeps(view, regs, item) {
             return Ok(());

@@ -15,6 +15,11 @@ returns-in_default-clause-ends g c = λ h i front name v st.
 
 pub returns-in_err-marks-clause-ends : goal.returns-in_err-marks-clause-ends
 returns-in_err-marks-clause-ends g c = λ h i front name v st.
+    let e : c.from_residual-in_err-marks.result ≡ Err OutOfMemory = search rules in
+    rw e (no_room (request_for c.args.want.now) _ _ i front h name _ c.args.feed.now _ refl st)
+
+pub returns-in_err-values-clause-ends : goal.returns-in_err-values-clause-ends
+returns-in_err-values-clause-ends g c = λ h i front name v st.
     let e : c.from_residual.result ≡ Err OutOfMemory = search rules in
     rw e (no_room (request_for c.args.want.now) _ _ i front h name _ c.args.feed.now _ refl st)
 
@@ -29,4 +34,4 @@ returns-clause-ends g c = λ h i front name v st.
     rw (c.ended-2.ensures, ← same) (followed _ _ _ i front h name _ _ _ _ c.run_task.result (c.run_task.ensures.gives h i front name v st))
 
 pub run_task-requires-clause-bound : goal.run_task-requires-clause-bound
-run_task-requires-clause-bound g c = c.need-need.ensures.bound _ _ _ c.requires.chunk (record { values = omega arith; slots = search rules; marks = search rules })
+run_task-requires-clause-bound g c = c.need-need.ensures.bound _ _ _ c.requires.chunk (record { values = search rules; slots = search rules; marks = search rules })
