@@ -189,8 +189,8 @@ fn steps_write_at_the_end_alone(rt: HostRuntime) -> Result<(), Fail> {
     let mut feed = Feed::new(&mut source, &mut chunk, &mut token, &mut value);
     let head = read_head(rt.alloc(), &mut feed, 16_777_216)?;
     let mut out = Watch::new(Narrow::new(256));
+    let mut values = [];
     let mut marks = [];
-    let mut slots = [];
     let room = Room {
         values: &mut values,
         slots: &mut [],
