@@ -21,6 +21,7 @@
 //!   item and at the end
 //! - `commands`: `check`, `pick`
 //! - `answer`: `Done`, `More`, `Stop`: how a run ends, and whether it goes on
+//! - `choice`: which codes are chosen, a byte a code
 //! - `item_text`: kept items as lines, each after the line of its time
 //! - `selection`: the variables that names select, as marks and as chosen codes
 //! - `report`, `rows`: the seven lines of `check`; `list`
