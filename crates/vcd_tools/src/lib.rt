@@ -41,6 +41,8 @@
 mod answer;
 mod choice;
 mod commands;
+#[cfg(test)]
+mod cut_tests;
 mod engine;
 mod item_text;
 mod machine;
