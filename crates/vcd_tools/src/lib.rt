@@ -42,6 +42,8 @@
 mod answer;
 mod choice;
 mod commands;
+#[cfg(test)]
+mod cut_tests;
 mod engine;
 mod item_text;
 mod machine;
@@ -52,16 +54,18 @@ mod report;
 mod rows;
 mod seat;
 mod selection;
+mod span;
 mod task;
 #[cfg(test)]
 mod tests;
 mod windows;
 
 pub use answer::{Done, More, Stop};
-pub use commands::{check, pick};
+pub use commands::{check, cut, pick};
 pub use engine::{Engine, run_task};
 pub use merge::{Merge, merge_step};
 pub use rows::list;
 pub use seat::Seat;
+pub use span::Span;
 pub use task::{Room, Task};
 pub use windows::Windows;

@@ -8,8 +8,9 @@ ghost use Rattle.vcd_head.specs.Views.{IsViewOf};
 ghost use Rattle.vcd_tools.specs.Room.{AreWithinBound, HasRoomFor, IsWithin, marks_for, slots_for, values_for};
 ghost use Rattle.vcd_tools.specs.declared.task.Room.{Room};
 
+use crate::span::Span;
 use vcd_body::Slot;
-use vcd_head::{HeadView, Need};
+use vcd_head::{HeadView, Need, need};
 
 /// What is done with the items of a body.
 #[derive(Clone, Copy)]
@@ -18,6 +19,8 @@ pub enum Task<'n> {
     Check,
     /// Writes those of the variables that these names select, after their header.
     Pick(&'n [String]),
+    /// Writes the values that stand before a time, and the items from then up to another time.
+    Cut(Span),
 }
 
 /// What a run is lent beside its windows, of lengths at least as `Task::need` returns for its header. No memory is taken beyond it.
@@ -57,6 +60,7 @@ impl<'n> Task<'n> {
                 slots: 0,
                 marks: view.rows.len(),
             },
+            Task::Cut(_) => need(view),
         }
     }
 }

@@ -6,14 +6,14 @@ use Rattle.vcd_body.specs.Stored.{start_of}
 use Rattle.vcd_body.proofs.LayoutLemmas.{laid, new_kept, whole_share}
 use Rattle.vcd_body.proofs.table.Table.new.Goals as goal
 
-pub invariant_of-result : goal.invariant_of-result
-invariant_of-result c =
+pub returns-clause-laid : goal.returns-clause-laid
+returns-clause-laid c =
     let codes = c.args.view.codes.now in
     let values = c.args.values.now in
     let end = c.lay_out-end.ensures.end in
     let size = length-take-le c.lay_out-end.result values (omega (arith, end)) in
     let same = c.lay_out-end.ensures.length ∙ length-take-le (length codes) c.args.slots.now c.requires.slots in
-    record { laid = laid codes c.lay_out-end.new.slots (length values) (length (take c.lay_out-end.result values)) (sym same) (size ∙ end) c.lay_out-end.ensures.slots }
+    laid codes c.lay_out-end.new.slots (length values) (length (take c.lay_out-end.result values)) (sym same) (size ∙ end) c.lay_out-end.ensures.slots
 
 pub returns-clause-kept : goal.returns-clause-kept
 returns-clause-kept c = λ code.
@@ -34,3 +34,10 @@ returns-clause-room c = λ most code declared at.
     new_kept codes c.lay_out-end.new.slots (length values) c.lay_out-end.result (sym same) end c.lay_out-end.ensures.slots (take c.lay_out-end.result values) size code
     ∙ ap (option_map (λ (x : Code). unset (start_of codes (length values) (code + 1) - start_of codes (length values) code))) at
     ∙ ap (λ n. Some (unset n)) (whole_share codes (length values) code declared most at)
+
+pub returns-clause-bytes : goal.returns-clause-bytes
+returns-clause-bytes c =
+    let values = c.args.values.now in
+    let end = c.lay_out-end.ensures.end in
+    let size = length-take-le c.lay_out-end.result values (omega (arith, end)) in
+    omega (arith, size, end)
