@@ -3,3 +3,4 @@ mod MessageLemmas
 mod OutcomeLemmas
 mod RunLemmas
 pub mod TimesLemmas
+mod PeriodLemmas

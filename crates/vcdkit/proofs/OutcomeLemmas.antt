@@ -1,5 +1,6 @@
 -- The outcome of a run over one input, by its header and the tokens after it.
-use Rattle.std.proofs.Common.{◌≡◌, ℕ, List, [], ◌∷◌, ◌++◌, Some, None, Ok, Err, refl, ap, ◌∙◌}
+use Rattle.std.proofs.Common.{◌≡◌, ◌&&◌, ℕ, Bool, true, false, cond, nat_lt, List, [], ◌∷◌, ◌++◌, map, Option, Some, None, Result, Ok, Err, refl, sym, ap, subst, ◌∙◌}
+use Rattle.std.specs.Prelude.{ℤ, string_bytes}
 use Rattle.vcd_model.specs.Input.{Input}
 use Rattle.vcd_model.specs.Tokens.{Token, stream_of}
 use Rattle.vcd_model.specs.Header.{header_of}
@@ -7,14 +8,16 @@ use Rattle.vcd_model.specs.HeaderPhrases.{HeaderPhrase}
 use Rattle.vcd_model.specs.HeaderReading.{header_grammar, read_header, header_fault_of}
 use Rattle.vcd_model.specs.Job as model
 use Rattle.vcd_model.specs.Job.{outcome, request_of}
-use Rattle.vcd_model.specs.Outcome.{Opened, declarations_allowed, open_from, over_dump, fault_outcome, name_at}
+use Rattle.vcd_model.specs.Outcome.{Opened, Request, declarations_allowed, open_from, over_dump, over_dumps, fault_outcome, name_at, names_of}
+use Rattle.vcd_model.specs.Ticks.{moment_ticks}
+use Rattle.vcd_head.specs.Moments.{asked}
 use Rattle.vcd_model.specs.Reading.{Fault, Placed, Reading, reading_of, phrases_of}
 use Rattle.vcd_model.specs.Reading.Ending.{AtLast}
 use Rattle.vcd_model.specs.SoFar.{IsWhole}
 use Rattle.vcd_model.proofs.SoFarLemmas.{whole-more}
 use Rattle.vcdkit.specs.declared.job.Want.{Want}
 use Rattle.vcdkit.specs.declared.job.Want.TheVariants as want
-use Rattle.vcdkit.specs.Job.{model_want, request_for}
+use Rattle.vcdkit.specs.Job.{model_want, names_asked}
 
 -- the header is read
 abbrev head_of : ℕ → Input → Reading HeaderPhrase
@@ -32,12 +35,6 @@ not_opened : (limit : ℕ) (i : Input) (f : Fault) → header_fault_of (stream_o
 unfolding open_from
 not_opened limit i f e = rw (e, open_from) refl
 
-over_task : (wanted : Want) (names : List (List ℕ)) (o : Opened) → model.over_opened (model_want wanted) names (o ∷ []) ≡ over_dump (request_for wanted) (name_at names 0) o
-unfolding request_of
-over_task want.Check names o = refl
-over_task want.List names o = refl
-over_task (want.Pick asked) names o = refl
-
 opened_outcome : (wanted : model.Want) (limit : ℕ) (names : List (List ℕ)) (i : Input) → header_fault_of (stream_of limit i) (head_of limit i) ≡ None → outcome wanted limit names (i ∷ []) ≡ model.over_opened wanted names (opened_as limit i (head_of limit i) ∷ [])
 unfolding outcome
 opened_outcome wanted limit names i e = rw (opened_is limit i e, outcome) refl
@@ -48,11 +45,53 @@ unfolding outcome
 at_header wanted limit names i f e = rw (not_opened limit i f e, outcome) refl
 
 -- tokens of a whole header, and these after it
-pub after_header : (wanted : Want) (limit : ℕ) (names : List (List ℕ)) (i : Input) (given rest : List Token) (placed : List (Placed HeaderPhrase)) → IsWhole (header_grammar declarations_allowed) given placed → (stream_of limit i).tokens ≡ given ++ rest
-    → outcome (model_want wanted) limit names (i ∷ []) ≡ over_dump (request_for wanted) (name_at names 0) (record { header = header_of (phrases_of placed); stream = stream_of limit i; rest = rest })
+pub after_header : (wanted : model.Want) (limit : ℕ) (names : List (List ℕ)) (i : Input) (given rest : List Token) (placed : List (Placed HeaderPhrase)) → IsWhole (header_grammar declarations_allowed) given placed → (stream_of limit i).tokens ≡ given ++ rest
+    → outcome wanted limit names (i ∷ []) ≡ model.over_opened wanted names (record { header = header_of (phrases_of placed); stream = stream_of limit i; rest = rest } ∷ [])
 unfolding read_header
 after_header wanted limit names i given rest placed w e =
     let reading : head_of limit i ≡ record { placed = placed; before = []; ending = AtLast; rest = rest } =
     ap (reading_of (header_grammar declarations_allowed)) e ∙ whole-more (header_grammar declarations_allowed) given placed rest w in
     let no_fault : header_fault_of (stream_of limit i) (head_of limit i) ≡ None = ap (header_fault_of (stream_of limit i)) reading in
-    opened_outcome (model_want wanted) limit names i no_fault ∙ over_task wanted names (opened_as limit i (head_of limit i)) ∙ ap (λ r. over_dump (request_for wanted) (name_at names 0) (opened_as limit i r)) reading
+    opened_outcome wanted limit names i no_fault ∙ ap (λ r. model.over_opened wanted names (opened_as limit i r ∷ [])) reading
+
+-- ---- what is asked for, with times in ticks
+
+-- a cut is asked for, and its times are not refused
+cut_is : (units : Bool) (from to : Result ℕ ℕ) (task : Request) → model.cut_request units from to ≡ Ok task → (a b : ℕ) × (task ≡ Request.Cut a b)
+cut_is units (Ok from) (Ok to) task e = by_test (units && nat_lt to from) e
+  where
+    by_test : (b : Bool) → cond b (Err model.Refusal.FromAboveTo) (Ok (Request.Cut from to)) ≡ Ok task → (a b : ℕ) × (task ≡ Request.Cut a b)
+    by_test true e = cc
+    by_test false e = (from, to, cc)
+cut_is units (Ok from) (Err n) task e = cc
+cut_is units (Err n) to task e = cc
+
+module _ (wanted : Want) (names : List (List ℕ)) (o : Opened) where
+  -- a request that is no merge has one input
+  over_request : (task : Request) → request_of o.header.scale (model_want wanted) ≡ Ok task → model.over_opened (model_want wanted) names (o ∷ []) ≡ over_dumps task names (o ∷ [])
+  over_request task e = rw (e, model.over_opened) refl
+
+  -- times are refused
+  pub over_none : (why : model.Refusal) → request_of o.header.scale (model_want wanted) ≡ Err why → model.over_opened (model_want wanted) names (o ∷ []) ≡ model.refusal_outcome (name_at names 0) why
+  over_none why e = rw (e, model.over_opened) refl
+
+-- a request that is made of one input, with these names that have to select something
+abbrev IsOfOne : Want → Request → Type 0
+IsOfOne wanted task = (names_of task ≡ names_asked wanted) × ((names : List (List ℕ)) (o : Opened) → over_dumps task names (o ∷ []) ≡ over_dump task (name_at names 0) o)
+
+of_one : (wanted : Want) (scale : Option ℤ) (task : Request) → request_of scale (model_want wanted) ≡ Ok task → IsOfOne wanted task
+unfolding request_of
+of_one want.Check scale task e = let same : Request.Check ≡ task = cc in subst (IsOfOne want.Check) same (refl, λ names o. refl)
+of_one want.List scale task e = let same : Request.Listing ≡ task = cc in subst (IsOfOne want.List) same (refl, λ names o. refl)
+of_one (want.Pick asked) scale task e = let same : Request.Pick (map string_bytes asked.items) ≡ task = cc in subst (IsOfOne (want.Pick asked)) same (refl, λ names o. refl)
+of_one (want.Cut period) scale task e =
+    let from = moment_ticks scale (asked period.from) true in
+    let to = moment_ticks scale (asked period.to) false in
+    let cut = cut_is (model.has_unit (asked period.from ∷ asked period.to ∷ [])) from to task e in
+    subst (IsOfOne (want.Cut period)) (sym cut.2) (refl, λ names o. refl)
+
+pub names_due : (wanted : Want) (scale : Option ℤ) (task : Request) → request_of scale (model_want wanted) ≡ Ok task → names_of task ≡ names_asked wanted
+names_due wanted scale task e = (of_one wanted scale task e).0
+
+pub over_one : (wanted : Want) (names : List (List ℕ)) (o : Opened) (task : Request) → request_of o.header.scale (model_want wanted) ≡ Ok task → model.over_opened (model_want wanted) names (o ∷ []) ≡ over_dump task (name_at names 0) o
+over_one wanted names o task e = over_request wanted names o task e ∙ (of_one wanted o.header.scale task e).1 names o

@@ -1,11 +1,11 @@
 -- How a run ends, and what it leaves.
 use Rattle.std.proofs.Common.{◌≡◌, ◌==◌, ℕ, ◌+◌, Bool, true, false, ◌++◌, inl, inr, List, [], ◌∷◌, length, map, get_or, set, Option, Some, Result, Ok, Err, refl, sym, ap, subst, ◌∙◌, arith}
-use Rattle.std.specs.Prelude.{ℤ, MatchResult, IfOk, IfErr, IfSome, codes}
+use Rattle.std.specs.Prelude.{MatchResult, IfOk, IfErr, IfSome, codes}
 use Rattle.std.specs.List.{list_any}
 use Rattle.vcd_model.specs.Input.{Input}
-use Rattle.vcd_model.specs.Job.{outcome, request_of}
+use Rattle.vcd_model.specs.Job.{outcome, over_opened, refusal_outcome, request_of}
 use Rattle.vcd_model.specs.Laws.{IsPrefixOf}
-use Rattle.vcd_model.specs.Settled.{is_header_over, is_settled, is_settled_behind}
+use Rattle.vcd_model.specs.Settled.{is_header_over, is_settled, is_settled_behind, is_settled_by}
 use Rattle.vcd_model.specs.SoFar.{IsWhole}
 use Rattle.vcd_model.specs.HeaderPhrases.{HeaderPhrase}
 use Rattle.vcd_model.specs.Items.{BodyItem}
@@ -14,7 +14,7 @@ use Rattle.vcd_model.proofs.SoFarLemmas.{whole-more}
 use Rattle.vcd_model.specs.Header.{Header, header_of}
 use Rattle.vcd_model.specs.HeaderReading.{header_grammar, read_header, header_fault_of}
 use Rattle.vcd_model.specs.CheckAndList.{list_text}
-use Rattle.vcd_model.specs.Outcome.{Outcome, Request, ends_early, fault_outcome, declarations_allowed, names_of, over_dump, program_line}
+use Rattle.vcd_model.specs.Outcome.{Opened, Outcome, Request, ends_early, fault_outcome, declarations_allowed, name_at, names_of, over_dump, program_line}
 use Rattle.vcd_model.specs.Reading.{Fault, Placed, phrases_of}
 use Rattle.vcd_model.specs.Tokens.{Token, end_of_tokens, halt_place, stream_of}
 use Rattle.vcd_text.specs.Answer.{whole, failed_after}
@@ -36,13 +36,15 @@ use Rattle.vcd_tools.specs.declared.answer.Stop.TheVariants.{Dump, Read, Write, 
 use Rattle.vcdkit.specs.declared.job.Want.{Want}
 use Rattle.vcdkit.specs.declared.failure.Failure.{Failure}
 use Rattle.vcdkit.specs.declared.failure.Failure.TheVariants as failure
-use Rattle.vcdkit.specs.Failure.{end_of, failure_of, head_failure, CountsRead}
-use Rattle.vcdkit.specs.Job.{model_want, names_asked, request_for}
-use Rattle.vcdkit.specs.Message.{end_message, end_status, Shows}
+use Rattle.vcdkit.specs.declared.failure.Refusal.{Refusal}
+use Rattle.vcdkit.specs.declared.failure.Refusal.TheVariants as refusal
+use Rattle.vcdkit.specs.Failure.{end_of, failure_of, head_failure, model_refusal, CountsRead}
+use Rattle.vcdkit.specs.Job.{model_want, names_asked}
+use Rattle.vcdkit.specs.Message.{end_message, end_status, refusal_status, Shows}
 use Rattle.vcdkit.specs.Run.{Ends, HasRun, IsAfter, IsOfJob, IsOutcome, Leaves, settled_for}
 use Rattle.vcdkit.specs.Run.HasRun.{WithOutcome, NoMemory}
 use Rattle.vcdkit.specs.Run.IsOutcome.{Whole, Part}
-use Rattle.vcdkit.proofs.OutcomeLemmas.{after_header, at_header}
+use Rattle.vcdkit.proofs.OutcomeLemmas.{after_header, at_header, names_due, over_none, over_one}
 
 writes-none : (out : Device) → Writes out out []
 writes-none out = (appends-none out.held, refl)
@@ -93,12 +95,12 @@ listed limit chunk i front h name before old out out' r l st t f answer = record
 -- ---- after the header
 
 -- the place of the only input is 0
-leaves-placed : (task : Request) (o : Outcome) (name : List ℕ) (out out' : Device) (r : Result Done Stop) → Belongs task o name out out' r → Leaves task o name out out' (end_of r 0)
-leaves-placed task o name out out' (Ok done) b = b
-leaves-placed task o name out out' (Err (Dump input line fault)) b = (refl, b.1, b.2, b.3)
-leaves-placed task o name out out' (Err (Read input)) b = (refl, b.1, b.2)
-leaves-placed task o name out out' (Err Write) b = b
-leaves-placed task o name out out' (Err (Unmatched place)) b = b
+leaves-placed : (task : Request) (asked : List (List ℕ)) (o : Outcome) (name : List ℕ) (out out' : Device) (r : Result Done Stop) → names_of task ≡ asked → Belongs task o name out out' r → Leaves asked o name out out' (end_of r 0)
+leaves-placed task asked o name out out' (Ok done) same b = b
+leaves-placed task asked o name out out' (Err (Dump input line fault)) same b = (task, same, (refl, b.1, b.2, b.3))
+leaves-placed task asked o name out out' (Err (Read input)) same b = (task, same, (refl, b.1, b.2))
+leaves-placed task asked o name out out' (Err Write) same b = (task, same, b)
+leaves-placed task asked o name out out' (Err (Unmatched place)) same b = (task, same, b)
 
 -- it is settled as its task is
 settled_placed : (r : Result Done Stop) (run header : List Token → Bool) → settled_for (end_of r 0) run header ≡ run
@@ -108,29 +110,52 @@ settled_placed (Err (Read input)) run header = refl
 settled_placed (Err Write) run header = refl
 settled_placed (Err (Unmatched place)) run header = refl
 
--- a task, or a list, was done
-pub followed : (task : Request) (limit chunk : ℕ) (i : Input) (front : List Token) (h : Header) (name : List ℕ) (before after : Supply) (out out' : Device) (r : Result Done Stop) → Follows task limit chunk i front h name before after out out' r
-    → Ends task (IsAfter task limit front h name) limit chunk i name front (settled_for (end_of r 0) (is_settled_behind task h) (λ _. true)) before after out out' (end_of r 0)
-followed task limit chunk i front h name before after out out' r f = record {
-  left = f.left;
-  is_left = f.is_left;
-  read = subst (ReadsAsNeeded limit chunk before after f.left front) (sym (settled_placed r (is_settled_behind task h) (λ _. true))) f.read;
-  due = over_dump task name (record { header = h; stream = stream_of limit f.left; rest = f.rest });
-  is_due = (f.rest, f.tokens, refl);
-  leaves = leaves-placed task _ name out out' r f.belongs;
-}
+-- how a run ends after the header
+abbrev pub EndsAfter : Want → (limit chunk : ℕ) → Input → List Token → Header → List ℕ → (old new : Supply) → (out out' : Device) → Result Done Failure → Type 0
+EndsAfter wanted limit chunk i front h name old new out out' r =
+    Ends (names_asked wanted) (IsAfter (model_want wanted) limit front h name) limit chunk i name front
+    (settled_for r (is_settled_by (request_of h.scale (model_want wanted)) h) (λ _. true)) old new out out' r
 
--- memory ran out before it was
-pub no_room : {X : Type 0} {x : Ghosts X} (task : Request) (limit chunk : ℕ) (i : Input) (front : List Token) (h : Header) (name : List ℕ) (before : Supply) (feed : Feed X x) (out : Device) → limit_of feed ≡ limit → HasGiven i front feed
-    → Ends task (IsAfter task limit front h name) limit chunk i name front (λ _. true) before before out out (Err failure.OutOfMemory)
-no_room task limit chunk i front h name before feed out l st = record {
-  left = i;
-  is_left = inl (refl, refl);
-  read = Nothing refl;
-  due = over_dump task name (record { header = h; stream = stream_of limit i; rest = st.given_first.0 });
-  is_due = (st.given_first.0, ap (λ n. (stream_of n i).tokens) (sym l) ∙ st.given_first.1, refl);
-  leaves = writes-none out;
-}
+-- a task, or a list, was done
+pub followed : (wanted : Want) (task : Request) (limit chunk : ℕ) (i : Input) (front : List Token) (h : Header) (name : List ℕ) (before after : Supply) (out out' : Device) (r : Result Done Stop) → request_of h.scale (model_want wanted) ≡ Ok task → Follows task limit chunk i front h name before after out out' r
+    → EndsAfter wanted limit chunk i front h name before after out out' (end_of r 0)
+followed wanted task limit chunk i front h name before after out out' r e f =
+    let settled : settled_for (end_of r 0) (is_settled_by (request_of h.scale (model_want wanted)) h) (λ _. true) ≡ is_settled_behind task h =
+    settled_placed r (is_settled_by (request_of h.scale (model_want wanted)) h) (λ _. true) ∙ ap (λ q. is_settled_by q h) e in
+    let opened : Opened = record { header = h; stream = stream_of limit f.left; rest = f.rest } in
+    record {
+      left = f.left;
+      is_left = f.is_left;
+      read = subst (ReadsAsNeeded limit chunk before after f.left front) (sym settled) f.read;
+      due = over_opened (model_want wanted) (name ∷ []) (opened ∷ []);
+      is_due = (f.rest, f.tokens, refl);
+      leaves = leaves-placed task (names_asked wanted) _ name out out' r (names_due wanted h.scale task e)
+          (subst (λ (o : Outcome). Belongs task o name out out' r) (sym (over_one wanted (name ∷ []) opened task e)) f.belongs);
+    }
+
+-- an end without output, before anything was read after the header
+module _ {X : Type 0} {x : Ghosts X} (wanted : Want) (limit chunk : ℕ) (i : Input) (front : List Token) (h : Header) (name : List ℕ) (before : Supply) (feed : Feed X x) (out : Device) (l : limit_of feed ≡ limit) (st : HasGiven i front feed) where
+  -- memory ran out
+  pub no_room : EndsAfter wanted limit chunk i front h name before before out out (Err failure.OutOfMemory)
+  no_room = record {
+    left = i;
+    is_left = inl (refl, refl);
+    read = Nothing refl;
+    due = over_opened (model_want wanted) (name ∷ []) (record { header = h; stream = stream_of limit i; rest = st.given_first.0 } ∷ []);
+    is_due = (st.given_first.0, ap (λ n. (stream_of n i).tokens) (sym l) ∙ st.given_first.1, refl);
+    leaves = writes-none out;
+  }
+
+  -- times were refused
+  pub no_ticks : (why : Refusal) → request_of h.scale (model_want wanted) ≡ Err (model_refusal why) → EndsAfter wanted limit chunk i front h name before before out out (Err (failure.Refused why))
+  no_ticks why e = record {
+    left = i;
+    is_left = inl (refl, refl);
+    read = Nothing refl;
+    due = over_opened (model_want wanted) (name ∷ []) (record { header = h; stream = stream_of limit i; rest = st.given_first.0 } ∷ []);
+    is_due = (st.given_first.0, ap (λ n. (stream_of n i).tokens) (sym l) ∙ st.given_first.1, refl);
+    leaves = (over_none wanted (name ∷ []) (record { header = h; stream = stream_of limit i; rest = st.given_first.0 }) (model_refusal why) e, writes-none out);
+  }
 
 -- ---- the header
 
@@ -140,7 +165,7 @@ settles wanted r = settled_for r (is_settled (model_want wanted) declarations_al
 
 -- how a run of one input ends
 abbrev pub InputEnds : Want → (limit chunk : ℕ) → Input → List ℕ → (old new : Supply) → (out out' : Device) → Result Done Failure → Type 0
-InputEnds wanted limit chunk i name old new out out' r = Ends (request_for wanted) (IsOfJob (model_want wanted) limit name) limit chunk i name [] (settles wanted r) old new out out' r
+InputEnds wanted limit chunk i name old new out out' r = Ends (names_asked wanted) (IsOfJob (model_want wanted) limit name) limit chunk i name [] (settles wanted r) old new out out' r
 
 -- a run that memory ends before anything was read
 pub no_memory : (wanted : Want) (limit chunk : ℕ) (i : Input) (name : List ℕ) (before : Supply) (out : Device) → InputEnds wanted limit chunk i name before before out out (Err failure.OutOfMemory)
@@ -154,14 +179,14 @@ no_memory wanted limit chunk i name before out = record {
 }
 
 -- a fault of a dump, and a failed read, end a run without output
-dump_leaves : (task : Request) (name : List ℕ) (n line : ℕ) (out : Device) → (n == 31) ≡ false → Leaves task (fault_outcome [] name (record { number = n; line = line })) name out out (Err (failure.Stopped (Dump 0 line n)))
-dump_leaves task name n line out k =
+dump_leaves : (asked : List (List ℕ)) (name : List ℕ) (n line : ℕ) (out : Device) → (n == 31) ≡ false → Leaves asked (fault_outcome [] name (record { number = n; line = line })) name out out (Err (failure.Stopped (Dump 0 line n)))
+dump_leaves asked name n line out k =
     let f : Fault = record { number = n; line = line } in
     let e : (fault_outcome [] name f).output ≡ [] = rw (k, fault_outcome) refl in
-    (refl, ap (λ l. fault_outcome l name f) (sym e), k, subst (λ (l : List ℕ). Writes out out l) (sym e) (writes-none out))
+    (Request.Pick asked, refl, (refl, ap (λ l. fault_outcome l name f) (sym e), k, subst (λ (l : List ℕ). Writes out out l) (sym e) (writes-none out)))
 
-read_leaves : (task : Request) (name : List ℕ) (line : ℕ) (out : Device) → Leaves task (fault_outcome [] name (record { number = 31; line = line })) name out out (Err (failure.Stopped (Read 0)))
-read_leaves task name line out = (refl, (line, refl), writes-none out)
+read_leaves : (asked : List (List ℕ)) (name : List ℕ) (line : ℕ) (out : Device) → Leaves asked (fault_outcome [] name (record { number = 31; line = line })) name out out (Err (failure.Stopped (Read 0)))
+read_leaves asked name line out = (Request.Pick asked, refl, (refl, (line, refl), writes-none out))
 
 -- a header that goes on settles nothing
 going_run : (wanted : Want) (given : List Token) → IsGoing declarations_allowed given → is_settled (model_want wanted) declarations_allowed given ≡ false
@@ -175,6 +200,7 @@ going_header given e = rw e refl
 going : (wanted : Want) (r : Result Done Failure) (given : List Token) → IsGoing declarations_allowed given → settles wanted r given ≡ false
 going wanted (Ok done) given e = going_run wanted given e
 going wanted (Err (failure.Stopped stop)) given e = going_run wanted given e
+going wanted (Err (failure.Refused why)) given e = going_run wanted given e
 going wanted (Err failure.OutOfMemory) given e = going_header given e
 
 module _ {X : Type 0} {x : Ghosts X} (wanted : Want) (limit chunk : ℕ) (i : Input) (name : List ℕ) (before : Supply) (feed : Feed X x) (line : ℕ) (out : Device) (l : limit_of feed ≡ limit) (size : chunk_len_of feed ≡ chunk) where
@@ -211,7 +237,7 @@ module _ {X : Type 0} {x : Ghosts X} (wanted : Want) (limit chunk : ℕ) (i : In
     read = read_to_token (Err (failure.Stopped (Dump 0 line n))) f.1 f.2 f.3;
     due = _;
     is_due = placed n i k f.0;
-    leaves = dump_leaves (request_for wanted) name n line out d;
+    leaves = dump_leaves (names_asked wanted) name n line out d;
   }
 
   at_end : (n : ℕ) → (n == 31) ≡ false → (supply_of feed).failures ≡ before.failures → line ≡ (token_of feed).line → FailsAtEnd declarations_allowed i n feed → EndsWith (failure.Stopped (Dump 0 line n))
@@ -221,7 +247,7 @@ module _ {X : Type 0} {x : Ghosts X} (wanted : Want) (limit chunk : ℕ) (i : In
     read = read_to_end (Err (failure.Stopped (Dump 0 line n))) i f.2 f.3 f.4 f.5;
     due = _;
     is_due = placed n i k f.0;
-    leaves = dump_leaves (request_for wanted) name n line out d;
+    leaves = dump_leaves (names_asked wanted) name n line out d;
   }
 
   -- how a run ends whose header is refused
@@ -234,7 +260,7 @@ module _ {X : Type 0} {x : Ghosts X} (wanted : Want) (limit chunk : ℕ) (i : In
         read = read_to_end (Err (failure.Stopped (Read 0))) left f.0.2 f.0.3 f.0.4 f.0.5;
         due = _;
         is_due = placed 31 left k f.0.0;
-        leaves = read_leaves (request_for wanted) name line out;
+        leaves = read_leaves (names_asked wanted) name line out;
       }
   head_refused OutOfMemory counted k f = record {
     left = i;
@@ -269,31 +295,29 @@ refused wanted limit chunk i name before feed out why counted l size (fault, is,
 
 -- ---- behind the header
 
--- a request of times has none of these commands
-asked_for : (wanted : Want) (scale : Option ℤ) → request_of scale (model_want wanted) ≡ Ok (request_for wanted)
-unfolding request_of
-asked_for Want.Check scale = refl
-asked_for Want.List scale = refl
-asked_for (Want.Pick names) scale = refl
+-- what settles a run behind its header
+abbrev is_settled_in : Want → Header → List Token → Bool
+is_settled_in wanted h = is_settled_by (request_of h.scale (model_want wanted)) h
 
--- what settles a run behind its header settles it
-settled_run : (wanted : Want) (given ts : List Token) (placed : List (Placed HeaderPhrase)) → IsWhole (header_grammar declarations_allowed) given placed → is_settled (model_want wanted) declarations_allowed (given ++ ts) ≡ is_settled_behind (request_for wanted) (header_of (phrases_of placed)) ts
+-- it settles the run
+settled_run : (wanted : Want) (given ts : List Token) (placed : List (Placed HeaderPhrase)) → IsWhole (header_grammar declarations_allowed) given placed → is_settled (model_want wanted) declarations_allowed (given ++ ts) ≡ is_settled_in wanted (header_of (phrases_of placed)) ts
 unfolding is_settled
-settled_run wanted given ts placed w = rw (whole-more (header_grammar declarations_allowed) given placed ts w, asked_for wanted) refl
+settled_run wanted given ts placed w = rw (whole-more (header_grammar declarations_allowed) given placed ts w) refl
 
 settled_header : (given ts : List Token) (placed : List (Placed HeaderPhrase)) → IsWhole (header_grammar declarations_allowed) given placed → is_header_over declarations_allowed (given ++ ts) ≡ true
 unfolding is_header_over
 settled_header given ts placed w = rw (whole-more (header_grammar declarations_allowed) given placed ts w) refl
 
 settled_both : (wanted : Want) (r : Result Done Failure) (given ts : List Token) (placed : List (Placed HeaderPhrase)) → IsWhole (header_grammar declarations_allowed) given placed
-    → settles wanted r (given ++ ts) ≡ settled_for r (is_settled_behind (request_for wanted) (header_of (phrases_of placed))) (λ _. true) ts
+    → settles wanted r (given ++ ts) ≡ settled_for r (is_settled_in wanted (header_of (phrases_of placed))) (λ _. true) ts
 settled_both wanted (Ok done) given ts placed w = settled_run wanted given ts placed w
 settled_both wanted (Err (failure.Stopped stop)) given ts placed w = settled_run wanted given ts placed w
+settled_both wanted (Err (failure.Refused why)) given ts placed w = settled_run wanted given ts placed w
 settled_both wanted (Err failure.OutOfMemory) given ts placed w = settled_header given ts placed w
 
 module _ {X : Type 0} {x : Ghosts X} (wanted : Want) (limit chunk : ℕ) (i : Input) (before : Supply) (feed : Feed X x) (s : HeadShown) (r : Result Done Failure) (l : limit_of feed ≡ limit) (size : chunk_len_of feed ≡ chunk) (head : GivesHead declarations_allowed i feed s) where
   abbrev Behind : List Token → Bool
-  Behind = settled_for r (is_settled_behind (request_for wanted) (header_of (phrases_of head.placed))) (λ _. true)
+  Behind = settled_for r (is_settled_in wanted (header_of (phrases_of head.placed))) (λ _. true)
 
   unsettled : (ts : List Token) → Behind ts ≡ false → settles wanted r (head.given ++ ts) ≡ false
   unsettled ts e = settled_both wanted r head.given ts head.placed head.whole ∙ e
@@ -316,20 +340,19 @@ module _ {X : Type 0} {x : Ghosts X} (wanted : Want) (limit chunk : ℕ) (i : In
 -- how a run ends whose header was read
 pub read_on : {X : Type 0} {x : Ghosts X} (wanted : Want) (limit chunk limit' chunk' : ℕ) (i : Input) (name : List ℕ) (before after : Supply) (out out' : Device) (feed : Feed X x) (s : HeadShown) (end : Result Done Failure) → limit_of feed ≡ limit → chunk_len_of feed ≡ chunk → limit' ≡ limit → chunk' ≡ chunk → (supply_of feed).failures ≡ before.failures
     → (g : GivesHead declarations_allowed i feed s)
-    → Ends (request_for wanted) (IsAfter (request_for wanted) limit' g.given (header_of (phrases_of g.placed)) name) limit' chunk' i name g.given (settled_for end (is_settled_behind (request_for wanted) (header_of (phrases_of g.placed))) (λ _. true)) (supply_of feed) after out out' end
+    → EndsAfter wanted limit' chunk' i g.given (header_of (phrases_of g.placed)) name (supply_of feed) after out out' end
     → InputEnds wanted limit chunk i name before after out out' end
 read_on wanted limit chunk limit' chunk' i name before after out out' feed s end l size l' size' m g f =
     let h = header_of (phrases_of g.placed) in
-    let behind = settled_for end (is_settled_behind (request_for wanted) h) (λ _. true) in
-    let e : Ends (request_for wanted) (IsAfter (request_for wanted) limit g.given h name) limit chunk i name g.given behind (supply_of feed) after out out' end =
-    subst (λ (n : ℕ). Ends (request_for wanted) (IsAfter (request_for wanted) limit g.given h name) limit n i name g.given behind (supply_of feed) after out out' end) size'
-    (subst (λ (n : ℕ). Ends (request_for wanted) (IsAfter (request_for wanted) n g.given h name) n chunk' i name g.given behind (supply_of feed) after out out' end) l' f) in
+    let e : EndsAfter wanted limit chunk i g.given h name (supply_of feed) after out out' end =
+    subst (λ (n : ℕ). EndsAfter wanted limit n i g.given h name (supply_of feed) after out out' end) size'
+    (subst (λ (n : ℕ). EndsAfter wanted n chunk' i g.given h name (supply_of feed) after out out' end) l' f) in
     record {
       left = e.left;
       is_left = since e.left m e.is_left;
       read = all_read wanted limit chunk i before feed s end l size g after e.left e.is_left e.read;
       due = e.due;
-      is_due = e.is_due.2 ∙ sym (after_header wanted limit (name ∷ []) e.left g.given e.is_due.0 g.placed g.whole e.is_due.1);
+      is_due = e.is_due.2 ∙ sym (after_header (model_want wanted) limit (name ∷ []) e.left g.given e.is_due.0 g.placed g.whole e.is_due.1);
       leaves = e.leaves;
     }
   where
@@ -343,26 +366,43 @@ read_on wanted limit chunk limit' chunk' i name before after out out' feed s end
 abbrev Said : Outcome → (out out' err err' : Device) → ℕ → Result Done Failure → Type 0
 Said o out out' err err' status (Ok done) = IsOutcome o out out' err err' status
 Said o out out' err err' status (Err (failure.Stopped stop)) = IsOutcome o out out' err err' status
+Said o out out' err err' status (Err (failure.Refused why)) = IsOutcome o out out' err err' status
 Said o out out' err err' status (Err failure.OutOfMemory) = Writes out out' [] × Shows err err' (program_line (codes "out of memory")) × (status ≡ 3)
 
+-- the status of times that are refused, and that they leave no output
+refused_status : (name : List ℕ) (why : Refusal) → (refusal_outcome name (model_refusal why)).status ≡ refusal_status why
+refused_status name refusal.NoTimescale = refl
+refused_status name refusal.OutOfRange = refl
+refused_status name refusal.FromAboveTo = refl
+
+refused_output : (name : List ℕ) (why : Refusal) → (refusal_outcome name (model_refusal why)).output ≡ []
+refused_output name refusal.NoTimescale = refl
+refused_output name refusal.OutOfRange = refl
+refused_output name refusal.FromAboveTo = refl
+
 -- the line and the status belong to what a run leaves
-leaves_outcome : (task : Request) (o : Outcome) (name : List ℕ) (out out' err err' : Device) (status : ℕ) (r : Result Done Failure) → Leaves task o name out out' r → status ≡ end_status (failure_of r)
-    → Shows err err' (end_message (name ∷ []) (names_of task) (failure_of r)) → Said o out out' err err' status r
-leaves_outcome task o name out out' err err' status (Ok u) e k s = Whole e.1 (subst (λ (l : List ℕ). Shows err err' l) (sym (ap (λ (o : Outcome). o.message) e.0)) s) (k ∙ sym (ap (λ (o : Outcome). o.status) e.0))
-leaves_outcome task o name out out' err err' status (Err (failure.Stopped (Dump input line fault))) e k s =
+leaves_outcome : (asked : List (List ℕ)) (o : Outcome) (name : List ℕ) (out out' err err' : Device) (status : ℕ) (r : Result Done Failure) → Leaves asked o name out out' r → status ≡ end_status (failure_of r)
+    → Shows err err' (end_message (name ∷ []) asked (failure_of r)) → Said o out out' err err' status r
+leaves_outcome asked o name out out' err err' status (Ok u) e k s = Whole e.1 (subst (λ (l : List ℕ). Shows err err' l) (sym (ap (λ (o : Outcome). o.message) e.0)) s) (k ∙ sym (ap (λ (o : Outcome). o.status) e.0))
+leaves_outcome asked o name out out' err err' status (Err (failure.Stopped (Dump input line fault))) (task, same, e) k s =
     let f : Fault = record { number = fault; line = line } in
     let first = e.0 in
-    let message : o.message ≡ end_message (name ∷ []) (names_of task) (Some (failure.Stopped (Dump input line fault))) = ap (λ (o : Outcome). o.message) e.1 ∙ rw (e.2, fault_outcome, first) refl in
+    let message : o.message ≡ end_message (name ∷ []) asked (Some (failure.Stopped (Dump input line fault))) = ap (λ (o : Outcome). o.message) e.1 ∙ rw (e.2, fault_outcome, first) refl in
     let is : o.status ≡ 1 = ap (λ (o : Outcome). o.status) e.1 ∙ rw (e.2, fault_outcome) refl in
     Whole e.3 (subst (λ (l : List ℕ). Shows err err' l) (sym message) s) (k ∙ sym is)
-leaves_outcome task o name out out' err err' status (Err (failure.Stopped (Read input))) e k s =
+leaves_outcome asked o name out out' err err' status (Err (failure.Stopped (Read input))) (task, same, e) k s =
     let first = e.0 in
-    let message : o.message ≡ end_message (name ∷ []) (names_of task) (Some (failure.Stopped (Read input))) = ap (λ (o : Outcome). o.message) e.1.1 ∙ rw first refl in
+    let message : o.message ≡ end_message (name ∷ []) asked (Some (failure.Stopped (Read input))) = ap (λ (o : Outcome). o.message) e.1.1 ∙ rw first refl in
     Whole e.2 (subst (λ (l : List ℕ). Shows err err' l) (sym message) s) (k ∙ sym (ap (λ (o : Outcome). o.status) e.1.1))
-leaves_outcome task o name out out' err err' status (Err (failure.Stopped Write)) e k s = Part e s k
-leaves_outcome task o name out out' err err' status (Err (failure.Stopped (Unmatched place))) e k s =
-    Whole e.1 (subst (λ (l : List ℕ). Shows err err' l) (sym (ap (λ (o : Outcome). o.message) e.0)) s) (k ∙ sym (ap (λ (o : Outcome). o.status) e.0))
-leaves_outcome task o name out out' err err' status (Err failure.OutOfMemory) e k s = (e, s, k)
+leaves_outcome asked o name out out' err err' status (Err (failure.Stopped Write)) (task, same, e) k s = Part e s k
+leaves_outcome asked o name out out' err err' status (Err (failure.Stopped (Unmatched place))) (task, same, e) k s =
+    let message : o.message ≡ end_message (name ∷ []) asked (Some (failure.Stopped (Unmatched place))) = ap (λ (o : Outcome). o.message) e.0 ∙ ap (λ names. program_line (name_at names place ++ codes ": selects nothing")) same in
+    Whole e.1 (subst (λ (l : List ℕ). Shows err err' l) (sym message) s) (k ∙ sym (ap (λ (o : Outcome). o.status) e.0))
+leaves_outcome asked o name out out' err err' status (Err (failure.Refused why)) (is, none) k s =
+    let output : o.output ≡ [] = ap (λ (o : Outcome). o.output) is ∙ refused_output name why in
+    Whole (subst (λ (l : List ℕ). Writes out out' l) (sym output) none) (subst (λ (l : List ℕ). Shows err err' l) (sym (ap (λ (o : Outcome). o.message) is)) s)
+    (k ∙ sym (ap (λ (o : Outcome). o.status) is ∙ refused_status name why))
+leaves_outcome asked o name out out' err err' status (Err failure.OutOfMemory) e k s = (e, s, k)
 
 -- nothing is said
 pub shows_nothing : (err : Device) → Shows err err []
@@ -390,6 +430,7 @@ module _ {X : Type 0} (rest : X → Option (List ℕ)) (failures : X → ℕ) (r
   has_run : (text : List ℕ) (end : Result Done Failure) → (g : InputEnds wanted limit chunk (whole text) name (supply rest failures r) (supply rest failures r') out out' end) → Said g.due out out' err err' status end
       → RunLeaves rest failures (r ∷ []) (r' ∷ []) wanted limit chunk (name ∷ []) (text ∷ []) out out' err err' status
   has_run text (Ok done) g said = WithOutcome (g.left ∷ []) (g.is_left, g.read, refl) (subst (λ (o : Outcome). IsOutcome o out out' err err' status) g.is_due said)
+  has_run text (Err (failure.Refused why)) g said = WithOutcome (g.left ∷ []) (g.is_left, g.read, refl) (subst (λ (o : Outcome). IsOutcome o out out' err err' status) g.is_due said)
   has_run text (Err (failure.Stopped stop)) g said = WithOutcome (g.left ∷ []) (g.is_left, g.read, refl) (subst (λ (o : Outcome). IsOutcome o out out' err err' status) g.is_due said)
   has_run text (Err failure.OutOfMemory) g said = NoMemory (g.left ∷ []) (g.is_left, g.read, refl) said.0 said.1 said.2
 
@@ -403,7 +444,7 @@ module _ {X : Type 0} (rest : X → Option (List ℕ)) (failures : X → ℕ) (r
     one_run : (texts : List (List ℕ)) → ReaderEnds → status ≡ end_status (failure_of end) → Says (name ∷ []) → map rest (r ∷ []) ≡ map (λ text. Some text) texts
         → RunLeaves rest failures (r ∷ []) (r' ∷ []) wanted limit chunk (name ∷ []) texts out out' err err' status
     one_run [] c k s h = cc
-    one_run (t ∷ []) c k s h = let g = c t name (cc) in has_run t end g (leaves_outcome (request_for wanted) g.due name out out' err err' status end g.leaves k s)
+    one_run (t ∷ []) c k s h = let g = c t name (cc) in has_run t end g (leaves_outcome (names_asked wanted) g.due name out out' err err' status end g.leaves k s)
     one_run (t ∷ u ∷ texts) c k s h = cc
 
     pub run_leaves : (readers readers' : List X) (names texts : List (List ℕ)) → readers ≡ r ∷ [] → readers' ≡ r' ∷ [] → names ≡ name ∷ [] → ReaderEnds → status ≡ end_status (failure_of end)

@@ -1,11 +1,11 @@
 -- Words that are times, one after the other, and their order.
-use Rattle.std.proofs.Common.{◌≡◌, ℕ, suc, ◌+◌, ◌<◌, Bool, true, false, not, cond, ◌&&◌, ◌||◌, nat_lt, is_some, List, [], ◌∷◌, ◌++◌, length, map, filter_map, get_or, take, drop, take-append-drop, Option, Some, None, option_map, Result, Ok, Err, refl, sym, ap, ◌∙◌, subst, arith}
+use Rattle.std.proofs.Common.{◌≡◌, ℕ, suc, ◌+◌, ◌<◌, Bool, true, false, not, cond, ◌&&◌, ◌||◌, nat_lt, is_some, List, [], ◌∷◌, ◌++◌, length, map, filter_map, get_or, take, drop, take-append-drop, Option, Some, None, option_map, Result, Ok, Err, refl, sym, ap, ◌∙◌, arith}
 use Rattle.std.specs.Char.{is_ascii_digit}
 use Rattle.std.specs.List.{cons_option, list_all, prefix_len, take_while}
 use Rattle.std.proofs.lemmas.Bool.{and_from}
 use Rattle.std.proofs.lemmas.List.Folds.{length-prefix_len}
 use Rattle.std.proofs.Math.Seq.{drop-cons}
-use Rattle.vcd_model.specs.Bytes.{decimal_value, is_empty}
+use Rattle.vcd_model.specs.Bytes.{decimal_value}
 use Rattle.vcd_model.specs.Job.{Want, has_unit, do_rise, is_number, moment_of, moment_with}
 use Rattle.vcd_model.specs.Ticks.{Moment}
 use Rattle.vcd_model.specs.Words as model

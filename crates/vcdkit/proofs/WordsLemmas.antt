@@ -1,20 +1,16 @@
 -- What a command and a word after `--token-limit` ask for.
-use Rattle.std.proofs.Common.{◌≡◌, ◌==◌, ℕ, Bool, true, false, not, List, [], ◌∷◌, length, map, ap, refl, sym, ◌∙◌}
+use Rattle.std.proofs.Common.{◌≡◌, ◌==◌, ℕ, Bool, true, false, not, List, [], ◌∷◌, length, map, ap, ap₂, refl, sym, ◌∙◌}
 use Rattle.std.proofs.Math.Dec.{eqb-suc-zero}
 use Rattle.std.specs.Borrow.{Bor}
 use Rattle.std.specs.Bool.{then_some}
-use Rattle.std.specs.Prelude.{Option, Some, None, Ok, Err, option_map, option_and_then, unwrap_or}
+use Rattle.std.specs.Prelude.{Option, Some, None, Result, Ok, Err, option_map, option_and_then, unwrap_or}
 use Rattle.clap.specs.Words.{Row, Text, all_of, first_of}
 use Rattle.vcd_model.specs.Job as model_job
 use Rattle.vcd_model.specs.Words as model
 use Rattle.vcdkit.specs.declared.words.Words.{Words}
-use Rattle.vcdkit.specs.declared.words.Words.TheVariants as words
-use Rattle.vcdkit.specs.declared.job.Want.{Want}
-use Rattle.vcdkit.specs.declared.job.Want.TheVariants as want
 use Rattle.vcdkit.specs.declared.job.UseFault.{UseFault}
 use Rattle.vcdkit.specs.declared.job.UseFault.TheVariants.{BadWords, BadLimit, BadTime, FromAboveTo, NotRising, OutOfMemory}
-use Rattle.vcdkit.specs.Job.{model_want}
-use Rattle.vcdkit.specs.Words.{complete, some_of, want_command, words_command, IsFaultOf}
+use Rattle.vcdkit.specs.Words.{complete, some_of, words_command, IsFaultIn, IsFaultOf}
 
 -- a command with the word after its option
 abbrev pub with_limit : Option model.Command → Option Text → Option model.Words
@@ -46,23 +42,10 @@ with-words command limit h = rw h refl
 with-complete : (named : Option model.Command) (command : model.Command) (limit : Option Text) → complete named ≡ Some command → model.job_of (with_limit named limit) ≡ model.job_with (model.limit_of limit) (model.want_of command)
 with-complete named command limit e = let whole = complete-some named command e in ap (λ n. model.job_of (with_limit n limit)) whole.0 ∙ with-words command limit whole.1
 
--- the words of each command ask for something
-want-of-words : (w : Words) → (wanted : model_job.Want) × (model.want_of (words_command w) ≡ Ok wanted)
-want-of-words words.Check = (model_job.Want.Check, refl)
-want-of-words words.List = (model_job.Want.Listing, refl)
-want-of-words (words.Pick names) = (model_job.Want.Pick (map (λ name. name.now) names.now), refl)
-
-want-of-command : (wanted : Want) → model.want_of (want_command wanted) ≡ Ok (model_want wanted)
-want-of-command want.Check = refl
-want-of-command want.List = refl
-want-of-command (want.Pick names) = refl
-
 -- the job that words ask for, under the limit that is asked for
-pub job-is : (named : Option model.Command) (limit : Option Text) (w : Words) (wanted : Want) (n : ℕ) → Some (words_command w) ≡ complete named → want_command wanted ≡ words_command w → model.limit_of limit ≡ Ok n
-    → model.job_of (with_limit named limit) ≡ Ok (record { want = model_want wanted; limit = n })
-job-is named limit w wanted n e t l =
-    with-complete named (words_command w) limit (sym e) ∙ ap (λ x. model.job_with x (model.want_of (words_command w))) l
-    ∙ ap (λ c. model.job_with (Ok n) (model.want_of c)) (sym t) ∙ ap (model.job_with (Ok n)) (want-of-command wanted)
+pub job-is : (named : Option model.Command) (limit : Option Text) (w : Words) (wanted : model_job.Want) (n : ℕ) → Some (words_command w) ≡ complete named → model.limit_of limit ≡ Ok n → model.want_of (words_command w) ≡ Ok wanted
+    → model.job_of (with_limit named limit) ≡ Ok (record { want = wanted; limit = n })
+job-is named limit w wanted n e l t = with-complete named (words_command w) limit (sym e) ∙ ap₂ model.job_with l t
 
 -- without a command that has its words the words are bad
 pub no-job : (named : Option model.Command) (limit : Option Text) → None ≡ complete named → model.job_of (with_limit named limit) ≡ Err model.UseFault.BadWords
@@ -71,15 +54,31 @@ no-job None limit e = refl
 no-job (Some command) limit e = let h = complete-none command (sym e) in rw h refl
 
 -- a fault of the limit is the job's
-pub fault-is : (named : Option model.Command) (limit : Option Text) (w : Words) (fault : UseFault) → Some (words_command w) ≡ complete named → IsFaultOf fault (model.limit_of limit) → IsFaultOf fault (model.job_of (with_limit named limit))
-fault-is named limit w BadWords e l = with-complete named _ limit (sym e) ∙ ap (λ x. model.job_with x (model.want_of (words_command w))) l
-fault-is named limit w (BadLimit word) e l = with-complete named _ limit (sym e) ∙ ap (λ x. model.job_with x (model.want_of (words_command w))) l
-fault-is named limit w (BadTime word) e l = with-complete named _ limit (sym e) ∙ ap (λ x. model.job_with x (model.want_of (words_command w))) l
-fault-is named limit w FromAboveTo e l = with-complete named _ limit (sym e) ∙ ap (λ x. model.job_with x (model.want_of (words_command w))) l
-fault-is named limit w NotRising e l = with-complete named _ limit (sym e) ∙ ap (λ x. model.job_with x (model.want_of (words_command w))) l
-fault-is named limit w OutOfMemory e (n, l) =
-    let asked = want-of-words w in
-    (record { want = asked.0; limit = n }, with-complete named _ limit (sym e) ∙ ap (λ x. model.job_with x (model.want_of (words_command w))) l ∙ ap (model.job_with (Ok n)) asked.1)
+pub limit-fault : (named : Option model.Command) (limit : Option Text) (w : Words) (fault : UseFault) → Some (words_command w) ≡ complete named → IsFaultIn fault (model.limit_of limit) → IsFaultOf fault (model.job_of (with_limit named limit))
+limit-fault named limit w BadWords e l = with-complete named _ limit (sym e) ∙ ap (λ x. model.job_with x (model.want_of (words_command w))) l
+limit-fault named limit w (BadLimit word) e l = with-complete named _ limit (sym e) ∙ ap (λ x. model.job_with x (model.want_of (words_command w))) l
+limit-fault named limit w (BadTime word) e l = with-complete named _ limit (sym e) ∙ ap (λ x. model.job_with x (model.want_of (words_command w))) l
+limit-fault named limit w FromAboveTo e l = with-complete named _ limit (sym e) ∙ ap (λ x. model.job_with x (model.want_of (words_command w))) l
+limit-fault named limit w NotRising e l = with-complete named _ limit (sym e) ∙ ap (λ x. model.job_with x (model.want_of (words_command w))) l
+limit-fault named limit w OutOfMemory e l = absurd l
+
+-- a fault of what is asked for is the job's, where the limit has none
+pub want-fault : (named : Option model.Command) (limit : Option Text) (w : Words) (n : ℕ) (fault : UseFault) → Some (words_command w) ≡ complete named → model.limit_of limit ≡ Ok n → IsFaultOf fault (model.want_of (words_command w)) → IsFaultOf fault (model.job_of (with_limit named limit))
+want-fault named limit w n BadWords e l t = with-complete named _ limit (sym e) ∙ ap₂ model.job_with l t
+want-fault named limit w n (BadLimit word) e l t = with-complete named _ limit (sym e) ∙ ap₂ model.job_with l t
+want-fault named limit w n (BadTime word) e l t = with-complete named _ limit (sym e) ∙ ap₂ model.job_with l t
+want-fault named limit w n FromAboveTo e l t = with-complete named _ limit (sym e) ∙ ap₂ model.job_with l t
+want-fault named limit w n NotRising e l t = with-complete named _ limit (sym e) ∙ ap₂ model.job_with l t
+want-fault named limit w n OutOfMemory e l (wanted, t) = (record { want = wanted; limit = n }, with-complete named _ limit (sym e) ∙ ap₂ model.job_with l t)
+
+-- a fault that is none of memory
+pub fault-in : {X : Type 0} (fault : UseFault) (asked : Result X model.UseFault) → IsFaultIn fault asked → IsFaultOf fault asked
+fault-in BadWords asked e = e
+fault-in (BadLimit word) asked e = e
+fault-in (BadTime word) asked e = e
+fault-in FromAboveTo asked e = e
+fault-in NotRising asked e = e
+fault-in OutOfMemory asked e = absurd e
 
 -- ---- what stands after the command that was used
 

@@ -1,22 +1,29 @@
 -- What is done, among all that can be asked for.
-use Rattle.std.specs.Prelude.{ℕ, List, map, string_bytes}
+use Rattle.std.specs.Prelude.{ℕ, List, [], map, string_bytes, Option, Some, None, Result, Ok, Err}
 use Rattle.vcd_model.specs.Job as model
-use Rattle.vcd_model.specs.Outcome.{Request, names_of}
+use Rattle.vcd_model.specs.Outcome.{Request}
+use Rattle.vcd_head.specs.Moments.{asked}
+use Rattle.vcd_tools.specs.Engine.{request_of}
+use Rattle.vcd_tools.specs.declared.task.Task.{Task}
+use Rattle.vcdkit.specs.declared.failure.Refusal.{Refusal}
 use Rattle.vcdkit.specs.declared.job.Want.{Want}
 use Rattle.vcdkit.specs.declared.job.Want.TheVariants as want
+use Rattle.vcdkit.specs.Failure.{model_refusal}
 
 -- what is wanted, in the definitions' words
 abbrev pub model_want : Want → model.Want
 model_want want.Check = model.Want.Check
 model_want want.List = model.Want.Listing
 model_want (want.Pick names) = model.Want.Pick (map string_bytes names.items)
+model_want (want.Cut period) = model.Want.Cut (asked period.from) (asked period.to)
 
--- what is done with a dump whose header was read
-abbrev pub request_for : Want → Request
-request_for want.Check = Request.Check
-request_for want.List = Request.Listing
-request_for (want.Pick names) = Request.Pick (map string_bytes names.items)
+-- the request of a task over items, or of a list, which is none; or why it is refused
+abbrev pub task_request : Result (Option Task) Refusal → Result Request model.Refusal
+task_request (Ok (Some task)) = Ok (request_of task)
+task_request (Ok None) = Ok Request.Listing
+task_request (Err why) = Err (model_refusal why)
 
 -- the names that have to select something
 abbrev pub names_asked : Want → List (List ℕ)
-names_asked wanted = names_of (request_for wanted)
+names_asked (want.Pick names) = map string_bytes names.items
+names_asked wanted = []

@@ -1,12 +1,16 @@
 -- What is said on the error stream of each end, and the exit status.
 use Rattle.std.specs.Prelude.{◌⊎◌, ℕ, List, [], ◌++◌, codes, decimal, Option, Some, None}
 use Rattle.vcd_model.specs.Outcome.{Outcome, name_at, program_line, fault_text}
+use Rattle.vcd_model.specs.Job.{refusal_outcome}
 use Rattle.vcd_model.specs.Words as model
 use Rattle.vcd_text.specs.Device.{Device, Writes, WritesSome}
 use Rattle.vcd_tools.specs.declared.answer.Stop.{Stop}
 use Rattle.vcd_tools.specs.declared.answer.Stop.TheVariants.{Dump, Read, Write, Unmatched}
 use Rattle.vcdkit.specs.declared.failure.Failure.{Failure}
-use Rattle.vcdkit.specs.declared.failure.Failure.TheVariants.{Stopped, OutOfMemory}
+use Rattle.vcdkit.specs.declared.failure.Failure.TheVariants.{Stopped, Refused, OutOfMemory}
+use Rattle.vcdkit.specs.declared.failure.Refusal.{Refusal}
+use Rattle.vcdkit.specs.declared.failure.Refusal.TheVariants as refusal
+use Rattle.vcdkit.specs.Failure.{model_refusal}
 use Rattle.vcdkit.specs.declared.job.UseFault.{UseFault}
 use Rattle.vcdkit.specs.declared.job.UseFault.TheVariants as use_fault
 
@@ -30,13 +34,24 @@ stop_status (Read input) = 3
 stop_status Write = 3
 stop_status (Unmatched place) = 1
 
+-- the line and the exit status where times are refused, of inputs with these names
+abbrev pub refusal_message : (names : List (List ℕ)) → Refusal → List ℕ
+refusal_message names why = (refusal_outcome (name_at names 0) (model_refusal why)).message
+
+abbrev pub refusal_status : Refusal → ℕ
+refusal_status refusal.NoTimescale = 1
+refusal_status refusal.OutOfRange = 2
+refusal_status refusal.FromAboveTo = 2
+
 -- the same of a run that fails
 abbrev pub failure_message : (names asked : List (List ℕ)) → Failure → List ℕ
 failure_message names asked (Stopped stop) = stop_message names asked stop
+failure_message names asked (Refused why) = refusal_message names why
 failure_message names asked OutOfMemory = program_line (codes "out of memory")
 
 abbrev pub failure_status : Failure → ℕ
 failure_status (Stopped stop) = stop_status stop
+failure_status (Refused why) = refusal_status why
 failure_status OutOfMemory = 3
 
 -- the line of a run, if there is one

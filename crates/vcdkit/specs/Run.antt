@@ -4,7 +4,7 @@ use Rattle.vcd_model.specs.Input.{Input}
 use Rattle.vcd_model.specs.Job as model
 use Rattle.vcd_model.specs.Header.{Header, header_of}
 use Rattle.vcd_model.specs.HeaderReading.{read_header}
-use Rattle.vcd_model.specs.Outcome.{Outcome, Request, allowed_after, over_dump, program_line}
+use Rattle.vcd_model.specs.Outcome.{Outcome, Request, allowed_after, clean_outcome, names_of, program_line}
 use Rattle.vcd_model.specs.Reading.{phrases_of}
 use Rattle.vcd_model.specs.Settled.{is_header_over, is_settled}
 use Rattle.vcd_model.specs.Tokens.{Token, stream_of}
@@ -14,41 +14,44 @@ use Rattle.vcd_text.specs.ReadAhead.{ReadsAsNeeded}
 use Rattle.vcd_tools.specs.Run.{Belongs, IsLeft}
 use Rattle.vcd_tools.specs.declared.answer.Done.{Done}
 use Rattle.vcdkit.specs.declared.failure.Failure.{Failure}
-use Rattle.vcdkit.specs.declared.failure.Failure.TheVariants.{Stopped, OutOfMemory}
+use Rattle.vcdkit.specs.declared.failure.Failure.TheVariants.{Stopped, Refused, OutOfMemory}
+use Rattle.vcdkit.specs.Failure.{model_refusal}
 use Rattle.vcdkit.specs.Message.{Shows}
 
 -- ---- one input
 
--- the output of a run of this task that returns this and has this outcome; out of memory it leaves nothing
-abbrev pub Leaves : Request → Outcome → List ℕ → Device → Device → Result Done Failure → Type 0
-Leaves task o name out out' (Ok done) = Belongs task o name out out' (Ok done)
-Leaves task o name out out' (Err (Stopped stop)) = Belongs task o name out out' (Err stop)
-Leaves task o name out out' (Err OutOfMemory) = Writes out out' []
+-- the output of a run that was asked for these names, returns this and has this outcome; out of memory it leaves nothing
+abbrev pub Leaves : (asked : List (List ℕ)) → Outcome → List ℕ → Device → Device → Result Done Failure → Type 0
+Leaves asked o name out out' (Ok done) = (o ≡ clean_outcome o.output) × Writes out out' o.output
+Leaves asked o name out out' (Err (Stopped stop)) = (task : Request) × (names_of task ≡ asked) × Belongs task o name out out' (Err stop)
+Leaves asked o name out out' (Err (Refused why)) = (o ≡ model.refusal_outcome name (model_refusal why)) × Writes out out' []
+Leaves asked o name out out' (Err OutOfMemory) = Writes out out' []
 
 -- which first tokens settle a run: where memory ran out those that settle the header
 abbrev pub settled_for : Result Done Failure → (run header : List Token → Bool) → List Token → Bool
 settled_for (Ok done) run header = run
 settled_for (Err (Stopped stop)) run header = run
+settled_for (Err (Refused why)) run header = run
 settled_for (Err OutOfMemory) run header = header
 
--- how a run of this task ends over an input with this name, of which these tokens were given: with an outcome that is due for what is left of the input, and no more was read than what settles it
-pub record Ends (task : Request) (IsDue : Input → Outcome → Type 0) (limit chunk : ℕ) (i : Input) (name : List ℕ) (front : List Token) (settled : List Token → Bool) (old new : Supply) (out out' : Device) (result : Result Done Failure) : Type 0 where
+-- how a run that was asked for these names ends over an input with this name, of which these tokens were given: with an outcome that is due for what is left of the input, and no more was read than what settles it
+pub record Ends (asked : List (List ℕ)) (IsDue : Input → Outcome → Type 0) (limit chunk : ℕ) (i : Input) (name : List ℕ) (front : List Token) (settled : List Token → Bool) (old new : Supply) (out out' : Device) (result : Result Done Failure) : Type 0 where
   pub left : Input
   pub is_left : IsLeft i old new left
   pub read : ReadsAsNeeded limit chunk old new left front settled
   pub due : Outcome
   pub is_due : IsDue left due
-  pub leaves : Leaves task due name out out' result
+  pub leaves : Leaves asked due name out out' result
 
 -- the outcome of a job of this input alone
 abbrev pub IsOfJob : model.Want → ℕ → List ℕ → Input → Outcome → Type 0
 IsOfJob want limit name left o = o ≡ model.outcome want limit (name ∷ []) (left ∷ [])
 
 -- the outcome after these tokens, which are those of this header
-abbrev pub IsAfter : Request → ℕ → List Token → Header → List ℕ → Input → Outcome → Type 0
-IsAfter task limit front h name left o =
+abbrev pub IsAfter : model.Want → ℕ → List Token → Header → List ℕ → Input → Outcome → Type 0
+IsAfter want limit front h name left o =
     (rest : List Token) × ((stream_of limit left).tokens ≡ front ++ rest)
-    × (o ≡ over_dump task name (record { header = h; stream = stream_of limit left; rest = rest }))
+    × (o ≡ model.over_opened want (name ∷ []) (record { header = h; stream = stream_of limit left; rest = rest } ∷ []))
 
 -- ---- all inputs
 

@@ -2,9 +2,19 @@
 use Rattle.std.specs.Prelude.{◌≡◌, ◌==◌, ℕ, ℤ, List, [], ◌∷◌, map, Option, Some, None, Result, Ok, Err}
 use Rattle.std.specs.List.{slice_split}
 use Rattle.vcd_model.specs.Job.{has_unit, do_rise}
+use Rattle.vcd_model.specs.Job as model
+use Rattle.vcd_model.specs.Outcome.{Request}
 use Rattle.vcd_model.specs.Ticks.{Moment}
+use Rattle.vcd_tools.specs.declared.span.Span.{Span}
+use Rattle.vcdkit.specs.Failure.{model_refusal}
+use Rattle.vcdkit.specs.declared.failure.Refusal.{Refusal}
 use Rattle.vcdkit.specs.declared.moment_word.Order.{Order}
 use Rattle.vcdkit.specs.declared.times.Times.{Times}
+
+-- the request of a cut over these ticks, or why it is refused
+abbrev pub span_request : Result Span Refusal → Result Request model.Refusal
+span_request (Ok span) = Ok (Request.Cut span.from span.to)
+span_request (Err why) = Err (model_refusal why)
 
 -- the words between the commas of a word
 abbrev pub parts : List ℕ → List (List ℕ)

@@ -1,5 +1,5 @@
 -- The words of the command line: how they are read, and what they ask for.
-use Rattle.std.specs.Prelude.{◌≡◌, ℕ, true, cond, List, [], map, codes, string_bytes, Option, Some, None, option_map, option_and_then, unwrap_or, Result, Ok, Err}
+use Rattle.std.specs.Prelude.{◌≡◌, ℕ, true, cond, List, [], map, codes, Option, Some, None, option_map, option_and_then, unwrap_or, Result, Ok, Err}
 use Rattle.std.specs.Str.{bytes_eq}
 use Rattle.clap.specs.Lexer.{usize_max}
 use Rattle.clap.specs.Words.{App, Rule, Text, all_of, first_of, new_app, new_rule, subcommand_name_of, subcommand_rows_of, with_rule, with_subcommand}
@@ -10,8 +10,6 @@ use Rattle.vcd_model.specs.Bytes.{is_empty}
 use Rattle.vcd_model.specs.Words as model
 use Rattle.vcdkit.specs.declared.words.Words.{Words}
 use Rattle.vcdkit.specs.declared.words.Words.TheVariants as words
-use Rattle.vcdkit.specs.declared.job.Want.{Want}
-use Rattle.vcdkit.specs.declared.job.Want.TheVariants as want
 use Rattle.vcdkit.specs.declared.job.UseFault.{UseFault}
 use Rattle.vcdkit.specs.declared.job.UseFault.TheVariants.{BadWords, BadLimit, BadTime, FromAboveTo, NotRising, OutOfMemory}
 
@@ -29,6 +27,10 @@ limit_rule = record (new_rule (codes "token-limit")) { long = Some (codes "token
 abbrev pub names_rule : Rule
 names_rule = record (new_rule (codes "names")) { range = Some (record { start_inclusive = 1; end_inclusive = usize_max }); value_names = 1; required = true }
 
+-- an option of this name, which has to be there, for a time; which texts are times is no matter of the parse
+abbrev pub time_rule : Text → Rule
+time_rule name = record (new_rule name) { long = Some name; value_names = 1; required = true }
+
 -- a command of this name over one input
 abbrev pub one_input_app : Text → App
 one_input_app name = with_rule (with_rule (new_app name) input_rule) limit_rule
@@ -36,6 +38,10 @@ one_input_app name = with_rule (with_rule (new_app name) input_rule) limit_rule
 -- the same with names
 abbrev pub named_app : Text → App
 named_app name = with_rule (one_input_app name) names_rule
+
+-- `cut`, with `--from N` and `--to N`
+abbrev pub cut_app : App
+cut_app = with_rule (with_rule (one_input_app (codes "cut")) (time_rule (codes "from"))) (time_rule (codes "to"))
 
 -- `vcdkit` has a version (so `--version` and `-V`), wants a command and has no command `help`
 abbrev pub bare_app : App
@@ -46,8 +52,8 @@ bare_app =
 -- `vcdkit` with its commands
 abbrev pub program_app : App
 program_app =
-    with_subcommand (with_subcommand (with_subcommand bare_app (one_input_app (codes "check")).top) (one_input_app (codes "list")).top)
-    (named_app (codes "pick")).top
+    with_subcommand (with_subcommand (with_subcommand (with_subcommand bare_app (one_input_app (codes "check")).top) (one_input_app (codes "list")).top)
+    (named_app (codes "pick")).top) cut_app.top
 
 -- help and the version are no fault, and out of memory has a status of its own
 abbrev pub parse_status_of : ErrorKind → ℕ
@@ -74,12 +80,19 @@ some_of words = cond (is_empty words) None (Some words)
 abbrev pub input_asked : ArgMatches → Option Text
 input_asked matches = word_after matches (codes "input")
 
+-- a cut between these words, where there are both
+abbrev pub cut_between : Option Text → Option Text → Option model.Command
+cut_between (Some from) (Some to) = Some (model.Command.Cut from to)
+cut_between (Some from) None = None
+cut_between None to = None
+
 -- the command of this name, with its words
 abbrev pub command_named : Text → ArgMatches → Option model.Command
 command_named name matches =
     cond (bytes_eq name (codes "check")) (Some model.Command.Check)
     (cond (bytes_eq name (codes "list")) (Some model.Command.Listing)
-    (cond (bytes_eq name (codes "pick")) (Some (model.Command.Pick (values_after matches (codes "names")))) None))
+    (cond (bytes_eq name (codes "pick")) (Some (model.Command.Pick (values_after matches (codes "names"))))
+    (cond (bytes_eq name (codes "cut")) (cut_between (word_after matches (codes "from")) (word_after matches (codes "to"))) None)))
 
 -- the command that was used, with its words
 abbrev pub command_used : ArgMatches → Option model.Command
@@ -104,12 +117,7 @@ abbrev pub words_command : Words → model.Command
 words_command words.Check = model.Command.Check
 words_command words.List = model.Command.Listing
 words_command (words.Pick names) = model.Command.Pick (map (λ name. name.now) names.now)
-
--- the command that asks for this
-abbrev pub want_command : Want → model.Command
-want_command want.Check = model.Command.Check
-want_command want.List = model.Command.Listing
-want_command (want.Pick names) = model.Command.Pick (map string_bytes names.items)
+words_command (words.Cut from to) = model.Command.Cut from.now to.now
 
 -- the fault is the one that the words have; memory is none of theirs
 abbrev pub IsFaultIn : {X : Type 0} → UseFault → Result X model.UseFault → Type 0

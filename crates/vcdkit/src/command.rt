@@ -1,7 +1,7 @@
 //! The command line: which words it takes, and the exit status where it takes none.
 ghost use Rattle.std.specs.Prelude.{◌≡◌, IfOk, false};
-ghost use Rattle.clap.specs.Words.{app_of, is_broken, kind_of};
-ghost use Rattle.vcdkit.specs.Words.{named_app, one_input_app, parse_status_of, program_app};
+ghost use Rattle.clap.specs.Words.{app_of, is_broken, kind_of, rule_of};
+ghost use Rattle.vcdkit.specs.Words.{cut_app, named_app, one_input_app, parse_status_of, program_app, time_rule};
 
 use clap::error::ErrorKind;
 use clap::{Arg, Command, Error};
@@ -39,6 +39,34 @@ fn named<'a>(alloc: Global, name: &'a str, about: &'a str) -> Result<Command<'a>
     one_input(alloc, name, about)?.arg(names)
 }
 
+/// An option for a time, without which the parse fails.
+fn time<'a>(alloc: Global, name: &'a str, help: &'a str) -> Arg<'a>
+    ensures rule { rule_of result ≡ time_rule name.entry.now }
+    ensures local { result.global ≡ false }
+{
+    Arg::new(alloc, name)
+        .long(name)
+        .value_name("N")
+        .required(true)
+        .help(help)
+}
+
+/// The command `cut`, with its options and both of its times.
+fn cut<'a>(alloc: Global) -> Result<Command<'a>, AllocError>
+    ensures words { IfOk result (λ c. app_of c ≡ cut_app) }
+    ensures whole { IfOk result (λ c. is_broken c ≡ false) }
+{
+    let from = time(
+        alloc,
+        "from",
+        "The first time: a number of ticks, or of s, ms, us, ns, ps or fs, as 15ns",
+    );
+    let to = time(alloc, "to", "The last time, as the first");
+    one_input(alloc, "cut", "Writes the dump from one time to another")?
+        .arg(from)?
+        .arg(to)
+}
+
 /// The command `vcdkit` with its commands.
 pub fn command_of<'a>(alloc: Global) -> Result<Command<'a>, AllocError>
     ensures words { IfOk result (λ c. app_of c ≡ program_app) }
@@ -47,6 +75,7 @@ pub fn command_of<'a>(alloc: Global) -> Result<Command<'a>, AllocError>
     let check = one_input(alloc, "check", "Checks a dump and counts what it has")?;
     let list = one_input(alloc, "list", "Lists the variables of a dump")?;
     let pick = named(alloc, "pick", "Writes the dump of some variables")?;
+    let cut = cut(alloc)?;
     Command::new(alloc, "vcdkit")
         .version("0.1.0")
         .about("Proved tools for value change dumps")
@@ -54,7 +83,8 @@ pub fn command_of<'a>(alloc: Global) -> Result<Command<'a>, AllocError>
         .disable_help_subcommand(true)
         .subcommand(check)?
         .subcommand(list)?
-        .subcommand(pick)
+        .subcommand(pick)?
+        .subcommand(cut)
 }
 
 /// The exit status where a parse gave no matches.

@@ -1,12 +1,39 @@
 // Why a run ends before it is done.
 use std::alloc::AllocError;
-use vcd_head::HeadFault;
+use vcd_head::{HeadFault, TickFault};
 use vcd_tools::Stop;
+
+/// Why times are refused, once the header is read.
+#[derive(Clone, Copy, PartialEq, Eq, Debug)]
+pub enum Refusal {
+    /// One has a unit, and the header declares no time scale.
+    NoTimescale,
+    /// One is 2^64 ticks or more.
+    OutOfRange,
+    /// The start of a cut is above its end, in ticks.
+    FromAboveTo,
+}
+
+impl From<TickFault> for Refusal {
+    ghost use Rattle.std.specs.Prelude.{◌≡◌};
+    ghost use Rattle.vcdkit.specs.Failure.{tick_refusal};
+
+    ghost from_gives = { λ fault refusal. refusal ≡ tick_refusal fault };
+
+    fn from(fault: TickFault) -> Refusal {
+        match fault {
+            TickFault::NoTimescale => Refusal::NoTimescale,
+            TickFault::OutOfRange => Refusal::OutOfRange,
+        }
+    }
+}
 
 #[derive(Clone, Copy, PartialEq, Eq, Debug)]
 pub(crate) enum Failure {
     /// A fault of an input or of a device, or a name that selects nothing.
     Stopped(Stop),
+    /// The times that are asked for are refused, of the first input.
+    Refused(Refusal),
     /// Memory ran out.
     OutOfMemory,
 }
@@ -39,6 +66,17 @@ impl Failure {
             Stop::Read { .. } => Stop::Read { input },
             Stop::Write | Stop::Unmatched { .. } => stop,
         })
+    }
+}
+
+impl From<Refusal> for Failure {
+    ghost use Rattle.std.specs.Prelude.{◌≡◌};
+    ghost use Rattle.vcdkit.specs.declared.failure.Failure.TheVariants.{Refused};
+
+    ghost from_gives = { λ refusal failure. failure ≡ Refused refusal };
+
+    fn from(refusal: Refusal) -> Failure {
+        Failure::Refused(refusal)
     }
 }
 

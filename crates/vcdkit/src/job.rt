@@ -3,12 +3,15 @@ ghost use Rattle.std.specs.Prelude.{◌≡◌, ◌≤◌, IfErr, IfOk, Some, Non
 ghost use Rattle.vcd_model.specs.Bytes.{decimal_value};
 ghost use Rattle.vcd_model.specs.Words.{is_limit, limit_of};
 ghost use Rattle.vcdkit.specs.Job.{model_want};
-ghost use Rattle.vcdkit.specs.Words.{job_asked, IsFaultOf};
+ghost use Rattle.vcdkit.specs.Words.{job_asked, IsFaultIn, IsFaultOf};
 
+use crate::failure::Refusal;
 use crate::moment_word::number_of;
+use crate::times::Period;
 use crate::words::{limit_word, want_of, words_in};
 use clap::ArgMatches;
 use std::alloc::{AllocError, Global};
+use vcd_head::HeadView;
 use vcd_tools::Task;
 
 /// What is done with the input.
@@ -20,23 +23,26 @@ pub enum Want {
     List,
     /// Writes the dump of the variables that these names select.
     Pick(Vec<String>),
+    /// Writes the dump of these times.
+    Cut(Period),
 }
 
 impl Want {
-    ghost use Rattle.std.specs.Prelude.{MatchOption};
-    ghost use Rattle.vcd_model.specs.Outcome.{Request};
-    ghost use Rattle.vcd_tools.specs.Engine.{request_of};
-    ghost use Rattle.vcdkit.specs.Job.{names_asked, request_for};
+    ghost use Rattle.vcd_model.specs.Header.{Header};
+    ghost use Rattle.vcd_model.specs.Job.{request_of};
+    ghost use Rattle.vcd_head.specs.Views.{IsViewOf};
+    ghost use Rattle.vcdkit.specs.Job.{model_want, names_asked, task_request};
 
-    /// The task over the items of a body. A list is none: it reads no body.
-    pub fn task(&self) -> Option<Task<'_>>
-        ensures { MatchOption result (request_for self.now ≡ Request.Listing)
-            (λ task. request_of task ≡ request_for self.now) }
+    /// The task over the items of a body, its times in ticks of the header that is shown. A list is none: it reads no body.
+    pub fn task(&self, view: HeadView<'_>) -> Result<Option<Task<'_>>, Refusal>
+        ensures { (h : Header) → IsViewOf view.entry h
+            → request_of h.scale (model_want self.now) ≡ task_request result }
     {
         match self {
-            Want::Check => Some(Task::Check),
-            Want::List => None,
-            Want::Pick(names) => Some(Task::Pick(names.as_slice())),
+            Want::Check => Ok(Some(Task::Check)),
+            Want::List => Ok(None),
+            Want::Pick(names) => Ok(Some(Task::Pick(names.as_slice()))),
+            Want::Cut(period) => Ok(Some(Task::Cut(period.span(view)?))),
         }
     }
 
@@ -45,7 +51,7 @@ impl Want {
         ensures { map string_bytes result.now ≡ names_asked self.now }
     {
         match self {
-            Want::Check | Want::List => &[],
+            Want::Check | Want::List | Want::Cut(_) => &[],
             Want::Pick(names) => names.as_slice(),
         }
     }
@@ -67,7 +73,7 @@ pub struct Job {
 /// Why there is no job.
 #[derive(Clone, Copy, PartialEq, Eq, Debug)]
 pub enum UseFault<'a> {
-    /// The words name no command, or one without the names that it needs.
+    /// The words name no command, or one without the names or times that it needs.
     BadWords,
     /// This word is no token limit.
     BadLimit(&'a str),
@@ -119,7 +125,7 @@ fn limit_of<'a>(word: Option<&'a str>) -> Result<usize, UseFault<'a>>
         (λ limit. limit_of (option_map (λ text. text.now) word.entry) ≡ Ok limit) }
     ensures range { IfOk result (λ limit. (64 ≤ limit) × (limit ≤ 16777216)) }
     ensures fault { IfErr result (λ fault.
-        IsFaultOf fault (limit_of (option_map (λ text. text.now) word.entry))) }
+        IsFaultIn fault (limit_of (option_map (λ text. text.now) word.entry))) }
 {
     match word {
         None => Ok(DEFAULT_LIMIT),

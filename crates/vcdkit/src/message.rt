@@ -4,10 +4,10 @@ ghost use Rattle.std.specs.Prelude.{◌≡◌, ◌-◌, ◌^◌, ◌<◌, ◌++�
 ghost use Rattle.vcd_model.specs.Outcome.{name_at, program_line};
 ghost use Rattle.vcd_text.specs.Device.{Puts, Takes, failures_after};
 ghost use Rattle.vcd_tools.specs.declared.answer.Stop.TheVariants.{Write};
-ghost use Rattle.vcdkit.specs.Message.{failure_message, failure_status, stop_message, stop_status, unopened_outcome, use_outcome, Shows};
+ghost use Rattle.vcdkit.specs.Message.{failure_message, failure_status, refusal_message, refusal_status, stop_message, stop_status, unopened_outcome, use_outcome, Shows};
 ghost use Rattle.vcdkit.specs.declared.failure.Failure.TheVariants.{OutOfMemory};
 
-use crate::failure::Failure;
+use crate::failure::{Failure, Refusal};
 use crate::job::UseFault;
 use vcd_text::{Sink, WriteFailed, put, put_number, text_of};
 use vcd_tools::Stop;
@@ -95,6 +95,29 @@ fn report_stop<E: Sink>(stop: Stop, names: &[String], asked: &[String], err: &mu
     }
 }
 
+/// Says why times are refused, once the header of the first input of these names is read, and returns the exit status.
+fn report_refusal<E: Sink>(refusal: Refusal, names: &[String], err: &mut E) -> u8
+    requires { (E.device err.old).failures < 2 ^ 64 - 1 }
+    ensures line { Shows (E.device err.old) (E.device err.new)
+        (refusal_message (map string_bytes names.now) refusal) }
+    ensures status { result ≡ refusal_status refusal }
+{
+    match refusal {
+        Refusal::NoTimescale => {
+            let _ = put_both(err, name_of(names, 0), ": no timescale");
+            1
+        }
+        Refusal::OutOfRange => {
+            let _ = put_line(err, "time out of range");
+            2
+        }
+        Refusal::FromAboveTo => {
+            let _ = put_line(err, "--from is above --to");
+            2
+        }
+    }
+}
+
 /// Says why a run fails over the inputs of these names, which was asked for those, and returns the exit status. A fault of the
 /// stream is passed over.
 pub(crate) fn report<E: Sink>(
@@ -110,6 +133,7 @@ pub(crate) fn report<E: Sink>(
 {
     match failure {
         Failure::Stopped(stop) => report_stop(stop, names, asked, err),
+        Failure::Refused(refusal) => report_refusal(refusal, names, err),
         Failure::OutOfMemory => {
             let _ = put_line(err, "out of memory");
             3

@@ -11,7 +11,7 @@ ghost use Rattle.vcdkit.specs.Times.{parts, times_asked};
 ghost use Rattle.vcdkit.specs.Words.{IsFaultIn, IsFaultOf};
 
 use crate::job::UseFault;
-use crate::times::Times;
+use crate::times::{Period, Times};
 use std::alloc::{AllocError, Global};
 use vcd_head::Moment;
 use vcd_text::decimal_of;
@@ -56,10 +56,10 @@ pub(crate) fn time_of<'a>(word: &'a str) -> Result<Moment, UseFault<'a>>
 
 /// The times from which and to which a cut is, or the first fault of these words. Without units the first may not be above the
 /// second; with a unit that is to be seen once the time scale is known.
-pub(crate) fn cut_of<'a>(from: &'a str, to: &'a str) -> Result<(Moment, Moment), UseFault<'a>>
-    ensures times { IfOk result (λ times.
+pub(crate) fn cut_of<'a>(from: &'a str, to: &'a str) -> Result<Period, UseFault<'a>>
+    ensures times { IfOk result (λ period.
         model.cut_of (model.time_of from.entry.now) (model.time_of to.entry.now)
-        ≡ Ok (model_job.Want.Cut (asked times.0) (asked times.1))) }
+        ≡ Ok (model_job.Want.Cut (asked period.from) (asked period.to))) }
     ensures fault { IfErr result (λ fault. IsFaultIn fault
         (model.cut_of (model.time_of from.entry.now) (model.time_of to.entry.now))) }
 {
@@ -68,7 +68,7 @@ pub(crate) fn cut_of<'a>(from: &'a str, to: &'a str) -> Result<(Moment, Moment),
     if from.unit.is_none() && to.unit.is_none() && to.number < from.number {
         return Err(UseFault::FromAboveTo);
     }
-    Ok((from, to))
+    Ok(Period { from, to })
 }
 
 /// What is known of some times.

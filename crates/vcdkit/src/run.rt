@@ -2,8 +2,9 @@
 ghost use Rattle.std.specs.Prelude.{◌≡◌, ℕ, ◌+◌, ◌-◌, ◌^◌, ◌<◌, ◌≤◌, List, [], Some, map, length, All, string_bytes, true, Option};
 ghost use Rattle.vcd_model.specs.Header.{Header};
 ghost use Rattle.vcd_model.specs.Input.{Input};
+ghost use Rattle.vcd_model.specs.Job.{request_of};
 ghost use Rattle.vcd_model.specs.Outcome.{declarations_allowed};
-ghost use Rattle.vcd_model.specs.Settled.{is_header_over, is_settled, is_settled_behind};
+ghost use Rattle.vcd_model.specs.Settled.{is_header_over, is_settled, is_settled_by};
 ghost use Rattle.vcd_model.specs.Tokens.{Token};
 ghost use Rattle.vcd_text.specs.Answer.{whole};
 ghost use Rattle.vcd_text.specs.Device.{supply};
@@ -11,7 +12,7 @@ ghost use Rattle.vcd_text.specs.Feed.{HasGiven, SameLoans, source_of, supply_of,
 ghost use Rattle.vcd_head.specs.Views.{IsViewOf};
 ghost use Rattle.vcd_text.specs.Advances.{HasNotFailed};
 ghost use Rattle.vcdkit.specs.Failure.{end_of, failure_of, writes_failed, CountsRead, CountsReads};
-ghost use Rattle.vcdkit.specs.Job.{model_want, names_asked, request_for};
+ghost use Rattle.vcdkit.specs.Job.{model_want, names_asked};
 ghost use Rattle.vcdkit.specs.Message.{end_message, end_status, Shows};
 ghost use Rattle.vcdkit.specs.Run.{Ends, HasRun, IsAfter, IsOfJob, settled_for};
 ghost use Rattle.vcdkit.specs.declared.failure.Failure.{Failure};
@@ -50,10 +51,10 @@ fn run_want<S: Source, W: Sink>(
     requires chunk { chunk_len_of feed.old ≤ 65536 }
     ensures ends { (h : Header) (i : Input) (front : List Token) (name : List ℕ)
         → IsViewOf view.entry h → HasGiven i front feed.old
-        → Ends (request_for want.now)
-        (IsAfter (request_for want.now) (limit_of feed.old) front h name)
+        → Ends (names_asked want.now)
+        (IsAfter (model_want want.now) (limit_of feed.old) front h name)
         (limit_of feed.old) (chunk_len_of feed.old) i name front
-        (settled_for result (is_settled_behind (request_for want.now) h) (λ _. true))
+        (settled_for result (is_settled_by (request_of h.scale (model_want want.now)) h) (λ _. true))
         (supply_of feed.old) (supply_of feed.new) (W.device out.old) (W.device out.new) result }
     ensures reads { CountsRead 0 (S.failures (source_of feed.old)) (S.failures (source_of feed.new))
         (failure_of result) }
@@ -61,7 +62,7 @@ fn run_want<S: Source, W: Sink>(
         ≡ (W.device out.old).failures + writes_failed (failure_of result) }
     ensures loans { SameLoans feed.old feed.new }
 {
-    let Some(task) = want.task() else {
+    let Some(task) = want.task(view)? else {
         return ended(list(view, out), 0);
     };
     let need = task.need(view);
@@ -86,7 +87,7 @@ fn run_input<S: Source, W: Sink>(
     requires reader_failures { S.failures reader.old < 2 ^ 64 - 1 }
     requires out_failures { (W.device out.old).failures < 2 ^ 64 - 1 }
     ensures ends { (text name : List ℕ) → S.rest reader.old ≡ Some text
-        → Ends (request_for job.now.want) (IsOfJob (model_want job.now.want) job.now.limit name)
+        → Ends (names_asked job.now.want) (IsOfJob (model_want job.now.want) job.now.limit name)
         job.now.limit job.now.chunk (whole text) name []
         (settled_for result (is_settled (model_want job.now.want) declarations_allowed)
         (is_header_over declarations_allowed))
@@ -109,7 +110,8 @@ fn run_input<S: Source, W: Sink>(
 }
 
 /// Runs a job over the readers, whose names are said in messages, and returns the exit status: 0 where it is done, 1 for a fault
-/// of an input and for a name that selects nothing, 3 for a failed read or write and where memory ran out. Output goes to `out`,
+/// of an input, for a name that selects nothing and for a unit without a time scale, 2 for times that are out of range or out of
+/// order in ticks, 3 for a failed read or write and where memory ran out. Output goes to `out`,
 /// the message to `err`; a fault of `err` is passed over. `out` is not flushed.
 ///
 /// Memory is taken for the windows, while the header is read, and then for what the task works in; none after that. Nothing is

@@ -1,4 +1,5 @@
 mod check;
+mod cut;
 mod failures;
 mod headers;
 mod list;

@@ -1,8 +1,11 @@
 //! What the words of the command line ask for, borrowed from their matches.
-ghost use Rattle.std.specs.Prelude.{◌≡◌, IfOk, codes, map, option_map, string_bytes};
-ghost use Rattle.vcdkit.specs.Words.{command_named, command_used, complete, input_asked, some_of, values_after, want_command, word_after, words_command};
+ghost use Rattle.std.specs.Prelude.{◌≡◌, IfErr, IfOk, codes, map, option_map, string_bytes};
+ghost use Rattle.vcd_model.specs.Words.{want_of};
+ghost use Rattle.vcdkit.specs.Job.{model_want};
+ghost use Rattle.vcdkit.specs.Words.{command_named, command_used, complete, input_asked, some_of, values_after, word_after, words_command, IsFaultOf};
 
-use crate::job::Want;
+use crate::job::{UseFault, Want};
+use crate::moment_word::cut_of;
 use clap::ArgMatches;
 use std::alloc::{AllocError, Global};
 
@@ -12,6 +15,7 @@ pub(crate) enum Words<'m, 'a> {
     Check,
     List,
     Pick(&'m [&'a str]),
+    Cut(&'a str, &'a str),
 }
 
 /// The first word after an option of the command that was used.
@@ -54,6 +58,7 @@ fn words_named<'m, 'a>(name: &str, matches: &'m ArgMatches<'a>) -> Option<Words<
         "check" => Some(Words::Check),
         "list" => Some(Words::List),
         "pick" => Some(Words::Pick(names_of(matches)?)),
+        "cut" => Some(Words::Cut(word_of(matches, "from")?, word_of(matches, "to")?)),
         _ => None,
     }
 }
@@ -77,13 +82,15 @@ fn copied(alloc: Global, names: &[&str]) -> Result<Vec<String>, AllocError>
     Ok(copies)
 }
 
-/// What these words ask for. Their names are copied.
-pub(crate) fn want_of(alloc: Global, words: Words<'_, '_>) -> Result<Want, AllocError>
-    ensures { IfOk result (λ want. want_command want ≡ words_command words.entry) }
+/// What these words ask for, or the first fault of them. Their names are copied.
+pub(crate) fn want_of<'a>(alloc: Global, words: Words<'_, 'a>) -> Result<Want, UseFault<'a>>
+    ensures want { IfOk result (λ want. want_of (words_command words.entry) ≡ Ok (model_want want)) }
+    ensures fault { IfErr result (λ fault. IsFaultOf fault (want_of (words_command words.entry))) }
 {
     Ok(match words {
         Words::Check => Want::Check,
         Words::List => Want::List,
         Words::Pick(names) => Want::Pick(copied(alloc, names)?),
+        Words::Cut(from, to) => Want::Cut(cut_of(from, to)?),
     })
 }

@@ -1,17 +1,23 @@
 // Devices that fail.
 use super::runs::{
-    DUMP, NESTED, NESTED_LIST, PICKED, READ_FAILED, REPORT, failing, run_into, run_on, whole,
+    DUMP, NESTED, NESTED_LIST, PICKED, READ_FAILED, REPORT, failing, run_into, run_on, wanted,
+    whole,
 };
 use crate::job::{Job, Want};
 use crate::run_job;
-use crate::words::{Words, want_of};
+use crate::words::Words;
 use std::test::Fail;
 use vcd_text::Watch;
 use vcd_text::doubles::Narrow;
 
 #[test]
 fn a_failed_read_is_said(rt: HostRuntime) -> Result<(), Fail> {
-    for words in [Words::Check, Words::List, Words::Pick(&["tb"])] {
+    for words in [
+        Words::Check,
+        Words::List,
+        Words::Pick(&["tb"]),
+        Words::Cut("1", "2"),
+    ] {
         for len in 0..NESTED.len() {
             for chunk in [1, 65_536] {
                 let (out, err, status) = run_on(
@@ -47,7 +53,7 @@ fn a_failed_write_leaves_a_prefix(rt: HostRuntime) -> Result<(), Fail> {
             let mut out = Watch::new(Narrow::new(room));
             let mut err = Watch::new(Narrow::new(80));
             let job = Job {
-                want: want_of(rt.alloc(), words)?,
+                want: wanted(rt.alloc(), words)?,
                 limit: 64,
                 chunk: 64,
             };

@@ -1,6 +1,6 @@
 // Names, dumps, and the dumps of the variables that they select.
 use super::runs::{
-    ALIASES, DUMP, NESTED, PICKED, READ_FAILED, TB, TB_WRITTEN, failing, give_outputs, run_on,
+    ALIASES, DUMP, NESTED, PICKED, READ_FAILED, TB, TB_WRITTEN, give_all, give_outputs, run_on,
     whole,
 };
 use crate::words::Words;
@@ -122,37 +122,34 @@ fn what_a_pick_writes_is_a_dump(rt: HostRuntime) -> Result<(), Fail> {
     Ok(())
 }
 
-// A pick of these names over what a text gives, and a failed read after it where that is said, leaves this output, this message
-// and this status.
-fn give_all<R: Abort + AllocGlobal>(
-    rt: &R,
-    names: &[&str],
-    (text, fails): (&[u8], bool),
-    (output, message, status): (&[u8], &[u8], u8),
-) -> Result<(), AllocError> {
-    for chunk in [1, 65_536] {
-        let input = if fails { failing(text) } else { whole(text) };
-        let (out, err, answer) = run_on(rt.alloc(), Words::Pick(names), 1_048_576, input, chunk)?;
-        assert_eq!(rt; err.held(), message, "of {names:?}");
-        assert_eq!(rt; out.held(), output, "of {names:?}");
-        assert_eq!(rt; answer, status, "of {names:?}");
-    }
-    Ok(())
-}
-
 #[test]
 fn a_name_that_selects_nothing_is_said(rt: HostRuntime) -> Result<(), Fail> {
     let none = b"".as_slice();
     let line = b"vcdkit: tc: selects nothing\n".as_slice();
-    give_all(&rt, &["tc"], (ALIASES, false), (none, line, 1))?;
+    give_all(&rt, Words::Pick(&["tc"]), (ALIASES, false), (none, line, 1))?;
     let line = b"vcdkit: tb.zz: selects nothing\n".as_slice();
-    give_all(&rt, &["tb.clk", "tb.zz"], (TB, false), (none, line, 1))?;
-    give_all(&rt, &["tb.zz", "tb.yy"], (TB, false), (none, line, 1))?;
+    give_all(
+        &rt,
+        Words::Pick(&["tb.clk", "tb.zz"]),
+        (TB, false),
+        (none, line, 1),
+    )?;
+    give_all(
+        &rt,
+        Words::Pick(&["tb.zz", "tb.yy"]),
+        (TB, false),
+        (none, line, 1),
+    )?;
 
     // The body is not read, and the header is.
-    give_all(&rt, &["tb.zz"], (TB, true), (none, line, 1))?;
+    give_all(&rt, Words::Pick(&["tb.zz"]), (TB, true), (none, line, 1))?;
     let line = b"vcdkit: (stdin):2: unexpected end of input\n".as_slice();
-    give_all(&rt, &["tb.zz"], (b"$foo $end\n", false), (none, line, 1))?;
+    give_all(
+        &rt,
+        Words::Pick(&["tb.zz"]),
+        (b"$foo $end\n", false),
+        (none, line, 1),
+    )?;
     Ok(())
 }
 
@@ -163,15 +160,25 @@ fn a_pick_writes_what_stands_before_a_fault(rt: HostRuntime) -> Result<(), Fail>
     let output =
         b"$timescale\n\t1ns\n$end\n$scope module tb $end\n$var wire 1 ! clk $end\n$var reg 4 \" q [3:0] $end\n$upscope $end\n$enddefinitions $end\n#0\n0!\n".as_slice();
     let line = b"vcdkit: (stdin):10: unexpected end of input\n".as_slice();
-    give_all(&rt, &["tb"], (text, false), (output, line, 1))?;
+    give_all(&rt, Words::Pick(&["tb"]), (text, false), (output, line, 1))?;
 
     let text =
         b"$timescale 1ns $end\n$scope module tb $end\n$var wire 1 ! clk $end\n$var reg 4 \" q [3:0] $end\n$upscope $end\n$enddefinitions $end\n#0\n0!\n".as_slice();
     let output =
         b"$timescale\n\t1ns\n$end\n$scope module tb $end\n$var wire 1 ! clk $end\n$var reg 4 \" q [3:0] $end\n$upscope $end\n$enddefinitions $end\n#0\n0!\n".as_slice();
-    give_all(&rt, &["tb"], (text, true), (output, READ_FAILED, 3))?;
+    give_all(
+        &rt,
+        Words::Pick(&["tb"]),
+        (text, true),
+        (output, READ_FAILED, 3),
+    )?;
     let text =
         b"$timescale 1ns $end\n$scope module tb $end\n$var wire 1 ! clk $end\n$var reg 4 \" q [3:0] $end\n$upscope $end\n$enddefinitions $end\n#0\n0!".as_slice();
-    give_all(&rt, &["tb"], (text, true), (TB_WRITTEN, READ_FAILED, 3))?;
+    give_all(
+        &rt,
+        Words::Pick(&["tb"]),
+        (text, true),
+        (TB_WRITTEN, READ_FAILED, 3),
+    )?;
     Ok(())
 }

@@ -2,7 +2,7 @@
 ghost use Rattle.std.specs.Prelude.{◌-◌, ◌^◌, ◌<◌, ◌≤◌};
 ghost use Rattle.vcd_text.specs.Watch.{failed_calls};
 
-use crate::job::Job;
+use crate::job::{Job, Want};
 use crate::run::run;
 use crate::words::{Words, want_of};
 use std::alloc::{AllocError, Global};
@@ -53,6 +53,11 @@ pub fn failing(bytes: &[u8]) -> Pieces<'_> {
     }
 }
 
+// What good words ask for.
+pub fn wanted(alloc: Global, words: Words<'_, '_>) -> Result<Want, AllocError> {
+    want_of(alloc, words).map_err(|_| AllocError)
+}
+
 // What both streams hold, and the status, of a run over what a reader gives, so many bytes at a time.
 pub fn run_on(
     alloc: Global,
@@ -66,7 +71,7 @@ pub fn run_on(
 {
     let mut out = Watch::new(Narrow::new(1024));
     let mut err = Watch::new(Narrow::new(80));
-    let want = want_of(alloc, words)?;
+    let want = wanted(alloc, words)?;
     let job = Job { want, limit, chunk };
     let status = run_into(alloc, job, input, &mut out, &mut err)?;
     Ok((out.device, err.device, status))
@@ -93,6 +98,23 @@ pub fn run_into(
         out,
         err,
     ))
+}
+
+// A run over what a text gives, and a failed read after it where that is said, leaves this output, this message and this status.
+pub fn give_all<R: Abort + AllocGlobal>(
+    rt: &R,
+    words: Words<'_, '_>,
+    (text, fails): (&[u8], bool),
+    (output, message, status): (&[u8], &[u8], u8),
+) -> Result<(), AllocError> {
+    for chunk in [1, 65_536] {
+        let input = if fails { failing(text) } else { whole(text) };
+        let (out, err, answer) = run_on(rt.alloc(), words, 1_048_576, input, chunk)?;
+        assert_eq!(rt; err.held(), message, "of {words:?}");
+        assert_eq!(rt; out.held(), output, "of {words:?}");
+        assert_eq!(rt; answer, status, "of {words:?}");
+    }
+    Ok(())
 }
 
 // A run over each text leaves this output alone.

@@ -58,17 +58,17 @@ fn a_time_is_a_number_and_perhaps_a_unit(rt: HostRuntime) {
 
 #[test]
 fn a_cut_ends_no_earlier_than_it_begins(rt: HostRuntime) {
-    let four = moment(4, None);
-    let five = moment(5, None);
-    let unit = moment(9, Some(-9));
-    assert_eq!(rt; cut_of("4", "5"), Ok((four, five)));
-    assert_eq!(rt; cut_of("5", "5"), Ok((five, five)));
+    let good = [
+        ("4", moment(4, None), "5", moment(5, None)),
+        ("5", moment(5, None), "5", moment(5, None)),
+        ("9ns", moment(9, Some(-9)), "4", moment(4, None)),
+        ("9", moment(9, None), "4ns", moment(4, Some(-9))),
+    ];
+    for (from, first, to, last) in good {
+        let cut = cut_of(from, to).map(|period| (period.from, period.to));
+        assert_eq!(rt; cut, Ok((first, last)), "from {from} to {to}");
+    }
     assert_eq!(rt; cut_of("5", "4"), Err(UseFault::FromAboveTo));
-    assert_eq!(rt; cut_of("9ns", "4"), Ok((unit, four)));
-    assert_eq!(rt;
-        cut_of("9", "4ns"),
-        Ok((moment(9, None), moment(4, Some(-9))))
-    );
     assert_eq!(rt; cut_of("x", "y"), Err(UseFault::BadTime("x")));
     assert_eq!(rt; cut_of("5", "4NS"), Err(UseFault::BadTime("4NS")));
 }

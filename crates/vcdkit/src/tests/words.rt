@@ -1,11 +1,12 @@
 // Command lines: which are taken, and what they ask for.
 ghost use Rattle.std.specs.Prelude.{◌≤◌};
 
+use super::runs::wanted;
 use crate::command::{command_of, parse_status};
 use crate::job::{Job, UseFault, Want, job_of};
-use crate::words::{Words, input_of, want_of};
+use crate::words::{Words, input_of};
 use clap::error::ErrorKind;
-use clap::{Command, Error};
+use clap::{Arg, Command, Error};
 use std::alloc::{AllocError, Global};
 use std::test::Fail;
 
@@ -102,6 +103,29 @@ fn names_are_taken_or_answered(rt: HostRuntime) -> Result<(), Fail> {
     Ok(())
 }
 
+#[test]
+fn times_are_taken_or_answered(rt: HostRuntime) -> Result<(), Fail> {
+    let alloc = rt.alloc();
+    let help = Some((ErrorKind::DisplayHelp, 0));
+    let missing = Some((ErrorKind::MissingRequiredArgument, 2));
+    let unknown = Some((ErrorKind::UnknownArgument, 2));
+    let no_value = Some((ErrorKind::InvalidValue, 2));
+    let twice = Some((ErrorKind::ArgumentConflict, 2));
+    let both = ["vcdkit", "cut", "--to", "5", "--from", "x"];
+    assert_eq!(rt; answer(alloc, both.as_slice())?, None);
+    assert_eq!(rt; answer(alloc, &["vcdkit", "cut", "--help"])?, help);
+    assert_eq!(rt; answer(alloc, &["vcdkit", "cut"])?, missing);
+    assert_eq!(rt; answer(alloc, &["vcdkit", "cut", "--from", "5"])?, missing);
+    assert_eq!(rt; answer(alloc, &["vcdkit", "cut", "--to", "5"])?, missing);
+    assert_eq!(rt; answer(alloc, &["vcdkit", "cut", "--to"])?, no_value);
+    assert_eq!(rt; answer(alloc, &["vcdkit", "list", "--to", "5"])?, unknown);
+    let words = ["vcdkit", "cut", "--from", "1", "--to", "5", "tb"];
+    assert_eq!(rt; answer(alloc, words.as_slice())?, unknown);
+    let words = ["vcdkit", "cut", "--from", "1", "--from", "2", "--to", "5"];
+    assert_eq!(rt; answer(alloc, words.as_slice())?, twice);
+    Ok(())
+}
+
 // What these words ask for.
 fn asked<'a>(alloc: Global, words: &'a [&'a str]) -> Result<Result<Job, UseFault<'a>>, Fail> {
     let matches = command_of(alloc)?.try_get_matches_from(words)?;
@@ -123,7 +147,7 @@ fn job_under(want: Want, limit: usize) -> Job
 fn pick_under(alloc: Global, names: &[&str], limit: usize) -> Result<Job, AllocError>
     requires { (64 ≤ limit) × (limit ≤ 16777216) }
 {
-    Ok(job_under(want_of(alloc, Words::Pick(names))?, limit))
+    Ok(job_under(wanted(alloc, Words::Pick(names))?, limit))
 }
 
 #[test]
@@ -262,6 +286,66 @@ fn a_pick_wants_a_good_limit_and_a_name(rt: HostRuntime) -> Result<(), Fail> {
 
     let other = Command::new(alloc, "vcdkit").subcommand(Command::new(alloc, "pick"))?;
     let matches = other.try_get_matches_from(["vcdkit", "pick"].as_slice())?;
+    assert_eq!(rt; job_of(alloc, &matches), Err(UseFault::BadWords));
+    Ok(())
+}
+
+#[test]
+fn a_cut_has_its_times(rt: HostRuntime) -> Result<(), Fail> {
+    let alloc = rt.alloc();
+    let good = [
+        ("4", "5"),
+        ("5", "5"),
+        ("9ns", "4"),
+        ("9", "4ns"),
+        ("0s", "1fs"),
+    ];
+    for (from, to) in good {
+        let words = ["vcdkit", "cut", "--from", from, "--to", to];
+        let job = asked(alloc, words.as_slice())?;
+        let cut = job_under(wanted(alloc, Words::Cut(from, to))?, 1_048_576);
+        assert_eq!(rt; job, Ok(cut), "from {from} to {to}");
+    }
+    let bad = [
+        ("5", "4", UseFault::FromAboveTo),
+        ("x", "y", UseFault::BadTime("x")),
+        ("5", "15NS", UseFault::BadTime("15NS")),
+        ("", "5", UseFault::BadTime("")),
+    ];
+    for (from, to, fault) in bad {
+        let words = ["vcdkit", "cut", "--from", from, "--to", to];
+        let job = asked(alloc, words.as_slice())?;
+        assert_eq!(rt; job, Err(fault), "from {from} to {to}");
+    }
+    Ok(())
+}
+
+#[test]
+fn a_bad_limit_counts_before_bad_times(rt: HostRuntime) -> Result<(), Fail> {
+    let alloc = rt.alloc();
+    let words = [
+        "vcdkit",
+        "cut",
+        "--from",
+        "x",
+        "--to",
+        "5",
+        "--token-limit",
+        "63",
+    ];
+    let job = asked(alloc, words.as_slice())?;
+    assert_eq!(rt; job, Err(UseFault::BadLimit("63")));
+    Ok(())
+}
+
+#[test]
+fn a_cut_wants_both_times(rt: HostRuntime) -> Result<(), Fail> {
+    let alloc = rt.alloc();
+    let from = Arg::new(alloc, "from").long("from");
+    let to = Arg::new(alloc, "to").long("to");
+    let cut = Command::new(alloc, "cut").arg(from)?.arg(to)?;
+    let other = Command::new(alloc, "vcdkit").subcommand(cut)?;
+    let matches = other.try_get_matches_from(["vcdkit", "cut", "--to", "5"].as_slice())?;
     assert_eq!(rt; job_of(alloc, &matches), Err(UseFault::BadWords));
     Ok(())
 }

@@ -1,9 +1,9 @@
 use Rattle.std.proofs.Common.{◌≡◌, ◌∙◌, ap, codes, option_map, rules, subst, sym}
 use Rattle.std.specs.Prelude.{ℕ, Result, Err, None, Some}
 use Rattle.vcd_model.specs.Words as model
-use Rattle.vcdkit.specs.Words.{command_used, complete, word_after, words_command, IsFaultOf}
-use Rattle.vcdkit.specs.declared.job.UseFault.TheVariants.{OutOfMemory}
-use Rattle.vcdkit.proofs.WordsLemmas.{fault-is, job-is, no-job}
+use Rattle.vcdkit.specs.Job.{model_want}
+use Rattle.vcdkit.specs.Words.{command_used, complete, word_after, words_command, IsFaultIn}
+use Rattle.vcdkit.proofs.WordsLemmas.{job-is, limit-fault, no-job, want-fault}
 use Rattle.vcdkit.proofs.job.job_of.Goals as goal
 
 pub returns-in_default-clause-fault : goal.returns-in_default-clause-fault
@@ -15,18 +15,18 @@ pub returns-in_err-limit-clause-fault : goal.returns-in_err-limit-clause-fault
 returns-in_err-limit-clause-fault c =
     let found : Some (words_command c.in-Some.words) ≡ complete (command_used c.args.matches.now) = ap (option_map words_command) (sym c.in-Some.is) ∙ c.words_in.ensures in
     let same : c.from_residual.result ≡ Err c.in_err-limit.field-0.0 = search rules in
-    let fault = subst (λ (asked : Result ℕ model.UseFault). IsFaultOf c.in_err-limit.field-0.0 asked) (ap model.limit_of c.limit_word.ensures) c.in_err-limit.ensures.fault in
-    rw same (fault-is (command_used c.args.matches.now) (word_after c.args.matches.now (codes "token-limit")) c.in-Some.words c.in_err-limit.field-0.0 found fault)
+    let fault = subst (λ (asked : Result ℕ model.UseFault). IsFaultIn c.in_err-limit.field-0.0 asked) (ap model.limit_of c.limit_word.ensures) c.in_err-limit.ensures.fault in
+    rw same (limit-fault (command_used c.args.matches.now) (word_after c.args.matches.now (codes "token-limit")) c.in-Some.words c.in_err-limit.field-0.0 found fault)
 
 pub returns-in_err-want-clause-fault : goal.returns-in_err-want-clause-fault
 returns-in_err-want-clause-fault c =
     let found : Some (words_command c.in-Some.words) ≡ complete (command_used c.args.matches.now) = ap (option_map words_command) (sym c.in-Some.is) ∙ c.words_in.ensures in
-    let same : c.from_residual-in_err-want.result ≡ Err OutOfMemory = search rules in
-    rw same (fault-is (command_used c.args.matches.now) (word_after c.args.matches.now (codes "token-limit")) c.in-Some.words OutOfMemory found
-    (c.in_ok-limit.limit, ap model.limit_of (sym c.limit_word.ensures) ∙ c.in_ok-limit.ensures.limit))
+    let same : c.from_residual-in_err-want.result ≡ Err c.in_err-want.field-0.0 = search rules in
+    rw same (want-fault (command_used c.args.matches.now) (word_after c.args.matches.now (codes "token-limit")) c.in-Some.words c.in_ok-limit.limit c.in_err-want.field-0.0 found
+    (ap model.limit_of (sym c.limit_word.ensures) ∙ c.in_ok-limit.ensures.limit) c.in_err-want.ensures.fault)
 
 pub returns-clause-job : goal.returns-clause-job
 returns-clause-job c =
     let found : Some (words_command c.in-Some.words) ≡ complete (command_used c.args.matches.now) = ap (option_map words_command) (sym c.in-Some.is) ∙ c.words_in.ensures in
-    job-is (command_used c.args.matches.now) (word_after c.args.matches.now (codes "token-limit")) c.in-Some.words c.in_ok-want.want c.in_ok-limit.limit found c.in_ok-want.ensures
-    (ap model.limit_of (sym c.limit_word.ensures) ∙ c.in_ok-limit.ensures.limit)
+    job-is (command_used c.args.matches.now) (word_after c.args.matches.now (codes "token-limit")) c.in-Some.words (model_want c.in_ok-want.want) c.in_ok-limit.limit found
+    (ap model.limit_of (sym c.limit_word.ensures) ∙ c.in_ok-limit.ensures.limit) c.in_ok-want.ensures.want

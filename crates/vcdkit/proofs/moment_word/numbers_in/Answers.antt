@@ -1,4 +1,4 @@
-use Rattle.std.proofs.Common.{ℤ, ℕ, option_map, map, ap, ◌∙◌, lit<, rules}
+use Rattle.std.proofs.Common.{option_map, ◌∙◌, lit<, rules}
 use Rattle.vcd_model.specs.Job as model
 use Rattle.std.proofs.lemmas.Iterator.{items_from_collect, YieldsList-from_map}
 use Rattle.std.proofs.lemmas.Iterator.Consumers.{YieldsList-at, YieldsList-from_filter_map}

@@ -1,0 +1,179 @@
+// Times, dumps, and the dumps between these times.
+use super::runs::{READ_FAILED, failing, give_all, run_on, whole};
+use crate::words::Words;
+use std::alloc::AllocError;
+use std::process::Abort;
+use std::test::Fail;
+
+// A dump of all kinds of variables, without a time scale, and its header.
+const MIXED: &[u8] =
+    b"$var wire 1 ! a $end\n$var real 1 \" r $end\n$var event 1 # e $end\n$var wire 2 % u $end\n$enddefinitions $end\n#9\n0!\nr1.5 \"\n1#\n#10\n1!\n1#\n#20\nr2 \"\n#21\n0!\n";
+
+const MIXED_HEAD: &[u8] =
+    b"$var wire 1 ! a $end\n$var real 1 \" r $end\n$var event 1 # e $end\n$var wire 2 % u $end\n$enddefinitions $end\n";
+
+// A dump whose ticks are ten nanoseconds, and its header.
+const TENS: &[u8] =
+    b"$timescale 10ns $end\n$var wire 1 ! a $end\n$enddefinitions $end\n#0\n0!\n#1\n1!\n#2\n0!\n#3\n1!\n";
+
+const TENS_HEAD: &[u8] = b"$timescale 10ns $end\n$var wire 1 ! a $end\n$enddefinitions $end\n";
+
+// A dump with a change before its first time mark, and its cut from 0 to 5.
+const UNMARKED: &[u8] =
+    b"$var wire 1 ! a $end\n$var real 1 \" r $end\n$var event 1 # e $end\n$var wire 2 % u $end\n$enddefinitions $end\n1!\n#0\n0!\n#9\n";
+
+const UNMARKED_CUT: &[u8] =
+    b"$var wire 1 ! a $end\n$var real 1 \" r $end\n$var event 1 # e $end\n$var wire 2 % u $end\n$enddefinitions $end\n#0\n$dumpvars\n$end\n1!\n0!\n#5\n";
+
+// Times, a dump, and what a cut between these times writes.
+const CUTS: [(&str, &str, &[u8], &[u8]); 7] = [
+    (
+        "10",
+        "20",
+        MIXED,
+        b"$var wire 1 ! a $end\n$var real 1 \" r $end\n$var event 1 # e $end\n$var wire 2 % u $end\n$enddefinitions $end\n#10\n$dumpvars\n0!\nr1.5 \"\n$end\n1!\n1#\n#20\nr2 \"\n",
+    ),
+    (
+        "10",
+        "15",
+        MIXED,
+        b"$var wire 1 ! a $end\n$var real 1 \" r $end\n$var event 1 # e $end\n$var wire 2 % u $end\n$enddefinitions $end\n#10\n$dumpvars\n0!\nr1.5 \"\n$end\n1!\n1#\n#15\n",
+    ),
+    (
+        "30",
+        "40",
+        MIXED,
+        b"$var wire 1 ! a $end\n$var real 1 \" r $end\n$var event 1 # e $end\n$var wire 2 % u $end\n$enddefinitions $end\n#30\n$dumpvars\n0!\nr2 \"\n$end\n",
+    ),
+    ("0", "5", UNMARKED, UNMARKED_CUT),
+    (
+        "10",
+        "10",
+        MIXED,
+        b"$var wire 1 ! a $end\n$var real 1 \" r $end\n$var event 1 # e $end\n$var wire 2 % u $end\n$enddefinitions $end\n#10\n$dumpvars\n0!\nr1.5 \"\n$end\n1!\n1#\n",
+    ),
+    (
+        "5ns",
+        "29ns",
+        TENS,
+        b"$timescale\n\t10ns\n$end\n$var wire 1 ! a $end\n$enddefinitions $end\n#1\n$dumpvars\n0!\n$end\n1!\n#2\n0!\n",
+    ),
+    (
+        "1",
+        "29ns",
+        TENS,
+        b"$timescale\n\t10ns\n$end\n$var wire 1 ! a $end\n$enddefinitions $end\n#1\n$dumpvars\n0!\n$end\n1!\n#2\n0!\n",
+    ),
+];
+
+#[test]
+fn a_cut_has_its_dump(rt: HostRuntime) -> Result<(), Fail> {
+    let none = b"".as_slice();
+    for (from, to, text, output) in CUTS {
+        give_all(&rt, Words::Cut(from, to), (text, false), (output, none, 0))?;
+    }
+    Ok(())
+}
+
+// What a cut writes has a report.
+fn give_report<R: Abort + AllocGlobal>(
+    rt: &R,
+    words: Words<'_, '_>,
+    text: &[u8],
+) -> Result<(), AllocError> {
+    let (out, err, _) = run_on(rt.alloc(), words, 64, whole(text), 65_536)?;
+    assert_eq!(rt; err.held(), b"".as_slice(), "of {words:?}");
+
+    let (report, err, status) = run_on(rt.alloc(), Words::Check, 64, whole(out.held()), 65_536)?;
+    assert_eq!(rt; err.held(), b"".as_slice(), "of {words:?}");
+    assert!(rt; report.held().starts_with(b"scopes "), "of {words:?}");
+    assert_eq!(rt; status, 0, "of {words:?}");
+    Ok(())
+}
+
+#[test]
+fn what_a_cut_writes_is_a_dump(rt: HostRuntime) -> Result<(), Fail> {
+    for (from, to, text, _) in CUTS {
+        give_report(&rt, Words::Cut(from, to), text)?;
+    }
+    give_report(&rt, Words::Cut("0", "18446744073709551615"), TENS)?;
+    give_report(&rt, Words::Cut("0s", "1s"), TENS)?;
+    give_report(&rt, Words::Cut("15ns", "20ns"), TENS)?;
+    Ok(())
+}
+
+#[test]
+fn a_cut_writes_what_stands_before_a_fault(rt: HostRuntime) -> Result<(), Fail> {
+    let text =
+        b"$var wire 1 ! a $end\n$var real 1 \" r $end\n$var event 1 # e $end\n$var wire 2 % u $end\n$enddefinitions $end\n#9\n0!\n?\n".as_slice();
+    let output =
+        b"$var wire 1 ! a $end\n$var real 1 \" r $end\n$var event 1 # e $end\n$var wire 2 % u $end\n$enddefinitions $end\n".as_slice();
+    let line = b"vcdkit: (stdin):8: unknown command\n".as_slice();
+    give_all(
+        &rt,
+        Words::Cut("30", "40"),
+        (text, false),
+        (output, line, 1),
+    )?;
+    give_all(
+        &rt,
+        Words::Cut("30", "40"),
+        (MIXED, true),
+        (output, READ_FAILED, 3),
+    )?;
+    Ok(())
+}
+
+#[test]
+fn a_cut_reads_nothing_after_the_mark_past_its_end(rt: HostRuntime) -> Result<(), Fail> {
+    let (out, err, status) = run_on(rt.alloc(), Words::Cut("0", "5"), 64, failing(UNMARKED), 1)?;
+    assert_eq!(rt; err.held(), b"".as_slice());
+    assert_eq!(rt; out.held(), UNMARKED_CUT);
+    assert_eq!(rt; status, 0);
+    Ok(())
+}
+
+// A cut is refused once the header is read: it leaves this message and this status, over the dump, and where each read after the
+// header fails.
+fn give_refusal<R: Abort + AllocGlobal>(
+    rt: &R,
+    words: Words<'_, '_>,
+    (dump, head): (&[u8], &[u8]),
+    (message, status): (&[u8], u8),
+) -> Result<(), AllocError> {
+    let none = b"".as_slice();
+    give_all(rt, words, (dump, false), (none, message, status))?;
+    give_all(rt, words, (head, true), (none, message, status))
+}
+
+#[test]
+fn times_are_refused_once_the_header_is_read(rt: HostRuntime) -> Result<(), Fail> {
+    let above = (b"vcdkit: --from is above --to\n".as_slice(), 2);
+    let no_scale = (b"vcdkit: (stdin): no timescale\n".as_slice(), 1);
+    let out_of_range = (b"vcdkit: time out of range\n".as_slice(), 2);
+    let tens = (TENS, TENS_HEAD);
+    let mixed = (MIXED, MIXED_HEAD);
+    let most = "18446744073709551615s";
+    give_refusal(&rt, Words::Cut("11ns", "14ns"), tens, above)?;
+    give_refusal(&rt, Words::Cut("3", "29ns"), tens, above)?;
+    give_refusal(&rt, Words::Cut("10ns", "20ns"), mixed, no_scale)?;
+    give_refusal(&rt, Words::Cut("20ns", "10"), mixed, no_scale)?;
+    give_refusal(&rt, Words::Cut("20", "10s"), mixed, no_scale)?;
+    give_refusal(&rt, Words::Cut("184467440738s", "0"), tens, out_of_range)?;
+    give_refusal(&rt, Words::Cut("0", most), tens, out_of_range)?;
+    Ok(())
+}
+
+#[test]
+fn a_fault_of_the_header_counts_before_its_times(rt: HostRuntime) -> Result<(), Fail> {
+    let none = b"".as_slice();
+    let line = b"vcdkit: (stdin):1: bad variable\n".as_slice();
+    let text = b"$var wire 0 ! a $end\n".as_slice();
+    give_all(
+        &rt,
+        Words::Cut("20ns", "10ns"),
+        (text, false),
+        (none, line, 1),
+    )?;
+    Ok(())
+}
