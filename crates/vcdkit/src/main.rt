@@ -11,10 +11,10 @@
 //! - `words`: what the words ask for, borrowed from their matches
 //! - `job`: `Job`, `Want` with its task and its names, `UseFault`; `job_of`
 //! - `moment_word`: the times that words are, and the fault of those that are none
-//! - `times`: the times of a sample
+//! - `times`: the times of a cut, also in ticks; the times of a sample
 //! - `inputs`: the memory of windows; the header of an input
 //! - `run`: a job over readers: windows, header, then `list` over the view or `run_task` in room that is taken for it
-//! - `failure`: why a run ends before it is done
+//! - `failure`: why a run ends before it is done, and why times are refused
 //! - `message`: the lines on the error stream, and the statuses
 //!
 //! In `specs/`: `Words`, what the command line takes and asks for; `Job`; `Failure`; `Message`; and `Run`, what a run leaves.
