@@ -16,6 +16,10 @@ use Rattle.vcd_body.specs.declared.table.Table.{Table}
 abbrev pub codes_in : Table → ℕ
 codes_in t = length t.slots.now
 
+-- how many bytes of values it works with
+abbrev pub bytes_in : Table → ℕ
+bytes_in t = length t.values.now
+
 -- what is kept of the code at a place, none where there is no code
 abbrev pub kept_at : Table → ℕ → Option Kept
 kept_at t code = kept_in t.values.now t.slots.now code

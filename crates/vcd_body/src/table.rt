@@ -32,7 +32,7 @@ impl<'a> Table<'a> {
     ghost use Rattle.vcd_body.specs.Items.{model_form};
     ghost use Rattle.vcd_body.specs.Kept.{Kept, unset, value_at_size};
     ghost use Rattle.vcd_body.specs.Stored.{share_of};
-    ghost use Rattle.vcd_body.specs.Contents.{ChangesCode, codes_in, codes_shown, counts_at, held_at, is_chosen, kept_at, line_of, new_at, shown_as, value_in};
+    ghost use Rattle.vcd_body.specs.Contents.{ChangesCode, bytes_in, codes_in, codes_shown, counts_at, held_at, is_chosen, kept_at, line_of, new_at, shown_as, value_in};
 
     /// A table of the codes of the header that is shown: each is unset, its counters are 0, and it is not chosen. A code's value
     /// has a quarter of its size of the bytes of `values`, rounded up, and at least 64; where there are fewer, the last codes go
@@ -40,6 +40,7 @@ impl<'a> Table<'a> {
     pub fn new(view: HeadView<'_>, values: &'a mut [u8], slots: &'a mut [Slot]) -> Table<'a>
         requires slots { length view.codes.now ≤ length slots.old }
         ensures codes { codes_in result ≡ length view.entry.codes.now }
+        ensures bytes { bytes_in result ≤ length values.old }
         ensures kept { (code : ℕ) → kept_at result code
             ≡ new_at view.entry.codes.now (length values.old) code }
         ensures room { room_of view.entry.codes.now ≤ length values.old → (code : ℕ) (c : Code)
@@ -63,6 +64,7 @@ impl<'a> Table<'a> {
             → value_at_size c.size (held_at self.new code)
             ≡ Some (value_with c.size (model_form form) text.now) }
         ensures codes { codes_in self.new ≡ codes_in self.old }
+        ensures bytes { bytes_in self.new ≡ bytes_in self.old }
     {
         set_at(self.slots, self.values, code, form, text);
     }
@@ -195,6 +197,7 @@ impl<'a> Table<'a> {
     pub fn bump(&mut self, code: usize, which: usize)
         ensures changes { ChangesCode code (one_more which) self.old self.new }
         ensures codes { codes_in self.new ≡ codes_in self.old }
+        ensures bytes { bytes_in self.new ≡ bytes_in self.old }
     {
         bump_at(self.slots, code, which);
     }
@@ -204,6 +207,7 @@ impl<'a> Table<'a> {
     pub fn choose(&mut self, code: usize)
         ensures changes { ChangesCode code as_chosen self.old self.new }
         ensures codes { codes_in self.new ≡ codes_in self.old }
+        ensures bytes { bytes_in self.new ≡ bytes_in self.old }
     {
         choose_at(self.slots, code);
     }

@@ -90,6 +90,10 @@ place_with (x ∷ ks) t (suc p) k d e s = let more = place_with ks t p k d.1 e s
 pub place_is : (ks : List IdCode) (index : List ℕ) (p : ℕ) (k : IdCode) → IsIndex ks index → slice_get ks p ≡ Some k → position_or_len (has_text k.text) ks ≡ p
 place_is ks index p k h e = place_with ks k.text p k (distinct ks index h) e refl
 
+-- codes with one text stand at one place
+pub same_place : (ks : List IdCode) (index : List ℕ) (p q : ℕ) (j k : IdCode) → IsIndex ks index → slice_get ks p ≡ Some j → slice_get ks q ≡ Some k → j.text ≡ k.text → p ≡ q
+same_place ks index p q j k h first second same = sym (place_is ks index p j h first) ∙ place_with ks j.text q k (distinct ks index h) second same
+
 pub found_at : (ks : List IdCode) (index : List ℕ) (t : List ℕ) (p : ℕ) (k : IdCode) → IsIndex ks index → slice_get ks p ≡ Some k → t ≡ k.text → Finds ks t (Some p)
 found_at ks index t p k h e s = (k, e, first_with ks t p k (distinct ks index h) e s)
 

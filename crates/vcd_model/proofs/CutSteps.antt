@@ -103,7 +103,7 @@ value_new c a p d low e =
 
 module _ (h : Header) (a b : ℕ) (p : List BodyItem) (on : ends_cut b p ≡ false) where
   -- no mark above b
-  still_on : (x : BodyItem) → is_mark_above b x ≡ false → ends_cut b (p ++ x ∷ []) ≡ false
+  pub still_on : (x : BodyItem) → is_mark_above b x ≡ false → ends_cut b (p ++ x ∷ []) ≡ false
   still_on x e = rw (list_any-append (is_mark_above b) p (x ∷ []), on, e) refl
 
   open_here : cut_open h a b p ≡ so_far h a p
@@ -148,7 +148,7 @@ module _ (h : Header) (a b : ℕ) (p : List BodyItem) (on : ends_cut b p ≡ fal
 
   -- ---- a time mark
 
-  mark_kept : (t : ℕ) → keeps (from_on a) p (BodyItem.Time t) ≡ false
+  pub mark_kept : (t : ℕ) → keeps (from_on a) p (BodyItem.Time t) ≡ false
   mark_kept t = none (nat_le a (time_after p))
     where
       none : (x : Bool) → (x && false) ≡ false

@@ -1,12 +1,13 @@
 -- The line of the item that was read last, and the text with it.
-use Rattle.std.proofs.Common.{◌≡◌, ℕ, ◌<◌, List, [], ◌∷◌, ◌++◌, length, map, slice_get, Some, None, refl, sym, ap, subst, ◌∙◌, append-nil, append_assoc, arith}
+use Rattle.std.proofs.Common.{◌≡◌, ℕ, ◌<◌, List, [], ◌∷◌, ◌++◌, length, map, slice_get, Some, None, is_some, refl, sym, ap, subst, ◌∙◌, append-nil, append_assoc, arith}
 use Rattle.std.specs.List.{last_or}
 use Rattle.std.proofs.lemmas.List.{map-append}
 use Rattle.vcd_model.specs.Declarations.{IdCode}
 use Rattle.vcd_model.specs.Header.{Header}
-use Rattle.vcd_model.specs.Items.{BodyItem, Entry}
+use Rattle.vcd_model.specs.Items.{BodyItem, Entry, leaves_open, time_after}
 use Rattle.vcd_model.specs.ItemText.{item_line, text_after, time_unless}
 use Rattle.vcd_model.proofs.Growing.{text_after-append}
+use Rattle.vcd_model.proofs.ItemStates.{leaves_open_is}
 use Rattle.vcd_model.specs.Values.{change_line}
 use Rattle.vcd_text.specs.declared.device.Source.{Ghosts}
 use Rattle.vcd_text.specs.declared.feed.Feed.{Feed}
@@ -16,7 +17,8 @@ use Rattle.vcd_head.specs.declared.view.Code.{Code}
 use Rattle.vcd_head.proofs.RowLemmas.{code_at}
 use Rattle.vcd_head.proofs.RowLemmas.{text_within}
 use Rattle.vcd_body.specs.Given.{IsText, text_of}
-use Rattle.vcd_body.specs.Items.{model_form}
+use Rattle.vcd_body.specs.Items.{AreRegsAfter, model_form}
+use Rattle.vcd_body.specs.declared.item.Regs.{Regs}
 use Rattle.vcd_body.specs.declared.item.Form.{Form}
 use Rattle.vcd_body.specs.declared.item.Form.TheVariants.{Scalar, Vector, RealText}
 use Rattle.vcd_body.specs.declared.item.Item.TheVariants.{Change}
@@ -63,3 +65,9 @@ pub written_with : (before : List ℕ) (kept : List Entry) (e : Entry) (time : �
 written_with before kept e time is = record {
   last = ap (λ t. Some t) (sym is) ∙ sym (ap (last_or None) (ap (λ l. before ++ l) (map-append (λ (x : Entry). x.time) kept (e ∷ [])) ∙ sym (append_assoc before (map (λ x. x.time) kept) (e.time ∷ []))) ∙ last_or-snoc None (times_with before kept) e.time);
 }
+
+-- ---- the registers
+
+-- a section is open
+pub section_is : (items : List BodyItem) (r : Regs) → AreRegsAfter items r → is_some r.section ≡ leaves_open items
+section_is items r known = sym (leaves_open_is items (time_after items) (is_some r.section) (record { time = refl; opens = known.ended }))

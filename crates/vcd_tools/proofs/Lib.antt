@@ -1,5 +1,6 @@
 pub mod Results
 pub mod Variables
+pub mod ValuesLemmas
 pub mod ListLemmas
 pub mod Lines
 pub mod EngineLemmas
@@ -9,6 +10,7 @@ pub mod RoomLemmas
 pub mod RunLemmas
 pub mod ItemTextLemmas
 pub mod PickLemmas
+pub mod CutLemmas
 pub mod SelectionLemmas
 pub mod MergeItem
 pub mod Dumps

@@ -7,7 +7,6 @@ use Rattle.vcd_model.specs.Items.{BodyItem, Entry, entries, entry_after, leaves_
 use Rattle.vcd_model.specs.ItemText.{closing, kept_by, last_mark, text_after}
 use Rattle.vcd_model.specs.Pick.{pick_kept, pick_open, pick_close}
 use Rattle.vcd_model.proofs.Growing.{entries-append, kept_by-append}
-use Rattle.vcd_model.proofs.ItemStates.{leaves_open_is}
 use Rattle.vcd_model.proofs.KeptLines.{keeps, picked_by, time_unless_last}
 use Rattle.vcd_text.specs.declared.device.Source.{Ghosts}
 use Rattle.vcd_text.specs.declared.feed.Feed.{Feed}
@@ -26,6 +25,7 @@ use Rattle.vcd_tools.specs.ItemText.{AsItem, HasWritten, LastTells, times_with}
 use Rattle.vcd_tools.specs.Pick.{ArePicked, is_event_at, is_kept, names_in}
 use Rattle.vcd_tools.specs.declared.item_text.ItemText.{ItemText}
 use Rattle.vcd_tools.specs.declared.machine.pick.Pick.{Pick}
+use Rattle.vcd_tools.proofs.ItemTextLemmas.{section_is}
 
 and_swap : (a b : Bool) → (a && b) ≡ (b && a)
 and_swap true true = refl
@@ -34,21 +34,17 @@ and_swap false true = refl
 and_swap false false = refl
 
 -- the variables of a code are events where the header says so
-event_is : (v : HeadView) (h : Header) (place : ℕ) (c : IdCode) → Views (parts v) h → slice_get h.codes place ≡ Some c → is_event_at v place ≡ c.event
+pub event_is : (v : HeadView) (h : Header) (place : ℕ) (c : IdCode) → Views (parts v) h → slice_get h.codes place ≡ Some c → is_event_at v place ≡ c.event
 event_is v h place c views declared = let m = code_at (parts v).text (parts v).codes h.codes place c views.codes declared in rw m.1 m.2.event_is
 
 module _ (v : HeadView) (h : Header) (items : List BodyItem) (before : Regs) (p : Pick) (views : Views (parts v) h) (known : AreRegsAfter items before) (is : ArePicked p h items) where
-  -- a section is open
-  section_is : is_some before.section ≡ leaves_open items
-  section_is = sym (leaves_open_is items (time_after items) (is_some before.section) (record { time = refl; opens = known.ended }))
-
   -- the item is kept where the definitions keep it
   pub kept_is : {X : Type 0} {g : Ghosts X} (f : Feed X g) (item : Item) (x : BodyItem) → AsItem h.codes f item x → is_kept p.choice v (regs_after before item) item ≡ keeps (picked_by h (names_in p)) items x
   kept_is f (Time t) x e = rw e refl
   kept_is f (Begin s) x e = rw e refl
   kept_is f End x e = rw e refl
   kept_is f (Change place form) x e =
-      rw (e.2, is.chosen place e.0 e.1, section_is, event_is v h place e.0 views e.1, and_swap (leaves_open items) e.0.event) refl
+      rw (e.2, is.chosen place e.0 e.1, section_is items before known, event_is v h place e.0 views e.1, and_swap (leaves_open items) e.0.event) refl
   kept_is f Finish x e = absurd e
 
   -- and then the time is that of all items before it

@@ -19,6 +19,7 @@ use Rattle.vcd_body.specs.declared.item.Regs.{Regs}
 use Rattle.vcd_tools.specs.Check.{AreCounted}
 use Rattle.vcd_text.specs.Device.{Device, Writes, WritesSome}
 use Rattle.vcd_tools.specs.Device.{TakesDue}
+use Rattle.vcd_tools.specs.Cut.{AreCut}
 use Rattle.vcd_tools.specs.Pick.{ArePicked, names_in}
 use Rattle.vcd_tools.specs.declared.answer.Stop.{Stop}
 use Rattle.vcd_tools.specs.declared.answer.Stop.TheVariants.{Write, Unmatched}
@@ -34,16 +35,19 @@ use Rattle.vcd_tools.specs.declared.task.Task.TheVariants as task
 abbrev pub request_of : Task → Request
 request_of task.Check = Request.Check
 request_of (task.Pick names) = Request.Pick (map string_bytes names.now)
+request_of (task.Cut s) = Request.Cut s.from s.to
 
 -- the request that a machine works on
 abbrev pub request_in : Machine → Request
 request_in (machine.Check c) = Request.Check
 request_in (machine.Pick p) = Request.Pick (names_in p)
+request_in (machine.Cut m) = Request.Cut m.span.from m.span.to
 
 -- what a machine keeps over this header and after these items
 abbrev pub Keeps : Machine → Header → List BodyItem → Type 0
 Keeps (machine.Check c) h items = AreCounted items c
 Keeps (machine.Pick p) h items = ArePicked p h items
+Keeps (machine.Cut m) h items = AreCut m h items
 
 -- ---- requests
 
@@ -92,11 +96,11 @@ Starts holds task h out out' result = MatchResult result (λ a. CanRun task h ×
 abbrev pub last_of : Regs → Option ℕ
 last_of r = cond r.marked (Some r.time) None
 
--- what is due with one item more was written, and it was returned whether the item ends the run; if not, the machine goes on
-pub record TakesOne {E : Type 0} (task : Request) (h : Header) (items : List BodyItem) (x : BodyItem) (m : Machine) (out out' : Device) (result : Result Bool E) : Type 0 where
+-- what is due with one item more was written, and it was returned whether the item ends the run; if not, this holds
+pub record TakesOne {E : Type 0} (holds : Type 0) (task : Request) (h : Header) (items : List BodyItem) (x : BodyItem) (out out' : Device) (result : Result Bool E) : Type 0 where
   pub due : TakesDue out out' (open_text task h items) (open_text task h (items ++ x ∷ [])) result
   pub ends : IfOk result (λ ended. ended ≡ ends_early task x)
-  pub keeps : result ≡ Ok false → Keeps m h (items ++ x ∷ [])
+  pub keeps : result ≡ Ok false → holds
 
 -- the engine has begun, and no step of it has ended the run
 abbrev pub is_going : Engine → Bool

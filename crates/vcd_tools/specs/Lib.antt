@@ -5,9 +5,11 @@ pub mod Room
 pub mod Run
 pub mod ItemText
 pub mod Selection
+pub mod Values
 pub mod Report
 pub mod Check
 pub mod Pick
+pub mod Cut
 pub mod Engine
 pub mod Step
 pub mod Seat

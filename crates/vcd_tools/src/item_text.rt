@@ -26,7 +26,7 @@ pub(crate) struct ItemText {
 
 /// Writes the line of a time.
 #[inline(never)]
-fn put_time<W: Sink>(time: u64, out: &mut W) -> Result<(), WriteFailed>
+pub(crate) fn put_time<W: Sink>(time: u64, out: &mut W) -> Result<(), WriteFailed>
     requires { (W.device out.old).failures < 2 ^ 64 - 1 }
     ensures { Puts (W.device out.old) (W.device out.new) (time_line time) result }
 {
@@ -122,6 +122,15 @@ impl ItemText {
         ensures { HasWritten [] [] result }
     {
         ItemText { written: None }
+    }
+
+    /// After the line of this time.
+    pub(crate) fn after(time: u64) -> ItemText
+        ensures { HasWritten (time ∷ []) [] result }
+    {
+        ItemText {
+            written: Some(time),
+        }
     }
 
     /// Writes the item that was read last as an entry at this time. A time mark has no line of its own.

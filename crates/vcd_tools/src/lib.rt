@@ -62,5 +62,5 @@ pub use engine::{Engine, run_task};
 pub use merge::{Merge, merge_step};
 pub use rows::list;
 pub use seat::Seat;
-pub use task::{Room, Task};
+pub use task::{Room, Span, Task};
 pub use windows::Windows;

@@ -14,6 +14,7 @@ ghost use Rattle.vcd_tools.specs.ItemText.{AsItem};
 ghost use Rattle.vcd_tools.specs.Room.{HasRoomFor, IsWithin, room_of, room_size};
 
 pub(crate) mod check;
+pub(crate) mod cut;
 pub(crate) mod pick;
 
 use crate::answer::Stop;
@@ -27,6 +28,7 @@ use vcd_text::{Feed, Sink, Source, WriteFailed};
 pub(crate) enum Machine<'n, 'r> {
     Check(check::Check),
     Pick(pick::Pick<'n, 'r>),
+    Cut(cut::Cut<'r>),
 }
 
 /// The last time mark.
@@ -62,6 +64,7 @@ impl<'n, 'r> Machine<'n, 'r> {
         match task {
             Task::Check => Ok(Machine::Check(check::Check::start())),
             Task::Pick(names) => Ok(Machine::Pick(pick::Pick::start(view, room, names, out)?)),
+            Task::Cut(span) => Ok(Machine::Cut(cut::Cut::start(view, room, span, out)?)),
         }
     }
 
@@ -81,8 +84,8 @@ impl<'n, 'r> Machine<'n, 'r> {
         ensures takes { (h : Header) (items : List BodyItem) (before : Regs) (x : BodyItem)
             → IsViewOf view.entry h → AreRegsAfter items before → regs ≡ regs_after before item
             → AsItem h.codes feed.now item x → length items < 2 ^ 63 → Keeps self.old h items
-            → TakesOne (request_in self.old) h items x self.new (W.device out.old)
-            (W.device out.new) result }
+            → TakesOne (Keeps self.new h (items ++ x ∷ [])) (request_in self.old) h items x
+            (W.device out.old) (W.device out.new) result }
         ensures counts { Counts (W.device out.old) (W.device out.new) result }
         ensures request { request_in self.new ≡ request_in self.old }
         ensures room { room_of self.new ≡ room_of self.old }
@@ -92,6 +95,7 @@ impl<'n, 'r> Machine<'n, 'r> {
         match self {
             Machine::Check(check) => check.take(item),
             Machine::Pick(pick) => pick.take(view, regs, item, feed, out)?,
+            Machine::Cut(cut) => return cut.take(view, regs, item, feed, out),
         }
         Ok(false)
     }
@@ -113,6 +117,7 @@ impl<'n, 'r> Machine<'n, 'r> {
         match self {
             Machine::Check(check) => check.close(view, regs, out),
             Machine::Pick(pick) => pick.close(regs, out),
+            Machine::Cut(cut) => cut.close(view, regs, out),
         }
     }
 }

@@ -9,7 +9,7 @@ ghost use Rattle.vcd_tools.specs.Room.{AreWithinBound, HasRoomFor, IsWithin, mar
 ghost use Rattle.vcd_tools.specs.declared.task.Room.{Room};
 
 use vcd_body::Slot;
-use vcd_head::{HeadView, Need};
+use vcd_head::{HeadView, Need, need};
 
 /// What is done with the items of a body.
 #[derive(Clone, Copy)]
@@ -18,6 +18,18 @@ pub enum Task<'n> {
     Check,
     /// Writes those of the variables that these names select, after their header.
     Pick(&'n [String]),
+    /// Writes the values that stand before a time, and the items from then up to another time.
+    Cut(Span),
+}
+
+/// A span of time, in ticks. Both ends are in it.
+#[derive(Clone, Copy)]
+pub struct Span {
+    /// Where it begins.
+    pub from: u64,
+    /// Where it ends.
+    pub to: u64,
+    pub ghost ordered: { from ≤ to },
 }
 
 /// What a run is lent beside its windows, of lengths at least as `Task::need` returns for its header. No memory is taken beyond it.
@@ -57,6 +69,7 @@ impl<'n> Task<'n> {
                 slots: 0,
                 marks: view.rows.len(),
             },
+            Task::Cut(_) => need(view),
         }
     }
 }

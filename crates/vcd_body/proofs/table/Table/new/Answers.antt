@@ -34,3 +34,10 @@ returns-clause-room c = λ most code declared at.
     new_kept codes c.lay_out-end.new.slots (length values) c.lay_out-end.result (sym same) end c.lay_out-end.ensures.slots (take c.lay_out-end.result values) size code
     ∙ ap (option_map (λ (x : Code). unset (start_of codes (length values) (code + 1) - start_of codes (length values) code))) at
     ∙ ap (λ n. Some (unset n)) (whole_share codes (length values) code declared most at)
+
+pub returns-clause-bytes : goal.returns-clause-bytes
+returns-clause-bytes c =
+    let values = c.args.values.now in
+    let end = c.lay_out-end.ensures.end in
+    let size = length-take-le c.lay_out-end.result values (omega (arith, end)) in
+    omega (arith, size, end)

@@ -1,0 +1,290 @@
+//! `cut`: the values before a time, and the items from then up to another time.
+ghost use Rattle.std.specs.Prelude.{◌≡◌, ℕ, ◌≤◌, ◌-◌, ◌^◌, ◌<◌, ◌+◌, ◌∷◌, ◌++◌, [], List, true, false, not, ◌&&◌, is_some, IfOk, MatchResult};
+ghost use Rattle.vcd_model.specs.Cut.{cut_close, cut_open, is_started, start_section};
+ghost use Rattle.vcd_model.specs.Header.{Header};
+ghost use Rattle.vcd_model.specs.History.{value_before};
+ghost use Rattle.vcd_model.specs.Items.{BodyItem};
+ghost use Rattle.vcd_model.specs.ItemText.{last_mark};
+ghost use Rattle.vcd_model.specs.Outcome.{Request};
+ghost use Rattle.vcd_text.specs.Device.{Counts, Takes, failures_after};
+ghost use Rattle.vcd_head.specs.Views.{IsViewOf};
+ghost use Rattle.vcd_body.specs.Given.{IsGoodChange};
+ghost use Rattle.vcd_body.specs.Items.{AreRegsAfter, regs_after};
+ghost use Rattle.vcd_tools.specs.Answer.{writes_failed};
+ghost use Rattle.vcd_tools.specs.Cut.{AreCut, IsNoMark, lent_to, may_be_kept, values_text};
+ghost use Rattle.vcd_tools.specs.Device.{TakesDue};
+ghost use Rattle.vcd_tools.specs.Engine.{Starts, StopsUnread, TakesOne, last_of};
+ghost use Rattle.vcd_tools.specs.ItemText.{AsItem, HasWritten};
+ghost use Rattle.vcd_tools.specs.Room.{HasRoomFor, IsWithin, room_size};
+ghost use Rattle.vcd_tools.specs.Values.{AreHeld, HasValues};
+ghost use Rattle.vcd_tools.specs.declared.task.Task.TheVariants as task;
+
+use crate::answer::Stop;
+use crate::item_text::{ItemText, put_time};
+use crate::machine::last_of;
+use crate::task::{Room, Span};
+use vcd_body::{Item, Regs, Table, change_text};
+use vcd_head::{HeadView, put_head, select};
+use vcd_text::{Feed, Sink, Source, WriteFailed, put};
+
+/// The values until the start section stands, and from then on the text of what was kept.
+#[derive(Drop)]
+pub(crate) struct Cut<'r> {
+    span: Span,
+    table: Table<'r>,
+    text: ItemText,
+    started: bool,
+}
+
+/// Writes the line of each code that is no event and has a value.
+fn put_values<W: Sink>(
+    table: &Table<'_>,
+    view: HeadView<'_>,
+    out: &mut W,
+) -> Result<(), WriteFailed>
+    requires { (W.device out.old).failures < 2 ^ 64 - 1 }
+    ensures takes { (h : Header) (items : List BodyItem) (time : ℕ) → IsViewOf view.entry h
+        → HasValues table.now h (λ c. value_before items c time)
+        → Takes (W.device out.old) (W.device out.new) (values_text h.codes items time) result }
+    ensures counts { Counts (W.device out.old) (W.device out.new) result }
+{
+    for (code, declared) in view.codes.iter().enumerate() {
+        if !declared.event {
+            table.put_short(view, code, out)?;
+        }
+    }
+    Ok(())
+}
+
+/// Writes the start section of a cut from this time on.
+#[inline(never)]
+fn put_section<W: Sink>(
+    table: &Table<'_>,
+    view: HeadView<'_>,
+    from: u64,
+    out: &mut W,
+) -> Result<(), WriteFailed>
+    requires { (W.device out.old).failures < 2 ^ 64 - 1 }
+    ensures takes { (h : Header) (items : List BodyItem) → IsViewOf view.entry h
+        → HasValues table.now h (λ c. value_before items c from)
+        → Takes (W.device out.old) (W.device out.new) (start_section h from items) result }
+    ensures counts { Counts (W.device out.old) (W.device out.new) result }
+{
+    put_time(from, out)?;
+    put(out, b"$dumpvars\n")?;
+    put_values(table, view, out)?;
+    put(out, b"$end\n")
+}
+
+/// The item, after which the registers stand so, may be kept: a section's begin or end, or a change that is no event's inside a
+/// section.
+#[inline(always)]
+fn may_keep(view: HeadView<'_>, regs: Regs, item: Item) -> bool
+    ensures { result ≡ may_be_kept view.entry regs item }
+{
+    match item {
+        Item::Time(_) | Item::Finish => false,
+        Item::Begin(_) | Item::End => true,
+        Item::Change { code, .. } => !(regs.section.is_some() && view.is_event(code)),
+    }
+}
+
+impl<'r> Cut<'r> {
+    /// Writes the header, and the start section where nothing is before it.
+    pub(crate) fn start<W: Sink>(
+        view: HeadView<'_>,
+        room: Room<'r>,
+        span: Span,
+        out: &mut W,
+    ) -> Result<Cut<'r>, Stop>
+        requires failures { (W.device out.old).failures < 2 ^ 64 - 1 }
+        requires room { HasRoomFor (task.Cut span) view room }
+        ensures starts { (h : Header) → IsViewOf view.entry h
+            → Starts (λ m. AreCut m h []) (Request.Cut span.from span.to) h
+            (W.device out.old) (W.device out.new) result }
+        ensures span { MatchResult result (λ m. m.span ≡ span) StopsUnread }
+        ensures room { IfOk result (λ m. IsWithin (lent_to m) (room_size room.entry)) }
+        ensures failures { (W.device out.new).failures
+            ≡ (W.device out.old).failures + writes_failed result }
+    {
+        let Room {
+            values,
+            slots,
+            marks,
+        } = room;
+        let marks = &mut marks[..view.rows.len()];
+        if let Err(name) = select(view, &[], marks) {
+            return Err(Stop::Unmatched { name });
+        }
+        put_head(view, marks, out)?;
+        let mut cut = Cut {
+            span,
+            table: Table::new(view, values, slots),
+            text: ItemText::new(),
+            started: false,
+        };
+        if span.from == 0 {
+            cut.begin(view, out)?;
+        }
+        Ok(cut)
+    }
+
+    /// Writes the start section, after which kept items follow.
+    fn begin<W: Sink>(&mut self, view: HeadView<'_>, out: &mut W) -> Result<(), WriteFailed>
+        requires { (W.device out.old).failures < 2 ^ 64 - 1 }
+        ensures takes { (h : Header) (items : List BodyItem) → IsViewOf view.entry h
+            → HasValues self.old.table h (λ c. value_before items c self.old.span.from)
+            → Takes (W.device out.old) (W.device out.new)
+            (start_section h self.old.span.from items) result }
+        ensures counts { Counts (W.device out.old) (W.device out.new) result }
+        ensures begun { IfOk result (λ _. (self.new.started ≡ true)
+            × HasWritten (self.old.span.from ∷ []) [] self.new.text) }
+        ensures span { self.new.span ≡ self.old.span }
+        ensures room { lent_to self.new ≡ lent_to self.old }
+    {
+        put_section(&self.table, view, self.span.from, out)?;
+        self.text = ItemText::after(self.span.from);
+        self.started = true;
+        Ok(())
+    }
+
+    /// Takes a time mark: writes the start section where its time has come, and where it is above the span the line of the span's
+    /// end. Returns whether it is.
+    fn take_time<W: Sink>(
+        &mut self,
+        view: HeadView<'_>,
+        time: u64,
+        out: &mut W,
+    ) -> Result<bool, WriteFailed>
+        requires { (W.device out.old).failures < 2 ^ 64 - 1 }
+        ensures takes { (h : Header) (items : List BodyItem) → IsViewOf view.entry h
+            → AreCut self.old h items
+            → TakesOne (AreCut self.new h (items ++ BodyItem.Time time ∷ []))
+            (Request.Cut self.old.span.from self.old.span.to) h items (BodyItem.Time time)
+            (W.device out.old) (W.device out.new) result }
+        ensures counts { Counts (W.device out.old) (W.device out.new) result }
+        ensures span { self.new.span ≡ self.old.span }
+        ensures room { lent_to self.new ≡ lent_to self.old }
+    {
+        if !self.started && self.span.from <= time {
+            self.begin(view, out)?;
+        }
+        if time <= self.span.to {
+            return Ok(false);
+        }
+        self.text.close(Some(self.span.to), out)?;
+        Ok(true)
+    }
+
+    /// Takes an item that is no time mark: before the start section the value that it gives, then what it writes.
+    #[inline(always)]
+    fn take_other<S: Source, W: Sink>(
+        &mut self,
+        view: HeadView<'_>,
+        regs: Regs,
+        item: Item,
+        feed: &Feed<'_, '_, '_, '_, S>,
+        out: &mut W,
+    ) -> Result<(), WriteFailed>
+        requires failures { (W.device out.old).failures < 2 ^ 64 - 1 }
+        requires sound { IsGoodChange view.codes.now feed.now item }
+        ensures takes { (h : Header) (items : List BodyItem) (before : Regs) (x : BodyItem)
+            → IsViewOf view.entry h → AreRegsAfter items before → regs ≡ regs_after before item
+            → AsItem h.codes feed.now item x → IsNoMark item → AreCut self.old h items
+            → TakesDue (W.device out.old) (W.device out.new)
+            (cut_open h self.old.span.from self.old.span.to items)
+            (cut_open h self.old.span.from self.old.span.to (items ++ x ∷ [])) result
+            × IfOk result (λ _. AreCut self.new h (items ++ x ∷ [])) }
+        ensures counts { Counts (W.device out.old) (W.device out.new) result }
+        ensures span { self.new.span ≡ self.old.span }
+        ensures room { lent_to self.new ≡ lent_to self.old }
+    {
+        if self.started {
+            return self.put_kept(view, regs, item, feed, out);
+        }
+        if let Item::Change { code, form } = item {
+            self.table.set(code, form, change_text(feed, form));
+        }
+        Ok(())
+    }
+
+    /// Writes an item after the start section, where it is kept.
+    #[inline(always)]
+    fn put_kept<S: Source, W: Sink>(
+        &mut self,
+        view: HeadView<'_>,
+        regs: Regs,
+        item: Item,
+        feed: &Feed<'_, '_, '_, '_, S>,
+        out: &mut W,
+    ) -> Result<(), WriteFailed>
+        requires failures { (W.device out.old).failures < 2 ^ 64 - 1 }
+        requires sound { IsGoodChange view.codes.now feed.now item }
+        ensures takes { (h : Header) (items : List BodyItem) (before : Regs) (x : BodyItem)
+            → IsViewOf view.entry h → AreRegsAfter items before → regs ≡ regs_after before item
+            → AsItem h.codes feed.now item x → IsNoMark item → AreCut self.old h items
+            → self.old.started ≡ true
+            → TakesDue (W.device out.old) (W.device out.new)
+            (cut_open h self.old.span.from self.old.span.to items)
+            (cut_open h self.old.span.from self.old.span.to (items ++ x ∷ [])) result
+            × IfOk result (λ _. AreCut self.new h (items ++ x ∷ [])) }
+        ensures counts { Counts (W.device out.old) (W.device out.new) result }
+        ensures span { self.new.span ≡ self.old.span }
+        ensures room { lent_to self.new ≡ lent_to self.old }
+    {
+        if !may_keep(view, regs, item) {
+            return Ok(());
+        }
+        self.text.put(view, regs.time, item, feed, out)
+    }
+
+    /// Takes the item that was read last, writes what is due after it, and returns whether it ended the run. The registers are
+    /// those after it.
+    #[inline(always)]
+    pub(crate) fn take<S: Source, W: Sink>(
+        &mut self,
+        view: HeadView<'_>,
+        regs: Regs,
+        item: Item,
+        feed: &Feed<'_, '_, '_, '_, S>,
+        out: &mut W,
+    ) -> Result<bool, WriteFailed>
+        requires failures { (W.device out.old).failures < 2 ^ 64 - 1 }
+        requires sound { IsGoodChange view.codes.now feed.now item }
+        ensures takes { (h : Header) (items : List BodyItem) (before : Regs) (x : BodyItem)
+            → IsViewOf view.entry h → AreRegsAfter items before → regs ≡ regs_after before item
+            → AsItem h.codes feed.now item x → AreCut self.old h items
+            → TakesOne (AreCut self.new h (items ++ x ∷ []))
+            (Request.Cut self.old.span.from self.old.span.to) h items x
+            (W.device out.old) (W.device out.new) result }
+        ensures counts { Counts (W.device out.old) (W.device out.new) result }
+        ensures span { self.new.span ≡ self.old.span }
+        ensures room { lent_to self.new ≡ lent_to self.old }
+    {
+        if let Item::Time(time) = item {
+            return self.take_time(view, time, out);
+        }
+        self.take_other(view, regs, item, feed, out)?;
+        Ok(false)
+    }
+
+    /// Writes the start section where it does not stand yet, and the line of the last time mark.
+    pub(crate) fn close<W: Sink>(
+        &self,
+        view: HeadView<'_>,
+        regs: Regs,
+        out: &mut W,
+    ) -> Result<(), WriteFailed>
+        requires { (W.device out.old).failures < 2 ^ 64 - 1 }
+        ensures takes { (h : Header) (items : List BodyItem) → IsViewOf view.entry h
+            → AreRegsAfter items regs → last_of regs ≡ last_mark items → AreCut self.now h items
+            → Takes (W.device out.old) (W.device out.new)
+            (cut_close h self.now.span.from self.now.span.to items) result }
+        ensures counts { Counts (W.device out.old) (W.device out.new) result }
+    {
+        if !self.started {
+            return put_section(&self.table, view, self.span.from, out);
+        }
+        self.text.close(last_of(regs), out)
+    }
+}
