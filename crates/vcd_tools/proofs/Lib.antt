@@ -11,6 +11,7 @@ pub mod RunLemmas
 pub mod ItemTextLemmas
 pub mod PickLemmas
 pub mod CutLemmas
+pub mod TallyLemmas
 pub mod SelectionLemmas
 pub mod MergeItem
 pub mod Dumps

@@ -51,6 +51,7 @@ mod report;
 mod rows;
 mod seat;
 mod selection;
+mod tally;
 mod task;
 #[cfg(test)]
 mod tests;

@@ -20,6 +20,8 @@ pub enum Task<'n> {
     Pick(&'n [String]),
     /// Writes the values that stand before a time, and the items from then up to another time.
     Cut(Span),
+    /// Counts how often the values of the variables that these names select change, rise and fall, and writes it at the end.
+    Edges(&'n [String]),
 }
 
 /// A span of time, in ticks. Both ends are in it.
@@ -70,6 +72,7 @@ impl<'n> Task<'n> {
                 marks: view.rows.len(),
             },
             Task::Cut(_) => need(view),
+            Task::Edges(_) => need(view),
         }
     }
 }
