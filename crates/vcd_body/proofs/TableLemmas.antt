@@ -1,5 +1,5 @@
 -- The value of a code of a view, as the table has it.
-use Rattle.std.proofs.Common.{◌≡◌, ◌≢◌, [], ◌<◌, ◌==◌, ◌||◌, Bool, false, cond, ◌⊎◌, inl, inr, ℕ, ◌+◌, ◌≤◌, take, drop, length-take, length-drop, arith, List, slice_get, Option, Some, None, refl, sym, ap, ◌∙◌}
+use Rattle.std.proofs.Common.{◌≡◌, ◌≢◌, [], ◌<◌, ◌==◌, ◌||◌, Bool, false, cond, ◌⊎◌, inl, inr, ℕ, ◌+◌, arith, List, slice_get, Option, Some, None, refl, sym, ap, ◌∙◌}
 use Rattle.std.specs.Prelude.{option_map, option_and_then, unwrap_or, length, map, slice_range, ◌∷◌, sum_by}
 use Rattle.std.specs.List.{AllZip}
 use Rattle.std.proofs.lemmas.List.Sums.{sum_by-cons}
@@ -14,7 +14,7 @@ use Rattle.vcd_head.specs.declared.view.Code.{Code}
 use Rattle.vcd_head.specs.declared.view.HeadView.{HeadView}
 use Rattle.vcd_body.specs.Contents.{ChangesCode, codes_in, codes_shown, held_at, is_chosen, kept_at, line_of, shown_code, value_in}
 use Rattle.vcd_body.specs.Kept.{Held, Kept, as_chosen, value_at_size}
-use Rattle.vcd_body.specs.Stored.{AreLaidOut, end_at, held_of, kept_with, room_of, share_of, used}
+use Rattle.vcd_body.specs.Stored.{end_at, held_of, kept_with, room_of, share_of}
 use Rattle.vcd_body.specs.declared.slot.Slot.{Slot}
 use Rattle.vcd_body.specs.declared.table.Table.{Table}
 use Rattle.vcd_body.proofs.StoreLemmas.{same_or_not, some_at}
@@ -51,21 +51,6 @@ value_unkept v t code at = by_code (slice_get (codes_shown v) code)
     by_code : (o : Option IdCode) → option_and_then (λ (x : IdCode). value_at_size x.size (held_at t code)) o ≡ None
     by_code None = refl
     by_code (Some c) = ap (value_at_size c.size) (held_nowhere t code at)
-
--- the part of a share that is in use lies within the values, and is no shorter
-pub share_within : (slots : List Slot) (values : List ℕ) (code : ℕ) (s : Slot) → AreLaidOut slots (length values) → slice_get slots code ≡ Some s → s.start + used s ≤ length values
-share_within slots values code s laid at =
-    let l = laid code s at in
-    let low = l.0 in let high = l.1 in
-    omega (arith, low, high)
-
-pub share_long : (slots : List Slot) (values share : List ℕ) (code : ℕ) (s : Slot) → AreLaidOut slots (length values) → slice_get slots code ≡ Some s → share ≡ take (used s) (drop s.start values) → used s ≤ length share
-share_long slots values share code s laid at is =
-    let w = share_within slots values code s laid at in
-    let e = ap length is in
-    let t = length-take (used s) (drop s.start values) in
-    let d = length-drop s.start values in
-    omega (arith, w, e, t, d)
 
 abbrev choice : Option Kept → Bool
 choice o = unwrap_or (option_map (λ (k : Kept). k.chosen) o) false

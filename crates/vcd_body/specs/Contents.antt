@@ -7,7 +7,7 @@ use Rattle.vcd_head.specs.Shown.{text_in}
 use Rattle.vcd_head.specs.declared.view.Code.{Code}
 use Rattle.vcd_head.specs.declared.view.HeadView.{HeadView}
 use Rattle.vcd_body.specs.Kept.{Held, Kept, unset, value_at_size}
-use Rattle.vcd_body.specs.Stored.{ChangesAt, kept_in, start_of}
+use Rattle.vcd_body.specs.Stored.{AreLaidOut, ChangesAt, kept_in, start_of}
 use Rattle.vcd_body.specs.declared.slot.Shown.{Shown}
 use Rattle.vcd_body.specs.declared.slot.Shown.TheVariants as shown
 use Rattle.vcd_body.specs.declared.table.Table.{Table}
@@ -19,6 +19,10 @@ codes_in t = length t.slots.now
 -- how many bytes of values it works with
 abbrev pub bytes_in : Table → ℕ
 bytes_in t = length t.values.now
+
+-- each code has a share of its own, large enough for what it holds: so it is of every table that `new` made, after any calls
+abbrev pub IsLaidOut : Table → Type 0
+IsLaidOut t = AreLaidOut t.slots.now (length t.values.now)
 
 -- what is kept of the code at a place, none where there is no code
 abbrev pub kept_at : Table → ℕ → Option Kept

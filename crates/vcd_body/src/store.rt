@@ -1,9 +1,9 @@
 // What is kept of each code, in lent slices: slots, and a share of the values for each.
-ghost use Rattle.std.specs.Prelude.{◌≡◌, ◌≢◌, ℕ, ◌+◌, ◌-◌, ◌<◌, ◌≤◌, ◌∷◌, [], List, length, take, drop, map, sum_by, Some, slice_get, slice_index};
+ghost use Rattle.std.specs.Prelude.{◌≡◌, ◌≢◌, ℕ, ◌+◌, ◌-◌, ◌<◌, ◌≤◌, ◌∷◌, [], List, length, take, drop, map, sum_by, IfSome, None, Some, slice_get, slice_index};
 ghost use Rattle.vcd_head.specs.declared.view.Code.{Code};
 ghost use Rattle.vcd_body.specs.Kept.{Held, as_chosen, one_more, counts_with, with_held, with_text};
 ghost use Rattle.vcd_body.specs.Packed.{held_digit};
-ghost use Rattle.vcd_body.specs.Stored.{AreLaidOut, ChangesAt, end_at, share_of, start_of, unset_at, used};
+ghost use Rattle.vcd_body.specs.Stored.{AreLaidOut, ChangesAt, end_at, share_of, some_by, start_of, unset_at, used};
 
 use crate::item::Form;
 use crate::packed::pack;
@@ -42,13 +42,22 @@ fn used_by(slot: Slot) -> usize
     }
 }
 
-/// The bytes of its share that are in use.
+/// The bytes of its share that are in use. None where they would not lie within the values, or where the slot says that digits
+/// are packed, and how many is 0. No slot of a table that is laid out is so.
 #[inline(always)]
-pub(crate) fn share_in(values: &[u8], slot: Slot) -> &[u8]
-    requires { slot.start + used slot ≤ length values.now }
-    ensures { result.now ≡ take (used slot) (drop slot.start values.now) }
+pub(crate) fn share_in(values: &[u8], slot: Slot) -> Option<&[u8]>
+    ensures share { IfSome result
+        (λ share. share.now ≡ take (used slot) (drop slot.start values.now)) }
+    ensures used { IfSome result (λ share. used slot ≤ length share.now) }
+    ensures some { IfSome result (λ _. 1 ≤ some_by slot.state slot.len) }
+    ensures there { slot.start + used slot ≤ length values.now
+        → 1 ≤ some_by slot.state slot.len → result ≢ None }
 {
-    &values[slot.start..slot.start + used_by(slot)]
+    if slot.state == State::Digits && slot.len == 0 {
+        return None;
+    }
+    let end = slot.start.checked_add(used_by(slot))?;
+    values.get(slot.start..end)
 }
 
 /// Sets the value of a code to one digit. Its share is left alone, and need not be looked at.
@@ -66,16 +75,20 @@ fn set_digit(slots: &mut [Slot], code: usize, digit: u8)
 
 /// Sets the value of a code to digits, where they fit its share.
 fn set_digits(slots: &mut [Slot], values: &mut [u8], code: usize, text: &[u8])
-    requires laid { AreLaidOut slots.old (length values.old) }
     requires several { length text.now ≢ 1 }
-    ensures changes { ChangesAt code (with_text Form.Vector text.now) values.old slots.old
+    ensures changes { AreLaidOut slots.old (length values.old)
+        → ChangesAt code (with_text Form.Vector text.now) values.old slots.old
         values.new slots.new }
-    ensures laid { AreLaidOut slots.new (length values.old) }
+    ensures laid { AreLaidOut slots.old (length values.old)
+        → AreLaidOut slots.new (length values.old) }
 {
     let Some(slot) = slot_at(slots, code) else {
         return;
     };
     let end = end_of(slots, values.len(), code);
+    if end < slot.start || values.len() < end {
+        return;
+    }
     if text.is_empty() || text.len().div_ceil(4) > end - slot.start {
         return;
     }
@@ -89,15 +102,19 @@ fn set_digits(slots: &mut [Slot], values: &mut [u8], code: usize, text: &[u8])
 
 /// Sets the value of a code to the text of a real number, where it fits its share.
 fn set_real(slots: &mut [Slot], values: &mut [u8], code: usize, text: &[u8])
-    requires laid { AreLaidOut slots.old (length values.old) }
-    ensures changes { ChangesAt code (with_text Form.RealText text.now) values.old slots.old
+    ensures changes { AreLaidOut slots.old (length values.old)
+        → ChangesAt code (with_text Form.RealText text.now) values.old slots.old
         values.new slots.new }
-    ensures laid { AreLaidOut slots.new (length values.old) }
+    ensures laid { AreLaidOut slots.old (length values.old)
+        → AreLaidOut slots.new (length values.old) }
 {
     let Some(slot) = slot_at(slots, code) else {
         return;
     };
     let end = end_of(slots, values.len(), code);
+    if end < slot.start || values.len() < end {
+        return;
+    }
     if text.is_empty() || text.len() > end - slot.start {
         return;
     }
@@ -120,10 +137,11 @@ fn copy_front(to: &mut [u8], from: &[u8])
 /// Sets the value of a code to digits. Most changes are of one digit, and touch one slot alone.
 #[inline(always)]
 fn set_bits(slots: &mut [Slot], values: &mut [u8], code: usize, text: &[u8])
-    requires laid { AreLaidOut slots.old (length values.old) }
-    ensures changes { ChangesAt code (with_text Form.Vector text.now) values.old slots.old
+    ensures changes { AreLaidOut slots.old (length values.old)
+        → ChangesAt code (with_text Form.Vector text.now) values.old slots.old
         values.new slots.new }
-    ensures laid { AreLaidOut slots.new (length values.old) }
+    ensures laid { AreLaidOut slots.old (length values.old)
+        → AreLaidOut slots.new (length values.old) }
 {
     match text {
         [digit] => set_digit(slots, code, *digit),
@@ -134,10 +152,11 @@ fn set_bits(slots: &mut [Slot], values: &mut [u8], code: usize, text: &[u8])
 /// Sets the value of a code: digits, or the text of a real number.
 #[inline(always)]
 pub(crate) fn set_at(slots: &mut [Slot], values: &mut [u8], code: usize, form: Form, text: &[u8])
-    requires laid { AreLaidOut slots.old (length values.old) }
-    ensures changes { ChangesAt code (with_text form text.now) values.old slots.old
+    ensures changes { AreLaidOut slots.old (length values.old)
+        → ChangesAt code (with_text form text.now) values.old slots.old
         values.new slots.new }
-    ensures laid { AreLaidOut slots.new (length values.old) }
+    ensures laid { AreLaidOut slots.old (length values.old)
+        → AreLaidOut slots.new (length values.old) }
 {
     match form {
         Form::RealText => set_real(slots, values, code, text),

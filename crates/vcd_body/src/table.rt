@@ -1,9 +1,9 @@
 //! The current values of the codes of a header, in lent slices.
 ghost use Rattle.std.specs.Prelude.{◌≡◌, ℕ, ◌+◌, ◌-◌, ◌^◌, ◌<◌, ◌≤◌, length};
 ghost use Rattle.vcd_model.specs.Sample.{shown};
-ghost use Rattle.vcd_text.specs.Device.{Counts, Puts, Takes, failures_after};
+ghost use Rattle.vcd_text.specs.Device.{Counts, Takes, failures_after};
 ghost use Rattle.vcd_body.specs.Kept.{Held, as_chosen, differs, digit_in, last_digit_in, one_more, real_text, with_text};
-ghost use Rattle.vcd_body.specs.Stored.{AreLaidOut, room_of};
+ghost use Rattle.vcd_body.specs.Stored.{room_of};
 
 use crate::compare::value_differs;
 use crate::held::{digit_shown, last_held};
@@ -21,7 +21,6 @@ use vcd_text::{Sink, WriteFailed, put};
 pub struct Table<'a> {
     values: &'a mut [u8],
     slots: &'a mut [Slot],
-    ghost laid: { AreLaidOut slots.now (length values.now) },
 }
 
 impl<'a> Table<'a> {
@@ -32,13 +31,14 @@ impl<'a> Table<'a> {
     ghost use Rattle.vcd_body.specs.Items.{model_form};
     ghost use Rattle.vcd_body.specs.Kept.{Kept, unset, value_at_size};
     ghost use Rattle.vcd_body.specs.Stored.{share_of};
-    ghost use Rattle.vcd_body.specs.Contents.{ChangesCode, bytes_in, codes_in, codes_shown, counts_at, held_at, is_chosen, kept_at, line_of, new_at, shown_as, value_in};
+    ghost use Rattle.vcd_body.specs.Contents.{ChangesCode, IsLaidOut, bytes_in, codes_in, codes_shown, counts_at, held_at, is_chosen, kept_at, line_of, new_at, shown_as, value_in};
 
     /// A table of the codes of the header that is shown: each is unset, its counters are 0, and it is not chosen. A code's value
     /// has a quarter of its size of the bytes of `values`, rounded up, and at least 64; where there are fewer, the last codes go
     /// short. Slots and bytes beyond these are left alone.
     pub fn new(view: HeadView<'_>, values: &'a mut [u8], slots: &'a mut [Slot]) -> Table<'a>
         requires slots { length view.codes.now ≤ length slots.old }
+        ensures laid { IsLaidOut result }
         ensures codes { codes_in result ≡ length view.entry.codes.now }
         ensures bytes { bytes_in result ≤ length values.old }
         ensures kept { (code : ℕ) → kept_at result code
@@ -58,9 +58,11 @@ impl<'a> Table<'a> {
     /// code's slot alone.
     #[inline(always)]
     pub fn set(&mut self, code: usize, form: Form, text: &[u8])
-        ensures changes { ChangesCode code (with_text form text.now) self.old self.new }
-        ensures value { (c : Code) (k : Kept) → IsText form c text.now → c.event ≡ false
-            → kept_at self.old code ≡ Some k → share_of c.size ≤ k.room
+        ensures laid { IsLaidOut self.old → IsLaidOut self.new }
+        ensures changes { IsLaidOut self.old
+            → ChangesCode code (with_text form text.now) self.old self.new }
+        ensures value { IsLaidOut self.old → (c : Code) (k : Kept) → IsText form c text.now
+            → c.event ≡ false → kept_at self.old code ≡ Some k → share_of c.size ≤ k.room
             → value_at_size c.size (held_at self.new code)
             ≡ Some (value_with c.size (model_form form) text.now) }
         ensures codes { codes_in self.new ≡ codes_in self.old }
@@ -90,7 +92,8 @@ impl<'a> Table<'a> {
     /// value has no digits, or fewer.
     #[inline]
     pub fn digit(&self, view: HeadView<'_>, code: usize, place: usize) -> Option<u8>
-        ensures { result ≡ digit_in (value_in (codes_shown view.entry) self.now code) place }
+        ensures { IsLaidOut self.now
+            → result ≡ digit_in (value_in (codes_shown view.entry) self.now code) place }
     {
         let Some(declared) = view.code_at(code) else {
             return None;
@@ -98,42 +101,53 @@ impl<'a> Table<'a> {
         let Some(slot) = slot_at(self.slots, code) else {
             return None;
         };
-        digit_shown(slot, share_in(self.values, slot), declared.size, place)
+        let Some(share) = share_in(self.values, slot) else {
+            return None;
+        };
+        digit_shown(slot, share, declared.size, place)
     }
 
     /// The last digit of the value of the code at a place, in lower case; none where the value has no digits. It is the same at
     /// each size.
     #[inline(always)]
     pub fn last_digit(&self, code: usize) -> Option<u8>
-        ensures { (size : ℕ) → result
-            ≡ last_digit_in (value_at_size size (held_at self.now code)) }
+        ensures { IsLaidOut self.now → (size : ℕ)
+            → result ≡ last_digit_in (value_at_size size (held_at self.now code)) }
     {
         let Some(slot) = slot_at(self.slots, code) else {
             return None;
         };
-        last_held(slot, share_in(self.values, slot))
+        let Some(share) = share_in(self.values, slot) else {
+            return None;
+        };
+        last_held(slot, share)
     }
 
     /// Whether the code at a place has a value, and the text of a change gives another one at this size. It takes as long as what
     /// is held and the text are, whatever the size is; of one digit each it looks at the code's slot alone.
     #[inline(always)]
     pub fn differs(&self, code: usize, size: usize, form: Form, text: &[u8]) -> bool
-        ensures { result ≡ differs (value_at_size size (held_at self.now code))
+        ensures { IsLaidOut self.now → result ≡ differs (value_at_size size (held_at self.now code))
             (value_with size (model_form form) text.now) }
     {
         let Some(slot) = slot_at(self.slots, code) else {
             return false;
         };
-        value_differs(slot, share_in(self.values, slot), size, form, text)
+        let Some(share) = share_in(self.values, slot) else {
+            return false;
+        };
+        value_differs(slot, share, size, form, text)
     }
 
     /// The text of the real number that is the value of the code at a place; empty where it has no such value.
     #[inline]
     pub fn real(&self, code: usize) -> &[u8]
-        ensures { result.now ≡ real_text (held_at self.now code) }
+        ensures { IsLaidOut self.now → result.now ≡ real_text (held_at self.now code) }
     {
         match slot_at(self.slots, code) {
-            Some(slot) if slot.state == State::Real => share_in(self.values, slot),
+            Some(slot) if slot.state == State::Real => {
+                share_in(self.values, slot).unwrap_or(&[])
+            }
             _ => &[],
         }
     }
@@ -147,8 +161,9 @@ impl<'a> Table<'a> {
         w: &mut W,
     ) -> Result<(), WriteFailed>
         requires { (W.device w.old).failures < 2 ^ 64 - 1 }
-        ensures { Puts (W.device w.old) (W.device w.new)
+        ensures takes { IsLaidOut self.now → Takes (W.device w.old) (W.device w.new)
             (line_of (codes_shown view.entry) self.now code) result }
+        ensures counts { Counts (W.device w.old) (W.device w.new) result }
     {
         let Some(declared) = view.code_at(code) else {
             return Ok(());
@@ -156,8 +171,11 @@ impl<'a> Table<'a> {
         let Some(slot) = slot_at(self.slots, code) else {
             return Ok(());
         };
+        let Some(share) = share_in(self.values, slot) else {
+            return Ok(());
+        };
         let id = view.text_at(declared.start, declared.len);
-        put_value_line(slot, share_in(self.values, slot), declared.size, id, w)
+        put_value_line(slot, share, declared.size, id, w)
     }
 
     /// Writes the value of the code at a place in full: all its digits, or `r` and the text of a real number; `-` where it has no
@@ -169,8 +187,9 @@ impl<'a> Table<'a> {
         w: &mut W,
     ) -> Result<(), WriteFailed>
         requires { (W.device w.old).failures < 2 ^ 64 - 1 }
-        ensures { Puts (W.device w.old) (W.device w.new)
+        ensures takes { IsLaidOut self.now → Takes (W.device w.old) (W.device w.new)
             (shown (value_in (codes_shown view.entry) self.now code)) result }
+        ensures counts { Counts (W.device w.old) (W.device w.new) result }
     {
         let Some(declared) = view.code_at(code) else {
             return put(w, b"-");
@@ -178,7 +197,10 @@ impl<'a> Table<'a> {
         let Some(slot) = slot_at(self.slots, code) else {
             return put(w, b"-");
         };
-        put_value(slot, share_in(self.values, slot), declared.size, w)
+        let Some(share) = share_in(self.values, slot) else {
+            return put(w, b"-");
+        };
+        put_value(slot, share, declared.size, w)
     }
 
     /// The three counters of the code at a place.
@@ -195,6 +217,7 @@ impl<'a> Table<'a> {
     /// Adds one to the counter `which`, 0 to 2, of the code at a place. A full one stays.
     #[inline(always)]
     pub fn bump(&mut self, code: usize, which: usize)
+        ensures laid { IsLaidOut self.old → IsLaidOut self.new }
         ensures changes { ChangesCode code (one_more which) self.old self.new }
         ensures codes { codes_in self.new ≡ codes_in self.old }
         ensures bytes { bytes_in self.new ≡ bytes_in self.old }
@@ -205,6 +228,7 @@ impl<'a> Table<'a> {
     /// Chooses the code at a place.
     #[inline]
     pub fn choose(&mut self, code: usize)
+        ensures laid { IsLaidOut self.old → IsLaidOut self.new }
         ensures changes { ChangesCode code as_chosen self.old self.new }
         ensures codes { codes_in self.new ≡ codes_in self.old }
         ensures bytes { bytes_in self.new ≡ bytes_in self.old }

@@ -79,7 +79,7 @@ take-next [] i x at = cc
 take-next (y ∷ xs) zero x at = let same : y ≡ x = cc in ap (λ z. z ∷ []) same
 take-next (y ∷ xs) (suc i) x at = ap (λ l. y ∷ l) (take-next xs i x at)
 
-next : (ds : List Declaration) (i : ℕ) (d : Declaration) → slice_get ds i ≡ Some d → take (i + 1) ds ≡ take i ds ++ d ∷ []
+pub next : {X : Type 0} (ds : List X) (i : ℕ) (d : X) → slice_get ds i ≡ Some d → take (i + 1) ds ≡ take i ds ++ d ∷ []
 next ds i d at = ap (λ n. take n ds) (add-one i) ∙ take-next ds i d at
 
 pub lines-variable : (ds : List Declaration) (i : ℕ) (v : Variable) → slice_get ds i ≡ Some (Declaration.Var v) → lines_after [] (take (i + 1) ds) ≡ lines_after [] (take i ds) ++ line_after (take i ds) v

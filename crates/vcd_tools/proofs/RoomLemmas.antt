@@ -20,7 +20,7 @@ still_within limit chunk v r most within bound = λ h views. less_room limit h _
 
 -- ---- windows alone, and with the room of a pick
 
-windows : (limit chunk : ℕ) → chunk ≤ 65536 → AreWindows limit (record { chunk = chunk; token = limit; value = limit })
+pub windows : (limit chunk : ℕ) → chunk ≤ 65536 → AreWindows limit (record { chunk = chunk; token = limit; value = limit })
 windows limit chunk le = record { chunk = le; token = omega arith; value = omega arith }
 
 pub no_room_fits : (limit : ℕ) (h : Header) (w : WindowSize) (v : HeadView) → IsViewOf v h → AreWindows limit w → FitsInput limit h w (view_size (parts v)) no_room

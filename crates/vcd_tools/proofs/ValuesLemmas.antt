@@ -6,7 +6,7 @@ use Rattle.std.proofs.lemmas.Slice.Eq.{bytes_eq-Decides}
 use Rattle.vcd_model.specs.Declarations.{IdCode, same_code}
 use Rattle.vcd_model.specs.Header.{Header}
 use Rattle.vcd_model.specs.History.{final_value, gives_to}
-use Rattle.vcd_model.specs.Items.{BodyItem, Change as Changed}
+use Rattle.vcd_model.specs.Items.{BodyItem}
 use Rattle.vcd_model.specs.Values.{value_of, value_with}
 use Rattle.vcd_model.proofs.FinalValues.{final_new, final_other}
 use Rattle.vcd_text.specs.declared.device.Source.{Ghosts}
@@ -92,7 +92,9 @@ module _ (v : HeadView) (h : Header) (old new : Table) (items : List BodyItem) (
 
   -- and what is held of the others
   others_stay : (other : ℕ) → (other == place) ≡ false → held_at new other ≡ held_at old other
-  others_stay other e = ap (λ (o : Option Kept). unwrap_or (option_map (λ (k : Kept). k.held) o) Held.Unset) (changes other ∙ rw e refl)
+  others_stay other e =
+      let same : kept_at new other ≡ kept_at old other = changes other ∙ rw e refl in
+      ap (λ (o : Option Kept). unwrap_or (option_map (λ (k : Kept). k.held) o) Held.Unset) same
 
   -- the item that sets the value
   abbrev setting : BodyItem
@@ -139,9 +141,10 @@ good_text codes f place form d good there =
     let same : good.0 ≡ d = same_Some good.0 d (sym good.1 ∙ there) in
     subst (λ (y : Code). IsText form y (text_of form f)) same good.2
 
--- an item that is no change gives no value
-pub gives_nothing : (x : BodyItem) → ((d : Changed) → x ≢ BodyItem.Changes d) → (c : IdCode) → gives_to c x ≡ false
-gives_nothing (BodyItem.Time t) none c = refl
-gives_nothing (BodyItem.Begin s) none c = refl
-gives_nothing BodyItem.End none c = refl
-gives_nothing (BodyItem.Changes d) none c = absurd (none d refl)
+-- what is read gives no value where it is no change
+pub other_gives : {X : Type 0} {g : Ghosts X} (codes : List IdCode) (f : Feed X g) (item : Item) (x : BodyItem) → AsItem codes f item x → ((place : ℕ) (form : Form) → item ≢ Change place form) → (c : IdCode) → gives_to c x ≡ false
+other_gives codes f (Time t) x is none c = rw is refl
+other_gives codes f (Begin s) x is none c = rw is refl
+other_gives codes f End x is none c = rw is refl
+other_gives codes f (Change place form) x is none c = absurd (none place form refl)
+other_gives codes f Finish x is none c = absurd is

@@ -19,7 +19,7 @@ use Rattle.vcd_body.specs.declared.item.Regs.{Regs}
 use Rattle.vcd_tools.specs.Check.{AreCounted}
 use Rattle.vcd_text.specs.Device.{Device, Writes, WritesSome}
 use Rattle.vcd_tools.specs.Device.{TakesDue}
-use Rattle.vcd_tools.specs.Cut.{AreCut}
+use Rattle.vcd_tools.specs.Cut.{AreCut, span_in}
 use Rattle.vcd_tools.specs.Edges.{AreEdges, asked_in}
 use Rattle.vcd_tools.specs.Pick.{ArePicked, names_in}
 use Rattle.vcd_tools.specs.declared.answer.Stop.{Stop}
@@ -43,7 +43,7 @@ request_of (task.Edges names) = Request.Edges (map string_bytes names.now)
 abbrev pub request_in : Machine → Request
 request_in (machine.Check c) = Request.Check
 request_in (machine.Pick p) = Request.Pick (names_in p)
-request_in (machine.Cut m) = Request.Cut m.span.from m.span.to
+request_in (machine.Cut m) = span_in m
 request_in (machine.Edges e) = Request.Edges (asked_in e)
 
 -- what a machine keeps over this header and after these items

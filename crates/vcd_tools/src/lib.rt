@@ -41,6 +41,8 @@
 mod answer;
 mod choice;
 mod commands;
+#[cfg(test)]
+mod cut_tests;
 mod engine;
 mod item_text;
 mod machine;
@@ -51,6 +53,7 @@ mod report;
 mod rows;
 mod seat;
 mod selection;
+mod span;
 mod tally;
 mod task;
 #[cfg(test)]
@@ -58,10 +61,11 @@ mod tests;
 mod windows;
 
 pub use answer::{Done, More, Stop};
-pub use commands::{check, pick};
+pub use commands::{check, cut, pick};
 pub use engine::{Engine, run_task};
 pub use merge::{Merge, merge_step};
 pub use rows::list;
 pub use seat::Seat;
-pub use task::{Room, Span, Task};
+pub use span::Span;
+pub use task::{Room, Task};
 pub use windows::Windows;

@@ -8,6 +8,7 @@ ghost use Rattle.vcd_head.specs.Views.{IsViewOf};
 ghost use Rattle.vcd_tools.specs.Room.{AreWithinBound, HasRoomFor, IsWithin, marks_for, slots_for, values_for};
 ghost use Rattle.vcd_tools.specs.declared.task.Room.{Room};
 
+use crate::span::Span;
 use vcd_body::Slot;
 use vcd_head::{HeadView, Need, need};
 
@@ -22,16 +23,6 @@ pub enum Task<'n> {
     Cut(Span),
     /// Counts how often the values of the variables that these names select change, rise and fall, and writes it at the end.
     Edges(&'n [String]),
-}
-
-/// A span of time, in ticks. Both ends are in it.
-#[derive(Clone, Copy)]
-pub struct Span {
-    /// Where it begins.
-    pub from: u64,
-    /// Where it ends.
-    pub to: u64,
-    pub ghost ordered: { from ≤ to },
 }
 
 /// What a run is lent beside its windows, of lengths at least as `Task::need` returns for its header. No memory is taken beyond it.

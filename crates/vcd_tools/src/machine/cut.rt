@@ -11,7 +11,7 @@ ghost use Rattle.vcd_head.specs.Views.{IsViewOf};
 ghost use Rattle.vcd_body.specs.Given.{IsGoodChange};
 ghost use Rattle.vcd_body.specs.Items.{AreRegsAfter, regs_after};
 ghost use Rattle.vcd_tools.specs.Answer.{writes_failed};
-ghost use Rattle.vcd_tools.specs.Cut.{AreCut, IsNoMark, lent_to, may_be_kept, values_text};
+ghost use Rattle.vcd_tools.specs.Cut.{AreCut, BeginsBy, IsNoMark, lent_to, may_be_kept, span_in, values_text};
 ghost use Rattle.vcd_tools.specs.Device.{TakesDue};
 ghost use Rattle.vcd_tools.specs.Engine.{Starts, StopsUnread, TakesOne, last_of};
 ghost use Rattle.vcd_tools.specs.ItemText.{AsItem, HasWritten};
@@ -22,7 +22,8 @@ ghost use Rattle.vcd_tools.specs.declared.task.Task.TheVariants as task;
 use crate::answer::Stop;
 use crate::item_text::{ItemText, put_time};
 use crate::machine::last_of;
-use crate::task::{Room, Span};
+use crate::span::Span;
+use crate::task::Room;
 use vcd_body::{Item, Regs, Table, change_text};
 use vcd_head::{HeadView, put_head, select};
 use vcd_text::{Feed, Sink, Source, WriteFailed, put};
@@ -30,7 +31,8 @@ use vcd_text::{Feed, Sink, Source, WriteFailed, put};
 /// The values until the start section stands, and from then on the text of what was kept.
 #[derive(Drop)]
 pub(crate) struct Cut<'r> {
-    span: Span,
+    from: u64,
+    to: u64,
     table: Table<'r>,
     text: ItemText,
     started: bool,
@@ -102,7 +104,7 @@ impl<'r> Cut<'r> {
         ensures starts { (h : Header) → IsViewOf view.entry h
             → Starts (λ m. AreCut m h []) (Request.Cut span.from span.to) h
             (W.device out.old) (W.device out.new) result }
-        ensures span { MatchResult result (λ m. m.span ≡ span) StopsUnread }
+        ensures span { MatchResult result (λ m. span_in m ≡ Request.Cut span.from span.to) StopsUnread }
         ensures room { IfOk result (λ m. IsWithin (lent_to m) (room_size room.entry)) }
         ensures failures { (W.device out.new).failures
             ≡ (W.device out.old).failures + writes_failed result }
@@ -118,7 +120,8 @@ impl<'r> Cut<'r> {
         }
         put_head(view, marks, out)?;
         let mut cut = Cut {
-            span,
+            from: span.from,
+            to: span.to,
             table: Table::new(view, values, slots),
             text: ItemText::new(),
             started: false,
@@ -133,19 +136,40 @@ impl<'r> Cut<'r> {
     fn begin<W: Sink>(&mut self, view: HeadView<'_>, out: &mut W) -> Result<(), WriteFailed>
         requires { (W.device out.old).failures < 2 ^ 64 - 1 }
         ensures takes { (h : Header) (items : List BodyItem) → IsViewOf view.entry h
-            → HasValues self.old.table h (λ c. value_before items c self.old.span.from)
+            → HasValues self.old.table h (λ c. value_before items c self.old.from)
             → Takes (W.device out.old) (W.device out.new)
-            (start_section h self.old.span.from items) result }
+            (start_section h self.old.from items) result }
         ensures counts { Counts (W.device out.old) (W.device out.new) result }
         ensures begun { IfOk result (λ _. (self.new.started ≡ true)
-            × HasWritten (self.old.span.from ∷ []) [] self.new.text) }
-        ensures span { self.new.span ≡ self.old.span }
+            × HasWritten (self.old.from ∷ []) [] self.new.text) }
+        ensures span { span_in self.new ≡ span_in self.old }
         ensures room { lent_to self.new ≡ lent_to self.old }
     {
-        put_section(&self.table, view, self.span.from, out)?;
-        self.text = ItemText::after(self.span.from);
+        put_section(&self.table, view, self.from, out)?;
+        self.text = ItemText::after(self.from);
         self.started = true;
         Ok(())
+    }
+
+    /// Writes the start section, where it does not stand yet and this time has come.
+    fn begin_by<W: Sink>(
+        &mut self,
+        view: HeadView<'_>,
+        time: u64,
+        out: &mut W,
+    ) -> Result<(), WriteFailed>
+        requires { (W.device out.old).failures < 2 ^ 64 - 1 }
+        ensures begins { (h : Header) (items : List BodyItem) → IsViewOf view.entry h
+            → AreCut self.old h items
+            → BeginsBy h items time self.old self.new (W.device out.old) (W.device out.new) result }
+        ensures counts { Counts (W.device out.old) (W.device out.new) result }
+        ensures span { span_in self.new ≡ span_in self.old }
+        ensures room { lent_to self.new ≡ lent_to self.old }
+    {
+        if self.started || time < self.from {
+            return Ok(());
+        }
+        self.begin(view, out)
     }
 
     /// Takes a time mark: writes the start section where its time has come, and where it is above the span the line of the span's
@@ -160,19 +184,17 @@ impl<'r> Cut<'r> {
         ensures takes { (h : Header) (items : List BodyItem) → IsViewOf view.entry h
             → AreCut self.old h items
             → TakesOne (AreCut self.new h (items ++ BodyItem.Time time ∷ []))
-            (Request.Cut self.old.span.from self.old.span.to) h items (BodyItem.Time time)
+            (Request.Cut self.old.from self.old.to) h items (BodyItem.Time time)
             (W.device out.old) (W.device out.new) result }
         ensures counts { Counts (W.device out.old) (W.device out.new) result }
-        ensures span { self.new.span ≡ self.old.span }
+        ensures span { span_in self.new ≡ span_in self.old }
         ensures room { lent_to self.new ≡ lent_to self.old }
     {
-        if !self.started && self.span.from <= time {
-            self.begin(view, out)?;
-        }
-        if time <= self.span.to {
+        self.begin_by(view, time, out)?;
+        if time <= self.to {
             return Ok(false);
         }
-        self.text.close(Some(self.span.to), out)?;
+        self.text.close(Some(self.to), out)?;
         Ok(true)
     }
 
@@ -192,11 +214,11 @@ impl<'r> Cut<'r> {
             → IsViewOf view.entry h → AreRegsAfter items before → regs ≡ regs_after before item
             → AsItem h.codes feed.now item x → IsNoMark item → AreCut self.old h items
             → TakesDue (W.device out.old) (W.device out.new)
-            (cut_open h self.old.span.from self.old.span.to items)
-            (cut_open h self.old.span.from self.old.span.to (items ++ x ∷ [])) result
+            (cut_open h self.old.from self.old.to items)
+            (cut_open h self.old.from self.old.to (items ++ x ∷ [])) result
             × IfOk result (λ _. AreCut self.new h (items ++ x ∷ [])) }
         ensures counts { Counts (W.device out.old) (W.device out.new) result }
-        ensures span { self.new.span ≡ self.old.span }
+        ensures span { span_in self.new ≡ span_in self.old }
         ensures room { lent_to self.new ≡ lent_to self.old }
     {
         if self.started {
@@ -225,11 +247,11 @@ impl<'r> Cut<'r> {
             → AsItem h.codes feed.now item x → IsNoMark item → AreCut self.old h items
             → self.old.started ≡ true
             → TakesDue (W.device out.old) (W.device out.new)
-            (cut_open h self.old.span.from self.old.span.to items)
-            (cut_open h self.old.span.from self.old.span.to (items ++ x ∷ [])) result
+            (cut_open h self.old.from self.old.to items)
+            (cut_open h self.old.from self.old.to (items ++ x ∷ [])) result
             × IfOk result (λ _. AreCut self.new h (items ++ x ∷ [])) }
         ensures counts { Counts (W.device out.old) (W.device out.new) result }
-        ensures span { self.new.span ≡ self.old.span }
+        ensures span { span_in self.new ≡ span_in self.old }
         ensures room { lent_to self.new ≡ lent_to self.old }
     {
         if !may_keep(view, regs, item) {
@@ -255,10 +277,10 @@ impl<'r> Cut<'r> {
             → IsViewOf view.entry h → AreRegsAfter items before → regs ≡ regs_after before item
             → AsItem h.codes feed.now item x → AreCut self.old h items
             → TakesOne (AreCut self.new h (items ++ x ∷ []))
-            (Request.Cut self.old.span.from self.old.span.to) h items x
+            (Request.Cut self.old.from self.old.to) h items x
             (W.device out.old) (W.device out.new) result }
         ensures counts { Counts (W.device out.old) (W.device out.new) result }
-        ensures span { self.new.span ≡ self.old.span }
+        ensures span { span_in self.new ≡ span_in self.old }
         ensures room { lent_to self.new ≡ lent_to self.old }
     {
         if let Item::Time(time) = item {
@@ -279,11 +301,11 @@ impl<'r> Cut<'r> {
         ensures takes { (h : Header) (items : List BodyItem) → IsViewOf view.entry h
             → AreRegsAfter items regs → last_of regs ≡ last_mark items → AreCut self.now h items
             → Takes (W.device out.old) (W.device out.new)
-            (cut_close h self.now.span.from self.now.span.to items) result }
+            (cut_close h self.now.from self.now.to items) result }
         ensures counts { Counts (W.device out.old) (W.device out.new) result }
     {
         if !self.started {
-            return put_section(&self.table, view, self.span.from, out);
+            return put_section(&self.table, view, self.from, out);
         }
         self.text.close(last_of(regs), out)
     }

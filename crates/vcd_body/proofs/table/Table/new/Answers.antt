@@ -6,14 +6,14 @@ use Rattle.vcd_body.specs.Stored.{start_of}
 use Rattle.vcd_body.proofs.LayoutLemmas.{laid, new_kept, whole_share}
 use Rattle.vcd_body.proofs.table.Table.new.Goals as goal
 
-pub invariant_of-result : goal.invariant_of-result
-invariant_of-result c =
+pub returns-clause-laid : goal.returns-clause-laid
+returns-clause-laid c =
     let codes = c.args.view.codes.now in
     let values = c.args.values.now in
     let end = c.lay_out-end.ensures.end in
     let size = length-take-le c.lay_out-end.result values (omega (arith, end)) in
     let same = c.lay_out-end.ensures.length ∙ length-take-le (length codes) c.args.slots.now c.requires.slots in
-    record { laid = laid codes c.lay_out-end.new.slots (length values) (length (take c.lay_out-end.result values)) (sym same) (size ∙ end) c.lay_out-end.ensures.slots }
+    laid codes c.lay_out-end.new.slots (length values) (length (take c.lay_out-end.result values)) (sym same) (size ∙ end) c.lay_out-end.ensures.slots
 
 pub returns-clause-kept : goal.returns-clause-kept
 returns-clause-kept c = λ code.

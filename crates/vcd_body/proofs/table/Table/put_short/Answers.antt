@@ -1,28 +1,23 @@
 use Rattle.std.proofs.Common.{List, ℕ, sym, ap, ◌∙◌, subst}
 use Rattle.vcd_model.specs.Cut.{line_if_set}
-use Rattle.vcd_text.specs.Device.{Puts}
+use Rattle.vcd_text.specs.Device.{Takes}
 use Rattle.vcd_body.specs.Contents.{shown_code}
 use Rattle.vcd_body.specs.Kept.{value_at_size}
 use Rattle.vcd_body.specs.Stored.{held_by}
-use Rattle.vcd_body.proofs.TableLemmas.{line_there, share_long, share_within}
+use Rattle.vcd_body.proofs.TableLemmas.{line_there}
 use Rattle.vcd_body.proofs.table.Table.put_short.Goals as goal
 
-pub share_in-requires : goal.share_in-requires
-share_in-requires g c = share_within c.args.self.now.slots.now c.args.self.now.values.now c.args.code c.in-Some-slot_at.slot c.args.self.now.laid (sym c.slot_at.ensures ∙ c.in-Some-slot_at.is)
-
-pub put_value_line-requires-clause-used : goal.put_value_line-requires-clause-used
-put_value_line-requires-clause-used g c = share_long c.args.self.now.slots.now c.args.self.now.values.now c.share_in.result.now c.args.code c.in-Some-slot_at.slot c.args.self.now.laid (sym c.slot_at.ensures ∙ c.in-Some-slot_at.is) c.share_in.ensures
-
-pub put_value_line-requires-clause-some : goal.put_value_line-requires-clause-some
-put_value_line-requires-clause-some g c = let l = c.args.self.now.laid c.args.code c.in-Some-slot_at.slot (sym c.slot_at.ensures ∙ c.in-Some-slot_at.is) in l.2
-
-pub returns : goal.returns
-returns g c =
+pub returns-clause-takes : goal.returns-clause-takes
+returns-clause-takes g c = λ laid.
     let slot = c.in-Some-slot_at.slot in
     let declared = c.in-Some.declared in
+    let share = c.in-Some-share_in.share in
     let line = line_there c.args.view c.args.self.now c.args.code declared slot (sym c.code_at.ensures ∙ c.in-Some.is) (sym c.slot_at.ensures ∙ c.in-Some-slot_at.is) in
-    subst (λ l. Puts (g.W.Sink.device c.args.w.now) (g.W.Sink.device c.put_value_line.new.w) l c.put_value_line.result)
-    (ap (λ (t : List ℕ). line_if_set (record { text = t; size = declared.size; event = declared.event }) (value_at_size declared.size (held_by slot.state slot.len c.share_in.result.now))) c.text_at-id.ensures
-    ∙ ap (λ (l : List ℕ). line_if_set (shown_code c.args.view.text.now declared) (value_at_size declared.size (held_by slot.state slot.len l))) c.share_in.ensures
+    subst (λ l. Takes (g.W.Sink.device c.args.w.now) (g.W.Sink.device c.put_value_line.new.w) l c.put_value_line.result)
+    (ap (λ (t : List ℕ). line_if_set (record { text = t; size = declared.size; event = declared.event }) (value_at_size declared.size (held_by slot.state slot.len share.now))) c.text_at-id.ensures
+    ∙ ap (λ (l : List ℕ). line_if_set (shown_code c.args.view.text.now declared) (value_at_size declared.size (held_by slot.state slot.len l))) c.in-Some-share_in.ensures.share
     ∙ sym line)
-    (c.put_value_line.ensures declared.event)
+    (c.put_value_line.ensures declared.event).0
+
+pub returns-clause-counts : goal.returns-clause-counts
+returns-clause-counts g c = let puts = c.put_value_line.ensures c.in-Some.declared.event in puts.1

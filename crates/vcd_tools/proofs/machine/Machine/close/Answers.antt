@@ -6,3 +6,7 @@ use Rattle.vcd_tools.proofs.machine.Machine.close.Goals as goal
 pub returns-in-Pick-clause-takes : goal.returns-in-Pick-clause-takes
 returns-in-Pick-clause-takes g c = λ h items views known last keeps.
     rw c.in-Pick.is (c.close-in-Pick.ensures.takes h items known last (subst (λ (m : Machine). Keeps m h items) c.in-Pick.is keeps))
+
+pub returns-in-Cut-clause-takes : goal.returns-in-Cut-clause-takes
+returns-in-Cut-clause-takes g c = λ h items views known last keeps.
+    rw c.in-Cut.is (c.close-in-Cut.ensures.takes h items views known last (subst (λ (m : Machine). Keeps m h items) c.in-Cut.is keeps))

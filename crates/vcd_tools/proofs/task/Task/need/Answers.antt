@@ -3,7 +3,7 @@ use Rattle.vcd_model.proofs.BoundLemmas.{room_fits}
 use Rattle.vcd_head.proofs.RoomLemmas.{is_view}
 use Rattle.vcd_head.specs.Needs.{view_size}
 use Rattle.vcd_head.specs.Shown.{parts}
-use Rattle.vcd_tools.proofs.RoomLemmas.{no_room_fits, pick_room_fits, no_room_within, pick_room_within, still_within}
+use Rattle.vcd_tools.proofs.RoomLemmas.{no_room_fits, pick_room_fits, no_room_within, pick_room_within, still_within, windows}
 use Rattle.vcd_tools.proofs.task.Task.need.Goals as goal
 
 pub returns-in-Check-clause-fits : goal.returns-in-Check-clause-fits
@@ -17,3 +17,6 @@ returns-in-Check-clause-bound c = λ limit chunk lent le within. still_within li
 
 pub returns-in-Pick-clause-bound : goal.returns-in-Pick-clause-bound
 returns-in-Pick-clause-bound c = λ limit chunk lent le within. still_within limit chunk c.args.view lent _ within (pick_room_within limit chunk c.args.view le)
+
+pub returns-in-Cut-clause-bound : goal.returns-in-Cut-clause-bound
+returns-in-Cut-clause-bound c = λ limit chunk lent le within. still_within limit chunk c.args.view lent _ within (λ h views. c.need.ensures.fits limit h _ views (windows limit chunk le))
