@@ -12,6 +12,8 @@ pub mod ItemTextLemmas
 pub mod PickLemmas
 pub mod CutLemmas
 pub mod TallyLemmas
+pub mod SelectedLines
+pub mod TallyLines
 pub mod SelectionLemmas
 pub mod MergeItem
 pub mod Dumps

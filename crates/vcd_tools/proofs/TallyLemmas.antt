@@ -18,7 +18,7 @@ use Rattle.vcd_head.specs.declared.view.Code.{Code}
 use Rattle.vcd_head.specs.declared.view.HeadView.{HeadView}
 use Rattle.vcd_head.proofs.LookUpLemmas.{same_place}
 use Rattle.vcd_head.proofs.RowLemmas.{code_at}
-use Rattle.vcd_body.specs.Contents.{ChangesCode, counts_at, held_at, kept_at}
+use Rattle.vcd_body.specs.Contents.{ChangesCode, IsLaidOut, counts_at, held_at, kept_at}
 use Rattle.vcd_body.specs.Given.{IsText}
 use Rattle.vcd_body.specs.Items.{model_form}
 use Rattle.vcd_body.specs.Kept.{Held, Kept, differs, last_digit_in, one_more, value_at_size, with_text}
@@ -77,15 +77,37 @@ module _ (old new : Table) (place : ℕ) (f : Kept → Kept) (changes : ChangesC
       by_test true e = (f k, changes p ∙ rw (e, was) refl, (retains k).1)
       by_test false e = (k, changes p ∙ rw e was, refl)
 
-  counted_held : Retains f → (h : Header) (items : List BodyItem) → AreHeld old h items → AreHeld new h items
-  counted_held retains h items held = record {
-    values = λ p c there event. ap (value_at_size c.size) (held_stays retains p) ∙ held.values p c there event;
+  counted_held : IsLaidOut new → Retains f → (h : Header) (items : List BodyItem) → AreHeld old h items → AreHeld new h items
+  counted_held laid retains h items held = record {
+    values = record {
+      laid = laid;
+      each = λ p c there event. ap (value_at_size c.size) (held_stays retains p) ∙ held.values.each p c there event;
+    };
     shares = λ p c there.
         let s = held.shares p c there in
         let r = room_stays retains p s.0 s.1 in
         let more = s.2 in let room = r.2 in
         (r.0, r.1, omega (arith, more, room));
   }
+
+-- no change of them
+pub changes_none : (t : Table) (place which : ℕ) → ChangesCode place (one_more_if false which) t t
+changes_none t place which p = by_case (p == place) (kept_at t p)
+  where
+    by_case : (b : Bool) (o : Option Kept) → o ≡ cond b (option_map (one_more_if false which) o) o
+    by_case true (Some k) = refl
+    by_case true None = refl
+    by_case false o = refl
+
+-- two changes of the counters of one code
+pub changes_twice : (old mid new : Table) (place : ℕ) (f g : Kept → Kept) → ChangesCode place f old mid → ChangesCode place g mid new → ChangesCode place (λ k. g (f k)) old new
+changes_twice old mid new place f g first second p =
+    second p ∙ ap (λ o. cond (p == place) (option_map g o) o) (first p) ∙ by_case (p == place) (kept_at old p)
+  where
+    by_case : (b : Bool) (o : Option Kept) → cond b (option_map g (cond b (option_map f o) o)) (cond b (option_map f o) o) ≡ cond b (option_map (λ k. g (f k)) o) o
+    by_case true (Some k) = refl
+    by_case true None = refl
+    by_case false o = refl
 
 -- ---- digits
 
@@ -215,7 +237,10 @@ module _ (v : HeadView) (h : Header) (items : List BodyItem) (place : ℕ) (c : 
 
     mark_held : (t : Table) → AreHeld t h items → AreHeld t h (items ++ BodyItem.Changes d ∷ [])
     mark_held t held = record {
-      values = λ p x there none. held.values p x there none ∙ sym (final_other x items (BodyItem.Changes d) (gives p x there (elsewhere p x there none (p == place) refl)));
+      values = record {
+        laid = held.values.laid;
+        each = λ p x there none. held.values.each p x there none ∙ sym (final_other x items (BodyItem.Changes d) (gives p x there (elsewhere p x there none (p == place) refl)));
+      };
       shares = held.shares;
     }
       where
@@ -237,12 +262,12 @@ module _ (v : HeadView) (h : Header) (items : List BodyItem) (place : ℕ) (c : 
         by_test false e = apart p e ∙ tallied.counted p x there ∙ ap numbers (sym (counts_other x items (BodyItem.Changes d) (gives p x there e)))
 
     -- outside a section it counts
-    pub mark_tallied : (old new : Table) → ChangesCode place (one_more 0) old new → false ≡ leaves_open items → length items < 2 ^ 63 → AreTallied old h items → AreTallied new h (items ++ BodyItem.Changes d ∷ [])
-    mark_tallied old new changes outside few tallied =
+    pub mark_tallied : (old new : Table) → IsLaidOut new → ChangesCode place (one_more 0) old new → false ≡ leaves_open items → length items < 2 ^ 63 → AreTallied old h items → AreTallied new h (items ++ BodyItem.Changes d ∷ [])
+    mark_tallied old new laid changes outside few tallied =
         let k = tallied.held.shares place c declared in
         let was = ap counts_in (sym k.1) ∙ tallied.counted place c declared in
         record {
-          held = mark_held new (counted_held old new place (one_more 0) changes (λ x. (refl, refl)) h items tallied.held);
+          held = mark_held new (counted_held old new place (one_more 0) changes laid (λ x. (refl, refl)) h items tallied.held);
           counted = mark_counted new old false outside (counts_apart old new place (one_more 0) changes) (counts_there old new place (one_more 0) changes k.0 k.1 ∙ one_mark (counts_for items c) k.0 (small_counts c items few) was) tallied;
         }
 
@@ -261,10 +286,10 @@ module _ (v : HeadView) (h : Header) (items : List BodyItem) (place : ℕ) (c : 
 
     -- what the table held, and holds
     value_before : (old : Table) → AreHeld old h items → value_at_size c.size (held_at old place) ≡ final_value items c
-    value_before old held = held.values place c declared event
+    value_before old held = held.values.each place c declared event
 
     value_after : (mid : Table) → AreHeld mid h (items ++ BodyItem.Changes change ∷ []) → value_at_size c.size (held_at mid place) ≡ Some (value_of change)
-    value_after mid held = held.values place c declared event ∙ final_new c items change self_code
+    value_after mid held = held.values.each place c declared event ∙ final_new c items change self_code
 
     more_counts : counts_for (items ++ BodyItem.Changes change ∷ []) c ≡ with_value (counts_for items c) (final_value items c) (value_of change)
     more_counts = counts_new c items change self_code event
@@ -281,9 +306,9 @@ module _ (v : HeadView) (h : Header) (items : List BodyItem) (place : ℕ) (c : 
             ap (counts_at t) at ∙ one ∙ ap numbers (sym more_counts) ∙ ap (λ (y : IdCode). numbers (counts_for (items ++ BodyItem.Changes change ∷ []) y)) (sym same)
         by_test false e = apart p e ∙ tallied.counted p x there ∙ ap numbers (sym (counts_other x items (BodyItem.Changes change) (other_code p x there e)))
 
-    module _ (old mid : Table) (sets : ChangesCode place (with_text form text) old mid) (value : SetsValue form text place old mid) (tallied : AreTallied old h items) where
+    module _ (old mid : Table) (laid : IsLaidOut mid) (sets : ChangesCode place (with_text form text) old mid) (value : SetsValue form text place old mid) (tallied : AreTallied old h items) where
       mid_held : AreHeld mid h (items ++ BodyItem.Changes change ∷ [])
-      mid_held = set_holds v h old mid items place form text c views declared tallied.held sets good value
+      mid_held = set_holds v h old mid items place form text c views declared tallied.held sets laid good value
 
       -- a value that is the one before it
       pub same_tallied : differs (value_at_size c.size (held_at old place)) (value_of change) ≡ false → AreTallied mid h (items ++ BodyItem.Changes change ∷ [])
@@ -293,13 +318,13 @@ module _ (v : HeadView) (h : Header) (items : List BodyItem) (place : ℕ) (c : 
           record {
             held = mid_held;
             counted = value_counted mid old (counts_apart old mid place (with_text form text) sets)
-            (counts_there old mid place (with_text form text) sets k.0 k.1 ∙ ap counts_in (sym k.1) ∙ tallied.counted place c declared ∙ not_counted (counts_for items c) (final_value items c) (value_of change) d) tallied;
+                (counts_there old mid place (with_text form text) sets k.0 k.1 ∙ ap counts_in (sym k.1) ∙ tallied.counted place c declared ∙ not_counted (counts_for items c) (final_value items c) (value_of change) d) tallied;
           }
 
       -- one that differs
-      pub change_tallied : (new : Table) (before after : Option ℕ) → ChangesCode place (with_change before after) mid new → differs (value_at_size c.size (held_at old place)) (value_of change) ≡ true
+      pub change_tallied : (new : Table) (before after : Option ℕ) → IsLaidOut new → ChangesCode place (with_change before after) mid new → differs (value_at_size c.size (held_at old place)) (value_of change) ≡ true
           → before ≡ last_digit_in (value_at_size c.size (held_at old place)) → after ≡ last_digit_in (value_at_size c.size (held_at mid place)) → length items < 2 ^ 63 → AreTallied new h (items ++ BodyItem.Changes change ∷ [])
-      change_tallied new before after counts other first last few =
+      change_tallied new before after settled counts other first last few =
           let k = tallied.held.shares place c declared in
           let k' = with_text form text k.0 in
           let at : kept_at mid place ≡ Some k' = set_at k.0 k.1 in
@@ -308,9 +333,9 @@ module _ (v : HeadView) (h : Header) (items : List BodyItem) (place : ℕ) (c : 
           let b = first ∙ ap last_digit_in (value_before old tallied.held) in
           let a = last ∙ ap last_digit_in (value_after mid mid_held) in
           record {
-            held = counted_held mid new place (with_change before after) counts (change_retains before after) h _ mid_held;
+            held = counted_held mid new place (with_change before after) counts settled (change_retains before after) h _ mid_held;
             counted = value_counted new old (λ p e. counts_apart mid new place (with_change before after) counts p e ∙ counts_apart old mid place (with_text form text) sets p e)
-            (counts_there mid new place (with_change before after) counts k' at ∙ counted_value (counts_for items c) k' (small_counts c items few) was (final_value items c) (value_of change) before after d b a) tallied;
+                (counts_there mid new place (with_change before after) counts k' at ∙ counted_value (counts_for items c) k' (small_counts c items few) was (final_value items c) (value_of change) before after d b a) tallied;
           }
         where
           set_at : (k : Kept) → kept_at old place ≡ Some k → kept_at mid place ≡ Some (with_text form text k)
@@ -325,9 +350,9 @@ counts_none c = by_event c.event
     by_event true = refl
     by_event false = refl
 
-pub new_tallied : (v : HeadView) (h : Header) (t : Table) → IsViewOf v h → IsNew v t → AreTallied t h []
-new_tallied v h t views is = record {
-  held = new_holds v h t views is;
+pub new_tallied : (v : HeadView) (h : Header) (t : Table) → IsViewOf v h → IsLaidOut t → IsNew v t → AreTallied t h []
+new_tallied v h t views laid is = record {
+  held = new_holds v h t views laid is;
   counted = λ place c declared.
       let m = code_at v.text.now v.codes.now h.codes place c views.codes declared in
       ap counts_in (is place m.0 m.1) ∙ sym (counts_none c);
@@ -338,3 +363,12 @@ still_tallied t h items x none tallied = record {
   held = held_still t h items x none tallied.held;
   counted = λ place c declared. tallied.counted place c declared ∙ ap numbers (sym (counts_other c items x (none c)));
 }
+
+-- ---- what a view shows of a code
+
+pub shown_there : (v : HeadView) (h : Header) (place : ℕ) (d : Code) (c : IdCode) → IsViewOf v h → slice_get v.codes.now place ≡ Some d → slice_get h.codes place ≡ Some c → (c.size ≡ d.size) × (c.event ≡ d.event)
+shown_there v h place d c views shown declared =
+    let m = code_at v.text.now v.codes.now h.codes place c views.codes declared in
+    let known = m.1 in
+    let same : m.0 ≡ d = cc in
+    (sym m.2.size_is ∙ ap (λ (y : Code). y.size) same, sym m.2.event_is ∙ ap (λ (y : Code). y.event) same)

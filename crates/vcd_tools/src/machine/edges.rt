@@ -94,11 +94,7 @@ impl<'n, 'r> Edges<'n, 'r> {
     }
 
     /// Writes the rows of the selected variables.
-    pub(crate) fn close<W: Sink>(
-        &self,
-        view: HeadView<'_>,
-        out: &mut W,
-    ) -> Result<(), WriteFailed>
+    pub(crate) fn close<W: Sink>(&self, view: HeadView<'_>, out: &mut W) -> Result<(), WriteFailed>
         requires { (W.device out.old).failures < 2 ^ 64 - 1 }
         ensures takes { (h : Header) (items : List BodyItem) → IsViewOf view.entry h
             → AreEdges self.now h items
