@@ -1,15 +1,15 @@
 -- What `cut` writes with one item more, and what it keeps then.
-use Rattle.std.proofs.Common.{◌≡◌, ◌≢◌, ℕ, ◌+◌, ◌≤◌, ◌<◌, ◌==◌, ◌⊎◌, inl, inr, nat_le, nat_lt, Bool, true, false, not, cond, ◌&&◌, List, [], ◌∷◌, ◌++◌, map, filter, flat_map, take, drop, length, get_or, slice_get, is_some, Option, Some, None, Result, Ok, Err, refl, sym, ap, subst, ◌∙◌, arith, append-nil, append_assoc}
+use Rattle.std.proofs.Common.{◌≡◌, ◌≢◌, ℕ, ◌+◌, ◌≤◌, ◌<◌, ◌==◌, ◌⊎◌, inl, inr, nat_le, nat_lt, Bool, true, false, not, cond, ◌&&◌, List, [], ◌∷◌, ◌++◌, filter, flat_map, take, drop, length, get_or, slice_get, Option, Some, None, Result, Ok, Err, refl, sym, ap, subst, ◌∙◌, arith, append-nil}
 use Rattle.std.specs.Prelude.{IfOk, IsErr, option_and_then, option_map, unwrap_or}
 use Rattle.std.proofs.lemmas.List.{take-append-drop}
 use Rattle.std.proofs.lemmas.List.Concat.{flat_map-append}
 use Rattle.std.proofs.lemmas.List.Elements.{filter-append}
-use Rattle.std.proofs.lemmas.Bool.{le-leb, lt-leb, lt-ltb, le-ltb, ltb-false, eq-eqb}
+use Rattle.std.proofs.lemmas.Bool.{le-leb, lt-leb, lt-ltb, le-ltb, ltb-false, eq-eqb, ne_eqb}
 use Rattle.vcd_model.specs.Cut.{cut_close, cut_open, ends_cut, is_mark_above, is_started, line_if_set, start_section, times_of}
 use Rattle.vcd_model.specs.Declarations.{IdCode}
 use Rattle.vcd_model.specs.Header.{Header}
 use Rattle.vcd_model.specs.HeadText.{head_for}
-use Rattle.vcd_model.specs.History.{final_value, value_before}
+use Rattle.vcd_model.specs.History.{value_before}
 use Rattle.vcd_model.specs.Items.{BodyItem, Entry, entry_after, leaves_open, marks, time_after}
 use Rattle.vcd_model.specs.ItemText.{closing, last_mark, may_keep, text_after, time_unless}
 use Rattle.vcd_model.proofs.CutGrows.{due, none_kept, so_far_is, started_more}
@@ -20,7 +20,7 @@ use Rattle.vcd_model.proofs.KeptLines.{keeps, kept_more, kept_same, last_is_enou
 use Rattle.vcd_text.specs.Device.{Counts, Device, Takes}
 use Rattle.vcd_text.specs.declared.device.Source.{Ghosts}
 use Rattle.vcd_text.specs.declared.feed.Feed.{Feed}
-use Rattle.vcd_text.proofs.Writes.{AppendsSome, appends-none, takes-failed, takes-first, takes-twice}
+use Rattle.vcd_text.proofs.Writes.{AppendsSome, appends-first, appends-none, takes-failed, takes-first, takes-twice}
 use Rattle.std.specs.Io.KnownBytes.{Appends}
 use Rattle.vcd_tools.specs.Cut.{AreCut, BeginsBy, HasBegun, HasNone, IsNoMark, kept_from, may_be_kept, values_text}
 use Rattle.vcd_tools.specs.Device.{TakesDue}
@@ -55,11 +55,11 @@ use Rattle.vcd_tools.proofs.ValuesLemmas.{held_still}
 
 -- that is not reached: they are those after all items
 pub values_before : (t : Table) (h : Header) (a : ℕ) (p : List BodyItem) → time_after p < a → AreHeld t h p → HasValues t h (λ c. value_before p c a)
-values_before t h a p low held place c declared event = held.values place c declared event ∙ sym (value_before_is c a p low)
+values_before t h a p low held = record { laid = held.values.laid; each = λ place c declared event. held.values.each place c declared event ∙ sym (value_before_is c a p low) }
 
 -- of no items
 pub values_none : (t : Table) (h : Header) (a : ℕ) → AreHeld t h [] → HasValues t h (λ c. value_before [] c a)
-values_none t h a held place c declared event = held.values place c declared event
+values_none t h a held = record { laid = held.values.laid; each = held.values.each }
 
 -- ---- the begin
 
@@ -69,11 +69,11 @@ open_begun h a b s = so_far_is h a b [] refl ∙ rw s (append-nil _)
 pub open_plain : (h : Header) (a b : ℕ) → is_started a [] ≡ false → cut_open h a b [] ≡ head_for h []
 open_plain h a b s = so_far_is h a b [] refl ∙ rw s (append-nil _ ∙ append-nil (head_for h []))
 
-pub begun_at : (a : ℕ) → (a == 0) ≡ true → is_started a [] ≡ true
+pub begun_at : (a : ℕ) → a ≡ 0 → is_started a [] ≡ true
 begun_at a e = rw e refl
 
-pub plain_at : (a : ℕ) → (a == 0) ≡ false → is_started a [] ≡ false
-plain_at a e = rw e refl
+pub plain_at : (a : ℕ) → a ≢ 0 → is_started a [] ≡ false
+plain_at a e = rw (ne_eqb a 0 e) refl
 
 -- ---- a time mark
 
@@ -299,7 +299,7 @@ pub line_at : (v : HeadView) (h : Header) (t : Table) (items : List BodyItem) (t
 line_at v h t items time i c views there event has =
     ap (λ (cs : List IdCode). line_of cs t i) (shown_are v h views)
     ∙ ap (λ (o : Option IdCode). unwrap_or (option_map (λ (d : IdCode). line_if_set d (option_and_then (λ (e : IdCode). value_at_size e.size (held_at t i)) o)) o) []) there
-    ∙ ap (line_if_set c) (has i c there event)
+    ∙ ap (line_if_set c) (has.each i c there event)
 
 values-append : (cs ds : List IdCode) (items : List BodyItem) (time : ℕ) → values_text (cs ++ ds) items time ≡ values_text cs items time ++ values_text ds items time
 values-append cs ds items time =
@@ -388,3 +388,31 @@ begins_is h items t m m' out out' (Err e) none le takes counts begun = (none, le
 -- and where it was not
 pub begins_none : (h : Header) (items : List BodyItem) (t : ℕ) (m : Cut) (out : Device) → (is_started m.from items ≡ true) ⊎ (t < m.from) → HasBegun h items t m m out out ⊎ HasNone items t m m out out
 begins_none h items t m out why = inr (record { why = why; same = refl; nothing = refl })
+
+-- ---- the begin of a cut
+
+-- a prefix of the header is one of the text before all items
+pub open_some : (h : Header) (a b : ℕ) (old new : Option (List ℕ)) → AppendsSome old new (head_for h []) → AppendsSome old new (cut_open h a b [])
+open_some h a b old new some = by_start (is_started a []) refl
+  where
+    by_start : (s : Bool) → is_started a [] ≡ s → AppendsSome old new (cut_open h a b [])
+    by_start true s = rw (open_begun h a b s) (appends-first old new (head_for h []) (start_section h a []) some)
+    by_start false s = rw (open_plain h a b s) some
+
+pub starts_begun : (h : Header) (m : Cut) (a b : ℕ) → m.from ≡ a → m.to ≡ b → a ≤ b → m.started ≡ true → HasWritten (a ∷ []) [] m.text → is_started a [] ≡ true → AreCut m h []
+starts_begun h m a b same_from same_to le started text now = record {
+  ordered = rw (same_from, same_to) le;
+  on = refl;
+  started_is = rw same_from (started ∙ sym now);
+  held = λ none. let s = started in cc;
+  written = λ _. rw same_from text;
+}
+
+pub starts_plain : (h : Header) (m : Cut) → m.from ≤ m.to → m.started ≡ false → AreHeld m.table h [] → is_started m.from [] ≡ false → AreCut m h []
+starts_plain h m le none held later = record {
+  ordered = le;
+  on = refl;
+  started_is = none ∙ sym later;
+  held = λ _. held;
+  written = λ has. let s = none in cc;
+}

@@ -1,5 +1,5 @@
 -- A table of current values when it is new, and with one item more.
-use Rattle.std.proofs.Common.{◌≡◌, ◌≢◌, ℕ, ◌-◌, ◌^◌, ◌<◌, ◌≤◌, ◌==◌, ◌⊎◌, inl, inr, Bool, true, false, cond, min, sum_by, List, [], ◌∷◌, ◌++◌, length, slice_get, Option, Some, None, refl, sym, ap, subst, ◌∙◌, arith}
+use Rattle.std.proofs.Common.{◌≡◌, ◌≢◌, ℕ, ◌≤◌, ◌==◌, Bool, true, false, List, [], ◌∷◌, ◌++◌, slice_get, Option, Some, refl, sym, ap, subst, ◌∙◌, arith}
 use Rattle.std.specs.Prelude.{option_map, unwrap_or}
 use Rattle.std.proofs.lemmas.Bool.{eqb-true, eqb-false}
 use Rattle.std.proofs.lemmas.Slice.Eq.{bytes_eq-Decides}
@@ -7,19 +7,18 @@ use Rattle.vcd_model.specs.Declarations.{IdCode, same_code}
 use Rattle.vcd_model.specs.Header.{Header}
 use Rattle.vcd_model.specs.History.{final_value, gives_to}
 use Rattle.vcd_model.specs.Items.{BodyItem}
-use Rattle.vcd_model.specs.Values.{value_of, value_with}
+use Rattle.vcd_model.specs.Values.{value_with}
 use Rattle.vcd_model.proofs.FinalValues.{final_new, final_other}
 use Rattle.vcd_text.specs.declared.device.Source.{Ghosts}
 use Rattle.vcd_text.specs.declared.feed.Feed.{Feed}
-use Rattle.vcd_head.specs.Needs.{value_bytes}
 use Rattle.vcd_head.specs.Shown.{parts}
-use Rattle.vcd_head.specs.Views.{IsCode, IsViewOf}
+use Rattle.vcd_head.specs.Views.{IsViewOf}
 use Rattle.vcd_head.specs.declared.view.Code.{Code}
 use Rattle.vcd_head.specs.declared.view.HeadView.{HeadView}
 use Rattle.vcd_head.proofs.LookUpLemmas.{same_place}
 use Rattle.vcd_head.proofs.RoomLemmas.{same_sum, sum_fits}
 use Rattle.vcd_head.proofs.RowLemmas.{code_at}
-use Rattle.vcd_body.specs.Contents.{ChangesCode, held_at, kept_at}
+use Rattle.vcd_body.specs.Contents.{ChangesCode, IsLaidOut, held_at, kept_at}
 use Rattle.vcd_body.specs.Given.{IsGoodChange, IsText, text_of}
 use Rattle.vcd_body.specs.Items.{model_form}
 use Rattle.vcd_body.specs.Kept.{Held, Kept, unset, value_at_size, with_text}
@@ -30,7 +29,7 @@ use Rattle.vcd_body.specs.declared.item.Item.TheVariants.{Time, Begin, End, Chan
 use Rattle.vcd_body.specs.declared.table.Table.{Table}
 use Rattle.vcd_body.proofs.TableLemmas.{room_needed}
 use Rattle.vcd_tools.specs.ItemText.{AsItem}
-use Rattle.vcd_tools.specs.Values.{AreHeld, HasShares, HasValues, table_bytes}
+use Rattle.vcd_tools.specs.Values.{AreHeld, HasShares, table_bytes}
 
 -- ---- a new table
 
@@ -46,11 +45,14 @@ room_enough v h n views le =
 abbrev pub IsNew : HeadView → Table → Type 0
 IsNew v t = (code : ℕ) (c : Code) → slice_get v.codes.now code ≡ Some c → kept_at t code ≡ Some (unset (share_of c.size))
 
-pub new_holds : (v : HeadView) (h : Header) (t : Table) → IsViewOf v h → IsNew v t → AreHeld t h []
-new_holds v h t views is = record {
-  values = λ place c declared event.
-      let m = code_at v.text.now v.codes.now h.codes place c views.codes declared in
-      ap (λ (o : Option Kept). value_at_size c.size (unwrap_or (option_map (λ (k : Kept). k.held) o) Held.Unset)) (is place m.0 m.1);
+pub new_holds : (v : HeadView) (h : Header) (t : Table) → IsViewOf v h → IsLaidOut t → IsNew v t → AreHeld t h []
+new_holds v h t views laid is = record {
+  values = record {
+    laid = laid;
+    each = λ place c declared event.
+        let m = code_at v.text.now v.codes.now h.codes place c views.codes declared in
+        ap (λ (o : Option Kept). value_at_size c.size (unwrap_or (option_map (λ (k : Kept). k.held) o) Held.Unset)) (is place m.0 m.1);
+  };
   shares = λ place c declared.
       let m = code_at v.text.now v.codes.now h.codes place c views.codes declared in
       let size = m.2.size_is in
@@ -62,7 +64,7 @@ new_holds v h t views is = record {
 -- one that gives no code a value
 pub held_still : (t : Table) (h : Header) (items : List BodyItem) (x : BodyItem) → ((c : IdCode) → gives_to c x ≡ false) → AreHeld t h items → AreHeld t h (items ++ x ∷ [])
 held_still t h items x none held = record {
-  values = λ place c declared event. held.values place c declared event ∙ sym (final_other c items x (none c));
+  values = record { laid = held.values.laid; each = λ place c declared event. held.values.each place c declared event ∙ sym (final_other c items x (none c)) };
   shares = held.shares;
 }
 
@@ -118,9 +120,9 @@ module _ (v : HeadView) (h : Header) (old new : Table) (items : List BodyItem) (
       absurd (eqb-false other place apart one)
   gives_none other d there apart false same = refl
 
-  pub set_holds : ((d : Code) → slice_get v.codes.now place ≡ Some d → IsText form d text) → SetsValue form text place old new → AreHeld new h (items ++ setting ∷ [])
-  set_holds good sets = record {
-    values = λ other d there event. by_test other d there event (other == place) refl;
+  pub set_holds : IsLaidOut new → ((d : Code) → slice_get v.codes.now place ≡ Some d → IsText form d text) → SetsValue form text place old new → AreHeld new h (items ++ setting ∷ [])
+  set_holds laid good sets = record {
+    values = record { laid = laid; each = λ other d there event. by_test other d there event (other == place) refl };
     shares = shares_stay;
   }
     where
@@ -130,7 +132,7 @@ module _ (v : HeadView) (h : Header) (old new : Table) (items : List BodyItem) (
           let same : d ≡ c = same_Some d c (sym there ∙ ap (slice_get h.codes) one ∙ declared) in
           rw (same, one) (set_there good sets (ap (λ (y : IdCode). y.event) (sym same) ∙ event))
       by_test other d there event false e =
-          ap (value_at_size d.size) (others_stay other e) ∙ held.values other d there event
+          ap (value_at_size d.size) (others_stay other e) ∙ held.values.each other d there event
           ∙ sym (final_other d items setting (gives_none other d there e (same_code d c) refl))
 
 -- ---- the item that was read last

@@ -7,7 +7,7 @@ use Rattle.vcd_model.specs.Items.{BodyItem}
 use Rattle.vcd_model.specs.Values.{Value}
 use Rattle.vcd_head.specs.Needs.{value_bytes}
 use Rattle.vcd_head.specs.declared.view.HeadView.{HeadView}
-use Rattle.vcd_body.specs.Contents.{held_at, kept_at}
+use Rattle.vcd_body.specs.Contents.{IsLaidOut, held_at, kept_at}
 use Rattle.vcd_body.specs.Kept.{Kept, value_at_size}
 use Rattle.vcd_body.specs.Stored.{share_of}
 use Rattle.vcd_body.specs.declared.table.Table.{Table}
@@ -17,8 +17,9 @@ abbrev pub table_bytes : HeadView → ℕ
 table_bytes v = min (sum_by value_bytes v.codes.now) (2 ^ 64 - 1)
 
 -- of each code that is no event the table holds this value
-abbrev pub HasValues : Table → Header → (IdCode → Option Value) → Type 0
-HasValues t h value = (place : ℕ) (c : IdCode) → slice_get h.codes place ≡ Some c → c.event ≡ false → value_at_size c.size (held_at t place) ≡ value c
+pub record HasValues (t : Table) (h : Header) (value : IdCode → Option Value) : Type 0 where
+  pub laid : IsLaidOut t
+  pub each : (place : ℕ) (c : IdCode) → slice_get h.codes place ≡ Some c → c.event ≡ false → value_at_size c.size (held_at t place) ≡ value c
 
 -- each code has room for all values that it may have
 abbrev pub HasShares : Table → Header → Type 0

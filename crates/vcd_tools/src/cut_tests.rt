@@ -74,8 +74,24 @@ fn is_cut(
 #[test]
 fn cut_of_a_window(rt: HostRuntime) -> Result<(), Fail> {
     let early = Ok(Done::Early);
-    assert!(rt; is_cut(rt.alloc(), KINDS, Span { from: 10, to: 15 }, early, KINDS_CUT)?);
-    assert!(rt; is_cut(rt.alloc(), UNMARKED, Span { from: 0, to: 5 }, early, UNMARKED_CUT)?);
+    assert!(rt;
+        is_cut(
+            rt.alloc(),
+            KINDS,
+            Span { from: 10, to: 15 },
+            early,
+            KINDS_CUT
+        )?
+    );
+    assert!(rt;
+        is_cut(
+            rt.alloc(),
+            UNMARKED,
+            Span { from: 0, to: 5 },
+            early,
+            UNMARKED_CUT
+        )?
+    );
     Ok(())
 }
 

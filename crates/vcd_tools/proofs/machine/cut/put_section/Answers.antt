@@ -1,4 +1,4 @@
-use Rattle.std.proofs.Common.{◌≡◌, List, ℕ, ◌++◌, Err, append_assoc, sym, ap, ◌∙◌, subst, rules}
+use Rattle.std.proofs.Common.{◌≡◌, List, ℕ, ◌++◌, Err, append_assoc, subst, rules}
 use Rattle.vcd_model.specs.Bytes.{as_line}
 use Rattle.vcd_model.specs.Cut.{start_section}
 use Rattle.vcd_model.specs.Header.{Header}
@@ -6,7 +6,7 @@ use Rattle.vcd_model.specs.Items.{BodyItem}
 use Rattle.vcd_model.specs.ItemText.{time_line}
 use Rattle.vcd_model.specs.Keywords.{Keyword, keyword_text}
 use Rattle.vcd_text.specs.Device.{Takes}
-use Rattle.vcd_text.proofs.Writes.{AppendsSome, appends-first, appends-some, appends-twice, takes-twice}
+use Rattle.vcd_text.proofs.Writes.{appends-first, appends-some, appends-twice, takes-twice}
 use Rattle.vcd_tools.specs.Cut.{values_text}
 use Rattle.vcd_tools.proofs.machine.cut.put_section.Goals as goal
 

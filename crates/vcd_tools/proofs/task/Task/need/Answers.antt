@@ -1,8 +1,3 @@
-use Rattle.std.proofs.Common.{length}
-use Rattle.vcd_model.proofs.BoundLemmas.{room_fits}
-use Rattle.vcd_head.proofs.RoomLemmas.{is_view}
-use Rattle.vcd_head.specs.Needs.{view_size}
-use Rattle.vcd_head.specs.Shown.{parts}
 use Rattle.vcd_tools.proofs.RoomLemmas.{no_room_fits, pick_room_fits, no_room_within, pick_room_within, still_within, windows}
 use Rattle.vcd_tools.proofs.task.Task.need.Goals as goal
 

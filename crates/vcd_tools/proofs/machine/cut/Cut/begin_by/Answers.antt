@@ -1,6 +1,6 @@
 use Rattle.std.proofs.Common.{◌∙◌, sym, arith}
 use Rattle.vcd_model.proofs.CutSteps.{not_started}
-use Rattle.vcd_tools.proofs.CutLemmas.{begins_is, begins_none, values_before}
+use Rattle.vcd_tools.proofs.CutLemmas.{begins_is, values_before}
 use Rattle.vcd_tools.proofs.machine.cut.Cut.begin_by.Goals as goal
 
 pub returns-clause-begins : goal.returns-clause-begins

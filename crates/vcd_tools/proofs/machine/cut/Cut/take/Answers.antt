@@ -1,6 +1,3 @@
-use Rattle.std.proofs.Common.{◌≡◌, Ok, false, refl, sym, subst}
-use Rattle.vcd_body.specs.declared.item.Item.{Item}
-use Rattle.vcd_tools.specs.ItemText.{AsItem}
 use Rattle.vcd_tools.proofs.CutLemmas.{no_end, no_mark_is}
 use Rattle.vcd_tools.proofs.machine.cut.Cut.take.Goals as goal
 

@@ -5,7 +5,6 @@ use Rattle.vcd_head.specs.declared.view.Code.{Code}
 use Rattle.vcd_body.specs.Given.{IsGoodChange, IsText}
 use Rattle.vcd_body.specs.Items.{model_form}
 use Rattle.vcd_body.specs.declared.item.Item.{Item}
-use Rattle.vcd_body.specs.declared.item.Item.TheVariants.{Change}
 use Rattle.vcd_tools.specs.ItemText.{AsItem}
 use Rattle.vcd_tools.specs.Values.{AreHeld}
 use Rattle.vcd_tools.proofs.CutLemmas.{item_held, none_before}
@@ -16,7 +15,7 @@ pub returns-then-self-clause-takes : goal.returns-then-self-clause-takes
 returns-then-self-clause-takes g c = λ h items before x views known re read none is. c.put_kept.ensures.takes h items before x views known re read none is c.if-self.true
 
 pub returns-in-Change-clause-takes : goal.returns-in-Change-clause-takes
-returns-in-Change-clause-takes g c = λ h items before x views known re read none is.
+returns-in-Change-clause-takes g c = λ h items earlier x views known re read none is.
     let m = c.args.self.now in
     let place = c.in-Change.code in
     let form = c.in-Change.form in
@@ -25,9 +24,11 @@ returns-in-Change-clause-takes g c = λ h items before x views known re read non
     let sound = subst (λ (i : Item). IsGoodChange c.args.view.codes.now c.args.feed.now i) c.in-Change.is c.requires.sound in
     let good : (d : Code) → slice_get c.args.view.codes.now place ≡ Some d → IsText form d text = λ d there. subst (λ l. IsText form d l) (sym c.change_text.ensures) (good_text c.args.view.codes.now c.args.feed.now place form d sound there) in
     let item : BodyItem.Changes (record { code = change.0; form = model_form form; text = text }) ≡ x = ap (λ (l : List ℕ). BodyItem.Changes (record { code = change.0; form = model_form form; text = l })) c.change_text.ensures ∙ sym change.2 in
-    let held = set_holds c.args.view h m.table c.set.new.self items place form text change.0 views change.1 (is.held c.if-self.false) c.set.ensures.changes good c.set.ensures.value in (
-      ([], none_before c.args.view h items before m c.args.feed.now c.args.item x views known is read none c.if-self.false, appends-none (g.W.Sink.device c.args.out.now).held),
-      item_held c.args.view h items before m c.args.feed.now c.args.item x views known is read none c.set.new.self c.if-self.false (subst (λ (y : BodyItem). AreHeld c.set.new.self h (items ++ y ∷ [])) item held),
+    let before = is.held c.if-self.false in
+    let laid = before.values.laid in
+    let held = set_holds c.args.view h m.table c.set.new.self items place form text change.0 views change.1 before (c.set.ensures.changes laid) (c.set.ensures.laid laid) good (c.set.ensures.value laid) in (
+      ([], none_before c.args.view h items earlier m c.args.feed.now c.args.item x views known is read none c.if-self.false, appends-none (g.W.Sink.device c.args.out.now).held),
+      item_held c.args.view h items earlier m c.args.feed.now c.args.item x views known is read none c.set.new.self c.if-self.false (subst (λ (y : BodyItem). AreHeld c.set.new.self h (items ++ y ∷ [])) item held),
     )
 
 pub returns-in_default : goal.returns-in_default

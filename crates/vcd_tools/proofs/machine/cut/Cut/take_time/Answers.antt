@@ -1,4 +1,4 @@
-use Rattle.std.proofs.Common.{◌≡◌, ℕ, ◌≤◌, ◌<◌, Bool, Result, Ok, Err, true, false, Option, Some, List, refl, sym, subst, arith, rules}
+use Rattle.std.proofs.Common.{◌≡◌, ℕ, ◌≤◌, ◌<◌, Bool, Result, Ok, Err, true, false, Some, refl, sym, subst, arith, rules}
 use Rattle.vcd_model.specs.ItemText.{closing}
 use Rattle.vcd_text.specs.Device.{Takes}
 use Rattle.vcd_text.specs.declared.device.WriteFailed.{WriteFailed}

@@ -1,0 +1,75 @@
+#!/usr/bin/env bash
+# cut_speed.sh [DUMP ...]   how fast `vcdkit cut` is on these dumps (plain ones of 200 MB with 64 and with 20000 variables): before the
+# window, within it, and of the middle half, beside `vcdkit check` and `wc -l` on the same dump. See README.md.
+set -eu -o pipefail
+here=$(cd "$(dirname "$0")" && pwd)
+programs=(check 'cut before' 'cut within' 'cut middle' 'wc -l')
+greatest=18446744073709551615
+
+for dump in "$@"; do
+    [ -f "$dump" ] || { sed -n '2,3s/^# //p' "$0" >&2; exit 2; }
+done
+. "$here/common.sh"
+
+# Sets `last` to the last time mark.
+find_last() {
+    last=$("$work/vcdkit" check < "$1" | awk '$1 == "last" { print $2 }')
+}
+
+# Sets `command` to the words that run a program.
+find_command() {
+    case $1 in
+        check) command=("$work/vcdkit" check) ;;
+        'cut before') command=("$work/vcdkit" cut --from "$greatest" --to "$greatest") ;;
+        'cut within') command=("$work/vcdkit" cut --from 0 --to "$greatest") ;;
+        'cut middle') command=("$work/vcdkit" cut --from $((last / 4)) --to $((last / 4 * 3))) ;;
+        'wc -l') command=(wc -l) ;;
+    esac
+}
+
+# Makes sure that what a cut writes is read as a dump, and says how many bytes it has.
+written_by() {
+    find_command "$1"
+    "${command[@]}" < "$2" > "$work/cut"
+    "$work/vcdkit" check < "$work/cut" > /dev/null
+    wc -c < "$work/cut"
+    rm "$work/cut"
+}
+
+# Measures all programs on a dump, and prints a line for each.
+measure() {
+    find_last "$1"
+    local program
+    for program in 'cut before' 'cut within' 'cut middle'; do echo "$program:$(written_by "$program" "$1")"; done > "$work/written"
+
+    # The programs take turns, so that what else the machine does meets all of them.
+    for _ in 1 2 3; do
+        for program in "${programs[@]}"; do echo "$program:$(times_of "$program" "$1")"; done
+    done > "$work/times"
+
+    echo "${1##*/}: last time $last; peak of 'cut before' $(peak_of 'cut before' "$1") KB"
+    awk -F: -v bytes="$(wc -c < "$1")" '
+        NR == FNR { written[$1] = $2; next }
+        { split($2, t, " ") }
+        !($1 in best) { order[++n] = $1; best[$1] = t[1] }
+        t[1] < best[$1] { best[$1] = t[1] }
+        END {
+            printf "%-10s | %17s %8s %10s | %10s\n", "", "user and system s", "MB/s", "over check", "MB written"
+            for (k = 1; k <= n; k++) {
+                p = order[k]
+                printf "%-10s | %17.3f %8.0f %10.2f | %10s\n", p, best[p], bytes / 1e6 / (best[p] + 1e-9), best[p] / (best["check"] + 1e-9),
+                    p in written ? sprintf("%.1f", written[p] / 1e6) : ""
+            }
+        }' "$work/written" "$work/times"
+    echo
+}
+
+echo 'best of three; over check: the time over that of check, so below 1 where it is faster'
+for dump in "$@"; do measure "$dump"; done
+if [ $# -eq 0 ]; then
+    for variables in 64 20000; do
+        "$here/plain_dump.py" 200 "$variables" > "$work/plain_$variables"
+        measure "$work/plain_$variables"
+        rm "$work/plain_$variables"
+    done
+fi
