@@ -1,5 +1,5 @@
 -- What a table counts of the values of codes, with one item more.
-use Rattle.std.proofs.Common.{◌≡◌, ℕ, ◌+◌, ◌-◌, ◌^◌, ◌<◌, ◌≤◌, ◌==◌, ◌&&◌, Bool, true, false, not, cond, min, List, [], ◌∷◌, ◌++◌, length, slice_get, Option, Some, None, refl, sym, ap, subst, ◌∙◌, arith}
+use Rattle.std.proofs.Common.{◌≡◌, ℕ, ◌+◌, ◌-◌, ◌^◌, ◌<◌, ◌==◌, ◌&&◌, Bool, true, false, not, cond, min, List, [], ◌∷◌, ◌++◌, length, slice_get, Option, Some, None, refl, sym, ap, ◌∙◌, arith}
 use Rattle.std.specs.Prelude.{option_map, unwrap_or}
 use Rattle.std.specs.List.{last_or}
 use Rattle.std.proofs.lemmas.Bool.{eq-eqb, eqb-true, eqb-false}
@@ -9,8 +9,8 @@ use Rattle.vcd_model.specs.Edges.{Counts, counts_for, goes, has_last}
 use Rattle.vcd_model.specs.Header.{Header}
 use Rattle.vcd_model.specs.History.{final_value, gives_to}
 use Rattle.vcd_model.specs.Items.{BodyItem, Change, leaves_open}
-use Rattle.vcd_model.specs.Values.{Value, same_value, value_of, value_with}
-use Rattle.vcd_model.proofs.EdgesSteps.{AreFew, are_few, counts_mark, counts_new, counts_other, with_mark, with_value}
+use Rattle.vcd_model.specs.Values.{Value, same_value, value_of}
+use Rattle.vcd_model.proofs.EdgesSteps.{are_few, counts_mark, counts_new, counts_other, with_mark, with_value}
 use Rattle.vcd_model.proofs.FinalValues.{final_new, final_other}
 use Rattle.vcd_head.specs.Shown.{parts}
 use Rattle.vcd_head.specs.Views.{IsViewOf}
@@ -22,11 +22,10 @@ use Rattle.vcd_body.specs.Contents.{ChangesCode, IsLaidOut, counts_at, held_at, 
 use Rattle.vcd_body.specs.Given.{IsText}
 use Rattle.vcd_body.specs.Items.{model_form}
 use Rattle.vcd_body.specs.Kept.{Held, Kept, differs, last_digit_in, one_more, value_at_size, with_text}
-use Rattle.vcd_body.specs.Stored.{share_of}
 use Rattle.vcd_body.specs.declared.item.Form.{Form}
 use Rattle.vcd_body.specs.declared.table.Table.{Table}
 use Rattle.vcd_tools.specs.Edges.{AreTallied, goes_from, is_digit, numbers, one_more_if, with_change}
-use Rattle.vcd_tools.specs.Values.{AreHeld, HasShares}
+use Rattle.vcd_tools.specs.Values.{AreHeld}
 use Rattle.vcd_tools.proofs.ValuesLemmas.{IsNew, SetsValue, held_still, new_holds, set_holds}
 
 -- ---- a table whose counters alone change

@@ -1,5 +1,5 @@
 -- The row of a variable in the report of `edges`.
-use Rattle.std.proofs.Common.{◌≡◌, ℕ, List, [], ◌∷◌, ◌++◌, take, get_or, slice_get, decimal, flat_map, refl, Some, sym, ap, ◌∙◌, append_assoc}
+use Rattle.std.proofs.Common.{◌≡◌, ℕ, List, [], ◌∷◌, ◌++◌, take, get_or, slice_get, decimal, flat_map, refl, Some, ap, ◌∙◌, append_assoc}
 use Rattle.vcd_model.specs.Declarations.{Declaration, Variable, code_of, path_of}
 use Rattle.vcd_model.specs.Edges.{counts_for, edges_close, edges_line}
 use Rattle.vcd_model.specs.HeadText.{words}
@@ -13,7 +13,7 @@ use Rattle.vcd_head.specs.declared.view.Row.{Row}
 use Rattle.vcd_head.proofs.RowLemmas.{row_of}
 use Rattle.vcd_body.specs.Contents.{counts_at}
 use Rattle.vcd_body.specs.declared.table.Table.{Table}
-use Rattle.vcd_tools.specs.Edges.{AreTallied, numbers}
+use Rattle.vcd_tools.specs.Edges.{AreTallied}
 use Rattle.vcd_tools.proofs.SelectedLines.{declared_at}
 
 -- a path and three counters, as they are written

@@ -43,6 +43,8 @@ mod choice;
 mod commands;
 #[cfg(test)]
 mod cut_tests;
+#[cfg(test)]
+mod edges_tests;
 mod engine;
 mod item_text;
 mod machine;

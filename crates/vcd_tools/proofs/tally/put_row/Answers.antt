@@ -1,5 +1,5 @@
-use Rattle.std.proofs.Common.{◌≡◌, ℕ, List, [], ◌∷◌, Err, take, get_or, decimal, sym, subst, ◌∙◌, rules}
-use Rattle.vcd_model.specs.Declarations.{Declaration, path_of}
+use Rattle.std.proofs.Common.{◌≡◌, ℕ, List, [], ◌∷◌, Err, get_or, decimal, sym, subst, ◌∙◌, rules}
+use Rattle.vcd_model.specs.Declarations.{Declaration}
 use Rattle.vcd_text.specs.Device.{Takes}
 use Rattle.vcd_text.proofs.Writes.{AppendsSome, appends-first, appends-some, appends-twice, takes-twice}
 use Rattle.vcd_head.specs.Shown.{parts}

@@ -1,4 +1,4 @@
-use Rattle.std.proofs.Common.{◌≡◌, ℕ, true, false, sym, subst, ap, ◌∙◌}
+use Rattle.std.proofs.Common.{◌≡◌, ℕ, true, false, sym, ap, ◌∙◌}
 use Rattle.vcd_model.specs.Values.{value_with}
 use Rattle.vcd_body.specs.Contents.{held_at}
 use Rattle.vcd_body.specs.Items.{model_form}
