@@ -17,3 +17,4 @@ pub mod Pieces
 pub mod HeldShort
 pub mod HeldLines
 pub mod SetLemmas
+pub mod CompareLemmas

@@ -1,6 +1,7 @@
 -- What a table keeps of a code, and what each call makes of it.
-use Rattle.std.specs.Prelude.{ℕ, ◌+◌, ◌-◌, ◌/◌, ◌%◌, ◌^◌, ◌==◌, ◌&&◌, nat_lt, nat_le, min, Bool, true, false, cond, List, [], ◌∷◌, length, map, get_or, slice_get, slice_set, Option, Some, None}
-use Rattle.vcd_model.specs.Values.{Value, extend}
+use Rattle.std.specs.Prelude.{ℕ, ◌+◌, ◌-◌, ◌/◌, ◌%◌, ◌^◌, ◌==◌, ◌&&◌, nat_lt, nat_le, min, Bool, true, false, not, cond, List, [], ◌∷◌, length, map, get_or, slice_get, slice_set, Option, Some, None}
+use Rattle.std.specs.List.{last_or}
+use Rattle.vcd_model.specs.Values.{Value, extend, same_value}
 use Rattle.vcd_body.specs.Packed.{held_digit}
 use Rattle.vcd_body.specs.declared.item.Form.{Form}
 use Rattle.vcd_body.specs.declared.item.Form.TheVariants as form
@@ -62,6 +63,17 @@ abbrev pub digit_in : Option Value → ℕ → Option ℕ
 digit_in None place = None
 digit_in (Some (Value.Bits ds)) place = slice_get ds place
 digit_in (Some (Value.Real text)) place = None
+
+-- its last digit
+abbrev pub last_digit_in : Option Value → Option ℕ
+last_digit_in None = None
+last_digit_in (Some (Value.Bits ds)) = last_or None ds
+last_digit_in (Some (Value.Real text)) = None
+
+-- there is a value, and it is another than this
+abbrev pub differs : Option Value → Value → Bool
+differs None v = false
+differs (Some u) v = not (same_value u v)
 
 -- the text of a real number, empty where the value is none
 abbrev pub real_text : Held → List ℕ

@@ -19,7 +19,7 @@ pub(crate) fn extension_of(digit: u8) -> u8
 }
 
 // What a value that begins with this digit is extended by.
-fn extended_by(digit: u8) -> u8
+pub(crate) fn extended_by(digit: u8) -> u8
     ensures { result ≡ extension (lower digit ∷ []) }
 {
     extension_of(digit.to_ascii_lowercase())

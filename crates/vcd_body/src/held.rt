@@ -1,6 +1,6 @@
 // The digits that a slot holds, and those of its value.
-ghost use Rattle.std.specs.Prelude.{◌≡◌, ◌≤◌, length, slice_get};
-ghost use Rattle.vcd_body.specs.Kept.{digit_in, value_at_size};
+ghost use Rattle.std.specs.Prelude.{◌≡◌, ℕ, ◌≤◌, length, slice_get};
+ghost use Rattle.vcd_body.specs.Kept.{digit_in, last_digit_in, value_at_size};
 ghost use Rattle.vcd_body.specs.Stored.{digits_with, held_with, some_by, used};
 
 use crate::change::extension_of;
@@ -49,4 +49,18 @@ pub(crate) fn digit_shown(slot: Slot, share: &[u8], size: usize, place: usize) -
         return Some(extension_of(first));
     }
     digit_held(slot, share, place - missing)
+}
+
+/// The last digit of the value at each size; none where it has none.
+#[inline(always)]
+pub(crate) fn last_held(slot: Slot, share: &[u8]) -> Option<u8>
+    requires used { used slot ≤ length share.now }
+    requires some { 1 ≤ some_by slot.state slot.len }
+    ensures { (size : ℕ) → result
+        ≡ last_digit_in (value_at_size size (held_with slot share.now)) }
+{
+    match slot.state {
+        State::Digits => digit_at(share, slot.len - 1),
+        state => digit_of_state(state),
+    }
 }

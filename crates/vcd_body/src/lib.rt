@@ -24,7 +24,7 @@
 //! - `change`: `put_change`
 //! - `table`, `slot`: `Table`, `Shown`; `Slot`
 //! - `store`: slots and shares of the values, and how they are set; `packed`: digits, four to a byte
-//! - `held`, `held_text`: the digits of a held value, and how it is written
+//! - `held`, `held_text`: the digits of a held value, and how it is written; `compare`: whether a change gives another one
 //!
 //! In `specs/` callers read `Items`, `Reads`, `Given` and `Fault`, and for the table `Contents` and `Kept`.
 //!
@@ -37,6 +37,7 @@
 #![tactic(auto)]
 
 mod change;
+mod compare;
 mod fault;
 mod held;
 mod held_text;

@@ -2,10 +2,11 @@
 ghost use Rattle.std.specs.Prelude.{◌≡◌, ℕ, ◌+◌, ◌-◌, ◌^◌, ◌<◌, ◌≤◌, length};
 ghost use Rattle.vcd_model.specs.Sample.{shown};
 ghost use Rattle.vcd_text.specs.Device.{Counts, Takes, failures_after};
-ghost use Rattle.vcd_body.specs.Kept.{Held, as_chosen, digit_in, one_more, real_text, with_text};
+ghost use Rattle.vcd_body.specs.Kept.{Held, as_chosen, differs, digit_in, last_digit_in, one_more, real_text, with_text};
 ghost use Rattle.vcd_body.specs.Stored.{room_of};
 
-use crate::held::digit_shown;
+use crate::compare::value_differs;
+use crate::held::{digit_shown, last_held};
 use crate::held_text::{put_value, put_value_line};
 use crate::item::Form;
 use crate::slot::{Shown, Slot, State};
@@ -104,6 +105,38 @@ impl<'a> Table<'a> {
             return None;
         };
         digit_shown(slot, share, declared.size, place)
+    }
+
+    /// The last digit of the value of the code at a place, in lower case; none where the value has no digits. It is the same at
+    /// each size.
+    #[inline(always)]
+    pub fn last_digit(&self, code: usize) -> Option<u8>
+        ensures { IsLaidOut self.now → (size : ℕ)
+            → result ≡ last_digit_in (value_at_size size (held_at self.now code)) }
+    {
+        let Some(slot) = slot_at(self.slots, code) else {
+            return None;
+        };
+        let Some(share) = share_in(self.values, slot) else {
+            return None;
+        };
+        last_held(slot, share)
+    }
+
+    /// Whether the code at a place has a value, and the text of a change gives another one at this size. It takes as long as what
+    /// is held and the text are, whatever the size is; of one digit each it looks at the code's slot alone.
+    #[inline(always)]
+    pub fn differs(&self, code: usize, size: usize, form: Form, text: &[u8]) -> bool
+        ensures { IsLaidOut self.now → result ≡ differs (value_at_size size (held_at self.now code))
+            (value_with size (model_form form) text.now) }
+    {
+        let Some(slot) = slot_at(self.slots, code) else {
+            return false;
+        };
+        let Some(share) = share_in(self.values, slot) else {
+            return false;
+        };
+        value_differs(slot, share, size, form, text)
     }
 
     /// The text of the real number that is the value of the code at a place; empty where it has no such value.

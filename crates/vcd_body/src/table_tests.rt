@@ -234,6 +234,124 @@ fn digits_by_their_places(rt: HostRuntime) -> Result<(), Fail> {
     Ok(())
 }
 
+// Whether a code of this size that is set by one text gets another value by a second one.
+fn is_changed(
+    alloc: Global,
+    size: usize,
+    first: (Form, &[u8]),
+    second: (Form, &[u8]),
+) -> Result<bool, AllocError> {
+    let codes = [code_of(size)];
+    let view = view_of(&codes);
+    let mut values = vec![in alloc; 255u8; need(view).values]?;
+    let mut slots = [Slot::new()];
+    let mut table = Table::new(view, &mut values, &mut slots);
+    table.set(0, first.0, first.1);
+    Ok(table.differs(0, size, second.0, second.1))
+}
+
+// The same of two texts of digits, whichever comes first: they are two values, or one.
+fn are_two(alloc: Global, size: usize, one: &[u8], other: &[u8]) -> Result<bool, AllocError> {
+    let there = is_changed(alloc, size, (Form::Vector, one), (Form::Vector, other))?;
+    let back = is_changed(alloc, size, (Form::Vector, other), (Form::Vector, one))?;
+    Ok(there && back)
+}
+
+fn are_one(alloc: Global, size: usize, one: &[u8], other: &[u8]) -> Result<bool, AllocError> {
+    let there = is_changed(alloc, size, (Form::Vector, one), (Form::Vector, other))?;
+    let back = is_changed(alloc, size, (Form::Vector, other), (Form::Vector, one))?;
+    Ok(!there && !back)
+}
+
+#[test]
+fn values_that_differ_at_each_size(rt: HostRuntime) -> Result<(), Fail> {
+    let alloc = rt.alloc();
+    for size in [1, 2, 4, 5, 63, 64, 65] {
+        let ones = padded(alloc, b'1', size, b"")?;
+        let unknown = padded(alloc, b'X', size, b"")?;
+        let high = padded(alloc, b'z', size, b"")?;
+        let zeros = padded(alloc, b'0', size, b"")?;
+        let one = padded(alloc, b'0', size - 1, b"1")?;
+        let all = mixed(alloc, size)?;
+        assert!(rt; are_one(alloc, size, b"0", &zeros)?, "0 at {size}");
+        assert!(rt; are_one(alloc, size, b"1", &one)?, "1 at {size}");
+        assert!(rt; are_one(alloc, size, b"x", &unknown)?, "x at {size}");
+        assert!(rt; are_one(alloc, size, b"Z", &high)?, "z at {size}");
+        assert!(rt; are_one(alloc, size, &all, &all)?, "all at {size}");
+        assert!(rt; are_two(alloc, size, b"0", b"1")?, "0 and 1 at {size}");
+        assert!(rt; are_two(alloc, size, b"x", b"z")?, "x and z at {size}");
+        assert!(rt;
+            are_two(alloc, size, &zeros, &unknown)?,
+            "0s and xs at {size}"
+        );
+        assert!(rt; are_two(alloc, size, b"0", &ones)?, "0 and 1s at {size}");
+        assert_eq!(rt;
+            are_one(alloc, size, b"1", &ones)?,
+            size == 1,
+            "1 and 1s at {size}"
+        );
+    }
+    Ok(())
+}
+
+#[test]
+fn short_digits_that_differ(rt: HostRuntime) -> Result<(), Fail> {
+    let alloc = rt.alloc();
+    assert!(rt; are_one(alloc, 4, b"10", b"010")?);
+    assert!(rt; are_one(alloc, 4, b"x10", b"XX10")?);
+    assert!(rt; are_two(alloc, 4, b"10", b"x10")?);
+    assert!(rt; are_two(alloc, 4, b"x10", b"0x10")?);
+    assert!(rt; are_two(alloc, 4, b"110", b"10")?);
+    let wide = padded(alloc, b'x', 63, b"10")?;
+    assert!(rt; are_one(alloc, 65, b"x10", &wide)?);
+    assert!(rt; are_two(alloc, 66, b"10", &wide)?);
+    Ok(())
+}
+
+#[test]
+fn real_numbers_that_differ(rt: HostRuntime) -> Result<(), Fail> {
+    let alloc = rt.alloc();
+    let half = (Form::RealText, b"0.5".as_slice());
+    let same = (Form::RealText, b"0.50".as_slice());
+    let digit = (Form::Scalar, b"1".as_slice());
+    let number = (Form::RealText, b"1".as_slice());
+    assert!(rt; !is_changed(alloc, 64, half, half)?);
+    assert!(rt; is_changed(alloc, 64, half, same)?);
+    assert!(rt; is_changed(alloc, 1, digit, number)?);
+    assert!(rt; is_changed(alloc, 1, number, digit)?);
+    Ok(())
+}
+
+#[test]
+fn value_of_no_code_never_differs(rt: HostRuntime) {
+    let codes = [code_of(4)];
+    let mut slots = [Slot::new()];
+    let table = Table::new(view_of(&codes), &mut [], &mut slots);
+    assert!(rt; !table.differs(0, 4, Form::Scalar, b"1"));
+    assert!(rt; !table.differs(1, 4, Form::Scalar, b"1"));
+    assert_eq!(rt; table.last_digit(0), None);
+    assert_eq!(rt; table.last_digit(1), None);
+}
+
+#[test]
+fn last_digits_of_values(rt: HostRuntime) -> Result<(), Fail> {
+    let alloc = rt.alloc();
+    let codes = [code_of(9)];
+    let view = view_of(&codes);
+    let mut values = vec![in alloc; 255u8; need(view).values]?;
+    let mut slots = [Slot::new()];
+    let mut table = Table::new(view, &mut values, &mut slots);
+    table.set(0, Form::Scalar, b"Z");
+    assert_eq!(rt; table.last_digit(0), Some(b'z'));
+    table.set(0, Form::Vector, b"01");
+    assert_eq!(rt; table.last_digit(0), Some(b'1'));
+    table.set(0, Form::Vector, b"x00110010");
+    assert_eq!(rt; table.last_digit(0), Some(b'0'));
+    table.set(0, Form::RealText, b"1");
+    assert_eq!(rt; table.last_digit(0), None);
+    Ok(())
+}
+
 // The value of a code in full is this.
 fn is_full(table: &Table<'_>, view: HeadView<'_>, code: usize, full: &[u8]) -> bool {
     let mut page = Watch::new(Narrow::new(1024));

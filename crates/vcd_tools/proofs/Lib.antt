@@ -11,6 +11,9 @@ pub mod RunLemmas
 pub mod ItemTextLemmas
 pub mod PickLemmas
 pub mod CutLemmas
+pub mod TallyLemmas
+pub mod SelectedLines
+pub mod TallyLines
 pub mod SelectionLemmas
 pub mod MergeItem
 pub mod Dumps

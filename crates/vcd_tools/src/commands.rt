@@ -81,6 +81,37 @@ pub fn pick<S: Source, W: Sink>(
     run_task(Task::Pick(names), view, feed, room, out)
 }
 
+/// Reads the body after the header that is shown, and then writes a row for each variable that the names select: its path, and
+/// how often its value changes, rises and falls. At a fault nothing is written. A name that selects nothing is refused before
+/// anything is read.
+pub fn edges<S: Source, W: Sink>(
+    view: HeadView<'_>,
+    feed: &mut Feed<'_, '_, '_, '_, S>,
+    room: &mut Room<'_>,
+    names: &[String],
+    out: &mut W,
+) -> Result<Done, Stop>
+    requires feed_failures { S.failures (source_of feed.old) < 2 ^ 64 - 1 }
+    requires out_failures { (W.device out.old).failures < 2 ^ 64 - 1 }
+    requires open { HasNotFailed feed.old }
+    requires room { HasRoomFor (Task.Edges names) view room.old }
+    requires bound { AreWithinBound (limit_of feed.old) (chunk_len_of feed.old) view
+        (room_size room.old) }
+    ensures gives { (h : Header) (i : Input) (front : List Token) (name : List ℕ)
+        → IsViewOf view.entry h → HasGiven i front feed.old
+        → Follows (Request.Edges (map string_bytes names.now)) (limit_of feed.old)
+        (chunk_len_of feed.old) i front h name (supply_of feed.old) (supply_of feed.new)
+        (W.device out.old) (W.device out.new) result }
+    ensures devices { (S.failures (source_of feed.new)
+        ≡ S.failures (source_of feed.old) + reads_failed result)
+        × ((W.device out.new).failures ≡ (W.device out.old).failures + writes_failed result) }
+    ensures answer { IfOk result (λ done. done ≡ Whole) }
+    ensures windows { (limit_of feed.new ≡ limit_of feed.old)
+        × (chunk_len_of feed.new ≡ chunk_len_of feed.old) × SameLoans feed.old feed.new }
+{
+    run_task(Task::Edges(names), view, feed, room, out)
+}
+
 /// Writes the header of all variables and, from the first time mark of the span on, a section with the values that stood before
 /// it and the items in it, each after the line of its time. A time mark above the span ends the run.
 pub fn cut<S: Source, W: Sink>(

@@ -24,7 +24,7 @@
 //! - `choice`: which codes are chosen, a byte a code
 //! - `item_text`: kept items as lines, each after the line of its time
 //! - `selection`: the variables that names select, as marks and as chosen codes
-//! - `report`, `rows`: the seven lines of `check`; `list`
+//! - `report`, `rows`, `tally`: the seven lines of `check`; `list`; the counters of `edges`, and its rows
 //! - `merge`, `merging`, `seat`, `newcode`, `windows`: a step of `merge` over all inputs, and of one of them; where an input
 //!   stands; new codes; the windows of all inputs. No function begins a merge, and no command uses it yet
 //!
@@ -44,6 +44,8 @@ mod choice;
 mod commands;
 #[cfg(test)]
 mod cut_tests;
+#[cfg(test)]
+mod edges_tests;
 mod engine;
 mod item_text;
 mod machine;
@@ -55,13 +57,14 @@ mod rows;
 mod seat;
 mod selection;
 mod span;
+mod tally;
 mod task;
 #[cfg(test)]
 mod tests;
 mod windows;
 
 pub use answer::{Done, More, Stop};
-pub use commands::{check, cut, pick};
+pub use commands::{check, cut, edges, pick};
 pub use engine::{Engine, run_task};
 pub use merge::{Merge, merge_step};
 pub use rows::list;

@@ -15,6 +15,7 @@ ghost use Rattle.vcd_tools.specs.Room.{HasRoomFor, IsWithin, room_of, room_size}
 
 pub(crate) mod check;
 pub(crate) mod cut;
+pub(crate) mod edges;
 pub(crate) mod pick;
 
 use crate::answer::Stop;
@@ -29,6 +30,7 @@ pub(crate) enum Machine<'n, 'r> {
     Check(check::Check),
     Pick(pick::Pick<'n, 'r>),
     Cut(cut::Cut<'r>),
+    Edges(edges::Edges<'n, 'r>),
 }
 
 /// The last time mark.
@@ -65,6 +67,7 @@ impl<'n, 'r> Machine<'n, 'r> {
             Task::Check => Ok(Machine::Check(check::Check::start())),
             Task::Pick(names) => Ok(Machine::Pick(pick::Pick::start(view, room, names, out)?)),
             Task::Cut(span) => Ok(Machine::Cut(cut::Cut::start(view, room, span, out)?)),
+            Task::Edges(names) => Ok(Machine::Edges(edges::Edges::start(view, room, names)?)),
         }
     }
 
@@ -96,6 +99,7 @@ impl<'n, 'r> Machine<'n, 'r> {
             Machine::Check(check) => check.take(item),
             Machine::Pick(pick) => pick.take(view, regs, item, feed, out)?,
             Machine::Cut(cut) => return cut.take(view, regs, item, feed, out),
+            Machine::Edges(edges) => edges.take(view, regs, item, feed),
         }
         Ok(false)
     }
@@ -118,6 +122,7 @@ impl<'n, 'r> Machine<'n, 'r> {
             Machine::Check(check) => check.close(view, regs, out),
             Machine::Pick(pick) => pick.close(regs, out),
             Machine::Cut(cut) => cut.close(view, regs, out),
+            Machine::Edges(edges) => edges.close(view, out),
         }
     }
 }

@@ -21,6 +21,8 @@ pub enum Task<'n> {
     Pick(&'n [String]),
     /// Writes the values that stand before a time, and the items from then up to another time.
     Cut(Span),
+    /// Counts how often the values of the variables that these names select change, rise and fall, and writes it at the end.
+    Edges(&'n [String]),
 }
 
 /// What a run is lent beside its windows, of lengths at least as `Task::need` returns for its header. No memory is taken beyond it.
@@ -61,6 +63,7 @@ impl<'n> Task<'n> {
                 marks: view.rows.len(),
             },
             Task::Cut(_) => need(view),
+            Task::Edges(_) => need(view),
         }
     }
 }

@@ -10,3 +10,7 @@ returns-in-Pick-clause-takes g c = λ h items views known last keeps.
 pub returns-in-Cut-clause-takes : goal.returns-in-Cut-clause-takes
 returns-in-Cut-clause-takes g c = λ h items views known last keeps.
     rw c.in-Cut.is (c.close-in-Cut.ensures.takes h items views known last (subst (λ (m : Machine). Keeps m h items) c.in-Cut.is keeps))
+
+pub returns-in-Edges-clause-takes : goal.returns-in-Edges-clause-takes
+returns-in-Edges-clause-takes g c = λ h items views known last keeps.
+    rw c.in-Edges.is (c.close-in-Edges.ensures.takes h items views (subst (λ (m : Machine). Keeps m h items) c.in-Edges.is keeps))

@@ -1,0 +1,178 @@
+-- Digits that extend to one value, or to several.
+use Rattle.std.proofs.Common.{◌≡◌, ◌≢◌, ℕ, zero, suc, ◌+◌, ◌-◌, max, ◌≤◌, ◌<◌, Bool, true, false, not, List, [], ◌∷◌, ◌++◌, length, replicate, drop, get_or, Option, Some, None, slice_get, refl, sym, ap, subst, ◌∙◌, arith, ◌⊎◌, inl, inr}
+use Rattle.std.specs.Bool.{Decides}
+use Rattle.std.specs.List.{last_or}
+use Rattle.std.specs.Char.{to_ascii_lowercase}
+use Rattle.std.specs.Str.{bytes_eq, str_to_ascii_lowercase}
+use Rattle.std.proofs.lemmas.Bool.{cases_lt}
+use Rattle.std.proofs.lemmas.Bool.Decides.{same_from_decides}
+use Rattle.std.proofs.lemmas.List.{length-append, length-replicate, same_lists}
+use Rattle.std.proofs.lemmas.Slice.Eq.{bytes_eq-Decides}
+use Rattle.vcd_model.specs.Values.{extend, extension}
+use Rattle.vcd_body.specs.Kept.{last_digit_in, value_at_size}
+use Rattle.vcd_body.specs.Stored.{digits_held, held_by, one_digit, used_by}
+use Rattle.vcd_body.specs.declared.slot.State.{State}
+use Rattle.vcd_body.specs.declared.slot.State.TheVariants as state
+use Rattle.vcd_body.proofs.HeldLemmas.{length_held}
+use Rattle.vcd_body.proofs.Shortest.{extend_wide, extension_again}
+
+-- ---- extended digits
+
+pub length_extended : (ds : List ℕ) (size : ℕ) → length (extend ds size) ≡ max size (length ds)
+length_extended ds size =
+    let a = length-append (replicate (size - length ds) (extension ds)) ds in
+    let r = length-replicate (size - length ds) (extension ds) in
+    omega arith
+
+extension_kept : (k : ℕ) (ds : List ℕ) → extension (replicate k (extension ds) ++ ds) ≡ extension ds
+extension_kept zero ds = refl
+extension_kept (suc k) ds = extension_again ds (replicate k (extension ds) ++ ds)
+
+replicate_both : (a b e : ℕ) (l : List ℕ) → replicate a e ++ (replicate b e ++ l) ≡ replicate (a + b) e ++ l
+replicate_both zero b e l = let s : b ≡ 0 + b = omega arith in ap (λ k. replicate k e ++ l) s
+replicate_both (suc a) b e l = let s : suc (a + b) ≡ suc a + b = omega arith in ap (λ r. e ∷ r) (replicate_both a b e l) ∙ ap (λ k. replicate k e ++ l) s
+
+-- digits that were extended, extended further
+extend_twice : (ds : List ℕ) (n size : ℕ) → length ds ≤ n → n ≤ size → extend (extend ds n) size ≡ extend ds size
+extend_twice ds n size fits more =
+    let l = length_extended ds n in
+    let first : size - length (extend ds n) ≡ size - n = omega arith in
+    let all : (size - n) + (n - length ds) ≡ size - length ds = omega arith in
+    ap (λ k. replicate k (extension (extend ds n)) ++ extend ds n) first
+    ∙ ap (λ e. replicate (size - n) e ++ extend ds n) (extension_kept (n - length ds) ds)
+    ∙ replicate_both (size - n) (n - length ds) (extension ds) ds
+    ∙ ap (λ k. replicate k (extension ds) ++ ds) all
+
+drop_replicated : (k e : ℕ) (l : List ℕ) → drop k (replicate k e ++ l) ≡ l
+drop_replicated zero e l = refl
+drop_replicated (suc k) e l = drop_replicated k e l
+
+-- and cut again
+cut_again : (ds : List ℕ) (n size : ℕ) → length ds ≤ n → n ≤ size → drop (size - n) (extend ds size) ≡ extend ds n
+cut_again ds n size fits more =
+    let l = length_extended ds n in
+    let first : size - length (extend ds n) ≡ size - n = omega arith in
+    ap (drop (size - n)) (sym (extend_twice ds n size fits more) ∙ ap (λ k. replicate k (extension (extend ds n)) ++ extend ds n) first)
+    ∙ drop_replicated (size - n) (extension (extend ds n)) (extend ds n)
+
+-- ---- two rows of digits
+
+module _ (xs ys : List ℕ) (size : ℕ) where
+  other_lengths : max size (length xs) ≢ max size (length ys) → extend xs size ≢ extend ys size
+  other_lengths other e =
+      let l = ap length e in
+      let a = length_extended xs size in
+      let b = length_extended ys size in
+      other (omega arith)
+
+  -- at a size that both fit
+  pub same_where_fit : (n : ℕ) → length xs ≤ n → length ys ≤ n → n ≤ size → (r : Bool) → Decides r (extend xs n ≡ extend ys n) → Decides r (extend xs size ≡ extend ys size)
+  same_where_fit n few less more r d = (
+    λ yes. sym (extend_twice xs n size few more) ∙ ap (λ l. extend l size) (d.0 yes) ∙ extend_twice ys n size less more,
+    λ same. d.1 (sym (cut_again xs n size few more) ∙ ap (drop (size - n)) same ∙ cut_again ys n size less more),
+  )
+
+  -- they are as many as the longer of them, or are extended further
+  pub same_at_longest : (n : ℕ) → n ≡ max (length xs) (length ys) → max size (length xs) ≡ max size (length ys) → (r : Bool) → Decides r (extend xs n ≡ extend ys n) → Decides r (extend xs size ≡ extend ys size)
+  same_at_longest n is fill r d = by_size (cases_lt size n)
+    where
+      by_size : (size < n) ⊎ (n ≤ size) → Decides r (extend xs size ≡ extend ys size)
+      by_size (inr more) = same_where_fit n (omega arith) (omega arith) more r d
+      by_size (inl less) =
+          let x = extend_wide xs n (omega arith) ∙ sym (extend_wide xs size (omega arith)) in
+          let y = extend_wide ys n (omega arith) ∙ sym (extend_wide ys size (omega arith)) in
+          subst (λ l. Decides r (l ≡ extend ys size)) x (subst (λ l. Decides r (extend xs n ≡ l)) y d)
+
+  -- the test that contracts name
+  test_is : (r : Bool) → Decides r (extend xs size ≡ extend ys size) → not r ≡ not (bytes_eq (extend xs size) (extend ys size))
+  test_is r d = ap not (same_from_decides r (bytes_eq (extend xs size) (extend ys size)) d (bytes_eq-Decides (extend xs size) (extend ys size)))
+
+  pub differ_at_longest : (n : ℕ) → n ≡ max (length xs) (length ys) → max size (length xs) ≡ max size (length ys) → (r : Bool) → Decides r (extend xs n ≡ extend ys n) → not r ≡ not (bytes_eq (extend xs size) (extend ys size))
+  differ_at_longest n is fill r d = test_is r (same_at_longest n is fill r d)
+
+  pub differ_in_length : max size (length xs) ≢ max size (length ys) → true ≡ not (bytes_eq (extend xs size) (extend ys size))
+  differ_in_length other = test_is false ((λ f. absurd (let g : false ≡ true = f in cc)), λ same. absurd (other_lengths other same))
+
+-- one digit each
+pub differ_in_digit : (x y size : ℕ) (r : Bool) → Decides r (x ≡ y) → not r ≡ not (bytes_eq (extend (x ∷ []) size) (extend (y ∷ []) size))
+differ_in_digit x y size r d = differ_at_longest (x ∷ []) (y ∷ []) size 1 (omega arith) refl r ((λ yes. ap (λ z. z ∷ []) (d.0 yes)), λ same. d.1 (first same))
+  where
+    first : x ∷ [] ≡ y ∷ [] → x ≡ y
+    first e = cc
+
+-- ---- digit by digit, from the right
+
+-- the digits from a place on are the same
+abbrev pub SameFrom : ℕ → List ℕ → List ℕ → Type 0
+SameFrom place xs ys = (k : ℕ) → place ≤ k → get_or xs k 0 ≡ get_or ys k 0
+
+get_past : (xs : List ℕ) (k d : ℕ) → length xs ≤ k → get_or xs k d ≡ d
+get_past [] k d h = refl
+get_past (x ∷ xs) zero d h = absurd (omega arith)
+get_past (x ∷ xs) (suc k) d h = get_past xs k d (omega arith)
+
+-- before the first
+pub none_yet : (xs ys : List ℕ) (size : ℕ) → length xs ≤ size → length ys ≤ size → SameFrom size (extend xs size) (extend ys size)
+none_yet xs ys size few less k most =
+    let a = length_extended xs size in
+    let b = length_extended ys size in
+    get_past (extend xs size) k 0 (omega arith) ∙ sym (get_past (extend ys size) k 0 (omega arith))
+
+-- after one more
+pub one_further : (place next : ℕ) (xs ys : List ℕ) → next ≡ place + 1 → get_or xs place 0 ≡ get_or ys place 0 → SameFrom next xs ys → SameFrom place xs ys
+one_further place next xs ys is here rest k from = by_place (cases_lt place k)
+  where
+    by_place : (place < k) ⊎ (k ≤ place) → get_or xs k 0 ≡ get_or ys k 0
+    by_place (inl more) = rest k (omega arith)
+    by_place (inr less) = let e : k ≡ place = omega arith in rw e here
+
+-- after all
+pub all_same : (xs ys : List ℕ) (size : ℕ) → length xs ≤ size → length ys ≤ size → SameFrom 0 (extend xs size) (extend ys size) → extend xs size ≡ extend ys size
+all_same xs ys size few less same =
+    let a = length_extended xs size in
+    let b = length_extended ys size in
+    same_lists (extend xs size) (extend ys size) (omega arith) (λ k d within. or_zero (extend xs size) k d within ∙ same k (omega arith) ∙ sym (or_zero (extend ys size) k d (omega arith)))
+  where
+    or_zero : (l : List ℕ) (k d : ℕ) → k < length l → get_or l k d ≡ get_or l k 0
+    or_zero [] k d h = absurd (omega arith)
+    or_zero (x ∷ l) zero d h = refl
+    or_zero (x ∷ l) (suc k) d h = or_zero l k d (omega arith)
+
+-- ---- the last digit
+
+last_behind : (xs : List ℕ) (d : ℕ) (ds : List ℕ) (o : Option ℕ) → last_or o (xs ++ d ∷ ds) ≡ last_or (Some d) ds
+last_behind [] d ds o = refl
+last_behind (x ∷ xs) d ds o = last_behind xs d ds (Some x)
+
+-- extended digits end as they did
+pub last_extended : (ds : List ℕ) (size : ℕ) → 0 < length ds → last_or None (extend ds size) ≡ last_or None ds
+last_extended [] size some = absurd (omega arith)
+last_extended (d ∷ ds) size some = last_behind (replicate (size - length (d ∷ ds)) (extension (d ∷ ds))) d ds None
+
+pub last_at : (ds : List ℕ) (o : Option ℕ) (k : ℕ) → length ds ≡ suc k → last_or o ds ≡ slice_get ds k
+last_at [] o k h = absurd (omega arith)
+last_at (d ∷ []) o k h = let z : k ≡ 0 = omega arith in rw z refl
+last_at (d ∷ e ∷ ds) o zero h = absurd (omega arith)
+last_at (d ∷ e ∷ ds) o (suc k) h = last_at (e ∷ ds) (Some d) k (omega arith)
+
+pub last_packed : (len : ℕ) (bytes : List ℕ) (size k : ℕ) → used_by state.Digits len ≤ length bytes → len ≡ suc k → last_digit_in (value_at_size size (held_by state.Digits len bytes)) ≡ slice_get (digits_held (held_by state.Digits len bytes)) k
+last_packed len bytes size k used is =
+    let ds = digits_held (held_by state.Digits len bytes) in
+    let l = length_held len bytes used in
+    last_extended ds size (omega arith) ∙ last_at ds None k (omega arith)
+
+-- a state that holds one, or none
+pub last_of_state : (st : State) (len : ℕ) (bytes : List ℕ) (size : ℕ) → st ≢ state.Digits → one_digit st ≡ last_digit_in (value_at_size size (held_by st len bytes))
+last_of_state state.Unset len bytes size h = refl
+last_of_state state.Zero len bytes size h = sym (last_extended (48 ∷ []) size (omega arith))
+last_of_state state.One len bytes size h = sym (last_extended (49 ∷ []) size (omega arith))
+last_of_state state.Unknown len bytes size h = sym (last_extended (120 ∷ []) size (omega arith))
+last_of_state state.High len bytes size h = sym (last_extended (122 ∷ []) size (omega arith))
+last_of_state state.Digits len bytes size h = absurd (h refl)
+last_of_state state.Real len bytes size h = refl
+
+-- a text of one digit, in lower case
+pub one_lower : (text : List ℕ) (d : ℕ) → 1 ≤ length text → length text < 2 → d ≡ to_ascii_lowercase (get_or text 0 0) → str_to_ascii_lowercase text ≡ d ∷ []
+one_lower [] d some few e = absurd (omega arith)
+one_lower (x ∷ []) d some few e = ap (λ y. y ∷ []) (sym e)
+one_lower (x ∷ y ∷ text) d some few e = absurd (omega arith)

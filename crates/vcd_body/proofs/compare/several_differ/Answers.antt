@@ -1,0 +1,14 @@
+use Rattle.std.proofs.Common.{arith}
+use Rattle.std.specs.Char.{to_ascii_lowercase}
+use Rattle.std.specs.Str.{str_to_ascii_lowercase}
+use Rattle.std.proofs.lemmas.List.{length-map}
+use Rattle.vcd_body.specs.Stored.{digits_with}
+use Rattle.vcd_body.proofs.CompareLemmas.{differ_at_longest}
+use Rattle.vcd_body.proofs.compare.several_differ.Goals as goal
+
+pub returns : goal.returns
+returns c =
+    let xs = digits_with c.args.slot c.args.share.now in
+    let ys = str_to_ascii_lowercase c.args.text.now in
+    let l = length-map c.args.text.now to_ascii_lowercase in
+    differ_at_longest xs ys c.args.size c.max-3.result (omega (arith, c.max-3.ensures, c.count_of-held.ensures)) (omega (arith, c.max.ensures, c.max-2.ensures, c.count_of-held.ensures, c.if-max.false)) c.are_same.result c.are_same.ensures

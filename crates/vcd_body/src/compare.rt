@@ -1,0 +1,119 @@
+// Whether a change gives a code another value than it has.
+ghost use Rattle.std.specs.Prelude.{◌≡◌, ◌≤◌, length, not, get_or};
+ghost use Rattle.std.specs.Bool.{Decides};
+ghost use Rattle.std.specs.Str.{bytes_eq, str_to_ascii_lowercase};
+ghost use Rattle.vcd_model.specs.Values.{extend, extension, value_with};
+ghost use Rattle.vcd_body.specs.Items.{model_form};
+ghost use Rattle.vcd_body.specs.Kept.{Held, differs, value_at_size};
+ghost use Rattle.vcd_body.specs.Stored.{digits_with, held_with, some_by, used};
+
+use crate::change::extended_by;
+use crate::held::{count_of, digit_shown};
+use crate::item::Form;
+use crate::slot::{Slot, State, digit_of_state};
+
+// What a text is extended by.
+fn extension_of_text(text: &[u8]) -> u8
+    ensures { result ≡ extension (str_to_ascii_lowercase text.now) }
+{
+    match text.first() {
+        Some(digit) => extended_by(*digit),
+        None => b'0',
+    }
+}
+
+// The digit at a place of a text that is extended to a size; 0 where there is none.
+#[inline(always)]
+fn text_digit(text: &[u8], size: usize, place: usize) -> u8
+    ensures { result ≡ get_or (extend (str_to_ascii_lowercase text.now) size) place 0 }
+{
+    let missing = size.saturating_sub(text.len());
+    if place < missing {
+        return extension_of_text(text);
+    }
+    match text.get(place - missing) {
+        Some(digit) => digit.to_ascii_lowercase(),
+        None => 0,
+    }
+}
+
+// The same of the digits that are held.
+#[inline(always)]
+fn shown_digit(slot: Slot, share: &[u8], size: usize, place: usize) -> u8
+    requires used { used slot ≤ length share.now }
+    requires some { 1 ≤ some_by slot.state slot.len }
+    requires digits { held_with slot share.now ≡ Held.Digits (digits_with slot share.now) }
+    ensures { result ≡ get_or (extend (digits_with slot share.now) size) place 0 }
+{
+    match digit_shown(slot, share, size, place) {
+        Some(digit) => digit,
+        None => 0,
+    }
+}
+
+// Whether the digits that are held and a text are the same, both extended to a size that is no less than their lengths. It
+// looks from the right, where they mostly differ.
+fn are_same(slot: Slot, share: &[u8], text: &[u8], size: usize) -> bool
+    requires used { used slot ≤ length share.now }
+    requires some { 1 ≤ some_by slot.state slot.len }
+    requires digits { held_with slot share.now ≡ Held.Digits (digits_with slot share.now) }
+    requires held_fit { length (digits_with slot share.now) ≤ size }
+    requires text_fits { length text.now ≤ size }
+    ensures { Decides result (extend (digits_with slot share.now) size
+        ≡ extend (str_to_ascii_lowercase text.now) size) }
+{
+    let mut place = size;
+    while place > 0 {
+        place -= 1;
+        if shown_digit(slot, share, size, place) != text_digit(text, size, place) {
+            return false;
+        }
+    }
+    true
+}
+
+// Whether a text gives a code of this size other digits than several that are held, or is itself of several. It takes as long
+// as these digits and the text are, whatever the size is.
+fn several_differ(slot: Slot, share: &[u8], size: usize, text: &[u8]) -> bool
+    requires used { used slot ≤ length share.now }
+    requires some { 1 ≤ some_by slot.state slot.len }
+    requires digits { held_with slot share.now ≡ Held.Digits (digits_with slot share.now) }
+    ensures { result ≡ not (bytes_eq (extend (digits_with slot share.now) size)
+        (extend (str_to_ascii_lowercase text.now) size)) }
+{
+    let held = count_of(slot, share);
+    if size.max(held) != size.max(text.len()) {
+        return true;
+    }
+    !are_same(slot, share, text, held.max(text.len()))
+}
+
+// Whether a text gives a code of this size other digits than those that are held. Most are one digit.
+#[inline(always)]
+fn digits_differ(slot: Slot, share: &[u8], size: usize, text: &[u8]) -> bool
+    requires used { used slot ≤ length share.now }
+    requires some { 1 ≤ some_by slot.state slot.len }
+    requires digits { held_with slot share.now ≡ Held.Digits (digits_with slot share.now) }
+    ensures { result ≡ not (bytes_eq (extend (digits_with slot share.now) size)
+        (extend (str_to_ascii_lowercase text.now) size)) }
+{
+    match (text, digit_of_state(slot.state)) {
+        ([digit], Some(held)) => held != digit.to_ascii_lowercase(),
+        _ => several_differ(slot, share, size, text),
+    }
+}
+
+/// Whether a text gives a code of this size another value than it has; false where it has none.
+#[inline(always)]
+pub(crate) fn value_differs(slot: Slot, share: &[u8], size: usize, form: Form, text: &[u8]) -> bool
+    requires used { used slot ≤ length share.now }
+    requires some { 1 ≤ some_by slot.state slot.len }
+    ensures { result ≡ differs (value_at_size size (held_with slot share.now))
+        (value_with size (model_form form) text.now) }
+{
+    match slot.state {
+        State::Unset => false,
+        State::Real => form != Form::RealText || share != text,
+        _ => form == Form::RealText || digits_differ(slot, share, size, text),
+    }
+}

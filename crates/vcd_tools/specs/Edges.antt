@@ -1,0 +1,58 @@
+-- What `edges` keeps.
+use Rattle.std.specs.Prelude.{◌≡◌, ℕ, ◌==◌, ◌&&◌, Bool, true, false, List, [], ◌∷◌, length, map, string_bytes, slice_get, Option, Some, None}
+use Rattle.std.specs.Str.{byte}
+use Rattle.vcd_model.specs.Bound.{RoomSize}
+use Rattle.vcd_model.specs.Declarations.{IdCode}
+use Rattle.vcd_model.specs.Edges.{Counts, counts_for}
+use Rattle.vcd_model.specs.Header.{Header}
+use Rattle.vcd_model.specs.Items.{BodyItem}
+use Rattle.vcd_head.specs.Marks.{marks_of}
+use Rattle.vcd_body.specs.Contents.{bytes_in, codes_in, counts_at}
+use Rattle.vcd_body.specs.Kept.{Kept, one_more}
+use Rattle.vcd_body.specs.declared.table.Table.{Table}
+use Rattle.vcd_tools.specs.Values.{AreHeld}
+use Rattle.vcd_tools.specs.declared.machine.edges.Edges.{Edges}
+
+-- ---- counters
+
+-- three counters, as they are kept
+abbrev pub numbers : Counts → List ℕ
+numbers n = n.changes ∷ n.rises ∷ n.falls ∷ []
+
+-- there is a digit, and it is this one
+abbrev pub is_digit : Option ℕ → ℕ → Bool
+is_digit None d = false
+is_digit (Some e) d = d == e
+
+-- the last digit was a, and is b
+abbrev pub goes_from : ℕ → ℕ → Option ℕ → Option ℕ → Bool
+goes_from a b before after = is_digit before a && is_digit after b
+
+-- one more in a counter, where the test holds
+abbrev pub one_more_if : Bool → ℕ → Kept → Kept
+one_more_if true which k = one_more which k
+one_more_if false which k = k
+
+-- a change of the value, which had this last digit, and has this one
+abbrev pub with_change : Option ℕ → Option ℕ → Kept → Kept
+with_change before after k = one_more_if (goes_from (byte "1") (byte "0") before after) 2 (one_more_if (goes_from (byte "0") (byte "1") before after) 1 (one_more 0 k))
+
+-- after these items the table holds the values of the codes, and the counters of each are its counts
+pub record AreTallied (t : Table) (h : Header) (items : List BodyItem) : Type 0 where
+  pub held : AreHeld t h items
+  pub counted : (place : ℕ) (c : IdCode) → slice_get h.codes place ≡ Some c → counts_at t place ≡ numbers (counts_for items c)
+
+-- ---- what the machine keeps
+
+-- the names that were asked for
+abbrev pub asked_in : Edges → List (List ℕ)
+asked_in e = map string_bytes e.names.now
+
+-- what it is lent
+abbrev pub room_in_edges : Edges → RoomSize
+room_in_edges e = record { values = bytes_in e.table; slots = codes_in e.table; marks = length e.marks.now }
+
+-- over this header and after these items the selected variables are marked, and the table tells what is to be written of them
+pub record AreEdges (e : Edges) (h : Header) (items : List BodyItem) : Type 0 where
+  pub marks_are : e.marks.now ≡ marks_of (asked_in e) h.declarations
+  pub tallied : AreTallied e.table h items

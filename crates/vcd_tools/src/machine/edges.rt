@@ -1,0 +1,107 @@
+//! `edges`: how often the values of the selected variables change, rise and fall.
+ghost use Rattle.std.specs.Prelude.{◌≡◌, ℕ, ◌-◌, ◌^◌, ◌<◌, ◌∷◌, ◌++◌, [], List, length, map, string_bytes, IfOk, MatchResult};
+ghost use Rattle.vcd_model.specs.Edges.{edges_close};
+ghost use Rattle.vcd_model.specs.Header.{Header};
+ghost use Rattle.vcd_model.specs.Items.{BodyItem};
+ghost use Rattle.vcd_model.specs.Outcome.{Request};
+ghost use Rattle.vcd_text.specs.Device.{Counts, Device, Takes, failures_after};
+ghost use Rattle.vcd_head.specs.Views.{IsViewOf};
+ghost use Rattle.vcd_body.specs.Given.{IsGoodChange};
+ghost use Rattle.vcd_body.specs.Items.{AreRegsAfter, regs_after};
+ghost use Rattle.vcd_tools.specs.Edges.{AreEdges, asked_in, room_in_edges};
+ghost use Rattle.vcd_tools.specs.Engine.{Starts};
+ghost use Rattle.vcd_tools.specs.ItemText.{AsItem};
+ghost use Rattle.vcd_tools.specs.Room.{HasRoomFor, IsWithin, room_size};
+ghost use Rattle.vcd_tools.specs.Selection.{IsUnmatched};
+ghost use Rattle.vcd_tools.specs.declared.task.Task.TheVariants as task;
+
+use crate::answer::Stop;
+use crate::tally::{put_rows, take_mark, take_value};
+use crate::task::Room;
+use vcd_body::{Item, Regs, Table, change_text};
+use vcd_head::{HeadView, select};
+use vcd_text::{Feed, Sink, Source, WriteFailed};
+
+/// The names that were asked for, the marks of the variables that they select, and the values and counters of all codes.
+#[derive(Drop)]
+pub(crate) struct Edges<'n, 'r> {
+    names: &'n [String],
+    marks: &'r mut [u8],
+    table: Table<'r>,
+}
+
+impl<'n, 'r> Edges<'n, 'r> {
+    /// Selects the variables. Nothing is written before the end.
+    pub(crate) fn start(
+        view: HeadView<'_>,
+        room: Room<'r>,
+        names: &'n [String],
+    ) -> Result<Edges<'n, 'r>, Stop>
+        requires room { HasRoomFor (task.Edges names) view room }
+        ensures starts { (h : Header) (out : Device) → IsViewOf view.entry h
+            → Starts (λ e. AreEdges e h []) (Request.Edges (map string_bytes names.entry.now)) h
+            out out result }
+        ensures names { MatchResult result
+            (λ e. asked_in e ≡ map string_bytes names.entry.now) IsUnmatched }
+        ensures room { IfOk result (λ e. IsWithin (room_in_edges e) (room_size room.entry)) }
+    {
+        let Room {
+            values,
+            slots,
+            marks,
+        } = room;
+        let marks = &mut marks[..view.rows.len()];
+        if let Err(name) = select(view, names, marks) {
+            return Err(Stop::Unmatched { name });
+        }
+        let table = Table::new(view, values, slots);
+        Ok(Edges {
+            names,
+            marks,
+            table,
+        })
+    }
+
+    /// Counts the item that was read last. The registers are those after it.
+    #[inline(always)]
+    pub(crate) fn take<S: Source>(
+        &mut self,
+        view: HeadView<'_>,
+        regs: Regs,
+        item: Item,
+        feed: &Feed<'_, '_, '_, '_, S>,
+    )
+        requires sound { IsGoodChange view.codes.now feed.now item }
+        ensures takes { (h : Header) (items : List BodyItem) (before : Regs) (x : BodyItem)
+            → IsViewOf view.entry h → AreRegsAfter items before → regs ≡ regs_after before item
+            → AsItem h.codes feed.now item x → length items < 2 ^ 63 → AreEdges self.old h items
+            → AreEdges self.new h (items ++ x ∷ []) }
+        ensures names { asked_in self.new ≡ asked_in self.old }
+        ensures room { room_in_edges self.new ≡ room_in_edges self.old }
+    {
+        let Item::Change { code, form } = item else {
+            return;
+        };
+        let Some(declared) = view.code_at(code) else {
+            return;
+        };
+        if declared.event {
+            take_mark(&mut self.table, code, regs.section.is_some());
+        } else {
+            let text = change_text(feed, form);
+            take_value(&mut self.table, code, declared.size, form, text);
+        }
+    }
+
+    /// Writes the rows of the selected variables.
+    pub(crate) fn close<W: Sink>(&self, view: HeadView<'_>, out: &mut W) -> Result<(), WriteFailed>
+        requires { (W.device out.old).failures < 2 ^ 64 - 1 }
+        ensures takes { (h : Header) (items : List BodyItem) → IsViewOf view.entry h
+            → AreEdges self.now h items
+            → Takes (W.device out.old) (W.device out.new)
+            (edges_close h (asked_in self.now) items) result }
+        ensures counts { Counts (W.device out.old) (W.device out.new) result }
+    {
+        put_rows(&self.table, view, self.marks, out)
+    }
+}
