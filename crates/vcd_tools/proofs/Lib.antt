@@ -12,6 +12,8 @@ pub mod ItemTextLemmas
 pub mod PickLemmas
 pub mod CutLemmas
 pub mod SelectionLemmas
+pub mod SampleLines
+pub mod SampleLemmas
 pub mod MergeItem
 pub mod Dumps
 pub mod SeatLemmas

@@ -158,7 +158,7 @@ own_is names earlier d = by_test (is_selected names earlier d)
     by_test false = refl
 
 -- the place of a variable is marked just where it is selected
-marked_is : (names : List (List ℕ)) (ds : List Declaration) (i : ℕ) (v : Variable) → slice_get ds i ≡ Some (Declaration.Var v) → is_among (marked_places names ds) i ≡ is_selected names (take i ds) (Declaration.Var v)
+pub marked_is : (names : List (List ℕ)) (ds : List Declaration) (i : ℕ) (v : Variable) → slice_get ds i ≡ Some (Declaration.Var v) → is_among (marked_places names ds) i ≡ is_selected names (take i ds) (Declaration.Var v)
 unfolding marked_places
 marked_is names ds i v at =
     let d = Declaration.Var v in
@@ -198,7 +198,7 @@ take_next (y ∷ xs) zero x at = ap (λ z. z ∷ []) (same_Some y x at)
 take_next (y ∷ xs) (suc i) x at = ap (λ l. y ∷ l) (take_next xs i x at)
 
 -- what is selected with one declaration more
-selected_next : (names : List (List ℕ)) (ds : List Declaration) (i : ℕ) (d : Declaration) → slice_get ds i ≡ Some d → selected names (take (i + 1) ds) ≡ selected names (take i ds) ++ filter_map (λ o. o) (with_path names (take i ds) d ∷ [])
+pub selected_next : (names : List (List ℕ)) (ds : List Declaration) (i : ℕ) (d : Declaration) → slice_get ds i ≡ Some d → selected names (take (i + 1) ds) ≡ selected names (take i ds) ++ filter_map (λ o. o) (with_path names (take i ds) d ∷ [])
 unfolding selected
 selected_next names ds i d at =
     ap (λ n. filter_map (λ o. o) (each (with_path names) (take n ds))) (add-one i) ∙ ap (λ l. filter_map (λ o. o) (each (with_path names) l)) (take_next ds i d at)

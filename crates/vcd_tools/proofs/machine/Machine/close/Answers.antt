@@ -10,3 +10,7 @@ returns-in-Pick-clause-takes g c = λ h items views known last keeps.
 pub returns-in-Cut-clause-takes : goal.returns-in-Cut-clause-takes
 returns-in-Cut-clause-takes g c = λ h items views known last keeps.
     rw c.in-Cut.is (c.close-in-Cut.ensures.takes h items views known last (subst (λ (m : Machine). Keeps m h items) c.in-Cut.is keeps))
+
+pub returns-in-Sample-clause-takes : goal.returns-in-Sample-clause-takes
+returns-in-Sample-clause-takes g c = λ h items views known last keeps.
+    rw c.in-Sample.is (c.close-in-Sample.ensures.takes h items views (subst (λ (m : Machine). Keeps m h items) c.in-Sample.is keeps))
