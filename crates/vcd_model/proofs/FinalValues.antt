@@ -12,7 +12,6 @@ use Rattle.vcd_model.proofs.Growing.{entries-append}
 use Rattle.vcd_model.proofs.Latest.{gives_at, last_value_is, latest, latest-append, latest_agree}
 use Rattle.vcd_model.proofs.Times.{time_after-append}
 
-
 -- an item that gives this code no value leaves it
 pub final_other : (c : IdCode) (p : List BodyItem) (x : BodyItem) → gives_to c x ≡ false → final_value (p ++ x ∷ []) c ≡ final_value p c
 final_other c p x e =

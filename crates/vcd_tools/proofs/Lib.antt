@@ -15,6 +15,8 @@ pub mod TallyLemmas
 pub mod SelectedLines
 pub mod TallyLines
 pub mod SelectionLemmas
+pub mod SampleLines
+pub mod SampleLemmas
 pub mod MergeItem
 pub mod Dumps
 pub mod SeatLemmas

@@ -45,8 +45,8 @@ pub record AreTallied (t : Table) (h : Header) (items : List BodyItem) : Type 0 
 -- ---- what the machine keeps
 
 -- the names that were asked for
-abbrev pub asked_in : Edges → List (List ℕ)
-asked_in e = map string_bytes e.names.now
+abbrev pub names_counted : Edges → List (List ℕ)
+names_counted e = map string_bytes e.names.now
 
 -- what it is lent
 abbrev pub room_in_edges : Edges → RoomSize
@@ -54,5 +54,5 @@ room_in_edges e = record { values = bytes_in e.table; slots = codes_in e.table; 
 
 -- over this header and after these items the selected variables are marked, and the table tells what is to be written of them
 pub record AreEdges (e : Edges) (h : Header) (items : List BodyItem) : Type 0 where
-  pub marks_are : e.marks.now ≡ marks_of (asked_in e) h.declarations
+  pub marks_are : e.marks.now ≡ marks_of (names_counted e) h.declarations
   pub tallied : AreTallied e.table h items

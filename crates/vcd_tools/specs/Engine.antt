@@ -20,8 +20,9 @@ use Rattle.vcd_tools.specs.Check.{AreCounted}
 use Rattle.vcd_text.specs.Device.{Device, Writes, WritesSome}
 use Rattle.vcd_tools.specs.Device.{TakesDue}
 use Rattle.vcd_tools.specs.Cut.{AreCut, span_in}
-use Rattle.vcd_tools.specs.Edges.{AreEdges, asked_in}
+use Rattle.vcd_tools.specs.Edges.{AreEdges, names_counted}
 use Rattle.vcd_tools.specs.Pick.{ArePicked, names_in}
+use Rattle.vcd_tools.specs.Sample.{AreSampled, asked_in}
 use Rattle.vcd_tools.specs.declared.answer.Stop.{Stop}
 use Rattle.vcd_tools.specs.declared.answer.Stop.TheVariants.{Write, Unmatched}
 use Rattle.vcd_tools.specs.declared.engine.Engine.{Engine}
@@ -37,6 +38,7 @@ abbrev pub request_of : Task → Request
 request_of task.Check = Request.Check
 request_of (task.Pick names) = Request.Pick (map string_bytes names.now)
 request_of (task.Cut s) = Request.Cut s.from s.to
+request_of (task.Sample a) = Request.Sample a.times.now (map string_bytes a.names.now)
 request_of (task.Edges names) = Request.Edges (map string_bytes names.now)
 
 -- the request that a machine works on
@@ -44,13 +46,15 @@ abbrev pub request_in : Machine → Request
 request_in (machine.Check c) = Request.Check
 request_in (machine.Pick p) = Request.Pick (names_in p)
 request_in (machine.Cut m) = span_in m
-request_in (machine.Edges e) = Request.Edges (asked_in e)
+request_in (machine.Sample s) = asked_in s
+request_in (machine.Edges e) = Request.Edges (names_counted e)
 
 -- what a machine keeps over this header and after these items
 abbrev pub Keeps : Machine → Header → List BodyItem → Type 0
 Keeps (machine.Check c) h items = AreCounted items c
 Keeps (machine.Pick p) h items = ArePicked p h items
 Keeps (machine.Cut m) h items = AreCut m h items
+Keeps (machine.Sample s) h items = AreSampled s h items
 Keeps (machine.Edges e) h items = AreEdges e h items
 
 -- ---- requests

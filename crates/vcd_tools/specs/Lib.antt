@@ -10,6 +10,7 @@ pub mod Report
 pub mod Check
 pub mod Pick
 pub mod Cut
+pub mod Sample
 pub mod Edges
 pub mod Engine
 pub mod Step

@@ -14,14 +14,16 @@ use Rattle.vcd_tools.specs.declared.task.Room.{Room}
 use Rattle.vcd_tools.specs.declared.task.Task.{Task}
 use Rattle.vcd_tools.specs.Cut.{lent_to}
 use Rattle.vcd_tools.specs.Edges.{room_in_edges}
+use Rattle.vcd_tools.specs.Sample.{lent_to as lent_to_sample}
 use Rattle.vcd_tools.specs.Values.{table_bytes}
-use Rattle.vcd_tools.specs.declared.task.Task.TheVariants.{Check, Pick, Cut, Edges}
+use Rattle.vcd_tools.specs.declared.task.Task.TheVariants.{Check, Pick, Cut, Sample, Edges}
 
 -- how many bytes of values a task works with
 abbrev pub values_for : Task → HeadView → ℕ
 values_for Check v = 0
 values_for (Pick names) v = length v.codes.now
 values_for (Cut s) v = table_bytes v
+values_for (Sample a) v = table_bytes v
 values_for (Edges names) v = table_bytes v
 
 -- how many marks
@@ -29,6 +31,7 @@ abbrev pub marks_for : Task → HeadView → ℕ
 marks_for Check v = 0
 marks_for (Pick names) v = length v.rows.now
 marks_for (Cut s) v = length v.rows.now
+marks_for (Sample a) v = length v.rows.now
 marks_for (Edges names) v = length v.rows.now
 
 -- how many places for codes
@@ -36,6 +39,7 @@ abbrev pub slots_for : Task → HeadView → ℕ
 slots_for Check v = 0
 slots_for (Pick names) v = 0
 slots_for (Cut s) v = length v.codes.now
+slots_for (Sample a) v = length v.codes.now
 slots_for (Edges names) v = length v.codes.now
 
 -- the room is large enough for the task over the header that is shown
@@ -55,6 +59,7 @@ abbrev pub room_of : Machine → RoomSize
 room_of (machine.Check c) = no_room
 room_of (machine.Pick p) = record { values = flags_in p; slots = 0; marks = 0 }
 room_of (machine.Cut m) = lent_to m
+room_of (machine.Sample s) = lent_to_sample s
 room_of (machine.Edges e) = room_in_edges e
 
 -- what an engine holds beside its registers: a view, and room

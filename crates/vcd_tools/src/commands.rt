@@ -15,6 +15,7 @@ ghost use Rattle.vcd_tools.specs.declared.answer.Done.TheVariants.{Whole};
 
 use crate::answer::{Done, Stop};
 use crate::engine::run_task;
+use crate::samples::Samples;
 use crate::span::Span;
 use crate::task::{Room, Task};
 use vcd_head::HeadView;
@@ -139,4 +140,33 @@ pub fn cut<S: Source, W: Sink>(
         × (chunk_len_of feed.new ≡ chunk_len_of feed.old) × SameLoans feed.old feed.new }
 {
     run_task(Task::Cut(span), view, feed, room, out)
+}
+
+/// Writes, for each of the times, the lines of the variables that the names select: the time, the path and the value, in full. A
+/// name that selects nothing is refused before anything is read or written. A time mark above the last of the times ends the run.
+pub fn sample<S: Source, W: Sink>(
+    view: HeadView<'_>,
+    feed: &mut Feed<'_, '_, '_, '_, S>,
+    room: &mut Room<'_>,
+    asked: Samples<'_>,
+    out: &mut W,
+) -> Result<Done, Stop>
+    requires feed_failures { S.failures (source_of feed.old) < 2 ^ 64 - 1 }
+    requires out_failures { (W.device out.old).failures < 2 ^ 64 - 1 }
+    requires open { HasNotFailed feed.old }
+    requires room { HasRoomFor (Task.Sample asked) view room.old }
+    requires bound { AreWithinBound (limit_of feed.old) (chunk_len_of feed.old) view
+        (room_size room.old) }
+    ensures gives { (h : Header) (i : Input) (front : List Token) (name : List ℕ)
+        → IsViewOf view.entry h → HasGiven i front feed.old
+        → Follows (Request.Sample asked.entry.times.now (map string_bytes asked.entry.names.now))
+        (limit_of feed.old) (chunk_len_of feed.old) i front h name
+        (supply_of feed.old) (supply_of feed.new) (W.device out.old) (W.device out.new) result }
+    ensures devices { (S.failures (source_of feed.new)
+        ≡ S.failures (source_of feed.old) + reads_failed result)
+        × ((W.device out.new).failures ≡ (W.device out.old).failures + writes_failed result) }
+    ensures windows { (limit_of feed.new ≡ limit_of feed.old)
+        × (chunk_len_of feed.new ≡ chunk_len_of feed.old) × SameLoans feed.old feed.new }
+{
+    run_task(Task::Sample(asked), view, feed, room, out)
 }

@@ -25,6 +25,7 @@
 //! - `item_text`: kept items as lines, each after the line of its time
 //! - `selection`: the variables that names select, as marks and as chosen codes
 //! - `report`, `rows`, `tally`: the seven lines of `check`; `list`; the counters of `edges`, and its rows
+//! - `samples`, `sample_lines`: `Samples`, what a sample is asked for; its lines
 //! - `merge`, `merging`, `seat`, `newcode`, `windows`: a step of `merge` over all inputs, and of one of them; where an input
 //!   stands; new codes; the windows of all inputs. No function begins a merge, and no command uses it yet
 //!
@@ -54,6 +55,10 @@ mod merging;
 mod newcode;
 mod report;
 mod rows;
+mod sample_lines;
+#[cfg(test)]
+mod sample_tests;
+mod samples;
 mod seat;
 mod selection;
 mod span;
@@ -64,10 +69,11 @@ mod tests;
 mod windows;
 
 pub use answer::{Done, More, Stop};
-pub use commands::{check, cut, edges, pick};
+pub use commands::{check, cut, edges, pick, sample};
 pub use engine::{Engine, run_task};
 pub use merge::{Merge, merge_step};
 pub use rows::list;
+pub use samples::Samples;
 pub use seat::Seat;
 pub use span::Span;
 pub use task::{Room, Task};

@@ -17,6 +17,7 @@ pub(crate) mod check;
 pub(crate) mod cut;
 pub(crate) mod edges;
 pub(crate) mod pick;
+pub(crate) mod sample;
 
 use crate::answer::Stop;
 use crate::task::{Room, Task};
@@ -30,6 +31,7 @@ pub(crate) enum Machine<'n, 'r> {
     Check(check::Check),
     Pick(pick::Pick<'n, 'r>),
     Cut(cut::Cut<'r>),
+    Sample(sample::Sample<'n, 'r>),
     Edges(edges::Edges<'n, 'r>),
 }
 
@@ -67,6 +69,9 @@ impl<'n, 'r> Machine<'n, 'r> {
             Task::Check => Ok(Machine::Check(check::Check::start())),
             Task::Pick(names) => Ok(Machine::Pick(pick::Pick::start(view, room, names, out)?)),
             Task::Cut(span) => Ok(Machine::Cut(cut::Cut::start(view, room, span, out)?)),
+            Task::Sample(asked) => {
+                Ok(Machine::Sample(sample::Sample::start(view, room, asked)?))
+            }
             Task::Edges(names) => Ok(Machine::Edges(edges::Edges::start(view, room, names)?)),
         }
     }
@@ -99,6 +104,7 @@ impl<'n, 'r> Machine<'n, 'r> {
             Machine::Check(check) => check.take(item),
             Machine::Pick(pick) => pick.take(view, regs, item, feed, out)?,
             Machine::Cut(cut) => return cut.take(view, regs, item, feed, out),
+            Machine::Sample(sample) => return sample.take(view, item, feed, out),
             Machine::Edges(edges) => edges.take(view, regs, item, feed),
         }
         Ok(false)
@@ -122,6 +128,7 @@ impl<'n, 'r> Machine<'n, 'r> {
             Machine::Check(check) => check.close(view, regs, out),
             Machine::Pick(pick) => pick.close(regs, out),
             Machine::Cut(cut) => cut.close(view, regs, out),
+            Machine::Sample(sample) => sample.close(view, out),
             Machine::Edges(edges) => edges.close(view, out),
         }
     }

@@ -8,6 +8,7 @@ ghost use Rattle.vcd_head.specs.Views.{IsViewOf};
 ghost use Rattle.vcd_tools.specs.Room.{AreWithinBound, HasRoomFor, IsWithin, marks_for, slots_for, values_for};
 ghost use Rattle.vcd_tools.specs.declared.task.Room.{Room};
 
+use crate::samples::Samples;
 use crate::span::Span;
 use vcd_body::Slot;
 use vcd_head::{HeadView, Need, need};
@@ -21,6 +22,8 @@ pub enum Task<'n> {
     Pick(&'n [String]),
     /// Writes the values that stand before a time, and the items from then up to another time.
     Cut(Span),
+    /// Writes the values of the variables that names select at some times.
+    Sample(Samples<'n>),
     /// Counts how often the values of the variables that these names select change, rise and fall, and writes it at the end.
     Edges(&'n [String]),
 }
@@ -62,8 +65,7 @@ impl<'n> Task<'n> {
                 slots: 0,
                 marks: view.rows.len(),
             },
-            Task::Cut(_) => need(view),
-            Task::Edges(_) => need(view),
+            Task::Cut(_) | Task::Sample(_) | Task::Edges(_) => need(view),
         }
     }
 }

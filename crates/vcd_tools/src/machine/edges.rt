@@ -8,7 +8,7 @@ ghost use Rattle.vcd_text.specs.Device.{Counts, Device, Takes, failures_after};
 ghost use Rattle.vcd_head.specs.Views.{IsViewOf};
 ghost use Rattle.vcd_body.specs.Given.{IsGoodChange};
 ghost use Rattle.vcd_body.specs.Items.{AreRegsAfter, regs_after};
-ghost use Rattle.vcd_tools.specs.Edges.{AreEdges, asked_in, room_in_edges};
+ghost use Rattle.vcd_tools.specs.Edges.{AreEdges, names_counted, room_in_edges};
 ghost use Rattle.vcd_tools.specs.Engine.{Starts};
 ghost use Rattle.vcd_tools.specs.ItemText.{AsItem};
 ghost use Rattle.vcd_tools.specs.Room.{HasRoomFor, IsWithin, room_size};
@@ -42,7 +42,7 @@ impl<'n, 'r> Edges<'n, 'r> {
             → Starts (λ e. AreEdges e h []) (Request.Edges (map string_bytes names.entry.now)) h
             out out result }
         ensures names { MatchResult result
-            (λ e. asked_in e ≡ map string_bytes names.entry.now) IsUnmatched }
+            (λ e. names_counted e ≡ map string_bytes names.entry.now) IsUnmatched }
         ensures room { IfOk result (λ e. IsWithin (room_in_edges e) (room_size room.entry)) }
     {
         let Room {
@@ -76,7 +76,7 @@ impl<'n, 'r> Edges<'n, 'r> {
             → IsViewOf view.entry h → AreRegsAfter items before → regs ≡ regs_after before item
             → AsItem h.codes feed.now item x → length items < 2 ^ 63 → AreEdges self.old h items
             → AreEdges self.new h (items ++ x ∷ []) }
-        ensures names { asked_in self.new ≡ asked_in self.old }
+        ensures names { names_counted self.new ≡ names_counted self.old }
         ensures room { room_in_edges self.new ≡ room_in_edges self.old }
     {
         let Item::Change { code, form } = item else {
@@ -99,7 +99,7 @@ impl<'n, 'r> Edges<'n, 'r> {
         ensures takes { (h : Header) (items : List BodyItem) → IsViewOf view.entry h
             → AreEdges self.now h items
             → Takes (W.device out.old) (W.device out.new)
-            (edges_close h (asked_in self.now) items) result }
+            (edges_close h (names_counted self.now) items) result }
         ensures counts { Counts (W.device out.old) (W.device out.new) result }
     {
         put_rows(&self.table, view, self.marks, out)

@@ -14,3 +14,7 @@ returns-in-Cut-clause-takes g c = λ h items views known last keeps.
 pub returns-in-Edges-clause-takes : goal.returns-in-Edges-clause-takes
 returns-in-Edges-clause-takes g c = λ h items views known last keeps.
     rw c.in-Edges.is (c.close-in-Edges.ensures.takes h items views (subst (λ (m : Machine). Keeps m h items) c.in-Edges.is keeps))
+
+pub returns-in-Sample-clause-takes : goal.returns-in-Sample-clause-takes
+returns-in-Sample-clause-takes g c = λ h items views known last keeps.
+    rw c.in-Sample.is (c.close-in-Sample.ensures.takes h items views (subst (λ (m : Machine). Keeps m h items) c.in-Sample.is keeps))

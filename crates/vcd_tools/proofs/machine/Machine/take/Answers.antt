@@ -11,3 +11,7 @@ returns-in_ok-take-in-Pick-clause-takes g c = λ h items before x views known re
 pub returns-in-Cut-clause-takes : goal.returns-in-Cut-clause-takes
 returns-in-Cut-clause-takes g c = λ h items before x views known re read few keeps.
     rw c.in-Cut.is (c.take-in-Cut.ensures.takes h items before x views known re read (subst (λ (m : Machine). Keeps m h items) c.in-Cut.is keeps))
+
+pub returns-in-Sample-clause-takes : goal.returns-in-Sample-clause-takes
+returns-in-Sample-clause-takes g c = λ h items before x views known re read few keeps.
+    rw c.in-Sample.is (c.take-in-Sample.ensures.takes h items x views read (subst (λ (m : Machine). Keeps m h items) c.in-Sample.is keeps))

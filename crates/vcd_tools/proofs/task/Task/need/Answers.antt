@@ -15,6 +15,3 @@ returns-in-Pick-clause-bound c = λ limit chunk lent le within. still_within lim
 
 pub returns-in-Cut-clause-bound : goal.returns-in-Cut-clause-bound
 returns-in-Cut-clause-bound c = λ limit chunk lent le within. still_within limit chunk c.args.view lent _ within (λ h views. c.need.ensures.fits limit h _ views (windows limit chunk le))
-
-pub returns-in-Edges-clause-bound : goal.returns-in-Edges-clause-bound
-returns-in-Edges-clause-bound c = λ limit chunk lent le within. still_within limit chunk c.args.view lent _ within (λ h views. c.need-in-Edges.ensures.fits limit h _ views (windows limit chunk le))

@@ -1,0 +1,146 @@
+//! `sample`: the values of selected variables at some times.
+ghost use Rattle.std.specs.Prelude.{◌≡◌, ◌≤◌, ◌-◌, ◌^◌, ◌<◌, ◌+◌, ◌∷◌, ◌++◌, [], List, ℕ, length, nat_le, None, IfOk, MatchResult, map, string_bytes};
+ghost use Rattle.std.specs.List.{position_or_len};
+ghost use Rattle.vcd_model.specs.Header.{Header};
+ghost use Rattle.vcd_model.specs.Items.{BodyItem};
+ghost use Rattle.vcd_model.specs.Outcome.{Request, close_text};
+ghost use Rattle.vcd_model.specs.Selection.{first_unmatched};
+ghost use Rattle.vcd_text.specs.Device.{Counts, Takes, failures_after};
+ghost use Rattle.vcd_head.specs.Views.{IsViewOf};
+ghost use Rattle.vcd_body.specs.Given.{IsGoodChange};
+ghost use Rattle.vcd_tools.specs.Engine.{TakesOne};
+ghost use Rattle.vcd_tools.specs.ItemText.{AsItem};
+ghost use Rattle.vcd_tools.specs.Room.{HasRoomFor, IsWithin, room_size};
+ghost use Rattle.vcd_tools.specs.Sample.{AreSampled, asked_in, lent_to};
+ghost use Rattle.vcd_tools.specs.Selection.{IsFirstUnmatched, IsUnmatched};
+ghost use Rattle.vcd_tools.specs.declared.task.Task.TheVariants as task;
+
+use crate::answer::Stop;
+use crate::sample_lines::put_samples;
+use crate::samples::Samples;
+use crate::task::Room;
+use vcd_body::{Item, Table, change_text};
+use vcd_head::{HeadView, select};
+use vcd_text::{Feed, Sink, Source, WriteFailed};
+
+/// The times and names that were asked for, the times that are not settled, the current values, and the marks of the selected
+/// variables.
+#[derive(Drop)]
+pub(crate) struct Sample<'n, 'r> {
+    times: &'n [u64],
+    names: &'n [String],
+    rest: &'n [u64],
+    table: Table<'r>,
+    marks: &'r [u8],
+}
+
+/// How many times stand before the first that is not below this one.
+#[inline(always)]
+fn count_below(times: &[u64], time: u64) -> usize
+    ensures { result ≡ position_or_len (λ due. nat_le time due) times.now }
+{
+    times
+        .iter()
+        .position(|due| *due >= time)
+        .unwrap_or(times.len())
+}
+
+impl<'n, 'r> Sample<'n, 'r> {
+    /// Selects the variables. Nothing is written.
+    pub(crate) fn start(
+        view: HeadView<'_>,
+        room: Room<'r>,
+        asked: Samples<'n>,
+    ) -> Result<Sample<'n, 'r>, Stop>
+        requires { HasRoomFor (task.Sample asked) view room }
+        ensures starts { (h : Header) → IsViewOf view.entry h
+            → MatchResult result (λ s. AreSampled s h []
+            × (first_unmatched (map string_bytes asked.entry.names.now) h.declarations ≡ None))
+            (IsFirstUnmatched (map string_bytes asked.entry.names.now) h) }
+        ensures asked { MatchResult result (λ s. asked_in s
+            ≡ Request.Sample asked.entry.times.now (map string_bytes asked.entry.names.now)) IsUnmatched }
+        ensures room { IfOk result (λ s. IsWithin (lent_to s) (room_size room.entry)) }
+    {
+        let Room {
+            values,
+            slots,
+            marks,
+        } = room;
+        let marks = &mut marks[..view.rows.len()];
+        if let Err(name) = select(view, asked.names, marks) {
+            return Err(Stop::Unmatched { name });
+        }
+        Ok(Sample {
+            times: asked.times,
+            names: asked.names,
+            rest: asked.times,
+            table: Table::new(view, values, slots),
+            marks,
+        })
+    }
+
+    /// Takes a time mark: writes the lines of the times below it that are left. Returns whether it is above them all.
+    fn take_time<W: Sink>(
+        &mut self,
+        view: HeadView<'_>,
+        time: u64,
+        out: &mut W,
+    ) -> Result<bool, WriteFailed>
+        requires { (W.device out.old).failures < 2 ^ 64 - 1 }
+        ensures takes { (h : Header) (items : List BodyItem) → IsViewOf view.entry h
+            → AreSampled self.old h items
+            → TakesOne (AreSampled self.new h (items ++ BodyItem.Time time ∷ []))
+            (asked_in self.old) h items (BodyItem.Time time)
+            (W.device out.old) (W.device out.new) result }
+        ensures counts { Counts (W.device out.old) (W.device out.new) result }
+        ensures asked { asked_in self.new ≡ asked_in self.old }
+        ensures room { lent_to self.new ≡ lent_to self.old }
+    {
+        let (due, rest) = self.rest.split_at(count_below(self.rest, time));
+        put_samples(&self.table, view, self.marks, due, out)?;
+        self.rest = rest;
+        Ok(rest.is_empty())
+    }
+
+    /// Takes the item that was read last: keeps the value of a change, and at a time mark writes the lines of the times below it.
+    /// Returns whether it ended the run.
+    #[inline(always)]
+    pub(crate) fn take<S: Source, W: Sink>(
+        &mut self,
+        view: HeadView<'_>,
+        item: Item,
+        feed: &Feed<'_, '_, '_, '_, S>,
+        out: &mut W,
+    ) -> Result<bool, WriteFailed>
+        requires failures { (W.device out.old).failures < 2 ^ 64 - 1 }
+        requires sound { IsGoodChange view.codes.now feed.now item }
+        ensures takes { (h : Header) (items : List BodyItem) (x : BodyItem) → IsViewOf view.entry h
+            → AsItem h.codes feed.now item x → AreSampled self.old h items
+            → TakesOne (AreSampled self.new h (items ++ x ∷ []))
+            (asked_in self.old) h items x (W.device out.old) (W.device out.new) result }
+        ensures counts { Counts (W.device out.old) (W.device out.new) result }
+        ensures asked { asked_in self.new ≡ asked_in self.old }
+        ensures room { lent_to self.new ≡ lent_to self.old }
+    {
+        match item {
+            Item::Time(time) => self.take_time(view, time, out),
+            Item::Change { code, form } => {
+                self.table.set(code, form, change_text(feed, form));
+                Ok(false)
+            }
+            Item::Begin(_) | Item::End | Item::Finish => Ok(false),
+        }
+    }
+
+    /// Writes the lines of the times that are left.
+    pub(crate) fn close<W: Sink>(&self, view: HeadView<'_>, out: &mut W) -> Result<(), WriteFailed>
+        requires { (W.device out.old).failures < 2 ^ 64 - 1 }
+        ensures takes { (h : Header) (items : List BodyItem) → IsViewOf view.entry h
+            → AreSampled self.now h items
+            → Takes (W.device out.old) (W.device out.new)
+            (close_text (asked_in self.now) h items) result }
+        ensures counts { Counts (W.device out.old) (W.device out.new) result }
+    {
+        put_samples(&self.table, view, self.marks, self.rest, out)
+    }
+}
