@@ -7,10 +7,11 @@ ghost use Rattle.vcd_model.specs.Items.{BodyItem};
 ghost use Rattle.vcd_model.specs.Sample.{is_settled, sample_lines};
 ghost use Rattle.vcd_model.specs.Selection.{selected};
 ghost use Rattle.vcd_text.specs.Device.{Counts, Takes, failures_after};
-ghost use Rattle.vcd_head.specs.Marks.{is_marked, marks_of};
+ghost use Rattle.vcd_head.specs.Marks.{marks_of};
 ghost use Rattle.vcd_head.specs.Views.{IsViewOf};
 ghost use Rattle.vcd_tools.specs.Values.{AreHeld};
 
+use crate::selection::is_marked;
 use vcd_body::Table;
 use vcd_head::{HeadView, Kind, put_path};
 use vcd_text::{Sink, WriteFailed, put, put_number};
@@ -49,13 +50,6 @@ fn put_line<W: Sink>(
     put(out, b"\n")
 }
 
-/// Whether the variable of a row is marked.
-fn is_selected(marks: &[u8], row: usize) -> bool
-    ensures { result ≡ is_marked marks.now row }
-{
-    marks.get(row).copied().unwrap_or(0) == 1
-}
-
 /// Writes the lines of a time that no item so far is later than: one for each marked variable that is no event.
 fn put_lines<W: Sink>(
     table: &Table<'_>,
@@ -73,7 +67,7 @@ fn put_lines<W: Sink>(
     ensures counts { Counts (W.device out.old) (W.device out.new) result }
 {
     for (row, declared) in view.rows.iter().enumerate() {
-        if declared.kind == Kind::Var && is_selected(marks, row) {
+        if declared.kind == Kind::Var && is_marked(marks, row) {
             put_line(table, view, row, time, out)?;
         }
     }

@@ -3,7 +3,7 @@ ghost use Rattle.std.specs.Prelude.{◌≡◌, ℕ, ◌≤◌, ◌||◌, List, l
 ghost use Rattle.vcd_model.specs.Declarations.{IdCode};
 ghost use Rattle.vcd_model.specs.Header.{Header};
 ghost use Rattle.vcd_model.specs.Selection.{selected, selects_code};
-ghost use Rattle.vcd_head.specs.Marks.{marks_of};
+ghost use Rattle.vcd_head.specs.Marks.{is_marked, marks_of};
 ghost use Rattle.vcd_head.specs.Views.{IsViewOf};
 ghost use Rattle.vcd_tools.specs.Choice.{codes_in, is_chosen};
 ghost use Rattle.vcd_tools.specs.Selection.{AreSelected, IsUnmatched, IsFirstUnmatched};
@@ -11,6 +11,13 @@ ghost use Rattle.vcd_tools.specs.Selection.{AreSelected, IsUnmatched, IsFirstUnm
 use crate::answer::Stop;
 use crate::choice::Choice;
 use vcd_head::{HeadView, Kind, select};
+
+/// Whether a row is marked.
+pub(crate) fn is_marked(marks: &[u8], row: usize) -> bool
+    ensures { result ≡ is_marked marks.now row }
+{
+    marks.get(row).copied().unwrap_or(0) == 1
+}
 
 /// Chooses the codes of the marked variables.
 fn choose_marked(view: HeadView<'_>, marks: &[u8], choice: &mut Choice<'_>)

@@ -6,7 +6,7 @@ ghost use Rattle.vcd_model.specs.Header.{Header};
 ghost use Rattle.vcd_model.specs.Items.{BodyItem, Change, leaves_open};
 ghost use Rattle.vcd_model.specs.Selection.{selected};
 ghost use Rattle.vcd_text.specs.Device.{Counts, Puts, Takes, failures_after};
-ghost use Rattle.vcd_head.specs.Marks.{is_marked, marks_of};
+ghost use Rattle.vcd_head.specs.Marks.{marks_of};
 ghost use Rattle.vcd_head.specs.Views.{IsViewOf};
 ghost use Rattle.vcd_head.specs.declared.view.Code.{Code};
 ghost use Rattle.vcd_head.specs.declared.view.HeadView.{HeadView};
@@ -15,6 +15,7 @@ ghost use Rattle.vcd_body.specs.Given.{IsText};
 ghost use Rattle.vcd_body.specs.Items.{model_form};
 ghost use Rattle.vcd_tools.specs.Edges.{AreTallied, goes_from, one_more_if, with_change};
 
+use crate::selection::is_marked;
 use vcd_body::{Form, Table};
 use vcd_head::{HeadView, Kind, put_path};
 use vcd_text::{Sink, WriteFailed, put, put_number};
@@ -131,13 +132,6 @@ fn put_row<W: Sink>(
     put_counter(rises, out)?;
     put_counter(falls, out)?;
     put(out, b"\n")
-}
-
-/// Whether the row is marked.
-fn is_marked(marks: &[u8], row: usize) -> bool
-    ensures { result ≡ is_marked marks.now row }
-{
-    marks.get(row).copied().unwrap_or(0) == 1
 }
 
 /// Writes the rows of the marked variables, in order of declaration.

@@ -6,7 +6,7 @@ use Rattle.vcd_head.specs.Shown.{parts}
 use Rattle.vcd_tools.proofs.SampleLines.{lines_before, lines_none, lines_other, lines_unmarked, lines_marked, lines_some, lines_all, selected_at}
 use Rattle.vcd_tools.proofs.Variables.{read_variable, read_other, is_declared}
 use Rattle.vcd_tools.proofs.sample_lines.put_lines.Goals as goal
-use Rattle.vcd_tools.proofs.sample_lines.put_lines.Goals.{then-eq+then-is_selected+in_ok-put_line, else-eq, else-eq-via-then-eq+else-is_selected, else-eq-via-else-eq}
+use Rattle.vcd_tools.proofs.sample_lines.put_lines.Goals.{then-eq+then-is_marked+in_ok-put_line, else-eq, else-eq-via-then-eq+else-is_marked, else-eq-via-else-eq}
 
 pub loop-row-init : goal.loop-row-init
 loop-row-init g c = (
@@ -21,13 +21,13 @@ loop-row-preserved g c =
     let i = c.loop-row.row in
     let old = (g.W.Sink.device c.args.out.now).held in
     elim c.if-eq.branch [
-      | then-eq+then-is_selected+in_ok-put_line w ↦
+      | then-eq+then-is_marked+in_ok-put_line w ↦
           let is = read_variable s i _ c.eq.result c.eq.ensures w.if-eq.true c.loop-row-test.true in
           rw w.out-is (
             w.in_ok-put_line.ensures.counts ∙ c.loop-row.invariant.0,
             λ h items names views marked held late.
                 let v = is_declared s h i views is in
-                let mark = sym w.is_selected.ensures ∙ w.if-is_selected.true in
+                let mark = sym w.is_marked.ensures ∙ w.if-is_marked.true in
                 subst (λ (l : List ℕ). Appends old (g.W.Sink.device w.put_line.new.out).held l) (sym (lines_marked s h names items c.args.time i c.args.marks.now views marked v.0 v.1 mark))
                 (appends-twice _ _ _ _ (sample_lines (selected_at h.declarations i v.0 ∷ []) items c.args.time) (c.loop-row.invariant.1 h items names views marked held late) (w.in_ok-put_line.ensures.takes h items v.0 views v.1 held late)),
           )
@@ -36,9 +36,9 @@ loop-row-preserved g c =
             c.loop-row.invariant.0,
             λ h items names views marked held late.
                 let same : lines_before names items c.args.time h.declarations (i + 1) ≡ lines_before names items c.args.time h.declarations i = elim w.else-eq.branch [
-                  | else-eq-via-then-eq+else-is_selected u ↦
+                  | else-eq-via-then-eq+else-is_marked u ↦
                       let v = is_declared s h i views (read_variable s i _ c.eq.result c.eq.ensures u.if-eq.true c.loop-row-test.true) in
-                      lines_unmarked s h names items c.args.time i c.args.marks.now views marked v.0 v.1 (sym u.is_selected.ensures ∙ u.if-is_selected.false)
+                      lines_unmarked s h names items c.args.time i c.args.marks.now views marked v.0 v.1 (sym u.is_marked.ensures ∙ u.if-is_marked.false)
                   | else-eq-via-else-eq u ↦
                       let other = read_other s i _ c.eq.result c.eq.ensures u.if-eq.false c.loop-row-test.true in
                       lines_other s h names items c.args.time i c.args.marks.now views marked other.0 other.1 other.2
@@ -53,7 +53,7 @@ returns-in_err-put_line-clause-takes g c = λ h items names views marked held la
     let i = c.loop-row.row in
     let e : c.from_residual.result ≡ Err c.in_err-put_line.field-0.0 = search rules in
     let v = is_declared s h i views (read_variable s i _ c.eq.result c.eq.ensures c.if-eq.true c.loop-row-test.true) in
-    rw e (lines_some s h names items c.args.time i c.args.marks.now views marked _ _ _ v.0 v.1 (sym c.is_selected.ensures ∙ c.if-is_selected.true) (c.loop-row.invariant.1 h items names views marked held late) (c.in_err-put_line.ensures.takes h items v.0 views v.1 held late))
+    rw e (lines_some s h names items c.args.time i c.args.marks.now views marked _ _ _ v.0 v.1 (sym c.is_marked.ensures ∙ c.if-is_marked.true) (c.loop-row.invariant.1 h items names views marked held late) (c.in_err-put_line.ensures.takes h items v.0 views v.1 held late))
 
 pub returns-clause-takes : goal.returns-clause-takes
 returns-clause-takes g c = λ h items names views marked held late.
