@@ -6,10 +6,11 @@ use Rattle.std.specs.Char.{to_ascii_lowercase}
 use Rattle.std.specs.Str.{bytes_eq, str_to_ascii_lowercase}
 use Rattle.std.proofs.lemmas.Bool.{cases_lt}
 use Rattle.std.proofs.lemmas.Bool.Decides.{same_from_decides}
-use Rattle.std.proofs.lemmas.List.{length-append, length-replicate, same_lists}
+use Rattle.std.proofs.lemmas.List.{length-append, length-map, length-replicate, same_lists}
 use Rattle.std.proofs.lemmas.Slice.Eq.{bytes_eq-Decides}
 use Rattle.vcd_model.specs.Values.{extend, extension}
 use Rattle.vcd_body.specs.Kept.{last_digit_in, value_at_size}
+use Rattle.vcd_body.specs.Packed.{held_digit}
 use Rattle.vcd_body.specs.Stored.{digits_held, held_by, one_digit, used_by}
 use Rattle.vcd_body.specs.declared.slot.State.{State}
 use Rattle.vcd_body.specs.declared.slot.State.TheVariants as state
@@ -161,15 +162,22 @@ last_packed len bytes size k used is =
     let l = length_held len bytes used in
     last_extended ds size (omega arith) ∙ last_at ds None k (omega arith)
 
+pub last_plain : (len : ℕ) (bytes : List ℕ) (size k : ℕ) → length bytes ≡ suc k → last_digit_in (value_at_size size (held_by state.Plain len bytes)) ≡ slice_get (digits_held (held_by state.Plain len bytes)) k
+last_plain len bytes size k is =
+    let ds = digits_held (held_by state.Plain len bytes) in
+    let l = length-map bytes held_digit in
+    last_extended ds size (omega arith) ∙ last_at ds None k (omega arith)
+
 -- a state that holds one, or none
-pub last_of_state : (st : State) (len : ℕ) (bytes : List ℕ) (size : ℕ) → st ≢ state.Digits → one_digit st ≡ last_digit_in (value_at_size size (held_by st len bytes))
-last_of_state state.Unset len bytes size h = refl
-last_of_state state.Zero len bytes size h = sym (last_extended (48 ∷ []) size (omega arith))
-last_of_state state.One len bytes size h = sym (last_extended (49 ∷ []) size (omega arith))
-last_of_state state.Unknown len bytes size h = sym (last_extended (120 ∷ []) size (omega arith))
-last_of_state state.High len bytes size h = sym (last_extended (122 ∷ []) size (omega arith))
-last_of_state state.Digits len bytes size h = absurd (h refl)
-last_of_state state.Real len bytes size h = refl
+pub last_of_state : (st : State) (len : ℕ) (bytes : List ℕ) (size : ℕ) → st ≢ state.Plain → st ≢ state.Digits → one_digit st ≡ last_digit_in (value_at_size size (held_by st len bytes))
+last_of_state state.Unset len bytes size p h = refl
+last_of_state state.Zero len bytes size p h = sym (last_extended (48 ∷ []) size (omega arith))
+last_of_state state.One len bytes size p h = sym (last_extended (49 ∷ []) size (omega arith))
+last_of_state state.Unknown len bytes size p h = sym (last_extended (120 ∷ []) size (omega arith))
+last_of_state state.High len bytes size p h = sym (last_extended (122 ∷ []) size (omega arith))
+last_of_state state.Plain len bytes size p h = absurd (p refl)
+last_of_state state.Digits len bytes size p h = absurd (h refl)
+last_of_state state.Real len bytes size p h = refl
 
 -- a text of one digit, in lower case
 pub one_lower : (text : List ℕ) (d : ℕ) → 1 ≤ length text → length text < 2 → d ≡ to_ascii_lowercase (get_or text 0 0) → str_to_ascii_lowercase text ≡ d ∷ []

@@ -1,38 +1,17 @@
 -- The value that a slot holds, digit by digit.
-use Rattle.std.proofs.Common.{◌≡◌, ◌≢◌, ℕ, zero, suc, ◌-◌, ◌<◌, ◌≤◌, List, [], ◌∷◌, ◌++◌, length, take, replicate, slice_get, Some, None, refl, sym, ap, ◌∙◌, arith}
-use Rattle.std.proofs.lemmas.List.{length-take}
+use Rattle.std.proofs.Common.{◌≡◌, ℕ, zero, suc, ◌-◌, ◌<◌, ◌≤◌, List, [], ◌∷◌, ◌++◌, length, take, map, replicate, slice_get, Some, None, refl, sym, ap, ◌∙◌, arith}
+use Rattle.std.proofs.lemmas.List.{length-map, length-take}
 use Rattle.std.proofs.lemmas.Grind.{div_ceil_times}
 use Rattle.std.proofs.lemmas.Option.{slice_get_past}
 use Rattle.vcd_model.specs.Values.{extend, extension}
 use Rattle.vcd_body.specs.Kept.{Held, bytes_for, digit_in, value_at_size}
-use Rattle.vcd_body.specs.Packed.{digits_in, unpacked}
-use Rattle.vcd_body.specs.Stored.{digits_held, held_by, one_digit, some_by, used_by}
+use Rattle.vcd_body.specs.Packed.{digits_in, held_digit, unpacked}
+use Rattle.vcd_body.specs.Stored.{digits_held, held_by, some_by, used_by}
 use Rattle.vcd_body.specs.declared.slot.State.{State}
 use Rattle.vcd_body.specs.declared.slot.State.TheVariants as state
 use Rattle.vcd_body.proofs.PackedLemmas.{length_unpacked}
 
--- ---- one digit
-
--- of a state that does not pack digits, the first one is that of the state
-pub first_held : (st : State) (len : ℕ) (bytes : List ℕ) → st ≢ state.Digits → slice_get (digits_held (held_by st len bytes)) 0 ≡ one_digit st
-first_held state.Unset len bytes h = refl
-first_held state.Zero len bytes h = refl
-first_held state.One len bytes h = refl
-first_held state.Unknown len bytes h = refl
-first_held state.High len bytes h = refl
-first_held state.Digits len bytes h = absurd (h refl)
-first_held state.Real len bytes h = refl
-
--- and there are no others
-pub none_held : (st : State) (len place : ℕ) (bytes : List ℕ) → st ≢ state.Digits → place ≢ 0 → slice_get (digits_held (held_by st len bytes)) place ≡ None
-none_held st len zero bytes h n = absurd (n refl)
-none_held state.Unset len (suc p) bytes h n = refl
-none_held state.Zero len (suc p) bytes h n = refl
-none_held state.One len (suc p) bytes h n = refl
-none_held state.Unknown len (suc p) bytes h n = refl
-none_held state.High len (suc p) bytes h n = refl
-none_held state.Digits len (suc p) bytes h n = absurd (h refl)
-none_held state.Real len (suc p) bytes h n = refl
+-- ---- held digits
 
 pub get_taken : {X : Type 0} (xs : List X) (n i : ℕ) → i < n → slice_get (take n xs) i ≡ slice_get xs i
 get_taken xs zero i h = absurd (omega arith)
@@ -79,6 +58,11 @@ no_digits state.Zero len size place bytes u s e = cc
 no_digits state.One len size place bytes u s e = cc
 no_digits state.Unknown len size place bytes u s e = cc
 no_digits state.High len size place bytes u s e = cc
+no_digits state.Plain len size place bytes u s e = absurd (some (map held_digit bytes) (let l = length-map bytes held_digit in omega arith) e)
+  where
+    some : (ds : List ℕ) → 0 < length ds → slice_get ds 0 ≡ None → ⊥
+    some [] h e = omega arith
+    some (d ∷ ds) h e = let f : Some d ≡ None = e in cc
 no_digits state.Digits len size place bytes u s e = absurd (some (digits_in len bytes) (let l = length_held len bytes u in omega arith) e)
   where
     some : (ds : List ℕ) → 0 < length ds → slice_get ds 0 ≡ None → ⊥

@@ -1,10 +1,12 @@
 -- The text of a value, by the digits that are held.
 use Rattle.std.proofs.Common.{◌≡◌, ◌≢◌, ℕ, ◌<◌, ◌≤◌, ◌==◌, Bool, true, false, List, [], ◌∷◌, length, refl, sym, ap, ◌∙◌, append_assoc, arith}
 use Rattle.std.proofs.lemmas.Bool.{eqb-true}
+use Rattle.std.proofs.lemmas.List.{length-map}
 use Rattle.vcd_model.specs.Cut.{line_if_set}
 use Rattle.vcd_model.specs.Sample.{shown}
 use Rattle.vcd_model.specs.Values.{extend, short}
 use Rattle.vcd_body.specs.Kept.{Held, value_at_size}
+use Rattle.vcd_body.specs.Packed.{held_digit}
 use Rattle.vcd_body.specs.Stored.{digits_held, held_by, held_line, some_by, used_by}
 use Rattle.vcd_body.specs.declared.slot.State.{State}
 use Rattle.vcd_body.specs.declared.slot.State.TheVariants as state
@@ -18,6 +20,7 @@ all_digits state.Zero len bytes u r = refl
 all_digits state.One len bytes u r = refl
 all_digits state.Unknown len bytes u r = refl
 all_digits state.High len bytes u r = refl
+all_digits state.Plain len bytes u r = refl
 all_digits state.Digits len bytes u r = refl
 all_digits state.Real len bytes u r = absurd (r refl)
 
@@ -28,6 +31,7 @@ some_digits state.Zero len bytes h s u r = omega arith
 some_digits state.One len bytes h s u r = omega arith
 some_digits state.Unknown len bytes h s u r = omega arith
 some_digits state.High len bytes h s u r = omega arith
+some_digits state.Plain len bytes h s u r = let l = length-map bytes held_digit in omega arith
 some_digits state.Digits len bytes h s u r = let l = length_held len bytes h in omega arith
 some_digits state.Real len bytes h s u r = absurd (r refl)
 

@@ -260,18 +260,24 @@ kept_still f text values end s out = sym (ap (λ (b : Bool). kept_as end s (cond
 abbrev pub set_slot : State → ℕ → Slot → Slot
 set_slot st len s = record { state = st; start = s.start; len = len; counts = s.counts; chosen = s.chosen }
 
--- the digits that were packed
-pub digits_kept : (s : Slot) (end : ℕ) (values ys text : List ℕ) → length text ≢ 1 → 0 < length text → s.start + bytes_for (length text) ≤ end → end ≤ length values → length ys ≡ end - s.start → digits_in (length text) ys ≡ map held_digit text
-    → kept_with (put_mid s.start (end - s.start) values ys) end (set_slot state.Digits (length text) s) ≡ with_text form.Vector text (kept_with values end s)
-digits_kept s end values ys text several some within most same packed =
+-- the digits that were packed lie in the bytes that are in use
+pub packed_held : (ys text : List ℕ) → digits_in (length text) ys ≡ map held_digit text → held_by state.Digits (length text) (take (used_by state.Digits (length text)) ys) ≡ Held.Digits (map held_digit text)
+packed_held ys text packed =
     let n = length text in
-    let m = bytes_for n in
     let d = div_ceil_times n 4 (omega arith) in
-    let read = part_read s.start end m values ys within most same in
+    ap (λ (l : List ℕ). Held.Digits l) (digits_first n (bytes_for n) ys (omega (arith, d)) ∙ packed)
+
+-- the digits that were put in the share
+pub digits_kept : (st : State) (s : Slot) (end : ℕ) (values ys text : List ℕ) → length text ≢ 1 → 0 < length text → s.start + bytes_for (length text) ≤ end → s.start + used_by st (length text) ≤ end → end ≤ length values → length ys ≡ end - s.start
+    → held_by st (length text) (take (used_by st (length text)) ys) ≡ Held.Digits (map held_digit text)
+    → kept_with (put_mid s.start (end - s.start) values ys) end (set_slot st (length text) s) ≡ with_text form.Vector text (kept_with values end s)
+digits_kept st s end values ys text several some enough within most same held =
+    let n = length text in
+    let read = part_read s.start end (used_by st n) values ys within most same in
     let room = vector_room n several in
-    let yes = text_fits form.Vector n (end - s.start) some (omega (arith, room, within)) in
-    ap (λ (l : List ℕ). kept_as end s (Held.Digits (digits_in n l))) read
-    ∙ ap (λ (l : List ℕ). kept_as end s (Held.Digits l)) (digits_first n m ys (omega (arith, d)) ∙ packed)
+    let yes = text_fits form.Vector n (end - s.start) some (omega (arith, room, enough)) in
+    ap (λ (l : List ℕ). kept_as end s (held_by st n l)) read
+    ∙ ap (kept_as end s) held
     ∙ sym (ap (λ (b : Bool). kept_as end s (cond b (Held.Digits (map held_digit text)) (held_of values s))) yes)
 
 -- the text that was copied
@@ -290,6 +296,7 @@ held_one state.Zero len d bytes h = let e : byte "0" ≡ d = cc in ap (λ x. Hel
 held_one state.One len d bytes h = let e : byte "1" ≡ d = cc in ap (λ x. Held.Digits (x ∷ [])) e
 held_one state.Unknown len d bytes h = let e : byte "x" ≡ d = cc in ap (λ x. Held.Digits (x ∷ [])) e
 held_one state.High len d bytes h = let e : byte "z" ≡ d = cc in ap (λ x. Held.Digits (x ∷ [])) e
+held_one state.Plain len d bytes h = cc
 held_one state.Digits len d bytes h = cc
 held_one state.Real len d bytes h = cc
 
@@ -299,6 +306,7 @@ used_none state.Zero len d h = (refl, refl)
 used_none state.One len d h = (refl, refl)
 used_none state.Unknown len d h = (refl, refl)
 used_none state.High len d h = (refl, refl)
+used_none state.Plain len d h = cc
 used_none state.Digits len d h = cc
 used_none state.Real len d h = cc
 

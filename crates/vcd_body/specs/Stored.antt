@@ -1,10 +1,10 @@
 -- How a table keeps it: a slot for each code, and a share of the bytes of values.
-use Rattle.std.specs.Prelude.{◌≡◌, ℕ, ◌+◌, ◌-◌, ◌≤◌, ◌==◌, min, max, cond, List, [], ◌∷◌, ◌++◌, length, take, drop, sum_by, false, slice_get, Option, Some, None, option_map}
+use Rattle.std.specs.Prelude.{◌≡◌, ℕ, ◌+◌, ◌-◌, ◌≤◌, ◌==◌, min, max, cond, List, [], ◌∷◌, ◌++◌, length, take, drop, map, sum_by, false, slice_get, Option, Some, None, option_map}
 use Rattle.std.specs.Str.{byte}
 use Rattle.vcd_head.specs.declared.view.Code.{Code}
 use Rattle.vcd_body.specs.Kept.{Held, Kept, bytes_for}
 use Rattle.vcd_model.specs.Values.{extend, short}
-use Rattle.vcd_body.specs.Packed.{digits_in}
+use Rattle.vcd_body.specs.Packed.{digits_in, held_digit}
 use Rattle.vcd_body.specs.declared.slot.Slot.{Slot}
 use Rattle.vcd_body.specs.declared.slot.State.{State}
 use Rattle.vcd_body.specs.declared.slot.State.TheVariants as state
@@ -16,6 +16,7 @@ one_digit state.Zero = Some (byte "0")
 one_digit state.One = Some (byte "1")
 one_digit state.Unknown = Some (byte "x")
 one_digit state.High = Some (byte "z")
+one_digit state.Plain = None
 one_digit state.Digits = None
 one_digit state.Real = None
 
@@ -26,6 +27,7 @@ used_by state.Zero len = 0
 used_by state.One len = 0
 used_by state.Unknown len = 0
 used_by state.High len = 0
+used_by state.Plain len = len
 used_by state.Digits len = bytes_for len
 used_by state.Real len = len
 
@@ -39,6 +41,7 @@ held_by state.Zero len bytes = Held.Digits (byte "0" ∷ [])
 held_by state.One len bytes = Held.Digits (byte "1" ∷ [])
 held_by state.Unknown len bytes = Held.Digits (byte "x" ∷ [])
 held_by state.High len bytes = Held.Digits (byte "z" ∷ [])
+held_by state.Plain len bytes = Held.Digits (map held_digit bytes)
 held_by state.Digits len bytes = Held.Digits (digits_in len bytes)
 held_by state.Real len bytes = Held.Text bytes
 
@@ -82,13 +85,14 @@ kept_in values slots code = option_map (kept_with values (end_at slots (length v
 abbrev pub ChangesAt : ℕ → (Kept → Kept) → List ℕ → List Slot → List ℕ → List Slot → Type 0
 ChangesAt code f values slots values' slots' = (place : ℕ) → kept_in values' slots' place ≡ cond (place == code) (option_map f (kept_in values slots place)) (kept_in values slots place)
 
--- packed digits are one or more
+-- digits in a share are one or more
 abbrev pub some_by : State → ℕ → ℕ
 some_by state.Unset len = 1
 some_by state.Zero len = 1
 some_by state.One len = 1
 some_by state.Unknown len = 1
 some_by state.High len = 1
+some_by state.Plain len = len
 some_by state.Digits len = len
 some_by state.Real len = 1
 

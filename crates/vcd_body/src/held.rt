@@ -4,7 +4,7 @@ ghost use Rattle.vcd_body.specs.Kept.{digit_in, last_digit_in, value_at_size};
 ghost use Rattle.vcd_body.specs.Stored.{digits_with, held_with, some_by, used};
 
 use crate::change::extension_of;
-use crate::packed::digit_at;
+use crate::packed::{digit_at, plain_digit_at};
 use crate::slot::{Slot, State, digit_of_state};
 
 /// How many digits are held.
@@ -16,6 +16,7 @@ pub(crate) fn count_of(slot: Slot, share: &[u8]) -> usize
     match slot.state {
         State::Unset | State::Real => 0,
         State::Zero | State::One | State::Unknown | State::High => 1,
+        State::Plain => share.len(),
         State::Digits => slot.len,
     }
 }
@@ -26,6 +27,7 @@ pub(crate) fn digit_held(slot: Slot, share: &[u8], place: usize) -> Option<u8>
     ensures { result ≡ slice_get (digits_with slot share.now) place }
 {
     match slot.state {
+        State::Plain => plain_digit_at(share, place),
         State::Digits if place < slot.len => digit_at(share, place),
         State::Digits => None,
         state if place == 0 => digit_of_state(state),
@@ -60,6 +62,7 @@ pub(crate) fn last_held(slot: Slot, share: &[u8]) -> Option<u8>
         ≡ last_digit_in (value_at_size size (held_with slot share.now)) }
 {
     match slot.state {
+        State::Plain => plain_digit_at(share, share.len() - 1),
         State::Digits => digit_at(share, slot.len - 1),
         state => digit_of_state(state),
     }

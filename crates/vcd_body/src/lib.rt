@@ -23,7 +23,7 @@
 //! - `item`, `fault`: `Item`, `Form`, `Section`, `Regs`; `BodyFault`
 //! - `change`: `put_change`
 //! - `table`, `slot`: `Table`, `Shown`; `Slot`
-//! - `store`: slots and shares of the values, and how they are set; `packed`: digits, four to a byte
+//! - `store`: slots and shares of the values, and how they are set; `packed`: digits in a share, a byte each or four to a byte
 //! - `held`, `held_text`: the digits of a held value, and how it is written; `compare`: whether a change gives another one
 //!
 //! In `specs/` callers read `Items`, `Reads`, `Given` and `Fault`, and for the table `Contents` and `Kept`.

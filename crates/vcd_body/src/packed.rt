@@ -1,4 +1,4 @@
-// Digits, four to a byte.
+// Digits in a share: a byte each, or four to a byte.
 ghost use Rattle.std.specs.Prelude.{◌≡◌, ◌≤◌, ◌<◌, ◌+◌, ◌*◌, ◌/◌, ◌^◌, length, map, slice_get, slice_index_or};
 ghost use Rattle.vcd_body.specs.Packed.{code_of, code_or, digit_of, digits_in, fours, held_digit, unpacked};
 
@@ -26,6 +26,30 @@ fn digit_of(code: u8) -> u8
         1 => b'1',
         2 => b'x',
         _ => b'z',
+    }
+}
+
+/// A digit as it is held.
+#[inline(always)]
+fn held_digit(digit: u8) -> u8
+    ensures { result ≡ held_digit digit }
+{
+    match digit {
+        b'0' => b'0',
+        b'1' => b'1',
+        b'x' | b'X' => b'x',
+        _ => b'z',
+    }
+}
+
+/// The digit at a place of a share that holds a byte a digit; none after its end.
+#[inline(always)]
+pub(crate) fn plain_digit_at(share: &[u8], place: usize) -> Option<u8>
+    ensures { result ≡ slice_get (map held_digit share.now) place }
+{
+    match byte_at(share, place) {
+        Some(byte) => Some(held_digit(byte)),
+        None => None,
     }
 }
 
@@ -88,7 +112,7 @@ fn byte_at(share: &[u8], place: usize) -> Option<u8>
     share.get(place).copied()
 }
 
-/// The digit at a place of a share; none behind its end.
+/// The digit at a place of a share; none after its end.
 #[inline(always)]
 pub(crate) fn digit_at(share: &[u8], place: usize) -> Option<u8>
     ensures { result ≡ slice_get (unpacked share.now) place }

@@ -16,7 +16,9 @@ pub(crate) enum State {
     Unknown,
     /// By the digit z.
     High,
-    /// By several digits, packed in its share of the values.
+    /// By several digits as they were written, a byte each, where its share of the values has room for them.
+    Plain,
+    /// By several digits, packed four to a byte, where it has not.
     Digits,
     /// By the text of a real number, in its share of the values.
     Real,
@@ -90,6 +92,6 @@ pub(crate) fn digit_of_state(state: State) -> Option<u8>
         State::One => Some(b'1'),
         State::Unknown => Some(b'x'),
         State::High => Some(b'z'),
-        State::Unset | State::Digits | State::Real => None,
+        State::Unset | State::Plain | State::Digits | State::Real => None,
     }
 }

@@ -1,9 +1,9 @@
 // What is kept of each code, in lent slices: slots, and a share of the values for each.
-ghost use Rattle.std.specs.Prelude.{◌≡◌, ◌≢◌, ℕ, ◌+◌, ◌-◌, ◌<◌, ◌≤◌, ◌∷◌, [], List, length, take, drop, map, sum_by, IfSome, None, Some, slice_get, slice_index};
+ghost use Rattle.std.specs.Prelude.{◌≡◌, ◌≢◌, ℕ, ◌+◌, ◌-◌, ◌*◌, ◌<◌, ◌≤◌, ◌∷◌, [], List, cond, length, take, drop, map, sum_by, IfSome, None, Some, slice_get, slice_index};
 ghost use Rattle.vcd_head.specs.declared.view.Code.{Code};
 ghost use Rattle.vcd_body.specs.Kept.{Held, as_chosen, one_more, counts_with, with_held, with_text};
 ghost use Rattle.vcd_body.specs.Packed.{held_digit};
-ghost use Rattle.vcd_body.specs.Stored.{AreLaidOut, ChangesAt, end_at, share_of, some_by, start_of, unset_at, used};
+ghost use Rattle.vcd_body.specs.Stored.{AreLaidOut, ChangesAt, end_at, held_by, share_of, some_by, start_of, unset_at, used, used_by};
 
 use crate::item::Form;
 use crate::packed::pack;
@@ -37,13 +37,25 @@ fn used_by(slot: Slot) -> usize
 {
     match slot.state {
         State::Digits => slot.len.div_ceil(4),
-        State::Real => slot.len,
+        State::Plain | State::Real => slot.len,
         State::Unset | State::Zero | State::One | State::Unknown | State::High => 0,
     }
 }
 
-/// The bytes of its share that are in use. None where they would not lie within the values, or where the slot says that digits
-/// are packed, and how many is 0. No slot of a table that is laid out is so.
+/// Whether several digits are held so.
+#[inline(always)]
+fn holds_several(state: State) -> bool
+    ensures { (len : ℕ) → some_by state len ≡ cond result len 1 }
+{
+    match state {
+        State::Plain | State::Digits => true,
+        State::Unset | State::Zero | State::One | State::Unknown | State::High | State::Real =>
+            false,
+    }
+}
+
+/// The bytes of its share that are in use. None where they would not lie within the values, or where the slot says that several
+/// digits are held, and how many is 0. No slot of a table that is laid out is so.
 #[inline(always)]
 pub(crate) fn share_in(values: &[u8], slot: Slot) -> Option<&[u8]>
     ensures share { IfSome result
@@ -53,7 +65,7 @@ pub(crate) fn share_in(values: &[u8], slot: Slot) -> Option<&[u8]>
     ensures there { slot.start + used slot ≤ length values.now
         → 1 ≤ some_by slot.state slot.len → result ≢ None }
 {
-    if slot.state == State::Digits && slot.len == 0 {
+    if slot.len == 0 && holds_several(slot.state) {
         return None;
     }
     let end = slot.start.checked_add(used_by(slot))?;
@@ -70,6 +82,24 @@ fn set_digit(slots: &mut [Slot], code: usize, digit: u8)
 {
     if code < slots.len() {
         slots[code].state = state_of(digit);
+    }
+}
+
+/// Holds digits in a share: a byte each where it has room for them, and else four to a byte. Says how they are held.
+#[inline(always)]
+fn hold(share: &mut [u8], text: &[u8]) -> State
+    requires room { length text.now ≤ 4 * length share.old }
+    ensures held { held_by result (length text.now) (take (used_by result (length text.now)) share.new)
+        ≡ Held.Digits (map held_digit text.now) }
+    ensures used { used_by result (length text.now) ≤ length share.old }
+    ensures some { some_by result (length text.now) ≡ length text.now }
+{
+    if text.len() <= share.len() {
+        copy_front(share, text);
+        State::Plain
+    } else {
+        pack(share, text);
+        State::Digits
     }
 }
 
@@ -92,12 +122,12 @@ fn set_digits(slots: &mut [Slot], values: &mut [u8], code: usize, text: &[u8])
     if text.is_empty() || text.len().div_ceil(4) > end - slot.start {
         return;
     }
+    let state = hold(&mut values[slot.start..end], text);
     slots[code] = Slot {
-        state: State::Digits,
+        state,
         len: text.len(),
         ..slot
     };
-    pack(&mut values[slot.start..end], text);
 }
 
 /// Sets the value of a code to the text of a real number, where it fits its share.

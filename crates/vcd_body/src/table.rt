@@ -81,9 +81,8 @@ impl<'a> Table<'a> {
             Some(slot) => match slot.state {
                 State::Unset => Shown::Unset,
                 State::Real => Shown::Real,
-                State::Zero | State::One | State::Unknown | State::High | State::Digits => {
-                    Shown::Bits
-                }
+                State::Zero | State::One | State::Unknown | State::High => Shown::Bits,
+                State::Plain | State::Digits => Shown::Bits,
             },
         }
     }

@@ -161,6 +161,30 @@ fn values_of_each_form_at_each_size(rt: HostRuntime) -> Result<(), Fail> {
     Ok(())
 }
 
+// A share of 75 bytes: of so many digits it holds a byte each, and of 76 a byte for four.
+#[test]
+fn digits_that_have_a_byte_each_and_more(rt: HostRuntime) -> Result<(), Fail> {
+    let alloc = rt.alloc();
+    for count in 64..77 {
+        let text = mixed(alloc, count)?;
+        let full = padded(alloc, b'z', 300 - count, &text)?;
+        let other = padded(alloc, b'x', count - 1, b"0")?;
+        assert!(rt;
+            are_shown(alloc, 300, &text, &text, &full)?,
+            "{count} digits"
+        );
+        assert!(rt;
+            are_one(alloc, 300, &text, &full)?,
+            "{count} digits and 300"
+        );
+        assert!(rt;
+            are_two(alloc, 300, &text, &other)?,
+            "{count} digits and others"
+        );
+    }
+    Ok(())
+}
+
 #[test]
 fn short_digits_are_extended(rt: HostRuntime) -> Result<(), Fail> {
     let alloc = rt.alloc();

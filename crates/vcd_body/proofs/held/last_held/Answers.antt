@@ -4,8 +4,19 @@ use Rattle.vcd_body.specs.Packed.{unpacked}
 use Rattle.vcd_body.specs.Stored.{held_by, some_by, used_by}
 use Rattle.vcd_body.specs.declared.slot.State.{State}
 use Rattle.vcd_body.proofs.HeldLemmas.{get_taken}
-use Rattle.vcd_body.proofs.CompareLemmas.{last_of_state, last_packed}
+use Rattle.vcd_body.proofs.CompareLemmas.{last_of_state, last_packed, last_plain}
 use Rattle.vcd_body.proofs.held.last_held.Goals as goal
+
+pub returns-in-Plain : goal.returns-in-Plain
+returns-in-Plain c size =
+    let len = c.args.slot.len in
+    let bytes = c.args.share.now in
+    let used = subst (λ (s : State). used_by s len ≤ length bytes) c.in-Plain.is c.requires.used in
+    let some = subst (λ (s : State). 1 ≤ some_by s len) c.in-Plain.is c.requires.some in
+    let one : length bytes ≡ suc (length bytes - 1) = omega (arith, used, some) in
+    c.plain_digit_at.ensures
+    ∙ sym (last_plain len bytes size (length bytes - 1) one)
+    ∙ sym (ap (λ (s : State). last_digit_in (value_at_size size (held_by s len bytes))) c.in-Plain.is)
 
 pub returns-in-Digits : goal.returns-in-Digits
 returns-in-Digits c size =
@@ -19,4 +30,4 @@ returns-in-Digits c size =
     ∙ sym (ap (λ (s : State). last_digit_in (value_at_size size (held_by s len bytes))) c.in-Digits.is)
 
 pub returns-in_default : goal.returns-in_default
-returns-in_default c size = c.digit_of_state.ensures ∙ last_of_state c.args.slot.state c.args.slot.len c.args.share.now size c.in_default.not-Digits
+returns-in_default c size = c.digit_of_state.ensures ∙ last_of_state c.args.slot.state c.args.slot.len c.args.share.now size c.in_default.not-Plain c.in_default.not-Digits
