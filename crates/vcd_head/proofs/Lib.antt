@@ -27,3 +27,4 @@ pub mod LookUpLemmas
 pub mod RoomLemmas
 pub mod KeyLemmas
 pub mod MomentLemmas
+pub mod NewCodeLemmas
