@@ -28,3 +28,4 @@ pub mod RoomLemmas
 pub mod KeyLemmas
 pub mod MomentLemmas
 pub mod NewCodeLemmas
+pub mod RenamedLemmas

@@ -27,6 +27,7 @@
 //! - `room`: `need`, the room that an engine over a header needs
 //! - `moment`: `ticks`, a time with a unit in ticks of the header's scale
 //! - `new_code`: the codes that a merge gives
+//! - `merged`: declarations as a merge writes them
 //!
 //! In `specs/` callers read `Views` and `Shown`, `Reads`, `Fault`, `Finds`, `Marks`, `Moments`, `Needs` and `NewCode`.
 //!
@@ -49,6 +50,7 @@ mod inside;
 mod key;
 mod keyword;
 mod look_up;
+mod merged;
 mod moment;
 mod new_code;
 mod path;
