@@ -24,8 +24,8 @@
 //! - `item_text`: kept items as lines, each after the line of its time
 //! - `selection`: the variables that names select, as marks and as chosen codes
 //! - `report`, `rows`: the seven lines of `check`; `list`
-//! - `merge`, `merging`, `seat`, `newcode`, `windows`: a step of `merge` over all inputs, and of one of them; where an input
-//!   stands; new codes; the windows of all inputs. No function begins a merge, and no command uses it yet
+//! - `merge`, `merging`, `seat`, `windows`: a step of `merge` over all inputs, and of one of them; where an input
+//!   stands; the windows of all inputs. No function begins a merge, and no command uses it yet
 //!
 //! In `specs/` callers read `Run` (`Follows`), `Engine`, `Step`, `Room` and `Answer`; of a merge `MergeStep`, `MergeParts`,
 //! `MergeOrder` and `Seat`.
@@ -48,7 +48,6 @@ mod item_text;
 mod machine;
 mod merge;
 mod merging;
-mod newcode;
 mod report;
 mod rows;
 mod seat;
