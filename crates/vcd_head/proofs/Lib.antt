@@ -27,3 +27,5 @@ pub mod LookUpLemmas
 pub mod RoomLemmas
 pub mod KeyLemmas
 pub mod MomentLemmas
+pub mod NewCodeLemmas
+pub mod RenamedLemmas

@@ -18,3 +18,4 @@ pub mod Scaled
 pub mod Marks
 pub mod Selects
 pub mod Inside
+pub mod NewCode

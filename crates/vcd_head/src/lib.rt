@@ -26,8 +26,10 @@
 //! - `write`: headers as they are written
 //! - `room`: `need`, the room that an engine over a header needs
 //! - `moment`: `ticks`, a time with a unit in ticks of the header's scale
+//! - `new_code`: the codes that a merge gives
+//! - `merged`: declarations as a merge writes them
 //!
-//! In `specs/` callers read `Views` and `Shown`, `Reads`, `Fault`, `Finds`, `Marks`, `Moments` and `Needs`.
+//! In `specs/` callers read `Views` and `Shown`, `Reads`, `Fault`, `Finds`, `Marks`, `Moments`, `Needs` and `NewCode`.
 //!
 //! # Limits
 //!
@@ -48,7 +50,9 @@ mod inside;
 mod key;
 mod keyword;
 mod look_up;
+mod merged;
 mod moment;
+mod new_code;
 mod path;
 mod phrases;
 mod probes;
@@ -71,6 +75,7 @@ pub use head::Head;
 pub use keyword::{Keyword, keyword_of};
 pub use look_up::{find, find_counted};
 pub use moment::{Moment, TickFault, ticks};
+pub use new_code::{NewCode, put_code};
 pub use path::put_path;
 pub use probes::Probes;
 pub use read::read_head;

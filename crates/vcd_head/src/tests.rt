@@ -15,6 +15,7 @@ use std::alloc::{AllocError, Global};
 use std::test::Fail;
 use vcd_text::{Feed, Watch};
 
+mod merged;
 mod moments;
 
 const NESTED: &[u8] =

@@ -98,7 +98,7 @@ fn put_scope<W: Sink>(view: HeadView<'_>, row: usize, w: &mut W) -> Result<(), W
 }
 
 /// Writes the line of the variable of a row, which has this size, with this code.
-fn put_variable<W: Sink>(
+pub(crate) fn put_variable<W: Sink>(
     view: HeadView<'_>,
     row: usize,
     size: usize,

@@ -25,7 +25,6 @@ pub mod MergeSteps
 pub mod MergeAnswers
 pub mod MergeCounts
 pub mod MergeRuns
-pub mod NewCodes
 pub mod MergeCloses
 pub mod WholeInputs
 pub mod MergeEnds

@@ -16,7 +16,6 @@ pub mod Engine
 pub mod Step
 pub mod Seat
 pub mod SeatStep
-pub mod NewCode
 pub mod MergeOrder
 pub mod MergeParts
 pub mod MergeStep

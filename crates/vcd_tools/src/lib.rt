@@ -17,17 +17,17 @@
 //!
 //! - `task`: `Task`, `Room`, `Task::need`
 //! - `engine`: `Engine`, and `run_task`, the one loop over items. It names no command
-//! - `machine`, `machine/check`, `machine/pick`: what each task keeps between items, and what it does at the begin, with an
-//!   item and at the end
-//! - `commands`: `check`, `pick`
+//! - `machine`, `machine/check`, `pick`, `cut`, `sample`, `edges`: what each task keeps between items, and what it does at the
+//!   begin, with an item and at the end
+//! - `commands`: `check`, `pick`, `cut`, `sample`, `edges`
 //! - `answer`: `Done`, `More`, `Stop`: how a run ends, and whether it goes on
 //! - `choice`: which codes are chosen, a byte a code
 //! - `item_text`: kept items as lines, each after the line of its time
 //! - `selection`: the variables that names select, as marks and as chosen codes
 //! - `report`, `rows`, `tally`: the seven lines of `check`; `list`; the counters of `edges`, and its rows
 //! - `samples`, `sample_lines`: `Samples`, what a sample is asked for; its lines
-//! - `merge`, `merging`, `seat`, `newcode`, `windows`: a step of `merge` over all inputs, and of one of them; where an input
-//!   stands; new codes; the windows of all inputs. No function begins a merge, and no command uses it yet
+//! - `merge`, `merging`, `seat`, `windows`: a step of `merge` over all inputs, and of one of them; where an input
+//!   stands; the windows of all inputs. No function begins a merge, and no command uses it yet
 //!
 //! In `specs/` callers read `Run` (`Follows`), `Engine`, `Step`, `Room` and `Answer`; of a merge `MergeStep`, `MergeParts`,
 //! `MergeOrder` and `Seat`.
@@ -52,7 +52,6 @@ mod item_text;
 mod machine;
 mod merge;
 mod merging;
-mod newcode;
 mod report;
 mod rows;
 mod sample_lines;

@@ -19,10 +19,9 @@ ghost use Rattle.vcd_tools.specs.SeatStep.{Moved};
 
 use crate::answer::Stop;
 use crate::item_text::put_time_unless;
-use crate::newcode::NewCode;
 use crate::seat::Seat;
 use vcd_body::{Form, Item, change_text, next_item, put_change};
-use vcd_head::HeadView;
+use vcd_head::{HeadView, NewCode};
 use vcd_text::{Feed, Sink, Source, WriteFailed};
 
 /// An event inside a section is not written.

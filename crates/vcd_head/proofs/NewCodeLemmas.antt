@@ -6,7 +6,7 @@ use Rattle.std.proofs.Math.ListN.{length-set}
 use Rattle.std.proofs.lemmas.Bool.{le-leb, le-ltb, lt-ltb}
 use Rattle.vcd_model.specs.HeadText.{base94, new_code}
 use Rattle.vcd_model.proofs.CodeLemmas.{same_room}
-use Rattle.vcd_tools.specs.NewCode.{digits_of}
+use Rattle.vcd_head.specs.NewCode.{digits_of}
 
 -- what a loop over the digits keeps: the digits so far, and those of the rest
 pub record SoFar (number : ℕ) (bytes : List ℕ) (rest len : ℕ) : Type 0 where

@@ -1,7 +1,7 @@
 use Rattle.std.proofs.Common.{◌≡◌, ◌<◌, ◌⊎◌, arith, refl, inl, inr}
-use Rattle.vcd_tools.proofs.NewCodes.{at_first, digit_last, digit_more}
-use Rattle.vcd_tools.proofs.newcode.NewCode.of.Goals as goal
-use Rattle.vcd_tools.proofs.newcode.NewCode.of.Goals.{then-loop-len-test+else-rest-ge94, else-loop-len-test}
+use Rattle.vcd_head.proofs.NewCodeLemmas.{at_first, digit_last, digit_more}
+use Rattle.vcd_head.proofs.new_code.NewCode.of.Goals as goal
+use Rattle.vcd_head.proofs.new_code.NewCode.of.Goals.{then-loop-len-test+else-rest-ge94, else-loop-len-test}
 
 pub loop-len-init : goal.loop-len-init
 loop-len-init c = at_first c.args.number _ refl
