@@ -1,31 +1,20 @@
 -- The lines of a time of a sample, row by row.
-use Rattle.std.proofs.Common.{◌≡◌, ◌≢◌, ℕ, ◌+◌, Bool, true, false, cond, List, [], ◌∷◌, ◌++◌, length, take, drop, slice_get, flat_map, filter_map, decimal, Option, Some, None, refl, sym, ap, subst, ◌∙◌}
+use Rattle.std.proofs.Common.{◌≡◌, ℕ, Bool, true, false, List, [], ◌∷◌, ◌++◌, take, slice_get, flat_map, decimal, Some, refl, sym, ap, ◌∙◌}
 use Rattle.std.specs.Prelude.{option_map, option_and_then, unwrap_or}
-use Rattle.std.specs.Io.KnownBytes.{Appends}
-use Rattle.std.proofs.Math.Seq.{take-length}
-use Rattle.std.proofs.lemmas.List.{append_assoc, append-nil, take-append-drop}
-use Rattle.std.proofs.lemmas.List.Elements.{filter_map-append}
-use Rattle.std.proofs.lemmas.Grind.{flat_map-append}
-use Rattle.vcd_model.specs.Backward.{each, each_after}
+use Rattle.std.proofs.lemmas.List.{append_assoc, append-nil}
 use Rattle.vcd_model.specs.Declarations.{Declaration, Variable, code_of, path_of}
 use Rattle.vcd_model.specs.HeadText.{words}
 use Rattle.vcd_model.specs.Header.{Header}
 use Rattle.vcd_model.specs.History.{final_value}
 use Rattle.vcd_model.specs.Items.{BodyItem}
 use Rattle.vcd_model.specs.Sample.{is_settled, sample_lines, shown}
-use Rattle.vcd_model.specs.Selection.{Selected, is_selected, selected, with_path}
-use Rattle.vcd_model.proofs.Growing.{each_after-append}
+use Rattle.vcd_model.specs.Selection.{Selected}
 use Rattle.vcd_model.proofs.SampleSteps.{value_now}
-use Rattle.vcd_text.proofs.Writes.{AppendsSome, appends-first, appends-some}
-use Rattle.vcd_head.specs.Marks.{is_marked, marks_of}
-use Rattle.vcd_head.specs.Shown.{HeadShown, parts}
-use Rattle.vcd_head.specs.Views.{IsRow, IsViewOf, Views}
+use Rattle.vcd_head.specs.Shown.{parts}
+use Rattle.vcd_head.specs.Views.{IsViewOf}
 use Rattle.vcd_head.specs.declared.view.HeadView.{HeadView}
-use Rattle.vcd_head.specs.declared.view.Kind.TheVariants as kind
 use Rattle.vcd_head.specs.declared.view.Row.{Row}
-use Rattle.vcd_head.proofs.DraftGrows.{rows_len}
-use Rattle.vcd_head.proofs.MarkedHead.{marks_are}
-use Rattle.vcd_head.proofs.RowLemmas.{row_at, row_of}
+use Rattle.vcd_head.proofs.RowLemmas.{row_of}
 use Rattle.vcd_body.specs.Contents.{codes_shown, held_at, value_in}
 use Rattle.vcd_body.specs.Kept.{value_at_size}
 use Rattle.vcd_body.specs.declared.table.Table.{Table}

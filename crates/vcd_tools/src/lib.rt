@@ -1,23 +1,25 @@
 //! What is done with a dump whose header was read.
 //!
 //! `list` writes a line for each variable of a view. The other commands over one dump are each a `Task`: `run_task` does it
-//! over the items of the body, in a `Room` of the lengths that `Task::need` says; `check` and `pick` are one call of it each.
+//! over the items of the body, in a `Room` of the lengths that `Task::need` says; `check`, `pick`, `cut`, `sample` and `edges` are
+//! one call of it each.
 //! An `Engine` is the same run step by step, for callers that have more to do between items. None of them takes memory.
 //!
 //! # The relations
 //!
 //! `Follows task .. result` says what a run leaves: an input, whole, or what its source gave until a read failed; that no more of
 //! it was read than settles the task; and that output and result belong to the definitions' outcome for it. Between steps an
-//! engine `Runs`: the feed has given these items, and the engine `Holds` what is due after them. A step (`StepGives`) takes one item more, and the output grows by exactly what is due
-//! with it; or it ends the run: at the end of the body, where it writes what is due there, at an item that ends the run early,
+//! engine `Runs`: the feed has given these items, and the engine `Holds` what is due after them. A step (`StepGives`) takes one
+//! item more, and the output grows by exactly what is due with it; or it ends the run: at the end of the body, where it writes
+//! what is due there, at an item that ends the run early,
 //! or at a fault, where it writes nothing. Where a write fails, a prefix was written. What a command keeps is one case of
 //! `Keeps`.
 //!
 //! # The modules
 //!
-//! - `task`: `Task`, `Room`, `Task::need`
+//! - `task`, `span`: `Task`, `Room`, `Task::need`; the times of a cut
 //! - `engine`: `Engine`, and `run_task`, the one loop over items. It names no command
-//! - `machine`, `machine/check`, `pick`, `cut`, `sample`, `edges`: what each task keeps between items, and what it does at the
+//! - `machine`, and under it `check`, `pick`, `cut`, `sample`, `edges`: what each task keeps between items, and what it does at the
 //!   begin, with an item and at the end
 //! - `commands`: `check`, `pick`, `cut`, `sample`, `edges`
 //! - `answer`: `Done`, `More`, `Stop`: how a run ends, and whether it goes on
