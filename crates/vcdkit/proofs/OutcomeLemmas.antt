@@ -89,6 +89,7 @@ of_one (want.Cut period) scale task e =
     let to = moment_ticks scale (asked period.to) false in
     let cut = cut_is (model.has_unit (asked period.from ∷ asked period.to ∷ [])) from to task e in
     subst (IsOfOne (want.Cut period)) (sym cut.2) (refl, λ names o. refl)
+of_one (want.Edges names) scale task e = let same : Request.Edges (map string_bytes names.items) ≡ task = cc in subst (IsOfOne (want.Edges names)) same (refl, λ names o. refl)
 
 pub names_due : (wanted : Want) (scale : Option ℤ) (task : Request) → request_of scale (model_want wanted) ≡ Ok task → names_of task ≡ names_asked wanted
 names_due wanted scale task e = (of_one wanted scale task e).0

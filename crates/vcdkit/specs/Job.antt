@@ -16,6 +16,7 @@ model_want want.Check = model.Want.Check
 model_want want.List = model.Want.Listing
 model_want (want.Pick names) = model.Want.Pick (map string_bytes names.items)
 model_want (want.Cut period) = model.Want.Cut (asked period.from) (asked period.to)
+model_want (want.Edges names) = model.Want.Edges (map string_bytes names.items)
 
 -- the request of a task over items, or of a list, which is none; or why it is refused
 abbrev pub task_request : Result (Option Task) Refusal → Result Request model.Refusal
@@ -25,5 +26,8 @@ task_request (Err why) = Err (model_refusal why)
 
 -- the names that have to select something
 abbrev pub names_asked : Want → List (List ℕ)
+names_asked want.Check = []
+names_asked want.List = []
 names_asked (want.Pick names) = map string_bytes names.items
-names_asked wanted = []
+names_asked (want.Cut period) = []
+names_asked (want.Edges names) = map string_bytes names.items

@@ -1,5 +1,6 @@
 -- The words of the command line: how they are read, and what they ask for.
-use Rattle.std.specs.Prelude.{◌≡◌, ℕ, true, cond, List, [], map, codes, Option, Some, None, option_map, option_and_then, unwrap_or, Result, Ok, Err}
+use Rattle.std.specs.Prelude.{◌≡◌, ℕ, Bool, true, false, cond, List, [], map, codes, Option, Some, None, option_map, option_and_then, unwrap_or, Result, Ok, Err}
+use Rattle.std.specs.Borrow.{Bor}
 use Rattle.std.specs.Str.{bytes_eq}
 use Rattle.clap.specs.Lexer.{usize_max}
 use Rattle.clap.specs.Words.{App, Rule, Text, all_of, first_of, new_app, new_rule, subcommand_name_of, subcommand_rows_of, with_rule, with_subcommand}
@@ -23,9 +24,9 @@ input_rule = record (new_rule (codes "input")) { short = Some 105; value_names =
 abbrev pub limit_rule : Rule
 limit_rule = record (new_rule (codes "token-limit")) { long = Some (codes "token-limit"); value_names = 1 }
 
--- `NAME..`, of which there is at least one
-abbrev pub names_rule : Rule
-names_rule = record (new_rule (codes "names")) { range = Some (record { start_inclusive = 1; end_inclusive = usize_max }); value_names = 1; required = true }
+-- `NAME..`, which have to be there or not
+abbrev pub names_rule : Bool → Rule
+names_rule required = record (new_rule (codes "names")) { range = Some (record { start_inclusive = 1; end_inclusive = usize_max }); value_names = 1; required = required }
 
 -- an option of this name, which has to be there, for a time; which texts are times is no matter of the parse
 abbrev pub time_rule : Text → Rule
@@ -36,8 +37,8 @@ abbrev pub one_input_app : Text → App
 one_input_app name = with_rule (with_rule (new_app name) input_rule) limit_rule
 
 -- the same with names
-abbrev pub named_app : Text → App
-named_app name = with_rule (one_input_app name) names_rule
+abbrev pub named_app : Text → Bool → App
+named_app name required = with_rule (one_input_app name) (names_rule required)
 
 -- `cut`, with `--from N` and `--to N`
 abbrev pub cut_app : App
@@ -52,8 +53,8 @@ bare_app =
 -- `vcdkit` with its commands
 abbrev pub program_app : App
 program_app =
-    with_subcommand (with_subcommand (with_subcommand (with_subcommand bare_app (one_input_app (codes "check")).top) (one_input_app (codes "list")).top)
-    (named_app (codes "pick")).top) cut_app.top
+    with_subcommand (with_subcommand (with_subcommand (with_subcommand (with_subcommand bare_app (one_input_app (codes "check")).top) (one_input_app (codes "list")).top)
+    (named_app (codes "pick") true).top) cut_app.top) (named_app (codes "edges") false).top
 
 -- help and the version are no fault, and out of memory has a status of its own
 abbrev pub parse_status_of : ErrorKind → ℕ
@@ -92,7 +93,8 @@ command_named name matches =
     cond (bytes_eq name (codes "check")) (Some model.Command.Check)
     (cond (bytes_eq name (codes "list")) (Some model.Command.Listing)
     (cond (bytes_eq name (codes "pick")) (Some (model.Command.Pick (values_after matches (codes "names"))))
-    (cond (bytes_eq name (codes "cut")) (cut_between (word_after matches (codes "from")) (word_after matches (codes "to"))) None)))
+    (cond (bytes_eq name (codes "cut")) (cut_between (word_after matches (codes "from")) (word_after matches (codes "to")))
+    (cond (bytes_eq name (codes "edges")) (Some (model.Command.Edges (values_after matches (codes "names")))) None))))
 
 -- the command that was used, with its words
 abbrev pub command_used : ArgMatches → Option model.Command
@@ -112,12 +114,17 @@ words_used matches = option_map (λ command. record { command = command; limit =
 abbrev pub job_asked : ArgMatches → Result model.Job model.UseFault
 job_asked matches = model.job_of (words_used matches)
 
+-- borrowed names, where there are some
+abbrev pub some_names : Option (Bor (List (Bor Text))) → List Text
+some_names names = unwrap_or (option_map (λ some. map (λ name. name.now) some.now) names) []
+
 -- the command of borrowed words
 abbrev pub words_command : Words → model.Command
 words_command words.Check = model.Command.Check
 words_command words.List = model.Command.Listing
 words_command (words.Pick names) = model.Command.Pick (map (λ name. name.now) names.now)
 words_command (words.Cut from to) = model.Command.Cut from.now to.now
+words_command (words.Edges names) = model.Command.Edges (some_names names)
 
 -- the fault is the one that the words have; memory is none of theirs
 abbrev pub IsFaultIn : {X : Type 0} → UseFault → Result X model.UseFault → Type 0

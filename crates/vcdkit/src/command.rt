@@ -26,15 +26,20 @@ fn one_input<'a>(alloc: Global, name: &'a str, about: &'a str) -> Result<Command
         .arg(limit)
 }
 
-/// A command over one input, with its options and names of variables.
-fn named<'a>(alloc: Global, name: &'a str, about: &'a str) -> Result<Command<'a>, AllocError>
-    ensures words { IfOk result (λ c. app_of c ≡ named_app name.entry.now) }
+/// A command over one input, with its options and names of variables, without which the parse fails where they are required.
+fn named<'a>(
+    alloc: Global,
+    name: &'a str,
+    about: &'a str,
+    required: bool,
+) -> Result<Command<'a>, AllocError>
+    ensures words { IfOk result (λ c. app_of c ≡ named_app name.entry.now required) }
     ensures whole { IfOk result (λ c. is_broken c ≡ false) }
 {
     let names = Arg::new(alloc, "names")
         .value_name("NAME")
         .num_args(1..)
-        .required(true)
+        .required(required)
         .help("A variable, or a scope with all that it has: names joined by points");
     one_input(alloc, name, about)?.arg(names)
 }
@@ -74,8 +79,14 @@ pub fn command_of<'a>(alloc: Global) -> Result<Command<'a>, AllocError>
 {
     let check = one_input(alloc, "check", "Checks a dump and counts what it has")?;
     let list = one_input(alloc, "list", "Lists the variables of a dump")?;
-    let pick = named(alloc, "pick", "Writes the dump of some variables")?;
+    let pick = named(alloc, "pick", "Writes the dump of some variables", true)?;
     let cut = cut(alloc)?;
+    let edges = named(
+        alloc,
+        "edges",
+        "Counts changes, rises and falls of variables",
+        false,
+    )?;
     Command::new(alloc, "vcdkit")
         .version("0.1.0")
         .about("Proved tools for value change dumps")
@@ -84,7 +95,8 @@ pub fn command_of<'a>(alloc: Global) -> Result<Command<'a>, AllocError>
         .subcommand(check)?
         .subcommand(list)?
         .subcommand(pick)?
-        .subcommand(cut)
+        .subcommand(cut)?
+        .subcommand(edges)
 }
 
 /// The exit status where a parse gave no matches.

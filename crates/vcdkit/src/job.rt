@@ -25,6 +25,8 @@ pub enum Want {
     Pick(Vec<String>),
     /// Writes the dump of these times.
     Cut(Period),
+    /// Counts how often the variables that these names select change, rise and fall; all without names.
+    Edges(Vec<String>),
 }
 
 impl Want {
@@ -43,6 +45,7 @@ impl Want {
             Want::List => Ok(None),
             Want::Pick(names) => Ok(Some(Task::Pick(names.as_slice()))),
             Want::Cut(period) => Ok(Some(Task::Cut(period.span(view)?))),
+            Want::Edges(names) => Ok(Some(Task::Edges(names.as_slice()))),
         }
     }
 
@@ -52,7 +55,7 @@ impl Want {
     {
         match self {
             Want::Check | Want::List | Want::Cut(_) => &[],
-            Want::Pick(names) => names.as_slice(),
+            Want::Pick(names) | Want::Edges(names) => names.as_slice(),
         }
     }
 }

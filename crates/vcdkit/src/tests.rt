@@ -1,5 +1,6 @@
 mod check;
 mod cut;
+mod edges;
 mod failures;
 mod headers;
 mod list;

@@ -2,7 +2,7 @@
 ghost use Rattle.std.specs.Prelude.{◌≡◌, IfErr, IfOk, codes, map, option_map, string_bytes};
 ghost use Rattle.vcd_model.specs.Words.{want_of};
 ghost use Rattle.vcdkit.specs.Job.{model_want};
-ghost use Rattle.vcdkit.specs.Words.{command_named, command_used, complete, input_asked, some_of, values_after, word_after, words_command, IsFaultOf};
+ghost use Rattle.vcdkit.specs.Words.{command_named, command_used, complete, input_asked, some_names, some_of, values_after, word_after, words_command, IsFaultOf};
 
 use crate::job::{UseFault, Want};
 use crate::moment_word::cut_of;
@@ -16,6 +16,7 @@ pub(crate) enum Words<'m, 'a> {
     List,
     Pick(&'m [&'a str]),
     Cut(&'a str, &'a str),
+    Edges(Option<&'m [&'a str]>),
 }
 
 /// The first word after an option of the command that was used.
@@ -59,6 +60,7 @@ fn words_named<'m, 'a>(name: &str, matches: &'m ArgMatches<'a>) -> Option<Words<
         "list" => Some(Words::List),
         "pick" => Some(Words::Pick(names_of(matches)?)),
         "cut" => Some(Words::Cut(word_of(matches, "from")?, word_of(matches, "to")?)),
+        "edges" => Some(Words::Edges(names_of(matches))),
         _ => None,
     }
 }
@@ -82,6 +84,16 @@ fn copied(alloc: Global, names: &[&str]) -> Result<Vec<String>, AllocError>
     Ok(copies)
 }
 
+/// A copy of names, where there are some.
+fn copied_some(alloc: Global, names: Option<&[&str]>) -> Result<Vec<String>, AllocError>
+    ensures { IfOk result (λ copies. map string_bytes copies.items ≡ some_names names.entry) }
+{
+    match names {
+        Some(names) => copied(alloc, names),
+        None => Ok(Vec::new(alloc)),
+    }
+}
+
 /// What these words ask for, or the first fault of them. Their names are copied.
 pub(crate) fn want_of<'a>(alloc: Global, words: Words<'_, 'a>) -> Result<Want, UseFault<'a>>
     ensures want { IfOk result (λ want. want_of (words_command words.entry) ≡ Ok (model_want want)) }
@@ -92,5 +104,6 @@ pub(crate) fn want_of<'a>(alloc: Global, words: Words<'_, 'a>) -> Result<Want, U
         Words::List => Want::List,
         Words::Pick(names) => Want::Pick(copied(alloc, names)?),
         Words::Cut(from, to) => Want::Cut(cut_of(from, to)?),
+        Words::Edges(names) => Want::Edges(copied_some(alloc, names)?),
     })
 }

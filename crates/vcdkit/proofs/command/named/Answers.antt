@@ -19,9 +19,9 @@ returns-clause-words c =
     let range = some-is c.num_args.result.num_vals (record { start_inclusive = 1; end_inclusive = usize_max }) counted.1 in
     let bare : rule_of c.value_name.result ≡ record (new_rule (codes "names")) { value_names = 1 } = search rules in
     let local : c.value_name.result.global ≡ false = search rules in
-    let rule : rule_of c.help-names.result ≡ names_rule =
+    let rule : rule_of c.help-names.result ≡ names_rule c.args.required =
     ap rule_of c.help-names.ensures ∙ ap rule_of c.required.ensures
-    ∙ ap (λ (r : Rule). record r { required = true }) (ap rule_of counted.0 ∙ ap₂ (λ (r : Rule) (n : Option ValueRange). record r { range = n }) bare range) in
+    ∙ ap (λ (r : Rule). record r { required = c.args.required }) (ap rule_of counted.0 ∙ ap₂ (λ (r : Rule) (n : Option ValueRange). record r { range = n }) bare range) in
     let stays : c.help-names.result.global ≡ false =
     ap (λ (a : Arg). a.global) c.help-names.ensures ∙ ap (λ (a : Arg). a.global) c.required.ensures ∙ ap (λ (a : Arg). a.global) counted.0 ∙ local in
     IfOk-weaker c.arg.result _ _ (λ r h. h.shape stays ∙ ap₂ with_rule c.in_ok-one_input.ensures.words rule) c.arg.ensures

@@ -16,3 +16,7 @@ returns-in-Pick c = λ h v. rw (c.in-Pick.is, c.as_slice.ensures.value) refl
 
 pub returns-in_ok-span-in-Cut : goal.returns-in_ok-span-in-Cut
 returns-in_ok-span-in-Cut c = λ h v. rw c.in-Cut.is (c.in_ok-span-in-Cut.ensures h v)
+
+pub returns-in-Edges : goal.returns-in-Edges
+unfolding request_of
+returns-in-Edges c = λ h v. rw (c.in-Edges.is, c.as_slice-in-Edges.ensures.value) refl
