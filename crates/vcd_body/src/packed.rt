@@ -31,7 +31,7 @@ fn digit_of(code: u8) -> u8
 
 /// A digit as it is held.
 #[inline(always)]
-fn held_digit(digit: u8) -> u8
+pub(crate) fn held_digit(digit: u8) -> u8
     ensures { result ≡ held_digit digit }
 {
     match digit {
