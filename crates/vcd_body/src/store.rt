@@ -123,11 +123,9 @@ fn set_digits(slots: &mut [Slot], values: &mut [u8], code: usize, text: &[u8])
         return;
     }
     let state = hold(&mut values[slot.start..end], text);
-    slots[code] = Slot {
-        state,
-        len: text.len(),
-        ..slot
-    };
+    let slot = &mut slots[code];
+    slot.state = state;
+    slot.len = text.len();
 }
 
 /// Sets the value of a code to the text of a real number, where it fits its share.
