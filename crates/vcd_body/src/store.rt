@@ -146,12 +146,10 @@ fn set_real(slots: &mut [Slot], values: &mut [u8], code: usize, text: &[u8])
     if text.is_empty() || text.len() > end - slot.start {
         return;
     }
-    slots[code] = Slot {
-        state: State::Real,
-        len: text.len(),
-        ..slot
-    };
     copy_front(&mut values[slot.start..end], text);
+    let slot = &mut slots[code];
+    slot.state = State::Real;
+    slot.len = text.len();
 }
 
 /// Copies bytes to the front.
