@@ -1,5 +1,5 @@
 -- Digits that extend to one value, or to several.
-use Rattle.std.proofs.Common.{◌≡◌, ◌≢◌, ℕ, zero, suc, ◌+◌, ◌-◌, max, ◌≤◌, ◌<◌, Bool, true, false, not, List, [], ◌∷◌, ◌++◌, length, replicate, drop, get_or, Option, Some, None, slice_get, refl, sym, ap, subst, ◌∙◌, arith, ◌⊎◌, inl, inr}
+use Rattle.std.proofs.Common.{◌≡◌, ◌≢◌, ℕ, zero, suc, ◌+◌, ◌-◌, max, ◌≤◌, ◌<◌, Bool, true, false, not, List, [], ◌∷◌, ◌++◌, length, map, replicate, drop, get_or, Option, Some, None, slice_get, refl, sym, ap, subst, ◌∙◌, arith, ◌⊎◌, inl, inr}
 use Rattle.std.specs.Bool.{Decides}
 use Rattle.std.specs.List.{last_or}
 use Rattle.std.specs.Char.{to_ascii_lowercase}
@@ -138,6 +138,30 @@ all_same xs ys size few less same =
     or_zero [] k d h = absurd (omega arith)
     or_zero (x ∷ l) zero d h = refl
     or_zero (x ∷ l) (suc k) d h = or_zero l k d (omega arith)
+
+-- as many digits on both sides are compared as they are
+pub differ_where_as_many : (xs ys : List ℕ) (size : ℕ) → length xs ≡ length ys → (r : Bool) → Decides r (xs ≡ ys) → not r ≡ not (bytes_eq (extend xs size) (extend ys size))
+differ_where_as_many xs ys size many r d =
+    let n = length xs in
+    let x = sym (extend_wide xs n (omega arith)) in
+    let y = sym (extend_wide ys n (omega arith)) in
+    differ_at_longest xs ys size n (omega arith) (omega arith) r (subst (λ l. Decides r (l ≡ extend ys n)) x (subst (λ l. Decides r (xs ≡ l)) y d))
+
+-- digits that are held a byte each, and those of a text of as many
+pub same_plain : (share text : List ℕ) → length share ≡ length text → ((k : ℕ) → k < length text → held_digit (get_or share k 0) ≡ to_ascii_lowercase (get_or text k 0)) → map held_digit share ≡ str_to_ascii_lowercase text
+same_plain [] [] many same = refl
+same_plain [] (y ∷ text) many same = absurd (omega arith)
+same_plain (x ∷ share) [] many same = absurd (omega arith)
+same_plain (x ∷ share) (y ∷ text) many same =
+    let e = same 0 (omega arith) in
+    let es = same_plain share text (omega arith) (λ k h. same (suc k) (omega arith)) in
+    rw (e, es) refl
+
+pub plain_at : (share text : List ℕ) (k : ℕ) → length share ≡ length text → k < length text → map held_digit share ≡ str_to_ascii_lowercase text → held_digit (get_or share k 0) ≡ to_ascii_lowercase (get_or text k 0)
+plain_at share [] k many h e = absurd (omega arith)
+plain_at [] (y ∷ text) k many h e = absurd (omega arith)
+plain_at (x ∷ share) (y ∷ text) zero many h e = ap (λ l. get_or l 0 0) e
+plain_at (x ∷ share) (y ∷ text) (suc k) many h e = plain_at share text k (omega arith) (omega arith) (ap (drop 1) e)
 
 -- ---- the last digit
 

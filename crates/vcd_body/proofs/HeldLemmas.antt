@@ -51,6 +51,11 @@ digits_of Held.Unset size place first e = cc
 digits_of (Held.Digits ds) size place first e = refl
 digits_of (Held.Text text) size place first e = cc
 
+-- of some digits there is a first
+first_there : (ds : List ℕ) → 0 < length ds → slice_get ds 0 ≡ None → ⊥
+first_there [] h e = omega arith
+first_there (d ∷ ds) h e = let f : Some d ≡ None = e in cc
+
 -- where there is none, the value has no digits
 pub no_digits : (st : State) (len size place : ℕ) (bytes : List ℕ) → used_by st len ≤ length bytes → 1 ≤ some_by st len → slice_get (digits_held (held_by st len bytes)) 0 ≡ None → digit_in (value_at_size size (held_by st len bytes)) place ≡ None
 no_digits state.Unset len size place bytes u s e = refl
@@ -58,16 +63,8 @@ no_digits state.Zero len size place bytes u s e = cc
 no_digits state.One len size place bytes u s e = cc
 no_digits state.Unknown len size place bytes u s e = cc
 no_digits state.High len size place bytes u s e = cc
-no_digits state.Plain len size place bytes u s e = absurd (some (map held_digit bytes) (let l = length-map bytes held_digit in omega arith) e)
-  where
-    some : (ds : List ℕ) → 0 < length ds → slice_get ds 0 ≡ None → ⊥
-    some [] h e = omega arith
-    some (d ∷ ds) h e = let f : Some d ≡ None = e in cc
-no_digits state.Digits len size place bytes u s e = absurd (some (digits_in len bytes) (let l = length_held len bytes u in omega arith) e)
-  where
-    some : (ds : List ℕ) → 0 < length ds → slice_get ds 0 ≡ None → ⊥
-    some [] h e = omega arith
-    some (d ∷ ds) h e = let f : Some d ≡ None = e in cc
+no_digits state.Plain len size place bytes u s e = absurd (first_there (map held_digit bytes) (let l = length-map bytes held_digit in omega arith) e)
+no_digits state.Digits len size place bytes u s e = absurd (first_there (digits_in len bytes) (let l = length_held len bytes u in omega arith) e)
 no_digits state.Real len size place bytes u s e = refl
 
 -- the digit that others are extended by is that of the first one

@@ -1,10 +1,12 @@
 -- Packed digits are the digits again, as they are held; the digit at a place of a share.
-use Rattle.std.proofs.Common.{◌≡◌, ℕ, zero, suc, ◌+◌, ◌*◌, ◌/◌, ◌%◌, ◌<◌, ◌≤◌, Bool, true, false, cond, ◌||◌, ◌==◌, nat_lt, List, [], ◌∷◌, ◌++◌, length, take, map, refl, sym, ap, ◌∙◌, arith, ◌⊎◌, inl, inr, slice_get, Some, None}
+use Rattle.std.proofs.Common.{◌≡◌, ℕ, zero, suc, ◌+◌, ◌*◌, ◌/◌, ◌%◌, ◌<◌, ◌≤◌, Bool, true, false, cond, ◌||◌, ◌==◌, nat_lt, List, [], ◌∷◌, ◌++◌, length, take, map, refl, sym, ap, ◌∙◌, arith, ◌⊎◌, inl, inr, slice_get, slice_set, Some, None}
 use Rattle.std.specs.Prelude.{get_or}
 use Rattle.std.specs.List.{list_all}
 use Rattle.std.specs.Str.{byte, str_to_ascii_lowercase}
 use Rattle.std.specs.Char.{to_ascii_lowercase}
 use Rattle.std.proofs.lemmas.Bool.{or_cases, and_parts, cases_lt, eqb-true, le-ltb, lt-ltb}
+use Rattle.std.proofs.Math.ListN.{length-set}
+use Rattle.std.proofs.lemmas.List.{get_or-set_other, get_or-set_same}
 use Rattle.std.proofs.lemmas.Option.{slice_get_past}
 use Rattle.vcd_model.specs.BodyPhrases.{is_value_digit}
 use Rattle.vcd_body.specs.Packed.{code_of, code_or, digit_of, digits_in, fours, held_digit, unpacked}
@@ -165,6 +167,19 @@ packs_again (a ∷ b ∷ c ∷ d ∷ text) (y ∷ ys) room packs =
     let more = packs_again text ys (omega arith) rest in
     ap (λ (l : List ℕ). take (suc (suc (suc (suc (length text))))) (l ++ unpacked ys)) f
     ∙ rw (digit_again a, digit_again b, digit_again c, digit_again d) (ap (λ l. held_digit a ∷ held_digit b ∷ held_digit c ∷ held_digit d ∷ l) more)
+
+-- the bytes of four digits each were written, and that of the last ones
+pub packs_last : (text bytes : List ℕ) (whole last : ℕ) → whole ≡ length text / 4 → 4 * whole < length text → length text ≤ 4 * length bytes
+    → ((j : ℕ) → j < whole → get_or bytes j 0 ≡ code_or text (4 * j) + 4 * code_or text (4 * j + 1) + 16 * code_or text (4 * j + 2) + 64 * code_or text (4 * j + 3))
+    → last ≡ code_or text (4 * whole) + 4 * code_or text (4 * whole + 1) + 16 * code_or text (4 * whole + 2) + 64 * code_or text (4 * whole + 3)
+    → digits_in (length text) (slice_set bytes whole last) ≡ map held_digit text
+packs_last text bytes whole last is some room packs four =
+    let l = length-set bytes whole last in
+    packs_again text (slice_set bytes whole last) (omega arith) (λ j h. by_place j h (cases_lt j whole))
+  where
+    by_place : (j : ℕ) → 4 * j < length text → (j < whole) ⊎ (whole ≤ j) → get_or (slice_set bytes whole last) j 0 ≡ code_or text (4 * j) + 4 * code_or text (4 * j + 1) + 16 * code_or text (4 * j + 2) + 64 * code_or text (4 * j + 3)
+    by_place j h (inl less) = get_or-set_other bytes whole j last 0 (λ e. omega arith) ∙ packs j less
+    by_place j h (inr more) = let e : j ≡ whole = omega arith in rw e (get_or-set_same bytes whole last 0 (omega arith) ∙ four)
 
 -- ---- one digit of a share
 

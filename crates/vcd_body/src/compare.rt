@@ -1,15 +1,17 @@
 // Whether a change gives a code another value than it has.
-ghost use Rattle.std.specs.Prelude.{◌≡◌, ◌≤◌, length, not, get_or};
+ghost use Rattle.std.specs.Prelude.{◌≡◌, ◌≤◌, length, map, not, get_or};
 ghost use Rattle.std.specs.Bool.{Decides};
 ghost use Rattle.std.specs.Str.{bytes_eq, str_to_ascii_lowercase};
 ghost use Rattle.vcd_model.specs.Values.{extend, extension, value_with};
 ghost use Rattle.vcd_body.specs.Items.{model_form};
 ghost use Rattle.vcd_body.specs.Kept.{Held, differs, value_at_size};
+ghost use Rattle.vcd_body.specs.Packed.{held_digit};
 ghost use Rattle.vcd_body.specs.Stored.{digits_with, held_with, some_by, used};
 
 use crate::change::extended_by;
 use crate::held::{count_of, digit_shown};
 use crate::item::Form;
+use crate::packed::held_digit;
 use crate::slot::{Slot, State, digit_of_state};
 
 // What a text is extended by.
@@ -72,6 +74,21 @@ fn are_same(slot: Slot, share: &[u8], text: &[u8], size: usize) -> bool
     true
 }
 
+// Whether digits that are held a byte each and a text of as many are the same. It looks from the right too.
+fn are_same_plain(share: &[u8], text: &[u8]) -> bool
+    requires { length share.now ≡ length text.now }
+    ensures { Decides result (map held_digit share.now ≡ str_to_ascii_lowercase text.now) }
+{
+    let mut place = text.len();
+    while place > 0 {
+        place -= 1;
+        if held_digit(share[place]) != text[place].to_ascii_lowercase() {
+            return false;
+        }
+    }
+    true
+}
+
 // Whether a text gives a code of this size other digits than several that are held, or is itself of several. It takes as long
 // as these digits and the text are, whatever the size is.
 fn several_differ(slot: Slot, share: &[u8], size: usize, text: &[u8]) -> bool
@@ -85,7 +102,10 @@ fn several_differ(slot: Slot, share: &[u8], size: usize, text: &[u8]) -> bool
     if size.max(held) != size.max(text.len()) {
         return true;
     }
-    !are_same(slot, share, text, held.max(text.len()))
+    match slot.state {
+        State::Plain if held == text.len() => !are_same_plain(share, text),
+        _ => !are_same(slot, share, text, held.max(text.len())),
+    }
 }
 
 // Whether a text gives a code of this size other digits than those that are held. Most are one digit.

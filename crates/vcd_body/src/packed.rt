@@ -2,18 +2,19 @@
 ghost use Rattle.std.specs.Prelude.{◌≡◌, ◌≤◌, ◌<◌, ◌+◌, ◌*◌, ◌/◌, ◌^◌, length, map, slice_get, slice_index_or};
 ghost use Rattle.vcd_body.specs.Packed.{code_of, code_or, digit_of, digits_in, fours, held_digit, unpacked};
 
-/// A digit as two bits.
+/// A digit as two bits. It is written so that it takes no branches.
 #[inline(always)]
 fn code_of(digit: u8) -> u8
     ensures code { result ≡ code_of digit }
     ensures small { result < 4 }
 {
-    match digit {
-        b'0' => 0,
-        b'1' => 1,
-        b'x' | b'X' => 2,
-        _ => 3,
-    }
+    let x_or_z = if (digit == b'x') | (digit == b'X') {
+        2
+    } else {
+        3
+    };
+    let all_but_0 = if digit == b'1' { 1 } else { x_or_z };
+    if digit == b'0' { 0 } else { all_but_0 }
 }
 
 /// Two bits as a digit, in lower case.
@@ -31,7 +32,7 @@ fn digit_of(code: u8) -> u8
 
 /// A digit as it is held.
 #[inline(always)]
-fn held_digit(digit: u8) -> u8
+pub(crate) fn held_digit(digit: u8) -> u8
     ensures { result ≡ held_digit digit }
 {
     match digit {
@@ -78,14 +79,30 @@ fn four_at(text: &[u8], place: usize) -> u8
         + 64 * code_at(text, place + 3)
 }
 
+/// The same where all four are digits of the text.
+#[inline(always)]
+fn whole_four_at(text: &[u8], place: usize) -> u8
+    requires { place + 3 < length text.now }
+    ensures { result ≡ code_or text.now place + 4 * code_or text.now (place + 1)
+        + 16 * code_or text.now (place + 2) + 64 * code_or text.now (place + 3) }
+{
+    code_of(text[place])
+        + 4 * code_of(text[place + 1])
+        + 16 * code_of(text[place + 2])
+        + 64 * code_of(text[place + 3])
+}
+
 /// Packs digits into the first bytes of a share.
 pub(crate) fn pack(share: &mut [u8], text: &[u8])
     requires room { length text.now ≤ 4 * length share.old }
     ensures { digits_in (length text.now) share.new ≡ map held_digit text.now }
 {
-    let count = text.len().div_ceil(4);
-    for i in 0..count {
-        share[i] = four_at(text, 4 * i);
+    let whole = text.len() / 4;
+    for i in 0..whole {
+        share[i] = whole_four_at(text, 4 * i);
+    }
+    if 4 * whole < text.len() {
+        share[whole] = four_at(text, 4 * whole);
     }
 }
 

@@ -123,11 +123,9 @@ fn set_digits(slots: &mut [Slot], values: &mut [u8], code: usize, text: &[u8])
         return;
     }
     let state = hold(&mut values[slot.start..end], text);
-    slots[code] = Slot {
-        state,
-        len: text.len(),
-        ..slot
-    };
+    let slot = &mut slots[code];
+    slot.state = state;
+    slot.len = text.len();
 }
 
 /// Sets the value of a code to the text of a real number, where it fits its share.
@@ -148,12 +146,10 @@ fn set_real(slots: &mut [Slot], values: &mut [u8], code: usize, text: &[u8])
     if text.is_empty() || text.len() > end - slot.start {
         return;
     }
-    slots[code] = Slot {
-        state: State::Real,
-        len: text.len(),
-        ..slot
-    };
     copy_front(&mut values[slot.start..end], text);
+    let slot = &mut slots[code];
+    slot.state = State::Real;
+    slot.len = text.len();
 }
 
 /// Copies bytes to the front.

@@ -1,11 +1,12 @@
-use Rattle.std.proofs.Common.{arith, length}
-use Rattle.std.proofs.lemmas.Grind.{div_ceil_times}
-use Rattle.vcd_body.proofs.PackedLemmas.{packs_again}
+use Rattle.std.proofs.Common.{length, ◌/◌, refl, arith}
+use Rattle.vcd_body.proofs.PackedLemmas.{packs_again, packs_last}
 use Rattle.vcd_body.proofs.packed.pack.Goals as goal
 
-pub returns : goal.returns
-returns c =
-    let n = length c.args.text.now in
-    let d = div_ceil_times n 4 (omega arith) in
-    let e = c.div_ceil-count.ensures in
-    packs_again c.args.text.now c.loop-i.share (omega arith) (λ j h. c.loop-i.invariant j (omega arith))
+pub returns-then-whole-text : goal.returns-then-whole-text
+returns-then-whole-text c =
+    packs_last c.args.text.now c.loop-i.share (length c.args.text.now / 4) c.four_at.result refl (let e = c.if-whole-text.true in omega (arith, e)) (omega arith) (λ j h. c.loop-i.invariant j (omega arith)) c.four_at.ensures
+
+pub returns-else-whole-text : goal.returns-else-whole-text
+returns-else-whole-text c =
+    let e = c.if-whole-text.false in
+    packs_again c.args.text.now c.loop-i.share (omega arith) (λ j h. c.loop-i.invariant j (omega (arith, e, h)))

@@ -1,8 +1,9 @@
-use Rattle.std.proofs.Common.{◌≡◌, ◌-◌, sym, ap, ◌∙◌, refl, arith, length, take, drop, length-take, length-drop}
+use Rattle.std.proofs.Common.{◌≡◌, ◌-◌, sym, ap, ◌∙◌, refl, arith, length, take, drop, length-take, length-drop, get_or}
+use Rattle.std.proofs.lemmas.Option.{slice_get-get_or, slice_get_within}
 use Rattle.vcd_body.specs.Kept.{with_text}
 use Rattle.vcd_body.specs.Stored.{end_at}
 use Rattle.vcd_body.specs.declared.item.Form.TheVariants as form
-use Rattle.vcd_body.proofs.StoreLemmas.{digits_kept, laid_set, set_slot, share_changes, some_text}
+use Rattle.vcd_body.proofs.StoreLemmas.{blank, digits_kept, laid_set, set_slot, share_changes, some_text}
 use Rattle.vcd_body.proofs.store.set_digits.Goals as goal
 
 pub returns-clause-changes : goal.returns-clause-changes
@@ -12,6 +13,7 @@ returns-clause-changes c = λ laid.
     let values = c.args.values.now in
     let slots = c.args.slots.now in
     let at = sym c.slot_at.ensures ∙ c.in-Some.is in
+    let same : get_or slots c.args.code blank ≡ slot = cc (sym (slice_get-get_or slots c.args.code blank (slice_get_within slots c.args.code slot at)) ∙ at) in
     let l = laid c.args.code slot at in
     let low = l.0 in
     let high = l.1 in
@@ -19,13 +21,14 @@ returns-clause-changes c = λ laid.
     let lent : length (take (c.end_of-end.result - slot.start) (drop slot.start values)) ≡ c.end_of-end.result - slot.start = omega (arith, low, high, c.end_of-end.ensures, length-take (c.end_of-end.result - slot.start) (drop slot.start values), length-drop slot.start values) in
     let used = c.hold-state.ensures.used in
     let size : length c.hold-state.new.share ≡ end_at slots (length values) c.args.code - slot.start = c.hold-state.auto.share ∙ lent ∙ ap (λ e. e - slot.start) c.end_of-end.ensures in
-    rw c.end_of-end.ensures (share_changes slots (length values) laid c.args.code slot at (set_slot c.hold-state.result (length text) slot) values c.hold-state.new.share (with_text form.Vector text) refl refl size
+    rw (same, c.end_of-end.ensures) (share_changes slots (length values) laid c.args.code slot at (set_slot c.hold-state.result (length text) slot) values c.hold-state.new.share (with_text form.Vector text) refl refl size
     (digits_kept c.hold-state.result slot (end_at slots (length values) c.args.code) values c.hold-state.new.share text c.requires.several some (omega (arith, low, c.end_of-end.ensures, c.div_ceil.ensures, c.if-div_ceil-end.false)) (omega (arith, low, c.end_of-end.ensures, lent, used)) high size c.hold-state.ensures.held))
 
 pub returns-clause-laid : goal.returns-clause-laid
 returns-clause-laid c = λ laid.
     let slot = c.in-Some.slot in
     let at = sym c.slot_at.ensures ∙ c.in-Some.is in
+    let same : get_or c.args.slots.now c.args.code blank ≡ slot = cc (sym (slice_get-get_or c.args.slots.now c.args.code blank (slice_get_within c.args.slots.now c.args.code slot at)) ∙ at) in
     let l = laid c.args.code slot at in
     let low = l.0 in
     let high = l.1 in
@@ -33,4 +36,4 @@ returns-clause-laid c = λ laid.
     let lent : length (take (c.end_of-end.result - slot.start) (drop slot.start values)) ≡ c.end_of-end.result - slot.start = omega (arith, low, high, c.end_of-end.ensures, length-take (c.end_of-end.result - slot.start) (drop slot.start values), length-drop slot.start values) in
     let used = c.hold-state.ensures.used in
     let some = some_text c.args.text.now (sym c.is_empty.ensures ∙ c.if-is_empty.false) in
-    laid_set c.args.slots.now (length c.args.values.now) laid c.args.code slot _ at refl (omega (arith, low, c.end_of-end.ensures, lent, used)) (omega (arith, some, c.hold-state.ensures.some))
+    rw same (laid_set c.args.slots.now (length c.args.values.now) laid c.args.code slot (set_slot c.hold-state.result (length c.args.text.now) slot) at refl (omega (arith, low, c.end_of-end.ensures, lent, used)) (omega (arith, some, c.hold-state.ensures.some)))

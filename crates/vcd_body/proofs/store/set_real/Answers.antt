@@ -1,9 +1,10 @@
-use Rattle.std.proofs.Common.{◌≡◌, ◌-◌, sym, ap, ◌∙◌, refl, arith, length, take, drop, length-take, length-drop}
+use Rattle.std.proofs.Common.{◌≡◌, ◌-◌, sym, ap, ◌∙◌, refl, arith, length, take, drop, length-take, length-drop, get_or}
+use Rattle.std.proofs.lemmas.Option.{slice_get-get_or, slice_get_within}
 use Rattle.vcd_body.specs.Kept.{with_text}
 use Rattle.vcd_body.specs.Stored.{end_at}
 use Rattle.vcd_body.specs.declared.item.Form.TheVariants as form
 use Rattle.vcd_body.specs.declared.slot.State.TheVariants as state
-use Rattle.vcd_body.proofs.StoreLemmas.{text_kept, laid_set, set_slot, share_changes, some_text}
+use Rattle.vcd_body.proofs.StoreLemmas.{blank, text_kept, laid_set, set_slot, share_changes, some_text}
 use Rattle.vcd_body.proofs.store.set_real.Goals as goal
 
 pub returns-clause-changes : goal.returns-clause-changes
@@ -13,20 +14,22 @@ returns-clause-changes c = λ laid.
     let values = c.args.values.now in
     let slots = c.args.slots.now in
     let at = sym c.slot_at.ensures ∙ c.in-Some.is in
+    let same : get_or slots c.args.code blank ≡ slot = cc (sym (slice_get-get_or slots c.args.code blank (slice_get_within slots c.args.code slot at)) ∙ at) in
     let l = laid c.args.code slot at in
     let low = l.0 in
     let high = l.1 in
     let some = some_text text (sym c.is_empty.ensures ∙ c.if-is_empty.false) in
     let lent : length (take (c.end_of-end.result - slot.start) (drop slot.start values)) ≡ c.end_of-end.result - slot.start = omega (arith, low, high, c.end_of-end.ensures, length-take (c.end_of-end.result - slot.start) (drop slot.start values), length-drop slot.start values) in
     let size : length c.copy_front.new.to ≡ end_at slots (length values) c.args.code - slot.start = c.copy_front.auto.to ∙ lent ∙ ap (λ e. e - slot.start) c.end_of-end.ensures in
-    rw c.end_of-end.ensures (share_changes slots (length values) laid c.args.code slot at (set_slot state.Real (length text) slot) values c.copy_front.new.to (with_text form.RealText text) refl refl size
+    rw (same, c.end_of-end.ensures) (share_changes slots (length values) laid c.args.code slot at (set_slot state.Real (length text) slot) values c.copy_front.new.to (with_text form.RealText text) refl refl size
     (text_kept slot (end_at slots (length values) c.args.code) values c.copy_front.new.to text some (omega (arith, low, c.end_of-end.ensures, c.if-text-end.false)) high size c.copy_front.ensures))
 
 pub returns-clause-laid : goal.returns-clause-laid
 returns-clause-laid c = λ laid.
     let slot = c.in-Some.slot in
     let at = sym c.slot_at.ensures ∙ c.in-Some.is in
+    let same : get_or c.args.slots.now c.args.code blank ≡ slot = cc (sym (slice_get-get_or c.args.slots.now c.args.code blank (slice_get_within c.args.slots.now c.args.code slot at)) ∙ at) in
     let l = laid c.args.code slot at in
     let low = l.0 in
     let some = some_text c.args.text.now (sym c.is_empty.ensures ∙ c.if-is_empty.false) in
-    laid_set c.args.slots.now (length c.args.values.now) laid c.args.code slot _ at refl (omega (arith, low, c.end_of-end.ensures, c.if-text-end.false)) (omega (arith, some))
+    rw same (laid_set c.args.slots.now (length c.args.values.now) laid c.args.code slot (set_slot state.Real (length c.args.text.now) slot) at refl (omega (arith, low, c.end_of-end.ensures, c.if-text-end.false)) (omega (arith, some)))
