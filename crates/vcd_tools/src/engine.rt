@@ -3,7 +3,7 @@ ghost use Rattle.std.specs.Prelude.{◌≡◌, ◌≢◌, ℕ, ◌+◌, ◌-◌,
 ghost use Rattle.vcd_model.specs.Header.{Header};
 ghost use Rattle.vcd_model.specs.Input.{Input};
 ghost use Rattle.vcd_model.specs.Items.{BodyItem};
-ghost use Rattle.vcd_model.specs.Outcome.{open_text};
+ghost use Rattle.vcd_model.specs.Outcome.{close_text, open_text};
 ghost use Rattle.vcd_model.specs.Tokens.{Token};
 ghost use Rattle.vcd_text.specs.Feed.{HasGiven, SameLoans, source_of, supply_of, seen, limit_of, chunk_len_of};
 ghost use Rattle.vcd_head.specs.Shown.{parts};
@@ -11,7 +11,7 @@ ghost use Rattle.vcd_head.specs.Views.{IsViewOf};
 ghost use Rattle.vcd_text.specs.Advances.{Advances, HasNotFailed};
 ghost use Rattle.vcd_body.specs.declared.item.Item.TheVariants.{Finish};
 ghost use Rattle.vcd_tools.specs.Answer.{reads_failed, writes_failed};
-ghost use Rattle.vcd_text.specs.Device.{Device, Writes};
+ghost use Rattle.vcd_text.specs.Device.{Counts, Device, Takes, Writes, failures_after};
 ghost use Rattle.vcd_tools.specs.Engine.{Holds, Runs, Starts, StopsUnread, is_going, may_end_early, request_of, request_of_engine};
 ghost use Rattle.vcd_tools.specs.Room.{AreWithinBound, HasRoomFor, IsWithin, room_in, room_size, view_in};
 ghost use Rattle.vcd_tools.specs.Run.{Follows};
@@ -24,7 +24,7 @@ use crate::machine::Machine;
 use crate::task::{Room, Task};
 use vcd_body::{Item, Regs, next_item};
 use vcd_head::HeadView;
-use vcd_text::{Feed, Sink, Source};
+use vcd_text::{Feed, Sink, Source, WriteFailed};
 
 /// A task that goes on over a body.
 #[derive(Drop)]
@@ -156,7 +156,7 @@ impl<'v, 'n, 'r> Engine<'v, 'n, 'r> {
         };
         if is_finish(item) {
             self.going = false;
-            self.machine.close(view, self.regs, out)?;
+            self.close(out)?;
             return Ok(More::Ended(Done::Whole));
         }
         match self.machine.take(view, self.regs, item, feed, out) {
@@ -170,6 +170,18 @@ impl<'v, 'n, 'r> Engine<'v, 'n, 'r> {
                 Err(failed.into())
             }
         }
+    }
+
+    /// Writes what stands at the clean end. It is no part of the loop over steps, so that the loop lends no view for it.
+    #[inline(never)]
+    fn close<W: Sink>(&self, out: &mut W) -> Result<(), WriteFailed>
+        requires { (W.device out.old).failures < 2 ^ 64 - 1 }
+        ensures takes { (h : Header) (items : List BodyItem) → Holds self.now h items
+            → Takes (W.device out.old) (W.device out.new)
+            (close_text (request_of_engine self.now) h items) result }
+        ensures counts { Counts (W.device out.old) (W.device out.new) result }
+    {
+        self.machine.close(self.view, self.regs, out)
     }
 
     /// Takes all items that are left, to the end of the run.

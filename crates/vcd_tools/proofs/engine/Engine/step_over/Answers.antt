@@ -20,14 +20,14 @@ returns-in_err-close-clause-gives g c = λ h i front items s.
     let e : c.from_residual.result ≡ Err Write = search rules in
     let has = all_given h.codes i front items c.next_item.new.feed c.next_item.new.regs c.in-Ok.item c.if-is_finish.ensures (c.in-Ok.ensures.reads h i front items v s.gave) in
     let whole = holds_still c.args.self.now h items c.next_item.new.regs c.in-Ok.item c.if-is_finish.ensures c.in-Ok.ensures.regs s.holds in
-    rw e (inr (has, (close_text (request_of_engine c.args.self.now) h items, refl, (c.in_err-close.ensures.takes h items v whole.known whole.last whole.keeps, c.in_err-close.ensures.counts))))
+    rw e (inr (has, (close_text (request_of_engine c.args.self.now) h items, refl, (c.in_err-close.ensures.takes h items whole, c.in_err-close.ensures.counts))))
 
 pub returns-then-is_finish-clause-gives : goal.returns-then-is_finish-clause-gives
 returns-then-is_finish-clause-gives g c = λ h i front items s.
     let v : Views (parts c.args.view) h = rw c.requires.view s.holds.views in
     let whole = holds_still c.args.self.now h items c.next_item.new.regs c.in-Ok.item c.if-is_finish.ensures c.in-Ok.ensures.regs s.holds in (
       all_given h.codes i front items c.next_item.new.feed c.next_item.new.regs c.in-Ok.item c.if-is_finish.ensures (c.in-Ok.ensures.reads h i front items v s.gave),
-      (c.in_ok-close.ensures.takes h items v whole.known whole.last whole.keeps, c.in_ok-close.ensures.counts),
+      (c.in_ok-close.ensures.takes h items whole, c.in_ok-close.ensures.counts),
     )
 
 pub returns-in-Ok-false-clause-gives : goal.returns-in-Ok-false-clause-gives
