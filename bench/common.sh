@@ -24,3 +24,29 @@ peak_of() {
         echo '?'
     fi
 }
+
+# A line for each program: the best of its times on a dump (lines `PROGRAM:TIME ..` of $work/times), over that of check, and how many
+# bytes it wrote (lines `PROGRAM:BYTES` of $work/written).
+print_best() {
+    awk -F: -v bytes="$(wc -c < "$1")" '
+        NR == FNR { written[$1] = $2; next }
+        { split($2, t, " ") }
+        !($1 in best) { order[++n] = $1; best[$1] = t[1] }
+        t[1] < best[$1] { best[$1] = t[1] }
+        END {
+            printf "%-10s | %17s %8s %10s | %10s\n", "", "user and system s", "MB/s", "over check", "MB written"
+            for (k = 1; k <= n; k++) {
+                p = order[k]
+                printf "%-10s | %17.3f %8.0f %10.2f | %10s\n", p, best[p], bytes / 1e6 / (best[p] + 1e-9), best[p] / (best["check"] + 1e-9),
+                    p in written ? sprintf("%.1f", written[p] / 1e6) : ""
+            }
+        }' "$work/written" "$work/times"
+}
+
+# Stops with how the script is used where a word is no number above 0.
+need_numbers() {
+    local word
+    for word in "$@"; do
+        case $word in *[!0-9]* | '' | 0*) sed -n '2,3s/^# //p' "$0" >&2; exit 2 ;; esac
+    done
+}

@@ -48,19 +48,7 @@ measure() {
     done > "$work/times"
 
     echo "${1##*/}: last time $last; peak of 'cut before' $(peak_of 'cut before' "$1") KB"
-    awk -F: -v bytes="$(wc -c < "$1")" '
-        NR == FNR { written[$1] = $2; next }
-        { split($2, t, " ") }
-        !($1 in best) { order[++n] = $1; best[$1] = t[1] }
-        t[1] < best[$1] { best[$1] = t[1] }
-        END {
-            printf "%-10s | %17s %8s %10s | %10s\n", "", "user and system s", "MB/s", "over check", "MB written"
-            for (k = 1; k <= n; k++) {
-                p = order[k]
-                printf "%-10s | %17.3f %8.0f %10.2f | %10s\n", p, best[p], bytes / 1e6 / (best[p] + 1e-9), best[p] / (best["check"] + 1e-9),
-                    p in written ? sprintf("%.1f", written[p] / 1e6) : ""
-            }
-        }' "$work/written" "$work/times"
+    print_best "$1"
     echo
 }
 

@@ -5,10 +5,8 @@ set -eu
 here=$(cd "$(dirname "$0")" && pwd)
 sizes=("$@")
 [ $# -gt 0 ] || sizes=(25000 100000 400000)
-for word in "${sizes[@]}"; do
-    case $word in *[!0-9]* | '' | 0*) sed -n '2,3s/^# //p' "$0" >&2; exit 2 ;; esac
-done
 . "$here/common.sh"
+need_numbers "${sizes[@]}"
 
 names=()
 

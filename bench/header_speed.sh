@@ -8,10 +8,8 @@ programs=(list check 'wc -l')
 
 sizes=("$@")
 [ $# -gt 0 ] || sizes=(10000 100000 1000000)
-for word in "${sizes[@]}"; do
-    case $word in *[!0-9]* | '' | 0*) sed -n '2,3s/^# //p' "$0" >&2; exit 2 ;; esac
-done
 . "$here/common.sh"
+need_numbers "${sizes[@]}"
 
 # Sets `command` to the words that run a program.
 find_command() {

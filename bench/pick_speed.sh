@@ -41,9 +41,8 @@ written_by() {
 # Measures all programs on a dump, and prints a line for each.
 measure() {
     find_names "$1"
-    local written_one written_all
-    written_one=$(written_by 'pick one' "$1")
-    written_all=$(written_by 'pick all' "$1")
+    local program
+    for program in 'pick one' 'pick all'; do echo "$program:$(written_by "$program" "$1")"; done > "$work/written"
 
     # The programs take turns, so that what else the machine does meets all of them.
     for _ in 1 2 3; do
@@ -51,19 +50,7 @@ measure() {
     done > "$work/times"
 
     echo "${1##*/}: $(wc -l < "$work/list") variables; one is $one"
-    awk -F: -v bytes="$(wc -c < "$1")" -v one="$written_one" -v all="$written_all" '
-        BEGIN { written["pick one"] = one; written["pick all"] = all }
-        { split($2, t, " ") }
-        !($1 in best) { order[++n] = $1; best[$1] = t[1] }
-        t[1] < best[$1] { best[$1] = t[1] }
-        END {
-            printf "%-8s | %17s %8s %10s | %10s\n", "", "user and system s", "MB/s", "over check", "MB written"
-            for (k = 1; k <= n; k++) {
-                p = order[k]
-                printf "%-8s | %17.3f %8.0f %10.2f | %10s\n", p, best[p], bytes / 1e6 / (best[p] + 1e-9), best[p] / (best["check"] + 1e-9),
-                    p in written ? sprintf("%.1f", written[p] / 1e6) : ""
-            }
-        }' "$work/times"
+    print_best "$1"
     echo
 }
 
