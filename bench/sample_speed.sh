@@ -1,6 +1,6 @@
 #!/usr/bin/env bash
-# sample_speed.sh [DUMP ...]   how fast `vcdkit sample` is on these dumps (plain ones of 200 MB with 64 and with 20000 variables): at
-# 1000 times of one variable and of all, and of all at the end, beside `vcdkit check` and `wc -l` on the same dump. See README.md.
+# sample_speed.sh [DUMP ...]   how fast `vcdkit sample` is on these dumps (plain ones of 200 MB with 64 and with 20000 variables): of one
+# variable at 1000 times, and of all at 10 and at the end, beside `vcdkit check` and `wc -l` on the same dump. See README.md.
 set -eu -o pipefail
 here=$(cd "$(dirname "$0")" && pwd)
 programs=(check 'sample one' 'sample all' 'sample end' 'wc -l')
@@ -11,49 +11,58 @@ for dump in "$@"; do
 done
 . "$here/common.sh"
 
-# Sets `at` to 1000 times from 0 to the last time mark, or to all of them where there are fewer, and `times` to how many these are.
-find_times() {
-    local last step=1
+# Sets `last` to the last time mark, 0 where there is none.
+find_last() {
     last=$("$work/vcdkit" check < "$1" | awk '$1 == "last" { print $2 + 0 }')
-    if [ "$last" -ge 1000 ]; then step=$((last / 999)); fi
-    at=$(seq -s , 0 "$step" "$last" | cut -d , -f -1000)
-    times=$(tr , '\n' <<< "$at" | wc -l)
+}
+
+# So many times with commas between them, from 0 to near the last time mark, or past it where there are fewer.
+times_over() {
+    local step=$((last / $1))
+    [ "$step" -gt 0 ] || step=1
+    seq -s , 0 "$step" $((step * ($1 - 1)))
 }
 
 # Sets `command` to the words that run a program.
 find_command() {
     case $1 in
         check) command=("$work/vcdkit" check) ;;
-        'sample one') command=("$work/vcdkit" sample --at "$at" -- "$one") ;;
-        'sample all') command=("$work/vcdkit" sample --at "$at") ;;
+        'sample one') command=("$work/vcdkit" sample --at "$many" -- "$one") ;;
+        'sample all') command=("$work/vcdkit" sample --at "$few") ;;
         'sample end') command=("$work/vcdkit" sample --at "$greatest") ;;
         'wc -l') command=(wc -l) ;;
     esac
 }
 
-# Makes sure that a sample of all has a line for each variable with values at each of so many times, and says how many bytes a
-# sample has.
+# How many variables with values the name `one` selects: more than one where names are declared twice.
+count_one() {
+    one=$one LC_ALL=C awk '$2 != "event" && ($1 == ENVIRON["one"] || index($1, ENVIRON["one"] ".") == 1)' "$work/list" | wc -l
+}
+
+# Makes sure that so many lines are written for each of so many times, and says how many bytes.
 written_by() {
+    local lines bytes
     find_command "$1"
-    "${command[@]}" < "$2" > "$work/sample"
-    [ "$1" = 'sample one' ] || [ "$(wc -l < "$work/sample")" = $((valued * $3)) ] ||
-        { echo "sample_speed.sh: $1 of $2 has another number of lines" >&2; exit 1; }
-    wc -c < "$work/sample"
-    rm "$work/sample"
+    read -r lines bytes < <("${command[@]}" < "$2" | wc -lc)
+    [ "$lines" -eq $(($3 * $4)) ] || { echo "sample_speed.sh: $1 of $2 has $lines lines" >&2; exit 1; }
+    echo "$bytes"
 }
 
 # Measures all programs on a dump, and prints a line for each.
 measure() {
-    find_times "$1"
+    find_last "$1"
+    many=$(times_over 1000)
+    few=$(times_over 10)
     find_one "$1"
+    local valued
     valued=$(LC_ALL=C awk '$2 != "event"' "$work/list" | wc -l)
     {
-        echo "sample one:$(written_by 'sample one' "$1" "$times")"
-        echo "sample all:$(written_by 'sample all' "$1" "$times")"
-        echo "sample end:$(written_by 'sample end' "$1" 1)"
+        echo "sample one:$(written_by 'sample one' "$1" 1000 "$(count_one)")"
+        echo "sample all:$(written_by 'sample all' "$1" 10 "$valued")"
+        echo "sample end:$(written_by 'sample end' "$1" 1 "$valued")"
     } > "$work/written"
     take_times "$1"
-    echo "${1##*/}: $times times, $valued variables with values; one is $one; peak of 'sample all' $(peak_of 'sample all' "$1") KB"
+    echo "${1##*/}: $valued variables with values; one is $one; peak of 'sample one' $(peak_of 'sample one' "$1") KB"
     print_best "$1"
     echo
 }
