@@ -13,7 +13,7 @@ done
 
 # Sets `last` to the last time mark, 0 where there is none.
 find_last() {
-    last=$("$work/vcdkit" check < "$1" | awk '$1 == "last" { print $2 + 0 }')
+    last=$("$work/vcdkit" check < "$1" | awk '$1 == "last" { print $2 == "-" ? 0 : $2 }')
 }
 
 # So many times with commas between them, from 0 to near the last time mark, or past it where there are fewer.
