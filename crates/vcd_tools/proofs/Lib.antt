@@ -29,3 +29,5 @@ pub mod MergeCloses
 pub mod WholeInputs
 pub mod MergeEnds
 pub mod MergeOutcomes
+pub mod MergeWholes
+pub mod MergeStops
