@@ -7,11 +7,14 @@ use Rattle.vcd_model.specs.Items.{BodyItem}
 use Rattle.vcd_model.specs.Tokens.{stream_of}
 use Rattle.vcd_model.specs.Reading.{Fault}
 use Rattle.vcd_model.specs.Merge.{Dump, Key, key_lt, factor, headers_of, key_after}
-use Rattle.vcd_model.specs.Outcome.{Opened, body_of, merge_outcome}
+use Rattle.vcd_model.specs.Outcome.{Opened, Request, body_of, merge_outcome}
+use Rattle.vcd_model.specs.Settled.{is_settled_behind}
 use Rattle.vcd_model.proofs.MergedPrefix.{AreGrown, GrownOne, NoneBefore, OthersLater}
 use Rattle.vcd_model.proofs.MergeOutcome.{dump_under, dumps_under}
-use Rattle.vcd_text.specs.Device.{Device}
-use Rattle.vcd_tools.specs.MergeRun.{AreLeft, AreOpened, Belongs, Follows, IsLeft}
+use Rattle.vcd_text.specs.Device.{Device, Supply}
+use Rattle.vcd_text.specs.ReadAhead.{ReadsAsNeeded}
+use Rattle.vcd_tools.specs.MergeRun.{AreLeft, AreOpened, Belongs, Follows}
+use Rattle.vcd_tools.specs.Run.{IsLeft}
 use Rattle.vcd_tools.specs.Seat.{HasDump, Lane}
 use Rattle.vcd_tools.specs.declared.answer.Done.{Done}
 use Rattle.vcd_tools.specs.declared.answer.Stop.{Stop}
@@ -105,11 +108,11 @@ module _ (hs : List Header) (limit : ℕ) where
   entire_headers (w ∷ ws) = ap (λ (l : List Header). w.dump.header ∷ l) (entire_headers ws)
 
   -- a merge over them has the outcome of their dumps
-  pub follows : (ws : List (Whole hs limit)) (lanes : List Lane) (names : List (List ℕ)) (ns ns' : List ℕ) (begin new : Device) (result : Result Done Stop) → lanes_of ws ≡ lanes → map (λ (l : Lane). l.header) lanes ≡ hs
-      → AreLeft (lanes_of ws) ns ns' (lefts_of ws) → Belongs (merge_outcome names (entire_of ws)) names begin new result → Follows limit lanes names ns ns' begin new result
-  follows ws lanes names ns ns' begin new result e headers left belongs =
+  pub follows : (chunk : ℕ) (ws : List (Whole hs limit)) (lanes : List Lane) (names : List (List ℕ)) (olds news : List Supply) (begin new : Device) (result : Result Done Stop) → lanes_of ws ≡ lanes → map (λ (l : Lane). l.header) lanes ≡ hs
+      → AreLeft limit chunk (lanes_of ws) olds news (lefts_of ws) → Belongs (merge_outcome names (entire_of ws)) names begin new result → Follows limit chunk lanes names olds news begin new result
+  follows chunk ws lanes names olds news begin new result e headers left belongs =
       let dumps = dumps_under (map opened_of ws) hs (opened_headers ws ∙ ap (map (λ (l : Lane). l.header)) e ∙ headers) ∙ opened_dumps ws in
-      subst (λ (ls : List Lane). Follows limit ls names ns ns' begin new result) e (record {
+      subst (λ (ls : List Lane). Follows limit chunk ls names olds news begin new result) e (record {
         lefts = lefts_of ws;
         are_left = left;
         opened = map opened_of ws;
@@ -120,16 +123,23 @@ module _ (hs : List Header) (limit : ℕ) where
   -- ---- what holds of each place, as lists
 
   module _ (P : ℕ → Whole hs limit → Type 0) where
-    pub left_all : (n : ℕ) (ws : List (Whole hs limit)) (ns ns' : List ℕ) → length ns ≡ length ws → length ns' ≡ length ws → AllFit P n ws
-        → ((k m m' : ℕ) (w : Whole hs limit) → P (n + k) w → slice_get ns k ≡ Some m → slice_get ns' k ≡ Some m' → IsLeft w.lane.input m m' w.left) → AreLeft (lanes_of ws) ns ns' (lefts_of ws)
-    left_all n [] ns ns' e f fit each = refl
-    left_all n (w ∷ ws) [] ns' e f fit each = absurd (omega arith)
-    left_all n (w ∷ ws) (m ∷ ns) [] e f fit each = absurd (omega arith)
-    left_all n (w ∷ ws) (m ∷ ns) (m' ∷ ns') e f fit each =
-        let here : n ≡ n + 0 = omega arith in (
-          each 0 m m' w (subst (λ (j : ℕ). P j w) here fit.0) refl refl,
-          left_all (n + 1) ws ns ns' (omega arith) (omega arith) fit.1 (λ k a b x p. let i : n + 1 + k ≡ n + suc k = omega arith in each (suc k) a b x (subst (λ (j : ℕ). P j x) i p)),
-        )
+    -- what is left of them, by what is left of each
+    module _ (chunk : ℕ) where
+      abbrev IsRead : Whole hs limit → (old new : Supply) → Type 0
+      IsRead w old new = IsLeft w.lane.input old new w.left × ReadsAsNeeded limit chunk old new w.left w.lane.front (is_settled_behind Request.Merge w.lane.header)
+
+      pub left_all : (n : ℕ) (ws : List (Whole hs limit)) (olds news : List Supply) → length olds ≡ length ws → length news ≡ length ws → AllFit P n ws
+          → ((k : ℕ) (w : Whole hs limit) (old new : Supply) → P (n + k) w → slice_get ws k ≡ Some w → slice_get olds k ≡ Some old → slice_get news k ≡ Some new → IsRead w old new) → AreLeft limit chunk (lanes_of ws) olds news (lefts_of ws)
+      left_all n [] olds news e f fit each = refl
+      left_all n (w ∷ ws) [] news e f fit each = absurd (omega arith)
+      left_all n (w ∷ ws) (s ∷ olds) [] e f fit each = absurd (omega arith)
+      left_all n (w ∷ ws) (s ∷ olds) (t ∷ news) e f fit each =
+          let here : n ≡ n + 0 = omega arith in
+          let one = each 0 w s t (subst (λ (j : ℕ). P j w) here fit.0) refl refl refl in (
+            one.0,
+            one.1,
+            left_all (n + 1) ws olds news (omega arith) (omega arith) fit.1 (λ k x old new p. let i : n + 1 + k ≡ n + suc k = omega arith in each (suc k) x old new (subst (λ (j : ℕ). P j x) i p)),
+          )
 
     module _ (b : Key) where
       pub grown_all : ((n : ℕ) (w : Whole hs limit) → P n w → GrownOne b hs n w.dump (entire w)) → (n : ℕ) (ws : List (Whole hs limit)) → AllFit P n ws → AreGrown b hs n (so_far ws) (entire_of ws)
