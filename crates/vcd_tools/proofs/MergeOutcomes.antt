@@ -192,3 +192,25 @@ module _ (names : List (List ℕ)) (hs : List Header) (ds ds' : List Dump) (b : 
                 ∙ ap (merge_open hs) (filter-append test (merged_items ds) more.0 ∙ ap (λ l. l ++ filter test more.0) own)
                 ∙ g.1,
           )
+
+-- the output of any merge under these headers begins with the head
+pub head_first : (names : List (List ℕ)) (hs : List Header) (ds : List Dump) → headers_of ds ≡ hs → IsPrefixOf (merge_open hs []) (merge_outcome names ds).output
+head_first names hs ds headers = by_fault (first_fault ds) refl
+  where
+    by_fault : (o : Option KeyedFault) → first_fault ds ≡ o → IsPrefixOf (merge_open hs []) (merge_outcome names ds).output
+    by_fault None e =
+        let g = merge_grows hs [] (merged_items ds) in (
+          g.0 ++ merge_close (merged_items ds),
+          ap (λ (o : Outcome). o.output) (without_fault names ds e)
+              ∙ ap (λ (h : List Header). merge_open h (merged_items ds) ++ merge_close (merged_items ds)) headers
+              ∙ ap (λ l. l ++ merge_close (merged_items ds)) g.1
+              ∙ append_assoc (merge_open hs []) g.0 (merge_close (merged_items ds)),
+        )
+    by_fault (Some f) e =
+        let g = merge_grows hs [] (items_before f (merged_items ds)) in (
+          g.0,
+          ap (λ (o : Outcome). o.output) (with_fault names ds f e)
+              ∙ fault_output (merge_open (headers_of ds) (items_before f (merged_items ds))) (name_at names f.key.input) f.fault
+              ∙ ap (λ (h : List Header). merge_open h (items_before f (merged_items ds))) headers
+              ∙ g.1,
+        )

@@ -3,12 +3,15 @@ use Rattle.std.proofs.Common.{◌≡◌, ◌≢◌, ◌∙◌, ℕ, zero, suc, �
 use Rattle.std.specs.Prelude.{All, get_or}
 use Rattle.std.proofs.lemmas.List.{set-get_or}
 use Rattle.vcd_model.specs.Header.{Header}
-use Rattle.vcd_model.specs.Merge.{Dump, merge_close, merge_open, merged_items}
+use Rattle.vcd_model.specs.BodyReading.{body_fault_of, read_body}
+use Rattle.vcd_model.specs.Merge.{Dump, dump_of, factor, headers_of, merge_close, merge_open, merged_items}
 use Rattle.vcd_model.specs.MergeByInput.{with_item}
 use Rattle.vcd_model.specs.Outcome.{Outcome, fault_outcome, merge_outcome, name_at}
 use Rattle.vcd_model.specs.Reading.{Fault}
+use Rattle.vcd_model.specs.Tokens.{Token, stream_of}
+use Rattle.vcd_text.specs.ReadAhead.ReadsAsNeeded.{Nothing}
 use Rattle.vcd_text.specs.Device.{Device, Supply, Writes, WritesSome, supply}
-use Rattle.vcd_text.proofs.Writes.{both-written, some-behind}
+use Rattle.vcd_text.proofs.Writes.{both-written, some-behind, some-first}
 use Rattle.vcd_tools.specs.Answer.{reads_failed}
 use Rattle.vcd_tools.specs.MergeOrder.{IsNext}
 use Rattle.vcd_tools.specs.MergeParts.{part_len}
@@ -21,13 +24,13 @@ use Rattle.vcd_tools.specs.declared.answer.More.{More}
 use Rattle.vcd_tools.specs.declared.answer.More.TheVariants.{Again, Ended}
 use Rattle.vcd_tools.specs.declared.answer.Stop.{Stop}
 use Rattle.vcd_tools.specs.declared.answer.Stop.TheVariants.{Dump as Faulty, Read, Write, Unmatched}
-use Rattle.vcd_tools.proofs.MergeOutcomes.{fault_output}
+use Rattle.vcd_tools.proofs.MergeOutcomes.{fault_output, head_first}
 use Rattle.vcd_tools.proofs.MergeReads as reads
 use Rattle.vcd_tools.proofs.MergeReads.{AreReadSoFar, cut_left, left_whole, other_left, read_more, supplies}
 use Rattle.vcd_tools.proofs.MergeSteps.{get_map, len_map, same_or_not}
 use Rattle.vcd_tools.proofs.MergeStops.{EndFits, StopFits, WriteFits, clean_is, ends, fault_merged, one_next, stops, writes, written_some}
 use Rattle.vcd_tools.proofs.MergeWholes as whole
-use Rattle.vcd_tools.proofs.MergeWholes.{Wholes, entire_of, follows, lanes_of, left_all, lefts_of}
+use Rattle.vcd_tools.proofs.MergeWholes.{Wholes, choose_all, entire_headers, entire_of, follows, lanes_of, left_all, lefts_of}
 
 -- ---- what is counted
 
@@ -101,8 +104,8 @@ module _ {X : Type 0} (rest : X → _) (failures : X → ℕ) (hs : List Header)
       abbrev news : List Supply
       news = map (supply rest failures) s'.sources
 
-      abbrev Result_is : Result Done Stop → Type 0
-      Result_is r = Follows limit chunk lanes names olds news begin new r
+      abbrev IsFollowed : Result Done Stop → Type 0
+      IsFollowed r = Follows limit chunk lanes names olds news begin new r
 
       new_many : {A : Type 0} (k : ℕ) (r : Result A Stop) → map failures s'.sources ≡ failures_with (map failures s.sources) k r → length news ≡ length lanes
       new_many k r counts =
@@ -117,7 +120,7 @@ module _ {X : Type 0} (rest : X → _) (failures : X → ℕ) (hs : List Header)
       -- by what is left of each input
       all_follow : (P : ℕ → whole.Whole hs limit → Type 0) (ds : List Dump) (ws : Wholes hs limit P 0 lanes ds) (r : Result Done Stop) → length news ≡ length lanes
           → ((k : ℕ) (x : whole.Whole hs limit) (old new : Supply) → P (0 + k) x → slice_get lanes k ≡ Some x.lane → slice_get olds k ≡ Some old → slice_get news k ≡ Some new → reads.IsRead rest failures limit chunk lanes olds x.lane old new x.left)
-          → Belongs (merge_outcome names (entire_of hs limit ws.list)) names begin new r → Result_is r
+          → Belongs (merge_outcome names (entire_of hs limit ws.list)) names begin new r → IsFollowed r
       all_follow P ds ws r as_many each belongs =
           let len = len_map (λ (x : whole.Whole hs limit). x.lane) ws.list in
           let same = ap (λ (ls : List Lane). length ls) ws.lanes_are in
@@ -127,14 +130,14 @@ module _ {X : Type 0} (rest : X → _) (failures : X → ℕ) (hs : List Header)
 
       -- where each input is left whole
       all_whole : (P : ℕ → whole.Whole hs limit → Type 0) (ds : List Dump) (ws : Wholes hs limit P 0 lanes ds) (r : Result Done Stop) → length news ≡ length lanes → AreReadSoFar rest failures limit chunk lanes olds s'.sources
-          → ((k : ℕ) (x : whole.Whole hs limit) → P k x → x.left ≡ x.lane.input) → Belongs (merge_outcome names (entire_of hs limit ws.list)) names begin new r → Result_is r
+          → ((k : ℕ) (x : whole.Whole hs limit) → P k x → x.left ≡ x.lane.input) → Belongs (merge_outcome names (entire_of hs limit ws.list)) names begin new r → IsFollowed r
       all_whole P ds ws r as_many more left belongs =
           all_follow P ds ws r as_many
           (λ k x old new p at at_old at_new. subst (reads.IsRead rest failures limit chunk lanes olds x.lane old new) (sym (left (0 + k) x p)) (left_whole rest failures limit chunk lanes olds s'.sources more k x.lane old new at at_old at_new))
           belongs
 
       -- all inputs have ended
-      pub ended_merge : (done : Done) (k : ℕ) → map failures s'.sources ≡ failures_with {A = More} (map failures s.sources) k (Ok (Ended done)) → Gives rest hs lanes es s s' out new (Ok (Ended done)) → Result_is (Ok done)
+      pub ended_merge : (done : Done) (k : ℕ) → map failures s'.sources ≡ failures_with {A = More} (map failures s.sources) k (Ok (Ended done)) → Gives rest hs lanes es s s' out new (Ok (Ended done)) → IsFollowed (Ok done)
       ended_merge Early k counts gives = absurd gives
       ended_merge Whole k counts gives =
           let ws = ends rest hs lanes es s s' limit is_limit ready seats tokens gives.given gives.finished in
@@ -154,7 +157,7 @@ module _ {X : Type 0} (rest : X → _) (failures : X → ℕ) (hs : List Header)
           (ap (λ l. fault_outcome l (name_at names input) f) (sym e), subst (Writes begin new) (sym e) (nothing_more none))
 
       -- the input whose turn it was has a fault
-      faulty_merge : (input line fault k : ℕ) → map failures s'.sources ≡ failures_with {A = More} (map failures s.sources) k (Err (Faulty input line fault)) → Gives rest hs lanes es s s' out new (Err (Faulty input line fault)) → Result_is (Err (Faulty input line fault))
+      faulty_merge : (input line fault k : ℕ) → map failures s'.sources ≡ failures_with {A = More} (map failures s.sources) k (Err (Faulty input line fault)) → Gives rest hs lanes es s s' out new (Err (Faulty input line fault)) → IsFollowed (Err (Faulty input line fault))
       faulty_merge input line fault k counts gives =
           let stop : Stop = Faulty input line fault in
           let ws = stops rest hs lanes es s limit is_limit ready holds.given input line fault None gives.0 in
@@ -168,7 +171,7 @@ module _ {X : Type 0} (rest : X → _) (failures : X → ℕ) (hs : List Header)
           by_place j x p (inr other) = p.left other
 
       -- a read of it failed
-      cut_merge : (input k : ℕ) → IsNext s.seats k → map failures s'.sources ≡ failures_with {A = More} (map failures s.sources) k (Err (Read input)) → Gives rest hs lanes es s s' out new (Err (Read input)) → Result_is (Err (Read input))
+      cut_merge : (input k : ℕ) → IsNext s.seats k → map failures s'.sources ≡ failures_with {A = More} (map failures s.sources) k (Err (Read input)) → Gives rest hs lanes es s s' out new (Err (Read input)) → IsFollowed (Err (Read input))
       cut_merge input k next counts gives =
           let stop : Stop = Read input in
           let ws = stops rest hs lanes es s limit is_limit ready holds.given input line 31 (Some n) has in
@@ -202,7 +205,7 @@ module _ {X : Type 0} (rest : X → _) (failures : X → ℕ) (hs : List Header)
               (other_left rest failures limit chunk lanes olds {A = More} s s' input (Err (Read input)) (Some n) so_far gives.0.3 counted (sym is_limit) (sym is_chunk) j x.lane old new other at at_old at_new)
 
       -- a write failed
-      cut_short : (k : ℕ) → map failures s'.sources ≡ failures_with {A = More} (map failures s.sources) k (Err Write) → Gives rest hs lanes es s s' out new (Err Write) → Result_is (Err Write)
+      cut_short : (k : ℕ) → map failures s'.sources ≡ failures_with {A = More} (map failures s.sources) k (Err Write) → Gives rest hs lanes es s s' out new (Err Write) → IsFollowed (Err Write)
       cut_short k counts (inl t) =
           let ws = writes rest hs lanes es s s' limit is_limit ready seats tokens t.0 t.1 t.2 t.3 in
           let some = written_some rest hs lanes es s s' limit is_limit ready seats tokens t.0 t.1 t.2 t.3 names begin out new w t.4 in
@@ -216,8 +219,44 @@ module _ {X : Type 0} (rest : X → _) (failures : X → ℕ) (hs : List Header)
           (subst (λ (o : Outcome). WritesSome begin new o.output) (sym outcome) some)
 
       -- it has stopped: the fault is the first of the merged inputs, and what stands is what comes before it; or a write failed
-      pub stopped_merge : (stop : Stop) (k : ℕ) → IsNext s.seats k → map failures s'.sources ≡ failures_with {A = More} (map failures s.sources) k (Err stop) → Gives rest hs lanes es s s' out new (Err stop) → Result_is (Err stop)
+      pub stopped_merge : (stop : Stop) (k : ℕ) → IsNext s.seats k → map failures s'.sources ≡ failures_with {A = More} (map failures s.sources) k (Err stop) → Gives rest hs lanes es s s' out new (Err stop) → IsFollowed (Err stop)
       stopped_merge (Faulty input line fault) k next counts gives = faulty_merge input line fault k counts gives
       stopped_merge (Read input) k next counts gives = cut_merge input k next counts gives
       stopped_merge Write k next counts gives = cut_short k counts gives
       stopped_merge (Unmatched place) k next counts gives = absurd gives
+
+-- ---- a write failed in the head, before any step
+
+module _ (hs : List Header) (lanes : List Lane) (limit chunk : ℕ) (headers : map (λ (l : Lane). l.header) lanes ≡ hs) (begun : (k : ℕ) (l : Lane) → slice_get lanes k ≡ Some l → (more : List Token) × ((stream_of limit l.input).tokens ≡ l.front ++ more)) where
+  abbrev none_yet : List Dump
+  none_yet = map (λ (l : Lane). record { header = l.header; items = []; fault = None }) lanes
+
+  -- whatever its body is, an input is some dump
+  any_at : (k : ℕ) (l : Lane) (d : Dump) → slice_get lanes k ≡ Some l → slice_get none_yet k ≡ Some d → (x : whole.Whole hs limit) × (x.lane ≡ l) × (x.dump ≡ d) × (x.left ≡ x.lane.input)
+  unfolding dump_of
+  any_at k l d at_l at_d =
+      let more = begun k l at_l in
+      let r = read_body l.header.codes more.0 in
+      let dump = dump_of (factor hs l.header) l.header (body_fault_of (stream_of limit l.input) r) r in
+      let e : Some (record { header = l.header; items = []; fault = None }) ≡ Some d = sym (get_map (λ (m : Lane). record { header = m.header; items = []; fault = None }) lanes k l at_l) ∙ at_d in
+      let is : record { header = l.header; items = []; fault = None } ≡ d = cc in (
+        record { lane = l; dump = d; same = ap (λ (x : Dump). x.header) is; left = l.input; items = dump.items; fault = dump.fault; has = record { rest = more.0; tokens = more.1; is = refl } },
+        refl,
+        refl,
+        refl,
+      )
+
+  pub unwritten_head : (names : List (List ℕ)) (olds : List Supply) (begin new : Device) → length olds ≡ length lanes → WritesSome begin new (merge_open hs []) → Follows limit chunk lanes names olds olds begin new (Err Write)
+  unwritten_head names olds begin new many some =
+      let ws = choose_all hs limit (λ k x. x.left ≡ x.lane.input) lanes none_yet (len_map (λ (l : Lane). record { header = l.header; items = []; fault = None }) lanes) any_at in
+      let len = len_map (λ (x : whole.Whole hs limit). x.lane) ws.list in
+      let same = ap (λ (ls : List Lane). length ls) ws.lanes_are in
+      let left = left_all hs limit (λ k x. x.left ≡ x.lane.input) chunk 0 ws.list olds olds (omega (arith, len, same, many)) (omega (arith, len, same, many)) ws.fit
+      (λ k x old new p at at_old at_new. let e : new ≡ old = cc (sym at_new ∙ at_old) in (inl (ap (λ (z : Supply). z.failures) e, p), Nothing e)) in
+      let under : headers_of (entire_of hs limit ws.list) ≡ hs = entire_headers hs limit ws.list ∙ ap headers_of ws.dumps_are ∙ headers_none lanes ∙ headers in
+      let first = head_first names hs (entire_of hs limit ws.list) under in
+      follows hs limit chunk ws.list lanes names olds olds begin new (Err Write) ws.lanes_are headers left (subst (WritesSome begin new) (sym first.1) (some-first begin new (merge_open hs []) first.0 some))
+    where
+      headers_none : (ls : List Lane) → headers_of (map (λ (l : Lane). record { header = l.header; items = []; fault = None }) ls) ≡ map (λ (l : Lane). l.header) ls
+      headers_none [] = refl
+      headers_none (l ∷ ls) = ap (λ (h : List Header). l.header ∷ h) (headers_none ls)
