@@ -28,3 +28,4 @@ pub mod MergeRuns
 pub mod MergeCloses
 pub mod WholeInputs
 pub mod MergeEnds
+pub mod MergeReads

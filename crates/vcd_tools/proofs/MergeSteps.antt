@@ -37,7 +37,7 @@ pub len_map : {X Y : Type 0} (f : X → Y) (xs : List X) → length (map f xs) �
 len_map f [] = refl
 len_map f (x ∷ xs) = ap suc (len_map f xs)
 
-same_or_not : (j k : ℕ) → (j ≡ k) ⊎ (j ≢ k)
+pub same_or_not : (j k : ℕ) → (j ≡ k) ⊎ (j ≢ k)
 same_or_not j k = by_order (cases_lt j k) (cases_lt k j)
   where
     by_order : (j < k) ⊎ (k ≤ j) → (k < j) ⊎ (j ≤ k) → (j ≡ k) ⊎ (j ≢ k)

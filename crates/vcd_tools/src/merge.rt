@@ -7,7 +7,7 @@ ghost use Rattle.vcd_model.specs.Items.{BodyItem};
 ghost use Rattle.vcd_head.specs.Shown.{shown};
 ghost use Rattle.vcd_head.specs.Views.{Views};
 ghost use Rattle.vcd_tools.specs.Seat.{AtSeat, Lane, Spot, Turns};
-ghost use Rattle.vcd_tools.specs.MergeParts.{AreParts, AreSeated, SameLengths, spot_at};
+ghost use Rattle.vcd_tools.specs.MergeParts.{AreParts, AreSeated, SameLengths, part, part_len, spot_at};
 ghost use Rattle.vcd_tools.specs.MergeOrder.{IsNext, IsNextBefore, comes_first, greatest_time};
 ghost use Rattle.vcd_model.specs.Header.{Header};
 ghost use Rattle.vcd_tools.specs.Step.{goes_on};
@@ -112,6 +112,10 @@ fn turn<S: Source, W: Sink>(
     ensures others { (j : ℕ) → j ≢ input
         → spot_at S.rest seats.new sources.new windows.new.chunks.now windows.new.tokens.now j
         ≡ spot_at S.rest seats.old sources.old windows.old.chunks.now windows.old.tokens.now j }
+    ensures untouched { (j : ℕ) → j ≢ input
+        → (slice_get sources.new j ≡ slice_get sources.old j)
+        × (part (part_len (length seats.old) windows.old.tokens.now) j windows.new.values.now
+        ≡ part (part_len (length seats.old) windows.old.tokens.now) j windows.old.values.now) }
     ensures lengths { SameLengths windows.old windows.new }
     ensures seats { length seats.new ≡ length seats.old }
     ensures sources { length sources.new ≡ length sources.old }
@@ -233,7 +237,11 @@ fn step<S: Source, W: Sink>(
     ensures left { result ≡ Ok More.Again → left_of seats.new < left_of seats.old }
     ensures one { (k : ℕ) × ((j : ℕ) → j ≢ k
         → spot_at S.rest seats.new sources.new windows.new.chunks.now windows.new.tokens.now j
-        ≡ spot_at S.rest seats.old sources.old windows.old.chunks.now windows.old.tokens.now j) }
+        ≡ spot_at S.rest seats.old sources.old windows.old.chunks.now windows.old.tokens.now j)
+        × ((j : ℕ) → j ≢ k
+        → (slice_get sources.new j ≡ slice_get sources.old j)
+        × (part (part_len (length seats.old) windows.old.tokens.now) j windows.new.values.now
+        ≡ part (part_len (length seats.old) windows.old.tokens.now) j windows.old.values.now)) }
     ensures writes { (W.device out.new).failures
         ≡ (W.device out.old).failures + writes_failed result }
 {
@@ -276,7 +284,11 @@ pub fn merge_step<S: Source, W: Sink>(
         → left_of merge.new.seats.now < left_of merge.old.seats.now }
     ensures one { (k : ℕ) × ((j : ℕ) → j ≢ k
         → spot_at S.rest merge.new.seats.now sources.new windows.new.chunks.now windows.new.tokens.now j
-        ≡ spot_at S.rest merge.old.seats.now sources.old windows.old.chunks.now windows.old.tokens.now j) }
+        ≡ spot_at S.rest merge.old.seats.now sources.old windows.old.chunks.now windows.old.tokens.now j)
+        × ((j : ℕ) → j ≢ k
+        → (slice_get sources.new j ≡ slice_get sources.old j)
+        × (part (part_len (length merge.old.seats.now) windows.old.tokens.now) j windows.new.values.now
+        ≡ part (part_len (length merge.old.seats.now) windows.old.tokens.now) j windows.old.values.now)) }
     ensures writes { (W.device out.new).failures
         ≡ (W.device out.old).failures + writes_failed result }
     ensures going { is_going merge.new ≡ goes_on result }
