@@ -1,19 +1,21 @@
 -- The heads of a merge, one after the other, and the lines that they are written in.
-use Rattle.std.proofs.Common.{◌≡◌, ℕ, zero, suc, ◌+◌, ◌*◌, ◌^◌, ◌<◌, ◌≤◌, ℤ, pos, negsuc, cond, List, [], ◌∷◌, ◌++◌, length, map, take, get_or, slice_get, add-one, decimal, codes, Option, Some, None, Result, Ok, Err, MatchResult, IfOk, IsSome, refl, sym, ap, ◌∙◌, append_assoc, arith}
-use Rattle.std.specs.Prelude.{nat_lt, nat_le}
+use Rattle.std.proofs.Common.{◌≡◌, Bool, true, false, subst, ℕ, zero, suc, ◌+◌, ◌*◌, ◌^◌, ◌<◌, ◌≤◌, ℤ, pos, negsuc, cond, List, [], ◌∷◌, ◌++◌, length, map, take, get_or, slice_get, add-one, decimal, codes, Option, Some, None, Result, Ok, Err, MatchResult, IfOk, IsSome, refl, sym, ap, ◌∙◌, append_assoc, arith}
+use Rattle.std.specs.Prelude.{nat_lt, nat_le, nat_abs, int_le, unwrap_or, option_map, IfSome, fold, ◌-ℤ◌}
 use Rattle.std.specs.Int.{int_min}
 use Rattle.std.specs.List.{reduce}
 use Rattle.std.proofs.lemmas.Bool.Decides.{nat_tests}
+use Rattle.std.proofs.lemmas.Int.{ints}
 use Rattle.std.proofs.lemmas.List.{map-append, take_all}
 use Rattle.std.proofs.lemmas.List.Sums.{fold-append, sum_by-append}
 use Rattle.std.proofs.lemmas.Slice.Zip.{AllZip-long}
 use Rattle.vcd_model.specs.Header.{Header}
-use Rattle.vcd_model.specs.HeadText.{exponent, first_number, input_head, renamed, rows_text, scope_line, smaller, up_line}
+use Rattle.vcd_model.specs.HeadText.{exponent, least_exponent, first_number, input_head, renamed, rows_text, scope_line, smaller, up_line}
 use Rattle.vcd_head.specs.declared.head.Head.{Head}
 use Rattle.vcd_head.specs.Marks.{is_marked, marks_of}
 use Rattle.vcd_head.specs.Merged.{HaveRoom, ShowHeaders, given}
-use Rattle.vcd_head.specs.Shown.{shown}
-use Rattle.vcd_head.specs.Views.{Views}
+use Rattle.vcd_head.specs.declared.view.Scale.{Scale}
+use Rattle.vcd_head.specs.Shown.{HeadShown, shown}
+use Rattle.vcd_head.specs.Views.{IsExponent, Views}
 use Rattle.vcd_head.proofs.MarkedHead.{marks_are}
 use Rattle.vcd_head.proofs.WriteLemmas.{take-next}
 
@@ -65,6 +67,39 @@ reduce_more (y ∷ ys) x = ap Some (fold-append smaller y ys (x ∷ []) ∙ sym 
 pub least_more : (hs : List Header) (i : ℕ) (h : Header) → slice_get hs i ≡ Some h → reduce smaller (map exponent (take (i + 1) hs)) ≡ Some (with_one (reduce smaller (map exponent (take i hs))) (exponent h))
 least_more hs i h at =
     ap (λ n. reduce smaller (map exponent (take n hs))) (add-one i) ∙ ap (λ l. reduce smaller (map exponent l)) (take-next hs i h at) ∙ ap (reduce smaller) (map-append exponent (take i hs) (h ∷ [])) ∙ reduce_more (map exponent (take i hs)) (exponent h)
+
+-- ---- how far exponents are apart
+
+pub exponent_in_range : (s : HeadShown) (h : Header) → Views s h → IsExponent (exponent h)
+exponent_in_range s h v = subst (λ o. IsExponent (unwrap_or o (pos 0))) v.scale (by_scale s.scale v.scaled)
+  where
+    by_scale : (o : Option Scale) → IfSome o (λ (x : Scale). IsExponent x.exponent) → IsExponent (unwrap_or (option_map (λ (x : Scale). x.exponent) o) (pos 0))
+    by_scale None r = omega arith
+    by_scale (Some x) r = r
+
+smaller_in_range : (a b : ℤ) → IsExponent a → IsExponent b → IsExponent (smaller a b)
+smaller_in_range a b p q = by_test (int_le a b)
+  where
+    by_test : (t : Bool) → IsExponent (cond t a b)
+    by_test true = p
+    by_test false = q
+
+least_among : (heads : List Head) (hs : List Header) (a : ℤ) → ShowHeaders heads hs → IsExponent a → IsExponent (fold smaller a (map exponent hs))
+least_among heads [] a s r = r
+least_among [] (h ∷ hs) a s r = absurd s
+least_among (x ∷ heads) (h ∷ hs) a s r = least_among heads hs (smaller a (exponent h)) s.1 (smaller_in_range a (exponent h) r (exponent_in_range (shown x) h s.0))
+
+pub least_in_range : (heads : List Head) (hs : List Header) → ShowHeaders heads hs → IsExponent (least_exponent hs)
+unfolding least_exponent
+least_in_range heads [] s = omega arith
+least_in_range [] (h ∷ hs) s = absurd s
+least_in_range (x ∷ heads) (h ∷ hs) s = least_among heads hs (exponent h) s.1 (exponent_in_range (shown x) h s.0)
+
+pub few_powers : (a b : ℤ) → IsExponent a → IsExponent b → nat_abs (a -ℤ b) ≤ 17
+few_powers (pos m) (pos n) p q = omega (arith, ints)
+few_powers (pos m) (negsuc n) p q = omega (arith, ints)
+few_powers (negsuc m) (pos n) p q = omega (arith, ints)
+few_powers (negsuc m) (negsuc n) p q = omega (arith, ints)
 
 -- ---- the numbers of codes
 
