@@ -26,11 +26,11 @@ use Rattle.vcd_tools.specs.declared.answer.Stop.{Stop}
 use Rattle.vcd_tools.specs.declared.answer.Stop.TheVariants.{Dump as Faulty, Read, Write, Unmatched}
 use Rattle.vcd_tools.proofs.MergeOutcomes.{fault_output, head_first}
 use Rattle.vcd_tools.proofs.MergeReads as reads
-use Rattle.vcd_tools.proofs.MergeReads.{AreReadSoFar, cut_left, left_whole, other_left, read_more, supplies}
+use Rattle.vcd_tools.proofs.MergeReads.{AreReadSoFar, cut_left, left_whole, other_left, read_more}
 use Rattle.vcd_tools.proofs.MergeSteps.{get_map, len_map, same_or_not}
 use Rattle.vcd_tools.proofs.MergeStops.{EndFits, StopFits, WriteFits, clean_is, ends, fault_merged, one_next, stops, writes, written_some}
 use Rattle.vcd_tools.proofs.MergeWholes as whole
-use Rattle.vcd_tools.proofs.MergeWholes.{Wholes, choose_all, entire_headers, entire_of, follows, lanes_of, left_all, lefts_of}
+use Rattle.vcd_tools.proofs.MergeWholes.{Wholes, choose_all, entire_headers, entire_of, follows, left_all}
 
 -- ---- what is counted
 

@@ -335,6 +335,7 @@ impl<'h, 's> Merge<'h, 's> {
             × (map S.failures sources.new ≡ failures_with (map S.failures sources.old) k result) }
         ensures writes { (W.device out.new).failures
             ≡ (W.device out.old).failures + writes_failed result }
+        ensures over { is_going self.new ≡ false }
     {
         'items: loop {
             match merge_step(self, sources, windows, out)? {
