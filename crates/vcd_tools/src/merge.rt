@@ -1,14 +1,15 @@
 //! `merge`: the changes of several dumps in one order of time.
 ghost use Rattle.std.specs.Prelude.{◌≡◌, ◌≢◌, ℕ, ◌+◌, ◌-◌, ◌*◌, ◌^◌, ◌<◌, ◌≤◌, true, false, take, slice_get, List, length, All, MatchOption, MatchBool, IfOk, Some, Option, Ok, map};
-ghost use Rattle.vcd_model.specs.Merge.{Dump, merge_close, merged_items};
-ghost use Rattle.vcd_text.specs.Device.{Counts, Takes, failures_after};
-ghost use Rattle.vcd_tools.specs.Answer.{writes_failed};
+ghost use Rattle.vcd_model.specs.Merge.{Dump, merge_close, merge_open, merged_items};
+ghost use Rattle.vcd_text.specs.Device.{Counts, Device, Takes, Writes, failures_after, supply};
+ghost use Rattle.vcd_tools.specs.Answer.{NamesInput, writes_failed};
 ghost use Rattle.vcd_model.specs.Items.{BodyItem};
 ghost use Rattle.vcd_head.specs.Shown.{shown};
 ghost use Rattle.vcd_head.specs.Views.{Views};
 ghost use Rattle.vcd_tools.specs.Seat.{AtSeat, Lane, Spot, Turns};
-ghost use Rattle.vcd_tools.specs.MergeParts.{AreParts, AreSeated, SameLengths, spot_at};
+ghost use Rattle.vcd_tools.specs.MergeParts.{AreParts, AreSeated, SameLengths, part, part_len, spot_at};
 ghost use Rattle.vcd_tools.specs.MergeOrder.{IsNext, IsNextBefore, comes_first, greatest_time};
+ghost use Rattle.vcd_tools.specs.MergeRun.{Follows};
 ghost use Rattle.vcd_model.specs.Header.{Header};
 ghost use Rattle.vcd_tools.specs.Step.{goes_on};
 ghost use Rattle.vcd_tools.specs.MergeStep.{AreMarked, Gives, Holds, IsReady, failures_with, is_going, last_written, left_of, standing_of};
@@ -112,6 +113,10 @@ fn turn<S: Source, W: Sink>(
     ensures others { (j : ℕ) → j ≢ input
         → spot_at S.rest seats.new sources.new windows.new.chunks.now windows.new.tokens.now j
         ≡ spot_at S.rest seats.old sources.old windows.old.chunks.now windows.old.tokens.now j }
+    ensures untouched { (j : ℕ) → j ≢ input
+        → (slice_get sources.new j ≡ slice_get sources.old j)
+        × (part (part_len (length seats.old) windows.old.tokens.now) j windows.new.values.now
+        ≡ part (part_len (length seats.old) windows.old.tokens.now) j windows.old.values.now) }
     ensures lengths { SameLengths windows.old windows.new }
     ensures seats { length seats.new ≡ length seats.old }
     ensures sources { length sources.new ≡ length sources.old }
@@ -119,6 +124,7 @@ fn turn<S: Source, W: Sink>(
         (λ _. AreSeated windows.new.chunks.now windows.new.tokens.now seats.new) }
     ensures reads { map S.failures sources.new
         ≡ failures_with (map S.failures sources.old) input result }
+    ensures named { NamesInput input result }
     ensures left { IfOk result (λ _. left_of seats.new < left_of seats.old) }
     ensures writes { (W.device out.new).failures
         ≡ (W.device out.old).failures + writes_failed result }
@@ -229,11 +235,16 @@ fn step<S: Source, W: Sink>(
         }) }
     ensures lengths { (length seats.new ≡ length seats.old) × SameLengths windows.old windows.new }
     ensures reads { (k : ℕ) × IsNext seats.old k
-        × (map S.failures sources.new ≡ failures_with (map S.failures sources.old) k result) }
+        × (map S.failures sources.new ≡ failures_with (map S.failures sources.old) k result)
+        × NamesInput k result }
     ensures left { result ≡ Ok More.Again → left_of seats.new < left_of seats.old }
     ensures one { (k : ℕ) × ((j : ℕ) → j ≢ k
         → spot_at S.rest seats.new sources.new windows.new.chunks.now windows.new.tokens.now j
-        ≡ spot_at S.rest seats.old sources.old windows.old.chunks.now windows.old.tokens.now j) }
+        ≡ spot_at S.rest seats.old sources.old windows.old.chunks.now windows.old.tokens.now j)
+        × ((j : ℕ) → j ≢ k
+        → (slice_get sources.new j ≡ slice_get sources.old j)
+        × (part (part_len (length seats.old) windows.old.tokens.now) j windows.new.values.now
+        ≡ part (part_len (length seats.old) windows.old.tokens.now) j windows.old.values.now)) }
     ensures writes { (W.device out.new).failures
         ≡ (W.device out.old).failures + writes_failed result }
 {
@@ -271,12 +282,17 @@ pub fn merge_step<S: Source, W: Sink>(
     ensures lengths { (length merge.new.seats.now ≡ length merge.old.seats.now)
         × SameLengths windows.old windows.new }
     ensures reads { (k : ℕ) × IsNext merge.old.seats.now k
-        × (map S.failures sources.new ≡ failures_with (map S.failures sources.old) k result) }
+        × (map S.failures sources.new ≡ failures_with (map S.failures sources.old) k result)
+        × NamesInput k result }
     ensures left { result ≡ Ok More.Again
         → left_of merge.new.seats.now < left_of merge.old.seats.now }
     ensures one { (k : ℕ) × ((j : ℕ) → j ≢ k
         → spot_at S.rest merge.new.seats.now sources.new windows.new.chunks.now windows.new.tokens.now j
-        ≡ spot_at S.rest merge.old.seats.now sources.old windows.old.chunks.now windows.old.tokens.now j) }
+        ≡ spot_at S.rest merge.old.seats.now sources.old windows.old.chunks.now windows.old.tokens.now j)
+        × ((j : ℕ) → j ≢ k
+        → (slice_get sources.new j ≡ slice_get sources.old j)
+        × (part (part_len (length merge.old.seats.now) windows.old.tokens.now) j windows.new.values.now
+        ≡ part (part_len (length merge.old.seats.now) windows.old.tokens.now) j windows.old.values.now)) }
     ensures writes { (W.device out.new).failures
         ≡ (W.device out.old).failures + writes_failed result }
     ensures going { is_going merge.new ≡ goes_on result }
@@ -291,4 +307,45 @@ pub fn merge_step<S: Source, W: Sink>(
     );
     merge.going = matches!(answer, Ok(More::Again));
     answer
+}
+
+impl<'h, 's> Merge<'h, 's> {
+    /// Takes all steps that are left, to the end of the merge.
+    pub fn finish<S: Source, W: Sink>(
+        &mut self,
+        sources: &mut [S],
+        windows: &mut Windows<'_>,
+        out: &mut W,
+    ) -> Result<Done, Stop>
+        requires reads { All (λ s. S.failures s < 2 ^ 64 - 1) sources.old }
+        requires out_failures { (W.device out.old).failures < 2 ^ 64 - 1 }
+        requires going { is_going self.old ≡ true }
+        requires ready { IsReady (standing_of self.old sources.old windows.old) }
+
+        // Where the merge holds these items, and the output has what is due with them, it is the merge of its inputs.
+        ensures gives { (hs : List Header) (lanes : List Lane) (ds : List Dump)
+            (names : List (List ℕ)) (begin : Device)
+            → Holds S.rest hs lanes ds (standing_of self.old sources.old windows.old)
+            → Writes begin (W.device out.old) (merge_open hs (merged_items ds))
+            → Follows (part_len (length self.old.seats.now) windows.old.tokens.now)
+            (part_len (length self.old.seats.now) windows.old.chunks.now) lanes names
+            (map (supply S.rest S.failures) sources.old)
+            (map (supply S.rest S.failures) sources.new)
+            begin (W.device out.new) result }
+        ensures lengths { (length self.new.seats.now ≡ length self.old.seats.now)
+            × SameLengths windows.old windows.new }
+        ensures reads { (k : ℕ) × (k < length sources.old)
+            × (map S.failures sources.new ≡ failures_with (map S.failures sources.old) k result)
+            × NamesInput k result }
+        ensures writes { (W.device out.new).failures
+            ≡ (W.device out.old).failures + writes_failed result }
+        ensures over { is_going self.new ≡ false }
+    {
+        'items: loop {
+            match merge_step(self, sources, windows, out)? {
+                More::Again => {}
+                More::Ended(done) => return Ok(done),
+            }
+        }
+    }
 }

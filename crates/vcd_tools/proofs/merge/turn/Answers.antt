@@ -4,7 +4,7 @@ use Rattle.vcd_head.specs.Shown.{HeadShown, parts, shown}
 use Rattle.vcd_head.specs.Views.{Views}
 use Rattle.vcd_tools.specs.MergeParts.{part_len}
 use Rattle.vcd_tools.specs.Seat.{AtSeat}
-use Rattle.vcd_tools.proofs.PartLemmas.{lent_len, spot_lent, spot_put, spot_other, seated_put}
+use Rattle.vcd_tools.proofs.PartLemmas.{get_other, lent_len, part_other, spot_lent, spot_put, spot_other, seated_put}
 use Rattle.vcd_tools.specs.Answer.{reads_failed}
 use Rattle.vcd_tools.proofs.MergeCounts.{get_map_or, left_moved, map_set}
 use Rattle.vcd_tools.proofs.Results.{if_ok_more}
@@ -33,6 +33,15 @@ returns-clause-others g c =
     let lc = c.step_of.auto.chunk ∙ lent_len (part_len (length seats) chunks) (length seats) c.args.input chunks c.requires.parts.chunks_are c.requires.input in
     let lt = c.step_of.auto.token ∙ lent_len (part_len (length seats) tokens) (length seats) c.args.input tokens c.requires.parts.tokens_are c.requires.input in
     spot_other g.S.Source.rest seats c.args.sources.now chunks tokens c.args.input c.step_of.new.seat c.step_of.new.source c.step_of.new.chunk c.step_of.new.token c.requires.input h2 c.requires.parts.chunks_are c.requires.parts.tokens_are lc lt
+
+pub returns-clause-untouched : goal.returns-clause-untouched
+returns-clause-untouched g c = λ j other.
+    let seats = c.args.seats.now in
+    let tokens = c.args.windows.now.tokens.now in
+    let values = c.args.windows.now.values.now in
+    let all = c.requires.parts.tokens_are ∙ sym c.requires.parts.values_are in
+    let lv = c.step_of.auto.value ∙ lent_len (part_len (length seats) tokens) (length seats) c.args.input values all c.requires.input in
+    (get_other c.args.sources.now c.args.input j c.step_of.new.source other, part_other (part_len (length seats) tokens) (length seats) c.args.input values c.step_of.new.value all c.requires.input lv j other)
 
 pub returns-clause-seated : goal.returns-clause-seated
 returns-clause-seated g c =

@@ -5,7 +5,7 @@ use Rattle.vcd_text.specs.Device.{Takes}
 use Rattle.vcd_head.specs.Shown.{parts}
 use Rattle.vcd_head.proofs.RenamedLemmas.{place_read}
 use Rattle.vcd_head.proofs.WriteLemmas.{code_read, code_there, row_there}
-use Rattle.vcd_head.proofs.merged.put_renamed.Goals as goal
+use Rattle.vcd_head.proofs.write.put_renamed.Goals as goal
 
 pub returns-in_default-clause-takes : goal.returns-in_default-clause-takes
 returns-in_default-clause-takes g c = λ h v views is fits. absurd (row_there (parts c.args.view) h c.args.row (Declaration.Var v) views is (sym c.row_at.ensures ∙ c.in_default.is))
