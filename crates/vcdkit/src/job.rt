@@ -32,10 +32,10 @@ pub enum Want {
 }
 
 impl Want {
+    ghost use Rattle.std.specs.Prelude.{MatchResult, OnOk};
     ghost use Rattle.vcd_model.specs.Header.{Header};
     ghost use Rattle.vcd_model.specs.Job.{request_of};
     ghost use Rattle.vcd_head.specs.Views.{IsViewOf};
-    ghost use Rattle.std.specs.Prelude.{MatchResult, OnOk};
     ghost use Rattle.vcdkit.specs.Failure.{model_refusal};
     ghost use Rattle.vcdkit.specs.Job.{model_want, names_asked, task_request, HasTicks};
 

@@ -1,6 +1,5 @@
 // The times of a sample in ticks: over their numbers, so that no memory is taken.
-ghost use Rattle.std.specs.Prelude.{◌≡◌, ℤ, List, length, Option, MatchResult};
-ghost use Rattle.std.specs.List.{list_any};
+ghost use Rattle.std.specs.Prelude.{◌≡◌, length, MatchResult};
 ghost use Rattle.vcd_model.specs.Header.{Header};
 ghost use Rattle.vcd_model.specs.Job.{do_rise};
 ghost use Rattle.vcd_head.specs.Views.{IsViewOf};
