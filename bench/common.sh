@@ -14,6 +14,35 @@ times_of() {
     { time "${command[@]}" < "$2" > /dev/null; } 2>&1 | awk '{ print $1 + $2, $3 }'
 }
 
+# Sets `one` to the path in the middle of the list of a dump, and leaves that list in $work/list.
+find_one() {
+    "$work/vcdkit" list < "$1" > "$work/list"
+    one=$(LC_ALL=C awk -v middle=$((($(wc -l < "$work/list") + 1) / 2)) 'NR == middle { print $1 }' "$work/list")
+}
+
+# The times of all programs (`programs`) on a dump, three times each, as print_best takes them.
+take_times() {
+    local program
+    # The programs take turns, so that what else the machine does meets all of them.
+    for _ in 1 2 3; do
+        for program in "${programs[@]}"; do echo "$program:$(times_of "$program" "$1")"; done
+    done > "$work/times"
+}
+
+# Measures each of these dumps, or plain ones of 200 MB with 64 and with 20000 variables: the script's `measure`.
+measure_each() {
+    local dump variables
+    echo 'best of three; over check: the time over that of check, so below 1 where it is faster'
+    for dump in "$@"; do measure "$dump"; done
+    if [ $# -eq 0 ]; then
+        for variables in 64 20000; do
+            "$here/plain_dump.py" 200 "$variables" > "$work/plain_$variables"
+            measure "$work/plain_$variables"
+            rm "$work/plain_$variables"
+        done
+    fi
+}
+
 # The peak resident memory of such a run, in kilobytes.
 peak_of() {
     find_command "$1"

@@ -42,22 +42,11 @@ measure() {
     local program
     for program in 'cut before' 'cut within' 'cut middle'; do echo "$program:$(written_by "$program" "$1")"; done > "$work/written"
 
-    # The programs take turns, so that what else the machine does meets all of them.
-    for _ in 1 2 3; do
-        for program in "${programs[@]}"; do echo "$program:$(times_of "$program" "$1")"; done
-    done > "$work/times"
+    take_times "$1"
 
     echo "${1##*/}: last time $last; peak of 'cut before' $(peak_of 'cut before' "$1") KB"
     print_best "$1"
     echo
 }
 
-echo 'best of three; over check: the time over that of check, so below 1 where it is faster'
-for dump in "$@"; do measure "$dump"; done
-if [ $# -eq 0 ]; then
-    for variables in 64 20000; do
-        "$here/plain_dump.py" 200 "$variables" > "$work/plain_$variables"
-        measure "$work/plain_$variables"
-        rm "$work/plain_$variables"
-    done
-fi
+measure_each "$@"

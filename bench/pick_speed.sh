@@ -12,8 +12,7 @@ done
 
 # Sets `one` to the path in the middle of the list, and `all` to the names before the first points, which select all that there is.
 find_names() {
-    "$work/vcdkit" list < "$1" > "$work/list"
-    one=$(LC_ALL=C awk -v middle=$((($(wc -l < "$work/list") + 1) / 2)) 'NR == middle { print $1 }' "$work/list")
+    find_one "$1"
     LC_ALL=C awk '{ sub(/\..*/, "", $1) } !($1 in seen) { seen[$1]; print $1 }' "$work/list" > "$work/names"
     mapfile -t all < "$work/names"
 }
@@ -44,22 +43,11 @@ measure() {
     local program
     for program in 'pick one' 'pick all'; do echo "$program:$(written_by "$program" "$1")"; done > "$work/written"
 
-    # The programs take turns, so that what else the machine does meets all of them.
-    for _ in 1 2 3; do
-        for program in "${programs[@]}"; do echo "$program:$(times_of "$program" "$1")"; done
-    done > "$work/times"
+    take_times "$1"
 
     echo "${1##*/}: $(wc -l < "$work/list") variables; one is $one"
     print_best "$1"
     echo
 }
 
-echo 'best of three; over check: the time over that of check, so below 1 where it is faster'
-for dump in "$@"; do measure "$dump"; done
-if [ $# -eq 0 ]; then
-    for variables in 64 20000; do
-        "$here/plain_dump.py" 200 "$variables" > "$work/plain_$variables"
-        measure "$work/plain_$variables"
-        rm "$work/plain_$variables"
-    done
-fi
+measure_each "$@"

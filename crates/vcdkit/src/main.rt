@@ -17,7 +17,8 @@
 //! - `failure`: why a run ends before it is done, and why times are refused
 //! - `message`: the lines on the error stream, and the statuses
 //!
-//! In `specs/`: `Words`, what the command line takes and asks for; `Job`; `Failure`; `Message`; and `Run`, what a run leaves.
+//! In `specs/`: `Words`, what the command line takes and asks for; `Times` and `Ticks`, its times; `Job`; `Failure`; `Message`; and
+//! `Run`, what a run leaves.
 //!
 //! # Limits
 //!

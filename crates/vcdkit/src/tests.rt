@@ -8,5 +8,6 @@ mod memory;
 mod messages;
 mod pick;
 mod runs;
+mod sample;
 mod times;
 mod words;

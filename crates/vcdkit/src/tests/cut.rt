@@ -1,22 +1,11 @@
 // Times, dumps, and the dumps between these times.
-use super::runs::{READ_FAILED, failing, give_all, run_on, whole};
+use super::runs::{
+    MIXED, MIXED_HEAD, READ_FAILED, TENS, TENS_HEAD, failing, give_all, give_refusal, run_on, whole,
+};
 use crate::words::Words;
 use std::alloc::AllocError;
 use std::process::Abort;
 use std::test::Fail;
-
-// A dump of all kinds of variables, without a time scale, and its header.
-const MIXED: &[u8] =
-    b"$var wire 1 ! a $end\n$var real 1 \" r $end\n$var event 1 # e $end\n$var wire 2 % u $end\n$enddefinitions $end\n#9\n0!\nr1.5 \"\n1#\n#10\n1!\n1#\n#20\nr2 \"\n#21\n0!\n";
-
-const MIXED_HEAD: &[u8] =
-    b"$var wire 1 ! a $end\n$var real 1 \" r $end\n$var event 1 # e $end\n$var wire 2 % u $end\n$enddefinitions $end\n";
-
-// A dump whose ticks are ten nanoseconds, and its header.
-const TENS: &[u8] =
-    b"$timescale 10ns $end\n$var wire 1 ! a $end\n$enddefinitions $end\n#0\n0!\n#1\n1!\n#2\n0!\n#3\n1!\n";
-
-const TENS_HEAD: &[u8] = b"$timescale 10ns $end\n$var wire 1 ! a $end\n$enddefinitions $end\n";
 
 // A dump with a change before its first time mark, and its cut from 0 to 5.
 const UNMARKED: &[u8] =
@@ -131,19 +120,6 @@ fn a_cut_reads_nothing_after_the_mark_past_its_end(rt: HostRuntime) -> Result<()
     assert_eq!(rt; out.held(), UNMARKED_CUT);
     assert_eq!(rt; status, 0);
     Ok(())
-}
-
-// A cut is refused once the header is read: it leaves this message and this status, over the dump, and where each read after the
-// header fails.
-fn give_refusal<R: Abort + AllocGlobal>(
-    rt: &R,
-    words: Words<'_, '_>,
-    (dump, head): (&[u8], &[u8]),
-    (message, status): (&[u8], u8),
-) -> Result<(), AllocError> {
-    let none = b"".as_slice();
-    give_all(rt, words, (dump, false), (none, message, status))?;
-    give_all(rt, words, (head, true), (none, message, status))
 }
 
 #[test]

@@ -1,7 +1,7 @@
 // Devices that fail.
 use super::runs::{
-    DUMP, NESTED, NESTED_LIST, PICKED, READ_FAILED, REPORT, failing, run_into, run_on, wanted,
-    whole,
+    DUMP, NESTED, NESTED_LIST, PICKED, READ_FAILED, REPORT, SAMPLED, failing, run_into, run_on,
+    wanted, whole,
 };
 use crate::job::{Job, Want};
 use crate::run_job;
@@ -17,6 +17,8 @@ fn a_failed_read_is_said(rt: HostRuntime) -> Result<(), Fail> {
         Words::List,
         Words::Pick(&["tb"]),
         Words::Cut("1", "2"),
+        Words::Sample("1,2", None),
+        Words::Edges(None),
     ] {
         for len in 0..NESTED.len() {
             for chunk in [1, 65_536] {
@@ -48,6 +50,8 @@ fn a_failed_write_leaves_a_prefix(rt: HostRuntime) -> Result<(), Fail> {
         (Words::Check, DUMP, REPORT),
         (Words::List, NESTED, NESTED_LIST),
         (Words::Pick(&["clk"]), DUMP, PICKED),
+        (Words::Sample("0,5", None), DUMP, SAMPLED),
+        (Words::Edges(None), DUMP, b"clk 1 1 0\n".as_slice()),
     ] {
         for room in 0..output.len().min(1024) {
             let mut out = Watch::new(Narrow::new(room));

@@ -21,6 +21,9 @@ pub const REPORT: &[u8] =
 pub const PICKED: &[u8] =
     b"$timescale\n\t1ns\n$end\n$var wire 1 ! clk $end\n$enddefinitions $end\n#0\n0!\n#5\n1!\n";
 
+// What a sample of it at 0 and 5 writes.
+pub const SAMPLED: &[u8] = b"0 clk 0\n5 clk 1\n";
+
 // A header with an event, two vectors and a real, and its list.
 pub const NESTED: &[u8] =
     b"$var event 1 % go $end\n$scope module tb $end\n$var wire 1 ! clk $end\n$scope module u $end\n$var reg 4 \" q [3:0] $end\n$upscope $end\n$var real 1 # r $end\n$enddefinitions $end\n";
@@ -37,6 +40,19 @@ pub const TB_WRITTEN: &[u8] =
 // Two names of one code.
 pub const ALIASES: &[u8] =
     b"$scope module tb $end\n$var wire 1 ! a $end\n$scope module u $end\n$var wire 1 ! b $end\n$upscope $end\n$upscope $end\n$enddefinitions $end\n#0\n0!\n#5\n1!\n#5\n1!\n#7\n";
+
+// A dump of all kinds of variables, without a time scale, and its header.
+pub const MIXED: &[u8] =
+    b"$var wire 1 ! a $end\n$var real 1 \" r $end\n$var event 1 # e $end\n$var wire 2 % u $end\n$enddefinitions $end\n#9\n0!\nr1.5 \"\n1#\n#10\n1!\n1#\n#20\nr2 \"\n#21\n0!\n";
+
+pub const MIXED_HEAD: &[u8] =
+    b"$var wire 1 ! a $end\n$var real 1 \" r $end\n$var event 1 # e $end\n$var wire 2 % u $end\n$enddefinitions $end\n";
+
+// A dump whose ticks are ten nanoseconds, and its header.
+pub const TENS: &[u8] =
+    b"$timescale 10ns $end\n$var wire 1 ! a $end\n$enddefinitions $end\n#0\n0!\n#1\n1!\n#2\n0!\n#3\n1!\n";
+
+pub const TENS_HEAD: &[u8] = b"$timescale 10ns $end\n$var wire 1 ! a $end\n$enddefinitions $end\n";
 
 pub const READ_FAILED: &[u8] = b"vcdkit: (stdin): read failed\n";
 
@@ -115,6 +131,19 @@ pub fn give_all<R: Abort + AllocGlobal>(
         assert_eq!(rt; answer, status, "of {words:?}");
     }
     Ok(())
+}
+
+// Words are refused once the header is read: a run leaves this message and this status, over the dump, and where each read after the
+// header fails.
+pub fn give_refusal<R: Abort + AllocGlobal>(
+    rt: &R,
+    words: Words<'_, '_>,
+    (dump, head): (&[u8], &[u8]),
+    (message, status): (&[u8], u8),
+) -> Result<(), AllocError> {
+    let none = b"".as_slice();
+    give_all(rt, words, (dump, false), (none, message, status))?;
+    give_all(rt, words, (head, true), (none, message, status))
 }
 
 // A run over each text leaves this output alone.

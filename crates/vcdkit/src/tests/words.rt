@@ -126,6 +126,27 @@ fn times_are_taken_or_answered(rt: HostRuntime) -> Result<(), Fail> {
     Ok(())
 }
 
+#[test]
+fn times_of_a_sample_are_taken_or_answered(rt: HostRuntime) -> Result<(), Fail> {
+    let alloc = rt.alloc();
+    let help = Some((ErrorKind::DisplayHelp, 0));
+    let missing = Some((ErrorKind::MissingRequiredArgument, 2));
+    let unknown = Some((ErrorKind::UnknownArgument, 2));
+    let no_value = Some((ErrorKind::InvalidValue, 2));
+    let twice = Some((ErrorKind::ArgumentConflict, 2));
+    assert_eq!(rt; answer(alloc, &["vcdkit", "sample", "--at", "5"])?, None);
+    let words = ["vcdkit", "sample", "a", "--at=5,x", "b"];
+    assert_eq!(rt; answer(alloc, words.as_slice())?, None);
+    assert_eq!(rt; answer(alloc, &["vcdkit", "sample", "--help"])?, help);
+    assert_eq!(rt; answer(alloc, &["vcdkit", "sample"])?, missing);
+    assert_eq!(rt; answer(alloc, &["vcdkit", "sample", "a"])?, missing);
+    assert_eq!(rt; answer(alloc, &["vcdkit", "sample", "--at"])?, no_value);
+    assert_eq!(rt; answer(alloc, &["vcdkit", "edges", "--at", "5"])?, unknown);
+    let words = ["vcdkit", "sample", "--at", "1", "--at", "2"];
+    assert_eq!(rt; answer(alloc, words.as_slice())?, twice);
+    Ok(())
+}
+
 // What these words ask for.
 fn asked<'a>(alloc: Global, words: &'a [&'a str]) -> Result<Result<Job, UseFault<'a>>, Fail> {
     let matches = command_of(alloc)?.try_get_matches_from(words)?;
@@ -346,6 +367,49 @@ fn a_cut_wants_both_times(rt: HostRuntime) -> Result<(), Fail> {
     let cut = Command::new(alloc, "cut").arg(from)?.arg(to)?;
     let other = Command::new(alloc, "vcdkit").subcommand(cut)?;
     let matches = other.try_get_matches_from(["vcdkit", "cut", "--to", "5"].as_slice())?;
+    assert_eq!(rt; job_of(alloc, &matches), Err(UseFault::BadWords));
+    Ok(())
+}
+
+#[test]
+fn a_sample_has_its_times_and_names(rt: HostRuntime) -> Result<(), Fail> {
+    let alloc = rt.alloc();
+    for at in ["5", "0,1,20", "9ns,4", "4,9ns", "5ns,5ns"] {
+        let words = ["vcdkit", "sample", "--at", at];
+        let job = asked(alloc, words.as_slice())?;
+        let all = job_under(wanted(alloc, Words::Sample(at, None))?, 1_048_576);
+        assert_eq!(rt; job, Ok(all), "at {at}");
+
+        let words = ["vcdkit", "sample", "b", "--at", at, "a"];
+        let job = asked(alloc, words.as_slice())?;
+        let some = wanted(alloc, Words::Sample(at, Some(&["b", "a"])))?;
+        assert_eq!(rt; job, Ok(job_under(some, 1_048_576)), "at {at}");
+    }
+    let bad = [
+        ("5,5", UseFault::NotRising),
+        ("1,3,2,4", UseFault::NotRising),
+        ("5,", UseFault::BadTime("")),
+        ("", UseFault::BadTime("")),
+        ("15NS", UseFault::BadTime("15NS")),
+        ("2,1,x,y", UseFault::BadTime("x")),
+    ];
+    for (at, fault) in bad {
+        let words = ["vcdkit", "sample", "--at", at, "a"];
+        let job = asked(alloc, words.as_slice())?;
+        assert_eq!(rt; job, Err(fault), "at {at}");
+    }
+    Ok(())
+}
+
+#[test]
+fn a_sample_wants_a_good_limit_and_its_times(rt: HostRuntime) -> Result<(), Fail> {
+    let alloc = rt.alloc();
+    let words = ["vcdkit", "sample", "--at", "x", "--token-limit", "63"];
+    let job = asked(alloc, words.as_slice())?;
+    assert_eq!(rt; job, Err(UseFault::BadLimit("63")));
+
+    let other = Command::new(alloc, "vcdkit").subcommand(Command::new(alloc, "sample"))?;
+    let matches = other.try_get_matches_from(["vcdkit", "sample"].as_slice())?;
     assert_eq!(rt; job_of(alloc, &matches), Err(UseFault::BadWords));
     Ok(())
 }

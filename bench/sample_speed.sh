@@ -1,0 +1,70 @@
+#!/usr/bin/env bash
+# sample_speed.sh [DUMP ...]   how fast `vcdkit sample` is on these dumps (plain ones of 200 MB with 64 and with 20000 variables): of one
+# variable at 1000 times, and of all at 10 and at the end, beside `vcdkit check` and `wc -l` on the same dump. See README.md.
+set -eu -o pipefail
+here=$(cd "$(dirname "$0")" && pwd)
+programs=(check 'sample one' 'sample all' 'sample end' 'wc -l')
+greatest=18446744073709551615
+
+for dump in "$@"; do
+    [ -f "$dump" ] || { sed -n '2,3s/^# //p' "$0" >&2; exit 2; }
+done
+. "$here/common.sh"
+
+# Sets `last` to the last time mark, 0 where there is none.
+find_last() {
+    last=$("$work/vcdkit" check < "$1" | awk '$1 == "last" { print $2 == "-" ? 0 : $2 }')
+}
+
+# So many times with commas between them, from 0 to near the last time mark, or past it where there are fewer.
+times_over() {
+    local step=$((last / $1))
+    [ "$step" -gt 0 ] || step=1
+    seq -s , 0 "$step" $((step * ($1 - 1)))
+}
+
+# Sets `command` to the words that run a program.
+find_command() {
+    case $1 in
+        check) command=("$work/vcdkit" check) ;;
+        'sample one') command=("$work/vcdkit" sample --at "$many" -- "$one") ;;
+        'sample all') command=("$work/vcdkit" sample --at "$few") ;;
+        'sample end') command=("$work/vcdkit" sample --at "$greatest") ;;
+        'wc -l') command=(wc -l) ;;
+    esac
+}
+
+# How many variables with values the name `one` selects: more than one where names are declared twice.
+count_one() {
+    one=$one LC_ALL=C awk '$2 != "event" && ($1 == ENVIRON["one"] || index($1, ENVIRON["one"] ".") == 1)' "$work/list" | wc -l
+}
+
+# Makes sure that so many lines are written for each of so many times, and says how many bytes.
+written_by() {
+    local lines bytes
+    find_command "$1"
+    read -r lines bytes < <("${command[@]}" < "$2" | wc -lc)
+    [ "$lines" -eq $(($3 * $4)) ] || { echo "sample_speed.sh: $1 of $2 has $lines lines" >&2; exit 1; }
+    echo "$bytes"
+}
+
+# Measures all programs on a dump, and prints a line for each.
+measure() {
+    find_last "$1"
+    many=$(times_over 1000)
+    few=$(times_over 10)
+    find_one "$1"
+    local valued
+    valued=$(LC_ALL=C awk '$2 != "event"' "$work/list" | wc -l)
+    {
+        echo "sample one:$(written_by 'sample one' "$1" 1000 "$(count_one)")"
+        echo "sample all:$(written_by 'sample all' "$1" 10 "$valued")"
+        echo "sample end:$(written_by 'sample end' "$1" 1 "$valued")"
+    } > "$work/written"
+    take_times "$1"
+    echo "${1##*/}: $valued variables with values; one is $one; peak of 'sample one' $(peak_of 'sample one' "$1") KB"
+    print_best "$1"
+    echo
+}
+
+measure_each "$@"

@@ -1,0 +1,137 @@
+// Times, dumps, and the values at these times.
+use super::runs::{
+    MIXED, MIXED_HEAD, READ_FAILED, TENS, TENS_HEAD, failing, give_all, give_refusal, run_on,
+};
+use crate::words::Words;
+use std::test::Fail;
+
+// A dump with a fault after its second time mark.
+const FAULTY: &[u8] =
+    b"$var wire 4 ! v $end\n$var wire 8 \" w $end\n$enddefinitions $end\n#1\nb1 !\n#2\n?\n";
+
+// What is written of it at 1.
+const FAULTY_SAMPLE: &[u8] = b"1 v 0001\n1 w -\n";
+
+// Times, names, a dump, and what a sample of these names at these times writes.
+const SAMPLES: [(&str, &[&str], &[u8], &[u8]); 10] = [
+    (
+        "0,1,2,3,4",
+        &[],
+        b"$var wire 4 ! v $end\n$var wire 8 \" w $end\n$enddefinitions $end\n#1\nb10 !\nb1 \"\n#2\nbX10 !\n#3\nbZx0 !\n#4\nb0x10 !\n",
+        b"0 v -\n0 w -\n1 v 0010\n1 w 00000001\n2 v xx10\n2 w 00000001\n3 v zzx0\n3 w 00000001\n4 v 0x10\n4 w 00000001\n",
+    ),
+    ("1", &[], FAULTY, FAULTY_SAMPLE),
+    (
+        "9,20",
+        &["a", "r"],
+        MIXED,
+        b"9 a 0\n9 r r1.5\n20 a 1\n20 r r2\n",
+    ),
+    (
+        "7",
+        &[],
+        b"$timescale 1ns $end\n$scope module tb $end\n$var wire 1 ! clk $end\n$var reg 4 \" q [3:0] $end\n$upscope $end\n$enddefinitions $end\n",
+        b"7 tb.clk -\n7 tb.q -\n",
+    ),
+    ("5ns,15ns,25ns", &[], TENS, b"0 a 0\n1 a 1\n2 a 0\n"),
+    ("9", &["e"], MIXED, b""),
+    ("0,15ns", &[], TENS, b"0 a 0\n1 a 1\n"),
+    ("1,25ns", &[], TENS, b"1 a 1\n2 a 0\n"),
+    ("0s,10000ps,2", &[], TENS, b"0 a 0\n1 a 1\n2 a 0\n"),
+    (
+        "3,18446744073709551615",
+        &[],
+        TENS,
+        b"3 a 1\n18446744073709551615 a 1\n",
+    ),
+];
+
+#[test]
+fn a_sample_has_its_values(rt: HostRuntime) -> Result<(), Fail> {
+    let none = b"".as_slice();
+    for (at, names, text, output) in SAMPLES {
+        give_all(
+            &rt,
+            Words::Sample(at, Some(names)),
+            (text, false),
+            (output, none, 0),
+        )?;
+    }
+    Ok(())
+}
+
+#[test]
+fn a_sample_writes_what_stands_before_a_fault(rt: HostRuntime) -> Result<(), Fail> {
+    let line = b"vcdkit: (stdin):7: unknown command\n".as_slice();
+    give_all(
+        &rt,
+        Words::Sample("1,2", None),
+        (FAULTY, false),
+        (FAULTY_SAMPLE, line, 1),
+    )?;
+    let output = b"9 a 0\n9 r r1.5\n9 u -\n".as_slice();
+    give_all(
+        &rt,
+        Words::Sample("9,30", None),
+        (MIXED, true),
+        (output, READ_FAILED, 3),
+    )?;
+    Ok(())
+}
+
+#[test]
+fn a_sample_reads_nothing_after_the_mark_past_its_last_time(rt: HostRuntime) -> Result<(), Fail> {
+    let words = Words::Sample("0,25ns", None);
+    let (out, err, status) = run_on(rt.alloc(), words, 64, failing(TENS), 1)?;
+    assert_eq!(rt; err.held(), b"".as_slice());
+    assert_eq!(rt; out.held(), b"0 a 0\n2 a 0\n".as_slice());
+    assert_eq!(rt; status, 0);
+    Ok(())
+}
+
+#[test]
+fn a_name_that_selects_nothing_counts_before_the_body(rt: HostRuntime) -> Result<(), Fail> {
+    let none = b"".as_slice();
+    let line = b"vcdkit: zz: selects nothing\n".as_slice();
+    let words = Words::Sample("1", Some(&["v", "zz"]));
+    give_all(&rt, words, (FAULTY, false), (none, line, 1))?;
+    Ok(())
+}
+
+#[test]
+fn times_are_refused_once_the_header_is_read(rt: HostRuntime) -> Result<(), Fail> {
+    let falling = (b"vcdkit: times must rise\n".as_slice(), 2);
+    let no_scale = (b"vcdkit: (stdin): no timescale\n".as_slice(), 1);
+    let out_of_range = (b"vcdkit: time out of range\n".as_slice(), 2);
+    let tens = (TENS, TENS_HEAD);
+    let mixed = (MIXED, MIXED_HEAD);
+    let most = "18446744073709551615s";
+    give_refusal(&rt, Words::Sample("11ns,12ns", None), tens, falling)?;
+    give_refusal(&rt, Words::Sample("3,29ns", None), tens, falling)?;
+    give_refusal(&rt, Words::Sample("2,1ns,0", Some(&["zz"])), tens, falling)?;
+    give_refusal(&rt, Words::Sample(most, None), tens, out_of_range)?;
+    give_refusal(
+        &rt,
+        Words::Sample("5,184467440738s,0", None),
+        tens,
+        out_of_range,
+    )?;
+    give_refusal(&rt, Words::Sample("10ns", None), mixed, no_scale)?;
+    give_refusal(&rt, Words::Sample("20,10s", None), mixed, no_scale)?;
+    give_refusal(&rt, Words::Sample("9ns,5", Some(&["zz"])), mixed, no_scale)?;
+    Ok(())
+}
+
+#[test]
+fn a_fault_of_the_header_counts_before_its_times(rt: HostRuntime) -> Result<(), Fail> {
+    let none = b"".as_slice();
+    let line = b"vcdkit: (stdin):1: bad variable\n".as_slice();
+    let text = b"$var wire 0 ! a $end\n".as_slice();
+    give_all(
+        &rt,
+        Words::Sample("20ns,10ns", None),
+        (text, false),
+        (none, line, 1),
+    )?;
+    Ok(())
+}
