@@ -18,4 +18,5 @@ pub mod Scaled
 pub mod Marks
 pub mod Selects
 pub mod Inside
+pub mod Matched
 pub mod NewCode
