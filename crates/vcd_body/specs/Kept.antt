@@ -70,6 +70,15 @@ last_digit_in None = None
 last_digit_in (Some (Value.Bits ds)) = last_or None ds
 last_digit_in (Some (Value.Real text)) = None
 
+-- there is a digit, and it is this one
+abbrev pub is_digit : Option ℕ → ℕ → Bool
+is_digit None d = false
+is_digit (Some e) d = d == e
+
+-- the last digit was a, and is b
+abbrev pub goes_from : ℕ → ℕ → Option ℕ → Option ℕ → Bool
+goes_from a b before after = is_digit before a && is_digit after b
+
 -- there is a value, and it is another than this
 abbrev pub differs : Option Value → Value → Bool
 differs None v = false
@@ -89,6 +98,15 @@ counts_with counts which = slice_set counts which (min (get_or counts which 0 + 
 
 abbrev pub one_more : ℕ → Kept → Kept
 one_more which k = record { held = k.held; counts = counts_with k.counts which; chosen = k.chosen; room = k.room }
+
+-- one more in a counter, where the test holds
+abbrev pub counts_if : Bool → List ℕ → ℕ → List ℕ
+counts_if true counts which = counts_with counts which
+counts_if false counts which = counts
+
+-- one more in the first counter, and in the others where the tests hold
+abbrev pub with_step : Bool → Bool → Kept → Kept
+with_step rises falls k = record { held = k.held; counts = counts_if falls (counts_if rises (counts_with k.counts 0) 1) 2; chosen = k.chosen; room = k.room }
 
 abbrev pub as_chosen : Kept → Kept
 as_chosen k = record { held = k.held; counts = k.counts; chosen = true; room = k.room }

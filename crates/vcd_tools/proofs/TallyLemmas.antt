@@ -21,10 +21,10 @@ use Rattle.vcd_head.proofs.RowLemmas.{code_at}
 use Rattle.vcd_body.specs.Contents.{ChangesCode, IsLaidOut, counts_at, held_at, kept_at}
 use Rattle.vcd_body.specs.Given.{IsText}
 use Rattle.vcd_body.specs.Items.{model_form}
-use Rattle.vcd_body.specs.Kept.{Held, Kept, differs, last_digit_in, one_more, value_at_size, with_text}
+use Rattle.vcd_body.specs.Kept.{Held, Kept, differs, goes_from, is_digit, last_digit_in, one_more, value_at_size, with_step, with_text}
 use Rattle.vcd_body.specs.declared.item.Form.{Form}
 use Rattle.vcd_body.specs.declared.table.Table.{Table}
-use Rattle.vcd_tools.specs.Edges.{AreTallied, goes_from, is_digit, numbers, one_more_if, with_change}
+use Rattle.vcd_tools.specs.Edges.{AreTallied, numbers}
 use Rattle.vcd_tools.specs.Values.{AreHeld}
 use Rattle.vcd_tools.proofs.ValuesLemmas.{IsNew, SetsValue, held_still, new_holds, set_holds}
 
@@ -40,17 +40,8 @@ counts_in o = unwrap_or (option_map (λ (k : Kept). k.counts) o) (0 ∷ 0 ∷ 0 
 abbrev Retains : (Kept → Kept) → Type 0
 Retains f = (k : Kept) → ((f k).held ≡ k.held) × ((f k).room ≡ k.room)
 
-one_retains : (b : Bool) (which : ℕ) → Retains (one_more_if b which)
-one_retains true which k = (refl, refl)
-one_retains false which k = (refl, refl)
-
-change_retains : (before after : Option ℕ) → Retains (with_change before after)
-change_retains before after k =
-    let r = goes_from 48 49 before after in
-    let f = goes_from 49 48 before after in
-    let rise = one_retains r 1 (one_more 0 k) in
-    let fall = one_retains f 2 (one_more_if r 1 (one_more 0 k)) in
-    (fall.0 ∙ rise.0, fall.1 ∙ rise.1)
+step_retains : (rises falls : Bool) → Retains (with_step rises falls)
+step_retains rises falls k = (refl, refl)
 
 module _ (old new : Table) (place : ℕ) (f : Kept → Kept) (changes : ChangesCode place f old new) where
   counts_there : (k : Kept) → kept_at old place ≡ Some k → counts_at new place ≡ (f k).counts
@@ -88,25 +79,6 @@ module _ (old new : Table) (place : ℕ) (f : Kept → Kept) (changes : ChangesC
         let more = s.2 in let room = r.2 in
         (r.0, r.1, omega (arith, more, room));
   }
-
--- no change of them
-pub changes_none : (t : Table) (place which : ℕ) → ChangesCode place (one_more_if false which) t t
-changes_none t place which p = by_case (p == place) (kept_at t p)
-  where
-    by_case : (b : Bool) (o : Option Kept) → o ≡ cond b (option_map (one_more_if false which) o) o
-    by_case true (Some k) = refl
-    by_case true None = refl
-    by_case false o = refl
-
--- two changes of the counters of one code
-pub changes_twice : (old mid new : Table) (place : ℕ) (f g : Kept → Kept) → ChangesCode place f old mid → ChangesCode place g mid new → ChangesCode place (λ k. g (f k)) old new
-changes_twice old mid new place f g first second p =
-    second p ∙ ap (λ o. cond (p == place) (option_map g o) o) (first p) ∙ by_case (p == place) (kept_at old p)
-  where
-    by_case : (b : Bool) (o : Option Kept) → cond b (option_map g (cond b (option_map f o) o)) (cond b (option_map f o) o) ≡ cond b (option_map (λ k. g (f k)) o) o
-    by_case true (Some k) = refl
-    by_case true None = refl
-    by_case false o = refl
 
 -- ---- digits
 
@@ -158,7 +130,7 @@ no_mark : (n : Counts) → numbers n ≡ numbers (with_mark n true)
 no_mark n = let e : n.changes ≡ n.changes + 0 = omega arith in ap (λ m. m ∷ n.rises ∷ n.falls ∷ []) e
 
 module _ (n : Counts) (k : Kept) (small : AreSmall n) (is : k.counts ≡ numbers n) where
-  counters : (fall rise : Bool) → (one_more_if fall 2 (one_more_if rise 1 (one_more 0 k))).counts ≡ (n.changes + 1) ∷ (n.rises + cond rise 1 0) ∷ (n.falls + cond fall 1 0) ∷ []
+  counters : (fall rise : Bool) → (with_step rise fall k).counts ≡ (n.changes + 1) ∷ (n.rises + cond rise 1 0) ∷ (n.falls + cond fall 1 0) ∷ []
   counters fall rise =
       let changes = small.0 in let rises = small.1 in let falls = small.2 in
       let e0 : min (n.changes + 1) (2 ^ 64 - 1) ≡ n.changes + 1 = omega (arith, changes) in
@@ -169,20 +141,21 @@ module _ (n : Counts) (k : Kept) (small : AreSmall n) (is : k.counts ≡ numbers
       by_tests fall rise e0 e1 e2 z1 z2
     where
       by_tests : (fall rise : Bool) → min (n.changes + 1) (2 ^ 64 - 1) ≡ n.changes + 1 → min (n.rises + 1) (2 ^ 64 - 1) ≡ n.rises + 1 → min (n.falls + 1) (2 ^ 64 - 1) ≡ n.falls + 1 → n.rises ≡ n.rises + 0 → n.falls ≡ n.falls + 0
-          → (one_more_if fall 2 (one_more_if rise 1 (one_more 0 k))).counts ≡ (n.changes + 1) ∷ (n.rises + cond rise 1 0) ∷ (n.falls + cond fall 1 0) ∷ []
+          → (with_step rise fall k).counts ≡ (n.changes + 1) ∷ (n.rises + cond rise 1 0) ∷ (n.falls + cond fall 1 0) ∷ []
       by_tests true true e0 e1 e2 z1 z2 = rw (is, e0, e1, e2) refl
       by_tests true false e0 e1 e2 z1 z2 = rw (is, e0, e2) (ap (λ m. (n.changes + 1) ∷ m ∷ (n.falls + 1) ∷ []) z1)
       by_tests false true e0 e1 e2 z1 z2 = rw (is, e0, e1) (ap (λ m. (n.changes + 1) ∷ (n.rises + 1) ∷ m ∷ []) z2)
       by_tests false false e0 e1 e2 z1 z2 = rw (is, e0) (ap (λ m. (n.changes + 1) ∷ m ∷ n.falls ∷ []) z1 ∙ ap (λ m. (n.changes + 1) ∷ (n.rises + 0) ∷ m ∷ []) z2)
 
   -- after a value that differs
-  counted_value : (o : Option Value) (v : Value) (before after : Option ℕ) → differs o v ≡ true → before ≡ last_digit_in o → after ≡ last_digit_in (Some v) → (with_change before after k).counts ≡ numbers (with_value n o v)
-  counted_value None v before after d b a = cc
-  counted_value (Some u) v before after d b a =
-      let rise = ap (λ x. goes_from 48 49 x after) b ∙ ap (goes_from 48 49 (last_digit_in (Some u))) a ∙ goes_is 48 49 u v in
-      let fall = ap (λ x. goes_from 49 48 x after) b ∙ ap (goes_from 49 48 (last_digit_in (Some u))) a ∙ goes_is 49 48 u v in
-      counters (goes_from 49 48 before after) (goes_from 48 49 before after)
-      ∙ ap (λ x. (n.changes + 1) ∷ (n.rises + cond x 1 0) ∷ (n.falls + cond (goes_from 49 48 before after) 1 0) ∷ []) rise
+  counted_value : (o : Option Value) (v : Value) (rises falls : Bool) → differs o v ≡ true → rises ≡ goes_from 48 49 (last_digit_in o) (last_digit_in (Some v)) → falls ≡ goes_from 49 48 (last_digit_in o) (last_digit_in (Some v))
+      → (with_step rises falls k).counts ≡ numbers (with_value n o v)
+  counted_value None v rises falls d r f = cc
+  counted_value (Some u) v rises falls d r f =
+      let rise = r ∙ goes_is 48 49 u v in
+      let fall = f ∙ goes_is 49 48 u v in
+      counters falls rises
+      ∙ ap (λ x. (n.changes + 1) ∷ (n.rises + cond x 1 0) ∷ (n.falls + cond falls 1 0) ∷ []) rise
       ∙ ap (λ x. (n.changes + 1) ∷ (n.rises + cond (goes 48 49 (u, v)) 1 0) ∷ (n.falls + cond x 1 0) ∷ []) fall
       ∙ ap (λ x. (n.changes + cond x 1 0) ∷ (n.rises + cond (goes 48 49 (u, v)) 1 0) ∷ (n.falls + cond (goes 49 48 (u, v)) 1 0) ∷ []) (sym d)
 
@@ -321,24 +294,29 @@ module _ (v : HeadView) (h : Header) (items : List BodyItem) (place : ℕ) (c : 
           }
 
       -- one that differs
-      pub change_tallied : (new : Table) (before after : Option ℕ) → IsLaidOut new → ChangesCode place (with_change before after) mid new → differs (value_at_size c.size (held_at old place)) (value_of change) ≡ true
-          → before ≡ last_digit_in (value_at_size c.size (held_at old place)) → after ≡ last_digit_in (value_at_size c.size (held_at mid place)) → length items < 2 ^ 63 → AreTallied new h (items ++ BodyItem.Changes change ∷ [])
-      change_tallied new before after settled counts other first last few =
+      pub change_tallied : (new : Table) (rises falls : Bool) → IsLaidOut new → ChangesCode place (with_step rises falls) mid new → differs (value_at_size c.size (held_at old place)) (value_of change) ≡ true
+          → rises ≡ goes_from 48 49 (last_digit_in (value_at_size c.size (held_at old place))) (last_digit_in (value_at_size c.size (held_at mid place)))
+          → falls ≡ goes_from 49 48 (last_digit_in (value_at_size c.size (held_at old place))) (last_digit_in (value_at_size c.size (held_at mid place)))
+          → length items < 2 ^ 63 → AreTallied new h (items ++ BodyItem.Changes change ∷ [])
+      change_tallied new rises falls settled counts other rise fall few =
           let k = tallied.held.shares place c declared in
           let k' = with_text form text k.0 in
           let at : kept_at mid place ≡ Some k' = set_at k.0 k.1 in
           let was = ap counts_in (sym k.1) ∙ tallied.counted place c declared in
-          let d = sym (ap (λ o. differs o (value_of change)) (value_before old tallied.held)) ∙ other in
-          let b = first ∙ ap last_digit_in (value_before old tallied.held) in
-          let a = last ∙ ap last_digit_in (value_after mid mid_held) in
+          let before = value_before old tallied.held in
+          let after = value_after mid mid_held in
+          let d = sym (ap (λ o. differs o (value_of change)) before) ∙ other in
           record {
-            held = counted_held mid new place (with_change before after) counts settled (change_retains before after) h _ mid_held;
-            counted = value_counted new old (λ p e. counts_apart mid new place (with_change before after) counts p e ∙ counts_apart old mid place (with_text form text) sets p e)
-                (counts_there mid new place (with_change before after) counts k' at ∙ counted_value (counts_for items c) k' (small_counts c items few) was (final_value items c) (value_of change) before after d b a) tallied;
+            held = counted_held mid new place (with_step rises falls) counts settled (step_retains rises falls) h _ mid_held;
+            counted = value_counted new old (λ p e. counts_apart mid new place (with_step rises falls) counts p e ∙ counts_apart old mid place (with_text form text) sets p e)
+                (counts_there mid new place (with_step rises falls) counts k' at ∙ counted_value (counts_for items c) k' (small_counts c items few) was (final_value items c) (value_of change) rises falls d (rise ∙ goes_with 48 49 before after) (fall ∙ goes_with 49 48 before after)) tallied;
           }
         where
           set_at : (k : Kept) → kept_at old place ≡ Some k → kept_at mid place ≡ Some (with_text form text k)
           set_at k is = let same = eq-eqb place place refl in sets place ∙ rw (same, is) refl
+
+          goes_with : (a b : ℕ) {o o' p p' : Option Value} → o ≡ o' → p ≡ p' → goes_from a b (last_digit_in o) (last_digit_in p) ≡ goes_from a b (last_digit_in o') (last_digit_in p')
+          goes_with a b {o = o} {o' = o'} {p = p} {p' = p'} e f = ap (λ x. goes_from a b (last_digit_in x) (last_digit_in p)) e ∙ ap (λ x. goes_from a b (last_digit_in o') (last_digit_in x)) f
 
 -- ---- a new table, and an item that changes no value
 
