@@ -1,10 +1,12 @@
 -- What a table keeps of a code, and what each call makes of it.
-use Rattle.std.specs.Prelude.{ℕ, ◌+◌, ◌-◌, ◌/◌, ◌%◌, ◌^◌, ◌==◌, ◌&&◌, nat_lt, nat_le, min, Bool, true, false, not, cond, List, [], ◌∷◌, length, map, get_or, slice_get, slice_set, Option, Some, None}
+use Rattle.std.specs.Prelude.{◌≡◌, ℕ, ◌+◌, ◌-◌, ◌/◌, ◌%◌, ◌^◌, ◌==◌, ◌&&◌, nat_lt, nat_le, min, Bool, true, false, not, cond, List, [], ◌∷◌, length, map, get_or, slice_get, slice_set, Option, Some, None}
 use Rattle.std.specs.List.{last_or}
+use Rattle.std.specs.Str.{byte}
 use Rattle.vcd_model.specs.Values.{Value, extend, same_value}
 use Rattle.vcd_body.specs.Packed.{held_digit}
 use Rattle.vcd_body.specs.declared.item.Form.{Form}
 use Rattle.vcd_body.specs.declared.item.Form.TheVariants as form
+use Rattle.vcd_body.specs.declared.step.Step.{Step}
 
 -- the value of a code: none, digits that extend to it, or the text of a real number
 pub data Held : Type 0 where
@@ -83,6 +85,13 @@ goes_from a b before after = is_digit before a && is_digit after b
 abbrev pub differs : Option Value → Value → Bool
 differs None v = false
 differs (Some u) v = not (same_value u v)
+
+-- a value was this, and is to be that: whether they differ, and how the last digit goes
+abbrev pub IsStep : Step → Option Value → Value → Type 0
+IsStep s old new =
+    (s.differs ≡ differs old new)
+    × (s.rises ≡ goes_from (byte "0") (byte "1") (last_digit_in old) (last_digit_in (Some new)))
+    × (s.falls ≡ goes_from (byte "1") (byte "0") (last_digit_in old) (last_digit_in (Some new)))
 
 -- the text of a real number, empty where the value is none
 abbrev pub real_text : Held → List ℕ

@@ -1,12 +1,13 @@
 //! What a change of a value is, by its last digit.
-ghost use Rattle.std.specs.Prelude.{◌≡◌, ◌≢◌, ℕ, ◌==◌, true, not, Some};
+ghost use Rattle.std.specs.Prelude.{◌≡◌, ◌≢◌, ◌<◌, ℕ, ◌==◌, length, true, not, Some};
 ghost use Rattle.std.specs.Char.{to_ascii_lowercase as lower};
-ghost use Rattle.vcd_body.specs.Kept.{goes_from, is_digit};
-ghost use Rattle.vcd_body.specs.Packed.{held_digit};
+ghost use Rattle.vcd_model.specs.Values.{value_with};
+ghost use Rattle.vcd_body.specs.Items.{model_form};
+ghost use Rattle.vcd_body.specs.Kept.{goes_from, is_digit, last_digit_in};
 ghost use Rattle.vcd_body.specs.Stored.{one_digit};
 
 use crate::item::Form;
-use crate::slot::{State, state_of};
+use crate::slot::State;
 
 /// What became of a value that was set.
 #[derive(Clone, Copy, PartialEq, Eq, Debug)]
@@ -30,13 +31,31 @@ fn goes(from: u8, to: u8, before: Option<u8>, after: Option<u8>) -> bool
     }
 }
 
-/// The step of a value by its last digits.
+/// The last digit of a text of digits, in lower case; none of the text of a real number.
 #[inline(always)]
-pub(crate) fn step_between(differs: bool, before: Option<u8>, after: Option<u8>) -> Step
-    ensures differs { result.differs ≡ differs }
-    ensures rises { result.rises ≡ goes_from 48 49 before after }
-    ensures falls { result.falls ≡ goes_from 49 48 before after }
+fn last_of(form: Form, text: &[u8]) -> Option<u8>
+    ensures { 0 < length text.now → (size : ℕ)
+        → result ≡ last_digit_in (Some (value_with size (model_form form) text.now)) }
 {
+    match form {
+        Form::RealText => None,
+        Form::Scalar | Form::Vector => match text.last() {
+            Some(digit) => Some(digit.to_ascii_lowercase()),
+            None => None,
+        },
+    }
+}
+
+/// The step to the value of a text, which differs or not, from one with this last digit.
+#[inline(always)]
+pub(crate) fn step_to_text(differs: bool, before: Option<u8>, form: Form, text: &[u8]) -> Step
+    ensures differs { result.differs ≡ differs }
+    ensures rises { 0 < length text.now → (size : ℕ) → result.rises ≡ goes_from 48 49 before
+        (last_digit_in (Some (value_with size (model_form form) text.now))) }
+    ensures falls { 0 < length text.now → (size : ℕ) → result.falls ≡ goes_from 49 48 before
+        (last_digit_in (Some (value_with size (model_form form) text.now))) }
+{
+    let after = last_of(form, text);
     Step {
         differs,
         rises: goes(b'0', b'1', before, after),
@@ -106,13 +125,13 @@ fn is_one(state: State) -> bool
 pub(crate) fn step_by_digit(before: State, digit: u8) -> Step
     ensures differs { (d : ℕ) → one_digit before ≡ Some d
         → result.differs ≡ not (d == lower digit) }
-    ensures rises { result.rises ≡ goes_from 48 49 (one_digit before) (Some (held_digit digit)) }
-    ensures falls { result.falls ≡ goes_from 49 48 (one_digit before) (Some (held_digit digit)) }
+    ensures rises { result.rises ≡ goes_from 48 49 (one_digit before) (Some (lower digit)) }
+    ensures falls { result.falls ≡ goes_from 49 48 (one_digit before) (Some (lower digit)) }
 {
-    let after = state_of(digit);
+    let after = digit.to_ascii_lowercase();
     Step {
-        differs: digit_of_one(before) != digit.to_ascii_lowercase(),
-        rises: is_zero(before) & is_one(after),
-        falls: is_one(before) & is_zero(after),
+        differs: digit_of_one(before) != after,
+        rises: is_zero(before) & (b'1' == after),
+        falls: is_one(before) & (b'0' == after),
     }
 }

@@ -35,6 +35,9 @@ fn end_of(slots: &[Slot], values: usize, code: usize) -> usize
 fn used_by(slot: Slot) -> usize
     ensures { result ≡ used slot }
 {
+    if slot.state == State::Plain {
+        return slot.len;
+    }
     match slot.state {
         State::Digits => slot.len.div_ceil(4),
         State::Plain | State::Real => slot.len,
@@ -235,7 +238,12 @@ fn counts_after(counts: [u64; 3], rises: bool, falls: bool) -> [u64; 3]
     [
         changes.saturating_add(1),
         ups.saturating_add(u64::from(rises)),
-        downs.saturating_add(u64::from(falls)),
+        // Not as the one before it: two in one vector take longer than one after the other.
+        if falls {
+            downs.saturating_add(1)
+        } else {
+            downs
+        },
     ]
 }
 

@@ -2,7 +2,7 @@
 ghost use Rattle.std.specs.Prelude.{◌≡◌, ℕ, ◌+◌, ◌-◌, ◌^◌, ◌<◌, ◌≤◌, length};
 ghost use Rattle.vcd_model.specs.Sample.{shown};
 ghost use Rattle.vcd_text.specs.Device.{Counts, Takes, failures_after};
-ghost use Rattle.vcd_body.specs.Kept.{Held, as_chosen, differs, digit_in, goes_from, last_digit_in, one_more, real_text, with_step, with_text};
+ghost use Rattle.vcd_body.specs.Kept.{Held, as_chosen, differs, digit_in, IsStep, one_more, real_text, with_step, with_text};
 ghost use Rattle.vcd_body.specs.Stored.{room_of};
 
 use crate::compare::value_differs;
@@ -10,7 +10,7 @@ use crate::held::{digit_shown, last_held};
 use crate::held_text::{put_value, put_value_line};
 use crate::item::Form;
 use crate::slot::{Shown, Slot, State};
-use crate::step::{Step, is_digit_step, step_between, step_by_digit};
+use crate::step::{Step, is_digit_step, step_by_digit, step_to_text};
 use crate::store::{bump_at, choose_at, count_at, lay_out, set_at, share_in, slot_at};
 use vcd_head::HeadView;
 use vcd_text::{Sink, WriteFailed, put};
@@ -72,8 +72,8 @@ impl<'a> Table<'a> {
         set_at(self.slots, self.values, code, form, text);
     }
 
-    /// Sets the value of the code at a place as `set` does, and tells what became of it at this size. Where there was no value it
-    /// does not differ. One digit over another touches the code's slot alone, and takes no branches by what they are.
+    /// Sets the value of the code at a place as `set` does, and tells what becomes of it at this size: the step from what it was
+    /// to that of the text. One digit over another touches the code's slot alone, and takes no branches by what they are.
     #[inline(always)]
     pub fn replace(&mut self, code: usize, size: usize, form: Form, text: &[u8]) -> Step
         ensures laid { IsLaidOut self.old → IsLaidOut self.new }
@@ -83,94 +83,47 @@ impl<'a> Table<'a> {
             → c.event ≡ false → kept_at self.old code ≡ Some k → share_of c.size ≤ k.room
             → value_at_size c.size (held_at self.new code)
             ≡ Some (value_with c.size (model_form form) text.now) }
-        ensures differs { IsLaidOut self.old
-            → result.differs ≡ differs (value_at_size size (held_at self.old code))
+        ensures step { IsLaidOut self.old → 0 < length text.now
+            → IsStep result (value_at_size size (held_at self.old code))
             (value_with size (model_form form) text.now) }
-        ensures rises { IsLaidOut self.old → (n : ℕ) → result.rises
-            ≡ goes_from 48 49 (last_digit_in (value_at_size n (held_at self.old code)))
-            (last_digit_in (value_at_size n (held_at self.new code))) }
-        ensures falls { IsLaidOut self.old → (n : ℕ) → result.falls
-            ≡ goes_from 49 48 (last_digit_in (value_at_size n (held_at self.old code)))
-            (last_digit_in (value_at_size n (held_at self.new code))) }
         ensures codes { codes_in self.new ≡ codes_in self.old }
         ensures bytes { bytes_in self.new ≡ bytes_in self.old }
     {
-        match (text, self.slot(code)) {
-            ([digit], Some(slot)) if is_digit_step(form, slot.state) => {
-                self.set(code, form, text);
-                step_by_digit(slot.state, *digit)
-            }
-            _ => self.replace_any(code, size, form, text),
+        let step = self.step_to(code, size, form, text);
+        self.set(code, form, text);
+        step
+    }
+
+    /// The step from the value of the code at a place to that of a text. Where there is no value it does not differ.
+    #[inline(always)]
+    fn step_to(&self, code: usize, size: usize, form: Form, text: &[u8]) -> Step
+        ensures { IsLaidOut self.now → 0 < length text.now
+            → IsStep result (value_at_size size (held_at self.now code))
+            (value_with size (model_form form) text.now) }
+    {
+        match (text, slot_at(self.slots, code)) {
+            ([digit], Some(slot)) if is_digit_step(form, slot.state) => step_by_digit(
+                slot.state, *digit,
+            ),
+            _ => self.step_to_any(code, size, form, text),
         }
     }
 
-    /// The slot of the code at a place.
-    #[inline(always)]
-    fn slot(&self, code: usize) -> Option<Slot>
-        ensures { result ≡ slice_get self.now.slots.now code }
-    {
-        slot_at(self.slots, code)
-    }
-
-    /// The same of any value and text.
+    /// The same of any value and text. It takes as long as what is held and the text are, whatever the size is.
     #[inline(never)]
-    fn replace_any(&mut self, code: usize, size: usize, form: Form, text: &[u8]) -> Step
-        ensures laid { IsLaidOut self.old → IsLaidOut self.new }
-        ensures changes { IsLaidOut self.old
-            → ChangesCode code (with_text form text.now) self.old self.new }
-        ensures value { IsLaidOut self.old → (c : Code) (k : Kept) → IsText form c text.now
-            → c.event ≡ false → kept_at self.old code ≡ Some k → share_of c.size ≤ k.room
-            → value_at_size c.size (held_at self.new code)
-            ≡ Some (value_with c.size (model_form form) text.now) }
-        ensures differs { IsLaidOut self.old
-            → result.differs ≡ differs (value_at_size size (held_at self.old code))
-            (value_with size (model_form form) text.now) }
-        ensures rises { IsLaidOut self.old → (n : ℕ) → result.rises
-            ≡ goes_from 48 49 (last_digit_in (value_at_size n (held_at self.old code)))
-            (last_digit_in (value_at_size n (held_at self.new code))) }
-        ensures falls { IsLaidOut self.old → (n : ℕ) → result.falls
-            ≡ goes_from 49 48 (last_digit_in (value_at_size n (held_at self.old code)))
-            (last_digit_in (value_at_size n (held_at self.new code))) }
-        ensures codes { codes_in self.new ≡ codes_in self.old }
-        ensures bytes { bytes_in self.new ≡ bytes_in self.old }
-    {
-        let before = self.last_digit(code);
-        let differs = self.differs(code, size, form, text);
-        self.set(code, form, text);
-        let after = self.last_digit(code);
-        step_between(differs, before, after)
-    }
-
-    /// The last digit of the value of the code at a place, in lower case; none where the value has no digits. It is the same at
-    /// each size.
-    #[inline]
-    pub(crate) fn last_digit(&self, code: usize) -> Option<u8>
-        ensures { IsLaidOut self.now → (size : ℕ)
-            → result ≡ last_digit_in (value_at_size size (held_at self.now code)) }
-    {
-        let Some(slot) = slot_at(self.slots, code) else {
-            return None;
-        };
-        let Some(share) = share_in(self.values, slot) else {
-            return None;
-        };
-        last_held(slot, share)
-    }
-
-    /// Whether the code at a place has a value, and the text of a change gives another one at this size. It takes as long as what
-    /// is held and the text are, whatever the size is; of one digit each it looks at the code's slot alone.
-    #[inline]
-    pub(crate) fn differs(&self, code: usize, size: usize, form: Form, text: &[u8]) -> bool
-        ensures { IsLaidOut self.now → result ≡ differs (value_at_size size (held_at self.now code))
+    fn step_to_any(&self, code: usize, size: usize, form: Form, text: &[u8]) -> Step
+        ensures { IsLaidOut self.now → 0 < length text.now
+            → IsStep result (value_at_size size (held_at self.now code))
             (value_with size (model_form form) text.now) }
     {
         let Some(slot) = slot_at(self.slots, code) else {
-            return false;
+            return step_to_text(false, None, form, text);
         };
         let Some(share) = share_in(self.values, slot) else {
-            return false;
+            return step_to_text(false, None, form, text);
         };
-        value_differs(slot, share, size, form, text)
+        let differs = value_differs(slot, share, size, form, text);
+        step_to_text(differs, last_held(slot, share), form, text)
     }
 
     /// What the value of the code at a place is.

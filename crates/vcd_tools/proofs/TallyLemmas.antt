@@ -1,5 +1,5 @@
 -- What a table counts of the values of codes, with one item more.
-use Rattle.std.proofs.Common.{◌≡◌, ℕ, ◌+◌, ◌-◌, ◌^◌, ◌<◌, ◌==◌, ◌&&◌, Bool, true, false, not, cond, min, List, [], ◌∷◌, ◌++◌, length, slice_get, Option, Some, None, refl, sym, ap, ◌∙◌, arith}
+use Rattle.std.proofs.Common.{◌≡◌, ℕ, ◌+◌, ◌-◌, ◌^◌, ◌<◌, ◌==◌, ◌&&◌, Bool, true, false, not, cond, min, List, [], ◌∷◌, ◌++◌, length, slice_get, Option, Some, None, refl, sym, ap, subst, ◌∙◌, arith}
 use Rattle.std.specs.Prelude.{option_map, unwrap_or}
 use Rattle.std.specs.List.{last_or}
 use Rattle.std.proofs.lemmas.Bool.{eq-eqb, eqb-true, eqb-false}
@@ -21,8 +21,10 @@ use Rattle.vcd_head.proofs.RowLemmas.{code_at}
 use Rattle.vcd_body.specs.Contents.{ChangesCode, IsLaidOut, counts_at, held_at, kept_at}
 use Rattle.vcd_body.specs.Given.{IsText}
 use Rattle.vcd_body.specs.Items.{model_form}
-use Rattle.vcd_body.specs.Kept.{Held, Kept, differs, goes_from, is_digit, last_digit_in, one_more, value_at_size, with_step, with_text}
+use Rattle.vcd_body.specs.Kept.{Held, IsStep, Kept, differs, goes_from, is_digit, last_digit_in, one_more, value_at_size, with_step, with_text}
 use Rattle.vcd_body.specs.declared.item.Form.{Form}
+use Rattle.vcd_body.specs.declared.item.Form.TheVariants as written
+use Rattle.vcd_body.specs.declared.step.Step.{Step}
 use Rattle.vcd_body.specs.declared.table.Table.{Table}
 use Rattle.vcd_tools.specs.Edges.{AreTallied, numbers}
 use Rattle.vcd_tools.specs.Values.{AreHeld}
@@ -148,16 +150,15 @@ module _ (n : Counts) (k : Kept) (small : AreSmall n) (is : k.counts ≡ numbers
       by_tests false false e0 e1 e2 z1 z2 = rw (is, e0) (ap (λ m. (n.changes + 1) ∷ m ∷ n.falls ∷ []) z1 ∙ ap (λ m. (n.changes + 1) ∷ (n.rises + 0) ∷ m ∷ []) z2)
 
   -- after a value that differs
-  counted_value : (o : Option Value) (v : Value) (rises falls : Bool) → differs o v ≡ true → rises ≡ goes_from 48 49 (last_digit_in o) (last_digit_in (Some v)) → falls ≡ goes_from 49 48 (last_digit_in o) (last_digit_in (Some v))
-      → (with_step rises falls k).counts ≡ numbers (with_value n o v)
-  counted_value None v rises falls d r f = cc
-  counted_value (Some u) v rises falls d r f =
-      let rise = r ∙ goes_is 48 49 u v in
-      let fall = f ∙ goes_is 49 48 u v in
-      counters falls rises
-      ∙ ap (λ x. (n.changes + 1) ∷ (n.rises + cond x 1 0) ∷ (n.falls + cond falls 1 0) ∷ []) rise
+  counted_value : (s : Step) (o : Option Value) (v : Value) → IsStep s o v → s.differs ≡ true → (with_step s.rises s.falls k).counts ≡ numbers (with_value n o v)
+  counted_value s None v is differ = let d = is.0 in cc
+  counted_value s (Some u) v is differ =
+      let rise = is.1 ∙ goes_is 48 49 u v in
+      let fall = is.2 ∙ goes_is 49 48 u v in
+      counters s.falls s.rises
+      ∙ ap (λ x. (n.changes + 1) ∷ (n.rises + cond x 1 0) ∷ (n.falls + cond s.falls 1 0) ∷ []) rise
       ∙ ap (λ x. (n.changes + 1) ∷ (n.rises + cond (goes 48 49 (u, v)) 1 0) ∷ (n.falls + cond x 1 0) ∷ []) fall
-      ∙ ap (λ x. (n.changes + cond x 1 0) ∷ (n.rises + cond (goes 48 49 (u, v)) 1 0) ∷ (n.falls + cond (goes 49 48 (u, v)) 1 0) ∷ []) (sym d)
+      ∙ ap (λ x. (n.changes + cond x 1 0) ∷ (n.rises + cond (goes 48 49 (u, v)) 1 0) ∷ (n.falls + cond (goes 49 48 (u, v)) 1 0) ∷ []) (sym differ ∙ is.0)
 
 -- and after one that does not
 not_counted : (n : Counts) (o : Option Value) (v : Value) → differs o v ≡ false → numbers n ≡ numbers (with_value n o v)
@@ -179,6 +180,12 @@ small_counts c items few =
     let a = are_few c items in
     let changes = a.changes in let rises = a.rises in let falls = a.falls in
     (omega (arith, changes, few), omega (arith, rises, few), omega (arith, falls, few))
+
+-- a text that a code may have is not empty
+some_text : (f : Form) (c : Code) (text : List ℕ) → IsText f c text → 0 < length text
+some_text written.Scalar c text (d, digit, is) = let l = ap length is in omega (arith, l)
+some_text written.Vector c text good = good.0
+some_text written.RealText c text good = good.0
 
 -- ---- a code of a header
 
@@ -256,6 +263,10 @@ module _ (v : HeadView) (h : Header) (items : List BodyItem) (place : ℕ) (c : 
     abbrev change : Change
     change = record { code = c; form = model_form form; text = text }
 
+    -- its text is not empty
+    text_there : 0 < length text
+    text_there = let d = code_at v.text.now v.codes.now h.codes place c views.codes declared in some_text form d.0 text (good d.0 d.1)
+
     -- what the table held, and holds
     value_before : (old : Table) → AreHeld old h items → value_at_size c.size (held_at old place) ≡ final_value items c
     value_before old held = held.values.each place c declared event
@@ -282,11 +293,15 @@ module _ (v : HeadView) (h : Header) (items : List BodyItem) (place : ℕ) (c : 
       mid_held : AreHeld mid h (items ++ BodyItem.Changes change ∷ [])
       mid_held = set_holds v h old mid items place form text c views declared tallied.held sets laid good value
 
+      -- the step that the table told
+      step_is : (s : Step) → (0 < length text → IsStep s (value_at_size c.size (held_at old place)) (value_of change)) → IsStep s (final_value items c) (value_of change)
+      step_is s is = subst (λ o. IsStep s o (value_of change)) (value_before old tallied.held) (is text_there)
+
       -- a value that is the one before it
-      pub same_tallied : differs (value_at_size c.size (held_at old place)) (value_of change) ≡ false → AreTallied mid h (items ++ BodyItem.Changes change ∷ [])
-      same_tallied same =
+      pub same_tallied : (s : Step) → (0 < length text → IsStep s (value_at_size c.size (held_at old place)) (value_of change)) → s.differs ≡ false → AreTallied mid h (items ++ BodyItem.Changes change ∷ [])
+      same_tallied s is same =
           let k = tallied.held.shares place c declared in
-          let d = sym (ap (λ o. differs o (value_of change)) (value_before old tallied.held)) ∙ same in
+          let d = sym (step_is s is).0 ∙ same in
           record {
             held = mid_held;
             counted = value_counted mid old (counts_apart old mid place (with_text form text) sets)
@@ -294,29 +309,20 @@ module _ (v : HeadView) (h : Header) (items : List BodyItem) (place : ℕ) (c : 
           }
 
       -- one that differs
-      pub change_tallied : (new : Table) (rises falls : Bool) → IsLaidOut new → ChangesCode place (with_step rises falls) mid new → differs (value_at_size c.size (held_at old place)) (value_of change) ≡ true
-          → rises ≡ goes_from 48 49 (last_digit_in (value_at_size c.size (held_at old place))) (last_digit_in (value_at_size c.size (held_at mid place)))
-          → falls ≡ goes_from 49 48 (last_digit_in (value_at_size c.size (held_at old place))) (last_digit_in (value_at_size c.size (held_at mid place)))
-          → length items < 2 ^ 63 → AreTallied new h (items ++ BodyItem.Changes change ∷ [])
-      change_tallied new rises falls settled counts other rise fall few =
+      pub change_tallied : (s : Step) → (0 < length text → IsStep s (value_at_size c.size (held_at old place)) (value_of change)) → s.differs ≡ true → (new : Table) → IsLaidOut new → ChangesCode place (with_step s.rises s.falls) mid new → length items < 2 ^ 63 → AreTallied new h (items ++ BodyItem.Changes change ∷ [])
+      change_tallied s is other new settled counts few =
           let k = tallied.held.shares place c declared in
           let k' = with_text form text k.0 in
           let at : kept_at mid place ≡ Some k' = set_at k.0 k.1 in
           let was = ap counts_in (sym k.1) ∙ tallied.counted place c declared in
-          let before = value_before old tallied.held in
-          let after = value_after mid mid_held in
-          let d = sym (ap (λ o. differs o (value_of change)) before) ∙ other in
           record {
-            held = counted_held mid new place (with_step rises falls) counts settled (step_retains rises falls) h _ mid_held;
-            counted = value_counted new old (λ p e. counts_apart mid new place (with_step rises falls) counts p e ∙ counts_apart old mid place (with_text form text) sets p e)
-                (counts_there mid new place (with_step rises falls) counts k' at ∙ counted_value (counts_for items c) k' (small_counts c items few) was (final_value items c) (value_of change) rises falls d (rise ∙ goes_with 48 49 before after) (fall ∙ goes_with 49 48 before after)) tallied;
+            held = counted_held mid new place (with_step s.rises s.falls) counts settled (step_retains s.rises s.falls) h _ mid_held;
+            counted = value_counted new old (λ p e. counts_apart mid new place (with_step s.rises s.falls) counts p e ∙ counts_apart old mid place (with_text form text) sets p e)
+                (counts_there mid new place (with_step s.rises s.falls) counts k' at ∙ counted_value (counts_for items c) k' (small_counts c items few) was s (final_value items c) (value_of change) (step_is s is) other) tallied;
           }
         where
           set_at : (k : Kept) → kept_at old place ≡ Some k → kept_at mid place ≡ Some (with_text form text k)
           set_at k is = let same = eq-eqb place place refl in sets place ∙ rw (same, is) refl
-
-          goes_with : (a b : ℕ) {o o' p p' : Option Value} → o ≡ o' → p ≡ p' → goes_from a b (last_digit_in o) (last_digit_in p) ≡ goes_from a b (last_digit_in o') (last_digit_in p')
-          goes_with a b {o = o} {o' = o'} {p = p} {p' = p'} e f = ap (λ x. goes_from a b (last_digit_in x) (last_digit_in p)) e ∙ ap (λ x. goes_from a b (last_digit_in o') (last_digit_in x)) f
 
 -- ---- a new table, and an item that changes no value
 
