@@ -89,6 +89,39 @@ impl<'a> Table<'a> {
         ensures codes { codes_in self.new ≡ codes_in self.old }
         ensures bytes { bytes_in self.new ≡ bytes_in self.old }
     {
+        match (text, self.slot(code)) {
+            ([digit], Some(slot)) if is_digit_step(form, slot.state) => {
+                self.set(code, form, text);
+                step_by_digit(slot.state, *digit)
+            }
+            _ => self.replace_any(code, size, form, text),
+        }
+    }
+
+    /// The slot of the code at a place.
+    #[inline(always)]
+    fn slot(&self, code: usize) -> Option<Slot>
+        ensures { result ≡ slice_get self.now.slots.now code }
+    {
+        slot_at(self.slots, code)
+    }
+
+    /// The same of any value and text. It takes as long as what is held and the text are, whatever the size is.
+    #[inline(never)]
+    fn replace_any(&mut self, code: usize, size: usize, form: Form, text: &[u8]) -> Step
+        ensures laid { IsLaidOut self.old → IsLaidOut self.new }
+        ensures changes { IsLaidOut self.old
+            → ChangesCode code (with_text form text.now) self.old self.new }
+        ensures value { IsLaidOut self.old → (c : Code) (k : Kept) → IsText form c text.now
+            → c.event ≡ false → kept_at self.old code ≡ Some k → share_of c.size ≤ k.room
+            → value_at_size c.size (held_at self.new code)
+            ≡ Some (value_with c.size (model_form form) text.now) }
+        ensures step { IsLaidOut self.old → 0 < length text.now
+            → IsStep result (value_at_size size (held_at self.old code))
+            (value_with size (model_form form) text.now) }
+        ensures codes { codes_in self.new ≡ codes_in self.old }
+        ensures bytes { bytes_in self.new ≡ bytes_in self.old }
+    {
         let step = self.step_to(code, size, form, text);
         self.set(code, form, text);
         step
@@ -97,21 +130,6 @@ impl<'a> Table<'a> {
     /// The step from the value of the code at a place to that of a text. Where there is no value it does not differ.
     #[inline(always)]
     fn step_to(&self, code: usize, size: usize, form: Form, text: &[u8]) -> Step
-        ensures { IsLaidOut self.now → 0 < length text.now
-            → IsStep result (value_at_size size (held_at self.now code))
-            (value_with size (model_form form) text.now) }
-    {
-        match (text, slot_at(self.slots, code)) {
-            ([digit], Some(slot)) if is_digit_step(form, slot.state) => step_by_digit(
-                slot.state, *digit,
-            ),
-            _ => self.step_to_any(code, size, form, text),
-        }
-    }
-
-    /// The same of any value and text. It takes as long as what is held and the text are, whatever the size is.
-    #[inline(never)]
-    fn step_to_any(&self, code: usize, size: usize, form: Form, text: &[u8]) -> Step
         ensures { IsLaidOut self.now → 0 < length text.now
             → IsStep result (value_at_size size (held_at self.now code))
             (value_with size (model_form form) text.now) }
