@@ -29,3 +29,4 @@ pub mod MergeCloses
 pub mod WholeInputs
 pub mod MergeEnds
 pub mod MergeReads
+pub mod MergeStart

@@ -43,6 +43,7 @@
 #![tactic(auto)]
 
 mod answer;
+mod beginning;
 mod choice;
 mod commands;
 #[cfg(test)]
