@@ -1,7 +1,7 @@
 //! `merge`: the changes of several dumps in one order of time.
 ghost use Rattle.std.specs.Prelude.{◌≡◌, ◌≢◌, ℕ, ◌+◌, ◌-◌, ◌*◌, ◌^◌, ◌<◌, ◌≤◌, true, false, take, slice_get, List, length, All, MatchOption, MatchBool, IfErr, IfOk, Some, Option, Ok, map};
-ghost use Rattle.vcd_model.specs.Merge.{Dump, merge_close, merged_items};
-ghost use Rattle.vcd_text.specs.Device.{Counts, Takes, failures_after};
+ghost use Rattle.vcd_model.specs.Merge.{Dump, merge_close, merge_open, merged_items};
+ghost use Rattle.vcd_text.specs.Device.{Counts, Device, Takes, Writes, failures_after, supply};
 ghost use Rattle.vcd_tools.specs.Answer.{writes_failed};
 ghost use Rattle.vcd_model.specs.Items.{BodyItem};
 ghost use Rattle.vcd_head.specs.Shown.{shown};
@@ -9,6 +9,7 @@ ghost use Rattle.vcd_head.specs.Views.{Views};
 ghost use Rattle.vcd_tools.specs.Seat.{AtSeat, Lane, Spot, Turns};
 ghost use Rattle.vcd_tools.specs.MergeParts.{AreParts, AreSeated, SameLengths, part, part_len, spot_at};
 ghost use Rattle.vcd_tools.specs.MergeOrder.{IsNext, IsNextBefore, comes_first, greatest_time};
+ghost use Rattle.vcd_tools.specs.MergeRun.{Follows};
 ghost use Rattle.vcd_model.specs.Header.{Header};
 ghost use Rattle.vcd_model.specs.HeadText.{merged_head};
 ghost use Rattle.vcd_head.specs.Merged.{HaveRoom, ShowHeaders};
@@ -342,4 +343,44 @@ pub fn merge_step<S: Source, W: Sink>(
     );
     merge.going = matches!(answer, Ok(More::Again));
     answer
+}
+
+impl<'h, 's> Merge<'h, 's> {
+    /// Takes all steps that are left, to the end of the merge.
+    pub fn finish<S: Source, W: Sink>(
+        &mut self,
+        sources: &mut [S],
+        windows: &mut Windows<'_>,
+        out: &mut W,
+    ) -> Result<Done, Stop>
+        requires reads { All (λ s. S.failures s < 2 ^ 64 - 1) sources.old }
+        requires out_failures { (W.device out.old).failures < 2 ^ 64 - 1 }
+        requires going { is_going self.old ≡ true }
+        requires ready { IsReady (standing_of self.old sources.old windows.old) }
+
+        // Where the merge holds these items, and the output has what is due with them, it is the merge of its inputs.
+        ensures gives { (hs : List Header) (lanes : List Lane) (ds : List Dump)
+            (names : List (List ℕ)) (begin : Device)
+            → Holds S.rest hs lanes ds (standing_of self.old sources.old windows.old)
+            → Writes begin (W.device out.old) (merge_open hs (merged_items ds))
+            → Follows (part_len (length self.old.seats.now) windows.old.tokens.now)
+            (part_len (length self.old.seats.now) windows.old.chunks.now) lanes names
+            (map (supply S.rest S.failures) sources.old)
+            (map (supply S.rest S.failures) sources.new)
+            begin (W.device out.new) result }
+        ensures lengths { (length self.new.seats.now ≡ length self.old.seats.now)
+            × SameLengths windows.old windows.new }
+        ensures reads { (k : ℕ) × (k < length sources.old)
+            × (map S.failures sources.new ≡ failures_with (map S.failures sources.old) k result) }
+        ensures writes { (W.device out.new).failures
+            ≡ (W.device out.old).failures + writes_failed result }
+        ensures over { is_going self.new ≡ false }
+    {
+        'items: loop {
+            match merge_step(self, sources, windows, out)? {
+                More::Again => {}
+                More::Ended(done) => return Ok(done),
+            }
+        }
+    }
 }

@@ -4,3 +4,4 @@ mod OutcomeLemmas
 mod RunLemmas
 pub mod TimesLemmas
 mod PeriodLemmas
+mod SampleLemmas

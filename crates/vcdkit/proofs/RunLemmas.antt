@@ -374,11 +374,13 @@ refused_status : (name : List ℕ) (why : Refusal) → (refusal_outcome name (mo
 refused_status name refusal.NoTimescale = refl
 refused_status name refusal.OutOfRange = refl
 refused_status name refusal.FromAboveTo = refl
+refused_status name refusal.NotRising = refl
 
 refused_output : (name : List ℕ) (why : Refusal) → (refusal_outcome name (model_refusal why)).output ≡ []
 refused_output name refusal.NoTimescale = refl
 refused_output name refusal.OutOfRange = refl
 refused_output name refusal.FromAboveTo = refl
+refused_output name refusal.NotRising = refl
 
 -- the line and the status belong to what a run leaves
 leaves_outcome : (asked : List (List ℕ)) (o : Outcome) (name : List ℕ) (out out' err err' : Device) (status : ℕ) (r : Result Done Failure) → Leaves asked o name out out' r → status ≡ end_status (failure_of r)

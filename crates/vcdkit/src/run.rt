@@ -40,7 +40,7 @@ fn ended(answer: Result<Done, Stop>, input: usize) -> Result<Done, Failure>
 /// What is done after the header, in room that is taken before it starts.
 fn run_want<S: Source, W: Sink>(
     alloc: Global,
-    want: &Want,
+    want: &mut Want,
     view: HeadView<'_>,
     feed: &mut Feed<'_, '_, '_, '_, S>,
     out: &mut W,
@@ -51,17 +51,19 @@ fn run_want<S: Source, W: Sink>(
     requires chunk { chunk_len_of feed.old ≤ 65536 }
     ensures ends { (h : Header) (i : Input) (front : List Token) (name : List ℕ)
         → IsViewOf view.entry h → HasGiven i front feed.old
-        → Ends (names_asked want.now)
-        (IsAfter (model_want want.now) (limit_of feed.old) front h name)
+        → Ends (names_asked want.old)
+        (IsAfter (model_want want.old) (limit_of feed.old) front h name)
         (limit_of feed.old) (chunk_len_of feed.old) i name front
-        (settled_for result (is_settled_by (request_of h.scale (model_want want.now)) h) (λ _. true))
+        (settled_for result (is_settled_by (request_of h.scale (model_want want.old)) h) (λ _. true))
         (supply_of feed.old) (supply_of feed.new) (W.device out.old) (W.device out.new) result }
     ensures reads { CountsRead 0 (S.failures (source_of feed.old)) (S.failures (source_of feed.new))
         (failure_of result) }
     ensures writes { (W.device out.new).failures
         ≡ (W.device out.old).failures + writes_failed (failure_of result) }
     ensures loans { SameLoans feed.old feed.new }
+    ensures names { names_asked want.new ≡ names_asked want.old }
 {
+    want.write_ticks(view)?;
     let Some(task) = want.task(view)? else {
         return ended(list(view, out), 0);
     };
@@ -80,16 +82,16 @@ fn run_want<S: Source, W: Sink>(
 /// A job over one input: its windows, its header, and then what is wanted.
 fn run_input<S: Source, W: Sink>(
     alloc: Global,
-    job: &Job,
+    job: &mut Job,
     reader: &mut S,
     out: &mut W,
 ) -> Result<Done, Failure>
     requires reader_failures { S.failures reader.old < 2 ^ 64 - 1 }
     requires out_failures { (W.device out.old).failures < 2 ^ 64 - 1 }
     ensures ends { (text name : List ℕ) → S.rest reader.old ≡ Some text
-        → Ends (names_asked job.now.want) (IsOfJob (model_want job.now.want) job.now.limit name)
-        job.now.limit job.now.chunk (whole text) name []
-        (settled_for result (is_settled (model_want job.now.want) declarations_allowed)
+        → Ends (names_asked job.old.want) (IsOfJob (model_want job.old.want) job.old.limit name)
+        job.old.limit job.old.chunk (whole text) name []
+        (settled_for result (is_settled (model_want job.old.want) declarations_allowed)
         (is_header_over declarations_allowed))
         (supply S.rest S.failures reader.old) (supply S.rest S.failures reader.new)
         (W.device out.old) (W.device out.new) result }
@@ -97,6 +99,7 @@ fn run_input<S: Source, W: Sink>(
         (failure_of result) }
     ensures writes { (W.device out.new).failures
         ≡ (W.device out.old).failures + writes_failed (failure_of result) }
+    ensures names { names_asked job.new.want ≡ names_asked job.old.want }
 {
     let mut windows = windows_for(alloc, job)?;
     let mut feed = Feed::new(
@@ -106,7 +109,7 @@ fn run_input<S: Source, W: Sink>(
         &mut windows.value,
     );
     let head = open_input(alloc, 0, &mut feed)?;
-    run_want(alloc, &job.want, head.view(), &mut feed, out)
+    run_want(alloc, &mut job.want, head.view(), &mut feed, out)
 }
 
 /// Runs a job over the readers, whose names are said in messages, and returns the exit status: 0 where it is done, 1 for a fault
@@ -118,7 +121,7 @@ fn run_input<S: Source, W: Sink>(
 /// written on `out` before all of it was taken.
 pub fn run<S: Source, W: Sink, E: Sink>(
     alloc: Global,
-    job: Job,
+    mut job: Job,
     names: &[String],
     readers: &mut [S],
     out: &mut W,
@@ -147,7 +150,7 @@ pub fn run<S: Source, W: Sink, E: Sink>(
         (map (supply S.rest S.failures) readers.old) (map (supply S.rest S.failures) readers.new)
         (W.device out.old) (W.device out.new) (E.device err.old) (E.device err.new) result }
 {
-    match run_input(alloc, &job, &mut readers[0], out) {
+    match run_input(alloc, &mut job, &mut readers[0], out) {
         Ok(_) => 0,
         Err(failure) => report(failure, names, job.want.names(), err),
     }

@@ -20,4 +20,4 @@ returns-clause-gives g c = λ texts h. run_leaves g.S.Source.rest g.S.Source.fai
     (one_of c.args.readers.now c.index-readers-0.result c.requires.readers)
     (set_one c.args.readers.now c.run_input.new.reader c.requires.readers)
     (one_of (map string_bytes c.args.names.now) [] (let same : length (map string_bytes c.args.names.now) ≡ length c.args.names.now = simp length-map in same ∙ c.requires.names))
-    c.in-Err.ensures.ends c.report.ensures.status (rw c.names.ensures at c.report.ensures.line) h
+    c.in-Err.ensures.ends c.report.ensures.status (rw (c.names.ensures, c.run_input.ensures.names) at c.report.ensures.line) h
