@@ -1,5 +1,5 @@
 -- Where a merge begins: its seats are set one after the other, and it holds the dumps of inputs that have given no item.
-use Rattle.std.proofs.Common.{◌≡◌, ℕ, zero, suc, ◌+◌, ◌<◌, ◌≤◌, true, false, List, [], ◌∷◌, ◌++◌, ◌^◌, length, take, map, slice_get, slice_set, get_or, Option, Some, None, refl, sym, ap, subst, ◌∙◌, arith, inl, inr, append-nil}
+use Rattle.std.proofs.Common.{◌≡◌, ℕ, zero, suc, ◌+◌, ◌<◌, ◌≤◌, true, false, List, [], ◌∷◌, ◌++◌, ◌^◌, length, take, map, slice_get, slice_set, get_or, Option, Some, None, refl, sym, ap, subst, ◌∙◌, arith, inl, inr, append-nil, append_assoc}
 use Rattle.std.specs.Prelude.{All, SomeIff, ℤ, nat_abs, option_map, unwrap_or, ◌-ℤ◌}
 use Rattle.std.specs.List.{AllByRecursion}
 use Rattle.std.proofs.Math.Nat.{pow-le-pow_right}
@@ -10,6 +10,7 @@ use Rattle.vcd_model.specs.Header.{Header}
 use Rattle.vcd_model.specs.HeadText.{first_number, merged_head}
 use Rattle.vcd_model.specs.Merge.{Dump, by_key, factor, headers_of, key_after, key_lt, merge_open, merged_items}
 use Rattle.vcd_model.specs.MergeByInput.{keyed_rest}
+use Rattle.vcd_model.specs.Tokens.{Token, stream_of}
 use Rattle.vcd_model.proofs.MergedLists.{merged_by}
 use Rattle.vcd_text.specs.Registers.{Fits}
 use Rattle.vcd_text.specs.Feed.{parked_answer}
@@ -18,14 +19,16 @@ use Rattle.vcd_head.specs.Merged.{ShowHeaders}
 use Rattle.vcd_head.specs.Shown.{shown}
 use Rattle.vcd_head.specs.Views.{IsExponent, Views}
 use Rattle.vcd_head.proofs.MergedLemmas.{few_powers, numbers_fit}
+use Rattle.vcd_tools.specs.declared.merge.Merge.{Merge}
 use Rattle.vcd_tools.specs.declared.seat.Seat.{Seat}
+use Rattle.vcd_tools.specs.declared.windows.Windows.{Windows}
 use Rattle.vcd_tools.specs.MergeOrder.{IsNext}
 use Rattle.vcd_tools.specs.MergeParts.{AreParts, AreSeated, part, part_len, spot_at, spot_of}
-use Rattle.vcd_tools.specs.MergeStart.{AreBegun, AreOpen, begun, no_items}
-use Rattle.vcd_tools.specs.MergeStep.{Holds, IsReady, Standing, last_written}
+use Rattle.vcd_tools.specs.MergeStart.{AreBegun, AreOpen, HasBegun, HaveNoItems, begun, no_items}
+use Rattle.vcd_tools.specs.MergeStep.{Holds, IsReady, Standing, last_written, standing_of}
 use Rattle.vcd_tools.specs.Seat.{AtSeat, GaveParked, IsSeated, Lane, Spot}
 use Rattle.vcd_tools.proofs.MergeSteps.{get_map, same_or_not, some_at, spot_seat}
-use Rattle.vcd_tools.proofs.PartLemmas.{get_other, get_set}
+use Rattle.vcd_tools.proofs.PartLemmas.{get_other, get_set, part_long}
 
 -- ---- seats that are set one after the other
 
@@ -115,8 +118,7 @@ at_first scale first l s p e fits gave = record {
 -- Over the seats that are set, it holds the dumps of inputs that have given no item.
 pub begins : {X : Type 0} (rest : X → Option (List ℕ)) (hs : List Header) (lanes : List Lane) (heads : List Head) (old new : List Seat) (sources : List X) (chunks tokens values : List ℕ)
     → ShowHeaders heads hs → length heads ≤ 64 → map (λ (l : Lane). l.header) lanes ≡ hs → length heads ≡ length old → length new ≡ length old → length sources ≡ length old → AreBegun hs old new
-    → ((k : ℕ) (l : Lane) (p : Spot) → slice_get lanes k ≡ Some l → spot_at rest old sources chunks tokens k ≡ Some p → GaveParked l.header.codes l.input l.front [] p.rest p.chunk p.token p.seat.parked p.seat.regs)
-    → Holds rest hs lanes (no_items lanes) (record { heads = heads; seats = new; written = None; sources = sources; chunks = chunks; tokens = tokens; values = values })
+    → HaveNoItems rest lanes old sources chunks tokens → Holds rest hs lanes (no_items lanes) (record { heads = heads; seats = new; written = None; sources = sources; chunks = chunks; tokens = tokens; values = values })
 begins {X} rest hs lanes heads old new sources chunks tokens values show few lanes_are heads_many many sources_many set gave = record {
   given = record {
     lanes_are = lanes_are;
@@ -189,6 +191,46 @@ ready_at_first heads old new sources chunks tokens values some heads_many many s
         let was = some_at old j (omega arith) in
         let is = set j was.0 s was.1 at in
         (ap (λ (x : Seat). x.time) is, ap (λ (x : Seat). x.finished) is)
+
+-- ---- and over the merge itself
+
+pub holds_begun : {X : Type 0} (rest : X → Option (List ℕ)) (hs : List Header) (lanes : List Lane) (heads : List Head) (old : List Seat) (m : Merge) (sources : List X) (windows : Windows)
+    → ShowHeaders heads hs → length heads ≤ 64 → map (λ (l : Lane). l.header) lanes ≡ hs → length heads ≡ length old → length sources ≡ length old → HasBegun heads old m → AreBegun hs old m.seats.now
+    → HaveNoItems rest lanes old sources windows.chunks.now windows.tokens.now → Holds rest hs lanes (no_items lanes) (standing_of m sources windows)
+holds_begun {X} rest hs lanes heads old m sources windows show few lanes_are heads_many sources_many begun set gave =
+    let c = windows.chunks.now in
+    let t = windows.tokens.now in
+    let v = windows.values.now in
+    subst (λ (h : List Head). Holds {X = X} rest hs lanes (no_items lanes) (record { heads = h; seats = m.seats.now; written = m.written; sources = sources; chunks = c; tokens = t; values = v })) (sym begun.heads_are)
+    (subst (λ (w : Option ℕ). Holds {X = X} rest hs lanes (no_items lanes) (record { heads = heads; seats = m.seats.now; written = w; sources = sources; chunks = c; tokens = t; values = v })) (sym begun.written)
+    (begins rest hs lanes heads old m.seats.now sources c t v show few lanes_are heads_many begun.many sources_many set gave))
+
+pub ready_begun : {X : Type 0} (heads : List Head) (old : List Seat) (m : Merge) (sources : List X) (windows : Windows)
+    → 0 < length old → length heads ≡ length old → length sources ≡ length old → HasBegun heads old m → AreParts (length old) windows.chunks.now windows.tokens.now windows.values.now → AreSeated windows.chunks.now windows.tokens.now old
+    → IsReady (standing_of m sources windows)
+ready_begun {X} heads old m sources windows some heads_many sources_many begun parts seated =
+    let c = windows.chunks.now in
+    let t = windows.tokens.now in
+    let v = windows.values.now in
+    subst (λ (h : List Head). IsReady {X = X} (record { heads = h; seats = m.seats.now; written = m.written; sources = sources; chunks = c; tokens = t; values = v })) (sym begun.heads_are)
+    (subst (λ (w : Option ℕ). IsReady {X = X} (record { heads = heads; seats = m.seats.now; written = w; sources = sources; chunks = c; tokens = t; values = v })) (sym begun.written)
+    (ready_at_first heads old m.seats.now sources c t v some heads_many begun.many sources_many parts seated begun.open_seats))
+
+-- each input begins with the tokens of its header
+pub heads_given : {X : Type 0} (rest : X → Option (List ℕ)) (lanes : List Lane) (seats : List Seat) (sources : List X) (chunks tokens values : List ℕ) → AreParts (length seats) chunks tokens values → length lanes ≡ length seats → length sources ≡ length seats
+    → HaveNoItems rest lanes seats sources chunks tokens → (k : ℕ) (l : Lane) → slice_get lanes k ≡ Some l → (more : List Token) × ((stream_of (part_len (length seats) tokens) l.input).tokens ≡ l.front ++ more)
+heads_given rest lanes seats sources chunks tokens values parts lanes_many sources_many none k l at =
+    let w = slice_get_within lanes k l at in
+    let x = some_at seats k (omega arith) in
+    let y = some_at sources k (omega arith) in
+    let n = length seats in
+    let chunk = part (part_len n chunks) k chunks in
+    let token = part (part_len n tokens) k tokens in
+    let spot : spot_at rest seats sources chunks tokens k ≡ Some (record { seat = x.0; rest = rest y.0; chunk = chunk; token = token }) = λ j. spot_of (x.1 j) (option_map rest (y.1 j)) chunk token in
+    let gave = none k l (record { seat = x.0; rest = rest y.0; chunk = chunk; token = token }) at spot in
+    let begun = gave.stands.given_first in
+    let len = part_long (part_len n tokens) n k tokens parts.tokens_are (omega arith) in
+    (gave.given ++ begun.0, ap (λ m. (stream_of m l.input).tokens) (sym len) ∙ begun.1 ∙ append_assoc l.front gave.given begun.0)
 
 -- ---- factors
 

@@ -1,10 +1,11 @@
 -- Where a merge begins.
-use Rattle.std.specs.Prelude.{◌≡◌, ℕ, true, false, List, [], length, take, map, slice_get, Some, None}
+use Rattle.std.specs.Prelude.{◌≡◌, ℕ, true, false, List, [], length, take, map, slice_get, Option, Some, None}
 use Rattle.vcd_model.specs.Header.{Header}
 use Rattle.vcd_model.specs.HeadText.{first_number}
 use Rattle.vcd_model.specs.Merge.{Dump, factor}
 use Rattle.vcd_head.specs.declared.head.Head.{Head}
-use Rattle.vcd_tools.specs.Seat.{Lane}
+use Rattle.vcd_tools.specs.MergeParts.{spot_at}
+use Rattle.vcd_tools.specs.Seat.{GaveParked, Lane, Spot}
 use Rattle.vcd_tools.specs.declared.merge.Merge.{Merge}
 use Rattle.vcd_tools.specs.declared.seat.Seat.{Seat}
 
@@ -31,3 +32,7 @@ pub record HasBegun (heads : List Head) (old : List Seat) (m : Merge) : Type 0 w
 -- the dumps of inputs that have given no item
 abbrev pub no_items : List Lane → List Dump
 no_items lanes = map (λ (l : Lane). record { header = l.header; items = []; fault = None }) lanes
+
+-- the inputs have given the tokens of their headers, and no item
+abbrev pub HaveNoItems : {X : Type 0} → (X → Option (List ℕ)) → List Lane → List Seat → List X → List ℕ → List ℕ → Type 0
+HaveNoItems rest lanes seats sources chunks tokens = (k : ℕ) (l : Lane) (p : Spot) → slice_get lanes k ≡ Some l → spot_at rest seats sources chunks tokens k ≡ Some p → GaveParked l.header.codes l.input l.front [] p.rest p.chunk p.token p.seat.parked p.seat.regs

@@ -68,6 +68,7 @@ mod tally;
 mod task;
 #[cfg(test)]
 mod tests;
+mod whole_merge;
 mod windows;
 
 pub use answer::{Done, More, Stop};
@@ -79,4 +80,5 @@ pub use samples::Samples;
 pub use seat::Seat;
 pub use span::Span;
 pub use task::{Room, Task};
+pub use whole_merge::merge;
 pub use windows::Windows;
