@@ -2,7 +2,7 @@
 ghost use Rattle.std.specs.Prelude.{◌≡◌, ◌≢◌, ℕ, ◌+◌, ◌-◌, ◌*◌, ◌^◌, ◌<◌, ◌≤◌, true, false, take, slice_get, List, length, All, MatchOption, MatchBool, IfErr, IfOk, Some, Option, Ok, map};
 ghost use Rattle.vcd_model.specs.Merge.{Dump, merge_close, merge_open, merged_items};
 ghost use Rattle.vcd_text.specs.Device.{Counts, Device, Takes, Writes, failures_after, supply};
-ghost use Rattle.vcd_tools.specs.Answer.{writes_failed};
+ghost use Rattle.vcd_tools.specs.Answer.{NamesInput, writes_failed};
 ghost use Rattle.vcd_model.specs.Items.{BodyItem};
 ghost use Rattle.vcd_head.specs.Shown.{shown};
 ghost use Rattle.vcd_head.specs.Views.{Views};
@@ -128,6 +128,7 @@ fn turn<S: Source, W: Sink>(
         (λ _. AreSeated windows.new.chunks.now windows.new.tokens.now seats.new) }
     ensures reads { map S.failures sources.new
         ≡ failures_with (map S.failures sources.old) input result }
+    ensures named { NamesInput input result }
     ensures left { IfOk result (λ _. left_of seats.new < left_of seats.old) }
     ensures writes { (W.device out.new).failures
         ≡ (W.device out.old).failures + writes_failed result }
@@ -273,7 +274,8 @@ fn step<S: Source, W: Sink>(
         }) }
     ensures lengths { (length seats.new ≡ length seats.old) × SameLengths windows.old windows.new }
     ensures reads { (k : ℕ) × IsNext seats.old k
-        × (map S.failures sources.new ≡ failures_with (map S.failures sources.old) k result) }
+        × (map S.failures sources.new ≡ failures_with (map S.failures sources.old) k result)
+        × NamesInput k result }
     ensures left { result ≡ Ok More.Again → left_of seats.new < left_of seats.old }
     ensures one { (k : ℕ) × ((j : ℕ) → j ≢ k
         → spot_at S.rest seats.new sources.new windows.new.chunks.now windows.new.tokens.now j
@@ -319,7 +321,8 @@ pub fn merge_step<S: Source, W: Sink>(
     ensures lengths { (length merge.new.seats.now ≡ length merge.old.seats.now)
         × SameLengths windows.old windows.new }
     ensures reads { (k : ℕ) × IsNext merge.old.seats.now k
-        × (map S.failures sources.new ≡ failures_with (map S.failures sources.old) k result) }
+        × (map S.failures sources.new ≡ failures_with (map S.failures sources.old) k result)
+        × NamesInput k result }
     ensures left { result ≡ Ok More.Again
         → left_of merge.new.seats.now < left_of merge.old.seats.now }
     ensures one { (k : ℕ) × ((j : ℕ) → j ≢ k
@@ -371,7 +374,8 @@ impl<'h, 's> Merge<'h, 's> {
         ensures lengths { (length self.new.seats.now ≡ length self.old.seats.now)
             × SameLengths windows.old windows.new }
         ensures reads { (k : ℕ) × (k < length sources.old)
-            × (map S.failures sources.new ≡ failures_with (map S.failures sources.old) k result) }
+            × (map S.failures sources.new ≡ failures_with (map S.failures sources.old) k result)
+            × NamesInput k result }
         ensures writes { (W.device out.new).failures
             ≡ (W.device out.old).failures + writes_failed result }
         ensures over { is_going self.new ≡ false }

@@ -1,10 +1,12 @@
 use Rattle.std.proofs.Common.{◌≡◌, ◌∙◌, ◌+◌, List, ℕ, length, map, ap, subst, add-zero, Ok, Err, Result, arith, rules}
 use Rattle.std.proofs.lemmas.Option.{slice_get_within}
 use Rattle.vcd_text.specs.Device.{Device}
-use Rattle.vcd_tools.specs.Answer.{writes_failed}
+use Rattle.vcd_tools.specs.Answer.{NamesInput, writes_failed}
+use Rattle.vcd_tools.specs.declared.answer.Stop.TheVariants.{Dump, Read, Write, Unmatched}
 use Rattle.vcd_tools.specs.Step.{goes_on}
 use Rattle.vcd_tools.specs.MergeParts.{SameLengths}
 use Rattle.vcd_tools.specs.MergeStep.{Gives, Standing, failures_with, standing_of}
+use Rattle.vcd_tools.specs.declared.answer.Done.{Done}
 use Rattle.vcd_tools.specs.declared.answer.More.{More}
 use Rattle.vcd_tools.specs.declared.answer.Stop.{Stop}
 use Rattle.vcd_tools.specs.declared.answer.More.TheVariants.{Ended}
@@ -14,6 +16,13 @@ use Rattle.vcd_tools.proofs.merge.Merge.finish.Goals as goal
 
 same_twice : (a b c : Windows) → SameLengths a b → SameLengths b c → SameLengths a c
 same_twice a b c p q = record { chunks = q.chunks ∙ p.chunks; tokens = q.tokens ∙ p.tokens; values = q.values ∙ p.values }
+
+-- it is the same input, whatever else would have been returned
+still_named : (A B : Type 0) (k : ℕ) (stop : Stop) → NamesInput {A = A} k (Err stop) → NamesInput {A = B} k (Err stop)
+still_named A B k (Dump input line fault) named = tt
+still_named A B k (Read input) named = named
+still_named A B k Write named = tt
+still_named A B k (Unmatched name) named = tt
 
 pub merge_step-requires-clause-reads : goal.merge_step-requires-clause-reads
 merge_step-requires-clause-reads g c = still_low g.S.Source.failures c.args.sources.now c.items.sources c.items.invariant.reads c.requires.reads
@@ -68,7 +77,7 @@ returns-in_err-merge_step-clause-reads g c =
     let is : c.from_residual.result ≡ Err stop = search rules in
     let a = v.ready.sources in
     let b = c.items.auto.sources in
-    rw is ((st.reads.0, omega (arith, within, a, b), st.reads.2 ∙ ap (λ (l : List ℕ). failures_with {A = More} l st.reads.0 (Err stop)) v.reads))
+    rw is ((st.reads.0, omega (arith, within, a, b), st.reads.2 ∙ ap (λ (l : List ℕ). failures_with {A = More} l st.reads.0 (Err stop)) v.reads, still_named More Done st.reads.0 stop st.reads.3))
 
 pub returns-in-Ended-clause-gives : goal.returns-in-Ended-clause-gives
 returns-in-Ended-clause-gives g c = λ hs lanes ds names begin holds w.
@@ -100,4 +109,5 @@ returns-in-Ended-clause-reads g c =
       st.reads.2
           ∙ ap (λ (r : Result More Stop). failures_with (map g.S.Source.failures c.items.sources) st.reads.0 r) is
           ∙ ap (λ (l : List ℕ). failures_with {A = More} l st.reads.0 (Ok (Ended c.in-Ended.done))) v.reads,
+      tt,
     )
