@@ -19,13 +19,12 @@ use Rattle.vcd_head.specs.Merged.{ShowHeaders}
 use Rattle.vcd_head.specs.Shown.{shown}
 use Rattle.vcd_head.specs.Views.{IsExponent, Views}
 use Rattle.vcd_head.proofs.MergedLemmas.{few_powers, numbers_fit}
-use Rattle.vcd_tools.specs.declared.merge.Merge.{Merge}
+use Rattle.vcd_tools.specs.declared.merge_steps.Merge.{Merge}
 use Rattle.vcd_tools.specs.declared.seat.Seat.{Seat}
 use Rattle.vcd_tools.specs.declared.windows.Windows.{Windows}
-use Rattle.vcd_tools.specs.MergeOrder.{IsNext}
 use Rattle.vcd_tools.specs.MergeParts.{AreParts, AreSeated, part, part_len, spot_at, spot_of}
 use Rattle.vcd_tools.specs.MergeStart.{AreBegun, AreOpen, HasBegun, HaveNoItems, begun, no_items}
-use Rattle.vcd_tools.specs.MergeStep.{Holds, IsReady, Standing, last_written, standing_of}
+use Rattle.vcd_tools.specs.MergeStep.{Holds, IsReady, last_written, standing_of}
 use Rattle.vcd_tools.specs.Seat.{AtSeat, GaveParked, IsSeated, Lane, Spot}
 use Rattle.vcd_tools.proofs.MergeSteps.{get_map, same_or_not, some_at, spot_seat}
 use Rattle.vcd_tools.proofs.PartLemmas.{get_other, get_set, part_long}
@@ -77,9 +76,12 @@ pub none_merged : (hs : List Header) (lanes : List Lane) → map (λ (l : Lane).
 none_merged hs lanes e = merged_by hs (no_items lanes) (headers_are lanes ∙ e) ∙ ap by_key (no_keyed hs 0 [] lanes)
 
 -- the text of a merge that has begun is its header
-pub opens : (hs : List Header) (lanes : List Lane) → map (λ (l : Lane). l.header) lanes ≡ hs → merge_open hs (merged_items (no_items lanes)) ≡ merged_head hs
+pub opens_with : (hs : List Header) → merge_open hs [] ≡ merged_head hs
 unfolding merge_open
-opens hs lanes e = ap (merge_open hs) (none_merged hs lanes e) ∙ append-nil (merged_head hs)
+opens_with hs = append-nil (merged_head hs)
+
+pub opens : (hs : List Header) (lanes : List Lane) → map (λ (l : Lane). l.header) lanes ≡ hs → merge_open hs (merged_items (no_items lanes)) ≡ merged_head hs
+opens hs lanes e = ap (merge_open hs) (none_merged hs lanes e) ∙ opens_with hs
 
 -- ---- an input that has given none
 

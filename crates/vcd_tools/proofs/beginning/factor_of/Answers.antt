@@ -1,4 +1,4 @@
-use Rattle.std.proofs.Common.{◌≡◌, ◌+◌, ◌^◌, ◌<◌, ℕ, sym, ap, subst, ◌∙◌, rules}
+use Rattle.std.proofs.Common.{◌≡◌, ◌^◌, ◌<◌, sym, ap, subst, ◌∙◌, rules}
 use Rattle.std.specs.Prelude.{nat_abs, ◌-ℤ◌}
 use Rattle.vcd_model.specs.HeadText.{exponent, least_exponent as least_of}
 use Rattle.vcd_model.specs.Merge.{factor}

@@ -1,14 +1,11 @@
-use Rattle.std.proofs.Common.{◌≡◌, ◌+◌, ℕ, List, length, slice_get, take, Some, refl, sym, ap, subst, ◌∙◌, arith, rules}
+use Rattle.std.proofs.Common.{◌≡◌, take, Some, refl, sym, ap, subst, ◌∙◌, arith, rules}
 use mir.Val.{to_z, of_z}
 use mir.Syntax.{w8}
-use Rattle.std.proofs.lemmas.Slice.Zip.{AllZip-long}
-use Rattle.vcd_model.specs.Header.{Header}
 use Rattle.vcd_model.specs.HeadText.{first_number}
 use Rattle.vcd_model.specs.Merge.{factor}
 use Rattle.vcd_head.specs.Views.{IsExponent, Views}
 use Rattle.vcd_head.proofs.LookUpLemmas.{codes_len}
 use Rattle.vcd_head.proofs.MergedLemmas.{HeaderAt, header_at, least_in_range, number_more, numbers_fit}
-use Rattle.vcd_tools.specs.MergeStart.{begun}
 use Rattle.vcd_tools.proofs.MergeStart.{all_set, as_begun, one_more}
 use Rattle.vcd_tools.proofs.beginning.set_seats.Goals as goal
 

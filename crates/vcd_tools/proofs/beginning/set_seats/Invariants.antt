@@ -1,10 +1,9 @@
-use Rattle.std.proofs.Common.{◌≡◌, ℕ, List, take, slice_get, Some}
+use Rattle.std.proofs.Common.{◌≡◌, List, take, slice_get, Some}
 use Rattle.vcd_model.specs.Header.{Header}
 use Rattle.vcd_model.specs.HeadText.{first_number}
 use Rattle.vcd_model.specs.Merge.{factor}
 use Rattle.vcd_head.specs.Merged.{ShowHeaders}
 use Rattle.vcd_tools.specs.MergeStart.{begun}
-use Rattle.vcd_tools.specs.declared.seat.Seat.{Seat}
 use Rattle.vcd_tools.proofs.MergeStart.{SetSoFar}
 use Rattle.vcd_tools.proofs.beginning.set_seats.Given as goal
 
