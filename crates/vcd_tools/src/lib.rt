@@ -28,11 +28,13 @@
 //! - `selection`: the variables that names select, as marks and as chosen codes
 //! - `report`, `rows`, `tally`: the seven lines of `check`; `list`; the counters of `edges`, and its rows
 //! - `samples`, `sample_lines`: `Samples`, what a sample is asked for; its lines
-//! - `merge`, `merging`, `seat`, `windows`: `Merge`, a step of it over all inputs, and the loop over its steps; a step of one
-//!   input; where an input stands; the windows of all inputs. No function begins a merge, and no command uses it yet
+//! - `whole_merge`: `merge`
+//! - `beginning`, `merge_steps`, `merging`, `seat`, `windows`: what a merge adds to each input where it begins; `Merge`, its begin,
+//!   a step of it over all inputs, and the loop over its steps; a step of one input; where an input stands; the windows of all
+//!   inputs
 //!
 //! In `specs/` callers read `Run` (`Follows`), `Engine`, `Step`, `Room` and `Answer`; of a merge `MergeRun` (its
-//! `Follows`), `MergeStep`, `MergeParts`, `MergeOrder` and `Seat`.
+//! `Follows`), `MergeStart`, `MergeStep`, `MergeParts`, `MergeOrder` and `Seat`.
 //!
 //! # Limits
 //!
