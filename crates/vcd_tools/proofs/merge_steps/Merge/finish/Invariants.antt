@@ -6,7 +6,7 @@ use Rattle.vcd_tools.specs.MergeParts.{SameLengths, part_len}
 use Rattle.vcd_tools.specs.MergeStep.{Holds, IsReady, is_going, standing_of, left_of}
 use Rattle.vcd_tools.specs.Seat.{Lane}
 use Rattle.vcd_tools.proofs.MergeReads.{AreReadSoFar}
-use Rattle.vcd_tools.proofs.merge.Merge.finish.Given as goal
+use Rattle.vcd_tools.proofs.merge_steps.Merge.finish.Given as goal
 
 abbrev pub invariant-items : goal.invariant-items
 invariant-items g l = record {

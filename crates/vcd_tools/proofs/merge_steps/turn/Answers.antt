@@ -8,7 +8,7 @@ use Rattle.vcd_tools.proofs.PartLemmas.{get_other, lent_len, part_other, spot_le
 use Rattle.vcd_tools.specs.Answer.{reads_failed}
 use Rattle.vcd_tools.proofs.MergeCounts.{get_map_or, left_moved, map_set}
 use Rattle.vcd_tools.proofs.Results.{if_ok_more}
-use Rattle.vcd_tools.proofs.merge.turn.Goals as goal
+use Rattle.vcd_tools.proofs.merge_steps.turn.Goals as goal
 
 pub returns-clause-turns : goal.returns-clause-turns
 returns-clause-turns g c = λ scale first l items h s there views at is.

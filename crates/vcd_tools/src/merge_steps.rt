@@ -1,5 +1,5 @@
 //! `merge`: the changes of several dumps in one order of time.
-ghost use Rattle.std.specs.Prelude.{◌≡◌, ◌≢◌, ℕ, ◌+◌, ◌-◌, ◌*◌, ◌^◌, ◌<◌, ◌≤◌, true, false, take, slice_get, List, length, All, MatchOption, MatchBool, IfOk, Some, Option, Ok, map};
+ghost use Rattle.std.specs.Prelude.{◌≡◌, ◌≢◌, ℕ, ◌+◌, ◌-◌, ◌*◌, ◌^◌, ◌<◌, ◌≤◌, true, false, take, slice_get, List, length, All, MatchOption, MatchBool, IfErr, IfOk, Some, Option, Ok, map};
 ghost use Rattle.vcd_model.specs.Merge.{Dump, merge_close, merge_open, merged_items};
 ghost use Rattle.vcd_text.specs.Device.{Counts, Device, Takes, Writes, failures_after, supply};
 ghost use Rattle.vcd_tools.specs.Answer.{NamesInput, writes_failed};
@@ -11,15 +11,19 @@ ghost use Rattle.vcd_tools.specs.MergeParts.{AreParts, AreSeated, SameLengths, p
 ghost use Rattle.vcd_tools.specs.MergeOrder.{IsNext, IsNextBefore, comes_first, greatest_time};
 ghost use Rattle.vcd_tools.specs.MergeRun.{Follows};
 ghost use Rattle.vcd_model.specs.Header.{Header};
+ghost use Rattle.vcd_model.specs.HeadText.{merged_head};
+ghost use Rattle.vcd_head.specs.Merged.{HaveRoom, ShowHeaders};
+ghost use Rattle.vcd_tools.specs.MergeStart.{AreBegun, HasBegun};
 ghost use Rattle.vcd_tools.specs.Step.{goes_on};
 ghost use Rattle.vcd_tools.specs.MergeStep.{AreMarked, Gives, Holds, IsReady, failures_with, is_going, last_written, left_of, standing_of};
 
 use crate::answer::{Done, More, Stop};
+use crate::beginning::set_seats;
 use crate::item_text::put_time_unless;
 use crate::merging::step_of;
 use crate::seat::Seat;
 use crate::windows::Windows;
-use vcd_head::Head;
+use vcd_head::{Head, put_merged_head};
 use vcd_text::{Sink, Source, WriteFailed};
 
 /// A merge that goes on.
@@ -147,6 +151,41 @@ fn turn<S: Source, W: Sink>(
 }
 
 impl<'h, 's> Merge<'h, 's> {
+    /// Begins a merge of at most 64 inputs with these heads, and writes its header. Each seat's feed stands after its header;
+    /// where it stands is left alone. In the marks, of which each head needs one a row, anything may stand before and after.
+    ///
+    /// # Errors
+    ///
+    /// `Stop::Write` where a write failed; a prefix of the header was written.
+    pub fn start<W: Sink>(
+        heads: &'h [Head],
+        seats: &'s mut [Seat],
+        marks: &mut [u8],
+        out: &mut W,
+    ) -> Result<Merge<'h, 's>, Stop>
+        requires many { length heads.now ≤ 64 }
+        requires heads { length heads.now ≡ length seats.old }
+        requires failures { (W.device out.old).failures < 2 ^ 64 - 1 }
+        ensures takes { (hs : List Header) → ShowHeaders heads.now hs
+            → HaveRoom (length marks.old) hs
+            → Takes (W.device out.old) (W.device out.new) (merged_head hs) result }
+        ensures counts { Counts (W.device out.old) (W.device out.new) result }
+        ensures begun { IfOk result (HasBegun heads.now seats.old) }
+        ensures seats { (hs : List Header) → ShowHeaders heads.now hs
+            → IfOk result (λ merge. AreBegun hs seats.old merge.seats.now) }
+        ensures stops { IfErr result (λ stop. stop ≡ Stop.Write) }
+        ensures marks { length marks.new ≡ length marks.old }
+    {
+        put_merged_head(heads, marks, out)?;
+        set_seats(heads, seats);
+        Ok(Merge {
+            heads,
+            seats,
+            written: None,
+            going: true,
+        })
+    }
+
     /// Neither a step nor the end of all inputs has ended the merge.
     #[inline]
     pub fn going(&self) -> bool

@@ -9,7 +9,7 @@ use Rattle.vcd_text.proofs.Writes.{appends-some, appends-twice}
 use Rattle.vcd_tools.specs.declared.answer.Stop.TheVariants.{Write}
 use Rattle.vcd_tools.proofs.PartLemmas.{parts_same}
 use Rattle.vcd_tools.proofs.MergeAnswers.{again, are_marked, chunk_len, ended, found, none_next, some_next, stopped, token_len}
-use Rattle.vcd_tools.proofs.merge.step.Goals as goal
+use Rattle.vcd_tools.proofs.merge_steps.step.Goals as goal
 
 pub returns-in_err-turn-clause-gives : goal.returns-in_err-turn-clause-gives
 returns-in_err-turn-clause-gives g c = λ hs lanes ds holds.

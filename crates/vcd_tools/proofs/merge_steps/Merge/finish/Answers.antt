@@ -12,7 +12,7 @@ use Rattle.vcd_tools.specs.declared.answer.Stop.{Stop}
 use Rattle.vcd_tools.specs.declared.answer.More.TheVariants.{Ended}
 use Rattle.vcd_tools.specs.declared.windows.Windows.{Windows}
 use Rattle.vcd_tools.proofs.MergeRuns.{advances_on, ended_merge, keeps_limit, long, reads_on, same_failures, still_low, stopped_merge}
-use Rattle.vcd_tools.proofs.merge.Merge.finish.Goals as goal
+use Rattle.vcd_tools.proofs.merge_steps.Merge.finish.Goals as goal
 
 same_twice : (a b c : Windows) → SameLengths a b → SameLengths b c → SameLengths a c
 same_twice a b c p q = record { chunks = q.chunks ∙ p.chunks; tokens = q.tokens ∙ p.tokens; values = q.values ∙ p.values }
