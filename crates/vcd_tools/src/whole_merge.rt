@@ -3,7 +3,7 @@ ghost use Rattle.std.specs.Prelude.{◌≡◌, ℕ, ◌+◌, ◌-◌, ◌^◌, �
 ghost use Rattle.vcd_model.specs.Header.{Header};
 ghost use Rattle.vcd_text.specs.Device.{supply};
 ghost use Rattle.vcd_head.specs.Merged.{HaveRoom, ShowHeaders};
-ghost use Rattle.vcd_tools.specs.Answer.{writes_failed};
+ghost use Rattle.vcd_tools.specs.Answer.{NamesInput, writes_failed};
 ghost use Rattle.vcd_tools.specs.MergeParts.{AreParts, AreSeated, SameLengths, part_len};
 ghost use Rattle.vcd_tools.specs.MergeRun.{Follows};
 ghost use Rattle.vcd_tools.specs.MergeStart.{HaveNoItems};
@@ -53,7 +53,8 @@ pub fn merge<S: Source, W: Sink>(
         (W.device out.old) (W.device out.new) result }
     ensures lengths { SameLengths windows.old windows.new }
     ensures reads { (k : ℕ) × (k < length sources.old)
-        × (map S.failures sources.new ≡ failures_with (map S.failures sources.old) k result) }
+        × (map S.failures sources.new ≡ failures_with (map S.failures sources.old) k result)
+        × NamesInput k result }
     ensures writes { (W.device out.new).failures
         ≡ (W.device out.old).failures + writes_failed result }
     ensures marks { length marks.new ≡ length marks.old }

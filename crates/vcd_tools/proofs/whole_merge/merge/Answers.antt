@@ -40,7 +40,7 @@ returns-in_err-merge-clause-reads g c =
     let ns = map g.S.Source.failures c.args.sources.now in
     let stop : c.in_err-merge.field-0.0 ≡ Write = c.in_err-merge.ensures.stops in
     let is : c.from_residual.result ≡ Err c.in_err-merge.field-0.0 = search rules in
-    rw (is, stop) ((0, omega arith, sym (ap (slice_set ns 0) (add-zero (get_or ns 0 0)) ∙ set-get_or ns 0 0)))
+    rw (is, stop) ((0, omega arith, sym (ap (slice_set ns 0) (add-zero (get_or ns 0 0)) ∙ set-get_or ns 0 0), tt))
 
 pub finish-requires-clause-ready : goal.finish-requires-clause-ready
 finish-requires-clause-ready g c =
