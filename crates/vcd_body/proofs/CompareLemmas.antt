@@ -14,7 +14,9 @@ use Rattle.vcd_body.specs.Packed.{held_digit}
 use Rattle.vcd_body.specs.Stored.{digits_held, held_by, one_digit, used_by}
 use Rattle.vcd_body.specs.declared.slot.State.{State}
 use Rattle.vcd_body.specs.declared.slot.State.TheVariants as state
-use Rattle.vcd_body.proofs.HeldLemmas.{length_held}
+use Rattle.std.specs.Prelude.{option_map}
+use Rattle.std.proofs.lemmas.Option.{slice_get-get_or, slice_get-map}
+use Rattle.vcd_body.proofs.HeldLemmas.{digit_behind, length_held}
 use Rattle.vcd_body.proofs.Shortest.{extend_wide, extension_again}
 
 -- ---- extended digits
@@ -93,6 +95,36 @@ module _ (xs ys : List ℕ) (size : ℕ) where
 
   pub differ_in_length : max size (length xs) ≢ max size (length ys) → true ≡ not (bytes_eq (extend xs size) (extend ys size))
   differ_in_length other = test_is false ((λ f. absurd (let g : false ≡ true = f in cc)), λ same. absurd (other_lengths other same))
+
+-- they differ
+pub differ_for : (xs ys : List ℕ) (size : ℕ) → extend xs size ≢ extend ys size → true ≡ not (bytes_eq (extend xs size) (extend ys size))
+differ_for xs ys size other = test_is xs ys size false ((λ f. absurd (let g : false ≡ true = f in cc)), λ same. absurd (other same))
+
+-- digits so many places before the last are the same where the values are
+pub same_from_last : (xs ys : List ℕ) (size back : ℕ) → back < length xs → back < length ys → extend xs size ≡ extend ys size → slice_get xs (length xs - 1 - back) ≡ slice_get ys (length ys - 1 - back)
+same_from_last xs ys size back few less e =
+    let l = ap length e in
+    let a = length_extended xs size in
+    let b = length_extended ys size in
+    let i = max size (length xs) - 1 - back in
+    let x : i - (size - length xs) ≡ length xs - 1 - back = omega arith in
+    let y : i - (size - length ys) ≡ length ys - 1 - back = omega (arith, l, a, b) in
+    sym (digit_behind (size - length xs) (extension xs) i xs (omega arith) ∙ ap (slice_get xs) x)
+    ∙ ap (λ l. slice_get l i) e
+    ∙ digit_behind (size - length ys) (extension ys) i ys (omega (arith, l, a, b)) ∙ ap (slice_get ys) y
+
+-- one digit of each that are not the same
+pub differ_where : (share text : List ℕ) (back : ℕ) → back < length share → back < length text → held_digit (get_or share (length share - 1 - back) 0) ≢ to_ascii_lowercase (get_or text (length text - 1 - back) 0) → (size : ℕ) → extend (map held_digit share) size ≢ extend (str_to_ascii_lowercase text) size
+differ_where share text back few less other size e =
+    let l = length-map share held_digit in
+    let m = length-map text to_ascii_lowercase in
+    let s = same_from_last (map held_digit share) (str_to_ascii_lowercase text) size back (omega (arith, l, few)) (omega (arith, m, less)) e in
+    let i : length (map held_digit share) - 1 - back ≡ length share - 1 - back = omega (arith, l) in
+    let j : length (str_to_ascii_lowercase text) - 1 - back ≡ length text - 1 - back = omega (arith, m) in
+    let x = ap (slice_get (map held_digit share)) i ∙ slice_get-map held_digit share (length share - 1 - back) ∙ ap (option_map held_digit) (slice_get-get_or share (length share - 1 - back) 0 (omega (arith, few))) in
+    let y = ap (slice_get (str_to_ascii_lowercase text)) j ∙ slice_get-map to_ascii_lowercase text (length text - 1 - back) ∙ ap (option_map to_ascii_lowercase) (slice_get-get_or text (length text - 1 - back) 0 (omega (arith, less))) in
+    let same : Some (held_digit (get_or share (length share - 1 - back) 0)) ≡ Some (to_ascii_lowercase (get_or text (length text - 1 - back) 0)) = sym x ∙ s ∙ y in
+    other (cc same)
 
 -- one digit each
 pub differ_in_digit : (x y size : ℕ) (r : Bool) → Decides r (x ≡ y) → not r ≡ not (bytes_eq (extend (x ∷ []) size) (extend (y ∷ []) size))

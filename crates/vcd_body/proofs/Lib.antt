@@ -18,3 +18,4 @@ pub mod HeldShort
 pub mod HeldLines
 pub mod SetLemmas
 pub mod CompareLemmas
+pub mod StepLemmas

@@ -8,7 +8,7 @@ use Rattle.std.proofs.lemmas.Option.{slice_get_within}
 use Rattle.std.proofs.lemmas.Slice.{take-put_mid_below, drop-put_mid, between-put_mid}
 use Rattle.std.proofs.Math.Seq.{take-take}
 use borrow.Rule.Slice.PartMut.{put_mid}
-use Rattle.vcd_body.specs.Kept.{Held, Kept, bytes_for, counts_with, fits, held_as, one_more, room_for, with_held, with_text}
+use Rattle.vcd_body.specs.Kept.{Held, Kept, bytes_for, counts_if, counts_with, fits, held_as, one_more, room_for, with_held, with_step, with_text}
 use Rattle.vcd_body.specs.Packed.{digits_in, held_digit, quarter_of, unpacked}
 use Rattle.vcd_body.specs.Stored.{AreLaidOut, ChangesAt, end_at, held_by, held_of, kept_in, kept_with, one_digit, some_by, start_or, used, used_by}
 use Rattle.vcd_body.specs.declared.item.Form.{Form}
@@ -318,6 +318,10 @@ alone (a ∷ b ∷ text) h k = absurd (omega arith)
 -- with other counters
 pub counts_kept : (s : Slot) (counts : List ℕ) (which end : ℕ) (values : List ℕ) → counts ≡ counts_with s.counts which → kept_with values end (record { state = s.state; start = s.start; len = s.len; counts = counts; chosen = s.chosen }) ≡ one_more which (kept_with values end s)
 counts_kept s counts which end values e = rw e refl
+
+pub steps_kept : (s : Slot) (counts : List ℕ) (rises falls : Bool) (end : ℕ) (values : List ℕ) → counts ≡ counts_if falls (counts_if rises (counts_with s.counts 0) 1) 2
+    → kept_with values end (record { state = s.state; start = s.start; len = s.len; counts = counts; chosen = s.chosen }) ≡ with_step rises falls (kept_with values end s)
+steps_kept s counts rises falls end values e = rw e refl
 
 -- a text that is not empty
 pub some_text : (text : List ℕ) → (length text == 0) ≡ false → 0 < length text

@@ -1,10 +1,12 @@
 -- What a table keeps of a code, and what each call makes of it.
-use Rattle.std.specs.Prelude.{ℕ, ◌+◌, ◌-◌, ◌^◌, ◌==◌, ◌&&◌, nat_lt, nat_le, min, Bool, true, false, not, cond, List, [], ◌∷◌, length, map, get_or, slice_get, slice_set, Option, Some, None}
+use Rattle.std.specs.Prelude.{◌≡◌, ℕ, ◌+◌, ◌-◌, ◌^◌, ◌==◌, ◌&&◌, nat_lt, nat_le, min, Bool, true, false, not, cond, List, [], ◌∷◌, length, map, get_or, slice_get, slice_set, Option, Some, None}
 use Rattle.std.specs.List.{last_or}
+use Rattle.std.specs.Str.{byte}
 use Rattle.vcd_model.specs.Values.{Value, extend, same_value}
 use Rattle.vcd_body.specs.Packed.{held_digit, quarter_of}
 use Rattle.vcd_body.specs.declared.item.Form.{Form}
 use Rattle.vcd_body.specs.declared.item.Form.TheVariants as form
+use Rattle.vcd_body.specs.declared.step.Step.{Step}
 
 -- the value of a code: none, digits that extend to it, or the text of a real number
 pub data Held : Type 0 where
@@ -70,10 +72,26 @@ last_digit_in None = None
 last_digit_in (Some (Value.Bits ds)) = last_or None ds
 last_digit_in (Some (Value.Real text)) = None
 
+-- there is a digit, and it is this one
+abbrev pub is_digit : Option ℕ → ℕ → Bool
+is_digit None d = false
+is_digit (Some e) d = d == e
+
+-- the last digit was a, and is b
+abbrev pub goes_from : ℕ → ℕ → Option ℕ → Option ℕ → Bool
+goes_from a b before after = is_digit before a && is_digit after b
+
 -- there is a value, and it is another than this
 abbrev pub differs : Option Value → Value → Bool
 differs None v = false
 differs (Some u) v = not (same_value u v)
+
+-- a value was this, and is to be that: whether they differ, and how the last digit goes
+abbrev pub IsStep : Step → Option Value → Value → Type 0
+IsStep s old new =
+    (s.differs ≡ differs old new)
+    × (s.rises ≡ goes_from (byte "0") (byte "1") (last_digit_in old) (last_digit_in (Some new)))
+    × (s.falls ≡ goes_from (byte "1") (byte "0") (last_digit_in old) (last_digit_in (Some new)))
 
 -- the text of a real number, empty where the value is none
 abbrev pub real_text : Held → List ℕ
@@ -89,6 +107,15 @@ counts_with counts which = slice_set counts which (min (get_or counts which 0 + 
 
 abbrev pub one_more : ℕ → Kept → Kept
 one_more which k = record { held = k.held; counts = counts_with k.counts which; chosen = k.chosen; room = k.room }
+
+-- one more in a counter, where the test holds
+abbrev pub counts_if : Bool → List ℕ → ℕ → List ℕ
+counts_if true counts which = counts_with counts which
+counts_if false counts which = counts
+
+-- one more in the first counter, and in the others where the tests hold
+abbrev pub with_step : Bool → Bool → Kept → Kept
+with_step rises falls k = record { held = k.held; counts = counts_if falls (counts_if rises (counts_with k.counts 0) 1) 2; chosen = k.chosen; room = k.room }
 
 abbrev pub as_chosen : Kept → Kept
 as_chosen k = record { held = k.held; counts = k.counts; chosen = true; room = k.room }

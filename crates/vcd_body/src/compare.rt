@@ -1,5 +1,5 @@
 // Whether a change gives a code another value than it has.
-ghost use Rattle.std.specs.Prelude.{◌≡◌, ◌≤◌, length, map, not, get_or};
+ghost use Rattle.std.specs.Prelude.{◌≡◌, ◌≢◌, ◌≤◌, ◌<◌, ℕ, length, map, true, not, get_or};
 ghost use Rattle.std.specs.Bool.{Decides};
 ghost use Rattle.std.specs.Str.{bytes_eq, str_to_ascii_lowercase};
 ghost use Rattle.vcd_model.specs.Values.{extend, extension, value_with};
@@ -89,6 +89,32 @@ fn are_same_plain(share: &[u8], text: &[u8]) -> bool
     true
 }
 
+// Whether a digit of those that are held a byte each and one of a text differ, each so many places before the last.
+#[inline(always)]
+fn differ_at(share: &[u8], text: &[u8], back: usize) -> bool
+    requires share { back < length share.now }
+    requires text { back < length text.now }
+    ensures { result ≡ true → (size : ℕ) → extend (map held_digit share.now) size
+        ≢ extend (str_to_ascii_lowercase text.now) size }
+{
+    held_digit(share[share.len() - 1 - back]) != text[text.len() - 1 - back].to_ascii_lowercase()
+}
+
+// Whether the last four digits of those that are held a byte each and of a text differ; false where either are fewer. Most
+// values that differ do so there, and it takes no branches by what the digits are.
+#[inline(always)]
+fn ends_differ(share: &[u8], text: &[u8]) -> bool
+    ensures { result ≡ true → (size : ℕ) → extend (map held_digit share.now) size
+        ≢ extend (str_to_ascii_lowercase text.now) size }
+{
+    if share.len() < 4 || text.len() < 4 {
+        return false;
+    }
+    let last = differ_at(share, text, 0) | differ_at(share, text, 1);
+    let others = differ_at(share, text, 2) | differ_at(share, text, 3);
+    last | others
+}
+
 // Whether a text gives a code of this size other digits than several that are held, or is itself of several. It takes as long
 // as these digits and the text are, whatever the size is.
 fn several_differ(slot: Slot, share: &[u8], size: usize, text: &[u8]) -> bool
@@ -98,6 +124,9 @@ fn several_differ(slot: Slot, share: &[u8], size: usize, text: &[u8]) -> bool
     ensures { result ≡ not (bytes_eq (extend (digits_with slot share.now) size)
         (extend (str_to_ascii_lowercase text.now) size)) }
 {
+    if slot.state == State::Plain && ends_differ(share, text) {
+        return true;
+    }
     let held = count_of(slot, share);
     if size.max(held) != size.max(text.len()) {
         return true;
@@ -132,6 +161,7 @@ pub(crate) fn value_differs(slot: Slot, share: &[u8], size: usize, form: Form, t
         (value_with size (model_form form) text.now) }
 {
     match slot.state {
+        State::Plain => form == Form::RealText || several_differ(slot, share, size, text),
         State::Unset => false,
         State::Real => form != Form::RealText || share != text,
         _ => form == Form::RealText || digits_differ(slot, share, size, text),

@@ -22,7 +22,7 @@
 //! - `phrases`, `tokens`, `words`: phrases by what they begin with; the next token; what a token is, by its first byte
 //! - `item`, `fault`: `Item`, `Form`, `Section`, `Regs`; `BodyFault`
 //! - `change`: `put_change`
-//! - `table`, `slot`: `Table`, `Shown`; `Slot`
+//! - `table`, `slot`: `Table`, `Shown`; `Slot`; `step`: `Step`, what became of a value that was set
 //! - `store`: slots and shares of the values, and how they are set; `packed`: digits in a share, a byte each or four to a byte
 //! - `held`, `held_text`: the digits of a held value, and how it is written; `compare`: whether a change gives another one
 //!
@@ -46,6 +46,7 @@ mod packed;
 mod phrases;
 mod read;
 mod slot;
+mod step;
 mod store;
 mod table;
 #[cfg(test)]
@@ -60,4 +61,5 @@ pub use fault::BodyFault;
 pub use item::{Form, Item, Regs, Section};
 pub use read::{change_text, next_item};
 pub use slot::{Shown, Slot};
+pub use step::Step;
 pub use table::Table;

@@ -69,16 +69,21 @@ impl Slot {
     }
 }
 
-/// The state that holds one digit.
+/// The state that holds one digit. It is written so that it takes no branches.
 #[inline(always)]
 pub(crate) fn state_of(digit: u8) -> State
     ensures { one_digit result ≡ Some (held_digit digit) }
 {
-    match digit {
-        b'0' => State::Zero,
-        b'1' => State::One,
-        b'x' | b'X' => State::Unknown,
-        _ => State::High,
+    let x_or_z = if (digit == b'x') | (digit == b'X') {
+        State::Unknown
+    } else {
+        State::High
+    };
+    let all_but_0 = if digit == b'1' { State::One } else { x_or_z };
+    if digit == b'0' {
+        State::Zero
+    } else {
+        all_but_0
     }
 }
 

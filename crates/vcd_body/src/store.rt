@@ -1,7 +1,7 @@
 // What is kept of each code, in lent slices: slots, and a share of the values for each.
 ghost use Rattle.std.specs.Prelude.{◌≡◌, ◌≢◌, ℕ, ◌+◌, ◌-◌, ◌*◌, ◌<◌, ◌≤◌, ◌∷◌, [], List, cond, length, take, drop, map, sum_by, IfSome, None, Some, slice_get, slice_index};
 ghost use Rattle.vcd_head.specs.declared.view.Code.{Code};
-ghost use Rattle.vcd_body.specs.Kept.{Held, as_chosen, one_more, counts_with, with_held, with_text};
+ghost use Rattle.vcd_body.specs.Kept.{Held, as_chosen, one_more, counts_if, counts_with, with_held, with_step, with_text};
 ghost use Rattle.vcd_body.specs.Packed.{held_digit};
 ghost use Rattle.vcd_body.specs.Stored.{AreLaidOut, ChangesAt, end_at, held_by, share_of, some_by, start_of, unset_at, used, used_by};
 
@@ -35,6 +35,9 @@ fn end_of(slots: &[Slot], values: usize, code: usize) -> usize
 fn used_by(slot: Slot) -> usize
     ensures { result ≡ used slot }
 {
+    if slot.state == State::Plain {
+        return slot.len;
+    }
     match slot.state {
         State::Digits => slot.len.div_ceil(4),
         State::Plain | State::Real => slot.len,
@@ -212,6 +215,36 @@ fn counts_with(mut counts: [u64; 3], which: usize) -> [u64; 3]
         counts[which] = counts[which].saturating_add(1);
     }
     counts
+}
+
+/// Adds one to the first counter of a code, and to the others where the tests hold. A full one stays.
+#[inline(always)]
+pub(crate) fn count_at(slots: &mut [Slot], code: usize, rises: bool, falls: bool)
+    ensures changes { (values : List ℕ)
+        → ChangesAt code (with_step rises falls) values slots.old values slots.new }
+    ensures laid { (n : ℕ) → AreLaidOut slots.old n → AreLaidOut slots.new n }
+{
+    if code < slots.len() {
+        slots[code].counts = counts_after(slots[code].counts, rises, falls);
+    }
+}
+
+/// Counters, with one more in the first, and in the others where the tests hold. It takes no branches.
+#[inline(always)]
+fn counts_after(counts: [u64; 3], rises: bool, falls: bool) -> [u64; 3]
+    ensures { result ≡ counts_if falls (counts_if rises (counts_with counts 0) 1) 2 }
+{
+    let [changes, ups, downs] = counts;
+    [
+        changes.saturating_add(1),
+        ups.saturating_add(u64::from(rises)),
+        // Not as the one before it: two in one vector take longer than one after the other.
+        if falls {
+            downs.saturating_add(1)
+        } else {
+            downs
+        },
+    ]
 }
 
 /// Chooses a code.

@@ -2,7 +2,7 @@
 ghost use Rattle.std.specs.Prelude.{◌≡◌, ℕ, ◌+◌, ◌-◌, ◌^◌, ◌<◌, ◌≤◌, length};
 ghost use Rattle.vcd_model.specs.Sample.{shown};
 ghost use Rattle.vcd_text.specs.Device.{Counts, Takes, failures_after};
-ghost use Rattle.vcd_body.specs.Kept.{Held, as_chosen, differs, digit_in, last_digit_in, one_more, real_text, with_text};
+ghost use Rattle.vcd_body.specs.Kept.{Held, as_chosen, differs, digit_in, IsStep, one_more, real_text, with_step, with_text};
 ghost use Rattle.vcd_body.specs.Stored.{room_of};
 
 use crate::compare::value_differs;
@@ -10,7 +10,8 @@ use crate::held::{digit_shown, last_held};
 use crate::held_text::{put_value, put_value_line};
 use crate::item::Form;
 use crate::slot::{Shown, Slot, State};
-use crate::store::{bump_at, choose_at, lay_out, set_at, share_in, slot_at};
+use crate::step::{Step, is_digit_step, step_by_digit, step_to_text};
+use crate::store::{bump_at, choose_at, count_at, lay_out, set_at, share_in, slot_at};
 use vcd_head::HeadView;
 use vcd_text::{Sink, WriteFailed, put};
 
@@ -71,6 +72,78 @@ impl<'a> Table<'a> {
         set_at(self.slots, self.values, code, form, text);
     }
 
+    /// Sets the value of the code at a place as `set` does, and tells what becomes of it at this size: the step from what it was
+    /// to that of the text. One digit over another touches the code's slot alone, and takes no branches by what they are.
+    #[inline(always)]
+    pub fn replace(&mut self, code: usize, size: usize, form: Form, text: &[u8]) -> Step
+        ensures laid { IsLaidOut self.old → IsLaidOut self.new }
+        ensures changes { IsLaidOut self.old
+            → ChangesCode code (with_text form text.now) self.old self.new }
+        ensures value { IsLaidOut self.old → (c : Code) (k : Kept) → IsText form c text.now
+            → c.event ≡ false → kept_at self.old code ≡ Some k → share_of c.size ≤ k.room
+            → value_at_size c.size (held_at self.new code)
+            ≡ Some (value_with c.size (model_form form) text.now) }
+        ensures step { IsLaidOut self.old → 0 < length text.now
+            → IsStep result (value_at_size size (held_at self.old code))
+            (value_with size (model_form form) text.now) }
+        ensures codes { codes_in self.new ≡ codes_in self.old }
+        ensures bytes { bytes_in self.new ≡ bytes_in self.old }
+    {
+        match (text, self.slot(code)) {
+            ([digit], Some(slot)) if is_digit_step(form, slot.state) => {
+                self.set(code, form, text);
+                step_by_digit(slot.state, *digit)
+            }
+            _ => self.replace_any(code, size, form, text),
+        }
+    }
+
+    /// The slot of the code at a place.
+    #[inline(always)]
+    fn slot(&self, code: usize) -> Option<Slot>
+        ensures { result ≡ slice_get self.now.slots.now code }
+    {
+        slot_at(self.slots, code)
+    }
+
+    /// The same of any value and text. It takes as long as what is held and the text are, whatever the size is.
+    #[inline(never)]
+    fn replace_any(&mut self, code: usize, size: usize, form: Form, text: &[u8]) -> Step
+        ensures laid { IsLaidOut self.old → IsLaidOut self.new }
+        ensures changes { IsLaidOut self.old
+            → ChangesCode code (with_text form text.now) self.old self.new }
+        ensures value { IsLaidOut self.old → (c : Code) (k : Kept) → IsText form c text.now
+            → c.event ≡ false → kept_at self.old code ≡ Some k → share_of c.size ≤ k.room
+            → value_at_size c.size (held_at self.new code)
+            ≡ Some (value_with c.size (model_form form) text.now) }
+        ensures step { IsLaidOut self.old → 0 < length text.now
+            → IsStep result (value_at_size size (held_at self.old code))
+            (value_with size (model_form form) text.now) }
+        ensures codes { codes_in self.new ≡ codes_in self.old }
+        ensures bytes { bytes_in self.new ≡ bytes_in self.old }
+    {
+        let step = self.step_to(code, size, form, text);
+        self.set(code, form, text);
+        step
+    }
+
+    /// The step from the value of the code at a place to that of a text. Where there is no value it does not differ.
+    #[inline(always)]
+    fn step_to(&self, code: usize, size: usize, form: Form, text: &[u8]) -> Step
+        ensures { IsLaidOut self.now → 0 < length text.now
+            → IsStep result (value_at_size size (held_at self.now code))
+            (value_with size (model_form form) text.now) }
+    {
+        let Some(slot) = slot_at(self.slots, code) else {
+            return step_to_text(false, None, form, text);
+        };
+        let Some(share) = share_in(self.values, slot) else {
+            return step_to_text(false, None, form, text);
+        };
+        let differs = value_differs(slot, share, size, form, text);
+        step_to_text(differs, last_held(slot, share), form, text)
+    }
+
     /// What the value of the code at a place is.
     #[inline]
     pub fn get(&self, code: usize) -> Shown
@@ -104,38 +177,6 @@ impl<'a> Table<'a> {
             return None;
         };
         digit_shown(slot, share, declared.size, place)
-    }
-
-    /// The last digit of the value of the code at a place, in lower case; none where the value has no digits. It is the same at
-    /// each size.
-    #[inline(always)]
-    pub fn last_digit(&self, code: usize) -> Option<u8>
-        ensures { IsLaidOut self.now → (size : ℕ)
-            → result ≡ last_digit_in (value_at_size size (held_at self.now code)) }
-    {
-        let Some(slot) = slot_at(self.slots, code) else {
-            return None;
-        };
-        let Some(share) = share_in(self.values, slot) else {
-            return None;
-        };
-        last_held(slot, share)
-    }
-
-    /// Whether the code at a place has a value, and the text of a change gives another one at this size. It takes as long as what
-    /// is held and the text are, whatever the size is; of one digit each it looks at the code's slot alone.
-    #[inline(always)]
-    pub fn differs(&self, code: usize, size: usize, form: Form, text: &[u8]) -> bool
-        ensures { IsLaidOut self.now → result ≡ differs (value_at_size size (held_at self.now code))
-            (value_with size (model_form form) text.now) }
-    {
-        let Some(slot) = slot_at(self.slots, code) else {
-            return false;
-        };
-        let Some(share) = share_in(self.values, slot) else {
-            return false;
-        };
-        value_differs(slot, share, size, form, text)
     }
 
     /// The text of the real number that is the value of the code at a place; empty where it has no such value.
@@ -222,6 +263,18 @@ impl<'a> Table<'a> {
         ensures bytes { bytes_in self.new ≡ bytes_in self.old }
     {
         bump_at(self.slots, code, which);
+    }
+
+    /// Counts a step of the value of the code at a place: adds one to the first counter, to the second where it rises, and to the
+    /// third where it falls. A full one stays.
+    #[inline(always)]
+    pub fn count(&mut self, code: usize, rises: bool, falls: bool)
+        ensures laid { IsLaidOut self.old → IsLaidOut self.new }
+        ensures changes { ChangesCode code (with_step rises falls) self.old self.new }
+        ensures codes { codes_in self.new ≡ codes_in self.old }
+        ensures bytes { bytes_in self.new ≡ bytes_in self.old }
+    {
+        count_at(self.slots, code, rises, falls);
     }
 
     /// Chooses the code at a place.

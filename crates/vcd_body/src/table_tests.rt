@@ -3,6 +3,7 @@ ghost use Rattle.std.specs.Prelude.{◌≡◌};
 
 use crate::item::Form;
 use crate::slot::{Shown, Slot};
+use crate::step::Step;
 use crate::table::Table;
 use std::alloc::{AllocError, Global};
 use std::test::Fail;
@@ -271,7 +272,7 @@ fn is_changed(
     let mut slots = [Slot::new()];
     let mut table = Table::new(view, &mut values, &mut slots);
     table.set(0, first.0, first.1);
-    Ok(table.differs(0, size, second.0, second.1))
+    Ok(table.replace(0, size, second.0, second.1).differs)
 }
 
 // The same of two texts of digits, whichever comes first: they are two values, or one.
@@ -350,29 +351,56 @@ fn real_numbers_that_differ(rt: HostRuntime) -> Result<(), Fail> {
 fn value_of_no_code_never_differs(rt: HostRuntime) {
     let codes = [code_of(4)];
     let mut slots = [Slot::new()];
-    let table = Table::new(view_of(&codes), &mut [], &mut slots);
-    assert!(rt; !table.differs(0, 4, Form::Scalar, b"1"));
-    assert!(rt; !table.differs(1, 4, Form::Scalar, b"1"));
-    assert_eq!(rt; table.last_digit(0), None);
-    assert_eq!(rt; table.last_digit(1), None);
+    let mut table = Table::new(view_of(&codes), &mut [], &mut slots);
+    assert_eq!(rt; table.replace(0, 4, Form::Scalar, b"1"), step_of(false, 0));
+    assert_eq!(rt; table.replace(1, 4, Form::Scalar, b"1"), step_of(false, 0));
+    assert_eq!(rt; table.replace(1, 4, Form::Scalar, b"0"), step_of(false, 0));
+}
+
+// A step that differs or not, and goes up, down, or neither.
+fn step_of(differs: bool, way: i8) -> Step {
+    Step {
+        differs,
+        rises: way > 0,
+        falls: way < 0,
+    }
 }
 
 #[test]
-fn last_digits_of_values(rt: HostRuntime) -> Result<(), Fail> {
+fn steps_of_values(rt: HostRuntime) -> Result<(), Fail> {
     let alloc = rt.alloc();
     let codes = [code_of(9)];
     let view = view_of(&codes);
     let mut values = vec![in alloc; 255u8; need(view).values]?;
     let mut slots = [Slot::new()];
     let mut table = Table::new(view, &mut values, &mut slots);
-    table.set(0, Form::Scalar, b"Z");
-    assert_eq!(rt; table.last_digit(0), Some(b'z'));
-    table.set(0, Form::Vector, b"01");
-    assert_eq!(rt; table.last_digit(0), Some(b'1'));
-    table.set(0, Form::Vector, b"x00110010");
-    assert_eq!(rt; table.last_digit(0), Some(b'0'));
-    table.set(0, Form::RealText, b"1");
-    assert_eq!(rt; table.last_digit(0), None);
+    assert_eq!(rt; table.replace(0, 9, Form::Scalar, b"Z"), step_of(false, 0));
+    assert_eq!(rt; table.replace(0, 9, Form::Scalar, b"z"), step_of(false, 0));
+    assert_eq!(rt; table.replace(0, 9, Form::Vector, b"01"), step_of(true, 0));
+    assert_eq!(rt; table.replace(0, 9, Form::Scalar, b"1"), step_of(false, 0));
+    assert_eq!(rt; table.replace(0, 9, Form::Scalar, b"0"), step_of(true, -1));
+    assert_eq!(rt; table.replace(0, 9, Form::Scalar, b"1"), step_of(true, 1));
+    assert_eq!(rt;
+        table.replace(0, 9, Form::Vector, b"x00110010"),
+        step_of(true, -1)
+    );
+    assert_eq!(rt;
+        table.replace(0, 9, Form::Vector, b"X00110010"),
+        step_of(false, 0)
+    );
+    assert_eq!(rt;
+        table.replace(0, 9, Form::Vector, b"100110010"),
+        step_of(true, 0)
+    );
+    assert_eq!(rt;
+        table.replace(0, 9, Form::Vector, b"110011"),
+        step_of(true, 1)
+    );
+    assert_eq!(rt; table.replace(0, 9, Form::RealText, b"1"), step_of(true, 0));
+    assert_eq!(rt;
+        table.replace(0, 9, Form::RealText, b"1"),
+        step_of(false, 0)
+    );
     Ok(())
 }
 
@@ -431,9 +459,12 @@ fn counters_of_a_code(rt: HostRuntime) {
     table.bump(1, 2);
     table.bump(1, 2);
     table.bump(1, 3);
+    table.count(1, true, false);
+    table.count(1, false, true);
+    table.count(1, false, false);
     table.set(1, Form::Scalar, b"1");
     assert_eq!(rt; table.tally(0), [0, 0, 0]);
-    assert_eq!(rt; table.tally(1), [1, 0, 2]);
+    assert_eq!(rt; table.tally(1), [4, 1, 3]);
 }
 
 #[test]

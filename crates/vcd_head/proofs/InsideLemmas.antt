@@ -1,5 +1,5 @@
 -- What is left of names inside open scopes.
-use Rattle.std.proofs.Common.{◌≡◌, ◌≢◌, ℕ, zero, suc, ◌+◌, ◌-◌, ◌<◌, ◌≤◌, Bool, true, false, ◌||◌, ◌==◌, List, [], ◌∷◌, ◌++◌, length, map, take, drop, slice_range, reverse, replicate, set, slice_get, Option, Some, None, option_map, inl, inr, refl, sym, ap, subst, ◌∙◌, arith, add-one}
+use Rattle.std.proofs.Common.{◌≡◌, ◌≢◌, ℕ, zero, suc, ◌+◌, ◌-◌, ◌<◌, ◌≤◌, Bool, true, false, ◌&&◌, ◌==◌, List, [], ◌∷◌, ◌++◌, length, map, take, drop, slice_range, reverse, replicate, set, slice_get, Option, Some, None, option_map, inl, inr, refl, sym, ap, subst, ◌∙◌, arith, add-one}
 use mathlib.Core.Logic.{◌⊎◌}
 use Rattle.std.specs.List.{AllByRecursion, list_any}
 use Rattle.std.proofs.lemmas.Bool.{ne_eqb}
@@ -9,12 +9,14 @@ use Rattle.std.proofs.Math.Seq.{take-append-add}
 use Rattle.std.proofs.lemmas.List.Elements.{filter_map-append}
 use Rattle.std.proofs.lemmas.Option.{none-some, same_Some}
 use Rattle.vcd_model.specs.Bytes.{is_empty}
-use Rattle.vcd_model.specs.Declarations.{Declaration, IdCode, enclosing, name_of, names_at, parent, path_of}
+use Rattle.vcd_model.specs.Declarations.{Declaration, IdCode, Variable, enclosing, name_of, names_at, parent, path_of}
 use Rattle.vcd_model.specs.Selection.{is_selected, is_variable, selects_path}
 use Rattle.vcd_model.proofs.ScopeLemmas.{enclosing_below, slice_get-take}
 use Rattle.std.specs.Option.{IfSome}
 use Rattle.vcd_head.specs.declared.inside.Inside.{Inside}
-use Rattle.vcd_head.specs.Inside.{AreLeft, front}
+use Rattle.vcd_head.specs.Inside.{AreLeft, front, left_selects, may_select}
+use Rattle.vcd_head.specs.declared.inside.Left.{Left}
+use Rattle.vcd_head.specs.declared.inside.Left.TheVariants.{Rest, Selected, Differs}
 use Rattle.vcd_head.specs.Paths.{names_text, scopes_text}
 use Rattle.vcd_head.specs.declared.view.Kind.TheVariants as kind
 use Rattle.vcd_head.specs.declared.view.Row.{Row}
@@ -29,39 +31,10 @@ same_everywhere zero i x y e = absurd (none-some y e)
 same_everywhere (suc n) zero x y e = same_Some x y e
 same_everywhere (suc n) (suc i) x y e = same_everywhere n i x y e
 
--- what stands in a list where one element was written
-pub get_written : {X : Type 0} (xs : List X) (p i : ℕ) (v y : X) → p < length xs → slice_get (set xs p v) i ≡ Some y → ((i ≡ p) × (v ≡ y)) ⊎ ((i ≢ p) × (slice_get xs i ≡ Some y))
-get_written [] p i v y l e = absurd (omega arith)
-get_written (x ∷ xs) zero zero v y l e = inl (refl, same_Some v y e)
-get_written (x ∷ xs) zero (suc i) v y l e = inr ((λ q. omega (arith, q)), e)
-get_written (x ∷ xs) (suc p) zero v y l e = inr ((λ q. omega (arith, q)), e)
-get_written (x ∷ xs) (suc p) (suc i) v y l e = elim (get_written xs p i v y (omega arith) e) [ inl q ↦ inl (ap suc q.0, q.1) | inr q ↦ inr ((λ s. q.0 (omega (arith, s))), q.1) ]
-
 pub get_mapped : {X Y : Type 0} (f : X → Y) (xs : List X) (i : ℕ) (x : X) → slice_get xs i ≡ Some x → slice_get (map f xs) i ≡ Some (f x)
 get_mapped f [] i x e = absurd (none-some x e)
 get_mapped f (y ∷ xs) zero x e = ap (option_map f) e
 get_mapped f (y ∷ xs) (suc i) x e = get_mapped f xs i x e
-
-pub any_at : {X : Type 0} (test : X → Bool) (xs : List X) (i : ℕ) (x : X) → slice_get xs i ≡ Some x → test x ≡ true → list_any test xs ≡ true
-any_at test [] i x e h = absurd (none-some x e)
-any_at test (y ∷ xs) zero x e h = rw (ap test (same_Some y x e) ∙ h) refl
-any_at test (y ∷ xs) (suc i) x e h = by_test (test y) (any_at test xs i x e h)
-  where
-    by_test : (b : Bool) → list_any test xs ≡ true → (b || list_any test xs) ≡ true
-    by_test true q = refl
-    by_test false q = q
-
-none_further : {X : Type 0} (test : X → Bool) (xs : List X) (i : ℕ) (x : X) → slice_get xs i ≡ Some x → list_any test (take i xs) ≡ false → test x ≡ false → list_any test (take (suc i) xs) ≡ false
-none_further test [] i x e a b = absurd (none-some x e)
-none_further test (y ∷ xs) zero x e a b = rw (ap test (same_Some y x e) ∙ b) refl
-none_further test (y ∷ xs) (suc i) x e a b = by_test (test y) a (λ q. none_further test xs i x e q b)
-  where
-    by_test : (c : Bool) → (c || list_any test (take i xs)) ≡ false → (list_any test (take i xs) ≡ false → list_any test (take (suc i) xs) ≡ false) → (c || list_any test (take (suc i) xs)) ≡ false
-    by_test true q more = cc
-    by_test false q more = more q
-
-pub none_next : {X : Type 0} (test : X → Bool) (xs : List X) (i : ℕ) (x : X) → slice_get xs i ≡ Some x → list_any test (take i xs) ≡ false → test x ≡ false → list_any test (take (i + 1) xs) ≡ false
-none_next test xs i x e a b = ap (λ n. list_any test (take n xs)) (add-one i) ∙ none_further test xs i x e a b
 
 -- ---- the front of a path
 
@@ -117,11 +90,10 @@ some_variable text cs e r (Declaration.Var v) row k = refl
 pub none_selects : (names : List (List ℕ)) (e : List Declaration) (d : Declaration) → is_variable d ≡ false → is_selected names e d ≡ false
 none_selects names e d h = rw h refl
 
-pub all_selected : (names : List (List ℕ)) (e : List Declaration) (d : Declaration) → is_variable d ≡ true → is_empty names ≡ true → is_selected names e d ≡ true
-all_selected names e d h n = rw (h, n) refl
-
-pub some_selects : (names : List (List ℕ)) (e : List Declaration) (d : Declaration) (path : List ℕ) → is_variable d ≡ true → is_empty names ≡ false → path ≡ path_of e d → list_any (selects_path path) names ≡ is_selected names e d
-some_selects names e d path h n p = rw (h, n) (ap (λ (t : List ℕ). list_any (selects_path t) names) p)
+pub the_variable : (d : Declaration) → is_variable d ≡ true → (v : Variable) × (d ≡ Declaration.Var v)
+the_variable (Declaration.Scope type name) h = cc
+the_variable Declaration.Up h = cc
+the_variable (Declaration.Var v) h = (v, refl)
 
 pub is_empty-map : {X Y : Type 0} (f : X → Y) (xs : List X) → is_empty (map f xs) ≡ (length xs == 0)
 is_empty-map f [] = refl
@@ -130,6 +102,15 @@ is_empty-map f (x ∷ xs) = sym (ne_eqb (length (x ∷ xs)) 0 (λ e. omega (arit
 pub both_some : (r : Option Inside) (names : List (List ℕ)) (ds : List Declaration) (scope : ℕ) → IfSome r (λ s. s.scope ≡ scope) → IfSome r (AreLeft names (front ds scope)) → IfSome r (λ s. AreLeft names (front ds s.scope) s)
 both_some None names ds scope a b = b
 both_some (Some s) names ds scope a b = subst (λ n. AreLeft names (front ds n) s) (sym a) b
+
+-- ---- what is left of a name
+
+-- a scope in which some name may select, or none
+pub if_live : (live : Bool) (l : Left) (rest text : List ℕ) → (live ≡ false → may_select l ≡ false) → left_selects l rest text ≡ (live && left_selects l rest text)
+if_live true l rest text h = refl
+if_live false Rest rest text h = let no = h refl in cc
+if_live false Selected rest text h = let no = h refl in cc
+if_live false Differs rest text h = refl
 
 -- ---- names in groups
 

@@ -14,6 +14,7 @@ pub mod MarkLemmas
 pub mod NamePaths
 pub mod InsideLemmas
 pub mod SelectionLemmas
+pub mod MatchLemmas
 pub mod DraftSteps
 pub mod DraftCodes
 pub mod CodesLemmas

@@ -1,5 +1,5 @@
 -- What is left of names inside a scope.
-use Rattle.std.specs.Prelude.{◌≡◌, ℕ, zero, suc, ◌<◌, Bool, true, false, List, [], ◌∷◌, ◌++◌, length, drop, take, reverse, slice_get, Some}
+use Rattle.std.specs.Prelude.{◌≡◌, ℕ, zero, suc, Bool, true, false, ◌&&◌, get_or, List, [], ◌∷◌, ◌++◌, length, drop, take, reverse, slice_get, Some}
 use Rattle.vcd_model.specs.Declarations.{Declaration, enclosing}
 use Rattle.vcd_model.specs.Header.{Header}
 use Rattle.vcd_model.specs.Selection.{selects_path}
@@ -20,9 +20,15 @@ abbrev pub front : List Declaration → ℕ → List ℕ
 front ds zero = []
 front ds (suc p) = names_text ds (reverse (p ∷ enclosing (take p ds)))
 
+-- it may select some path that goes on
+abbrev pub may_select : Left → Bool
+may_select Rest = true
+may_select Selected = true
+may_select Differs = false
+
 -- this is left of the names behind this front of a path
 abbrev pub AreLeft : List (List ℕ) → List ℕ → Inside → Type 0
-AreLeft names front s = (i : ℕ) (name : List ℕ) (left : Left) → slice_get names i ≡ Some name → slice_get s.left i ≡ Some left → (text : List ℕ) → selects_path (front ++ text) name ≡ left_selects left (drop s.passed name) text
+AreLeft names front s = (i : ℕ) (name : List ℕ) → slice_get names i ≡ Some name → (text : List ℕ) → selects_path (front ++ text) name ≡ (s.live && left_selects (get_or s.left i Rest) (drop s.passed name) text)
 
 -- what is held of each scope is right
 abbrev pub AreOpen : Header → List (List ℕ) → Open → Type 0

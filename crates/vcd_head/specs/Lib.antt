@@ -18,5 +18,6 @@ pub mod Scaled
 pub mod Marks
 pub mod Selects
 pub mod Inside
+pub mod Matched
 pub mod NewCode
 pub mod Merged

@@ -1,14 +1,14 @@
 // What is left of names inside the scopes that are open, so that a row is compared by its own name alone.
-ghost use Rattle.std.specs.Prelude.{◌≡◌, ◌==◌, false, ◌+◌, ◌<◌, ◌≤◌, [], ◌∷◌, ◌++◌, ℕ, List, length, drop, map, string_bytes, slice_get, take, true, Some, IfSome};
-ghost use Rattle.std.specs.List.{list_any};
-ghost use Rattle.vcd_model.specs.Declarations.{Declaration};
+ghost use Rattle.std.specs.Prelude.{◌≡◌, ◌+◌, ◌<◌, ◌≤◌, [], ◌∷◌, ◌++◌, ℕ, List, length, drop, map, string_bytes, slice_get, take, true, false, Some, IfSome};
+ghost use Rattle.vcd_model.specs.Declarations.{Declaration, name_of as name_of_declaration, path_of};
 ghost use Rattle.vcd_model.specs.Header.{Header};
 ghost use Rattle.vcd_model.specs.Selection.{is_selected as is_selected_by, is_variable, selects_path};
-ghost use Rattle.vcd_head.specs.Inside.{AreLeft, AreOpen, front, left_selects};
+ghost use Rattle.vcd_head.specs.Inside.{AreLeft, AreOpen, front, left_selects, may_select};
+ghost use Rattle.vcd_head.specs.Matched.{Matches, Matched};
 ghost use Rattle.vcd_head.specs.Paths.{scopes_text};
 ghost use Rattle.vcd_head.specs.Views.{IsViewOf};
 
-use crate::selection::{Match, after_component, is_or_goes_on, is_selected};
+use crate::selection::{Match, after_component, is_or_goes_on, selects};
 use crate::view::{HeadView, Kind};
 
 // So many names are followed together.
@@ -33,22 +33,51 @@ pub(crate) enum Left {
 pub(crate) struct Inside {
     // 1 plus the row of the scope, 0 outside of all.
     scope: usize,
+    // Some name may select what is inside. Where none does, what follows says nothing.
+    live: bool,
     // The bytes of the scope's path and the point behind it.
     passed: usize,
     // Of each name.
     left: [Left; TOGETHER],
 }
 
+impl Left {
+    // It may select what is inside.
+    fn may_select(self) -> bool
+        ensures { result ≡ may_select self }
+    {
+        match self {
+            Left::Rest => true,
+            Left::Selected => true,
+            Left::Differs => false,
+        }
+    }
+}
+
 impl Inside {
     // Outside of all scopes.
     fn outermost() -> Self
-        ensures left { (names : List (List ℕ)) → AreLeft names [] result }
+        ensures left { (names : List (List ℕ)) → length names ≤ 64 → AreLeft names [] result }
         ensures scope { result.scope ≡ 0 }
     {
         Inside {
             scope: 0,
+            live: true,
             passed: 0,
             left: [Left::Rest; TOGETHER],
+        }
+    }
+
+    // Inside a scope in which no name selects.
+    fn unselected(scope: usize) -> Self
+        ensures scope { result.scope ≡ scope }
+        ensures live { result.live ≡ false }
+    {
+        Inside {
+            scope,
+            live: false,
+            passed: 0,
+            left: [Left::Differs; TOGETHER],
         }
     }
 
@@ -60,32 +89,34 @@ impl Inside {
             → IfSome result
             (AreLeft (map string_bytes names.now) (f ++ (component.now ++ 46 ∷ []))) }
     {
+        if !self.live {
+            return Some(Inside::unselected(scope));
+        }
         let passed = self.passed.checked_add(component.len() + 1)?;
         let mut left = self.left;
+        let mut live = false;
         for place in 0..names.len() {
             let rest = behind(names[place].as_str(), self.passed);
-            left[place] = left_inside(self.left[place], rest, component);
+            let inner = left_inside(self.left[place], rest, component);
+            left[place] = inner;
+            live = live || inner.may_select();
         }
         Some(Inside {
             scope,
+            live,
             passed,
             left,
         })
     }
 
-    // Some name selects a variable that stands here.
-    fn selects(&self, names: &[String], own: &[u8]) -> bool
-        requires { length names.now ≤ 64 }
-        ensures { (f : List ℕ) → AreLeft (map string_bytes names.now) f self.now
-            → result ≡ list_any (selects_path (f ++ own.now)) (map string_bytes names.now) }
+    // The name at a place selects a variable that stands here.
+    fn selects(&self, place: usize, name: &str, own: &[u8]) -> bool
+        requires { place < 64 }
+        ensures { (f : List ℕ) (names : List (List ℕ)) → AreLeft names f self.now
+            → slice_get names place ≡ Some name.now
+            → result ≡ selects_path (f ++ own.now) name.now }
     {
-        for place in 0..names.len() {
-            let rest = behind(names[place].as_str(), self.passed);
-            if selects_own(self.left[place], rest, own) {
-                return true;
-            }
-        }
-        false
+        self.live && selects_own(self.left[place], behind(name, self.passed), own)
     }
 }
 
@@ -100,7 +131,7 @@ pub(crate) struct Open {
 
 impl Open {
     pub(crate) fn new() -> Self
-        ensures { (h : Header) (names : List (List ℕ)) → AreOpen h names result }
+        ensures { (h : Header) (names : List (List ℕ)) → length names ≤ 64 → AreOpen h names result }
     {
         Open {
             inside: [Inside::outermost(); MOST_HELD],
@@ -108,8 +139,16 @@ impl Open {
         }
     }
 
-    // Takes the next row; tells whether it is a variable's that some name selects, any variable's where there are no names.
-    pub(crate) fn take(&mut self, view: HeadView<'_>, row: usize, names: &[String]) -> bool
+    // Takes the next row; tells whether it is a variable's that some name selects, any variable's where there are no names, and
+    // which names select it, beside those that had matched before.
+    pub(crate) fn take(
+        &mut self,
+        view: HeadView<'_>,
+        row: usize,
+        names: &[String],
+        matched: &mut [bool; TOGETHER],
+    ) -> bool
+        requires { length names.now ≤ 64 }
         ensures open { (h : Header) → IsViewOf view.entry h
             → AreOpen h (map string_bytes names.now) self.old
             → AreOpen h (map string_bytes names.now) self.new }
@@ -117,13 +156,15 @@ impl Open {
             → slice_get h.declarations row ≡ Some d
             → AreOpen h (map string_bytes names.now) self.old
             → result ≡ is_selected_by (map string_bytes names.now) (take row h.declarations) d }
+        ensures matched { (h : Header) (d : Declaration) → IsViewOf view.entry h
+            → slice_get h.declarations row ≡ Some d
+            → AreOpen h (map string_bytes names.now) self.old
+            → Matched (λ name. is_selected_by (name ∷ []) (take row h.declarations) d)
+            (map string_bytes names.now) matched.old matched.new }
     {
         let Some(declared) = view.row_at(row) else {
             return false;
         };
-        if names.len() > TOGETHER {
-            return is_selected(view, row, names);
-        }
         match declared.kind {
             Kind::Scope => {
                 self.enter(view, row, names);
@@ -133,7 +174,7 @@ impl Open {
                 self.depth = self.depth.saturating_sub(1);
                 false
             }
-            Kind::Var => names.is_empty() || self.selects(view, row, names),
+            Kind::Var => self.selects(view, row, names, matched) || names.is_empty(),
         }
     }
 
@@ -166,18 +207,34 @@ impl Open {
         outer.enter(names, scope, view.name_of(row))
     }
 
-    // Some name selects the variable of a row.
-    fn selects(&self, view: HeadView<'_>, row: usize, names: &[String]) -> bool
+    // Some name selects the variable of a row; tells which ones.
+    fn selects(
+        &self,
+        view: HeadView<'_>,
+        row: usize,
+        names: &[String],
+        matched: &mut [bool; TOGETHER],
+    ) -> bool
         requires { length names.now ≤ 64 }
         ensures { (h : Header) (d : Declaration) → IsViewOf view.entry h
             → slice_get h.declarations row ≡ Some d → is_variable d ≡ true
-            → (length names.now == 0) ≡ false → AreOpen h (map string_bytes names.now) self.now
-            → result ≡ is_selected_by (map string_bytes names.now) (take row h.declarations) d }
+            → AreOpen h (map string_bytes names.now) self.now
+            → Matches (selects_path (path_of (take row h.declarations) d))
+            (map string_bytes names.now) matched.old matched.new result }
     {
-        match self.around(view, row) {
-            Some(inside) => inside.selects(names, view.name_of(row)),
-            None => is_selected(view, row, names),
+        let inside = self.around(view, row);
+        if selects_nothing(inside) {
+            return false;
         }
+        let own = view.name_of(row);
+        let mut some = false;
+        for place in 0..names.len() {
+            if name_selects(view, row, own, inside, place, names[place].as_str()) {
+                matched[place] = true;
+                some = true;
+            }
+        }
+        some
     }
 
     // What is left inside the scope around a row, where it is the innermost that is held.
@@ -193,6 +250,41 @@ impl Open {
             return None;
         }
         Some(inside)
+    }
+}
+
+// No name selects what is inside.
+fn selects_nothing(inside: Option<&Inside>) -> bool
+    ensures { result ≡ true → (f : List ℕ) (names : List (List ℕ))
+        → IfSome inside.entry (λ s. AreLeft names f s.now) → (name : List ℕ) (place : ℕ)
+        → slice_get names place ≡ Some name → (text : List ℕ)
+        → selects_path (f ++ text) name ≡ false }
+{
+    match inside {
+        Some(inside) => !inside.live,
+        None => false,
+    }
+}
+
+// The name at a place selects the variable of a row that has this name of its own.
+fn name_selects(
+    view: HeadView<'_>,
+    row: usize,
+    own: &[u8],
+    inside: Option<&Inside>,
+    place: usize,
+    name: &str,
+) -> bool
+    requires { place < 64 }
+    ensures { (h : Header) (d : Declaration) (names : List (List ℕ)) → IsViewOf view.entry h
+        → slice_get h.declarations row ≡ Some d → is_variable d ≡ true
+        → own.now ≡ name_of_declaration d → slice_get names place ≡ Some name.now
+        → IfSome inside.entry (λ s. AreLeft names (scopes_text (take row h.declarations)) s.now)
+        → result ≡ selects_path (path_of (take row h.declarations) d) name.now }
+{
+    match inside {
+        Some(inside) => inside.selects(place, name, own),
+        None => selects(view, row, name),
     }
 }
 

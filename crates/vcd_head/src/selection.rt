@@ -1,17 +1,16 @@
 //! Selection of variables by their paths (profile).
-ghost use Rattle.std.specs.Prelude.{◌≡◌, ◌+◌, ◌<◌, ◌∷◌, ◌++◌, ℕ, List, take, length, map, string_bytes, Some, None, MatchResult, IfOk, slice_get, []};
-ghost use Rattle.vcd_model.specs.Bytes.{is_empty};
+ghost use Rattle.std.specs.Prelude.{◌≡◌, ◌+◌, ◌<◌, ◌≤◌, ◌∷◌, ◌++◌, ℕ, List, take, length, map, string_bytes, Some, None, MatchResult, IfOk, IfSome, slice_get};
 ghost use Rattle.vcd_model.specs.Declarations.{Declaration, Variable, enclosing, parent, path_of};
 ghost use Rattle.vcd_model.specs.Header.{Header};
-ghost use Rattle.vcd_model.specs.Selection.{first_unmatched as first_unmatched_of, is_selected as is_selected_by, marked_places, selected, selects_path, is_variable as is_variable_of};
+ghost use Rattle.vcd_model.specs.Selection.{first_unmatched, marked_places, selects_path};
 ghost use Rattle.vcd_head.specs.Marks.{AllMarked, Marked, marks_of, scopes_at};
+ghost use Rattle.vcd_head.specs.Matched.{IsFirstFalse};
 ghost use Rattle.vcd_head.specs.Selects.{IsBehind, selects_after};
 ghost use Rattle.vcd_head.specs.Views.{IsViewOf, counted_from_one};
 
 use crate::enclosing::Enclosing;
 use crate::inside::{Open, TOGETHER};
-use crate::view::{HeadView, Kind};
-use std::slice;
+use crate::view::HeadView;
 
 // What a name says of a path whose prefix it was compared with.
 pub(crate) enum Match<'n> {
@@ -69,50 +68,6 @@ pub fn selects(view: HeadView<'_>, row: usize, name: &str) -> bool
     is_or_goes_on(view.name_of(row), rest)
 }
 
-// The row declares a variable.
-fn is_variable(view: HeadView<'_>, row: usize) -> bool
-    ensures { (h : Header) (d : Declaration) → IsViewOf view.entry h
-        → slice_get h.declarations row ≡ Some d → result ≡ is_variable_of d }
-{
-    match view.row_at(row) {
-        Some(row) => row.kind == Kind::Var,
-        None => false,
-    }
-}
-
-// The row is a variable's that some name selects, any variable's where there are no names.
-pub(crate) fn is_selected(view: HeadView<'_>, row: usize, names: &[String]) -> bool
-    ensures { (h : Header) (d : Declaration) → IsViewOf view.entry h
-        → slice_get h.declarations row ≡ Some d
-        → result ≡ is_selected_by (map string_bytes names.now) (take row h.declarations) d }
-{
-    is_variable(view, row)
-        && (names.is_empty() || names.iter().any(|name| selects(view, row, name.as_str())))
-}
-
-// No variable is selected by the name.
-fn selects_nothing(view: HeadView<'_>, name: &String) -> bool
-    ensures { (h : Header) → IsViewOf view.entry h
-        → result ≡ is_empty (selected (string_bytes name.now ∷ []) h.declarations) }
-{
-    let names = slice::from_ref(name);
-    let mut open = Open::new();
-    for row in 0..view.rows.len() {
-        if open.take(view, row, names) {
-            return false;
-        }
-    }
-    true
-}
-
-// The place of the first name that selects nothing.
-fn first_unmatched(view: HeadView<'_>, names: &[String]) -> Option<usize>
-    ensures { (h : Header) → IsViewOf view.entry h
-        → result ≡ first_unmatched_of (map string_bytes names.now) h.declarations }
-{
-    names.iter().position(|name| selects_nothing(view, name))
-}
-
 // Sets the marks of a row and of the scopes around it.
 fn mark(view: HeadView<'_>, row: usize, marks: &mut [u8])
     requires { row < length marks.old }
@@ -157,21 +112,41 @@ fn parent_of(view: HeadView<'_>, row: usize) -> usize
     }
 }
 
-// Sets the marks of the variables that some name selects, of all where there are no names, and of the scopes around them.
-fn mark_selected(view: HeadView<'_>, names: &[String], marks: &mut [u8])
-    requires { length marks.old ≡ length view.rows.now }
+// Sets the marks of the variables that some name selects, of all where there are no names, and of the scopes around them; gives
+// the place of the first name that selects nothing.
+fn mark_selected(view: HeadView<'_>, names: &[String], marks: &mut [u8]) -> Option<usize>
+    requires len { length marks.old ≡ length view.rows.now }
+    requires few { length names.now ≤ 64 }
     ensures marks { (h : Header) → IsViewOf view.entry h
         → Marked (marked_places (map string_bytes names.now) h.declarations) marks.old marks.new }
+    ensures names { (h : Header) → IsViewOf view.entry h
+        → result ≡ first_unmatched (map string_bytes names.now) h.declarations }
+    ensures within { IfSome result (λ place. place < length names.now) }
     ensures len { length marks.new ≡ length marks.old }
 {
     let mut open = Open::new();
+    let mut matched = [false; TOGETHER];
     // 1 plus the row of a scope that is marked, with those around it; 0 before.
     let mut marked = 0;
     for row in 0..view.rows.len() {
-        if open.take(view, row, names) {
+        if open.take(view, row, names, &mut matched) {
             marked = mark_behind(view, row, marked, marks);
         }
     }
+    first_false(&matched, names.len())
+}
+
+// The place of the first flag that is not set, of so many.
+fn first_false(flags: &[bool], count: usize) -> Option<usize>
+    requires { count ≤ length flags.now }
+    ensures { IsFirstFalse flags.now count result }
+{
+    for place in 0..count {
+        if !flags[place] {
+            return Some(place);
+        }
+    }
+    None
 }
 
 /// Marks the variables that the names select, all where there are no names, and the scopes around them: a mark is 1 there and 0
@@ -181,20 +156,20 @@ pub fn select(view: HeadView<'_>, names: &[String], marks: &mut [u8]) -> Result<
     ensures marks { (h : Header) → IsViewOf view.entry h
         → IfOk result (λ _. marks.new ≡ marks_of (map string_bytes names.now) h.declarations) }
     ensures names { (h : Header) → IsViewOf view.entry h
-        → MatchResult result (λ _. first_unmatched_of (map string_bytes names.now) h.declarations
-        ≡ None)
-        (λ name. first_unmatched_of (map string_bytes names.now) h.declarations ≡ Some name) }
+        → MatchResult result (λ _. first_unmatched (map string_bytes names.now) h.declarations ≡ None)
+        (λ name. first_unmatched (map string_bytes names.now) h.declarations ≡ Some name) }
 {
-    if let Some(name) = first_unmatched(view, names) {
-        return Err(name);
-    }
     marks.fill(0);
     let mut done = names.len().min(TOGETHER);
-    mark_selected(view, &names[..done], marks);
+    if let Some(place) = mark_selected(view, &names[..done], marks) {
+        return Err(place);
+    }
     while done < names.len() {
         let from = done;
         done = names.len().min(from.saturating_add(TOGETHER));
-        mark_selected(view, &names[from..done], marks);
+        if let Some(place) = mark_selected(view, &names[from..done], marks) {
+            return Err(from + place);
+        }
     }
     Ok(())
 }

@@ -28,6 +28,7 @@ pub mod MergeRuns
 pub mod MergeCloses
 pub mod WholeInputs
 pub mod MergeReads
+pub mod MergeStart
 pub mod MergeOutcomes
 pub mod MergeWholes
 pub mod MergeStops

@@ -1,5 +1,5 @@
 -- What a table counts of the values of codes, with one item more.
-use Rattle.std.proofs.Common.{◌≡◌, ℕ, ◌+◌, ◌-◌, ◌^◌, ◌<◌, ◌==◌, ◌&&◌, Bool, true, false, not, cond, min, List, [], ◌∷◌, ◌++◌, length, slice_get, Option, Some, None, refl, sym, ap, ◌∙◌, arith}
+use Rattle.std.proofs.Common.{◌≡◌, ℕ, ◌+◌, ◌-◌, ◌^◌, ◌<◌, ◌==◌, ◌&&◌, Bool, true, false, not, cond, min, List, [], ◌∷◌, ◌++◌, length, slice_get, Option, Some, None, refl, sym, ap, subst, ◌∙◌, arith}
 use Rattle.std.specs.Prelude.{option_map, unwrap_or}
 use Rattle.std.specs.List.{last_or}
 use Rattle.std.proofs.lemmas.Bool.{eq-eqb, eqb-true, eqb-false}
@@ -21,10 +21,12 @@ use Rattle.vcd_head.proofs.RowLemmas.{code_at}
 use Rattle.vcd_body.specs.Contents.{ChangesCode, IsLaidOut, counts_at, held_at, kept_at}
 use Rattle.vcd_body.specs.Given.{IsText}
 use Rattle.vcd_body.specs.Items.{model_form}
-use Rattle.vcd_body.specs.Kept.{Held, Kept, differs, last_digit_in, one_more, value_at_size, with_text}
+use Rattle.vcd_body.specs.Kept.{Held, IsStep, Kept, differs, goes_from, is_digit, last_digit_in, one_more, value_at_size, with_step, with_text}
 use Rattle.vcd_body.specs.declared.item.Form.{Form}
+use Rattle.vcd_body.specs.declared.item.Form.TheVariants as written
+use Rattle.vcd_body.specs.declared.step.Step.{Step}
 use Rattle.vcd_body.specs.declared.table.Table.{Table}
-use Rattle.vcd_tools.specs.Edges.{AreTallied, goes_from, is_digit, numbers, one_more_if, with_change}
+use Rattle.vcd_tools.specs.Edges.{AreTallied, numbers}
 use Rattle.vcd_tools.specs.Values.{AreHeld}
 use Rattle.vcd_tools.proofs.ValuesLemmas.{IsNew, SetsValue, held_still, new_holds, set_holds}
 
@@ -40,17 +42,8 @@ counts_in o = unwrap_or (option_map (λ (k : Kept). k.counts) o) (0 ∷ 0 ∷ 0 
 abbrev Retains : (Kept → Kept) → Type 0
 Retains f = (k : Kept) → ((f k).held ≡ k.held) × ((f k).room ≡ k.room)
 
-one_retains : (b : Bool) (which : ℕ) → Retains (one_more_if b which)
-one_retains true which k = (refl, refl)
-one_retains false which k = (refl, refl)
-
-change_retains : (before after : Option ℕ) → Retains (with_change before after)
-change_retains before after k =
-    let r = goes_from 48 49 before after in
-    let f = goes_from 49 48 before after in
-    let rise = one_retains r 1 (one_more 0 k) in
-    let fall = one_retains f 2 (one_more_if r 1 (one_more 0 k)) in
-    (fall.0 ∙ rise.0, fall.1 ∙ rise.1)
+step_retains : (rises falls : Bool) → Retains (with_step rises falls)
+step_retains rises falls k = (refl, refl)
 
 module _ (old new : Table) (place : ℕ) (f : Kept → Kept) (changes : ChangesCode place f old new) where
   counts_there : (k : Kept) → kept_at old place ≡ Some k → counts_at new place ≡ (f k).counts
@@ -88,25 +81,6 @@ module _ (old new : Table) (place : ℕ) (f : Kept → Kept) (changes : ChangesC
         let more = s.2 in let room = r.2 in
         (r.0, r.1, omega (arith, more, room));
   }
-
--- no change of them
-pub changes_none : (t : Table) (place which : ℕ) → ChangesCode place (one_more_if false which) t t
-changes_none t place which p = by_case (p == place) (kept_at t p)
-  where
-    by_case : (b : Bool) (o : Option Kept) → o ≡ cond b (option_map (one_more_if false which) o) o
-    by_case true (Some k) = refl
-    by_case true None = refl
-    by_case false o = refl
-
--- two changes of the counters of one code
-pub changes_twice : (old mid new : Table) (place : ℕ) (f g : Kept → Kept) → ChangesCode place f old mid → ChangesCode place g mid new → ChangesCode place (λ k. g (f k)) old new
-changes_twice old mid new place f g first second p =
-    second p ∙ ap (λ o. cond (p == place) (option_map g o) o) (first p) ∙ by_case (p == place) (kept_at old p)
-  where
-    by_case : (b : Bool) (o : Option Kept) → cond b (option_map g (cond b (option_map f o) o)) (cond b (option_map f o) o) ≡ cond b (option_map (λ k. g (f k)) o) o
-    by_case true (Some k) = refl
-    by_case true None = refl
-    by_case false o = refl
 
 -- ---- digits
 
@@ -158,7 +132,7 @@ no_mark : (n : Counts) → numbers n ≡ numbers (with_mark n true)
 no_mark n = let e : n.changes ≡ n.changes + 0 = omega arith in ap (λ m. m ∷ n.rises ∷ n.falls ∷ []) e
 
 module _ (n : Counts) (k : Kept) (small : AreSmall n) (is : k.counts ≡ numbers n) where
-  counters : (fall rise : Bool) → (one_more_if fall 2 (one_more_if rise 1 (one_more 0 k))).counts ≡ (n.changes + 1) ∷ (n.rises + cond rise 1 0) ∷ (n.falls + cond fall 1 0) ∷ []
+  counters : (fall rise : Bool) → (with_step rise fall k).counts ≡ (n.changes + 1) ∷ (n.rises + cond rise 1 0) ∷ (n.falls + cond fall 1 0) ∷ []
   counters fall rise =
       let changes = small.0 in let rises = small.1 in let falls = small.2 in
       let e0 : min (n.changes + 1) (2 ^ 64 - 1) ≡ n.changes + 1 = omega (arith, changes) in
@@ -169,22 +143,22 @@ module _ (n : Counts) (k : Kept) (small : AreSmall n) (is : k.counts ≡ numbers
       by_tests fall rise e0 e1 e2 z1 z2
     where
       by_tests : (fall rise : Bool) → min (n.changes + 1) (2 ^ 64 - 1) ≡ n.changes + 1 → min (n.rises + 1) (2 ^ 64 - 1) ≡ n.rises + 1 → min (n.falls + 1) (2 ^ 64 - 1) ≡ n.falls + 1 → n.rises ≡ n.rises + 0 → n.falls ≡ n.falls + 0
-          → (one_more_if fall 2 (one_more_if rise 1 (one_more 0 k))).counts ≡ (n.changes + 1) ∷ (n.rises + cond rise 1 0) ∷ (n.falls + cond fall 1 0) ∷ []
+          → (with_step rise fall k).counts ≡ (n.changes + 1) ∷ (n.rises + cond rise 1 0) ∷ (n.falls + cond fall 1 0) ∷ []
       by_tests true true e0 e1 e2 z1 z2 = rw (is, e0, e1, e2) refl
       by_tests true false e0 e1 e2 z1 z2 = rw (is, e0, e2) (ap (λ m. (n.changes + 1) ∷ m ∷ (n.falls + 1) ∷ []) z1)
       by_tests false true e0 e1 e2 z1 z2 = rw (is, e0, e1) (ap (λ m. (n.changes + 1) ∷ (n.rises + 1) ∷ m ∷ []) z2)
       by_tests false false e0 e1 e2 z1 z2 = rw (is, e0) (ap (λ m. (n.changes + 1) ∷ m ∷ n.falls ∷ []) z1 ∙ ap (λ m. (n.changes + 1) ∷ (n.rises + 0) ∷ m ∷ []) z2)
 
   -- after a value that differs
-  counted_value : (o : Option Value) (v : Value) (before after : Option ℕ) → differs o v ≡ true → before ≡ last_digit_in o → after ≡ last_digit_in (Some v) → (with_change before after k).counts ≡ numbers (with_value n o v)
-  counted_value None v before after d b a = cc
-  counted_value (Some u) v before after d b a =
-      let rise = ap (λ x. goes_from 48 49 x after) b ∙ ap (goes_from 48 49 (last_digit_in (Some u))) a ∙ goes_is 48 49 u v in
-      let fall = ap (λ x. goes_from 49 48 x after) b ∙ ap (goes_from 49 48 (last_digit_in (Some u))) a ∙ goes_is 49 48 u v in
-      counters (goes_from 49 48 before after) (goes_from 48 49 before after)
-      ∙ ap (λ x. (n.changes + 1) ∷ (n.rises + cond x 1 0) ∷ (n.falls + cond (goes_from 49 48 before after) 1 0) ∷ []) rise
+  counted_value : (s : Step) (o : Option Value) (v : Value) → IsStep s o v → s.differs ≡ true → (with_step s.rises s.falls k).counts ≡ numbers (with_value n o v)
+  counted_value s None v is differ = let d = is.0 in cc
+  counted_value s (Some u) v is differ =
+      let rise = is.1 ∙ goes_is 48 49 u v in
+      let fall = is.2 ∙ goes_is 49 48 u v in
+      counters s.falls s.rises
+      ∙ ap (λ x. (n.changes + 1) ∷ (n.rises + cond x 1 0) ∷ (n.falls + cond s.falls 1 0) ∷ []) rise
       ∙ ap (λ x. (n.changes + 1) ∷ (n.rises + cond (goes 48 49 (u, v)) 1 0) ∷ (n.falls + cond x 1 0) ∷ []) fall
-      ∙ ap (λ x. (n.changes + cond x 1 0) ∷ (n.rises + cond (goes 48 49 (u, v)) 1 0) ∷ (n.falls + cond (goes 49 48 (u, v)) 1 0) ∷ []) (sym d)
+      ∙ ap (λ x. (n.changes + cond x 1 0) ∷ (n.rises + cond (goes 48 49 (u, v)) 1 0) ∷ (n.falls + cond (goes 49 48 (u, v)) 1 0) ∷ []) (sym differ ∙ is.0)
 
 -- and after one that does not
 not_counted : (n : Counts) (o : Option Value) (v : Value) → differs o v ≡ false → numbers n ≡ numbers (with_value n o v)
@@ -206,6 +180,12 @@ small_counts c items few =
     let a = are_few c items in
     let changes = a.changes in let rises = a.rises in let falls = a.falls in
     (omega (arith, changes, few), omega (arith, rises, few), omega (arith, falls, few))
+
+-- a text that a code may have is not empty
+some_text : (f : Form) (c : Code) (text : List ℕ) → IsText f c text → 0 < length text
+some_text written.Scalar c text (d, digit, is) = let l = ap length is in omega (arith, l)
+some_text written.Vector c text good = good.0
+some_text written.RealText c text good = good.0
 
 -- ---- a code of a header
 
@@ -283,6 +263,10 @@ module _ (v : HeadView) (h : Header) (items : List BodyItem) (place : ℕ) (c : 
     abbrev change : Change
     change = record { code = c; form = model_form form; text = text }
 
+    -- its text is not empty
+    text_there : 0 < length text
+    text_there = let d = code_at v.text.now v.codes.now h.codes place c views.codes declared in some_text form d.0 text (good d.0 d.1)
+
     -- what the table held, and holds
     value_before : (old : Table) → AreHeld old h items → value_at_size c.size (held_at old place) ≡ final_value items c
     value_before old held = held.values.each place c declared event
@@ -309,11 +293,15 @@ module _ (v : HeadView) (h : Header) (items : List BodyItem) (place : ℕ) (c : 
       mid_held : AreHeld mid h (items ++ BodyItem.Changes change ∷ [])
       mid_held = set_holds v h old mid items place form text c views declared tallied.held sets laid good value
 
+      -- the step that the table told
+      step_is : (s : Step) → (0 < length text → IsStep s (value_at_size c.size (held_at old place)) (value_of change)) → IsStep s (final_value items c) (value_of change)
+      step_is s is = subst (λ o. IsStep s o (value_of change)) (value_before old tallied.held) (is text_there)
+
       -- a value that is the one before it
-      pub same_tallied : differs (value_at_size c.size (held_at old place)) (value_of change) ≡ false → AreTallied mid h (items ++ BodyItem.Changes change ∷ [])
-      same_tallied same =
+      pub same_tallied : (s : Step) → (0 < length text → IsStep s (value_at_size c.size (held_at old place)) (value_of change)) → s.differs ≡ false → AreTallied mid h (items ++ BodyItem.Changes change ∷ [])
+      same_tallied s is same =
           let k = tallied.held.shares place c declared in
-          let d = sym (ap (λ o. differs o (value_of change)) (value_before old tallied.held)) ∙ same in
+          let d = sym (step_is s is).0 ∙ same in
           record {
             held = mid_held;
             counted = value_counted mid old (counts_apart old mid place (with_text form text) sets)
@@ -321,20 +309,16 @@ module _ (v : HeadView) (h : Header) (items : List BodyItem) (place : ℕ) (c : 
           }
 
       -- one that differs
-      pub change_tallied : (new : Table) (before after : Option ℕ) → IsLaidOut new → ChangesCode place (with_change before after) mid new → differs (value_at_size c.size (held_at old place)) (value_of change) ≡ true
-          → before ≡ last_digit_in (value_at_size c.size (held_at old place)) → after ≡ last_digit_in (value_at_size c.size (held_at mid place)) → length items < 2 ^ 63 → AreTallied new h (items ++ BodyItem.Changes change ∷ [])
-      change_tallied new before after settled counts other first last few =
+      pub change_tallied : (s : Step) → (0 < length text → IsStep s (value_at_size c.size (held_at old place)) (value_of change)) → s.differs ≡ true → (new : Table) → IsLaidOut new → ChangesCode place (with_step s.rises s.falls) mid new → length items < 2 ^ 63 → AreTallied new h (items ++ BodyItem.Changes change ∷ [])
+      change_tallied s is other new settled counts few =
           let k = tallied.held.shares place c declared in
           let k' = with_text form text k.0 in
           let at : kept_at mid place ≡ Some k' = set_at k.0 k.1 in
           let was = ap counts_in (sym k.1) ∙ tallied.counted place c declared in
-          let d = sym (ap (λ o. differs o (value_of change)) (value_before old tallied.held)) ∙ other in
-          let b = first ∙ ap last_digit_in (value_before old tallied.held) in
-          let a = last ∙ ap last_digit_in (value_after mid mid_held) in
           record {
-            held = counted_held mid new place (with_change before after) counts settled (change_retains before after) h _ mid_held;
-            counted = value_counted new old (λ p e. counts_apart mid new place (with_change before after) counts p e ∙ counts_apart old mid place (with_text form text) sets p e)
-                (counts_there mid new place (with_change before after) counts k' at ∙ counted_value (counts_for items c) k' (small_counts c items few) was (final_value items c) (value_of change) before after d b a) tallied;
+            held = counted_held mid new place (with_step s.rises s.falls) counts settled (step_retains s.rises s.falls) h _ mid_held;
+            counted = value_counted new old (λ p e. counts_apart mid new place (with_step s.rises s.falls) counts p e ∙ counts_apart old mid place (with_text form text) sets p e)
+                (counts_there mid new place (with_step s.rises s.falls) counts k' at ∙ counted_value (counts_for items c) k' (small_counts c items few) was s (final_value items c) (value_of change) (step_is s is) other) tallied;
           }
         where
           set_at : (k : Kept) → kept_at old place ≡ Some k → kept_at mid place ≡ Some (with_text form text k)

@@ -1,6 +1,5 @@
 -- What `edges` keeps.
-use Rattle.std.specs.Prelude.{◌≡◌, ℕ, ◌==◌, ◌&&◌, Bool, true, false, List, [], ◌∷◌, length, map, string_bytes, slice_get, Option, Some, None}
-use Rattle.std.specs.Str.{byte}
+use Rattle.std.specs.Prelude.{◌≡◌, ℕ, List, [], ◌∷◌, length, map, string_bytes, slice_get, Some}
 use Rattle.vcd_model.specs.Bound.{RoomSize}
 use Rattle.vcd_model.specs.Declarations.{IdCode}
 use Rattle.vcd_model.specs.Edges.{Counts, counts_for}
@@ -8,7 +7,6 @@ use Rattle.vcd_model.specs.Header.{Header}
 use Rattle.vcd_model.specs.Items.{BodyItem}
 use Rattle.vcd_head.specs.Marks.{marks_of}
 use Rattle.vcd_body.specs.Contents.{bytes_in, codes_in, counts_at}
-use Rattle.vcd_body.specs.Kept.{Kept, one_more}
 use Rattle.vcd_body.specs.declared.table.Table.{Table}
 use Rattle.vcd_tools.specs.Values.{AreHeld}
 use Rattle.vcd_tools.specs.declared.machine.edges.Edges.{Edges}
@@ -18,24 +16,6 @@ use Rattle.vcd_tools.specs.declared.machine.edges.Edges.{Edges}
 -- three counters, as they are kept
 abbrev pub numbers : Counts → List ℕ
 numbers n = n.changes ∷ n.rises ∷ n.falls ∷ []
-
--- there is a digit, and it is this one
-abbrev pub is_digit : Option ℕ → ℕ → Bool
-is_digit None d = false
-is_digit (Some e) d = d == e
-
--- the last digit was a, and is b
-abbrev pub goes_from : ℕ → ℕ → Option ℕ → Option ℕ → Bool
-goes_from a b before after = is_digit before a && is_digit after b
-
--- one more in a counter, where the test holds
-abbrev pub one_more_if : Bool → ℕ → Kept → Kept
-one_more_if true which k = one_more which k
-one_more_if false which k = k
-
--- a change of the value, which had this last digit, and has this one
-abbrev pub with_change : Option ℕ → Option ℕ → Kept → Kept
-with_change before after k = one_more_if (goes_from (byte "1") (byte "0") before after) 2 (one_more_if (goes_from (byte "0") (byte "1") before after) 1 (one_more 0 k))
 
 -- after these items the table holds the values of the codes, and the counters of each are its counts
 pub record AreTallied (t : Table) (h : Header) (items : List BodyItem) : Type 0 where

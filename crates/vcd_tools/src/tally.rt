@@ -10,52 +10,15 @@ ghost use Rattle.vcd_head.specs.Marks.{marks_of};
 ghost use Rattle.vcd_head.specs.Views.{IsViewOf};
 ghost use Rattle.vcd_head.specs.declared.view.Code.{Code};
 ghost use Rattle.vcd_head.specs.declared.view.HeadView.{HeadView};
-ghost use Rattle.vcd_body.specs.Contents.{ChangesCode, IsLaidOut, bytes_in, codes_in};
+ghost use Rattle.vcd_body.specs.Contents.{bytes_in, codes_in};
 ghost use Rattle.vcd_body.specs.Given.{IsText};
 ghost use Rattle.vcd_body.specs.Items.{model_form};
-ghost use Rattle.vcd_tools.specs.Edges.{AreTallied, goes_from, one_more_if, with_change};
+ghost use Rattle.vcd_tools.specs.Edges.{AreTallied};
 
 use crate::selection::is_marked;
 use vcd_body::{Form, Table};
 use vcd_head::{HeadView, Kind, put_path};
 use vcd_text::{Sink, WriteFailed, put, put_number};
-
-/// Whether a last digit was one, and is another.
-#[inline(always)]
-fn goes(from: u8, to: u8, before: Option<u8>, after: Option<u8>) -> bool
-    ensures { result ≡ goes_from from to before after }
-{
-    match (before, after) {
-        (Some(first), Some(last)) => from == first && to == last,
-        _ => false,
-    }
-}
-
-/// Adds one to a counter of a code where the test holds.
-#[inline(always)]
-fn bump_if(table: &mut Table<'_>, code: usize, which: usize, test: bool)
-    ensures laid { IsLaidOut table.old → IsLaidOut table.new }
-    ensures changes { ChangesCode code (one_more_if test which) table.old table.new }
-    ensures codes { codes_in table.new ≡ codes_in table.old }
-    ensures bytes { bytes_in table.new ≡ bytes_in table.old }
-{
-    if test {
-        table.bump(code, which);
-    }
-}
-
-/// Counts a value of a code that differs from the one before it, by the last digits of both.
-#[inline(always)]
-fn count_change(table: &mut Table<'_>, code: usize, before: Option<u8>, after: Option<u8>)
-    ensures laid { IsLaidOut table.old → IsLaidOut table.new }
-    ensures changes { ChangesCode code (with_change before after) table.old table.new }
-    ensures codes { codes_in table.new ≡ codes_in table.old }
-    ensures bytes { bytes_in table.new ≡ bytes_in table.old }
-{
-    table.bump(code, 0);
-    bump_if(table, code, 1, goes(b'0', b'1', before, after));
-    bump_if(table, code, 2, goes(b'1', b'0', before, after));
-}
 
 /// Sets the value of the code at a place, which has this size and is no event, by the text of a change, and counts it where it
 /// differs from the one before it.
@@ -73,12 +36,9 @@ pub(crate) fn take_value(table: &mut Table<'_>, code: usize, size: usize, form: 
     ensures codes { codes_in table.new ≡ codes_in table.old }
     ensures bytes { bytes_in table.new ≡ bytes_in table.old }
 {
-    let before = table.last_digit(code);
-    let differs = table.differs(code, size, form, text);
-    table.set(code, form, text);
-    if differs {
-        let after = table.last_digit(code);
-        count_change(table, code, before, after);
+    let step = table.replace(code, size, form, text);
+    if step.differs {
+        table.count(code, step.rises, step.falls);
     }
 }
 

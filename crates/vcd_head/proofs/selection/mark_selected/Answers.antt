@@ -1,16 +1,18 @@
 use Rattle.std.proofs.Common.{[], ◌∷◌, map, take, length, string_bytes, refl, sym, subst, ◌∙◌, arith}
-use Rattle.std.proofs.lemmas.List.{take_all}
+use Rattle.std.proofs.lemmas.List.{length-map, take_all}
 use Rattle.vcd_model.specs.Declarations.{enclosing}
 use Rattle.vcd_model.specs.Selection.{marked_places}
 use Rattle.vcd_head.specs.Marks.{AllMarked, Marked, scopes_at}
+use Rattle.vcd_head.specs.Matched.{HaveMatched}
 use Rattle.vcd_head.proofs.DraftGrows.{rows_len}
 use Rattle.vcd_head.proofs.MarkLemmas.{marked_both, marked_first}
+use Rattle.vcd_head.proofs.MatchLemmas.{first_is, first_within, matched_next, none_matched}
 use Rattle.vcd_head.proofs.SelectionLemmas.{marks_more, marks_same, there}
 use Rattle.vcd_head.proofs.selection.mark_selected.Goals as goal
 use Rattle.vcd_head.proofs.selection.mark_selected.Goals.{then-take, else-take}
 
 pub loop-row-init : goal.loop-row-init
-loop-row-init c = record { marks = λ h v. marked_first (map string_bytes c.args.names.now) h.declarations c.args.marks.now; around = λ h v i l b. cc; held = λ h v. c.new-open.ensures h (map string_bytes c.args.names.now) }
+loop-row-init c = record { marks = λ h v. marked_first (map string_bytes c.args.names.now) h.declarations c.args.marks.now; around = λ h v i l b. cc; matched = λ h v. none_matched (map string_bytes c.args.names.now) h.declarations 64 (omega (arith, length-map c.args.names.now string_bytes)); held = λ h v. c.new-open.ensures h (map string_bytes c.args.names.now) (omega (arith, length-map c.args.names.now string_bytes)) }
 
 pub loop-row-preserved : goal.loop-row-preserved
 loop-row-preserved c = record {
@@ -38,6 +40,13 @@ loop-row-preserved c = record {
         | then-take w ↦ subst (λ n. AllMarked (scopes_at ds n) c.if-take.marks) (sym w.marked-is) (subst (AllMarked (scopes_at ds w.mark_behind-marked.result)) (sym w.marks-is) (w.mark_behind-marked.ensures.around h v (omega (arith, rows)) (c.loop-row.invariant.around h v)))
         | else-take w ↦ subst (λ n. AllMarked (scopes_at ds n) c.if-take.marks) (sym w.marked-is) (subst (AllMarked (scopes_at ds c.loop-row.marked)) (sym w.marks-is) (c.loop-row.invariant.around h v))
       ];
+  matched = λ h v.
+      let ds = h.declarations in
+      let names = map string_bytes c.args.names.now in
+      let row = c.loop-row.row in
+      let rows = rows_len c.args.view.text.now h.codes [] c.args.view.rows.now h.declarations v.rows in
+      let d = there ds row (omega (arith, rows)) in
+      matched_next names ds row d.0 c.loop-row.matched c.take.new.matched d.1 (c.loop-row.invariant.matched h v) (c.take.ensures.matched h d.0 v d.1 (c.loop-row.invariant.held h v));
   held = λ h v. c.take.ensures.open h v (c.loop-row.invariant.held h v);
 }
 
@@ -47,3 +56,13 @@ returns-clause-marks c = λ h v.
     let names = map string_bytes c.args.names.now in
     let rows = rows_len c.args.view.text.now h.codes [] c.args.view.rows.now h.declarations v.rows in
     subst (λ l. Marked (marked_places names l) c.args.marks.now c.loop-row.marks) (take_all c.loop-row.row ds (omega (arith, rows))) (c.loop-row.invariant.marks h v)
+
+pub returns-clause-names : goal.returns-clause-names
+returns-clause-names c = λ h v.
+    let ds = h.declarations in
+    let names = map string_bytes c.args.names.now in
+    let rows = rows_len c.args.view.text.now h.codes [] c.args.view.rows.now h.declarations v.rows in
+    first_is names ds c.loop-row.matched (length c.args.names.now) c.first_false.result (sym (length-map c.args.names.now string_bytes)) (subst (λ l. HaveMatched names l c.loop-row.matched) (take_all c.loop-row.row ds (omega (arith, rows))) (c.loop-row.invariant.matched h v)) c.first_false.ensures
+
+pub returns-clause-within : goal.returns-clause-within
+returns-clause-within c = first_within c.loop-row.matched (length c.args.names.now) c.first_false.result c.first_false.ensures

@@ -1,10 +1,11 @@
-use Rattle.std.proofs.Common.{◌≡◌, [], map, take, drop, length, slice_range, string_bytes, refl, sym, ap, subst, ◌∙◌, ◌-◌, arith}
-use Rattle.std.proofs.lemmas.List.{take_all, map-append}
-use Rattle.vcd_model.specs.Selection.{marked_places}
+use Rattle.std.proofs.Common.{◌≡◌, None, Some, [], ◌++◌, option_map, map, take, drop, length, slice_range, string_bytes, refl, sym, ap, subst, ◌∙◌, ◌-◌, ◌+◌, List, ℕ, arith}
+use Rattle.std.proofs.lemmas.List.{length-map, length-take-le, map-append, take-append-drop, take_all}
+use Rattle.vcd_model.specs.Selection.{first_unmatched, marked_places}
 use Rattle.vcd_head.specs.Marks.{Marked, marks_of}
 use Rattle.vcd_head.proofs.DraftGrows.{rows_len}
 use Rattle.vcd_head.proofs.InsideLemmas.{take_group, some_taken, some_grouped}
 use Rattle.vcd_head.proofs.MarkLemmas.{marked_all, marked_group}
+use Rattle.vcd_head.proofs.MatchLemmas.{unmatched_first, unmatched_later}
 use Rattle.vcd_head.proofs.selection.select.Goals as goal
 
 pub loop-done-preserved : goal.loop-done-preserved
@@ -16,6 +17,11 @@ loop-done-preserved c =
       within = omega arith;
       some = λ l. omega (arith, l);
       len = c.mark_selected-in-loop-done.ensures.len ∙ c.loop-done.invariant.len;
+      matched = λ h v.
+          let ds = h.declarations in
+          let now = sym (c.mark_selected-in-loop-done.ensures.names h v) ∙ c.in_default-mark_selected.is in
+          ap (λ l. first_unmatched l ds) (ap (map string_bytes) (take_group from to names (omega arith) (omega arith)) ∙ map-append string_bytes (take from names) (slice_range names from to))
+          ∙ unmatched_later (map string_bytes (take from names)) (map string_bytes (slice_range names from to)) ds None (c.loop-done.invariant.matched h v) (sym now);
       marks = λ h zeros v first.
           let split = ap (map string_bytes) (take_group from to names (omega arith) (omega arith)) ∙ map-append string_bytes (take from names) (slice_range names from to) in
           subst (λ l. Marked (marked_places l h.declarations) zeros c.mark_selected-in-loop-done.new.marks) (sym split)
@@ -33,3 +39,31 @@ returns-clause-marks c = λ h v.
     let rows = rows_len c.args.view.text.now h.codes [] c.args.view.rows.now h.declarations v.rows in
     let whole = subst (λ l. Marked (marked_places (map string_bytes l) ds) zeros c.loop-done.marks) (take_all c.loop-done.done names (omega arith)) (c.loop-done.invariant.marks h zeros v (c.mark_selected.ensures.marks h v)) in
     marked_all (marked_places (map string_bytes names) ds) zeros c.loop-done.marks (length ds) (omega (arith, rows, c.fill.ensures.len)) (λ i l. c.fill.ensures.clones i 0 (omega (arith, rows)) refl) whole
+
+-- the names in two groups, by a number of them
+split_at : {X : Type 0} (text : X → List ℕ) (n : ℕ) (xs : List X) → map text xs ≡ map text (take n xs) ++ map text (drop n xs)
+split_at text n xs = ap (map text) (sym (take-append-drop n xs)) ∙ map-append text (take n xs) (drop n xs)
+
+pub returns-in-Some-clause-names : goal.returns-in-Some-clause-names
+returns-in-Some-clause-names c = λ h v.
+    let names = c.args.names.now in
+    let done = c.min-done.result in
+    ap (λ l. first_unmatched l h.declarations) (split_at string_bytes done names)
+    ∙ unmatched_first (map string_bytes (take done names)) (map string_bytes (drop done names)) h.declarations c.in-Some.place (sym (c.mark_selected.ensures.names h v) ∙ c.in-Some.is)
+
+pub returns-in-Some-mark_selected-clause-names : goal.returns-in-Some-mark_selected-clause-names
+returns-in-Some-mark_selected-clause-names c = λ h v.
+    let ds = h.declarations in
+    let names = c.args.names.now in
+    let from = c.loop-done.done in
+    let to = c.min-done-in-loop-done.result in
+    let place = c.in-Some-mark_selected.place in
+    let both = ap (map string_bytes) (take_group from to names (omega arith) (omega arith)) ∙ map-append string_bytes (take from names) (slice_range names from to) in
+    let found = sym c.in-Some-mark_selected.is ∙ c.mark_selected-in-loop-done.ensures.names h v in
+    let count : length (map string_bytes (take from names)) ≡ from = length-map (take from names) string_bytes ∙ length-take-le from names (omega arith) in
+    let here = ap (λ l. first_unmatched l ds) both ∙ unmatched_later (map string_bytes (take from names)) (map string_bytes (slice_range names from to)) ds (Some place) (c.loop-done.invariant.matched h v) found ∙ ap (λ n. Some (n + place)) count in
+    ap (λ l. first_unmatched l ds) (split_at string_bytes to names) ∙ unmatched_first (map string_bytes (take to names)) (map string_bytes (drop to names)) ds (from + place) here
+
+pub returns-clause-names : goal.returns-clause-names
+returns-clause-names c = λ h v.
+    ap (λ l. first_unmatched (map string_bytes l) h.declarations) (sym (take_all c.loop-done.done c.args.names.now (omega arith))) ∙ c.loop-done.invariant.matched h v

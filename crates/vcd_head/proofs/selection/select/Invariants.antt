@@ -1,6 +1,6 @@
-use Rattle.std.proofs.Common.{◌≡◌, ◌-◌, ◌<◌, ◌≤◌, List, ℕ, length, map, take, string_bytes}
+use Rattle.std.proofs.Common.{◌≡◌, None, ◌-◌, ◌<◌, ◌≤◌, List, ℕ, length, map, take, string_bytes}
 use Rattle.vcd_model.specs.Header.{Header}
-use Rattle.vcd_model.specs.Selection.{marked_places}
+use Rattle.vcd_model.specs.Selection.{first_unmatched, marked_places}
 use Rattle.vcd_head.specs.Marks.{Marked}
 use Rattle.vcd_head.specs.Shown.{parts}
 use Rattle.vcd_head.specs.Views.{Views}
@@ -11,6 +11,7 @@ invariant-loop-done l = record {
   within : l.done ≤ length l.names;
   some : l.done < length l.names → 0 < l.done;
   len : length l.marks ≡ length l.view.rows.now;
+  matched : (h : Header) → Views (parts l.view) h → first_unmatched (map string_bytes (take l.done l.names)) h.declarations ≡ None;
   marks : (h : Header) (zeros : List ℕ) → Views (parts l.view) h → Marked (marked_places (map string_bytes (take l.initial.done l.names)) h.declarations) zeros l.initial.marks
       → Marked (marked_places (map string_bytes (take l.done l.names)) h.declarations) zeros l.marks;
 }

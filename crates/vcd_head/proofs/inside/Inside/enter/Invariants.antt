@@ -1,11 +1,12 @@
-use Rattle.std.proofs.Common.{◌≡◌, ◌+◌, ◌<◌, ◌∷◌, ◌++◌, ℕ, List, length, drop, map, string_bytes, slice_get, Some}
-use Rattle.vcd_head.specs.Inside.{left_selects}
-use Rattle.vcd_head.specs.declared.inside.Left.{Left}
+use Rattle.std.proofs.Common.{◌≡◌, ◌+◌, ◌<◌, ◌∷◌, ◌++◌, ℕ, List, false, length, drop, get_or, map, string_bytes, slice_get, Some}
+use Rattle.vcd_head.specs.Inside.{left_selects, may_select}
+use Rattle.vcd_head.specs.declared.inside.Left.TheVariants.{Rest}
 use Rattle.vcd_head.proofs.inside.Inside.enter.Given as goal
 
 abbrev pub invariant-loop-place : goal.invariant-loop-place
 invariant-loop-place l = record {
   len : length l.left ≡ length l.self.left;
-  inner : (i : ℕ) (name : List ℕ) (x y : Left) → i < l.place → slice_get (map string_bytes l.names) i ≡ Some name → slice_get l.self.left i ≡ Some x → slice_get l.left i ≡ Some y
-      → (text : List ℕ) → left_selects y (drop (length l.component + 1) (drop l.self.passed name)) text ≡ left_selects x (drop l.self.passed name) (l.component ++ 46 ∷ text);
+  inner : (i : ℕ) (name : List ℕ) → i < l.place → slice_get (map string_bytes l.names) i ≡ Some name
+      → (text : List ℕ) → left_selects (get_or l.left i Rest) (drop (length l.component + 1) (drop l.self.passed name)) text ≡ left_selects (get_or l.self.left i Rest) (drop l.self.passed name) (l.component ++ 46 ∷ text);
+  none : (i : ℕ) → i < l.place → l.live ≡ false → may_select (get_or l.left i Rest) ≡ false;
 }

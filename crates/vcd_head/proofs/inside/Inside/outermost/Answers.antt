@@ -1,9 +1,10 @@
-use Rattle.std.proofs.Common.{◌≡◌, refl, subst}
-use Rattle.vcd_model.specs.Selection.{selects_path}
+use Rattle.std.proofs.Common.{sym, ap, arith}
+use Rattle.std.proofs.lemmas.List.{get_or-replicate}
+use Rattle.std.proofs.lemmas.Option.{slice_get_within}
 use Rattle.vcd_head.specs.Inside.{left_selects}
 use Rattle.vcd_head.specs.declared.inside.Left.TheVariants.{Rest}
-use Rattle.vcd_head.proofs.InsideLemmas.{same_everywhere}
 use Rattle.vcd_head.proofs.inside.Inside.outermost.Goals as goal
 
 pub returns-clause-left : goal.returns-clause-left
-returns-clause-left c = λ names i name left a b text. subst (λ x. selects_path text name ≡ left_selects x name text) (same_everywhere 64 i Rest left b) refl
+returns-clause-left c = λ names few i name at text.
+    sym (ap (λ l. left_selects l name text) (get_or-replicate 64 i Rest Rest (omega (arith, slice_get_within names i name at))))

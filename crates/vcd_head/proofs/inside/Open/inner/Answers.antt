@@ -1,7 +1,6 @@
 use Rattle.std.proofs.Common.{◌≡◌, ◌+◌, ◌<◌, ◌++◌, ◌∷◌, [], suc, Some, length, map, slice_get, string_bytes, sym, ap, subst, ◌∙◌, arith, rules, add-one}
 use Rattle.std.specs.Option.{IfSome}
 use Rattle.vcd_head.specs.Inside.{AreLeft, front}
-use Rattle.vcd_head.specs.declared.inside.Inside.{Inside}
 use Rattle.vcd_head.specs.Paths.{scopes_text}
 use Rattle.vcd_head.proofs.DraftGrows.{rows_len}
 use Rattle.vcd_head.proofs.InsideLemmas.{front_next, both_some}
