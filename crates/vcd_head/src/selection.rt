@@ -1,5 +1,5 @@
 //! Selection of variables by their paths (profile).
-ghost use Rattle.std.specs.Prelude.{◌≡◌, ◌+◌, ◌<◌, ◌≤◌, ◌∷◌, ◌++◌, ℕ, List, take, length, map, string_bytes, Some, None, MatchResult, IfOk, IfSome, slice_get};
+ghost use Rattle.std.specs.Prelude.{◌≡◌, ◌≢◌, false, ◌+◌, ◌<◌, ◌≤◌, ◌∷◌, ◌++◌, ℕ, List, take, length, map, string_bytes, Some, None, MatchResult, IfOk, IfSome, slice_get};
 ghost use Rattle.vcd_model.specs.Declarations.{Declaration, Variable, enclosing, parent, path_of};
 ghost use Rattle.vcd_model.specs.Header.{Header};
 ghost use Rattle.vcd_model.specs.Selection.{first_unmatched, marked_places, selects_path};
@@ -22,10 +22,24 @@ pub(crate) enum Match<'n> {
     Differs,
 }
 
+// A quick test, which is false only where the text does not begin with the front: whether the last byte of the front stands in its
+// place. Names that stand together often differ in their last bytes alone.
+fn may_begin(text: &[u8], front: &[u8]) -> bool
+    ensures { result ≡ false → (rest : List ℕ) → text.now ≢ front.now ++ rest }
+{
+    let Some(last) = front.len().checked_sub(1) else {
+        return true;
+    };
+    last < text.len() && text[last] == front[last]
+}
+
 // The text is the name, or begins with it and a point.
 pub(crate) fn is_or_goes_on(text: &[u8], name: &[u8]) -> bool
     ensures { result ≡ selects_path text.now name.now }
 {
+    if !may_begin(text, name) {
+        return false;
+    }
     match text.strip_prefix(name) {
         Some(rest) => rest.is_empty() || rest.starts_with(b"."),
         None => false,
@@ -40,6 +54,9 @@ pub(crate) fn after_component<'n>(name: &'n [u8], component: &[u8]) -> Match<'n>
 {
     if is_or_goes_on(component, name) {
         return Match::Selected;
+    }
+    if !may_begin(name, component) {
+        return Match::Differs;
     }
     let Some(after) = name.strip_prefix(component) else {
         return Match::Differs;
