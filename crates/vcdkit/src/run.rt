@@ -18,7 +18,7 @@ ghost use Rattle.vcdkit.specs.Run.{Ends, HasRun, IsAfter, IsOfJob, settled_for};
 ghost use Rattle.vcdkit.specs.declared.failure.Failure.{Failure};
 
 use crate::failure::Failure;
-use crate::inputs::{open_input, windows_for};
+use crate::inputs::{MOST_DECLARATIONS, open_input, windows_for};
 use crate::job::{Job, Want};
 use crate::message::report;
 use std::alloc::Global;
@@ -98,14 +98,14 @@ fn run_input<S: Source, W: Sink>(
     ensures writes { (W.device out.new).failures
         ≡ (W.device out.old).failures + writes_failed (failure_of result) }
 {
-    let mut windows = windows_for(alloc, job)?;
+    let mut memory = windows_for(alloc, job, 1)?;
     let mut feed = Feed::new(
         reader,
-        &mut windows.chunk,
-        &mut windows.token,
-        &mut windows.value,
+        &mut memory.chunks,
+        &mut memory.tokens,
+        &mut memory.values,
     );
-    let head = open_input(alloc, 0, &mut feed)?;
+    let head = open_input(alloc, 0, &mut feed, MOST_DECLARATIONS)?;
     run_want(alloc, &job.want, head.view(), &mut feed, out)
 }
 
