@@ -1,5 +1,5 @@
 -- The inputs of a run while their headers are read: what was read of each, and why one of them ends the run.
-use Rattle.std.specs.Prelude.{◌≡◌, ◌==◌, ◌⊎◌, ℕ, suc, false, List, [], ◌∷◌, ◌++◌, length, map, Option, Some, None, slice_get, option_map}
+use Rattle.std.specs.Prelude.{◌≡◌, ◌==◌, ◌⊎◌, ℕ, suc, false, List, [], ◌∷◌, ◌++◌, length, map, Option, Some, None, Result, MatchResult, slice_get, slice_set, option_map}
 use Rattle.vcd_model.specs.Input.{Input}
 use Rattle.vcd_model.specs.Tokens.{Token, end_of_tokens, stream_of}
 use Rattle.vcd_model.specs.Header.{Header, header_of}
@@ -22,6 +22,9 @@ use Rattle.vcd_tools.specs.Run.{IsLeft}
 use Rattle.vcd_tools.specs.Seat.{GaveParked, Lane, Spot}
 use Rattle.vcd_tools.specs.declared.answer.Stop.TheVariants.{Dump, Read}
 use Rattle.vcd_tools.specs.declared.seat.Seat.{Seat}
+use Rattle.vcd_tools.specs.declared.windows.Windows.{Windows}
+use Rattle.vcdkit.specs.Failure.{failure_of, CountsRead}
+use Rattle.vcdkit.specs.declared.inputs.Begun.{Begun}
 use Rattle.vcdkit.specs.declared.failure.Failure.{Failure}
 use Rattle.vcdkit.specs.declared.failure.Failure.TheVariants.{Stopped, Refused, OutOfMemory}
 
@@ -111,3 +114,20 @@ pub record HaveBegun {X : Type 0} (limit chunk n : ℕ) (rest : X → Option (Li
   pub begun : AreBegun limit chunk [] texts (map (supply rest failures) old) (map (supply rest failures) new) lanes
   pub views : AreShown heads lanes
   pub parked : AreParked n rest lanes seats new chunks tokens
+
+-- ---- one input of several
+
+-- the parts of the input at a place among n stay
+pub record SameParts (n place : ℕ) (old new : Windows) : Type 0 where
+  pub chunks : part (part_len n old.chunks.now) place new.chunks.now ≡ part (part_len n old.chunks.now) place old.chunks.now
+  pub tokens : part (part_len n old.tokens.now) place new.tokens.now ≡ part (part_len n old.tokens.now) place old.tokens.now
+
+-- The reading of the header of the input at a place among n, over this reader and its parts of the windows: no other reader is touched, and a failed read is one of it.
+pub record BeginsAt {X : Type 0} (n place most : ℕ) (rest : X → Option (List ℕ)) (failures : X → ℕ) (reader : X) (old new : List X) (windows windows' : Windows) (result : Result Begun Failure) : Type 0 where
+  pub after : X
+  pub readers : new ≡ slice_set old place after
+  pub counts : CountsRead place (failures reader) (failures after) (failure_of result)
+  pub gives : (text : List ℕ) → rest reader ≡ Some text → MatchResult result
+      (λ begun. Begins most (part_len n windows.tokens.now) (part_len n windows.chunks.now) (whole text) begun.head begun.seat
+      (part (part_len n windows.chunks.now) place windows'.chunks.now) (part (part_len n windows.tokens.now) place windows'.tokens.now) (supply rest failures reader) (supply rest failures after))
+      (HasFailed most (part_len n windows.tokens.now) (part_len n windows.chunks.now) place (whole text) (supply rest failures reader) (supply rest failures after))

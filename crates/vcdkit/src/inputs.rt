@@ -11,7 +11,7 @@ ghost use Rattle.vcd_head.specs.declared.fault.HeadFault.{HeadFault};
 ghost use Rattle.vcd_tools.specs.MergeParts.{AreParts, SameLengths, part, part_len};
 ghost use Rattle.vcd_tools.specs.Seat.{IsSeated};
 ghost use Rattle.vcdkit.specs.Failure.{failure_of, head_failure, writes_failed, CountsRead, CountsReads};
-ghost use Rattle.vcdkit.specs.Inputs.{Begins, HasFailed, HaveBegun, IsNew, Stops};
+ghost use Rattle.vcdkit.specs.Inputs.{Begins, BeginsAt, HasFailed, HaveBegun, IsNew, SameParts, Stops};
 
 use crate::failure::Failure;
 use crate::job::Job;
@@ -119,4 +119,109 @@ fn begin<S: Source>(
     let head = open_input(alloc, input, &mut feed, most)?;
     let seat = Seat::new(feed.parked());
     Ok(Begun { head, seat })
+}
+
+/// The same over the reader at its place among these. The parts of the windows are those at its place, and no other input's are
+/// touched.
+fn begin_at<S: Source>(
+    alloc: Global,
+    input: usize,
+    readers: &mut [S],
+    windows: &mut Windows<'_>,
+    most: u64,
+) -> Result<Begun, Failure>
+    requires input { input < length readers.old }
+    requires parts { AreParts
+        (length readers.old) windows.old.chunks.now windows.old.tokens.now windows.old.values.now }
+    requires failures { All (λ r. S.failures r < 2 ^ 64 - 1) readers.old }
+    requires most { most ≤ 16777216 }
+    ensures begins { (r : S) → slice_get readers.old input ≡ Some r
+        → BeginsAt (length readers.old) input most S.rest S.failures r readers.old readers.new
+        windows.old windows.new result }
+    ensures others { (j : ℕ) → j ≢ input → SameParts (length readers.old) j windows.old windows.new }
+    ensures lengths { SameLengths windows.old windows.new }
+    ensures no_write { writes_failed (failure_of result) ≡ 0 }
+    ensures seated { IfOk result (λ begun.
+        IsSeated (part_len (length readers.old) windows.old.chunks.now)
+        (part_len (length readers.old) windows.old.tokens.now)
+        begun.seat × IsNew begun.seat) }
+{
+    let chunk = windows.chunks.len() / readers.len();
+    let limit = windows.tokens.len() / readers.len();
+    let chunk_at = input * chunk;
+    let token_at = input * limit;
+    begin(
+        alloc,
+        input,
+        &mut readers[input],
+        &mut windows.chunks[chunk_at..chunk_at + chunk],
+        &mut windows.tokens[token_at..token_at + limit],
+        &mut windows.values[token_at..token_at + limit],
+        most,
+    )
+}
+
+/// What the inputs of a merge are once their headers were read, in order.
+#[derive(Drop)]
+pub(crate) struct Inputs {
+    pub heads: Vec<Head>,
+    pub seats: Vec<Seat>,
+}
+
+impl Inputs {
+    ghost use Rattle.std.specs.Prelude.{◌≡◌, ◌++◌, ◌∷◌, [], IfOk};
+
+    /// One input more.
+    fn push(&mut self, begun: Begun) -> Result<(), AllocError>
+        ensures { IfOk result
+            (λ _. (self.new.heads.items ≡ self.old.heads.items ++ begun.head ∷ [])
+            × (self.new.seats.items ≡ self.old.seats.items ++ begun.seat ∷ [])) }
+    {
+        self.heads.push(begun.head)?;
+        self.seats.push(begun.seat)?;
+        Ok(())
+    }
+}
+
+/// Reads the headers of all inputs in order, up to the first that has a fault.
+pub(crate) fn open_inputs<S: Source>(
+    alloc: Global,
+    readers: &mut [S],
+    windows: &mut Windows<'_>,
+) -> Result<Inputs, Failure>
+    requires some { 0 < length readers.old }
+    requires parts { AreParts
+        (length readers.old) windows.old.chunks.now windows.old.tokens.now windows.old.values.now }
+    requires failures { All (λ r. S.failures r < 2 ^ 64 - 1) readers.old }
+    ensures begins { (texts : List (List ℕ)) → map S.rest readers.old ≡ map (λ text. Some text) texts
+        → MatchResult result
+        (λ inputs. HaveBegun (part_len (length readers.old) windows.old.tokens.now)
+        (part_len (length readers.old) windows.old.chunks.now) (length readers.old)
+        S.rest S.failures texts readers.old readers.new inputs.heads.items inputs.seats.items
+        windows.new.chunks.now windows.new.tokens.now)
+        (Stops (part_len (length readers.old) windows.old.tokens.now)
+        (part_len (length readers.old) windows.old.chunks.now) 0 [] texts
+        (map (supply S.rest S.failures) readers.old) (map (supply S.rest S.failures) readers.new)) }
+    ensures reads { CountsReads (map S.failures readers.old) (map S.failures readers.new)
+        (failure_of result) }
+    ensures no_write { writes_failed (failure_of result) ≡ 0 }
+    ensures lengths { SameLengths windows.old windows.new }
+    ensures many { IfOk result (λ inputs. (length inputs.heads.items ≡ length readers.old)
+        × (length inputs.seats.items ≡ length readers.old)) }
+    ensures seated { IfOk result (λ inputs.
+        All (λ seat. IsSeated (part_len (length readers.old) windows.old.chunks.now)
+        (part_len (length readers.old) windows.old.tokens.now) seat × IsNew seat)
+        inputs.seats.items) }
+{
+    let mut inputs = Inputs {
+        heads: Vec::new(alloc),
+        seats: Vec::with_capacity(alloc, readers.len())?,
+    };
+    let mut left = MOST_DECLARATIONS;
+    for input in 0..readers.len() {
+        let begun = begin_at(alloc, input, readers, windows, left)?;
+        left = left.saturating_sub(begun.head.view().rows.len() as u64);
+        inputs.push(begun)?;
+    }
+    Ok(inputs)
 }
