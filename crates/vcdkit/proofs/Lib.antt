@@ -3,6 +3,7 @@ mod MessageLemmas
 mod OutcomeLemmas
 pub mod HeaderLemmas
 pub mod InputsLemmas
+pub mod OpenLemmas
 mod RunLemmas
 pub mod TimesLemmas
 mod PeriodLemmas
