@@ -4,6 +4,7 @@ mod OutcomeLemmas
 pub mod HeaderLemmas
 pub mod InputsLemmas
 pub mod OpenLemmas
+mod EndLemmas
 mod RunLemmas
 pub mod TimesLemmas
 mod PeriodLemmas

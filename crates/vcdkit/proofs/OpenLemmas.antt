@@ -2,6 +2,7 @@
 use Rattle.std.proofs.Common.{◌≡◌, ◌≢◌, ℕ, zero, suc, ◌+◌, ◌-◌, ◌*◌, ◌/◌, ◌<◌, ◌≤◌, ◌⊎◌, inl, inr, List, [], ◌∷◌, ◌++◌, length, map, slice_get, slice_set, Option, Some, None, Result, Ok, Err, refl, sym, ap, ap₂, subst, ◌∙◌, arith, append_assoc}
 use Rattle.std.specs.Prelude.{All, MatchResult, get_or, slice_index, option_map, sum_by}
 use Rattle.std.proofs.lemmas.List.{append-nil, length-append, length-map, map-append}
+use Rattle.std.specs.List.{AllZip}
 use Rattle.std.proofs.lemmas.List.Elements.{All-push}
 use Rattle.std.proofs.lemmas.List.Sums.{sum_by-append}
 use Rattle.std.proofs.Math.ListN.{get_or-map, length-set}
@@ -13,7 +14,7 @@ use Rattle.vcd_text.specs.Device.{Supply, supply}
 use Rattle.vcd_head.specs.Shown.{shown}
 use Rattle.vcd_head.specs.Views.{Views}
 use Rattle.vcd_head.specs.declared.head.Head.{Head}
-use Rattle.vcd_head.proofs.DraftGrows.{rows_len}
+use Rattle.vcd_head.proofs.DraftGrows.{all_zip_push, rows_len}
 use Rattle.vcd_tools.specs.MergeParts.{part, part_len, SameLengths}
 use Rattle.vcd_tools.specs.Seat.{GaveParked, IsSeated, Lane, Spot}
 use Rattle.vcd_tools.specs.declared.windows.Windows.{Windows}
@@ -135,7 +136,7 @@ module _ {X : Type 0} (limit chunk n : ℕ) (rest : X → Option (List ℕ)) (fa
     many_lanes = refl;
     begun = tt;
     left_is = refl;
-    views = λ k h l a b. cc;
+    views = tt;
     parked = λ k l s a b. cc;
   }
 
@@ -201,13 +202,9 @@ module _ {X : Type 0} (limit chunk n : ℕ) (rest : X → Option (List ℕ)) (fa
         stops_behind = stops_here after OutOfMemory (begun_only left limit chunk (whole t.text) g.lane (supply rest failures t.reader) (supply rest failures after) g.begun k)
 
         shown_more : AreShown (heads ++ head ∷ []) (b.lanes ++ g.lane ∷ [])
-        shown_more j h l a c = by_place (get_place heads head j h a) (get_place b.lanes g.lane j l c)
-          where
-            by_place : ((j < length heads) × (slice_get heads j ≡ Some h)) ⊎ ((j ≡ length heads) × (head ≡ h)) → ((j < length b.lanes) × (slice_get b.lanes j ≡ Some l)) ⊎ ((j ≡ length b.lanes) × (g.lane ≡ l)) → Views (shown h) l.header
-            by_place (inl p) (inl q) = b.views j h l p.1 q.1
-            by_place (inl p) (inr q) = let e = b.many_lanes in let a = p.0 in let c = q.0 in absurd (omega arith)
-            by_place (inr p) (inl q) = let e = b.many_lanes in let a = p.0 in let c = q.0 in absurd (omega arith)
-            by_place (inr p) (inr q) = subst (λ (x : Head). Views (shown x) l.header) p.1 (subst (λ (x : Lane). Views (shown head) x.header) q.1 g.views)
+        shown_more =
+            subst (λ (hs : List Header). AllZip (λ (h : Head) (x : Header). Views (shown h) x) (heads ++ head ∷ []) hs) (sym (map-append (λ (l : Lane). l.header) b.lanes (g.lane ∷ [])))
+            (all_zip_push (λ (h : Head) (x : Header). Views (shown h) x) heads (headers_in b.lanes) head g.lane.header b.views g.views)
 
         module _ (within : k < length now) (cl : length chunks' ≡ length chunks) (tl : length tokens' ≡ length tokens) (chunk_is : part_len n chunks ≡ chunk) (limit_is : part_len n tokens ≡ limit)
             (others : (j : ℕ) → j ≢ k → (part (part_len n chunks) j chunks' ≡ part (part_len n chunks) j chunks) × (part (part_len n tokens) j tokens' ≡ part (part_len n tokens) j tokens)) where

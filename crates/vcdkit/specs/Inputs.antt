@@ -1,5 +1,6 @@
 -- The inputs of a run while their headers are read: what was read of each, and why one of them ends the run.
 use Rattle.std.specs.Prelude.{◌≡◌, ◌==◌, ◌⊎◌, ℕ, suc, false, List, [], ◌∷◌, ◌++◌, length, map, Option, Some, None, Result, MatchResult, slice_get, slice_set, option_map}
+use Rattle.std.specs.List.{AllZip}
 use Rattle.vcd_model.specs.Input.{Input}
 use Rattle.vcd_model.specs.Tokens.{Token, end_of_tokens, stream_of}
 use Rattle.vcd_model.specs.Header.{Header, header_of}
@@ -100,7 +101,7 @@ place_of n rest seats sources chunks tokens place =
 
 -- each head shows the header of its input
 abbrev pub AreShown : List Head → List Lane → Type 0
-AreShown heads lanes = (k : ℕ) (h : Head) (l : Lane) → slice_get heads k ≡ Some h → slice_get lanes k ≡ Some l → Views (shown h) l.header
+AreShown heads lanes = AllZip (λ (head : Head) (h : Header). Views (shown head) h) heads (headers_in lanes)
 
 -- the feed of each input stands after its header, over its parts of the windows
 abbrev pub AreParked : {X : Type 0} → ℕ → (X → Option (List ℕ)) → List Lane → List Seat → List X → List ℕ → List ℕ → Type 0

@@ -1,0 +1,158 @@
+-- How a run over its inputs ends, and what it leaves then.
+use Rattle.std.proofs.Common.{◌≡◌, ◌==◌, ℕ, Bool, true, false, ◌++◌, inl, inr, List, [], ◌∷◌, length, map, Option, Some, None, Result, Ok, Err, refl, sym, ap, subst, ◌∙◌}
+use Rattle.std.specs.Prelude.{codes}
+use Rattle.vcd_model.specs.Input.{Input}
+use Rattle.vcd_model.specs.Job.{Want, outcome, over_opened, refusal_outcome, request_of}
+use Rattle.vcd_model.specs.Settled.{is_header_over, is_settled}
+use Rattle.vcd_model.specs.Outcome.{Opened, Outcome, dumps_of, fault_outcome, merge_outcome, name_at, open_from, program_line}
+use Rattle.vcd_model.specs.Reading.{Fault}
+use Rattle.vcd_model.specs.Tokens.{Token}
+use Rattle.vcd_text.specs.Answer.{whole}
+use Rattle.vcd_text.specs.Device.{Device, Supply, Writes}
+use Rattle.vcd_text.proofs.Writes.{appends-none}
+use Rattle.vcd_tools.specs.MergeRun.{Belongs}
+use Rattle.vcd_tools.specs.Seat.{Lane}
+use Rattle.vcd_tools.specs.declared.answer.Done.{Done}
+use Rattle.vcd_tools.specs.declared.answer.Done.TheVariants as done
+use Rattle.vcd_tools.specs.declared.answer.Stop.{Stop}
+use Rattle.vcd_tools.specs.declared.answer.Stop.TheVariants.{Dump, Read, Write, Unmatched}
+use Rattle.vcdkit.specs.declared.failure.Failure.{Failure}
+use Rattle.vcdkit.specs.declared.failure.Failure.TheVariants.{Stopped, Refused, OutOfMemory}
+use Rattle.vcdkit.specs.declared.failure.Refusal.{Refusal}
+use Rattle.vcdkit.specs.declared.failure.Refusal.TheVariants as refusal
+use Rattle.vcdkit.specs.Failure.{failure_of, model_refusal}
+use Rattle.vcdkit.specs.Inputs.{AreBegun, Stops}
+use Rattle.vcdkit.specs.MergeForm.{Follows}
+use Rattle.vcdkit.specs.Message.{end_message, end_status, refusal_status, Shows}
+use Rattle.vcdkit.specs.Run.{EndsAll, HasRun, IsOutcome, LeavesAll}
+use Rattle.vcdkit.specs.Run.HasRun.{WithOutcome, NoMemory}
+use Rattle.vcdkit.specs.Run.IsOutcome.{Whole, Part}
+use Rattle.vcdkit.proofs.HeaderLemmas.{unsettled_header}
+use Rattle.vcdkit.proofs.InputsLemmas.{HaveStopped, IsFirst, headers_read, merged_read, stops_read}
+
+writes-none : (out : Device) → Writes out out []
+writes-none out = (appends-none out.held, refl)
+
+-- ---- what is said
+
+-- the status of times that are refused, and that they leave no output
+refused_status : (name : List ℕ) (why : Refusal) → (refusal_outcome name (model_refusal why)).status ≡ refusal_status why
+refused_status name refusal.NoTimescale = refl
+refused_status name refusal.OutOfRange = refl
+refused_status name refusal.FromAboveTo = refl
+
+refused_output : (name : List ℕ) (why : Refusal) → (refusal_outcome name (model_refusal why)).output ≡ []
+refused_output name refusal.NoTimescale = refl
+refused_output name refusal.OutOfRange = refl
+refused_output name refusal.FromAboveTo = refl
+
+-- a run that ends so, and whose line and status these are, leaves the outcome of its inputs
+module _ (want : Want) (asked : List (List ℕ)) (limit chunk : ℕ) (names texts : List (List ℕ)) (old new : List Supply) (out out' err err' : Device) (status : ℕ) where
+  abbrev Ends : Result Done Failure → Type 0
+  Ends end = EndsAll want asked limit chunk names texts old new out out' end
+
+  abbrev Says : Result Done Failure → Type 0
+  Says end = Shows err err' (end_message names asked (failure_of end))
+
+  abbrev Runs : Type 0
+  Runs = HasRun want limit chunk names texts old new out out' err err' status
+
+  abbrev due : (end : Result Done Failure) → Ends end → Outcome
+  due end e = outcome want limit names e.lefts
+
+  pub has_run : (end : Result Done Failure) → Ends end → status ≡ end_status (failure_of end) → Says end → Runs
+  has_run (Ok d) e k s =
+      let o = due (Ok d) e in
+      WithOutcome e.lefts e.read (Whole e.leaves.1 (subst (λ (l : List ℕ). Shows err err' l) (sym (ap (λ (o : Outcome). o.message) e.leaves.0)) s) (k ∙ sym (ap (λ (o : Outcome). o.status) e.leaves.0)))
+  has_run (Err (Stopped (Dump input line fault))) e k s =
+      let o = due (Err (Stopped (Dump input line fault))) e in
+      let message : o.message ≡ end_message names asked (Some (Stopped (Dump input line fault))) = ap (λ (o : Outcome). o.message) e.leaves.0 ∙ rw (e.leaves.1, fault_outcome) refl in
+      let is : o.status ≡ 1 = ap (λ (o : Outcome). o.status) e.leaves.0 ∙ rw (e.leaves.1, fault_outcome) refl in
+      WithOutcome e.lefts e.read (Whole e.leaves.2 (subst (λ (l : List ℕ). Shows err err' l) (sym message) s) (k ∙ sym is))
+  has_run (Err (Stopped (Read input))) e k s =
+      let o = due (Err (Stopped (Read input))) e in
+      let message : o.message ≡ end_message names asked (Some (Stopped (Read input))) = ap (λ (o : Outcome). o.message) e.leaves.0.1 in
+      WithOutcome e.lefts e.read (Whole e.leaves.1 (subst (λ (l : List ℕ). Shows err err' l) (sym message) s) (k ∙ sym (ap (λ (o : Outcome). o.status) e.leaves.0.1)))
+  has_run (Err (Stopped Write)) e k s = WithOutcome e.lefts e.read (Part e.leaves s k)
+  has_run (Err (Stopped (Unmatched place))) e k s =
+      WithOutcome e.lefts e.read (Whole e.leaves.1 (subst (λ (l : List ℕ). Shows err err' l) (sym (ap (λ (o : Outcome). o.message) e.leaves.0)) s) (k ∙ sym (ap (λ (o : Outcome). o.status) e.leaves.0)))
+  has_run (Err (Refused why)) e k s =
+      let o = due (Err (Refused why)) e in
+      let output : o.output ≡ [] = ap (λ (o : Outcome). o.output) e.leaves.0 ∙ refused_output (name_at names 0) why in
+      WithOutcome e.lefts e.read (Whole (subst (λ (l : List ℕ). Writes out out' l) (sym output) e.leaves.1) (subst (λ (l : List ℕ). Shows err err' l) (sym (ap (λ (o : Outcome). o.message) e.leaves.0)) s)
+      (k ∙ sym (ap (λ (o : Outcome). o.status) e.leaves.0 ∙ refused_status (name_at names 0) why)))
+  has_run (Err OutOfMemory) e k s = NoMemory e.lefts e.read e.leaves s k
+
+-- nothing is said
+pub shows_nothing : (err : Device) → Shows err err []
+shows_nothing err = inl (writes-none err)
+
+-- ---- headers that end a run
+
+-- a header has a fault
+at_fault : (want : Want) (limit : ℕ) (names : List (List ℕ)) (inputs : List Input) (place : ℕ) (f : Fault) → open_from limit [] inputs ≡ Err (place, f) → outcome want limit names inputs ≡ fault_outcome [] (name_at names place) f
+unfolding outcome
+at_fault want limit names inputs place f e = rw (e, outcome) refl
+
+no_output : (name : List ℕ) (f : Fault) → (fault_outcome [] name f).output ≡ []
+no_output name f = by_number (f.number == 31) refl
+  where
+    by_number : (b : Bool) → (f.number == 31) ≡ b → (fault_outcome [] name f).output ≡ []
+    by_number true e = rw (e, fault_outcome) refl
+    by_number false e = rw (e, fault_outcome) refl
+
+-- an outcome of a fault without output
+faulted : (o : Outcome) (name : List ℕ) (f : Fault) (out : Device) → o ≡ fault_outcome [] name f → (o ≡ fault_outcome o.output name f) × Writes out out o.output
+faulted o name f out e =
+    let none : o.output ≡ [] = ap (λ (o : Outcome). o.output) e ∙ no_output name f in
+    (e ∙ ap (λ l. fault_outcome l name f) (sym none), subst (λ (l : List ℕ). Writes out out l) (sym none) (writes-none out))
+
+module _ (want : Want) (asked : List (List ℕ)) (limit chunk : ℕ) (names texts : List (List ℕ)) (old new : List Supply) (out : Device) where
+  pub stopped : (why : Failure) → Stops limit chunk 0 [] texts old new why → EndsAll want asked limit chunk names texts old new out out (Err why)
+  stopped (Stopped (Dump input line fault)) h =
+      let s = stops_read (is_settled want) (unsettled_header want) limit chunk 0 [] texts old new _ refl h in
+      let o = faulted (outcome want limit names s.lefts) (name_at names input) (record { number = fault; line = line }) out (at_fault want limit names s.lefts input _ s.first.1) in
+      record { lefts = s.lefts; read = s.read; leaves = (o.0, s.first.0, o.1) }
+  stopped (Stopped (Read input)) h =
+      let s = stops_read (is_settled want) (unsettled_header want) limit chunk 0 [] texts old new _ refl h in
+      let o = faulted (outcome want limit names s.lefts) (name_at names input) (record { number = 31; line = s.first.0 }) out (at_fault want limit names s.lefts input _ s.first.1) in
+      record { lefts = s.lefts; read = s.read; leaves = ((s.first.0, o.0), o.1) }
+  stopped (Stopped Write) h = let s = stops_read (is_settled want) (unsettled_header want) limit chunk 0 [] texts old new _ refl h in absurd s.first
+  stopped (Stopped (Unmatched place)) h = let s = stops_read (is_settled want) (unsettled_header want) limit chunk 0 [] texts old new _ refl h in absurd s.first
+  stopped (Refused why) h = let s = stops_read (is_settled want) (unsettled_header want) limit chunk 0 [] texts old new _ refl h in absurd s.first
+  stopped OutOfMemory h =
+      let s = stops_read is_header_over (λ most ts e. e) limit chunk 0 [] texts old new _ refl h in
+      record { lefts = s.lefts; read = s.read; leaves = writes-none out }
+
+  -- memory ran out behind them
+  pub no_room : (lanes : List Lane) → AreBegun limit chunk [] texts old new lanes → EndsAll want asked limit chunk names texts old new out out (Err OutOfMemory)
+  no_room lanes b = record { lefts = map whole texts; read = headers_read is_header_over (λ most ts e. e) limit chunk [] texts old new lanes b; leaves = writes-none out }
+
+-- ---- a merge behind its headers
+
+merge_due : (limit : ℕ) (names : List (List ℕ)) (inputs : List Input) (opened : List Opened) → open_from limit [] inputs ≡ Ok opened → outcome Want.Merge limit names inputs ≡ merge_outcome names (dumps_of opened)
+unfolding outcome request_of
+merge_due limit names inputs opened e = rw (e, outcome) refl
+
+-- the answer of a merge, as that of a run
+abbrev pub merge_end : Result Done Stop → Result Done Failure
+merge_end (Ok d) = Ok d
+merge_end (Err stop) = Err (Stopped stop)
+
+-- what a merge leaves, by its outcome
+merge_leaves : (names : List (List ℕ)) (o o' : Outcome) (out out' : Device) (result : Result Done Stop) → o' ≡ o → Belongs o names out out' result → LeavesAll names [] o' out out' (merge_end result)
+merge_leaves names o o' out out' (Ok done.Whole) e b = subst (λ (x : Outcome). LeavesAll names [] x out out' (Ok done.Whole)) (sym e) b
+merge_leaves names o o' out out' (Ok done.Early) e b = absurd b
+merge_leaves names o o' out out' (Err (Dump input line fault)) e b = subst (λ (x : Outcome). LeavesAll names [] x out out' (Err (Stopped (Dump input line fault)))) (sym e) b
+merge_leaves names o o' out out' (Err (Read input)) e b = subst (λ (x : Outcome). LeavesAll names [] x out out' (Err (Stopped (Read input)))) (sym e) b
+merge_leaves names o o' out out' (Err Write) e b = subst (λ (x : Outcome). LeavesAll names [] x out out' (Err (Stopped Write))) (sym e) b
+merge_leaves names o o' out out' (Err (Unmatched place)) e b = absurd b
+
+module _ (limit chunk : ℕ) (names texts : List (List ℕ)) (old mid new : List Supply) (lanes : List Lane) (out out' : Device) (b : AreBegun limit chunk [] texts old mid lanes) where
+  pub merged : (result : Result Done Stop) → Follows limit chunk lanes names mid new out out' result → EndsAll Want.Merge [] limit chunk names texts old new out out' (merge_end result)
+  merged (Ok d) f =
+      let r = merged_read limit chunk [] texts old mid new lanes f.lefts f.opened b f.are_left f.are_opened in
+      record { lefts = f.lefts; read = r.0; leaves = merge_leaves names _ (outcome Want.Merge limit names f.lefts) out out' (Ok d) (merge_due limit names f.lefts f.opened r.1) f.belongs }
+  merged (Err stop) f =
+      let r = merged_read limit chunk [] texts old mid new lanes f.lefts f.opened b f.are_left f.are_opened in
+      record { lefts = f.lefts; read = r.0; leaves = merge_leaves names _ (outcome Want.Merge limit names f.lefts) out out' (Err stop) (merge_due limit names f.lefts f.opened r.1) f.belongs }
