@@ -1,6 +1,14 @@
 -- How a run over its inputs ends, and what it leaves then.
-use Rattle.std.proofs.Common.{◌≡◌, ◌==◌, ℕ, Bool, true, false, ◌++◌, inl, inr, List, [], ◌∷◌, length, map, Option, Some, None, Result, Ok, Err, refl, sym, ap, subst, ◌∙◌}
+use Rattle.std.proofs.Common.{◌≡◌, ◌==◌, ℕ, ◌*◌, ◌/◌, ◌<◌, ◌≤◌, Bool, true, false, ◌++◌, inl, inr, List, [], ◌∷◌, length, map, Option, Some, None, Result, Ok, Err, refl, sym, ap, subst, ◌∙◌}
 use Rattle.std.specs.Prelude.{codes}
+use Rattle.std.specs.List.{AllByRecursion, AllZip}
+use Rattle.std.proofs.Math.Nat.{mul-div_cancel_left}
+use Rattle.vcd_model.specs.Header.{Header}
+use Rattle.vcd_head.specs.Shown.{shown}
+use Rattle.vcd_head.specs.Views.{Views}
+use Rattle.vcd_head.specs.declared.head.Head.{Head}
+use Rattle.vcd_tools.specs.MergeParts.{AreParts, part_len}
+use Rattle.vcd_tools.specs.declared.seat.Seat.{Seat}
 use Rattle.vcd_model.specs.Input.{Input}
 use Rattle.vcd_model.specs.Job.{Want, outcome, over_opened, refusal_outcome, request_of}
 use Rattle.vcd_model.specs.Settled.{is_header_over, is_settled}
@@ -8,7 +16,7 @@ use Rattle.vcd_model.specs.Outcome.{Opened, Outcome, dumps_of, fault_outcome, me
 use Rattle.vcd_model.specs.Reading.{Fault}
 use Rattle.vcd_model.specs.Tokens.{Token}
 use Rattle.vcd_text.specs.Answer.{whole}
-use Rattle.vcd_text.specs.Device.{Device, Supply, Writes}
+use Rattle.vcd_text.specs.Device.{Device, Supply, Writes, supply}
 use Rattle.vcd_text.proofs.Writes.{appends-none}
 use Rattle.vcd_tools.specs.MergeRun.{Belongs}
 use Rattle.vcd_tools.specs.Seat.{Lane}
@@ -20,8 +28,8 @@ use Rattle.vcdkit.specs.declared.failure.Failure.{Failure}
 use Rattle.vcdkit.specs.declared.failure.Failure.TheVariants.{Stopped, Refused, OutOfMemory}
 use Rattle.vcdkit.specs.declared.failure.Refusal.{Refusal}
 use Rattle.vcdkit.specs.declared.failure.Refusal.TheVariants as refusal
-use Rattle.vcdkit.specs.Failure.{failure_of, model_refusal}
-use Rattle.vcdkit.specs.Inputs.{AreBegun, Stops}
+use Rattle.vcdkit.specs.Failure.{failure_of, merge_end, model_refusal}
+use Rattle.vcdkit.specs.Inputs.{AreBegun, AreParked, AreShown, HaveBegun, Stops, headers_in}
 use Rattle.vcdkit.specs.MergeForm.{Follows}
 use Rattle.vcdkit.specs.Message.{end_message, end_status, refusal_status, Shows}
 use Rattle.vcdkit.specs.Run.{EndsAll, HasRun, IsOutcome, LeavesAll}
@@ -134,11 +142,6 @@ merge_due : (limit : ℕ) (names : List (List ℕ)) (inputs : List Input) (opene
 unfolding outcome request_of
 merge_due limit names inputs opened e = rw (e, outcome) refl
 
--- the answer of a merge, as that of a run
-abbrev pub merge_end : Result Done Stop → Result Done Failure
-merge_end (Ok d) = Ok d
-merge_end (Err stop) = Err (Stopped stop)
-
 -- what a merge leaves, by its outcome
 merge_leaves : (names : List (List ℕ)) (o o' : Outcome) (out out' : Device) (result : Result Done Stop) → o' ≡ o → Belongs o names out out' result → LeavesAll names [] o' out out' (merge_end result)
 merge_leaves names o o' out out' (Ok done.Whole) e b = subst (λ (x : Outcome). LeavesAll names [] x out out' (Ok done.Whole)) (sym e) b
@@ -156,3 +159,43 @@ module _ (limit chunk : ℕ) (names texts : List (List ℕ)) (old mid new : List
   merged (Err stop) f =
       let r = merged_read limit chunk [] texts old mid new lanes f.lefts f.opened b f.are_left f.are_opened in
       record { lefts = f.lefts; read = r.0; leaves = merge_leaves names _ (outcome Want.Merge limit names f.lefts) out out' (Err stop) (merge_due limit names f.lefts f.opened r.1) f.belongs }
+
+-- over readers with these texts
+pub merge_ends : {X : Type 0} (n n' limit limit1 limit2 chunk chunk1 chunk2 marks : ℕ) (rest : X → Option (List ℕ)) (failures : X → ℕ) (names texts : List (List ℕ)) (old mid new : List X) (heads : List Head) (seats : List Seat) (chunks tokens : List ℕ) (out out' : Device) (result : Result Done Stop)
+    → n' ≡ n → limit1 ≡ limit → limit2 ≡ limit → chunk1 ≡ chunk → chunk2 ≡ chunk
+    → HaveBegun limit1 chunk1 n rest failures texts old mid heads seats chunks tokens
+    → ((hs : List Header) → AllZip (λ (head : Head) (h : Header). Views (shown head) h) heads hs → AllByRecursion (λ (h : Header). length h.declarations ≤ marks) hs)
+    → ((lanes : List Lane) (names : List (List ℕ)) → AreShown heads lanes → AllByRecursion (λ (h : Header). length h.declarations ≤ marks) (headers_in lanes) → AreParked n' rest lanes seats mid chunks tokens
+        → Follows limit2 chunk2 lanes names (map (supply rest failures) mid) (map (supply rest failures) new) out out' result)
+    → EndsAll Want.Merge [] limit chunk names texts (map (supply rest failures) old) (map (supply rest failures) new) out out' (merge_end result)
+merge_ends n n' limit limit1 limit2 chunk chunk1 chunk2 marks rest failures names texts old mid new heads seats chunks tokens out out' result e l1 l2 c1 c2 b enough follows =
+    let f = supply rest failures in
+    let parked = subst (λ (m : ℕ). AreParked m rest b.lanes seats mid chunks tokens) (sym e) b.parked in
+    let followed = follows b.lanes names b.views (enough (headers_in b.lanes) b.views) parked in
+    let begun = subst (λ (m : ℕ). AreBegun m chunk [] texts (map f old) (map f mid) b.lanes) l1 (subst (λ (m : ℕ). AreBegun limit1 m [] texts (map f old) (map f mid) b.lanes) c1 b.begun) in
+    let due = subst (λ (m : ℕ). Follows m chunk b.lanes names (map f mid) (map f new) out out' result) l2 (subst (λ (m : ℕ). Follows limit2 m b.lanes names (map f mid) (map f new) out out' result) c2 followed) in
+    merged limit chunk names texts (map f old) (map f mid) (map f new) b.lanes out out' begun result due
+
+pub no_marks : {X : Type 0} (n limit limit1 chunk chunk1 : ℕ) (rest : X → Option (List ℕ)) (failures : X → ℕ) (names texts : List (List ℕ)) (old mid : List X) (heads : List Head) (seats : List Seat) (chunks tokens : List ℕ) (out : Device) → limit1 ≡ limit → chunk1 ≡ chunk
+    → HaveBegun limit1 chunk1 n rest failures texts old mid heads seats chunks tokens → EndsAll Want.Merge [] limit chunk names texts (map (supply rest failures) old) (map (supply rest failures) mid) out out (Err OutOfMemory)
+no_marks n limit limit1 chunk chunk1 rest failures names texts old mid heads seats chunks tokens out l1 c1 b =
+    let f = supply rest failures in
+    no_room Want.Merge [] limit chunk names texts (map f old) (map f mid) out b.lanes
+    (subst (λ (m : ℕ). AreBegun m chunk [] texts (map f old) (map f mid) b.lanes) l1 (subst (λ (m : ℕ). AreBegun limit1 m [] texts (map f old) (map f mid) b.lanes) c1 b.begun))
+
+-- ---- windows in parts
+
+pub part_is : (n size : ℕ) (xs : List ℕ) → 0 < n → length xs ≡ n * size → part_len n xs ≡ size
+part_is n size xs some e = ap (λ m. m / n) e ∙ mul-div_cancel_left size {n = n} some
+
+part_all : (n size : ℕ) (xs : List ℕ) → 0 < n → length xs ≡ n * size → n * part_len n xs ≡ length xs
+part_all n size xs some e = ap (λ m. n * m) (part_is n size xs some e) ∙ sym e
+
+pub parts_of : (n chunk limit : ℕ) (cs ts vs : List ℕ) → 0 < n → 0 < chunk → 0 < limit → length cs ≡ n * chunk → length ts ≡ n * limit → length vs ≡ n * limit → AreParts n cs ts vs
+parts_of n chunk limit cs ts vs some c l ec et ev = record {
+  chunks_are = part_all n chunk cs some ec;
+  tokens_are = part_all n limit ts some et;
+  values_are = ev ∙ sym et;
+  chunk_some = rw (part_is n chunk cs some ec) c;
+  token_some = rw (part_is n limit ts some et) l;
+}

@@ -39,7 +39,7 @@ use Rattle.vcdkit.specs.declared.failure.Failure.TheVariants as failure
 use Rattle.vcdkit.specs.declared.failure.Refusal.{Refusal}
 use Rattle.vcdkit.specs.declared.failure.Refusal.TheVariants as refusal
 use Rattle.vcdkit.specs.Failure.{end_of, failure_of, head_failure, model_refusal, CountsRead}
-use Rattle.vcdkit.specs.Job.{model_want, names_asked}
+use Rattle.vcdkit.specs.Job.{is_merge, model_want, names_asked}
 use Rattle.vcdkit.specs.Message.{end_message, end_status, refusal_status, Shows}
 use Rattle.vcdkit.specs.Inputs.{HasFailed, IsBegun}
 use Rattle.vcdkit.specs.Run.{Ends, EndsAll, IsAfter, IsOfJob, Leaves, LeavesAll, settled_for}
@@ -118,9 +118,9 @@ EndsAfter wanted limit chunk i front h name old new out out' r =
     (settled_for r (is_settled_by (request_of h.scale (model_want wanted)) h) (λ _. true)) old new out out' r
 
 -- a task, or a list, was done
-pub followed : (wanted : Want) (task : Request) (limit chunk : ℕ) (i : Input) (front : List Token) (h : Header) (name : List ℕ) (before after : Supply) (out out' : Device) (r : Result Done Stop) → request_of h.scale (model_want wanted) ≡ Ok task → Follows task limit chunk i front h name before after out out' r
+pub followed : (wanted : Want) (task : Request) (limit chunk : ℕ) (i : Input) (front : List Token) (h : Header) (name : List ℕ) (before after : Supply) (out out' : Device) (r : Result Done Stop) → is_merge wanted ≡ false → request_of h.scale (model_want wanted) ≡ Ok task → Follows task limit chunk i front h name before after out out' r
     → EndsAfter wanted limit chunk i front h name before after out out' (end_of r 0)
-followed wanted task limit chunk i front h name before after out out' r e f =
+followed wanted task limit chunk i front h name before after out out' r one e f =
     let settled : settled_for (end_of r 0) (is_settled_by (request_of h.scale (model_want wanted)) h) (λ _. true) ≡ is_settled_behind task h =
     settled_placed r (is_settled_by (request_of h.scale (model_want wanted)) h) (λ _. true) ∙ ap (λ q. is_settled_by q h) e in
     let opened : Opened = record { header = h; stream = stream_of limit f.left; rest = f.rest } in
@@ -130,8 +130,8 @@ followed wanted task limit chunk i front h name before after out out' r e f =
       read = subst (ReadsAsNeeded limit chunk before after f.left front) (sym settled) f.read;
       due = over_opened (model_want wanted) (name ∷ []) (opened ∷ []);
       is_due = (f.rest, f.tokens, refl);
-      leaves = leaves-placed task (names_asked wanted) _ name out out' r (names_due wanted h.scale task e)
-          (subst (λ (o : Outcome). Belongs task o name out out' r) (sym (over_one wanted (name ∷ []) opened task e)) f.belongs);
+      leaves = leaves-placed task (names_asked wanted) _ name out out' r (names_due wanted h.scale task one e)
+          (subst (λ (o : Outcome). Belongs task o name out out' r) (sym (over_one wanted (name ∷ []) opened task one e)) f.belongs);
     }
 
 -- an end without output, before anything was read after the header

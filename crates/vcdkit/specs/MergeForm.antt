@@ -1,5 +1,5 @@
 -- What a whole merge leaves: what is left of its inputs, how much of each was read, and what stands on the output.
-use Rattle.std.specs.Prelude.{◌≡◌, ◌==◌, false, ℕ, List, [], ◌∷◌, ◌++◌, Result, Ok, Err}
+use Rattle.std.specs.Prelude.{◌≡◌, ◌<◌, ◌+◌, ℕ, List, [], ◌∷◌, length, slice_set, slice_index, Result, Ok, Err}
 use Rattle.vcd_model.specs.Input.{Input}
 use Rattle.vcd_model.specs.Tokens.{stream_of}
 use Rattle.vcd_model.specs.Outcome.{Opened, Request, dumps_of, merge_outcome}
@@ -11,6 +11,7 @@ use Rattle.vcd_tools.specs.Run.{IsLeft}
 use Rattle.vcd_tools.specs.Seat.{Lane}
 use Rattle.vcd_tools.specs.declared.answer.Done.{Done}
 use Rattle.vcd_tools.specs.declared.answer.Stop.{Stop}
+use Rattle.vcd_tools.specs.declared.answer.Stop.TheVariants.{Read}
 
 -- the inputs after their headers, one by one: what is left of each, and that no more was read of it than what settles it
 abbrev pub AreLeft : (limit chunk : ℕ) → List Lane → (old new : List Supply) → List Input → Type 0
@@ -28,3 +29,8 @@ pub record Follows (limit chunk : ℕ) (lanes : List Lane) (names : List (List �
   pub opened : List Opened
   pub are_opened : AreOpened limit lanes lefts opened
   pub belongs : Belongs (merge_outcome names (dumps_of opened)) names out out' result
+
+-- of all sources, the one at the place that the answer names, if it is a failed read
+abbrev pub ReadsFail : (before after : List ℕ) → Result Done Stop → Type 0
+ReadsFail before after (Err (Read input)) = (input < length before) × (after ≡ slice_set before input (slice_index before input + 1))
+ReadsFail before after result = after ≡ before

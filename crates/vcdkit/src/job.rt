@@ -27,22 +27,33 @@ pub enum Want {
     Cut(Period),
     /// Counts how often the variables that these names select change, rise and fall; all without names.
     Edges(Vec<String>),
+    /// Writes the changes of all inputs in one order of time.
+    Merge,
 }
 
 impl Want {
     ghost use Rattle.vcd_model.specs.Header.{Header};
     ghost use Rattle.vcd_model.specs.Job.{request_of};
     ghost use Rattle.vcd_head.specs.Views.{IsViewOf};
-    ghost use Rattle.vcdkit.specs.Job.{model_want, names_asked, task_request};
+    ghost use Rattle.vcdkit.specs.Job.{is_merge, model_want, names_asked, task_request};
 
-    /// The task over the items of a body, its times in ticks of the header that is shown. A list is none: it reads no body.
+    /// It is a merge, which alone may have several inputs.
+    pub fn is_merge(&self) -> bool
+        ensures { result ≡ is_merge self.now }
+    {
+        matches!(self, Want::Merge)
+    }
+
+    /// The task over the items of a body, its times in ticks of the header that is shown. A list is none, since it reads no body,
+    /// nor is a merge, which reads several.
     pub fn task(&self, view: HeadView<'_>) -> Result<Option<Task<'_>>, Refusal>
         ensures { (h : Header) → IsViewOf view.entry h
-            → request_of h.scale (model_want self.now) ≡ task_request result }
+            → request_of h.scale (model_want self.now) ≡ task_request self.now result }
     {
         match self {
             Want::Check => Ok(Some(Task::Check)),
             Want::List => Ok(None),
+            Want::Merge => Ok(None),
             Want::Pick(names) => Ok(Some(Task::Pick(names.as_slice()))),
             Want::Cut(period) => Ok(Some(Task::Cut(period.span(view)?))),
             Want::Edges(names) => Ok(Some(Task::Edges(names.as_slice()))),
@@ -54,7 +65,7 @@ impl Want {
         ensures { map string_bytes result.now ≡ names_asked self.now }
     {
         match self {
-            Want::Check | Want::List | Want::Cut(_) => &[],
+            Want::Check | Want::List | Want::Cut(_) | Want::Merge => &[],
             Want::Pick(names) | Want::Edges(names) => names.as_slice(),
         }
     }

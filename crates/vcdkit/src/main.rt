@@ -33,6 +33,7 @@ ghost use Rattle.std.specs.Prelude.{◌≡◌, ◌-◌, ◌^◌, ◌<◌, All, l
 mod command;
 mod failure;
 mod inputs;
+mod merge_stub;
 mod job;
 mod message;
 mod moment_word;
