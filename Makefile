@@ -1,11 +1,12 @@
 # make         proves the program and the crates that it uses, builds it as ./vcdkit and shows it on a sample dump
 # make test    the merge gate: every proof from nothing, must-fail edits, tests, the program as two compilers build it
 # make memory  lets each request for memory of the reader of headers fail in turn: some minutes
+# make hostile runs the program where memory, reads and writes fail, and on dumps that are cut off or made at random: some minutes
 # make clean   drops what was built, and what the proofs kept
 
 sample := samples/counter.vcd
 
-.PHONY: all test memory clean vcdkit toolchain
+.PHONY: all test memory hostile clean vcdkit toolchain
 
 all: vcdkit
 	./vcdkit check < $(sample)
@@ -20,6 +21,11 @@ test: toolchain
 
 memory: toolchain
 	bench/refuse_memory.sh
+
+hostile: vcdkit
+	devices=$$(mktemp --suffix=.so) && cc -O1 -shared -fPIC -o $$devices hostile/devices.c -ldl && \
+	hostile/hostile.py ./vcdkit $$devices memory devices cut_off && hostile/random_runs.py ./vcdkit --runs 50000; \
+	status=$$?; rm -f $$devices; exit $$status
 
 clean:
 	rm -rf vcdkit crates/*/out

@@ -5,7 +5,7 @@ use Rattle.std.proofs.lemmas.Grind.{div_ceil_times}
 use Rattle.std.proofs.lemmas.Option.{slice_get_past}
 use Rattle.vcd_model.specs.Values.{extend, extension}
 use Rattle.vcd_body.specs.Kept.{Held, bytes_for, digit_in, value_at_size}
-use Rattle.vcd_body.specs.Packed.{digits_in, held_digit, unpacked}
+use Rattle.vcd_body.specs.Packed.{digits_in, held_digit, quarter_of, unpacked}
 use Rattle.vcd_body.specs.Stored.{digits_held, held_by, some_by, used_by}
 use Rattle.vcd_body.specs.declared.slot.State.{State}
 use Rattle.vcd_body.specs.declared.slot.State.TheVariants as state
@@ -26,8 +26,10 @@ none_taken xs n i h = slice_get_past (take n xs) i (let l = length-take n xs in 
 pub length_held : (len : ℕ) (bytes : List ℕ) → bytes_for len ≤ length bytes → length (digits_in len bytes) ≡ len
 length_held len bytes h =
     let d = div_ceil_times len 4 (omega arith) in
-    let u = length_unpacked bytes in
-    let l = length-take len (unpacked bytes) in
+    let first = take (quarter_of len) bytes in
+    let f = length-take (quarter_of len) bytes in
+    let u = length_unpacked first in
+    let l = length-take len (unpacked first) in
     omega arith
 
 pub count_held : (st : State) (len : ℕ) (bytes : List ℕ) → st ≡ state.Digits → used_by st len ≤ length bytes → len ≡ length (digits_held (held_by st len bytes))

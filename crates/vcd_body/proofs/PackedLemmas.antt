@@ -1,15 +1,15 @@
 -- Packed digits are the digits again, as they are held; the digit at a place of a share.
-use Rattle.std.proofs.Common.{◌≡◌, ℕ, zero, suc, ◌+◌, ◌*◌, ◌/◌, ◌%◌, ◌<◌, ◌≤◌, Bool, true, false, cond, ◌||◌, ◌==◌, nat_lt, List, [], ◌∷◌, ◌++◌, length, take, map, refl, sym, ap, ◌∙◌, arith, ◌⊎◌, inl, inr, slice_get, slice_set, Some, None}
+use Rattle.std.proofs.Common.{◌≡◌, ℕ, zero, suc, ◌+◌, ◌*◌, ◌/◌, ◌%◌, ◌<◌, ◌≤◌, Bool, true, false, cond, ◌||◌, ◌==◌, nat_lt, List, [], ◌∷◌, ◌++◌, length, take, map, refl, sym, ap, ◌∙◌, ◌-◌, arith, ◌⊎◌, inl, inr, slice_get, slice_set, Some, None}
 use Rattle.std.specs.Prelude.{get_or}
 use Rattle.std.specs.List.{list_all}
 use Rattle.std.specs.Str.{byte, str_to_ascii_lowercase}
 use Rattle.std.specs.Char.{to_ascii_lowercase}
-use Rattle.std.proofs.lemmas.Bool.{or_cases, and_parts, cases_lt, eqb-true, le-ltb, lt-ltb}
-use Rattle.std.proofs.Math.ListN.{length-set}
-use Rattle.std.proofs.lemmas.List.{get_or-set_other, get_or-set_same}
-use Rattle.std.proofs.lemmas.Option.{slice_get_past}
+use Rattle.std.proofs.lemmas.Bool.{or_cases, and_parts, cases_lt, eqb-true, lt-ltb}
+use Rattle.std.proofs.lemmas.Grind.{div_ceil_times, same_number_lists}
+use Rattle.std.proofs.lemmas.List.{get_or-append-add, get_or-map, get_or-set_other, get_or-set_same, get_or-take, get_or_append_left, length-append, length-map, length-take}
+use Rattle.std.proofs.lemmas.Option.{get_or_from_slice_get, slice_get-get_or, slice_get_past}
 use Rattle.vcd_model.specs.BodyPhrases.{is_value_digit}
-use Rattle.vcd_body.specs.Packed.{code_of, code_or, digit_of, digits_in, fours, held_digit, unpacked}
+use Rattle.vcd_body.specs.Packed.{code_of, code_or, digit_of, digits_in, four_codes, fours, held_digit, quarter_of, unpacked}
 
 -- ---- one digit
 
@@ -87,9 +87,6 @@ or_small text place = by_test (nat_lt place (length text)) (code_small (get_or t
 
 -- ---- one byte
 
-quad : List ℕ → ℕ → ℕ
-quad text p = code_or text p + 4 * code_or text (p + 1) + 16 * code_or text (p + 2) + 64 * code_or text (p + 3)
-
 fours_of : (a b c d y : ℕ) → a < 4 → b < 4 → c < 4 → d < 4 → y ≡ a + 4 * b + 16 * c + 64 * d → fours y ≡ digit_of a ∷ digit_of b ∷ digit_of c ∷ digit_of d ∷ []
 fours_of a b c d y ha hb hc hd e =
     let e0 : y % 4 ≡ a = omega arith in
@@ -98,112 +95,133 @@ fours_of a b c d y ha hb hc hd e =
     let e3 : y / 64 % 4 ≡ d = omega arith in
     rw (e0, e1, e2, e3) refl
 
+-- the digit of a quarter in the byte of a place
+of_quarter : (text : List ℕ) (q j y : ℕ) → y ≡ four_codes text q j → (r : ℕ) → r < 4 → get_or (fours y) r 0 ≡ digit_of (code_or text (j + r * q))
+of_quarter text q j y e r small = ap (λ l. get_or l r 0) (fours_of (code_or text j) (code_or text (j + q)) (code_or text (j + 2 * q)) (code_or text (j + 3 * q)) y (or_small text j) (or_small text (j + q)) (or_small text (j + 2 * q)) (or_small text (j + 3 * q)) e) ∙ by_quarter r small
+  where
+    by_quarter : (r : ℕ) → r < 4 → get_or (digit_of (code_or text j) ∷ digit_of (code_or text (j + q)) ∷ digit_of (code_or text (j + 2 * q)) ∷ digit_of (code_or text (j + 3 * q)) ∷ []) r 0 ≡ digit_of (code_or text (j + r * q))
+    by_quarter zero small = ap (λ n. digit_of (code_or text n)) (omega arith)
+    by_quarter (suc zero) small = ap (λ n. digit_of (code_or text n)) (omega arith)
+    by_quarter (suc (suc zero)) small = ap (λ n. digit_of (code_or text n)) (omega arith)
+    by_quarter (suc (suc (suc zero))) small = ap (λ n. digit_of (code_or text n)) (omega arith)
+    by_quarter (suc (suc (suc (suc r)))) small = absurd (omega arith)
+
+-- ---- bytes, quarter by quarter
+
+pub length_unpacked : (bytes : List ℕ) → length (unpacked bytes) ≡ 4 * length bytes
+length_unpacked bytes =
+    let a = length-map bytes (λ b. digit_of (b % 4)) in
+    let b = length-map bytes (λ b. digit_of (b / 4 % 4)) in
+    let c = length-map bytes (λ b. digit_of (b / 16 % 4)) in
+    let d = length-map bytes (λ b. digit_of (b / 64 % 4)) in
+    simp (length-append, a, b, c, d) (omega arith)
+
+-- what stands at a place of one of four lists of a length
+at_quarter : (A B C D : List ℕ) (q j p r : ℕ) → length A ≡ q → length B ≡ q → length C ≡ q → length D ≡ q → j < q → p ≡ j + r * q → r < 4
+    → get_or (A ++ (B ++ (C ++ D))) p 0 ≡ get_or (get_or A j 0 ∷ get_or B j 0 ∷ get_or C j 0 ∷ get_or D j 0 ∷ []) r 0
+at_quarter A B C D q j p zero a b c d h e small =
+    let s : p ≡ j = omega arith in
+    ap (λ n. get_or (A ++ (B ++ (C ++ D))) n 0) s ∙ get_or_append_left A (B ++ (C ++ D)) 0 j (omega arith)
+at_quarter A B C D q j p (suc zero) a b c d h e small =
+    let s : p ≡ length A + j = omega arith in
+    ap (λ n. get_or (A ++ (B ++ (C ++ D))) n 0) s ∙ get_or-append-add A (B ++ (C ++ D)) j 0 ∙ get_or_append_left B (C ++ D) 0 j (omega arith)
+at_quarter A B C D q j p (suc (suc zero)) a b c d h e small =
+    let s : p ≡ length A + (length B + j) = omega arith in
+    ap (λ n. get_or (A ++ (B ++ (C ++ D))) n 0) s ∙ get_or-append-add A (B ++ (C ++ D)) (length B + j) 0 ∙ get_or-append-add B (C ++ D) j 0 ∙ get_or_append_left C D 0 j (omega arith)
+at_quarter A B C D q j p (suc (suc (suc zero))) a b c d h e small =
+    let s : p ≡ length A + (length B + (length C + j)) = omega arith in
+    ap (λ n. get_or (A ++ (B ++ (C ++ D))) n 0) s ∙ get_or-append-add A (B ++ (C ++ D)) (length B + (length C + j)) 0 ∙ get_or-append-add B (C ++ D) (length C + j) 0 ∙ get_or-append-add C D j 0
+at_quarter A B C D q j p (suc (suc (suc (suc r)))) a b c d h e small = absurd (omega arith)
+
+-- the digit at a place of a quarter is one of those of the byte at this place
+there : (bytes : List ℕ) (r j p y : ℕ) → j < length bytes → p ≡ j + r * length bytes → r < 4 → get_or bytes j 0 ≡ y → get_or (unpacked bytes) p 0 ≡ get_or (fours y) r 0
+there bytes r j p y h e small is =
+    let m0 : get_or (map (λ b. digit_of (b % 4)) bytes) j 0 ≡ digit_of (y % 4) = get_or-map (λ b. digit_of (b % 4)) bytes j 0 0 h ∙ ap (λ b. digit_of (b % 4)) is in
+    let m1 : get_or (map (λ b. digit_of (b / 4 % 4)) bytes) j 0 ≡ digit_of (y / 4 % 4) = get_or-map (λ b. digit_of (b / 4 % 4)) bytes j 0 0 h ∙ ap (λ b. digit_of (b / 4 % 4)) is in
+    let m2 : get_or (map (λ b. digit_of (b / 16 % 4)) bytes) j 0 ≡ digit_of (y / 16 % 4) = get_or-map (λ b. digit_of (b / 16 % 4)) bytes j 0 0 h ∙ ap (λ b. digit_of (b / 16 % 4)) is in
+    let m3 : get_or (map (λ b. digit_of (b / 64 % 4)) bytes) j 0 ≡ digit_of (y / 64 % 4) = get_or-map (λ b. digit_of (b / 64 % 4)) bytes j 0 0 h ∙ ap (λ b. digit_of (b / 64 % 4)) is in
+    at_quarter (map (λ b. digit_of (b % 4)) bytes) (map (λ b. digit_of (b / 4 % 4)) bytes) (map (λ b. digit_of (b / 16 % 4)) bytes) (map (λ b. digit_of (b / 64 % 4)) bytes) (length bytes) j p r
+    (length-map bytes (λ b. digit_of (b % 4))) (length-map bytes (λ b. digit_of (b / 4 % 4))) (length-map bytes (λ b. digit_of (b / 16 % 4))) (length-map bytes (λ b. digit_of (b / 64 % 4))) h e small
+    ∙ rw (m0, m1, m2, m3) refl
+
 -- ---- a text
 
--- each byte holds four digits of the text, 0 behind its end
-abbrev pub Packs : List ℕ → List ℕ → Type 0
-Packs text bytes = (j : ℕ) → 4 * j < length text → get_or bytes j 0 ≡ code_or text (4 * j) + 4 * code_or text (4 * j + 1) + 16 * code_or text (4 * j + 2) + 64 * code_or text (4 * j + 3)
+-- each byte of the first ones holds the digits of its place
+abbrev pub Packs : List ℕ → ℕ → List ℕ → Type 0
+Packs text count bytes = (j : ℕ) → j < count → get_or bytes j 0 ≡ four_codes text (quarter_of (length text)) j
 
 in_text : (text : List ℕ) (place : ℕ) → place < length text → code_or text place ≡ code_of (get_or text place 0)
 in_text text place h = rw (lt-ltb place (length text) h) refl
 
-past_text : (text : List ℕ) (place : ℕ) → length text ≤ place → code_or text place ≡ 0
-past_text text place h = rw (le-ltb place (length text) h) refl
+-- the quarter in which a place lies, and its place there
+abbrev InQuarter : ℕ → ℕ → Type 0
+InQuarter q p = (r : ℕ) × (j : ℕ) × (r < 4) × (j < q) × (p ≡ j + r * q)
 
--- four digits further
-further : (a b c d : ℕ) (text : List ℕ) (p q : ℕ) → q ≡ p + 4 → code_or (a ∷ b ∷ c ∷ d ∷ text) q ≡ code_or text p
-further a b c d text p q e = by_end (cases_lt p (length text))
+in_quarter : (q p : ℕ) → p < 4 * q → InQuarter q p
+in_quarter q p h = elim (cases_lt p q) [
+  | inl a ↦ (0, p, omega arith, a, omega arith)
+  | inr a ↦ elim (cases_lt p (2 * q)) [
+    | inl b ↦ (1, p - q, omega arith, omega arith, omega arith)
+    | inr b ↦ elim (cases_lt p (3 * q)) [
+      | inl c ↦ (2, p - 2 * q, omega arith, omega arith, omega arith)
+      | inr c ↦ (3, p - 3 * q, omega arith, omega arith, omega arith)
+    ]
+  ]
+]
+
+pub packs_again : (text bytes : List ℕ) → length text ≤ 4 * length bytes → Packs text (quarter_of (length text)) bytes → digits_in (length text) bytes ≡ map held_digit text
+packs_again text bytes room packs =
+    let n = length text in
+    let q = quarter_of n in
+    let first = take q bytes in
+    let d = div_ceil_times n 4 (omega arith) in
+    let l : length first ≡ q = length-take q bytes ∙ omega arith in
+    let u = length_unpacked first in
+    let t = length-take n (unpacked first) in
+    let m = length-map text held_digit in
+    same_number_lists (take n (unpacked first)) (map held_digit text) (omega (arith, l, u, t, m, d)) (λ p h.
+    let less : p < n = omega (arith, t, h) in
+    let at = in_quarter q p (omega (arith, d, less)) in
+    let place : p ≡ at.1 + at.0 * length first = at.4 ∙ ap (λ k. at.1 + at.0 * k) (sym l) in
+    get_or-take n (unpacked first) p 0 less
+    ∙ there first at.0 at.1 p (get_or bytes at.1 0) (let j = at.3 in omega (arith, j, l)) place at.2 (get_or-take q bytes at.1 0 at.3)
+    ∙ of_quarter text q at.1 (get_or bytes at.1 0) (packs at.1 at.3) at.0 at.2
+    ∙ ap (λ k. digit_of (code_or text k)) (sym at.4)
+    ∙ ap digit_of (in_text text p less)
+    ∙ digit_again (get_or text p 0)
+    ∙ sym (get_or-map held_digit text p 0 0 less))
+
+-- one byte more
+pub packs_more : (text bytes : List ℕ) (q place y : ℕ) → q ≡ quarter_of (length text) → place < length bytes → Packs text place bytes → y ≡ four_codes text q place → Packs text (place + 1) (slice_set bytes place y)
+packs_more text bytes q place y same within packs is = λ j h. by_place j (cases_lt j place) h
   where
-    by_end : (p < length text) ⊎ (length text ≤ p) → code_or (a ∷ b ∷ c ∷ d ∷ text) q ≡ code_or text p
-    by_end (inl h) =
-        let same : q ≡ suc (suc (suc (suc p))) = omega arith in
-        in_text (a ∷ b ∷ c ∷ d ∷ text) q (omega arith) ∙ ap (λ n. code_of (get_or (a ∷ b ∷ c ∷ d ∷ text) n 0)) same ∙ sym (in_text text p h)
-    by_end (inr h) = past_text (a ∷ b ∷ c ∷ d ∷ text) q (omega arith) ∙ sym (past_text text p h)
-
-digit_at : (a r : ℕ) → r ≡ code_of a → digit_of r ≡ held_digit a
-digit_at a r e = ap digit_of e ∙ digit_again a
-
-pub packs_again : (text bytes : List ℕ) → length text ≤ 4 * length bytes → Packs text bytes → digits_in (length text) bytes ≡ map held_digit text
-packs_again [] bytes room packs = refl
-packs_again (a ∷ text) [] room packs = absurd (omega arith)
-packs_again (a ∷ []) (y ∷ ys) room packs =
-    let t = a ∷ [] in
-    let e0 = in_text t 0 (omega arith) in
-    let p = packs 0 (omega arith) in
-    let s0 = code_small a in
-    let r0 : y % 4 ≡ code_of a = omega (arith, p, e0, or_small t 1, or_small t 2, or_small t 3) in
-    ap (λ x. x ∷ []) (digit_at a (y % 4) r0)
-packs_again (a ∷ b ∷ []) (y ∷ ys) room packs =
-    let t = a ∷ b ∷ [] in
-    let e0 = in_text t 0 (omega arith) in
-    let e1 = in_text t 1 (omega arith) in
-    let p = packs 0 (omega arith) in
-    let s0 = code_small a in let s1 = code_small b in
-    let r0 : y % 4 ≡ code_of a = omega (arith, p, e0, e1, or_small t 2, or_small t 3) in
-    let r1 : y / 4 % 4 ≡ code_of b = omega (arith, p, e0, e1, or_small t 2, or_small t 3) in
-    ap (λ x. x ∷ digit_of (y / 4 % 4) ∷ []) (digit_at a (y % 4) r0) ∙ ap (λ x. held_digit a ∷ x ∷ []) (digit_at b (y / 4 % 4) r1)
-packs_again (a ∷ b ∷ c ∷ []) (y ∷ ys) room packs =
-    let t = a ∷ b ∷ c ∷ [] in
-    let e0 = in_text t 0 (omega arith) in
-    let e1 = in_text t 1 (omega arith) in
-    let e2 = in_text t 2 (omega arith) in
-    let p = packs 0 (omega arith) in
-    let s0 = code_small a in let s1 = code_small b in let s2 = code_small c in
-    let r0 : y % 4 ≡ code_of a = omega (arith, p, e0, e1, e2, or_small t 3) in
-    let r1 : y / 4 % 4 ≡ code_of b = omega (arith, p, e0, e1, e2, or_small t 3) in
-    let r2 : y / 16 % 4 ≡ code_of c = omega (arith, p, e0, e1, e2, or_small t 3) in
-    ap (λ x. x ∷ digit_of (y / 4 % 4) ∷ digit_of (y / 16 % 4) ∷ []) (digit_at a (y % 4) r0)
-    ∙ ap (λ x. held_digit a ∷ x ∷ digit_of (y / 16 % 4) ∷ []) (digit_at b (y / 4 % 4) r1)
-    ∙ ap (λ x. held_digit a ∷ held_digit b ∷ x ∷ []) (digit_at c (y / 16 % 4) r2)
-packs_again (a ∷ b ∷ c ∷ d ∷ text) (y ∷ ys) room packs =
-    let t = a ∷ b ∷ c ∷ d ∷ text in
-    let e0 = in_text t 0 (omega arith) in
-    let e1 = in_text t 1 (omega arith) in
-    let e2 = in_text t 2 (omega arith) in
-    let e3 = in_text t 3 (omega arith) in
-    let p : y ≡ code_of a + 4 * code_of b + 16 * code_of c + 64 * code_of d = omega (arith, packs 0 (omega arith), e0, e1, e2, e3) in
-    let f = fours_of (code_of a) (code_of b) (code_of c) (code_of d) y (code_small a) (code_small b) (code_small c) (code_small d) p in
-    let rest : Packs text ys = λ j h. packs (suc j) (omega arith) ∙ rw (further a b c d text (4 * j) (4 * suc j) (omega arith), further a b c d text (4 * j + 1) (4 * suc j + 1) (omega arith), further a b c d text (4 * j + 2) (4 * suc j + 2) (omega arith), further a b c d text (4 * j + 3) (4 * suc j + 3) (omega arith)) refl in
-    let more = packs_again text ys (omega arith) rest in
-    ap (λ (l : List ℕ). take (suc (suc (suc (suc (length text))))) (l ++ unpacked ys)) f
-    ∙ rw (digit_again a, digit_again b, digit_again c, digit_again d) (ap (λ l. held_digit a ∷ held_digit b ∷ held_digit c ∷ held_digit d ∷ l) more)
-
--- the bytes of four digits each were written, and that of the last ones
-pub packs_last : (text bytes : List ℕ) (whole last : ℕ) → whole ≡ length text / 4 → 4 * whole < length text → length text ≤ 4 * length bytes
-    → ((j : ℕ) → j < whole → get_or bytes j 0 ≡ code_or text (4 * j) + 4 * code_or text (4 * j + 1) + 16 * code_or text (4 * j + 2) + 64 * code_or text (4 * j + 3))
-    → last ≡ code_or text (4 * whole) + 4 * code_or text (4 * whole + 1) + 16 * code_or text (4 * whole + 2) + 64 * code_or text (4 * whole + 3)
-    → digits_in (length text) (slice_set bytes whole last) ≡ map held_digit text
-packs_last text bytes whole last is some room packs four =
-    let l = length-set bytes whole last in
-    packs_again text (slice_set bytes whole last) (omega arith) (λ j h. by_place j h (cases_lt j whole))
-  where
-    by_place : (j : ℕ) → 4 * j < length text → (j < whole) ⊎ (whole ≤ j) → get_or (slice_set bytes whole last) j 0 ≡ code_or text (4 * j) + 4 * code_or text (4 * j + 1) + 16 * code_or text (4 * j + 2) + 64 * code_or text (4 * j + 3)
-    by_place j h (inl less) = get_or-set_other bytes whole j last 0 (λ e. omega arith) ∙ packs j less
-    by_place j h (inr more) = let e : j ≡ whole = omega arith in rw e (get_or-set_same bytes whole last 0 (omega arith) ∙ four)
+    by_place : (j : ℕ) → (j < place) ⊎ (place ≤ j) → j < place + 1 → get_or (slice_set bytes place y) j 0 ≡ four_codes text (quarter_of (length text)) j
+    by_place j (inl less) h = get_or-set_other bytes place j y 0 (λ e. omega arith) ∙ packs j less
+    by_place j (inr more) h = let e : j ≡ place = omega arith in rw e (get_or-set_same bytes place y 0 within ∙ is ∙ ap (λ q. four_codes text q place) same)
 
 -- ---- one digit of a share
 
-first_four : (b r p : ℕ) (rest : List ℕ) → r < 4 → p ≡ r → slice_get (fours b ++ rest) p ≡ slice_get (fours b) r
-first_four b zero p rest h e = ap (slice_get (fours b ++ rest)) e
-first_four b (suc zero) p rest h e = ap (slice_get (fours b ++ rest)) e
-first_four b (suc (suc zero)) p rest h e = ap (slice_get (fours b ++ rest)) e
-first_four b (suc (suc (suc zero))) p rest h e = ap (slice_get (fours b ++ rest)) e
-first_four b (suc (suc (suc (suc r)))) p rest h e = absurd (omega arith)
+-- it is one of the four of the byte at its place
+pub digit_there : (len : ℕ) (bytes : List ℕ) (r j p y : ℕ) → p < len → j < length (take (quarter_of len) bytes) → p ≡ j + r * length (take (quarter_of len) bytes) → r < 4 → slice_get bytes j ≡ Some y → slice_get (digits_in len bytes) p ≡ slice_get (fours y) r
+digit_there len bytes r j p y less h e small at =
+    let first = take (quarter_of len) bytes in
+    let l = length-take (quarter_of len) bytes in
+    let u = length_unpacked first in
+    let t = length-take len (unpacked first) in
+    let within : p < length (unpacked first) = below_four (length first) r j p h e small u in
+    let byte : get_or first j 0 ≡ y = get_or-take (quarter_of len) bytes j 0 (omega (arith, l, h)) ∙ get_or_from_slice_get bytes j y 0 at in
+    slice_get-get_or (take len (unpacked first)) p 0 (omega (arith, t, less, within))
+    ∙ ap Some (get_or-take len (unpacked first) p 0 less ∙ there first r j p y h e small byte)
+    ∙ sym (slice_get-get_or (fours y) r 0 small)
+  where
+    below_four : (q r j p : ℕ) {n : ℕ} → j < q → p ≡ j + r * q → r < 4 → n ≡ 4 * q → p < n
+    below_four q zero j p h e small u = omega arith
+    below_four q (suc zero) j p h e small u = omega arith
+    below_four q (suc (suc zero)) j p h e small u = omega arith
+    below_four q (suc (suc (suc zero))) j p h e small u = omega arith
+    below_four q (suc (suc (suc (suc r)))) j p h e small u = absurd (omega arith)
 
--- it is one of the four of its byte
-pub digit_there : (bytes : List ℕ) (j r p b : ℕ) → r < 4 → p ≡ 4 * j + r → slice_get bytes j ≡ Some b → slice_get (unpacked bytes) p ≡ slice_get (fours b) r
-digit_there [] j r p b h e at = cc
-digit_there (y ∷ ys) zero r p b h e at =
-    let same : y ≡ b = cc in
-    ap (λ x. slice_get (fours x ++ unpacked ys) p) same ∙ first_four b r p (unpacked ys) h (omega arith)
-digit_there (y ∷ ys) (suc j) r p b h e at =
-    let s : p ≡ suc (suc (suc (suc (4 * j + r)))) = omega arith in
-    ap (slice_get (fours y ++ unpacked ys)) s ∙ digit_there ys j r (4 * j + r) b h refl at
-
-pub length_unpacked : (bytes : List ℕ) → length (unpacked bytes) ≡ 4 * length bytes
-length_unpacked [] = refl
-length_unpacked (y ∷ ys) = let e = length_unpacked ys in omega arith
-
--- behind the last byte there is none
-pub none_there : (bytes : List ℕ) (j r p : ℕ) → p ≡ 4 * j + r → length bytes ≤ j → slice_get (unpacked bytes) p ≡ None
-none_there bytes j r p e h = slice_get_past (unpacked bytes) p (let l = length_unpacked bytes in omega arith)
+-- there is none behind the last one, nor where the bytes have no more
+pub none_there : (len : ℕ) (bytes : List ℕ) (p : ℕ) → (len ≤ p) ⊎ (4 * length (take (quarter_of len) bytes) ≤ p) → slice_get (digits_in len bytes) p ≡ None
+none_there len bytes p (inl h) = slice_get_past (digits_in len bytes) p (let t = length-take len (unpacked (take (quarter_of len) bytes)) in omega arith)
+none_there len bytes p (inr h) = slice_get_past (digits_in len bytes) p (let t = length-take len (unpacked (take (quarter_of len) bytes)) in let u = length_unpacked (take (quarter_of len) bytes) in omega arith)

@@ -1,16 +1,15 @@
 -- A table where one slot was written, and perhaps its share: what it keeps of that code, and that it keeps of the others what it kept.
-use Rattle.std.proofs.Common.{◌≡◌, ◌≢◌, ℕ, zero, suc, ◌+◌, ◌-◌, ◌*◌, ◌<◌, ◌≤◌, ◌==◌, nat_lt, nat_le, Bool, true, false, cond, List, [], ◌∷◌, ◌++◌, length, take, drop, map, slice_get, slice_set, Option, Some, None, refl, sym, ap, ◌∙◌, arith, ◌⊎◌, inl, inr}
+use Rattle.std.proofs.Common.{◌≡◌, ◌≢◌, ℕ, zero, suc, ◌+◌, ◌-◌, ◌<◌, ◌≤◌, ◌==◌, nat_lt, nat_le, Bool, true, false, cond, List, [], ◌∷◌, length, take, drop, map, slice_get, slice_set, Option, Some, None, refl, sym, ap, ◌∙◌, arith, ◌⊎◌, inl, inr}
 use Rattle.std.specs.Prelude.{get_or, option_map}
 use Rattle.std.proofs.lemmas.Bool.{and_right, cases_lt, eq-eqb, eqb-false, ne_eqb, le-leb, lt-leb, lt-ltb}
 use Rattle.std.proofs.lemmas.List.{drop-take, length-append, length-drop, length-take}
 use Rattle.std.specs.Str.{byte}
 use Rattle.std.proofs.lemmas.Option.{slice_get_within}
 use Rattle.std.proofs.lemmas.Slice.{take-put_mid_below, drop-put_mid, between-put_mid}
-use Rattle.std.proofs.lemmas.Grind.{div_ceil_times}
 use Rattle.std.proofs.Math.Seq.{take-take}
 use borrow.Rule.Slice.PartMut.{put_mid}
 use Rattle.vcd_body.specs.Kept.{Held, Kept, bytes_for, counts_with, fits, held_as, one_more, room_for, with_held, with_text}
-use Rattle.vcd_body.specs.Packed.{digits_in, fours, held_digit}
+use Rattle.vcd_body.specs.Packed.{digits_in, held_digit, quarter_of, unpacked}
 use Rattle.vcd_body.specs.Stored.{AreLaidOut, ChangesAt, end_at, held_by, held_of, kept_in, kept_with, one_digit, some_by, start_or, used, used_by}
 use Rattle.vcd_body.specs.declared.item.Form.{Form}
 use Rattle.vcd_body.specs.declared.item.Form.TheVariants as form
@@ -60,15 +59,14 @@ reads_same : (a u s k : ℕ) (xs ys : List ℕ) → s + k ≤ length xs → leng
 reads_same a u s k xs ys within same (inl before) = sym (drop-take a u (put_mid s k xs ys)) ∙ ap (drop a) (take-put_mid_below s k xs ys (a + u) before (omega arith)) ∙ drop-take a u xs
 reads_same a u s k xs ys within same (inr behind) = ap (take u) (drop-put_mid s k xs ys a behind (omega arith) same)
 
--- the digits that are asked for lie in the first bytes
-digits_first : (n m : ℕ) (ys : List ℕ) → n ≤ 4 * m → digits_in n (take m ys) ≡ digits_in n ys
-digits_first n zero ys h = let e : n ≡ 0 = omega arith in rw e refl
-digits_first n (suc m) [] h = refl
-digits_first zero (suc m) (y ∷ ys) h = refl
-digits_first (suc zero) (suc m) (y ∷ ys) h = refl
-digits_first (suc (suc zero)) (suc m) (y ∷ ys) h = refl
-digits_first (suc (suc (suc zero))) (suc m) (y ∷ ys) h = refl
-digits_first (suc (suc (suc (suc n)))) (suc m) (y ∷ ys) h = ap (λ l. fours y ++ l) (digits_first n m ys (omega arith))
+-- the digits lie in the first bytes
+digits_first : (n : ℕ) (ys : List ℕ) → digits_in n (take (quarter_of n) ys) ≡ digits_in n ys
+digits_first n ys = ap (λ (bytes : List ℕ). take n (unpacked bytes)) (take_twice (quarter_of n) ys)
+  where
+    take_twice : (n : ℕ) (ys : List ℕ) → take n (take n ys) ≡ take n ys
+    take_twice zero ys = refl
+    take_twice (suc n) [] = refl
+    take_twice (suc n) (y ∷ ys) = ap (λ (l : List ℕ). y ∷ l) (take_twice n ys)
 
 -- ---- shares
 
@@ -262,10 +260,7 @@ set_slot st len s = record { state = st; start = s.start; len = len; counts = s.
 
 -- the digits that were packed lie in the bytes that are in use
 pub packed_held : (ys text : List ℕ) → digits_in (length text) ys ≡ map held_digit text → held_by state.Digits (length text) (take (used_by state.Digits (length text)) ys) ≡ Held.Digits (map held_digit text)
-packed_held ys text packed =
-    let n = length text in
-    let d = div_ceil_times n 4 (omega arith) in
-    ap (λ (l : List ℕ). Held.Digits l) (digits_first n (bytes_for n) ys (omega (arith, d)) ∙ packed)
+packed_held ys text packed = ap (λ (l : List ℕ). Held.Digits l) (digits_first (length text) ys ∙ packed)
 
 -- the digits that were put in the share
 pub digits_kept : (st : State) (s : Slot) (end : ℕ) (values ys text : List ℕ) → length text ≢ 1 → 0 < length text → s.start + bytes_for (length text) ≤ end → s.start + used_by st (length text) ≤ end → end ≤ length values → length ys ≡ end - s.start

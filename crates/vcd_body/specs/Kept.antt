@@ -1,8 +1,8 @@
 -- What a table keeps of a code, and what each call makes of it.
-use Rattle.std.specs.Prelude.{ℕ, ◌+◌, ◌-◌, ◌/◌, ◌%◌, ◌^◌, ◌==◌, ◌&&◌, nat_lt, nat_le, min, Bool, true, false, not, cond, List, [], ◌∷◌, length, map, get_or, slice_get, slice_set, Option, Some, None}
+use Rattle.std.specs.Prelude.{ℕ, ◌+◌, ◌-◌, ◌^◌, ◌==◌, ◌&&◌, nat_lt, nat_le, min, Bool, true, false, not, cond, List, [], ◌∷◌, length, map, get_or, slice_get, slice_set, Option, Some, None}
 use Rattle.std.specs.List.{last_or}
 use Rattle.vcd_model.specs.Values.{Value, extend, same_value}
-use Rattle.vcd_body.specs.Packed.{held_digit}
+use Rattle.vcd_body.specs.Packed.{held_digit, quarter_of}
 use Rattle.vcd_body.specs.declared.item.Form.{Form}
 use Rattle.vcd_body.specs.declared.item.Form.TheVariants as form
 
@@ -27,7 +27,7 @@ unset room = record { held = Unset; counts = 0 ∷ 0 ∷ 0 ∷ []; chosen = fals
 
 -- how many bytes n digits take, four to a byte
 abbrev pub bytes_for : ℕ → ℕ
-bytes_for n = n / 4 + min 1 (n % 4)
+bytes_for n = quarter_of n
 
 -- how many bytes a text of n bytes takes; one digit takes none
 abbrev pub room_for : Form → ℕ → ℕ

@@ -1,5 +1,5 @@
--- Digits, four to a byte, the first in the lowest bits.
-use Rattle.std.specs.Prelude.{ℕ, ◌/◌, ◌%◌, ◌==◌, ◌||◌, nat_lt, cond, List, [], ◌∷◌, ◌++◌, length, take, get_or}
+-- Digits, four to a byte: one of each quarter of the text, that of the first quarter in the lowest bits.
+use Rattle.std.specs.Prelude.{ℕ, ◌/◌, ◌%◌, ◌+◌, ◌*◌, ◌==◌, ◌||◌, nat_lt, min, cond, List, [], ◌∷◌, ◌++◌, length, map, take, get_or}
 use Rattle.std.specs.Str.{byte}
 
 -- a digit as it is held: in lower case; any byte that is no digit counts as z
@@ -18,14 +18,22 @@ digit_of c = cond (c == 0) (byte "0") (cond (c == 1) (byte "1") (cond (c == 2) (
 abbrev pub code_or : List ℕ → ℕ → ℕ
 code_or text place = cond (nat_lt place (length text)) (code_of (get_or text place 0)) 0
 
+-- how long a quarter of n digits is; the last one may be shorter
+abbrev pub quarter_of : ℕ → ℕ
+quarter_of n = n / 4 + min 1 (n % 4)
+
+-- the byte at a place: the digits that stand at it in each quarter
+abbrev pub four_codes : List ℕ → ℕ → ℕ → ℕ
+four_codes text quarter place = code_or text place + 4 * code_or text (place + quarter) + 16 * code_or text (place + 2 * quarter) + 64 * code_or text (place + 3 * quarter)
+
 -- the four digits of a byte
 abbrev pub fours : ℕ → List ℕ
 fours b = digit_of (b % 4) ∷ digit_of (b / 4 % 4) ∷ digit_of (b / 16 % 4) ∷ digit_of (b / 64 % 4) ∷ []
 
+-- the first digits of all bytes, then their second ones, and so on
 abbrev pub unpacked : List ℕ → List ℕ
-unpacked [] = []
-unpacked (b ∷ bs) = fours b ++ unpacked bs
+unpacked bytes = map (λ b. digit_of (b % 4)) bytes ++ (map (λ b. digit_of (b / 4 % 4)) bytes ++ (map (λ b. digit_of (b / 16 % 4)) bytes ++ map (λ b. digit_of (b / 64 % 4)) bytes))
 
--- the first n digits that bytes hold
+-- the n digits that the first bytes hold
 abbrev pub digits_in : ℕ → List ℕ → List ℕ
-digits_in n bytes = take n (unpacked bytes)
+digits_in n bytes = take n (unpacked (take (quarter_of n) bytes))

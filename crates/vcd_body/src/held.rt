@@ -28,8 +28,7 @@ pub(crate) fn digit_held(slot: Slot, share: &[u8], place: usize) -> Option<u8>
 {
     match slot.state {
         State::Plain => plain_digit_at(share, place),
-        State::Digits if place < slot.len => digit_at(share, place),
-        State::Digits => None,
+        State::Digits => digit_at(share, slot.len, place),
         state if place == 0 => digit_of_state(state),
         _ => None,
     }
@@ -63,7 +62,7 @@ pub(crate) fn last_held(slot: Slot, share: &[u8]) -> Option<u8>
 {
     match slot.state {
         State::Plain => plain_digit_at(share, share.len() - 1),
-        State::Digits => digit_at(share, slot.len - 1),
+        State::Digits => digit_at(share, slot.len, slot.len - 1),
         state => digit_of_state(state),
     }
 }

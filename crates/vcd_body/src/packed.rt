@@ -1,6 +1,6 @@
-// Digits in a share: a byte each, or four to a byte.
-ghost use Rattle.std.specs.Prelude.{◌≡◌, ◌≤◌, ◌<◌, ◌+◌, ◌*◌, ◌/◌, ◌^◌, length, map, slice_get, slice_index_or};
-ghost use Rattle.vcd_body.specs.Packed.{code_of, code_or, digit_of, digits_in, fours, held_digit, unpacked};
+// Digits in a share: a byte each, or four to a byte, one of each quarter of them.
+ghost use Rattle.std.specs.Prelude.{◌≡◌, ◌≤◌, ◌<◌, ◌+◌, ◌-◌, ◌*◌, ◌^◌, ℕ, Some, get_or, length, map, slice_get};
+ghost use Rattle.vcd_body.specs.Packed.{code_of, code_or, digit_of, digits_in, four_codes, fours, held_digit};
 
 /// A digit as two bits. It is written so that it takes no branches.
 #[inline(always)]
@@ -66,43 +66,52 @@ fn code_at(text: &[u8], place: usize) -> u8
     }
 }
 
-/// Four digits from a place on as a byte.
+/// The digits at a place of each quarter as a byte.
 #[inline(always)]
-fn four_at(text: &[u8], place: usize) -> u8
-    requires { place + 3 < 2 ^ 63 }
-    ensures { result ≡ code_or text.now place + 4 * code_or text.now (place + 1)
-        + 16 * code_or text.now (place + 2) + 64 * code_or text.now (place + 3) }
+fn four_at(text: &[u8], quarter: usize, place: usize) -> u8
+    requires { place + 3 * quarter < 2 ^ 64 }
+    ensures { result ≡ four_codes text.now quarter place }
 {
     code_at(text, place)
-        + 4 * code_at(text, place + 1)
-        + 16 * code_at(text, place + 2)
-        + 64 * code_at(text, place + 3)
+        + 4 * code_at(text, place + quarter)
+        + 16 * code_at(text, place + 2 * quarter)
+        + 64 * code_at(text, place + 3 * quarter)
 }
 
 /// The same where all four are digits of the text.
 #[inline(always)]
-fn whole_four_at(text: &[u8], place: usize) -> u8
-    requires { place + 3 < length text.now }
-    ensures { result ≡ code_or text.now place + 4 * code_or text.now (place + 1)
-        + 16 * code_or text.now (place + 2) + 64 * code_or text.now (place + 3) }
+fn whole_four_at(text: &[u8], quarter: usize, place: usize) -> u8
+    requires { place + 3 * quarter < length text.now }
+    ensures { result ≡ four_codes text.now quarter place }
 {
     code_of(text[place])
-        + 4 * code_of(text[place + 1])
-        + 16 * code_of(text[place + 2])
-        + 64 * code_of(text[place + 3])
+        + 4 * code_of(text[place + quarter])
+        + 16 * code_of(text[place + 2 * quarter])
+        + 64 * code_of(text[place + 3 * quarter])
 }
 
-/// Packs digits into the first bytes of a share.
+/// Packs the digits of the places that each quarter has. The reads of each quarter are in a row, so that many are packed at once.
+fn pack_whole(share: &mut [u8], text: &[u8], quarter: usize, whole: usize)
+    requires room { whole ≤ length share.old }
+    requires whole { whole ≤ length text.now - 3 * quarter }
+    ensures { (place : ℕ) → place < whole
+        → get_or share.new place 0 ≡ four_codes text.now quarter place }
+{
+    for place in 0..whole {
+        share[place] = whole_four_at(text, quarter, place);
+    }
+}
+
+/// Packs digits into the first bytes of a share: a byte for each place of a quarter of them.
 pub(crate) fn pack(share: &mut [u8], text: &[u8])
     requires room { length text.now ≤ 4 * length share.old }
     ensures { digits_in (length text.now) share.new ≡ map held_digit text.now }
 {
-    let whole = text.len() / 4;
-    for i in 0..whole {
-        share[i] = whole_four_at(text, 4 * i);
-    }
-    if 4 * whole < text.len() {
-        share[whole] = four_at(text, 4 * whole);
+    let quarter = text.len().div_ceil(4);
+    let whole = text.len().saturating_sub(3 * quarter);
+    pack_whole(share, text, quarter, whole);
+    for place in whole..quarter {
+        share[place] = four_at(text, quarter, place);
     }
 }
 
@@ -129,13 +138,29 @@ fn byte_at(share: &[u8], place: usize) -> Option<u8>
     share.get(place).copied()
 }
 
-/// The digit at a place of a share; none after its end.
+/// The digit at a place of `len` digits in a share; none after the last.
 #[inline(always)]
-pub(crate) fn digit_at(share: &[u8], place: usize) -> Option<u8>
-    ensures { result ≡ slice_get (unpacked share.now) place }
+pub(crate) fn digit_at(share: &[u8], len: usize, place: usize) -> Option<u8>
+    ensures { result ≡ slice_get (digits_in len share.now) place }
 {
-    match byte_at(share, place / 4) {
-        Some(byte) => Some(digit_in_byte(byte, place % 4)),
-        None => None,
+    if place >= len {
+        return None;
     }
+    let quarter = len.div_ceil(4).min(share.len());
+    if place < quarter {
+        return Some(digit_in_byte(share[place], 0));
+    }
+    let second = place - quarter;
+    if second < quarter {
+        return Some(digit_in_byte(share[second], 1));
+    }
+    let third = second - quarter;
+    if third < quarter {
+        return Some(digit_in_byte(share[third], 2));
+    }
+    let fourth = third - quarter;
+    if fourth < quarter {
+        return Some(digit_in_byte(share[fourth], 3));
+    }
+    None
 }

@@ -1,5 +1,5 @@
 -- A draft that holds some declarations holds one more.
-use Rattle.std.proofs.Common.{◌≡◌, ◌≢◌, ℕ, suc, ◌+◌, ◌-◌, ◌<◌, ◌≤◌, cond, List, [], ◌∷◌, ◌++◌, length, map, reverse, take, drop, slice_range, slice_get, find, filter_map, sum_by, bytes_eq, Option, Some, None, is_some, option_map, unwrap_or, refl, sym, ap, subst, ◌∙◌, arith}
+use Rattle.std.proofs.Common.{◌≡◌, ◌≢◌, ℕ, suc, ◌+◌, ◌-◌, ◌<◌, ◌≤◌, cond, List, [], ◌∷◌, ◌++◌, length, map, reverse, take, drop, slice_range, slice_get, find, filter_map, sum_by, bytes_eq, Option, Some, None, IfSome, is_some, option_map, unwrap_or, refl, sym, ap, subst, ◌∙◌, arith}
 use Rattle.std.specs.Global.{Vec}
 use Rattle.std.specs.List.{AllByRecursion, AllZip, list_any, join_with_byte, last_or}
 use Rattle.std.proofs.lemmas.List.{append_assoc, append-nil, length-append, length_push, reverse-append, length-reverse, length-map, map-append}
@@ -15,7 +15,7 @@ use Rattle.vcd_head.specs.declared.codes.Codes.{Codes}
 use Rattle.vcd_head.specs.Codes.{ArePlaces}
 use Rattle.vcd_head.specs.declared.draft.Draft.{Draft}
 use Rattle.vcd_head.specs.Keys.{AreBytes}
-use Rattle.vcd_head.specs.Views.{HasTexts, IsRow, AreRows, IsCode, IsSize, counted_from_one}
+use Rattle.vcd_head.specs.Views.{HasTexts, IsRow, AreRows, IsCode, IsExponent, IsSize, counted_from_one}
 use Rattle.vcd_head.specs.Texts.{spaced}
 use Rattle.vcd_head.specs.Draft.{HasCodes, Declares, IsDraftOf}
 use Rattle.vcd_model.proofs.ScopeLemmas.{enclosing-scope, enclosing-up, enclosing-var}
@@ -202,6 +202,7 @@ holds_declared most d d' ps x h k date version scale = record {
   date = date ∙ h.date ∙ ap (λ l. unwrap_or (last_or None l) []) (sym (filter_map-append date_of ps (HeaderPhrase.Declares x ∷ []) ∙ append-nil (filter_map date_of ps)));
   version = version ∙ h.version ∙ ap (λ l. unwrap_or (last_or None l) []) (sym (filter_map-append version_of ps (HeaderPhrase.Declares x ∷ []) ∙ append-nil (filter_map version_of ps)));
   scale = ap (option_map (λ (s : Scale). s.exponent)) scale ∙ h.scale ∙ ap (last_or None) (sym (filter_map-append timescale_of ps (HeaderPhrase.Declares x ∷ []) ∙ append-nil (filter_map timescale_of ps)));
+  scaled = subst (λ o. IfSome o (λ (s : Scale). IsExponent s.exponent)) (sym scale) h.scaled;
 }
 
 -- a phrase of which f has nothing to say
@@ -215,6 +216,7 @@ holds_plain most d ps p a b c e h = record {
   date = h.date ∙ ap (λ l. unwrap_or (last_or None l) []) (sym (not_said date_of ps p b));
   version = h.version ∙ ap (λ l. unwrap_or (last_or None l) []) (sym (not_said version_of ps p c));
   scale = h.scale ∙ ap (last_or None) (sym (not_said timescale_of ps p e));
+  scaled = h.scaled;
 }
 
 last_push : {X : Type 0} (o : Option X) (xs : List X) (x : X) → last_or o (xs ++ x ∷ []) ≡ Some x
@@ -227,6 +229,7 @@ holds_date most d ps inner v h e = record {
   date = e ∙ ap (λ (o : Option (List ℕ)). unwrap_or o []) (sym (ap (last_or None) (filter_map-append date_of ps (HeaderPhrase.Date inner ∷ [])) ∙ last_push None (filter_map date_of ps) (join_with_byte 32 inner)));
   version = h.version ∙ ap (λ l. unwrap_or (last_or None l) []) (sym (filter_map-append version_of ps (HeaderPhrase.Date inner ∷ []) ∙ append-nil (filter_map version_of ps)));
   scale = h.scale ∙ ap (last_or None) (sym (filter_map-append timescale_of ps (HeaderPhrase.Date inner ∷ []) ∙ append-nil (filter_map timescale_of ps)));
+  scaled = h.scaled;
 }
   where
     again : {ds es : List Declaration} → ds ≡ es → Declares most d ds → Declares most (record d { date = v }) es
@@ -238,17 +241,19 @@ holds_version most d ps inner v h e = record {
   date = h.date ∙ ap (λ l. unwrap_or (last_or None l) []) (sym (filter_map-append date_of ps (HeaderPhrase.Version inner ∷ []) ∙ append-nil (filter_map date_of ps)));
   version = e ∙ ap (λ (o : Option (List ℕ)). unwrap_or o []) (sym (ap (last_or None) (filter_map-append version_of ps (HeaderPhrase.Version inner ∷ [])) ∙ last_push None (filter_map version_of ps) (join_with_byte 32 inner)));
   scale = h.scale ∙ ap (last_or None) (sym (filter_map-append timescale_of ps (HeaderPhrase.Version inner ∷ []) ∙ append-nil (filter_map timescale_of ps)));
+  scaled = h.scaled;
 }
   where
     again : {ds es : List Declaration} → ds ≡ es → Declares most d ds → Declares most (record d { version = v }) es
     again q k = subst (Declares most (record d { version = v })) q (record { codes = k.codes; rows = k.rows; nested = k.nested; balance = k.balance; held = k.held; few = k.few })
 
-pub holds_scale : (most : ℕ) (d : Draft) (ps : List HeaderPhrase) (x : Scale) → IsDraftOf most d ps → IsDraftOf most (record d { scale = Some x }) (ps ++ HeaderPhrase.Timescale x.exponent ∷ [])
-holds_scale most d ps x h = record {
+pub holds_scale : (most : ℕ) (d : Draft) (ps : List HeaderPhrase) (x : Scale) → IsDraftOf most d ps → IsExponent x.exponent → IsDraftOf most (record d { scale = Some x }) (ps ++ HeaderPhrase.Timescale x.exponent ∷ [])
+holds_scale most d ps x h in_range = record {
   declares = again (sym (filter_map-append declaration_of ps (HeaderPhrase.Timescale x.exponent ∷ []) ∙ append-nil (declarations_of ps))) h.declares;
   date = h.date ∙ ap (λ l. unwrap_or (last_or None l) []) (sym (filter_map-append date_of ps (HeaderPhrase.Timescale x.exponent ∷ []) ∙ append-nil (filter_map date_of ps)));
   version = h.version ∙ ap (λ l. unwrap_or (last_or None l) []) (sym (filter_map-append version_of ps (HeaderPhrase.Timescale x.exponent ∷ []) ∙ append-nil (filter_map version_of ps)));
   scale = sym (ap (last_or None) (filter_map-append timescale_of ps (HeaderPhrase.Timescale x.exponent ∷ [])) ∙ last_push None (filter_map timescale_of ps) x.exponent);
+  scaled = in_range;
 }
   where
     again : {ds es : List Declaration} → ds ≡ es → Declares most d ds → Declares most (record d { scale = Some x }) es

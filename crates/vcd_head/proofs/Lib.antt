@@ -29,3 +29,4 @@ pub mod KeyLemmas
 pub mod MomentLemmas
 pub mod NewCodeLemmas
 pub mod RenamedLemmas
+pub mod MergedLemmas

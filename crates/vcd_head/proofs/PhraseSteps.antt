@@ -1,5 +1,5 @@
 -- Whole phrases that declare nothing, and the end of a header.
-use Rattle.std.proofs.Common.{◌≡◌, ℕ, true, false, List, [], ◌∷◌, ◌++◌, Option, Some, None, option_map, Result, Ok, Err, MatchResult, IfOk, IfErr, ◌+◌, ◌≤◌, suc, map, reverse, length, arith, refl, sym, ap, subst, ◌∙◌}
+use Rattle.std.proofs.Common.{◌≡◌, ℕ, true, false, List, [], ◌∷◌, ◌++◌, Option, IfSome, Some, None, option_map, Result, Ok, Err, MatchResult, IfOk, IfErr, ◌+◌, ◌≤◌, suc, map, reverse, length, arith, refl, sym, ap, subst, ◌∙◌}
 use Rattle.std.specs.Global.{Vec}
 use Rattle.std.specs.List.{join_with_byte}
 use Rattle.std.proofs.lemmas.List.{map-append}
@@ -23,7 +23,7 @@ use Rattle.vcd_head.specs.declared.codes.Codes.{Codes}
 use Rattle.vcd_head.specs.Codes.{HasNone}
 use Rattle.vcd_head.proofs.CodesLemmas.{no_places}
 use Rattle.vcd_head.specs.Draft.{IsDraftOf, HasCodes, IsNew, AtKeyword, AtFirstToken, AtOther, DraftsUpTo, DraftsAll}
-use Rattle.vcd_head.specs.Views.{AreRows, Views}
+use Rattle.vcd_head.specs.Views.{IsExponent, AreRows, Views}
 use Rattle.vcd_head.specs.Shown.{shown}
 use Rattle.vcd_head.specs.declared.head.Head.{Head}
 use Rattle.vcd_head.specs.declared.view.Scale.{Scale}
@@ -140,6 +140,7 @@ holds_nothing most d n = record {
   date = n.no_date;
   version = n.no_version;
   scale = ap (option_map (λ (x : Scale). x.exponent)) n.no_scale;
+  scaled = subst (λ o. IfSome o (λ (x : Scale). IsExponent x.exponent)) (sym n.no_scale) tt;
 }
 
 pub carries_nothing : {X : Type 0} {g : Ghosts X} (most : ℕ) (i : Input) (d : Draft) (f : Feed X g) → IsNew d → HasGiven i [] f → DraftsUpTo most i d f

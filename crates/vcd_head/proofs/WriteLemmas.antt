@@ -143,22 +143,22 @@ declared_there s h i v l =
 
 -- ---- the lines of the rows
 
--- the lines of the first declarations, and of those behind
-lines-append : (f : List Declaration → Declaration → List ℕ) (xs ys : List Declaration) → concat (each f (xs ++ ys)) ≡ concat (each f xs) ++ concat (each_after f xs ys)
+-- the lines of the first ones, and of those behind
+lines-append : {X : Type 0} (f : List X → X → List ℕ) (xs ys : List X) → concat (each f (xs ++ ys)) ≡ concat (each f xs) ++ concat (each_after f xs ys)
 lines-append f xs ys = ap concat (each_after-append f [] xs ys) ∙ concat-append (each f xs) (each_after f xs ys)
 
-take-next : {X : Type 0} (xs : List X) (i : ℕ) (x : X) → slice_get xs i ≡ Some x → take (suc i) xs ≡ take i xs ++ x ∷ []
+pub take-next : {X : Type 0} (xs : List X) (i : ℕ) (x : X) → slice_get xs i ≡ Some x → take (suc i) xs ≡ take i xs ++ x ∷ []
 take-next [] i x at = cc
 take-next (y ∷ xs) zero x at = let same : y ≡ x = cc in ap (λ z. z ∷ []) same
 take-next (y ∷ xs) (suc i) x at = ap (λ l. y ∷ l) (take-next xs i x at)
 
--- one declaration on
-pub lines-next : (f : List Declaration → Declaration → List ℕ) (ds : List Declaration) (i : ℕ) (d : Declaration) → slice_get ds i ≡ Some d → concat (each f (take (i + 1) ds)) ≡ concat (each f (take i ds)) ++ f (take i ds) d
+-- one on
+pub lines-next : {X : Type 0} (f : List X → X → List ℕ) (ds : List X) (i : ℕ) (d : X) → slice_get ds i ≡ Some d → concat (each f (take (i + 1) ds)) ≡ concat (each f (take i ds)) ++ f (take i ds) d
 lines-next f ds i d at =
     ap (λ l. concat (each f l)) (ap (λ n. take n ds) (add-one i) ∙ take-next ds i d at) ∙ lines-append f (take i ds) (d ∷ []) ∙ ap (λ l. concat (each f (take i ds)) ++ l) (append-nil (f (take i ds) d))
 
 -- a line that was not wholly written, behind those before it
-pub lines-some : (f : List Declaration → Declaration → List ℕ) (old mid new : Option (List ℕ)) (ds : List Declaration) (i : ℕ) (d : Declaration) → slice_get ds i ≡ Some d → Appends old mid (concat (each f (take i ds))) → AppendsSome mid new (f (take i ds) d)
+pub lines-some : {X : Type 0} (f : List X → X → List ℕ) (old mid new : Option (List ℕ)) (ds : List X) (i : ℕ) (d : X) → slice_get ds i ≡ Some d → Appends old mid (concat (each f (take i ds))) → AppendsSome mid new (f (take i ds) d)
     → AppendsSome old new (concat (each f ds))
 lines-some f old mid new ds i d at front line =
     let rest = concat (each_after f (take (i + 1) ds) (drop (i + 1) ds)) in

@@ -1,5 +1,5 @@
 -- What a draft holds of the phrases read so far, beside the feed that they come from.
-use Rattle.std.specs.Prelude.{◌≡◌, ℕ, suc, ◌+◌, ◌≤◌, List, [], ◌∷◌, ◌++◌, length, map, reverse, find, filter_map, count_by, sum_by, bytes_eq, Some, None, is_some, option_map, unwrap_or, slice_get, Bool, true, false, Option}
+use Rattle.std.specs.Prelude.{◌≡◌, ℕ, suc, ◌+◌, ◌≤◌, List, [], ◌∷◌, ◌++◌, length, map, reverse, find, filter_map, count_by, sum_by, bytes_eq, Some, None, is_some, option_map, unwrap_or, slice_get, Bool, true, false, Option, IfSome}
 use Rattle.std.specs.List.{AllByRecursion, AllZip, list_any, last_or}
 use Rattle.vcd_model.specs.Declarations.{Declaration, Variable, IdCode, code_of, codes_of, variables_of, has_text, is_scope, is_up, enclosing}
 use Rattle.vcd_model.specs.HeaderPhrases.{HeaderPhrase, declarations_of, date_of, version_of, timescale_of}
@@ -11,7 +11,7 @@ use Rattle.vcd_head.specs.declared.draft.Draft.{Draft}
 use Rattle.vcd_head.specs.declared.draft.Found.{Found}
 use Rattle.vcd_head.specs.declared.draft.Found.TheVariants as found
 use Rattle.vcd_head.specs.Keys.{AreBytes}
-use Rattle.vcd_head.specs.Views.{IsCode, IsSize, AreRows}
+use Rattle.vcd_head.specs.Views.{IsCode, IsExponent, IsSize, AreRows}
 use Rattle.vcd_model.specs.Input.{Input}
 use Rattle.vcd_model.specs.Keywords.{Keyword, keyword_of, keyword_text}
 use Rattle.vcd_model.specs.Reading.{Placed, phrases_of}
@@ -52,6 +52,7 @@ pub record IsDraftOf (most : ℕ) (d : Draft) (ps : List HeaderPhrase) : Type 0 
   pub date : d.date.items ≡ unwrap_or (last_or None (filter_map date_of ps)) []
   pub version : d.version.items ≡ unwrap_or (last_or None (filter_map version_of ps)) []
   pub scale : option_map (λ (x : Scale). x.exponent) d.scale ≡ last_or None (filter_map timescale_of ps)
+  pub scaled : IfSome d.scale (λ (x : Scale). IsExponent x.exponent)
 
 -- the code of the variable is held, at this place
 pub record CodeHeld (old new : Draft) (ds : List Declaration) (v : Variable) (place : ℕ) : Type 0 where

@@ -19,3 +19,4 @@ pub mod Marks
 pub mod Selects
 pub mod Inside
 pub mod NewCode
+pub mod Merged

@@ -1,5 +1,5 @@
 -- When a view shows a header.
-use Rattle.std.specs.Prelude.{◌≡◌, ◌≢◌, ℕ, suc, ◌+◌, ◌*◌, ◌<◌, ◌≤◌, List, [], ◌∷◌, ◌++◌, length, map, Option, Some, None, unwrap_or, option_map, slice_get, slice_range, IsPermutation}
+use Rattle.std.specs.Prelude.{◌≡◌, ◌≢◌, ℕ, suc, ◌+◌, ◌*◌, ◌<◌, ◌≤◌, List, [], ◌∷◌, ◌++◌, length, map, Option, Some, None, unwrap_or, option_map, slice_get, slice_range, IfSome, ℤ, pos, negsuc, IsPermutation}
 use Rattle.std.specs.Ordering.{nat_cmp}
 use Rattle.std.specs.Cmp.Lexicographic.{slice_cmp}
 use Rattle.std.specs.List.{AllByRecursion, AllZip, join_with_byte, range_with_len}
@@ -82,6 +82,11 @@ pub record IsSize (size : ℕ) : Type 0 where
   pub some : 0 < size
   pub most : size < 16777216
 
+-- the exponent of a time scale (clause 18, $timescale): -15 to 2
+abbrev pub IsExponent : ℤ → Type 0
+IsExponent (pos n) = n ≤ 2
+IsExponent (negsuc n) = n < 15
+
 -- what is shown is the header, in no more bytes than its texts have and a look-up may keep
 pub record Views (s : HeadShown) (h : Header) : Type 0 where
   pub rows : AreRows s.text h.codes [] s.rows h.declarations
@@ -90,6 +95,7 @@ pub record Views (s : HeadShown) (h : Header) : Type 0 where
   pub date : s.date ≡ h.date
   pub version : s.version ≡ h.version
   pub scale : option_map (λ (x : Scale). x.exponent) s.scale ≡ h.scale
+  pub scaled : IfSome s.scale (λ (x : Scale). IsExponent x.exponent)
   pub held : length s.text + length s.date + length s.version ≤ text_bytes h
   pub texts : AllByRecursion (λ (c : IdCode). AreBytes c.text) h.codes
   pub keys : s.keys ≡ map (λ (c : IdCode). key_in c.text) h.codes

@@ -2,7 +2,8 @@
 //!
 //! `read_head` reads a header from a feed, up to the `$end` of `$enddefinitions`, into a `Head`, which owns its memory. All
 //! else works on its `HeadView`, slices that may be copied: the look-up of a code (`find`), the path of a variable
-//! (`put_path`), the variables that names select (`select`, as marks), the header of marked declarations (`put_head`).
+//! (`put_path`), the variables that names select (`select`, as marks), the header of marked declarations (`put_head`), the
+//! header of a merged dump (`put_merged_head`, over the heads themselves).
 //!
 //! # The relations
 //!
@@ -27,9 +28,10 @@
 //! - `room`: `need`, the room that an engine over a header needs
 //! - `moment`: `ticks`, a time with a unit in ticks of the header's scale
 //! - `new_code`: the codes that a merge gives
-//! - `merged`: declarations as a merge writes them
+//! - `merged`: the header of a merged dump
 //!
-//! In `specs/` callers read `Views` and `Shown`, `Reads`, `Fault`, `Finds`, `Marks`, `Moments`, `Needs` and `NewCode`.
+//! In `specs/` callers read `Views` and `Shown`, `Reads`, `Fault`, `Finds`, `Marks`, `Merged`, `Moments`, `Needs` and
+//! `NewCode`.
 //!
 //! # Limits
 //!
@@ -74,6 +76,7 @@ pub use fault::HeadFault;
 pub use head::Head;
 pub use keyword::{Keyword, keyword_of};
 pub use look_up::{find, find_counted};
+pub use merged::{least_exponent, put_merged_head};
 pub use moment::{Moment, TickFault, ticks};
 pub use new_code::{NewCode, put_code};
 pub use path::put_path;

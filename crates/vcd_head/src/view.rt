@@ -2,6 +2,7 @@
 ghost use Rattle.std.specs.Prelude.{◌≡◌, ◌<◌, false, length, take, Some, slice_get, option_map, unwrap_or, IfSome};
 ghost use Rattle.vcd_model.specs.Declarations.{Declaration, name_of, parent};
 ghost use Rattle.vcd_model.specs.Header.{Header};
+ghost use Rattle.vcd_model.specs.HeadText.{exponent};
 ghost use Rattle.vcd_head.specs.Shown.{text_in};
 ghost use Rattle.vcd_head.specs.Views.{code_text, reference_of, type_of, IsViewOf};
 
@@ -158,6 +159,16 @@ impl<'a> HeadView<'a> {
         match self.code_at(code) {
             Some(code) => self.text_at(code.start, code.len),
             None => &[],
+        }
+    }
+
+    /// The power of ten of its time scale, in seconds; a missing one counts as 1s.
+    pub fn exponent(self) -> i8
+        ensures { (h : Header) → IsViewOf self.entry h → result ≡ exponent h }
+    {
+        match self.scale {
+            Some(scale) => scale.exponent,
+            None => 0,
         }
     }
 

@@ -1,16 +1,18 @@
 //! Headers as they are written.
-ghost use Rattle.std.specs.Prelude.{◌≡◌, true, false, ℕ, ℤ, ◌-◌, ◌^◌, ◌<◌, ◌≤◌, List, [], ◌∷◌, flat_map, length, take, Some, slice_get, option_map, unwrap_or};
+ghost use Rattle.std.specs.Prelude.{◌≡◌, true, false, ℕ, ℤ, ◌+◌, ◌-◌, ◌^◌, ◌<◌, ◌≤◌, List, [], ◌∷◌, flat_map, length, take, Some, slice_get, option_map, unwrap_or};
 ghost use Rattle.std.specs.List.{concat};
 ghost use Rattle.vcd_model.specs.Backward.{each};
 ghost use Rattle.vcd_model.specs.Declarations.{Declaration, Variable, enclosing, parent};
 ghost use Rattle.vcd_model.specs.Header.{Header};
-ghost use Rattle.vcd_model.specs.HeadText.{head_text, head_for, rows_text, row_line, scope_line, var_line, up_lines_at, three_lines_of};
+ghost use Rattle.vcd_model.specs.HeadText.{head_text, head_for, rows_text, row_line, scope_line, var_line, up_lines_at, three_lines, three_lines_of, code_place, new_code};
 ghost use Rattle.vcd_model.specs.Keywords.{Keyword, keyword_text};
 ghost use Rattle.vcd_model.specs.Scales.{scale_text};
 ghost use Rattle.vcd_text.specs.Device.{Counts, Puts, Takes, failures_after};
 ghost use Rattle.vcd_head.specs.Marks.{is_marked, marks_of};
+ghost use Rattle.vcd_head.specs.Merged.{FitNumbers, given};
 ghost use Rattle.vcd_head.specs.Views.{IsViewOf};
 
+use crate::new_code::NewCode;
 use crate::view::{HeadView, Kind, Scale};
 use vcd_text::{Sink, WriteFailed, put, put_number};
 
@@ -26,7 +28,17 @@ fn put_texts<W: Sink>(w: &mut W, texts: &[&[u8]]) -> Result<(), WriteFailed>
     Ok(())
 }
 
-/// Writes a keyword, a text and `$end`, on three lines; nothing where there is no text.
+/// Writes a keyword, a text and `$end`, on three lines.
+pub(crate) fn put_lines<W: Sink>(w: &mut W, keyword: &[u8], text: &[u8]) -> Result<(), WriteFailed>
+    requires failures { (W.device w.old).failures < 2 ^ 64 - 1 }
+    ensures takes { (k : Keyword) → keyword.now ≡ keyword_text k
+        → Takes (W.device w.old) (W.device w.new) (three_lines k text.now) result }
+    ensures counts { Counts (W.device w.old) (W.device w.new) result }
+{
+    put_texts(w, &[keyword, b"\n\t", text, b"\n$end\n"])
+}
+
+/// The same; nothing where there is no text.
 fn put_section<W: Sink>(w: &mut W, keyword: &[u8], text: &[u8]) -> Result<(), WriteFailed>
     requires failures { (W.device w.old).failures < 2 ^ 64 - 1 }
     ensures takes { (k : Keyword) → keyword.now ≡ keyword_text k
@@ -36,11 +48,11 @@ fn put_section<W: Sink>(w: &mut W, keyword: &[u8], text: &[u8]) -> Result<(), Wr
     if text.is_empty() {
         return Ok(());
     }
-    put_texts(w, &[keyword, b"\n\t", text, b"\n$end\n"])
+    put_lines(w, keyword, text)
 }
 
 /// The number and the unit of the time scale of an exponent; no bytes where no scale has it.
-fn text_of_exponent(exponent: i8) -> &'static [u8]
+pub(crate) fn text_of_exponent(exponent: i8) -> &'static [u8]
     ensures { result.now ≡ scale_text exponent }
 {
     match exponent {
@@ -98,7 +110,7 @@ fn put_scope<W: Sink>(view: HeadView<'_>, row: usize, w: &mut W) -> Result<(), W
 }
 
 /// Writes the line of the variable of a row, which has this size, with this code.
-pub(crate) fn put_variable<W: Sink>(
+fn put_variable<W: Sink>(
     view: HeadView<'_>,
     row: usize,
     size: usize,
@@ -119,7 +131,7 @@ pub(crate) fn put_variable<W: Sink>(
 }
 
 /// Writes the line of the variable of a row, with its own code.
-fn put_declared<W: Sink>(view: HeadView<'_>, row: usize, w: &mut W) -> Result<(), WriteFailed>
+fn put_own<W: Sink>(view: HeadView<'_>, row: usize, w: &mut W) -> Result<(), WriteFailed>
     requires failures { (W.device w.old).failures < 2 ^ 64 - 1 }
     ensures takes { (h : Header) (v : Variable) → IsViewOf view.entry h
         → slice_get h.declarations row ≡ Some (Declaration.Var v)
@@ -132,6 +144,53 @@ fn put_declared<W: Sink>(view: HeadView<'_>, row: usize, w: &mut W) -> Result<()
     match view.code_at(declared.code) {
         Some(code) => put_variable(view, row, code.size, view.text_at(code.start, code.len), w),
         None => Ok(()),
+    }
+}
+
+/// Writes the line of the variable of a row, with a new code: the codes of its header are numbered from `first` on.
+fn put_renamed<W: Sink>(
+    view: HeadView<'_>,
+    row: usize,
+    first: u64,
+    w: &mut W,
+) -> Result<(), WriteFailed>
+    requires failures { (W.device w.old).failures < 2 ^ 64 - 1 }
+    ensures takes { (h : Header) (v : Variable) → IsViewOf view.entry h
+        → slice_get h.declarations row ≡ Some (Declaration.Var v)
+        → first + length h.codes < 2 ^ 64 → Takes (W.device w.old) (W.device w.new)
+        (var_line v (new_code (first + code_place h v.code))) result }
+    ensures counts { Counts (W.device w.old) (W.device w.new) result }
+{
+    let Some(declared) = view.row_at(row) else {
+        return Ok(());
+    };
+    match view.code_at(declared.code) {
+        Some(code) => {
+            let id = NewCode::of(first.saturating_add(declared.code as u64));
+            put_variable(view, row, code.size, id.text(), w)
+        }
+        None => Ok(()),
+    }
+}
+
+/// Writes the line of the variable of a row: with its own code, or with a new one where its header's are numbered from `first`
+/// on.
+fn put_declared<W: Sink>(
+    view: HeadView<'_>,
+    row: usize,
+    first: Option<u64>,
+    w: &mut W,
+) -> Result<(), WriteFailed>
+    requires failures { (W.device w.old).failures < 2 ^ 64 - 1 }
+    ensures takes { (h : Header) (v : Variable) → IsViewOf view.entry h
+        → slice_get h.declarations row ≡ Some (Declaration.Var v)
+        → FitNumbers first h → Takes (W.device w.old) (W.device w.new)
+        (var_line v (given first h v.code)) result }
+    ensures counts { Counts (W.device w.old) (W.device w.new) result }
+{
+    match first {
+        Some(first) => put_renamed(view, row, first, w),
+        None => put_own(view, row, w),
     }
 }
 
@@ -148,18 +207,19 @@ fn put_up<W: Sink>(marks: &[u8], scope: usize, w: &mut W) -> Result<(), WriteFai
 }
 
 /// Writes the line of the declaration of a row: a scope or a variable where it is marked, an `$upscope` where the scope that it
-/// closes is.
+/// closes is. A variable has its own code, or a new one where its header's are numbered from `first` on.
 fn put_row<W: Sink>(
     view: HeadView<'_>,
     marks: &[u8],
     row: usize,
+    first: Option<u64>,
     w: &mut W,
 ) -> Result<(), WriteFailed>
     requires failures { (W.device w.old).failures < 2 ^ 64 - 1 }
     ensures takes { (h : Header) (d : Declaration) → IsViewOf view.entry h
-        → slice_get h.declarations row ≡ Some d
+        → slice_get h.declarations row ≡ Some d → FitNumbers first h
         → Takes (W.device w.old) (W.device w.new)
-        (row_line (λ code. code) (is_marked marks.now) (take row h.declarations) d) result }
+        (row_line (given first h) (is_marked marks.now) (take row h.declarations) d) result }
     ensures counts { Counts (W.device w.old) (W.device w.new) result }
 {
     let Some(declared) = view.row_at(row) else {
@@ -171,21 +231,26 @@ fn put_row<W: Sink>(
             None => Ok(()),
         },
         Kind::Scope if has_mark(marks, row) => put_scope(view, row, w),
-        Kind::Var if has_mark(marks, row) => put_declared(view, row, w),
+        Kind::Var if has_mark(marks, row) => put_declared(view, row, first, w),
         _ => Ok(()),
     }
 }
 
 /// Writes the lines of the rows, in order.
-fn put_rows<W: Sink>(view: HeadView<'_>, marks: &[u8], w: &mut W) -> Result<(), WriteFailed>
+fn put_rows<W: Sink>(
+    view: HeadView<'_>,
+    marks: &[u8],
+    first: Option<u64>,
+    w: &mut W,
+) -> Result<(), WriteFailed>
     requires failures { (W.device w.old).failures < 2 ^ 64 - 1 }
-    ensures takes { (h : Header) → IsViewOf view.entry h
+    ensures takes { (h : Header) → IsViewOf view.entry h → FitNumbers first h
         → Takes (W.device w.old) (W.device w.new)
-        (concat (each (row_line (λ code. code) (is_marked marks.now)) h.declarations)) result }
+        (concat (each (row_line (given first h) (is_marked marks.now)) h.declarations)) result }
     ensures counts { Counts (W.device w.old) (W.device w.new) result }
 {
     for row in 0..view.rows.len() {
-        put_row(view, marks, row, w)?;
+        put_row(view, marks, row, first, w)?;
     }
     Ok(())
 }
@@ -218,15 +283,21 @@ fn put_open<W: Sink>(view: HeadView<'_>, marks: &[u8], w: &mut W) -> Result<(), 
     Ok(())
 }
 
-/// Writes the marked declarations in order, and an `$upscope` for each marked scope that is still open.
-fn put_declarations<W: Sink>(view: HeadView<'_>, marks: &[u8], w: &mut W) -> Result<(), WriteFailed>
+/// Writes the marked declarations in order, and an `$upscope` for each marked scope that is still open. The codes are their own,
+/// or new ones where they are numbered from `first` on.
+pub(crate) fn put_declarations<W: Sink>(
+    view: HeadView<'_>,
+    marks: &[u8],
+    first: Option<u64>,
+    w: &mut W,
+) -> Result<(), WriteFailed>
     requires failures { (W.device w.old).failures < 2 ^ 64 - 1 }
-    ensures takes { (h : Header) → IsViewOf view.entry h
+    ensures takes { (h : Header) → IsViewOf view.entry h → FitNumbers first h
         → Takes (W.device w.old) (W.device w.new)
-        (rows_text (λ code. code) (is_marked marks.now) h.declarations) result }
+        (rows_text (given first h) (is_marked marks.now) h.declarations) result }
     ensures counts { Counts (W.device w.old) (W.device w.new) result }
 {
-    put_rows(view, marks, w)?;
+    put_rows(view, marks, first, w)?;
     put_open(view, marks, w)
 }
 
@@ -246,6 +317,6 @@ pub fn put_head<W: Sink>(view: HeadView<'_>, marks: &[u8], w: &mut W) -> Result<
     put_section(w, b"$date", view.date)?;
     put_section(w, b"$version", view.version)?;
     put_section(w, b"$timescale", text_of_scale(view.scale))?;
-    put_declarations(view, marks, w)?;
+    put_declarations(view, marks, None, w)?;
     put(w, b"$enddefinitions $end\n")
 }

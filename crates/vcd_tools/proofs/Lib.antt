@@ -27,4 +27,8 @@ pub mod MergeCounts
 pub mod MergeRuns
 pub mod MergeCloses
 pub mod WholeInputs
-pub mod MergeEnds
+pub mod MergeReads
+pub mod MergeStart
+pub mod MergeOutcomes
+pub mod MergeWholes
+pub mod MergeStops

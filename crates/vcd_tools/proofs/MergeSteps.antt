@@ -37,7 +37,7 @@ pub len_map : {X Y : Type 0} (f : X → Y) (xs : List X) → length (map f xs) �
 len_map f [] = refl
 len_map f (x ∷ xs) = ap suc (len_map f xs)
 
-same_or_not : (j k : ℕ) → (j ≡ k) ⊎ (j ≢ k)
+pub same_or_not : (j k : ℕ) → (j ≡ k) ⊎ (j ≢ k)
 same_or_not j k = by_order (cases_lt j k) (cases_lt k j)
   where
     by_order : (j < k) ⊎ (k ≤ j) → (k < j) ⊎ (j ≤ k) → (j ≡ k) ⊎ (j ≢ k)
@@ -104,7 +104,7 @@ module _ {X : Type 0} (rest : X → Option (List ℕ)) (hs : List Header) (lanes
     all_before = g.before k d next.seat at_d next.there next.unfinished
 
     -- the place of the next item goes before those of the other inputs
-    next_first : (j : ℕ) (c : Dump) (y : Seat) → j ≢ k → slice_get ds j ≡ Some c → slice_get s.seats j ≡ Some y → y.finished ≡ false → key_lt (key_after (factor hs d.header) k d.items) (key_after (factor hs c.header) j c.items) ≡ true
+    pub next_first : (j : ℕ) (c : Dump) (y : Seat) → j ≢ k → slice_get ds j ≡ Some c → slice_get s.seats j ≡ Some y → y.finished ≡ false → key_lt (key_after (factor hs d.header) k d.items) (key_after (factor hs c.header) j c.items) ≡ true
     next_first j c y other a b on =
         let t = time_at k d next.seat same at_d next.there in
         let u = time_at j c y same a b in

@@ -1,5 +1,5 @@
 -- What steps leave when the run has ended.
-use Rattle.std.proofs.Common.{◌≡◌, ℕ, ◌+◌, ◌==◌, ◌||◌, inl, inr, Bool, true, false, List, [], ◌∷◌, ◌++◌, Option, Some, None, Result, Ok, Err, refl, sym, ap, subst, ◌∙◌, append-nil, append_assoc, arith}
+use Rattle.std.proofs.Common.{◌≡◌, ℕ, ◌+◌, ◌||◌, inl, inr, Bool, true, false, List, [], ◌∷◌, ◌++◌, Option, Some, None, Result, Ok, Err, refl, sym, ap, subst, ◌∙◌, append-nil, append_assoc, arith}
 use Rattle.std.specs.Prelude.{IfErr, IfOk}
 use Rattle.std.specs.List.{list_any}
 use Rattle.vcd_model.specs.Backward.{up_to_first}
@@ -28,6 +28,7 @@ use Rattle.vcd_body.specs.declared.item.Regs.{Regs}
 use Rattle.vcd_tools.specs.Answer.{reads_failed}
 use Rattle.vcd_text.specs.Device.{Device, Supply, Writes, WritesSome}
 use Rattle.vcd_tools.specs.Device.{GrowsSome}
+use Rattle.vcd_tools.proofs.MergeOutcomes.{fault_output}
 use Rattle.vcd_tools.specs.Engine.{CanRun, Holds, Runs, StopsAtStart, reads_body, request_of_engine}
 use Rattle.vcd_tools.specs.Run.{Belongs, Follows, IsLeft, IsRefused, is_early}
 use Rattle.vcd_tools.proofs.AskedLemmas.{read_to_end, read_to_item, read_to_stop}
@@ -90,14 +91,6 @@ over_task t name h stream rest items fault can on e f =
     let r = read_body h.codes rest in
     over_matched t name (record { header = h; stream = stream; rest = rest }) can.body can.matched ∙ ap (λ x. over_body t h x name (body_fault_of stream r)) e ∙ ap (over_body t h items name) f ∙ to_end t name h items fault on
 
--- the output before a fault
-output_is : (output name : List ℕ) (f : Fault) → (fault_outcome output name f).output ≡ output
-output_is output name f = by_kind (f.number == 31) refl
-  where
-    by_kind : (b : Bool) → (f.number == 31) ≡ b → (fault_outcome output name f).output ≡ output
-    by_kind true e = rw (e, fault_outcome) refl
-    by_kind false e = rw (e, fault_outcome) refl
-
 -- `mid` holds what is due behind these items; a step took the run from there to `new`
 module _ {X : Type 0} {g : Ghosts X} (t : Request) (h : Header) (i : Input) (front : List Token) (items : List BodyItem) (name : List ℕ) (limit chunk : ℕ) (before : Supply) (out mid new : Device) (can : CanRun t h) (on : list_any (ends_early t) items ≡ false) (open_is : Writes out mid (open_text t h items)) (f : Feed X g) (same : limit_of f ≡ limit) (size : chunk_len_of f ≡ chunk) where
   -- an answer that belongs to the outcome of a body
@@ -124,7 +117,7 @@ module _ {X : Type 0} {g : Ghosts X} (t : Request) (h : Header) (i : Input) (fro
   faulty : (fault line : ℕ) → Writes mid new [] → let f : Fault = record { number = fault; line = line } in let o = at_end t h items name (Some f) in (o ≡ fault_outcome o.output name f) × Writes out new o.output
   faulty fault line w =
       let f : Fault = record { number = fault; line = line } in
-      let e : (fault_outcome (open_text t h items) name f).output ≡ open_text t h items = output_is (open_text t h items) name f in
+      let e : (fault_outcome (open_text t h items) name f).output ≡ open_text t h items = fault_output (open_text t h items) name f in
       (ap (λ l. fault_outcome l name f) (sym e), subst (Writes out new) (sym e) (subst (Writes out new) (append-nil (open_text t h items)) (both-written out mid new (open_text t h items) [] open_is w)))
 
   module _ (e : Engine) where
@@ -188,7 +181,7 @@ begins_with t h p more name fault valid on = by_end (list_any (ends_early t) (p 
   where
     by_fault : (f : Option Fault) → IsPrefixOf (open_text t h p) (at_end t h (p ++ more) name f).output
     by_fault None = let r = nothing_revised t h p more valid on in (r.0 ++ close_text t h (p ++ more), ap (λ l. l ++ close_text t h (p ++ more)) r.1 ∙ append_assoc (open_text t h p) r.0 (close_text t h (p ++ more)))
-    by_fault (Some f) = let r = nothing_revised t h p more valid on in (r.0, output_is (open_text t h (p ++ more)) name f ∙ r.1)
+    by_fault (Some f) = let r = nothing_revised t h p more valid on in (r.0, fault_output (open_text t h (p ++ more)) name f ∙ r.1)
 
     by_end : (b : Bool) → list_any (ends_early t) (p ++ more) ≡ b → IsPrefixOf (open_text t h p) (over_body t h (p ++ more) name fault).output
     by_end true e =

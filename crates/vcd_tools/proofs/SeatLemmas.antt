@@ -1,25 +1,67 @@
--- Where an input of a merge stands behind one item more, at its end, and at a fault.
-use Rattle.std.proofs.Common.{◌≡◌, ℕ, ◌*◌, ◌^◌, ◌<◌, ◌≤◌, Bool, true, false, List, [], ◌∷◌, ◌++◌, Option, None, Err, refl, sym, ap, ◌∙◌}
+-- Where an input of a merge stands behind one item more, at its end, and at a fault, and how much of it was read.
+use Rattle.std.proofs.Common.{◌≡◌, ℕ, ◌+◌, ◌*◌, ◌^◌, ◌<◌, ◌≤◌, Bool, true, false, List, [], ◌∷◌, ◌++◌, Option, None, Err, refl, sym, ap, ◌∙◌, arith}
+use Rattle.std.specs.List.{list_any}
 use Rattle.std.proofs.lemmas.Bool.{le-leb, lt-leb}
 use Rattle.vcd_model.specs.Items.{BodyItem, time_after}
 use Rattle.vcd_model.specs.Merge.{is_too_large}
+use Rattle.vcd_model.specs.Header.{Header}
+use Rattle.vcd_model.specs.Input.{Input}
+use Rattle.vcd_model.specs.Outcome.{Request, ends_early}
+use Rattle.vcd_model.specs.Tokens.{Token}
 use Rattle.vcd_model.proofs.BodyFacts.{all_append}
-use Rattle.vcd_text.specs.Feed.{limit_of, token_of, seen}
+use Rattle.vcd_text.specs.Feed.{chunk_len_of, limit_of, token_of, seen, supply_of}
 use Rattle.vcd_text.specs.declared.device.Source.{Ghosts}
 use Rattle.vcd_text.specs.declared.feed.Feed.{Feed}
 use Rattle.vcd_body.specs.Given.{GivesItem}
 use Rattle.vcd_body.specs.Items.{AreRegsAfter}
-use Rattle.vcd_body.specs.Reads.{GaveItems, Fails}
+use Rattle.vcd_body.specs.Reads.{GaveAll, GaveItem, GaveItems, Fails, StopsAt}
 use Rattle.vcd_body.specs.declared.fault.BodyFault.{BodyFault}
 use Rattle.vcd_body.specs.declared.fault.BodyFault.TheVariants.{ReadFailed}
 use Rattle.vcd_body.specs.declared.item.Item.TheVariants.{Finish}
 use Rattle.vcd_body.specs.declared.item.Regs.{Regs}
-use Rattle.vcd_text.specs.Device.{Device}
+use Rattle.vcd_text.specs.Device.{Device, Supply}
+use Rattle.vcd_text.specs.ReadAhead.{ReadsAsNeeded}
+use Rattle.vcd_text.specs.ReadAhead.ReadsAsNeeded.{Nothing, ToToken, ToEnd}
 use Rattle.vcd_tools.specs.Answer.{stop_of_body}
-use Rattle.vcd_tools.specs.Seat.{AtSeat, GaveParked, Lane, Turns, spot_with}
+use Rattle.vcd_tools.specs.Engine.{CanRun}
+use Rattle.vcd_tools.specs.Seat.{AtSeat, GaveParked, Lane, ReadsNoMore, Turns, spot_with}
 use Rattle.vcd_tools.specs.declared.seat.Seat.{Seat}
 use Rattle.vcd_tools.proofs.EngineLemmas.{writes-none}
 use Rattle.vcd_tools.proofs.Dumps.{has_dump}
+use Rattle.vcd_tools.proofs.AskedLemmas.{read_to_end, read_to_item, read_to_stop}
+
+-- ---- how much was read
+
+-- a merge can be run over every header, and no item ends it
+can_merge : (h : Header) → CanRun Request.Merge h
+can_merge h = record { body = refl; valid = tt; matched = refl }
+
+none_early : (items : List BodyItem) → list_any (ends_early Request.Merge) items ≡ false
+none_early [] = refl
+none_early (x ∷ items) = none_early items
+
+-- what holds whatever the source was before holds however many of its reads have failed
+however_many : (limit chunk : ℕ) (new : Supply) (i : Input) (front : List Token) (settled : List Token → Bool) → ((old : Supply) → ReadsAsNeeded limit chunk old new i front settled) → (old : Supply) (failures : ℕ)
+    → ReadsAsNeeded limit chunk old (record { rest = new.rest; failures = failures }) i front settled
+however_many limit chunk new i front settled asked old failures = by_extent (asked (record { rest = new.rest; failures = new.failures + 1 }))
+  where
+    by_extent : ReadsAsNeeded limit chunk (record { rest = new.rest; failures = new.failures + 1 }) new i front settled → ReadsAsNeeded limit chunk old (record { rest = new.rest; failures = failures }) i front settled
+    by_extent (Nothing same) = let e = ap (λ (s : Supply). s.failures) same in absurd (omega (arith, e))
+    by_extent (ToToken asked last first so_far near) = ToToken asked last first so_far near
+    by_extent (ToEnd asked all so_far near) = ToEnd asked all so_far near
+
+module _ {X : Type 0} {g : Ghosts X} (l : Lane) (left : Input) (items : List BodyItem) (f : Feed X g) where
+  -- where the body was refused, where it has ended, and at an item
+  pub no_more_at_stop : StopsAt l.header.codes left l.front items f → ReadsNoMore (limit_of f) (chunk_len_of f) l left (supply_of f).rest
+  no_more_at_stop s = however_many (limit_of f) (chunk_len_of f) (supply_of f) left l.front _ (λ old. read_to_stop Request.Merge l.header left l.front items f (limit_of f) (chunk_len_of f) old refl refl (can_merge l.header) (none_early items) s)
+
+  pub no_more_at_end : (r : Regs) → GaveAll l.header.codes left l.front items f r → ReadsNoMore (limit_of f) (chunk_len_of f) l left (supply_of f).rest
+  no_more_at_end r a = however_many (limit_of f) (chunk_len_of f) (supply_of f) left l.front _ (λ old. read_to_end Request.Merge l.header left l.front items f (limit_of f) (chunk_len_of f) old refl refl (can_merge l.header) (none_early items) r a)
+
+  pub no_more_at_item : (x : BodyItem) (r : Regs) → GaveItem l.header.codes left l.front items x f r → ReadsNoMore (limit_of f) (chunk_len_of f) l left (supply_of f).rest
+  no_more_at_item x r m = however_many (limit_of f) (chunk_len_of f) (supply_of f) left l.front _ (λ old. read_to_item Request.Merge l.header left l.front items f (limit_of f) (chunk_len_of f) old refl refl (can_merge l.header) (none_early items) x r m)
+
+-- ---- where it stands
 
 -- the seat behind an item
 abbrev pub seat_with : Seat → Regs → ℕ → Bool → Seat
@@ -61,8 +103,8 @@ module _ {X : Type 0} {g : Ghosts X} (scale first : ℕ) (l : Lane) (items : Lis
   -- at a fault of its body
   pub faulty : (A : Type 0) (k : ℕ) (s : Seat) (r : Regs) (time : ℕ) (b : Bool) (old new : Feed X g) (written : Option ℕ) (out : Device) (fault : BodyFault) (line : ℕ) → AtSeat scale first l items (spot_with s old) → line ≡ (token_of new).line → Fails l.header.codes l.input l.front items fault new
       → Turns {A = A} k scale first l items written written (spot_with (seat_with s r time b) new) out out (Err (stop_of_body fault k line))
-  faulty A k s r time b old new written out ReadFailed line a is fails = (refl, (seen new, line, rw is (has_dump scale (limit_of new) l.header l.front _ items a.small _ fails.0.0)), writes-none out)
-  faulty A k s r time b old new written out fault line a is fails = (refl, refl, rw is (has_dump scale (limit_of new) l.header l.front _ items a.small _ fails.0), writes-none out)
+  faulty A k s r time b old new written out ReadFailed line a is fails = (refl, (seen new, line, rw is (has_dump scale (limit_of new) l.header l.front _ items a.small _ fails.0.0), no_more_at_stop l _ items new fails.0.1, fails.1), writes-none out)
+  faulty A k s r time b old new written out fault line a is fails = (refl, refl, rw is (has_dump scale (limit_of new) l.header l.front _ items a.small _ fails.0), writes-none out, no_more_at_stop l l.input items new fails.1)
 
 -- whether a time is too large once it is scaled
 pub large : (scale time : ℕ) → 2 ^ 64 ≤ time * scale → is_too_large scale (BodyItem.Time time) ≡ true

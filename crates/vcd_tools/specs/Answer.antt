@@ -1,5 +1,5 @@
 -- What an answer says: the fault of a body, and which calls failed.
-use Rattle.std.specs.Prelude.{ℕ, Result, Err}
+use Rattle.std.specs.Prelude.{◌≡◌, ℕ, Result, Err}
 use Rattle.vcd_body.specs.Fault.{fault_number}
 use Rattle.vcd_body.specs.declared.fault.BodyFault.{BodyFault}
 use Rattle.vcd_body.specs.declared.fault.BodyFault.TheVariants.{ReadFailed}
@@ -10,6 +10,11 @@ use Rattle.vcd_tools.specs.declared.answer.Stop.TheVariants.{Dump, Read, Write}
 abbrev pub reads_failed : {A : Type 0} → Result A Stop → ℕ
 reads_failed (Err (Read input)) = 1
 reads_failed result = 0
+
+-- a failed read is one of the input at this place
+abbrev pub NamesInput : {A : Type 0} → ℕ → Result A Stop → Type 0
+NamesInput place (Err (Read input)) = input ≡ place
+NamesInput place result = Unit {0}
 
 -- how many writes failed
 abbrev pub writes_failed : {A : Type 0} → Result A Stop → ℕ

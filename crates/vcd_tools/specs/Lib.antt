@@ -20,3 +20,4 @@ pub mod MergeOrder
 pub mod MergeParts
 pub mod MergeStep
 pub mod MergeRun
+pub mod MergeStart

@@ -1,27 +1,25 @@
--- What a whole merge leaves: what is left of its inputs, and what stands on the output.
-use Rattle.std.specs.Prelude.{◌≡◌, ◌==◌, false, ℕ, List, [], ◌∷◌, ◌++◌, ◌+◌, ◌⊎◌, Result, Ok, Err}
+-- What a whole merge leaves: what is left of its inputs, how much of each was read, and what stands on the output.
+use Rattle.std.specs.Prelude.{◌≡◌, ◌==◌, false, ℕ, List, [], ◌∷◌, ◌++◌, Result, Ok, Err}
 use Rattle.vcd_model.specs.Input.{Input}
 use Rattle.vcd_model.specs.Tokens.{stream_of}
-use Rattle.vcd_model.specs.Outcome.{Opened, Outcome, clean_outcome, dumps_of, fault_outcome, merge_outcome, name_at}
-use Rattle.vcd_text.specs.Device.{Device, Writes, WritesSome}
-use Rattle.vcd_text.specs.Answer.{failed_after}
+use Rattle.vcd_model.specs.Outcome.{Opened, Outcome, Request, clean_outcome, dumps_of, fault_outcome, merge_outcome, name_at}
+use Rattle.vcd_model.specs.Settled.{is_settled_behind}
+use Rattle.vcd_text.specs.Device.{Device, Supply, Writes, WritesSome}
+use Rattle.vcd_text.specs.ReadAhead.{ReadsAsNeeded}
+use Rattle.vcd_tools.specs.Run.{IsLeft}
 use Rattle.vcd_tools.specs.Seat.{Lane}
 use Rattle.vcd_tools.specs.declared.answer.Done.{Done}
 use Rattle.vcd_tools.specs.declared.answer.Done.TheVariants.{Whole, Early}
 use Rattle.vcd_tools.specs.declared.answer.Stop.{Stop}
 use Rattle.vcd_tools.specs.declared.answer.Stop.TheVariants.{Dump as Faulty, Read, Write, Unmatched}
 
--- what is left of an input: all of it, or a prefix of it that is marked as failed where a read failed
-abbrev pub IsLeft : Input → ℕ → ℕ → Input → Type 0
-IsLeft i failures failures' left = ((failures' ≡ failures) × (left ≡ i)) ⊎ ((failures' ≡ failures + 1) × ((n : ℕ) × (left ≡ failed_after n i)))
-
--- what is left of the inputs, one by one: all of an input, or a prefix of it that is marked as failed where a read failed
-abbrev pub AreLeft : List Lane → List ℕ → List ℕ → List Input → Type 0
-AreLeft [] failures failures' lefts = lefts ≡ []
-AreLeft (l ∷ ls) [] failures' lefts = ⊥
-AreLeft (l ∷ ls) (n ∷ ns) [] lefts = ⊥
-AreLeft (l ∷ ls) (n ∷ ns) (m ∷ ms) [] = ⊥
-AreLeft (l ∷ ls) (n ∷ ns) (m ∷ ms) (i ∷ is) = IsLeft l.input n m i × AreLeft ls ns ms is
+-- the inputs after their headers, one by one: what is left of each, and that no more was read of it than what settles it
+abbrev pub AreLeft : (limit chunk : ℕ) → List Lane → (old new : List Supply) → List Input → Type 0
+AreLeft limit chunk [] old new lefts = lefts ≡ []
+AreLeft limit chunk (l ∷ ls) [] new lefts = ⊥
+AreLeft limit chunk (l ∷ ls) (s ∷ ss) [] lefts = ⊥
+AreLeft limit chunk (l ∷ ls) (s ∷ ss) (t ∷ ts) [] = ⊥
+AreLeft limit chunk (l ∷ ls) (s ∷ ss) (t ∷ ts) (i ∷ is) = IsLeft l.input s t i × ReadsAsNeeded limit chunk s t i l.front (is_settled_behind Request.Merge l.header) × AreLeft limit chunk ls ss ts is
 
 -- the inputs after their headers, one by one, over what is left of them
 abbrev pub AreOpened : ℕ → List Lane → List Input → List Opened → Type 0
@@ -39,10 +37,10 @@ Belongs o names out out' (Err (Read input)) = ((line : ℕ) × (o ≡ fault_outc
 Belongs o names out out' (Err Write) = WritesSome out out' o.output
 Belongs o names out out' (Err (Unmatched place)) = ⊥
 
--- after these headers and their tokens, a merge over these inputs has this outcome
-pub record Follows (limit : ℕ) (lanes : List Lane) (names : List (List ℕ)) (failures failures' : List ℕ) (out out' : Device) (result : Result Done Stop) : Type 0 where
+-- after these headers and their tokens, a merge over these inputs has this outcome; `old` and `new` are their sources before and after it
+pub record Follows (limit chunk : ℕ) (lanes : List Lane) (names : List (List ℕ)) (old new : List Supply) (out out' : Device) (result : Result Done Stop) : Type 0 where
   pub lefts : List Input
-  pub are_left : AreLeft lanes failures failures' lefts
+  pub are_left : AreLeft limit chunk lanes old new lefts
   pub opened : List Opened
   pub are_opened : AreOpened limit lanes lefts opened
   pub belongs : Belongs (merge_outcome names (dumps_of opened)) names out out' result

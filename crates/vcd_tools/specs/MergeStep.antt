@@ -1,8 +1,8 @@
 -- What a merge holds after the items that its inputs have given, and what a step of it leaves.
-use Rattle.std.specs.Prelude.{◌≡◌, ℕ, ◌+◌, ◌==◌, ◌⊎◌, ◌*◌, ◌-◌, ◌^◌, cond, sum_by, Bool, true, false, not, List, [], ◌∷◌, ◌++◌, length, take, map, slice_get, slice_set, get_or, Option, Some, None, Result, Ok, Err, All}
+use Rattle.std.specs.Prelude.{◌≡◌, ◌≢◌, ℕ, ◌+◌, ◌==◌, ◌⊎◌, ◌*◌, ◌-◌, ◌^◌, cond, sum_by, Bool, true, false, not, List, [], ◌∷◌, ◌++◌, length, take, map, slice_get, slice_set, get_or, Option, Some, None, IfSome, Result, Ok, Err, All}
 use Rattle.std.specs.List.{AllByRecursion, last_or}
 use Rattle.vcd_model.specs.Header.{Header}
-use Rattle.vcd_model.specs.Input.{Input}
+use Rattle.vcd_model.specs.Input.{Clean, Input}
 use Rattle.vcd_model.specs.HeadText.{first_number, renamed}
 use Rattle.vcd_model.specs.Items.{BodyItem, marks, time_after}
 use Rattle.vcd_model.specs.Bytes.{is_empty}
@@ -10,6 +10,7 @@ use Rattle.vcd_model.specs.Merge.{Dump, Keyed, factor, headers_of, key_after, ke
 use Rattle.vcd_model.specs.MergeByInput.{keyed_rest, with_item}
 use Rattle.vcd_text.specs.Answer.{failed_after}
 use Rattle.vcd_text.specs.Feed.{parked_seen}
+use Rattle.vcd_text.specs.ReadAhead.{HasRest}
 use Rattle.vcd_head.specs.Shown.{shown}
 use Rattle.vcd_head.specs.Views.{Views}
 use Rattle.vcd_head.specs.declared.head.Head.{Head}
@@ -18,13 +19,13 @@ use Rattle.vcd_tools.specs.Device.{Grows, GrowsSome}
 use Rattle.vcd_tools.specs.Answer.{reads_failed}
 use Rattle.vcd_tools.specs.MergeOrder.{IsNext}
 use Rattle.vcd_tools.specs.MergeParts.{AreParts, AreSeated, part_len, spot_at}
-use Rattle.vcd_tools.specs.Seat.{AtSeat, HasDump, Lane, Spot}
+use Rattle.vcd_tools.specs.Seat.{AtSeat, HasDump, Lane, ReadsNoMore, Spot}
 use Rattle.vcd_tools.specs.declared.answer.Done.TheVariants.{Whole, Early}
 use Rattle.vcd_tools.specs.declared.answer.More.{More}
 use Rattle.vcd_tools.specs.declared.answer.More.TheVariants.{Again, Ended}
 use Rattle.vcd_tools.specs.declared.answer.Stop.{Stop}
 use Rattle.vcd_tools.specs.declared.answer.Stop.TheVariants.{Dump as Faulty, Read, Write, Unmatched}
-use Rattle.vcd_tools.specs.declared.merge.Merge.{Merge}
+use Rattle.vcd_tools.specs.declared.merge_steps.Merge.{Merge}
 use Rattle.vcd_tools.specs.declared.seat.Seat.{Seat}
 use Rattle.vcd_tools.specs.declared.windows.Windows.{Windows}
 
@@ -69,6 +70,17 @@ pub record IsReady {X : Type 0} (s : Standing X) : Type 0 where
 abbrev pub cut_at : Option ℕ → Input → Input
 cut_at None i = i
 cut_at (Some n) i = failed_after n i
+
+-- What a step from s to s' has read. It is the turn of the input at this place: no more of it was read than what settles it, and a chunk; where a read failed after n bytes, its source has the others still. The other sources stay.
+pub record ReadsOne {X : Type 0} (rest : X → Option (List ℕ)) (lanes : List Lane) (s s' : Standing X) (k : ℕ) (cut : Option ℕ) : Type 0 where
+  pub next : IsNext s.seats k
+  pub lane : Lane
+  pub source : X
+  pub lane_at : slice_get lanes k ≡ Some lane
+  pub source_at : slice_get s'.sources k ≡ Some source
+  pub no_more : ReadsNoMore (part_len (length s.seats) s.tokens) (part_len (length s.seats) s.chunks) lane (cut_at cut lane.input) (rest source)
+  pub has_rest : IfSome cut (λ n. lane.input.mark ≡ Clean → HasRest (rest source) n lane.input)
+  pub others : (j : ℕ) → j ≢ k → slice_get s'.sources j ≡ slice_get s.sources j
 
 -- an item may come after these: those of the merged list go before the place after the items of each input that has not finished
 abbrev pub GoBefore : List Header → List Dump → List Seat → Type 0
@@ -119,27 +131,31 @@ module _ {X : Type 0} (rest : X → Option (List ℕ)) (hs : List Header) (lanes
     pub given : AreGiven (with_item ds k d x) s
 
   -- all inputs have finished, after an item more or after these; and what follows was written, all of it or a prefix
-  pub record IsEnd (ds : List Dump) (s : Standing X) (out out' : Device) : Type 0 where
-    pub given : AreGiven ds s
-    pub finished : All (λ (x : Seat). x.finished ≡ true) s.seats
+  pub record IsEnd (ds : List Dump) (s s' : Standing X) (out out' : Device) : Type 0 where
+    pub given : AreGiven ds s'
+    pub finished : All (λ (x : Seat). x.finished ≡ true) s'.seats
     pub closes : Writes out out' (merge_close (merged_items ds))
+    pub input : ℕ
+    pub reads : ReadsOne rest lanes s s' input None
 
-  pub record IsEndSome (ds : List Dump) (s : Standing X) (out out' : Device) : Type 0 where
-    pub given : AreGiven ds s
-    pub finished : All (λ (x : Seat). x.finished ≡ true) s.seats
+  pub record IsEndSome (ds : List Dump) (s s' : Standing X) (out out' : Device) : Type 0 where
+    pub given : AreGiven ds s'
+    pub finished : All (λ (x : Seat). x.finished ≡ true) s'.seats
     pub closes : GrowsSome out out' [] (merge_close (merged_items ds))
+    pub input : ℕ
+    pub reads : ReadsOne rest lanes s s' input None
 
   -- what a step from s after these items returns, by what it leaves
   abbrev pub Gives : List Dump → Standing X → Standing X → Device → Device → Result More Stop → Type 0
   Gives ds s s' out out' (Ok Again) =
       ((k : ℕ) × (d : Dump) × (x : BodyItem) × Takes ds s' k d x × (s'.written ≡ last_written (merged_items (with_item ds k d x)))
-      × Grows out out' (merge_open hs (merged_items ds)) (merge_open hs (merged_items (with_item ds k d x))))
-      ⊎ (Holds ds s' × Writes out out' [])
-  Gives ds s s' out out' (Ok (Ended Whole)) = IsEnd ds s' out out'
+      × Grows out out' (merge_open hs (merged_items ds)) (merge_open hs (merged_items (with_item ds k d x))) × ReadsOne rest lanes s s' k None)
+      ⊎ (Holds ds s' × Writes out out' [] × (k : ℕ) × ReadsOne rest lanes s s' k None)
+  Gives ds s s' out out' (Ok (Ended Whole)) = IsEnd ds s s' out out'
   Gives ds s s' out out' (Ok (Ended Early)) = ⊥
-  Gives ds s s' out out' (Err (Faulty input line fault)) = HasFault ds s input line fault None × ((fault == 31) ≡ false) × Writes out out' []
-  Gives ds s s' out out' (Err (Read input)) = ((n : ℕ) × (line : ℕ) × HasFault ds s input line 31 (Some n)) × Writes out out' []
+  Gives ds s s' out out' (Err (Faulty input line fault)) = HasFault ds s input line fault None × ((fault == 31) ≡ false) × Writes out out' [] × ReadsOne rest lanes s s' input None
+  Gives ds s s' out out' (Err (Read input)) = ((n : ℕ) × (line : ℕ) × HasFault ds s input line 31 (Some n) × ReadsOne rest lanes s s' input (Some n)) × Writes out out' []
   Gives ds s s' out out' (Err Write) =
-      ((k : ℕ) × (d : Dump) × (x : BodyItem) × Takes ds s' k d x × GrowsSome out out' (merge_open hs (merged_items ds)) (merge_open hs (merged_items (with_item ds k d x))))
-      ⊎ IsEndSome ds s' out out'
+      ((k : ℕ) × (d : Dump) × (x : BodyItem) × Takes ds s' k d x × GrowsSome out out' (merge_open hs (merged_items ds)) (merge_open hs (merged_items (with_item ds k d x))) × ReadsOne rest lanes s s' k None)
+      ⊎ IsEndSome ds s s' out out'
   Gives ds s s' out out' (Err (Unmatched name)) = ⊥

@@ -1,7 +1,7 @@
 -- Where an input of a merge stands, and what a step of it gives.
 use Rattle.std.specs.Prelude.{◌≡◌, ◌≢◌, ℕ, ◌+◌, ◌*◌, ◌^◌, ◌<◌, ◌==◌, ◌⊎◌, true, false, List, [], ◌∷◌, ◌++◌, length, Option, Some, None, Result, Ok, Err}
 use Rattle.std.specs.List.{AllByRecursion}
-use Rattle.vcd_model.specs.Input.{Input}
+use Rattle.vcd_model.specs.Input.{Clean, Input}
 use Rattle.vcd_model.specs.Tokens.{Token, stream_of}
 use Rattle.vcd_model.specs.Header.{Header}
 use Rattle.vcd_model.specs.Declarations.{IdCode}
@@ -10,7 +10,9 @@ use Rattle.vcd_model.specs.BodyPhrases.{BodyPhrase, items_of}
 use Rattle.vcd_model.specs.BodyReading.{body_grammar, read_body, body_fault_of}
 use Rattle.vcd_model.specs.Merge.{dump_of, is_too_large}
 use Rattle.vcd_model.specs.MergeByInput.{due_with, entry_for, written_with}
+use Rattle.vcd_model.specs.Outcome.{Request}
 use Rattle.vcd_model.specs.Reading.{Fault, Placed, phrases_of}
+use Rattle.vcd_model.specs.Settled.{is_settled_behind}
 use Rattle.vcd_model.specs.SoFar.{IsSoFar}
 use Rattle.vcd_text.specs.Answer.{failed_after}
 use Rattle.vcd_text.specs.Feed.{HasGivenParked, parked_answer}
@@ -21,7 +23,8 @@ use Rattle.vcd_text.specs.declared.registers.Parked.{Parked}
 use Rattle.vcd_text.specs.declared.answer.Halt.TheVariants as halt
 use Rattle.vcd_body.specs.Items.{AreRegsAfter}
 use Rattle.vcd_body.specs.declared.item.Regs.{Regs}
-use Rattle.vcd_text.specs.Device.{Device, Writes, WritesSome}
+use Rattle.vcd_text.specs.Device.{Device, Supply, Writes, WritesSome}
+use Rattle.vcd_text.specs.ReadAhead.{HasRest, ReadsAsNeeded}
 use Rattle.vcd_tools.specs.declared.answer.Stop.{Stop}
 use Rattle.vcd_tools.specs.declared.answer.Stop.TheVariants.{Dump as Faulty, Read, Write, Unmatched}
 use Rattle.vcd_tools.specs.declared.seat.Seat.{Seat}
@@ -82,19 +85,29 @@ pub record SameSeat (old new : Seat) : Type 0 where
   pub factor : new.factor ≡ old.factor
   pub first : new.first ≡ old.first
 
+-- Of an input, of which this is left, no more was read than what settles it, and a chunk, where its source has this rest: whatever that was before, and however many of its reads have failed.
+abbrev pub ReadsNoMore : (limit chunk : ℕ) → Lane → Input → Option (List ℕ) → Type 0
+ReadsNoMore limit chunk l left rest = (old : Supply) (failures : ℕ) → ReadsAsNeeded limit chunk old (record { rest = rest; failures = failures }) left l.front (is_settled_behind Request.Merge l.header)
+
+-- the same of an input that stands so
+abbrev pub HasReadNoMore : Lane → Input → Spot → Type 0
+HasReadNoMore l left s = ReadsNoMore (length s.token) (length s.chunk) l left s.rest
+
 -- one item more was given, and what is due with it was written
 abbrev pub GivesOne : ℕ → ℕ → Lane → List BodyItem → Option ℕ → Option ℕ → Spot → BodyItem → Type 0
-GivesOne scale first l items written written' s x = (s.seat.finished ≡ false) × AtSeat scale first l (items ++ x ∷ []) s × (written' ≡ written_with written (entry_for scale first l.header items x))
+GivesOne scale first l items written written' s x = (s.seat.finished ≡ false) × AtSeat scale first l (items ++ x ∷ []) s × (written' ≡ written_with written (entry_for scale first l.header items x)) × HasReadNoMore l l.input s
 
 -- what the step of input number k after these items leaves: an item more, or that it has finished; or why the merge stops
 abbrev pub Turns : {A : Type 0} → ℕ → ℕ → ℕ → Lane → List BodyItem → Option ℕ → Option ℕ → Spot → Device → Device → Result A Stop → Type 0
 Turns k scale first l items written written' s out out' (Ok u) =
     ((x : BodyItem) × GivesOne scale first l items written written' s x × Writes out out' (due_with written (entry_for scale first l.header items x)))
-    ⊎ ((s.seat.finished ≡ true) × AtSeat scale first l items s × (written' ≡ written) × Writes out out' [])
+    ⊎ ((s.seat.finished ≡ true) × AtSeat scale first l items s × (written' ≡ written) × Writes out out' [] × HasReadNoMore l l.input s)
 Turns k scale first l items written written' s out out' (Err (Faulty input line fault)) =
-    (input ≡ k) × ((fault == 31) ≡ false) × HasDump scale (length s.token) l.header l.front l.input items (Some (record { number = fault; line = line })) × Writes out out' []
+    (input ≡ k) × ((fault == 31) ≡ false) × HasDump scale (length s.token) l.header l.front l.input items (Some (record { number = fault; line = line })) × Writes out out' [] × HasReadNoMore l l.input s
 Turns k scale first l items written written' s out out' (Err (Read input)) =
-    (input ≡ k) × ((n : ℕ) × (line : ℕ) × HasDump scale (length s.token) l.header l.front (failed_after n l.input) items (Some (record { number = 31; line = line }))) × Writes out out' []
+    (input ≡ k)
+    × ((n : ℕ) × (line : ℕ) × HasDump scale (length s.token) l.header l.front (failed_after n l.input) items (Some (record { number = 31; line = line })) × HasReadNoMore l (failed_after n l.input) s × (l.input.mark ≡ Clean → HasRest s.rest n l.input))
+    × Writes out out' []
 Turns k scale first l items written written' s out out' (Err Write) =
-    (x : BodyItem) × AtSeat scale first l (items ++ x ∷ []) s × WritesSome out out' (due_with written (entry_for scale first l.header items x))
+    (x : BodyItem) × AtSeat scale first l (items ++ x ∷ []) s × WritesSome out out' (due_with written (entry_for scale first l.header items x)) × HasReadNoMore l l.input s
 Turns k scale first l items written written' s out out' (Err (Unmatched name)) = ⊥

@@ -28,11 +28,11 @@
 //! - `selection`: the variables that names select, as marks and as chosen codes
 //! - `report`, `rows`, `tally`: the seven lines of `check`; `list`; the counters of `edges`, and its rows
 //! - `samples`, `sample_lines`: `Samples`, what a sample is asked for; its lines
-//! - `merge`, `merging`, `seat`, `windows`: a step of `merge` over all inputs, and of one of them; where an input
-//!   stands; the windows of all inputs. No function begins a merge, and no command uses it yet
+//! - `merge`, `merging`, `seat`, `windows`: `Merge`, a step of it over all inputs, and the loop over its steps; a step of one
+//!   input; where an input stands; the windows of all inputs. No function begins a merge, and no command uses it yet
 //!
-//! In `specs/` callers read `Run` (`Follows`), `Engine`, `Step`, `Room` and `Answer`; of a merge `MergeStep`, `MergeParts`,
-//! `MergeOrder` and `Seat`.
+//! In `specs/` callers read `Run` (`Follows`), `Engine`, `Step`, `Room` and `Answer`; of a merge `MergeRun` (its
+//! `Follows`), `MergeStep`, `MergeParts`, `MergeOrder` and `Seat`.
 //!
 //! # Limits
 //!
@@ -43,6 +43,7 @@
 #![tactic(auto)]
 
 mod answer;
+mod beginning;
 mod choice;
 mod commands;
 #[cfg(test)]
@@ -52,7 +53,7 @@ mod edges_tests;
 mod engine;
 mod item_text;
 mod machine;
-mod merge;
+mod merge_steps;
 mod merging;
 mod report;
 mod rows;
@@ -67,15 +68,17 @@ mod tally;
 mod task;
 #[cfg(test)]
 mod tests;
+mod whole_merge;
 mod windows;
 
 pub use answer::{Done, More, Stop};
 pub use commands::{check, cut, edges, pick, sample};
 pub use engine::{Engine, run_task};
-pub use merge::{Merge, merge_step};
+pub use merge_steps::{Merge, merge_step};
 pub use rows::list;
 pub use samples::Samples;
 pub use seat::Seat;
 pub use span::Span;
 pub use task::{Room, Task};
+pub use whole_merge::merge;
 pub use windows::Windows;

@@ -11,7 +11,7 @@ ghost use Rattle.vcd_head.specs.Views.{IsViewOf};
 ghost use Rattle.vcd_text.specs.Advances.{HasNotFailed};
 ghost use Rattle.vcd_body.specs.Given.{IsGoodChange};
 ghost use Rattle.vcd_body.specs.Items.{AreRegsAfter};
-ghost use Rattle.vcd_tools.specs.Answer.{reads_failed, writes_failed};
+ghost use Rattle.vcd_tools.specs.Answer.{NamesInput, reads_failed, writes_failed};
 ghost use Rattle.vcd_tools.specs.Pick.{is_event_at};
 ghost use Rattle.vcd_tools.specs.ItemText.{AsItem};
 ghost use Rattle.vcd_tools.specs.Seat.{AtSeat, IsSeated, Lane, SameSeat, Turns, spot_with};
@@ -95,6 +95,7 @@ fn take_item<S: Source, W: Sink>(
     ensures moved { Moved S.failures feed.old feed.new seat.new result }
     ensures parked { seat.new.parked ≡ seat.old.parked }
     ensures same { SameSeat seat.old seat.new }
+    ensures named { NamesInput input result }
     ensures writes { (W.device out.new).failures
         ≡ (W.device out.old).failures + writes_failed result }
 {
@@ -164,6 +165,7 @@ pub(crate) fn step_of<S: Source, W: Sink>(
     ensures seated { IfOk result (λ _. IsSeated (length chunk.old) (length token.old) seat.new) }
     ensures same { SameSeat seat.old seat.new }
     ensures reads { S.failures source.new ≡ S.failures source.old + reads_failed result }
+    ensures named { NamesInput input result }
     ensures writes { (W.device out.new).failures
         ≡ (W.device out.old).failures + writes_failed result }
     ensures progress { IfOk result

@@ -1,6 +1,7 @@
 -- How a run over its inputs ends, and what it leaves then.
-use Rattle.std.proofs.Common.{◌≡◌, ◌==◌, ℕ, ◌*◌, ◌/◌, ◌<◌, ◌≤◌, Bool, true, false, ◌++◌, inl, inr, List, [], ◌∷◌, length, map, Option, Some, None, Result, Ok, Err, refl, sym, ap, subst, ◌∙◌}
-use Rattle.std.specs.Prelude.{codes}
+use Rattle.std.proofs.Common.{◌≡◌, ◌==◌, ℕ, ◌+◌, ◌*◌, ◌/◌, ◌<◌, ◌≤◌, Bool, true, false, ◌++◌, inl, inr, List, [], ◌∷◌, length, map, Option, Some, None, Result, Ok, Err, refl, sym, ap, subst, ◌∙◌, arith}
+use Rattle.std.specs.Prelude.{codes, get_or, slice_set}
+use Rattle.std.proofs.lemmas.List.{set-get_or}
 use Rattle.std.specs.List.{AllByRecursion, AllZip}
 use Rattle.std.proofs.Math.Nat.{mul-div_cancel_left}
 use Rattle.vcd_model.specs.Header.{Header}
@@ -18,7 +19,9 @@ use Rattle.vcd_model.specs.Tokens.{Token}
 use Rattle.vcd_text.specs.Answer.{whole}
 use Rattle.vcd_text.specs.Device.{Device, Supply, Writes, supply}
 use Rattle.vcd_text.proofs.Writes.{appends-none}
-use Rattle.vcd_tools.specs.MergeRun.{Belongs}
+use Rattle.vcd_tools.specs.Answer.{NamesInput}
+use Rattle.vcd_tools.specs.MergeRun.{Belongs, Follows}
+use Rattle.vcd_tools.specs.MergeStep.{failures_with}
 use Rattle.vcd_tools.specs.Seat.{Lane}
 use Rattle.vcd_tools.specs.declared.answer.Done.{Done}
 use Rattle.vcd_tools.specs.declared.answer.Done.TheVariants as done
@@ -28,9 +31,8 @@ use Rattle.vcdkit.specs.declared.failure.Failure.{Failure}
 use Rattle.vcdkit.specs.declared.failure.Failure.TheVariants.{Stopped, Refused, OutOfMemory}
 use Rattle.vcdkit.specs.declared.failure.Refusal.{Refusal}
 use Rattle.vcdkit.specs.declared.failure.Refusal.TheVariants as refusal
-use Rattle.vcdkit.specs.Failure.{failure_of, merge_end, model_refusal}
+use Rattle.vcdkit.specs.Failure.{failure_of, merge_end, model_refusal, CountsReads}
 use Rattle.vcdkit.specs.Inputs.{AreBegun, AreParked, AreShown, HaveBegun, Stops, headers_in}
-use Rattle.vcdkit.specs.MergeForm.{Follows}
 use Rattle.vcdkit.specs.Message.{end_message, end_status, refusal_status, Shows}
 use Rattle.vcdkit.specs.Run.{EndsAll, HasRun, IsOutcome, LeavesAll}
 use Rattle.vcdkit.specs.Run.HasRun.{WithOutcome, NoMemory}
@@ -48,11 +50,13 @@ refused_status : (name : List ℕ) (why : Refusal) → (refusal_outcome name (mo
 refused_status name refusal.NoTimescale = refl
 refused_status name refusal.OutOfRange = refl
 refused_status name refusal.FromAboveTo = refl
+refused_status name refusal.NotRising = refl
 
 refused_output : (name : List ℕ) (why : Refusal) → (refusal_outcome name (model_refusal why)).output ≡ []
 refused_output name refusal.NoTimescale = refl
 refused_output name refusal.OutOfRange = refl
 refused_output name refusal.FromAboveTo = refl
+refused_output name refusal.NotRising = refl
 
 -- a run that ends so, and whose line and status these are, leaves the outcome of its inputs
 module _ (want : Want) (asked : List (List ℕ)) (limit chunk : ℕ) (names texts : List (List ℕ)) (old new : List Supply) (out out' err err' : Device) (status : ℕ) where
@@ -199,3 +203,15 @@ parts_of n chunk limit cs ts vs some c l ec et ev = record {
   chunk_some = rw (part_is n chunk cs some ec) c;
   token_some = rw (part_is n limit ts some et) l;
 }
+
+-- ---- the reads of a merge
+
+-- a read of the input that the answer names failed, and of no other
+pub counts_merge : (before mid after : List ℕ) (k : ℕ) (result : Result Done Stop) → mid ≡ before → k < length mid → after ≡ failures_with mid k result → NamesInput k result → CountsReads before after (failure_of (merge_end result))
+counts_merge before mid after k (Ok d) same within e named = e ∙ set-get_or mid k 0 ∙ same
+counts_merge before mid after k (Err (Dump input line fault)) same within e named = e ∙ set-get_or mid k 0 ∙ same
+counts_merge before mid after k (Err (Read input)) same within e named =
+    let long = ap length same in
+    (omega (arith, named), e ∙ ap (λ l. slice_set l k (get_or l k 0 + 1)) same ∙ ap (λ p. slice_set before p (get_or before p 0 + 1)) (sym named))
+counts_merge before mid after k (Err Write) same within e named = e ∙ set-get_or mid k 0 ∙ same
+counts_merge before mid after k (Err (Unmatched name)) same within e named = e ∙ set-get_or mid k 0 ∙ same

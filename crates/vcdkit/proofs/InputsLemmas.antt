@@ -13,14 +13,13 @@ use Rattle.vcd_model.specs.Tokens.{Stream, Token, stream_of}
 use Rattle.vcd_text.specs.Answer.{whole}
 use Rattle.vcd_text.specs.Device.{Supply}
 use Rattle.vcd_text.specs.ReadAhead.ReadsAsNeeded.{Nothing}
-use Rattle.vcd_tools.specs.MergeRun.{AreOpened}
+use Rattle.vcd_tools.specs.MergeRun.{AreLeft, AreOpened}
 use Rattle.vcd_tools.specs.Run.{IsLeft}
 use Rattle.vcd_tools.specs.Seat.{Lane}
 use Rattle.vcd_tools.specs.declared.answer.Stop.TheVariants.{Dump, Read, Write, Unmatched}
 use Rattle.vcdkit.specs.declared.failure.Failure.{Failure}
 use Rattle.vcdkit.specs.declared.failure.Failure.TheVariants.{Stopped, Refused, OutOfMemory}
 use Rattle.vcdkit.specs.Inputs.{AreBegun, HasFailed, IsBegun, IsWhy, Stops, headers_in}
-use Rattle.vcdkit.specs.MergeForm.{AreLeft}
 use Rattle.vcdkit.specs.Run.{AreRead, header_behind}
 use Rattle.vcdkit.proofs.HeaderLemmas.{all_read, header_only, header_read, left_since, no_fault, reads_for, rest_read, settled_run, unsettled_header}
 

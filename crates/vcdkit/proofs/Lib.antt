@@ -8,3 +8,4 @@ mod EndLemmas
 mod RunLemmas
 pub mod TimesLemmas
 mod PeriodLemmas
+mod SampleLemmas

@@ -1,6 +1,7 @@
 -- The outcome of a run over one input, by its header and the tokens after it.
-use Rattle.std.proofs.Common.{◌≡◌, ◌&&◌, ℕ, Bool, true, false, cond, nat_lt, List, [], ◌∷◌, ◌++◌, map, Option, Some, None, Result, Ok, Err, refl, sym, ap, subst, ◌∙◌}
+use Rattle.std.proofs.Common.{◌≡◌, ◌&&◌, ℕ, Bool, true, false, not, cond, nat_lt, List, [], ◌∷◌, ◌++◌, map, filter_map, is_ok, Option, Some, None, Result, Ok, Err, refl, sym, ap, subst, ◌∙◌}
 use Rattle.std.specs.Prelude.{ℤ, string_bytes}
+use Rattle.std.specs.List.{list_all}
 use Rattle.vcd_model.specs.Input.{Input}
 use Rattle.vcd_model.specs.Tokens.{Token, stream_of}
 use Rattle.vcd_model.specs.Header.{header_of}
@@ -18,6 +19,7 @@ use Rattle.vcd_model.proofs.SoFarLemmas.{whole-more}
 use Rattle.vcdkit.specs.declared.job.Want.{Want}
 use Rattle.vcdkit.specs.declared.job.Want.TheVariants as want
 use Rattle.vcdkit.specs.Job.{is_merge, model_want, names_asked, taskless}
+use Rattle.vcdkit.specs.Times.{times_asked}
 
 -- the header is read
 abbrev head_of : ℕ → Input → Reading HeaderPhrase
@@ -66,6 +68,18 @@ cut_is units (Ok from) (Ok to) task e = by_test (units && nat_lt to from) e
 cut_is units (Ok from) (Err n) task e = cc
 cut_is units (Err n) to task e = cc
 
+-- a sample is asked for, and its times are not refused
+at_ticks : (rises : Bool) (times : List ℕ) (names : List (List ℕ)) (task : Request) → cond rises (Err model.Refusal.NotRising) (Ok (Request.Sample times names)) ≡ Ok task → task ≡ Request.Sample times names
+at_ticks true times names task e = cc
+at_ticks false times names task e = cc
+
+sample_is : (units : Bool) (ks : List (Result ℕ ℕ)) (names : List (List ℕ)) (task : Request) → model.sample_request units ks names ≡ Ok task → (times : List ℕ) × (task ≡ Request.Sample times names)
+sample_is units ks names task e = by_test (list_all is_ok ks) e
+  where
+    by_test : (b : Bool) → cond b (model.sample_at units (filter_map model.ok_of ks) names) (Err (model.first_refusal ks)) ≡ Ok task → (times : List ℕ) × (task ≡ Request.Sample times names)
+    by_test true e = (filter_map model.ok_of ks, at_ticks (units && not (model.do_rise (filter_map model.ok_of ks))) (filter_map model.ok_of ks) names task e)
+    by_test false e = cc
+
 module _ (wanted : Want) (names : List (List ℕ)) (o : Opened) where
   -- a request that is no merge has one input
   over_request : (task : Request) → request_of o.header.scale (model_want wanted) ≡ Ok task → model.over_opened (model_want wanted) names (o ∷ []) ≡ over_dumps task names (o ∷ [])
@@ -89,6 +103,10 @@ of_one (want.Cut period) scale task one e =
     let to = moment_ticks scale (asked period.to) false in
     let cut = cut_is (model.has_unit (asked period.from ∷ asked period.to ∷ [])) from to task e in
     subst (IsOfOne (want.Cut period)) (sym cut.2) (refl, λ names o. refl)
+of_one (want.Sample times names) scale task one e =
+    let asked = times_asked times in
+    let sample = sample_is (model.has_unit asked) (map (λ m. moment_ticks scale m false) asked) (map string_bytes names.items) task e in
+    subst (IsOfOne (want.Sample times names)) (sym sample.1) (refl, λ names o. refl)
 of_one (want.Edges names) scale task one e = let same : Request.Edges (map string_bytes names.items) ≡ task = cc in subst (IsOfOne (want.Edges names)) same (refl, λ names o. refl)
 of_one want.Merge scale task one e = cc
 
@@ -98,6 +116,7 @@ listing_due want.Check one = refl
 listing_due want.List one = refl
 listing_due (want.Pick asked) one = refl
 listing_due (want.Cut period) one = refl
+listing_due (want.Sample times names) one = refl
 listing_due (want.Edges names) one = refl
 listing_due want.Merge one = cc
 

@@ -11,7 +11,7 @@ use Rattle.vcd_head.specs.declared.moment.TickFault.TheVariants.{NoTimescale, Ou
 use Rattle.vcdkit.specs.Failure.{model_refusal, tick_refusal}
 
 -- where there is a scale, no time is without one
-scaled : (scale : ℤ) (m : Moment) (up : Bool) → is_without_scale (moment_ticks (Some scale) m up) ≡ false
+pub scaled : (scale : ℤ) (m : Moment) (up : Bool) → is_without_scale (moment_ticks (Some scale) m up) ≡ false
 unfolding moment_ticks
 scaled scale m up = by_unit m.unit refl
   where
@@ -24,7 +24,7 @@ scaled scale m up = by_unit m.unit refl
     by_unit (Some u) e = rw e (by_test (nat_lt (ticks m.number u scale up) (2 ^ 64)) (ticks m.number u scale up) refl)
 
 -- without a scale no time is out of range
-unscaled : (m : Moment) (up : Bool) → moment_ticks None m up ≡ Err 22 → ⊥
+pub unscaled : (m : Moment) (up : Bool) → moment_ticks None m up ≡ Err 22 → ⊥
 unfolding moment_ticks
 unscaled m up = by_unit m.unit refl
   where

@@ -1,9 +1,12 @@
 -- Words that are times, one after the other, and their order.
-use Rattle.std.proofs.Common.{◌≡◌, ℕ, suc, ◌+◌, ◌<◌, Bool, true, false, not, cond, ◌&&◌, ◌||◌, nat_lt, is_some, List, [], ◌∷◌, ◌++◌, length, map, filter_map, get_or, take, drop, take-append-drop, Option, Some, None, option_map, Result, Ok, Err, refl, sym, ap, ◌∙◌, arith}
+use Rattle.std.proofs.Common.{◌≡◌, ℕ, suc, ◌+◌, ◌<◌, Bool, true, false, not, cond, ◌&&◌, ◌||◌, ◌==◌, nat_lt, is_some, vec_len, List, [], ◌∷◌, ◌++◌, length, map, filter_map, get_or, take, drop, take-append-drop, Option, Some, None, option_map, Result, Ok, Err, refl, sym, ap, ◌∙◌, arith}
 use Rattle.std.specs.Char.{is_ascii_digit}
 use Rattle.std.specs.List.{cons_option, list_all, prefix_len, take_while}
 use Rattle.std.proofs.lemmas.Bool.{and_from}
+use Rattle.std.proofs.lemmas.List.{length-map}
 use Rattle.std.proofs.lemmas.List.Folds.{length-prefix_len}
+use Rattle.std.proofs.lemmas.List.Splits.{length-slice_split}
+use Rattle.std.specs.Global.{Vec}
 use Rattle.std.proofs.Math.Seq.{drop-cons}
 use Rattle.vcd_model.specs.Bytes.{decimal_value}
 use Rattle.vcd_model.specs.Job.{Want, has_unit, do_rise, is_number, moment_of, moment_with}
@@ -14,7 +17,8 @@ use Rattle.vcd_head.specs.Moments.{asked, with_unit}
 use Rattle.vcdkit.specs.declared.job.UseFault.{UseFault}
 use Rattle.vcdkit.specs.declared.job.UseFault.TheVariants.{BadWords, BadLimit, BadTime, FromAboveTo, NotRising, OutOfMemory}
 use Rattle.vcdkit.specs.declared.moment_word.Order.{Order}
-use Rattle.vcdkit.specs.Times.{last_of, times_with, IsOrderOf}
+use Rattle.vcdkit.specs.Ticks.{has_units, times_with}
+use Rattle.vcdkit.specs.Times.{last_of, parts, IsOrderOf}
 use Rattle.vcdkit.specs.Words.{IsFaultIn, IsFaultOf}
 
 -- ---- a word
@@ -131,6 +135,24 @@ times_kept (w ∷ words) ms e = by_first (moment_of w) (model.times_of words) re
     by_first (Some x) (Err y) eo eb h more = cc
     by_first None b eo eb h more = cc
 
+-- there is one for each word
+times_length : (words : List (List ℕ)) (ms : List Moment) → model.times_of words ≡ Ok ms → length ms ≡ length words
+times_length [] ms e = let none : [] ≡ ms = cc in sym (ap length none)
+times_length (w ∷ words) ms e = by_first (model.time_of w) (model.times_of words) refl e (λ xs h. times_length words xs h)
+  where
+    by_first : (a : Result Moment model.UseFault) (b : Result (List Moment) model.UseFault) → model.times_of words ≡ b → model.with_time a b ≡ Ok ms → ((xs : List Moment) → model.times_of words ≡ Ok xs → length xs ≡ length words) → length ms ≡ length (w ∷ words)
+    by_first (Ok x) (Ok xs) eb h more = let same : x ∷ xs ≡ ms = cc in let n = more xs eb in rw (← same) (omega arith)
+    by_first (Ok x) (Err y) eb h more = cc
+    by_first (Err y) b eb h more = cc
+
+-- and there is some word between commas
+pub some_times : (at : List ℕ) (ms : List Moment) (numbers : Vec ℕ) → model.times_of (parts at) ≡ Ok ms → numbers.items ≡ map (λ (m : Moment). m.number) ms → 0 < vec_len numbers
+some_times at ms numbers e n =
+    let words = length-slice_split (λ b. b == 44) at in
+    let times = times_length (parts at) ms e in
+    let kept : length numbers.items ≡ length ms = ap length n ∙ simp length-map in
+    omega (arith, words, times, kept, numbers.ok.0)
+
 -- ---- faults
 
 -- a fault of these is one of those, where theirs are the same
@@ -171,6 +193,21 @@ pub sample_falls : (names : List (List ℕ)) (ms : List Moment) (o : Order) → 
 sample_falls names ms o is e =
     let test : (not (has_unit ms) && not (do_rise (map (λ m. m.number) ms))) ≡ true = rw (← is.has_unit_is, ← is.rises_is) e in
     rw test refl
+
+has_units_is : (ms : List Moment) → has_units (map (λ (m : Moment). m.unit) ms) ≡ has_unit ms
+has_units_is [] = refl
+has_units_is (m ∷ ms) = ap (λ b. is_some m.unit || b) (has_units_is ms)
+
+-- times that a sample may have, and that have no unit, rise
+pub good_rises : (names : List (List ℕ)) (ms : List Moment) → model.sample_of names (Ok ms) ≡ Ok (Want.Sample ms names) → has_units (map (λ (m : Moment). m.unit) ms) ≡ false → do_rise (map (λ (m : Moment). m.number) ms) ≡ true
+good_rises names ms e none = by_test (do_rise (map (λ (m : Moment). m.number) ms)) refl
+  where
+    plain : has_unit ms ≡ false
+    plain = sym (has_units_is ms) ∙ none
+
+    by_test : (b : Bool) → do_rise (map (λ (m : Moment). m.number) ms) ≡ b → b ≡ true
+    by_test true r = refl
+    by_test false r = let bad : Err model.UseFault.NotRising ≡ Ok (Want.Sample ms names) = rw (plain, r) at e in cc
 
 -- ---- numbers and units apart
 

@@ -19,6 +19,7 @@ abbrev pub model_refusal : Refusal → model.Refusal
 model_refusal refusal.NoTimescale = model.Refusal.NoTimescale
 model_refusal refusal.OutOfRange = model.Refusal.OutOfRange
 model_refusal refusal.FromAboveTo = model.Refusal.FromAboveTo
+model_refusal refusal.NotRising = model.Refusal.NotRising
 
 -- why a time that has no number of ticks is
 abbrev pub tick_refusal : TickFault → Refusal

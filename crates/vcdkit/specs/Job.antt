@@ -1,5 +1,5 @@
 -- What is done, among all that can be asked for.
-use Rattle.std.specs.Prelude.{ℕ, Bool, true, false, List, [], map, string_bytes, Option, Some, None, Result, Ok, Err}
+use Rattle.std.specs.Prelude.{◌≡◌, ℕ, Bool, true, false, List, [], map, string_bytes, Option, Some, None, Result, Ok, Err}
 use Rattle.vcd_model.specs.Job as model
 use Rattle.vcd_model.specs.Outcome.{Request}
 use Rattle.vcd_head.specs.Moments.{asked}
@@ -9,6 +9,8 @@ use Rattle.vcdkit.specs.declared.failure.Refusal.{Refusal}
 use Rattle.vcdkit.specs.declared.job.Want.{Want}
 use Rattle.vcdkit.specs.declared.job.Want.TheVariants as want
 use Rattle.vcdkit.specs.Failure.{model_refusal}
+use Rattle.vcdkit.specs.Ticks.{has_units}
+use Rattle.vcdkit.specs.Times.{times_asked}
 
 -- what is wanted, in the definitions' words
 abbrev pub model_want : Want → model.Want
@@ -16,6 +18,7 @@ model_want want.Check = model.Want.Check
 model_want want.List = model.Want.Listing
 model_want (want.Pick names) = model.Want.Pick (map string_bytes names.items)
 model_want (want.Cut period) = model.Want.Cut (asked period.from) (asked period.to)
+model_want (want.Sample times names) = model.Want.Sample (times_asked times) (map string_bytes names.items)
 model_want (want.Edges names) = model.Want.Edges (map string_bytes names.items)
 model_want want.Merge = model.Want.Merge
 
@@ -29,6 +32,16 @@ abbrev pub taskless : Want → Request
 taskless want.Merge = Request.Merge
 taskless want = Request.Listing
 
+-- its times are ticks, save those of a cut
+abbrev pub HasTicks : Want → Type 0
+HasTicks want.Check = Unit {0}
+HasTicks want.List = Unit {0}
+HasTicks (want.Pick names) = Unit {0}
+HasTicks (want.Cut period) = Unit {0}
+HasTicks (want.Sample times names) = has_units times.units.items ≡ false
+HasTicks (want.Edges names) = Unit {0}
+HasTicks want.Merge = Unit {0}
+
 -- the request of a task over items; of what is none; or why it is refused
 abbrev pub task_request : Want → Result (Option Task) Refusal → Result Request model.Refusal
 task_request want (Ok (Some task)) = Ok (request_of task)
@@ -41,5 +54,6 @@ names_asked want.Check = []
 names_asked want.List = []
 names_asked (want.Pick names) = map string_bytes names.items
 names_asked (want.Cut period) = []
+names_asked (want.Sample times names) = map string_bytes names.items
 names_asked (want.Edges names) = map string_bytes names.items
 names_asked want.Merge = []

@@ -42,6 +42,7 @@ abbrev pub refusal_status : Refusal → ℕ
 refusal_status refusal.NoTimescale = 1
 refusal_status refusal.OutOfRange = 2
 refusal_status refusal.FromAboveTo = 2
+refusal_status refusal.NotRising = 2
 
 -- the same of a run that fails
 abbrev pub failure_message : (names asked : List (List ℕ)) → Failure → List ℕ

@@ -1,5 +1,5 @@
 -- The times that words ask for.
-use Rattle.std.specs.Prelude.{◌≡◌, ◌==◌, ℕ, ℤ, List, [], ◌∷◌, map, Option, Some, None, Result, Ok, Err}
+use Rattle.std.specs.Prelude.{◌≡◌, ◌==◌, ℕ, List, [], ◌∷◌, map, Option, Some, None, Result, Ok, Err}
 use Rattle.std.specs.List.{slice_split}
 use Rattle.vcd_model.specs.Job.{has_unit, do_rise}
 use Rattle.vcd_model.specs.Job as model
@@ -7,6 +7,7 @@ use Rattle.vcd_model.specs.Outcome.{Request}
 use Rattle.vcd_model.specs.Ticks.{Moment}
 use Rattle.vcd_tools.specs.declared.span.Span.{Span}
 use Rattle.vcdkit.specs.Failure.{model_refusal}
+use Rattle.vcdkit.specs.Ticks.{times_with}
 use Rattle.vcdkit.specs.declared.failure.Refusal.{Refusal}
 use Rattle.vcdkit.specs.declared.moment_word.Order.{Order}
 use Rattle.vcdkit.specs.declared.times.Times.{Times}
@@ -31,12 +32,6 @@ pub record IsOrderOf (times : List Moment) (o : Order) : Type 0 where
   pub has_unit_is : o.has_unit ≡ has_unit times
   pub rises_is : o.rises ≡ do_rise (map (λ m. m.number) times)
   pub last_is : o.last ≡ last_of (map (λ m. m.number) times)
-
--- times with these numbers and units, one by one
-abbrev pub times_with : List ℕ → List (Option ℤ) → List Moment
-times_with [] units = []
-times_with (n ∷ ns) [] = []
-times_with (n ∷ ns) (u ∷ us) = record { number = n; unit = u } ∷ times_with ns us
 
 -- the times that are asked for
 abbrev pub times_asked : Times → List Moment

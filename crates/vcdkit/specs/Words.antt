@@ -28,7 +28,7 @@ limit_rule = record (new_rule (codes "token-limit")) { long = Some (codes "token
 abbrev pub names_rule : Bool → Rule
 names_rule required = record (new_rule (codes "names")) { range = Some (record { start_inclusive = 1; end_inclusive = usize_max }); value_names = 1; required = required }
 
--- an option of this name, which has to be there, for a time; which texts are times is no matter of the parse
+-- an option of this name, which has to be there, for times; which texts are times is no matter of the parse
 abbrev pub time_rule : Text → Rule
 time_rule name = record (new_rule name) { long = Some name; value_names = 1; required = true }
 
@@ -44,6 +44,10 @@ named_app name required = with_rule (one_input_app name) (names_rule required)
 abbrev pub cut_app : App
 cut_app = with_rule (with_rule (one_input_app (codes "cut")) (time_rule (codes "from"))) (time_rule (codes "to"))
 
+-- `sample`, with `--at N,N,..`, and with names or without
+abbrev pub sample_app : App
+sample_app = with_rule (named_app (codes "sample") false) (time_rule (codes "at"))
+
 -- `vcdkit` has a version (so `--version` and `-V`), wants a command and has no command `help`
 abbrev pub bare_app : App
 bare_app =
@@ -53,8 +57,8 @@ bare_app =
 -- `vcdkit` with its commands
 abbrev pub program_app : App
 program_app =
-    with_subcommand (with_subcommand (with_subcommand (with_subcommand (with_subcommand bare_app (one_input_app (codes "check")).top) (one_input_app (codes "list")).top)
-    (named_app (codes "pick") true).top) cut_app.top) (named_app (codes "edges") false).top
+    with_subcommand (with_subcommand (with_subcommand (with_subcommand (with_subcommand (with_subcommand bare_app (one_input_app (codes "check")).top) (one_input_app (codes "list")).top)
+    (named_app (codes "pick") true).top) cut_app.top) sample_app.top) (named_app (codes "edges") false).top
 
 -- help and the version are no fault, and out of memory has a status of its own
 abbrev pub parse_status_of : ErrorKind → ℕ
@@ -94,7 +98,8 @@ command_named name matches =
     (cond (bytes_eq name (codes "list")) (Some model.Command.Listing)
     (cond (bytes_eq name (codes "pick")) (Some (model.Command.Pick (values_after matches (codes "names"))))
     (cond (bytes_eq name (codes "cut")) (cut_between (word_after matches (codes "from")) (word_after matches (codes "to")))
-    (cond (bytes_eq name (codes "edges")) (Some (model.Command.Edges (values_after matches (codes "names")))) None))))
+    (cond (bytes_eq name (codes "sample")) (option_map (λ at. model.Command.Sample at (values_after matches (codes "names"))) (word_after matches (codes "at")))
+    (cond (bytes_eq name (codes "edges")) (Some (model.Command.Edges (values_after matches (codes "names")))) None)))))
 
 -- the command that was used, with its words
 abbrev pub command_used : ArgMatches → Option model.Command
@@ -124,6 +129,7 @@ words_command words.Check = model.Command.Check
 words_command words.List = model.Command.Listing
 words_command (words.Pick names) = model.Command.Pick (map (λ name. name.now) names.now)
 words_command (words.Cut from to) = model.Command.Cut from.now to.now
+words_command (words.Sample at names) = model.Command.Sample at.now (some_names names)
 words_command (words.Edges names) = model.Command.Edges (some_names names)
 
 -- the fault is the one that the words have; memory is none of theirs

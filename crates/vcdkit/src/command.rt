@@ -1,7 +1,7 @@
 //! The command line: which words it takes, and the exit status where it takes none.
 ghost use Rattle.std.specs.Prelude.{◌≡◌, IfOk, false};
 ghost use Rattle.clap.specs.Words.{app_of, is_broken, kind_of, rule_of};
-ghost use Rattle.vcdkit.specs.Words.{cut_app, named_app, one_input_app, parse_status_of, program_app, time_rule};
+ghost use Rattle.vcdkit.specs.Words.{cut_app, named_app, one_input_app, parse_status_of, program_app, sample_app, time_rule};
 
 use clap::error::ErrorKind;
 use clap::{Arg, Command, Error};
@@ -44,14 +44,14 @@ fn named<'a>(
     one_input(alloc, name, about)?.arg(names)
 }
 
-/// An option for a time, without which the parse fails.
-fn time<'a>(alloc: Global, name: &'a str, help: &'a str) -> Arg<'a>
+/// An option for times, without which the parse fails.
+fn time<'a>(alloc: Global, name: &'a str, value_name: &'a str, help: &'a str) -> Arg<'a>
     ensures rule { rule_of result ≡ time_rule name.entry.now }
     ensures local { result.global ≡ false }
 {
     Arg::new(alloc, name)
         .long(name)
-        .value_name("N")
+        .value_name(value_name)
         .required(true)
         .help(help)
 }
@@ -64,12 +64,33 @@ fn cut<'a>(alloc: Global) -> Result<Command<'a>, AllocError>
     let from = time(
         alloc,
         "from",
+        "N",
         "The first time: a number of ticks, or of s, ms, us, ns, ps or fs, as 15ns",
     );
-    let to = time(alloc, "to", "The last time, as the first");
+    let to = time(alloc, "to", "N", "The last time, as the first");
     one_input(alloc, "cut", "Writes the dump from one time to another")?
         .arg(from)?
         .arg(to)
+}
+
+/// The command `sample`, with its options, its times and names of variables.
+fn sample<'a>(alloc: Global) -> Result<Command<'a>, AllocError>
+    ensures words { IfOk result (λ c. app_of c ≡ sample_app) }
+    ensures whole { IfOk result (λ c. is_broken c ≡ false) }
+{
+    let at = time(
+        alloc,
+        "at",
+        "N,N,..",
+        "The times, which rise: numbers of ticks, or of s, ms, us, ns, ps or fs, as 5ns,15ns",
+    );
+    named(
+        alloc,
+        "sample",
+        "Writes the values of variables at some times",
+        false,
+    )?
+    .arg(at)
 }
 
 /// The command `vcdkit` with its commands.
@@ -81,6 +102,7 @@ pub fn command_of<'a>(alloc: Global) -> Result<Command<'a>, AllocError>
     let list = one_input(alloc, "list", "Lists the variables of a dump")?;
     let pick = named(alloc, "pick", "Writes the dump of some variables", true)?;
     let cut = cut(alloc)?;
+    let sample = sample(alloc)?;
     let edges = named(
         alloc,
         "edges",
@@ -96,6 +118,7 @@ pub fn command_of<'a>(alloc: Global) -> Result<Command<'a>, AllocError>
         .subcommand(list)?
         .subcommand(pick)?
         .subcommand(cut)?
+        .subcommand(sample)?
         .subcommand(edges)
 }
 

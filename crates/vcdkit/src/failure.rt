@@ -12,6 +12,8 @@ pub enum Refusal {
     OutOfRange,
     /// The start of a cut is above its end, in ticks.
     FromAboveTo,
+    /// The times of a sample do not rise, in ticks.
+    NotRising,
 }
 
 impl From<TickFault> for Refusal {

@@ -7,7 +7,7 @@ ghost use Rattle.vcdkit.specs.Words.{job_asked, IsFaultIn, IsFaultOf};
 
 use crate::failure::Refusal;
 use crate::moment_word::number_of;
-use crate::times::Period;
+use crate::times::{Period, Times};
 use crate::words::{limit_word, want_of, words_in};
 use clap::ArgMatches;
 use std::alloc::{AllocError, Global};
@@ -25,6 +25,8 @@ pub enum Want {
     Pick(Vec<String>),
     /// Writes the dump of these times.
     Cut(Period),
+    /// Writes the values of the variables that these names select at these times; of all without names.
+    Sample(Times, Vec<String>),
     /// Counts how often the variables that these names select change, rise and fall; all without names.
     Edges(Vec<String>),
     /// Writes the changes of all inputs in one order of time.
@@ -35,7 +37,30 @@ impl Want {
     ghost use Rattle.vcd_model.specs.Header.{Header};
     ghost use Rattle.vcd_model.specs.Job.{request_of};
     ghost use Rattle.vcd_head.specs.Views.{IsViewOf};
-    ghost use Rattle.vcdkit.specs.Job.{is_merge, model_want, names_asked, task_request};
+    ghost use Rattle.std.specs.Prelude.{MatchResult, OnOk};
+    ghost use Rattle.vcdkit.specs.Failure.{model_refusal};
+    ghost use Rattle.vcdkit.specs.Job.{is_merge, model_want, names_asked, task_request, HasTicks};
+
+    /// Writes the times of a sample in ticks of the header that is shown over their numbers: it is the same that is wanted. Where
+    /// they are refused it says why, and what they are then is not said.
+    pub fn write_ticks(&mut self, view: HeadView<'_>) -> Result<(), Refusal>
+        ensures same { (h : Header) → IsViewOf view.entry h → MatchResult result
+            (λ _. request_of h.scale (model_want self.new) ≡ request_of h.scale (model_want self.old))
+            (λ why. request_of h.scale (model_want self.old) ≡ Err (model_refusal why)) }
+        ensures ticks { OnOk result (HasTicks self.new) }
+        ensures names { names_asked self.new ≡ names_asked self.old }
+        ensures kind { is_merge self.new ≡ is_merge self.old }
+    {
+        match self {
+            Want::Sample(times, _) => times.write_ticks(view),
+            Want::Check
+            | Want::List
+            | Want::Pick(_)
+            | Want::Cut(_)
+            | Want::Edges(_)
+            | Want::Merge => Ok(()),
+        }
+    }
 
     /// It is a merge, which alone may have several inputs.
     pub fn is_merge(&self) -> bool
@@ -44,9 +69,10 @@ impl Want {
         matches!(self, Want::Merge)
     }
 
-    /// The task over the items of a body, its times in ticks of the header that is shown. A list is none, since it reads no body,
-    /// nor is a merge, which reads several.
+    /// The task over the items of a body, its times in ticks of the header that is shown; those of a sample are ticks already. A
+    /// list is none, since it reads no body, nor is a merge, which reads several.
     pub fn task(&self, view: HeadView<'_>) -> Result<Option<Task<'_>>, Refusal>
+        requires { HasTicks self.now }
         ensures { (h : Header) → IsViewOf view.entry h
             → request_of h.scale (model_want self.now) ≡ task_request self.now result }
     {
@@ -56,6 +82,7 @@ impl Want {
             Want::Merge => Ok(None),
             Want::Pick(names) => Ok(Some(Task::Pick(names.as_slice()))),
             Want::Cut(period) => Ok(Some(Task::Cut(period.span(view)?))),
+            Want::Sample(times, names) => Ok(Some(Task::Sample(times.samples(names.as_slice())))),
             Want::Edges(names) => Ok(Some(Task::Edges(names.as_slice()))),
         }
     }
@@ -66,7 +93,7 @@ impl Want {
     {
         match self {
             Want::Check | Want::List | Want::Cut(_) | Want::Merge => &[],
-            Want::Pick(names) | Want::Edges(names) => names.as_slice(),
+            Want::Pick(names) | Want::Sample(_, names) | Want::Edges(names) => names.as_slice(),
         }
     }
 }

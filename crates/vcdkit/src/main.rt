@@ -11,7 +11,7 @@
 //! - `words`: what the words ask for, borrowed from their matches
 //! - `job`: `Job`, `Want` with its task and its names, `UseFault`; `job_of`
 //! - `moment_word`: the times that words are, and the fault of those that are none
-//! - `times`: the times of a cut, also in ticks; the times of a sample
+//! - `times`: the times of a cut and of a sample, also in ticks; `sample_ticks`: ticks in place of the numbers of times
 //! - `inputs`: the memory of windows; the header of an input
 //! - `run`: a job over readers: windows, header, then `list` over the view or `run_task` in room that is taken for it
 //! - `failure`: why a run ends before it is done, and why times are refused
@@ -33,11 +33,11 @@ ghost use Rattle.std.specs.Prelude.{◌≡◌, ◌-◌, ◌^◌, ◌<◌, All, l
 mod command;
 mod failure;
 mod inputs;
-mod merge_stub;
 mod job;
 mod message;
 mod moment_word;
 mod run;
+mod sample_ticks;
 #[cfg(test)]
 mod tests;
 mod times;

@@ -115,6 +115,10 @@ fn report_refusal<E: Sink>(refusal: Refusal, names: &[String], err: &mut E) -> u
             let _ = put_line(err, "--from is above --to");
             2
         }
+        Refusal::NotRising => {
+            let _ = put_line(err, "times must rise");
+            2
+        }
     }
 }
 

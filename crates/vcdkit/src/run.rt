@@ -25,8 +25,7 @@ use std::alloc::Global;
 use vcd_body::Slot;
 use vcd_head::HeadView;
 use vcd_text::{Feed, Sink, Source};
-use vcd_tools::{Done, Room, Stop, Windows, list, run_task};
-use crate::merge_stub::merge;
+use vcd_tools::{Done, Room, Stop, Windows, list, merge, run_task};
 
 /// The answer of a task over the input at this place, as that of its run.
 fn ended(answer: Result<Done, Stop>, input: usize) -> Result<Done, Failure>
@@ -51,29 +50,31 @@ fn merged(answer: Result<Done, Stop>) -> Result<Done, Failure>
 /// What is done after the header, in room that is taken before it starts.
 fn run_want<S: Source, W: Sink>(
     alloc: Global,
-    want: &Want,
+    want: &mut Want,
     view: HeadView<'_>,
     feed: &mut Feed<'_, '_, '_, '_, S>,
     out: &mut W,
 ) -> Result<Done, Failure>
-    requires one { is_merge want.now ≡ false }
+    requires one { is_merge want.old ≡ false }
     requires feed_failures { S.failures (source_of feed.old) < 2 ^ 64 - 1 }
     requires out_failures { (W.device out.old).failures < 2 ^ 64 - 1 }
     requires open { HasNotFailed feed.old }
     requires chunk { chunk_len_of feed.old ≤ 65536 }
     ensures ends { (h : Header) (i : Input) (front : List Token) (name : List ℕ)
         → IsViewOf view.entry h → HasGiven i front feed.old
-        → Ends (names_asked want.now)
-        (IsAfter (model_want want.now) (limit_of feed.old) front h name)
+        → Ends (names_asked want.old)
+        (IsAfter (model_want want.old) (limit_of feed.old) front h name)
         (limit_of feed.old) (chunk_len_of feed.old) i name front
-        (settled_for result (is_settled_by (request_of h.scale (model_want want.now)) h) (λ _. true))
+        (settled_for result (is_settled_by (request_of h.scale (model_want want.old)) h) (λ _. true))
         (supply_of feed.old) (supply_of feed.new) (W.device out.old) (W.device out.new) result }
     ensures reads { CountsRead 0 (S.failures (source_of feed.old)) (S.failures (source_of feed.new))
         (failure_of result) }
     ensures writes { (W.device out.new).failures
         ≡ (W.device out.old).failures + writes_failed (failure_of result) }
     ensures loans { SameLoans feed.old feed.new }
+    ensures names { names_asked want.new ≡ names_asked want.old }
 {
+    want.write_ticks(view)?;
     let Some(task) = want.task(view)? else {
         return ended(list(view, out), 0);
     };
@@ -92,17 +93,17 @@ fn run_want<S: Source, W: Sink>(
 /// A job over one input: its windows, its header, and then what is wanted.
 fn run_input<S: Source, W: Sink>(
     alloc: Global,
-    job: &Job,
+    job: &mut Job,
     reader: &mut S,
     out: &mut W,
 ) -> Result<Done, Failure>
-    requires one { is_merge job.now.want ≡ false }
+    requires one { is_merge job.old.want ≡ false }
     requires reader_failures { S.failures reader.old < 2 ^ 64 - 1 }
     requires out_failures { (W.device out.old).failures < 2 ^ 64 - 1 }
     ensures ends { (text name : List ℕ) → S.rest reader.old ≡ Some text
-        → Ends (names_asked job.now.want) (IsOfJob (model_want job.now.want) job.now.limit name)
-        job.now.limit job.now.chunk (whole text) name []
-        (settled_for result (is_settled (model_want job.now.want) declarations_allowed)
+        → Ends (names_asked job.old.want) (IsOfJob (model_want job.old.want) job.old.limit name)
+        job.old.limit job.old.chunk (whole text) name []
+        (settled_for result (is_settled (model_want job.old.want) declarations_allowed)
         (is_header_over declarations_allowed))
         (supply S.rest S.failures reader.old) (supply S.rest S.failures reader.new)
         (W.device out.old) (W.device out.new) result }
@@ -110,6 +111,7 @@ fn run_input<S: Source, W: Sink>(
         (failure_of result) }
     ensures writes { (W.device out.new).failures
         ≡ (W.device out.old).failures + writes_failed (failure_of result) }
+    ensures names { names_asked job.new.want ≡ names_asked job.old.want }
 {
     let mut memory = windows_for(alloc, job, 1)?;
     let mut feed = Feed::new(
@@ -119,7 +121,7 @@ fn run_input<S: Source, W: Sink>(
         &mut memory.values,
     );
     let head = open_input(alloc, 0, &mut feed, MOST_DECLARATIONS)?;
-    run_want(alloc, &job.want, head.view(), &mut feed, out)
+    run_want(alloc, &mut job.want, head.view(), &mut feed, out)
 }
 
 /// A merge over several inputs: their windows, their headers in order, and then the merge.
@@ -163,18 +165,18 @@ fn run_merge<S: Source, W: Sink>(
 /// A job over its readers: all of them for a merge, else the one that there is.
 fn run_readers<S: Source, W: Sink>(
     alloc: Global,
-    job: &Job,
+    job: &mut Job,
     readers: &mut [S],
     out: &mut W,
 ) -> Result<Done, Failure>
     requires some { 0 < length readers.old }
     requires few { length readers.old ≤ 64 }
-    requires alone { is_merge job.now.want ≡ false → length readers.old ≡ 1 }
+    requires alone { is_merge job.old.want ≡ false → length readers.old ≡ 1 }
     requires reader_failures { All (λ r. S.failures r < 2 ^ 64 - 1) readers.old }
     requires out_failures { (W.device out.old).failures < 2 ^ 64 - 1 }
     ensures ends { (texts names : List (List ℕ)) → map S.rest readers.old ≡ map (λ text. Some text) texts
         → length names ≡ length readers.old
-        → EndsAll (model_want job.now.want) (names_asked job.now.want) job.now.limit job.now.chunk
+        → EndsAll (model_want job.old.want) (names_asked job.old.want) job.old.limit job.old.chunk
         names texts
         (map (supply S.rest S.failures) readers.old) (map (supply S.rest S.failures) readers.new)
         (W.device out.old) (W.device out.new) result }
@@ -182,6 +184,7 @@ fn run_readers<S: Source, W: Sink>(
         (failure_of result) }
     ensures writes { (W.device out.new).failures
         ≡ (W.device out.old).failures + writes_failed (failure_of result) }
+    ensures names { names_asked job.new.want ≡ names_asked job.old.want }
 {
     if job.want.is_merge() {
         return run_merge(alloc, job, readers, out);
@@ -198,7 +201,7 @@ fn run_readers<S: Source, W: Sink>(
 /// written on `out` before all of it was taken.
 pub fn run<S: Source, W: Sink, E: Sink>(
     alloc: Global,
-    job: Job,
+    mut job: Job,
     names: &[String],
     readers: &mut [S],
     out: &mut W,
@@ -229,7 +232,7 @@ pub fn run<S: Source, W: Sink, E: Sink>(
         (map (supply S.rest S.failures) readers.old) (map (supply S.rest S.failures) readers.new)
         (W.device out.old) (W.device out.new) (E.device err.old) (E.device err.new) result }
 {
-    match run_readers(alloc, &job, readers, out) {
+    match run_readers(alloc, &mut job, readers, out) {
         Ok(_) => 0,
         Err(failure) => report(failure, names, job.want.names(), err),
     }

@@ -5,7 +5,7 @@ ghost use Rattle.vcdkit.specs.Job.{model_want};
 ghost use Rattle.vcdkit.specs.Words.{command_named, command_used, complete, input_asked, some_names, some_of, values_after, word_after, words_command, IsFaultOf};
 
 use crate::job::{UseFault, Want};
-use crate::moment_word::cut_of;
+use crate::moment_word::{cut_of, sample_times};
 use clap::ArgMatches;
 use std::alloc::{AllocError, Global};
 
@@ -16,6 +16,7 @@ pub(crate) enum Words<'m, 'a> {
     List,
     Pick(&'m [&'a str]),
     Cut(&'a str, &'a str),
+    Sample(&'a str, Option<&'m [&'a str]>),
     Edges(Option<&'m [&'a str]>),
 }
 
@@ -60,6 +61,7 @@ fn words_named<'m, 'a>(name: &str, matches: &'m ArgMatches<'a>) -> Option<Words<
         "list" => Some(Words::List),
         "pick" => Some(Words::Pick(names_of(matches)?)),
         "cut" => Some(Words::Cut(word_of(matches, "from")?, word_of(matches, "to")?)),
+        "sample" => Some(Words::Sample(word_of(matches, "at")?, names_of(matches))),
         "edges" => Some(Words::Edges(names_of(matches))),
         _ => None,
     }
@@ -104,6 +106,9 @@ pub(crate) fn want_of<'a>(alloc: Global, words: Words<'_, 'a>) -> Result<Want, U
         Words::List => Want::List,
         Words::Pick(names) => Want::Pick(copied(alloc, names)?),
         Words::Cut(from, to) => Want::Cut(cut_of(from, to)?),
+        Words::Sample(at, names) => {
+            Want::Sample(sample_times(alloc, at)?, copied_some(alloc, names)?)
+        }
         Words::Edges(names) => Want::Edges(copied_some(alloc, names)?),
     })
 }

@@ -1,9 +1,7 @@
 // Words that are times, and words that are none.
-ghost use Rattle.std.specs.Prelude.{◌≡◌, vec_len};
-
 use crate::job::UseFault;
 use crate::moment_word::{cut_of, moment_of, sample_times};
-use crate::times::Times;
+use std::alloc::Global;
 use std::test::Fail;
 use vcd_head::Moment;
 
@@ -73,30 +71,32 @@ fn a_cut_ends_no_earlier_than_it_begins(rt: HostRuntime) {
     assert_eq!(rt; cut_of("5", "4NS"), Err(UseFault::BadTime("4NS")));
 }
 
-// The times of a sample, with these numbers and units.
-fn times(numbers: Vec<u64>, units: Vec<Option<i8>>) -> Times
-    requires { vec_len units ≡ vec_len numbers }
-{
-    Times { numbers, units }
+// The numbers of a sample's times, and their units.
+type Told = (Vec<u64>, Vec<Option<i8>>);
+
+// What the word behind `--at` tells.
+fn told<'a>(alloc: Global, at: &'a str) -> Result<Told, UseFault<'a>> {
+    let times = sample_times(alloc, at)?;
+    Ok((times.numbers, times.units))
 }
 
 #[test]
 fn the_times_of_a_sample_stand_between_commas(rt: HostRuntime) -> Result<(), Fail> {
     let alloc = rt.alloc();
-    let one = times(vec![in alloc; 7]?, vec![in alloc; None]?);
-    assert_eq!(rt; sample_times(alloc, "7"), Ok(one));
-    let plain = times(vec![in alloc; 0, 1, 20]?, vec![in alloc; None, None, None]?);
-    assert_eq!(rt; sample_times(alloc, "0,1,20"), Ok(plain));
-    let nano = times(vec![in alloc; 5, 15]?, vec![in alloc; Some(-9), Some(-9)]?);
-    assert_eq!(rt; sample_times(alloc, "5ns,15ns"), Ok(nano));
-    let mixed = times(
+    let one = (vec![in alloc; 7]?, vec![in alloc; None]?);
+    assert_eq!(rt; told(alloc, "7"), Ok(one));
+    let plain = (vec![in alloc; 0, 1, 20]?, vec![in alloc; None, None, None]?);
+    assert_eq!(rt; told(alloc, "0,1,20"), Ok(plain));
+    let nano = (vec![in alloc; 5, 15]?, vec![in alloc; Some(-9), Some(-9)]?);
+    assert_eq!(rt; told(alloc, "5ns,15ns"), Ok(nano));
+    let mixed = (
         vec![in alloc; 3, 2, 1]?,
         vec![in alloc; None, Some(-9), None]?,
     );
-    assert_eq!(rt; sample_times(alloc, "3,2ns,1"), Ok(mixed));
+    assert_eq!(rt; told(alloc, "3,2ns,1"), Ok(mixed));
     let falling = ["5,5", "2,1", "1,2,3,3", "1,3,2,4"];
     for at in falling {
-        assert_eq!(rt; sample_times(alloc, at), Err(UseFault::NotRising), "{at}");
+        assert_eq!(rt; told(alloc, at), Err(UseFault::NotRising), "{at}");
     }
     let bad = [
         ("", ""),
@@ -108,11 +108,7 @@ fn the_times_of_a_sample_stand_between_commas(rt: HostRuntime) -> Result<(), Fai
         ("2,1,x,y", "x"),
     ];
     for (at, word) in bad {
-        assert_eq!(rt;
-            sample_times(alloc, at),
-            Err(UseFault::BadTime(word)),
-            "{at}"
-        );
+        assert_eq!(rt; told(alloc, at), Err(UseFault::BadTime(word)), "{at}");
     }
     Ok(())
 }

@@ -1,9 +1,7 @@
 use Rattle.std.proofs.Common.{◌≡◌, ◌≤◌, ◌-◌, suc, length, sym, ap, subst, ◌∙◌, arith}
 use Rattle.vcd_body.specs.Kept.{last_digit_in, value_at_size}
-use Rattle.vcd_body.specs.Packed.{unpacked}
 use Rattle.vcd_body.specs.Stored.{held_by, some_by, used_by}
 use Rattle.vcd_body.specs.declared.slot.State.{State}
-use Rattle.vcd_body.proofs.HeldLemmas.{get_taken}
 use Rattle.vcd_body.proofs.CompareLemmas.{last_of_state, last_packed, last_plain}
 use Rattle.vcd_body.proofs.held.last_held.Goals as goal
 
@@ -25,7 +23,7 @@ returns-in-Digits c size =
     let used = subst (λ (s : State). used_by s len ≤ length bytes) c.in-Digits.is c.requires.used in
     let some = subst (λ (s : State). 1 ≤ some_by s len) c.in-Digits.is c.requires.some in
     let one : len ≡ suc (len - 1) = omega (arith, some) in
-    c.digit_at.ensures ∙ sym (get_taken (unpacked bytes) len (len - 1) (omega (arith, some)))
+    c.digit_at.ensures
     ∙ sym (last_packed len bytes size (len - 1) used one)
     ∙ sym (ap (λ (s : State). last_digit_in (value_at_size size (held_by s len bytes))) c.in-Digits.is)
 

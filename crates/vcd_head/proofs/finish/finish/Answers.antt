@@ -28,6 +28,7 @@ returns-clause-head c = λ most ps m h.
       date = h.date;
       version = h.version;
       scale = h.scale;
+      scaled = h.scaled;
       held = omega (arith, held, ap length h.date, ap length h.version);
       keys = keys;
       texts = h.declares.codes.texts;

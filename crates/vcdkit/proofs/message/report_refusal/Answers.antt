@@ -14,3 +14,6 @@ returns-in-OutOfRange-clause-line g c = rw c.in-OutOfRange.is (puts-shows _ _ _ 
 
 pub returns-in-FromAboveTo-clause-line : goal.returns-in-FromAboveTo-clause-line
 returns-in-FromAboveTo-clause-line g c = rw c.in-FromAboveTo.is (puts-shows _ _ _ c.put_line-in-FromAboveTo.result c.put_line-in-FromAboveTo.ensures)
+
+pub returns-in-NotRising-clause-line : goal.returns-in-NotRising-clause-line
+returns-in-NotRising-clause-line g c = rw c.in-NotRising.is (puts-shows _ _ _ c.put_line-in-NotRising.result c.put_line-in-NotRising.ensures)

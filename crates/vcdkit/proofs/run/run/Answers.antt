@@ -15,4 +15,4 @@ pub returns-clause-gives : goal.returns-clause-gives
 returns-clause-gives g c = λ texts h.
     let many : length (map string_bytes c.args.names.now) ≡ length c.args.readers.now = length-map c.args.names.now string_bytes ∙ c.requires.names in
     has_run (model_want c.args.job.want) (names_asked c.args.job.want) c.args.job.limit c.args.job.chunk (map string_bytes c.args.names.now) texts _ _ _ _ _ _ c.report.result (Err c.in-Err.failure)
-    (c.in-Err.ensures.ends texts (map string_bytes c.args.names.now) h many) c.report.ensures.status (rw c.names.ensures at c.report.ensures.line)
+    (c.in-Err.ensures.ends texts (map string_bytes c.args.names.now) h many) c.report.ensures.status (rw (c.names.ensures, c.run_readers.ensures.names) at c.report.ensures.line)

@@ -1,11 +1,12 @@
-use Rattle.std.proofs.Common.{◌≡◌, ◌∙◌, ◌*◌, ◌/◌, List, [], length, Err, sym, ap, ap₂, subst, arith, rules}
+use Rattle.std.proofs.Common.{◌≡◌, ◌∙◌, ◌*◌, ◌/◌, List, [], length, Err, refl, sym, ap, ap₂, subst, arith, rules}
+use Rattle.std.proofs.lemmas.List.{length-map}
 use Rattle.vcd_model.specs.Job.{Want}
 use Rattle.vcd_tools.specs.declared.seat.Seat.{Seat}
 use Rattle.vcd_tools.proofs.PartLemmas.{parts_same}
 use Rattle.vcdkit.specs.declared.failure.Failure.TheVariants.{OutOfMemory}
-use Rattle.vcdkit.specs.Inputs.{AreParked}
+use Rattle.vcdkit.specs.Inputs.{AreParked, headers_in}
 use Rattle.vcdkit.proofs.OpenLemmas.{nothing_stops, still_low}
-use Rattle.vcdkit.proofs.EndLemmas.{merge_ends, no_marks, part_is, parts_of, stopped}
+use Rattle.vcdkit.proofs.EndLemmas.{counts_merge, merge_ends, no_marks, part_is, parts_of, stopped}
 use Rattle.vcdkit.proofs.run.run_merge.Goals as goal
 
 pub returns-in_err-memory-clause-ends : goal.returns-in_err-memory-clause-ends
@@ -62,5 +63,10 @@ returns-clause-ends g c = λ texts names h.
     (merge_ends (length c.args.readers.now) (length c.deref_mut-4.result.now) c.args.job.now.limit _ _ c.args.job.now.chunk _ _ c.marks_for.result g.S.Source.rest g.S.Source.failures names texts c.args.readers.now c.open_inputs.new.readers c.merge.new.sources
     _ _ _ _ _ _ c.merge.result many limit (ap₂ (λ a b. a / b) same.tokens many ∙ limit) chunk (ap₂ (λ a b. a / b) same.chunks many ∙ chunk) (c.in_ok-inputs.ensures.begins texts h)
     (λ hs shows. c.marks_for.ensures hs (rw c.deref.ensures.value shows))
-    (λ lanes names shows enough parked. c.merge.ensures.follows lanes names (rw c.deref-2.ensures.value shows) (rw marks enough)
+    (λ lanes names shows enough parked. c.merge.ensures.follows (headers_in lanes) lanes names (rw c.deref-2.ensures.value shows) refl (rw marks enough)
     (subst (λ (l : List Seat). AreParked (length c.deref_mut-4.result.now) g.S.Source.rest lanes l c.open_inputs.new.readers c.open_inputs.new.windows.chunks.now c.open_inputs.new.windows.tokens.now) (sym seats) parked)))
+
+pub returns-clause-reads : goal.returns-clause-reads
+returns-clause-reads g c =
+    let (k, within, counts, named) = c.merge.ensures.reads in
+    rw c.merged.ensures (counts_merge _ _ _ k c.merge.result c.in_ok-inputs.ensures.reads (omega (arith, length-map c.open_inputs.new.readers g.S.Source.failures)) counts named)

@@ -1,5 +1,8 @@
-use Rattle.std.proofs.Common.{refl}
+use Rattle.std.proofs.Common.{◌≡◌, false, map, refl}
+use Rattle.std.specs.Prelude.{string_bytes}
 use Rattle.vcd_model.specs.Job.{request_of}
+use Rattle.vcdkit.specs.Ticks.{has_units}
+use Rattle.vcdkit.proofs.SampleLemmas.{paired_lists, plain_request}
 use Rattle.vcdkit.proofs.job.Want.task.Goals as goal
 
 pub returns-in-Check : goal.returns-in-Check
@@ -20,6 +23,12 @@ returns-in-Pick c = λ h v. rw (c.in-Pick.is, c.as_slice.ensures.value) refl
 
 pub returns-in_ok-span-in-Cut : goal.returns-in_ok-span-in-Cut
 returns-in_ok-span-in-Cut c = λ h v. rw c.in-Cut.is (c.in_ok-span-in-Cut.ensures h v)
+
+pub returns-in-Sample : goal.returns-in-Sample
+returns-in-Sample c = λ h v.
+    let none : has_units c.in-Sample.times.units.items ≡ false = rw c.in-Sample.is at c.requires in
+    let asked = plain_request h.scale c.in-Sample.times.numbers.items c.in-Sample.times.units.items (map string_bytes c.in-Sample.names.items) (paired_lists c.in-Sample.times.numbers c.in-Sample.times.units c.in-Sample.times.paired) none in
+    rw (c.in-Sample.is, c.samples.ensures.times, c.samples.ensures.names, c.as_slice-in-Sample.ensures.value) asked
 
 pub returns-in-Edges : goal.returns-in-Edges
 unfolding request_of

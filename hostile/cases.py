@@ -1,0 +1,54 @@
+"""Small dumps, and a command on each, that between them use every part of the program."""
+
+A = b"$timescale 1ns $end\n$scope module tb $end\n$var wire 1 ! clk $end\n$var reg 4 \" q [3:0] $end\n$upscope $end\n$enddefinitions $end\n"
+B = b"$var wire 4 ! v $end\n$var wire 8 \" w $end\n$enddefinitions $end\n"
+C = b"$var wire 1 ! a $end\n$var real 1 \" r $end\n$var event 1 # e $end\n$var wire 2 % u $end\n$enddefinitions $end\n"
+D = (b"$date\n\tTue Mar  5 10:00:00 2024\n$end\n$version\n\tIcarus Verilog\n$end\n$comment x$end $end\n$timescale\n\t10 ps\n$end\n$scope module top $end\n"
+     b"$var wire 8 ! data [7:0] $end\n$scope begin inner $end\n$var wire 8 ! alias $end\n$var wire 70 ~~ wide $end\n$upscope $end\n$enddefinitions\n$end\n")
+
+ON_A = A + b"#0\n$dumpvars\n0!\nb0 \"\n$end\n#1\nx!\n#2\n1!\n#3\n0!\n#4\n1!\n1!\nb1 \"\n#5\n$dumpoff\nx!\nbx \"\n$end\n"
+ON_B = B + b"#1\nb10 !\nb1 \"\n#2\nbX10 !\n#3\nbZx0 !\n#4\nb0x10 !\n"
+ON_C = C + b"#9\n0!\nr1.5 \"\n1#\n#10\n1!\n1#\n#20\nr2 \"\n#21\n0!\n"
+ON_D = D + b"#7 b1010 ! b" + b"1" * 70 + b" ~~ $comment #8 $end #20 bz ~~ #400 0!"
+BAD = A + b"#0\n0!\n#5\nb10"
+WIDE = B + b"#1\nb1 !\n#2\n?\n"
+
+
+class Case:
+    def __init__(self, name, command, inputs, options=(), names=()):
+        self.name, self.command, self.inputs, self.options, self.names = name, command, list(inputs), list(options), list(names)
+
+    def words(self, files):
+        """The words of the command line; `files` are the names of the inputs."""
+        words = [self.command]
+        if self.command == "merge":
+            return words + files
+        words += ["-i", files[0]]
+        spelled = ["%d%s" % (n, u or "") for n, u in self.options]
+        if self.command == "cut":
+            words += ["--from", spelled[0], "--to", spelled[1]]
+        if self.command == "sample":
+            words += ["--at", ",".join(spelled)]
+        return words + [n.decode() for n in self.names]
+
+
+CASES = [
+    Case("check", "check", [ON_D]),
+    Case("check_cut_off", "check", [BAD]),
+    Case("list", "list", [ON_D]),
+    Case("pick_scope", "pick", [ON_A], names=[b"tb"]),
+    Case("pick_alias", "pick", [ON_D], names=[b"top.inner.alias", b"top.inner.wide"]),
+    Case("pick_nothing", "pick", [ON_A], names=[b"tb", b"tc"]),
+    Case("cut_inside", "cut", [ON_C], options=[(10, None), (15, None)]),
+    Case("cut_behind", "cut", [ON_C], options=[(30, None), (40, None)]),
+    Case("cut_units", "cut", [ON_A], options=[(1500, "ps"), (4, "ns")]),
+    Case("cut_without_scale", "cut", [ON_C], options=[(1, "ns"), (2, "ns")]),
+    Case("sample_times", "sample", [ON_B], options=[(t, None) for t in range(5)]),
+    Case("sample_fault", "sample", [WIDE], options=[(1, None), (2, None)]),
+    Case("sample_units", "sample", [ON_D], options=[(70, "ps"), (4, "ns")], names=[b"top.inner"]),
+    Case("edges", "edges", [ON_A]),
+    Case("edges_names", "edges", [ON_C], names=[b"a", b"e"]),
+    Case("merge_two", "merge", [ON_A, ON_C]),
+    Case("merge_same", "merge", [ON_D, ON_D]),
+    Case("merge_fault", "merge", [ON_B, BAD, WIDE]),
+]

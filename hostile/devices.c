@@ -1,0 +1,71 @@
+// Lets memory, reads and writes of a program fail, or give little: loaded before the C library (LD_PRELOAD). By the environment:
+//   REFUSE=N        request number N for memory is refused
+//   READ_MOST=N     a read gives at most N bytes;   READ_FAILS=N    read number N fails
+//   WRITE_MOST=N    the same of writes to standard output;   WRITE_FAILS=N
+//   ERROR_MOST=N    and of those to the error stream;   ERROR_FAILS=N
+//   COUNTS=FILE     at the end the number of requests for memory and of reads is written to the file
+#define _GNU_SOURCE
+#include <dlfcn.h>
+#include <errno.h>
+#include <fcntl.h>
+#include <stdio.h>
+#include <stdlib.h>
+#include <string.h>
+#include <unistd.h>
+#include <sys/syscall.h>
+
+static long requests, reads, writes, errors;
+
+static long number(const char *name) {
+    const char *text = getenv(name);
+    return text ? atol(text) : 0;
+}
+
+static int refused(void) {
+    return ++requests == number("REFUSE");
+}
+
+void *malloc(size_t size) {
+    static void *(*next)(size_t);
+    if (!next) next = dlsym(RTLD_NEXT, "malloc");
+    return refused() ? NULL : next(size);
+}
+
+void *realloc(void *at, size_t size) {
+    static void *(*next)(void *, size_t);
+    if (!next) next = dlsym(RTLD_NEXT, "realloc");
+    return refused() ? NULL : next(at, size);
+}
+
+static ssize_t limited(long call, long most, long fails, long device, int fd, void *bytes, size_t size) {
+    if (call == fails) {
+        errno = EIO;
+        return -1;
+    }
+    if (most > 0 && size > (size_t)most) size = most;
+    return syscall(device, fd, bytes, size);
+}
+
+ssize_t read(int fd, void *into, size_t size) {
+    return limited(++reads, number("READ_MOST"), number("READ_FAILS"), SYS_read, fd, into, size);
+}
+
+ssize_t write(int fd, const void *from, size_t size) {
+    if (fd == 1) return limited(++writes, number("WRITE_MOST"), number("WRITE_FAILS"), SYS_write, fd, (void *)from, size);
+    if (fd == 2) return limited(++errors, number("ERROR_MOST"), number("ERROR_FAILS"), SYS_write, fd, (void *)from, size);
+    return syscall(SYS_write, fd, from, size);
+}
+
+ssize_t __write(int fd, const void *from, size_t size) {
+    return write(fd, from, size);
+}
+
+__attribute__((destructor)) static void tell(void) {
+    const char *name = getenv("COUNTS");
+    if (!name) return;
+    char text[64];
+    int size = snprintf(text, sizeof text, "%ld %ld\n", requests, reads);
+    int fd = open(name, O_WRONLY | O_CREAT | O_TRUNC, 0600);
+    syscall(SYS_write, fd, text, size);
+    close(fd);
+}

@@ -1,0 +1,154 @@
+#!/usr/bin/env python3
+"""hostile.py PROGRAM DEVICES PART..     PART is memory, devices or cut_off; COMMANDS=check,list takes the cases of these alone
+
+Runs the program where memory is refused, where its devices fail or give little, and on dumps that are cut off after each byte.
+What it writes has to be what the evaluator says. DEVICES is devices.c, built as a shared library."""
+import os, subprocess, sys, tempfile
+from concurrent.futures import ThreadPoolExecutor
+
+import evaluator
+from cases import CASES
+
+LITTLE = [1, 2, 3, 5, 7]
+
+
+class Place:
+    """The program, and a folder with the inputs of the cases."""
+
+    def __init__(self, program, devices, folder):
+        self.program, self.devices, self.folder = program, devices, folder
+
+    def files_of(self, case, inputs, mark=""):
+        files = ["%s%s.%d.vcd" % (case.name, mark, k) for k in range(len(inputs))]
+        for name, text in zip(files, inputs):
+            with open(os.path.join(self.folder, name), "wb") as f:
+                f.write(text)
+        return files
+
+    def run(self, case, files, **how):
+        environment = {name.upper(): str(value) for name, value in how.items()}
+        if environment:
+            environment["LD_PRELOAD"] = self.devices
+        p = subprocess.run([self.program] + case.words(files), capture_output=True, cwd=self.folder, env=environment, timeout=60)
+        return p.stdout, p.stderr, p.returncode
+
+    def counts(self, case, files):
+        """How many requests for memory and how many reads a run makes."""
+        name = os.path.join(self.folder, files[0] + ".counts")
+        self.run(case, files, counts=name)
+        with open(name) as f:
+            return [int(n) for n in f.read().split()]
+
+
+def wanted(case, files, inputs):
+    options = [(n, None if u is None else evaluator.UNITS[u.encode()]) for n, u in case.options]
+    return evaluator.run(case.command, options, case.names, list(zip([f.encode() for f in files], inputs)))
+
+
+def say(case, what, want, got):
+    return "%s, %s\n want %r\n got  %r" % (case.name, what, want, got)
+
+
+# ---- memory
+
+def memory(place, case):
+    """Each request for memory is refused in turn."""
+    files = place.files_of(case, case.inputs)
+    requests, _ = place.counts(case, files)
+    whole = wanted(case, files, case.inputs)
+    for n in range(1, requests + 1):
+        got = place.run(case, files, refuse=n)
+        # A library asks for more than it needs in some places, or to give some back, and goes on where that is refused.
+        if got not in ((b"", b"vcdkit: out of memory\n", 3), whole):
+            yield say(case, "request %d of %d refused" % (n, requests), whole, got)
+    longer = place.files_of(case, [text + b"\n$comment x $end" * 5000 for text in case.inputs], ".longer")
+    if whole[2] == 0 and place.counts(case, longer)[0] != requests:
+        yield say(case, "a longer body", requests, place.counts(case, longer)[0])
+    yield requests + 1
+
+
+# ---- devices
+
+def failed_read(case, files, most, call):
+    """What is wanted of a case with one input where this read fails and each before gave so much. The last read gives nothing."""
+    text = case.inputs[0]
+    if call > -(-len(text) // most) + 1:
+        return wanted(case, files, [text])
+    return wanted(case, files, [evaluator.Failed(text[:(call - 1) * most])])
+
+
+def devices(place, case):
+    files = place.files_of(case, case.inputs)
+    want = wanted(case, files, case.inputs)
+    runs = 0
+    for most in LITTLE:
+        runs += 1
+        got = place.run(case, files, read_most=most, write_most=most, error_most=most)
+        if got != want:
+            yield say(case, "%d bytes a call" % most, want, got)
+        for call in range(1, len(case.inputs[0]) // most + 3) if len(case.inputs) == 1 else []:
+            runs += 1
+            one = failed_read(case, files, most, call)
+            got = place.run(case, files, read_most=most, read_fails=call)
+            if got != one:
+                yield say(case, "read %d of %d bytes each fails" % (call, most), one, got)
+        for call in range(1, len(want[0]) // most + 2):
+            runs += 1
+            out, message, status = place.run(case, files, write_most=most, write_fails=call)
+            whole = call > -(-len(want[0]) // most)
+            line = b"" if whole or want[2] == 3 else b"vcdkit: write failed\n"
+            if not (want[0].startswith(out) and message in (line, want[1] + line) and status == (want[2] if whole else 3)):
+                yield say(case, "write %d of %d bytes each fails" % (call, most), want, (out, message, status))
+        for call in range(1, len(want[1]) // most + 2):
+            runs += 1
+            out, message, status = place.run(case, files, error_most=most, error_fails=call)
+            if not (out == want[0] and want[1].startswith(message) and status == want[2]):
+                yield say(case, "write %d of %d bytes each to the error stream fails" % (call, most), want, (out, message, status))
+    yield runs
+
+
+# ---- dumps that are cut off
+
+def cut_off(place, case):
+    runs = 0
+    for k, text in enumerate(case.inputs):
+        for size in range(len(text) + 1):
+            inputs = case.inputs[:k] + [text[:size]] + case.inputs[k + 1:]
+            files = place.files_of(case, inputs)
+            want = wanted(case, files, inputs)
+            for how in ({}, {"read_most": 1}):
+                runs += 1
+                got = place.run(case, files, **how)
+                if got != want:
+                    yield say(case, "input %d cut off after %d bytes, %r" % (k, size, how), want, got)
+    yield runs
+
+
+PARTS = {"memory": memory, "devices": devices, "cut_off": cut_off}
+
+
+def results(place, part, case):
+    return list(PARTS[part](place, case))
+
+
+def main():
+    program, devices_, parts = os.path.abspath(sys.argv[1]), os.path.abspath(sys.argv[2]), sys.argv[3:]
+    only = os.environ.get("COMMANDS")
+    cases = [c for c in CASES if only is None or c.command in only.split(",")]
+    bad = 0
+    for part in parts:
+        runs = 0
+        with tempfile.TemporaryDirectory() as folder, ThreadPoolExecutor(os.cpu_count()) as pool:
+            place = Place(program, devices_, folder)
+            for found in pool.map(lambda case: results(place, part, case), cases):
+                runs += found[-1]
+                bad += len(found) - 1
+                for text in found[:-1][:3]:
+                    print(text)
+        print("%s: %d runs of %d cases" % (part, runs, len(cases)))
+    print("%d differ" % bad)
+    return 1 if bad else 0
+
+
+if __name__ == "__main__":
+    sys.exit(main())

@@ -1,0 +1,103 @@
+#!/usr/bin/env python3
+"""random_runs.py PROGRAM [--runs N] [--seed S] [--commands a,b]
+
+Runs the program on random dumps, and compares output, message and status with the evaluator's."""
+import argparse, os, random, subprocess, sys, tempfile
+from concurrent.futures import ThreadPoolExecutor
+
+from dumps import Dumps
+import evaluator
+
+COMMANDS = ["check", "list", "pick", "cut", "sample", "edges", "merge"]
+
+
+def asked(d, text):
+    """Names of the dump's own variables and scopes, or some others."""
+    try:
+        paths = [path for _, path, _ in evaluator.read_head(evaluator.Tokens(text, 1_048_576), 100).variables()]
+    except evaluator.Fault:
+        paths = []
+    if not paths or d.r.random() < 0.2:
+        return d.names()
+    chosen = [d.r.choice(paths).split(b".") for _ in range(d.r.choice([0, 1, 1, 2, 3]))]
+    return [b".".join(parts[:d.r.randrange(1, len(parts) + 1)]) for parts in chosen]
+
+
+def word(moment):
+    return "%d%s" % (moment[0], moment[1] or "")
+
+
+def model(moment):
+    return moment[0], None if moment[1] is None else evaluator.UNITS[moment[1].encode()]
+
+
+def case(seed, commands, folder):
+    """Arguments, input, and what the evaluator says; none where the words are refused."""
+    d = Dumps(seed)
+    r = d.r
+    command = r.choice(commands)
+    limit = r.choice([1_048_576, 1_048_576, 1_048_576, 64, 65, 100])
+    arguments, options, names = [], [], []
+    if command == "merge":
+        inputs = [(b"%d_%d.vcd" % (seed, k), d.dump()) for k in range(r.choice([1, 1, 2, 2, 2, 3, 5, 64] if r.random() < 0.1 else [1, 2, 2, 2, 3]))]
+        if r.random() < 0.2:
+            inputs.append(inputs[0])
+        for name, text in inputs:
+            with open(os.path.join(folder, name.decode()), "wb") as f:
+                f.write(text)
+        arguments = [name.decode() for name, _ in inputs]
+    else:
+        inputs = [(b"(stdin)", d.dump())]
+    if command in ("pick", "sample", "edges"):
+        names = asked(d, inputs[0][1]) or ([b"tb"] if command == "pick" else [])
+    if command == "cut":
+        a, b = d.moment(60), d.moment(60)
+        if a[1] is None and b[1] is None:
+            a, b = min(a, b, key=lambda m: m[0]), max(a, b, key=lambda m: m[0])
+        options = [a, b]
+        arguments = ["--from", word(a), "--to", word(b)]
+    if command == "sample":
+        options = [d.moment(60) for _ in range(r.choice([1, 1, 2, 3, 6]))]
+        if all(m[1] is None for m in options):
+            options = [(n, None) for n in sorted({m[0] for m in options})]
+        arguments = ["--at", ",".join(word(m) for m in options)]
+    if command != "merge":
+        arguments += ["--token-limit", str(limit)] + (["--"] + [n.decode("latin-1") for n in names] if names else [])
+    else:
+        arguments = ["--token-limit", str(limit), "--"] + arguments
+    want = evaluator.run(command, [model(m) for m in options], names, inputs, limit)
+    return [command] + arguments, b"" if command == "merge" else inputs[0][1], want
+
+
+def differs(program, folder, commands, seed):
+    arguments, given, want = case(seed, commands, folder)
+    p = subprocess.run([program] + arguments, input=given, capture_output=True, cwd=folder, timeout=60)
+    got = (p.stdout, p.stderr, p.returncode)
+    for name in arguments:
+        if name.endswith(".vcd") and os.path.exists(os.path.join(folder, name)):
+            os.remove(os.path.join(folder, name))
+    if got == want:
+        return None
+    return "seed %d: vcdkit %s\n input %r\n want  %r\n got   %r" % (seed, " ".join(arguments), given, want, got)
+
+
+def main():
+    parser = argparse.ArgumentParser(description=__doc__)
+    parser.add_argument("program")
+    parser.add_argument("--runs", type=int, default=10_000)
+    parser.add_argument("--seed", type=int, default=1)
+    parser.add_argument("--commands", default=",".join(COMMANDS))
+    a = parser.parse_args()
+    program, bad = os.path.abspath(a.program), 0
+    with tempfile.TemporaryDirectory() as folder, ThreadPoolExecutor(os.cpu_count()) as pool:
+        for found in pool.map(lambda s: differs(program, folder, a.commands.split(","), s), range(a.seed, a.seed + a.runs)):
+            if found:
+                bad += 1
+                if bad <= 5:
+                    print(found)
+    print("%d runs, %d differ" % (a.runs, bad))
+    return 1 if bad else 0
+
+
+if __name__ == "__main__":
+    sys.exit(main())
