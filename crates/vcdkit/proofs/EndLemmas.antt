@@ -1,5 +1,5 @@
 -- How a run over its inputs ends, and what it leaves then.
-use Rattle.std.proofs.Common.{◌≡◌, ◌==◌, ℕ, ◌+◌, ◌*◌, ◌/◌, ◌<◌, ◌≤◌, Bool, true, false, ◌++◌, inl, inr, List, [], ◌∷◌, length, map, Option, Some, None, Result, Ok, Err, refl, sym, ap, subst, ◌∙◌, arith}
+use Rattle.std.proofs.Common.{◌≡◌, ◌==◌, ℕ, ◌+◌, ◌*◌, ◌/◌, ◌<◌, ◌≤◌, Bool, true, false, ◌++◌, inl, inr, List, [], ◌∷◌, length, map, Option, Some, None, Result, Ok, Err, refl, sym, ap, subst, ◌∙◌, arith, add-zero}
 use Rattle.std.specs.Prelude.{codes, get_or, slice_set}
 use Rattle.std.proofs.lemmas.List.{set-get_or}
 use Rattle.std.specs.List.{AllByRecursion, AllZip}
@@ -170,7 +170,7 @@ pub merge_ends : {X : Type 0} (n n' limit limit1 limit2 chunk chunk1 chunk2 mark
     → HaveBegun limit1 chunk1 n rest failures texts old mid heads seats chunks tokens
     → ((hs : List Header) → AllZip (λ (head : Head) (h : Header). Views (shown head) h) heads hs → AllByRecursion (λ (h : Header). length h.declarations ≤ marks) hs)
     → ((lanes : List Lane) (names : List (List ℕ)) → AreShown heads lanes → AllByRecursion (λ (h : Header). length h.declarations ≤ marks) (headers_in lanes) → AreParked n' rest lanes seats mid chunks tokens
-        → Follows limit2 chunk2 lanes names (map (supply rest failures) mid) (map (supply rest failures) new) out out' result)
+    → Follows limit2 chunk2 lanes names (map (supply rest failures) mid) (map (supply rest failures) new) out out' result)
     → EndsAll Want.Merge [] limit chunk names texts (map (supply rest failures) old) (map (supply rest failures) new) out out' (merge_end result)
 merge_ends n n' limit limit1 limit2 chunk chunk1 chunk2 marks rest failures names texts old mid new heads seats chunks tokens out out' result e l1 l2 c1 c2 b enough follows =
     let f = supply rest failures in
@@ -208,10 +208,10 @@ parts_of n chunk limit cs ts vs some c l ec et ev = record {
 
 -- a read of the input that the answer names failed, and of no other
 pub counts_merge : (before mid after : List ℕ) (k : ℕ) (result : Result Done Stop) → mid ≡ before → k < length mid → after ≡ failures_with mid k result → NamesInput k result → CountsReads before after (failure_of (merge_end result))
-counts_merge before mid after k (Ok d) same within e named = e ∙ set-get_or mid k 0 ∙ same
-counts_merge before mid after k (Err (Dump input line fault)) same within e named = e ∙ set-get_or mid k 0 ∙ same
+counts_merge before mid after k (Ok d) same within e named = e ∙ ap (slice_set mid k) (add-zero (get_or mid k 0)) ∙ set-get_or mid k 0 ∙ same
+counts_merge before mid after k (Err (Dump input line fault)) same within e named = e ∙ ap (slice_set mid k) (add-zero (get_or mid k 0)) ∙ set-get_or mid k 0 ∙ same
 counts_merge before mid after k (Err (Read input)) same within e named =
     let long = ap length same in
     (omega (arith, named), e ∙ ap (λ l. slice_set l k (get_or l k 0 + 1)) same ∙ ap (λ p. slice_set before p (get_or before p 0 + 1)) (sym named))
-counts_merge before mid after k (Err Write) same within e named = e ∙ set-get_or mid k 0 ∙ same
-counts_merge before mid after k (Err (Unmatched name)) same within e named = e ∙ set-get_or mid k 0 ∙ same
+counts_merge before mid after k (Err Write) same within e named = e ∙ ap (slice_set mid k) (add-zero (get_or mid k 0)) ∙ set-get_or mid k 0 ∙ same
+counts_merge before mid after k (Err (Unmatched name)) same within e named = e ∙ ap (slice_set mid k) (add-zero (get_or mid k 0)) ∙ set-get_or mid k 0 ∙ same

@@ -118,12 +118,13 @@ module _ {X : Type 0} {x : Ghosts X} (most limit chunk : ℕ) (i : Input) (befor
   -- whatever the input is, the seat is a new one, and its feed fits its windows
   pub seated : (seat : Seat) (p : Parked) → Fits p (chunk_len_of feed) (limit_of feed) → p ≡ parked_of feed → HasNotFailed feed → seat.parked ≡ p → seat.regs ≡ record { time = 0; marked = false; section = None } → seat.finished ≡ false
       → IsSeated chunk limit seat × IsNew seat
-  seated seat p fits is on same new unfinished =
-      (record {
-        fits = subst (λ (q : Parked). Fits q chunk limit) (sym same) (subst (λ n. Fits p chunk n) l (subst (λ n. Fits p n (limit_of feed)) size fits));
-        on = subst (λ (q : Parked). parked_answer q ≢ Some (Err halt.ReadFailed)) (sym (same ∙ is)) on;
-      },
-      record { regs_are = new; unfinished = unfinished })
+  seated seat p fits is on same new unfinished = (
+    record {
+      fits = subst (λ (q : Parked). Fits q chunk limit) (sym same) (subst (λ n. Fits p chunk n) l (subst (λ n. Fits p n (limit_of feed)) size fits));
+      on = subst (λ (q : Parked). parked_answer q ≢ Some (Err halt.ReadFailed)) (sym (same ∙ is)) on;
+    },
+    record { regs_are = new; unfinished = unfinished },
+  )
 
   -- ---- a header that ends the run
 

@@ -29,9 +29,11 @@ use Rattle.vcdkit.proofs.HeaderLemmas.{all_read, header_only, header_read, left_
 pub begun_more : (limit chunk : ℕ) (earlier : List Header) (texts : List (List ℕ)) (old new : List Supply) (lanes : List Lane) (text : List ℕ) (s t : Supply) (l : Lane) → AreBegun limit chunk earlier texts old new lanes
     → IsBegun (allowed_after (earlier ++ headers_in lanes)) limit chunk (whole text) l s t → AreBegun limit chunk earlier (texts ++ text ∷ []) (old ++ s ∷ []) (new ++ t ∷ []) (lanes ++ l ∷ [])
 begun_more limit chunk earlier [] [] [] [] text s t l b one = (subst (λ hs. IsBegun (allowed_after hs) limit chunk (whole text) l s t) (append-nil earlier) one, tt)
-begun_more limit chunk earlier (u ∷ texts) (a ∷ old) (c ∷ new) (m ∷ lanes) text s t l b one =
-    (b.0, begun_more limit chunk (earlier ++ m.header ∷ []) texts old new lanes text s t l b.1
-    (subst (λ hs. IsBegun (allowed_after hs) limit chunk (whole text) l s t) (sym (append_assoc earlier (m.header ∷ []) (headers_in lanes))) one))
+begun_more limit chunk earlier (u ∷ texts) (a ∷ old) (c ∷ new) (m ∷ lanes) text s t l b one = (
+  b.0,
+  begun_more limit chunk (earlier ++ m.header ∷ []) texts old new lanes text s t l b.1
+      (subst (λ hs. IsBegun (allowed_after hs) limit chunk (whole text) l s t) (sym (append_assoc earlier (m.header ∷ []) (headers_in lanes))) one),
+)
 begun_more limit chunk earlier texts old new lanes text s t l b one = absurd b
 
 -- or it ended the run, before any behind it was read
@@ -43,8 +45,12 @@ stops_at limit chunk place earlier [] more [] [] behind [] text s t at why b her
     inl (subst (λ n. HasFailed (allowed_after earlier) limit chunk n (whole text) s t why) e (subst (λ hs. HasFailed (allowed_after hs) limit chunk at (whole text) s t why) (append-nil earlier) one), refl, long)
 stops_at limit chunk place earlier (u ∷ texts) more (a ∷ old) (c ∷ new) behind (m ∷ lanes) text s t at why b here long one =
     let e : at ≡ suc place + length texts = omega arith in
-    inr (m, b.0, stops_at limit chunk (suc place) (earlier ++ m.header ∷ []) texts more old new behind lanes text s t at why b.1 e long
-    (subst (λ hs. HasFailed (allowed_after hs) limit chunk at (whole text) s t why) (sym (append_assoc earlier (m.header ∷ []) (headers_in lanes))) one))
+    inr (
+      m,
+      b.0,
+      stops_at limit chunk (suc place) (earlier ++ m.header ∷ []) texts more old new behind lanes text s t at why b.1 e long
+          (subst (λ hs. HasFailed (allowed_after hs) limit chunk at (whole text) s t why) (sym (append_assoc earlier (m.header ∷ []) (headers_in lanes))) one),
+    )
 stops_at limit chunk place earlier texts more old new behind lanes text s t at why b here long one = absurd b
 
 -- ---- how the definitions open an input
@@ -85,9 +91,11 @@ module _ (settled : ℕ → List Token → Bool) (on : (most : ℕ) (ts : List T
       → AreRead settled limit chunk (earlier ++ l.header ∷ []) texts old new inputs → AreRead settled limit chunk earlier (text ∷ texts) (s ∷ old) (t ∷ new) (whole text ∷ inputs)
   header_only_of earlier text texts s t old new inputs l b others =
       let most = allowed_after earlier in
-      let header = header_read most limit chunk (whole text) l s t b (whole text) b.given_first.0 b.given_first.1 in
-      (inl (b.failures, refl), reads_for limit chunk s t (whole text) [] (is_header_over most) (settled most) (on most) (header_only most limit chunk (whole text) l s t b t refl),
-      subst (λ (h : Header). AreRead settled limit chunk (earlier ++ h ∷ []) texts old new inputs) (sym header) others)
+      let header = header_read most limit chunk (whole text) l s t b (whole text) b.given_first.0 b.given_first.1 in (
+        inl (b.failures, refl),
+        reads_for limit chunk s t (whole text) [] (is_header_over most) (settled most) (on most) (header_only most limit chunk (whole text) l s t b t refl),
+        subst (λ (h : Header). AreRead settled limit chunk (earlier ++ h ∷ []) texts old new inputs) (sym header) others,
+      )
 
   -- of all of them
   pub headers_read : (earlier : List Header) (texts : List (List ℕ)) (old new : List Supply) (lanes : List Lane) → AreBegun limit chunk earlier texts old new lanes → AreRead settled limit chunk earlier texts old new (map whole texts)
@@ -172,7 +180,8 @@ merged_read limit chunk earlier (text ∷ texts) (s ∷ old) (t ∷ mid) (u ∷ 
     let is_left = subst (λ (j : Input). IsLeft j t u i) b.0.input_is left.0 in
     let header = header_read most limit chunk (whole text) l s t b.0 i p.rest o.1 in
     let read = all_read most limit chunk (whole text) l s t b.0 (is_settled Want.Merge most) (is_settled_behind Request.Merge l.header) (unsettled_header Want.Merge most) (λ ts e. merge_settled most limit chunk (whole text) l s t ts b.0 ∙ e) u i is_left left.1 in
-    let since = left_since most limit chunk (whole text) l s t b.0 u i is_left in
-    ((since, read, subst (λ (h : Header). AreRead (is_settled Want.Merge) limit chunk (earlier ++ h ∷ []) texts old new lefts) (sym header) others.0),
-    opens limit chunk earlier (whole text) i lefts l s t p.rest b.0 o.1 ∙ ap₂ with_opened (sym o.0) others.1)
+    let since = left_since most limit chunk (whole text) l s t b.0 u i is_left in (
+      (since, read, subst (λ (h : Header). AreRead (is_settled Want.Merge) limit chunk (earlier ++ h ∷ []) texts old new lefts) (sym header) others.0),
+      opens limit chunk earlier (whole text) i lefts l s t p.rest b.0 o.1 ∙ ap₂ with_opened (sym o.0) others.1,
+    )
 merged_read limit chunk earlier texts old mid new lanes lefts opened b left o = absurd b
