@@ -1,5 +1,5 @@
 //! Where each input of a merge stands.
-ghost use Rattle.std.specs.Prelude.{◌≡◌, false};
+ghost use Rattle.std.specs.Prelude.{◌≡◌, None, false};
 
 use vcd_body::Regs;
 use vcd_text::Parked;
@@ -26,6 +26,7 @@ impl Seat {
     pub fn new(parked: Parked) -> Seat
         ensures parked { result.parked ≡ parked }
         ensures open { result.finished ≡ false }
+        ensures regs { result.regs ≡ record { time = 0; marked = false; section = None } }
     {
         Seat {
             parked,

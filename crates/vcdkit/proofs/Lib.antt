@@ -1,6 +1,10 @@
 mod WordsLemmas
 mod MessageLemmas
 mod OutcomeLemmas
+pub mod HeaderLemmas
+pub mod InputsLemmas
+pub mod OpenLemmas
+mod EndLemmas
 mod RunLemmas
 pub mod TimesLemmas
 mod PeriodLemmas

@@ -18,7 +18,7 @@ use Rattle.vcd_model.specs.SoFar.{IsWhole}
 use Rattle.vcd_model.proofs.SoFarLemmas.{whole-more}
 use Rattle.vcdkit.specs.declared.job.Want.{Want}
 use Rattle.vcdkit.specs.declared.job.Want.TheVariants as want
-use Rattle.vcdkit.specs.Job.{model_want, names_asked}
+use Rattle.vcdkit.specs.Job.{is_merge, model_want, names_asked, taskless}
 use Rattle.vcdkit.specs.Times.{times_asked}
 
 -- the header is read
@@ -93,24 +93,35 @@ module _ (wanted : Want) (names : List (List ℕ)) (o : Opened) where
 abbrev IsOfOne : Want → Request → Type 0
 IsOfOne wanted task = (names_of task ≡ names_asked wanted) × ((names : List (List ℕ)) (o : Opened) → over_dumps task names (o ∷ []) ≡ over_dump task (name_at names 0) o)
 
-of_one : (wanted : Want) (scale : Option ℤ) (task : Request) → request_of scale (model_want wanted) ≡ Ok task → IsOfOne wanted task
+of_one : (wanted : Want) (scale : Option ℤ) (task : Request) → is_merge wanted ≡ false → request_of scale (model_want wanted) ≡ Ok task → IsOfOne wanted task
 unfolding request_of
-of_one want.Check scale task e = let same : Request.Check ≡ task = cc in subst (IsOfOne want.Check) same (refl, λ names o. refl)
-of_one want.List scale task e = let same : Request.Listing ≡ task = cc in subst (IsOfOne want.List) same (refl, λ names o. refl)
-of_one (want.Pick asked) scale task e = let same : Request.Pick (map string_bytes asked.items) ≡ task = cc in subst (IsOfOne (want.Pick asked)) same (refl, λ names o. refl)
-of_one (want.Cut period) scale task e =
+of_one want.Check scale task one e = let same : Request.Check ≡ task = cc in subst (IsOfOne want.Check) same (refl, λ names o. refl)
+of_one want.List scale task one e = let same : Request.Listing ≡ task = cc in subst (IsOfOne want.List) same (refl, λ names o. refl)
+of_one (want.Pick asked) scale task one e = let same : Request.Pick (map string_bytes asked.items) ≡ task = cc in subst (IsOfOne (want.Pick asked)) same (refl, λ names o. refl)
+of_one (want.Cut period) scale task one e =
     let from = moment_ticks scale (asked period.from) true in
     let to = moment_ticks scale (asked period.to) false in
     let cut = cut_is (model.has_unit (asked period.from ∷ asked period.to ∷ [])) from to task e in
     subst (IsOfOne (want.Cut period)) (sym cut.2) (refl, λ names o. refl)
-of_one (want.Sample times names) scale task e =
+of_one (want.Sample times names) scale task one e =
     let asked = times_asked times in
     let sample = sample_is (model.has_unit asked) (map (λ m. moment_ticks scale m false) asked) (map string_bytes names.items) task e in
     subst (IsOfOne (want.Sample times names)) (sym sample.1) (refl, λ names o. refl)
-of_one (want.Edges names) scale task e = let same : Request.Edges (map string_bytes names.items) ≡ task = cc in subst (IsOfOne (want.Edges names)) same (refl, λ names o. refl)
+of_one (want.Edges names) scale task one e = let same : Request.Edges (map string_bytes names.items) ≡ task = cc in subst (IsOfOne (want.Edges names)) same (refl, λ names o. refl)
+of_one want.Merge scale task one e = cc
 
-pub names_due : (wanted : Want) (scale : Option ℤ) (task : Request) → request_of scale (model_want wanted) ≡ Ok task → names_of task ≡ names_asked wanted
-names_due wanted scale task e = (of_one wanted scale task e).0
+-- no task over the items of a body is that of a list
+pub listing_due : (wanted : Want) → is_merge wanted ≡ false → taskless wanted ≡ Request.Listing
+listing_due want.Check one = refl
+listing_due want.List one = refl
+listing_due (want.Pick asked) one = refl
+listing_due (want.Cut period) one = refl
+listing_due (want.Sample times names) one = refl
+listing_due (want.Edges names) one = refl
+listing_due want.Merge one = cc
 
-pub over_one : (wanted : Want) (names : List (List ℕ)) (o : Opened) (task : Request) → request_of o.header.scale (model_want wanted) ≡ Ok task → model.over_opened (model_want wanted) names (o ∷ []) ≡ over_dump task (name_at names 0) o
-over_one wanted names o task e = over_request wanted names o task e ∙ (of_one wanted o.header.scale task e).1 names o
+pub names_due : (wanted : Want) (scale : Option ℤ) (task : Request) → is_merge wanted ≡ false → request_of scale (model_want wanted) ≡ Ok task → names_of task ≡ names_asked wanted
+names_due wanted scale task one e = (of_one wanted scale task one e).0
+
+pub over_one : (wanted : Want) (names : List (List ℕ)) (o : Opened) (task : Request) → is_merge wanted ≡ false → request_of o.header.scale (model_want wanted) ≡ Ok task → model.over_opened (model_want wanted) names (o ∷ []) ≡ over_dump task (name_at names 0) o
+over_one wanted names o task one e = over_request wanted names o task e ∙ (of_one wanted o.header.scale task one e).1 names o

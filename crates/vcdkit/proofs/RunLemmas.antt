@@ -14,7 +14,7 @@ use Rattle.vcd_model.proofs.SoFarLemmas.{whole-more}
 use Rattle.vcd_model.specs.Header.{Header, header_of}
 use Rattle.vcd_model.specs.HeaderReading.{header_grammar, read_header, header_fault_of}
 use Rattle.vcd_model.specs.CheckAndList.{list_text}
-use Rattle.vcd_model.specs.Outcome.{Opened, Outcome, Request, ends_early, fault_outcome, declarations_allowed, name_at, names_of, over_dump, program_line}
+use Rattle.vcd_model.specs.Outcome.{Opened, Outcome, Request, ends_early, fault_outcome, declarations_allowed, name_at, names_of, over_dump, unmatched_outcome}
 use Rattle.vcd_model.specs.Reading.{Fault, Placed, phrases_of}
 use Rattle.vcd_model.specs.Tokens.{Token, end_of_tokens, halt_place, stream_of}
 use Rattle.vcd_text.specs.Answer.{whole, failed_after}
@@ -39,11 +39,12 @@ use Rattle.vcdkit.specs.declared.failure.Failure.TheVariants as failure
 use Rattle.vcdkit.specs.declared.failure.Refusal.{Refusal}
 use Rattle.vcdkit.specs.declared.failure.Refusal.TheVariants as refusal
 use Rattle.vcdkit.specs.Failure.{end_of, failure_of, head_failure, model_refusal, CountsRead}
-use Rattle.vcdkit.specs.Job.{model_want, names_asked}
+use Rattle.vcdkit.specs.Job.{is_merge, model_want, names_asked}
 use Rattle.vcdkit.specs.Message.{end_message, end_status, refusal_status, Shows}
-use Rattle.vcdkit.specs.Run.{Ends, HasRun, IsAfter, IsOfJob, IsOutcome, Leaves, settled_for}
-use Rattle.vcdkit.specs.Run.HasRun.{WithOutcome, NoMemory}
-use Rattle.vcdkit.specs.Run.IsOutcome.{Whole, Part}
+use Rattle.vcdkit.specs.Inputs.{HasFailed, IsBegun}
+use Rattle.vcdkit.specs.Run.{Ends, EndsAll, IsAfter, IsOfJob, Leaves, LeavesAll, settled_for}
+use Rattle.vcdkit.proofs.HeaderLemmas.{all_read, left_since, reads_for, settled_header, settled_run, unsettled_header}
+use Rattle.vcd_tools.specs.Seat.{Lane}
 use Rattle.vcdkit.proofs.OutcomeLemmas.{after_header, at_header, names_due, over_none, over_one}
 
 writes-none : (out : Device) → Writes out out []
@@ -117,9 +118,9 @@ EndsAfter wanted limit chunk i front h name old new out out' r =
     (settled_for r (is_settled_by (request_of h.scale (model_want wanted)) h) (λ _. true)) old new out out' r
 
 -- a task, or a list, was done
-pub followed : (wanted : Want) (task : Request) (limit chunk : ℕ) (i : Input) (front : List Token) (h : Header) (name : List ℕ) (before after : Supply) (out out' : Device) (r : Result Done Stop) → request_of h.scale (model_want wanted) ≡ Ok task → Follows task limit chunk i front h name before after out out' r
+pub followed : (wanted : Want) (task : Request) (limit chunk : ℕ) (i : Input) (front : List Token) (h : Header) (name : List ℕ) (before after : Supply) (out out' : Device) (r : Result Done Stop) → is_merge wanted ≡ false → request_of h.scale (model_want wanted) ≡ Ok task → Follows task limit chunk i front h name before after out out' r
     → EndsAfter wanted limit chunk i front h name before after out out' (end_of r 0)
-followed wanted task limit chunk i front h name before after out out' r e f =
+followed wanted task limit chunk i front h name before after out out' r one e f =
     let settled : settled_for (end_of r 0) (is_settled_by (request_of h.scale (model_want wanted)) h) (λ _. true) ≡ is_settled_behind task h =
     settled_placed r (is_settled_by (request_of h.scale (model_want wanted)) h) (λ _. true) ∙ ap (λ q. is_settled_by q h) e in
     let opened : Opened = record { header = h; stream = stream_of limit f.left; rest = f.rest } in
@@ -129,8 +130,8 @@ followed wanted task limit chunk i front h name before after out out' r e f =
       read = subst (ReadsAsNeeded limit chunk before after f.left front) (sym settled) f.read;
       due = over_opened (model_want wanted) (name ∷ []) (opened ∷ []);
       is_due = (f.rest, f.tokens, refl);
-      leaves = leaves-placed task (names_asked wanted) _ name out out' r (names_due wanted h.scale task e)
-          (subst (λ (o : Outcome). Belongs task o name out out' r) (sym (over_one wanted (name ∷ []) opened task e)) f.belongs);
+      leaves = leaves-placed task (names_asked wanted) _ name out out' r (names_due wanted h.scale task one e)
+          (subst (λ (o : Outcome). Belongs task o name out out' r) (sym (over_one wanted (name ∷ []) opened task one e)) f.belongs);
     }
 
 -- an end without output, before anything was read after the header
@@ -178,237 +179,86 @@ no_memory wanted limit chunk i name before out = record {
   leaves = writes-none out;
 }
 
--- a fault of a dump, and a failed read, end a run without output
-dump_leaves : (asked : List (List ℕ)) (name : List ℕ) (n line : ℕ) (out : Device) → (n == 31) ≡ false → Leaves asked (fault_outcome [] name (record { number = n; line = line })) name out out (Err (failure.Stopped (Dump 0 line n)))
-dump_leaves asked name n line out k =
+-- a header that ends a run leaves no output
+dump_leaves : (asked : List (List ℕ)) (name : List ℕ) (input n line : ℕ) (out : Device) → input ≡ 0 → (n == 31) ≡ false → Leaves asked (fault_outcome [] name (record { number = n; line = line })) name out out (Err (failure.Stopped (Dump input line n)))
+dump_leaves asked name input n line out first k =
     let f : Fault = record { number = n; line = line } in
     let e : (fault_outcome [] name f).output ≡ [] = rw (k, fault_outcome) refl in
-    (Request.Pick asked, refl, (refl, ap (λ l. fault_outcome l name f) (sym e), k, subst (λ (l : List ℕ). Writes out out l) (sym e) (writes-none out)))
+    (Request.Pick asked, refl, (first, ap (λ l. fault_outcome l name f) (sym e), k, subst (λ (l : List ℕ). Writes out out l) (sym e) (writes-none out)))
 
-read_leaves : (asked : List (List ℕ)) (name : List ℕ) (line : ℕ) (out : Device) → Leaves asked (fault_outcome [] name (record { number = 31; line = line })) name out out (Err (failure.Stopped (Read 0)))
-read_leaves asked name line out = (Request.Pick asked, refl, (refl, (line, refl), writes-none out))
+read_leaves : (asked : List (List ℕ)) (name : List ℕ) (input line : ℕ) (out : Device) → input ≡ 0 → Leaves asked (fault_outcome [] name (record { number = 31; line = line })) name out out (Err (failure.Stopped (Read input)))
+read_leaves asked name input line out first = (Request.Pick asked, refl, (first, (line, refl), writes-none out))
 
--- a header that goes on settles nothing
-going_run : (wanted : Want) (given : List Token) → IsGoing declarations_allowed given → is_settled (model_want wanted) declarations_allowed given ≡ false
-unfolding is_settled
-going_run wanted given e = rw e refl
-
-going_header : (given : List Token) → IsGoing declarations_allowed given → is_header_over declarations_allowed given ≡ false
-unfolding is_header_over
-going_header given e = rw e refl
-
-going : (wanted : Want) (r : Result Done Failure) (given : List Token) → IsGoing declarations_allowed given → settles wanted r given ≡ false
-going wanted (Ok done) given e = going_run wanted given e
-going wanted (Err (failure.Stopped stop)) given e = going_run wanted given e
-going wanted (Err (failure.Refused why)) given e = going_run wanted given e
-going wanted (Err failure.OutOfMemory) given e = going_header given e
-
-module _ {X : Type 0} {x : Ghosts X} (wanted : Want) (limit chunk : ℕ) (i : Input) (name : List ℕ) (before : Supply) (feed : Feed X x) (line : ℕ) (out : Device) (l : limit_of feed ≡ limit) (size : chunk_len_of feed ≡ chunk) where
-  -- how a run ends with this answer
-  abbrev EndsWith : Failure → Type 0
-  EndsWith why = InputEnds wanted limit chunk i name before (supply_of feed) out out (Err why)
-
-  -- the fault that the header has, at the line
-  abbrev HeaderHas : ℕ → Input → Type 0
-  HeaderHas n left = HasFault declarations_allowed (limit_of feed) left n (token_of feed).line
-
-  placed : (n : ℕ) (left : Input) → line ≡ (token_of feed).line → HeaderHas n left → fault_outcome [] name (record { number = n; line = line }) ≡ outcome (model_want wanted) limit (name ∷ []) (left ∷ [])
-  placed n left k f =
-      sym (at_header (model_want wanted) limit (name ∷ []) left (record { number = n; line = line })
-      (ap (λ m. header_fault_of (stream_of m left) (read_header declarations_allowed (stream_of m left))) (sym l) ∙ f ∙ ap (λ m. Some (record { number = n; line = m })) (sym k)))
-
-  -- the header was read to the token that is shown
-  read_to_token : (r : Result Done Failure) (given : List Token) → HasReadToShown i given feed → IsGoing declarations_allowed given → ReadsAsNeeded limit chunk before (supply_of feed) i [] (settles wanted r)
-  read_to_token r given h e =
-      ToToken given (token_of feed) (subst (λ n. IsPrefixOf (given ++ token_of feed ∷ []) (stream_of n i).tokens) l h.0.given_first) (going wanted r given e)
-      (subst (λ n. Near n (supply_of feed).rest (end_of_tokens i.bytes (length (given ++ token_of feed ∷ []))) i) size h.1)
-
-  -- or to where no token is left
-  read_to_end : (r : Result Done Failure) (left : Input) (given : List Token) → HasGiven left given feed → (stream_of (limit_of feed) left).tokens ≡ given → IsGoing declarations_allowed given → ReadsAsNeeded limit chunk before (supply_of feed) left [] (settles wanted r)
-  read_to_end r left given h all e =
-      ToEnd given (ap (λ n. (stream_of n left).tokens) (sym l) ∙ all) (going wanted r given e)
-      (subst (λ n. IfSome (halt_place limit left) (λ place. Near n (supply_of feed).rest place left)) size
-      (subst (λ n. IfSome (halt_place n left) (λ place. Near (chunk_len_of feed) (supply_of feed).rest place left)) l h.near_halt))
-
-  at_token : (n : ℕ) → (n == 31) ≡ false → (supply_of feed).failures ≡ before.failures → line ≡ (token_of feed).line → FailsAtToken declarations_allowed i n feed → EndsWith (failure.Stopped (Dump 0 line n))
-  at_token n d e k f = record {
-    left = i;
-    is_left = inl (e, refl);
-    read = read_to_token (Err (failure.Stopped (Dump 0 line n))) f.1 f.2 f.3;
-    due = _;
-    is_due = placed n i k f.0;
-    leaves = dump_leaves (names_asked wanted) name n line out d;
-  }
-
-  at_end : (n : ℕ) → (n == 31) ≡ false → (supply_of feed).failures ≡ before.failures → line ≡ (token_of feed).line → FailsAtEnd declarations_allowed i n feed → EndsWith (failure.Stopped (Dump 0 line n))
-  at_end n d e k f = record {
-    left = i;
-    is_left = inl (e, refl);
-    read = read_to_end (Err (failure.Stopped (Dump 0 line n))) i f.2 f.3 f.4 f.5;
-    due = _;
-    is_due = placed n i k f.0;
-    leaves = dump_leaves (names_asked wanted) name n line out d;
-  }
-
-  -- how a run ends whose header is refused
-  head_refused : (fault : HeadFault) → CountsRead 0 before.failures (supply_of feed).failures (Some (head_failure fault 0 line)) → line ≡ (token_of feed).line → Fails declarations_allowed i fault feed → EndsWith (head_failure fault 0 line)
-  head_refused ReadFailed counted k f =
-      let left = failed_after (seen feed) i in
-      record {
-        left = left;
-        is_left = inr (counted.1, seen feed, refl, f.1);
-        read = read_to_end (Err (failure.Stopped (Read 0))) left f.0.2 f.0.3 f.0.4 f.0.5;
-        due = _;
-        is_due = placed 31 left k f.0.0;
-        leaves = read_leaves (names_asked wanted) name line out;
-      }
-  head_refused OutOfMemory counted k f = record {
-    left = i;
-    is_left = inl (counted, refl);
-    read = read_to_token (Err failure.OutOfMemory) f.0 f.1 f.2;
-    due = outcome (model_want wanted) limit (name ∷ []) (i ∷ []);
-    is_due = refl;
-    leaves = writes-none out;
-  }
-  head_refused TokenTooLong counted k f = at_end 1 refl counted k f
-  head_refused EndOfInput counted k f = at_end 2 refl counted k f
-  head_refused UnknownCommand counted k f = at_token 3 refl counted k f
-  head_refused OutOfPlace counted k f = at_token 4 refl counted k f
-  head_refused BadTimescale counted k f = at_token 5 refl counted k f
-  head_refused BadScope counted k f = at_token 6 refl counted k f
-  head_refused BadVariable counted k f = at_token 7 refl counted k f
-  head_refused CodeDiffers counted k f = at_token 8 refl counted k f
-  head_refused NoScope counted k f = at_token 9 refl counted k f
-  head_refused TooDeep counted k f = at_token 10 refl counted k f
-  head_refused TooMany counted k f = at_token 11 refl counted k f
-  head_refused InputTooLong counted k f = at_end 21 refl counted k f
-
--- the same of the failure that was answered
-pub refused : {X : Type 0} {x : Ghosts X} (wanted : Want) (limit chunk : ℕ) (i : Input) (name : List ℕ) (before : Supply) (feed : Feed X x) (out : Device) (why : Failure) → CountsRead 0 before.failures (supply_of feed).failures (Some why) → limit_of feed ≡ limit → chunk_len_of feed ≡ chunk
-    → ((fault : HeadFault) × (why ≡ head_failure fault 0 (token_of feed).line) × Fails declarations_allowed i fault feed)
-    → InputEnds wanted limit chunk i name before (supply_of feed) out out (Err why)
-refused wanted limit chunk i name before feed out why counted l size (fault, is, f) =
-    let line = (token_of feed).line in
-    let same = subst (λ (q : Failure). CountsRead 0 before.failures (supply_of feed).failures (Some q)) is counted in
-    subst (λ (q : Failure). InputEnds wanted limit chunk i name before (supply_of feed) out out (Err q)) (sym is)
-    (head_refused wanted limit chunk i name before feed line out l size fault same refl f)
+pub refused : (wanted : Want) (limit chunk : ℕ) (i : Input) (name : List ℕ) (before after : Supply) (out : Device) (why : Failure) → HasFailed declarations_allowed limit chunk 0 i before after why → InputEnds wanted limit chunk i name before after out out (Err why)
+refused wanted limit chunk i name before after out (failure.Stopped (Dump input line n)) h = record {
+  left = h.left;
+  is_left = h.is_left;
+  read = reads_for limit chunk before after h.left [] (is_header_over declarations_allowed) (is_settled (model_want wanted) declarations_allowed) (unsettled_header (model_want wanted) declarations_allowed) h.read;
+  due = _;
+  is_due = sym (at_header (model_want wanted) limit (name ∷ []) h.left (record { number = n; line = line }) h.is_why.2);
+  leaves = dump_leaves (names_asked wanted) name input n line out h.is_why.0 h.is_why.1;
+}
+refused wanted limit chunk i name before after out (failure.Stopped (Read input)) h = record {
+  left = h.left;
+  is_left = h.is_left;
+  read = reads_for limit chunk before after h.left [] (is_header_over declarations_allowed) (is_settled (model_want wanted) declarations_allowed) (unsettled_header (model_want wanted) declarations_allowed) h.read;
+  due = _;
+  is_due = sym (at_header (model_want wanted) limit (name ∷ []) h.left (record { number = 31; line = h.is_why.1 }) h.is_why.2);
+  leaves = read_leaves (names_asked wanted) name input h.is_why.1 out h.is_why.0;
+}
+refused wanted limit chunk i name before after out (failure.Stopped Write) h = absurd h.is_why
+refused wanted limit chunk i name before after out (failure.Stopped (Unmatched place)) h = absurd h.is_why
+refused wanted limit chunk i name before after out (failure.Refused why) h = absurd h.is_why
+refused wanted limit chunk i name before after out failure.OutOfMemory h = record {
+  left = h.left;
+  is_left = h.is_left;
+  read = h.read;
+  due = outcome (model_want wanted) limit (name ∷ []) (h.left ∷ []);
+  is_due = refl;
+  leaves = writes-none out;
+}
 
 -- ---- behind the header
+
+-- a header that is not over settles nothing
+going : (wanted : Want) (r : Result Done Failure) (ts : List Token) → is_header_over declarations_allowed ts ≡ false → settles wanted r ts ≡ false
+going wanted (Ok done) ts e = unsettled_header (model_want wanted) declarations_allowed ts e
+going wanted (Err (failure.Stopped stop)) ts e = unsettled_header (model_want wanted) declarations_allowed ts e
+going wanted (Err (failure.Refused why)) ts e = unsettled_header (model_want wanted) declarations_allowed ts e
+going wanted (Err failure.OutOfMemory) ts e = e
 
 -- what settles a run behind its header
 abbrev is_settled_in : Want → Header → List Token → Bool
 is_settled_in wanted h = is_settled_by (request_of h.scale (model_want wanted)) h
 
 -- it settles the run
-settled_run : (wanted : Want) (given ts : List Token) (placed : List (Placed HeaderPhrase)) → IsWhole (header_grammar declarations_allowed) given placed → is_settled (model_want wanted) declarations_allowed (given ++ ts) ≡ is_settled_in wanted (header_of (phrases_of placed)) ts
-unfolding is_settled
-settled_run wanted given ts placed w = rw (whole-more (header_grammar declarations_allowed) given placed ts w) refl
-
-settled_header : (given ts : List Token) (placed : List (Placed HeaderPhrase)) → IsWhole (header_grammar declarations_allowed) given placed → is_header_over declarations_allowed (given ++ ts) ≡ true
-unfolding is_header_over
-settled_header given ts placed w = rw (whole-more (header_grammar declarations_allowed) given placed ts w) refl
-
 settled_both : (wanted : Want) (r : Result Done Failure) (given ts : List Token) (placed : List (Placed HeaderPhrase)) → IsWhole (header_grammar declarations_allowed) given placed
     → settles wanted r (given ++ ts) ≡ settled_for r (is_settled_in wanted (header_of (phrases_of placed))) (λ _. true) ts
-settled_both wanted (Ok done) given ts placed w = settled_run wanted given ts placed w
-settled_both wanted (Err (failure.Stopped stop)) given ts placed w = settled_run wanted given ts placed w
-settled_both wanted (Err (failure.Refused why)) given ts placed w = settled_run wanted given ts placed w
-settled_both wanted (Err failure.OutOfMemory) given ts placed w = settled_header given ts placed w
-
-module _ {X : Type 0} {x : Ghosts X} (wanted : Want) (limit chunk : ℕ) (i : Input) (before : Supply) (feed : Feed X x) (s : HeadShown) (r : Result Done Failure) (l : limit_of feed ≡ limit) (size : chunk_len_of feed ≡ chunk) (head : GivesHead declarations_allowed i feed s) where
-  abbrev Behind : List Token → Bool
-  Behind = settled_for r (is_settled_in wanted (header_of (phrases_of head.placed))) (λ _. true)
-
-  unsettled : (ts : List Token) → Behind ts ≡ false → settles wanted r (head.given ++ ts) ≡ false
-  unsettled ts e = settled_both wanted r head.given ts head.placed head.whole ∙ e
-
-  -- nothing was read behind the header
-  header_only : (after : Supply) → after.rest ≡ (supply_of feed).rest → ReadsAsNeeded limit chunk before after i [] (settles wanted r)
-  header_only after same =
-      let first = subst (λ n. IsPrefixOf head.given (stream_of n i).tokens) l head.stands.given_first in
-      let near = subst (λ n. Near n (supply_of feed).rest (end_of_tokens i.bytes (length head.given)) i) size head.near in
-      ToToken head.front head.last (subst (λ ts. IsPrefixOf ts (stream_of limit i).tokens) head.is first) (going wanted r head.front head.going)
-      (subst (λ rest. Near chunk rest (end_of_tokens i.bytes (length (head.front ++ head.last ∷ []))) i) (sym same) (subst (λ ts. Near chunk (supply_of feed).rest (end_of_tokens i.bytes (length ts)) i) head.is near))
-
-  -- or so much
-  all_read : (after : Supply) (left : Input) → IsLeft i (supply_of feed) after left → ReadsAsNeeded limit chunk (supply_of feed) after left head.given Behind → ReadsAsNeeded limit chunk before after left [] (settles wanted r)
-  all_read after left (inl is) (Nothing same) = subst (λ j. ReadsAsNeeded limit chunk before after j [] (settles wanted r)) (sym is.1) (header_only after (ap (λ (s : Supply). s.rest) same))
-  all_read after left (inr is) (Nothing same) = let e = ap (λ (s : Supply). s.failures) same in let f = is.0 in absurd (omega arith)
-  all_read after left is (ToToken asked last first so_far near) = ToToken (head.given ++ asked) last first (unsettled asked so_far) near
-  all_read after left is (ToEnd asked all so_far near) = ToEnd (head.given ++ asked) all (unsettled asked so_far) near
+settled_both wanted (Ok done) given ts placed w = settled_run (model_want wanted) declarations_allowed given ts placed w
+settled_both wanted (Err (failure.Stopped stop)) given ts placed w = settled_run (model_want wanted) declarations_allowed given ts placed w
+settled_both wanted (Err (failure.Refused why)) given ts placed w = settled_run (model_want wanted) declarations_allowed given ts placed w
+settled_both wanted (Err failure.OutOfMemory) given ts placed w = settled_header declarations_allowed given ts placed w
 
 -- how a run ends whose header was read
-pub read_on : {X : Type 0} {x : Ghosts X} (wanted : Want) (limit chunk limit' chunk' : ℕ) (i : Input) (name : List ℕ) (before after : Supply) (out out' : Device) (feed : Feed X x) (s : HeadShown) (end : Result Done Failure) → limit_of feed ≡ limit → chunk_len_of feed ≡ chunk → limit' ≡ limit → chunk' ≡ chunk → (supply_of feed).failures ≡ before.failures
-    → (g : GivesHead declarations_allowed i feed s)
-    → EndsAfter wanted limit' chunk' i g.given (header_of (phrases_of g.placed)) name (supply_of feed) after out out' end
+pub read_on : (wanted : Want) (limit chunk limit' chunk' : ℕ) (i : Input) (l : Lane) (name : List ℕ) (before mid after : Supply) (out out' : Device) (end : Result Done Failure) → limit' ≡ limit → chunk' ≡ chunk → IsBegun declarations_allowed limit chunk i l before mid
+    → EndsAfter wanted limit' chunk' i l.front l.header name mid after out out' end
     → InputEnds wanted limit chunk i name before after out out' end
-read_on wanted limit chunk limit' chunk' i name before after out out' feed s end l size l' size' m g f =
-    let h = header_of (phrases_of g.placed) in
-    let e : EndsAfter wanted limit chunk i g.given h name (supply_of feed) after out out' end =
-    subst (λ (n : ℕ). EndsAfter wanted limit n i g.given h name (supply_of feed) after out out' end) size'
-    (subst (λ (n : ℕ). EndsAfter wanted n chunk' i g.given h name (supply_of feed) after out out' end) l' f) in
+read_on wanted limit chunk limit' chunk' i l name before mid after out out' end l' size' b f =
+    let e : EndsAfter wanted limit chunk i l.front l.header name mid after out out' end =
+    subst (λ (n : ℕ). EndsAfter wanted limit n i l.front l.header name mid after out out' end) size'
+    (subst (λ (n : ℕ). EndsAfter wanted n chunk' i l.front l.header name mid after out out' end) l' f) in
+    let behind = settled_for end (is_settled_in wanted l.header) (λ _. true) in
     record {
       left = e.left;
-      is_left = since e.left m e.is_left;
-      read = all_read wanted limit chunk i before feed s end l size g after e.left e.is_left e.read;
+      is_left = left_since declarations_allowed limit chunk i l before mid b after e.left e.is_left;
+      read = all_read declarations_allowed limit chunk i l before mid b (settles wanted end) behind (going wanted end)
+          (λ ts u. settled_both wanted end l.front ts b.placed b.whole ∙ ap (λ (h : Header). settled_for end (is_settled_in wanted h) (λ _. true) ts) (sym b.header_is) ∙ u) after e.left e.is_left e.read;
       due = e.due;
-      is_due = e.is_due.2 ∙ sym (after_header (model_want wanted) limit (name ∷ []) e.left g.given e.is_due.0 g.placed g.whole e.is_due.1);
+      is_due = e.is_due.2
+          ∙ ap (λ (h : Header). over_opened (model_want wanted) (name ∷ []) (record { header = h; stream = stream_of limit e.left; rest = e.is_due.0 } ∷ [])) b.header_is
+          ∙ sym (after_header (model_want wanted) limit (name ∷ []) e.left l.front e.is_due.0 b.placed b.whole e.is_due.1);
       leaves = e.leaves;
     }
-  where
-    since : (left : Input) → (supply_of feed).failures ≡ before.failures → IsLeft i (supply_of feed) after left → IsLeft i before after left
-    since left e (inl is) = inl (is.0 ∙ e, is.1)
-    since left e (inr is) = inr (is.0 ∙ ap (λ n. n + 1) e, is.1, is.2, is.3)
-
--- ---- what is said
-
--- what a run that ends so has left and said
-abbrev Said : Outcome → (out out' err err' : Device) → ℕ → Result Done Failure → Type 0
-Said o out out' err err' status (Ok done) = IsOutcome o out out' err err' status
-Said o out out' err err' status (Err (failure.Stopped stop)) = IsOutcome o out out' err err' status
-Said o out out' err err' status (Err (failure.Refused why)) = IsOutcome o out out' err err' status
-Said o out out' err err' status (Err failure.OutOfMemory) = Writes out out' [] × Shows err err' (program_line (codes "out of memory")) × (status ≡ 3)
-
--- the status of times that are refused, and that they leave no output
-refused_status : (name : List ℕ) (why : Refusal) → (refusal_outcome name (model_refusal why)).status ≡ refusal_status why
-refused_status name refusal.NoTimescale = refl
-refused_status name refusal.OutOfRange = refl
-refused_status name refusal.FromAboveTo = refl
-refused_status name refusal.NotRising = refl
-
-refused_output : (name : List ℕ) (why : Refusal) → (refusal_outcome name (model_refusal why)).output ≡ []
-refused_output name refusal.NoTimescale = refl
-refused_output name refusal.OutOfRange = refl
-refused_output name refusal.FromAboveTo = refl
-refused_output name refusal.NotRising = refl
-
--- the line and the status belong to what a run leaves
-leaves_outcome : (asked : List (List ℕ)) (o : Outcome) (name : List ℕ) (out out' err err' : Device) (status : ℕ) (r : Result Done Failure) → Leaves asked o name out out' r → status ≡ end_status (failure_of r)
-    → Shows err err' (end_message (name ∷ []) asked (failure_of r)) → Said o out out' err err' status r
-leaves_outcome asked o name out out' err err' status (Ok u) e k s = Whole e.1 (subst (λ (l : List ℕ). Shows err err' l) (sym (ap (λ (o : Outcome). o.message) e.0)) s) (k ∙ sym (ap (λ (o : Outcome). o.status) e.0))
-leaves_outcome asked o name out out' err err' status (Err (failure.Stopped (Dump input line fault))) (task, same, e) k s =
-    let f : Fault = record { number = fault; line = line } in
-    let first = e.0 in
-    let message : o.message ≡ end_message (name ∷ []) asked (Some (failure.Stopped (Dump input line fault))) = ap (λ (o : Outcome). o.message) e.1 ∙ rw (e.2, fault_outcome, first) refl in
-    let is : o.status ≡ 1 = ap (λ (o : Outcome). o.status) e.1 ∙ rw (e.2, fault_outcome) refl in
-    Whole e.3 (subst (λ (l : List ℕ). Shows err err' l) (sym message) s) (k ∙ sym is)
-leaves_outcome asked o name out out' err err' status (Err (failure.Stopped (Read input))) (task, same, e) k s =
-    let first = e.0 in
-    let message : o.message ≡ end_message (name ∷ []) asked (Some (failure.Stopped (Read input))) = ap (λ (o : Outcome). o.message) e.1.1 ∙ rw first refl in
-    Whole e.2 (subst (λ (l : List ℕ). Shows err err' l) (sym message) s) (k ∙ sym (ap (λ (o : Outcome). o.status) e.1.1))
-leaves_outcome asked o name out out' err err' status (Err (failure.Stopped Write)) (task, same, e) k s = Part e s k
-leaves_outcome asked o name out out' err err' status (Err (failure.Stopped (Unmatched place))) (task, same, e) k s =
-    let message : o.message ≡ end_message (name ∷ []) asked (Some (failure.Stopped (Unmatched place))) = ap (λ (o : Outcome). o.message) e.0 ∙ ap (λ names. program_line (name_at names place ++ codes ": selects nothing")) same in
-    Whole e.1 (subst (λ (l : List ℕ). Shows err err' l) (sym message) s) (k ∙ sym (ap (λ (o : Outcome). o.status) e.0))
-leaves_outcome asked o name out out' err err' status (Err (failure.Refused why)) (is, none) k s =
-    let output : o.output ≡ [] = ap (λ (o : Outcome). o.output) is ∙ refused_output name why in
-    Whole (subst (λ (l : List ℕ). Writes out out' l) (sym output) none) (subst (λ (l : List ℕ). Shows err err' l) (sym (ap (λ (o : Outcome). o.message) is)) s)
-    (k ∙ sym (ap (λ (o : Outcome). o.status) is ∙ refused_status name why))
-leaves_outcome asked o name out out' err err' status (Err failure.OutOfMemory) e k s = (e, s, k)
-
--- nothing is said
-pub shows_nothing : (err : Device) → Shows err err []
-shows_nothing err = inl (writes-none err)
 
 -- ---- one reader
 
@@ -422,37 +272,46 @@ set_one [] x h = absurd (omega arith)
 set_one (x ∷ []) y h = refl
 set_one (x ∷ z ∷ xs) y h = absurd (omega arith)
 
--- what a run leaves over its readers
-abbrev pub RunLeaves : {X : Type 0} → (X → Option (List ℕ)) → (X → ℕ) → List X → List X → Want → (limit chunk : ℕ) → List (List ℕ) → List (List ℕ) → Device → Device → Device → Device → ℕ → Type 0
-RunLeaves rest failures readers readers' wanted limit chunk names texts out out' err err' status =
-    HasRun (model_want wanted) limit chunk names texts (map (supply rest failures) readers) (map (supply rest failures) readers') out out' err err' status
+-- what a run leaves, which has one name
+leaves_one : (asked : List (List ℕ)) (o : Outcome) (name : List ℕ) (out out' : Device) (r : Result Done Failure) → Leaves asked o name out out' r → LeavesAll (name ∷ []) asked o out out' r
+leaves_one asked o name out out' (Ok done) e = e
+leaves_one asked o name out out' (Err (failure.Stopped (Dump input line fault))) (task, same, e) =
+    let named : name ≡ name_at (name ∷ []) input = ap (name_at (name ∷ [])) (sym e.0) in
+    (e.1 ∙ ap (λ n. fault_outcome o.output n (record { number = fault; line = line })) named, e.2, e.3)
+leaves_one asked o name out out' (Err (failure.Stopped (Read input))) (task, same, e) =
+    let named : name ≡ name_at (name ∷ []) input = ap (name_at (name ∷ [])) (sym e.0) in
+    ((e.1.0, e.1.1 ∙ ap (λ n. fault_outcome o.output n (record { number = 31; line = e.1.0 })) named), e.2)
+leaves_one asked o name out out' (Err (failure.Stopped Write)) (task, same, e) = e
+leaves_one asked o name out out' (Err (failure.Stopped (Unmatched place))) (task, same, e) = (e.0 ∙ ap (λ names. unmatched_outcome (name_at names place)) same, e.1)
+leaves_one asked o name out out' (Err (failure.Refused why)) e = e
+leaves_one asked o name out out' (Err failure.OutOfMemory) e = e
 
-module _ {X : Type 0} (rest : X → Option (List ℕ)) (failures : X → ℕ) (r r' : X) (wanted : Want) (limit chunk : ℕ) (name : List ℕ) (out out' err err' : Device) (status : ℕ) where
-  -- by how it ended
-  has_run : (text : List ℕ) (end : Result Done Failure) → (g : InputEnds wanted limit chunk (whole text) name (supply rest failures r) (supply rest failures r') out out' end) → Said g.due out out' err err' status end
-      → RunLeaves rest failures (r ∷ []) (r' ∷ []) wanted limit chunk (name ∷ []) (text ∷ []) out out' err err' status
-  has_run text (Ok done) g said = WithOutcome (g.left ∷ []) (g.is_left, g.read, refl) (subst (λ (o : Outcome). IsOutcome o out out' err err' status) g.is_due said)
-  has_run text (Err (failure.Refused why)) g said = WithOutcome (g.left ∷ []) (g.is_left, g.read, refl) (subst (λ (o : Outcome). IsOutcome o out out' err err' status) g.is_due said)
-  has_run text (Err (failure.Stopped stop)) g said = WithOutcome (g.left ∷ []) (g.is_left, g.read, refl) (subst (λ (o : Outcome). IsOutcome o out out' err err' status) g.is_due said)
-  has_run text (Err failure.OutOfMemory) g said = NoMemory (g.left ∷ []) (g.is_left, g.read, refl) said.0 said.1 said.2
+-- how a run over readers ends
+abbrev pub ReadersEnd : {X : Type 0} → (X → Option (List ℕ)) → (X → ℕ) → List X → List X → Want → (limit chunk : ℕ) → List (List ℕ) → List (List ℕ) → Device → Device → Result Done Failure → Type 0
+ReadersEnd rest failures readers readers' wanted limit chunk names texts out out' end =
+    EndsAll (model_want wanted) (names_asked wanted) limit chunk names texts (map (supply rest failures) readers) (map (supply rest failures) readers') out out' end
 
-  module _ (end : Result Done Failure) where
-    abbrev ReaderEnds : Type 0
-    ReaderEnds = (text name : List ℕ) → rest r ≡ Some text → InputEnds wanted limit chunk (whole text) name (supply rest failures r) (supply rest failures r') out out' end
+module _ {X : Type 0} (rest : X → Option (List ℕ)) (failures : X → ℕ) (r r' : X) (wanted : Want) (limit chunk : ℕ) (out out' : Device) (end : Result Done Failure) where
+  abbrev pub OneEnds : Type 0
+  OneEnds = (text name : List ℕ) → rest r ≡ Some text → InputEnds wanted limit chunk (whole text) name (supply rest failures r) (supply rest failures r') out out' end
 
-    abbrev Says : List (List ℕ) → Type 0
-    Says names = Shows err err' (end_message names (names_asked wanted) (failure_of end))
+  one_ends : (name : List ℕ) (texts : List (List ℕ)) → OneEnds → map rest (r ∷ []) ≡ map (λ text. Some text) texts → ReadersEnd rest failures (r ∷ []) (r' ∷ []) wanted limit chunk (name ∷ []) texts out out' end
+  one_ends name [] c h = cc
+  one_ends name (t ∷ []) c h =
+      let g = c t name (cc) in
+      let same : g.due ≡ outcome (model_want wanted) limit (name ∷ []) (g.left ∷ []) = g.is_due in
+      record {
+        lefts = g.left ∷ [];
+        read = (g.is_left, g.read, refl);
+        leaves = subst (λ (o : Outcome). LeavesAll (name ∷ []) (names_asked wanted) o out out' end) same (leaves_one (names_asked wanted) g.due name out out' end g.leaves);
+      }
+  one_ends name (t ∷ u ∷ texts) c h = cc
 
-    one_run : (texts : List (List ℕ)) → ReaderEnds → status ≡ end_status (failure_of end) → Says (name ∷ []) → map rest (r ∷ []) ≡ map (λ text. Some text) texts
-        → RunLeaves rest failures (r ∷ []) (r' ∷ []) wanted limit chunk (name ∷ []) texts out out' err err' status
-    one_run [] c k s h = cc
-    one_run (t ∷ []) c k s h = let g = c t name (cc) in has_run t end g (leaves_outcome (names_asked wanted) g.due name out out' err err' status end g.leaves k s)
-    one_run (t ∷ u ∷ texts) c k s h = cc
-
-    pub run_leaves : (readers readers' : List X) (names texts : List (List ℕ)) → readers ≡ r ∷ [] → readers' ≡ r' ∷ [] → names ≡ name ∷ [] → ReaderEnds → status ≡ end_status (failure_of end)
-        → Says names → map rest readers ≡ map (λ text. Some text) texts → RunLeaves rest failures readers readers' wanted limit chunk names texts out out' err err' status
-    run_leaves readers readers' names texts e f n c k s h =
-        subst (λ (l : List X). RunLeaves rest failures l readers' wanted limit chunk names texts out out' err err' status) (sym e)
-        (subst (λ (l : List X). RunLeaves rest failures (r ∷ []) l wanted limit chunk names texts out out' err err' status) (sym f)
-        (subst (λ (l : List (List ℕ)). RunLeaves rest failures (r ∷ []) (r' ∷ []) wanted limit chunk l texts out out' err err' status) (sym n)
-        (one_run texts c k (subst (λ (l : List (List ℕ)). Says l) n s) (ap (map rest) (sym e) ∙ h))))
+  pub readers_end : (readers readers' : List X) (names texts : List (List ℕ)) → readers ≡ r ∷ [] → readers' ≡ r' ∷ [] → length names ≡ 1 → OneEnds → map rest readers ≡ map (λ text. Some text) texts
+      → ReadersEnd rest failures readers readers' wanted limit chunk names texts out out' end
+  readers_end readers readers' names texts e f n c h =
+      let name = get_or names 0 [] in
+      subst (λ (l : List X). ReadersEnd rest failures l readers' wanted limit chunk names texts out out' end) (sym e)
+      (subst (λ (l : List X). ReadersEnd rest failures (r ∷ []) l wanted limit chunk names texts out out' end) (sym f)
+      (subst (λ (l : List (List ℕ)). ReadersEnd rest failures (r ∷ []) (r' ∷ []) wanted limit chunk l texts out out' end) (sym (one_of names [] n))
+      (one_ends name texts c (ap (map rest) (sym e) ∙ h))))

@@ -43,6 +43,11 @@ abbrev pub end_of : Result Done Stop → ℕ → Result Done Failure
 end_of (Ok done) input = Ok done
 end_of (Err stop) input = Err (stop_failure stop input)
 
+-- the end of a run whose merge returned this
+abbrev pub merge_end : Result Done Stop → Result Done Failure
+merge_end (Ok done) = Ok done
+merge_end (Err stop) = Err (Stopped stop)
+
 -- why a call failed, if it did
 abbrev pub failure_of : {A : Type 0} → Result A Failure → Option Failure
 failure_of (Ok done) = None

@@ -1,5 +1,5 @@
 -- What is done, among all that can be asked for.
-use Rattle.std.specs.Prelude.{◌≡◌, ℕ, false, List, [], map, string_bytes, Option, Some, None, Result, Ok, Err}
+use Rattle.std.specs.Prelude.{◌≡◌, ℕ, Bool, true, false, List, [], map, string_bytes, Option, Some, None, Result, Ok, Err}
 use Rattle.vcd_model.specs.Job as model
 use Rattle.vcd_model.specs.Outcome.{Request}
 use Rattle.vcd_head.specs.Moments.{asked}
@@ -20,6 +20,17 @@ model_want (want.Pick names) = model.Want.Pick (map string_bytes names.items)
 model_want (want.Cut period) = model.Want.Cut (asked period.from) (asked period.to)
 model_want (want.Sample times names) = model.Want.Sample (times_asked times) (map string_bytes names.items)
 model_want (want.Edges names) = model.Want.Edges (map string_bytes names.items)
+model_want want.Merge = model.Want.Merge
+
+-- it may have several inputs
+abbrev pub is_merge : Want → Bool
+is_merge want.Merge = true
+is_merge want = false
+
+-- the request where there is no task over the items of one body
+abbrev pub taskless : Want → Request
+taskless want.Merge = Request.Merge
+taskless want = Request.Listing
 
 -- its times are ticks, save those of a cut
 abbrev pub HasTicks : Want → Type 0
@@ -29,12 +40,13 @@ HasTicks (want.Pick names) = Unit {0}
 HasTicks (want.Cut period) = Unit {0}
 HasTicks (want.Sample times names) = has_units times.units.items ≡ false
 HasTicks (want.Edges names) = Unit {0}
+HasTicks want.Merge = Unit {0}
 
--- the request of a task over items, or of a list, which is none; or why it is refused
-abbrev pub task_request : Result (Option Task) Refusal → Result Request model.Refusal
-task_request (Ok (Some task)) = Ok (request_of task)
-task_request (Ok None) = Ok Request.Listing
-task_request (Err why) = Err (model_refusal why)
+-- the request of a task over items; of what is none; or why it is refused
+abbrev pub task_request : Want → Result (Option Task) Refusal → Result Request model.Refusal
+task_request want (Ok (Some task)) = Ok (request_of task)
+task_request want (Ok None) = Ok (taskless want)
+task_request want (Err why) = Err (model_refusal why)
 
 -- the names that have to select something
 abbrev pub names_asked : Want → List (List ℕ)
@@ -44,3 +56,4 @@ names_asked (want.Pick names) = map string_bytes names.items
 names_asked (want.Cut period) = []
 names_asked (want.Sample times names) = map string_bytes names.items
 names_asked (want.Edges names) = map string_bytes names.items
+names_asked want.Merge = []

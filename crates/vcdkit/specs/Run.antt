@@ -1,10 +1,10 @@
 -- What a run leaves.
-use Rattle.std.specs.Prelude.{◌≡◌, ℕ, Bool, List, [], ◌∷◌, ◌++◌, codes, Result, Ok, Err}
+use Rattle.std.specs.Prelude.{◌≡◌, ◌==◌, false, ℕ, Bool, List, [], ◌∷◌, ◌++◌, codes, Result, Ok, Err}
 use Rattle.vcd_model.specs.Input.{Input}
 use Rattle.vcd_model.specs.Job as model
 use Rattle.vcd_model.specs.Header.{Header, header_of}
 use Rattle.vcd_model.specs.HeaderReading.{read_header}
-use Rattle.vcd_model.specs.Outcome.{Outcome, Request, allowed_after, clean_outcome, names_of, program_line}
+use Rattle.vcd_model.specs.Outcome.{Outcome, Request, allowed_after, clean_outcome, fault_outcome, name_at, names_of, program_line, unmatched_outcome}
 use Rattle.vcd_model.specs.Reading.{phrases_of}
 use Rattle.vcd_model.specs.Settled.{is_header_over, is_settled}
 use Rattle.vcd_model.specs.Tokens.{Token, stream_of}
@@ -13,6 +13,7 @@ use Rattle.vcd_text.specs.Device.{Device, Supply, Writes, WritesSome}
 use Rattle.vcd_text.specs.ReadAhead.{ReadsAsNeeded}
 use Rattle.vcd_tools.specs.Run.{Belongs, IsLeft}
 use Rattle.vcd_tools.specs.declared.answer.Done.{Done}
+use Rattle.vcd_tools.specs.declared.answer.Stop.TheVariants.{Dump, Read, Write, Unmatched}
 use Rattle.vcdkit.specs.declared.failure.Failure.{Failure}
 use Rattle.vcdkit.specs.declared.failure.Failure.TheVariants.{Stopped, Refused, OutOfMemory}
 use Rattle.vcdkit.specs.Failure.{model_refusal}
@@ -68,6 +69,24 @@ AreRead settled limit chunk earlier (text ∷ texts) (s ∷ old) (t ∷ new) [] 
 AreRead settled limit chunk earlier (text ∷ texts) (s ∷ old) (t ∷ new) (i ∷ inputs) =
     IsLeft (whole text) s t i × ReadsAsNeeded limit chunk s t i [] (settled (allowed_after earlier))
     × AreRead settled limit chunk (earlier ++ header_behind earlier limit i ∷ []) texts old new inputs
+
+-- ---- the end of a run
+
+-- The output of a run of inputs with these names, which was asked for those, that returns this and has this outcome. A failed write leaves a prefix of it; out of memory it leaves nothing.
+abbrev pub LeavesAll : (names asked : List (List ℕ)) → Outcome → Device → Device → Result Done Failure → Type 0
+LeavesAll names asked o out out' (Ok done) = (o ≡ clean_outcome o.output) × Writes out out' o.output
+LeavesAll names asked o out out' (Err (Stopped (Dump input line fault))) = (o ≡ fault_outcome o.output (name_at names input) (record { number = fault; line = line })) × ((fault == 31) ≡ false) × Writes out out' o.output
+LeavesAll names asked o out out' (Err (Stopped (Read input))) = ((line : ℕ) × (o ≡ fault_outcome o.output (name_at names input) (record { number = 31; line = line }))) × Writes out out' o.output
+LeavesAll names asked o out out' (Err (Stopped Write)) = WritesSome out out' o.output
+LeavesAll names asked o out out' (Err (Stopped (Unmatched place))) = (o ≡ unmatched_outcome (name_at asked place)) × Writes out out' o.output
+LeavesAll names asked o out out' (Err (Refused why)) = (o ≡ model.refusal_outcome (name_at names 0) (model_refusal why)) × Writes out out' []
+LeavesAll names asked o out out' (Err OutOfMemory) = Writes out out' []
+
+-- how a run over readers with these texts ends: with the outcome of what is left of them, and no more was read of each than what settles it
+pub record EndsAll (want : model.Want) (asked : List (List ℕ)) (limit chunk : ℕ) (names texts : List (List ℕ)) (old new : List Supply) (out out' : Device) (result : Result Done Failure) : Type 0 where
+  pub lefts : List Input
+  pub read : AreRead (λ most. settled_for result (is_settled want most) (is_header_over most)) limit chunk [] texts old new lefts
+  pub leaves : LeavesAll names asked (model.outcome want limit names lefts) out out' result
 
 -- a run leaves this outcome on its output, on the error stream and in its status, as far as its devices let it
 pub data IsOutcome (o : Outcome) (out out' err err' : Device) (status : ℕ) : Type 0 where

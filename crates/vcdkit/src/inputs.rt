@@ -1,59 +1,72 @@
 //! The inputs of a job: the memory of their windows, and their headers.
-ghost use Rattle.std.specs.Prelude.{◌≡◌, ◌-◌, ◌^◌, ◌<◌, [], IfOk, MatchResult, OnOk, vec_len};
+ghost use Rattle.std.specs.Prelude.{◌≡◌, ◌≢◌, ◌*◌, ◌-◌, ◌^◌, ◌<◌, ◌≤◌, ℕ, List, [], All, IfOk, MatchResult, OnOk, Some, map, length, slice_get, slice_set, vec_len};
+ghost use Rattle.std.specs.List.{AllByRecursion, AllZip};
+ghost use Rattle.vcd_model.specs.Header.{Header};
 ghost use Rattle.vcd_model.specs.Input.{Input};
-ghost use Rattle.vcd_model.specs.Outcome.{declarations_allowed};
+ghost use Rattle.vcd_text.specs.Answer.{whole};
+ghost use Rattle.vcd_text.specs.Device.{supply};
 ghost use Rattle.vcd_text.specs.Feed.{HasGiven, SameLoans, source_of, limit_of, chunk_len_of, token_of};
 ghost use Rattle.vcd_head.specs.Reads.{Fails, GivesHead};
 ghost use Rattle.vcd_head.specs.Shown.{shown};
+ghost use Rattle.vcd_head.specs.Views.{Views};
 ghost use Rattle.vcd_text.specs.Advances.{HasNotFailed};
 ghost use Rattle.vcd_head.specs.declared.fault.HeadFault.{HeadFault};
-ghost use Rattle.vcdkit.specs.Failure.{failure_of, head_failure, writes_failed, CountsRead};
+ghost use Rattle.vcd_tools.specs.MergeParts.{AreParts, SameLengths, part, part_len};
+ghost use Rattle.vcd_tools.specs.Seat.{IsSeated};
+ghost use Rattle.vcdkit.specs.Failure.{failure_of, head_failure, writes_failed, CountsRead, CountsReads};
+ghost use Rattle.vcdkit.specs.Inputs.{Begins, BeginsAt, HasFailed, HaveBegun, IsNew, SameParts, Stops};
 
 use crate::failure::Failure;
 use crate::job::Job;
 use std::alloc::{AllocError, Global};
 use vcd_head::{Head, read_head};
 use vcd_text::{Feed, Source};
+use vcd_tools::{Seat, Windows};
 
 /// How many declarations all inputs of a run may have.
-const MOST_DECLARATIONS: u64 = 16_777_216;
+pub(crate) const MOST_DECLARATIONS: u64 = 16_777_216;
 
-/// What the windows of an input are made of.
+/// What the windows of all inputs are made of, each in as many equal parts as there are inputs.
 #[derive(Drop)]
-pub(crate) struct Windows {
+pub(crate) struct Memory {
     /// What is read at once.
-    pub chunk: Vec<u8>,
+    pub chunks: Vec<u8>,
     /// Where a token is gathered.
-    pub token: Vec<u8>,
+    pub tokens: Vec<u8>,
     /// Where a value is kept.
-    pub value: Vec<u8>,
+    pub values: Vec<u8>,
 }
 
-/// The windows of an input under the job's limits.
-pub(crate) fn windows_for(alloc: Global, job: &Job) -> Result<Windows, AllocError>
-    ensures { IfOk result (λ windows. (vec_len windows.chunk ≡ job.now.chunk)
-        × (vec_len windows.token ≡ job.now.limit) × (vec_len windows.value ≡ job.now.limit)) }
+/// The windows of so many inputs under the job's limits.
+pub(crate) fn windows_for(alloc: Global, job: &Job, inputs: usize) -> Result<Memory, AllocError>
+    requires { inputs ≤ 64 }
+    ensures { IfOk result (λ memory. (vec_len memory.chunks ≡ inputs * job.now.chunk)
+        × (vec_len memory.tokens ≡ inputs * job.now.limit)
+        × (vec_len memory.values ≡ inputs * job.now.limit)) }
 {
-    Ok(Windows {
-        chunk: vec![in alloc; 0u8; job.chunk]?,
-        token: vec![in alloc; 0u8; job.limit]?,
-        value: vec![in alloc; 0u8; job.limit]?,
+    Ok(Memory {
+        chunks: vec![in alloc; 0u8; inputs * job.chunk]?,
+        tokens: vec![in alloc; 0u8; inputs * job.limit]?,
+        values: vec![in alloc; 0u8; inputs * job.limit]?,
     })
 }
 
-/// Reads the header of the input at this place among all, of whose feed nothing was given.
+/// Reads the header of the input at this place among all, of whose feed nothing was given, with at most `most` declarations
+/// (at most 16,777,216).
 pub(crate) fn open_input<S: Source>(
     alloc: Global,
     input: usize,
     feed: &mut Feed<'_, '_, '_, '_, S>,
+    most: u64,
 ) -> Result<Head, Failure>
     requires failures { S.failures (source_of feed.old) < 2 ^ 64 - 1 }
     requires open { HasNotFailed feed.old }
+    requires most { most ≤ 16777216 }
     ensures reads { (i : Input) → HasGiven i [] feed.old → MatchResult result
-        (λ head. GivesHead declarations_allowed i feed.new (shown head))
+        (λ head. GivesHead most i feed.new (shown head))
         (λ failure. (fault : HeadFault)
         × (failure ≡ head_failure fault input (token_of feed.new).line)
-        × Fails declarations_allowed i fault feed.new) }
+        × Fails most i fault feed.new) }
     ensures failures { CountsRead input (S.failures (source_of feed.old))
         (S.failures (source_of feed.new))
         (failure_of result) }
@@ -63,8 +76,167 @@ pub(crate) fn open_input<S: Source>(
         × (chunk_len_of feed.new ≡ chunk_len_of feed.old) }
     ensures loans { SameLoans feed.old feed.new }
 {
-    match read_head(alloc, feed, MOST_DECLARATIONS) {
+    match read_head(alloc, feed, most) {
         Ok(head) => Ok(head),
         Err(fault) => Err(Failure::of_head(fault, input, feed.line())),
     }
+}
+
+/// An input whose header was read.
+#[derive(Drop)]
+pub(crate) struct Begun {
+    pub head: Head,
+    /// Where its feed stands.
+    pub seat: Seat,
+}
+
+/// Reads the header of the input at this place among all, with at most `most` declarations (at most 16,777,216), over its reader
+/// and its parts of the windows alone, and parks its feed.
+fn begin<S: Source>(
+    alloc: Global,
+    input: usize,
+    reader: &mut S,
+    chunk: &mut [u8],
+    token: &mut [u8],
+    value: &mut [u8],
+    most: u64,
+) -> Result<Begun, Failure>
+    requires failures { S.failures reader.old < 2 ^ 64 - 1 }
+    requires chunk_some { 0 < length chunk.old }
+    requires token_some { 0 < length token.old }
+    requires same_limit { length value.old ≡ length token.old }
+    requires most { most ≤ 16777216 }
+    ensures begins { (text : List ℕ) → S.rest reader.old ≡ Some text → MatchResult result
+        (λ begun. Begins most (length token.old) (length chunk.old) (whole text) begun.head
+        begun.seat chunk.new token.new
+        (supply S.rest S.failures reader.old) (supply S.rest S.failures reader.new))
+        (HasFailed most (length token.old) (length chunk.old) input (whole text)
+        (supply S.rest S.failures reader.old) (supply S.rest S.failures reader.new)) }
+    ensures reads { CountsRead input (S.failures reader.old) (S.failures reader.new)
+        (failure_of result) }
+    ensures no_write { writes_failed (failure_of result) ≡ 0 }
+    ensures seated { IfOk result
+        (λ begun. IsSeated (length chunk.old) (length token.old) begun.seat × IsNew begun.seat) }
+{
+    let mut feed = Feed::new(reader, chunk, token, value);
+    let head = open_input(alloc, input, &mut feed, most)?;
+    let seat = Seat::new(feed.parked());
+    Ok(Begun { head, seat })
+}
+
+/// The same over the reader at its place among these. The parts of the windows are those at its place, and no other input's are
+/// touched.
+fn begin_at<S: Source>(
+    alloc: Global,
+    input: usize,
+    readers: &mut [S],
+    windows: &mut Windows<'_>,
+    most: u64,
+) -> Result<Begun, Failure>
+    requires input { input < length readers.old }
+    requires parts { AreParts
+        (length readers.old) windows.old.chunks.now windows.old.tokens.now windows.old.values.now }
+    requires failures { All (λ r. S.failures r < 2 ^ 64 - 1) readers.old }
+    requires most { most ≤ 16777216 }
+    ensures begins { (r : S) → slice_get readers.old input ≡ Some r
+        → BeginsAt (length readers.old) input most S.rest S.failures r readers.old readers.new
+        windows.old windows.new result }
+    ensures others { (j : ℕ) → j ≢ input → SameParts (length readers.old) j windows.old windows.new }
+    ensures lengths { SameLengths windows.old windows.new }
+    ensures no_write { writes_failed (failure_of result) ≡ 0 }
+    ensures seated { IfOk result (λ begun.
+        IsSeated (part_len (length readers.old) windows.old.chunks.now)
+        (part_len (length readers.old) windows.old.tokens.now)
+        begun.seat × IsNew begun.seat) }
+{
+    let chunk = windows.chunks.len() / readers.len();
+    let limit = windows.tokens.len() / readers.len();
+    let chunk_at = input * chunk;
+    let token_at = input * limit;
+    begin(
+        alloc,
+        input,
+        &mut readers[input],
+        &mut windows.chunks[chunk_at..chunk_at + chunk],
+        &mut windows.tokens[token_at..token_at + limit],
+        &mut windows.values[token_at..token_at + limit],
+        most,
+    )
+}
+
+/// What the inputs of a merge are once their headers were read, in order.
+#[derive(Drop)]
+pub(crate) struct Inputs {
+    pub heads: Vec<Head>,
+    pub seats: Vec<Seat>,
+}
+
+impl Inputs {
+    ghost use Rattle.std.specs.Prelude.{◌≡◌, ◌++◌, ◌∷◌, [], IfOk};
+
+    /// One input more.
+    fn push(&mut self, begun: Begun) -> Result<(), AllocError>
+        ensures { IfOk result
+            (λ _. (self.new.heads.items ≡ self.old.heads.items ++ begun.head ∷ [])
+            × (self.new.seats.items ≡ self.old.seats.items ++ begun.seat ∷ [])) }
+    {
+        self.heads.push(begun.head)?;
+        self.seats.push(begun.seat)?;
+        Ok(())
+    }
+}
+
+/// Reads the headers of all inputs in order, up to the first that has a fault.
+pub(crate) fn open_inputs<S: Source>(
+    alloc: Global,
+    readers: &mut [S],
+    windows: &mut Windows<'_>,
+) -> Result<Inputs, Failure>
+    requires some { 0 < length readers.old }
+    requires parts { AreParts
+        (length readers.old) windows.old.chunks.now windows.old.tokens.now windows.old.values.now }
+    requires failures { All (λ r. S.failures r < 2 ^ 64 - 1) readers.old }
+    ensures begins { (texts : List (List ℕ)) → map S.rest readers.old ≡ map (λ text. Some text) texts
+        → MatchResult result
+        (λ inputs. HaveBegun (part_len (length readers.old) windows.old.tokens.now)
+        (part_len (length readers.old) windows.old.chunks.now) (length readers.old)
+        S.rest S.failures texts readers.old readers.new inputs.heads.items inputs.seats.items
+        windows.new.chunks.now windows.new.tokens.now)
+        (Stops (part_len (length readers.old) windows.old.tokens.now)
+        (part_len (length readers.old) windows.old.chunks.now) 0 [] texts
+        (map (supply S.rest S.failures) readers.old) (map (supply S.rest S.failures) readers.new)) }
+    ensures reads { CountsReads (map S.failures readers.old) (map S.failures readers.new)
+        (failure_of result) }
+    ensures no_write { writes_failed (failure_of result) ≡ 0 }
+    ensures lengths { SameLengths windows.old windows.new }
+    ensures many { IfOk result (λ inputs. (length inputs.heads.items ≡ length readers.old)
+        × (length inputs.seats.items ≡ length readers.old)) }
+    ensures seated { IfOk result (λ inputs.
+        All (λ seat. IsSeated (part_len (length readers.old) windows.old.chunks.now)
+        (part_len (length readers.old) windows.old.tokens.now) seat × IsNew seat)
+        inputs.seats.items) }
+{
+    let mut inputs = Inputs {
+        heads: Vec::new(alloc),
+        seats: Vec::with_capacity(alloc, readers.len())?,
+    };
+    let mut left = MOST_DECLARATIONS;
+    for input in 0..readers.len() {
+        let begun = begin_at(alloc, input, readers, windows, left)?;
+        left = left.saturating_sub(begun.head.view().rows.len() as u64);
+        inputs.push(begun)?;
+    }
+    Ok(inputs)
+}
+
+/// How many marks are enough for the header of each of these heads.
+pub(crate) fn marks_for(heads: &[Head]) -> usize
+    ensures { (hs : List Header) → AllZip (λ (head : Head) (h : Header). Views (shown head) h) heads.now hs
+        → AllByRecursion (λ (h : Header). length h.declarations ≤ result) hs }
+{
+    let mut most = 0;
+    for head in heads {
+        most = head.view().rows.len().max(most);
+    }
+    most
 }

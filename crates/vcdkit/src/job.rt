@@ -29,6 +29,8 @@ pub enum Want {
     Sample(Times, Vec<String>),
     /// Counts how often the variables that these names select change, rise and fall; all without names.
     Edges(Vec<String>),
+    /// Writes the changes of all inputs in one order of time.
+    Merge,
 }
 
 impl Want {
@@ -37,7 +39,7 @@ impl Want {
     ghost use Rattle.vcd_model.specs.Job.{request_of};
     ghost use Rattle.vcd_head.specs.Views.{IsViewOf};
     ghost use Rattle.vcdkit.specs.Failure.{model_refusal};
-    ghost use Rattle.vcdkit.specs.Job.{model_want, names_asked, task_request, HasTicks};
+    ghost use Rattle.vcdkit.specs.Job.{is_merge, model_want, names_asked, task_request, HasTicks};
 
     /// Writes the times of a sample in ticks of the header that is shown over their numbers: it is the same that is wanted. Where
     /// they are refused it says why, and what they are then is not said.
@@ -47,23 +49,37 @@ impl Want {
             (λ why. request_of h.scale (model_want self.old) ≡ Err (model_refusal why)) }
         ensures ticks { OnOk result (HasTicks self.new) }
         ensures names { names_asked self.new ≡ names_asked self.old }
+        ensures kind { is_merge self.new ≡ is_merge self.old }
     {
         match self {
             Want::Sample(times, _) => times.write_ticks(view),
-            Want::Check | Want::List | Want::Pick(_) | Want::Cut(_) | Want::Edges(_) => Ok(()),
+            Want::Check
+            | Want::List
+            | Want::Pick(_)
+            | Want::Cut(_)
+            | Want::Edges(_)
+            | Want::Merge => Ok(()),
         }
     }
 
+    /// It is a merge, which alone may have several inputs.
+    pub fn is_merge(&self) -> bool
+        ensures { result ≡ is_merge self.now }
+    {
+        matches!(self, Want::Merge)
+    }
+
     /// The task over the items of a body, its times in ticks of the header that is shown; those of a sample are ticks already. A
-    /// list is none: it reads no body.
+    /// list is none, since it reads no body, nor is a merge, which reads several.
     pub fn task(&self, view: HeadView<'_>) -> Result<Option<Task<'_>>, Refusal>
         requires { HasTicks self.now }
         ensures { (h : Header) → IsViewOf view.entry h
-            → request_of h.scale (model_want self.now) ≡ task_request result }
+            → request_of h.scale (model_want self.now) ≡ task_request self.now result }
     {
         match self {
             Want::Check => Ok(Some(Task::Check)),
             Want::List => Ok(None),
+            Want::Merge => Ok(None),
             Want::Pick(names) => Ok(Some(Task::Pick(names.as_slice()))),
             Want::Cut(period) => Ok(Some(Task::Cut(period.span(view)?))),
             Want::Sample(times, names) => Ok(Some(Task::Sample(times.samples(names.as_slice())))),
@@ -76,7 +92,7 @@ impl Want {
         ensures { map string_bytes result.now ≡ names_asked self.now }
     {
         match self {
-            Want::Check | Want::List | Want::Cut(_) => &[],
+            Want::Check | Want::List | Want::Cut(_) | Want::Merge => &[],
             Want::Pick(names) | Want::Sample(_, names) | Want::Edges(names) => names.as_slice(),
         }
     }

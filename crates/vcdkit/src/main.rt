@@ -12,8 +12,8 @@
 //! - `job`: `Job`, `Want` with its task and its names, `UseFault`; `job_of`
 //! - `moment_word`: the times that words are, and the fault of those that are none
 //! - `times`: the times of a cut and of a sample, also in ticks; `sample_ticks`: ticks in place of the numbers of times
-//! - `inputs`: the memory of windows; the header of an input
-//! - `run`: a job over readers: windows, header, then `list` over the view or `run_task` in room that is taken for it
+//! - `inputs`: the memory of windows; the header of an input, and those of several in order
+//! - `run`: a job over readers: windows, headers, then `list` over the view or `run_task` or `merge` in room that is taken for it
 //! - `failure`: why a run ends before it is done, and why times are refused
 //! - `message`: the lines on the error stream, and the statuses
 //!
@@ -22,7 +22,7 @@
 //!
 //! # Limits
 //!
-//! One input a job. `run` takes memory for the windows, for the header and for the room of the task, all of it before the first
+//! One input a job; for a merge 1 to 64, and no words ask for one yet. `run` takes memory for the windows, for the header and for the room of the task, all of it before the first
 //! byte of output. A fault of the error stream is passed over.
 //!
 //! Not promised: what the functions of this file do with words, files and streams of the host. They have no clauses on it;

@@ -1,8 +1,8 @@
 //! A job, from its readers to its output, its message and its status.
-ghost use Rattle.std.specs.Prelude.{◌≡◌, ℕ, ◌+◌, ◌-◌, ◌^◌, ◌<◌, ◌≤◌, List, [], Some, map, length, All, string_bytes, true, Option};
+ghost use Rattle.std.specs.Prelude.{◌≡◌, ℕ, ◌+◌, ◌-◌, ◌^◌, ◌<◌, ◌≤◌, List, [], Some, map, length, All, string_bytes, true, false, Option};
 ghost use Rattle.vcd_model.specs.Header.{Header};
 ghost use Rattle.vcd_model.specs.Input.{Input};
-ghost use Rattle.vcd_model.specs.Job.{request_of};
+ghost use Rattle.vcd_model.specs.Job.{Want as ModelWant, request_of};
 ghost use Rattle.vcd_model.specs.Outcome.{declarations_allowed};
 ghost use Rattle.vcd_model.specs.Settled.{is_header_over, is_settled, is_settled_by};
 ghost use Rattle.vcd_model.specs.Tokens.{Token};
@@ -11,21 +11,21 @@ ghost use Rattle.vcd_text.specs.Device.{supply};
 ghost use Rattle.vcd_text.specs.Feed.{HasGiven, SameLoans, source_of, supply_of, limit_of, chunk_len_of};
 ghost use Rattle.vcd_head.specs.Views.{IsViewOf};
 ghost use Rattle.vcd_text.specs.Advances.{HasNotFailed};
-ghost use Rattle.vcdkit.specs.Failure.{end_of, failure_of, writes_failed, CountsRead, CountsReads};
-ghost use Rattle.vcdkit.specs.Job.{model_want, names_asked};
+ghost use Rattle.vcdkit.specs.Failure.{end_of, failure_of, merge_end, writes_failed, CountsRead, CountsReads};
+ghost use Rattle.vcdkit.specs.Job.{is_merge, model_want, names_asked};
 ghost use Rattle.vcdkit.specs.Message.{end_message, end_status, Shows};
-ghost use Rattle.vcdkit.specs.Run.{Ends, HasRun, IsAfter, IsOfJob, settled_for};
+ghost use Rattle.vcdkit.specs.Run.{Ends, EndsAll, HasRun, IsAfter, IsOfJob, settled_for};
 ghost use Rattle.vcdkit.specs.declared.failure.Failure.{Failure};
 
 use crate::failure::Failure;
-use crate::inputs::{open_input, windows_for};
+use crate::inputs::{MOST_DECLARATIONS, marks_for, open_input, open_inputs, windows_for};
 use crate::job::{Job, Want};
 use crate::message::report;
 use std::alloc::Global;
 use vcd_body::Slot;
 use vcd_head::HeadView;
 use vcd_text::{Feed, Sink, Source};
-use vcd_tools::{Done, Room, Stop, list, run_task};
+use vcd_tools::{Done, Room, Stop, Windows, list, merge, run_task};
 
 /// The answer of a task over the input at this place, as that of its run.
 fn ended(answer: Result<Done, Stop>, input: usize) -> Result<Done, Failure>
@@ -37,6 +37,16 @@ fn ended(answer: Result<Done, Stop>, input: usize) -> Result<Done, Failure>
     }
 }
 
+/// The answer of a merge, as that of its run.
+fn merged(answer: Result<Done, Stop>) -> Result<Done, Failure>
+    ensures { result ≡ merge_end answer }
+{
+    match answer {
+        Ok(done) => Ok(done),
+        Err(stop) => Err(Failure::Stopped(stop)),
+    }
+}
+
 /// What is done after the header, in room that is taken before it starts.
 fn run_want<S: Source, W: Sink>(
     alloc: Global,
@@ -45,6 +55,7 @@ fn run_want<S: Source, W: Sink>(
     feed: &mut Feed<'_, '_, '_, '_, S>,
     out: &mut W,
 ) -> Result<Done, Failure>
+    requires one { is_merge want.old ≡ false }
     requires feed_failures { S.failures (source_of feed.old) < 2 ^ 64 - 1 }
     requires out_failures { (W.device out.old).failures < 2 ^ 64 - 1 }
     requires open { HasNotFailed feed.old }
@@ -86,6 +97,7 @@ fn run_input<S: Source, W: Sink>(
     reader: &mut S,
     out: &mut W,
 ) -> Result<Done, Failure>
+    requires one { is_merge job.old.want ≡ false }
     requires reader_failures { S.failures reader.old < 2 ^ 64 - 1 }
     requires out_failures { (W.device out.old).failures < 2 ^ 64 - 1 }
     ensures ends { (text name : List ℕ) → S.rest reader.old ≡ Some text
@@ -101,20 +113,88 @@ fn run_input<S: Source, W: Sink>(
         ≡ (W.device out.old).failures + writes_failed (failure_of result) }
     ensures names { names_asked job.new.want ≡ names_asked job.old.want }
 {
-    let mut windows = windows_for(alloc, job)?;
+    let mut memory = windows_for(alloc, job, 1)?;
     let mut feed = Feed::new(
         reader,
-        &mut windows.chunk,
-        &mut windows.token,
-        &mut windows.value,
+        &mut memory.chunks,
+        &mut memory.tokens,
+        &mut memory.values,
     );
-    let head = open_input(alloc, 0, &mut feed)?;
+    let head = open_input(alloc, 0, &mut feed, MOST_DECLARATIONS)?;
     run_want(alloc, &mut job.want, head.view(), &mut feed, out)
+}
+
+/// A merge over several inputs: their windows, their headers in order, and then the merge.
+fn run_merge<S: Source, W: Sink>(
+    alloc: Global,
+    job: &Job,
+    readers: &mut [S],
+    out: &mut W,
+) -> Result<Done, Failure>
+    requires some { 0 < length readers.old }
+    requires few { length readers.old ≤ 64 }
+    requires reader_failures { All (λ r. S.failures r < 2 ^ 64 - 1) readers.old }
+    requires out_failures { (W.device out.old).failures < 2 ^ 64 - 1 }
+    ensures ends { (texts names : List (List ℕ)) → map S.rest readers.old ≡ map (λ text. Some text) texts
+        → EndsAll ModelWant.Merge [] job.now.limit job.now.chunk names texts
+        (map (supply S.rest S.failures) readers.old) (map (supply S.rest S.failures) readers.new)
+        (W.device out.old) (W.device out.new) result }
+    ensures reads { CountsReads (map S.failures readers.old) (map S.failures readers.new)
+        (failure_of result) }
+    ensures writes { (W.device out.new).failures
+        ≡ (W.device out.old).failures + writes_failed (failure_of result) }
+{
+    let mut memory = windows_for(alloc, job, readers.len())?;
+    let mut windows = Windows {
+        chunks: &mut memory.chunks,
+        tokens: &mut memory.tokens,
+        values: &mut memory.values,
+    };
+    let mut inputs = open_inputs(alloc, readers, &mut windows)?;
+    let mut marks = vec![in alloc; 0u8; marks_for(&inputs.heads)]?;
+    merged(merge(
+        &inputs.heads,
+        &mut inputs.seats,
+        &mut marks,
+        readers,
+        &mut windows,
+        out,
+    ))
+}
+
+/// A job over its readers: all of them for a merge, else the one that there is.
+fn run_readers<S: Source, W: Sink>(
+    alloc: Global,
+    job: &mut Job,
+    readers: &mut [S],
+    out: &mut W,
+) -> Result<Done, Failure>
+    requires some { 0 < length readers.old }
+    requires few { length readers.old ≤ 64 }
+    requires alone { is_merge job.old.want ≡ false → length readers.old ≡ 1 }
+    requires reader_failures { All (λ r. S.failures r < 2 ^ 64 - 1) readers.old }
+    requires out_failures { (W.device out.old).failures < 2 ^ 64 - 1 }
+    ensures ends { (texts names : List (List ℕ)) → map S.rest readers.old ≡ map (λ text. Some text) texts
+        → length names ≡ length readers.old
+        → EndsAll (model_want job.old.want) (names_asked job.old.want) job.old.limit job.old.chunk
+        names texts
+        (map (supply S.rest S.failures) readers.old) (map (supply S.rest S.failures) readers.new)
+        (W.device out.old) (W.device out.new) result }
+    ensures reads { CountsReads (map S.failures readers.old) (map S.failures readers.new)
+        (failure_of result) }
+    ensures writes { (W.device out.new).failures
+        ≡ (W.device out.old).failures + writes_failed (failure_of result) }
+    ensures names { names_asked job.new.want ≡ names_asked job.old.want }
+{
+    if job.want.is_merge() {
+        return run_merge(alloc, job, readers, out);
+    }
+    run_input(alloc, job, &mut readers[0], out)
 }
 
 /// Runs a job over the readers, whose names are said in messages, and returns the exit status: 0 where it is done, 1 for a fault
 /// of an input, for a name that selects nothing and for a unit without a time scale, 2 for times that are out of range or out of
-/// order in ticks, 3 for a failed read or write and where memory ran out. Output goes to `out`,
+/// order in ticks, 3 for a failed read or write and where memory ran out. A merge has 1 to 64 readers, any other job one. Output goes to `out`,
 /// the message to `err`; a fault of `err` is passed over. `out` is not flushed.
 ///
 /// Memory is taken for the windows, while the header is read, and then for what the task works in; none after that. Nothing is
@@ -127,8 +207,10 @@ pub fn run<S: Source, W: Sink, E: Sink>(
     out: &mut W,
     err: &mut E,
 ) -> u8
-    requires names { length names.now ≡ 1 }
-    requires readers { length readers.old ≡ 1 }
+    requires names { length names.now ≡ length readers.old }
+    requires some { 0 < length readers.old }
+    requires few { length readers.old ≤ 64 }
+    requires alone { is_merge job.want ≡ false → length readers.old ≡ 1 }
     requires reader_failures { All (λ r. S.failures r < 2 ^ 64 - 1) readers.old }
     requires out_failures { (W.device out.old).failures < 2 ^ 64 - 1 }
     requires err_failures { (E.device err.old).failures < 2 ^ 64 - 1 }
@@ -150,7 +232,7 @@ pub fn run<S: Source, W: Sink, E: Sink>(
         (map (supply S.rest S.failures) readers.old) (map (supply S.rest S.failures) readers.new)
         (W.device out.old) (W.device out.new) (E.device err.old) (E.device err.new) result }
 {
-    match run_input(alloc, &mut job, &mut readers[0], out) {
+    match run_readers(alloc, &mut job, readers, out) {
         Ok(_) => 0,
         Err(failure) => report(failure, names, job.want.names(), err),
     }

@@ -5,6 +5,7 @@ mod failures;
 mod headers;
 mod list;
 mod memory;
+mod merge;
 mod messages;
 mod pick;
 mod runs;

@@ -13,6 +13,10 @@ pub returns-in-List : goal.returns-in-List
 unfolding request_of
 returns-in-List c = λ h v. rw c.in-List.is refl
 
+pub returns-in-Merge : goal.returns-in-Merge
+unfolding request_of
+returns-in-Merge c = λ h v. rw c.in-Merge.is refl
+
 pub returns-in-Pick : goal.returns-in-Pick
 unfolding request_of
 returns-in-Pick c = λ h v. rw (c.in-Pick.is, c.as_slice.ensures.value) refl

@@ -1,0 +1,217 @@
+-- How a run over its inputs ends, and what it leaves then.
+use Rattle.std.proofs.Common.{◌≡◌, ◌==◌, ℕ, ◌+◌, ◌*◌, ◌/◌, ◌<◌, ◌≤◌, Bool, true, false, ◌++◌, inl, inr, List, [], ◌∷◌, length, map, Option, Some, None, Result, Ok, Err, refl, sym, ap, subst, ◌∙◌, arith, add-zero}
+use Rattle.std.specs.Prelude.{codes, get_or, slice_set}
+use Rattle.std.proofs.lemmas.List.{set-get_or}
+use Rattle.std.specs.List.{AllByRecursion, AllZip}
+use Rattle.std.proofs.Math.Nat.{mul-div_cancel_left}
+use Rattle.vcd_model.specs.Header.{Header}
+use Rattle.vcd_head.specs.Shown.{shown}
+use Rattle.vcd_head.specs.Views.{Views}
+use Rattle.vcd_head.specs.declared.head.Head.{Head}
+use Rattle.vcd_tools.specs.MergeParts.{AreParts, part_len}
+use Rattle.vcd_tools.specs.declared.seat.Seat.{Seat}
+use Rattle.vcd_model.specs.Input.{Input}
+use Rattle.vcd_model.specs.Job.{Want, outcome, over_opened, refusal_outcome, request_of}
+use Rattle.vcd_model.specs.Settled.{is_header_over, is_settled}
+use Rattle.vcd_model.specs.Outcome.{Opened, Outcome, dumps_of, fault_outcome, merge_outcome, name_at, open_from, program_line}
+use Rattle.vcd_model.specs.Reading.{Fault}
+use Rattle.vcd_model.specs.Tokens.{Token}
+use Rattle.vcd_text.specs.Answer.{whole}
+use Rattle.vcd_text.specs.Device.{Device, Supply, Writes, supply}
+use Rattle.vcd_text.proofs.Writes.{appends-none}
+use Rattle.vcd_tools.specs.Answer.{NamesInput}
+use Rattle.vcd_tools.specs.MergeRun.{Belongs, Follows}
+use Rattle.vcd_tools.specs.MergeStep.{failures_with}
+use Rattle.vcd_tools.specs.Seat.{Lane}
+use Rattle.vcd_tools.specs.declared.answer.Done.{Done}
+use Rattle.vcd_tools.specs.declared.answer.Done.TheVariants as done
+use Rattle.vcd_tools.specs.declared.answer.Stop.{Stop}
+use Rattle.vcd_tools.specs.declared.answer.Stop.TheVariants.{Dump, Read, Write, Unmatched}
+use Rattle.vcdkit.specs.declared.failure.Failure.{Failure}
+use Rattle.vcdkit.specs.declared.failure.Failure.TheVariants.{Stopped, Refused, OutOfMemory}
+use Rattle.vcdkit.specs.declared.failure.Refusal.{Refusal}
+use Rattle.vcdkit.specs.declared.failure.Refusal.TheVariants as refusal
+use Rattle.vcdkit.specs.Failure.{failure_of, merge_end, model_refusal, CountsReads}
+use Rattle.vcdkit.specs.Inputs.{AreBegun, AreParked, AreShown, HaveBegun, Stops, headers_in}
+use Rattle.vcdkit.specs.Message.{end_message, end_status, refusal_status, Shows}
+use Rattle.vcdkit.specs.Run.{EndsAll, HasRun, IsOutcome, LeavesAll}
+use Rattle.vcdkit.specs.Run.HasRun.{WithOutcome, NoMemory}
+use Rattle.vcdkit.specs.Run.IsOutcome.{Whole, Part}
+use Rattle.vcdkit.proofs.HeaderLemmas.{unsettled_header}
+use Rattle.vcdkit.proofs.InputsLemmas.{HaveStopped, IsFirst, headers_read, merged_read, stops_read}
+
+writes-none : (out : Device) → Writes out out []
+writes-none out = (appends-none out.held, refl)
+
+-- ---- what is said
+
+-- the status of times that are refused, and that they leave no output
+refused_status : (name : List ℕ) (why : Refusal) → (refusal_outcome name (model_refusal why)).status ≡ refusal_status why
+refused_status name refusal.NoTimescale = refl
+refused_status name refusal.OutOfRange = refl
+refused_status name refusal.FromAboveTo = refl
+refused_status name refusal.NotRising = refl
+
+refused_output : (name : List ℕ) (why : Refusal) → (refusal_outcome name (model_refusal why)).output ≡ []
+refused_output name refusal.NoTimescale = refl
+refused_output name refusal.OutOfRange = refl
+refused_output name refusal.FromAboveTo = refl
+refused_output name refusal.NotRising = refl
+
+-- a run that ends so, and whose line and status these are, leaves the outcome of its inputs
+module _ (want : Want) (asked : List (List ℕ)) (limit chunk : ℕ) (names texts : List (List ℕ)) (old new : List Supply) (out out' err err' : Device) (status : ℕ) where
+  abbrev Ends : Result Done Failure → Type 0
+  Ends end = EndsAll want asked limit chunk names texts old new out out' end
+
+  abbrev Says : Result Done Failure → Type 0
+  Says end = Shows err err' (end_message names asked (failure_of end))
+
+  abbrev Runs : Type 0
+  Runs = HasRun want limit chunk names texts old new out out' err err' status
+
+  abbrev due : (end : Result Done Failure) → Ends end → Outcome
+  due end e = outcome want limit names e.lefts
+
+  pub has_run : (end : Result Done Failure) → Ends end → status ≡ end_status (failure_of end) → Says end → Runs
+  has_run (Ok d) e k s =
+      let o = due (Ok d) e in
+      WithOutcome e.lefts e.read (Whole e.leaves.1 (subst (λ (l : List ℕ). Shows err err' l) (sym (ap (λ (o : Outcome). o.message) e.leaves.0)) s) (k ∙ sym (ap (λ (o : Outcome). o.status) e.leaves.0)))
+  has_run (Err (Stopped (Dump input line fault))) e k s =
+      let o = due (Err (Stopped (Dump input line fault))) e in
+      let message : o.message ≡ end_message names asked (Some (Stopped (Dump input line fault))) = ap (λ (o : Outcome). o.message) e.leaves.0 ∙ rw (e.leaves.1, fault_outcome) refl in
+      let is : o.status ≡ 1 = ap (λ (o : Outcome). o.status) e.leaves.0 ∙ rw (e.leaves.1, fault_outcome) refl in
+      WithOutcome e.lefts e.read (Whole e.leaves.2 (subst (λ (l : List ℕ). Shows err err' l) (sym message) s) (k ∙ sym is))
+  has_run (Err (Stopped (Read input))) e k s =
+      let o = due (Err (Stopped (Read input))) e in
+      let message : o.message ≡ end_message names asked (Some (Stopped (Read input))) = ap (λ (o : Outcome). o.message) e.leaves.0.1 in
+      WithOutcome e.lefts e.read (Whole e.leaves.1 (subst (λ (l : List ℕ). Shows err err' l) (sym message) s) (k ∙ sym (ap (λ (o : Outcome). o.status) e.leaves.0.1)))
+  has_run (Err (Stopped Write)) e k s = WithOutcome e.lefts e.read (Part e.leaves s k)
+  has_run (Err (Stopped (Unmatched place))) e k s =
+      WithOutcome e.lefts e.read (Whole e.leaves.1 (subst (λ (l : List ℕ). Shows err err' l) (sym (ap (λ (o : Outcome). o.message) e.leaves.0)) s) (k ∙ sym (ap (λ (o : Outcome). o.status) e.leaves.0)))
+  has_run (Err (Refused why)) e k s =
+      let o = due (Err (Refused why)) e in
+      let output : o.output ≡ [] = ap (λ (o : Outcome). o.output) e.leaves.0 ∙ refused_output (name_at names 0) why in
+      WithOutcome e.lefts e.read (Whole (subst (λ (l : List ℕ). Writes out out' l) (sym output) e.leaves.1) (subst (λ (l : List ℕ). Shows err err' l) (sym (ap (λ (o : Outcome). o.message) e.leaves.0)) s)
+      (k ∙ sym (ap (λ (o : Outcome). o.status) e.leaves.0 ∙ refused_status (name_at names 0) why)))
+  has_run (Err OutOfMemory) e k s = NoMemory e.lefts e.read e.leaves s k
+
+-- nothing is said
+pub shows_nothing : (err : Device) → Shows err err []
+shows_nothing err = inl (writes-none err)
+
+-- ---- headers that end a run
+
+-- a header has a fault
+at_fault : (want : Want) (limit : ℕ) (names : List (List ℕ)) (inputs : List Input) (place : ℕ) (f : Fault) → open_from limit [] inputs ≡ Err (place, f) → outcome want limit names inputs ≡ fault_outcome [] (name_at names place) f
+unfolding outcome
+at_fault want limit names inputs place f e = rw (e, outcome) refl
+
+no_output : (name : List ℕ) (f : Fault) → (fault_outcome [] name f).output ≡ []
+no_output name f = by_number (f.number == 31) refl
+  where
+    by_number : (b : Bool) → (f.number == 31) ≡ b → (fault_outcome [] name f).output ≡ []
+    by_number true e = rw (e, fault_outcome) refl
+    by_number false e = rw (e, fault_outcome) refl
+
+-- an outcome of a fault without output
+faulted : (o : Outcome) (name : List ℕ) (f : Fault) (out : Device) → o ≡ fault_outcome [] name f → (o ≡ fault_outcome o.output name f) × Writes out out o.output
+faulted o name f out e =
+    let none : o.output ≡ [] = ap (λ (o : Outcome). o.output) e ∙ no_output name f in
+    (e ∙ ap (λ l. fault_outcome l name f) (sym none), subst (λ (l : List ℕ). Writes out out l) (sym none) (writes-none out))
+
+module _ (want : Want) (asked : List (List ℕ)) (limit chunk : ℕ) (names texts : List (List ℕ)) (old new : List Supply) (out : Device) where
+  pub stopped : (why : Failure) → Stops limit chunk 0 [] texts old new why → EndsAll want asked limit chunk names texts old new out out (Err why)
+  stopped (Stopped (Dump input line fault)) h =
+      let s = stops_read (is_settled want) (unsettled_header want) limit chunk 0 [] texts old new _ refl h in
+      let o = faulted (outcome want limit names s.lefts) (name_at names input) (record { number = fault; line = line }) out (at_fault want limit names s.lefts input _ s.first.1) in
+      record { lefts = s.lefts; read = s.read; leaves = (o.0, s.first.0, o.1) }
+  stopped (Stopped (Read input)) h =
+      let s = stops_read (is_settled want) (unsettled_header want) limit chunk 0 [] texts old new _ refl h in
+      let o = faulted (outcome want limit names s.lefts) (name_at names input) (record { number = 31; line = s.first.0 }) out (at_fault want limit names s.lefts input _ s.first.1) in
+      record { lefts = s.lefts; read = s.read; leaves = ((s.first.0, o.0), o.1) }
+  stopped (Stopped Write) h = let s = stops_read (is_settled want) (unsettled_header want) limit chunk 0 [] texts old new _ refl h in absurd s.first
+  stopped (Stopped (Unmatched place)) h = let s = stops_read (is_settled want) (unsettled_header want) limit chunk 0 [] texts old new _ refl h in absurd s.first
+  stopped (Refused why) h = let s = stops_read (is_settled want) (unsettled_header want) limit chunk 0 [] texts old new _ refl h in absurd s.first
+  stopped OutOfMemory h =
+      let s = stops_read is_header_over (λ most ts e. e) limit chunk 0 [] texts old new _ refl h in
+      record { lefts = s.lefts; read = s.read; leaves = writes-none out }
+
+  -- memory ran out behind them
+  pub no_room : (lanes : List Lane) → AreBegun limit chunk [] texts old new lanes → EndsAll want asked limit chunk names texts old new out out (Err OutOfMemory)
+  no_room lanes b = record { lefts = map whole texts; read = headers_read is_header_over (λ most ts e. e) limit chunk [] texts old new lanes b; leaves = writes-none out }
+
+-- ---- a merge behind its headers
+
+merge_due : (limit : ℕ) (names : List (List ℕ)) (inputs : List Input) (opened : List Opened) → open_from limit [] inputs ≡ Ok opened → outcome Want.Merge limit names inputs ≡ merge_outcome names (dumps_of opened)
+unfolding outcome request_of
+merge_due limit names inputs opened e = rw (e, outcome) refl
+
+-- what a merge leaves, by its outcome
+merge_leaves : (names : List (List ℕ)) (o o' : Outcome) (out out' : Device) (result : Result Done Stop) → o' ≡ o → Belongs o names out out' result → LeavesAll names [] o' out out' (merge_end result)
+merge_leaves names o o' out out' (Ok done.Whole) e b = subst (λ (x : Outcome). LeavesAll names [] x out out' (Ok done.Whole)) (sym e) b
+merge_leaves names o o' out out' (Ok done.Early) e b = absurd b
+merge_leaves names o o' out out' (Err (Dump input line fault)) e b = subst (λ (x : Outcome). LeavesAll names [] x out out' (Err (Stopped (Dump input line fault)))) (sym e) b
+merge_leaves names o o' out out' (Err (Read input)) e b = subst (λ (x : Outcome). LeavesAll names [] x out out' (Err (Stopped (Read input)))) (sym e) b
+merge_leaves names o o' out out' (Err Write) e b = subst (λ (x : Outcome). LeavesAll names [] x out out' (Err (Stopped Write))) (sym e) b
+merge_leaves names o o' out out' (Err (Unmatched place)) e b = absurd b
+
+module _ (limit chunk : ℕ) (names texts : List (List ℕ)) (old mid new : List Supply) (lanes : List Lane) (out out' : Device) (b : AreBegun limit chunk [] texts old mid lanes) where
+  pub merged : (result : Result Done Stop) → Follows limit chunk lanes names mid new out out' result → EndsAll Want.Merge [] limit chunk names texts old new out out' (merge_end result)
+  merged (Ok d) f =
+      let r = merged_read limit chunk [] texts old mid new lanes f.lefts f.opened b f.are_left f.are_opened in
+      record { lefts = f.lefts; read = r.0; leaves = merge_leaves names _ (outcome Want.Merge limit names f.lefts) out out' (Ok d) (merge_due limit names f.lefts f.opened r.1) f.belongs }
+  merged (Err stop) f =
+      let r = merged_read limit chunk [] texts old mid new lanes f.lefts f.opened b f.are_left f.are_opened in
+      record { lefts = f.lefts; read = r.0; leaves = merge_leaves names _ (outcome Want.Merge limit names f.lefts) out out' (Err stop) (merge_due limit names f.lefts f.opened r.1) f.belongs }
+
+-- over readers with these texts
+pub merge_ends : {X : Type 0} (n n' limit limit1 limit2 chunk chunk1 chunk2 marks : ℕ) (rest : X → Option (List ℕ)) (failures : X → ℕ) (names texts : List (List ℕ)) (old mid new : List X) (heads : List Head) (seats : List Seat) (chunks tokens : List ℕ) (out out' : Device) (result : Result Done Stop)
+    → n' ≡ n → limit1 ≡ limit → limit2 ≡ limit → chunk1 ≡ chunk → chunk2 ≡ chunk
+    → HaveBegun limit1 chunk1 n rest failures texts old mid heads seats chunks tokens
+    → ((hs : List Header) → AllZip (λ (head : Head) (h : Header). Views (shown head) h) heads hs → AllByRecursion (λ (h : Header). length h.declarations ≤ marks) hs)
+    → ((lanes : List Lane) (names : List (List ℕ)) → AreShown heads lanes → AllByRecursion (λ (h : Header). length h.declarations ≤ marks) (headers_in lanes) → AreParked n' rest lanes seats mid chunks tokens
+    → Follows limit2 chunk2 lanes names (map (supply rest failures) mid) (map (supply rest failures) new) out out' result)
+    → EndsAll Want.Merge [] limit chunk names texts (map (supply rest failures) old) (map (supply rest failures) new) out out' (merge_end result)
+merge_ends n n' limit limit1 limit2 chunk chunk1 chunk2 marks rest failures names texts old mid new heads seats chunks tokens out out' result e l1 l2 c1 c2 b enough follows =
+    let f = supply rest failures in
+    let parked = subst (λ (m : ℕ). AreParked m rest b.lanes seats mid chunks tokens) (sym e) b.parked in
+    let followed = follows b.lanes names b.views (enough (headers_in b.lanes) b.views) parked in
+    let begun = subst (λ (m : ℕ). AreBegun m chunk [] texts (map f old) (map f mid) b.lanes) l1 (subst (λ (m : ℕ). AreBegun limit1 m [] texts (map f old) (map f mid) b.lanes) c1 b.begun) in
+    let due = subst (λ (m : ℕ). Follows m chunk b.lanes names (map f mid) (map f new) out out' result) l2 (subst (λ (m : ℕ). Follows limit2 m b.lanes names (map f mid) (map f new) out out' result) c2 followed) in
+    merged limit chunk names texts (map f old) (map f mid) (map f new) b.lanes out out' begun result due
+
+pub no_marks : {X : Type 0} (n limit limit1 chunk chunk1 : ℕ) (rest : X → Option (List ℕ)) (failures : X → ℕ) (names texts : List (List ℕ)) (old mid : List X) (heads : List Head) (seats : List Seat) (chunks tokens : List ℕ) (out : Device) → limit1 ≡ limit → chunk1 ≡ chunk
+    → HaveBegun limit1 chunk1 n rest failures texts old mid heads seats chunks tokens → EndsAll Want.Merge [] limit chunk names texts (map (supply rest failures) old) (map (supply rest failures) mid) out out (Err OutOfMemory)
+no_marks n limit limit1 chunk chunk1 rest failures names texts old mid heads seats chunks tokens out l1 c1 b =
+    let f = supply rest failures in
+    no_room Want.Merge [] limit chunk names texts (map f old) (map f mid) out b.lanes
+    (subst (λ (m : ℕ). AreBegun m chunk [] texts (map f old) (map f mid) b.lanes) l1 (subst (λ (m : ℕ). AreBegun limit1 m [] texts (map f old) (map f mid) b.lanes) c1 b.begun))
+
+-- ---- windows in parts
+
+pub part_is : (n size : ℕ) (xs : List ℕ) → 0 < n → length xs ≡ n * size → part_len n xs ≡ size
+part_is n size xs some e = ap (λ m. m / n) e ∙ mul-div_cancel_left size {n = n} some
+
+part_all : (n size : ℕ) (xs : List ℕ) → 0 < n → length xs ≡ n * size → n * part_len n xs ≡ length xs
+part_all n size xs some e = ap (λ m. n * m) (part_is n size xs some e) ∙ sym e
+
+pub parts_of : (n chunk limit : ℕ) (cs ts vs : List ℕ) → 0 < n → 0 < chunk → 0 < limit → length cs ≡ n * chunk → length ts ≡ n * limit → length vs ≡ n * limit → AreParts n cs ts vs
+parts_of n chunk limit cs ts vs some c l ec et ev = record {
+  chunks_are = part_all n chunk cs some ec;
+  tokens_are = part_all n limit ts some et;
+  values_are = ev ∙ sym et;
+  chunk_some = rw (part_is n chunk cs some ec) c;
+  token_some = rw (part_is n limit ts some et) l;
+}
+
+-- ---- the reads of a merge
+
+-- a read of the input that the answer names failed, and of no other
+pub counts_merge : (before mid after : List ℕ) (k : ℕ) (result : Result Done Stop) → mid ≡ before → k < length mid → after ≡ failures_with mid k result → NamesInput k result → CountsReads before after (failure_of (merge_end result))
+counts_merge before mid after k (Ok d) same within e named = e ∙ ap (slice_set mid k) (add-zero (get_or mid k 0)) ∙ set-get_or mid k 0 ∙ same
+counts_merge before mid after k (Err (Dump input line fault)) same within e named = e ∙ ap (slice_set mid k) (add-zero (get_or mid k 0)) ∙ set-get_or mid k 0 ∙ same
+counts_merge before mid after k (Err (Read input)) same within e named =
+    let long = ap length same in
+    (omega (arith, named), e ∙ ap (λ l. slice_set l k (get_or l k 0 + 1)) same ∙ ap (λ p. slice_set before p (get_or before p 0 + 1)) (sym named))
+counts_merge before mid after k (Err Write) same within e named = e ∙ ap (slice_set mid k) (add-zero (get_or mid k 0)) ∙ set-get_or mid k 0 ∙ same
+counts_merge before mid after k (Err (Unmatched name)) same within e named = e ∙ ap (slice_set mid k) (add-zero (get_or mid k 0)) ∙ set-get_or mid k 0 ∙ same

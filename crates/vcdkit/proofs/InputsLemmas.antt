@@ -1,0 +1,187 @@
+-- The headers of inputs in order: what was read of each input, and how the definitions open them.
+use Rattle.std.proofs.Common.{◌≡◌, ◌==◌, ℕ, suc, ◌+◌, Bool, true, false, ◌++◌, inl, inr, List, [], ◌∷◌, length, map, Option, Some, None, Result, Ok, Err, refl, sym, ap, ap₂, subst, ◌∙◌, arith, append_assoc}
+use Rattle.std.proofs.lemmas.List.{append-nil, length-append}
+use Rattle.vcd_model.specs.Input.{Input}
+use Rattle.vcd_model.specs.Job.{Want, request_of}
+use Rattle.vcd_model.specs.Settled.{is_header_over, is_settled, is_settled_behind, is_settled_by}
+use Rattle.vcd_model.specs.HeaderPhrases.{HeaderPhrase}
+use Rattle.vcd_model.specs.Header.{Header, header_of}
+use Rattle.vcd_model.specs.HeaderReading.{header_fault_of, read_header}
+use Rattle.vcd_model.specs.Outcome.{Opened, Request, allowed_after, open_from, with_opened}
+use Rattle.vcd_model.specs.Reading.{Fault, Reading, phrases_of}
+use Rattle.vcd_model.specs.Tokens.{Stream, Token, stream_of}
+use Rattle.vcd_text.specs.Answer.{whole}
+use Rattle.vcd_text.specs.Device.{Supply}
+use Rattle.vcd_text.specs.ReadAhead.ReadsAsNeeded.{Nothing}
+use Rattle.vcd_tools.specs.MergeRun.{AreLeft, AreOpened}
+use Rattle.vcd_tools.specs.Run.{IsLeft}
+use Rattle.vcd_tools.specs.Seat.{Lane}
+use Rattle.vcd_tools.specs.declared.answer.Stop.TheVariants.{Dump, Read, Write, Unmatched}
+use Rattle.vcdkit.specs.declared.failure.Failure.{Failure}
+use Rattle.vcdkit.specs.declared.failure.Failure.TheVariants.{Stopped, Refused, OutOfMemory}
+use Rattle.vcdkit.specs.Inputs.{AreBegun, HasFailed, IsBegun, IsWhy, Stops, headers_in}
+use Rattle.vcdkit.specs.Run.{AreRead, header_behind}
+use Rattle.vcdkit.proofs.HeaderLemmas.{all_read, header_only, header_read, left_since, no_fault, reads_for, rest_read, settled_run, unsettled_header}
+
+-- ---- one input more
+
+-- the header of one more input was read
+pub begun_more : (limit chunk : ℕ) (earlier : List Header) (texts : List (List ℕ)) (old new : List Supply) (lanes : List Lane) (text : List ℕ) (s t : Supply) (l : Lane) → AreBegun limit chunk earlier texts old new lanes
+    → IsBegun (allowed_after (earlier ++ headers_in lanes)) limit chunk (whole text) l s t → AreBegun limit chunk earlier (texts ++ text ∷ []) (old ++ s ∷ []) (new ++ t ∷ []) (lanes ++ l ∷ [])
+begun_more limit chunk earlier [] [] [] [] text s t l b one = (subst (λ hs. IsBegun (allowed_after hs) limit chunk (whole text) l s t) (append-nil earlier) one, tt)
+begun_more limit chunk earlier (u ∷ texts) (a ∷ old) (c ∷ new) (m ∷ lanes) text s t l b one = (
+  b.0,
+  begun_more limit chunk (earlier ++ m.header ∷ []) texts old new lanes text s t l b.1
+      (subst (λ hs. IsBegun (allowed_after hs) limit chunk (whole text) l s t) (sym (append_assoc earlier (m.header ∷ []) (headers_in lanes))) one),
+)
+begun_more limit chunk earlier texts old new lanes text s t l b one = absurd b
+
+-- or it ended the run, before any behind it was read
+pub stops_at : (limit chunk place : ℕ) (earlier : List Header) (texts more : List (List ℕ)) (old new behind : List Supply) (lanes : List Lane) (text : List ℕ) (s t : Supply) (at : ℕ) (why : Failure) → AreBegun limit chunk earlier texts old new lanes
+    → at ≡ place + length texts → length behind ≡ length more → HasFailed (allowed_after (earlier ++ headers_in lanes)) limit chunk at (whole text) s t why
+    → Stops limit chunk place earlier (texts ++ text ∷ more) (old ++ s ∷ behind) (new ++ t ∷ behind) why
+stops_at limit chunk place earlier [] more [] [] behind [] text s t at why b here long one =
+    let e : at ≡ place = omega arith in
+    inl (subst (λ n. HasFailed (allowed_after earlier) limit chunk n (whole text) s t why) e (subst (λ hs. HasFailed (allowed_after hs) limit chunk at (whole text) s t why) (append-nil earlier) one), refl, long)
+stops_at limit chunk place earlier (u ∷ texts) more (a ∷ old) (c ∷ new) behind (m ∷ lanes) text s t at why b here long one =
+    let e : at ≡ suc place + length texts = omega arith in
+    inr (
+      m,
+      b.0,
+      stops_at limit chunk (suc place) (earlier ++ m.header ∷ []) texts more old new behind lanes text s t at why b.1 e long
+          (subst (λ hs. HasFailed (allowed_after hs) limit chunk at (whole text) s t why) (sym (append_assoc earlier (m.header ∷ []) (headers_in lanes))) one),
+    )
+stops_at limit chunk place earlier texts more old new behind lanes text s t at why b here long one = absurd b
+
+-- ---- how the definitions open an input
+
+-- one whose header has no fault
+opened_by : (limit : ℕ) (earlier : List Header) (i : Input) (inputs : List Input) → header_fault_of (stream_of limit i) (read_header (allowed_after earlier) (stream_of limit i)) ≡ None
+    → open_from limit earlier (i ∷ inputs) ≡ with_opened (record { header = header_behind earlier limit i; stream = stream_of limit i; rest = (read_header (allowed_after earlier) (stream_of limit i)).rest }) (open_from limit (earlier ++ header_behind earlier limit i ∷ []) inputs)
+unfolding open_from
+opened_by limit earlier i inputs e = rw (e, open_from) refl
+
+-- and one whose header has one
+not_opened : (limit : ℕ) (earlier : List Header) (i : Input) (inputs : List Input) (f : Fault) → header_fault_of (stream_of limit i) (read_header (allowed_after earlier) (stream_of limit i)) ≡ Some f → open_from limit earlier (i ∷ inputs) ≡ Err (length earlier, f)
+unfolding open_from
+not_opened limit earlier i inputs f e = rw (e, open_from) refl
+
+-- an input whose header was read
+opens : (limit chunk : ℕ) (earlier : List Header) (i left : Input) (inputs : List Input) (l : Lane) (s t : Supply) (rest : List Token) → IsBegun (allowed_after earlier) limit chunk i l s t → (stream_of limit left).tokens ≡ l.front ++ rest
+    → open_from limit earlier (left ∷ inputs) ≡ with_opened (record { header = l.header; stream = stream_of limit left; rest = rest }) (open_from limit (earlier ++ l.header ∷ []) inputs)
+opens limit chunk earlier i left inputs l s t rest b e =
+    let most = allowed_after earlier in
+    let header = header_read most limit chunk i l s t b left rest e in
+    let after = rest_read most limit chunk i l s t b left rest e in
+    opened_by limit earlier left inputs (no_fault most limit chunk i l s t b left rest e)
+    ∙ ap (λ (h : Header). with_opened (record { header = h; stream = stream_of limit left; rest = (read_header most (stream_of limit left)).rest }) (open_from limit (earlier ++ h ∷ []) inputs)) header
+    ∙ ap (λ (ts : List Token). with_opened (record { header = l.header; stream = stream_of limit left; rest = ts }) (open_from limit (earlier ++ l.header ∷ []) inputs)) after
+
+-- ---- what was read of each
+
+-- nothing of these
+unread : (settled : ℕ → List Token → Bool) (limit chunk : ℕ) (earlier : List Header) (texts : List (List ℕ)) (old : List Supply) → length old ≡ length texts → AreRead settled limit chunk earlier texts old old (map whole texts)
+unread settled limit chunk earlier [] old long = refl
+unread settled limit chunk earlier (text ∷ texts) [] long = absurd (omega arith)
+unread settled limit chunk earlier (text ∷ texts) (s ∷ old) long = (inl (refl, refl), Nothing refl, unread settled limit chunk (earlier ++ header_behind earlier limit (whole text) ∷ []) texts old (omega arith))
+
+-- a header alone
+module _ (settled : ℕ → List Token → Bool) (on : (most : ℕ) (ts : List Token) → is_header_over most ts ≡ false → settled most ts ≡ false) (limit chunk : ℕ) where
+  header_only_of : (earlier : List Header) (text : List ℕ) (texts : List (List ℕ)) (s t : Supply) (old new : List Supply) (inputs : List Input) (l : Lane) → IsBegun (allowed_after earlier) limit chunk (whole text) l s t
+      → AreRead settled limit chunk (earlier ++ l.header ∷ []) texts old new inputs → AreRead settled limit chunk earlier (text ∷ texts) (s ∷ old) (t ∷ new) (whole text ∷ inputs)
+  header_only_of earlier text texts s t old new inputs l b others =
+      let most = allowed_after earlier in
+      let header = header_read most limit chunk (whole text) l s t b (whole text) b.given_first.0 b.given_first.1 in (
+        inl (b.failures, refl),
+        reads_for limit chunk s t (whole text) [] (is_header_over most) (settled most) (on most) (header_only most limit chunk (whole text) l s t b t refl),
+        subst (λ (h : Header). AreRead settled limit chunk (earlier ++ h ∷ []) texts old new inputs) (sym header) others,
+      )
+
+  -- of all of them
+  pub headers_read : (earlier : List Header) (texts : List (List ℕ)) (old new : List Supply) (lanes : List Lane) → AreBegun limit chunk earlier texts old new lanes → AreRead settled limit chunk earlier texts old new (map whole texts)
+  headers_read earlier [] [] [] [] b = refl
+  headers_read earlier (text ∷ texts) (s ∷ old) (t ∷ new) (l ∷ lanes) b = header_only_of earlier text texts s t old new (map whole texts) l b.0 (headers_read (earlier ++ l.header ∷ []) texts old new lanes b.1)
+  headers_read earlier texts old new lanes b = absurd b
+
+-- the first fault of the headers is this one, or memory ran out
+abbrev pub IsFirst : ℕ → List Header → List Input → Failure → Type 0
+IsFirst limit earlier inputs (Stopped (Dump input line fault)) = ((fault == 31) ≡ false) × (open_from limit earlier inputs ≡ Err (input, record { number = fault; line = line }))
+IsFirst limit earlier inputs (Stopped (Read input)) = (line : ℕ) × (open_from limit earlier inputs ≡ Err (input, record { number = 31; line = line }))
+IsFirst limit earlier inputs (Stopped Write) = ⊥
+IsFirst limit earlier inputs (Stopped (Unmatched name)) = ⊥
+IsFirst limit earlier inputs (Refused why) = ⊥
+IsFirst limit earlier inputs OutOfMemory = Unit {0}
+
+-- it is that of this input
+first_here : (limit : ℕ) (earlier : List Header) (i : Input) (inputs : List Input) (why : Failure) → IsWhy (allowed_after earlier) limit (length earlier) i why → IsFirst limit earlier (i ∷ inputs) why
+first_here limit earlier i inputs (Stopped (Dump input line fault)) w = (w.1, not_opened limit earlier i inputs _ w.2 ∙ ap (λ n. Err (n, record { number = fault; line = line })) (sym w.0))
+first_here limit earlier i inputs (Stopped (Read input)) w = (w.1, not_opened limit earlier i inputs _ w.2 ∙ ap (λ n. Err (n, record { number = 31; line = w.1 })) (sym w.0))
+first_here limit earlier i inputs (Stopped Write) w = absurd w
+first_here limit earlier i inputs (Stopped (Unmatched name)) w = absurd w
+first_here limit earlier i inputs (Refused why) w = absurd w
+first_here limit earlier i inputs OutOfMemory w = tt
+
+-- or of one behind it
+first_behind : (limit chunk : ℕ) (earlier : List Header) (i : Input) (inputs : List Input) (l : Lane) (s t : Supply) (why : Failure) → IsBegun (allowed_after earlier) limit chunk i l s t → IsFirst limit (earlier ++ l.header ∷ []) inputs why → IsFirst limit earlier (i ∷ inputs) why
+first_behind limit chunk earlier i inputs l s t (Stopped (Dump input line fault)) b f =
+    (f.0, opens limit chunk earlier i i inputs l s t b.given_first.0 b b.given_first.1 ∙ ap (with_opened (record { header = l.header; stream = stream_of limit i; rest = b.given_first.0 })) f.1)
+first_behind limit chunk earlier i inputs l s t (Stopped (Read input)) b f =
+    (f.0, opens limit chunk earlier i i inputs l s t b.given_first.0 b b.given_first.1 ∙ ap (with_opened (record { header = l.header; stream = stream_of limit i; rest = b.given_first.0 })) f.1)
+first_behind limit chunk earlier i inputs l s t (Stopped Write) b f = absurd f
+first_behind limit chunk earlier i inputs l s t (Stopped (Unmatched name)) b f = absurd f
+first_behind limit chunk earlier i inputs l s t (Refused why) b f = absurd f
+first_behind limit chunk earlier i inputs l s t OutOfMemory b f = tt
+
+-- what is left of inputs whose headers ended the run
+pub record HaveStopped (settled : ℕ → List Token → Bool) (limit chunk : ℕ) (earlier : List Header) (texts : List (List ℕ)) (old new : List Supply) (why : Failure) : Type 0 where
+  pub lefts : List Input
+  pub read : AreRead settled limit chunk earlier texts old new lefts
+  pub first : IsFirst limit earlier lefts why
+
+module _ (settled : ℕ → List Token → Bool) (on : (most : ℕ) (ts : List Token) → is_header_over most ts ≡ false → settled most ts ≡ false) (limit chunk : ℕ) where
+  pub stops_read : (place : ℕ) (earlier : List Header) (texts : List (List ℕ)) (old new : List Supply) (why : Failure) → length earlier ≡ place → Stops limit chunk place earlier texts old new why → HaveStopped settled limit chunk earlier texts old new why
+  stops_read place earlier (text ∷ texts) (s ∷ old) (t ∷ new) why many (inl h) =
+      let most = allowed_after earlier in
+      let same = subst (λ (ts : List Supply). AreRead settled limit chunk (earlier ++ header_behind earlier limit h.0.left ∷ []) texts old ts (map whole texts)) (sym h.1) (unread settled limit chunk (earlier ++ header_behind earlier limit h.0.left ∷ []) texts old h.2) in
+      record {
+        lefts = h.0.left ∷ map whole texts;
+        read = (h.0.is_left, reads_for limit chunk s t h.0.left [] (is_header_over most) (settled most) (on most) h.0.read, same);
+        first = first_here limit earlier h.0.left (map whole texts) why (subst (λ n. IsWhy most limit n h.0.left why) (sym many) h.0.is_why);
+      }
+  stops_read place earlier (text ∷ texts) (s ∷ old) (t ∷ new) why many (inr h) =
+      let long : length (earlier ++ h.0.header ∷ []) ≡ suc place = omega (arith, length-append earlier (h.0.header ∷ [])) in
+      let others = stops_read (suc place) (earlier ++ h.0.header ∷ []) texts old new why long h.2 in
+      record {
+        lefts = whole text ∷ others.lefts;
+        read = header_only_of settled on limit chunk earlier text texts s t old new others.lefts h.0 h.1 others.read;
+        first = first_behind limit chunk earlier (whole text) others.lefts h.0 s t why h.1 others.first;
+      }
+  stops_read place earlier texts old new why many stops = absurd stops
+
+-- ---- a merge behind the headers
+
+-- what settles an input of a merge behind its header
+merge_settled : (most : ℕ) (limit chunk : ℕ) (i : Input) (l : Lane) (s t : Supply) (ts : List Token) → IsBegun most limit chunk i l s t → is_settled Want.Merge most (l.front ++ ts) ≡ is_settled_behind Request.Merge l.header ts
+unfolding request_of
+merge_settled most limit chunk i l s t ts b =
+    settled_run Want.Merge most l.front ts b.placed b.whole ∙ ap (λ (h : Header). is_settled_by (request_of h.scale Want.Merge) h ts) (sym b.header_is)
+
+-- the definitions open what is left of the inputs, of each of which was read what settles it
+pub merged_read : (limit chunk : ℕ) (earlier : List Header) (texts : List (List ℕ)) (old mid new : List Supply) (lanes : List Lane) (lefts : List Input) (opened : List Opened) → AreBegun limit chunk earlier texts old mid lanes → AreLeft limit chunk lanes mid new lefts → AreOpened limit lanes lefts opened
+    → AreRead (is_settled Want.Merge) limit chunk earlier texts old new lefts × (open_from limit earlier lefts ≡ Ok opened)
+unfolding open_from
+merged_read limit chunk earlier [] [] [] new [] lefts opened b left o = (left, rw (left, o) refl)
+merged_read limit chunk earlier (text ∷ texts) (s ∷ old) (t ∷ mid) [] (l ∷ lanes) lefts opened b left o = absurd left
+merged_read limit chunk earlier (text ∷ texts) (s ∷ old) (t ∷ mid) (u ∷ new) (l ∷ lanes) [] opened b left o = absurd left
+merged_read limit chunk earlier (text ∷ texts) (s ∷ old) (t ∷ mid) (u ∷ new) (l ∷ lanes) (i ∷ lefts) [] b left o = absurd o
+merged_read limit chunk earlier (text ∷ texts) (s ∷ old) (t ∷ mid) (u ∷ new) (l ∷ lanes) (i ∷ lefts) (p ∷ opened) b left o =
+    let most = allowed_after earlier in
+    let others = merged_read limit chunk (earlier ++ l.header ∷ []) texts old mid new lanes lefts opened b.1 left.2 o.2 in
+    let is_left = subst (λ (j : Input). IsLeft j t u i) b.0.input_is left.0 in
+    let header = header_read most limit chunk (whole text) l s t b.0 i p.rest o.1 in
+    let read = all_read most limit chunk (whole text) l s t b.0 (is_settled Want.Merge most) (is_settled_behind Request.Merge l.header) (unsettled_header Want.Merge most) (λ ts e. merge_settled most limit chunk (whole text) l s t ts b.0 ∙ e) u i is_left left.1 in
+    let since = left_since most limit chunk (whole text) l s t b.0 u i is_left in (
+      (since, read, subst (λ (h : Header). AreRead (is_settled Want.Merge) limit chunk (earlier ++ h ∷ []) texts old new lefts) (sym header) others.0),
+      opens limit chunk earlier (whole text) i lefts l s t p.rest b.0 o.1 ∙ ap₂ with_opened (sym o.0) others.1,
+    )
+merged_read limit chunk earlier texts old mid new lanes lefts opened b left o = absurd b
