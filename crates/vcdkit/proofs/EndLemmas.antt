@@ -1,6 +1,6 @@
 -- How a run over its inputs ends, and what it leaves then.
-use Rattle.std.proofs.Common.{◌≡◌, ◌==◌, ℕ, ◌+◌, ◌*◌, ◌/◌, ◌<◌, ◌≤◌, Bool, true, false, ◌++◌, inl, inr, List, [], ◌∷◌, length, map, Option, Some, None, Result, Ok, Err, refl, sym, ap, subst, ◌∙◌, arith, add-zero}
-use Rattle.std.specs.Prelude.{codes, get_or, slice_set}
+use Rattle.std.proofs.Common.{◌≡◌, ◌==◌, ℕ, ◌+◌, ◌*◌, ◌/◌, ◌<◌, ◌≤◌, Bool, true, false, inl, List, [], length, map, Option, Some, Result, Ok, Err, refl, sym, ap, subst, ◌∙◌, arith, add-zero}
+use Rattle.std.specs.Prelude.{get_or, slice_set}
 use Rattle.std.proofs.lemmas.List.{set-get_or}
 use Rattle.std.specs.List.{AllByRecursion, AllZip}
 use Rattle.std.proofs.Math.Nat.{mul-div_cancel_left}
@@ -11,11 +11,10 @@ use Rattle.vcd_head.specs.declared.head.Head.{Head}
 use Rattle.vcd_tools.specs.MergeParts.{AreParts, part_len}
 use Rattle.vcd_tools.specs.declared.seat.Seat.{Seat}
 use Rattle.vcd_model.specs.Input.{Input}
-use Rattle.vcd_model.specs.Job.{Want, outcome, over_opened, refusal_outcome, request_of}
+use Rattle.vcd_model.specs.Job.{Want, outcome, refusal_outcome, request_of}
 use Rattle.vcd_model.specs.Settled.{is_header_over, is_settled}
-use Rattle.vcd_model.specs.Outcome.{Opened, Outcome, dumps_of, fault_outcome, merge_outcome, name_at, open_from, program_line}
+use Rattle.vcd_model.specs.Outcome.{Opened, Outcome, dumps_of, fault_outcome, merge_outcome, name_at, open_from}
 use Rattle.vcd_model.specs.Reading.{Fault}
-use Rattle.vcd_model.specs.Tokens.{Token}
 use Rattle.vcd_text.specs.Answer.{whole}
 use Rattle.vcd_text.specs.Device.{Device, Supply, Writes, supply}
 use Rattle.vcd_text.proofs.Writes.{appends-none}
@@ -34,11 +33,11 @@ use Rattle.vcdkit.specs.declared.failure.Refusal.TheVariants as refusal
 use Rattle.vcdkit.specs.Failure.{failure_of, merge_end, model_refusal, CountsReads}
 use Rattle.vcdkit.specs.Inputs.{AreBegun, AreParked, AreShown, HaveBegun, Stops, headers_in}
 use Rattle.vcdkit.specs.Message.{end_message, end_status, refusal_status, Shows}
-use Rattle.vcdkit.specs.Run.{EndsAll, HasRun, IsOutcome, LeavesAll}
+use Rattle.vcdkit.specs.Run.{EndsAll, HasRun, LeavesAll}
 use Rattle.vcdkit.specs.Run.HasRun.{WithOutcome, NoMemory}
 use Rattle.vcdkit.specs.Run.IsOutcome.{Whole, Part}
 use Rattle.vcdkit.proofs.HeaderLemmas.{unsettled_header}
-use Rattle.vcdkit.proofs.InputsLemmas.{HaveStopped, IsFirst, headers_read, merged_read, stops_read}
+use Rattle.vcdkit.proofs.InputsLemmas.{headers_read, merged_read, stops_read}
 
 writes-none : (out : Device) → Writes out out []
 writes-none out = (appends-none out.held, refl)

@@ -1,5 +1,5 @@
 -- How much was read of an input for its header, and why a header ends a run.
-use Rattle.std.proofs.Common.{◌≡◌, ◌≢◌, ◌==◌, ℕ, ◌+◌, Bool, true, false, ◌++◌, inl, inr, List, [], ◌∷◌, length, Option, Some, None, Ok, Err, refl, sym, ap, subst, ◌∙◌, arith}
+use Rattle.std.proofs.Common.{◌≡◌, ◌≢◌, ◌==◌, ℕ, ◌+◌, Bool, true, false, ◌++◌, inl, inr, List, [], ◌∷◌, length, Some, None, Err, refl, sym, ap, subst, ◌∙◌, arith}
 use Rattle.std.specs.Prelude.{IfSome}
 use Rattle.std.proofs.lemmas.List.{append-nil}
 use Rattle.vcd_model.specs.Input.{Input}
@@ -8,7 +8,7 @@ use Rattle.vcd_model.specs.Laws.{IsPrefixOf}
 use Rattle.vcd_model.specs.Settled.{is_header_over, is_over, is_settled, is_settled_at, is_settled_by}
 use Rattle.vcd_model.specs.SoFar.{IsWhole}
 use Rattle.vcd_model.specs.HeaderPhrases.{HeaderPhrase}
-use Rattle.vcd_model.specs.Header.{Header, header_of}
+use Rattle.vcd_model.specs.Header.{header_of}
 use Rattle.vcd_model.specs.HeaderReading.{header_fault_of, header_grammar, read_header}
 use Rattle.vcd_model.specs.Reading.{Ending, Reading, Placed, phrases_of, reading_of}
 use Rattle.vcd_model.specs.Reading.Ending.{AtFault, AtEnd, AtLast}
@@ -35,7 +35,7 @@ use Rattle.vcd_text.specs.Registers.{Fits}
 use Rattle.vcd_text.specs.Advances.{HasNotFailed}
 use Rattle.vcd_text.specs.declared.answer.Halt.TheVariants as halt
 use Rattle.vcd_tools.specs.Seat.{IsSeated, Lane}
-use Rattle.vcd_tools.specs.declared.answer.Stop.TheVariants.{Dump, Read}
+use Rattle.vcd_tools.specs.declared.answer.Stop.TheVariants.{Dump}
 use Rattle.vcdkit.specs.declared.failure.Failure.{Failure}
 use Rattle.vcdkit.specs.declared.failure.Failure.TheVariants as failure
 use Rattle.vcdkit.specs.Failure.{head_failure, CountsRead}

@@ -1,15 +1,14 @@
 -- The headers of inputs in order: what was read of each input, and how the definitions open them.
-use Rattle.std.proofs.Common.{◌≡◌, ◌==◌, ℕ, suc, ◌+◌, Bool, true, false, ◌++◌, inl, inr, List, [], ◌∷◌, length, map, Option, Some, None, Result, Ok, Err, refl, sym, ap, ap₂, subst, ◌∙◌, arith, append_assoc}
+use Rattle.std.proofs.Common.{◌≡◌, ◌==◌, ℕ, suc, ◌+◌, Bool, false, ◌++◌, inl, inr, List, [], ◌∷◌, length, map, Some, None, Ok, Err, refl, sym, ap, ap₂, subst, ◌∙◌, arith, append_assoc}
 use Rattle.std.proofs.lemmas.List.{append-nil, length-append}
 use Rattle.vcd_model.specs.Input.{Input}
 use Rattle.vcd_model.specs.Job.{Want, request_of}
 use Rattle.vcd_model.specs.Settled.{is_header_over, is_settled, is_settled_behind, is_settled_by}
-use Rattle.vcd_model.specs.HeaderPhrases.{HeaderPhrase}
-use Rattle.vcd_model.specs.Header.{Header, header_of}
+use Rattle.vcd_model.specs.Header.{Header}
 use Rattle.vcd_model.specs.HeaderReading.{header_fault_of, read_header}
 use Rattle.vcd_model.specs.Outcome.{Opened, Request, allowed_after, open_from, with_opened}
-use Rattle.vcd_model.specs.Reading.{Fault, Reading, phrases_of}
-use Rattle.vcd_model.specs.Tokens.{Stream, Token, stream_of}
+use Rattle.vcd_model.specs.Reading.{Fault}
+use Rattle.vcd_model.specs.Tokens.{Token, stream_of}
 use Rattle.vcd_text.specs.Answer.{whole}
 use Rattle.vcd_text.specs.Device.{Supply}
 use Rattle.vcd_text.specs.ReadAhead.ReadsAsNeeded.{Nothing}

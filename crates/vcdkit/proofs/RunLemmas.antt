@@ -1,35 +1,29 @@
 -- How a run ends, and what it leaves.
-use Rattle.std.proofs.Common.{◌≡◌, ◌==◌, ℕ, ◌+◌, Bool, true, false, ◌++◌, inl, inr, List, [], ◌∷◌, length, map, get_or, set, Option, Some, Result, Ok, Err, refl, sym, ap, subst, ◌∙◌, arith}
-use Rattle.std.specs.Prelude.{MatchResult, IfOk, IfErr, IfSome, codes}
+use Rattle.std.proofs.Common.{◌≡◌, ◌==◌, ℕ, Bool, true, false, ◌++◌, inl, List, [], ◌∷◌, length, map, get_or, set, Option, Some, Result, Ok, Err, refl, sym, ap, subst, ◌∙◌, arith}
+use Rattle.std.specs.Prelude.{MatchResult, IfOk, IfErr}
 use Rattle.std.specs.List.{list_any}
 use Rattle.vcd_model.specs.Input.{Input}
-use Rattle.vcd_model.specs.Job.{outcome, over_opened, refusal_outcome, request_of}
-use Rattle.vcd_model.specs.Laws.{IsPrefixOf}
+use Rattle.vcd_model.specs.Job.{outcome, over_opened, request_of}
 use Rattle.vcd_model.specs.Settled.{is_header_over, is_settled, is_settled_behind, is_settled_by}
 use Rattle.vcd_model.specs.SoFar.{IsWhole}
 use Rattle.vcd_model.specs.HeaderPhrases.{HeaderPhrase}
 use Rattle.vcd_model.specs.Items.{BodyItem}
 use Rattle.vcd_model.specs.BodyReading.{body_items, read_body}
-use Rattle.vcd_model.proofs.SoFarLemmas.{whole-more}
 use Rattle.vcd_model.specs.Header.{Header, header_of}
-use Rattle.vcd_model.specs.HeaderReading.{header_grammar, read_header, header_fault_of}
+use Rattle.vcd_model.specs.HeaderReading.{header_grammar}
 use Rattle.vcd_model.specs.CheckAndList.{list_text}
 use Rattle.vcd_model.specs.Outcome.{Opened, Outcome, Request, ends_early, fault_outcome, declarations_allowed, name_at, names_of, over_dump, unmatched_outcome}
 use Rattle.vcd_model.specs.Reading.{Fault, Placed, phrases_of}
-use Rattle.vcd_model.specs.Tokens.{Token, end_of_tokens, halt_place, stream_of}
-use Rattle.vcd_text.specs.Answer.{whole, failed_after}
+use Rattle.vcd_model.specs.Tokens.{Token, stream_of}
+use Rattle.vcd_text.specs.Answer.{whole}
 use Rattle.vcd_text.specs.Device.{Counts, Device, Supply, Takes, Writes, supply}
-use Rattle.vcd_text.specs.ReadAhead.{Near, ReadsAsNeeded}
-use Rattle.vcd_text.specs.ReadAhead.ReadsAsNeeded.{Nothing, ToToken, ToEnd}
-use Rattle.vcd_text.specs.Feed.{HasGiven, chunk_len_of, limit_of, supply_of, token_of, seen}
+use Rattle.vcd_text.specs.ReadAhead.{ReadsAsNeeded}
+use Rattle.vcd_text.specs.ReadAhead.ReadsAsNeeded.{Nothing}
+use Rattle.vcd_text.specs.Feed.{HasGiven, limit_of}
 use Rattle.vcd_text.specs.declared.device.Source.{Ghosts}
 use Rattle.vcd_text.specs.declared.feed.Feed.{Feed}
 use Rattle.vcd_text.proofs.Writes.{appends-none}
-use Rattle.vcd_head.specs.Reads.{Fails, FailsAtEnd, FailsAtToken, GivesHead, HasFault, HasReadToShown, IsGoing}
-use Rattle.vcd_head.specs.Shown.{HeadShown}
-use Rattle.vcd_head.specs.declared.fault.HeadFault.{HeadFault}
-use Rattle.vcd_head.specs.declared.fault.HeadFault.TheVariants.{TokenTooLong, EndOfInput, UnknownCommand, OutOfPlace, BadTimescale, BadScope, BadVariable, CodeDiffers, NoScope, TooDeep, TooMany, InputTooLong, ReadFailed, OutOfMemory}
-use Rattle.vcd_tools.specs.Run.{Belongs, Follows, IsLeft, IsRefused, is_early}
+use Rattle.vcd_tools.specs.Run.{Belongs, Follows, IsRefused, is_early}
 use Rattle.vcd_tools.specs.declared.answer.Done.{Done}
 use Rattle.vcd_tools.specs.declared.answer.Stop.{Stop}
 use Rattle.vcd_tools.specs.declared.answer.Stop.TheVariants.{Dump, Read, Write, Unmatched}
@@ -37,10 +31,8 @@ use Rattle.vcdkit.specs.declared.job.Want.{Want}
 use Rattle.vcdkit.specs.declared.failure.Failure.{Failure}
 use Rattle.vcdkit.specs.declared.failure.Failure.TheVariants as failure
 use Rattle.vcdkit.specs.declared.failure.Refusal.{Refusal}
-use Rattle.vcdkit.specs.declared.failure.Refusal.TheVariants as refusal
-use Rattle.vcdkit.specs.Failure.{end_of, failure_of, head_failure, model_refusal, CountsRead}
+use Rattle.vcdkit.specs.Failure.{end_of, model_refusal}
 use Rattle.vcdkit.specs.Job.{is_merge, model_want, names_asked}
-use Rattle.vcdkit.specs.Message.{end_message, end_status, refusal_status, Shows}
 use Rattle.vcdkit.specs.Inputs.{HasFailed, IsBegun}
 use Rattle.vcdkit.specs.Run.{Ends, EndsAll, IsAfter, IsOfJob, Leaves, LeavesAll, settled_for}
 use Rattle.vcdkit.proofs.HeaderLemmas.{all_read, left_since, reads_for, settled_header, settled_run, unsettled_header}

@@ -15,7 +15,7 @@ use Rattle.vcd_model.specs.Words as model
 use Rattle.vcd_head.specs.declared.moment.Moment as head
 use Rattle.vcd_head.specs.Moments.{asked, with_unit}
 use Rattle.vcdkit.specs.declared.job.UseFault.{UseFault}
-use Rattle.vcdkit.specs.declared.job.UseFault.TheVariants.{BadWords, BadLimit, BadTime, FromAboveTo, NotRising, OutOfMemory}
+use Rattle.vcdkit.specs.declared.job.UseFault.TheVariants.{BadWords, BadLimit, BadTime, FromAboveTo, NotRising, TooManyFiles, OutOfMemory}
 use Rattle.vcdkit.specs.declared.moment_word.Order.{Order}
 use Rattle.vcdkit.specs.Ticks.{has_units, times_with}
 use Rattle.vcdkit.specs.Times.{last_of, parts, IsOrderOf}
@@ -162,6 +162,7 @@ fault_moves (BadLimit word) a b moves h = moves _ h
 fault_moves (BadTime word) a b moves h = moves _ h
 fault_moves FromAboveTo a b moves h = moves _ h
 fault_moves NotRising a b moves h = moves _ h
+fault_moves TooManyFiles a b moves h = moves _ h
 fault_moves OutOfMemory a b moves h = absurd h
 
 pub fault_of_words : {X : Type 0} (fault : UseFault) (a : Result X model.UseFault) → IsFaultIn fault a → IsFaultOf fault a
@@ -170,6 +171,7 @@ fault_of_words (BadLimit word) a h = h
 fault_of_words (BadTime word) a h = h
 fault_of_words FromAboveTo a h = h
 fault_of_words NotRising a h = h
+fault_of_words TooManyFiles a h = h
 fault_of_words OutOfMemory a h = absurd h
 
 -- ---- a sample

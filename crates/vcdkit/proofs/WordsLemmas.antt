@@ -4,13 +4,24 @@ use Rattle.std.proofs.Math.Dec.{eqb-suc-zero}
 use Rattle.std.specs.Borrow.{Bor}
 use Rattle.std.specs.Bool.{then_some}
 use Rattle.std.specs.Prelude.{Option, Some, None, Result, Ok, Err, option_map, option_and_then, unwrap_or}
+use Rattle.std.specs.Option.{IsSomeAnd}
+use Rattle.clap.specs.declared.builder.range.ValueRange.{ValueRange}
 use Rattle.clap.specs.Words.{Row, Text, all_of, first_of}
 use Rattle.vcd_model.specs.Job as model_job
 use Rattle.vcd_model.specs.Words as model
 use Rattle.vcdkit.specs.declared.words.Words.{Words}
 use Rattle.vcdkit.specs.declared.job.UseFault.{UseFault}
-use Rattle.vcdkit.specs.declared.job.UseFault.TheVariants.{BadWords, BadLimit, BadTime, FromAboveTo, NotRising, OutOfMemory}
+use Rattle.vcdkit.specs.declared.job.UseFault.TheVariants.{BadWords, BadLimit, BadTime, FromAboveTo, NotRising, TooManyFiles, OutOfMemory}
 use Rattle.vcdkit.specs.Words.{complete, some_of, words_command, IsFaultIn, IsFaultOf}
+
+-- ---- words as clap takes them
+
+-- how many words an argument takes
+pub some-is : (range : Option ValueRange) (wanted : ValueRange) → IsSomeAnd range (λ r. r ≡ wanted) → range ≡ Some wanted
+some-is None wanted h = absurd h
+some-is (Some range) wanted h = ap (λ r. Some r) h
+
+-- ---- commands with their words
 
 -- a command with the word after its option
 abbrev pub with_limit : Option model.Command → Option Text → Option model.Words
@@ -60,6 +71,7 @@ limit-fault named limit w (BadLimit word) e l = with-complete named _ limit (sym
 limit-fault named limit w (BadTime word) e l = with-complete named _ limit (sym e) ∙ ap (λ x. model.job_with x (model.want_of (words_command w))) l
 limit-fault named limit w FromAboveTo e l = with-complete named _ limit (sym e) ∙ ap (λ x. model.job_with x (model.want_of (words_command w))) l
 limit-fault named limit w NotRising e l = with-complete named _ limit (sym e) ∙ ap (λ x. model.job_with x (model.want_of (words_command w))) l
+limit-fault named limit w TooManyFiles e l = with-complete named _ limit (sym e) ∙ ap (λ x. model.job_with x (model.want_of (words_command w))) l
 limit-fault named limit w OutOfMemory e l = absurd l
 
 -- a fault of what is asked for is the job's, where the limit has none
@@ -69,6 +81,7 @@ want-fault named limit w n (BadLimit word) e l t = with-complete named _ limit (
 want-fault named limit w n (BadTime word) e l t = with-complete named _ limit (sym e) ∙ ap₂ model.job_with l t
 want-fault named limit w n FromAboveTo e l t = with-complete named _ limit (sym e) ∙ ap₂ model.job_with l t
 want-fault named limit w n NotRising e l t = with-complete named _ limit (sym e) ∙ ap₂ model.job_with l t
+want-fault named limit w n TooManyFiles e l t = with-complete named _ limit (sym e) ∙ ap₂ model.job_with l t
 want-fault named limit w n OutOfMemory e l (wanted, t) = (record { want = wanted; limit = n }, with-complete named _ limit (sym e) ∙ ap₂ model.job_with l t)
 
 -- a fault that is none of memory
@@ -78,6 +91,7 @@ fault-in (BadLimit word) asked e = e
 fault-in (BadTime word) asked e = e
 fault-in FromAboveTo asked e = e
 fault-in NotRising asked e = e
+fault-in TooManyFiles asked e = e
 fault-in OutOfMemory asked e = absurd e
 
 -- ---- what stands after the command that was used

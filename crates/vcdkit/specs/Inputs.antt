@@ -15,7 +15,7 @@ use Rattle.vcd_text.specs.Answer.{whole}
 use Rattle.vcd_text.specs.Device.{Supply, supply}
 use Rattle.vcd_text.specs.ReadAhead.{Near, ReadsAsNeeded}
 use Rattle.vcd_head.specs.Reads.{HasFault, IsGoing}
-use Rattle.vcd_head.specs.Shown.{HeadShown, shown}
+use Rattle.vcd_head.specs.Shown.{shown}
 use Rattle.vcd_head.specs.Views.{Views}
 use Rattle.vcd_head.specs.declared.head.Head.{Head}
 use Rattle.vcd_tools.specs.MergeParts.{part, part_len, spot_of}

@@ -12,7 +12,7 @@ use Rattle.vcd_model.specs.Words as model
 use Rattle.vcdkit.specs.declared.words.Words.{Words}
 use Rattle.vcdkit.specs.declared.words.Words.TheVariants as words
 use Rattle.vcdkit.specs.declared.job.UseFault.{UseFault}
-use Rattle.vcdkit.specs.declared.job.UseFault.TheVariants.{BadWords, BadLimit, BadTime, FromAboveTo, NotRising, OutOfMemory}
+use Rattle.vcdkit.specs.declared.job.UseFault.TheVariants.{BadWords, BadLimit, BadTime, FromAboveTo, NotRising, TooManyFiles, OutOfMemory}
 
 -- ---- how words are read
 
@@ -48,6 +48,14 @@ cut_app = with_rule (with_rule (one_input_app (codes "cut")) (time_rule (codes "
 abbrev pub sample_app : App
 sample_app = with_rule (named_app (codes "sample") false) (time_rule (codes "at"))
 
+-- `FILE..`, which have to be there
+abbrev pub files_rule : Rule
+files_rule = record (new_rule (codes "files")) { range = Some (record { start_inclusive = 1; end_inclusive = usize_max }); value_names = 1; required = true }
+
+-- `merge`, with its files
+abbrev pub merge_app : App
+merge_app = with_rule (with_rule (new_app (codes "merge")) limit_rule) files_rule
+
 -- `vcdkit` has a version (so `--version` and `-V`), wants a command and has no command `help`
 abbrev pub bare_app : App
 bare_app =
@@ -57,8 +65,8 @@ bare_app =
 -- `vcdkit` with its commands
 abbrev pub program_app : App
 program_app =
-    with_subcommand (with_subcommand (with_subcommand (with_subcommand (with_subcommand (with_subcommand bare_app (one_input_app (codes "check")).top) (one_input_app (codes "list")).top)
-    (named_app (codes "pick") true).top) cut_app.top) sample_app.top) (named_app (codes "edges") false).top
+    with_subcommand (with_subcommand (with_subcommand (with_subcommand (with_subcommand (with_subcommand (with_subcommand bare_app (one_input_app (codes "check")).top) (one_input_app (codes "list")).top)
+    (named_app (codes "pick") true).top) cut_app.top) sample_app.top) (named_app (codes "edges") false).top) merge_app.top
 
 -- help and the version are no fault, and out of memory has a status of its own
 abbrev pub parse_status_of : ErrorKind → ℕ
@@ -85,6 +93,10 @@ some_of words = cond (is_empty words) None (Some words)
 abbrev pub input_asked : ArgMatches → Option Text
 input_asked matches = word_after matches (codes "input")
 
+-- the files that the matches name for a merge
+abbrev pub files_asked : ArgMatches → List Text
+files_asked matches = values_after matches (codes "files")
+
 -- a cut between these words, where there are both
 abbrev pub cut_between : Option Text → Option Text → Option model.Command
 cut_between (Some from) (Some to) = Some (model.Command.Cut from to)
@@ -99,7 +111,8 @@ command_named name matches =
     (cond (bytes_eq name (codes "pick")) (Some (model.Command.Pick (values_after matches (codes "names"))))
     (cond (bytes_eq name (codes "cut")) (cut_between (word_after matches (codes "from")) (word_after matches (codes "to")))
     (cond (bytes_eq name (codes "sample")) (option_map (λ at. model.Command.Sample at (values_after matches (codes "names"))) (word_after matches (codes "at")))
-    (cond (bytes_eq name (codes "edges")) (Some (model.Command.Edges (values_after matches (codes "names")))) None)))))
+    (cond (bytes_eq name (codes "edges")) (Some (model.Command.Edges (values_after matches (codes "names"))))
+    (cond (bytes_eq name (codes "merge")) (Some (model.Command.Merge (values_after matches (codes "files")))) None))))))
 
 -- the command that was used, with its words
 abbrev pub command_used : ArgMatches → Option model.Command
@@ -131,6 +144,7 @@ words_command (words.Pick names) = model.Command.Pick (map (λ name. name.now) n
 words_command (words.Cut from to) = model.Command.Cut from.now to.now
 words_command (words.Sample at names) = model.Command.Sample at.now (some_names names)
 words_command (words.Edges names) = model.Command.Edges (some_names names)
+words_command (words.Merge files) = model.Command.Merge (map (λ file. file.now) files.now)
 
 -- the fault is the one that the words have; memory is none of theirs
 abbrev pub IsFaultIn : {X : Type 0} → UseFault → Result X model.UseFault → Type 0
@@ -139,6 +153,7 @@ IsFaultIn {X} (BadLimit word) asked = asked ≡ Err (model.UseFault.BadLimit wor
 IsFaultIn {X} (BadTime word) asked = asked ≡ Err (model.UseFault.BadTime word.now)
 IsFaultIn {X} FromAboveTo asked = asked ≡ Err model.UseFault.FromAboveTo
 IsFaultIn {X} NotRising asked = asked ≡ Err model.UseFault.NotRising
+IsFaultIn {X} TooManyFiles asked = asked ≡ Err model.UseFault.TooManyFiles
 IsFaultIn {X} OutOfMemory asked = ⊥
 
 -- the same, or memory ran out, which it does only where the words have no fault

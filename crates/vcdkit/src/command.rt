@@ -1,11 +1,22 @@
 //! The command line: which words it takes, and the exit status where it takes none.
 ghost use Rattle.std.specs.Prelude.{◌≡◌, IfOk, false};
 ghost use Rattle.clap.specs.Words.{app_of, is_broken, kind_of, rule_of};
-ghost use Rattle.vcdkit.specs.Words.{cut_app, named_app, one_input_app, parse_status_of, program_app, sample_app, time_rule};
+ghost use Rattle.vcdkit.specs.Words.{cut_app, limit_rule, merge_app, named_app, one_input_app, parse_status_of, program_app, sample_app, time_rule};
 
 use clap::error::ErrorKind;
 use clap::{Arg, Command, Error};
 use std::alloc::{AllocError, Global};
+
+/// The option `--token-limit`.
+fn token_limit<'a>(alloc: Global) -> Arg<'a>
+    ensures rule { rule_of result ≡ limit_rule }
+    ensures local { result.global ≡ false }
+{
+    Arg::new(alloc, "token-limit")
+        .long("token-limit")
+        .value_name("N")
+        .help("How long a token may be, in bytes: 64 to 16777216 [default: 1048576]")
+}
 
 /// A command over one input, with its options.
 fn one_input<'a>(alloc: Global, name: &'a str, about: &'a str) -> Result<Command<'a>, AllocError>
@@ -16,14 +27,10 @@ fn one_input<'a>(alloc: Global, name: &'a str, about: &'a str) -> Result<Command
         .short('i')
         .value_name("FILE")
         .help("Reads this file in place of standard input");
-    let limit = Arg::new(alloc, "token-limit")
-        .long("token-limit")
-        .value_name("N")
-        .help("How long a token may be, in bytes: 64 to 16777216 [default: 1048576]");
     Command::new(alloc, name)
         .about(about)
         .arg(input)?
-        .arg(limit)
+        .arg(token_limit(alloc))
 }
 
 /// A command over one input, with its options and names of variables, without which the parse fails where they are required.
@@ -93,6 +100,22 @@ fn sample<'a>(alloc: Global) -> Result<Command<'a>, AllocError>
     .arg(at)
 }
 
+/// The command `merge`, with its files.
+fn merge<'a>(alloc: Global) -> Result<Command<'a>, AllocError>
+    ensures words { IfOk result (λ c. app_of c ≡ merge_app) }
+    ensures whole { IfOk result (λ c. is_broken c ≡ false) }
+{
+    let files = Arg::new(alloc, "files")
+        .value_name("FILE")
+        .num_args(1..)
+        .required(true)
+        .help("A dump; of several, the changes are merged in the order of their times");
+    Command::new(alloc, "merge")
+        .about("Writes several dumps as one")
+        .arg(token_limit(alloc))?
+        .arg(files)
+}
+
 /// The command `vcdkit` with its commands.
 pub fn command_of<'a>(alloc: Global) -> Result<Command<'a>, AllocError>
     ensures words { IfOk result (λ c. app_of c ≡ program_app) }
@@ -109,6 +132,7 @@ pub fn command_of<'a>(alloc: Global) -> Result<Command<'a>, AllocError>
         "Counts changes, rises and falls of variables",
         false,
     )?;
+    let merge = merge(alloc)?;
     Command::new(alloc, "vcdkit")
         .version("0.1.0")
         .about("Proved tools for value change dumps")
@@ -119,7 +143,8 @@ pub fn command_of<'a>(alloc: Global) -> Result<Command<'a>, AllocError>
         .subcommand(pick)?
         .subcommand(cut)?
         .subcommand(sample)?
-        .subcommand(edges)
+        .subcommand(edges)?
+        .subcommand(merge)
 }
 
 /// The exit status where a parse gave no matches.

@@ -124,6 +124,8 @@ pub enum UseFault<'a> {
     FromAboveTo,
     /// The times of a sample do not rise.
     NotRising,
+    /// A merge has more than 64 files.
+    TooManyFiles,
     /// Memory ran out.
     OutOfMemory,
 }

@@ -29,7 +29,8 @@
 //! those that they call have.
 #![tactic(auto)]
 
-ghost use Rattle.std.specs.Prelude.{◌≡◌, ◌-◌, ◌^◌, ◌<◌, All, length};
+ghost use Rattle.std.specs.Prelude.{◌≡◌, ◌-◌, ◌^◌, ◌<◌, ◌≤◌, All, length, false, true};
+ghost use Rattle.vcdkit.specs.Job.{is_merge};
 
 mod command;
 mod failure;
@@ -56,7 +57,7 @@ use std::fs::File;
 use std::io::{BufWriter, ErrorKind, Read, Write};
 use std::process::ExitCode;
 use vcd_text::{Sink, Source, Watch};
-use words::input_of;
+use words::{MOST_FILES, files_of, input_of};
 
 /// What standard input is called.
 const INPUT: &str = "(stdin)";
@@ -79,8 +80,10 @@ fn run_job<S: Source, W: Write + Drop, E: Sink>(
     output: W,
     err: &mut E,
 ) -> Result<u8, AllocError>
-    requires names { length names.now ≡ 1 }
-    requires readers { length readers.old ≡ 1 }
+    requires names { length names.now ≡ length readers.old }
+    requires some { 0 < length readers.old }
+    requires few { length readers.old ≤ 64 }
+    requires alone { is_merge job.want ≡ false → length readers.old ≡ 1 }
     requires reader_failures { All (λ r. S.failures r < 2 ^ 64 - 1) readers.old }
     requires err_failures { (E.device err.old).failures < 2 ^ 64 - 2 }
 {
@@ -135,6 +138,32 @@ fn run_over_file(rt: &HostRuntime, job: Job, name: &str) -> Result<u8, AllocErro
     }
 }
 
+/// Opens the files of these names in order, at most 64 as a merge has, and runs the job over them.
+fn run_over_files(rt: &HostRuntime, job: Job, files: &[&str]) -> Result<u8, AllocError>
+    requires merge { is_merge job.want ≡ true }
+    requires some { 0 < length files.now }
+{
+    let alloc = rt.alloc();
+    let mut names = Vec::new(alloc);
+    let mut readers = Vec::new(alloc);
+    for place in 0..files.len().min(MOST_FILES) {
+        match File::open(rt, files[place]) {
+            Ok(file) => readers.push(Watch::new(file))?,
+            Err(error) if error.kind() == ErrorKind::OutOfMemory => return Err(AllocError),
+            Err(_) => return Ok(open_fault(files[place], &mut Watch::new(rt.stderr()))),
+        }
+        names.push(String::from_str(alloc, files[place])?)?;
+    }
+    run_job(
+        alloc,
+        job,
+        names.as_slice(),
+        readers.as_mut_slice(),
+        rt.stdout(),
+        &mut Watch::new(rt.stderr()),
+    )
+}
+
 /// Parses the words, and runs the job that they ask for.
 fn run_words<'a>(rt: &HostRuntime, words: &'a [String]) -> Result<u8, UseFault<'a>> {
     let alloc = rt.alloc();
@@ -143,9 +172,12 @@ fn run_words<'a>(rt: &HostRuntime, words: &'a [String]) -> Result<u8, UseFault<'
         Err(error) => return Ok(print_error(rt, error)?),
     };
     let job = job_of(alloc, &matches)?;
-    let status = match input_of(&matches) {
-        Some(name) => run_over_file(rt, job, name),
-        None => run_over(rt, job, INPUT, rt.stdin()),
+    let status = match (files_of(&matches), input_of(&matches)) {
+        (Some(files), _) if job.want.is_merge() && !files.is_empty() => {
+            run_over_files(rt, job, files)
+        }
+        (_, Some(name)) => run_over_file(rt, job, name),
+        (_, None) => run_over(rt, job, INPUT, rt.stdin()),
     };
     Ok(status?)
 }

@@ -183,6 +183,10 @@ pub fn use_fault<E: Sink>(fault: UseFault<'_>, err: &mut E) -> u8
             let _ = put_line(err, "times must rise");
             2
         }
+        UseFault::TooManyFiles => {
+            let _ = put_line(err, "too many files");
+            2
+        }
         UseFault::OutOfMemory => report(Failure::OutOfMemory, &[], &[], err),
     }
 }

@@ -1,13 +1,16 @@
 //! What the words of the command line ask for, borrowed from their matches.
 ghost use Rattle.std.specs.Prelude.{◌≡◌, IfErr, IfOk, codes, map, option_map, string_bytes};
-ghost use Rattle.vcd_model.specs.Words.{want_of};
+ghost use Rattle.vcd_model.specs.Words.{Command, want_of};
 ghost use Rattle.vcdkit.specs.Job.{model_want};
-ghost use Rattle.vcdkit.specs.Words.{command_named, command_used, complete, input_asked, some_names, some_of, values_after, word_after, words_command, IsFaultOf};
+ghost use Rattle.vcdkit.specs.Words.{command_named, command_used, complete, files_asked, input_asked, some_names, some_of, values_after, word_after, words_command, IsFaultOf};
 
 use crate::job::{UseFault, Want};
 use crate::moment_word::{cut_of, sample_times};
 use clap::ArgMatches;
 use std::alloc::{AllocError, Global};
+
+/// How many files a merge may have.
+pub const MOST_FILES: usize = 64;
 
 /// A command with its words.
 #[derive(Clone, Copy, PartialEq, Eq, Debug)]
@@ -18,6 +21,7 @@ pub(crate) enum Words<'m, 'a> {
     Cut(&'a str, &'a str),
     Sample(&'a str, Option<&'m [&'a str]>),
     Edges(Option<&'m [&'a str]>),
+    Merge(&'m [&'a str]),
 }
 
 /// The first word after an option of the command that was used.
@@ -42,14 +46,30 @@ pub(crate) fn limit_word<'a>(matches: &ArgMatches<'a>) -> Option<&'a str>
     word_of(matches, "token-limit")
 }
 
-/// The names after the command that was used, where there are some.
+/// The words of an argument of the command that was used, where there are some.
+fn words_of<'m, 'a>(matches: &'m ArgMatches<'a>, id: &str) -> Option<&'m [&'a str]>
+    ensures { option_map (λ words. map (λ word. word.now) words.now) result
+        ≡ some_of (values_after matches.now id.now) }
+{
+    let (_, options) = matches.subcommand()?;
+    let words = options.get_strs(id)?;
+    (!words.is_empty()).then_some(words)
+}
+
+/// The names of variables after the command that was used, where there are some.
 fn names_of<'m, 'a>(matches: &'m ArgMatches<'a>) -> Option<&'m [&'a str]>
     ensures { option_map (λ names. map (λ name. name.now) names.now) result
         ≡ some_of (values_after matches.now (codes "names")) }
 {
-    let (_, options) = matches.subcommand()?;
-    let names = options.get_strs("names")?;
-    (!names.is_empty()).then_some(names)
+    words_of(matches, "names")
+}
+
+/// The files that the matches of a merge name, where there are some.
+pub fn files_of<'m, 'a>(matches: &'m ArgMatches<'a>) -> Option<&'m [&'a str]>
+    ensures { option_map (λ files. map (λ file. file.now) files.now) result
+        ≡ some_of (files_asked matches.now) }
+{
+    words_of(matches, "files")
 }
 
 /// The command of this name with its words, where it has all that it needs.
@@ -63,6 +83,7 @@ fn words_named<'m, 'a>(name: &str, matches: &'m ArgMatches<'a>) -> Option<Words<
         "cut" => Some(Words::Cut(word_of(matches, "from")?, word_of(matches, "to")?)),
         "sample" => Some(Words::Sample(word_of(matches, "at")?, names_of(matches))),
         "edges" => Some(Words::Edges(names_of(matches))),
+        "merge" => Some(Words::Merge(files_of(matches)?)),
         _ => None,
     }
 }
@@ -96,6 +117,19 @@ fn copied_some(alloc: Global, names: Option<&[&str]>) -> Result<Vec<String>, All
     }
 }
 
+/// A merge of these files, where they are not too many.
+fn merge_of<'a>(files: &[&str]) -> Result<Want, UseFault<'a>>
+    ensures want { IfOk result (λ want. want_of (Command.Merge (map (λ file. file.now) files.now))
+        ≡ Ok (model_want want)) }
+    ensures fault { IfErr result (λ fault.
+        IsFaultOf fault (want_of (Command.Merge (map (λ file. file.now) files.now)))) }
+{
+    if files.len() > MOST_FILES {
+        return Err(UseFault::TooManyFiles);
+    }
+    Ok(Want::Merge)
+}
+
 /// What these words ask for, or the first fault of them. Their names are copied.
 pub(crate) fn want_of<'a>(alloc: Global, words: Words<'_, 'a>) -> Result<Want, UseFault<'a>>
     ensures want { IfOk result (λ want. want_of (words_command words.entry) ≡ Ok (model_want want)) }
@@ -110,5 +144,6 @@ pub(crate) fn want_of<'a>(alloc: Global, words: Words<'_, 'a>) -> Result<Want, U
             Want::Sample(sample_times(alloc, at)?, copied_some(alloc, names)?)
         }
         Words::Edges(names) => Want::Edges(copied_some(alloc, names)?),
+        Words::Merge(files) => merge_of(files)?,
     })
 }

@@ -3,7 +3,7 @@ use Rattle.std.proofs.lemmas.Result.{IfOk-weaker}
 use Rattle.clap.specs.Built.{AddsSubcommand}
 use Rattle.clap.specs.Words.{App, app_of, is_broken, with_subcommand}
 use Rattle.clap.specs.declared.builder.command.Command.{Command}
-use Rattle.vcdkit.specs.Words.{bare_app, cut_app, named_app, one_input_app, sample_app}
+use Rattle.vcdkit.specs.Words.{bare_app, cut_app, merge_app, named_app, one_input_app, sample_app}
 use Rattle.vcdkit.proofs.command.command_of.Goals as goal
 
 -- a plain command has no global argument
@@ -22,7 +22,8 @@ returns-clause-words c =
     let third = added _ _ _ _ (named_app (codes "pick") true) c.in_ok-subcommand-3.ensures second c.in_ok-pick.ensures.words refl in
     let fourth = added _ _ _ _ cut_app c.in_ok-subcommand-4.ensures third c.in_ok-cut.ensures.words refl in
     let fifth = added _ _ _ _ sample_app c.in_ok-subcommand-5.ensures fourth c.in_ok-sample.ensures.words refl in
-    IfOk-weaker c.subcommand-6.result _ _ (λ r h. added _ _ _ _ (named_app (codes "edges") false) h fifth c.in_ok-edges.ensures.words refl) c.subcommand-6.ensures
+    let sixth = added _ _ _ _ (named_app (codes "edges") false) c.in_ok-subcommand-6.ensures fifth c.in_ok-edges.ensures.words refl in
+    IfOk-weaker c.subcommand-7.result _ _ (λ r h. added _ _ _ _ merge_app h sixth c.in_ok-merge.ensures.words refl) c.subcommand-7.ensures
 
 pub returns-clause-whole : goal.returns-clause-whole
 returns-clause-whole c =
@@ -32,4 +33,5 @@ returns-clause-whole c =
     let third : is_broken c.in_ok-subcommand-3.field-0 ≡ false = c.in_ok-subcommand-3.ensures.broken ∙ ap₂ ◌||◌ second c.in_ok-pick.ensures.whole in
     let fourth : is_broken c.in_ok-subcommand-4.field-0 ≡ false = c.in_ok-subcommand-4.ensures.broken ∙ ap₂ ◌||◌ third c.in_ok-cut.ensures.whole in
     let fifth : is_broken c.in_ok-subcommand-5.field-0 ≡ false = c.in_ok-subcommand-5.ensures.broken ∙ ap₂ ◌||◌ fourth c.in_ok-sample.ensures.whole in
-    IfOk-weaker c.subcommand-6.result _ _ (λ r h. h.broken ∙ ap₂ ◌||◌ fifth c.in_ok-edges.ensures.whole) c.subcommand-6.ensures
+    let sixth : is_broken c.in_ok-subcommand-6.field-0 ≡ false = c.in_ok-subcommand-6.ensures.broken ∙ ap₂ ◌||◌ fifth c.in_ok-edges.ensures.whole in
+    IfOk-weaker c.subcommand-7.result _ _ (λ r h. h.broken ∙ ap₂ ◌||◌ sixth c.in_ok-merge.ensures.whole) c.subcommand-7.ensures

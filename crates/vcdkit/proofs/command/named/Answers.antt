@@ -1,17 +1,13 @@
 use Rattle.std.proofs.Common.{rules, ap, ap₂, codes, false, ◌≡◌, ◌∙◌}
-use Rattle.std.specs.Option.{IsSomeAnd}
-use Rattle.std.specs.Prelude.{Option, Some, None}
+use Rattle.std.specs.Prelude.{Option}
 use Rattle.std.proofs.lemmas.Result.{IfOk-weaker}
 use Rattle.clap.specs.Lexer.{usize_max}
 use Rattle.clap.specs.Words.{Rule, new_rule, rule_of, with_rule}
 use Rattle.clap.specs.declared.builder.arg.Arg.{Arg}
 use Rattle.clap.specs.declared.builder.range.ValueRange.{ValueRange}
 use Rattle.vcdkit.specs.Words.{names_rule}
+use Rattle.vcdkit.proofs.WordsLemmas.{some-is}
 use Rattle.vcdkit.proofs.command.named.Goals as goal
-
-some-is : (range : Option ValueRange) (wanted : ValueRange) → IsSomeAnd range (λ r. r ≡ wanted) → range ≡ Some wanted
-some-is None wanted h = absurd h
-some-is (Some range) wanted h = ap (λ r. Some r) h
 
 pub returns-clause-words : goal.returns-clause-words
 returns-clause-words c =

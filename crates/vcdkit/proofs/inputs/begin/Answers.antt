@@ -1,10 +1,8 @@
-use Rattle.std.proofs.Common.{rules, ◌≡◌, ◌∙◌, ℕ, List, [], Option, Some, None, Err, ap, sym, subst}
+use Rattle.std.proofs.Common.{rules, ◌≡◌, ◌∙◌, ℕ, List, [], Option, Some, None, Err, ap, subst}
 use Rattle.std.specs.Prelude.{IfSome}
-use Rattle.vcd_model.specs.Header.{header_of}
-use Rattle.vcd_model.specs.Reading.{phrases_of}
 use Rattle.vcd_text.specs.Answer.{whole}
 use Rattle.vcd_text.specs.Device.{Supply, supply}
-use Rattle.vcd_text.specs.Feed.{HasGiven, chunk_len_of, limit_of, source_of}
+use Rattle.vcd_text.specs.Feed.{HasGiven, source_of}
 use Rattle.vcdkit.specs.Failure.{CountsRead}
 use Rattle.vcdkit.proofs.HeaderLemmas.{begins, failed, seated}
 use Rattle.vcdkit.proofs.inputs.begin.Goals as goal

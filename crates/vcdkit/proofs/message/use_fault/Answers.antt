@@ -17,6 +17,9 @@ returns-in-FromAboveTo-clause-line g c = rw c.in-FromAboveTo.is (puts-shows _ _ 
 pub returns-in-NotRising-clause-line : goal.returns-in-NotRising-clause-line
 returns-in-NotRising-clause-line g c = rw c.in-NotRising.is (puts-shows _ _ _ _ c.put_line-in-NotRising.ensures)
 
+pub returns-in-TooManyFiles-clause-line : goal.returns-in-TooManyFiles-clause-line
+returns-in-TooManyFiles-clause-line g c = rw c.in-TooManyFiles.is (puts-shows _ _ _ _ c.put_line-in-TooManyFiles.ensures)
+
 pub returns-in-OutOfMemory-clause-line : goal.returns-in-OutOfMemory-clause-line
 unfolding fault_text
 returns-in-OutOfMemory-clause-line g c = rw c.in-OutOfMemory.is c.report.ensures.line
