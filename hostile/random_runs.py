@@ -40,7 +40,7 @@ def case(seed, commands, folder):
     arguments, options, names = [], [], []
     if command == "merge":
         inputs = [(b"%d_%d.vcd" % (seed, k), d.dump()) for k in range(r.choice([1, 1, 2, 2, 2, 3, 5, 64] if r.random() < 0.1 else [1, 2, 2, 2, 3]))]
-        if r.random() < 0.2:
+        if r.random() < 0.2 and len(inputs) < 64:
             inputs.append(inputs[0])
         for name, text in inputs:
             with open(os.path.join(folder, name.decode()), "wb") as f:
