@@ -1,6 +1,6 @@
 //! `vcdkit`: tools over four-state value change dumps (IEEE Std 1364-2005, clause 18).
 //!
-//! `main` reads the words, opens the input, runs the job over it, flushes the output and returns the status. It owns the
+//! `main` reads the words, opens the inputs, runs the job over them, flushes the output and returns the status. It owns the
 //! devices. `run` works on any readers and sinks, so that its contract can say what is left on them: output, message and status
 //! are those of the definitions' outcome (`HasRun`), or a prefix of the output where a write failed, or none of it where out
 //! of memory.
@@ -22,8 +22,8 @@
 //!
 //! # Limits
 //!
-//! One input a job; for a merge 1 to 64, and no words ask for one yet. `run` takes memory for the windows, for the header and for the room of the task, all of it before the first
-//! byte of output. A fault of the error stream is passed over.
+//! One input a job, and 1 to 64 for a merge. `run` takes memory for the windows, for the headers and for the room of the task, all
+//! of it before the first byte of output. A fault of the error stream is passed over.
 //!
 //! Not promised: what the functions of this file do with words, files and streams of the host. They have no clauses on it;
 //! those that they call have.

@@ -194,10 +194,10 @@ fn run_readers<S: Source, W: Sink>(
 
 /// Runs a job over the readers, whose names are said in messages, and returns the exit status: 0 where it is done, 1 for a fault
 /// of an input, for a name that selects nothing and for a unit without a time scale, 2 for times that are out of range or out of
-/// order in ticks, 3 for a failed read or write and where memory ran out. A merge has 1 to 64 readers, any other job one. Output goes to `out`,
-/// the message to `err`; a fault of `err` is passed over. `out` is not flushed.
+/// order in ticks, 3 for a failed read or write and where memory ran out. A merge has 1 to 64 readers, any other job one. Output
+/// goes to `out`, the message to `err`; a fault of `err` is passed over. `out` is not flushed.
 ///
-/// Memory is taken for the windows, while the header is read, and then for what the task works in; none after that. Nothing is
+/// Memory is taken for the windows, while the headers are read, and then for what the task works in; none after that. Nothing is
 /// written on `out` before all of it was taken.
 pub fn run<S: Source, W: Sink, E: Sink>(
     alloc: Global,
