@@ -3,10 +3,22 @@
 # make memory  lets each request for memory of the reader of headers fail in turn: some minutes
 # make hostile runs the program where memory, reads and writes fail, and on dumps that are cut off or made at random: some minutes
 # make clean   drops what was built, and what the proofs kept
+# make install [PREFIX=/usr/local] [DESTDIR=]    puts ./vcdkit, as it was built, its man page, completions and documents in place
+# make uninstall [PREFIX=..] [DESTDIR=..]        takes them away again
+# make completions-check    compares the completions and the man page with the help of ./vcdkit: a second
+# make extras-check         tries extras/ with ./vcdkit: some seconds
 
 sample := samples/counter.vcd
 
-.PHONY: all test memory hostile clean vcdkit toolchain
+.PHONY: all test memory hostile clean vcdkit toolchain install uninstall completions-check extras-check
+
+PREFIX ?= /usr/local
+DESTDIR ?=
+bin := $(DESTDIR)$(PREFIX)/bin
+man := $(DESTDIR)$(PREFIX)/share/man/man1
+bash_words := $(DESTDIR)$(PREFIX)/share/bash-completion/completions
+zsh_words := $(DESTDIR)$(PREFIX)/share/zsh/site-functions
+documents := $(DESTDIR)$(PREFIX)/share/doc/vcdkit
 
 all: vcdkit
 	./vcdkit check < $(sample)
@@ -32,3 +44,25 @@ clean:
 
 toolchain:
 	@command -v rt > /dev/null || { echo "make: there is no command rt. It comes with the Rattle kit: see README.md." >&2; exit 1; }
+
+# Nothing is built or proved here, so that no proof runs as root: `make` comes first.
+install:
+	@test -x vcdkit || { echo "make: there is no ./vcdkit to install. Run make first." >&2; exit 1; }
+	install -d "$(bin)" "$(man)" "$(bash_words)" "$(zsh_words)" "$(documents)/docs" "$(documents)/samples"
+	install -m 755 vcdkit "$(bin)/vcdkit"
+	install -m 644 man/vcdkit.1 "$(man)/vcdkit.1"
+	install -m 644 completions/vcdkit.bash "$(bash_words)/vcdkit"
+	install -m 644 completions/_vcdkit "$(zsh_words)/_vcdkit"
+	install -m 644 README.md CHANGELOG.md NOTICE.md "$(documents)"
+	install -m 644 docs/*.md "$(documents)/docs"
+	install -m 644 samples/* "$(documents)/samples"
+
+uninstall:
+	rm -f "$(bin)/vcdkit" "$(man)/vcdkit.1" "$(bash_words)/vcdkit" "$(zsh_words)/_vcdkit"
+	rm -rf "$(documents)"
+
+completions-check:
+	completions/check.sh
+
+extras-check:
+	extras/test.sh

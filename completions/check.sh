@@ -1,0 +1,101 @@
+#!/usr/bin/env bash
+# Compares the commands and options that both completions name with those that the help of the program prints, looks for
+# them in the man page, and tries the completion of bash on words. Nothing is built: VCDKIT names the program, else ./vcdkit.
+set -u
+cd "$(dirname "$0")/.."
+program=${VCDKIT:-./vcdkit}
+[[ -x $program ]] || { echo "completions/check.sh: there is no program $program. Run make first." >&2; exit 1; }
+failed=0 tried=0
+
+# same WHAT WANTED GOT
+same() {
+    tried=$((tried + 1))
+    [[ $2 == "$3" ]] && return
+    failed=$((failed + 1))
+    printf '%s:\n  wanted: %s\n  got:    %s\n' "$1" "$2" "$3"
+}
+
+sorted() { tr -s ' ' '\n' | sed '/^$/d' | LC_ALL=C sort -u | paste -s -d ' '; }
+
+# What the help prints: of the program the commands, of each command its options.
+help_commands=$("$program" --help | awk '/^Commands:/ { on = 1; next } /^$/ { on = 0 } on { print $1 }' | sorted)
+help_options() { "$program" "$@" --help | awk '/^Options:/ { on = 1; next } on && NF' | grep -oE '^ +(-[A-Za-z], )?--?[A-Za-z-]+' | tr -d , | sorted; }
+
+# What bash would complete: the words, of which the last is the one to complete. `compopt` works only while bash completes.
+source completions/vcdkit.bash
+options_set=
+compopt() { options_set=$2; }
+completed() {
+    COMP_LINE="$*" COMP_POINT=${#COMP_LINE} COMP_WORDS=("$@") COMP_CWORD=$(($# - 1)) options_set=
+    COMPREPLY=()
+    _vcdkit "$1" "${!#}" "${@:$#-1:1}"
+    printf '%s' "${COMPREPLY[*]+"$(printf '%s\n' "${COMPREPLY[@]}" | paste -s -d ' ')"}${options_set:+ ($options_set)}"
+}
+
+# What zsh is told: the commands of its list; of each command what stands in its case and the lists that it names.
+zsh_commands=$(sed -n "s/^ *'\([a-z]*\):[A-Z].*'\$/\1/p" completions/_vcdkit | sorted)
+zsh_options() {
+    awk -v command="$1" '
+        /^ *case / { on = 1; next }
+        on && /^ *[a-z |]+\)$/ { mine = 0; gsub(/[)|]/, " "); for (i = 1; i <= NF; i++) if ($i == command) mine = 1; next }
+        mine
+    ' completions/_vcdkit | {
+        text=$(cat)
+        [[ $text == *'$help'* ]] && echo '-h --help'
+        [[ $text == *'$limit'* ]] && echo '--token-limit'
+        [[ $text == *'$input'* ]] && echo '-i'
+        grep -oE "'--[a-z-]+\[" <<< "$text" | tr -d "'["
+    } | sorted
+}
+manual=$(sed 's/\\-/-/g; s/\\f[A-Z]//g' man/vcdkit.1)
+
+same 'commands, bash' "$help_commands" "$(completed "$program" '' | sorted)"
+same 'commands, zsh' "$help_commands" "$zsh_commands"
+same 'options, bash' "$(help_options)" "$(completed "$program" - | sorted)"
+for option in $(help_options); do
+    same "option $option, zsh" 1 "$(grep -qE -- "[{,]$option[,}]" completions/_vcdkit && echo 1)"
+done
+for command in $help_commands; do
+    same "options of $command, bash" "$(help_options "$command")" "$(completed "$program" "$command" - | sorted)"
+    same "options of $command, zsh" "$(help_options "$command")" "$(zsh_options "$command")"
+    about=$("$program" "$command" --help | head -n 1)
+    same "what $command does, zsh" 1 "$(grep -cF "'$command:$about'" completions/_vcdkit)"
+    same "$command in the man page" 1 "$(grep -qE "^\.B[RI]? \"?vcdkit $command|^\.SS $command|^\.B vcdkit $command" <<< "$manual" && echo 1)"
+    for option in $(help_options "$command"); do
+        same "$option of $command in the man page" 1 "$(grep -qE -- "(^|[^a-z-])$option([^a-z-]|\$)" <<< "$manual" && echo 1)"
+    done
+done
+
+dump=samples/nested.vcd
+same 'a command' 'sample' "$(completed "$program" sa)"
+same 'an option' '--from' "$(completed "$program" cut -i $dump --f)"
+same 'the file of -i' ' (default)' "$(completed "$program" pick -i sam)"
+same 'a number' '' "$(completed "$program" cut --from '')"
+same 'files of merge' ' (default)' "$(completed "$program" merge samples/counter.vcd '')"
+same 'no names without a file' '' "$(completed "$program" pick '')"
+same 'no names of a file that is not there' '' "$(completed "$program" pick -i none.vcd '')"
+same 'no names of check' '' "$(completed "$program" check -i $dump '')"
+same 'a scope' 'bench. (nospace)' "$(completed "$program" pick -i $dump be)"
+same 'names of a scope' 'bench.steps bench.step.' "$(completed "$program" edges -i $dump bench.step)"
+same 'a second name' 'bench.level' "$(completed "$program" sample --at 0,5ns -i $dump bench.slow bench.lev)"
+same 'a file in the word of -i' 'bench.level' "$(completed "$program" pick -i$dump bench.lev)"
+same 'names after --' 'count0 count1' "$(completed "$program" pick -i samples/counter.vcd -- co)"
+same 'a name that is quoted' 'bench.\\data+flags' "$(completed "$program" pick -i $dump 'bench.\\da')"
+same 'a name between quotes' 'bench.\data+flags' "$(completed "$program" pick -i $dump "'bench.\\da")"
+same 'brackets' 'bench.lane\[0\].fast. (nospace)' "$(completed "$program" pick -i $dump 'bench.lane\[0\].f')"
+
+# A header with 200,000 variables in a scope: what the names have in common, and soon.
+many=$(mktemp "${TMPDIR:-/tmp}/many names.XXXXXX")
+trap 'rm -f "$many"' EXIT
+awk 'BEGIN { print "$scope module top $end"; for (i = 100000; i < 300000; i++) printf "$var wire 1 c%d a:b%d $end\n", i, i; print "$upscope $end $enddefinitions $end" }' > "$many"
+before=$SECONDS
+same 'many names' 'b (nospace)' "$(completed "$program" pick -i "${many/ /\\ }" top.a:)"
+same 'names behind a colon' 'b199990 b199991 b199992 b199993 b199994 b199995 b199996 b199997 b199998 b199999' \
+    "$(completed "$program" pick -i "'$many'" top.a:b19999)"
+((SECONDS - before < 20)) || { failed=$((failed + 1)); echo "many names took $((SECONDS - before)) seconds"; }
+
+if command -v zsh > /dev/null; then
+    same 'zsh reads its file' '' "$(zsh -n completions/_vcdkit 2>&1)"
+fi
+echo "$((tried - failed)) of $tried as they should be"
+((failed == 0))

@@ -1,0 +1,112 @@
+# Completion of vcdkit for bash: commands, options, files, and the names of a dump where `-i FILE` stands before.
+# Source this file, or let `make install` put it where bash-completion finds it.
+
+# What may be said of a command: its options, and whether it takes names (`name`) or files (`file`).
+_vcdkit_words() {
+    case $1 in
+        '') echo '-h --help -V --version' ;;
+        check | list) echo '-i --token-limit -h --help' ;;
+        pick | edges) echo '-i --token-limit -h --help name' ;;
+        cut) echo '-i --token-limit --from --to -h --help' ;;
+        sample) echo '-i --token-limit --at -h --help name' ;;
+        merge) echo '--token-limit -h --help file' ;;
+    esac
+}
+
+# The names of a dump that begin with some text, up to the next point each: a variable, or a scope and the point.
+# Of more than 1,000 only what they have in common, and an empty line: a scope with many variables takes no time to show.
+_vcdkit_names() {
+    "$1" list -i "$2" 2> /dev/null | start=$3 LC_ALL=C awk '
+        BEGIN { start = ENVIRON["start"]; from = length(start) + 1 }
+        substr($0, 1, from - 1) == start {
+            path = substr($0, 1, index($0, " ") - 1)
+            point = index(substr(path, from), ".")
+            if (point) path = substr(path, 1, from + point - 1)
+            if (path in seen || path == "") next
+            seen[path]
+            if (++count <= 1000) names[count] = path
+            if (count == 1) common = path
+            while (substr(path, 1, length(common)) != common) common = substr(common, 1, length(common) - 1)
+        }
+        END {
+            if (count > 1000) { if (length(common) >= from) print common "\n" }
+            else for (i = 1; i <= count; i++) print names[i]
+        }'
+}
+
+# A word of the command line as the shell will read it: without quotes, and without the backslashes before its bytes.
+_vcdkit_plain() {
+    local word=$1
+    case $word in
+        \'*) word=${word#\'} word=${word%\'} ;;
+        \"*) word=${word#\"} word=${word%\"} ;;
+        '~/'*) word=$HOME/${word#'~/'} ;&
+        *) IFS= read word <<< "$word" ;;
+    esac
+    printf '%s\n' "$word"
+}
+
+_vcdkit() {
+    COMPREPLY=()
+    # The words as they were typed: bash also parts them at `=` and `:`, which names and files may have.
+    local line=${COMP_LINE:0:COMP_POINT} words=() word= next char quote= i
+    for ((i = 0; i < ${#line}; i++)); do
+        char=${line:i:1} next=
+        if [[ $char == \\ && $quote != \' ]]; then next=${line:$((++i)):1}
+        elif [[ -n $quote ]]; then [[ $char == "$quote" ]] && quote=
+        elif [[ $char == [\'\"] ]]; then quote=$char
+        elif [[ $char == [[:space:]] ]]; then
+            [[ -n $word ]] && words+=("$word")
+            word=
+            continue
+        fi
+        word+=$char$next
+    done
+    local current=$word
+
+    # What stands before the word: the command, the file of `-i`, and whether `--` ended the options.
+    local command= file= ended= previous=
+    for word in "${words[@]:1}"; do
+        case $previous in
+            -i) file=$(_vcdkit_plain "$word") previous= ; continue ;;
+            --token-limit | --from | --to | --at) previous= ; continue ;;
+        esac
+        if [[ -n $ended ]]; then continue
+        elif [[ $word == -- ]]; then ended=1
+        elif [[ -z $command ]]; then [[ $word == -* ]] || command=$word
+        elif [[ $word == -i?* ]]; then file=${word#-i} file=$(_vcdkit_plain "${file#=}")
+        else previous=$word
+        fi
+    done
+
+    local can=" $(_vcdkit_words "$command") "
+    case $previous in
+        -i) [[ $can == *' -i '* ]] && compopt -o default 2> /dev/null; return ;;
+        --token-limit | --from | --to | --at) return ;;
+    esac
+    if [[ -z $command ]]; then
+        local commands='check list pick cut sample edges merge'
+        [[ $current == -* ]] && commands=$can
+        COMPREPLY=($(compgen -W "$commands" -- "$current"))
+    elif [[ $current == -* && -z $ended ]]; then
+        can=${can/ name / } can=${can/ file / }
+        COMPREPLY=($(compgen -W "$can" -- "$current"))
+    elif [[ $can == *' file '* ]]; then
+        compopt -o default 2> /dev/null
+    elif [[ $can == *' name '* && -f $file ]]; then
+        mapfile -t COMPREPLY < <(_vcdkit_names "${1/#~\//$HOME/}" "$file" "$(_vcdkit_plain "$current")")
+        if [[ ${#COMPREPLY[@]} == 2 && -z ${COMPREPLY[1]} || ${#COMPREPLY[@]} == 1 && ${COMPREPLY[0]} == *. ]]; then
+            compopt -o nospace 2> /dev/null
+            COMPREPLY=("${COMPREPLY[0]}")
+        fi
+        # Between quotes bash takes a word as it is; else it is quoted, and what stands before a mark at which bash parts words left out.
+        [[ $current == [\'\"]* ]] && return
+        local before=${current%"${current##*[=:@]}"}
+        for i in "${!COMPREPLY[@]}"; do
+            printf -v word %q "${COMPREPLY[i]}"
+            COMPREPLY[i]=${word#"$before"}
+        done
+    fi
+}
+
+complete -F _vcdkit vcdkit
