@@ -2,6 +2,7 @@
 # make test    the merge gate: every proof from nothing, must-fail edits, tests, the program as two compilers build it
 # make memory  lets each request for memory of the reader of headers fail in turn: some minutes
 # make hostile runs the program where memory, reads and writes fail, and on dumps that are cut off or made at random: some minutes
+# make docs-check runs the commands that README, manual and recipes show over ./vcdkit, and compares what they print: seconds
 # make clean   drops what was built, and what the proofs kept
 # make install [PREFIX=/usr/local] [DESTDIR=]    puts ./vcdkit, as it was built, its man page, completions and documents in place
 # make uninstall [PREFIX=..] [DESTDIR=..]        takes them away again
@@ -10,7 +11,7 @@
 
 sample := samples/counter.vcd
 
-.PHONY: all test memory hostile clean vcdkit toolchain install uninstall completions-check extras-check
+.PHONY: all test memory hostile docs-check clean vcdkit toolchain install uninstall completions-check extras-check
 
 PREFIX ?= /usr/local
 DESTDIR ?=
@@ -38,6 +39,10 @@ hostile: vcdkit
 	devices=$$(mktemp --suffix=.so) && cc -O1 -shared -fPIC -o $$devices hostile/devices.c -ldl && \
 	hostile/hostile.py ./vcdkit $$devices memory devices cut_off && hostile/random_runs.py ./vcdkit --runs 50000; \
 	status=$$?; rm -f $$devices; exit $$status
+
+# It takes the ./vcdkit that is there, and builds none.
+docs-check:
+	docs/check.py
 
 clean:
 	rm -rf vcdkit crates/*/out

@@ -1,0 +1,72 @@
+#!/usr/bin/env python3
+"""check.py: runs the commands that the documents show, and compares what they print.
+
+Of each ```console block of README.md, docs/MANUAL.md and docs/RECIPES.md, each line that begins with `$ ` is run by bash in
+the repository's top folder; the lines below it, up to the next one, are what it prints, standard output and error together.
+A command whose line ends in `\\` goes on in the next line. The variable T names an empty folder for the files that a document
+writes; it goes at the end. It needs ./vcdkit, which `make` leaves there.
+
+The exit status is 0 where all is as written, 1 where some output differs, 2 where there is no ./vcdkit."""
+import difflib
+import os
+import subprocess
+import sys
+import tempfile
+
+TOP = os.path.dirname(os.path.dirname(os.path.abspath(__file__)))
+DOCUMENTS = ["README.md", "docs/MANUAL.md", "docs/RECIPES.md"]
+SECONDS = 60
+
+
+def commands_of(document):
+    """The commands of a document in order: the line, the command, and the lines that it prints."""
+    commands, is_inside, goes_on = [], False, False
+    with open(os.path.join(TOP, document), encoding="utf-8") as lines:
+        for number, line in enumerate(lines, 1):
+            line = line.rstrip("\n")
+            if line.startswith("```"):
+                is_inside, goes_on = line == "```console", False
+            elif is_inside and (goes_on or line.startswith("$ ")):
+                if goes_on:
+                    commands[-1][1] += "\n" + line
+                else:
+                    commands.append([number, line[2:], []])
+                goes_on = line.endswith("\\")
+            elif is_inside and commands:
+                commands[-1][2].append(line)
+    return commands
+
+
+def printed_by(command, folder):
+    """The lines that a command prints."""
+    words = {name: word for name, word in os.environ.items() if name not in ("MAKELEVEL", "MAKEFLAGS", "MFLAGS")}
+    words.update(LC_ALL="C", T=folder)
+    try:
+        done = subprocess.run(["bash", "-c", command], cwd=TOP, env=words, timeout=SECONDS,
+                              stdin=subprocess.DEVNULL, stdout=subprocess.PIPE, stderr=subprocess.STDOUT)
+    except subprocess.TimeoutExpired:
+        return ["(not done after %d seconds)" % SECONDS]
+    lines = done.stdout.decode("utf-8", "backslashreplace").split("\n")
+    return lines[:-1] if lines[-1] == "" else lines
+
+
+def main():
+    if not os.access(os.path.join(TOP, "vcdkit"), os.X_OK):
+        print("docs/check.py: there is no ./vcdkit: run make", file=sys.stderr)
+        return 2
+    run = differ = 0
+    for document in DOCUMENTS:
+        with tempfile.TemporaryDirectory() as folder:
+            for number, command, expected in commands_of(document):
+                printed, run = printed_by(command, folder), run + 1
+                if printed != expected:
+                    differ += 1
+                    print("%s:%d: $ %s" % (document, number, command))
+                    for line in difflib.unified_diff(expected, printed, "written", "printed", lineterm="", n=1):
+                        print("    " + line)
+    print("%d commands, %d differ" % (run, differ))
+    return 1 if differ or not run else 0
+
+
+if __name__ == "__main__":
+    sys.exit(main())
