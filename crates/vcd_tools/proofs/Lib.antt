@@ -20,6 +20,7 @@ pub mod SampleLemmas
 pub mod MergeItem
 pub mod Dumps
 pub mod SeatLemmas
+pub mod SeatTrails
 pub mod PartLemmas
 pub mod MergeSteps
 pub mod MergeAnswers
