@@ -25,6 +25,8 @@ pub mod PartLemmas
 pub mod MergeSteps
 pub mod MergeAnswers
 pub mod MergeCounts
+pub mod MergeTrails
+pub mod MergeFirst
 pub mod MergeRuns
 pub mod MergeCloses
 pub mod WholeInputs
