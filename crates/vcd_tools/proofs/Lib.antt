@@ -26,6 +26,7 @@ pub mod MergeSteps
 pub mod MergeAnswers
 pub mod MergeCounts
 pub mod MergeTrails
+pub mod MergeRunOn
 pub mod MergeFirst
 pub mod MergeRuns
 pub mod MergeCloses

@@ -150,7 +150,7 @@ module _ {X : Type 0} (rest : X → Option (List ℕ)) (failures : X → ℕ) (h
     one : GivesOne scale first l m.dump.items m.mid.written c.written (spot_in rest c) on.item
     one = subst (λ (w : Option ℕ). GivesOne scale first l m.dump.items w c.written (spot_in rest c) on.item) (sym m.written_is) (subst (λ (xs : List BodyItem). GivesOne scale first l xs b.written c.written (spot_in rest c) on.item) (sym m.items_are) on.one)
 
-    due : List ℕ
+    abbrev due : List ℕ
     due = due_with m.mid.written (entry_for scale first l.header m.dump.items on.item)
 
     writes : Writes b.out c.out (due_with m.mid.written (entry_for scale first l.header m.dump.items on.item))
@@ -263,9 +263,6 @@ module _ {X : Type 0} (rest : X → Option (List ℕ)) (failures : X → ℕ) (h
       (subst (λ (xs : List BodyItem). Turns k (factor hs f.lane.header) (first_number (take k hs)) f.lane xs t.turns.mid.written s'.written p t.turns.mid.out out' r) (sym m.items_are) t.turns.last)
 
   module _ {A : Type 0} (r : Result A Stop) (t : IsTurned r) where
-    m : Arrives rest failures hs lanes ds s k before out t.turns.mid
-    m = there r t
-
     mid_heads : s'.heads ≡ (there r t).mid.heads
     mid_heads = heads ∙ sym (there r t).heads
 
@@ -284,8 +281,8 @@ module _ {X : Type 0} (rest : X → Option (List ℕ)) (failures : X → ℕ) (h
     mid_chunk : length p.chunk ≡ part_len (length (there r t).mid.seats) (there r t).mid.chunks
     mid_chunk = chunk_len rest s s' k p ready within many chunks at_p ∙ sym (same_part (length s.seats) (length (there r t).mid.seats) s.chunks (there r t).mid.chunks (there r t).seats (there r t).chunks)
 
-    runs : (result : Result More Stop) (new : Device) → Gives rest hs lanes (there r t).dumps (there r t).mid s' t.turns.mid.out new result → RunGives rest failures hs lanes alone ds s s' out new result
-    runs result new gives = record {
+    runs : (result : Result More Stop) (after : Device) → Gives rest hs lanes (there r t).dumps (there r t).mid s' t.turns.mid.out after result → RunGives rest failures hs lanes alone ds s s' out after result
+    runs result after gives = record {
       dumps = (there r t).dumps;
       mid = (there r t).mid;
       between = t.turns.mid.out;
@@ -293,6 +290,7 @@ module _ {X : Type 0} (rest : X → Option (List ℕ)) (failures : X → ℕ) (h
       holds = (there r t).holds;
       ready = (there r t).ready;
       next = (there r t).next;
+      turn = next;
       seats = (there r t).seats;
       chunks = (there r t).chunks;
       tokens = (there r t).tokens;
@@ -338,3 +336,10 @@ module _ {X : Type 0} (rest : X → Option (List ℕ)) (failures : X → ℕ) (h
         let w = closes (there (Ok u) t).dumps (marked u t) e.0.written in
         let some = some-behind t.turns.mid.out out' new [] (merge_close (merged_items (there (Ok u) t).dumps)) e.1 w in
         runs (Ok u) t (Err Write) new (inr (record { given = e.0.given; finished = all; closes = (merge_close (merged_items (there (Ok u) t).dumps), refl, some); input = k; reads = e.2 }))
+
+-- one item alone is one step
+pub one_step : {X : Type 0} (rest : X → Option (List ℕ)) (failures : X → ℕ) (hs : List Header) (lanes : List Lane) (ds : List Dump) (s s' : Standing X) (out out' : Device) (result : Result More Stop) → RunGives rest failures hs lanes true ds s s' out out' result → Gives rest hs lanes ds s s' out out' result
+one_step {X} rest failures hs lanes ds s s' out out' result r =
+    let e = r.by_one refl in
+    subst (λ (es : List Dump). Gives rest hs lanes es s s' out out' result) e.0
+    (subst (λ (m : Standing X). Gives rest hs lanes r.dumps m s' out out' result) e.1 (subst (λ (o : Device). Gives rest hs lanes r.dumps r.mid s' o out' result) e.2 r.last))

@@ -83,6 +83,7 @@ pub record RunGives {X : Type 0} (rest : X → Option (List ℕ)) (failures : X 
   pub holds : Holds rest hs lanes dumps mid
   pub ready : IsReady mid
   pub next : IsNext mid.seats input
+  pub turn : IsNext s.seats input
   pub seats : length mid.seats ≡ length s.seats
   pub chunks : length mid.chunks ≡ length s.chunks
   pub tokens : length mid.tokens ≡ length s.tokens
