@@ -1,5 +1,5 @@
 -- Where a run of steps of one input has gone on to, before its last step.
-use Rattle.std.proofs.Common.{◌≡◌, ℕ, ◌⊎◌, Bool, List, length, map, slice_get, Option, Some, Result, sym, ap, subst, ◌∙◌, inl, inr}
+use Rattle.std.proofs.Common.{◌≡◌, ℕ, ◌⊎◌, Bool, List, length, map, Option, Result, sym, ap, subst, ◌∙◌, inl, inr}
 use Rattle.vcd_model.specs.Header.{Header}
 use Rattle.vcd_model.specs.Merge.{Dump, merge_open, merged_items}
 use Rattle.vcd_text.specs.Device.{Device, Supply, Writes}

@@ -1,5 +1,5 @@
 -- Items of one input of a merge, taken one after another over its feed.
-use Rattle.std.proofs.Common.{◌≡◌, ℕ, ◌+◌, ◌<◌, ◌⊎◌, true, false, List, [], ◌∷◌, ◌++◌, length, Option, Result, Ok, refl, sym, subst, ◌∙◌, add-zero, inl, inr}
+use Rattle.std.proofs.Common.{◌≡◌, ℕ, ◌<◌, true, false, List, [], ◌∷◌, ◌++◌, Option, Result, Ok, refl, sym, subst, ◌∙◌, inl, inr}
 use Rattle.vcd_model.specs.Items.{BodyItem}
 use Rattle.vcd_text.specs.Advances.{HasNotFailed}
 use Rattle.vcd_text.specs.Device.{Device}

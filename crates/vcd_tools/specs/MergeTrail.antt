@@ -9,8 +9,8 @@ use Rattle.vcd_text.specs.declared.device.Source.{Ghosts}
 use Rattle.vcd_text.specs.declared.feed.Feed.{Feed}
 use Rattle.vcd_tools.specs.Device.{Grows}
 use Rattle.vcd_tools.specs.MergeOrder.{IsNext}
-use Rattle.vcd_tools.specs.MergeParts.{part_len, spot_at}
-use Rattle.vcd_tools.specs.MergeStep.{Gives, Holds, IsReady, Standing, failures_with}
+use Rattle.vcd_tools.specs.MergeParts.{part_len}
+use Rattle.vcd_tools.specs.MergeStep.{Gives, Holds, IsReady, Standing}
 use Rattle.vcd_tools.specs.Seat.{GivesOne, IsSeated, Lane, ReadsNoMore, Spot, Turns}
 use Rattle.vcd_tools.specs.declared.answer.More.{More}
 use Rattle.vcd_tools.specs.declared.answer.Stop.{Stop}

@@ -326,9 +326,7 @@ fn step<S: Source, W: Sink>(
         return Ok(More::Ended(Done::Whole));
     };
     let before = first_before(seats, input, alone);
-    turn(
-        heads, input, before, seats, sources, windows, written, out,
-    )?;
+    turn(heads, input, before, seats, sources, windows, written, out)?;
     if next_input(seats).is_some() {
         return Ok(More::Again);
     }

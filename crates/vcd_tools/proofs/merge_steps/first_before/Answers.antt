@@ -1,4 +1,4 @@
-use Rattle.std.proofs.Common.{◌≡◌, ◌<◌, length, arith}
+use Rattle.std.proofs.Common.{arith}
 use Rattle.std.proofs.lemmas.Option.{slice_get_within}
 use Rattle.vcd_tools.proofs.MergeFirst.{among_all, among_more}
 use Rattle.vcd_tools.proofs.merge_steps.first_before.Goals as goal

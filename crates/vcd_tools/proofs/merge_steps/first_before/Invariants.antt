@@ -1,4 +1,3 @@
-use Rattle.vcd_tools.specs.MergeOrder.{IsNext}
 use Rattle.vcd_tools.specs.MergeTrail.{IsFirstAmong}
 use Rattle.vcd_tools.proofs.merge_steps.first_before.Given as goal
 

@@ -1,6 +1,3 @@
-use Rattle.std.proofs.Common.{◌≡◌}
-use Rattle.vcd_text.specs.Device.{Device}
-use Rattle.vcd_tools.specs.MergeStep.{Standing, standing_of}
 use Rattle.vcd_tools.proofs.MergeTrails.{one_step}
 use Rattle.vcd_tools.proofs.merge_steps.merge_step.Goals as goal
 

@@ -1,5 +1,4 @@
-use Rattle.std.proofs.Common.{◌≡◌, ◌∙◌, ◌+◌, sym, ap, refl, length, Err, rules, take}
-use Rattle.std.proofs.lemmas.Option.{slice_get_within}
+use Rattle.std.proofs.Common.{◌≡◌, ◌∙◌, sym, refl, length, Err, rules, take}
 use Rattle.vcd_model.specs.HeadText.{first_number}
 use Rattle.vcd_model.specs.Merge.{factor}
 use Rattle.vcd_text.specs.Device.{Device}
@@ -79,4 +78,3 @@ returns-clause-runs g c = λ hs lanes ds holds.
     let mid : Device = g.W.Sink.device c.turn.new.out in
     let all = none_next c.next_input-2.result _ _ (sym c.is_some.ensures ∙ c.if-is_some.false) c.next_input-2.ensures in
     has_ended g.S.Source.rest g.S.Source.failures hs lanes ds s holds c.requires.ready k c.first_before-before.result next c.first_before-before.ensures.first c.args.alone c.first_before-before.ensures.alone s' t.0 refl en.seats sources en.lengths.chunks en.lengths.tokens t.1 en.others (λ j other. (en.untouched j other).0) f out mid all c.in_ok-turn.field-0 (g.W.Sink.device c.close.new.out) t.2 (λ es marked w. (c.in_ok-close.ensures.takes hs es marked w, c.in_ok-close.ensures.counts))
-

@@ -1,9 +1,6 @@
-use Rattle.std.proofs.Common.{◌≡◌, ◌<◌, ◌≤◌, List, Ok, Err, Result, refl, sym, ap, subst, ◌∙◌, add-zero, rules, arith}
-use Rattle.vcd_model.specs.Items.{BodyItem}
+use Rattle.std.proofs.Common.{◌≡◌, ◌<◌, Err, refl, ◌∙◌, add-zero, rules, arith}
 use Rattle.vcd_text.specs.Device.{Device}
 use Rattle.vcd_tools.specs.MergeTrail.{Stands, stage_with}
-use Rattle.vcd_tools.specs.Seat.{Turns, spot_with}
-use Rattle.vcd_tools.specs.declared.answer.Stop.{Stop}
 use Rattle.vcd_tools.proofs.SeatTrails.{goes_on}
 use Rattle.vcd_tools.proofs.merging.take_run.Goals as goal
 
