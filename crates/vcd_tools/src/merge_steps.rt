@@ -72,6 +72,19 @@ fn next_input(seats: &[Seat]) -> Option<usize>
     found
 }
 
+/// Some input has not finished: this one, or another.
+#[inline(always)]
+fn some_left(seats: &[Seat], input: usize) -> bool
+    requires input { input < length seats.now }
+    ensures some { result ≡ true → (k : ℕ) × IsNext seats.now k }
+    ensures none { result ≡ false → All (λ (s : Seat). s.finished ≡ true) seats.now }
+{
+    if !seats[input].finished {
+        return true;
+    }
+    next_input(seats).is_some()
+}
+
 /// The time before which an input goes before another.
 #[inline(always)]
 fn time_of(seat: &Seat, place: usize, input: usize) -> u64
@@ -327,7 +340,7 @@ fn step<S: Source, W: Sink>(
     };
     let before = first_before(seats, input, alone);
     turn(heads, input, before, seats, sources, windows, written, out)?;
-    if next_input(seats).is_some() {
+    if some_left(seats, input) {
         return Ok(More::Again);
     }
     close(seats, *written, out)?;
