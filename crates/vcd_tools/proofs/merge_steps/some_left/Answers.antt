@@ -1,6 +1,5 @@
-use Rattle.std.proofs.Common.{◌≡◌, sym, ◌∙◌, ap}
+use Rattle.std.proofs.Common.{sym, ◌∙◌}
 use Rattle.std.proofs.lemmas.Option.{slice_get-get_or}
-use Rattle.vcd_tools.specs.declared.seat.Seat.{Seat}
 use Rattle.vcd_tools.proofs.MergeAnswers.{none_next, some_next}
 use Rattle.vcd_tools.proofs.MergeFirst.{turn_with}
 use Rattle.vcd_tools.proofs.merge_steps.some_left.Goals as goal
