@@ -20,10 +20,14 @@ pub mod SampleLemmas
 pub mod MergeItem
 pub mod Dumps
 pub mod SeatLemmas
+pub mod SeatTrails
 pub mod PartLemmas
 pub mod MergeSteps
 pub mod MergeAnswers
 pub mod MergeCounts
+pub mod MergeTrails
+pub mod MergeRunOn
+pub mod MergeFirst
 pub mod MergeRuns
 pub mod MergeCloses
 pub mod WholeInputs

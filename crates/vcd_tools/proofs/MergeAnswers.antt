@@ -150,7 +150,7 @@ module _ {X : Type 0} (rest : X → Option (List ℕ)) (hs : List Header) (lanes
   before : AllByRecursion (λ y. key_lt y.key (key_after (factor hs d.header) k d.items) ≡ true) (keyed_rest hs 0 [] ds)
   before = all_before rest hs lanes ds s holds.given k d l next same at_d at_l
 
-  taken : (x : BodyItem) → AtSeat scale first l (d.items ++ x ∷ []) p → Takes rest hs lanes ds s' k d x
+  pub taken : (x : BodyItem) → AtSeat scale first l (d.items ++ x ∷ []) p → Takes rest hs lanes ds s' k d x
   taken x a = record {
     dump_at = at_d;
     merged = merged_more hs ds k d x holds.given.dumps_are at_d (all_before rest hs lanes ds s holds.given k d l next same at_d at_l);
@@ -158,7 +158,7 @@ module _ {X : Type 0} (rest : X → Option (List ℕ)) (hs : List Header) (lanes
   }
 
   -- the text with it
-  open_with : (x : BodyItem) → merge_open hs (merged_items (with_item ds k d x)) ≡ merge_open hs (merged_items ds) ++ due_with s.written (entry_for scale first l.header d.items x)
+  pub open_with : (x : BodyItem) → merge_open hs (merged_items (with_item ds k d x)) ≡ merge_open hs (merged_items ds) ++ due_with s.written (entry_for scale first l.header d.items x)
   open_with x =
       let b = merged_by hs ds holds.given.dumps_are in
       let all = all_before rest hs lanes ds s holds.given k d l next same at_d at_l in
@@ -170,7 +170,7 @@ module _ {X : Type 0} (rest : X → Option (List ℕ)) (hs : List Header) (lanes
       ∙ text_more hs (merged_items ds) y s.written holds.written sorted timed refl less
       ∙ ap (λ (e : Entry). merge_open hs (merged_items ds) ++ due_with s.written e) (sym (entry_is x))
 
-  written_with_it : (x : BodyItem) → s'.written ≡ written_with s.written (entry_for scale first l.header d.items x) → s'.written ≡ last_written (merged_items (with_item ds k d x))
+  pub written_with_it : (x : BodyItem) → s'.written ≡ written_with s.written (entry_for scale first l.header d.items x) → s'.written ≡ last_written (merged_items (with_item ds k d x))
   written_with_it x e =
       let all = all_before rest hs lanes ds s holds.given k d l next same at_d at_l in
       e ∙ ap (written_with s.written) (entry_is x) ∙ written_more (merged_items ds) (next_item rest hs lanes k d x) s.written holds.written ∙ ap last_written (sym (merged_more hs ds k d x holds.given.dumps_are at_d all))

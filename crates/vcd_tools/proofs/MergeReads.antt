@@ -14,7 +14,7 @@ use Rattle.vcd_tools.specs.Answer.{reads_failed}
 use Rattle.vcd_tools.specs.MergeParts.{part_len}
 use Rattle.vcd_tools.specs.MergeStep.{ReadsOne, Standing, cut_at, failures_with}
 use Rattle.vcd_tools.specs.Run.{IsLeft}
-use Rattle.vcd_tools.specs.Seat.{Lane}
+use Rattle.vcd_tools.specs.Seat.{Lane, ReadsNoMore}
 use Rattle.vcd_tools.specs.declared.answer.Stop.{Stop}
 use Rattle.vcd_tools.proofs.MergeSteps.{get_map, len_map, same_or_not, some_at}
 use Rattle.vcd_tools.proofs.PartLemmas.{get_set}
@@ -66,6 +66,22 @@ module _ {X : Type 0} (rest : X → Option (List ℕ)) (failures : X → ℕ) (l
         let is : new ≡ old = cc in
         (ap (λ (s : Supply). s.failures) is, Nothing is);
   }
+
+  -- after reads of which each left its source as it was, or needed them
+  pub read_along : (ss ms : List X) → map failures ms ≡ map failures ss → ((j : ℕ) (l : Lane) (x : X) → slice_get lanes j ≡ Some l → slice_get ms j ≡ Some x → (slice_get ss j ≡ Some x) ⊎ ReadsNoMore limit chunk l l.input (rest x)) → AreReadSoFar ss → AreReadSoFar ms
+  read_along ss ms same reads so_far = record {
+    each = λ j l old new at_l at_old at_new.
+        let x = unmap (supply rest failures) ms j new at_new in
+        by_place j l old new at_l at_old x.0 x.1 x.2 (reads j l x.0 at_l x.1);
+  }
+    where
+      by_place : (j : ℕ) (l : Lane) (old new : Supply) → slice_get lanes j ≡ Some l → slice_get olds j ≡ Some old → (x : X) → slice_get ms j ≡ Some x → supply rest failures x ≡ new → (slice_get ss j ≡ Some x) ⊎ ReadsNoMore limit chunk l l.input (rest x)
+          → (new.failures ≡ old.failures) × ReadsAsNeeded limit chunk old new l.input l.front (is_settled_behind Request.Merge l.header)
+      by_place j l old new at_l at_old x at_x is (inl at_s) = so_far.each j l old new at_l at_old (get_map (supply rest failures) ss j x at_s ∙ ap (λ (z : Supply). Some z) is)
+      by_place j l old new at_l at_old x at_x is (inr more) =
+          let y = unmap failures ss j (failures x) (ap (λ (ns : List ℕ). slice_get ns j) (sym same) ∙ get_map failures ms j x at_x) in
+          let before = so_far.each j l old (supply rest failures y.0) at_l at_old (get_map (supply rest failures) ss j y.0 y.1) in
+          (ap (λ (z : Supply). z.failures) (sym is) ∙ sym y.2 ∙ before.0, subst (λ (z : Supply). ReadsAsNeeded limit chunk old z l.input l.front (is_settled_behind Request.Merge l.header)) is (more old (failures x)))
 
   -- each input is left whole
   pub left_whole : (xs : List X) → AreReadSoFar xs → (j : ℕ) (l : Lane) (old new : Supply) → slice_get lanes j ≡ Some l → slice_get olds j ≡ Some old → slice_get (supplies xs) j ≡ Some new → IsRead l old new l.input

@@ -19,5 +19,6 @@ pub mod SeatStep
 pub mod MergeOrder
 pub mod MergeParts
 pub mod MergeStep
+pub mod MergeTrail
 pub mod MergeRun
 pub mod MergeStart

@@ -1,5 +1,5 @@
 //! `merge`: the changes of several dumps in one order of time.
-ghost use Rattle.std.specs.Prelude.{◌≡◌, ◌≢◌, ℕ, ◌+◌, ◌-◌, ◌*◌, ◌^◌, ◌<◌, ◌≤◌, true, false, take, slice_get, List, length, All, MatchOption, MatchBool, IfErr, IfOk, Some, Option, Ok, map};
+ghost use Rattle.std.specs.Prelude.{◌≡◌, ◌≢◌, ℕ, ◌+◌, ◌-◌, ◌*◌, ◌^◌, ◌<◌, ◌≤◌, true, false, ◌⊎◌, take, slice_get, List, length, All, MatchOption, MatchBool, IfErr, IfOk, Some, Option, Ok, map};
 ghost use Rattle.vcd_model.specs.Merge.{Dump, merge_close, merge_open, merged_items};
 ghost use Rattle.vcd_text.specs.Device.{Counts, Device, Takes, Writes, failures_after, supply};
 ghost use Rattle.vcd_tools.specs.Answer.{NamesInput, writes_failed};
@@ -9,6 +9,7 @@ ghost use Rattle.vcd_head.specs.Views.{Views};
 ghost use Rattle.vcd_tools.specs.Seat.{AtSeat, Lane, Spot, Turns};
 ghost use Rattle.vcd_tools.specs.MergeParts.{AreParts, AreSeated, SameLengths, part, part_len, spot_at};
 ghost use Rattle.vcd_tools.specs.MergeOrder.{IsNext, IsNextBefore, comes_first, greatest_time};
+ghost use Rattle.vcd_tools.specs.MergeTrail.{IsFirstAmong, IsFirstBefore, RunGives, TurnsAt};
 ghost use Rattle.vcd_tools.specs.MergeRun.{Follows};
 ghost use Rattle.vcd_model.specs.Header.{Header};
 ghost use Rattle.vcd_model.specs.HeadText.{merged_head};
@@ -20,7 +21,7 @@ ghost use Rattle.vcd_tools.specs.MergeStep.{AreMarked, Gives, Holds, IsReady, fa
 use crate::answer::{Done, More, Stop};
 use crate::beginning::set_seats;
 use crate::item_text::put_time_unless;
-use crate::merging::step_of;
+use crate::merging::run_of;
 use crate::seat::Seat;
 use crate::windows::Windows;
 use vcd_head::{Head, put_merged_head};
@@ -71,6 +72,49 @@ fn next_input(seats: &[Seat]) -> Option<usize>
     found
 }
 
+/// Some input has not finished: this one, or another.
+#[inline(always)]
+fn some_left(seats: &[Seat], input: usize) -> bool
+    requires input { input < length seats.now }
+    ensures some { result ≡ true → (k : ℕ) × IsNext seats.now k }
+    ensures none { result ≡ false → All (λ (s : Seat). s.finished ≡ true) seats.now }
+{
+    if !seats[input].finished {
+        return true;
+    }
+    next_input(seats).is_some()
+}
+
+/// The time before which an input goes before another.
+#[inline(always)]
+fn time_of(seat: &Seat, place: usize, input: usize) -> u64
+    ensures { (t : ℕ) → t < result → place ≢ input → seat.now.finished ≡ false
+        → (t < seat.now.time) ⊎ ((t ≡ seat.now.time) × (input ≤ place)) }
+{
+    if seat.finished || place == input {
+        return u64::MAX;
+    }
+    if place < input {
+        return seat.time;
+    }
+    seat.time.saturating_add(1)
+}
+
+/// The time before which an input goes before all others; 0 where it is to give one item alone.
+fn first_before(seats: &[Seat], input: usize, alone: bool) -> u64
+    ensures first { IsFirstBefore seats.now input result }
+    ensures alone { alone ≡ true → result ≡ 0 }
+{
+    if alone {
+        return 0;
+    }
+    let mut before = u64::MAX;
+    for place in 0..seats.len() {
+        before = before.min(time_of(&seats[place], place, input));
+    }
+    before
+}
+
 /// The greatest time mark of all inputs.
 fn greatest_time(seats: &[Seat]) -> Option<u64>
     ensures { result ≡ greatest_time seats.now }
@@ -87,11 +131,13 @@ fn greatest_time(seats: &[Seat]) -> Option<u64>
     greatest
 }
 
-/// The step of the input at a place. The parts of the windows are those at its place, and no other input's are touched.
+/// The run of the input at a place: an item, and those that follow while its time is before this one. The parts of the windows are
+/// those at its place, and no other input's are touched.
 #[inline(always)]
 fn turn<S: Source, W: Sink>(
     heads: &[Head],
     input: usize,
+    before: u64,
     seats: &mut [Seat],
     sources: &mut [S],
     windows: &mut Windows<'_>,
@@ -112,7 +158,7 @@ fn turn<S: Source, W: Sink>(
         → spot_at S.rest seats.old sources.old windows.old.chunks.now windows.old.tokens.now input
         ≡ Some s → AtSeat scale first l items s
         → (s' : Spot) × (spot_at S.rest seats.new sources.new windows.new.chunks.now windows.new.tokens.now input ≡ Some s')
-        × Turns input scale first l items written.old written.new s'
+        × TurnsAt S.rest S.failures sources.old input scale first l before items written.old written.new s s'
         (W.device out.old) (W.device out.new) result }
     ensures others { (j : ℕ) → j ≢ input
         → spot_at S.rest seats.new sources.new windows.new.chunks.now windows.new.tokens.now j
@@ -137,9 +183,10 @@ fn turn<S: Source, W: Sink>(
     let limit = windows.tokens.len() / seats.len();
     let chunk_at = input * chunk;
     let token_at = input * limit;
-    step_of(
+    run_of(
         heads[input].view(),
         input,
+        before,
         &mut sources[input],
         &mut windows.chunks[chunk_at..chunk_at + chunk],
         &mut windows.tokens[token_at..token_at + limit],
@@ -209,10 +256,11 @@ fn close<W: Sink>(seats: &[Seat], written: Option<u64>, out: &mut W) -> Result<(
     }
 }
 
-/// A step of a merge, over what it works on.
+/// The steps of the input whose turn it is, over what a merge works on: one alone, or as many as come before those of the others.
 #[inline(always)]
 fn step<S: Source, W: Sink>(
     heads: &[Head],
+    alone: bool,
     seats: &mut [Seat],
     sources: &mut [S],
     windows: &mut Windows<'_>,
@@ -231,7 +279,7 @@ fn step<S: Source, W: Sink>(
           tokens = windows.old.tokens.now;
           values = windows.old.values.now;
         }) }
-    ensures gives { (hs : List Header) (lanes : List Lane) (ds : List Dump)
+    ensures runs { (hs : List Header) (lanes : List Lane) (ds : List Dump)
         → Holds S.rest hs lanes ds
         (record {
           heads = heads.now;
@@ -242,7 +290,7 @@ fn step<S: Source, W: Sink>(
           tokens = windows.old.tokens.now;
           values = windows.old.values.now;
         })
-        → Gives S.rest hs lanes ds
+        → RunGives S.rest S.failures hs lanes alone ds
         (record {
           heads = heads.now;
           seats = seats.old;
@@ -290,8 +338,9 @@ fn step<S: Source, W: Sink>(
     let Some(input) = next_input(seats) else {
         return Ok(More::Ended(Done::Whole));
     };
-    turn(heads, input, seats, sources, windows, written, out)?;
-    if next_input(seats).is_some() {
+    let before = first_before(seats, input, alone);
+    turn(heads, input, before, seats, sources, windows, written, out)?;
+    if some_left(seats, input) {
         return Ok(More::Again);
     }
     close(seats, *written, out)?;
@@ -338,6 +387,51 @@ pub fn merge_step<S: Source, W: Sink>(
 {
     let answer = step(
         merge.heads,
+        true,
+        merge.seats,
+        sources,
+        windows,
+        &mut merge.written,
+        out,
+    );
+    merge.going = matches!(answer, Ok(More::Again));
+    answer
+}
+
+/// Takes the items of the input whose turn it is, as many as come before those of the others.
+#[inline(always)]
+fn run_step<S: Source, W: Sink>(
+    merge: &mut Merge<'_, '_>,
+    sources: &mut [S],
+    windows: &mut Windows<'_>,
+    out: &mut W,
+) -> Result<More, Stop>
+    requires reads { All (λ s. S.failures s < 2 ^ 64 - 1) sources.old }
+    requires out_failures { (W.device out.old).failures < 2 ^ 64 - 1 }
+    requires going { is_going merge.old ≡ true }
+    requires ready { IsReady (standing_of merge.old sources.old windows.old) }
+    ensures runs { (hs : List Header) (lanes : List Lane) (ds : List Dump)
+        → Holds S.rest hs lanes ds (standing_of merge.old sources.old windows.old)
+        → RunGives S.rest S.failures hs lanes false ds
+        (standing_of merge.old sources.old windows.old)
+        (standing_of merge.new sources.new windows.new)
+        (W.device out.old) (W.device out.new) result }
+    ensures ready { result ≡ Ok More.Again
+        → IsReady (standing_of merge.new sources.new windows.new) }
+    ensures lengths { (length merge.new.seats.now ≡ length merge.old.seats.now)
+        × SameLengths windows.old windows.new }
+    ensures reads { (k : ℕ) × IsNext merge.old.seats.now k
+        × (map S.failures sources.new ≡ failures_with (map S.failures sources.old) k result)
+        × NamesInput k result }
+    ensures left { result ≡ Ok More.Again
+        → left_of merge.new.seats.now < left_of merge.old.seats.now }
+    ensures writes { (W.device out.new).failures
+        ≡ (W.device out.old).failures + writes_failed result }
+    ensures going { is_going merge.new ≡ goes_on result }
+{
+    let answer = step(
+        merge.heads,
+        false,
         merge.seats,
         sources,
         windows,
@@ -381,7 +475,7 @@ impl<'h, 's> Merge<'h, 's> {
         ensures over { is_going self.new ≡ false }
     {
         'items: loop {
-            match merge_step(self, sources, windows, out)? {
+            match run_step(self, sources, windows, out)? {
                 More::Again => {}
                 More::Ended(done) => return Ok(done),
             }

@@ -1,4 +1,4 @@
-//! A step of one input of a merge, over its source and its windows alone.
+//! The steps of one input of a merge, over its source and its windows alone.
 ghost use Rattle.std.specs.Prelude.{◌≡◌, ◌≢◌, ℕ, ◌+◌, ◌-◌, ◌*◌, ◌^◌, ◌<◌, ◌≤◌, ◌++◌, ◌∷◌, [], List, Some, length, IfOk, IfSome, IfNone, MatchBool, false, is_some, ◌&&◌};
 ghost use Rattle.vcd_model.specs.Header.{Header};
 ghost use Rattle.vcd_model.specs.Items.{BodyItem, time_after};
@@ -16,6 +16,7 @@ ghost use Rattle.vcd_tools.specs.Pick.{is_event_at};
 ghost use Rattle.vcd_tools.specs.ItemText.{AsItem};
 ghost use Rattle.vcd_tools.specs.Seat.{AtSeat, IsSeated, Lane, SameSeat, Turns, spot_with};
 ghost use Rattle.vcd_tools.specs.SeatStep.{Moved};
+ghost use Rattle.vcd_tools.specs.MergeTrail.{RunTurns, stage_with};
 
 use crate::answer::Stop;
 use crate::item_text::put_time_unless;
@@ -124,12 +125,48 @@ fn take_item<S: Source, W: Sink>(
     Ok(())
 }
 
-/// The step of an input, over its source and its parts of the windows alone: its feed goes on where it was parked, and is parked
-/// again.
+/// Takes items of an input over its feed as long as its time is before this one: one item, and those that follow while it is.
 #[inline(always)]
-pub(crate) fn step_of<S: Source, W: Sink>(
+fn take_run<S: Source, W: Sink>(
     view: HeadView<'_>,
     input: usize,
+    before: u64,
+    feed: &mut Feed<'_, '_, '_, '_, S>,
+    seat: &mut Seat,
+    written: &mut Option<u64>,
+    out: &mut W,
+) -> Result<(), Stop>
+    requires feed_failures { S.failures (source_of feed.old) < 2 ^ 64 - 1 }
+    requires out_failures { (W.device out.old).failures < 2 ^ 64 - 1 }
+    requires unfinished { seat.old.finished ≡ false }
+    requires open { HasNotFailed feed.old }
+    ensures turns { (scale first : ℕ) (l : Lane) (items : List BodyItem)
+        → IsViewOf view.entry l.header → AtSeat scale first l items (spot_with seat.old feed.old)
+        → RunTurns S.rest S.failures input scale first l before
+        (stage_with items written.old seat.old feed.old (W.device out.old))
+        written.new (spot_with seat.new feed.new) (W.device out.new) result }
+    ensures moved { Moved S.failures feed.old feed.new seat.new result }
+    ensures parked { seat.new.parked ≡ seat.old.parked }
+    ensures same { SameSeat seat.old seat.new }
+    ensures named { NamesInput input result }
+    ensures writes { (W.device out.new).failures
+        ≡ (W.device out.old).failures + writes_failed result }
+{
+    'items: loop {
+        take_item(view, input, feed, seat, written, out)?;
+        if seat.finished || seat.time >= before {
+            return Ok(());
+        }
+    }
+}
+
+/// The run of an input, over its source and its parts of the windows alone: its feed goes on where it was parked, takes an item,
+/// and those that follow while the time of the input is before this one, and is parked again.
+#[inline(always)]
+pub(crate) fn run_of<S: Source, W: Sink>(
+    view: HeadView<'_>,
+    input: usize,
+    before: u64,
     source: &mut S,
     chunk: &mut [u8],
     token: &mut [u8],
@@ -154,14 +191,23 @@ pub(crate) fn step_of<S: Source, W: Sink>(
           chunk = chunk.old;
           token = token.old;
         })
-        → Turns input scale first l items written.old written.new
+        → RunTurns S.rest S.failures input scale first l before
+        (record {
+          items = items;
+          written = written.old;
+          seat = seat.old;
+          source = source.old;
+          chunk = chunk.old;
+          token = token.old;
+          out = W.device out.old;
+        }) written.new
         (record {
           seat = seat.new;
           rest = S.rest source.new;
           chunk = chunk.new;
           token = token.new;
         })
-        (W.device out.old) (W.device out.new) result }
+        (W.device out.new) result }
     ensures seated { IfOk result (λ _. IsSeated (length chunk.old) (length token.old) seat.new) }
     ensures same { SameSeat seat.old seat.new }
     ensures reads { S.failures source.new ≡ S.failures source.old + reads_failed result }
@@ -174,7 +220,7 @@ pub(crate) fn step_of<S: Source, W: Sink>(
     ensures bounded { parked_seen seat.new.parked < 2 ^ 63 }
 {
     let mut feed = Feed::resume(source, chunk, token, value, seat.parked);
-    let answer = take_item(view, input, &mut feed, seat, written, out);
+    let answer = take_run(view, input, before, &mut feed, seat, written, out);
     seat.parked = feed.parked();
     answer
 }
