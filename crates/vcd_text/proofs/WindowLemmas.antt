@@ -25,7 +25,7 @@ use Rattle.vcd_text.specs.declared.answer.Next.TheVariants.{Token as token-given
 use Rattle.vcd_text.specs.declared.answer.Halt.TheVariants.{TokenTooLong, InputTooLong, ReadFailed}
 use Rattle.vcd_text.proofs.Steps.{live-others, live-whites, live-end, live-take, token_to}
 use Rattle.vcd_text.proofs.Streams.{much-stream, long-stream, failed-stream, clean-stream, halts-from, end-of-token}
-use Rattle.vcd_text.proofs.Ahead.{ahead-index, ahead-length, ahead-drop, ahead-slice, line_feeds_in-more, line_feeds_in-other, slice_range-append}
+use Rattle.vcd_text.proofs.AheadLemmas.{ahead-index, ahead-length, ahead-drop, ahead-slice, line_feeds_in-more, line_feeds_in-other, slice_range-append}
 
 -- what has come of the next token stands in the window
 pub record Within (limit : ℕ) (rest : Option (List ℕ)) (chunk token : List ℕ) (p : Parked) (text : List ℕ) (given : List Token) : Type 0 where

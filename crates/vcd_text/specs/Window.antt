@@ -6,7 +6,7 @@ use Rattle.vcd_text.specs.declared.registers.Parked.{Parked}
 use Rattle.vcd_text.specs.declared.answer.Halt.{Halt}
 use Rattle.vcd_text.specs.declared.answer.Halt.TheVariants.{TokenTooLong, InputTooLong, ReadFailed}
 use Rattle.vcd_text.specs.declared.registers.Phase.TheVariants.{Ended, Halted}
-use Rattle.vcd_text.specs.declared.registers.Place.TheVariants.{Chunk}
+use Rattle.vcd_text.specs.declared.registers.Place.TheVariants.{Window, Chunk}
 use Rattle.vcd_text.specs.declared.window.Collected.{Collected}
 use Rattle.vcd_text.specs.declared.window.Collected.TheVariants.{Whole, Part, TooLong}
 use Rattle.vcd_text.specs.declared.window.Filled.{Filled}
@@ -33,6 +33,10 @@ ended chunk p d = record p { at = p.at + d + 1; size = p.size + d; line_feeds = 
 -- the registers after a token of d bytes that stays in the chunk, and a byte of white space
 abbrev pub passed : List ℕ → Parked → ℕ → Parked
 passed chunk p d = record p { at = p.at + d + 1; size = d; place = Chunk p.at; line_feeds = p.line_feeds + (if slice_index chunk (p.at + d) == 10 then 1 else 0) }
+
+-- the registers after n bytes that were looked over ahead, and no token is shown
+abbrev pub gone_on : List ℕ → Parked → ℕ → Parked
+gone_on chunk p n = record p { at = p.at + n; size = 0; place = Window; line_feeds = p.line_feeds + line_feeds_in (slice_range chunk p.at (p.at + n)) }
 
 -- the registers after a read of n bytes
 abbrev pub refilled : Parked → ℕ → Parked

@@ -1,0 +1,32 @@
+-- Whole tokens that stand one after the other, each with one byte of white space after it.
+use Rattle.std.specs.Prelude.{◌≡◌, ℕ, ◌+◌, ◌<◌, ◌≤◌, true, false, List, [], ◌∷◌, length, take, slice_index, slice_range}
+use Rattle.vcd_model.specs.Bytes.{is_white_space}
+use Rattle.vcd_model.specs.Tokens.{Token}
+use Rattle.vcd_text.specs.Window.{line_feeds_in}
+
+-- the line of the byte at a place, where so many line feeds stand before these bytes
+abbrev pub line_ahead : ℕ → List ℕ → ℕ → ℕ
+line_ahead lines bytes at = 1 + lines + line_feeds_in (take at bytes)
+
+-- n bytes stand at this place, none of them white, and one that is white after them
+pub record IsRun (limit : ℕ) (bytes : List ℕ) (at n : ℕ) : Type 0 where
+  pub some : 0 < n
+  pub short : n ≤ limit
+  pub within : at + n < length bytes
+  pub other : (k : ℕ) → k < n → is_white_space (slice_index bytes (at + k)) ≡ false
+  pub white : is_white_space (slice_index bytes (at + n)) ≡ true
+
+-- this token of at most `limit` bytes stands at this place
+pub record StandsAt (limit lines : ℕ) (bytes : List ℕ) (at : ℕ) (t : Token) : Type 0 where
+  pub run : IsRun limit bytes at (length t.bytes)
+  pub bytes_are : t.bytes ≡ slice_range bytes at (at + length t.bytes)
+  pub line_is : t.line ≡ line_ahead lines bytes at
+
+-- from this place on there are just these tokens, up to place n
+abbrev pub PassedFrom : ℕ → ℕ → List ℕ → ℕ → List Token → ℕ → Type 0
+PassedFrom limit lines bytes at [] n = n ≡ at
+PassedFrom limit lines bytes at (t ∷ ts) n = StandsAt limit lines bytes at t × PassedFrom limit lines bytes (at + length t.bytes + 1) ts n
+
+-- The first n bytes are just these tokens, each of at most `limit` bytes, not empty, and with one white byte after it. Before the bytes there are so many line feeds.
+abbrev pub Passed : ℕ → ℕ → List ℕ → ℕ → List Token → Type 0
+Passed limit lines bytes n ts = PassedFrom limit lines bytes 0 ts n

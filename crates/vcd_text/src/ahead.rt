@@ -1,0 +1,133 @@
+//! A look ahead over the bytes of a chunk, in a caller's loop: most tokens cost no change of the feed.
+ghost use Rattle.std.specs.Prelude.{◌≡◌, ◌≢◌, ℕ, ◌+◌, ◌<◌, ◌≤◌, false, length, slice_index};
+ghost use Rattle.vcd_model.specs.Bytes.{is_white_space};
+ghost use Rattle.vcd_text.specs.Masks.{Marks};
+
+use crate::registers::White;
+use crate::scan::{lowest, white_64, without};
+
+/// The tokens that stand ahead in a feed's chunk, up to a place that needs the feed itself. A copy of it is a place to go back to.
+#[derive(Clone, Copy)]
+pub struct Ahead<'a> {
+    bytes: &'a [u8],
+    // The next token begins here.
+    at: usize,
+    limit: usize,
+    white: White,
+    ghost marks: { Marks bytes.now at (length bytes.now) white },
+    ghost order: { at ≤ white.next },
+}
+
+impl<'a> Ahead<'a> {
+    ghost use Rattle.std.specs.Prelude.{List, [], ◌∷◌, ◌++◌, None, IfSome};
+    ghost use Rattle.vcd_model.specs.Tokens.{Token};
+    ghost use Rattle.vcd_text.specs.Passed.{IsRun, Passed, line_ahead};
+    ghost use Rattle.vcd_text.specs.Ahead.{bytes_of, longest_of, passed_of};
+
+    /// Over these bytes.
+    #[inline(always)]
+    pub(crate) fn new(bytes: &'a [u8], limit: usize) -> Ahead<'a>
+        ensures bytes { bytes_of result ≡ bytes.now }
+        ensures limit { longest_of result ≡ limit }
+        ensures passed { passed_of result ≡ 0 }
+    {
+        Ahead {
+            bytes,
+            at: 0,
+            limit,
+            white: White::unknown(),
+        }
+    }
+
+    /// How many bytes were passed, for `Feed::pass`.
+    #[inline(always)]
+    pub fn passed(&self) -> usize
+        ensures passed { result ≡ passed_of self.now }
+        ensures within { result ≤ length (bytes_of self.now) }
+    {
+        self.at
+    }
+
+    /// The next token, if it begins at once and is whole. Where it is not, `Feed::next` goes on. Near the end of the bytes
+    /// none is given either.
+    #[inline(always)]
+    pub fn next(&mut self) -> Option<&'a [u8]>
+        ensures gives { IfSome result (λ token. (lines : ℕ) (ts : List Token)
+            → Passed (longest_of self.old) lines (bytes_of self.old) (passed_of self.old) ts
+            → Passed (longest_of self.old) lines (bytes_of self.old) (passed_of self.new) (ts ++ (record {
+              bytes = token.now;
+              line = line_ahead lines (bytes_of self.old) (passed_of self.old);
+            }) ∷ [])) }
+        ensures some { IfSome result (λ token. 0 < length token.now) }
+        ensures short { IfSome result (λ token. length token.now ≤ longest_of self.old) }
+        ensures further { IfSome result
+            (λ token. passed_of self.new ≡ passed_of self.old + length token.now + 1) }
+        ensures within { passed_of self.new ≤ length (bytes_of self.old) }
+        ensures none { result ≡ None → self.new ≡ self.old }
+
+        // None is given only where none stands, or fewer than 64 bytes from its end on.
+        ensures needed { result ≡ None → (n : ℕ)
+            → IsRun (longest_of self.old) (bytes_of self.old) (passed_of self.old) n
+            → length (bytes_of self.old) < passed_of self.old + n + 64 }
+        ensures same { (bytes_of self.new ≡ bytes_of self.old)
+            × (longest_of self.new ≡ longest_of self.old) }
+    {
+        let mut white = self.white_ahead();
+        if white.bits == 0 {
+            return None;
+        }
+        let bit = lowest(white.bits);
+        let start = self.at;
+        let end = white.next + bit - 64;
+        let n = end - start;
+        if n == 0 || n > self.limit {
+            return None;
+        }
+        white.bits = without(white.bits, bit);
+        *self = Ahead {
+            bytes: self.bytes,
+            at: end + 1,
+            limit: self.limit,
+            white,
+        };
+        Some(&self.bytes[start..end])
+    }
+
+    /// The white space that is known ahead: no bits where there is none, or fewer than 64 bytes from it on.
+    #[inline(always)]
+    fn white_ahead(&self) -> White
+        ensures marks { result.bits ≢ 0 → Marks self.now.bytes.now self.now.at
+            (length self.now.bytes.now) result }
+        ensures none { result.bits ≡ 0 → (n : ℕ)
+            → IsRun self.now.limit self.now.bytes.now self.now.at n
+            → length self.now.bytes.now < self.now.at + n + 64 }
+    {
+        if self.white.bits != 0 {
+            return self.white;
+        }
+        look_ahead(self.bytes, self.white.next)
+    }
+}
+
+/// Looks on for white space, 64 bytes at a time: no bits where fewer are left before any.
+#[inline(never)]
+fn look_ahead(bytes: &[u8], from: usize) -> White
+    requires { from ≤ length bytes.now }
+    ensures marks { result.bits ≢ 0 → (at : ℕ) → at ≤ from
+        → ((j : ℕ) → at ≤ j → j < from → is_white_space (slice_index bytes.now j) ≡ false)
+        → Marks bytes.now at (length bytes.now) result }
+    ensures next { (from ≤ result.next) × (result.next ≤ length bytes.now) }
+    ensures none { result.bits ≡ 0 → (length bytes.now < result.next + 64)
+        × ((j : ℕ) → from ≤ j → j < result.next
+        → is_white_space (slice_index bytes.now j) ≡ false) }
+{
+    let mut next = from;
+    while bytes.len() - next >= 64 {
+        let bits = white_64(bytes, next);
+        next += 64;
+        if bits != 0 {
+            return White { bits, next };
+        }
+    }
+    White { bits: 0, next }
+}
