@@ -21,7 +21,8 @@ use Rattle.vcd_text.specs.ReadAhead.ReadsAsNeeded.{ToToken, ToEnd}
 use Rattle.vcd_text.specs.Feed.{supply_of, token_of, limit_of, chunk_len_of}
 use Rattle.vcd_text.specs.declared.device.Source.{Ghosts}
 use Rattle.vcd_text.specs.declared.feed.Feed.{Feed}
-use Rattle.vcd_body.specs.Reads.{GaveAll, GaveItem, StopsAt}
+use Rattle.vcd_body.specs.Ahead.{GaveLast}
+use Rattle.vcd_body.specs.Reads.{GaveAll, StopsAt}
 use Rattle.vcd_body.specs.Reads.StopsAt.{AtToken, AtEnd}
 use Rattle.vcd_body.specs.declared.item.Regs.{Regs}
 use Rattle.vcd_tools.specs.Engine.{CanRun}
@@ -93,13 +94,13 @@ module _ {X : Type 0} {g : Ghosts X} (t : Request) (h : Header) (i : Input) (fro
   read_to_end r a = ToEnd a.gave.given (ap (λ n. (stream_of n i).tokens) (sym same) ∙ a.all) (unsettled t h a.gave.given a.gave.placed [] items can on a.gave.so_far a.gave.items_are) (near_halted a.gave.stands.near_halt)
 
   -- and at an item
-  pub read_to_item : (x : BodyItem) (r : Regs) → GaveItem h.codes i front items x f r → ReadsAsNeeded limit chunk before (supply_of f) i front (is_settled_behind t h)
+  pub read_to_item : (x : BodyItem) (r : Regs) → GaveLast h.codes i front items x f r → ReadsAsNeeded limit chunk before (supply_of f) i front (is_settled_behind t h)
   read_to_item x r m = by_tokens (split_last m.gave.given)
     where
       by_tokens : (m.gave.given ≡ []) ⊎ ((asked : List Token) × (last : Token) × (m.gave.given ≡ asked ++ last ∷ [])) → ReadsAsNeeded limit chunk before (supply_of f) i front (is_settled_behind t h)
       by_tokens (inl none) =
           let nothing = sym (subst (λ ts. IsSoFar (body_grammar h.codes) ts m.gave.placed []) none m.gave.so_far) ∙ so_far-nothing (body_grammar h.codes) in
-          not_nil m.before (record { phrase = BodyPhrase.Gives x; line = (token_of f).line }) (sym m.last ∙ ap (λ r. r.placed) nothing)
+          not_nil m.before (record { phrase = BodyPhrase.Gives x; line = m.line }) (sym m.last ∙ ap (λ r. r.placed) nothing)
       by_tokens (inr s) =
           let asked = s.0 in
           let last = s.1 in

@@ -5,6 +5,7 @@ use Rattle.std.specs.List.{list_any}
 use Rattle.vcd_model.specs.Backward.{up_to_first}
 use Rattle.vcd_model.specs.Input.{Input}
 use Rattle.vcd_model.specs.Tokens.{Token, Stream, stream_of}
+use Rattle.vcd_model.specs.Declarations.{IdCode}
 use Rattle.vcd_model.specs.Header.{Header}
 use Rattle.vcd_model.specs.Items.{BodyItem}
 use Rattle.vcd_model.specs.BodyReading.{body_grammar, read_body, body_items, body_fault_of}
@@ -23,16 +24,17 @@ use Rattle.vcd_text.specs.ReadAhead.ReadsAsNeeded.{Nothing}
 use Rattle.vcd_text.specs.declared.device.Source.{Ghosts}
 use Rattle.vcd_text.specs.declared.feed.Feed.{Feed}
 use Rattle.vcd_text.proofs.Writes.{AppendsSome, appends-first, both-written, some-behind, some-first}
+use Rattle.vcd_body.specs.Ahead.{GaveLast}
 use Rattle.vcd_body.specs.Reads.{BodyHas, GaveAll, GaveItem}
 use Rattle.vcd_body.specs.declared.item.Regs.{Regs}
 use Rattle.vcd_tools.specs.Answer.{reads_failed}
 use Rattle.vcd_text.specs.Device.{Device, Supply, Writes, WritesSome}
-use Rattle.vcd_tools.specs.Device.{GrowsSome}
+use Rattle.vcd_tools.specs.Device.{Grows, GrowsSome}
 use Rattle.vcd_tools.proofs.MergeOutcomes.{fault_output}
 use Rattle.vcd_tools.specs.Engine.{CanRun, Holds, Runs, StopsAtStart, reads_body, request_of_engine}
 use Rattle.vcd_tools.specs.Run.{Belongs, Follows, IsLeft, IsRefused, is_early}
 use Rattle.vcd_tools.proofs.AskedLemmas.{read_to_end, read_to_item, read_to_stop}
-use Rattle.vcd_tools.specs.Step.{StepGives, step_end}
+use Rattle.vcd_tools.specs.Step.{AheadGives, LastGives, StepGives, StepsGive, TakesAhead, step_end}
 use Rattle.vcd_text.specs.Advances.{Advances, HasNotFailed}
 use Rattle.vcd_tools.specs.declared.answer.Done.{Done}
 use Rattle.vcd_tools.specs.declared.answer.Done.TheVariants.{Whole, Early}
@@ -122,18 +124,18 @@ module _ {X : Type 0} {g : Ghosts X} (t : Request) (h : Header) (i : Input) (fro
 
   module _ (e : Engine) where
     -- the run has ended, with the body
-    pub ended_whole : (supply_of f).failures ≡ before.failures → StepGives t h i front items e f mid new (Ok (Ended Whole)) → Follows t limit chunk i front h name before (supply_of f) out new (Ok Whole)
+    pub ended_whole : (supply_of f).failures ≡ before.failures → LastGives t h i front items e f mid new (Ok (Ended Whole)) → Follows t limit chunk i front h name before (supply_of f) out new (Ok Whole)
     ended_whole q s = follows i None (Ok Whole) (inl (q, refl)) s.0.has (read_to_end t h i front items f limit chunk before same size can on e.regs s.0) refl tt (refl, both-written out mid new (open_text t h items) (close_text t h items) open_is s.1)
 
     -- the run has stopped at a fault
-    pub stopped_dump : (input line fault : ℕ) → (supply_of f).failures ≡ before.failures → StepGives t h i front items e f mid new (Err (Dump input line fault)) → Follows t limit chunk i front h name before (supply_of f) out new (Err (Dump input line fault))
+    pub stopped_dump : (input line fault : ℕ) → (supply_of f).failures ≡ before.failures → LastGives t h i front items e f mid new (Err (Dump input line fault)) → Follows t limit chunk i front h name before (supply_of f) out new (Err (Dump input line fault))
     stopped_dump input line fault q s =
         let b = faulty fault line s.4 in
         let has = subst (λ (n : ℕ). BodyHas h.codes i front (limit_of f) items (Some (record { number = fault; line = n }))) (sym s.2) s.3.0 in
         follows i (Some (record { number = fault; line = line })) (Err (Dump input line fault)) (inl (q, refl)) has (read_to_stop t h i front items f limit chunk before same size can on s.3.1) tt tt (s.0, b.0, s.1, b.1)
 
     -- a read failed
-    pub stopped_read : (input : ℕ) → (supply_of f).failures ≡ before.failures + 1 → StepGives t h i front items e f mid new (Err (Read input)) → Follows t limit chunk i front h name before (supply_of f) out new (Err (Read input))
+    pub stopped_read : (input : ℕ) → (supply_of f).failures ≡ before.failures + 1 → LastGives t h i front items e f mid new (Err (Read input)) → Follows t limit chunk i front h name before (supply_of f) out new (Err (Read input))
     stopped_read input q s =
         let left = failed_after (seen f) i in
         let line = (token_of f).line in
@@ -147,7 +149,7 @@ module _ {X : Type 0} {g : Ghosts X} (t : Request) (h : Header) (i : Input) (fro
         follows i None (Err Write) (inl (q, refl)) has.has (read_to_end t h i front items f limit chunk before same size can on e.regs has) tt tt (subst (WritesSome out new) (ap (λ l. open_text t h items ++ l) (sym due.1)) some)
 
 -- the run goes on
-pub run_goes_on : {X : Type 0} {g : Ghosts X} (t : Request) (h : Header) (i : Input) (front : List Token) (items : List BodyItem) (out mid new : Device) → Writes out mid (open_text t h items) → (e : Engine) (f : Feed X g) → StepGives t h i front items e f mid new (Ok Again)
+pub run_goes_on : {X : Type 0} {g : Ghosts X} (t : Request) (h : Header) (i : Input) (front : List Token) (items : List BodyItem) (out mid new : Device) → Writes out mid (open_text t h items) → (e : Engine) (f : Feed X g) → LastGives t h i front items e f mid new (Ok Again)
     → (more : List BodyItem) × Runs e h i front more f × Writes out new (open_text t h more)
 run_goes_on t h i front items out mid new open_is e f s =
     let due = s.2 in
@@ -199,7 +201,7 @@ module _ {X : Type 0} {g : Ghosts X} (t : Request) (h : Header) (i : Input) (fro
       by_item false e = begins_with t h (items ++ x ∷ []) more name fault can.valid (none_at (ends_early t) items x on e)
 
   -- an answer that belongs to the outcome of every body that begins with one item more
-  follows_first : (r : Regs) (x : BodyItem) (a : Result Done Stop) → (supply_of f).failures ≡ before.failures → GaveItem h.codes i front items x f r → ((more : List BodyItem) (fault : Option Fault) → Belongs t (over_body t h ((items ++ x ∷ []) ++ more) name fault) name out new a)
+  follows_first : (r : Regs) (x : BodyItem) (a : Result Done Stop) → (supply_of f).failures ≡ before.failures → GaveLast h.codes i front items x f r → ((more : List BodyItem) (fault : Option Fault) → Belongs t (over_body t h ((items ++ x ∷ []) ++ more) name fault) name out new a)
       → ((more : List BodyItem) → IfOk a (λ done. is_early done ≡ list_any (ends_early t) ((items ++ x ∷ []) ++ more))) → IfErr a (IsRefused t h) → Follows t limit chunk i front h name before (supply_of f) out new a
   unfolding body_of
   follows_first r x a q m belongs early refused =
@@ -223,7 +225,7 @@ module _ {X : Type 0} {g : Ghosts X} (t : Request) (h : Header) (i : Input) (fro
       }
 
   -- a time mark ended the run
-  pub ended_early : (e : Engine) → (supply_of f).failures ≡ before.failures → StepGives t h i front items e f mid new (Ok (Ended Early)) → Follows t limit chunk i front h name before (supply_of f) out new (Ok Early)
+  pub ended_early : (e : Engine) → (supply_of f).failures ≡ before.failures → LastGives t h i front items e f mid new (Ok (Ended Early)) → Follows t limit chunk i front h name before (supply_of f) out new (Ok Early)
   ended_early e q s =
       let x = s.0 in
       let due = s.3 in
@@ -232,7 +234,7 @@ module _ {X : Type 0} {g : Ghosts X} (t : Request) (h : Header) (i : Input) (fro
       (λ more. sym (ap (list_any (ends_early t)) (append_assoc items (x ∷ []) more) ∙ any_at (ends_early t) items more x s.1)) tt
 
   -- a write of what is due behind an item failed
-  pub stopped_item : (r : Regs) (x : BodyItem) → (supply_of f).failures ≡ before.failures → GaveItem h.codes i front items x f r → GrowsSome mid new (open_text t h items) (open_text t h (items ++ x ∷ [])) → Follows t limit chunk i front h name before (supply_of f) out new (Err Write)
+  pub stopped_item : (r : Regs) (x : BodyItem) → (supply_of f).failures ≡ before.failures → GaveLast h.codes i front items x f r → GrowsSome mid new (open_text t h items) (open_text t h (items ++ x ∷ [])) → Follows t limit chunk i front h name before (supply_of f) out new (Err Write)
   stopped_item r x q gave due =
       let some : WritesSome out new (open_text t h (items ++ x ∷ [])) = subst (WritesSome out new) (sym due.1) (some-behind out mid new (open_text t h items) due.0 open_is due.2) in
       follows_first r x (Err Write) q gave
@@ -243,25 +245,79 @@ module _ {X : Type 0} {g : Ghosts X} (t : Request) (h : Header) (i : Input) (fro
 -- `mid` holds what is due behind these items; the last step took the run from there to `new`
 module _ {X : Type 0} {g : Ghosts X} (t : Request) (h : Header) (i : Input) (front : List Token) (items : List BodyItem) (name : List ℕ) (limit chunk : ℕ) (before : Supply) (out mid new : Device) (can : CanRun t h) (on : list_any (ends_early t) items ≡ false) (open_is : Writes out mid (open_text t h items)) (e : Engine) (f : Feed X g) (same : limit_of f ≡ limit) (size : chunk_len_of f ≡ chunk) where
   -- the run has ended
-  pub followed : (done : Done) → (supply_of f).failures ≡ before.failures → StepGives t h i front items e f mid new (Ok (Ended done)) → Follows t limit chunk i front h name before (supply_of f) out new (Ok done)
+  pub followed : (done : Done) → (supply_of f).failures ≡ before.failures → LastGives t h i front items e f mid new (Ok (Ended done)) → Follows t limit chunk i front h name before (supply_of f) out new (Ok done)
   followed Whole q s = ended_whole t h i front items name limit chunk before out mid new can on open_is f same size e q s
   followed Early q s = ended_early t h i front items name limit chunk before out mid new can on open_is f same size e q s
 
   -- the run has stopped
-  pub followed_stop : (stop : Stop) → (supply_of f).failures ≡ before.failures + reads_failed {A = Done} (Err stop) → StepGives t h i front items e f mid new (Err stop) → Follows t limit chunk i front h name before (supply_of f) out new (Err stop)
+  pub followed_stop : (stop : Stop) → (supply_of f).failures ≡ before.failures + reads_failed {A = Done} (Err stop) → LastGives t h i front items e f mid new (Err stop) → Follows t limit chunk i front h name before (supply_of f) out new (Err stop)
   followed_stop (Dump input line fault) q s = stopped_dump t h i front items name limit chunk before out mid new can on open_is f same size e input line fault (omega arith) s
   followed_stop (Read input) q s = stopped_read t h i front items name limit chunk before out mid new can on open_is f same size e input q s
   followed_stop (Unmatched place) q s = absurd s
   followed_stop Write q s = by_due s
     where
-      by_due : StepGives t h i front items e f mid new (Err Write) → Follows t limit chunk i front h name before (supply_of f) out new (Err Write)
+      by_due : LastGives t h i front items e f mid new (Err Write) → Follows t limit chunk i front h name before (supply_of f) out new (Err Write)
       by_due (inl d) = stopped_item t h i front items name limit chunk before out mid new can on open_is f same size e.regs d.0 (omega arith) d.1 d.2
       by_due (inr d) = stopped_close t h i front items name limit chunk before out mid new can on open_is f same size e (omega arith) d.0 d.1
 
--- a step of this task that answers so
-pub asked : {X : Type 0} {g : Ghosts X} (t t' : Request) (h : Header) (i : Input) (front : List Token) (items : List BodyItem) (e : Engine) (f : Feed X g) (out out' : Device) (r r' : Result More Stop) → t ≡ t' → r ≡ r' → StepGives t h i front items e f out out' r
-    → StepGives t' h i front items e f out out' r'
-asked t t' h i front items e f out out' r r' et er s = subst (λ (q : Result More Stop). StepGives t' h i front items e f out out' q) er (subst (λ (q : Request). StepGives q h i front items e f out out' r) et s)
+-- ---- several steps
+
+-- of an item its line need not be known
+last_given : {X : Type 0} {g : Ghosts X} (codes : List IdCode) (i : Input) (front : List Token) (items : List BodyItem) (x : BodyItem) (f : Feed X g) (r : Regs) → GaveItem codes i front items x f r → GaveLast codes i front items x f r
+last_given codes i front items x f r m = record { gave = m.gave; before = m.before; before_are = m.before_are; line = (token_of f).line; last = m.last; near = m.near }
+
+as_last : {X : Type 0} {g : Ghosts X} (t : Request) (h : Header) (i : Input) (front : List Token) (items : List BodyItem) (e : Engine) (f : Feed X g) (out out' : Device) (r : Result More Stop) → StepGives t h i front items e f out out' r → LastGives t h i front items e f out out' r
+as_last t h i front items e f out out' (Ok Again) s = (s.0, s.1, s.2)
+as_last t h i front items e f out out' (Ok (Ended Whole)) s = s
+as_last t h i front items e f out out' (Ok (Ended Early)) s = (s.0, s.1, last_given h.codes i front items s.0 f e.regs s.2, s.3)
+as_last t h i front items e f out out' (Err (Dump input line fault)) s = s
+as_last t h i front items e f out out' (Err (Read input)) s = s
+as_last t h i front items e f out out' (Err Write) (inl s) = inl (s.0, last_given h.codes i front items s.0 f e.regs s.1, s.2)
+as_last t h i front items e f out out' (Err Write) (inr s) = inr s
+as_last t h i front items e f out out' (Err (Unmatched name)) s = absurd s
+
+-- items that were taken ahead, and a step behind them
+pub steps_behind : {X : Type 0} {g : Ghosts X} (t : Request) (h : Header) (i : Input) (front : List Token) (items : List BodyItem) (e e' : Engine) (f f' : Feed X g) (out out' new : Device) (r : Result More Stop) (a : TakesAhead t h i front items e f out out' (Ok Again))
+    → StepGives t h i front (items ++ a.more) e' f' out' new r → StepsGive t h i front items e' f' out new r
+steps_behind t h i front items e e' f f' out out' new r a s = record {
+  more = a.more;
+  mid = a.mid;
+  on = a.on;
+  grows = a.grows;
+  last = subst (λ (o : Device). LastGives t h i front (items ++ a.more) e' f' o new r) a.last.1 (as_last t h i front (items ++ a.more) e' f' out' new r s);
+}
+
+-- items that were taken ahead, the last of which has ended the run
+pub steps_end_ahead : {X : Type 0} {g : Ghosts X} (t : Request) (h : Header) (i : Input) (front : List Token) (items : List BodyItem) (e : Engine) (f : Feed X g) (out new : Device) (done : Done) → TakesAhead t h i front items e f out new (Ok (Ended done)) → StepsGive t h i front items e f out new (Ok (Ended done))
+steps_end_ahead t h i front items e f out new done a = record { more = a.more; mid = a.mid; on = a.on; grows = a.grows; last = a.last }
+
+-- or of which a write failed
+pub steps_stop_ahead : {X : Type 0} {g : Ghosts X} (t : Request) (h : Header) (i : Input) (front : List Token) (items : List BodyItem) (e : Engine) (f : Feed X g) (out new : Device) (stop : Stop) → TakesAhead t h i front items e f out new (Err stop) → StepsGive t h i front items e f out new (Err stop)
+steps_stop_ahead t h i front items e f out new stop a = record { more = a.more; mid = a.mid; on = a.on; grows = a.grows; last = a.last }
+
+-- what was due with more items was written
+pub written_on : (t : Request) (h : Header) (items more : List BodyItem) (begin out mid : Device) → Writes begin out (open_text t h items) → Grows out mid (open_text t h items) (open_text t h (items ++ more)) → Writes begin mid (open_text t h (items ++ more))
+written_on t h items more begin out mid w due = subst (Writes begin mid) (sym due.1) (both-written begin out mid (open_text t h items) due.0 w due.2)
+
+-- `out` holds what is due behind these items; some steps took the run from there to `new`
+module _ {X : Type 0} {g : Ghosts X} (t : Request) (h : Header) (i : Input) (front : List Token) (items : List BodyItem) (begin out new : Device) (open_is : Writes begin out (open_text t h items)) (e : Engine) (f : Feed X g) where
+  -- the run goes on
+  pub steps_go_on : StepsGive t h i front items e f out new (Ok Again) → (more : List BodyItem) × Runs e h i front more f × Writes begin new (open_text t h more)
+  steps_go_on s = run_goes_on t h i front (items ++ s.more) begin s.mid new (written_on t h items s.more begin out s.mid open_is s.grows) e f s.last
+
+  module _ (name : List ℕ) (limit chunk : ℕ) (before : Supply) (can : CanRun t h) (same : limit_of f ≡ limit) (size : chunk_len_of f ≡ chunk) where
+    -- it has ended
+    pub steps_end : (done : Done) → (supply_of f).failures ≡ before.failures → StepsGive t h i front items e f out new (Ok (Ended done)) → Follows t limit chunk i front h name before (supply_of f) begin new (Ok done)
+    steps_end done q s = followed t h i front (items ++ s.more) name limit chunk before begin s.mid new can s.on (written_on t h items s.more begin out s.mid open_is s.grows) e f same size done q s.last
+
+    -- it has stopped
+    pub steps_stop : (stop : Stop) → (supply_of f).failures ≡ before.failures + reads_failed {A = Done} (Err stop) → StepsGive t h i front items e f out new (Err stop) → Follows t limit chunk i front h name before (supply_of f) begin new (Err stop)
+    steps_stop stop q s = followed_stop t h i front (items ++ s.more) name limit chunk before begin s.mid new can s.on (written_on t h items s.more begin out s.mid open_is s.grows) e f same size stop q s.last
+
+-- steps of this task that answer so
+pub asked : {X : Type 0} {g : Ghosts X} (t t' : Request) (h : Header) (i : Input) (front : List Token) (items : List BodyItem) (e : Engine) (f : Feed X g) (out out' : Device) (r r' : Result More Stop) → t ≡ t' → r ≡ r' → StepsGive t h i front items e f out out' r
+    → StepsGive t' h i front items e f out out' r'
+asked t t' h i front items e f out out' r r' et er s = subst (λ (q : Result More Stop). StepsGive t' h i front items e f out out' q) er (subst (λ (q : Request). StepsGive q h i front items e f out out' r) et s)
 
 -- what holds of the request of an engine that runs
 pub can_run : {X : Type 0} {g : Ghosts X} (t : Request) (e : Engine) (h : Header) (i : Input) (front : List Token) (items : List BodyItem) (f : Feed X g) → request_of_engine e ≡ t → Runs e h i front items f → CanRun t h

@@ -1,5 +1,6 @@
 -- What a step of an engine leaves.
 use Rattle.std.specs.Prelude.{◌≡◌, List, ◌++◌, Result, ◌==◌, ◌⊎◌, Bool, true, false, [], ◌∷◌, Ok, Err}
+use Rattle.std.specs.List.{list_any}
 use Rattle.vcd_model.specs.Items.{BodyItem}
 use Rattle.vcd_model.specs.Input.{Input}
 use Rattle.vcd_model.specs.Tokens.{Token}
@@ -10,6 +11,7 @@ use Rattle.vcd_text.specs.declared.feed.Feed.{Feed}
 use Rattle.vcd_text.specs.Answer.{failed_after}
 use Rattle.vcd_text.specs.Feed.{GaveOnlySeen, seen, token_of}
 use Rattle.vcd_text.specs.Advances.{CallEnd}
+use Rattle.vcd_body.specs.Ahead.{GaveLast}
 use Rattle.vcd_body.specs.Reads.{FailsOver, GaveAll, GaveItem}
 use Rattle.vcd_tools.specs.declared.answer.Stop.{Stop}
 use Rattle.vcd_tools.specs.declared.answer.Stop.TheVariants.{Dump, Read, Write, Unmatched}
@@ -36,6 +38,42 @@ StepGives task h i front items e f out out' (Err Write) =
     ((x : BodyItem) × GaveItem h.codes i front items x f e.regs × GrowsSome out out' (open_text task h items) (open_text task h (items ++ x ∷ [])))
     ⊎ (GaveAll h.codes i front items f e.regs × GrowsSome out out' [] (close_text task h items))
 StepGives task h i front items e f out out' (Err (Unmatched name)) = ⊥
+
+-- the same, where of an item it is not said on which line it stands
+abbrev pub LastGives : {X : Type 0} {g : Ghosts X} → Request → Header → Input → List Token → List BodyItem → Engine → Feed X g → Device → Device → Result More Stop → Type 0
+LastGives task h i front items e f out out' (Ok Again) = (x : BodyItem) × Runs e h i front (items ++ x ∷ []) f × Grows out out' (open_text task h items) (open_text task h (items ++ x ∷ []))
+LastGives task h i front items e f out out' (Ok (Ended Whole)) = GaveAll h.codes i front items f e.regs × Writes out out' (close_text task h items)
+LastGives task h i front items e f out out' (Ok (Ended Early)) =
+    (x : BodyItem) × (ends_early task x ≡ true) × GaveLast h.codes i front items x f e.regs × Grows out out' (open_text task h items) (open_text task h (items ++ x ∷ []))
+LastGives task h i front items e f out out' (Err (Dump input line fault)) =
+    (input ≡ 0) × ((fault == 31) ≡ false) × (line ≡ (token_of f).line) × FailsOver h.codes i front items fault f × Writes out out' []
+LastGives task h i front items e f out out' (Err (Read input)) =
+    (input ≡ 0) × FailsOver h.codes (failed_after (seen f) i) front items 31 f × GaveOnlySeen i f × Writes out out' []
+LastGives task h i front items e f out out' (Err Write) =
+    ((x : BodyItem) × GaveLast h.codes i front items x f e.regs × GrowsSome out out' (open_text task h items) (open_text task h (items ++ x ∷ [])))
+    ⊎ (GaveAll h.codes i front items f e.regs × GrowsSome out out' [] (close_text task h items))
+LastGives task h i front items e f out out' (Err (Unmatched name)) = ⊥
+
+-- what several steps leave: items were given and taken, of which none ends the run, and what is due with them was written; then a last step
+pub record StepsGive {X : Type 0} {g : Ghosts X} (task : Request) (h : Header) (i : Input) (front : List Token) (items : List BodyItem) (e : Engine) (f : Feed X g) (out out' : Device) (result : Result More Stop) : Type 0 where
+  pub more : List BodyItem
+  pub mid : Device
+  pub on : list_any (ends_early task) (items ++ more) ≡ false
+  pub grows : Grows out mid (open_text task h items) (open_text task h (items ++ more))
+  pub last : LastGives task h i front (items ++ more) e f mid out' result
+
+-- what the items that lie ahead leave: all of them were taken; or the last of them ended the run, or a write of what is due with it failed
+abbrev pub AheadGives : {X : Type 0} {g : Ghosts X} → Request → Header → Input → List Token → List BodyItem → Engine → Feed X g → Device → Device → Result More Stop → Type 0
+AheadGives task h i front items e f out out' (Ok Again) = Runs e h i front items f × (out' ≡ out)
+AheadGives task h i front items e f out out' result = LastGives task h i front items e f out out' result
+
+-- some items were taken, and then this
+pub record TakesAhead {X : Type 0} {g : Ghosts X} (task : Request) (h : Header) (i : Input) (front : List Token) (items : List BodyItem) (e : Engine) (f : Feed X g) (out out' : Device) (result : Result More Stop) : Type 0 where
+  pub more : List BodyItem
+  pub mid : Device
+  pub on : list_any (ends_early task) (items ++ more) ≡ false
+  pub grows : Grows out mid (open_text task h items) (open_text task h (items ++ more))
+  pub last : AheadGives task h i front (items ++ more) e f mid out' result
 
 -- the answer is that the run goes on
 abbrev pub goes_on : Result More Stop → Bool
