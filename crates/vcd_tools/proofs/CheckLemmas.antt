@@ -10,8 +10,6 @@ use Rattle.vcd_model.specs.Declarations.{Declaration, IdCode, is_scope, variable
 use Rattle.vcd_model.specs.Header.{Header}
 use Rattle.vcd_model.specs.Items.{BodyItem, Change as Changed, marks, time_mark, is_begin, change_of}
 use Rattle.vcd_model.specs.ItemText.{last_mark}
-use Rattle.vcd_text.specs.declared.device.Source.{Ghosts}
-use Rattle.vcd_text.specs.declared.feed.Feed.{Feed}
 use Rattle.vcd_head.specs.Shown.{parts}
 use Rattle.vcd_head.specs.Views.{AreRows, IsCode, Views}
 use Rattle.vcd_head.specs.declared.view.HeadView.{HeadView}
@@ -22,7 +20,7 @@ use Rattle.vcd_body.specs.declared.item.Item.TheVariants.{Time, Begin, End, Chan
 use Rattle.vcd_body.specs.declared.item.Regs.{Regs}
 use Rattle.vcd_tools.specs.Check.{AreCounted, IsOfKind}
 use Rattle.vcd_tools.specs.Engine.{last_of}
-use Rattle.vcd_tools.specs.ItemText.{AsItem}
+use Rattle.vcd_tools.specs.ItemText.{IsItem}
 use Rattle.vcd_tools.specs.Report.{report_text, opens_scope, declares_variable}
 use Rattle.vcd_tools.specs.declared.machine.check.Check.{Check}
 use Rattle.vcd_tools.specs.declared.report.Report.{Report}
@@ -94,12 +92,12 @@ are_few items c a = record {
 }
 
 -- an item is of the kind of the definitions' item that it is
-pub kind_of : {X : Type 0} {g : Ghosts X} (codes : List IdCode) (f : Feed X g) (item : Item) (x : BodyItem) → AsItem codes f item x → IsOfKind item x
-kind_of codes f (Time t) x is = is
-kind_of codes f (Begin s) x is = is
-kind_of codes f End x is = is
-kind_of codes f (Change code form) x is = (_, is.2)
-kind_of codes f Finish x is = is
+pub kind_of : (codes : List IdCode) (text : List ℕ) (item : Item) (x : BodyItem) → IsItem codes text item x → IsOfKind item x
+kind_of codes text (Time t) x is = is
+kind_of codes text (Begin s) x is = is
+kind_of codes text End x is = is
+kind_of codes text (Change code form) x is = (_, is.2)
+kind_of codes text Finish x is = is
 
 -- ---- the rows of a view
 

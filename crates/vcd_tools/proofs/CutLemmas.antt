@@ -18,15 +18,13 @@ use Rattle.vcd_model.proofs.CutKept.{above}
 use Rattle.vcd_model.proofs.FinalValues.{value_before_is}
 use Rattle.vcd_model.proofs.KeptLines.{keeps, kept_more, kept_same, last_is_enough}
 use Rattle.vcd_text.specs.Device.{Counts, Device, Takes}
-use Rattle.vcd_text.specs.declared.device.Source.{Ghosts}
-use Rattle.vcd_text.specs.declared.feed.Feed.{Feed}
 use Rattle.vcd_text.proofs.Writes.{AppendsSome, appends-first, appends-none, takes-failed, takes-first, takes-twice}
 use Rattle.std.specs.Io.KnownBytes.{Appends}
 use Rattle.vcd_tools.specs.Cut.{AreCut, BeginsBy, HasBegun, HasNone, IsNoMark, kept_from, may_be_kept, values_text}
 use Rattle.vcd_tools.specs.Device.{TakesDue}
 use Rattle.vcd_tools.specs.Engine.{TakesOne, last_of}
 use Rattle.vcd_model.specs.Outcome.{Request}
-use Rattle.vcd_tools.specs.ItemText.{AsItem, HasWritten, LastTells, times_with}
+use Rattle.vcd_tools.specs.ItemText.{IsItem, HasWritten, LastTells, times_with}
 use Rattle.vcd_tools.specs.Values.{AreHeld, HasValues}
 use Rattle.vcd_tools.specs.declared.machine.cut.Cut.{Cut}
 use Rattle.vcd_tools.specs.declared.item_text.ItemText.{ItemText}
@@ -151,12 +149,12 @@ module _ (h : Header) (items : List BodyItem) (m : Cut) (is : AreCut m h items) 
 -- ---- other items
 
 -- what is read is no time mark
-no_mark : {X : Type 0} {g : Ghosts X} (codes : List IdCode) (f : Feed X g) (item : Item) (x : BodyItem) (b : ℕ) → AsItem codes f item x → IsNoMark item → (is_mark_above b x ≡ false) × (marks (x ∷ []) ≡ [])
-no_mark codes f (Time t) x b is none = absurd none
-no_mark codes f (Begin s) x b is none = rw is (refl, refl)
-no_mark codes f End x b is none = rw is (refl, refl)
-no_mark codes f (Change place form) x b is none = rw (is.2) (refl, refl)
-no_mark codes f Finish x b is none = absurd is
+no_mark : (codes : List IdCode) (text : List ℕ) (item : Item) (x : BodyItem) (b : ℕ) → IsItem codes text item x → IsNoMark item → (is_mark_above b x ≡ false) × (marks (x ∷ []) ≡ [])
+no_mark codes text (Time t) x b is none = absurd none
+no_mark codes text (Begin s) x b is none = rw is (refl, refl)
+no_mark codes text End x b is none = rw is (refl, refl)
+no_mark codes text (Change place form) x b is none = rw (is.2) (refl, refl)
+no_mark codes text Finish x b is none = absurd is
 
 and_swap : (a b : Bool) → (a && b) ≡ (b && a)
 and_swap true true = refl
@@ -172,18 +170,18 @@ kept_from_time a items x s = rw (le-leb a (time_after items) (due a items s)) re
 none_from_time : (a : ℕ) (items : List BodyItem) (x : BodyItem) → is_started a items ≡ false → keeps (from_on a) items x ≡ false
 none_from_time a items x s = rw (lt-leb a (time_after items) (not_started a items s)) refl
 
-module _ {X : Type 0} {g : Ghosts X} (v : HeadView) (h : Header) (items : List BodyItem) (before : Regs) (m : Cut) (f : Feed X g) (item : Item) (x : BodyItem) (views : Views (parts v) h) (known : AreRegsAfter items before) (is : AreCut m h items) (read : AsItem h.codes f item x) (none : IsNoMark item) where
+module _ (v : HeadView) (h : Header) (items : List BodyItem) (before : Regs) (m : Cut) (text : List ℕ) (item : Item) (x : BodyItem) (views : Views (parts v) h) (known : AreRegsAfter items before) (is : AreCut m h items) (read : IsItem h.codes text item x) (none : IsNoMark item) where
   low : is_mark_above m.to x ≡ false
-  low = (no_mark h.codes f item x m.to read none).0
+  low = (no_mark h.codes text item x m.to read none).0
 
   same : is_started m.from (items ++ x ∷ []) ≡ is_started m.from items
-  same = started_same m.from items x (no_mark h.codes f item x m.to read none).1
+  same = started_same m.from items x (no_mark h.codes text item x m.to read none).1
 
   still_in : ends_cut m.to (items ++ x ∷ []) ≡ false
   still_in = still_on h m.from m.to items is.on x low
 
   -- it is kept where the definitions keep it
-  may_is : (i : Item) (y : BodyItem) → AsItem h.codes f i y → IsNoMark i → may_be_kept v (regs_after before i) i ≡ may_keep y (leaves_open items)
+  may_is : (i : Item) (y : BodyItem) → IsItem h.codes text i y → IsNoMark i → may_be_kept v (regs_after before i) i ≡ may_keep y (leaves_open items)
   may_is (Time t) y e n = absurd n
   may_is (Begin s) y e n = rw e refl
   may_is End y e n = rw e refl
@@ -376,8 +374,8 @@ no_mark_is (Change place form) none = tt
 no_mark_is Finish none = tt
 
 -- they end no cut
-pub no_end : {X : Type 0} {g : Ghosts X} (codes : List IdCode) (f : Feed X g) (item : Item) (x : BodyItem) (b : ℕ) → AsItem codes f item x → IsNoMark item → false ≡ is_mark_above b x
-no_end codes f item x b read none = sym (no_mark codes f item x b read none).0
+pub no_end : (codes : List IdCode) (text : List ℕ) (item : Item) (x : BodyItem) (b : ℕ) → IsItem codes text item x → IsNoMark item → false ≡ is_mark_above b x
+no_end codes text item x b read none = sym (no_mark codes text item x b read none).0
 
 -- what the start section leaves, where it was due
 pub begins_is : {A E : Type 0} (h : Header) (items : List BodyItem) (t : ℕ) (m m' : Cut) (out out' : Device) (r : Result A E) → is_started m.from items ≡ false → m.from ≤ t → Takes out out' (start_section h m.from items) r → Counts out out' r → IfOk r (λ _. (m'.started ≡ true) × HasWritten (m.from ∷ []) [] m'.text)

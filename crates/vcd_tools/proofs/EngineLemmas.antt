@@ -14,7 +14,7 @@ use Rattle.vcd_text.specs.Feed.{token_of, seen}
 use Rattle.vcd_text.specs.declared.device.Source.{Ghosts}
 use Rattle.vcd_text.specs.declared.feed.Feed.{Feed}
 use Rattle.vcd_text.proofs.Writes.{appends-none}
-use Rattle.vcd_body.specs.Given.{GivesItem, text_of}
+use Rattle.vcd_body.specs.Given.{GivesItem, item_text, text_of}
 use Rattle.vcd_body.specs.Items.{regs_after, model_section, model_form}
 use Rattle.vcd_body.specs.Reads.{Fails, GaveAll, GaveItem, GaveItems}
 use Rattle.vcd_body.specs.declared.fault.BodyFault.{BodyFault}
@@ -25,7 +25,7 @@ use Rattle.vcd_body.specs.declared.item.Regs.{Regs}
 use Rattle.vcd_tools.specs.Answer.{stop_of_body}
 use Rattle.vcd_text.specs.Device.{Device, Writes}
 use Rattle.vcd_tools.specs.Engine.{CanRun, Holds, Keeps, Runs, StopsAtStart, last_of, request_of_engine}
-use Rattle.vcd_tools.specs.ItemText.{AsItem}
+use Rattle.vcd_tools.specs.ItemText.{AsItem, IsItem}
 use Rattle.vcd_tools.specs.Selection.{IsFirstUnmatched}
 use Rattle.vcd_tools.specs.Step.{StepGives}
 use Rattle.vcd_tools.specs.declared.answer.Stop.{Stop}
@@ -67,12 +67,12 @@ none_at test (y ∷ p) x h e = both_false (test y) (list_any test p) (list_any t
 -- ---- the last time mark
 
 -- behind one item more
-pub last_more : {X : Type 0} {g : Ghosts X} (codes : List IdCode) (f : Feed X g) (items : List BodyItem) (r : Regs) (item : Item) (x : BodyItem) → AsItem codes f item x → last_of r ≡ last_mark items → last_of (regs_after r item) ≡ last_mark (items ++ x ∷ [])
-last_more codes f items r (Time t) x is last = rw is (sym (ap (last_or None) (marks_push items (BodyItem.Time t)) ∙ last_or-snoc None (marks items) t))
-last_more codes f items r (Begin s) x is last = rw is (last ∙ sym (ap (last_or None) (marks_stay items (BodyItem.Begin (model_section s)) refl)))
-last_more codes f items r End x is last = rw is (last ∙ sym (ap (last_or None) (marks_stay items BodyItem.End refl)))
-last_more codes f items r (Change code form) x is last = rw is.2 (last ∙ sym (ap (last_or None) (marks_stay items (BodyItem.Changes _) refl)))
-last_more codes f items r Finish x is last = absurd is
+pub last_more : (codes : List IdCode) (text : List ℕ) (items : List BodyItem) (r : Regs) (item : Item) (x : BodyItem) → IsItem codes text item x → last_of r ≡ last_mark items → last_of (regs_after r item) ≡ last_mark (items ++ x ∷ [])
+last_more codes text items r (Time t) x is last = rw is (sym (ap (last_or None) (marks_push items (BodyItem.Time t)) ∙ last_or-snoc None (marks items) t))
+last_more codes text items r (Begin s) x is last = rw is (last ∙ sym (ap (last_or None) (marks_stay items (BodyItem.Begin (model_section s)) refl)))
+last_more codes text items r End x is last = rw is (last ∙ sym (ap (last_or None) (marks_stay items BodyItem.End refl)))
+last_more codes text items r (Change code form) x is last = rw is.2 (last ∙ sym (ap (last_or None) (marks_stay items (BodyItem.Changes _) refl)))
+last_more codes text items r Finish x is last = absurd is
 
 -- ---- one item more
 
@@ -97,7 +97,7 @@ module _ {X : Type 0} {g : Ghosts X} (h : Header) (i : Input) (front : List Toke
       views = rw view s.holds.views;
       can = subst (λ (t : Request). CanRun t h) (sym same) s.holds.can;
       known = rw regs gave.known;
-      last = rw regs (last_more h.codes new items e.regs item x is s.holds.last);
+      last = rw regs (last_more h.codes (item_text new item) items e.regs item x is s.holds.last);
       keeps = keeps;
     };
     gave = rw regs gave;

@@ -9,21 +9,19 @@ use Rattle.vcd_model.specs.ItemText.{item_line, text_after, time_unless}
 use Rattle.vcd_model.proofs.Growing.{text_after-append}
 use Rattle.vcd_model.proofs.ItemStates.{leaves_open_is}
 use Rattle.vcd_model.specs.Values.{change_line}
-use Rattle.vcd_text.specs.declared.device.Source.{Ghosts}
-use Rattle.vcd_text.specs.declared.feed.Feed.{Feed}
 use Rattle.vcd_head.specs.Shown.{HeadShown, text_in}
 use Rattle.vcd_head.specs.Views.{IsCode, Views}
 use Rattle.vcd_head.specs.declared.view.Code.{Code}
 use Rattle.vcd_head.proofs.RowLemmas.{code_at}
 use Rattle.vcd_head.proofs.RowLemmas.{text_within}
-use Rattle.vcd_body.specs.Given.{IsText, text_of}
+use Rattle.vcd_body.specs.Given.{IsText}
 use Rattle.vcd_body.specs.Items.{AreRegsAfter, model_form}
 use Rattle.vcd_body.specs.declared.item.Regs.{Regs}
 use Rattle.vcd_body.specs.declared.item.Form.{Form}
 use Rattle.vcd_body.specs.declared.item.Form.TheVariants.{Scalar, Vector, RealText}
 use Rattle.vcd_body.specs.declared.item.Item.TheVariants.{Change}
 use Rattle.vcd_model.specs.ItemText.{time_due}
-use Rattle.vcd_tools.specs.ItemText.{AsItem, HasWritten, LastTells, times_with}
+use Rattle.vcd_tools.specs.ItemText.{IsItem, HasWritten, LastTells, times_with}
 use Rattle.vcd_tools.specs.declared.item_text.ItemText.{ItemText}
 use Rattle.vcd_model.proofs.KeptLines.{last_or-snoc}
 
@@ -42,14 +40,14 @@ code_is s h place c code views declared there =
     subst (λ (y : Code). IsCode s.text y c) same m.2
 
 -- so what is written for a change is the line of its item
-pub change_is : {X : Type 0} {g : Ghosts X} (s : HeadShown) (h : Header) (f : Feed X g) (place : ℕ) (form : Form) (x : BodyItem) (code : Code) (id text : List ℕ) → Views s h → AsItem h.codes f (Change place form) x → slice_get s.codes place ≡ Some code
-    → id ≡ text_in s.text code.start code.len → text ≡ text_of form f
+pub change_is : (s : HeadShown) (h : Header) (place : ℕ) (form : Form) (x : BodyItem) (code : Code) (id text : List ℕ) → Views s h → IsItem h.codes text (Change place form) x → slice_get s.codes place ≡ Some code
+    → id ≡ text_in s.text code.start code.len
     → change_line (record { code = record { text = id; size = code.size; event = code.event }; form = model_form form; text = text }) ≡ item_line x
-change_is s h f place form x code id text views is there ids texts =
+change_is s h place form x code id text views is there ids =
     let k = code_is s h place is.0 code views is.1 there in
     let name : id ≡ is.0.text = ids ∙ text_within s.text code.start code.len k.within ∙ k.text_is in
     let same : record { text = id; size = code.size; event = code.event } ≡ is.0 = rw (name, k.size_is, k.event_is) refl in
-    ap (λ (c : IdCode). change_line (record { code = c; form = model_form form; text = text })) same ∙ ap (λ l. change_line (record { code = is.0; form = model_form form; text = l })) texts ∙ ap item_line (sym is.2)
+    ap (λ (c : IdCode). change_line (record { code = c; form = model_form form; text = text })) same ∙ ap item_line (sym is.2)
 
 -- ---- the text with one entry more
 

@@ -8,8 +8,6 @@ use Rattle.vcd_model.specs.ItemText.{closing, kept_by, last_mark, text_after}
 use Rattle.vcd_model.specs.Pick.{pick_kept, pick_open, pick_close}
 use Rattle.vcd_model.proofs.Growing.{entries-append, kept_by-append}
 use Rattle.vcd_model.proofs.KeptLines.{keeps, picked_by, time_unless_last}
-use Rattle.vcd_text.specs.declared.device.Source.{Ghosts}
-use Rattle.vcd_text.specs.declared.feed.Feed.{Feed}
 use Rattle.vcd_head.specs.Shown.{parts}
 use Rattle.vcd_head.specs.Views.{Views}
 use Rattle.vcd_head.specs.declared.view.HeadView.{HeadView}
@@ -21,7 +19,7 @@ use Rattle.vcd_body.specs.declared.item.Regs.{Regs}
 use Rattle.vcd_text.specs.Device.{Device}
 use Rattle.vcd_tools.specs.Device.{TakesDue}
 use Rattle.vcd_tools.specs.Engine.{last_of}
-use Rattle.vcd_tools.specs.ItemText.{AsItem, HasWritten, LastTells, times_with}
+use Rattle.vcd_tools.specs.ItemText.{IsItem, HasWritten, LastTells, times_with}
 use Rattle.vcd_tools.specs.Pick.{ArePicked, is_event_at, is_kept, names_in}
 use Rattle.vcd_tools.specs.declared.item_text.ItemText.{ItemText}
 use Rattle.vcd_tools.specs.declared.machine.pick.Pick.{Pick}
@@ -39,13 +37,13 @@ event_is v h place c views declared = let m = code_at (parts v).text (parts v).c
 
 module _ (v : HeadView) (h : Header) (items : List BodyItem) (before : Regs) (p : Pick) (views : Views (parts v) h) (known : AreRegsAfter items before) (is : ArePicked p h items) where
   -- the item is kept where the definitions keep it
-  pub kept_is : {X : Type 0} {g : Ghosts X} (f : Feed X g) (item : Item) (x : BodyItem) → AsItem h.codes f item x → is_kept p.choice v (regs_after before item) item ≡ keeps (picked_by h (names_in p)) items x
-  kept_is f (Time t) x e = rw e refl
-  kept_is f (Begin s) x e = rw e refl
-  kept_is f End x e = rw e refl
-  kept_is f (Change place form) x e =
+  pub kept_is : (text : List ℕ) (item : Item) (x : BodyItem) → IsItem h.codes text item x → is_kept p.choice v (regs_after before item) item ≡ keeps (picked_by h (names_in p)) items x
+  kept_is text (Time t) x e = rw e refl
+  kept_is text (Begin s) x e = rw e refl
+  kept_is text End x e = rw e refl
+  kept_is text (Change place form) x e =
       rw (e.2, is.chosen place e.0 e.1, section_is items before known, event_is v h place e.0 views e.1, and_swap (leaves_open items) e.0.event) refl
-  kept_is f Finish x e = absurd e
+  kept_is text Finish x e = absurd e
 
   -- and then the time is that of all items before it
   pub kept_time : (item : Item) → is_kept p.choice v (regs_after before item) item ≡ true → (regs_after before item).time ≡ time_after items

@@ -16,8 +16,6 @@ use Rattle.vcd_model.specs.Outcome.{Request, close_text, ends_early, open_text}
 use Rattle.vcd_model.specs.Sample.{is_settled, sample_open, sample_close}
 use Rattle.vcd_model.proofs.SampleSteps.{AreSettled, all_settled_same, close_is, due_at_mark, ended, goes_on_other, lines_of, not_ended, open_same, rises_behind, settled_next, unsettled_from}
 use Rattle.vcd_text.specs.Device.{Device, Takes}
-use Rattle.vcd_text.specs.declared.device.Source.{Ghosts}
-use Rattle.vcd_text.specs.declared.feed.Feed.{Feed}
 use Rattle.vcd_text.proofs.Writes.{appends-none}
 use Rattle.vcd_body.specs.Items.{model_section}
 use Rattle.vcd_body.specs.declared.item.Item.{Item}
@@ -26,7 +24,7 @@ use Rattle.vcd_body.specs.declared.item.Section.{Section}
 use Rattle.vcd_body.specs.declared.table.Table.{Table}
 use Rattle.vcd_tools.specs.Device.{TakesDue}
 use Rattle.vcd_tools.specs.Engine.{TakesOne}
-use Rattle.vcd_tools.specs.ItemText.{AsItem}
+use Rattle.vcd_tools.specs.ItemText.{IsItem}
 use Rattle.vcd_tools.specs.Sample.{AreSampled, asked_in, names_in}
 use Rattle.vcd_tools.specs.Values.{AreHeld}
 use Rattle.vcd_tools.specs.declared.machine.sample.Sample.{Sample}
@@ -78,15 +76,15 @@ all_behind P (x ∷ xs) ys all = all_behind P xs ys all.1
 -- ---- an item that is no mark
 
 -- the begin or the end of a section is none, and gives no value
-pub quiet : {X : Type 0} {g : Ghosts X} (codes : List IdCode) (f : Feed X g) (item : Item) (x : BodyItem) → AsItem codes f item x → ((section : Section) × (item ≡ Begin section)) ⊎ ((item ≡ End) ⊎ (item ≡ Finish))
+pub quiet : (codes : List IdCode) (text : List ℕ) (item : Item) (x : BodyItem) → IsItem codes text item x → ((section : Section) × (item ≡ Begin section)) ⊎ ((item ≡ End) ⊎ (item ≡ Finish))
     → (marks (x ∷ []) ≡ []) × ((c : IdCode) → gives_to c x ≡ false)
-quiet codes f item x read (inl begin) =
-    let is : x ≡ BodyItem.Begin (model_section begin.0) = subst (λ (i : Item). AsItem codes f i x) begin.1 read in
+quiet codes text item x read (inl begin) =
+    let is : x ≡ BodyItem.Begin (model_section begin.0) = subst (λ (i : Item). IsItem codes text i x) begin.1 read in
     (ap (λ (y : BodyItem). marks (y ∷ [])) is, λ c. ap (gives_to c) is)
-quiet codes f item x read (inr (inl end)) =
-    let is : x ≡ BodyItem.End = subst (λ (i : Item). AsItem codes f i x) end read in
+quiet codes text item x read (inr (inl end)) =
+    let is : x ≡ BodyItem.End = subst (λ (i : Item). IsItem codes text i x) end read in
     (ap (λ (y : BodyItem). marks (y ∷ [])) is, λ c. ap (gives_to c) is)
-quiet codes f item x read (inr (inr finish)) = absurd (subst (λ (i : Item). AsItem codes f i x) finish read)
+quiet codes text item x read (inr (inr finish)) = absurd (subst (λ (i : Item). IsItem codes text i x) finish read)
 
 module _ (s : Sample) (h : Header) (items : List BodyItem) (x : BodyItem) (is : AreSampled s h items) (other : marks (x ∷ []) ≡ []) where
   -- what is kept, where the table holds the values after it

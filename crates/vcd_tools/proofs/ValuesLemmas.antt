@@ -9,8 +9,6 @@ use Rattle.vcd_model.specs.History.{final_value, gives_to}
 use Rattle.vcd_model.specs.Items.{BodyItem}
 use Rattle.vcd_model.specs.Values.{value_with}
 use Rattle.vcd_model.proofs.FinalValues.{final_new, final_other}
-use Rattle.vcd_text.specs.declared.device.Source.{Ghosts}
-use Rattle.vcd_text.specs.declared.feed.Feed.{Feed}
 use Rattle.vcd_head.specs.Shown.{parts}
 use Rattle.vcd_head.specs.Views.{IsViewOf}
 use Rattle.vcd_head.specs.declared.view.Code.{Code}
@@ -19,7 +17,7 @@ use Rattle.vcd_head.proofs.LookUpLemmas.{same_place}
 use Rattle.vcd_head.proofs.RoomLemmas.{same_sum, sum_fits}
 use Rattle.vcd_head.proofs.RowLemmas.{code_at}
 use Rattle.vcd_body.specs.Contents.{ChangesCode, IsLaidOut, held_at, kept_at}
-use Rattle.vcd_body.specs.Given.{IsGoodChange, IsText, text_of}
+use Rattle.vcd_body.specs.Given.{HasGoodText, IsText}
 use Rattle.vcd_body.specs.Items.{model_form}
 use Rattle.vcd_body.specs.Kept.{Held, Kept, unset, value_at_size, with_text}
 use Rattle.vcd_body.specs.Stored.{room_of, share_of}
@@ -28,7 +26,7 @@ use Rattle.vcd_body.specs.declared.item.Item.{Item}
 use Rattle.vcd_body.specs.declared.item.Item.TheVariants.{Time, Begin, End, Change, Finish}
 use Rattle.vcd_body.specs.declared.table.Table.{Table}
 use Rattle.vcd_body.proofs.TableLemmas.{room_needed}
-use Rattle.vcd_tools.specs.ItemText.{AsItem}
+use Rattle.vcd_tools.specs.ItemText.{IsItem}
 use Rattle.vcd_tools.specs.Values.{AreHeld, HasShares, table_bytes}
 
 -- ---- a new table
@@ -138,15 +136,15 @@ module _ (v : HeadView) (h : Header) (old new : Table) (items : List BodyItem) (
 -- ---- the item that was read last
 
 -- a change of this code has a text that the code may have
-pub good_text : {X : Type 0} {g : Ghosts X} (codes : List Code) (f : Feed X g) (place : ℕ) (form : Form) (d : Code) → IsGoodChange codes f (Change place form) → slice_get codes place ≡ Some d → IsText form d (text_of form f)
-good_text codes f place form d good there =
+pub good_text : (codes : List Code) (text : List ℕ) (place : ℕ) (form : Form) (d : Code) → HasGoodText codes text (Change place form) → slice_get codes place ≡ Some d → IsText form d text
+good_text codes text place form d good there =
     let same : good.0 ≡ d = same_Some good.0 d (sym good.1 ∙ there) in
-    subst (λ (y : Code). IsText form y (text_of form f)) same good.2
+    subst (λ (y : Code). IsText form y text) same good.2
 
 -- what is read gives no value where it is no change
-pub other_gives : {X : Type 0} {g : Ghosts X} (codes : List IdCode) (f : Feed X g) (item : Item) (x : BodyItem) → AsItem codes f item x → ((place : ℕ) (form : Form) → item ≢ Change place form) → (c : IdCode) → gives_to c x ≡ false
-other_gives codes f (Time t) x is none c = rw is refl
-other_gives codes f (Begin s) x is none c = rw is refl
-other_gives codes f End x is none c = rw is refl
-other_gives codes f (Change place form) x is none c = absurd (none place form refl)
-other_gives codes f Finish x is none c = absurd is
+pub other_gives : (codes : List IdCode) (text : List ℕ) (item : Item) (x : BodyItem) → IsItem codes text item x → ((place : ℕ) (form : Form) → item ≢ Change place form) → (c : IdCode) → gives_to c x ≡ false
+other_gives codes text (Time t) x is none c = rw is refl
+other_gives codes text (Begin s) x is none c = rw is refl
+other_gives codes text End x is none c = rw is refl
+other_gives codes text (Change place form) x is none c = absurd (none place form refl)
+other_gives codes text Finish x is none c = absurd is

@@ -9,14 +9,14 @@ ghost use Rattle.vcd_model.specs.ItemText.{time_due};
 ghost use Rattle.vcd_model.specs.Keywords.{keyword_text};
 ghost use Rattle.vcd_text.specs.Device.{Counts, Puts, Takes, failures_after};
 ghost use Rattle.vcd_head.specs.Views.{IsViewOf};
-ghost use Rattle.vcd_body.specs.Given.{IsGoodChange};
+ghost use Rattle.vcd_body.specs.Given.{HasGoodText};
 ghost use Rattle.vcd_body.specs.Items.{model_section};
 ghost use Rattle.vcd_tools.specs.Device.{TakesDue};
-ghost use Rattle.vcd_tools.specs.ItemText.{AsItem, HasWritten, LastTells, times_with};
+ghost use Rattle.vcd_tools.specs.ItemText.{IsItem, HasWritten, LastTells, times_with};
 
-use vcd_body::{Form, Item, Section, change_text, put_change};
+use vcd_body::{Form, Item, Section, put_change};
 use vcd_head::HeadView;
-use vcd_text::{Feed, Sink, Source, WriteFailed, put, put_number};
+use vcd_text::{Sink, WriteFailed, put, put_number};
 
 /// The text of kept items, as far as it goes on from here: the time whose line was written last.
 #[derive(Clone, Copy)]
@@ -65,17 +65,17 @@ fn begin_line(section: Section) -> &'static [u8]
 
 /// Writes the change that was read last as its line.
 #[inline(always)]
-fn put_change_line<S: Source, W: Sink>(
+fn put_change_line<W: Sink>(
     view: HeadView<'_>,
     code: usize,
     form: Form,
-    feed: &Feed<'_, '_, '_, '_, S>,
+    text: &[u8],
     out: &mut W,
 ) -> Result<(), WriteFailed>
     requires failures { (W.device out.old).failures < 2 ^ 64 - 1 }
-    requires sound { IsGoodChange view.codes.now feed.now (Item.Change code form) }
+    requires sound { HasGoodText view.codes.now text.now (Item.Change code form) }
     ensures takes { (h : Header) (x : BodyItem) → IsViewOf view.entry h
-        → AsItem h.codes feed.now (Item.Change code form) x
+        → IsItem h.codes text.now (Item.Change code form) x
         → Takes (W.device out.old) (W.device out.new) (item_line x) result }
     ensures counts { Counts (W.device out.old) (W.device out.new) result }
 {
@@ -83,28 +83,21 @@ fn put_change_line<S: Source, W: Sink>(
         return Ok(());
     };
     let id = view.text_at(code.start, code.len);
-    put_change(
-        code.size,
-        code.event,
-        form,
-        change_text(feed, form),
-        id,
-        out,
-    )
+    put_change(code.size, code.event, form, text, id, out)
 }
 
 /// Writes the item that was read last as its line; a time mark has none of its own.
 #[inline(always)]
-fn put_item<S: Source, W: Sink>(
+fn put_item<W: Sink>(
     view: HeadView<'_>,
     item: Item,
-    feed: &Feed<'_, '_, '_, '_, S>,
+    text: &[u8],
     out: &mut W,
 ) -> Result<(), WriteFailed>
     requires failures { (W.device out.old).failures < 2 ^ 64 - 1 }
-    requires sound { IsGoodChange view.codes.now feed.now item }
+    requires sound { HasGoodText view.codes.now text.now item }
     ensures takes { (h : Header) (x : BodyItem) → IsViewOf view.entry h
-        → AsItem h.codes feed.now item x
+        → IsItem h.codes text.now item x
         → Takes (W.device out.old) (W.device out.new) (item_line x) result }
     ensures counts { Counts (W.device out.old) (W.device out.new) result }
 {
@@ -112,7 +105,7 @@ fn put_item<S: Source, W: Sink>(
         Item::Time(_) | Item::Finish => Ok(()),
         Item::Begin(section) => put(out, begin_line(section)),
         Item::End => put(out, b"$end\n"),
-        Item::Change { code, form } => put_change_line(view, code, form, feed, out),
+        Item::Change { code, form } => put_change_line(view, code, form, text, out),
     }
 }
 
@@ -135,18 +128,18 @@ impl ItemText {
 
     /// Writes the item that was read last as an entry at this time. A time mark has no line of its own.
     #[inline(always)]
-    pub(crate) fn put<S: Source, W: Sink>(
+    pub(crate) fn put<W: Sink>(
         &mut self,
         view: HeadView<'_>,
         time: u64,
         item: Item,
-        feed: &Feed<'_, '_, '_, '_, S>,
+        text: &[u8],
         out: &mut W,
     ) -> Result<(), WriteFailed>
         requires failures { (W.device out.old).failures < 2 ^ 64 - 1 }
-        requires sound { IsGoodChange view.codes.now feed.now item }
+        requires sound { HasGoodText view.codes.now text.now item }
         ensures text { (h : Header) (before : List ℕ) (kept : List Entry) (e : Entry)
-            → IsViewOf view.entry h → AsItem h.codes feed.now item e.item → e.time ≡ time
+            → IsViewOf view.entry h → IsItem h.codes text.now item e.item → e.time ≡ time
             → HasWritten before kept self.old → LastTells (times_with before kept) time
             → TakesDue (W.device out.old) (W.device out.new) (text_after before kept)
             (text_after before (kept ++ e ∷ [])) result
@@ -155,7 +148,7 @@ impl ItemText {
     {
         put_time_unless(self.written, time, out)?;
         self.written = Some(time);
-        put_item(view, item, feed, out)
+        put_item(view, item, text, out)
     }
 
     /// Writes what closes the text where this is the last time mark: its line, where it does not stand yet.

@@ -6,11 +6,11 @@ ghost use Rattle.vcd_model.specs.ItemText.{last_mark};
 ghost use Rattle.vcd_model.specs.Outcome.{close_text, ends_early};
 ghost use Rattle.vcd_text.specs.Device.{Counts, Takes, failures_after};
 ghost use Rattle.vcd_head.specs.Views.{IsViewOf};
-ghost use Rattle.vcd_body.specs.Given.{IsGoodChange};
+ghost use Rattle.vcd_body.specs.Given.{HasGoodText};
 ghost use Rattle.vcd_body.specs.Items.{AreRegsAfter, regs_after};
 ghost use Rattle.vcd_tools.specs.Answer.{writes_failed};
 ghost use Rattle.vcd_tools.specs.Engine.{Keeps, Starts, StopsUnread, TakesOne, last_of, may_end_early, request_in, request_of};
-ghost use Rattle.vcd_tools.specs.ItemText.{AsItem};
+ghost use Rattle.vcd_tools.specs.ItemText.{IsItem};
 ghost use Rattle.vcd_tools.specs.Room.{HasRoomFor, IsWithin, room_of, room_size};
 
 pub(crate) mod check;
@@ -23,7 +23,7 @@ use crate::answer::Stop;
 use crate::task::{Room, Task};
 use vcd_body::{Item, Regs};
 use vcd_head::HeadView;
-use vcd_text::{Feed, Sink, Source, WriteFailed};
+use vcd_text::{Sink, WriteFailed};
 
 /// What a task keeps between items.
 #[derive(Drop)]
@@ -79,19 +79,19 @@ impl<'n, 'r> Machine<'n, 'r> {
     /// Takes the item that was read last, writes what is due after it, and returns whether it ended the run. The registers are
     /// those after it.
     #[inline(always)]
-    pub(crate) fn take<S: Source, W: Sink>(
+    pub(crate) fn take<W: Sink>(
         &mut self,
         view: HeadView<'_>,
         regs: Regs,
         item: Item,
-        feed: &Feed<'_, '_, '_, '_, S>,
+        text: &[u8],
         out: &mut W,
     ) -> Result<bool, WriteFailed>
         requires failures { (W.device out.old).failures < 2 ^ 64 - 1 }
-        requires sound { IsGoodChange view.codes.now feed.now item }
+        requires sound { HasGoodText view.codes.now text.now item }
         ensures takes { (h : Header) (items : List BodyItem) (before : Regs) (x : BodyItem)
             → IsViewOf view.entry h → AreRegsAfter items before → regs ≡ regs_after before item
-            → AsItem h.codes feed.now item x → length items < 2 ^ 63 → Keeps self.old h items
+            → IsItem h.codes text.now item x → length items < 2 ^ 63 → Keeps self.old h items
             → TakesOne (Keeps self.new h (items ++ x ∷ [])) (request_in self.old) h items x
             (W.device out.old) (W.device out.new) result }
         ensures counts { Counts (W.device out.old) (W.device out.new) result }
@@ -102,10 +102,10 @@ impl<'n, 'r> Machine<'n, 'r> {
     {
         match self {
             Machine::Check(check) => check.take(item),
-            Machine::Pick(pick) => pick.take(view, regs, item, feed, out)?,
-            Machine::Cut(cut) => return cut.take(view, regs, item, feed, out),
-            Machine::Sample(sample) => return sample.take(view, item, feed, out),
-            Machine::Edges(edges) => edges.take(view, regs, item, feed),
+            Machine::Pick(pick) => pick.take(view, regs, item, text, out)?,
+            Machine::Cut(cut) => return cut.take(view, regs, item, text, out),
+            Machine::Sample(sample) => return sample.take(view, item, text, out),
+            Machine::Edges(edges) => edges.take(view, regs, item, text),
         }
         Ok(false)
     }

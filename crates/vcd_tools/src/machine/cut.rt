@@ -8,13 +8,13 @@ ghost use Rattle.vcd_model.specs.ItemText.{last_mark};
 ghost use Rattle.vcd_model.specs.Outcome.{Request};
 ghost use Rattle.vcd_text.specs.Device.{Counts, Takes, failures_after};
 ghost use Rattle.vcd_head.specs.Views.{IsViewOf};
-ghost use Rattle.vcd_body.specs.Given.{IsGoodChange};
+ghost use Rattle.vcd_body.specs.Given.{HasGoodText};
 ghost use Rattle.vcd_body.specs.Items.{AreRegsAfter, regs_after};
 ghost use Rattle.vcd_tools.specs.Answer.{writes_failed};
 ghost use Rattle.vcd_tools.specs.Cut.{AreCut, BeginsBy, IsNoMark, lent_to, may_be_kept, span_in, values_text};
 ghost use Rattle.vcd_tools.specs.Device.{TakesDue};
 ghost use Rattle.vcd_tools.specs.Engine.{Starts, StopsUnread, TakesOne, last_of};
-ghost use Rattle.vcd_tools.specs.ItemText.{AsItem, HasWritten};
+ghost use Rattle.vcd_tools.specs.ItemText.{IsItem, HasWritten};
 ghost use Rattle.vcd_tools.specs.Room.{HasRoomFor, IsWithin, room_size};
 ghost use Rattle.vcd_tools.specs.Values.{AreHeld, HasValues};
 ghost use Rattle.vcd_tools.specs.declared.task.Task.TheVariants as task;
@@ -24,9 +24,9 @@ use crate::item_text::{ItemText, put_time};
 use crate::machine::last_of;
 use crate::span::Span;
 use crate::task::Room;
-use vcd_body::{Item, Regs, Table, change_text};
+use vcd_body::{Item, Regs, Table};
 use vcd_head::{HeadView, put_head, select};
-use vcd_text::{Feed, Sink, Source, WriteFailed, put};
+use vcd_text::{Sink, WriteFailed, put};
 
 /// The values until the start section stands, and from then on the text of what was kept.
 #[derive(Drop)]
@@ -200,19 +200,19 @@ impl<'r> Cut<'r> {
 
     /// Takes an item that is no time mark: before the start section the value that it gives, then what it writes.
     #[inline(always)]
-    fn take_other<S: Source, W: Sink>(
+    fn take_other<W: Sink>(
         &mut self,
         view: HeadView<'_>,
         regs: Regs,
         item: Item,
-        feed: &Feed<'_, '_, '_, '_, S>,
+        text: &[u8],
         out: &mut W,
     ) -> Result<(), WriteFailed>
         requires failures { (W.device out.old).failures < 2 ^ 64 - 1 }
-        requires sound { IsGoodChange view.codes.now feed.now item }
+        requires sound { HasGoodText view.codes.now text.now item }
         ensures takes { (h : Header) (items : List BodyItem) (before : Regs) (x : BodyItem)
             → IsViewOf view.entry h → AreRegsAfter items before → regs ≡ regs_after before item
-            → AsItem h.codes feed.now item x → IsNoMark item → AreCut self.old h items
+            → IsItem h.codes text.now item x → IsNoMark item → AreCut self.old h items
             → TakesDue (W.device out.old) (W.device out.new)
             (cut_open h self.old.from self.old.to items)
             (cut_open h self.old.from self.old.to (items ++ x ∷ [])) result
@@ -222,29 +222,29 @@ impl<'r> Cut<'r> {
         ensures room { lent_to self.new ≡ lent_to self.old }
     {
         if self.started {
-            return self.put_kept(view, regs, item, feed, out);
+            return self.put_kept(view, regs, item, text, out);
         }
         if let Item::Change { code, form } = item {
-            self.table.set(code, form, change_text(feed, form));
+            self.table.set(code, form, text);
         }
         Ok(())
     }
 
     /// Writes an item after the start section, where it is kept.
     #[inline(always)]
-    fn put_kept<S: Source, W: Sink>(
+    fn put_kept<W: Sink>(
         &mut self,
         view: HeadView<'_>,
         regs: Regs,
         item: Item,
-        feed: &Feed<'_, '_, '_, '_, S>,
+        text: &[u8],
         out: &mut W,
     ) -> Result<(), WriteFailed>
         requires failures { (W.device out.old).failures < 2 ^ 64 - 1 }
-        requires sound { IsGoodChange view.codes.now feed.now item }
+        requires sound { HasGoodText view.codes.now text.now item }
         ensures takes { (h : Header) (items : List BodyItem) (before : Regs) (x : BodyItem)
             → IsViewOf view.entry h → AreRegsAfter items before → regs ≡ regs_after before item
-            → AsItem h.codes feed.now item x → IsNoMark item → AreCut self.old h items
+            → IsItem h.codes text.now item x → IsNoMark item → AreCut self.old h items
             → self.old.started ≡ true
             → TakesDue (W.device out.old) (W.device out.new)
             (cut_open h self.old.from self.old.to items)
@@ -257,25 +257,25 @@ impl<'r> Cut<'r> {
         if !may_keep(view, regs, item) {
             return Ok(());
         }
-        self.text.put(view, regs.time, item, feed, out)
+        self.text.put(view, regs.time, item, text, out)
     }
 
     /// Takes the item that was read last, writes what is due after it, and returns whether it ended the run. The registers are
     /// those after it.
     #[inline(always)]
-    pub(crate) fn take<S: Source, W: Sink>(
+    pub(crate) fn take<W: Sink>(
         &mut self,
         view: HeadView<'_>,
         regs: Regs,
         item: Item,
-        feed: &Feed<'_, '_, '_, '_, S>,
+        text: &[u8],
         out: &mut W,
     ) -> Result<bool, WriteFailed>
         requires failures { (W.device out.old).failures < 2 ^ 64 - 1 }
-        requires sound { IsGoodChange view.codes.now feed.now item }
+        requires sound { HasGoodText view.codes.now text.now item }
         ensures takes { (h : Header) (items : List BodyItem) (before : Regs) (x : BodyItem)
             → IsViewOf view.entry h → AreRegsAfter items before → regs ≡ regs_after before item
-            → AsItem h.codes feed.now item x → AreCut self.old h items
+            → IsItem h.codes text.now item x → AreCut self.old h items
             → TakesOne (AreCut self.new h (items ++ x ∷ []))
             (Request.Cut self.old.from self.old.to) h items x
             (W.device out.old) (W.device out.new) result }
@@ -286,7 +286,7 @@ impl<'r> Cut<'r> {
         if let Item::Time(time) = item {
             return self.take_time(view, time, out);
         }
-        self.take_other(view, regs, item, feed, out)?;
+        self.take_other(view, regs, item, text, out)?;
         Ok(false)
     }
 

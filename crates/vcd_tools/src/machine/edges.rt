@@ -6,11 +6,11 @@ ghost use Rattle.vcd_model.specs.Items.{BodyItem};
 ghost use Rattle.vcd_model.specs.Outcome.{Request};
 ghost use Rattle.vcd_text.specs.Device.{Counts, Device, Takes, failures_after};
 ghost use Rattle.vcd_head.specs.Views.{IsViewOf};
-ghost use Rattle.vcd_body.specs.Given.{IsGoodChange};
+ghost use Rattle.vcd_body.specs.Given.{HasGoodText};
 ghost use Rattle.vcd_body.specs.Items.{AreRegsAfter, regs_after};
 ghost use Rattle.vcd_tools.specs.Edges.{AreEdges, names_counted, room_in_edges};
 ghost use Rattle.vcd_tools.specs.Engine.{Starts};
-ghost use Rattle.vcd_tools.specs.ItemText.{AsItem};
+ghost use Rattle.vcd_tools.specs.ItemText.{IsItem};
 ghost use Rattle.vcd_tools.specs.Room.{HasRoomFor, IsWithin, room_size};
 ghost use Rattle.vcd_tools.specs.Selection.{IsUnmatched};
 ghost use Rattle.vcd_tools.specs.declared.task.Task.TheVariants as task;
@@ -18,9 +18,9 @@ ghost use Rattle.vcd_tools.specs.declared.task.Task.TheVariants as task;
 use crate::answer::Stop;
 use crate::tally::{put_rows, take_mark, take_value};
 use crate::task::Room;
-use vcd_body::{Item, Regs, Table, change_text};
+use vcd_body::{Item, Regs, Table};
 use vcd_head::{HeadView, select};
-use vcd_text::{Feed, Sink, Source, WriteFailed};
+use vcd_text::{Sink, WriteFailed};
 
 /// The names that were asked for, the marks of the variables that they select, and the values and counters of all codes.
 #[derive(Drop)]
@@ -64,17 +64,11 @@ impl<'n, 'r> Edges<'n, 'r> {
 
     /// Counts the item that was read last. The registers are those after it.
     #[inline(always)]
-    pub(crate) fn take<S: Source>(
-        &mut self,
-        view: HeadView<'_>,
-        regs: Regs,
-        item: Item,
-        feed: &Feed<'_, '_, '_, '_, S>,
-    )
-        requires sound { IsGoodChange view.codes.now feed.now item }
+    pub(crate) fn take(&mut self, view: HeadView<'_>, regs: Regs, item: Item, text: &[u8])
+        requires sound { HasGoodText view.codes.now text.now item }
         ensures takes { (h : Header) (items : List BodyItem) (before : Regs) (x : BodyItem)
             → IsViewOf view.entry h → AreRegsAfter items before → regs ≡ regs_after before item
-            → AsItem h.codes feed.now item x → length items < 2 ^ 63 → AreEdges self.old h items
+            → IsItem h.codes text.now item x → length items < 2 ^ 63 → AreEdges self.old h items
             → AreEdges self.new h (items ++ x ∷ []) }
         ensures names { names_counted self.new ≡ names_counted self.old }
         ensures room { room_in_edges self.new ≡ room_in_edges self.old }
@@ -88,7 +82,6 @@ impl<'n, 'r> Edges<'n, 'r> {
         if declared.event {
             take_mark(&mut self.table, code, regs.section.is_some());
         } else {
-            let text = change_text(feed, form);
             take_value(&mut self.table, code, declared.size, form, text);
         }
     }

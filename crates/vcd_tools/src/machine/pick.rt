@@ -7,12 +7,12 @@ ghost use Rattle.vcd_model.specs.Outcome.{Request};
 ghost use Rattle.vcd_model.specs.Pick.{pick_open, pick_close};
 ghost use Rattle.vcd_text.specs.Device.{Counts, Takes, failures_after};
 ghost use Rattle.vcd_head.specs.Views.{IsViewOf};
-ghost use Rattle.vcd_body.specs.Given.{IsGoodChange};
+ghost use Rattle.vcd_body.specs.Given.{HasGoodText};
 ghost use Rattle.vcd_body.specs.Items.{AreRegsAfter, regs_after};
 ghost use Rattle.vcd_tools.specs.Answer.{writes_failed};
 ghost use Rattle.vcd_tools.specs.Device.{TakesDue};
 ghost use Rattle.vcd_tools.specs.Engine.{Starts, StopsUnread, last_of};
-ghost use Rattle.vcd_tools.specs.ItemText.{AsItem};
+ghost use Rattle.vcd_tools.specs.ItemText.{IsItem};
 ghost use Rattle.vcd_tools.specs.Pick.{ArePicked, is_event_at, is_kept, names_in, flags_in};
 ghost use Rattle.vcd_tools.specs.Room.{HasRoomFor};
 ghost use Rattle.vcd_tools.specs.declared.task.Task.TheVariants as task;
@@ -25,7 +25,7 @@ use crate::selection::select_codes;
 use crate::task::Room;
 use vcd_body::{Item, Regs};
 use vcd_head::{HeadView, put_head};
-use vcd_text::{Feed, Sink, Source, WriteFailed};
+use vcd_text::{Sink, WriteFailed};
 
 /// The names that were asked for, the codes of the variables that they select, and the text of what was kept.
 #[derive(Drop)]
@@ -83,19 +83,19 @@ impl<'n, 'r> Pick<'n, 'r> {
 
     /// Writes the item that was read last, where it is kept, after the line of its time. The registers are those after it.
     #[inline(always)]
-    pub(crate) fn take<S: Source, W: Sink>(
+    pub(crate) fn take<W: Sink>(
         &mut self,
         view: HeadView<'_>,
         regs: Regs,
         item: Item,
-        feed: &Feed<'_, '_, '_, '_, S>,
+        text: &[u8],
         out: &mut W,
     ) -> Result<(), WriteFailed>
         requires failures { (W.device out.old).failures < 2 ^ 64 - 1 }
-        requires sound { IsGoodChange view.codes.now feed.now item }
+        requires sound { HasGoodText view.codes.now text.now item }
         ensures takes { (h : Header) (items : List BodyItem) (before : Regs) (x : BodyItem)
             → IsViewOf view.entry h → AreRegsAfter items before → regs ≡ regs_after before item
-            → AsItem h.codes feed.now item x → ArePicked self.old h items
+            → IsItem h.codes text.now item x → ArePicked self.old h items
             → TakesDue (W.device out.old) (W.device out.new) (pick_open h (names_in self.old) items)
             (pick_open h (names_in self.old) (items ++ x ∷ [])) result
             × IfOk result (λ _. ArePicked self.new h (items ++ x ∷ [])) }
@@ -106,7 +106,7 @@ impl<'n, 'r> Pick<'n, 'r> {
         if !self.keeps(view, regs, item) {
             return Ok(());
         }
-        self.text.put(view, regs.time, item, feed, out)
+        self.text.put(view, regs.time, item, text, out)
     }
 
     /// Writes the line of the last time mark, where it does not stand yet.

@@ -7,9 +7,9 @@ ghost use Rattle.vcd_model.specs.Outcome.{Request, close_text};
 ghost use Rattle.vcd_model.specs.Selection.{first_unmatched};
 ghost use Rattle.vcd_text.specs.Device.{Counts, Takes, failures_after};
 ghost use Rattle.vcd_head.specs.Views.{IsViewOf};
-ghost use Rattle.vcd_body.specs.Given.{IsGoodChange};
+ghost use Rattle.vcd_body.specs.Given.{HasGoodText};
 ghost use Rattle.vcd_tools.specs.Engine.{TakesOne};
-ghost use Rattle.vcd_tools.specs.ItemText.{AsItem};
+ghost use Rattle.vcd_tools.specs.ItemText.{IsItem};
 ghost use Rattle.vcd_tools.specs.Room.{HasRoomFor, IsWithin, room_size};
 ghost use Rattle.vcd_tools.specs.Sample.{AreSampled, asked_in, lent_to};
 ghost use Rattle.vcd_tools.specs.Selection.{IsFirstUnmatched, IsUnmatched};
@@ -19,9 +19,9 @@ use crate::answer::Stop;
 use crate::sample_lines::put_samples;
 use crate::samples::Samples;
 use crate::task::Room;
-use vcd_body::{Item, Table, change_text};
+use vcd_body::{Item, Table};
 use vcd_head::{HeadView, select};
-use vcd_text::{Feed, Sink, Source, WriteFailed};
+use vcd_text::{Sink, WriteFailed};
 
 /// The times and names that were asked for, the times that are not settled, the current values, and the marks of the selected
 /// variables.
@@ -105,17 +105,17 @@ impl<'n, 'r> Sample<'n, 'r> {
     /// Takes the item that was read last: keeps the value of a change, and at a time mark writes the lines of the times below it.
     /// Returns whether it ended the run.
     #[inline(always)]
-    pub(crate) fn take<S: Source, W: Sink>(
+    pub(crate) fn take<W: Sink>(
         &mut self,
         view: HeadView<'_>,
         item: Item,
-        feed: &Feed<'_, '_, '_, '_, S>,
+        text: &[u8],
         out: &mut W,
     ) -> Result<bool, WriteFailed>
         requires failures { (W.device out.old).failures < 2 ^ 64 - 1 }
-        requires sound { IsGoodChange view.codes.now feed.now item }
+        requires sound { HasGoodText view.codes.now text.now item }
         ensures takes { (h : Header) (items : List BodyItem) (x : BodyItem) → IsViewOf view.entry h
-            → AsItem h.codes feed.now item x → AreSampled self.old h items
+            → IsItem h.codes text.now item x → AreSampled self.old h items
             → TakesOne (AreSampled self.new h (items ++ x ∷ []))
             (asked_in self.old) h items x (W.device out.old) (W.device out.new) result }
         ensures counts { Counts (W.device out.old) (W.device out.new) result }
@@ -125,7 +125,7 @@ impl<'n, 'r> Sample<'n, 'r> {
         match item {
             Item::Time(time) => self.take_time(view, time, out),
             Item::Change { code, form } => {
-                self.table.set(code, form, change_text(feed, form));
+                self.table.set(code, form, text);
                 Ok(false)
             }
             Item::Begin(_) | Item::End | Item::Finish => Ok(false),

@@ -1,4 +1,4 @@
-use Rattle.std.proofs.Common.{◌<◌, length, sym, subst, ◌∙◌}
+use Rattle.std.proofs.Common.{sym, subst, ◌∙◌}
 use Rattle.vcd_text.specs.Device.{Takes}
 use Rattle.vcd_head.specs.Shown.{parts}
 use Rattle.vcd_tools.proofs.ItemTextLemmas.{some_text, change_is}
@@ -7,8 +7,7 @@ use Rattle.vcd_tools.proofs.item_text.put_change_line.Goals as goal
 pub put_change-requires-clause-digits : goal.put_change-requires-clause-digits
 put_change-requires-clause-digits g c = λ event real.
     let s = c.requires.sound in
-    let text = some_text c.args.form s.0 _ s.2 in
-    subst (λ l. 0 < length l) (sym c.change_text.ensures) text
+    some_text c.args.form s.0 _ s.2
 
 pub returns-in_default-clause-takes : goal.returns-in_default-clause-takes
 returns-in_default-clause-takes g c = let s = c.requires.sound in let there = s.1 in let none = sym c.code_at.ensures ∙ c.in_default.is in absurd (cc)
@@ -16,5 +15,5 @@ returns-in_default-clause-takes g c = let s = c.requires.sound in let there = s.
 pub returns-clause-takes : goal.returns-clause-takes
 returns-clause-takes g c = λ h x views is.
     subst (λ l. Takes (g.W.Sink.device c.args.out.now) (g.W.Sink.device c.put_change.new.w) l c.put_change.result)
-    (change_is (parts c.args.view) h c.args.feed.now c.args.code c.args.form x c.in-Some.code c.text_at-id.result.now c.change_text.result.now views is (sym c.code_at.ensures ∙ c.in-Some.is) c.text_at-id.ensures c.change_text.ensures)
+    (change_is (parts c.args.view) h c.args.code c.args.form x c.in-Some.code c.text_at-id.result.now c.args.text.now views is (sym c.code_at.ensures ∙ c.in-Some.is) c.text_at-id.ensures)
     c.put_change.ensures.0
