@@ -19,7 +19,7 @@ pub struct Ahead<'a> {
 }
 
 impl<'a> Ahead<'a> {
-    ghost use Rattle.std.specs.Prelude.{List, [], ◌∷◌, ◌++◌, None, IfSome};
+    ghost use Rattle.std.specs.Prelude.{List, [], ◌∷◌, ◌++◌, None, IfSome, slice_range};
     ghost use Rattle.vcd_model.specs.Tokens.{Token};
     ghost use Rattle.vcd_text.specs.Passed.{IsRun, Passed, line_ahead};
     ghost use Rattle.vcd_text.specs.Ahead.{bytes_of, longest_of, passed_of};
@@ -48,6 +48,14 @@ impl<'a> Ahead<'a> {
         self.at
     }
 
+    /// The bytes that it looks over, so that more of them than a token's can be looked at at once.
+    #[inline(always)]
+    pub fn bytes(&self) -> &'a [u8]
+        ensures { result.now ≡ bytes_of self.now }
+    {
+        self.bytes
+    }
+
     /// The next token, if it begins at once and is whole. Where it is not, `Feed::next` goes on. Near the end of the bytes
     /// none is given either.
     #[inline(always)]
@@ -60,6 +68,8 @@ impl<'a> Ahead<'a> {
             }) ∷ [])) }
         ensures some { IfSome result (λ token. 0 < length token.now) }
         ensures short { IfSome result (λ token. length token.now ≤ longest_of self.old) }
+        ensures place { IfSome result (λ token. token.now
+            ≡ slice_range (bytes_of self.old) (passed_of self.old) (passed_of self.old + length token.now)) }
         ensures further { IfSome result
             (λ token. passed_of self.new ≡ passed_of self.old + length token.now + 1) }
         ensures within { passed_of self.new ≤ length (bytes_of self.old) }
