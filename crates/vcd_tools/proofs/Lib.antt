@@ -4,6 +4,7 @@ pub mod ValuesLemmas
 pub mod ListLemmas
 pub mod Lines
 pub mod EngineLemmas
+pub mod AheadLemmas
 pub mod CheckLemmas
 pub mod AskedLemmas
 pub mod RoomLemmas

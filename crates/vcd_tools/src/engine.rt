@@ -1,5 +1,5 @@
 //! A run over the items of a body, one item a step. It names no command.
-ghost use Rattle.std.specs.Prelude.{◌≡◌, ◌≢◌, ℕ, ◌+◌, ◌-◌, ◌^◌, ◌<◌, [], List, true, IfOk, MatchBool, Ok, MatchResult};
+ghost use Rattle.std.specs.Prelude.{◌≡◌, ◌≢◌, ℕ, ◌+◌, ◌-◌, ◌^◌, ◌<◌, [], List, true, IfErr, IfOk, MatchBool, Ok, MatchResult};
 ghost use Rattle.vcd_model.specs.Header.{Header};
 ghost use Rattle.vcd_model.specs.Input.{Input};
 ghost use Rattle.vcd_model.specs.Items.{BodyItem};
@@ -8,7 +8,7 @@ ghost use Rattle.vcd_model.specs.Tokens.{Token};
 ghost use Rattle.vcd_text.specs.Feed.{HasGiven, SameLoans, source_of, supply_of, seen, limit_of, chunk_len_of};
 ghost use Rattle.vcd_head.specs.Shown.{parts};
 ghost use Rattle.vcd_head.specs.Views.{IsViewOf};
-ghost use Rattle.vcd_text.specs.Advances.{Advances, HasNotFailed};
+ghost use Rattle.vcd_text.specs.Advances.{Advances, CallEnd, HasNotFailed};
 ghost use Rattle.vcd_body.specs.Given.{item_text};
 ghost use Rattle.vcd_body.specs.declared.item.Item.TheVariants.{Finish};
 ghost use Rattle.vcd_tools.specs.Answer.{reads_failed, writes_failed};
@@ -16,14 +16,15 @@ ghost use Rattle.vcd_text.specs.Device.{Counts, Device, Takes, Writes, failures_
 ghost use Rattle.vcd_tools.specs.Engine.{Holds, Runs, Starts, StopsUnread, is_going, may_end_early, request_of, request_of_engine};
 ghost use Rattle.vcd_tools.specs.Room.{AreWithinBound, HasRoomFor, IsWithin, room_in, room_size, view_in};
 ghost use Rattle.vcd_tools.specs.Run.{Follows};
-ghost use Rattle.vcd_tools.specs.Step.{StepGives, goes_on, step_end};
+ghost use Rattle.vcd_tools.specs.Step.{StepGives, StepsGive, TakesAhead, goes_on, step_end};
 ghost use Rattle.vcd_tools.specs.declared.answer.Done.TheVariants.{Early};
 ghost use Rattle.vcd_tools.specs.declared.answer.More.TheVariants.{Again, Ended};
+ghost use Rattle.vcd_tools.specs.declared.answer.Stop.TheVariants.{Write};
 
 use crate::answer::{Done, More, Stop};
 use crate::machine::Machine;
 use crate::task::{Room, Task};
-use vcd_body::{Item, Regs, change_text, next_item};
+use vcd_body::{Item, Regs, change_text, next_item, pass_items};
 use vcd_head::HeadView;
 use vcd_text::{Feed, Sink, Source, WriteFailed};
 
@@ -185,6 +186,90 @@ impl<'v, 'n, 'r> Engine<'v, 'n, 'r> {
         }
     }
 
+    /// Takes the items that lie whole ahead in the feed's chunk, and writes what is due after each: nothing else is looked at, and
+    /// the feed goes on after them at once.
+    #[inline(never)]
+    fn take_ahead<S: Source, W: Sink>(
+        &mut self,
+        view: HeadView<'_>,
+        feed: &mut Feed<'_, '_, '_, '_, S>,
+        out: &mut W,
+    ) -> Result<More, Stop>
+        requires out_failures { (W.device out.old).failures < 2 ^ 64 - 1 }
+        requires going { is_going self.old ≡ true }
+        requires view { parts view ≡ parts self.old.view }
+        ensures gives { (h : Header) (i : Input) (front : List Token) (items : List BodyItem)
+            → Runs self.old h i front items feed.old
+            → TakesAhead (request_of_engine self.old) h i front items self.new feed.new
+            (W.device out.old) (W.device out.new) result }
+        ensures advances { Advances S.failures feed.old feed.new CallEnd.GoesOn }
+        ensures bounded { seen feed.new < 2 ^ 63 }
+        ensures writes { (W.device out.new).failures
+            ≡ (W.device out.old).failures + writes_failed result }
+        ensures going { is_going self.new ≡ goes_on result }
+        ensures request { request_of_engine self.new ≡ request_of_engine self.old }
+        ensures holds { (view_in self.new ≡ view_in self.old)
+            × (room_in self.new ≡ room_in self.old)
+            × (parts self.new.view ≡ parts self.old.view) }
+        ensures answer { IfOk result
+            (λ more. more ≡ Ended Early → may_end_early (request_of_engine self.old) ≡ true) }
+        ensures stops { IfErr result (λ stop. stop ≡ Write) }
+    {
+        let mut regs = self.regs;
+        let mut ahead = feed.ahead();
+        let answer = self.machine.take_ahead(view, &mut regs, &mut ahead, out);
+        let passed = ahead.passed();
+        self.regs = regs;
+        pass_items(feed, passed);
+        match answer {
+            Ok(false) => Ok(More::Again),
+            Ok(true) => {
+                self.going = false;
+                Ok(More::Ended(Done::Early))
+            }
+            Err(failed) => {
+                self.going = false;
+                Err(failed.into())
+            }
+        }
+    }
+
+    /// Takes the items that lie whole ahead, and then the next one, which may need more of the input.
+    #[inline(always)]
+    fn advance<S: Source, W: Sink>(
+        &mut self,
+        view: HeadView<'_>,
+        feed: &mut Feed<'_, '_, '_, '_, S>,
+        out: &mut W,
+    ) -> Result<More, Stop>
+        requires feed_failures { S.failures (source_of feed.old) < 2 ^ 64 - 1 }
+        requires out_failures { (W.device out.old).failures < 2 ^ 64 - 1 }
+        requires going { is_going self.old ≡ true }
+        requires bound { AreWithinBound (limit_of feed.old) (chunk_len_of feed.old)
+            (view_in self.old) (room_in self.old) }
+        requires view { parts view ≡ parts self.old.view }
+        ensures gives { (h : Header) (i : Input) (front : List Token) (items : List BodyItem)
+            → Runs self.old h i front items feed.old
+            → StepsGive (request_of_engine self.old) h i front items self.new feed.new
+            (W.device out.old) (W.device out.new) result }
+        ensures advances { Advances S.failures feed.old feed.new (step_end result) }
+        ensures progress { result ≡ Ok Again → seen feed.old < seen feed.new }
+        ensures bounded { seen feed.new < 2 ^ 63 }
+        ensures writes { (W.device out.new).failures
+            ≡ (W.device out.old).failures + writes_failed result }
+        ensures going { is_going self.new ≡ goes_on result }
+        ensures request { request_of_engine self.new ≡ request_of_engine self.old }
+        ensures holds { (view_in self.new ≡ view_in self.old)
+            × (room_in self.new ≡ room_in self.old) }
+        ensures answer { IfOk result
+            (λ more. more ≡ Ended Early → may_end_early (request_of_engine self.old) ≡ true) }
+    {
+        match self.take_ahead(view, feed, out)? {
+            More::Again => self.step_over(view, feed, out),
+            More::Ended(done) => Ok(More::Ended(done)),
+        }
+    }
+
     /// Writes what stands at the clean end. It is no part of the loop over steps, so that the loop lends no view for it.
     #[inline(never)]
     fn close<W: Sink>(&self, out: &mut W) -> Result<(), WriteFailed>
@@ -227,7 +312,7 @@ impl<'v, 'n, 'r> Engine<'v, 'n, 'r> {
     {
         let view = self.view;
         'items: loop {
-            match self.step_over(view, feed, out)? {
+            match self.advance(view, feed, out)? {
                 More::Again => {}
                 More::Ended(done) => return Ok(done),
             }

@@ -1,13 +1,17 @@
 //! What each task keeps between items, and what it does with an item.
-ghost use Rattle.std.specs.Prelude.{◌≡◌, ◌-◌, ◌^◌, ◌<◌, ◌+◌, ◌∷◌, ◌++◌, [], List, length, true, IfOk, MatchResult};
+ghost use Rattle.std.specs.Prelude.{◌≡◌, ℕ, ◌-◌, ◌^◌, ◌<◌, ◌≤◌, ◌+◌, ◌∷◌, ◌++◌, [], List, length, true, IfOk, MatchResult};
 ghost use Rattle.vcd_model.specs.Header.{Header};
 ghost use Rattle.vcd_model.specs.Items.{BodyItem};
 ghost use Rattle.vcd_model.specs.ItemText.{last_mark};
 ghost use Rattle.vcd_model.specs.Outcome.{close_text, ends_early};
+ghost use Rattle.vcd_model.specs.Tokens.{Token};
+ghost use Rattle.vcd_text.specs.Ahead.{bytes_of, longest_of, passed_of};
+ghost use Rattle.vcd_text.specs.Passed.{Passed};
 ghost use Rattle.vcd_text.specs.Device.{Counts, Takes, failures_after};
 ghost use Rattle.vcd_head.specs.Views.{IsViewOf};
 ghost use Rattle.vcd_body.specs.Given.{HasGoodText};
 ghost use Rattle.vcd_body.specs.Items.{AreRegsAfter, regs_after};
+ghost use Rattle.vcd_tools.specs.Ahead.{RunsAhead, StandsAhead};
 ghost use Rattle.vcd_tools.specs.Answer.{writes_failed};
 ghost use Rattle.vcd_tools.specs.Engine.{Keeps, Starts, StopsUnread, TakesOne, last_of, may_end_early, request_in, request_of};
 ghost use Rattle.vcd_tools.specs.ItemText.{IsItem};
@@ -21,9 +25,9 @@ pub(crate) mod sample;
 
 use crate::answer::Stop;
 use crate::task::{Room, Task};
-use vcd_body::{Item, Regs};
+use vcd_body::{Item, Regs, item_ahead};
 use vcd_head::HeadView;
-use vcd_text::{Sink, WriteFailed};
+use vcd_text::{Ahead, Sink, WriteFailed};
 
 /// What a task keeps between items.
 #[derive(Drop)]
@@ -108,6 +112,45 @@ impl<'n, 'r> Machine<'n, 'r> {
             Machine::Edges(edges) => edges.take(view, regs, item, text),
         }
         Ok(false)
+    }
+
+    /// Takes the items that lie ahead, one after the other, up to one that ends the run, and writes what is due after each. It
+    /// returns whether one has ended it.
+    #[inline(always)]
+    pub(crate) fn take_ahead<W: Sink>(
+        &mut self,
+        view: HeadView<'_>,
+        regs: &mut Regs,
+        ahead: &mut Ahead<'_>,
+        out: &mut W,
+    ) -> Result<bool, WriteFailed>
+        requires failures { (W.device out.old).failures < 2 ^ 64 - 1 }
+        requires within { passed_of ahead.old ≤ length (bytes_of ahead.old) }
+        ensures gives { (h : Header) (lines : ℕ) (before : List BodyItem) → IsViewOf view.entry h
+            → length before + length (bytes_of ahead.old) < 2 ^ 63
+            → StandsAhead (request_in self.old) h (longest_of ahead.old) lines
+            (bytes_of ahead.old) before (passed_of ahead.old) [] self.old regs.old
+            → RunsAhead (request_in self.old) h (longest_of ahead.old) lines
+            (bytes_of ahead.old) before (passed_of ahead.new) self.new regs.new
+            (W.device out.old) (W.device out.new) result }
+        ensures passes { (lines : ℕ) (ts : List Token)
+            → Passed (longest_of ahead.old) lines (bytes_of ahead.old) (passed_of ahead.old) ts
+            → (more : List Token) × Passed (longest_of ahead.old) lines (bytes_of ahead.old)
+            (passed_of ahead.new) (ts ++ more) }
+        ensures counts { Counts (W.device out.old) (W.device out.new) result }
+        ensures request { request_in self.new ≡ request_in self.old }
+        ensures room { room_of self.new ≡ room_of self.old }
+        ensures early { IfOk result
+            (λ ended. ended ≡ true → may_end_early (request_in self.old) ≡ true) }
+    {
+        'items: loop {
+            let Some(plain) = item_ahead(ahead, view, regs) else {
+                return Ok(false);
+            };
+            if self.take(view, *regs, plain.item, plain.text, out)? {
+                return Ok(true);
+            }
+        }
     }
 
     /// Writes what stands at the clean end of a body after which the registers are these.

@@ -1,0 +1,77 @@
+-- Items that a machine takes ahead in a feed's chunk, one after the other.
+use Rattle.std.proofs.Common.{◌≡◌, ℕ, ◌+◌, ◌^◌, ◌<◌, ◌≤◌, Bool, true, false, List, [], ◌∷◌, ◌++◌, length, Result, Ok, Err, inl, refl, sym, ap, subst, ◌∙◌, append-nil, append_assoc, arith}
+use Rattle.std.specs.List.{list_any}
+use Rattle.std.proofs.lemmas.List.{length_append}
+use Rattle.vcd_model.specs.Declarations.{IdCode}
+use Rattle.vcd_model.specs.Header.{Header}
+use Rattle.vcd_model.specs.Input.{Input}
+use Rattle.vcd_model.specs.Items.{BodyItem}
+use Rattle.vcd_model.specs.ItemText.{last_mark}
+use Rattle.vcd_model.specs.Outcome.{Request, ends_early, open_text}
+use Rattle.vcd_model.specs.Tokens.{Token}
+use Rattle.vcd_text.specs.Device.{Device}
+use Rattle.vcd_text.specs.Feed.{seen}
+use Rattle.vcd_text.specs.declared.device.Source.{Ghosts}
+use Rattle.vcd_text.specs.declared.feed.Feed.{Feed}
+use Rattle.vcd_text.proofs.Writes.{both-written}
+use Rattle.vcd_body.specs.Ahead.{GaveAhead, GaveLast, IsItem}
+use Rattle.vcd_body.specs.Items.{AreRegsAfter, regs_after}
+use Rattle.vcd_body.specs.Reads.{GaveItems}
+use Rattle.vcd_body.specs.declared.item.Item.{Item}
+use Rattle.vcd_body.specs.declared.item.Regs.{Regs}
+use Rattle.vcd_tools.specs.Ahead.{EndsAhead, GaveOneAhead, RunsAhead, StandsAhead}
+use Rattle.vcd_tools.specs.Device.{Grows}
+use Rattle.vcd_tools.specs.Engine.{Keeps, Runs, TakesOne, last_of, request_of_engine}
+use Rattle.vcd_tools.specs.Step.{LastGives, TakesAhead}
+use Rattle.vcd_tools.specs.declared.answer.Done.TheVariants.{Early}
+use Rattle.vcd_tools.specs.declared.answer.More.TheVariants.{Again, Ended}
+use Rattle.vcd_tools.specs.declared.answer.Stop.TheVariants.{Write}
+use Rattle.vcd_tools.specs.declared.engine.Engine.{Engine}
+use Rattle.vcd_tools.specs.declared.machine.Machine.{Machine}
+use Rattle.vcd_tools.proofs.EngineLemmas.{last_more, none_at, writes-none}
+
+-- nothing is due with no item
+pub grows-none : (out : Device) (text : List ℕ) → Grows out out text text
+grows-none out text = ([], sym (append-nil text), writes-none out)
+
+-- what is due grows with each item
+pub grows_on : (out mid new : Device) (a b c : List ℕ) → Grows out mid a b → Grows mid new b c → Grows out new a c
+grows_on out mid new a b c first then = (first.0 ++ then.0, then.1 ∙ ap (λ l. l ++ then.0) first.1 ∙ append_assoc a first.0 then.0, both-written out mid new first.0 then.0 first.2 then.2)
+
+module _ (t : Request) (h : Header) (limit lines : ℕ) (bytes : List ℕ) (before : List BodyItem) where
+  module _ (n : ℕ) (items : List BodyItem) (m : Machine) (r : Regs) (s : StandsAhead t h limit lines bytes before n items m r) where
+    -- there are fewer items than a counter can count
+    pub few_ahead : n ≤ length bytes → length before + length bytes < 2 ^ 63 → length (before ++ items) < 2 ^ 63
+    few_ahead within few = let each = s.gave.few in omega (arith, length_append before items)
+
+    -- one item more, after which the run goes on
+    pub stands_on : (n' : ℕ) (m' : Machine) (r' : Regs) (text : List ℕ) (item : Item) (x : BodyItem) → IsItem h.codes text item x → GaveAhead h.codes limit lines bytes n' before (items ++ x ∷ []) → AreRegsAfter (before ++ (items ++ x ∷ [])) r' → r' ≡ regs_after r item
+        → Keeps m' h ((before ++ items) ++ x ∷ []) → ends_early t x ≡ false → StandsAhead t h limit lines bytes before n' (items ++ x ∷ []) m' r'
+    stands_on n' m' r' text item x is gave known regs keeps stays =
+        let e = append_assoc before items (x ∷ []) in
+        record {
+          gave = gave;
+          known = known;
+          last = subst (λ l. last_of r' ≡ last_mark l) e (ap last_of regs ∙ last_more h.codes text (before ++ items) r item x is s.last);
+          keeps = subst (Keeps m' h) e keeps;
+          on = subst (λ l. list_any (ends_early t) l ≡ false) e (none_at (ends_early t) (before ++ items) x s.on stays);
+        }
+
+    -- what is due with it
+    pub due_on : (x : BodyItem) (out mid new : Device) → Grows out mid (open_text t h before) (open_text t h (before ++ items)) → Grows mid new (open_text t h (before ++ items)) (open_text t h ((before ++ items) ++ x ∷ []))
+        → Grows out new (open_text t h before) (open_text t h (before ++ (items ++ x ∷ [])))
+    due_on x out mid new first then =
+        subst (λ l. Grows out new (open_text t h before) (open_text t h l)) (append_assoc before items (x ∷ [])) (grows_on out mid new (open_text t h before) (open_text t h (before ++ items)) (open_text t h ((before ++ items) ++ x ∷ [])) first then)
+
+-- at first none is taken
+pub stands_first : {X : Type 0} {g : Ghosts X} (e : Engine) (h : Header) (i : Input) (front : List Token) (items : List BodyItem) (f : Feed X g) (limit lines : ℕ) (bytes : List ℕ) → Runs e h i front items f
+    → StandsAhead (request_of_engine e) h limit lines bytes items 0 [] e.machine e.regs
+stands_first e h i front items f limit lines bytes s =
+    let nil = sym (append-nil items) in
+    record {
+      gave = record { tokens = []; passed = refl; placed = []; item_each = refl; so_far = λ given earlier are so_far. rw append-nil so_far; few = omega arith };
+      known = subst (λ l. AreRegsAfter l e.regs) nil s.holds.known;
+      last = subst (λ l. last_of e.regs ≡ last_mark l) nil s.holds.last;
+      keeps = subst (Keeps e.machine h) nil s.holds.keeps;
+      on = subst (λ l. list_any (ends_early (request_of_engine e)) l ≡ false) nil s.on;
+    }
