@@ -6,11 +6,11 @@ ghost use Rattle.vcd_model.specs.ItemText.{last_mark};
 ghost use Rattle.vcd_model.specs.Outcome.{close_text, ends_early};
 ghost use Rattle.vcd_text.specs.Device.{Counts, Takes, failures_after};
 ghost use Rattle.vcd_head.specs.Views.{IsViewOf};
-ghost use Rattle.vcd_body.specs.Given.{HasGoodText};
+ghost use Rattle.vcd_body.specs.Given.{HasGoodText, IsGoodChange, item_text};
 ghost use Rattle.vcd_body.specs.Items.{AreRegsAfter, regs_after};
 ghost use Rattle.vcd_tools.specs.Answer.{writes_failed};
 ghost use Rattle.vcd_tools.specs.Engine.{Keeps, Starts, StopsUnread, TakesOne, last_of, may_end_early, request_in, request_of};
-ghost use Rattle.vcd_tools.specs.ItemText.{IsItem};
+ghost use Rattle.vcd_tools.specs.ItemText.{AsItem, IsItem};
 ghost use Rattle.vcd_tools.specs.Room.{HasRoomFor, IsWithin, room_of, room_size};
 
 pub(crate) mod check;
@@ -21,9 +21,9 @@ pub(crate) mod sample;
 
 use crate::answer::Stop;
 use crate::task::{Room, Task};
-use vcd_body::{Item, Regs};
+use vcd_body::{Item, Regs, change_text};
 use vcd_head::HeadView;
-use vcd_text::{Sink, WriteFailed};
+use vcd_text::{Feed, Sink, Source, WriteFailed};
 
 /// What a task keeps between items.
 #[derive(Drop)]
@@ -43,6 +43,17 @@ pub(crate) fn last_of(regs: Regs) -> Option<u64>
         return Some(regs.time);
     }
     None
+}
+
+/// The text of the item that was read last; a change alone has one.
+#[inline(always)]
+fn text_of_item<'f, S: Source>(feed: &'f Feed<'_, '_, '_, '_, S>, item: Item) -> &'f [u8]
+    ensures { result.now ≡ item_text feed.now item }
+{
+    match item {
+        Item::Change { form, .. } => change_text(feed, form),
+        Item::Time(_) | Item::Begin(_) | Item::End | Item::Finish => &[],
+    }
 }
 
 impl<'n, 'r> Machine<'n, 'r> {
@@ -76,8 +87,8 @@ impl<'n, 'r> Machine<'n, 'r> {
         }
     }
 
-    /// Takes the item that was read last, writes what is due after it, and returns whether it ended the run. The registers are
-    /// those after it.
+    /// Takes an item with its text, writes what is due after it, and returns whether it ended the run. The text is that of a change,
+    /// and any bytes for other items; the registers are those after the item.
     #[inline(always)]
     pub(crate) fn take<W: Sink>(
         &mut self,
@@ -108,6 +119,36 @@ impl<'n, 'r> Machine<'n, 'r> {
             Machine::Edges(edges) => edges.take(view, regs, item, text),
         }
         Ok(false)
+    }
+
+    /// Takes the item that was read last. A count needs no text, so that none is looked up for it.
+    #[inline(always)]
+    pub(crate) fn take_read<S: Source, W: Sink>(
+        &mut self,
+        view: HeadView<'_>,
+        regs: Regs,
+        item: Item,
+        feed: &Feed<'_, '_, '_, '_, S>,
+        out: &mut W,
+    ) -> Result<bool, WriteFailed>
+        requires failures { (W.device out.old).failures < 2 ^ 64 - 1 }
+        requires sound { IsGoodChange view.codes.now feed.now item }
+        ensures takes { (h : Header) (items : List BodyItem) (before : Regs) (x : BodyItem)
+            → IsViewOf view.entry h → AreRegsAfter items before → regs ≡ regs_after before item
+            → AsItem h.codes feed.now item x → length items < 2 ^ 63 → Keeps self.old h items
+            → TakesOne (Keeps self.new h (items ++ x ∷ [])) (request_in self.old) h items x
+            (W.device out.old) (W.device out.new) result }
+        ensures counts { Counts (W.device out.old) (W.device out.new) result }
+        ensures request { request_in self.new ≡ request_in self.old }
+        ensures room { room_of self.new ≡ room_of self.old }
+        ensures early { IfOk result
+            (λ ended. ended ≡ true → may_end_early (request_in self.old) ≡ true) }
+    {
+        if let Machine::Check(check) = self {
+            check.take(item);
+            return Ok(false);
+        }
+        self.take(view, regs, item, text_of_item(feed, item), out)
     }
 
     /// Writes what stands at the clean end of a body after which the registers are these.
