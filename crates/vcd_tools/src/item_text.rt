@@ -63,7 +63,7 @@ fn begin_line(section: Section) -> &'static [u8]
     }
 }
 
-/// Writes the change that was read last as its line.
+/// Writes a change with this text as its line.
 #[inline(always)]
 fn put_change_line<W: Sink>(
     view: HeadView<'_>,
@@ -86,7 +86,7 @@ fn put_change_line<W: Sink>(
     put_change(code.size, code.event, form, text, id, out)
 }
 
-/// Writes the item that was read last as its line; a time mark has none of its own.
+/// Writes an item with its text as its line; a time mark has none of its own.
 #[inline(always)]
 fn put_item<W: Sink>(
     view: HeadView<'_>,
@@ -126,7 +126,7 @@ impl ItemText {
         }
     }
 
-    /// Writes the item that was read last as an entry at this time. A time mark has no line of its own.
+    /// Writes an item with its text as an entry at this time. A time mark has no line of its own.
     #[inline(always)]
     pub(crate) fn put<W: Sink>(
         &mut self,

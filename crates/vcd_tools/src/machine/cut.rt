@@ -260,8 +260,8 @@ impl<'r> Cut<'r> {
         self.text.put(view, regs.time, item, text, out)
     }
 
-    /// Takes the item that was read last, writes what is due after it, and returns whether it ended the run. The registers are
-    /// those after it.
+    /// Takes an item with its text, writes what is due after it, and returns whether it ended the run. The registers are those after
+    /// it.
     #[inline(always)]
     pub(crate) fn take<W: Sink>(
         &mut self,

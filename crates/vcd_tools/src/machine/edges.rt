@@ -62,7 +62,7 @@ impl<'n, 'r> Edges<'n, 'r> {
         })
     }
 
-    /// Counts the item that was read last. The registers are those after it.
+    /// Counts an item with its text. The registers are those after it.
     #[inline(always)]
     pub(crate) fn take(&mut self, view: HeadView<'_>, regs: Regs, item: Item, text: &[u8])
         requires sound { HasGoodText view.codes.now text.now item }

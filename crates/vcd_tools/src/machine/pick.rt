@@ -81,7 +81,7 @@ impl<'n, 'r> Pick<'n, 'r> {
         }
     }
 
-    /// Writes the item that was read last, where it is kept, after the line of its time. The registers are those after it.
+    /// Writes an item with its text, where it is kept, after the line of its time. The registers are those after it.
     #[inline(always)]
     pub(crate) fn take<W: Sink>(
         &mut self,

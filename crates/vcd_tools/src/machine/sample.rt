@@ -102,8 +102,7 @@ impl<'n, 'r> Sample<'n, 'r> {
         Ok(rest.is_empty())
     }
 
-    /// Takes the item that was read last: keeps the value of a change, and at a time mark writes the lines of the times below it.
-    /// Returns whether it ended the run.
+    /// Takes an item with its text: keeps the value of a change, and at a time mark writes the lines of the times below it. Returns whether it ended the run.
     #[inline(always)]
     pub(crate) fn take<W: Sink>(
         &mut self,
