@@ -33,6 +33,14 @@ GivesItem codes i front items f r (Change code form) =
     (c : IdCode) × (slice_get codes code ≡ Some c) × GaveItem codes i front items (BodyItem.Changes (record { code = c; form = model_form form; text = text_of form f })) f r
 GivesItem codes i front items f r Finish = GaveAll codes i front items f r
 
+-- the definitions' item that an item with this text is; the text is that of a change
+abbrev pub IsItem : List IdCode → List ℕ → Item → BodyItem → Type 0
+IsItem codes text (Time t) x = x ≡ BodyItem.Time t
+IsItem codes text (Begin s) x = x ≡ BodyItem.Begin (model_section s)
+IsItem codes text End x = x ≡ BodyItem.End
+IsItem codes text (Change code form) x = (c : IdCode) × (slice_get codes code ≡ Some c) × (x ≡ BodyItem.Changes (record { code = c; form = model_form form; text = text }))
+IsItem codes text Finish x = ⊥
+
 -- a text that a change may give this code: a digit; one or more digits, of which no more than its size unless it is an event; or 1 to 64 bytes
 abbrev pub IsText : Form → Code → List ℕ → Type 0
 IsText Scalar code text = (d : ℕ) × IsTrue (is_value_digit d) × (text ≡ d ∷ [])

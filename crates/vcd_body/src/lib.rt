@@ -36,6 +36,7 @@
 //! Not promised: anything of a body after its first fault; then neither the feed nor the registers are to be used again.
 #![tactic(auto)]
 
+mod ahead;
 mod change;
 mod compare;
 mod fault;
@@ -56,6 +57,7 @@ mod tests;
 mod tokens;
 mod words;
 
+pub use ahead::{Plain, item_ahead, pass_items};
 pub use change::put_change;
 pub use fault::BodyFault;
 pub use item::{Form, Item, Regs, Section};

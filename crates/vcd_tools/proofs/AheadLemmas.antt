@@ -1,27 +1,30 @@
 -- Items that a machine takes ahead in a feed's chunk, one after the other.
 use Rattle.std.proofs.Common.{◌≡◌, ℕ, ◌+◌, ◌^◌, ◌<◌, ◌≤◌, Bool, true, false, List, [], ◌∷◌, ◌++◌, length, Result, Ok, Err, inl, refl, sym, ap, subst, ◌∙◌, append-nil, append_assoc, arith}
 use Rattle.std.specs.List.{list_any}
-use Rattle.std.proofs.lemmas.List.{length_append}
+use Rattle.std.proofs.lemmas.List.{length-append}
+use Rattle.vcd_model.specs.BodyReading.{body_grammar}
 use Rattle.vcd_model.specs.Declarations.{IdCode}
 use Rattle.vcd_model.specs.Header.{Header}
 use Rattle.vcd_model.specs.Input.{Input}
 use Rattle.vcd_model.specs.Items.{BodyItem}
 use Rattle.vcd_model.specs.ItemText.{last_mark}
 use Rattle.vcd_model.specs.Outcome.{Request, ends_early, open_text}
+use Rattle.vcd_model.specs.SoFar.{IsSoFar}
 use Rattle.vcd_model.specs.Tokens.{Token}
 use Rattle.vcd_text.specs.Device.{Device}
 use Rattle.vcd_text.specs.Feed.{seen}
 use Rattle.vcd_text.specs.declared.device.Source.{Ghosts}
 use Rattle.vcd_text.specs.declared.feed.Feed.{Feed}
 use Rattle.vcd_text.proofs.Writes.{both-written}
-use Rattle.vcd_body.specs.Ahead.{GaveAhead, GaveLast, IsItem}
+use Rattle.vcd_body.specs.Ahead.{GaveAhead, GaveLast}
+use Rattle.vcd_body.specs.Given.{IsItem}
 use Rattle.vcd_body.specs.Items.{AreRegsAfter, regs_after}
 use Rattle.vcd_body.specs.Reads.{GaveItems}
 use Rattle.vcd_body.specs.declared.item.Item.{Item}
 use Rattle.vcd_body.specs.declared.item.Regs.{Regs}
 use Rattle.vcd_tools.specs.Ahead.{EndsAhead, GaveOneAhead, RunsAhead, StandsAhead}
 use Rattle.vcd_tools.specs.Device.{Grows}
-use Rattle.vcd_tools.specs.Engine.{Keeps, Runs, TakesOne, last_of, request_of_engine}
+use Rattle.vcd_tools.specs.Engine.{CanRun, Keeps, Runs, TakesOne, last_of, request_of_engine}
 use Rattle.vcd_tools.specs.Step.{LastGives, TakesAhead}
 use Rattle.vcd_tools.specs.declared.answer.Done.TheVariants.{Early}
 use Rattle.vcd_tools.specs.declared.answer.More.TheVariants.{Again, Ended}
@@ -42,7 +45,7 @@ module _ (t : Request) (h : Header) (limit lines : ℕ) (bytes : List ℕ) (befo
   module _ (n : ℕ) (items : List BodyItem) (m : Machine) (r : Regs) (s : StandsAhead t h limit lines bytes before n items m r) where
     -- there are fewer items than a counter can count
     pub few_ahead : n ≤ length bytes → length before + length bytes < 2 ^ 63 → length (before ++ items) < 2 ^ 63
-    few_ahead within few = let each = s.gave.few in omega (arith, length_append before items)
+    few_ahead within few = let each = s.gave.few in omega (arith, length-append before items)
 
     -- one item more, after which the run goes on
     pub stands_on : (n' : ℕ) (m' : Machine) (r' : Regs) (text : List ℕ) (item : Item) (x : BodyItem) → IsItem h.codes text item x → GaveAhead h.codes limit lines bytes n' before (items ++ x ∷ []) → AreRegsAfter (before ++ (items ++ x ∷ [])) r' → r' ≡ regs_after r item
@@ -69,9 +72,32 @@ pub stands_first : {X : Type 0} {g : Ghosts X} (e : Engine) (h : Header) (i : In
 stands_first e h i front items f limit lines bytes s =
     let nil = sym (append-nil items) in
     record {
-      gave = record { tokens = []; passed = refl; placed = []; item_each = refl; so_far = λ given earlier are so_far. rw append-nil so_far; few = omega arith };
+      gave = record { tokens = []; passed = refl; placed = []; item_each = refl; so_far = λ given earlier are so_far. subst (λ ts. IsSoFar (body_grammar h.codes) ts (earlier ++ []) []) (sym (append-nil given)) (subst (λ ps. IsSoFar (body_grammar h.codes) given ps []) (sym (append-nil earlier)) so_far); few = omega arith };
       known = subst (λ l. AreRegsAfter l e.regs) nil s.holds.known;
       last = subst (λ l. last_of e.regs ≡ last_mark l) nil s.holds.last;
       keeps = subst (Keeps e.machine h) nil s.holds.keeps;
       on = subst (λ l. list_any (ends_early (request_of_engine e)) l ≡ false) nil s.on;
     }
+
+-- the same over bytes and a limit that are these
+pub gave_over : (codes : List IdCode) (limit limit' lines : ℕ) (bytes bytes' : List ℕ) (n : ℕ) (before items : List BodyItem) → limit ≡ limit' → bytes ≡ bytes' → GaveAhead codes limit lines bytes n before items → GaveAhead codes limit' lines bytes' n before items
+gave_over codes limit limit' lines bytes bytes' n before items l b s = subst (λ bs. GaveAhead codes limit' lines bs n before items) b (subst (λ k. GaveAhead codes k lines bytes n before items) l s)
+
+-- ---- an engine that has taken them
+
+module _ {X : Type 0} {g : Ghosts X} (h : Header) (i : Input) (front : List Token) (items : List BodyItem) (e e' : Engine) (old new : Feed X g) (limit lines : ℕ) (bytes : List ℕ) (n : ℕ) (s : Runs e h i front items old) where
+  -- it goes on
+  pub runs_behind : (more : List BodyItem) → StandsAhead (request_of_engine e) h limit lines bytes items n more e'.machine e'.regs → GaveItems h.codes i front (items ++ more) new e'.regs → e'.view ≡ e.view → request_of_engine e' ≡ request_of_engine e → seen new ≡ seen old + n
+      → Runs e' h i front (items ++ more) new
+  runs_behind more stands gave view same looked = record {
+    holds = record {
+      views = rw view s.holds.views;
+      can = subst (λ (t : Request). CanRun t h) (sym same) s.holds.can;
+      known = stands.known;
+      last = stands.last;
+      keeps = stands.keeps;
+    };
+    gave = gave;
+    on = subst (λ (t : Request). list_any (ends_early t) (items ++ more) ≡ false) (sym same) stands.on;
+    few = let each = stands.gave.few in let before = s.few in omega (arith, length-append items more, looked);
+  }

@@ -20,7 +20,7 @@ use Rattle.vcd_body.specs.declared.item.Item.TheVariants.{Time, Begin, End, Chan
 use Rattle.vcd_body.specs.declared.item.Regs.{Regs}
 use Rattle.vcd_tools.specs.Check.{AreCounted, IsOfKind}
 use Rattle.vcd_tools.specs.Engine.{last_of}
-use Rattle.vcd_tools.specs.ItemText.{IsItem}
+use Rattle.vcd_body.specs.Given.{IsItem}
 use Rattle.vcd_tools.specs.Report.{report_text, opens_scope, declares_variable}
 use Rattle.vcd_tools.specs.declared.machine.check.Check.{Check}
 use Rattle.vcd_tools.specs.declared.report.Report.{Report}

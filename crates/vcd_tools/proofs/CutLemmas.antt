@@ -24,7 +24,8 @@ use Rattle.vcd_tools.specs.Cut.{AreCut, BeginsBy, HasBegun, HasNone, IsNoMark, k
 use Rattle.vcd_tools.specs.Device.{TakesDue}
 use Rattle.vcd_tools.specs.Engine.{TakesOne, last_of}
 use Rattle.vcd_model.specs.Outcome.{Request}
-use Rattle.vcd_tools.specs.ItemText.{IsItem, HasWritten, LastTells, times_with}
+use Rattle.vcd_body.specs.Given.{IsItem}
+use Rattle.vcd_tools.specs.ItemText.{HasWritten, LastTells, times_with}
 use Rattle.vcd_tools.specs.Values.{AreHeld, HasValues}
 use Rattle.vcd_tools.specs.declared.machine.cut.Cut.{Cut}
 use Rattle.vcd_tools.specs.declared.item_text.ItemText.{ItemText}

@@ -25,7 +25,8 @@ use Rattle.vcd_body.specs.declared.item.Regs.{Regs}
 use Rattle.vcd_tools.specs.Answer.{stop_of_body}
 use Rattle.vcd_text.specs.Device.{Device, Writes}
 use Rattle.vcd_tools.specs.Engine.{CanRun, Holds, Keeps, Runs, StopsAtStart, last_of, request_of_engine}
-use Rattle.vcd_tools.specs.ItemText.{AsItem, IsItem}
+use Rattle.vcd_body.specs.Given.{IsItem}
+use Rattle.vcd_tools.specs.ItemText.{AsItem}
 use Rattle.vcd_tools.specs.Selection.{IsFirstUnmatched}
 use Rattle.vcd_tools.specs.Step.{StepGives}
 use Rattle.vcd_tools.specs.declared.answer.Stop.{Stop}

@@ -21,7 +21,8 @@ use Rattle.vcd_body.specs.declared.item.Form.{Form}
 use Rattle.vcd_body.specs.declared.item.Form.TheVariants.{Scalar, Vector, RealText}
 use Rattle.vcd_body.specs.declared.item.Item.TheVariants.{Change}
 use Rattle.vcd_model.specs.ItemText.{time_due}
-use Rattle.vcd_tools.specs.ItemText.{IsItem, HasWritten, LastTells, times_with}
+use Rattle.vcd_body.specs.Given.{IsItem}
+use Rattle.vcd_tools.specs.ItemText.{HasWritten, LastTells, times_with}
 use Rattle.vcd_tools.specs.declared.item_text.ItemText.{ItemText}
 use Rattle.vcd_model.proofs.KeptLines.{last_or-snoc}
 

@@ -19,7 +19,8 @@ use Rattle.vcd_body.specs.declared.item.Regs.{Regs}
 use Rattle.vcd_text.specs.Device.{Device}
 use Rattle.vcd_tools.specs.Device.{TakesDue}
 use Rattle.vcd_tools.specs.Engine.{last_of}
-use Rattle.vcd_tools.specs.ItemText.{IsItem, HasWritten, LastTells, times_with}
+use Rattle.vcd_body.specs.Given.{IsItem}
+use Rattle.vcd_tools.specs.ItemText.{HasWritten, LastTells, times_with}
 use Rattle.vcd_tools.specs.Pick.{ArePicked, is_event_at, is_kept, names_in}
 use Rattle.vcd_tools.specs.declared.item_text.ItemText.{ItemText}
 use Rattle.vcd_tools.specs.declared.machine.pick.Pick.{Pick}

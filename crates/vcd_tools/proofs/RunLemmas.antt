@@ -25,7 +25,7 @@ use Rattle.vcd_text.specs.declared.device.Source.{Ghosts}
 use Rattle.vcd_text.specs.declared.feed.Feed.{Feed}
 use Rattle.vcd_text.proofs.Writes.{AppendsSome, appends-first, both-written, some-behind, some-first}
 use Rattle.vcd_body.specs.Ahead.{GaveLast}
-use Rattle.vcd_body.specs.Reads.{BodyHas, GaveAll, GaveItem}
+use Rattle.vcd_body.specs.Reads.{BodyHas, GaveAll}
 use Rattle.vcd_body.specs.declared.item.Regs.{Regs}
 use Rattle.vcd_tools.specs.Answer.{reads_failed}
 use Rattle.vcd_text.specs.Device.{Device, Supply, Writes, WritesSome}
@@ -33,7 +33,7 @@ use Rattle.vcd_tools.specs.Device.{Grows, GrowsSome}
 use Rattle.vcd_tools.proofs.MergeOutcomes.{fault_output}
 use Rattle.vcd_tools.specs.Engine.{CanRun, Holds, Runs, StopsAtStart, reads_body, request_of_engine}
 use Rattle.vcd_tools.specs.Run.{Belongs, Follows, IsLeft, IsRefused, is_early}
-use Rattle.vcd_tools.proofs.AskedLemmas.{read_to_end, read_to_item, read_to_stop}
+use Rattle.vcd_tools.proofs.AskedLemmas.{last_given, read_to_end, read_to_item, read_to_stop}
 use Rattle.vcd_tools.specs.Step.{AheadGives, LastGives, StepGives, StepsGive, TakesAhead, step_end}
 use Rattle.vcd_text.specs.Advances.{Advances, HasNotFailed}
 use Rattle.vcd_tools.specs.declared.answer.Done.{Done}
@@ -261,10 +261,6 @@ module _ {X : Type 0} {g : Ghosts X} (t : Request) (h : Header) (i : Input) (fro
       by_due (inr d) = stopped_close t h i front items name limit chunk before out mid new can on open_is f same size e (omega arith) d.0 d.1
 
 -- ---- several steps
-
--- of an item its line need not be known
-last_given : {X : Type 0} {g : Ghosts X} (codes : List IdCode) (i : Input) (front : List Token) (items : List BodyItem) (x : BodyItem) (f : Feed X g) (r : Regs) → GaveItem codes i front items x f r → GaveLast codes i front items x f r
-last_given codes i front items x f r m = record { gave = m.gave; before = m.before; before_are = m.before_are; line = (token_of f).line; last = m.last; near = m.near }
 
 as_last : {X : Type 0} {g : Ghosts X} (t : Request) (h : Header) (i : Input) (front : List Token) (items : List BodyItem) (e : Engine) (f : Feed X g) (out out' : Device) (r : Result More Stop) → StepGives t h i front items e f out out' r → LastGives t h i front items e f out out' r
 as_last t h i front items e f out out' (Ok Again) s = (s.0, s.1, s.2)

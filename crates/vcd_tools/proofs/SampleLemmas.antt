@@ -24,7 +24,7 @@ use Rattle.vcd_body.specs.declared.item.Section.{Section}
 use Rattle.vcd_body.specs.declared.table.Table.{Table}
 use Rattle.vcd_tools.specs.Device.{TakesDue}
 use Rattle.vcd_tools.specs.Engine.{TakesOne}
-use Rattle.vcd_tools.specs.ItemText.{IsItem}
+use Rattle.vcd_body.specs.Given.{IsItem}
 use Rattle.vcd_tools.specs.Sample.{AreSampled, asked_in, names_in}
 use Rattle.vcd_tools.specs.Values.{AreHeld}
 use Rattle.vcd_tools.specs.declared.machine.sample.Sample.{Sample}

@@ -28,7 +28,7 @@ use Rattle.vcd_tools.specs.Seat.{AtSeat, GaveParked, Lane, ReadsNoMore, Turns, s
 use Rattle.vcd_tools.specs.declared.seat.Seat.{Seat}
 use Rattle.vcd_tools.proofs.EngineLemmas.{writes-none}
 use Rattle.vcd_tools.proofs.Dumps.{has_dump}
-use Rattle.vcd_tools.proofs.AskedLemmas.{read_to_end, read_to_item, read_to_stop}
+use Rattle.vcd_tools.proofs.AskedLemmas.{last_given, read_to_end, read_to_item, read_to_stop}
 
 -- ---- how much was read
 
@@ -59,7 +59,7 @@ module _ {X : Type 0} {g : Ghosts X} (l : Lane) (left : Input) (items : List Bod
   no_more_at_end r a = however_many (limit_of f) (chunk_len_of f) (supply_of f) left l.front _ (λ old. read_to_end Request.Merge l.header left l.front items f (limit_of f) (chunk_len_of f) old refl refl (can_merge l.header) (none_early items) r a)
 
   pub no_more_at_item : (x : BodyItem) (r : Regs) → GaveItem l.header.codes left l.front items x f r → ReadsNoMore (limit_of f) (chunk_len_of f) l left (supply_of f).rest
-  no_more_at_item x r m = however_many (limit_of f) (chunk_len_of f) (supply_of f) left l.front _ (λ old. read_to_item Request.Merge l.header left l.front items f (limit_of f) (chunk_len_of f) old refl refl (can_merge l.header) (none_early items) x r m)
+  no_more_at_item x r m = however_many (limit_of f) (chunk_len_of f) (supply_of f) left l.front _ (λ old. read_to_item Request.Merge l.header left l.front items f (limit_of f) (chunk_len_of f) old refl refl (can_merge l.header) (none_early items) x r (last_given l.header.codes left l.front items x f r m))
 
 -- ---- where it stands
 

@@ -26,7 +26,7 @@ use Rattle.vcd_body.specs.declared.item.Item.{Item}
 use Rattle.vcd_body.specs.declared.item.Item.TheVariants.{Time, Begin, End, Change, Finish}
 use Rattle.vcd_body.specs.declared.table.Table.{Table}
 use Rattle.vcd_body.proofs.TableLemmas.{room_needed}
-use Rattle.vcd_tools.specs.ItemText.{IsItem}
+use Rattle.vcd_body.specs.Given.{IsItem}
 use Rattle.vcd_tools.specs.Values.{AreHeld, HasShares, table_bytes}
 
 -- ---- a new table

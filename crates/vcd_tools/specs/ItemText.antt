@@ -6,6 +6,7 @@ use Rattle.vcd_model.specs.Items.{BodyItem, Entry}
 use Rattle.vcd_model.specs.ItemText.{time_due, time_unless}
 use Rattle.vcd_text.specs.declared.device.Source.{Ghosts}
 use Rattle.vcd_text.specs.declared.feed.Feed.{Feed}
+use Rattle.vcd_body.specs.Given.{IsItem}
 use Rattle.vcd_body.specs.Given.{item_text}
 use Rattle.vcd_body.specs.Items.{model_section, model_form}
 use Rattle.vcd_body.specs.declared.item.Item.{Item}
@@ -23,14 +24,6 @@ pub record HasWritten (before : List ℕ) (kept : List Entry) (t : ItemText) : T
 -- a look at the time that was written last tells whether the line of this time stands
 abbrev pub LastTells : List ℕ → ℕ → Type 0
 LastTells written t = time_unless written t ≡ time_due (last_or None written) t
-
--- the definitions' item that an item with this text is; the text is that of a change
-abbrev pub IsItem : List IdCode → List ℕ → Item → BodyItem → Type 0
-IsItem codes text (Time t) x = x ≡ BodyItem.Time t
-IsItem codes text (Begin s) x = x ≡ BodyItem.Begin (model_section s)
-IsItem codes text End x = x ≡ BodyItem.End
-IsItem codes text (Change code form) x = (c : IdCode) × (slice_get codes code ≡ Some c) × (x ≡ BodyItem.Changes (record { code = c; form = model_form form; text = text }))
-IsItem codes text Finish x = ⊥
 
 -- the one that the item is which was read last
 abbrev pub AsItem : {X : Type 0} {g : Ghosts X} → List IdCode → Feed X g → Item → BodyItem → Type 0

@@ -12,7 +12,8 @@ ghost use Rattle.vcd_head.specs.Views.{IsViewOf};
 ghost use Rattle.vcd_body.specs.Given.{HasGoodText};
 ghost use Rattle.vcd_body.specs.Items.{model_section};
 ghost use Rattle.vcd_tools.specs.Device.{TakesDue};
-ghost use Rattle.vcd_tools.specs.ItemText.{IsItem, HasWritten, LastTells, times_with};
+ghost use Rattle.vcd_body.specs.Given.{IsItem};
+ghost use Rattle.vcd_tools.specs.ItemText.{HasWritten, LastTells, times_with};
 
 use vcd_body::{Form, Item, Section, put_change};
 use vcd_head::HeadView;

@@ -14,7 +14,8 @@ ghost use Rattle.vcd_body.specs.Items.{AreRegsAfter, regs_after};
 ghost use Rattle.vcd_tools.specs.Ahead.{RunsAhead, StandsAhead};
 ghost use Rattle.vcd_tools.specs.Answer.{writes_failed};
 ghost use Rattle.vcd_tools.specs.Engine.{Keeps, Starts, StopsUnread, TakesOne, last_of, may_end_early, request_in, request_of};
-ghost use Rattle.vcd_tools.specs.ItemText.{AsItem, IsItem};
+ghost use Rattle.vcd_body.specs.Given.{IsItem};
+ghost use Rattle.vcd_tools.specs.ItemText.{AsItem};
 ghost use Rattle.vcd_tools.specs.Room.{HasRoomFor, IsWithin, room_of, room_size};
 
 pub(crate) mod check;

@@ -10,7 +10,7 @@ ghost use Rattle.vcd_body.specs.Given.{HasGoodText};
 ghost use Rattle.vcd_body.specs.Items.{AreRegsAfter, regs_after};
 ghost use Rattle.vcd_tools.specs.Edges.{AreEdges, names_counted, room_in_edges};
 ghost use Rattle.vcd_tools.specs.Engine.{Starts};
-ghost use Rattle.vcd_tools.specs.ItemText.{IsItem};
+ghost use Rattle.vcd_body.specs.Given.{IsItem};
 ghost use Rattle.vcd_tools.specs.Room.{HasRoomFor, IsWithin, room_size};
 ghost use Rattle.vcd_tools.specs.Selection.{IsUnmatched};
 ghost use Rattle.vcd_tools.specs.declared.task.Task.TheVariants as task;

@@ -12,7 +12,7 @@ ghost use Rattle.vcd_body.specs.Items.{AreRegsAfter, regs_after};
 ghost use Rattle.vcd_tools.specs.Answer.{writes_failed};
 ghost use Rattle.vcd_tools.specs.Device.{TakesDue};
 ghost use Rattle.vcd_tools.specs.Engine.{Starts, StopsUnread, last_of};
-ghost use Rattle.vcd_tools.specs.ItemText.{IsItem};
+ghost use Rattle.vcd_body.specs.Given.{IsItem};
 ghost use Rattle.vcd_tools.specs.Pick.{ArePicked, is_event_at, is_kept, names_in, flags_in};
 ghost use Rattle.vcd_tools.specs.Room.{HasRoomFor};
 ghost use Rattle.vcd_tools.specs.declared.task.Task.TheVariants as task;

@@ -9,7 +9,7 @@ ghost use Rattle.vcd_text.specs.Device.{Counts, Takes, failures_after};
 ghost use Rattle.vcd_head.specs.Views.{IsViewOf};
 ghost use Rattle.vcd_body.specs.Given.{HasGoodText};
 ghost use Rattle.vcd_tools.specs.Engine.{TakesOne};
-ghost use Rattle.vcd_tools.specs.ItemText.{IsItem};
+ghost use Rattle.vcd_body.specs.Given.{IsItem};
 ghost use Rattle.vcd_tools.specs.Room.{HasRoomFor, IsWithin, room_size};
 ghost use Rattle.vcd_tools.specs.Sample.{AreSampled, asked_in, lent_to};
 ghost use Rattle.vcd_tools.specs.Selection.{IsFirstUnmatched, IsUnmatched};

@@ -1,6 +1,6 @@
 use Rattle.std.proofs.Common.{subst}
 use Rattle.vcd_body.specs.declared.item.Item.{Item}
-use Rattle.vcd_tools.specs.ItemText.{IsItem}
+use Rattle.vcd_body.specs.Given.{IsItem}
 use Rattle.vcd_tools.proofs.item_text.put_item.Goals as goal
 
 pub returns-in-Change-clause-takes : goal.returns-in-Change-clause-takes

@@ -1,5 +1,5 @@
 use Rattle.std.proofs.Common.{sym, subst}
-use Rattle.vcd_tools.specs.ItemText.{IsItem}
+use Rattle.vcd_body.specs.Given.{IsItem}
 use Rattle.vcd_tools.proofs.machine.Machine.take_read.Goals as goal
 
 pub returns-clause-takes : goal.returns-clause-takes

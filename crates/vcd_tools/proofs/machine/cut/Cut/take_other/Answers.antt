@@ -4,7 +4,7 @@ use Rattle.vcd_text.proofs.Writes.{appends-none}
 use Rattle.vcd_head.specs.declared.view.Code.{Code}
 use Rattle.vcd_body.specs.Given.{HasGoodText, IsText}
 use Rattle.vcd_body.specs.declared.item.Item.{Item}
-use Rattle.vcd_tools.specs.ItemText.{IsItem}
+use Rattle.vcd_body.specs.Given.{IsItem}
 use Rattle.vcd_tools.specs.Values.{AreHeld}
 use Rattle.vcd_tools.proofs.CutLemmas.{item_held, none_before}
 use Rattle.vcd_tools.proofs.ValuesLemmas.{good_text, held_still, other_gives, set_holds}

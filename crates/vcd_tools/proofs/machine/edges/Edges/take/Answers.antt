@@ -6,7 +6,7 @@ use Rattle.vcd_body.specs.Items.{model_form, regs_after}
 use Rattle.vcd_body.specs.declared.item.Item.{Item}
 use Rattle.vcd_body.specs.declared.item.Regs.{Regs}
 use Rattle.vcd_tools.specs.Edges.{AreTallied}
-use Rattle.vcd_tools.specs.ItemText.{IsItem}
+use Rattle.vcd_body.specs.Given.{IsItem}
 use Rattle.vcd_tools.proofs.ItemTextLemmas.{section_is}
 use Rattle.vcd_tools.proofs.TallyLemmas.{shown_there, still_tallied}
 use Rattle.vcd_tools.proofs.ValuesLemmas.{good_text, other_gives}

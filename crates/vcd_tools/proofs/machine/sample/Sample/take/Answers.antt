@@ -3,7 +3,7 @@ use Rattle.vcd_model.specs.Items.{BodyItem, marks}
 use Rattle.vcd_head.specs.declared.view.Code.{Code}
 use Rattle.vcd_body.specs.Given.{HasGoodText, IsText}
 use Rattle.vcd_body.specs.declared.item.Item.{Item}
-use Rattle.vcd_tools.specs.ItemText.{IsItem}
+use Rattle.vcd_body.specs.Given.{IsItem}
 use Rattle.vcd_tools.specs.Values.{AreHeld}
 use Rattle.vcd_tools.proofs.SampleLemmas.{quiet, takes_other}
 use Rattle.vcd_tools.proofs.ValuesLemmas.{good_text, held_still, set_holds}
