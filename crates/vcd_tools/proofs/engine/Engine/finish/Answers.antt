@@ -8,7 +8,7 @@ use Rattle.vcd_text.proofs.AdvancesLemmas.{advances_nowhere, advances_on}
 use Rattle.vcd_tools.specs.declared.answer.More.{More}
 use Rattle.vcd_tools.specs.declared.answer.Done.{Done}
 use Rattle.vcd_tools.specs.declared.answer.More.TheVariants.{Again, Ended}
-use Rattle.vcd_tools.proofs.RunLemmas.{runs_first, followed, followed_stop, asked, can_run, none_ends, run_goes_on, step_reads}
+use Rattle.vcd_tools.proofs.RunLemmas.{runs_first, steps_end, steps_stop, steps_go_on, asked, can_run, step_reads}
 use Rattle.vcd_tools.proofs.engine.Engine.finish.Goals as goal
 
 pub items-init : goal.items-init
@@ -21,27 +21,25 @@ items-init g c = (
   λ h i front begin holds st w. ([], runs_first c.args.self.now h i front c.args.feed.now holds st, w),
 )
 
-pub step_over-requires-clause-bound : goal.step_over-requires-clause-bound
-step_over-requires-clause-bound g c =
+pub advance-requires-clause-bound : goal.advance-requires-clause-bound
+advance-requires-clause-bound g c =
     let since = c.items.invariant.0 in
     rw (since.limit, since.chunk, c.items.invariant.4.0, c.items.invariant.4.1) c.requires.bound
 
-pub returns-in_err-step_over-clause-gives : goal.returns-in_err-step_over-clause-gives
-returns-in_err-step_over-clause-gives g c = λ h i front name begin holds st w.
+pub returns-in_err-advance-clause-gives : goal.returns-in_err-advance-clause-gives
+returns-in_err-advance-clause-gives g c = λ h i front name begin holds st w.
     let t = request_of_engine c.args.self.now in
     let s = c.items.invariant.5 h i front begin holds st w in
     let since = c.items.invariant.0 in
     let same = c.items.invariant.2 in
-    let stop = c.in_err-step_over.field-0.0 in
+    let stop = c.in_err-advance.field-0.0 in
     let e : c.from_residual.result ≡ Err stop = search rules in
     let out : Device = (g.W.Sink.device c.items.out) in
-    let new : Device = (g.W.Sink.device c.step_over.new.out) in
-    let gives = asked (request_of_engine c.items.self) t h i front s.0 c.step_over.new.self c.step_over.new.feed out new _ (Err stop) same refl (c.in_err-step_over.ensures.gives h i front s.0 s.1) in
+    let new : Device = (g.W.Sink.device c.advance.new.out) in
+    let gives = asked (request_of_engine c.items.self) t h i front s.0 c.advance.new.self c.advance.new.feed out new _ (Err stop) same refl (c.in_err-advance.ensures.gives h i front s.0 s.1) in
     let unfailed = since.goes refl c.requires.open in
-    let failed = step_reads g.S.Source.failures c.items.feed c.step_over.new.feed (Err stop) unfailed c.in_err-step_over.ensures.advances ∙ ap (λ n. n + reads_failed {A = Done} (Err stop)) (since.same (λ x. cc)) in
-    let can = can_run t c.items.self h i front s.0 c.items.feed same s.1 in
-    let on = none_ends t c.items.self h i front s.0 c.items.feed same s.1 in
-    rw e (followed_stop t h i front s.0 name _ _ _ begin out new can on s.2 c.step_over.new.self c.step_over.new.feed (c.in_err-step_over.ensures.advances.limit ∙ since.limit) (c.in_err-step_over.ensures.advances.chunk ∙ since.chunk) stop failed gives)
+    let failed = step_reads g.S.Source.failures c.items.feed c.advance.new.feed (Err stop) unfailed c.in_err-advance.ensures.advances ∙ ap (λ n. n + reads_failed {A = Done} (Err stop)) (since.same (λ x. cc)) in
+    rw e (steps_stop t h i front s.0 begin out new s.2 c.advance.new.self c.advance.new.feed name _ _ _ (can_run t c.items.self h i front s.0 c.items.feed same s.1) (c.in_err-advance.ensures.advances.limit ∙ since.limit) (c.in_err-advance.ensures.advances.chunk ∙ since.chunk) stop failed gives)
 
 pub returns-in-Ended-clause-gives : goal.returns-in-Ended-clause-gives
 returns-in-Ended-clause-gives g c = λ h i front name begin holds st w.
@@ -51,12 +49,11 @@ returns-in-Ended-clause-gives g c = λ h i front name begin holds st w.
     let same = c.items.invariant.2 in
     let done = c.in-Ended.done in
     let out : Device = (g.W.Sink.device c.items.out) in
-    let new : Device = (g.W.Sink.device c.step_over.new.out) in
-    let gives = asked (request_of_engine c.items.self) t h i front s.0 c.step_over.new.self c.step_over.new.feed out new _ (Ok (Ended done)) same (ap (λ a. Ok a) c.in-Ended.is) (c.in_ok-step_over.ensures.gives h i front s.0 s.1) in
-    let ended = subst (λ (a : More). Advances g.S.Source.failures c.items.feed c.step_over.new.feed (step_end (Ok a))) c.in-Ended.is c.in_ok-step_over.ensures.advances in
-    let can = can_run t c.items.self h i front s.0 c.items.feed same s.1 in
-    let on = none_ends t c.items.self h i front s.0 c.items.feed same s.1 in
-    followed t h i front s.0 name _ _ _ begin out new can on s.2 c.step_over.new.self c.step_over.new.feed (c.in_ok-step_over.ensures.advances.limit ∙ since.limit) (c.in_ok-step_over.ensures.advances.chunk ∙ since.chunk) done (step_reads g.S.Source.failures c.items.feed c.step_over.new.feed (Ok (Ended done)) (since.goes refl c.requires.open) ended ∙ add-zero _ ∙ since.same (λ x. cc)) gives
+    let new : Device = (g.W.Sink.device c.advance.new.out) in
+    let gives = asked (request_of_engine c.items.self) t h i front s.0 c.advance.new.self c.advance.new.feed out new _ (Ok (Ended done)) same (ap (λ a. Ok a) c.in-Ended.is) (c.in_ok-advance.ensures.gives h i front s.0 s.1) in
+    let ended = subst (λ (a : More). Advances g.S.Source.failures c.items.feed c.advance.new.feed (step_end (Ok a))) c.in-Ended.is c.in_ok-advance.ensures.advances in
+    steps_end t h i front s.0 begin out new s.2 c.advance.new.self c.advance.new.feed name _ _ _ (can_run t c.items.self h i front s.0 c.items.feed same s.1) (c.in_ok-advance.ensures.advances.limit ∙ since.limit) (c.in_ok-advance.ensures.advances.chunk ∙ since.chunk) done
+    (step_reads g.S.Source.failures c.items.feed c.advance.new.feed (Ok (Ended done)) (since.goes refl c.requires.open) ended ∙ add-zero _ ∙ since.same (λ x. cc)) gives
 
 pub items-preserved : goal.items-preserved
 items-preserved g c =
@@ -64,15 +61,13 @@ items-preserved g c =
     let again = ap (λ a. Ok a) c.in-Again.is in
     let same = c.items.invariant.2 in
     let out : Device = (g.W.Sink.device c.items.out) in
-    let new : Device = (g.W.Sink.device c.step_over.new.out) in (
-      advances_on g.S.Source.failures c.args.feed.now c.items.feed c.step_over.new.feed CallEnd.GoesOn c.items.invariant.0 (subst (λ (a : More). Advances g.S.Source.failures c.items.feed c.step_over.new.feed (step_end (Ok a))) c.in-Again.is c.in_ok-step_over.ensures.advances),
-      c.in_ok-step_over.ensures.going ∙ ap goes_on again,
-      c.in_ok-step_over.ensures.request ∙ same,
-      c.in_ok-step_over.ensures.writes ∙ add-zero _ ∙ c.items.invariant.3,
-      (c.in_ok-step_over.ensures.holds.0 ∙ c.items.invariant.4.0, c.in_ok-step_over.ensures.holds.1 ∙ c.items.invariant.4.1),
+    let new : Device = (g.W.Sink.device c.advance.new.out) in (
+      advances_on g.S.Source.failures c.args.feed.now c.items.feed c.advance.new.feed CallEnd.GoesOn c.items.invariant.0 (subst (λ (a : More). Advances g.S.Source.failures c.items.feed c.advance.new.feed (step_end (Ok a))) c.in-Again.is c.in_ok-advance.ensures.advances),
+      c.in_ok-advance.ensures.going ∙ ap goes_on again,
+      c.in_ok-advance.ensures.request ∙ same,
+      c.in_ok-advance.ensures.writes ∙ add-zero _ ∙ c.items.invariant.3,
+      (c.in_ok-advance.ensures.holds.0 ∙ c.items.invariant.4.0, c.in_ok-advance.ensures.holds.1 ∙ c.items.invariant.4.1),
       λ h i front begin holds st w.
           let s = c.items.invariant.5 h i front begin holds st w in
-          let can = can_run t c.items.self h i front s.0 c.items.feed same s.1 in
-          let on = none_ends t c.items.self h i front s.0 c.items.feed same s.1 in
-          run_goes_on t h i front s.0 begin out new s.2 c.step_over.new.self c.step_over.new.feed (asked (request_of_engine c.items.self) t h i front s.0 c.step_over.new.self c.step_over.new.feed out new _ (Ok Again) same again (c.in_ok-step_over.ensures.gives h i front s.0 s.1)),
+          steps_go_on t h i front s.0 begin out new s.2 c.advance.new.self c.advance.new.feed (asked (request_of_engine c.items.self) t h i front s.0 c.advance.new.self c.advance.new.feed out new _ (Ok Again) same again (c.in_ok-advance.ensures.gives h i front s.0 s.1)),
     )
