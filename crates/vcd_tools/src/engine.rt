@@ -9,6 +9,7 @@ ghost use Rattle.vcd_text.specs.Feed.{HasGiven, SameLoans, source_of, supply_of,
 ghost use Rattle.vcd_head.specs.Shown.{parts};
 ghost use Rattle.vcd_head.specs.Views.{IsViewOf};
 ghost use Rattle.vcd_text.specs.Advances.{Advances, CallEnd, HasNotFailed};
+ghost use Rattle.vcd_body.specs.Given.{item_text};
 ghost use Rattle.vcd_body.specs.declared.item.Item.TheVariants.{Finish};
 ghost use Rattle.vcd_tools.specs.Answer.{reads_failed, writes_failed};
 ghost use Rattle.vcd_text.specs.Device.{Counts, Device, Takes, Writes, failures_after};
@@ -23,7 +24,7 @@ ghost use Rattle.vcd_tools.specs.declared.answer.Stop.TheVariants.{Write};
 use crate::answer::{Done, More, Stop};
 use crate::machine::Machine;
 use crate::task::{Room, Task};
-use vcd_body::{Item, Regs, next_item, pass_items};
+use vcd_body::{Item, Regs, change_text, next_item, pass_items};
 use vcd_head::HeadView;
 use vcd_text::{Feed, Sink, Source, WriteFailed};
 
@@ -45,6 +46,17 @@ fn is_finish(item: Item) -> bool
     match item {
         Item::Finish => true,
         Item::Time(_) | Item::Begin(_) | Item::End | Item::Change { .. } => false,
+    }
+}
+
+/// The text of the item that was read last; a change alone has one.
+#[inline(always)]
+fn text_of_item<'f, S: Source>(feed: &'f Feed<'_, '_, '_, '_, S>, item: Item) -> &'f [u8]
+    ensures { result.now ≡ item_text feed.now item }
+{
+    match item {
+        Item::Change { form, .. } => change_text(feed, form),
+        Item::Time(_) | Item::Begin(_) | Item::End | Item::Finish => &[],
     }
 }
 
@@ -160,7 +172,8 @@ impl<'v, 'n, 'r> Engine<'v, 'n, 'r> {
             self.close(out)?;
             return Ok(More::Ended(Done::Whole));
         }
-        match self.machine.take_read(view, self.regs, item, feed, out) {
+        let text = text_of_item(feed, item);
+        match self.machine.take(view, self.regs, item, text, out) {
             Ok(false) => Ok(More::Again),
             Ok(true) => {
                 self.going = false;

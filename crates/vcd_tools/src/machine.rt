@@ -9,13 +9,12 @@ ghost use Rattle.vcd_text.specs.Ahead.{bytes_of, longest_of, passed_of};
 ghost use Rattle.vcd_text.specs.Passed.{Passed};
 ghost use Rattle.vcd_text.specs.Device.{Counts, Takes, failures_after};
 ghost use Rattle.vcd_head.specs.Views.{IsViewOf};
-ghost use Rattle.vcd_body.specs.Given.{HasGoodText, IsGoodChange, item_text};
+ghost use Rattle.vcd_body.specs.Given.{HasGoodText};
 ghost use Rattle.vcd_body.specs.Items.{AreRegsAfter, regs_after};
 ghost use Rattle.vcd_tools.specs.Ahead.{RunsAhead, StandsAhead};
 ghost use Rattle.vcd_tools.specs.Answer.{writes_failed};
 ghost use Rattle.vcd_tools.specs.Engine.{Keeps, Starts, StopsUnread, TakesOne, last_of, may_end_early, request_in, request_of};
 ghost use Rattle.vcd_body.specs.Given.{IsItem};
-ghost use Rattle.vcd_tools.specs.ItemText.{AsItem};
 ghost use Rattle.vcd_tools.specs.Room.{HasRoomFor, IsWithin, room_of, room_size};
 
 pub(crate) mod check;
@@ -26,9 +25,9 @@ pub(crate) mod sample;
 
 use crate::answer::Stop;
 use crate::task::{Room, Task};
-use vcd_body::{Item, Regs, change_text, item_ahead};
+use vcd_body::{Item, Regs, item_ahead};
 use vcd_head::HeadView;
-use vcd_text::{Ahead, Feed, Sink, Source, WriteFailed};
+use vcd_text::{Ahead, Sink, WriteFailed};
 
 /// What a task keeps between items.
 #[derive(Drop)]
@@ -48,17 +47,6 @@ pub(crate) fn last_of(regs: Regs) -> Option<u64>
         return Some(regs.time);
     }
     None
-}
-
-/// The text of the item that was read last; a change alone has one.
-#[inline(always)]
-fn text_of_item<'f, S: Source>(feed: &'f Feed<'_, '_, '_, '_, S>, item: Item) -> &'f [u8]
-    ensures { result.now ≡ item_text feed.now item }
-{
-    match item {
-        Item::Change { form, .. } => change_text(feed, form),
-        Item::Time(_) | Item::Begin(_) | Item::End | Item::Finish => &[],
-    }
 }
 
 impl<'n, 'r> Machine<'n, 'r> {
@@ -124,36 +112,6 @@ impl<'n, 'r> Machine<'n, 'r> {
             Machine::Edges(edges) => edges.take(view, regs, item, text),
         }
         Ok(false)
-    }
-
-    /// Takes the item that was read last. A count needs no text, so that none is looked up for it.
-    #[inline(always)]
-    pub(crate) fn take_read<S: Source, W: Sink>(
-        &mut self,
-        view: HeadView<'_>,
-        regs: Regs,
-        item: Item,
-        feed: &Feed<'_, '_, '_, '_, S>,
-        out: &mut W,
-    ) -> Result<bool, WriteFailed>
-        requires failures { (W.device out.old).failures < 2 ^ 64 - 1 }
-        requires sound { IsGoodChange view.codes.now feed.now item }
-        ensures takes { (h : Header) (items : List BodyItem) (before : Regs) (x : BodyItem)
-            → IsViewOf view.entry h → AreRegsAfter items before → regs ≡ regs_after before item
-            → AsItem h.codes feed.now item x → length items < 2 ^ 63 → Keeps self.old h items
-            → TakesOne (Keeps self.new h (items ++ x ∷ [])) (request_in self.old) h items x
-            (W.device out.old) (W.device out.new) result }
-        ensures counts { Counts (W.device out.old) (W.device out.new) result }
-        ensures request { request_in self.new ≡ request_in self.old }
-        ensures room { room_of self.new ≡ room_of self.old }
-        ensures early { IfOk result
-            (λ ended. ended ≡ true → may_end_early (request_in self.old) ≡ true) }
-    {
-        if let Machine::Check(check) = self {
-            check.take(item);
-            return Ok(false);
-        }
-        self.take(view, regs, item, text_of_item(feed, item), out)
     }
 
     /// Takes the items that lie ahead, one after the other, up to one that ends the run, and writes what is due after each. It

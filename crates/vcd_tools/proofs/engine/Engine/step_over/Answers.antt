@@ -5,6 +5,7 @@ use Rattle.vcd_head.specs.Views.{Views}
 use Rattle.vcd_body.specs.Reads.{GaveItems}
 use Rattle.vcd_body.specs.declared.item.Regs.{Regs}
 use Rattle.vcd_tools.specs.Engine.{request_of_engine}
+use Rattle.vcd_body.specs.Given.{IsItem}
 use Rattle.vcd_tools.specs.declared.answer.Stop.TheVariants.{Write}
 use Rattle.vcd_tools.proofs.EngineLemmas.{stopped, all_given, ended_with, holds_still, few_items, item_given, runs_on}
 use Rattle.vcd_tools.proofs.engine.Engine.step_over.Goals as goal
@@ -39,12 +40,13 @@ returns-in-Ok-false-clause-gives g c = λ h i front items s.
     let regs = c.in-Ok.ensures.regs in
     let more = c.in-Ok.ensures.progress c.if-is_finish.ensures in
     let x = item_given h i front items new c.in-Ok.item r c.if-is_finish.ensures (c.in-Ok.ensures.reads h i front items v s.gave) in
-    let t = c.in-Ok-false.ensures.takes h items e.regs x.0 v s.holds.known regs x.1 (few_items h i front items new e c.args.feed.now s more c.in-Ok.ensures.bounded) s.holds.keeps in
+    let read = subst (λ l. IsItem h.codes l c.in-Ok.item x.0) (sym c.text_of_item-text.ensures) x.1 in
+    let t = c.in-Ok-false.ensures.takes h items e.regs x.0 v s.holds.known regs read (few_items h i front items new e c.args.feed.now s more c.in-Ok.ensures.bounded) s.holds.keeps in
     let due = t.due in
     let no = c.in-Ok-false.field-0-test in
     let gave = subst (λ (q : Regs). GaveItems h.codes i front (items ++ x.0 ∷ []) new q) regs x.2.gave in (
       x.0,
-      runs_on h i front items new e (record { view = e.view; regs = r; machine = c.take_read.new.self; going = e.going }) c.args.feed.now c.in-Ok.item x.0 s x.1 gave (t.keeps (ap (λ b. Ok b) no)) (sym t.ends ∙ no) c.in-Ok-false.ensures.request more refl regs,
+      runs_on h i front items new e (record { view = e.view; regs = r; machine = c.take.new.self; going = e.going }) c.args.feed.now c.in-Ok.item x.0 s x.1 gave (t.keeps (ap (λ b. Ok b) no)) (sym t.ends ∙ no) c.in-Ok-false.ensures.request more refl regs,
       (due.0, due.1, (due.2, c.in-Ok-false.ensures.counts)),
       x.2,
     )
@@ -56,17 +58,19 @@ returns-in-Ok-true-clause-gives g c = λ h i front items s.
     let new = c.next_item.new.feed in
     let more = c.in-Ok.ensures.progress c.if-is_finish.ensures in
     let x = item_given h i front items new c.in-Ok.item c.next_item.new.regs c.if-is_finish.ensures (c.in-Ok.ensures.reads h i front items v s.gave) in
-    let t = c.in-Ok-true.ensures.takes h items e.regs x.0 v s.holds.known c.in-Ok.ensures.regs x.1 (few_items h i front items new e c.args.feed.now s more c.in-Ok.ensures.bounded) s.holds.keeps in
+    let read = subst (λ l. IsItem h.codes l c.in-Ok.item x.0) (sym c.text_of_item-text.ensures) x.1 in
+    let t = c.in-Ok-true.ensures.takes h items e.regs x.0 v s.holds.known c.in-Ok.ensures.regs read (few_items h i front items new e c.args.feed.now s more c.in-Ok.ensures.bounded) s.holds.keeps in
     let due = t.due in (x.0, sym t.ends ∙ c.in-Ok-true.field-0-test, x.2, (due.0, due.1, (due.2, c.in-Ok-true.ensures.counts)))
 
-pub returns-in-Err-take_read-clause-gives : goal.returns-in-Err-take_read-clause-gives
-returns-in-Err-take_read-clause-gives g c = λ h i front items s.
+pub returns-in-Err-take-clause-gives : goal.returns-in-Err-take-clause-gives
+returns-in-Err-take-clause-gives g c = λ h i front items s.
     let v : Views (parts c.args.view) h = rw c.requires.view s.holds.views in
     let e = c.args.self.now in
     let new = c.next_item.new.feed in
     let more = c.in-Ok.ensures.progress c.if-is_finish.ensures in
     let x = item_given h i front items new c.in-Ok.item c.next_item.new.regs c.if-is_finish.ensures (c.in-Ok.ensures.reads h i front items v s.gave) in
-    let t = c.in-Err-take_read.ensures.takes h items e.regs x.0 v s.holds.known c.in-Ok.ensures.regs x.1 (few_items h i front items new e c.args.feed.now s more c.in-Ok.ensures.bounded) s.holds.keeps in
+    let read = subst (λ l. IsItem h.codes l c.in-Ok.item x.0) (sym c.text_of_item-text.ensures) x.1 in
+    let t = c.in-Err-take.ensures.takes h items e.regs x.0 v s.holds.known c.in-Ok.ensures.regs read (few_items h i front items new e c.args.feed.now s more c.in-Ok.ensures.bounded) s.holds.keeps in
     let due = t.due in
     let w : c.into.result ≡ Write = search rules in
-    rw w (inl (x.0, x.2, (due.0, due.1, (due.2, c.in-Err-take_read.ensures.counts))))
+    rw w (inl (x.0, x.2, (due.0, due.1, (due.2, c.in-Err-take.ensures.counts))))
