@@ -19,3 +19,4 @@ pub mod HeldLines
 pub mod SetLemmas
 pub mod CompareLemmas
 pub mod StepLemmas
+pub mod AheadLemmas

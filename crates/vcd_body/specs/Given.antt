@@ -33,6 +33,14 @@ GivesItem codes i front items f r (Change code form) =
     (c : IdCode) × (slice_get codes code ≡ Some c) × GaveItem codes i front items (BodyItem.Changes (record { code = c; form = model_form form; text = text_of form f })) f r
 GivesItem codes i front items f r Finish = GaveAll codes i front items f r
 
+-- the definitions' item that an item with this text is; the text is that of a change
+abbrev pub IsItem : List IdCode → List ℕ → Item → BodyItem → Type 0
+IsItem codes text (Time t) x = x ≡ BodyItem.Time t
+IsItem codes text (Begin s) x = x ≡ BodyItem.Begin (model_section s)
+IsItem codes text End x = x ≡ BodyItem.End
+IsItem codes text (Change code form) x = (c : IdCode) × (slice_get codes code ≡ Some c) × (x ≡ BodyItem.Changes (record { code = c; form = model_form form; text = text }))
+IsItem codes text Finish x = ⊥
+
 -- a text that a change may give this code: a digit; one or more digits, of which no more than its size unless it is an event; or 1 to 64 bytes
 abbrev pub IsText : Form → Code → List ℕ → Type 0
 IsText Scalar code text = (d : ℕ) × IsTrue (is_value_digit d) × (text ≡ d ∷ [])
@@ -43,10 +51,22 @@ IsText RealText code text = (0 < length text) × (length text ≤ 64)
 abbrev pub IsGoodText : List Code → ℕ → Form → List ℕ → Type 0
 IsGoodText codes place form text = (code : Code) × (slice_get codes place ≡ Some code) × IsText form code text
 
+-- a change is one of these codes, and this text is one that the code may have
+abbrev pub HasGoodText : List Code → List ℕ → Item → Type 0
+HasGoodText codes text (Time t) = Unit {0}
+HasGoodText codes text (Begin s) = Unit {0}
+HasGoodText codes text End = Unit {0}
+HasGoodText codes text (Change place form) = IsGoodText codes place form text
+HasGoodText codes text Finish = Unit {0}
+
+-- the text of the item that was read last; a change alone has one
+abbrev pub item_text : {X : Type 0} {g : Ghosts X} → Feed X g → Item → List ℕ
+item_text f (Time t) = []
+item_text f (Begin s) = []
+item_text f End = []
+item_text f (Change place form) = text_of form f
+item_text f Finish = []
+
 -- a change is one of these codes, and has a text that the code may have
 abbrev pub IsGoodChange : {X : Type 0} {g : Ghosts X} → List Code → Feed X g → Item → Type 0
-IsGoodChange codes f (Time t) = Unit {0}
-IsGoodChange codes f (Begin s) = Unit {0}
-IsGoodChange codes f End = Unit {0}
-IsGoodChange codes f (Change place form) = IsGoodText codes place form (text_of form f)
-IsGoodChange codes f Finish = Unit {0}
+IsGoodChange codes f item = HasGoodText codes (item_text f item) item

@@ -8,3 +8,4 @@ pub mod Contents
 pub mod Packed
 pub mod Kept
 pub mod Stored
+pub mod Ahead

@@ -131,7 +131,7 @@ fn read_code<S: Source>(
 }
 
 /// The code has room for so many digits, or is an event.
-fn takes(code: Code, digits: usize) -> bool
+pub(crate) fn takes(code: Code, digits: usize) -> bool
     ensures { result ≡ (code.event || nat_le digits code.size) }
 {
     code.event || digits <= code.size

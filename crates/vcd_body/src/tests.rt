@@ -1,6 +1,7 @@
 // Bodies that are read to their end, bodies that are refused, a source that fails, and changes that are written.
 ghost use Rattle.std.specs.Prelude.{◌<◌, length};
 
+use crate::ahead::{item_ahead, pass_items};
 use crate::change::put_change;
 use crate::item::{Form, Item, Regs};
 use crate::read::{change_text, next_item};
@@ -169,6 +170,49 @@ fn event_wider_than_its_size(rt: HostRuntime) -> Result<(), Fail> {
 fn source_that_fails(rt: HostRuntime) -> Result<(), Fail> {
     let items = transcript(rt.alloc(), HEAD, b"#5\n1!\n#4", true)?;
     assert_eq!(rt; items.as_str(), "#5 0:Scalar:1 fault 31 at 9");
+    Ok(())
+}
+
+// The items that are taken ahead of the body's first, and then the next one. The whole input is in the chunk.
+fn taken_ahead(alloc: Global, body: &[u8]) -> Result<String, Fail> {
+    let mut text = Vec::new(alloc);
+    text.extend_from_slice(HEAD)?;
+    text.extend_from_slice(body)?;
+    let mut source = Watch::new(Pieces::new(&text, 512));
+    let mut chunk = [0u8; 512];
+    let mut token = [0u8; 72];
+    let mut value = [0u8; 72];
+    let mut feed = Feed::new(&mut source, &mut chunk, &mut token, &mut value);
+    let head = read_head(alloc, &mut feed, 16_777_216)?;
+    let mut items = String::new(alloc);
+    let mut regs = Regs::new();
+    let mut ahead = feed.ahead();
+    while let Some(plain) = item_ahead(&mut ahead, head.view(), &mut regs) {
+        items.push_str(&shown(alloc, plain.item, plain.text)?)?;
+    }
+    let passed = ahead.passed();
+    pass_items(&mut feed, passed);
+    let end = match next_item(&mut feed, head.view(), &mut regs) {
+        Ok(item) => shown(alloc, item, text_of(&feed, item))?,
+        Err(fault) => {
+            let number = fault.number();
+            let line = feed.line();
+            format!(in alloc; "fault {number} at {line}")?
+        }
+    };
+    items.push_str("then ")?;
+    items.push_str(&end)?;
+    Ok(items)
+}
+
+#[test]
+fn plain_items_taken_ahead(rt: HostRuntime) -> Result<(), Fail> {
+    let body =
+        b"#0\n1!\nb101 \"\n#05 Z! bx \"\n#4\n$comment of more than sixty-three bytes, for the look ahead to end before it $end\n";
+    assert_eq!(rt;
+        taken_ahead(rt.alloc(), body)?.as_str(),
+        "#0 0:Scalar:1 1:Vector:101 #5 0:Scalar:Z 1:Vector:x then fault 14 at 11"
+    );
     Ok(())
 }
 

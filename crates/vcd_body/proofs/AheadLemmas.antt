@@ -1,0 +1,207 @@
+-- One item more that lies ahead.
+use Rattle.std.proofs.Common.{◌≡◌, ◌≢◌, ℕ, ◌<◌, ◌≤◌, List, [], ◌∷◌, ◌++◌, map, take, drop, Some, Result, Ok, Err, MatchResult, refl, sym, ap, subst, ◌∙◌, arith, length-append}
+use Rattle.std.specs.Prelude.{slice_get}
+use Rattle.std.specs.Result.{result_ok}
+use Rattle.std.proofs.lemmas.List.{append_assoc, map-append}
+use Rattle.std.proofs.lemmas.List.Elements.{filter_map-append}
+use Rattle.vcd_model.specs.Input.{Input}
+use Rattle.vcd_model.specs.Tokens.{Token}
+use Rattle.vcd_model.specs.Declarations.{IdCode}
+use Rattle.vcd_model.specs.Items.{BodyItem, Change, ChangeForm, time_after}
+use Rattle.vcd_model.specs.BodyPhrases.{BodyPhrase, items_of}
+use Rattle.vcd_model.specs.BodyReading.{body_grammar}
+use Rattle.vcd_model.specs.Reading.{Placed, phrases_of}
+use Rattle.vcd_model.specs.SoFar.{IsSoFar}
+use Rattle.vcd_model.proofs.SoFarLemmas.{so_far-token, so_far-phrase}
+use Rattle.vcd_text.specs.Passed.{Passed, line_ahead}
+use Rattle.vcd_text.specs.Feed.{HasGiven, HasReadTo}
+use Rattle.vcd_text.specs.declared.device.Source.{Ghosts}
+use Rattle.vcd_text.specs.declared.feed.Feed.{Feed}
+use Rattle.vcd_body.specs.declared.fault.BodyFault.{BodyFault}
+use Rattle.vcd_body.specs.declared.item.Form.TheVariants as form
+use Rattle.vcd_body.specs.declared.item.Item.{Item}
+use Rattle.vcd_body.specs.declared.item.Item.TheVariants as item
+use Rattle.vcd_body.specs.declared.item.Regs.{Regs}
+use Rattle.vcd_body.specs.Items.{AreRegsAfter, regs_after}
+use Rattle.vcd_body.specs.Reads.{GaveItems, Passes, Refuses}
+use Rattle.vcd_body.specs.Given.{IsItem}
+use Rattle.vcd_body.specs.Ahead.{GaveAhead, GaveLast, PassBoth}
+use Rattle.vcd_body.proofs.ReadLemmas.{known_change, known_time}
+
+-- a look ahead passes one token more
+abbrev PassesOne : ℕ → ℕ → List ℕ → ℕ → ℕ → List ℕ → Type 0
+PassesOne limit lines bytes at n token = (ts : List Token) → Passed limit lines bytes at ts → Passed limit lines bytes n (ts ++ record { bytes = token; line = line_ahead lines bytes at } ∷ [])
+
+-- over the same bytes
+pub passes_same : (limit limit' lines : ℕ) (bytes bytes' : List ℕ) (at n : ℕ) (token : List ℕ) → limit' ≡ limit → bytes' ≡ bytes → PassesOne limit' lines bytes' at n token → PassesOne limit lines bytes at n token
+passes_same limit limit' lines bytes bytes' at n token e f h = subst (λ k. PassesOne k lines bytes at n token) e (subst (λ (b : List ℕ). PassesOne limit' lines b at n token) f h)
+
+-- some bytes have some tokens
+some_tokens : (limit lines : ℕ) (bytes : List ℕ) (n : ℕ) (ts : List Token) → 0 < n → Passed limit lines bytes n ts → ts ≢ []
+some_tokens limit lines bytes n [] less p e = absurd (omega arith)
+some_tokens limit lines bytes n (t ∷ ts) less p e = cc
+
+pub some_ahead : (codes : List IdCode) (limit lines : ℕ) (bytes : List ℕ) (n : ℕ) (before items : List BodyItem) (x : BodyItem) (a : GaveAhead codes limit lines bytes n before (items ++ x ∷ [])) → a.tokens ≢ []
+some_ahead codes limit lines bytes n before items x a = let f = a.few in some_tokens limit lines bytes n a.tokens (omega (arith, length-append items (x ∷ []))) a.passed
+
+-- phrases that give one item each
+items_each : (items : List BodyItem) → items_of (map BodyPhrase.Gives items) ≡ items
+items_each [] = refl
+items_each (x ∷ items) = ap (λ l. x ∷ l) (items_each items)
+
+some_is : {A : Type 0} {x y : A} → Some x ≡ Some y → x ≡ y
+some_is e = cc
+
+-- what is so of a call that gave this
+at_ok : {A E : Type 0} (P : A → Type 0) (Q : E → Type 0) (r : Result A E) (x : A) → Some x ≡ result_ok r → MatchResult r P Q → P x
+at_ok P Q (Ok y) x e h = subst P (some_is (sym e)) h
+at_ok P Q (Err y) x e h = cc
+
+-- phrases of which the last is this one
+split_phrases : {P : Type 0} (ps : List (Placed P)) (qs : List P) (y : P) → phrases_of ps ≡ qs ++ y ∷ [] → (m : List (Placed P)) × (line : ℕ) × (ps ≡ m ++ record { phrase = y; line = line } ∷ []) × (phrases_of m ≡ qs)
+split_phrases [] [] y e = cc
+split_phrases [] (q ∷ qs) y e = cc
+split_phrases (p ∷ []) [] y e = let s : p.phrase ≡ y = cc in ([], p.line, ap (λ (z : _). record { phrase = z; line = p.line } ∷ []) s, refl)
+split_phrases (p ∷ o ∷ ps) [] y e = cc
+split_phrases (p ∷ ps) (q ∷ qs) y e =
+    let s : p.phrase ≡ q = cc in
+    let t : phrases_of ps ≡ qs ++ y ∷ [] = cc in
+    let r = split_phrases ps qs y t in
+    (p ∷ r.0, r.1, ap (λ l. p ∷ l) r.2, cc)
+
+module _ (codes : List IdCode) (limit lines : ℕ) (bytes : List ℕ) (before items : List BodyItem) where
+  -- the items of the phrases before the feed and of those ahead
+  pub items_so_far : (earlier placed : List (Placed BodyPhrase)) → items_of (phrases_of earlier) ≡ before → phrases_of placed ≡ map BodyPhrase.Gives items → items_of (phrases_of (earlier ++ placed)) ≡ before ++ items
+  items_so_far earlier placed e f = rw (map-append, filter_map-append) (ap (λ (l : List BodyItem). l ++ items_of (phrases_of placed)) e ∙ ap (λ (l : List BodyPhrase). before ++ items_of l) f ∙ ap (λ (l : List BodyItem). before ++ l) (items_each items))
+
+  -- the feed has passed them
+  module _ {X : Type 0} {g : Ghosts X} (i : Input) (front : List Token) (n : ℕ) (old new : Feed X g) (first last : Regs) (h : GaveItems codes i front before old first) (a : GaveAhead codes limit lines bytes n before items) (stands : HasGiven i ((front ++ h.given) ++ a.tokens) new) (k : AreRegsAfter (before ++ items) last) where
+    pub gave_passed : GaveItems codes i front (before ++ items) new last
+    gave_passed = record {
+      given = h.given ++ a.tokens;
+      placed = h.placed ++ a.placed;
+      stands = subst (λ (l : List Token). HasGiven i l new) (append_assoc front h.given a.tokens) stands;
+      so_far = a.so_far h.given h.placed h.items_are h.so_far;
+      items_are = items_so_far h.placed a.placed h.items_are a.item_each;
+      known = k;
+    }
+
+  -- these tokens are one phrase more, behind any phrases with the items so far
+  abbrev GoesOn : List Token → BodyItem → ℕ → Type 0
+  GoesOn ts x line = (given : List Token) (earlier : List (Placed BodyPhrase)) → items_of (phrases_of earlier) ≡ before ++ items → IsSoFar (body_grammar codes) given earlier []
+      → IsSoFar (body_grammar codes) (given ++ ts) (earlier ++ record { phrase = BodyPhrase.Gives x; line = line } ∷ []) []
+
+  grown : (n n' : ℕ) (x : BodyItem) (ts : List Token) (line : ℕ) (g : GaveAhead codes limit lines bytes n before items) → n < n' → Passed limit lines bytes n' (g.tokens ++ ts) → GoesOn ts x line → GaveAhead codes limit lines bytes n' before (items ++ x ∷ [])
+  grown n n' x ts line g less p on =
+      let one : Placed BodyPhrase = record { phrase = BodyPhrase.Gives x; line = line } in
+      record {
+        tokens = g.tokens ++ ts;
+        passed = p;
+        placed = g.placed ++ one ∷ [];
+        item_each = map-append (λ (q : Placed BodyPhrase). q.phrase) g.placed (one ∷ []) ∙ ap (λ l. l ++ BodyPhrase.Gives x ∷ []) g.item_each ∙ sym (map-append BodyPhrase.Gives items (x ∷ []));
+        so_far = λ given earlier e s.
+            subst (λ (l : List (Placed BodyPhrase)). IsSoFar (body_grammar codes) (given ++ (g.tokens ++ ts)) l []) (append_assoc earlier g.placed (one ∷ []))
+            (subst (λ (l : List Token). IsSoFar (body_grammar codes) l (earlier ++ g.placed ++ one ∷ []) []) (append_assoc given g.tokens ts)
+            (on (given ++ g.tokens) (earlier ++ g.placed) (items_so_far earlier g.placed e g.item_each) (g.so_far given earlier e s)));
+        few = let f = g.few in omega (arith, length-append items (x ∷ []));
+      }
+
+  one_on : (t : Token) (x : BodyItem) → ((earlier : List BodyPhrase) → items_of earlier ≡ before ++ items → Passes codes earlier t.bytes x) → GoesOn (t ∷ []) x t.line
+  one_on t x h given earlier e s = let p = h (phrases_of earlier) e in so_far-phrase (body_grammar codes) given earlier [] t (BodyPhrase.Gives x) s p.0 p.1 refl
+
+  two_on : (t u : Token) (x : BodyItem) → ((earlier : List BodyPhrase) → items_of earlier ≡ before ++ items → PassBoth codes earlier t.bytes u.bytes x) → GoesOn (t ∷ u ∷ []) x u.line
+  two_on t u x h given earlier e s =
+      let p = h (phrases_of earlier) e in
+      let first = so_far-token (body_grammar codes) given earlier [] t s p.begins p.open_after in
+      subst (λ (l : List Token). IsSoFar (body_grammar codes) l (earlier ++ record { phrase = BodyPhrase.Gives x; line = u.line } ∷ []) []) (append_assoc given (t ∷ []) (u ∷ []))
+      (so_far-phrase (body_grammar codes) (given ++ t ∷ []) earlier (t.bytes ∷ []) u (BodyPhrase.Gives x) first p.goes_on p.whole refl)
+
+  -- a token of its own
+  one_more : (n n' : ℕ) (t : Token) (x : BodyItem) (g : GaveAhead codes limit lines bytes n before items) → n < n' → Passed limit lines bytes n' (g.tokens ++ t ∷ [])
+      → ((earlier : List BodyPhrase) → items_of earlier ≡ before ++ items → Passes codes earlier t.bytes x) → GaveAhead codes limit lines bytes n' before (items ++ x ∷ [])
+  one_more n n' t x g less p h = grown n n' x (t ∷ []) t.line g less p (one_on t x h)
+
+  -- two tokens
+  two_more : (n n' : ℕ) (t u : Token) (x : BodyItem) (g : GaveAhead codes limit lines bytes n before items) → n < n' → Passed limit lines bytes n' ((g.tokens ++ t ∷ []) ++ u ∷ [])
+      → ((earlier : List BodyPhrase) → items_of earlier ≡ before ++ items → PassBoth codes earlier t.bytes u.bytes x) → GaveAhead codes limit lines bytes n' before (items ++ x ∷ [])
+  two_more n n' t u x g less p h = grown n n' x (t ∷ u ∷ []) u.line g less (subst (Passed limit lines bytes n') (append_assoc g.tokens (t ∷ []) (u ∷ [])) p) (two_on t u x h)
+
+  -- ---- what an item leaves
+
+  -- an item more was taken
+  abbrev pub TakesOne : ℕ → Regs → Item → List ℕ → Type 0
+  TakesOne n r item text = (x : BodyItem) × IsItem codes text item x × GaveAhead codes limit lines bytes n before (items ++ x ∷ []) × AreRegsAfter (before ++ (items ++ x ∷ [])) r
+
+  known_more : (r : Regs) (c : Change) → AreRegsAfter (before ++ items) r → AreRegsAfter (before ++ (items ++ BodyItem.Changes c ∷ [])) r
+  known_more r c k = subst (λ (l : List BodyItem). AreRegsAfter l r) (append_assoc before items (BodyItem.Changes c ∷ [])) (known_change (before ++ items) r c k)
+
+  known_mark : (r : Regs) (t : ℕ) → time_after (before ++ items) ≤ t → AreRegsAfter (before ++ items) r → AreRegsAfter (before ++ (items ++ BodyItem.Time t ∷ [])) (regs_after r (item.Time t))
+  known_mark r t less k = subst (λ (l : List BodyItem). AreRegsAfter l (regs_after r (item.Time t))) (append_assoc before items (BodyItem.Time t ∷ [])) (known_time (before ++ items) r t less k)
+
+  -- the token is a change of the code at this place, or this time mark
+  abbrev IsScalar : List BodyPhrase → List ℕ → ℕ → Type 0
+  IsScalar earlier token place = (c : IdCode) × (slice_get codes place ≡ Some c) × Passes codes earlier token (BodyItem.Changes (record { code = c; form = ChangeForm.Scalar; text = take 1 token }))
+
+  abbrev IsMark : List BodyPhrase → List ℕ → ℕ → Type 0
+  IsMark earlier token time = Passes codes earlier token (BodyItem.Time time) × (time_after (items_of earlier) ≤ time)
+
+  module _ (n : ℕ) (r : Regs) (g : GaveAhead codes limit lines bytes n before items) (k : AreRegsAfter (before ++ items) r) where
+    -- a digit with its code
+    pub scalar_taken : (n' place line : ℕ) (token text : List ℕ) (found : Result ℕ BodyFault) → n < n' → Passed limit lines bytes n' (g.tokens ++ record { bytes = token; line = line } ∷ []) → text ≡ take 1 token → Some place ≡ result_ok found
+        → ((earlier : List BodyPhrase) → MatchResult found (IsScalar earlier token) (Refuses codes earlier token)) → TakesOne n' r (item.Change place form.Scalar) text
+    scalar_taken n' place line token text found less p is ok m =
+        let h : (earlier : List BodyPhrase) → IsScalar earlier token place = λ earlier. at_ok (IsScalar earlier token) (Refuses codes earlier token) found place ok (m earlier) in
+        let c = (h []).0 in
+        let x : Change = record { code = c; form = ChangeForm.Scalar; text = text } in
+        let same : (o : IdCode) → slice_get codes place ≡ Some o → o ≡ c = λ o e. some_is (sym e ∙ (h []).1) in (
+          BodyItem.Changes x,
+          (c, (h []).1, refl),
+          one_more n n' (record { bytes = token; line = line }) (BodyItem.Changes x) g less p
+              (λ earlier e. let q = h earlier in
+              subst (λ (l : List ℕ). Passes codes earlier token (BodyItem.Changes (record { code = c; form = ChangeForm.Scalar; text = l }))) (sym is)
+              (subst (λ (o : IdCode). Passes codes earlier token (BodyItem.Changes (record { code = o; form = ChangeForm.Scalar; text = take 1 token }))) (same q.0 q.1) q.2)),
+          known_more r x k,
+        )
+
+    -- digits, and the code behind them
+    pub vector_taken : (n' place line line' : ℕ) (token code text : List ℕ) → n < n' → Passed limit lines bytes n' ((g.tokens ++ record { bytes = token; line = line } ∷ []) ++ record { bytes = code; line = line' } ∷ []) → text ≡ drop 1 token
+        → (c : IdCode) → slice_get codes place ≡ Some c → ((earlier : List BodyPhrase) → PassBoth codes earlier token code (BodyItem.Changes (record { code = c; form = ChangeForm.Vector; text = drop 1 token }))) → TakesOne n' r (item.Change place form.Vector) text
+    vector_taken n' place line line' token code text less p is c at h =
+        let x : Change = record { code = c; form = ChangeForm.Vector; text = text } in (
+          BodyItem.Changes x,
+          (c, at, refl),
+          two_more n n' (record { bytes = token; line = line }) (record { bytes = code; line = line' }) (BodyItem.Changes x) g less p
+              (λ earlier e. subst (λ (l : List ℕ). PassBoth codes earlier token code (BodyItem.Changes (record { code = c; form = ChangeForm.Vector; text = l }))) (sym is) (h earlier)),
+          known_more r x k,
+        )
+
+    -- a time mark
+    pub mark_taken : (n' time line : ℕ) (token : List ℕ) (found : Result ℕ BodyFault) → n < n' → Passed limit lines bytes n' (g.tokens ++ record { bytes = token; line = line } ∷ []) → Some time ≡ result_ok found
+        → ((earlier : List BodyPhrase) → AreRegsAfter (items_of earlier) r → MatchResult found (IsMark earlier token) (Refuses codes earlier token)) → TakesOne n' (regs_after r (item.Time time)) (item.Time time) []
+    mark_taken n' time line token found less p ok m =
+        let h : (earlier : List BodyPhrase) → AreRegsAfter (items_of earlier) r → IsMark earlier token time = λ earlier a. at_ok (IsMark earlier token) (Refuses codes earlier token) found time ok (m earlier a) in
+        let known : (earlier : List BodyPhrase) → items_of earlier ≡ before ++ items → AreRegsAfter (items_of earlier) r = λ earlier e. subst (λ (l : List BodyItem). AreRegsAfter l r) (sym e) k in
+        let are = items_each (before ++ items) in
+        let late : time_after (before ++ items) ≤ time = subst (λ (l : List BodyItem). time_after l ≤ time) are (h (map BodyPhrase.Gives (before ++ items)) (known (map BodyPhrase.Gives (before ++ items)) are)).1 in (
+          BodyItem.Time time,
+          refl,
+          one_more n n' (record { bytes = token; line = line }) (BodyItem.Time time) g less p (λ earlier e. (h earlier (known earlier e)).0),
+          known_mark r time late k,
+        )
+
+-- the feed has passed items of which this is the last
+pub gave_last : {X : Type 0} {g : Ghosts X} (codes : List IdCode) (limit lines : ℕ) (bytes : List ℕ) (before items : List BodyItem) (x : BodyItem) (i : Input) (front : List Token) (n : ℕ) (old new : Feed X g) (first last : Regs) (h : GaveItems codes i front before old first)
+    (a : GaveAhead codes limit lines bytes n before (items ++ x ∷ [])) → HasGiven i ((front ++ h.given) ++ a.tokens) new → HasReadTo i ((front ++ h.given) ++ a.tokens) new → AreRegsAfter (before ++ (items ++ x ∷ [])) last → GaveLast codes i front (before ++ items) x new last
+unfolding gave_passed
+gave_last codes limit lines bytes before items x i front n old new first last h a stands near k =
+    let s = split_phrases a.placed (map BodyPhrase.Gives items) (BodyPhrase.Gives x) (a.item_each ∙ map-append BodyPhrase.Gives items (x ∷ [])) in
+    let all = gave_passed codes limit lines bytes before (items ++ x ∷ []) i front n old new first last h a stands k in
+    let same = append_assoc before items (x ∷ []) in
+    record {
+      gave = record { given = all.given; placed = all.placed; stands = all.stands; so_far = all.so_far; items_are = all.items_are ∙ sym same; known = subst (λ (l : List BodyItem). AreRegsAfter l last) (sym same) all.known };
+      before = h.placed ++ s.0;
+      before_are = items_so_far codes limit lines bytes before items h.placed s.0 h.items_are s.3;
+      line = s.1;
+      last = ap (λ l. h.placed ++ l) s.2 ∙ sym (append_assoc h.placed s.0 (record { phrase = BodyPhrase.Gives x; line = s.1 } ∷ []));
+      near = subst (λ (l : List Token). HasReadTo i l new) (append_assoc front h.given a.tokens) near;
+    }

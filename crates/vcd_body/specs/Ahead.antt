@@ -1,0 +1,58 @@
+-- Items that are taken ahead of the feed, and what they leave once it has passed them.
+use Rattle.std.specs.Prelude.{◌≡◌, ◌≢◌, ℕ, ◌≤◌, List, [], ◌∷◌, ◌++◌, length, map, Some, None}
+use Rattle.vcd_model.specs.Input.{Input}
+use Rattle.vcd_model.specs.Tokens.{Token}
+use Rattle.vcd_model.specs.Declarations.{IdCode}
+use Rattle.vcd_model.specs.Items.{BodyItem}
+use Rattle.vcd_model.specs.BodyPhrases.{BodyPhrase, body_phrase, items_of}
+use Rattle.vcd_model.specs.BodyChecks.{body_fault}
+use Rattle.vcd_model.specs.BodyReading.{body_grammar}
+use Rattle.vcd_model.specs.Reading.{Placed, phrases_of}
+use Rattle.vcd_model.specs.SoFar.{IsSoFar}
+use Rattle.vcd_text.specs.Ahead.{bytes_of, longest_of}
+use Rattle.vcd_text.specs.Passed.{Passed}
+use Rattle.vcd_text.specs.declared.ahead.Ahead.{Ahead}
+use Rattle.vcd_text.specs.Feed.{HasReadTo}
+use Rattle.vcd_text.specs.declared.device.Source.{Ghosts}
+use Rattle.vcd_text.specs.declared.feed.Feed.{Feed}
+use Rattle.vcd_body.specs.declared.item.Form.TheVariants.{RealText}
+use Rattle.vcd_body.specs.declared.item.Item.{Item}
+use Rattle.vcd_body.specs.declared.item.Item.TheVariants.{Time, Change}
+use Rattle.vcd_body.specs.declared.item.Regs.{Regs}
+use Rattle.vcd_body.specs.Reads.{GaveItems}
+
+-- a time mark, with no text, or a change of digits
+abbrev pub IsPlain : List ℕ → Item → Type 0
+IsPlain text (Time t) = text ≡ []
+IsPlain text (Change place form) = form ≢ RealText
+IsPlain text item = ⊥
+
+-- it looks over these bytes, for tokens of at most so many
+abbrev pub LooksOver : ℕ → List ℕ → Ahead → Type 0
+LooksOver limit bytes a = (longest_of a ≡ limit) × (bytes_of a ≡ bytes)
+
+-- two tokens are a phrase, which gives this item
+pub record PassBoth (codes : List IdCode) (earlier : List BodyPhrase) (first second : List ℕ) (x : BodyItem) : Type 0 where
+  pub begins : body_fault codes earlier [] first ≡ None
+  pub open_after : body_phrase codes (first ∷ []) ≡ None
+  pub goes_on : body_fault codes earlier (first ∷ []) second ≡ None
+  pub whole : body_phrase codes (first ∷ second ∷ []) ≡ Some (BodyPhrase.Gives x)
+
+-- The first n bytes ahead are whole phrases, each with one of these items, where the items before them are these. Whatever was given with those, the reading goes on with these.
+pub record GaveAhead (codes : List IdCode) (limit lines : ℕ) (bytes : List ℕ) (n : ℕ) (before items : List BodyItem) : Type 0 where
+  pub tokens : List Token
+  pub passed : Passed limit lines bytes n tokens
+  pub placed : List (Placed BodyPhrase)
+  pub item_each : phrases_of placed ≡ map BodyPhrase.Gives items
+  pub so_far : (given : List Token) (earlier : List (Placed BodyPhrase)) → items_of (phrases_of earlier) ≡ before → IsSoFar (body_grammar codes) given earlier [] → IsSoFar (body_grammar codes) (given ++ tokens) (earlier ++ placed) []
+  -- there are no more of them than bytes
+  pub few : length items ≤ n
+
+-- Behind these items one more was given; its phrase ends with the last token given, and at most a chunk was read past that.
+pub record GaveLast {X : Type 0} {g : Ghosts X} (codes : List IdCode) (i : Input) (front : List Token) (items : List BodyItem) (x : BodyItem) (f : Feed X g) (r : Regs) : Type 0 where
+  pub gave : GaveItems codes i front (items ++ x ∷ []) f r
+  pub before : List (Placed BodyPhrase)
+  pub before_are : items_of (phrases_of before) ≡ items
+  pub line : ℕ
+  pub last : gave.placed ≡ before ++ record { phrase = BodyPhrase.Gives x; line = line } ∷ []
+  pub near : HasReadTo i (front ++ gave.given) f
