@@ -1,5 +1,5 @@
 -- One item more that lies ahead.
-use Rattle.std.proofs.Common.{◌≡◌, ◌≢◌, ℕ, ◌<◌, ◌≤◌, ◌+◌, false, List, [], ◌∷◌, ◌++◌, length, map, take, drop, Some, None, Result, Ok, Err, MatchResult, refl, sym, ap, subst, ◌∙◌, arith, length-append}
+use Rattle.std.proofs.Common.{◌≡◌, ◌≢◌, ℕ, ◌<◌, ◌≤◌, List, [], ◌∷◌, ◌++◌, map, take, drop, Some, Result, Ok, Err, MatchResult, refl, sym, ap, subst, ◌∙◌, arith, length-append}
 use Rattle.std.specs.Prelude.{slice_get}
 use Rattle.std.specs.Result.{result_ok}
 use Rattle.std.proofs.lemmas.List.{append_assoc, map-append}
@@ -8,8 +8,7 @@ use Rattle.vcd_model.specs.Input.{Input}
 use Rattle.vcd_model.specs.Tokens.{Token}
 use Rattle.vcd_model.specs.Declarations.{IdCode}
 use Rattle.vcd_model.specs.Items.{BodyItem, Change, ChangeForm, time_after}
-use Rattle.vcd_model.specs.BodyPhrases.{BodyPhrase, body_phrase, items_of}
-use Rattle.vcd_model.specs.BodyChecks.{body_fault}
+use Rattle.vcd_model.specs.BodyPhrases.{BodyPhrase, items_of}
 use Rattle.vcd_model.specs.BodyReading.{body_grammar}
 use Rattle.vcd_model.specs.Reading.{Placed, phrases_of}
 use Rattle.vcd_model.specs.SoFar.{IsSoFar}
@@ -158,9 +157,9 @@ module _ (codes : List IdCode) (limit lines : ℕ) (bytes : List ℕ) (before it
           BodyItem.Changes x,
           (c, (h []).1, refl),
           one_more n n' (record { bytes = token; line = line }) (BodyItem.Changes x) g less p
-          (λ earlier e. let q = h earlier in
-          subst (λ (l : List ℕ). Passes codes earlier token (BodyItem.Changes (record { code = c; form = ChangeForm.Scalar; text = l }))) (sym is)
-          (subst (λ (o : IdCode). Passes codes earlier token (BodyItem.Changes (record { code = o; form = ChangeForm.Scalar; text = take 1 token }))) (same q.0 q.1) q.2)),
+              (λ earlier e. let q = h earlier in
+              subst (λ (l : List ℕ). Passes codes earlier token (BodyItem.Changes (record { code = c; form = ChangeForm.Scalar; text = l }))) (sym is)
+              (subst (λ (o : IdCode). Passes codes earlier token (BodyItem.Changes (record { code = o; form = ChangeForm.Scalar; text = take 1 token }))) (same q.0 q.1) q.2)),
           known_more r x k,
         )
 
@@ -172,7 +171,7 @@ module _ (codes : List IdCode) (limit lines : ℕ) (bytes : List ℕ) (before it
           BodyItem.Changes x,
           (c, at, refl),
           two_more n n' (record { bytes = token; line = line }) (record { bytes = code; line = line' }) (BodyItem.Changes x) g less p
-          (λ earlier e. subst (λ (l : List ℕ). PassBoth codes earlier token code (BodyItem.Changes (record { code = c; form = ChangeForm.Vector; text = l }))) (sym is) (h earlier)),
+              (λ earlier e. subst (λ (l : List ℕ). PassBoth codes earlier token code (BodyItem.Changes (record { code = c; form = ChangeForm.Vector; text = l }))) (sym is) (h earlier)),
           known_more r x k,
         )
 

@@ -1,5 +1,5 @@
 -- Items that are taken ahead of the feed, and what they leave once it has passed them.
-use Rattle.std.specs.Prelude.{◌≡◌, ◌≢◌, ℕ, ◌≤◌, List, [], ◌∷◌, ◌++◌, length, map, Some, None, slice_get}
+use Rattle.std.specs.Prelude.{◌≡◌, ◌≢◌, ℕ, ◌≤◌, List, [], ◌∷◌, ◌++◌, length, map, Some, None}
 use Rattle.vcd_model.specs.Input.{Input}
 use Rattle.vcd_model.specs.Tokens.{Token}
 use Rattle.vcd_model.specs.Declarations.{IdCode}
@@ -9,15 +9,16 @@ use Rattle.vcd_model.specs.BodyChecks.{body_fault}
 use Rattle.vcd_model.specs.BodyReading.{body_grammar}
 use Rattle.vcd_model.specs.Reading.{Placed, phrases_of}
 use Rattle.vcd_model.specs.SoFar.{IsSoFar}
+use Rattle.vcd_text.specs.Ahead.{bytes_of, longest_of}
 use Rattle.vcd_text.specs.Passed.{Passed}
+use Rattle.vcd_text.specs.declared.ahead.Ahead.{Ahead}
 use Rattle.vcd_text.specs.Feed.{HasReadTo}
 use Rattle.vcd_text.specs.declared.device.Source.{Ghosts}
 use Rattle.vcd_text.specs.declared.feed.Feed.{Feed}
 use Rattle.vcd_body.specs.declared.item.Form.TheVariants.{RealText}
 use Rattle.vcd_body.specs.declared.item.Item.{Item}
-use Rattle.vcd_body.specs.declared.item.Item.TheVariants.{Time, Begin, End, Change, Finish}
+use Rattle.vcd_body.specs.declared.item.Item.TheVariants.{Time, Change}
 use Rattle.vcd_body.specs.declared.item.Regs.{Regs}
-use Rattle.vcd_body.specs.Items.{model_section, model_form}
 use Rattle.vcd_body.specs.Reads.{GaveItems}
 
 -- a time mark, with no text, or a change of digits
@@ -25,6 +26,10 @@ abbrev pub IsPlain : List ℕ → Item → Type 0
 IsPlain text (Time t) = text ≡ []
 IsPlain text (Change place form) = form ≢ RealText
 IsPlain text item = ⊥
+
+-- it looks over these bytes, for tokens of at most so many
+abbrev pub LooksOver : ℕ → List ℕ → Ahead → Type 0
+LooksOver limit bytes a = (longest_of a ≡ limit) × (bytes_of a ≡ bytes)
 
 -- two tokens are a phrase, which gives this item
 pub record PassBoth (codes : List IdCode) (earlier : List BodyPhrase) (first second : List ℕ) (x : BodyItem) : Type 0 where

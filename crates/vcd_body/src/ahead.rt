@@ -17,7 +17,7 @@ ghost use Rattle.vcd_body.specs.Items.{AreRegsAfter, regs_after};
 ghost use Rattle.vcd_body.specs.Words.{Begins};
 ghost use Rattle.vcd_body.specs.Reads.{GaveItems};
 ghost use Rattle.vcd_body.specs.Given.{HasGoodText, IsGoodText, IsItem};
-ghost use Rattle.vcd_body.specs.Ahead.{GaveAhead, GaveLast, IsPlain, PassBoth};
+ghost use Rattle.vcd_body.specs.Ahead.{GaveAhead, GaveLast, IsPlain, LooksOver, PassBoth};
 
 use crate::item::{Form, Item, Regs};
 use crate::phrases::{scalar_code, takes, time_of};
@@ -68,21 +68,20 @@ pub fn item_ahead<'a>(
     view: HeadView<'_>,
     regs: &mut Regs,
 ) -> Option<Plain<'a>>
-    // It comes after the items before the feed and those taken ahead so far.
-    ensures gives { (h : Header) (lines : ℕ) (before items : List BodyItem)
-        → IsViewOf view.entry h → AreRegsAfter (before ++ items) regs.old
-        → GaveAhead h.codes (longest_of ahead.old) lines (bytes_of ahead.old)
-        (passed_of ahead.old) before items
+    // It comes after the items given before and those taken ahead so far.
+    ensures gives { (h : Header) (limit lines : ℕ) (bytes : List ℕ) (before items : List BodyItem)
+        → IsViewOf view.entry h → LooksOver limit bytes ahead.old
+        → AreRegsAfter (before ++ items) regs.old
+        → GaveAhead h.codes limit lines bytes (passed_of ahead.old) before items
         → IfSome result (λ plain. (x : BodyItem) × IsItem h.codes plain.text.now plain.item x
-        × GaveAhead h.codes (longest_of ahead.old) lines (bytes_of ahead.old)
-        (passed_of ahead.new) before (items ++ x ∷ [])
+        × GaveAhead h.codes limit lines bytes (passed_of ahead.new) before (items ++ x ∷ [])
         × AreRegsAfter (before ++ (items ++ x ∷ [])) regs.new) }
 
     // Whatever the view is of, whole tokens were passed.
-    ensures passes { IfSome result (λ _. (lines : ℕ) (ts : List Token)
-        → Passed (longest_of ahead.old) lines (bytes_of ahead.old) (passed_of ahead.old) ts
-        → (more : List Token) × Passed (longest_of ahead.old) lines (bytes_of ahead.old)
-        (passed_of ahead.new) (ts ++ more)) }
+    ensures passes { (limit lines : ℕ) (bytes : List ℕ) (ts : List Token)
+        → LooksOver limit bytes ahead.old
+        → Passed limit lines bytes (passed_of ahead.old) ts
+        → (more : List Token) × Passed limit lines bytes (passed_of ahead.new) (ts ++ more) }
     ensures sound { IfSome result
         (λ plain. HasGoodText view.entry.codes.now plain.text.now plain.item) }
     ensures plain { IfSome result (λ plain. IsPlain plain.text.now plain.item) }
@@ -90,7 +89,7 @@ pub fn item_ahead<'a>(
         (λ plain. regs.new ≡ regs_after regs.old plain.item) }
     ensures stays { result ≡ None → ahead.new ≡ ahead.old }
     ensures further { IfSome result (λ _. passed_of ahead.old < passed_of ahead.new) }
-    ensures within { passed_of ahead.new ≤ length (bytes_of ahead.old) }
+    ensures within { passed_of ahead.new ≤ length (bytes_of ahead.new) }
     ensures same { (bytes_of ahead.new ≡ bytes_of ahead.old)
         × (longest_of ahead.new ≡ longest_of ahead.old) }
 {

@@ -2,7 +2,8 @@
 //!
 //! `next_item` reads the next item from a feed that stands after a header: a time mark, the begin or end of a section, a value
 //! change, or the end of the body (`Finish`). `change_text` is the text of the change that was read last, and `put_change`
-//! writes one as its line. A `Table` keeps of each code its current value, three counters, and whether it is chosen. None of
+//! writes one as its line. Most items are time marks and changes of digits that lie whole in the chunk: a loop takes these with
+//! `item_ahead`, which leaves the feed where it is, and then takes the feed past all of them with `pass_items`. A `Table` keeps of each code its current value, three counters, and whether it is chosen. None of
 //! them takes memory.
 //!
 //! # The relation
@@ -13,12 +14,17 @@
 //! Whatever the input is, `Advances` of `vcd_text` says what is left of the feed, and a change is of one of the view's codes
 //! and has a text that this code may have (`IsGoodChange`).
 //!
+//! `GaveAhead codes limit lines bytes n before items`: the first n bytes ahead are phrases with these items, which go on behind
+//! any with the items before. `item_ahead` takes it to one item more; `pass_items` takes `GaveItems` to all of them, and at the
+//! last of them to `GaveLast`, which tells how much was read.
+//!
 //! What is kept of a code is told by `kept_at t code`, over each place. A call of a table changes what is kept of the code at
 //! the place that it names, and nothing else (`ChangesCode`).
 //!
 //! # The modules
 //!
 //! - `read`: `next_item`, `change_text`
+//! - `ahead`: `item_ahead`, `pass_items`, `Plain`
 //! - `phrases`, `tokens`, `words`: phrases by what they begin with; the next token; what a token is, by its first byte
 //! - `item`, `fault`: `Item`, `Form`, `Section`, `Regs`; `BodyFault`
 //! - `change`: `put_change`
@@ -26,7 +32,7 @@
 //! - `store`: slots and shares of the values, and how they are set; `packed`: digits in a share, a byte each or four to a byte
 //! - `held`, `held_text`: the digits of a held value, and how it is written; `compare`: whether a change gives another one
 //!
-//! In `specs/` callers read `Items`, `Reads`, `Given` and `Fault`, and for the table `Contents` and `Kept`.
+//! In `specs/` callers read `Items`, `Reads`, `Given`, `Ahead` and `Fault`, and for the table `Contents` and `Kept`.
 //!
 //! # Limits
 //!

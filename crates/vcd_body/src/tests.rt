@@ -207,7 +207,8 @@ fn taken_ahead(alloc: Global, body: &[u8]) -> Result<String, Fail> {
 
 #[test]
 fn plain_items_taken_ahead(rt: HostRuntime) -> Result<(), Fail> {
-    let body = b"#0\n1!\nb101 \"\n#05 Z! bx \"\n#4\n$comment of more than sixty-three bytes, for the look ahead to end before it $end\n";
+    let body =
+        b"#0\n1!\nb101 \"\n#05 Z! bx \"\n#4\n$comment of more than sixty-three bytes, for the look ahead to end before it $end\n";
     assert_eq!(rt;
         taken_ahead(rt.alloc(), body)?.as_str(),
         "#0 0:Scalar:1 1:Vector:101 #5 0:Scalar:Z 1:Vector:x then fault 14 at 11"

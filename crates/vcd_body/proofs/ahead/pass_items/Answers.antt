@@ -1,4 +1,4 @@
-use Rattle.std.proofs.Common.{◌++◌, ◌∷◌, []}
+use Rattle.std.proofs.Common.{◌++◌}
 use Rattle.vcd_text.specs.Feed.{limit_of}
 use Rattle.vcd_text.specs.Ahead.{ahead_of, lines_of}
 use Rattle.vcd_body.proofs.AheadLemmas.{gave_passed, gave_last, some_ahead}

@@ -1,4 +1,4 @@
-use Rattle.std.proofs.Common.{◌&&◌, ◌||◌, ◌≤◌, nat_le, not, true, drop, length, get_or, sym, ap, ◌∙◌}
+use Rattle.std.proofs.Common.{◌&&◌, ◌||◌, nat_le, not, true, drop, length, get_or, sym, ap, ◌∙◌}
 use Rattle.std.specs.List.{list_all}
 use Rattle.std.proofs.lemmas.Bool.{and_parts}
 use Rattle.vcd_model.specs.Bytes.{is_empty}
@@ -17,8 +17,7 @@ returns-then-takes-clause-code c = λ h v.
     let text = c.rest_of-digits.ensures in
     let digits = ap (λ x. not (is_empty x) && list_all is_value_digit x) (sym text) ∙ sym c.are_value_digits.ensures ∙ c.if-not-are_value_digits.false in
     let n = ap length (sym text) in
-    let room = same_room (parts c.args.view) h v place f.0 (length (drop 1 t)) true f.1 (ap (λ m. (get_or c.args.view.codes.now place the_code).event || nat_le m (get_or c.args.view.codes.now place the_code).size) n ∙ sym c.takes.ensures ∙ c.if-takes.true) in
-    (
+    let room = same_room (parts c.args.view) h v place f.0 (length (drop 1 t)) true f.1 (ap (λ m. (get_or c.args.view.codes.now place the_code).event || nat_le m (get_or c.args.view.codes.now place the_code).size) n ∙ sym c.takes.ensures ∙ c.if-takes.true) in (
       f.0,
       f.1,
       λ earlier.
