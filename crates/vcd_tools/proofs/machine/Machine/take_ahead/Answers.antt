@@ -4,7 +4,7 @@ use Rattle.vcd_text.specs.Ahead.{bytes_of, longest_of, passed_of}
 use Rattle.vcd_text.specs.Passed.{Passed}
 use Rattle.vcd_text.specs.declared.device.WriteFailed.{WriteFailed}
 use Rattle.vcd_tools.specs.Engine.{Keeps, TakesOne, request_in}
-use Rattle.vcd_tools.proofs.AheadLemmas.{due_on, few_ahead, gave_over, grows-none, stands_on}
+use Rattle.vcd_tools.proofs.AheadLemmas.{due_on, few_ahead, grows-none, stands_on}
 use Rattle.vcd_tools.proofs.machine.Machine.take_ahead.Goals as goal
 
 pub items-init : goal.items-init
@@ -20,28 +20,24 @@ returns-in_err-take-clause-gives g c = λ h lines before v few s.
     let inv = c.items.invariant in
     let t' = request_in c.args.self.now in
     let all = inv.7 h lines before v few s in
-    let over = gave_over h.codes (longest_of c.args.ahead.now) (longest_of c.items.ahead) lines (bytes_of c.args.ahead.now) (bytes_of c.items.ahead) (passed_of c.items.ahead) before all.0 (sym inv.1) (sym inv.0) all.1.gave in
-    let one = c.in-Some.ensures.gives h lines before all.0 v all.1.known over in
-    let gave = gave_over h.codes (longest_of c.items.ahead) (longest_of c.args.ahead.now) lines (bytes_of c.items.ahead) (bytes_of c.args.ahead.now) (passed_of c.item_ahead.new.ahead) before (all.0 ++ one.0 ∷ []) inv.1 inv.0 one.2 in
+    let one = c.in-Some.ensures.gives h (longest_of c.args.ahead.now) lines (bytes_of c.args.ahead.now) before all.0 v (inv.1, inv.0) all.1.known all.1.gave in
     let within = subst (λ bs. passed_of c.items.ahead ≤ length bs) inv.0 inv.2 in
     let t = c.in_err-take.ensures.takes h (before ++ all.0) c.items.regs one.0 v all.1.known c.in-Some.ensures.regs one.1 (few_ahead t' h _ lines _ before _ all.0 c.items.self c.items.regs all.1 within few) all.1.keeps in
     let due = (subst (λ (q : Request). TakesOne {E = WriteFailed} (Keeps c.take.new.self h ((before ++ all.0) ++ one.0 ∷ [])) q h (before ++ all.0) one.0 (g.W.Sink.device c.items.out) (g.W.Sink.device c.take.new.out) (Err c.in_err-take.field-0.0)) inv.4 t).due in
     let e : c.from_residual.result ≡ Err c.in_err-take.field-0.0 = search rules in
-    rw e (record { items = all.0; mid = g.W.Sink.device c.items.out; on = all.1.on; grows = all.2; ends = (one.0, record { gave = gave; known = one.3 }, (due.0, due.1, (due.2, c.in_err-take.ensures.counts))) })
+    rw e (record { items = all.0; mid = g.W.Sink.device c.items.out; on = all.1.on; grows = all.2; ends = (one.0, record { gave = one.2; known = one.3 }, (due.0, due.1, (due.2, c.in_err-take.ensures.counts))) })
 
 pub returns-then-branch-clause-gives : goal.returns-then-branch-clause-gives
 returns-then-branch-clause-gives g c = λ h lines before v few s.
     let inv = c.items.invariant in
     let t' = request_in c.args.self.now in
     let all = inv.7 h lines before v few s in
-    let over = gave_over h.codes (longest_of c.args.ahead.now) (longest_of c.items.ahead) lines (bytes_of c.args.ahead.now) (bytes_of c.items.ahead) (passed_of c.items.ahead) before all.0 (sym inv.1) (sym inv.0) all.1.gave in
-    let one = c.in-Some.ensures.gives h lines before all.0 v all.1.known over in
-    let gave = gave_over h.codes (longest_of c.items.ahead) (longest_of c.args.ahead.now) lines (bytes_of c.items.ahead) (bytes_of c.args.ahead.now) (passed_of c.item_ahead.new.ahead) before (all.0 ++ one.0 ∷ []) inv.1 inv.0 one.2 in
+    let one = c.in-Some.ensures.gives h (longest_of c.args.ahead.now) lines (bytes_of c.args.ahead.now) before all.0 v (inv.1, inv.0) all.1.known all.1.gave in
     let within = subst (λ bs. passed_of c.items.ahead ≤ length bs) inv.0 inv.2 in
     let t = c.in_ok-take.ensures.takes h (before ++ all.0) c.items.regs one.0 v all.1.known c.in-Some.ensures.regs one.1 (few_ahead t' h _ lines _ before _ all.0 c.items.self c.items.regs all.1 within few) all.1.keeps in
     let taken = subst (λ (q : Request). TakesOne {E = WriteFailed} (Keeps c.take.new.self h ((before ++ all.0) ++ one.0 ∷ [])) q h (before ++ all.0) one.0 (g.W.Sink.device c.items.out) (g.W.Sink.device c.take.new.out) (Ok c.in_ok-take.field-0)) inv.4 t in
     let due = taken.due in
-    record { items = all.0; mid = g.W.Sink.device c.items.out; on = all.1.on; grows = all.2; ends = (one.0, sym taken.ends ∙ c.if-branch.true, record { gave = gave; known = one.3 }, (due.0, due.1, (due.2, c.in_ok-take.ensures.counts))) }
+    record { items = all.0; mid = g.W.Sink.device c.items.out; on = all.1.on; grows = all.2; ends = (one.0, sym taken.ends ∙ c.if-branch.true, record { gave = one.2; known = one.3 }, (due.0, due.1, (due.2, c.in_ok-take.ensures.counts))) }
 
 pub items-preserved : goal.items-preserved
 items-preserved g c =
@@ -51,25 +47,23 @@ items-preserved g c =
     let within = subst (λ bs. passed_of c.items.ahead ≤ length bs) inv.0 inv.2 in (
       same.0 ∙ inv.0,
       same.1 ∙ inv.1,
-      subst (λ bs. passed_of c.item_ahead.new.ahead ≤ length bs) (sym same.0) c.in-Some.ensures.within,
+      c.in-Some.ensures.within,
       c.in_ok-take.ensures.counts ∙ inv.3,
       c.in_ok-take.ensures.request ∙ inv.4,
       c.in_ok-take.ensures.room ∙ inv.5,
       λ lines ts p.
           let so_far = inv.6 lines ts p in
-          let more = c.in-Some.ensures.passes lines (ts ++ so_far.0) (rw (inv.0, inv.1) so_far.1) in
-          (so_far.0 ++ more.0, rw (sym (append_assoc ts so_far.0 more.0), sym inv.0, sym inv.1) more.1),
+          let more = c.in-Some.ensures.passes (longest_of c.args.ahead.now) lines (bytes_of c.args.ahead.now) (ts ++ so_far.0) (inv.1, inv.0) so_far.1 in
+          (so_far.0 ++ more.0, rw (sym (append_assoc ts so_far.0 more.0)) more.1),
       λ h lines before v few s.
           let all = inv.7 h lines before v few s in
-          let over = gave_over h.codes (longest_of c.args.ahead.now) (longest_of c.items.ahead) lines (bytes_of c.args.ahead.now) (bytes_of c.items.ahead) (passed_of c.items.ahead) before all.0 (sym inv.1) (sym inv.0) all.1.gave in
-          let one = c.in-Some.ensures.gives h lines before all.0 v all.1.known over in
-          let gave = gave_over h.codes (longest_of c.items.ahead) (longest_of c.args.ahead.now) lines (bytes_of c.items.ahead) (bytes_of c.args.ahead.now) (passed_of c.item_ahead.new.ahead) before (all.0 ++ one.0 ∷ []) inv.1 inv.0 one.2 in
+          let one = c.in-Some.ensures.gives h (longest_of c.args.ahead.now) lines (bytes_of c.args.ahead.now) before all.0 v (inv.1, inv.0) all.1.known all.1.gave in
           let t = c.in_ok-take.ensures.takes h (before ++ all.0) c.items.regs one.0 v all.1.known c.in-Some.ensures.regs one.1 (few_ahead t' h _ lines _ before _ all.0 c.items.self c.items.regs all.1 within few) all.1.keeps in
           let taken = subst (λ (q : Request). TakesOne {E = WriteFailed} (Keeps c.take.new.self h ((before ++ all.0) ++ one.0 ∷ [])) q h (before ++ all.0) one.0 (g.W.Sink.device c.items.out) (g.W.Sink.device c.take.new.out) (Ok c.in_ok-take.field-0)) inv.4 t in
           let due = taken.due in
           let no = c.if-branch.false in (
             all.0 ++ one.0 ∷ [],
-            stands_on t' h _ lines _ before _ all.0 c.items.self c.items.regs all.1 _ c.take.new.self c.item_ahead.new.regs _ _ one.0 one.1 gave one.3 c.in-Some.ensures.regs (taken.keeps (ap (λ b. Ok b) no)) (sym taken.ends ∙ no),
+            stands_on t' h _ lines _ before _ all.0 c.items.self c.items.regs all.1 _ c.take.new.self c.item_ahead.new.regs _ _ one.0 one.1 one.2 one.3 c.in-Some.ensures.regs (taken.keeps (ap (λ b. Ok b) no)) (sym taken.ends ∙ no),
             due_on t' h _ lines _ before _ all.0 c.items.self c.items.regs all.1 one.0 (g.W.Sink.device c.args.out.now) (g.W.Sink.device c.items.out) (g.W.Sink.device c.take.new.out) all.2 (due.0, due.1, (due.2, c.in_ok-take.ensures.counts)),
           ),
     )
