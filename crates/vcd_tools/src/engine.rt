@@ -215,13 +215,10 @@ impl<'v, 'n, 'r> Engine<'v, 'n, 'r> {
             (λ more. more ≡ Ended Early → may_end_early (request_of_engine self.old) ≡ true) }
         ensures stops { IfErr result (λ stop. stop ≡ Write) }
     {
-        let mut regs = self.regs;
-        let mut ahead = feed.ahead();
-        let answer = self.machine.take_ahead(view, &mut regs, &mut ahead, out);
-        let passed = ahead.passed();
-        self.regs = regs;
-        pass_items(feed, passed);
-        match answer {
+        let taken = self.machine.take_ahead(view, self.regs, feed.ahead(), out);
+        self.regs = taken.regs;
+        pass_items(feed, taken.passed);
+        match taken.ended {
             Ok(false) => Ok(More::Again),
             Ok(true) => {
                 self.going = false;

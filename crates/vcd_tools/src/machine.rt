@@ -39,6 +39,32 @@ pub(crate) enum Machine<'n, 'r> {
     Edges(edges::Edges<'n, 'r>),
 }
 
+/// How the taking of items ahead has ended.
+#[derive(Clone, Copy)]
+pub(crate) struct Taken {
+    /// The bytes in which they lie.
+    pub(crate) passed: usize,
+    /// The registers after them.
+    pub(crate) regs: Regs,
+    /// Whether the last of them has ended the run; or that a write of what is due with it failed.
+    pub(crate) ended: Result<bool, WriteFailed>,
+}
+
+impl Taken {
+    #[inline(always)]
+    fn until(ahead: Ahead<'_>, regs: Regs, ended: Result<bool, WriteFailed>) -> Taken
+        ensures passed { result.passed ≡ passed_of ahead.entry }
+        ensures regs { result.regs ≡ regs }
+        ensures ended { result.ended ≡ ended }
+    {
+        Taken {
+            passed: ahead.passed(),
+            regs,
+            ended,
+        }
+    }
+}
+
 /// The last time mark.
 pub(crate) fn last_of(regs: Regs) -> Option<u64>
     ensures { result ≡ last_of regs }
@@ -114,41 +140,42 @@ impl<'n, 'r> Machine<'n, 'r> {
         Ok(false)
     }
 
-    /// Takes the items that lie ahead, one after the other, up to one that ends the run, and writes what is due after each. It
-    /// returns whether one has ended it.
-    #[inline(always)]
+    /// Takes the items that lie ahead, one after the other, up to one that ends the run, and writes what is due after each.
+    // Registers and place come and go by value, so that the loop keeps them out of memory.
     pub(crate) fn take_ahead<W: Sink>(
         &mut self,
         view: HeadView<'_>,
-        regs: &mut Regs,
-        ahead: &mut Ahead<'_>,
+        mut regs: Regs,
+        mut ahead: Ahead<'_>,
         out: &mut W,
-    ) -> Result<bool, WriteFailed>
+    ) -> Taken
         requires failures { (W.device out.old).failures < 2 ^ 64 - 1 }
-        requires within { passed_of ahead.old ≤ length (bytes_of ahead.old) }
+        requires within { passed_of ahead ≤ length (bytes_of ahead) }
         ensures gives { (h : Header) (lines : ℕ) (before : List BodyItem) → IsViewOf view.entry h
-            → length before + length (bytes_of ahead.old) < 2 ^ 63
-            → StandsAhead (request_in self.old) h (longest_of ahead.old) lines
-            (bytes_of ahead.old) before (passed_of ahead.old) [] self.old regs.old
-            → RunsAhead (request_in self.old) h (longest_of ahead.old) lines
-            (bytes_of ahead.old) before (passed_of ahead.new) self.new regs.new
-            (W.device out.old) (W.device out.new) result }
+            → length before + length (bytes_of ahead.entry) < 2 ^ 63
+            → StandsAhead (request_in self.old) h (longest_of ahead.entry) lines
+            (bytes_of ahead.entry) before (passed_of ahead.entry) [] self.old regs
+            → RunsAhead (request_in self.old) h (longest_of ahead.entry) lines
+            (bytes_of ahead.entry) before result.passed self.new result.regs
+            (W.device out.old) (W.device out.new) result.ended }
         ensures passes { (lines : ℕ) (ts : List Token)
-            → Passed (longest_of ahead.old) lines (bytes_of ahead.old) (passed_of ahead.old) ts
-            → (more : List Token) × Passed (longest_of ahead.old) lines (bytes_of ahead.old)
-            (passed_of ahead.new) (ts ++ more) }
-        ensures counts { Counts (W.device out.old) (W.device out.new) result }
+            → Passed (longest_of ahead.entry) lines (bytes_of ahead.entry) (passed_of ahead.entry) ts
+            → (more : List Token) × Passed (longest_of ahead.entry) lines (bytes_of ahead.entry)
+            result.passed (ts ++ more) }
+        ensures counts { Counts (W.device out.old) (W.device out.new) result.ended }
         ensures request { request_in self.new ≡ request_in self.old }
         ensures room { room_of self.new ≡ room_of self.old }
-        ensures early { IfOk result
+        ensures early { IfOk result.ended
             (λ ended. ended ≡ true → may_end_early (request_in self.old) ≡ true) }
     {
         'items: loop {
-            let Some(plain) = item_ahead(ahead, view, regs) else {
-                return Ok(false);
+            let Some(plain) = item_ahead(&mut ahead, view, &mut regs) else {
+                return Taken::until(ahead, regs, Ok(false));
             };
-            if self.take(view, *regs, plain.item, plain.text, out)? {
-                return Ok(true);
+            match self.take(view, regs, plain.item, plain.text, out) {
+                Ok(false) => {}
+                Ok(true) => return Taken::until(ahead, regs, Ok(true)),
+                Err(failed) => return Taken::until(ahead, regs, Err(failed)),
             }
         }
     }

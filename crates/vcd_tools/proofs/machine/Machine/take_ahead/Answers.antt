@@ -13,31 +13,33 @@ items-init g c = (refl, refl, c.requires.within, refl, refl, refl, λ lines ts p
 pub returns-in_default-clause-gives : goal.returns-in_default-clause-gives
 returns-in_default-clause-gives g c = λ h lines before v few s.
     let all = c.items.invariant.7 h lines before v few s in
-    record { items = all.0; mid = g.W.Sink.device c.items.out; on = all.1.on; grows = all.2; ends = (rw (c.in_default.ensures.stays refl, c.in_default.ensures.regs) all.1, refl) }
+    let u = c.until.ensures in
+    rw (u.passed, u.regs, u.ended) (record { items = all.0; mid = g.W.Sink.device c.items.out; on = all.1.on; grows = all.2; ends = (rw (c.in_default.ensures.stays refl, c.in_default.ensures.regs) all.1, refl) })
 
-pub returns-in_err-take-clause-gives : goal.returns-in_err-take-clause-gives
-returns-in_err-take-clause-gives g c = λ h lines before v few s.
+pub returns-in-Err-clause-gives : goal.returns-in-Err-clause-gives
+returns-in-Err-clause-gives g c = λ h lines before v few s.
     let inv = c.items.invariant in
     let t' = request_in c.args.self.now in
     let all = inv.7 h lines before v few s in
-    let one = c.in-Some.ensures.gives h (longest_of c.args.ahead.now) lines (bytes_of c.args.ahead.now) before all.0 v (inv.1, inv.0) all.1.known all.1.gave in
+    let one = c.in-Some.ensures.gives h (longest_of c.args.ahead) lines (bytes_of c.args.ahead) before all.0 v (inv.1, inv.0) all.1.known all.1.gave in
     let within = subst (λ bs. passed_of c.items.ahead ≤ length bs) inv.0 inv.2 in
-    let t = c.in_err-take.ensures.takes h (before ++ all.0) c.items.regs one.0 v all.1.known c.in-Some.ensures.regs one.1 (few_ahead t' h _ lines _ before _ all.0 c.items.self c.items.regs all.1 within few) all.1.keeps in
-    let due = (subst (λ (q : Request). TakesOne {E = WriteFailed} (Keeps c.take.new.self h ((before ++ all.0) ++ one.0 ∷ [])) q h (before ++ all.0) one.0 (g.W.Sink.device c.items.out) (g.W.Sink.device c.take.new.out) (Err c.in_err-take.field-0.0)) inv.4 t).due in
-    let e : c.from_residual.result ≡ Err c.in_err-take.field-0.0 = search rules in
-    rw e (record { items = all.0; mid = g.W.Sink.device c.items.out; on = all.1.on; grows = all.2; ends = (one.0, record { gave = one.2; known = one.3 }, (due.0, due.1, (due.2, c.in_err-take.ensures.counts))) })
+    let t = c.in-Err.ensures.takes h (before ++ all.0) c.items.regs one.0 v all.1.known c.in-Some.ensures.regs one.1 (few_ahead t' h _ lines _ before _ all.0 c.items.self c.items.regs all.1 within few) all.1.keeps in
+    let due = (subst (λ (q : Request). TakesOne {E = WriteFailed} (Keeps c.take.new.self h ((before ++ all.0) ++ one.0 ∷ [])) q h (before ++ all.0) one.0 (g.W.Sink.device c.items.out) (g.W.Sink.device c.take.new.out) (Err c.in-Err.failed)) inv.4 t).due in
+    let u = c.until-in-Err.ensures in
+    rw (u.passed, u.regs, u.ended) (record { items = all.0; mid = g.W.Sink.device c.items.out; on = all.1.on; grows = all.2; ends = (one.0, record { gave = one.2; known = one.3 }, (due.0, due.1, (due.2, c.in-Err.ensures.counts))) })
 
-pub returns-then-branch-clause-gives : goal.returns-then-branch-clause-gives
-returns-then-branch-clause-gives g c = λ h lines before v few s.
+pub returns-in-Ok-true-clause-gives : goal.returns-in-Ok-true-clause-gives
+returns-in-Ok-true-clause-gives g c = λ h lines before v few s.
     let inv = c.items.invariant in
     let t' = request_in c.args.self.now in
     let all = inv.7 h lines before v few s in
-    let one = c.in-Some.ensures.gives h (longest_of c.args.ahead.now) lines (bytes_of c.args.ahead.now) before all.0 v (inv.1, inv.0) all.1.known all.1.gave in
+    let one = c.in-Some.ensures.gives h (longest_of c.args.ahead) lines (bytes_of c.args.ahead) before all.0 v (inv.1, inv.0) all.1.known all.1.gave in
     let within = subst (λ bs. passed_of c.items.ahead ≤ length bs) inv.0 inv.2 in
-    let t = c.in_ok-take.ensures.takes h (before ++ all.0) c.items.regs one.0 v all.1.known c.in-Some.ensures.regs one.1 (few_ahead t' h _ lines _ before _ all.0 c.items.self c.items.regs all.1 within few) all.1.keeps in
-    let taken = subst (λ (q : Request). TakesOne {E = WriteFailed} (Keeps c.take.new.self h ((before ++ all.0) ++ one.0 ∷ [])) q h (before ++ all.0) one.0 (g.W.Sink.device c.items.out) (g.W.Sink.device c.take.new.out) (Ok c.in_ok-take.field-0)) inv.4 t in
+    let t = c.in-Ok-true.ensures.takes h (before ++ all.0) c.items.regs one.0 v all.1.known c.in-Some.ensures.regs one.1 (few_ahead t' h _ lines _ before _ all.0 c.items.self c.items.regs all.1 within few) all.1.keeps in
+    let taken = subst (λ (q : Request). TakesOne {E = WriteFailed} (Keeps c.take.new.self h ((before ++ all.0) ++ one.0 ∷ [])) q h (before ++ all.0) one.0 (g.W.Sink.device c.items.out) (g.W.Sink.device c.take.new.out) (Ok c.in-Ok-true.field-0)) inv.4 t in
     let due = taken.due in
-    record { items = all.0; mid = g.W.Sink.device c.items.out; on = all.1.on; grows = all.2; ends = (one.0, sym taken.ends ∙ c.if-branch.true, record { gave = one.2; known = one.3 }, (due.0, due.1, (due.2, c.in_ok-take.ensures.counts))) }
+    let u = c.until-in-Ok-true.ensures in
+    rw (u.passed, u.regs, u.ended) (record { items = all.0; mid = g.W.Sink.device c.items.out; on = all.1.on; grows = all.2; ends = (one.0, sym taken.ends ∙ c.in-Ok-true.field-0-test, record { gave = one.2; known = one.3 }, (due.0, due.1, (due.2, c.in-Ok-true.ensures.counts))) })
 
 pub items-preserved : goal.items-preserved
 items-preserved g c =
@@ -48,22 +50,22 @@ items-preserved g c =
       same.0 ∙ inv.0,
       same.1 ∙ inv.1,
       c.in-Some.ensures.within,
-      c.in_ok-take.ensures.counts ∙ inv.3,
-      c.in_ok-take.ensures.request ∙ inv.4,
-      c.in_ok-take.ensures.room ∙ inv.5,
+      c.in-Ok-false.ensures.counts ∙ inv.3,
+      c.in-Ok-false.ensures.request ∙ inv.4,
+      c.in-Ok-false.ensures.room ∙ inv.5,
       λ lines ts p.
           let so_far = inv.6 lines ts p in
-          let more = c.in-Some.ensures.passes (longest_of c.args.ahead.now) lines (bytes_of c.args.ahead.now) (ts ++ so_far.0) (inv.1, inv.0) so_far.1 in
+          let more = c.in-Some.ensures.passes (longest_of c.args.ahead) lines (bytes_of c.args.ahead) (ts ++ so_far.0) (inv.1, inv.0) so_far.1 in
           (so_far.0 ++ more.0, rw (sym (append_assoc ts so_far.0 more.0)) more.1),
       λ h lines before v few s.
           let all = inv.7 h lines before v few s in
-          let one = c.in-Some.ensures.gives h (longest_of c.args.ahead.now) lines (bytes_of c.args.ahead.now) before all.0 v (inv.1, inv.0) all.1.known all.1.gave in
-          let t = c.in_ok-take.ensures.takes h (before ++ all.0) c.items.regs one.0 v all.1.known c.in-Some.ensures.regs one.1 (few_ahead t' h _ lines _ before _ all.0 c.items.self c.items.regs all.1 within few) all.1.keeps in
-          let taken = subst (λ (q : Request). TakesOne {E = WriteFailed} (Keeps c.take.new.self h ((before ++ all.0) ++ one.0 ∷ [])) q h (before ++ all.0) one.0 (g.W.Sink.device c.items.out) (g.W.Sink.device c.take.new.out) (Ok c.in_ok-take.field-0)) inv.4 t in
+          let one = c.in-Some.ensures.gives h (longest_of c.args.ahead) lines (bytes_of c.args.ahead) before all.0 v (inv.1, inv.0) all.1.known all.1.gave in
+          let t = c.in-Ok-false.ensures.takes h (before ++ all.0) c.items.regs one.0 v all.1.known c.in-Some.ensures.regs one.1 (few_ahead t' h _ lines _ before _ all.0 c.items.self c.items.regs all.1 within few) all.1.keeps in
+          let taken = subst (λ (q : Request). TakesOne {E = WriteFailed} (Keeps c.take.new.self h ((before ++ all.0) ++ one.0 ∷ [])) q h (before ++ all.0) one.0 (g.W.Sink.device c.items.out) (g.W.Sink.device c.take.new.out) (Ok c.in-Ok-false.field-0)) inv.4 t in
           let due = taken.due in
-          let no = c.if-branch.false in (
+          let no = c.in-Ok-false.field-0-test in (
             all.0 ++ one.0 ∷ [],
             stands_on t' h _ lines _ before _ all.0 c.items.self c.items.regs all.1 _ c.take.new.self c.item_ahead.new.regs _ _ one.0 one.1 one.2 one.3 c.in-Some.ensures.regs (taken.keeps (ap (λ b. Ok b) no)) (sym taken.ends ∙ no),
-            due_on t' h _ lines _ before _ all.0 c.items.self c.items.regs all.1 one.0 (g.W.Sink.device c.args.out.now) (g.W.Sink.device c.items.out) (g.W.Sink.device c.take.new.out) all.2 (due.0, due.1, (due.2, c.in_ok-take.ensures.counts)),
+            due_on t' h _ lines _ before _ all.0 c.items.self c.items.regs all.1 one.0 (g.W.Sink.device c.args.out.now) (g.W.Sink.device c.items.out) (g.W.Sink.device c.take.new.out) all.2 (due.0, due.1, (due.2, c.in-Ok-false.ensures.counts)),
           ),
     )
