@@ -1,14 +1,14 @@
 -- A change whose code stands behind its value.
-use Rattle.std.proofs.Common.{◌≡◌, ℕ, ◌<◌, ◌≤◌, Bool, true, false, ◌||◌, nat_le, List, [], ◌∷◌, length, drop, get_or, Some, Result, Ok, Err, MatchResult, IfOk, sym, ap, subst, ◌∙◌}
+use Rattle.std.proofs.Common.{◌≡◌, ℕ, ◌<◌, ◌≤◌, Bool, true, false, ◌||◌, nat_le, List, [], ◌∷◌, length, drop, Some, sym, ap, subst, ◌∙◌}
 use Rattle.std.specs.Prelude.{slice_get}
 use Rattle.std.specs.List.{list_all}
-use Rattle.std.proofs.lemmas.Option.{slice_get-get_or, get_or_from_slice_get}
+use Rattle.std.proofs.lemmas.Option.{same_Some}
 use Rattle.std.proofs.lemmas.Bool.{leb-true}
 use Rattle.vcd_model.specs.Input.{Input}
 use Rattle.vcd_model.specs.Tokens.{Token}
 use Rattle.vcd_model.specs.Declarations.{IdCode}
 use Rattle.vcd_model.specs.Items.{BodyItem, ChangeForm}
-use Rattle.vcd_model.specs.BodyPhrases.{BodyPhrase, declared_code, items_of, is_value_digit}
+use Rattle.vcd_model.specs.BodyPhrases.{BodyPhrase, declared_code, is_value_digit}
 use Rattle.vcd_model.specs.Reading.{Placed, phrases_of}
 use Rattle.vcd_text.specs.Feed.{token_of, value_of}
 use Rattle.vcd_text.specs.declared.device.Source.{Ghosts}
@@ -17,11 +17,10 @@ use Rattle.vcd_head.specs.declared.view.Code.{Code}
 use Rattle.vcd_head.specs.Shown.{HeadShown}
 use Rattle.vcd_head.specs.Views.{Views}
 use Rattle.vcd_model.specs.Header.{Header}
-use Rattle.vcd_body.specs.declared.fault.BodyFault.{BodyFault}
 use Rattle.vcd_body.specs.declared.item.Form.TheVariants as form
 use Rattle.vcd_body.specs.declared.words.First.TheVariants as first
 use Rattle.vcd_body.specs.Words.{Begins}
-use Rattle.vcd_body.specs.Reads.{Looks, ReadsPhrase, Fails}
+use Rattle.vcd_body.specs.Reads.{Looks, ReadsPhrase}
 use Rattle.vcd_body.specs.Given.{IsGoodText}
 use Rattle.vcd_body.proofs.TokenLemmas.{taken_phrase}
 use Rattle.vcd_body.proofs.FindLemmas.{code_at}
@@ -39,10 +38,8 @@ module _ {X : Type 0} {g : Ghosts X} (codes : List IdCode) (i : Input) (front : 
   abbrev ReadBehind : ChangeForm → ℕ → Type 0
   ReadBehind k place = (c : IdCode) × (slice_get codes place ≡ Some c) × ReadsPhrase codes i front placed f (BodyPhrase.Gives (BodyItem.Changes (record { code = c; form = k; text = drop 1 (value_of f) })))
 
-  pub real_read : Begins t first.Real → (r : Result ℕ BodyFault) → value_of f ≡ t → MatchResult r FoundBehind (λ fault. Fails codes i front (items_of (phrases_of placed)) fault f)
-      → MatchResult r (ReadBehind ChangeForm.RealText) (λ fault. Fails codes i front (items_of (phrases_of placed)) fault f)
-  real_read b (Err fault) e h = h
-  real_read b (Ok place) e h =
+  pub real_read : Begins t first.Real → (place : ℕ) → value_of f ≡ t → FoundBehind place → ReadBehind ChangeForm.RealText place
+  real_read b place e h =
       let p = real_passes codes (phrases_of placed) t b (token_of f).bytes h.0 h.2 in (
         h.0,
         h.1,
@@ -59,25 +56,23 @@ module _ {X : Type 0} {g : Ghosts X} (codes : List IdCode) (i : Input) (front : 
             (taken_phrase codes i front placed (t ∷ []) f (BodyPhrase.Gives (BodyItem.Changes (record { code = h.0; form = ChangeForm.Vector; text = drop 1 t }))) p.0 p.1 h.3),
       )
 
-pub real_sound : (codes : List Code) (text : List ℕ) (r : Result ℕ BodyFault) → 0 < length text → length text ≤ 64 → IfOk r (λ place. place < length codes) → IfOk r (λ place. IsGoodText codes place form.RealText text)
-real_sound codes text (Err fault) some few h = tt
-real_sound codes text (Ok place) some few h = (get_or codes place the_code, slice_get-get_or codes place the_code h, (some, few))
+pub real_sound : (codes : List Code) (text : List ℕ) (place : ℕ) (x : Code) → slice_get codes place ≡ Some x → 0 < length text → length text ≤ 64 → IsGoodText codes place form.RealText text
+real_sound codes text place x there some few = (x, there, (some, few))
 
 -- a code of this size that is no event has room for the digits
 fits_within : (event : Bool) (digits size : ℕ) → (event || nat_le digits size) ≡ true → event ≡ false → digits ≤ size
 fits_within true digits size h e = cc
 fits_within false digits size h e = leb-true digits size h
 
-pub vector_sound : (codes : List Code) (text : List ℕ) (place : ℕ) → place < length codes → 0 < length text → list_all is_value_digit text ≡ true → ((get_or codes place the_code).event || nat_le (length text) (get_or codes place the_code).size) ≡ true
+pub vector_sound : (codes : List Code) (text : List ℕ) (place : ℕ) (x : Code) → slice_get codes place ≡ Some x → 0 < length text → list_all is_value_digit text ≡ true → (x.event || nat_le (length text) x.size) ≡ true
     → IsGoodText codes place form.Vector text
-vector_sound codes text place h some digits fits = let code = get_or codes place the_code in (code, slice_get-get_or codes place the_code h, (some, digits, fits_within code.event (length text) code.size fits))
+vector_sound codes text place x there some digits fits = (x, there, (some, digits, fits_within x.event (length text) x.size fits))
 
 room_of : (x : Code) (event : Bool) (size digits : ℕ) (b : Bool) → x.size ≡ size → x.event ≡ event → (x.event || nat_le digits x.size) ≡ b → (event || nat_le digits size) ≡ b
 room_of x event size digits b e f r = ap (λ y. y || nat_le digits size) (sym f) ∙ ap (λ n. x.event || nat_le digits n) (sym e) ∙ r
 
 -- the header's code has room where the view's has
-pub same_room : (s : HeadShown) (h : Header) → Views s h → (place : ℕ) (c : IdCode) (digits : ℕ) (b : Bool) → slice_get h.codes place ≡ Some c → ((get_or s.codes place the_code).event || nat_le digits (get_or s.codes place the_code).size) ≡ b → (c.event || nat_le digits c.size) ≡ b
-same_room s h v place c digits b e r =
+pub same_room : (s : HeadShown) (h : Header) → Views s h → (place : ℕ) (c : IdCode) (x : Code) (digits : ℕ) (b : Bool) → slice_get h.codes place ≡ Some c → slice_get s.codes place ≡ Some x → (x.event || nat_le digits x.size) ≡ b → (c.event || nat_le digits c.size) ≡ b
+same_room s h v place c x digits b e there r =
     let k = code_at s h v place c e in
-    let is = get_or_from_slice_get s.codes place k.0 the_code k.1 in
-    room_of k.0 c.event c.size digits b k.2.size_is k.2.event_is (ap (λ (x : Code). x.event || nat_le digits x.size) (sym is) ∙ r)
+    room_of k.0 c.event c.size digits b k.2.size_is k.2.event_is (ap (λ (y : Code). y.event || nat_le digits y.size) (same_Some k.0 x (sym k.1 ∙ there)) ∙ r)

@@ -22,7 +22,7 @@ ghost use Rattle.vcd_body.specs.Ahead.{GaveAhead, GaveLast, IsPlain, LooksOver, 
 use crate::item::{Form, Item, Regs};
 use crate::phrases::{scalar_code, takes, time_of};
 use crate::words::{First, are_value_digits, first_byte_of, first_of, rest_of};
-use vcd_head::{HeadView, find};
+use vcd_head::{HeadView, find_sized};
 use vcd_text::{Ahead, Feed, Source};
 
 /// An item that was taken ahead.
@@ -53,9 +53,9 @@ fn vector_code(token: &[u8], code: &[u8], view: HeadView<'_>) -> Option<usize>
     if !are_value_digits(digits) {
         return None;
     }
-    let place = find(view, code)?;
-    if takes(view.codes[place], digits.len()) {
-        return Some(place);
+    let found = find_sized(view, code)?;
+    if takes(view.codes, found, digits.len()) {
+        return Some(found.place);
     }
     None
 }

@@ -10,6 +10,8 @@ ghost use Rattle.vcd_model.specs.BodyPhrases.{BodyPhrase, declared_code, items_o
 ghost use Rattle.vcd_model.specs.Reading.{Placed, phrases_of};
 ghost use Rattle.vcd_text.specs.Feed.{source_of, seen, token_of, value_of};
 ghost use Rattle.vcd_head.specs.Views.{IsViewOf};
+ghost use Rattle.vcd_head.specs.Finds.{IsSized};
+ghost use Rattle.vcd_head.specs.declared.view.Code.{Code};
 ghost use Rattle.vcd_body.specs.declared.words.First.TheVariants as first;
 ghost use Rattle.vcd_body.specs.Items.{AreRegsAfter};
 ghost use Rattle.vcd_body.specs.Words.{Begins};
@@ -24,7 +26,7 @@ use crate::fault::BodyFault;
 use crate::item::Regs;
 use crate::tokens::next_inner;
 use crate::words::{are_value_digits, is_end, rest_of};
-use vcd_head::{Code, HeadView, find};
+use vcd_head::{Code, Found, HeadView, find, find_sized};
 use vcd_text::{Feed, Source, decimal_of};
 
 /// The time of a time mark.
@@ -100,38 +102,49 @@ pub(crate) fn skip_comment<S: Source>(feed: &mut Feed<'_, '_, '_, '_, S>) -> Res
     }
 }
 
-/// Keeps the value, and reads the code after it: returns the code's place.
+/// Keeps the value, and reads the code after it.
 #[inline(always)]
 fn read_code<S: Source>(
     feed: &mut Feed<'_, '_, '_, '_, S>,
     view: HeadView<'_>,
-) -> Result<usize, BodyFault>
+) -> Result<Found, BodyFault>
     requires failures { S.failures (source_of feed.old) < 2 ^ 64 - 1 }
     ensures reads { (h : Header) (i : Input) (front : List Token)
         (placed : List (Placed BodyPhrase)) (first : List ℕ) → IsViewOf view.entry h
         → AsksForCode h.codes (phrases_of placed) first
         → Reads h.codes i front placed (first ∷ []) feed.old
         → MatchResult result
-        (λ place. (c : IdCode) × (slice_get h.codes place ≡ Some c)
+        (λ found. (c : IdCode) × (slice_get h.codes found.place ≡ Some c)
         × (declared_code h.codes (token_of feed.new).bytes ≡ Some c)
         × Looks h.codes i front placed (first ∷ []) feed.new)
         (λ fault. Fails h.codes i front (items_of (phrases_of placed)) fault feed.new) }
     ensures value { value_of feed.new ≡ (token_of feed.old).bytes }
-    ensures within { IfOk result (λ place. place < length view.entry.codes.now) }
+    ensures sized { IfOk result (IsSized view.entry.codes.now) }
     ensures advances { Advances S.failures feed.old feed.new (call_end result) }
     ensures progress { OnOk result (seen feed.old < seen feed.new) }
     ensures bounded { seen feed.new < 2 ^ 63 }
 {
     feed.keep();
     next_inner(feed)?;
-    match find(view, feed.token()) {
-        Some(place) => Ok(place),
+    match find_sized(view, feed.token()) {
+        Some(found) => Ok(found),
         None => Err(BodyFault::UnknownCode),
     }
 }
 
+/// The code that was found has room for so many digits, or is an event. Its size mostly tells; the code is read only where it
+/// does not.
+#[inline(always)]
+pub(crate) fn takes(codes: &[Code], found: Found, digits: usize) -> bool
+    requires { IsSized codes.now found }
+    ensures { (code : Code) → slice_get codes.now found.place ≡ Some code
+        → result ≡ (code.event || nat_le digits code.size) }
+{
+    digits <= found.most || has_room(codes[found.place], digits)
+}
+
 /// The code has room for so many digits, or is an event.
-pub(crate) fn takes(code: Code, digits: usize) -> bool
+fn has_room(code: Code, digits: usize) -> bool
     ensures { result ≡ (code.event || nat_le digits code.size) }
 {
     code.event || digits <= code.size
@@ -163,11 +176,11 @@ pub(crate) fn read_vector<S: Source>(
     if !are_value_digits(rest_of(feed.token())) {
         return Err(BodyFault::BadValue);
     }
-    let place = read_code(feed, view)?;
-    if !takes(view.codes[place], rest_of(feed.value()).len()) {
+    let found = read_code(feed, view)?;
+    if !takes(view.codes, found, rest_of(feed.value()).len()) {
         return Err(BodyFault::TooWide);
     }
-    Ok(place)
+    Ok(found.place)
 }
 
 /// Reads the rest of a real number's change, after its text: returns its code's place.
@@ -200,5 +213,6 @@ pub(crate) fn read_real<S: Source>(
     if text.len() > 64 {
         return Err(BodyFault::RealTooLong);
     }
-    read_code(feed, view)
+    let found = read_code(feed, view)?;
+    Ok(found.place)
 }

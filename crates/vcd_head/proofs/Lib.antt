@@ -23,10 +23,10 @@ pub mod ScaleLemmas
 pub mod ScaleChecks
 pub mod ScaleTexts
 pub mod PhraseSteps
-pub mod FinishLemmas
 pub mod LookUpLemmas
 pub mod RoomLemmas
 pub mod KeyLemmas
+pub mod EntryLemmas
 pub mod MomentLemmas
 pub mod NewCodeLemmas
 pub mod RenamedLemmas

@@ -9,8 +9,6 @@ use Rattle.vcd_model.specs.Declarations.{IdCode, has_text}
 use Rattle.vcd_head.specs.declared.view.Code.{Code}
 use Rattle.vcd_head.specs.declared.codes.Coded.{Coded}
 use Rattle.vcd_head.specs.declared.codes.Codes.{Codes}
-use Rattle.vcd_head.specs.Keys.{key_in}
-use Rattle.vcd_head.specs.Shown.{text_in}
 use Rattle.vcd_head.specs.Views.{IsIndex, code_text}
 
 -- the code has this size, and is an event or none
@@ -43,7 +41,3 @@ pub record IsAdded (old new : Codes) (bytes : Vec ℕ) (code : Code) (place : �
   pub listed : new.list.items ≡ old.list.items ++ code ∷ []
   pub placed : new.places.entries ≡ insert_entry (λ (a b : Vec ℕ). slice_cmp nat_cmp a.items b.items) old.places.entries bytes place
   pub ordered : IsOrdered (λ (a b : Vec ℕ). slice_cmp nat_cmp a.items b.items) new.places
-
--- the keys of codes whose bytes lie in this text
-abbrev pub keys_in : List ℕ → List Code → List ℕ
-keys_in text cs = map (λ (c : Code). key_in (text_in text c.start c.len)) cs

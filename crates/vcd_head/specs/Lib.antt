@@ -3,6 +3,7 @@ pub mod Shown
 pub mod Views
 pub mod Finds
 pub mod Keys
+pub mod Entries
 pub mod Moments
 pub mod Needs
 pub mod Paths

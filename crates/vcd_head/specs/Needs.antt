@@ -14,6 +14,6 @@ value_bytes c = max (div_ceil c.size 4) 64
 abbrev pub room : Need → RoomSize
 room n = record { values = n.values; slots = n.slots; marks = n.marks }
 
--- the lengths of what is shown; a guess has 4 bytes, and a key 8
+-- the lengths of what is shown; an entry has 16 bytes
 abbrev pub view_size : HeadShown → ViewSize
-view_size s = record { text = length s.text + length s.date + length s.version; rows = length s.rows; codes = length s.codes; index = length s.index; look_up = 4 * length s.guesses + 8 * length s.keys }
+view_size s = record { text = length s.text + length s.date + length s.version; rows = length s.rows; codes = length s.codes; index = length s.index; look_up = 16 * length s.entries }

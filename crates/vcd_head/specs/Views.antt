@@ -11,7 +11,7 @@ use Rattle.vcd_head.specs.declared.view.Kind.TheVariants as kind
 use Rattle.vcd_head.specs.declared.view.Row.{Row}
 use Rattle.vcd_head.specs.declared.view.Code.{Code}
 use Rattle.vcd_head.specs.declared.view.Scale.{Scale}
-use Rattle.vcd_head.specs.Keys.{AreBytes, key_in}
+use Rattle.vcd_head.specs.Keys.{AreBytes}
 use Rattle.vcd_head.specs.Shown.{HeadShown, parts}
 use Rattle.vcd_head.specs.declared.view.HeadView.{HeadView}
 
@@ -98,8 +98,7 @@ pub record Views (s : HeadShown) (h : Header) : Type 0 where
   pub scaled : IfSome s.scale (λ (x : Scale). IsExponent x.exponent)
   pub held : length s.text + length s.date + length s.version ≤ text_bytes h
   pub texts : AllByRecursion (λ (c : IdCode). AreBytes c.text) h.codes
-  pub keys : s.keys ≡ map (λ (c : IdCode). key_in c.text) h.codes
-  pub look_up : 4 * length s.guesses + 8 * length s.keys ≤ look_up_bytes * length h.codes
+  pub look_up : 16 * length s.entries ≤ look_up_bytes * length h.codes
   pub sizes : AllByRecursion (λ (c : IdCode). IsSize c.size) h.codes
   pub few : length h.declarations ≤ 16777216
   pub few_codes : length h.codes ≤ length h.declarations

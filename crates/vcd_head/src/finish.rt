@@ -3,30 +3,17 @@ ghost use Rattle.std.specs.Prelude.{◌≡◌, ℕ, ◌≤◌, List, map, IfOk, 
 ghost use Rattle.vcd_model.specs.HeaderPhrases.{HeaderPhrase};
 ghost use Rattle.vcd_model.specs.Header.{header_of};
 ghost use Rattle.vcd_head.specs.Draft.{IsDraftOf};
-ghost use Rattle.vcd_head.specs.Codes.{keys_in, places_in};
+ghost use Rattle.vcd_head.specs.Codes.{places_in};
 ghost use Rattle.vcd_head.specs.Shown.{shown};
 ghost use Rattle.vcd_head.specs.Views.{Views};
 
 use crate::codes::Codes;
 use crate::draft::Draft;
+use crate::entries::entries_of;
 use crate::fault::HeadFault;
-use crate::guess::guesses_of;
 use crate::head::Head;
-use crate::key::key_of;
-use crate::view::{Code, text_in};
 use std::alloc::{AllocError, Global};
 use std::collections::BTreeMap;
-
-/// The keys of the codes, whose bytes lie in the text.
-fn keys_of(alloc: Global, text: &[u8], codes: &[Code]) -> Result<Vec<u64>, AllocError>
-    ensures { IfOk result (λ keys. keys.items ≡ keys_in text.now codes.now) }
-{
-    let mut keys = Vec::with_capacity(alloc, codes.len())?;
-    for code in codes {
-        keys.push(key_of(text_in(text, code.start, code.len)))?;
-    }
-    Ok(keys)
-}
 
 /// The places of the codes, in the order of their bytes.
 fn places_of(alloc: Global, places: &BTreeMap<Vec<u8>, usize>) -> Result<Vec<usize>, AllocError>
@@ -59,15 +46,13 @@ pub(crate) fn finish(alloc: Global, draft: Draft) -> Result<Head, HeadFault>
         places,
     } = codes;
     let index = places_of(alloc, &places)?;
-    let keys = keys_of(alloc, &text, &codes)?;
-    let guesses = guesses_of(alloc, &text, &codes)?;
+    let entries = entries_of(alloc, &text, &codes)?;
     Ok(Head {
         text,
         rows,
         codes,
         index,
-        guesses,
-        keys,
+        entries,
         date,
         version,
         scale,

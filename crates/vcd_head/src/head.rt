@@ -1,5 +1,8 @@
 // A header that was read.
-use crate::view::{Code, HeadView, Row, Scale};
+ghost use Rattle.std.specs.Prelude.{◌≡◌, true};
+ghost use Rattle.vcd_head.specs.Entries.{are_right};
+
+use crate::view::{Code, Entry, HeadView, Row, Scale};
 
 /// A header in memory of its own.
 #[derive(Drop)]
@@ -8,15 +11,14 @@ pub struct Head {
     pub(crate) rows: Vec<Row>,
     pub(crate) codes: Vec<Code>,
     pub(crate) index: Vec<usize>,
-    pub(crate) guesses: Vec<u32>,
-    pub(crate) keys: Vec<u64>,
+    pub(crate) entries: Vec<Entry>,
     pub(crate) date: Vec<u8>,
     pub(crate) version: Vec<u8>,
     pub(crate) scale: Option<Scale>,
+    pub(crate) ghost right: { are_right text.items codes.items entries.items ≡ true },
 }
 
 impl Head {
-    ghost use Rattle.std.specs.Prelude.{◌≡◌};
     ghost use Rattle.vcd_head.specs.Shown.{shown, parts};
 
     /// The header as slices and numbers.
@@ -28,8 +30,7 @@ impl Head {
             rows: &self.rows,
             codes: &self.codes,
             index: &self.index,
-            guesses: &self.guesses,
-            keys: &self.keys,
+            entries: &self.entries,
             date: &self.date,
             version: &self.version,
             scale: self.scale,

@@ -12,7 +12,7 @@
 //! it. Else `Fails`: the header's fault, at its line; out of memory, that no token given so far has a fault.
 //!
 //! `IsViewOf view h` says that a view is of a header of the definitions. Each function over a view takes any view, and its
-//! result is that of the definitions where this holds. `find` is right whatever the guesses are.
+//! result is that of the definitions where this holds. What the entries of a view say of its codes is so in any view (`right`).
 //!
 //! # The modules
 //!
@@ -21,7 +21,8 @@
 //! - `scopes`, `variable`, `scale`: what a phrase declares
 //! - `draft`, `codes`, `finish`: a header while it is read, and its codes; the head that it becomes
 //! - `head`, `view`, `fault`: `Head`; `HeadView` with its rows and codes, and `Need`; `HeadFault`
-//! - `look_up`, `guess`, `key`, `probes`: a guess, then a binary search; codes as numbers; comparisons, counted
+//! - `look_up`, `entries`, `key`, `probes`: a look at one entry, then a binary search; the entries; codes as numbers; comparisons,
+//!   counted
 //! - `enclosing`, `path`: the scopes around a declaration, outermost first; paths
 //! - `selection`, `inside`: which variables names select; what is left of names inside open scopes
 //! - `write`: headers as they are written
@@ -44,9 +45,9 @@
 mod codes;
 mod draft;
 mod enclosing;
+mod entries;
 mod fault;
 mod finish;
-mod guess;
 mod head;
 mod inside;
 mod key;
@@ -75,7 +76,7 @@ mod write;
 pub use fault::HeadFault;
 pub use head::Head;
 pub use keyword::{Keyword, keyword_of};
-pub use look_up::{find, find_counted};
+pub use look_up::{Found, find, find_counted, find_sized};
 pub use merged::{least_exponent, put_merged_head};
 pub use moment::{Moment, TickFault, ticks};
 pub use new_code::{NewCode, put_code};
@@ -84,5 +85,5 @@ pub use probes::Probes;
 pub use read::read_head;
 pub use room::need;
 pub use selection::{select, selects};
-pub use view::{Code, HeadView, Kind, Need, Row, Scale};
+pub use view::{Code, Entry, HeadView, Kind, Need, Row, Scale};
 pub use write::put_head;

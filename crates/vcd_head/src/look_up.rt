@@ -1,30 +1,85 @@
 // Codes that are looked up.
-ghost use Rattle.std.specs.Prelude.{List, ◌≡◌, ◌+◌, ◌≤◌, ◌<◌, length, unwrap_or, slice_get, IfSome, Some};
+ghost use Rattle.std.specs.Prelude.{List, ◌≡◌, ◌+◌, ◌≤◌, ◌<◌, length, option_map, IfSome, Some};
 ghost use Rattle.std.specs.Int.Digits.{digits_of};
 ghost use Rattle.std.specs.List.{AllZip};
 ghost use Rattle.vcd_model.specs.Declarations.{IdCode};
 ghost use Rattle.vcd_model.specs.Header.{Header};
 ghost use Rattle.vcd_head.specs.Views.{IsCode, IsIndex, code_text, IsViewOf};
-ghost use Rattle.vcd_head.specs.Finds.{Finds};
+ghost use Rattle.vcd_head.specs.Finds.{Finds, IsSized};
 
-use crate::guess::entry_of;
+use crate::entries::{entry_of, most_of};
 use crate::key::key_of;
 use crate::probes::Probes;
 use crate::view::{Code, HeadView, code_in, text_in};
 use std::cmp::Ordering;
 
+/// A code that was looked up.
+#[derive(Clone, Copy, PartialEq, Eq, Debug)]
+pub struct Found {
+    /// Its place among the distinct codes.
+    pub place: usize,
+    /// Its size: the most digits that a change of it may have. It is 0 where its variables are events, and where 32 bits do not
+    /// hold the size; then the code tells.
+    pub most: usize,
+}
+
 /// The place of a code among the distinct codes.
 ///
-/// A guess finds nearly all codes that simulators give, a binary search the others.
+/// A look at one entry finds nearly all codes that simulators give, a binary search the others.
 #[inline(always)]
 pub fn find(view: HeadView<'_>, code: &[u8]) -> Option<usize>
     ensures found { (h : Header) → IsViewOf view.entry h → Finds h.codes code.now result }
     ensures within { IfSome result (λ place. place < length view.entry.codes.now) }
 {
-    match guessed(view, code) {
-        Some(place) => Some(place),
-        None => find_counted(view, code, &mut Probes::new()),
+    let found = find_sized(view, code)?;
+    Some(found.place)
+}
+
+/// The same, with the code's size.
+#[inline(always)]
+pub fn find_sized(view: HeadView<'_>, code: &[u8]) -> Option<Found>
+    ensures found { (h : Header) → IsViewOf view.entry h
+        → Finds h.codes code.now (option_map (λ found. found.place) result) }
+    ensures sized { IfSome result (λ found. IsSized view.entry.codes.now found) }
+{
+    match find_at_once(view, code) {
+        Some(found) => Some(found),
+        None => find_slowly(view.text, view.codes, view.index, code),
     }
+}
+
+// The same by a look at one entry, if it is that of this code.
+#[inline(always)]
+fn find_at_once(view: HeadView<'_>, code: &[u8]) -> Option<Found>
+    ensures found { (h : Header) → IsViewOf view.entry h
+        → IfSome result (λ found. Finds h.codes code.now (Some found.place)) }
+    ensures sized { IfSome result (λ found. IsSized view.entry.codes.now found) }
+{
+    let key = key_of(code);
+    let entry = view.entries.get(entry_of(code, view.entries.len()))?;
+    if key != 0 && entry.key == key {
+        Some(Found {
+            place: entry.place as usize,
+            most: entry.most as usize,
+        })
+    } else {
+        None
+    }
+}
+
+// The same by a binary search. It takes no view, so that a look-up that is done at once need not make one ready.
+#[inline(never)]
+fn find_slowly(text: &[u8], codes: &[Code], index: &[usize], code: &[u8]) -> Option<Found>
+    ensures found { (ks : List IdCode) → AllZip (IsCode text.now) codes.now ks
+        → IsIndex ks index.now → Finds ks code.now (option_map (λ found. found.place) result) }
+    ensures sized { IfSome result (λ found. IsSized codes.now found) }
+{
+    let place = search(text, codes, index, code, &mut Probes::new())?;
+    let code = code_in(codes, place)?;
+    Some(Found {
+        place,
+        most: most_of(code) as usize,
+    })
 }
 
 /// The same by a binary search alone, which counts its probes.
@@ -65,31 +120,6 @@ fn search(
         }
     }
     None
-}
-
-// The place of the code that is guessed, if it is this one.
-#[inline(always)]
-fn guessed(view: HeadView<'_>, code: &[u8]) -> Option<usize>
-    ensures found { (h : Header) → IsViewOf view.entry h
-        → IfSome result (λ place. Finds h.codes code.now (Some place)) }
-    ensures within { IfSome result (λ place. place < length view.entry.codes.now) }
-{
-    let key = key_of(code);
-    let guess = view.guesses.get(entry_of(code, view.guesses.len()))?;
-    let place = *guess as usize;
-    if key != 0 && place < view.codes.len() && key_at(view, place) == key {
-        Some(place)
-    } else {
-        None
-    }
-}
-
-// The key of the code at a place.
-#[inline(always)]
-fn key_at(view: HeadView<'_>, place: usize) -> u64
-    ensures { result ≡ unwrap_or (slice_get view.entry.keys.now place) 0 }
-{
-    view.keys.get(place).copied().unwrap_or(0)
 }
 
 // The bytes of the code at a place.

@@ -1,10 +1,6 @@
 // A header as slices and numbers.
-ghost use Rattle.std.specs.Prelude.{◌≡◌, ◌<◌, false, length, take, Some, slice_get, option_map, unwrap_or, IfSome};
-ghost use Rattle.vcd_model.specs.Declarations.{Declaration, name_of, parent};
-ghost use Rattle.vcd_model.specs.Header.{Header};
-ghost use Rattle.vcd_model.specs.HeadText.{exponent};
-ghost use Rattle.vcd_head.specs.Shown.{text_in};
-ghost use Rattle.vcd_head.specs.Views.{code_text, reference_of, type_of, IsViewOf};
+ghost use Rattle.std.specs.Prelude.{◌≡◌, ◌<◌, true, false, length, take, Some, slice_get, option_map, unwrap_or, IfSome};
+ghost use Rattle.vcd_head.specs.Entries.{text_in, are_right};
 
 /// What a row declares.
 #[derive(Clone, Copy, PartialEq, Eq, Debug)]
@@ -48,6 +44,17 @@ pub struct Code {
     pub event: bool,
 }
 
+/// A code as a look-up finds it; with key 0 it is of no code.
+#[derive(Clone, Copy, PartialEq, Eq, Debug)]
+pub struct Entry {
+    /// The code as a number.
+    pub key: u64,
+    /// Its place in `codes`.
+    pub place: u32,
+    /// Its size; 0 where its variables are events, or where 32 bits do not hold it.
+    pub most: u32,
+}
+
 /// A time scale (clause 18, $timescale).
 #[derive(Clone, Copy, PartialEq, Eq, Debug)]
 pub struct Scale {
@@ -66,20 +73,23 @@ pub struct HeadView<'a> {
     pub codes: &'a [Code],
     /// The places of the codes, in rising order of their bytes.
     pub index: &'a [usize],
-    /// Guesses at the places of codes, which only serve `find`: a power of two of them, from two to
-    /// four for each code.
-    pub guesses: &'a [u32],
-    /// The codes of at most 7 bytes as numbers, in the order of `codes`, which only serve `find`.
-    pub keys: &'a [u64],
+    /// Codes by their numbers, which only serve look-ups: a power of two of entries, up to three for each code.
+    pub entries: &'a [Entry],
     /// The last date, its tokens with a space between; empty where there is none.
     pub date: &'a [u8],
     /// The last version, likewise.
     pub version: &'a [u8],
     /// The last time scale.
     pub scale: Option<Scale>,
+    pub ghost right: { are_right text.now codes.now entries.now ≡ true },
 }
 
 impl<'a> HeadView<'a> {
+    ghost use Rattle.vcd_model.specs.Declarations.{Declaration, name_of, parent};
+    ghost use Rattle.vcd_model.specs.Header.{Header};
+    ghost use Rattle.vcd_model.specs.HeadText.{exponent};
+    ghost use Rattle.vcd_head.specs.Views.{code_text, reference_of, type_of, IsViewOf};
+
     /// A row, by its number from 0.
     #[inline(always)]
     pub fn row_at(self, row: usize) -> Option<Row>

@@ -25,6 +25,7 @@ use Rattle.vcd_tools.specs.Pick.{ArePicked, names_in}
 use Rattle.vcd_tools.specs.Sample.{AreSampled, asked_in}
 use Rattle.vcd_tools.specs.declared.answer.Stop.{Stop}
 use Rattle.vcd_tools.specs.declared.answer.Stop.TheVariants.{Write, Unmatched}
+use Rattle.vcd_tools.specs.declared.engine.Begun.{Begun}
 use Rattle.vcd_tools.specs.declared.engine.Engine.{Engine}
 use Rattle.vcd_tools.specs.declared.machine.Machine.{Machine}
 use Rattle.vcd_tools.specs.declared.machine.Machine.TheVariants as machine
@@ -58,6 +59,10 @@ Keeps (machine.Sample s) h items = AreSampled s h items
 Keeps (machine.Edges e) h items = AreEdges e h items
 
 -- ---- requests
+
+-- the request of a task that has begun
+abbrev pub request_of_begun : Begun → Request
+request_of_begun b = request_in b.machine
 
 -- the request that an engine runs
 abbrev pub request_of_engine : Engine → Request
@@ -109,6 +114,10 @@ pub record TakesOne {E : Type 0} (holds : Type 0) (task : Request) (h : Header) 
   pub due : TakesDue out out' (open_text task h items) (open_text task h (items ++ x ∷ [])) result
   pub ends : IfOk result (λ ended. ended ≡ ends_early task x)
   pub keeps : result ≡ Ok false → holds
+
+-- a task has begun over this header
+abbrev pub HasBegun : Begun → Header → Type 0
+HasBegun b h = Keeps b.machine h []
 
 -- the engine has begun, and no step of it has ended the run
 abbrev pub is_going : Engine → Bool

@@ -6,6 +6,7 @@ use Rattle.vcd_head.specs.Needs.{view_size}
 use Rattle.vcd_head.specs.Shown.{parts}
 use Rattle.vcd_head.specs.Views.{IsViewOf}
 use Rattle.vcd_tools.specs.Pick.{flags_in}
+use Rattle.vcd_tools.specs.declared.engine.Begun.{Begun}
 use Rattle.vcd_tools.specs.declared.engine.Engine.{Engine}
 use Rattle.vcd_tools.specs.declared.machine.Machine.{Machine}
 use Rattle.vcd_tools.specs.declared.machine.Machine.TheVariants as machine
@@ -65,6 +66,9 @@ room_of (machine.Edges e) = room_in_edges e
 -- what an engine holds beside its registers: a view, and room
 abbrev pub view_in : Engine → HeadView
 view_in e = e.view
+
+abbrev pub room_of_begun : Begun → RoomSize
+room_of_begun b = room_of b.machine
 
 abbrev pub room_in : Engine → RoomSize
 room_in e = room_of e.machine

@@ -13,8 +13,8 @@ ghost use Rattle.vcd_body.specs.Given.{item_text};
 ghost use Rattle.vcd_body.specs.declared.item.Item.TheVariants.{Finish};
 ghost use Rattle.vcd_tools.specs.Answer.{reads_failed, writes_failed};
 ghost use Rattle.vcd_text.specs.Device.{Counts, Device, Takes, Writes, failures_after};
-ghost use Rattle.vcd_tools.specs.Engine.{Holds, Runs, Starts, StopsUnread, is_going, may_end_early, request_of, request_of_engine};
-ghost use Rattle.vcd_tools.specs.Room.{AreWithinBound, HasRoomFor, IsWithin, room_in, room_size, view_in};
+ghost use Rattle.vcd_tools.specs.Engine.{CanRun, HasBegun, Holds, Runs, Starts, StopsUnread, is_going, may_end_early, request_of, request_of_begun, request_of_engine};
+ghost use Rattle.vcd_tools.specs.Room.{AreWithinBound, HasRoomFor, IsWithin, room_in, room_of_begun, room_size, view_in};
 ghost use Rattle.vcd_tools.specs.Run.{Follows};
 ghost use Rattle.vcd_tools.specs.Step.{StepGives, StepsGive, TakesAhead, goes_on, step_end};
 ghost use Rattle.vcd_tools.specs.declared.answer.Done.TheVariants.{Early};
@@ -60,34 +60,54 @@ fn text_of_item<'f, S: Source>(feed: &'f Feed<'_, '_, '_, '_, S>, item: Item) ->
     }
 }
 
-impl<'v, 'n, 'r> Engine<'v, 'n, 'r> {
+/// A task that has begun. With its view it is an engine.
+#[derive(Drop)]
+pub struct Begun<'n, 'r> {
+    machine: Machine<'n, 'r>,
+}
+
+impl<'n, 'r> Begun<'n, 'r> {
     /// Begins a task over the header that is shown, and writes what stands before all items. A name that selects nothing is
     /// refused, and then nothing is written.
     pub fn start<W: Sink>(
         task: Task<'n>,
-        view: HeadView<'v>,
+        view: HeadView<'_>,
         room: Room<'r>,
         out: &mut W,
-    ) -> Result<Engine<'v, 'n, 'r>, Stop>
+    ) -> Result<Begun<'n, 'r>, Stop>
         requires failures { (W.device out.old).failures < 2 ^ 64 - 1 }
         requires room { HasRoomFor task view room }
         ensures starts { (h : Header) → IsViewOf view.entry h
-            → Starts (λ e. Holds e h []) (request_of task.entry) h
+            → Starts (λ b. HasBegun b h) (request_of task.entry) h
             (W.device out.old) (W.device out.new) result }
         ensures answer { MatchResult result
-            (λ e. (is_going e ≡ true) × (request_of_engine e ≡ request_of task.entry)) StopsUnread }
-        ensures holds { IfOk result
-            (λ e. (view_in e ≡ view.entry) × IsWithin (room_in e) (room_size room.entry)) }
+            (λ b. request_of_begun b ≡ request_of task.entry) StopsUnread }
+        ensures room { IfOk result (λ b. IsWithin (room_of_begun b) (room_size room.entry)) }
         ensures failures { (W.device out.new).failures
             ≡ (W.device out.old).failures + writes_failed result }
     {
         let machine = Machine::start(task, view, room, out)?;
-        Ok(Engine {
+        Ok(Begun { machine })
+    }
+}
+
+impl<'v, 'n, 'r> Engine<'v, 'n, 'r> {
+    /// The engine of a task that has begun over the same header.
+    pub fn new(begun: Begun<'n, 'r>, view: HeadView<'v>) -> Engine<'v, 'n, 'r>
+        ensures holds { (h : Header) → IsViewOf view.entry h
+            → CanRun (request_of_begun begun.entry) h → HasBegun begun.entry h
+            → Holds result h [] }
+        ensures going { is_going result ≡ true }
+        ensures request { request_of_engine result ≡ request_of_begun begun.entry }
+        ensures loans { (view_in result ≡ view.entry)
+            × (room_in result ≡ room_of_begun begun.entry) }
+    {
+        Engine {
             view,
             regs: Regs::new(),
-            machine,
+            machine: begun.machine,
             going: true,
-        })
+        }
     }
 
     /// Neither the body nor a step has ended the run.
@@ -350,6 +370,7 @@ pub fn run_task<S: Source, W: Sink>(
         slots: &mut *room.slots,
         marks: &mut *room.marks,
     };
-    let mut engine = Engine::start(task, view, room, out)?;
+    let begun = Begun::start(task, view, room, out)?;
+    let mut engine = Engine::new(begun, view);
     engine.finish(feed, out)
 }

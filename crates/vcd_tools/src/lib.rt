@@ -3,7 +3,8 @@
 //! `list` writes a line for each variable of a view. The other commands over one dump are each a `Task`: `run_task` does it
 //! over the items of the body, in a `Room` of the lengths that `Task::need` says; `check`, `pick`, `cut`, `sample` and `edges` are
 //! one call of it each.
-//! An `Engine` is the same run step by step, for callers that have more to do between items. None of them takes memory.
+//! An `Engine`, of a task that has `Begun`, is the same run step by step, for callers that have more to do between items. None of
+//! them takes memory.
 //!
 //! # The relations
 //!
@@ -18,7 +19,7 @@
 //! # The modules
 //!
 //! - `task`, `span`: `Task`, `Room`, `Task::need`; the times of a cut
-//! - `engine`: `Engine`, and `run_task`, the one loop over items. It names no command
+//! - `engine`: `Begun`, `Engine`, and `run_task`, the one loop over items. It names no command
 //! - `machine`, and under it `check`, `pick`, `cut`, `sample`, `edges`: what each task keeps between items, and what it does at the
 //!   begin, with an item and at the end
 //! - `commands`: `check`, `pick`, `cut`, `sample`, `edges`
@@ -75,7 +76,7 @@ mod windows;
 
 pub use answer::{Done, More, Stop};
 pub use commands::{check, cut, edges, pick, sample};
-pub use engine::{Engine, run_task};
+pub use engine::{Begun, Engine, run_task};
 pub use merge_steps::{Merge, merge_step};
 pub use rows::list;
 pub use samples::Samples;

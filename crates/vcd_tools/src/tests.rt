@@ -3,7 +3,7 @@ ghost use Rattle.std.specs.Prelude.{◌≡◌};
 
 use crate::answer::{Done, More, Stop};
 use crate::commands::{check, pick};
-use crate::engine::Engine;
+use crate::engine::{Begun, Engine};
 use crate::rows::list;
 use crate::task::{Room, Task};
 use std::alloc::Global;
@@ -196,7 +196,9 @@ fn steps_write_at_the_end_alone(rt: HostRuntime) -> Result<(), Fail> {
         slots: &mut [],
         marks: &mut marks,
     };
-    let mut engine = Engine::start(Task::Check, head.view(), room, &mut out)?;
+    let view = head.view();
+    let begun = Begun::start(Task::Check, view, room, &mut out)?;
+    let mut engine = Engine::new(begun, view);
     assert!(rt; engine.going());
     assert_eq!(rt; out.device.held(), b"".as_slice());
     assert_eq!(rt; engine.step(&mut feed, &mut out)?, More::Again);
@@ -323,7 +325,8 @@ fn steps_of_a_pick_write_what_is_due(rt: HostRuntime) -> Result<(), Fail> {
         marks: &mut marks,
     };
     let mut out = Watch::new(Narrow::new(256));
-    let mut engine = Engine::start(Task::Pick(&names), view, room, &mut out)?;
+    let begun = Begun::start(Task::Pick(&names), view, room, &mut out)?;
+    let mut engine = Engine::new(begun, view);
     assert_eq!(rt; out.device.held(), CUT_SHORT_HEAD);
     assert_eq!(rt; engine.step(&mut feed, &mut out)?, More::Again);
     assert_eq!(rt; out.device.held(), CUT_SHORT_HEAD);

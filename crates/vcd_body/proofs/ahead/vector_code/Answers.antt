@@ -1,23 +1,24 @@
-use Rattle.std.proofs.Common.{◌&&◌, ◌||◌, nat_le, not, true, drop, length, get_or, sym, ap, ◌∙◌}
+use Rattle.std.proofs.Common.{◌&&◌, ◌||◌, nat_le, not, true, drop, length, sym, ap, ◌∙◌}
 use Rattle.std.specs.List.{list_all}
 use Rattle.std.proofs.lemmas.Bool.{and_parts}
 use Rattle.vcd_model.specs.Bytes.{is_empty}
 use Rattle.vcd_model.specs.BodyPhrases.{is_value_digit}
 use Rattle.vcd_head.specs.Shown.{parts}
 use Rattle.vcd_body.proofs.PhraseLemmas.{digits_begin, vector_passes}
-use Rattle.vcd_body.proofs.RegsLemmas.{same_room, the_code, vector_sound}
+use Rattle.vcd_body.proofs.RegsLemmas.{same_room, vector_sound}
 use Rattle.vcd_body.proofs.WordLemmas.{filled_some}
 use Rattle.vcd_body.proofs.ahead.vector_code.Goals as goal
 
 pub returns-then-takes-clause-code : goal.returns-then-takes-clause-code
 returns-then-takes-clause-code c = λ h v.
     let t = c.args.token.now in
-    let place = c.in_ok-place.place in
-    let f = c.in_ok-place.ensures.found h v in
+    let place = c.in_ok-found.found.place in
+    let x = c.in_ok-found.ensures.sized in
+    let f = c.in_ok-found.ensures.found h v in
     let text = c.rest_of-digits.ensures in
     let digits = ap (λ x. not (is_empty x) && list_all is_value_digit x) (sym text) ∙ sym c.are_value_digits.ensures ∙ c.if-not-are_value_digits.false in
     let n = ap length (sym text) in
-    let room = same_room (parts c.args.view) h v place f.0 (length (drop 1 t)) true f.1 (ap (λ m. (get_or c.args.view.codes.now place the_code).event || nat_le m (get_or c.args.view.codes.now place the_code).size) n ∙ sym c.takes.ensures ∙ c.if-takes.true) in (
+    let room = same_room (parts c.args.view) h v place f.0 x.0 (length (drop 1 t)) true f.1 x.1 (ap (λ m. x.0.event || nat_le m x.0.size) n ∙ sym (c.takes.ensures x.0 x.1) ∙ c.if-takes.true) in (
       f.0,
       f.1,
       λ earlier.
@@ -29,9 +30,10 @@ returns-then-takes-clause-code c = λ h v.
 pub returns-then-takes-clause-sound : goal.returns-then-takes-clause-sound
 returns-then-takes-clause-sound c =
     let t = c.args.token.now in
-    let place = c.in_ok-place.place in
+    let place = c.in_ok-found.found.place in
+    let x = c.in_ok-found.ensures.sized in
     let text = c.rest_of-digits.ensures in
     let n = ap length (sym text) in
     let d = and_parts (not (is_empty (drop 1 t))) (list_all is_value_digit (drop 1 t)) (ap (λ x. not (is_empty x) && list_all is_value_digit x) (sym text) ∙ sym c.are_value_digits.ensures ∙ c.if-not-are_value_digits.false) in
-    vector_sound c.args.view.codes.now (drop 1 t) place c.in_ok-place.ensures.within (filled_some (drop 1 t) d.0) d.1
-    (ap (λ m. (get_or c.args.view.codes.now place the_code).event || nat_le m (get_or c.args.view.codes.now place the_code).size) n ∙ sym c.takes.ensures ∙ c.if-takes.true)
+    vector_sound c.args.view.codes.now (drop 1 t) place x.0 x.1 (filled_some (drop 1 t) d.0) d.1
+    (ap (λ m. x.0.event || nat_le m x.0.size) n ∙ sym (c.takes.ensures x.0 x.1) ∙ c.if-takes.true)

@@ -1,4 +1,4 @@
-use Rattle.std.proofs.Common.{◌∷◌, [], true, false, ◌&&◌, ◌||◌, nat_le, not, length, drop, get_or, sym, ap, ◌∙◌, arith}
+use Rattle.std.proofs.Common.{◌∷◌, [], true, false, ◌&&◌, ◌||◌, nat_le, not, length, drop, sym, ap, ◌∙◌, arith}
 use Rattle.std.specs.List.{list_all}
 use Rattle.std.proofs.lemmas.Result.{err_from_is_err_and}
 use Rattle.vcd_model.specs.Bytes.{is_empty}
@@ -8,7 +8,7 @@ use Rattle.vcd_text.specs.Feed.{token_of, value_of}
 use Rattle.vcd_head.specs.Shown.{parts}
 use Rattle.vcd_body.proofs.TokenLemmas.{refused_at, begun}
 use Rattle.vcd_body.proofs.PhraseLemmas.{bad_digits, digits_begin, digits_ask, too_wide}
-use Rattle.vcd_body.proofs.RegsLemmas.{the_code, same_room, vector_read, vector_sound}
+use Rattle.vcd_body.proofs.RegsLemmas.{same_room, vector_read, vector_sound}
 use Rattle.vcd_body.proofs.WordLemmas.{filled_some}
 use Rattle.std.proofs.lemmas.Bool.{and_parts}
 use Rattle.vcd_body.proofs.phrases.read_vector.Goals as goal
@@ -19,44 +19,46 @@ returns-then-not-are_value_digits-clause-reads g c = λ h i front placed v l.
     let text = c.rest_of.ensures ∙ ap (drop 1) c.token.ensures in
     refused_at h.codes i front placed [] c.args.feed.now 15 (bad_digits h.codes (phrases_of placed) t c.requires.begins (ap (λ x. not (is_empty x) && list_all is_value_digit x) (sym text) ∙ sym c.are_value_digits.ensures ∙ c.if-not-are_value_digits.true)) l
 
-pub returns-in_err-place-clause-reads : goal.returns-in_err-place-clause-reads
-returns-in_err-place-clause-reads g c =
+pub returns-in_err-found-clause-reads : goal.returns-in_err-found-clause-reads
+returns-in_err-found-clause-reads g c =
     let p = err_from_is_err_and c.from_residual.result c.from_residual.ensures.1 in
     rw (p.1, p.2) (λ h i front placed v l.
     let t = (token_of c.args.feed.now).bytes in
     let text = c.rest_of.ensures ∙ ap (drop 1) c.token.ensures in
     let b = digits_begin h.codes (phrases_of placed) t c.requires.begins (ap (λ x. not (is_empty x) && list_all is_value_digit x) (sym text) ∙ sym c.are_value_digits.ensures ∙ c.if-not-are_value_digits.false) in
-    c.in_err-place.ensures.reads h i front placed t v (digits_ask h.codes (phrases_of placed) t c.requires.begins) (begun h.codes i front placed c.args.feed.now b.0 b.1 l))
+    c.in_err-found.ensures.reads h i front placed t v (digits_ask h.codes (phrases_of placed) t c.requires.begins) (begun h.codes i front placed c.args.feed.now b.0 b.1 l))
 
 pub returns-then-not-takes-clause-reads : goal.returns-then-not-takes-clause-reads
 returns-then-not-takes-clause-reads g c = λ h i front placed v l.
     let t = (token_of c.args.feed.now).bytes in
     let text = c.rest_of.ensures ∙ ap (drop 1) c.token.ensures in
     let b = digits_begin h.codes (phrases_of placed) t c.requires.begins (ap (λ x. not (is_empty x) && list_all is_value_digit x) (sym text) ∙ sym c.are_value_digits.ensures ∙ c.if-not-are_value_digits.false) in
-    let k = c.in_ok-place.ensures.reads h i front placed t v (digits_ask h.codes (phrases_of placed) t c.requires.begins) (begun h.codes i front placed c.args.feed.now b.0 b.1 l) in
-    let n = ap length (sym (c.rest_of-2.ensures ∙ ap (drop 1) (c.value.ensures ∙ c.in_ok-place.ensures.value))) in
+    let k = c.in_ok-found.ensures.reads h i front placed t v (digits_ask h.codes (phrases_of placed) t c.requires.begins) (begun h.codes i front placed c.args.feed.now b.0 b.1 l) in
+    let n = ap length (sym (c.rest_of-2.ensures ∙ ap (drop 1) (c.value.ensures ∙ c.in_ok-found.ensures.value))) in
+    let x = c.in_ok-found.ensures.sized in
     refused_at h.codes i front placed (t ∷ []) c.read_code.new.feed 17
     (too_wide h.codes (phrases_of placed) t c.requires.begins (token_of c.read_code.new.feed).bytes k.0 k.2
-    (same_room (parts c.args.view) h v c.in_ok-place.place k.0 (length (drop 1 t)) false k.1 (ap (λ m. (get_or c.args.view.codes.now c.in_ok-place.place the_code).event || nat_le m (get_or c.args.view.codes.now c.in_ok-place.place the_code).size) n ∙ sym c.takes.ensures ∙ c.if-not-takes.true))) k.3
+    (same_room (parts c.args.view) h v c.in_ok-found.found.place k.0 x.0 (length (drop 1 t)) false k.1 x.1 (ap (λ m. x.0.event || nat_le m x.0.size) n ∙ sym (c.takes.ensures x.0 x.1) ∙ c.if-not-takes.true))) k.3
 
 pub returns-clause-reads : goal.returns-clause-reads
 returns-clause-reads g c = λ h i front placed v l.
     let t = (token_of c.args.feed.now).bytes in
     let text = c.rest_of.ensures ∙ ap (drop 1) c.token.ensures in
     let b = digits_begin h.codes (phrases_of placed) t c.requires.begins (ap (λ x. not (is_empty x) && list_all is_value_digit x) (sym text) ∙ sym c.are_value_digits.ensures ∙ c.if-not-are_value_digits.false) in
-    let k = c.in_ok-place.ensures.reads h i front placed t v (digits_ask h.codes (phrases_of placed) t c.requires.begins) (begun h.codes i front placed c.args.feed.now b.0 b.1 l) in
-    let n = ap length (sym (c.rest_of-2.ensures ∙ ap (drop 1) (c.value.ensures ∙ c.in_ok-place.ensures.value))) in
-    vector_read h.codes i front placed c.read_code.new.feed t c.requires.begins c.in_ok-place.place c.in_ok-place.ensures.value k
-    (same_room (parts c.args.view) h v c.in_ok-place.place k.0 (length (drop 1 t)) true k.1 (ap (λ m. (get_or c.args.view.codes.now c.in_ok-place.place the_code).event || nat_le m (get_or c.args.view.codes.now c.in_ok-place.place the_code).size) n ∙ sym c.takes.ensures ∙ c.if-not-takes.false))
+    let k = c.in_ok-found.ensures.reads h i front placed t v (digits_ask h.codes (phrases_of placed) t c.requires.begins) (begun h.codes i front placed c.args.feed.now b.0 b.1 l) in
+    let n = ap length (sym (c.rest_of-2.ensures ∙ ap (drop 1) (c.value.ensures ∙ c.in_ok-found.ensures.value))) in
+    let x = c.in_ok-found.ensures.sized in
+    vector_read h.codes i front placed c.read_code.new.feed t c.requires.begins c.in_ok-found.found.place c.in_ok-found.ensures.value k
+    (same_room (parts c.args.view) h v c.in_ok-found.found.place k.0 x.0 (length (drop 1 t)) true k.1 x.1 (ap (λ m. x.0.event || nat_le m x.0.size) n ∙ sym (c.takes.ensures x.0 x.1) ∙ c.if-not-takes.false))
 
 pub returns-clause-sound : goal.returns-clause-sound
 returns-clause-sound g c =
     let text = c.rest_of.ensures ∙ ap (drop 1) c.token.ensures in
-    let value = ap (drop 1) c.in_ok-place.ensures.value in
+    let value = ap (drop 1) c.in_ok-found.ensures.value in
     let same = value ∙ sym text in
     let d = and_parts (not (is_empty c.rest_of.result.now)) (list_all is_value_digit c.rest_of.result.now) (sym c.are_value_digits.ensures ∙ c.if-not-are_value_digits.false) in
     let n = ap length (sym (c.rest_of-2.ensures ∙ ap (drop 1) c.value.ensures)) in
     let some = filled_some c.rest_of.result.now d.0 in
     let long = ap length same in
-    vector_sound c.args.view.codes.now (drop 1 (value_of c.read_code.new.feed)) c.in_ok-place.place c.in_ok-place.ensures.within (omega arith) (ap (list_all is_value_digit) same ∙ d.1)
-    (ap (λ m. (get_or c.args.view.codes.now c.in_ok-place.place the_code).event || nat_le m (get_or c.args.view.codes.now c.in_ok-place.place the_code).size) n ∙ sym c.takes.ensures ∙ c.if-not-takes.false)
+    let x = c.in_ok-found.ensures.sized in
+    vector_sound c.args.view.codes.now (drop 1 (value_of c.read_code.new.feed)) c.in_ok-found.found.place x.0 x.1 (omega arith) (ap (list_all is_value_digit) same ∙ d.1) (ap (λ m. x.0.event || nat_le m x.0.size) n ∙ sym (c.takes.ensures x.0 x.1) ∙ c.if-not-takes.false)

@@ -1,14 +1,10 @@
-use Rattle.std.proofs.Common.{length, sym, ap, subst, ◌∙◌, arith}
-use Rattle.std.proofs.lemmas.List.{length-map}
-use Rattle.vcd_model.specs.Declarations.{IdCode, codes_of}
-use Rattle.vcd_head.specs.Codes.{keys_in}
-use Rattle.vcd_head.specs.Keys.{key_in}
+use Rattle.std.proofs.Common.{length, sym, ap, subst, arith}
+use Rattle.vcd_model.specs.Declarations.{codes_of}
 use Rattle.vcd_model.specs.HeaderPhrases.{declarations_of}
 use Rattle.vcd_model.specs.Header.{header_of}
 use Rattle.vcd_head.specs.Views.{IsIndex}
 use Rattle.vcd_head.proofs.LookUpLemmas.{codes_len}
 use Rattle.vcd_head.proofs.RoomLemmas.{codes_few}
-use Rattle.vcd_head.proofs.FinishLemmas.{keys_stand}
 use Rattle.vcd_head.proofs.finish.finish.Goals as goal
 
 pub returns-clause-head : goal.returns-clause-head
@@ -20,7 +16,6 @@ returns-clause-head c = λ most ps m h.
     let ds_codes = codes_of ds in
     let stand = h.declares.codes.stand in
     let list = c.args.draft.codes.list.items in
-    let keys = c.in_ok-keys.ensures ∙ (λ j. keys_in (c.deref.ensures.value j) (c.deref-2.ensures.value j)) ∙ keys_stand c.args.draft.text.items list ds_codes stand in
     record {
       rows = h.declares.rows;
       codes = stand;
@@ -30,9 +25,8 @@ returns-clause-head c = λ most ps m h.
       scale = h.scale;
       scaled = h.scaled;
       held = omega (arith, held, ap length h.date, ap length h.version);
-      keys = keys;
       texts = h.declares.codes.texts;
-      look_up = omega (arith, c.in_ok-guesses.ensures, ap length c.deref-4.ensures.value, ap length keys, length-map ds_codes (λ (k : IdCode). key_in k.text), codes_len c.args.draft.text.items list ds_codes stand);
+      look_up = omega (arith, c.in_ok-entries.ensures.few, ap length c.deref-2.ensures.value, codes_len c.args.draft.text.items list ds_codes stand);
       sizes = h.declares.codes.sizes;
       few = omega arith;
       few_codes = codes_few ds;

@@ -1,0 +1,134 @@
+// The entries by which codes are looked up: where a code's entry is, and how they are filled. Any code may have any place among
+// them, and two the same: where an entry is decides only how fast a look-up is.
+ghost use Rattle.std.specs.Prelude.{◌≡◌, ◌+◌, ◌*◌, ◌^◌, ◌≤◌, ◌<◌, ℕ, List, true, length, set, slice_get, Some, IfOk};
+ghost use Rattle.vcd_head.specs.Entries.{are_right, is_right, most_of, text_in};
+ghost use Rattle.vcd_head.specs.declared.view.Code.{Code};
+
+use crate::key::key_of;
+use crate::view::{Code, Entry, text_in};
+use std::alloc::{AllocError, Global};
+
+// The entry of no code.
+const EMPTY: Entry = Entry {
+    key: 0,
+    place: 0,
+    most: 0,
+};
+
+/// Where the entry of a code is among so many, a power of two.
+///
+/// Simulators number codes from `!` on in base 94, the lowest digit first, in the order of
+/// declaration. Read back as such a number, neighbours have entries of their own.
+#[inline(always)]
+pub(crate) fn entry_of(code: &[u8], entries: usize) -> usize {
+    let number = match code {
+        [first] => digit_of(*first),
+        [first, second] => above(digit_of(*second), *first),
+        [first, second, third] => above(above(digit_of(*third), *second), *first),
+        [first, second, third, fourth] => above(
+            above(above(digit_of(*fourth), *third), *second),
+            *first,
+        ),
+        _ => number_of(code),
+    };
+    number & entries.wrapping_sub(1)
+}
+
+// The digit that a byte stands for.
+#[inline(always)]
+fn digit_of(byte: u8) -> usize {
+    usize::from(byte).wrapping_sub(32)
+}
+
+// The number with a lower digit after it.
+#[inline(always)]
+fn above(number: usize, byte: u8) -> usize {
+    number.wrapping_mul(94).wrapping_add(digit_of(byte))
+}
+
+// The number of a code of any length.
+fn number_of(code: &[u8]) -> usize {
+    let mut number: usize = 0;
+    for byte in code.iter().rev() {
+        number = above(number, *byte);
+    }
+    number
+}
+
+/// The entries of these codes, whose bytes lie in the text: a power of two of them, as many as three for each code allow.
+pub(crate) fn entries_of(
+    alloc: Global,
+    text: &[u8],
+    codes: &[Code],
+) -> Result<Vec<Entry>, AllocError>
+    ensures right { IfOk result (λ entries. are_right text.now codes.now entries.items ≡ true) }
+    ensures few { IfOk result (λ entries. length entries.items ≤ 3 * length codes.now) }
+{
+    if codes.is_empty() {
+        return Ok(Vec::new(alloc));
+    }
+    let mut entries = vec![in alloc; EMPTY; count_for(codes.len())]?;
+    fill(&mut entries, text, codes);
+    Ok(entries)
+}
+
+// How many entries so many codes have: the greatest power of two that is at most three times as many.
+fn count_for(codes: usize) -> usize
+    requires { (0 < codes) × (codes < 2 ^ 60) }
+    ensures { result ≤ 3 * codes }
+{
+    let entries = codes.next_power_of_two();
+    if 2 * entries <= 3 * codes {
+        2 * entries
+    } else {
+        entries
+    }
+}
+
+// Writes the entry of each code. Where codes share one, it is that of the last.
+fn fill(entries: &mut [Entry], text: &[u8], codes: &[Code])
+    ensures right { are_right text.now codes.now entries.old ≡ true
+        → are_right text.now codes.now entries.new ≡ true }
+    ensures len { length entries.new ≡ length entries.old }
+{
+    for (place, code) in codes.iter().enumerate() {
+        let bytes = text_in(text, code.start, code.len);
+        let at = entry_of(bytes, entries.len());
+        put(entries, at, entry_at(place, *code, bytes));
+    }
+}
+
+// The entry of a code with these bytes, which is at this place; an empty one where 32 bits do not hold the place.
+fn entry_at(place: usize, code: Code, bytes: &[u8]) -> Entry
+    ensures { (text : List ℕ) (codes : List Code) → slice_get codes place ≡ Some code
+        → bytes.now ≡ text_in text code.start code.len → is_right text codes result ≡ true }
+{
+    let Ok(place) = u32::try_from(place) else {
+        return EMPTY;
+    };
+    Entry {
+        key: key_of(bytes),
+        place,
+        most: most_of(code),
+    }
+}
+
+// Writes one entry, if there are so many.
+fn put(entries: &mut [Entry], at: usize, entry: Entry)
+    ensures { entries.new ≡ set entries.old at entry }
+{
+    if at < entries.len() {
+        entries[at] = entry;
+    }
+}
+
+/// The most digits that a change of the code may have: its size. It is 0 where any number is allowed, and where 32 bits do not
+/// hold the size.
+pub(crate) fn most_of(code: Code) -> u32
+    ensures { result ≡ most_of code }
+{
+    if code.event {
+        return 0;
+    }
+    u32::try_from(code.size).unwrap_or(0)
+}
