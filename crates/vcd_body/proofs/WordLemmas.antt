@@ -1,7 +1,10 @@
 -- What the tests of words say.
-use Rattle.std.proofs.Common.{◌≡◌, Some, ◌⊎◌, ◌+◌, ◌<◌, ◌≤◌, ◌∙◌, take, get_or, ℕ, true, false, not, ◌==◌, List, [], ◌∷◌, length, refl, inl, inr, arith}
+use Rattle.std.proofs.Common.{◌≡◌, Some, ◌⊎◌, ◌+◌, ◌<◌, ◌≤◌, ◌∙◌, take, get_or, ℕ, suc, ◌%◌, map, nat_lt, Bool, true, false, not, ◌==◌, List, [], ◌∷◌, length, refl, inl, inr, arith}
+use Rattle.std.specs.Prelude.{slice_index}
 use Rattle.std.specs.List.{list_all}
-use Rattle.std.proofs.lemmas.Bool.{eqb-true, cases_lt}
+use Rattle.std.proofs.lemmas.Bool.{eqb-true, ltb-false, cases_lt}
+use Rattle.std.proofs.lemmas.Simd.{none_from_empty_mask}
+use lib.Lanes.{chunk, mask_l}
 use Rattle.std.proofs.lemmas.List.Folds.{list_all_more}
 use Rattle.vcd_model.specs.Bytes.{is_empty}
 use Rattle.vcd_model.specs.BodyPhrases.{is_value_digit}
@@ -66,3 +69,18 @@ one_of_two d l h = by_order (cases_lt 48 d)
 -- one digit more that is 0 or 1
 pub binary_more : (digits : List ℕ) (at : ℕ) → at < length digits → list_all is_value_digit (take at digits) ≡ true → 48 ≤ get_or digits at 0 → get_or digits at 0 ≤ 49 → list_all is_value_digit (take (at + 1) digits) ≡ true
 binary_more digits at inside so_far low high = list_all_more is_value_digit digits at 0 inside ∙ rw (so_far, binary (get_or digits at 0) (one_of_two (get_or digits at 0) low high)) refl
+
+-- a byte that is at most 1 above 0, as bytes are subtracted
+pub binary_byte : (d above : ℕ) → d < 256 → above ≡ (d + 208) % 256 → above ≤ 1 → is_value_digit d ≡ true
+binary_byte d above fit e small = binary d (one_of_two d (omega arith) (omega arith))
+
+-- all of them, each by its place
+pub all_by_place : (p : ℕ → Bool) (l : List ℕ) → ((k : ℕ) → k < length l → p (slice_index l k) ≡ true) → list_all p l ≡ true
+all_by_place p [] h = refl
+all_by_place p (d ∷ l) h = rw (h 0 (omega arith)) (all_by_place p l (λ k less. h (suc k) (omega arith)))
+
+-- 16 bytes of which none is more than 1 above 0
+pub binary_mask : (digits : List ℕ) (at : ℕ) → at + 16 ≤ length digits → ((k : ℕ) → get_or digits k 0 < 256) → mask_l (map (λ x. nat_lt 1 ((x + 208) % 256)) (chunk at 16 digits)) ≡ 0 → (k : ℕ) → at ≤ k → k < at + 16 → is_value_digit (slice_index digits k) ≡ true
+binary_mask digits at room fit none k lo hi =
+    let small = none_from_empty_mask (λ x. nat_lt 1 ((x + 208) % 256)) digits at 16 0 room none k lo hi in
+    binary_byte (get_or digits k 0) ((get_or digits k 0 + 208) % 256) (fit k) refl (ltb-false 1 ((get_or digits k 0 + 208) % 256) small)

@@ -1,5 +1,5 @@
 // What tokens of a body are.
-ghost use Rattle.std.specs.Prelude.{◌≡◌, ℕ, true, List, drop, take, ◌∷◌, ◌^◌, ◌&&◌, not, nat_lt, cond, Some, None, bytes_eq};
+ghost use Rattle.std.specs.Prelude.{◌≡◌, ℕ, ◌+◌, ◌<◌, ◌≤◌, length, slice_index, true, List, drop, take, ◌∷◌, ◌^◌, ◌&&◌, not, nat_lt, cond, Some, None, bytes_eq};
 ghost use Rattle.std.specs.List.{list_all};
 ghost use Rattle.vcd_model.specs.Bytes.{is_decimal, decimal_value, is_empty};
 ghost use Rattle.vcd_model.specs.BodyPhrases.{is_value_digit as is_digit};
@@ -7,6 +7,7 @@ ghost use Rattle.vcd_model.specs.Keywords.{is_end as ends};
 ghost use Rattle.vcd_body.specs.Words.{StandsFor, Begins, command_is};
 
 use crate::item::Section;
+use std::simd::prelude::*;
 use vcd_head::{Keyword, keyword_of};
 
 /// What a phrase begins with, by the token's first byte.
@@ -131,8 +132,19 @@ fn is_value_digit(byte: u8) -> bool
     byte == b'0' || byte == b'1' || byte == b'x' || byte == b'X' || byte == b'z' || byte == b'Z'
 }
 
-/// The digits are `0` and `1` alone, as most are. No byte is branched on, so that many are looked at at once.
-fn are_binary(digits: &[u8]) -> bool
+/// The 16 digits from a place on are `0` and `1` alone.
+#[inline(always)]
+fn are_binary_16(digits: &[u8], at: usize) -> bool
+    requires { at + 16 ≤ length digits.now }
+    ensures { result ≡ true → (k : ℕ) → at ≤ k → k < at + 16
+        → is_digit (slice_index digits.now k) ≡ true }
+{
+    let above = u8x16::from_slice(&digits[at..]) - u8x16::splat(b'0');
+    above.simd_gt(u8x16::splat(1)).to_bitmask() == 0
+}
+
+/// The same of all of them, looked at one by one. No byte is branched on.
+fn are_few_binary(digits: &[u8]) -> bool
     ensures { result ≡ true → list_all is_digit digits.now ≡ true }
 {
     let mut most = 0;
@@ -141,6 +153,24 @@ fn are_binary(digits: &[u8]) -> bool
         most = if most < above { above } else { most };
     }
     most <= 1
+}
+
+/// The digits are `0` and `1` alone, as most are. The last 16 may have been looked at in part.
+fn are_binary(digits: &[u8]) -> bool
+    ensures { result ≡ true → list_all is_digit digits.now ≡ true }
+{
+    if digits.len() < 16 {
+        return are_few_binary(digits);
+    }
+    let last = digits.len() - 16;
+    let mut at = 0;
+    'sixteens: while at < last {
+        if !are_binary_16(digits, at) {
+            return false;
+        }
+        at += 16;
+    }
+    are_binary_16(digits, last)
 }
 
 fn all_are_digits(digits: &[u8]) -> bool

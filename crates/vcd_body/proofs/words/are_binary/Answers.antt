@@ -1,15 +1,11 @@
-use Rattle.std.proofs.Common.{◌≤◌, ◌<◌, length, get_or, arith}
-use Rattle.vcd_body.proofs.WordLemmas.{binary_more}
-use Rattle.vcd_body.proofs.words.are_binary.Goals.{then-most-above, else-most-above}
+use Rattle.std.proofs.Common.{inl, inr, arith}
+use Rattle.std.proofs.lemmas.Bool.{cases_lt}
+use Rattle.vcd_model.specs.BodyPhrases.{is_value_digit}
+use Rattle.vcd_body.proofs.WordLemmas.{all_by_place}
 use Rattle.vcd_body.proofs.words.are_binary.Goals as goal
 
-pub loop-digit-preserved : goal.loop-digit-preserved
-loop-digit-preserved c = λ small.
-    let at = c.loop-digit.digit-index in
-    let d = get_or c.args.digits.now at 0 in
-    let inside : at < length c.args.digits.now = omega arith in
-    let fit = c.type_inv.digits at in
-    let low : 48 ≤ d = elim c.if-most-above.branch [ then-most-above w ↦ omega (arith, w.most-is, w.if-most-above, small, fit) | else-most-above w ↦ omega (arith, w.most-is, w.if-most-above, small, fit) ] in
-    let high : d ≤ 49 = elim c.if-most-above.branch [ then-most-above w ↦ omega (arith, w.most-is, w.if-most-above, small, fit) | else-most-above w ↦ omega (arith, w.most-is, w.if-most-above, small, fit) ] in
-    let before : c.loop-digit.most ≤ 1 = elim c.if-most-above.branch [ then-most-above w ↦ omega (arith, w.most-is, w.if-most-above, small, fit) | else-most-above w ↦ omega (arith, w.most-is, w.if-most-above, small, fit) ] in
-    binary_more c.args.digits.now at inside (c.loop-digit.invariant before) low high
+pub returns : goal.returns
+returns c = λ e. all_by_place is_value_digit c.args.digits.now (λ k less. elim (cases_lt k c.sixteens.at) [
+  | inl before ↦ c.sixteens.invariant k before
+  | inr behind ↦ c.are_binary_16-2.ensures e k (omega (arith, c.sixteens-test.false)) (omega arith)
+])

@@ -1,7 +1,10 @@
-use Rattle.std.proofs.Common.{◌≡◌, ◌≤◌, true, take}
-use Rattle.std.specs.List.{list_all}
+use Rattle.std.proofs.Common.{◌≡◌, ◌-◌, ◌<◌, ℕ, true, length}
+use Rattle.std.specs.Prelude.{slice_index}
 use Rattle.vcd_model.specs.BodyPhrases.{is_value_digit as is_digit}
 use Rattle.vcd_body.proofs.words.are_binary.Given as goal
 
-abbrev pub invariant-loop-digit : goal.invariant-loop-digit
-invariant-loop-digit l = l.most ≤ 1 → list_all is_digit (take l.digit-index l.digits) ≡ true
+abbrev pub invariant-sixteens : goal.invariant-sixteens
+invariant-sixteens l = (k : ℕ) → k < l.at → is_digit (slice_index l.digits k) ≡ true
+
+abbrev pub decreases-sixteens : goal.decreases-sixteens
+decreases-sixteens l = length l.digits - l.at
