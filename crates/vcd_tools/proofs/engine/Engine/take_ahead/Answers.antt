@@ -1,4 +1,4 @@
-use Rattle.std.proofs.Common.{rules, ◌≡◌, ◌+◌, ◌^◌, ◌<◌, ◌++◌, ◌∷◌, [], List, Bool, Ok, Err, length, inl, refl, sym, ap, subst, ◌∙◌, arith}
+use Rattle.std.proofs.Common.{rules, ◌≡◌, ◌+◌, ◌^◌, ◌<◌, ◌++◌, ◌∷◌, [], List, Bool, Result, Ok, Err, length, inl, refl, sym, ap, subst, ◌∙◌, arith}
 use Rattle.vcd_text.specs.Ahead.{ahead_of, bytes_of, lines_of, longest_of, passed_of}
 use Rattle.vcd_text.specs.Feed.{limit_of, seen}
 use Rattle.vcd_text.specs.Passed.{Passed}
@@ -15,55 +15,53 @@ use Rattle.vcd_tools.proofs.engine.Engine.take_ahead.Goals as goal
 
 pub pass_items-requires : goal.pass_items-requires
 pass_items-requires g c =
-    let a = c.ahead-ahead.ensures in
-    let p = c.take_ahead-answer.ensures.passes (lines_of c.args.feed.now) [] a.passed in
-    (p.0, rw (c.passed-passed.ensures.passed, sym a.limit, sym a.bytes) p.1)
+    let a = c.ahead.ensures in
+    let p = c.take_ahead-taken.ensures.passes (lines_of c.args.feed.now) [] a.passed in
+    (p.0, rw (sym a.limit, sym a.bytes) p.1)
 
 pub returns-in-Ok-true-clause-gives : goal.returns-in-Ok-true-clause-gives
 returns-in-Ok-true-clause-gives g c = λ h i front items s.
     let e = c.args.self.now in
     let f = c.args.feed.now in
-    let a = c.ahead-ahead.ensures in
-    let ahead = c.ahead-ahead.result in
+    let a = c.ahead.ensures in
+    let ahead = c.ahead.result in
     let v : Views (parts c.args.view) h = rw c.requires.view s.holds.views in
     let lines = lines_of f in
     let bounded = subst (λ bs. seen f + length bs < 2 ^ 63) (sym a.bytes) a.bounded in
     let few : length items + length (bytes_of ahead) < 2 ^ 63 = let each = s.few in omega arith in
     let first = subst (λ n. StandsAhead (request_of_engine e) h (longest_of ahead) lines (bytes_of ahead) items n [] e.machine e.regs) (sym a.passed) (stands_first e h i front items f (longest_of ahead) lines (bytes_of ahead) s) in
-    let r = subst (λ (b : Bool). RunsAhead (request_of_engine e) h (longest_of ahead) lines (bytes_of ahead) items {E = WriteFailed} (passed_of c.take_ahead-answer.new.ahead) c.take_ahead-answer.new.self c.take_ahead-answer.new.regs (g.W.Sink.device c.args.out.now) (g.W.Sink.device c.take_ahead-answer.new.out) (Ok b))
-    c.in-Ok-true.field-0-test (c.in-Ok-true.ensures.gives h lines items v few first) in
+    let r = subst (λ (q : Result Bool WriteFailed). RunsAhead (request_of_engine e) h (longest_of ahead) lines (bytes_of ahead) items {E = WriteFailed} c.take_ahead-taken.result.passed c.take_ahead-taken.new.self c.take_ahead-taken.result.regs (g.W.Sink.device c.args.out.now) (g.W.Sink.device c.take_ahead-taken.new.out) q)
+    (c.in-Ok-true.is ∙ ap (λ b. Ok b) c.in-Ok-true.field-0-test) (c.take_ahead-taken.ensures.gives h lines items v few first) in
     let x = r.ends.0 in
     let one = r.ends.2 in
-    let over = subst (λ n. GaveAhead h.codes (limit_of f) lines (ahead_of f) n items (r.items ++ x ∷ [])) (sym c.passed-passed.ensures.passed)
-    (gave_over h.codes (longest_of ahead) (limit_of f) lines (bytes_of ahead) (ahead_of f) (passed_of c.take_ahead-answer.new.ahead) items (r.items ++ x ∷ []) a.limit a.bytes one.gave) in
-    record { more = r.items; mid = r.mid; on = r.on; grows = r.grows; last = (x, r.ends.1, c.pass_items.ensures.ends h.codes i front items r.items x e.regs c.take_ahead-answer.new.regs s.gave over one.known, r.ends.3) }
+    let over = gave_over h.codes (longest_of ahead) (limit_of f) lines (bytes_of ahead) (ahead_of f) c.take_ahead-taken.result.passed items (r.items ++ x ∷ []) a.limit a.bytes one.gave in
+    record { more = r.items; mid = r.mid; on = r.on; grows = r.grows; last = (x, r.ends.1, c.pass_items.ensures.ends h.codes i front items r.items x e.regs c.take_ahead-taken.result.regs s.gave over one.known, r.ends.3) }
 
 pub returns-in-Ok-false-clause-gives : goal.returns-in-Ok-false-clause-gives
 returns-in-Ok-false-clause-gives g c = λ h i front items s.
     let e = c.args.self.now in
     let f = c.args.feed.now in
-    let a = c.ahead-ahead.ensures in
-    let ahead = c.ahead-ahead.result in
+    let a = c.ahead.ensures in
+    let ahead = c.ahead.result in
     let v : Views (parts c.args.view) h = rw c.requires.view s.holds.views in
     let lines = lines_of f in
     let bounded = subst (λ bs. seen f + length bs < 2 ^ 63) (sym a.bytes) a.bounded in
     let few : length items + length (bytes_of ahead) < 2 ^ 63 = let each = s.few in omega arith in
     let first = subst (λ n. StandsAhead (request_of_engine e) h (longest_of ahead) lines (bytes_of ahead) items n [] e.machine e.regs) (sym a.passed) (stands_first e h i front items f (longest_of ahead) lines (bytes_of ahead) s) in
-    let r = subst (λ (b : Bool). RunsAhead (request_of_engine e) h (longest_of ahead) lines (bytes_of ahead) items {E = WriteFailed} (passed_of c.take_ahead-answer.new.ahead) c.take_ahead-answer.new.self c.take_ahead-answer.new.regs (g.W.Sink.device c.args.out.now) (g.W.Sink.device c.take_ahead-answer.new.out) (Ok b))
-    c.in-Ok-false.field-0-test (c.in-Ok-false.ensures.gives h lines items v few first) in
+    let r = subst (λ (q : Result Bool WriteFailed). RunsAhead (request_of_engine e) h (longest_of ahead) lines (bytes_of ahead) items {E = WriteFailed} c.take_ahead-taken.result.passed c.take_ahead-taken.new.self c.take_ahead-taken.result.regs (g.W.Sink.device c.args.out.now) (g.W.Sink.device c.take_ahead-taken.new.out) q)
+    (c.in-Ok-false.is ∙ ap (λ b. Ok b) c.in-Ok-false.field-0-test) (c.take_ahead-taken.ensures.gives h lines items v few first) in
     let stands = r.ends.0 in
-    let over = subst (λ n. GaveAhead h.codes (limit_of f) lines (ahead_of f) n items r.items) (sym c.passed-passed.ensures.passed)
-    (gave_over h.codes (longest_of ahead) (limit_of f) lines (bytes_of ahead) (ahead_of f) (passed_of c.take_ahead-answer.new.ahead) items r.items a.limit a.bytes stands.gave) in
-    let e' : Engine = record { view = e.view; regs = c.take_ahead-answer.new.regs; machine = c.take_ahead-answer.new.self; going = e.going } in
+    let over = gave_over h.codes (longest_of ahead) (limit_of f) lines (bytes_of ahead) (ahead_of f) c.take_ahead-taken.result.passed items r.items a.limit a.bytes stands.gave in
+    let e' : Engine = record { view = e.view; regs = c.take_ahead-taken.result.regs; machine = c.take_ahead-taken.new.self; going = e.going } in
     record {
       more = r.items;
       mid = r.mid;
       on = r.on;
       grows = r.grows;
       last = (
-        runs_behind h i front items e e' f c.pass_items.new.feed (longest_of ahead) lines (bytes_of ahead) (passed_of c.take_ahead-answer.new.ahead) s r.items stands
-        (c.pass_items.ensures.gives h.codes i front items r.items e.regs c.take_ahead-answer.new.regs s.gave over stands.known) refl c.take_ahead-answer.ensures.request
-        (c.pass_items.ensures.looked ∙ ap (λ n. seen f + n) c.passed-passed.ensures.passed),
+        runs_behind h i front items e e' f c.pass_items.new.feed (longest_of ahead) lines (bytes_of ahead) c.take_ahead-taken.result.passed s r.items stands
+        (c.pass_items.ensures.gives h.codes i front items r.items e.regs c.take_ahead-taken.result.regs s.gave over stands.known) refl c.take_ahead-taken.ensures.request
+        c.pass_items.ensures.looked,
         r.ends.1,
       );
     }
@@ -72,17 +70,17 @@ pub returns-in-Err-clause-gives : goal.returns-in-Err-clause-gives
 returns-in-Err-clause-gives g c = λ h i front items s.
     let e = c.args.self.now in
     let f = c.args.feed.now in
-    let a = c.ahead-ahead.ensures in
-    let ahead = c.ahead-ahead.result in
+    let a = c.ahead.ensures in
+    let ahead = c.ahead.result in
     let v : Views (parts c.args.view) h = rw c.requires.view s.holds.views in
     let lines = lines_of f in
     let bounded = subst (λ bs. seen f + length bs < 2 ^ 63) (sym a.bytes) a.bounded in
     let few : length items + length (bytes_of ahead) < 2 ^ 63 = let each = s.few in omega arith in
     let first = subst (λ n. StandsAhead (request_of_engine e) h (longest_of ahead) lines (bytes_of ahead) items n [] e.machine e.regs) (sym a.passed) (stands_first e h i front items f (longest_of ahead) lines (bytes_of ahead) s) in
-    let r = c.in-Err.ensures.gives h lines items v few first in
+    let r = subst (λ (q : Result Bool WriteFailed). RunsAhead (request_of_engine e) h (longest_of ahead) lines (bytes_of ahead) items {E = WriteFailed} c.take_ahead-taken.result.passed c.take_ahead-taken.new.self c.take_ahead-taken.result.regs (g.W.Sink.device c.args.out.now) (g.W.Sink.device c.take_ahead-taken.new.out) q)
+    c.in-Err.is (c.take_ahead-taken.ensures.gives h lines items v few first) in
     let x = r.ends.0 in
     let one = r.ends.1 in
-    let over = subst (λ n. GaveAhead h.codes (limit_of f) lines (ahead_of f) n items (r.items ++ x ∷ [])) (sym c.passed-passed.ensures.passed)
-    (gave_over h.codes (longest_of ahead) (limit_of f) lines (bytes_of ahead) (ahead_of f) (passed_of c.take_ahead-answer.new.ahead) items (r.items ++ x ∷ []) a.limit a.bytes one.gave) in
+    let over = gave_over h.codes (longest_of ahead) (limit_of f) lines (bytes_of ahead) (ahead_of f) c.take_ahead-taken.result.passed items (r.items ++ x ∷ []) a.limit a.bytes one.gave in
     let w : c.into.result ≡ Write = search rules in
-    rw w (record { more = r.items; mid = r.mid; on = r.on; grows = r.grows; last = inl (x, c.pass_items.ensures.ends h.codes i front items r.items x e.regs c.take_ahead-answer.new.regs s.gave over one.known, r.ends.2) })
+    rw w (record { more = r.items; mid = r.mid; on = r.on; grows = r.grows; last = inl (x, c.pass_items.ensures.ends h.codes i front items r.items x e.regs c.take_ahead-taken.result.regs s.gave over one.known, r.ends.2) })
