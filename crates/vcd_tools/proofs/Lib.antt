@@ -33,6 +33,7 @@ pub mod MergeCloses
 pub mod WholeInputs
 pub mod MergeReads
 pub mod MergeStart
+pub mod MergeRoomLemmas
 pub mod MergeOutcomes
 pub mod MergeWholes
 pub mod MergeStops

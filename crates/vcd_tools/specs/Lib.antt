@@ -18,6 +18,7 @@ pub mod Seat
 pub mod SeatStep
 pub mod MergeOrder
 pub mod MergeParts
+pub mod MergeRoom
 pub mod MergeStep
 pub mod MergeTrail
 pub mod MergeRun

@@ -14,6 +14,7 @@ ghost use Rattle.vcd_tools.specs.MergeRun.{Follows};
 ghost use Rattle.vcd_model.specs.Header.{Header};
 ghost use Rattle.vcd_model.specs.HeadText.{merged_head};
 ghost use Rattle.vcd_head.specs.Merged.{HaveRoom, ShowHeaders};
+ghost use Rattle.vcd_tools.specs.MergeRoom.{MergeIsWithinBound, no_windows, windows_size};
 ghost use Rattle.vcd_tools.specs.MergeStart.{AreBegun, HasBegun};
 ghost use Rattle.vcd_tools.specs.Step.{goes_on};
 ghost use Rattle.vcd_tools.specs.MergeStep.{AreMarked, Gives, Holds, IsReady, failures_with, is_going, last_written, left_of, standing_of};
@@ -213,6 +214,8 @@ impl<'h, 's> Merge<'h, 's> {
         requires many { length heads.now ≤ 64 }
         requires heads { length heads.now ≡ length seats.old }
         requires failures { (W.device out.old).failures < 2 ^ 64 - 1 }
+        requires bound { (limit : ℕ) → MergeIsWithinBound limit heads.now no_windows
+            (length marks.old) }
         ensures takes { (hs : List Header) → ShowHeaders heads.now hs
             → HaveRoom (length marks.old) hs
             → Takes (W.device out.old) (W.device out.new) (merged_head hs) result }
@@ -360,6 +363,9 @@ pub fn merge_step<S: Source, W: Sink>(
     requires out_failures { (W.device out.old).failures < 2 ^ 64 - 1 }
     requires going { is_going merge.old ≡ true }
     requires ready { IsReady (standing_of merge.old sources.old windows.old) }
+    requires bound { MergeIsWithinBound
+        (part_len (length merge.old.seats.now) windows.old.tokens.now) merge.old.heads.now
+        (windows_size windows.old) 0 }
     ensures gives { (hs : List Header) (lanes : List Lane) (ds : List Dump)
         → Holds S.rest hs lanes ds (standing_of merge.old sources.old windows.old)
         → Gives S.rest hs lanes ds (standing_of merge.old sources.old windows.old)
@@ -369,6 +375,7 @@ pub fn merge_step<S: Source, W: Sink>(
         → IsReady (standing_of merge.new sources.new windows.new) }
     ensures lengths { (length merge.new.seats.now ≡ length merge.old.seats.now)
         × SameLengths windows.old windows.new }
+    ensures heads { merge.new.heads.now ≡ merge.old.heads.now }
     ensures reads { (k : ℕ) × IsNext merge.old.seats.now k
         × (map S.failures sources.new ≡ failures_with (map S.failures sources.old) k result)
         × NamesInput k result }
@@ -410,6 +417,9 @@ fn run_step<S: Source, W: Sink>(
     requires out_failures { (W.device out.old).failures < 2 ^ 64 - 1 }
     requires going { is_going merge.old ≡ true }
     requires ready { IsReady (standing_of merge.old sources.old windows.old) }
+    requires bound { MergeIsWithinBound
+        (part_len (length merge.old.seats.now) windows.old.tokens.now) merge.old.heads.now
+        (windows_size windows.old) 0 }
     ensures runs { (hs : List Header) (lanes : List Lane) (ds : List Dump)
         → Holds S.rest hs lanes ds (standing_of merge.old sources.old windows.old)
         → RunGives S.rest S.failures hs lanes false ds
@@ -420,6 +430,7 @@ fn run_step<S: Source, W: Sink>(
         → IsReady (standing_of merge.new sources.new windows.new) }
     ensures lengths { (length merge.new.seats.now ≡ length merge.old.seats.now)
         × SameLengths windows.old windows.new }
+    ensures heads { merge.new.heads.now ≡ merge.old.heads.now }
     ensures reads { (k : ℕ) × IsNext merge.old.seats.now k
         × (map S.failures sources.new ≡ failures_with (map S.failures sources.old) k result)
         × NamesInput k result }
@@ -454,6 +465,9 @@ impl<'h, 's> Merge<'h, 's> {
         requires out_failures { (W.device out.old).failures < 2 ^ 64 - 1 }
         requires going { is_going self.old ≡ true }
         requires ready { IsReady (standing_of self.old sources.old windows.old) }
+        requires bound { MergeIsWithinBound
+            (part_len (length self.old.seats.now) windows.old.tokens.now) self.old.heads.now
+            (windows_size windows.old) 0 }
 
         // Where the merge holds these items, and the output has what is due with them, it is the merge of its inputs.
         ensures gives { (hs : List Header) (lanes : List Lane) (ds : List Dump)
