@@ -28,6 +28,7 @@ pub mod MergeCounts
 pub mod MergeTrails
 pub mod MergeRunOn
 pub mod MergeFirst
+pub mod MergeTurns
 pub mod MergeRuns
 pub mod MergeCloses
 pub mod WholeInputs
