@@ -35,6 +35,5 @@ pub mod WholeInputs
 pub mod MergeReads
 pub mod MergeStart
 pub mod MergeRoomLemmas
-pub mod MergeOutcomes
 pub mod MergeWholes
 pub mod MergeStops

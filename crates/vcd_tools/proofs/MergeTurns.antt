@@ -9,7 +9,6 @@ use Rattle.vcd_tools.specs.declared.seat.Seat.{Seat}
 use Rattle.vcd_tools.specs.declared.turns.Turn.{Turn}
 
 module _ (seats : List Seat) (n : ℕ) (x : Seat) (here : slice_get seats n ≡ Some x) where
-
   one_seat : (s : Seat) → Some x ≡ Some s → x ≡ s
   one_seat s e = cc
 
@@ -20,7 +19,6 @@ module _ (seats : List Seat) (n : ℕ) (x : Seat) (here : slice_get seats n ≡ 
       by_order : (j < n) ⊎ (n ≤ j) → (j < n) ⊎ ((j ≡ n) × (x ≡ s))
       by_order (inl l) = inl l
       by_order (inr l) = let e : j ≡ n = omega (arith, l, within) in inr (e, one_seat s (sym here ∙ ap (slice_get seats) (sym e) ∙ at))
-
 
   -- where n has finished, one that has not is before it
   going_before : x.finished ≡ true → (j : ℕ) (s : Seat) → j < n + 1 → slice_get seats j ≡ Some s → s.finished ≡ false → j < n
@@ -85,7 +83,7 @@ module _ (seats : List Seat) (n : ℕ) (x : Seat) (here : slice_get seats n ≡ 
     unfinished = going0;
     time_is = refl;
     least = least;
-    first = λ t h j s w other at going. inl (not_less t h s (a.least j s (other_before j s w other) at going) );
+    first = λ t h j s w other at going. inl (not_less t h s (a.least j s (other_before j s w other) at going));
   }
     where
       not_less : {j : ℕ} (t : ℕ) → t < turn.time → (s : Seat) → (a.seat.time < s.time) ⊎ ((a.seat.time ≡ s.time) × (turn.input ≤ j)) → t < s.time
