@@ -56,6 +56,8 @@ mod engine;
 mod item_text;
 mod machine;
 mod merge_steps;
+#[cfg(test)]
+mod merge_tests;
 mod merging;
 mod report;
 mod rows;
