@@ -29,12 +29,12 @@ room_fits limit h w v r ws is room =
     let m = codes_fit h.codes in
     omega arith
 
--- what a header keeps, its feed and its registers count at most its bound
-head_fits : (limit : ℕ) (h : Header) → 65536 + 512 + 2 * limit + text_bytes h + 49 * length h.declarations + 86 * length h.codes ≤ input_bound limit h
+-- what a header keeps, its feed, its registers and a mark a declaration count at most its bound
+head_fits : (limit : ℕ) (h : Header) → 65536 + 512 + 2 * limit + text_bytes h + 50 * length h.declarations + 86 * length h.codes ≤ input_bound limit h
 head_fits limit h = let m = codes_fit h.codes in omega arith
 
 heads_fit : (limit : ℕ) (hs : List Header)
-    → length hs * 65536 + 512 * length hs + 2 * (length hs * limit) + sum_by text_bytes hs + 49 * sum_by (λ h. length h.declarations) hs + 86 * sum_by (λ h. length h.codes) hs ≤ sum_by (input_bound limit) hs
+    → length hs * 65536 + 512 * length hs + 2 * (length hs * limit) + sum_by text_bytes hs + 50 * sum_by (λ h. length h.declarations) hs + 86 * sum_by (λ h. length h.codes) hs ≤ sum_by (input_bound limit) hs
 heads_fit limit [] = omega arith
 heads_fit limit (h ∷ hs) =
     let own = head_fits limit h in
@@ -47,8 +47,18 @@ heads_fit limit (h ∷ hs) =
 
 pub merge_fits : MergeFits
 unfolding bound
-merge_fits limit hs w v ws are =
+merge_fits limit hs w v marks ws are few =
     let a = ws.chunk in let b = ws.token in let c = ws.value in
     let d = are.text in let e = are.rows in let f = are.codes in let g = are.index in let i = are.look_up in
-    let m = heads_fit limit hs in
+    let m = heads_fit limit hs in let l = few in
+    omega arith
+
+-- the token limit counts twice for each input
+pub bound_of_limit : (limit : ℕ) (hs : List Header) → bound limit hs ≡ bound 0 hs + 2 * (length hs * limit)
+unfolding bound
+bound_of_limit limit [] = omega arith
+bound_of_limit limit (h ∷ hs) =
+    let others = bound_of_limit limit hs in
+    let more = sum_by-cons (input_bound limit) h hs in
+    let none = sum_by-cons (input_bound 0) h hs in
     omega arith

@@ -29,11 +29,12 @@ pub mod MergeCounts
 pub mod MergeTrails
 pub mod MergeRunOn
 pub mod MergeFirst
+pub mod MergeTurns
 pub mod MergeRuns
 pub mod MergeCloses
 pub mod WholeInputs
 pub mod MergeReads
 pub mod MergeStart
-pub mod MergeOutcomes
+pub mod MergeRoomLemmas
 pub mod MergeWholes
 pub mod MergeStops

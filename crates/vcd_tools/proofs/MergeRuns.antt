@@ -24,7 +24,7 @@ use Rattle.vcd_tools.specs.declared.answer.More.{More}
 use Rattle.vcd_tools.specs.declared.answer.More.TheVariants.{Again, Ended}
 use Rattle.vcd_tools.specs.declared.answer.Stop.{Stop}
 use Rattle.vcd_tools.specs.declared.answer.Stop.TheVariants.{Dump as Faulty, Read, Write, Unmatched}
-use Rattle.vcd_tools.proofs.MergeOutcomes.{fault_output, head_first}
+use Rattle.vcd_model.proofs.MergeSoFar.{fault_output, head_first}
 use Rattle.vcd_tools.proofs.MergeReads as reads
 use Rattle.vcd_tools.proofs.MergeReads.{AreReadSoFar, cut_left, left_whole, other_left, read_more}
 use Rattle.vcd_tools.proofs.MergeSteps.{get_map, len_map, same_or_not}

@@ -23,7 +23,7 @@ use Rattle.vcd_tools.specs.MergeStep.{AreGiven, HasFault, IsReady, Standing, Tak
 use Rattle.vcd_tools.specs.Seat.{AtSeat, HasDump, Lane, Spot}
 use Rattle.vcd_tools.specs.declared.seat.Seat.{Seat}
 use Rattle.vcd_tools.proofs.MergeAnswers.{token_len}
-use Rattle.vcd_tools.proofs.MergeOutcomes.{after_key, all_keyed, fault_outcome_is, none_between, outcome_begins, still_late, still_later, up_to_last}
+use Rattle.vcd_model.proofs.MergeSoFar.{after_key, all_keyed, fault_outcome_is, none_between, outcome_begins, still_late, still_later, up_to_last}
 use Rattle.vcd_tools.proofs.MergeSteps.{all_before, get_map, len_map, next_first, same_header, same_or_not, seat_spot, some_at}
 use Rattle.vcd_tools.proofs.MergeWholes.{AllFit, Whole, Wholes, choose_all, entire, entire_headers, entire_of, fit_at, grown_all, late_all, others_all, so_far}
 use Rattle.vcd_tools.proofs.WholeInputs.{finished, goes_on}

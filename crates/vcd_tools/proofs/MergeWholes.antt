@@ -18,7 +18,7 @@ use Rattle.vcd_tools.specs.Run.{IsLeft}
 use Rattle.vcd_tools.specs.Seat.{HasDump, Lane}
 use Rattle.vcd_tools.specs.declared.answer.Done.{Done}
 use Rattle.vcd_tools.specs.declared.answer.Stop.{Stop}
-use Rattle.vcd_tools.proofs.MergeOutcomes.{AreLate}
+use Rattle.vcd_model.proofs.MergeSoFar.{AreLate}
 
 -- an input: its lane, what was merged of it so far, what is left of it, and its dump
 pub record Whole (hs : List Header) (limit : ℕ) : Type 0 where

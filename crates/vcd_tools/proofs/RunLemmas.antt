@@ -30,7 +30,7 @@ use Rattle.vcd_body.specs.declared.item.Regs.{Regs}
 use Rattle.vcd_tools.specs.Answer.{reads_failed}
 use Rattle.vcd_text.specs.Device.{Device, Supply, Writes, WritesSome}
 use Rattle.vcd_tools.specs.Device.{Grows, GrowsSome}
-use Rattle.vcd_tools.proofs.MergeOutcomes.{fault_output}
+use Rattle.vcd_model.proofs.MergeSoFar.{fault_output}
 use Rattle.vcd_tools.specs.Engine.{CanRun, Holds, Runs, StopsAtStart, reads_body, request_of_engine}
 use Rattle.vcd_tools.specs.Run.{Belongs, Follows, IsLeft, IsRefused, is_early}
 use Rattle.vcd_tools.proofs.AskedLemmas.{last_given, read_to_end, read_to_item, read_to_stop}

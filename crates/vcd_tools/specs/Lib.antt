@@ -18,7 +18,9 @@ pub mod Step
 pub mod Seat
 pub mod SeatStep
 pub mod MergeOrder
+pub mod MergeTurns
 pub mod MergeParts
+pub mod MergeRoom
 pub mod MergeStep
 pub mod MergeTrail
 pub mod MergeRun

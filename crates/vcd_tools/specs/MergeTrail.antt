@@ -1,5 +1,5 @@
 -- Several items of one input of a merge, taken one after another.
-use Rattle.std.specs.Prelude.{◌≡◌, ◌≢◌, ℕ, ◌<◌, ◌≤◌, ◌⊎◌, Bool, true, false, List, [], ◌∷◌, ◌++◌, length, map, slice_get, Option, Some, Result}
+use Rattle.std.specs.Prelude.{◌≡◌, ℕ, ◌<◌, ◌⊎◌, Bool, true, List, [], ◌∷◌, ◌++◌, length, map, slice_get, Option, Some, Result}
 use Rattle.vcd_model.specs.Header.{Header}
 use Rattle.vcd_model.specs.Items.{BodyItem}
 use Rattle.vcd_model.specs.Merge.{Dump, merge_open, merged_items}
@@ -65,14 +65,6 @@ pub record TurnsAt {X A : Type 0} (rest : X → Option (List ℕ)) (failures : X
   pub spot_is : s ≡ record { seat = seat; rest = rest source; chunk = chunk; token = token }
   pub source_at : slice_get sources k ≡ Some source
   pub turns : RunTurns rest failures k scale first l before (record { items = items; written = written; seat = seat; source = source; chunk = chunk; token = token; out = out }) written' s' out' result
-
--- with any time before this one, the input would go before all others that have not finished
-abbrev pub IsFirstBefore : List Seat → ℕ → ℕ → Type 0
-IsFirstBefore seats k before = (t : ℕ) → t < before → (j : ℕ) (s : Seat) → j ≢ k → slice_get seats j ≡ Some s → s.finished ≡ false → (t < s.time) ⊎ ((t ≡ s.time) × (k ≤ j))
-
--- the same of the first n alone
-abbrev pub IsFirstAmong : List Seat → ℕ → ℕ → ℕ → Type 0
-IsFirstAmong seats n k before = (t : ℕ) → t < before → (j : ℕ) (s : Seat) → j < n → j ≢ k → slice_get seats j ≡ Some s → s.finished ≡ false → (t < s.time) ⊎ ((t ≡ s.time) × (k ≤ j))
 
 -- What a run of steps of one input leaves: it has gone on for some items, to `mid`, and the last step gives this. With one item alone there is that step and no other.
 pub record RunGives {X : Type 0} (rest : X → Option (List ℕ)) (failures : X → ℕ) (hs : List Header) (lanes : List Lane) (alone : Bool) (ds : List Dump) (s s' : Standing X) (out out' : Device) (result : Result More Stop) : Type 0 where

@@ -30,12 +30,12 @@
 //! - `report`, `rows`, `tally`: the seven lines of `check`; `list`; the counters of `edges`, and its rows
 //! - `samples`, `sample_lines`: `Samples`, what a sample is asked for; its lines
 //! - `whole_merge`: `merge`
-//! - `beginning`, `merge_steps`, `merging`, `seat`, `windows`: what a merge adds to each input where it begins; `Merge`, its begin,
-//!   a step of it over all inputs, and the loop over its steps; a step of one input; where an input stands; the windows of all
-//!   inputs
+//! - `beginning`, `merge_steps`, `turns`, `merging`, `seat`, `windows`: what a merge adds to each input where it begins; `Merge`,
+//!   its begin, a step of it over all inputs, and the loop over its steps; whose turn it is; a step of one input; where an input
+//!   stands; the windows of all inputs
 //!
 //! In `specs/` callers read `Run` (`Follows`), `Engine`, `Step`, `Room` and `Answer`; of a merge `MergeRun` (its
-//! `Follows`), `MergeStart`, `MergeStep`, `MergeParts`, `MergeOrder` and `Seat`.
+//! `Follows`), `MergeStart`, `MergeStep`, `MergeParts`, `MergeRoom`, `MergeOrder` and `Seat`.
 //!
 //! # Limits
 //!
@@ -57,6 +57,8 @@ mod engine;
 mod item_text;
 mod machine;
 mod merge_steps;
+#[cfg(test)]
+mod merge_tests;
 mod merging;
 mod report;
 mod rows;
@@ -71,6 +73,7 @@ mod tally;
 mod task;
 #[cfg(test)]
 mod tests;
+mod turns;
 mod whole_merge;
 mod windows;
 

@@ -8,12 +8,13 @@ ghost use Rattle.vcd_head.specs.Shown.{shown};
 ghost use Rattle.vcd_head.specs.Views.{Views};
 ghost use Rattle.vcd_tools.specs.Seat.{AtSeat, Lane, Spot, Turns};
 ghost use Rattle.vcd_tools.specs.MergeParts.{AreParts, AreSeated, SameLengths, part, part_len, spot_at};
-ghost use Rattle.vcd_tools.specs.MergeOrder.{IsNext, IsNextBefore, comes_first, greatest_time};
-ghost use Rattle.vcd_tools.specs.MergeTrail.{IsFirstAmong, IsFirstBefore, RunGives, TurnsAt};
+ghost use Rattle.vcd_tools.specs.MergeOrder.{IsNext, greatest_time};
+ghost use Rattle.vcd_tools.specs.MergeTrail.{RunGives, TurnsAt};
 ghost use Rattle.vcd_tools.specs.MergeRun.{Follows};
 ghost use Rattle.vcd_model.specs.Header.{Header};
 ghost use Rattle.vcd_model.specs.HeadText.{merged_head};
 ghost use Rattle.vcd_head.specs.Merged.{HaveRoom, ShowHeaders};
+ghost use Rattle.vcd_tools.specs.MergeRoom.{MergeIsWithinBound, no_windows, windows_size};
 ghost use Rattle.vcd_tools.specs.MergeStart.{AreBegun, HasBegun};
 ghost use Rattle.vcd_tools.specs.Step.{goes_on};
 ghost use Rattle.vcd_tools.specs.MergeStep.{AreMarked, Gives, Holds, IsReady, failures_with, is_going, last_written, left_of, standing_of};
@@ -23,6 +24,7 @@ use crate::beginning::set_seats;
 use crate::item_text::put_time_unless;
 use crate::merging::run_of;
 use crate::seat::Seat;
+use crate::turns::next_turn;
 use crate::windows::Windows;
 use vcd_head::{Head, put_merged_head};
 use vcd_text::{Sink, Source, WriteFailed};
@@ -37,41 +39,6 @@ pub struct Merge<'h, 's> {
     going: bool,
 }
 
-/// The input at a place goes before the one that was found so far, which has a smaller number.
-#[inline(always)]
-fn comes_first(seats: &[Seat], place: usize, found: Option<usize>) -> bool
-    requires place { place < length seats.now }
-    ensures { result ≡ comes_first seats.now place found }
-{
-    let Some(seat) = seats.get(place) else {
-        return false;
-    };
-    if seat.finished {
-        return false;
-    }
-    match found {
-        Some(other) => match seats.get(other) {
-            Some(other) => seat.time < other.time,
-            None => true,
-        },
-        None => true,
-    }
-}
-
-/// The input whose turn it is: of those that have not finished the one of least time, and of these the first.
-fn next_input(seats: &[Seat]) -> Option<usize>
-    ensures { MatchOption result (All (λ (s : Seat). s.finished ≡ true) seats.now)
-        (IsNext seats.now) }
-{
-    let mut found = None;
-    for place in 0..seats.len() {
-        if comes_first(seats, place, found) {
-            found = Some(place);
-        }
-    }
-    found
-}
-
 /// Some input has not finished: this one, or another.
 #[inline(always)]
 fn some_left(seats: &[Seat], input: usize) -> bool
@@ -82,37 +49,7 @@ fn some_left(seats: &[Seat], input: usize) -> bool
     if !seats[input].finished {
         return true;
     }
-    next_input(seats).is_some()
-}
-
-/// The time before which an input goes before another.
-#[inline(always)]
-fn time_of(seat: &Seat, place: usize, input: usize) -> u64
-    ensures { (t : ℕ) → t < result → place ≢ input → seat.now.finished ≡ false
-        → (t < seat.now.time) ⊎ ((t ≡ seat.now.time) × (input ≤ place)) }
-{
-    if seat.finished || place == input {
-        return u64::MAX;
-    }
-    if place < input {
-        return seat.time;
-    }
-    seat.time.saturating_add(1)
-}
-
-/// The time before which an input goes before all others; 0 where it is to give one item alone.
-fn first_before(seats: &[Seat], input: usize, alone: bool) -> u64
-    ensures first { IsFirstBefore seats.now input result }
-    ensures alone { alone ≡ true → result ≡ 0 }
-{
-    if alone {
-        return 0;
-    }
-    let mut before = u64::MAX;
-    for place in 0..seats.len() {
-        before = before.min(time_of(&seats[place], place, input));
-    }
-    before
+    next_turn(seats).is_some()
 }
 
 /// The greatest time mark of all inputs.
@@ -213,6 +150,8 @@ impl<'h, 's> Merge<'h, 's> {
         requires many { length heads.now ≤ 64 }
         requires heads { length heads.now ≡ length seats.old }
         requires failures { (W.device out.old).failures < 2 ^ 64 - 1 }
+        requires bound { (limit : ℕ) → MergeIsWithinBound limit heads.now no_windows
+            (length marks.old) }
         ensures takes { (hs : List Header) → ShowHeaders heads.now hs
             → HaveRoom (length marks.old) hs
             → Takes (W.device out.old) (W.device out.new) (merged_head hs) result }
@@ -335,10 +274,11 @@ fn step<S: Source, W: Sink>(
     ensures writes { (W.device out.new).failures
         ≡ (W.device out.old).failures + writes_failed result }
 {
-    let Some(input) = next_input(seats) else {
+    let Some(next) = next_turn(seats) else {
         return Ok(More::Ended(Done::Whole));
     };
-    let before = first_before(seats, input, alone);
+    let input = next.input;
+    let before = next.end(alone);
     turn(heads, input, before, seats, sources, windows, written, out)?;
     if some_left(seats, input) {
         return Ok(More::Again);
@@ -360,6 +300,9 @@ pub fn merge_step<S: Source, W: Sink>(
     requires out_failures { (W.device out.old).failures < 2 ^ 64 - 1 }
     requires going { is_going merge.old ≡ true }
     requires ready { IsReady (standing_of merge.old sources.old windows.old) }
+    requires bound { MergeIsWithinBound
+        (part_len (length merge.old.seats.now) windows.old.tokens.now) merge.old.heads.now
+        (windows_size windows.old) 0 }
     ensures gives { (hs : List Header) (lanes : List Lane) (ds : List Dump)
         → Holds S.rest hs lanes ds (standing_of merge.old sources.old windows.old)
         → Gives S.rest hs lanes ds (standing_of merge.old sources.old windows.old)
@@ -369,6 +312,7 @@ pub fn merge_step<S: Source, W: Sink>(
         → IsReady (standing_of merge.new sources.new windows.new) }
     ensures lengths { (length merge.new.seats.now ≡ length merge.old.seats.now)
         × SameLengths windows.old windows.new }
+    ensures heads { merge.new.heads.now ≡ merge.old.heads.now }
     ensures reads { (k : ℕ) × IsNext merge.old.seats.now k
         × (map S.failures sources.new ≡ failures_with (map S.failures sources.old) k result)
         × NamesInput k result }
@@ -410,6 +354,9 @@ fn run_step<S: Source, W: Sink>(
     requires out_failures { (W.device out.old).failures < 2 ^ 64 - 1 }
     requires going { is_going merge.old ≡ true }
     requires ready { IsReady (standing_of merge.old sources.old windows.old) }
+    requires bound { MergeIsWithinBound
+        (part_len (length merge.old.seats.now) windows.old.tokens.now) merge.old.heads.now
+        (windows_size windows.old) 0 }
     ensures runs { (hs : List Header) (lanes : List Lane) (ds : List Dump)
         → Holds S.rest hs lanes ds (standing_of merge.old sources.old windows.old)
         → RunGives S.rest S.failures hs lanes false ds
@@ -420,6 +367,7 @@ fn run_step<S: Source, W: Sink>(
         → IsReady (standing_of merge.new sources.new windows.new) }
     ensures lengths { (length merge.new.seats.now ≡ length merge.old.seats.now)
         × SameLengths windows.old windows.new }
+    ensures heads { merge.new.heads.now ≡ merge.old.heads.now }
     ensures reads { (k : ℕ) × IsNext merge.old.seats.now k
         × (map S.failures sources.new ≡ failures_with (map S.failures sources.old) k result)
         × NamesInput k result }
@@ -454,6 +402,9 @@ impl<'h, 's> Merge<'h, 's> {
         requires out_failures { (W.device out.old).failures < 2 ^ 64 - 1 }
         requires going { is_going self.old ≡ true }
         requires ready { IsReady (standing_of self.old sources.old windows.old) }
+        requires bound { MergeIsWithinBound
+            (part_len (length self.old.seats.now) windows.old.tokens.now) self.old.heads.now
+            (windows_size windows.old) 0 }
 
         // Where the merge holds these items, and the output has what is due with them, it is the merge of its inputs.
         ensures gives { (hs : List Header) (lanes : List Lane) (ds : List Dump)

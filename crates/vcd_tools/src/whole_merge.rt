@@ -5,6 +5,7 @@ ghost use Rattle.vcd_text.specs.Device.{supply};
 ghost use Rattle.vcd_head.specs.Merged.{HaveRoom, ShowHeaders};
 ghost use Rattle.vcd_tools.specs.Answer.{NamesInput, writes_failed};
 ghost use Rattle.vcd_tools.specs.MergeParts.{AreParts, AreSeated, SameLengths, part_len};
+ghost use Rattle.vcd_tools.specs.MergeRoom.{MergeIsWithinBound, windows_size};
 ghost use Rattle.vcd_tools.specs.MergeRun.{Follows};
 ghost use Rattle.vcd_tools.specs.MergeStart.{HaveNoItems};
 ghost use Rattle.vcd_tools.specs.MergeStep.{failures_with};
@@ -42,6 +43,8 @@ pub fn merge<S: Source, W: Sink>(
     requires seated { AreSeated windows.old.chunks.now windows.old.tokens.now seats.old }
     requires reads { All (λ s. S.failures s < 2 ^ 64 - 1) sources.old }
     requires out_failures { (W.device out.old).failures < 2 ^ 64 - 1 }
+    requires bound { MergeIsWithinBound (part_len (length seats.old) windows.old.tokens.now)
+        heads.now (windows_size windows.old) (length marks.old) }
     ensures follows { (hs : List Header) (lanes : List Lane) (names : List (List ℕ))
         → ShowHeaders heads.now hs → map (λ (l : Lane). l.header) lanes ≡ hs
         → HaveRoom (length marks.old) hs

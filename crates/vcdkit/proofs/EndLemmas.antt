@@ -4,6 +4,7 @@ use Rattle.std.specs.Prelude.{get_or, slice_set}
 use Rattle.std.proofs.lemmas.List.{set-get_or}
 use Rattle.std.specs.List.{AllByRecursion, AllZip}
 use Rattle.std.proofs.Math.Nat.{mul-div_cancel_left}
+use Rattle.std.proofs.lemmas.Nat.{mul-le}
 use Rattle.vcd_model.specs.Header.{Header}
 use Rattle.vcd_head.specs.Shown.{shown}
 use Rattle.vcd_head.specs.Views.{Views}
@@ -19,6 +20,7 @@ use Rattle.vcd_text.specs.Answer.{whole}
 use Rattle.vcd_text.specs.Device.{Device, Supply, Writes, supply}
 use Rattle.vcd_text.proofs.Writes.{appends-none}
 use Rattle.vcd_tools.specs.Answer.{NamesInput}
+use Rattle.vcd_tools.specs.MergeRoom.{MergeIsWithinBound, kept_in, windows_size}
 use Rattle.vcd_tools.specs.MergeRun.{Belongs, Follows}
 use Rattle.vcd_tools.specs.MergeStep.{failures_with}
 use Rattle.vcd_tools.specs.Seat.{Lane}
@@ -26,6 +28,8 @@ use Rattle.vcd_tools.specs.declared.answer.Done.{Done}
 use Rattle.vcd_tools.specs.declared.answer.Done.TheVariants as done
 use Rattle.vcd_tools.specs.declared.answer.Stop.{Stop}
 use Rattle.vcd_tools.specs.declared.answer.Stop.TheVariants.{Dump, Read, Write, Unmatched}
+use Rattle.vcd_tools.specs.declared.windows.Windows.{Windows}
+use Rattle.vcd_tools.proofs.MergeRoomLemmas.{merge_within}
 use Rattle.vcdkit.specs.declared.failure.Failure.{Failure}
 use Rattle.vcdkit.specs.declared.failure.Failure.TheVariants.{Stopped, Refused, OutOfMemory}
 use Rattle.vcdkit.specs.declared.failure.Refusal.{Refusal}
@@ -202,6 +206,25 @@ parts_of n chunk limit cs ts vs some c l ec et ev = record {
   chunk_some = rw (part_is n chunk cs some ec) c;
   token_some = rw (part_is n limit ts some et) l;
 }
+
+-- ---- what a merge is lent
+
+-- windows of n inputs under these limits, and no more marks than these n heads have rows
+pub lends_within : (n chunk limit seats : ℕ) (heads : List Head) (w : Windows) (marks : ℕ) → 0 < n → chunk ≤ 65536 → length w.chunks.now ≡ n * chunk → length w.tokens.now ≡ n * limit → length w.values.now ≡ n * limit → length heads ≡ n → seats ≡ n → marks ≤ (kept_in heads).rows
+    → MergeIsWithinBound (part_len seats w.tokens.now) heads (windows_size w) marks
+lends_within n chunk limit seats heads w marks some small lc lt lv many alike few =
+    let here = part_is n limit w.tokens.now some lt in
+    rw (alike, here) (merge_within limit heads (windows_size w) marks (record {
+      chunk = all_chunks;
+      token = omega (arith, lt, alone limit);
+      value = omega (arith, lv, alone limit);
+    }) few)
+  where
+    all_chunks : length w.chunks.now ≤ length heads * 65536
+    all_chunks = rw (lc, many) (mul-le n chunk n 65536 (omega arith) small)
+
+    alone : (size : ℕ) → length heads * size ≡ n * size
+    alone size = ap (λ m. m * size) many
 
 -- ---- the reads of a merge
 

@@ -12,6 +12,7 @@ ghost use Rattle.vcd_head.specs.Views.{Views};
 ghost use Rattle.vcd_text.specs.Advances.{HasNotFailed};
 ghost use Rattle.vcd_head.specs.declared.fault.HeadFault.{HeadFault};
 ghost use Rattle.vcd_tools.specs.MergeParts.{AreParts, SameLengths, part, part_len};
+ghost use Rattle.vcd_tools.specs.MergeRoom.{kept_in};
 ghost use Rattle.vcd_tools.specs.Seat.{IsSeated};
 ghost use Rattle.vcdkit.specs.Failure.{failure_of, head_failure, writes_failed, CountsRead, CountsReads};
 ghost use Rattle.vcdkit.specs.Inputs.{Begins, BeginsAt, HasFailed, HaveBegun, IsNew, SameParts, Stops};
@@ -231,8 +232,9 @@ pub(crate) fn open_inputs<S: Source>(
 
 /// How many marks are enough for the header of each of these heads.
 pub(crate) fn marks_for(heads: &[Head]) -> usize
-    ensures { (hs : List Header) → AllZip (λ (head : Head) (h : Header). Views (shown head) h) heads.now hs
+    ensures enough { (hs : List Header) → AllZip (λ (head : Head) (h : Header). Views (shown head) h) heads.now hs
         → AllByRecursion (λ (h : Header). length h.declarations ≤ result) hs }
+    ensures few { result ≤ (kept_in heads.now).rows }
 {
     let mut most = 0;
     for head in heads {

@@ -1,14 +1,16 @@
-use Rattle.std.proofs.Common.{◌≡◌, List, length, map, Err, sym, ap, subst, ◌∙◌, add-zero, arith, rules}
+use Rattle.std.proofs.Common.{◌≡◌, ◌*◌, List, length, map, Err, refl, sym, ap, subst, ◌∙◌, add-zero, arith, rules}
 use Rattle.std.specs.Prelude.{get_or, slice_set}
 use Rattle.std.proofs.lemmas.List.{set-get_or}
 use Rattle.std.proofs.lemmas.Slice.Zip.{AllZip-long}
 use Rattle.vcd_model.specs.HeadText.{merged_head}
 use Rattle.vcd_text.specs.Device.{Device, Supply, Writes, WritesSome, supply}
 use Rattle.vcd_tools.specs.MergeParts.{part_len}
+use Rattle.vcd_tools.specs.MergeRoom.{windows_size}
 use Rattle.vcd_tools.specs.MergeRun.{Follows}
 use Rattle.vcd_tools.specs.MergeStart.{no_items}
 use Rattle.vcd_tools.specs.Seat.{Lane}
 use Rattle.vcd_tools.specs.declared.answer.Stop.TheVariants.{Write}
+use Rattle.vcd_tools.proofs.MergeRoomLemmas.{still_within, without_marks, without_windows}
 use Rattle.vcd_tools.proofs.MergeRuns.{unwritten_head}
 use Rattle.vcd_tools.proofs.MergeStart.{heads_given, holds_begun, opens, opens_with, ready_begun}
 use Rattle.vcd_tools.proofs.MergeSteps.{len_map}
@@ -41,6 +43,16 @@ returns-in_err-merge-clause-reads g c =
     let stop : c.in_err-merge.field-0.0 ≡ Write = c.in_err-merge.ensures.stops in
     let is : c.from_residual.result ≡ Err c.in_err-merge.field-0.0 = search rules in
     rw (is, stop) ((0, omega arith, sym (ap (slice_set ns 0) (add-zero (get_or ns 0 0)) ∙ set-get_or ns 0 0), tt))
+
+pub start-requires-clause-bound : goal.start-requires-clause-bound
+start-requires-clause-bound g c =
+    let parts = c.requires.parts in
+    without_windows (part_len (length c.args.seats.now) c.args.windows.now.tokens.now) c.args.heads.now (windows_size c.args.windows.now) (length c.args.marks.now) (sym parts.tokens_are ∙ ap (λ n. n * part_len (length c.args.seats.now) c.args.windows.now.tokens.now) (sym c.requires.heads)) parts.values_are c.requires.bound
+
+pub finish-requires-clause-bound : goal.finish-requires-clause-bound
+finish-requires-clause-bound g c =
+    let begun = c.in_ok-merge.ensures.begun in
+    still_within (length c.args.seats.now) _ c.args.heads.now _ c.args.windows.now c.args.windows.now 0 begun.many begun.heads_are (record { chunks = refl; tokens = refl; values = refl }) (without_marks _ c.args.heads.now (windows_size c.args.windows.now) (length c.args.marks.now) c.requires.bound)
 
 pub finish-requires-clause-ready : goal.finish-requires-clause-ready
 finish-requires-clause-ready g c =

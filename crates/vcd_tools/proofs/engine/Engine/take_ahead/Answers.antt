@@ -1,4 +1,4 @@
-use Rattle.std.proofs.Common.{rules, ◌≡◌, ◌+◌, ◌^◌, ◌<◌, ◌++◌, ◌∷◌, [], List, Bool, Result, Ok, Err, length, inl, refl, sym, ap, subst, ◌∙◌, arith}
+use Rattle.std.proofs.Common.{rules, ◌≡◌, ◌+◌, ◌^◌, ◌<◌, ◌++◌, ◌∷◌, [], List, Bool, true, false, Result, Ok, Err, length, inl, refl, sym, ap, subst, ◌∙◌, arith}
 use Rattle.vcd_text.specs.Ahead.{ahead_of, bytes_of, lines_of, longest_of, passed_of}
 use Rattle.vcd_text.specs.Feed.{limit_of, seen}
 use Rattle.vcd_text.specs.Passed.{Passed}
@@ -30,8 +30,9 @@ returns-in-Ok-true-clause-gives g c = λ h i front items s.
     let bounded = subst (λ bs. seen f + length bs < 2 ^ 63) (sym a.bytes) a.bounded in
     let few : length items + length (bytes_of ahead) < 2 ^ 63 = let each = s.few in omega arith in
     let first = subst (λ n. StandsAhead (request_of_engine e) h (longest_of ahead) lines (bytes_of ahead) items n [] e.machine e.regs) (sym a.passed) (stands_first e h i front items f (longest_of ahead) lines (bytes_of ahead) s) in
+    let is : c.take_ahead-taken.result.ended ≡ Ok true = search rules in
     let r = subst (λ (q : Result Bool WriteFailed). RunsAhead (request_of_engine e) h (longest_of ahead) lines (bytes_of ahead) items {E = WriteFailed} c.take_ahead-taken.result.passed c.take_ahead-taken.new.self c.take_ahead-taken.result.regs (g.W.Sink.device c.args.out.now) (g.W.Sink.device c.take_ahead-taken.new.out) q)
-    (c.in-Ok-true.is ∙ ap (λ b. Ok b) c.in-Ok-true.field-0-test) (c.take_ahead-taken.ensures.gives h lines items v few first) in
+    is (c.take_ahead-taken.ensures.gives h lines items v few first) in
     let x = r.ends.0 in
     let one = r.ends.2 in
     let over = gave_over h.codes (longest_of ahead) (limit_of f) lines (bytes_of ahead) (ahead_of f) c.take_ahead-taken.result.passed items (r.items ++ x ∷ []) a.limit a.bytes one.gave in
@@ -48,8 +49,9 @@ returns-in-Ok-false-clause-gives g c = λ h i front items s.
     let bounded = subst (λ bs. seen f + length bs < 2 ^ 63) (sym a.bytes) a.bounded in
     let few : length items + length (bytes_of ahead) < 2 ^ 63 = let each = s.few in omega arith in
     let first = subst (λ n. StandsAhead (request_of_engine e) h (longest_of ahead) lines (bytes_of ahead) items n [] e.machine e.regs) (sym a.passed) (stands_first e h i front items f (longest_of ahead) lines (bytes_of ahead) s) in
+    let is : c.take_ahead-taken.result.ended ≡ Ok false = search rules in
     let r = subst (λ (q : Result Bool WriteFailed). RunsAhead (request_of_engine e) h (longest_of ahead) lines (bytes_of ahead) items {E = WriteFailed} c.take_ahead-taken.result.passed c.take_ahead-taken.new.self c.take_ahead-taken.result.regs (g.W.Sink.device c.args.out.now) (g.W.Sink.device c.take_ahead-taken.new.out) q)
-    (c.in-Ok-false.is ∙ ap (λ b. Ok b) c.in-Ok-false.field-0-test) (c.take_ahead-taken.ensures.gives h lines items v few first) in
+    is (c.take_ahead-taken.ensures.gives h lines items v few first) in
     let stands = r.ends.0 in
     let over = gave_over h.codes (longest_of ahead) (limit_of f) lines (bytes_of ahead) (ahead_of f) c.take_ahead-taken.result.passed items r.items a.limit a.bytes stands.gave in
     let e' : Engine = record { view = e.view; regs = c.take_ahead-taken.result.regs; machine = c.take_ahead-taken.new.self; going = e.going } in

@@ -12,6 +12,7 @@ use Rattle.vcd_tools.specs.declared.answer.Stop.{Stop}
 use Rattle.vcd_tools.specs.declared.answer.More.TheVariants.{Again, Ended}
 use Rattle.vcd_tools.specs.declared.windows.Windows.{Windows}
 use Rattle.vcd_tools.proofs.MergeRuns.{advances_on, ended_merge, keeps_limit, long, reads_on, same_failures, still_low, stopped_merge}
+use Rattle.vcd_tools.proofs.MergeRoomLemmas.{still_within}
 use Rattle.vcd_tools.proofs.MergeRunOn.{mid_chunk, mid_counts, mid_limit, mid_next, mid_read, mid_writes}
 use Rattle.vcd_tools.proofs.merge_steps.Merge.finish.Goals as goal
 
@@ -27,6 +28,11 @@ still_named A B k (Unmatched name) named = tt
 
 pub run_step-requires-clause-reads : goal.run_step-requires-clause-reads
 run_step-requires-clause-reads g c = still_low g.S.Source.failures c.args.sources.now c.items.sources c.items.invariant.reads c.requires.reads
+
+pub run_step-requires-clause-bound : goal.run_step-requires-clause-bound
+run_step-requires-clause-bound g c =
+    let v = c.items.invariant in
+    still_within (length c.args.self.now.seats.now) (length c.items.self.seats.now) c.args.self.now.heads.now c.items.self.heads.now c.args.windows.now c.items.windows 0 v.seats v.heads v.windows c.requires.bound
 
 pub items-preserved : goal.items-preserved
 items-preserved g c =
@@ -48,6 +54,7 @@ items-preserved g c =
       writes = st.writes ∙ ap (λ (r : Result More Stop). (g.W.Sink.device c.items.out).failures + writes_failed r) again ∙ add-zero _ ∙ v.writes;
       seats = st.lengths.0 ∙ v.seats;
       windows = same_twice c.args.windows.now c.items.windows c.run_step.new.windows v.windows st.lengths.1;
+      heads = st.heads ∙ v.heads;
       holds = λ hs lanes ds begin h w.
           let e = v.holds hs lanes ds begin h w in
           let r = st.runs hs lanes e.0 e.1 in
