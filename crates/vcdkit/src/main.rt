@@ -8,6 +8,7 @@
 //! # The modules
 //!
 //! - `command`: the words that the command line takes, and the status where it takes none
+//! - `help`: what `--help` says of each command
 //! - `words`: what the words ask for, borrowed from their matches
 //! - `job`: `Job`, `Want` with its task and its names, `UseFault`; `job_of`
 //! - `moment_word`: the times that words are, and the fault of those that are none
@@ -34,6 +35,7 @@ ghost use Rattle.vcdkit.specs.Job.{is_merge};
 
 mod command;
 mod failure;
+mod help;
 mod inputs;
 mod job;
 mod message;
