@@ -19,7 +19,7 @@ sorted() { tr -s ' ' '\n' | sed '/^$/d' | LC_ALL=C sort -u | paste -s -d ' '; }
 
 # What the help prints: of the program the commands, of each command its options.
 help_commands=$("$program" --help | awk '/^Commands:/ { on = 1; next } /^$/ { on = 0 } on { print $1 }' | sorted)
-help_options() { "$program" "$@" --help | awk '/^Options:/ { on = 1; next } on && NF' | grep -oE '^ +(-[A-Za-z], )?--?[A-Za-z-]+' | tr -d , | sorted; }
+help_options() { "$program" "$@" --help | awk '/^Options:/ { on = 1; next } /^$/ { on = 0 } on' | grep -oE '^ +(-[A-Za-z], )?--?[A-Za-z-]+' | tr -d , | sorted; }
 
 # What bash would complete: the words, of which the last is the one to complete. `compopt` works only while bash completes.
 source completions/vcdkit.bash

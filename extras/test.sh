@@ -56,10 +56,12 @@ UWLH
 $end
 $var reg 1 U clk $end
 $var reg 9 - bus[8:0] $end
+$var string 0 s state $end
 $var real 64 h level $end
 $enddefinitions $end
 #0
 UU
+sidle s
 bUX01ZWLH- -
 r-1.5e3 h
 $comment

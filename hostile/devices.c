@@ -3,6 +3,7 @@
 //   READ_MOST=N     a read gives at most N bytes;   READ_FAILS=N    read number N fails
 //   WRITE_MOST=N    the same of writes to standard output;   WRITE_FAILS=N
 //   ERROR_MOST=N    and of those to the error stream;   ERROR_FAILS=N
+//   INTERRUPTED=1   these calls are interrupted (EINTR) where they would fail
 //   COUNTS=FILE     at the end the number of requests for memory and of reads is written to the file
 #define _GNU_SOURCE
 #include <dlfcn.h>
@@ -39,7 +40,7 @@ void *realloc(void *at, size_t size) {
 
 static ssize_t limited(long call, long most, long fails, long device, int fd, void *bytes, size_t size) {
     if (call == fails) {
-        errno = EIO;
+        errno = getenv("INTERRUPTED") ? EINTR : EIO;
         return -1;
     }
     if (most > 0 && size > (size_t)most) size = most;

@@ -104,6 +104,12 @@ def devices(place, case):
             out, message, status = place.run(case, files, error_most=most, error_fails=call)
             if not (out == want[0] and want[1].startswith(message) and status == want[2]):
                 yield say(case, "write %d of %d bytes each to the error stream fails" % (call, most), want, (out, message, status))
+    for device in ("read", "write", "error"):
+        for call in range(1, 6):
+            runs += 1
+            got = place.run(case, files, interrupted=1, **{device + "_most": 7, device + "_fails": call})
+            if got != want:
+                yield say(case, "%s %d of 7 bytes each is interrupted" % (device, call), want, got)
     yield runs
 
 

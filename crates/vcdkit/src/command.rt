@@ -1,8 +1,10 @@
 //! The command line: which words it takes, and the exit status where it takes none.
 ghost use Rattle.std.specs.Prelude.{◌≡◌, IfOk, false};
-ghost use Rattle.clap.specs.Words.{app_of, is_broken, kind_of, rule_of};
+ghost use Rattle.clap.specs.Words.{app_of, is_broken, kind_of, new_app, rule_of};
 ghost use Rattle.vcdkit.specs.Words.{cut_app, limit_rule, merge_app, named_app, one_input_app, parse_status_of, program_app, sample_app, time_rule};
 
+use crate::help;
+use crate::help::Help;
 use clap::error::ErrorKind;
 use clap::{Arg, Command, Error};
 use std::alloc::{AllocError, Global};
@@ -18,8 +20,19 @@ fn token_limit<'a>(alloc: Global) -> Arg<'a>
         .help("How long a token may be, in bytes: 64 to 16777216 [default: 1048576]")
 }
 
+/// A command of this name with its help, and no options yet.
+fn new_command<'a>(alloc: Global, name: &'a str, help: Help<'a>) -> Command<'a>
+    ensures words { app_of result ≡ new_app name.entry.now }
+    ensures whole { is_broken result ≡ false }
+{
+    Command::new(alloc, name)
+        .about(help.about)
+        .override_usage(help.usage)
+        .after_help(help.after)
+}
+
 /// A command over one input, with its options.
-fn one_input<'a>(alloc: Global, name: &'a str, about: &'a str) -> Result<Command<'a>, AllocError>
+fn one_input<'a>(alloc: Global, name: &'a str, help: Help<'a>) -> Result<Command<'a>, AllocError>
     ensures words { IfOk result (λ c. app_of c ≡ one_input_app name.entry.now) }
     ensures whole { IfOk result (λ c. is_broken c ≡ false) }
 {
@@ -27,8 +40,7 @@ fn one_input<'a>(alloc: Global, name: &'a str, about: &'a str) -> Result<Command
         .short('i')
         .value_name("FILE")
         .help("Reads this file in place of standard input");
-    Command::new(alloc, name)
-        .about(about)
+    new_command(alloc, name, help)
         .arg(input)?
         .arg(token_limit(alloc))
 }
@@ -37,7 +49,7 @@ fn one_input<'a>(alloc: Global, name: &'a str, about: &'a str) -> Result<Command
 fn named<'a>(
     alloc: Global,
     name: &'a str,
-    about: &'a str,
+    help: Help<'a>,
     required: bool,
 ) -> Result<Command<'a>, AllocError>
     ensures words { IfOk result (λ c. app_of c ≡ named_app name.entry.now required) }
@@ -48,7 +60,7 @@ fn named<'a>(
         .num_args(1..)
         .required(required)
         .help("A variable, or a scope with all that it has: names joined by points");
-    one_input(alloc, name, about)?.arg(names)
+    one_input(alloc, name, help)?.arg(names)
 }
 
 /// An option for times, without which the parse fails.
@@ -75,9 +87,7 @@ fn cut<'a>(alloc: Global) -> Result<Command<'a>, AllocError>
         "The first time: a number of ticks, or of s, ms, us, ns, ps or fs, as 15ns",
     );
     let to = time(alloc, "to", "N", "The last time, as the first");
-    one_input(alloc, "cut", "Writes the dump from one time to another")?
-        .arg(from)?
-        .arg(to)
+    one_input(alloc, "cut", help::CUT)?.arg(from)?.arg(to)
 }
 
 /// The command `sample`, with its options, its times and names of variables.
@@ -91,13 +101,7 @@ fn sample<'a>(alloc: Global) -> Result<Command<'a>, AllocError>
         "N,N,..",
         "The times, which rise: numbers of ticks, or of s, ms, us, ns, ps or fs, as 5ns,15ns",
     );
-    named(
-        alloc,
-        "sample",
-        "Writes the values of variables at some times",
-        false,
-    )?
-    .arg(at)
+    named(alloc, "sample", help::SAMPLE, false)?.arg(at)
 }
 
 /// The command `merge`, with its files.
@@ -110,8 +114,7 @@ fn merge<'a>(alloc: Global) -> Result<Command<'a>, AllocError>
         .num_args(1..)
         .required(true)
         .help("A dump; of several, the changes are merged in the order of their times");
-    Command::new(alloc, "merge")
-        .about("Writes several dumps as one")
+    new_command(alloc, "merge", help::MERGE)
         .arg(token_limit(alloc))?
         .arg(files)
 }
@@ -121,21 +124,15 @@ pub fn command_of<'a>(alloc: Global) -> Result<Command<'a>, AllocError>
     ensures words { IfOk result (λ c. app_of c ≡ program_app) }
     ensures whole { IfOk result (λ c. is_broken c ≡ false) }
 {
-    let check = one_input(alloc, "check", "Checks a dump and counts what it has")?;
-    let list = one_input(alloc, "list", "Lists the variables of a dump")?;
-    let pick = named(alloc, "pick", "Writes the dump of some variables", true)?;
+    let check = one_input(alloc, "check", help::CHECK)?;
+    let list = one_input(alloc, "list", help::LIST)?;
+    let pick = named(alloc, "pick", help::PICK, true)?;
     let cut = cut(alloc)?;
     let sample = sample(alloc)?;
-    let edges = named(
-        alloc,
-        "edges",
-        "Counts changes, rises and falls of variables",
-        false,
-    )?;
+    let edges = named(alloc, "edges", help::EDGES, false)?;
     let merge = merge(alloc)?;
-    Command::new(alloc, "vcdkit")
+    new_command(alloc, "vcdkit", help::PROGRAM)
         .version("0.1.0")
-        .about("Proved tools for value change dumps")
         .subcommand_required(true)
         .disable_help_subcommand(true)
         .subcommand(check)?

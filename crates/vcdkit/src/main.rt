@@ -8,12 +8,14 @@
 //! # The modules
 //!
 //! - `command`: the words that the command line takes, and the status where it takes none
+//! - `help`: what `--help` says of each command
 //! - `words`: what the words ask for, borrowed from their matches
 //! - `job`: `Job`, `Want` with its task and its names, `UseFault`; `job_of`
 //! - `moment_word`: the times that words are, and the fault of those that are none
 //! - `times`: the times of a cut and of a sample, also in ticks; `sample_ticks`: ticks in place of the numbers of times
 //! - `inputs`: the memory of windows; the header of an input, and those of several in order
 //! - `run`: a job over readers: windows, headers, then `list` over the view or `run_task` or `merge` in room that is taken for it
+//! - `again`: devices whose interrupted calls are made again
 //! - `failure`: why a run ends before it is done, and why times are refused
 //! - `message`: the lines on the error stream, and the statuses
 //!
@@ -32,8 +34,10 @@
 ghost use Rattle.std.specs.Prelude.{◌≡◌, ◌-◌, ◌^◌, ◌<◌, ◌≤◌, All, length, false, true};
 ghost use Rattle.vcdkit.specs.Job.{is_merge};
 
+mod again;
 mod command;
 mod failure;
+mod help;
 mod inputs;
 mod job;
 mod message;
@@ -45,6 +49,7 @@ mod tests;
 mod times;
 mod words;
 
+use again::Again;
 use clap::Error;
 use command::{command_of, parse_status};
 use job::{Job, UseFault, job_of};
@@ -103,7 +108,7 @@ fn print_error(rt: &HostRuntime, error: Error) -> Result<u8, AllocError> {
         return Err(AllocError);
     }
     if error.print(rt).is_err() && status == 0 {
-        return Ok(write_fault(&mut Watch::new(rt.stderr())));
+        return Ok(write_fault(&mut Watch::new(Again::new(rt.stderr()))));
     }
     Ok(status)
 }
@@ -118,14 +123,14 @@ fn run_over<R: Read + Drop>(
     let alloc = rt.alloc();
     let names = [String::from_str(alloc, name)?];
     let mut readers = Vec::new(alloc);
-    readers.push(Watch::new(input))?;
+    readers.push(Watch::new(Again::new(input)))?;
     run_job(
         alloc,
         job,
         names.as_slice(),
         readers.as_mut_slice(),
-        rt.stdout(),
-        &mut Watch::new(rt.stderr()),
+        Again::new(rt.stdout()),
+        &mut Watch::new(Again::new(rt.stderr())),
     )
 }
 
@@ -134,7 +139,7 @@ fn run_over_file(rt: &HostRuntime, job: Job, name: &str) -> Result<u8, AllocErro
     match File::open(rt, name) {
         Ok(file) => run_over(rt, job, name, file),
         Err(error) if error.kind() == ErrorKind::OutOfMemory => Err(AllocError),
-        Err(_) => Ok(open_fault(name, &mut Watch::new(rt.stderr()))),
+        Err(_) => Ok(open_fault(name, &mut Watch::new(Again::new(rt.stderr())))),
     }
 }
 
@@ -148,9 +153,9 @@ fn run_over_files(rt: &HostRuntime, job: Job, files: &[&str]) -> Result<u8, Allo
     let mut readers = Vec::new(alloc);
     for place in 0..files.len().min(MOST_FILES) {
         match File::open(rt, files[place]) {
-            Ok(file) => readers.push(Watch::new(file))?,
+            Ok(file) => readers.push(Watch::new(Again::new(file)))?,
             Err(error) if error.kind() == ErrorKind::OutOfMemory => return Err(AllocError),
-            Err(_) => return Ok(open_fault(files[place], &mut Watch::new(rt.stderr()))),
+            Err(_) => return Ok(open_fault(files[place], &mut Watch::new(Again::new(rt.stderr())))),
         }
         names.push(String::from_str(alloc, files[place])?)?;
     }
@@ -159,8 +164,8 @@ fn run_over_files(rt: &HostRuntime, job: Job, files: &[&str]) -> Result<u8, Allo
         job,
         names.as_slice(),
         readers.as_mut_slice(),
-        rt.stdout(),
-        &mut Watch::new(rt.stderr()),
+        Again::new(rt.stdout()),
+        &mut Watch::new(Again::new(rt.stderr())),
     )
 }
 
@@ -186,14 +191,14 @@ fn run_words<'a>(rt: &HostRuntime, words: &'a [String]) -> Result<u8, UseFault<'
 fn status_of(rt: &HostRuntime, words: &[String]) -> u8 {
     match run_words(rt, words) {
         Ok(status) => status,
-        Err(fault) => use_fault(fault, &mut Watch::new(rt.stderr())),
+        Err(fault) => use_fault(fault, &mut Watch::new(Again::new(rt.stderr()))),
     }
 }
 
 fn main(rt: HostRuntime) -> ExitCode {
     let status = match words_of(&rt) {
         Ok(words) => status_of(&rt, words.as_slice()),
-        Err(fault) => use_fault(fault, &mut Watch::new(rt.stderr())),
+        Err(fault) => use_fault(fault, &mut Watch::new(Again::new(rt.stderr()))),
     };
     ExitCode::from(status)
 }

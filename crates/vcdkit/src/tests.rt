@@ -1,3 +1,4 @@
+mod again;
 mod check;
 mod cut;
 mod edges;

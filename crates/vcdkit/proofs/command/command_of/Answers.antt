@@ -27,7 +27,8 @@ returns-clause-words c =
 
 pub returns-clause-whole : goal.returns-clause-whole
 returns-clause-whole c =
-    let bare : is_broken c.disable_help_subcommand.result ≡ false = search rules in
+    let bare : is_broken c.disable_help_subcommand.result ≡ false =
+    ap (λ f. f.is_broken) c.disable_help_subcommand.ensures ∙ ap (λ f. f.is_broken) c.subcommand_required.ensures ∙ ap (λ f. f.is_broken) c.version.ensures ∙ c.new_command.ensures.whole in
     let first : is_broken c.in_ok-subcommand.field-0 ≡ false = c.in_ok-subcommand.ensures.broken ∙ ap₂ ◌||◌ bare c.in_ok-check.ensures.whole in
     let second : is_broken c.in_ok-subcommand-2.field-0 ≡ false = c.in_ok-subcommand-2.ensures.broken ∙ ap₂ ◌||◌ first c.in_ok-list.ensures.whole in
     let third : is_broken c.in_ok-subcommand-3.field-0 ≡ false = c.in_ok-subcommand-3.ensures.broken ∙ ap₂ ◌||◌ second c.in_ok-pick.ensures.whole in

@@ -19,6 +19,5 @@ returns-clause-words c =
     ∙ ap (λ (r : Rule). record r { required = true }) (ap rule_of counted.0 ∙ ap₂ (λ (r : Rule) (n : Option _). record r { range = n }) one range) in
     let stays : c.help-files.result.global ≡ false =
     ap (λ (a : Arg). a.global) c.help-files.ensures ∙ ap (λ (a : Arg). a.global) c.required.ensures ∙ ap (λ (a : Arg). a.global) counted.0 ∙ local in
-    let bare : app_of c.about.result ≡ new_app (codes "merge") = search rules in
-    let first : app_of c.in_ok-arg.field-0 ≡ with_rule (new_app (codes "merge")) limit_rule = c.in_ok-arg.ensures.shape c.token_limit.ensures.local ∙ ap₂ with_rule bare c.token_limit.ensures.rule in
+    let first : app_of c.in_ok-arg.field-0 ≡ with_rule (new_app (codes "merge")) limit_rule = c.in_ok-arg.ensures.shape c.token_limit.ensures.local ∙ ap₂ with_rule c.new_command.ensures.words c.token_limit.ensures.rule in
     IfOk-weaker c.arg-2.result _ _ (λ r h. h.shape stays ∙ ap₂ with_rule first files_are) c.arg-2.ensures

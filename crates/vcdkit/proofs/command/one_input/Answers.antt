@@ -7,6 +7,5 @@ use Rattle.vcdkit.proofs.command.one_input.Goals as goal
 pub returns-clause-words : goal.returns-clause-words
 returns-clause-words c =
     let input_is : rule_of c.help-input.result ≡ input_rule = search rules in
-    let bare : app_of c.about.result ≡ new_app c.args.name.now = search rules in
-    let first : app_of c.in_ok-arg.field-0 ≡ with_rule (new_app c.args.name.now) input_rule = c.in_ok-arg.ensures.shape (search rules) ∙ ap₂ with_rule bare input_is in
+    let first : app_of c.in_ok-arg.field-0 ≡ with_rule (new_app c.args.name.now) input_rule = c.in_ok-arg.ensures.shape (search rules) ∙ ap₂ with_rule c.new_command.ensures.words input_is in
     IfOk-weaker c.arg-2.result _ _ (λ r h. h.shape c.token_limit.ensures.local ∙ ap₂ with_rule first c.token_limit.ensures.rule) c.arg-2.ensures

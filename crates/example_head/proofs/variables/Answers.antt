@@ -1,0 +1,26 @@
+use Rattle.std.proofs.Common.{◌≡◌, ℕ, List, [], Option, sym, subst, ◌∙◌, arith}
+use Rattle.std.specs.Prelude.{IfSome}
+use Rattle.vcd_model.specs.Header.{header_of}
+use Rattle.vcd_model.specs.Laws.{IsPrefixOf}
+use Rattle.vcd_model.specs.Reading.{phrases_of}
+use Rattle.vcd_model.specs.Tokens.{stream_of}
+use Rattle.vcd_text.specs.Answer.{whole}
+use Rattle.vcd_text.specs.Feed.{HasGiven, limit_of}
+use Rattle.vcd_head.specs.Shown.{HeadShown}
+use Rattle.vcd_head.specs.Views.{Views}
+use Rattle.example_head.proofs.variables.Goals as goal
+
+pub returns : goal.returns
+returns g c = record {
+  reads = λ text h.
+      let stands : HasGiven (whole text) [] c.new-feed.result = subst (λ (o : Option (List ℕ)). IfSome o (λ t. HasGiven (whole t) [] c.new-feed.result)) h c.new-feed.ensures.stands in
+      let head = c.in_ok-head.ensures.reads (whole text) stands in
+      let limit : limit_of c.read_head.new.feed ≡ 65536 = c.in_ok-head.ensures.lengths.0 ∙ omega (arith, c.in_ok-token.ensures.len, c.deref_mut-2.ensures.len, c.new-feed.ensures.lengths.0) in
+      record {
+        given = head.given;
+        first = subst (λ (n : ℕ). IsPrefixOf head.given (stream_of n (whole text)).tokens) limit head.stands.given_first;
+        placed = head.placed;
+        header = head.whole;
+        counted = c.variables_in.ensures (header_of (phrases_of head.placed)) (subst (λ (s : HeadShown). Views s (header_of (phrases_of head.placed))) (sym c.view.ensures) head.views);
+      };
+}

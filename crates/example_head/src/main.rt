@@ -1,0 +1,64 @@
+//! Prints how many variables the dump on standard input declares: a caller of `vcd_head`, and of `vcd_text` below it.
+//!
+//! `variables` lends a feed its memory, reads the header, and looks at its view. Its contract is over every reader whose bytes
+//! are known; standard input is read by the same code, but no contract says what it gives.
+#![tactic(auto)]
+
+ghost use Rattle.std.specs.Prelude.{◌≡◌, ◌-◌, ◌^◌, ◌<◌, List, ℕ, IfOk, Some, length, count_by};
+ghost use Rattle.vcd_head.specs.Views.{IsViewOf};
+ghost use Rattle.vcd_model.specs.Declarations.{variables_of};
+ghost use Rattle.vcd_model.specs.Header.{Header};
+ghost use Rattle.example_head.specs.Variables.{HasVariables, is_variable};
+
+use std::alloc::Global;
+use std::process::ExitCode;
+use vcd_head::{HeadFault, HeadView, Kind, Row, read_head};
+use vcd_text::{Feed, Source, Watch, text_of};
+
+/// The most bytes that a token may have.
+const LIMIT: usize = 65_536;
+
+/// The most declarations that `read_head` takes.
+const MOST: u64 = 16_777_216;
+
+/// How many of these rows declare a variable.
+fn variable_rows(rows: &[Row]) -> usize
+    ensures { result ≡ count_by (λ r. is_variable r.kind) rows.now }
+{
+    let mut variables = 0;
+    for row in rows {
+        if matches!(row.kind, Kind::Var) {
+            variables += 1;
+        }
+    }
+    variables
+}
+
+/// How many variables a header declares.
+fn variables_in(view: HeadView<'_>) -> usize
+    ensures { (h : Header) → IsViewOf view.entry h → result ≡ length (variables_of h.declarations) }
+{
+    variable_rows(view.rows)
+}
+
+/// Reads the header that a reader begins with, and counts its variables.
+fn variables<S: Source>(alloc: Global, reader: &mut S) -> Result<usize, HeadFault>
+    requires failures { S.failures reader.old < 2 ^ 64 - 1 }
+    ensures reads { (text : List ℕ) → S.rest reader.old ≡ Some text
+        → IfOk result (HasVariables text) }
+{
+    let mut chunk = vec![in alloc; 0u8; LIMIT]?;
+    let mut token = vec![in alloc; 0u8; LIMIT]?;
+    let mut value = vec![in alloc; 0u8; LIMIT]?;
+    let mut feed = Feed::new(reader, &mut chunk, &mut token, &mut value);
+    let head = read_head(alloc, &mut feed, MOST)?;
+    Ok(variables_in(head.view()))
+}
+
+fn main(rt: HostRuntime) -> ExitCode {
+    let written = match variables(rt.alloc(), &mut Watch::new(rt.stdin())) {
+        Ok(number) => println!(rt; "{number}"),
+        Err(fault) => println!(rt; "{}", text_of(fault.number())),
+    };
+    ExitCode::from(u8::from(written.is_err()))
+}

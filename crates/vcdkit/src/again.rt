@@ -1,0 +1,59 @@
+//! Devices whose interrupted calls are made again.
+use std::io;
+use std::io::{ErrorKind, Read, Write};
+
+/// A reader or a writer. A call of it that a signal interrupted took and gave nothing, and is made again.
+#[derive(Drop)]
+pub struct Again<D> {
+    /// What is called.
+    pub device: D,
+}
+
+impl<D> Again<D> {
+    ghost use Rattle.std.specs.Prelude.{◌≡◌};
+
+    /// Over this device.
+    pub fn new(device: D) -> Again<D>
+        ensures { result.device ≡ device }
+    {
+        Again { device }
+    }
+}
+
+impl<D: Read> Read for Again<D> {
+    ghost remaining = { λ again. D.remaining again.device };
+
+    fn read(&mut self, into: &mut [u8]) -> io::Result<usize> {
+        for _ in 0..u64::MAX {
+            match self.device.read(into) {
+                Err(error) if error.kind() == ErrorKind::Interrupted => {}
+                result => return result,
+            }
+        }
+        Err(io::Error::from(ErrorKind::Interrupted))
+    }
+}
+
+impl<D: Write> Write for Again<D> {
+    ghost contents = { λ again. D.contents again.device };
+
+    fn write(&mut self, from: &[u8]) -> io::Result<usize> {
+        for _ in 0..u64::MAX {
+            match self.device.write(from) {
+                Err(error) if error.kind() == ErrorKind::Interrupted => {}
+                result => return result,
+            }
+        }
+        Err(io::Error::from(ErrorKind::Interrupted))
+    }
+
+    fn flush(&mut self) -> io::Result<()> {
+        for _ in 0..u64::MAX {
+            match self.device.flush() {
+                Err(error) if error.kind() == ErrorKind::Interrupted => {}
+                result => return result,
+            }
+        }
+        Err(io::Error::from(ErrorKind::Interrupted))
+    }
+}
