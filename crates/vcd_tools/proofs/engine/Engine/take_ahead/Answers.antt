@@ -62,8 +62,8 @@ returns-in-Ok-false-clause-gives g c = λ h i front items s.
       grows = r.grows;
       last = (
         runs_behind h i front items e e' f c.pass_items.new.feed (longest_of ahead) lines (bytes_of ahead) c.take_ahead-taken.result.passed s r.items stands
-        (c.pass_items.ensures.gives h.codes i front items r.items e.regs c.take_ahead-taken.result.regs s.gave over stands.known) refl c.take_ahead-taken.ensures.request
-        c.pass_items.ensures.looked,
+            (c.pass_items.ensures.gives h.codes i front items r.items e.regs c.take_ahead-taken.result.regs s.gave over stands.known) refl c.take_ahead-taken.ensures.request
+            c.pass_items.ensures.looked,
         r.ends.1,
       );
     }
