@@ -1,11 +1,15 @@
 -- What the tests of words say.
-use Rattle.std.proofs.Common.{◌≡◌, Some, ◌⊎◌, ◌+◌, ◌<◌, ◌≤◌, ◌∙◌, take, get_or, ℕ, suc, ◌%◌, map, nat_lt, Bool, true, false, not, ◌==◌, List, [], ◌∷◌, length, refl, inl, inr, arith}
-use Rattle.std.specs.Prelude.{slice_index}
+use Rattle.std.proofs.Common.{◌≡◌, Some, ◌⊎◌, take, drop, slice_range, ◌&&◌, inl, inr, ◌+◌, ◌-◌, ◌*◌, ◌<◌, ◌≤◌, ◌∙◌, get_or, ℕ, suc, ◌%◌, ◌^◌, map, Bool, true, false, cond, not, ◌||◌, ◌==◌, List, [], ◌∷◌, length, Fits, w8, refl, sym, ap, ap₂, subst, arith}
+use Rattle.std.specs.Prelude.{slice_index, min, bit_and}
+use Rattle.std.specs.Int.{bit_at}
 use Rattle.std.specs.List.{list_all}
-use Rattle.std.proofs.lemmas.Bool.{eqb-true, ltb-false, cases_lt}
-use Rattle.std.proofs.lemmas.Simd.{none_from_empty_mask}
-use lib.Lanes.{chunk, mask_l}
+use Rattle.std.proofs.lemmas.Bool.{eqb-true, cases_lt, agree_below, agree_below_at}
+use Rattle.std.proofs.lemmas.List.{length-map, get_or-map, get_or-take, get_or-drop}
+use Rattle.std.proofs.lemmas.Nat.{pow_below}
 use Rattle.std.proofs.lemmas.List.Folds.{list_all_more}
+use Rattle.std.proofs.lemmas.Nat.Bits.{bit_at-zero, bit_at_and, bit_at_ones}
+use Rattle.std.proofs.lemmas.Simd.{mask_l-mod, bit_mask_l, length-chunk, get_or-chunk, Each1-get_or}
+use lib.Lanes.{chunk, mask_l, top, Each1}
 use Rattle.vcd_model.specs.Bytes.{is_empty}
 use Rattle.vcd_model.specs.BodyPhrases.{is_value_digit}
 use Rattle.vcd_model.specs.Keywords.{Keyword, keyword_of, keyword_text}
@@ -70,17 +74,72 @@ one_of_two d l h = by_order (cases_lt 48 d)
 pub binary_more : (digits : List ℕ) (at : ℕ) → at < length digits → list_all is_value_digit (take at digits) ≡ true → 48 ≤ get_or digits at 0 → get_or digits at 0 ≤ 49 → list_all is_value_digit (take (at + 1) digits) ≡ true
 binary_more digits at inside so_far low high = list_all_more is_value_digit digits at 0 inside ∙ rw (so_far, binary (get_or digits at 0) (one_of_two (get_or digits at 0) low high)) refl
 
--- a byte that is at most 1 above 0, as bytes are subtracted
-pub binary_byte : (d above : ℕ) → d < 256 → above ≡ (d + 208) % 256 → above ≤ 1 → is_value_digit d ≡ true
-binary_byte d above fit e small = binary d (one_of_two d (omega arith) (omega arith))
-
 -- all of them, each by its place
 pub all_by_place : (p : ℕ → Bool) (l : List ℕ) → ((k : ℕ) → k < length l → p (slice_index l k) ≡ true) → list_all p l ≡ true
 all_by_place p [] h = refl
 all_by_place p (d ∷ l) h = rw (h 0 (omega arith)) (all_by_place p l (λ k less. h (suc k) (omega arith)))
 
--- 16 bytes of which none is more than 1 above 0
-pub binary_mask : (digits : List ℕ) (at : ℕ) → at + 16 ≤ length digits → ((k : ℕ) → get_or digits k 0 < 256) → mask_l (map (λ x. nat_lt 1 ((x + 208) % 256)) (chunk at 16 digits)) ≡ 0 → (k : ℕ) → at ≤ k → k < at + 16 → is_value_digit (slice_index digits k) ≡ true
-binary_mask digits at room fit none k lo hi =
-    let small = none_from_empty_mask (λ x. nat_lt 1 ((x + 208) % 256)) digits at 16 0 room none k lo hi in
-    binary_byte (get_or digits k 0) ((get_or digits k 0 + 208) % 256) (fit k) refl (ltb-false 1 ((get_or digits k 0 + 208) % 256) small)
+-- ---- a mask of the bytes that are neither 0 nor 1
+
+-- with its lowest bit cleared a digit of these two is 0
+abbrev pub differs : ℕ → Bool
+differs x = not (bit_and x 254 == 48)
+
+-- such a byte has no bit in the mask
+no_bit : (b : Bool) → cond {A = ℕ} b 1 0 ≡ 0 → b ≡ false
+no_bit true e = absurd (omega arith)
+no_bit false e = refl
+
+-- whatever differs not is a digit
+two_alone : (d : ℕ) → d < 256 → differs d ≡ false → is_value_digit d ≡ true
+unfolding is_value_digit
+two_alone d fit e = or_second (differs d) (is_value_digit d) e (agree_below_at (λ x. differs x || is_value_digit x) (λ _. true) 256 d refl fit)
+  where
+    or_second : (a b : Bool) → a ≡ false → (a || b) ≡ true → b ≡ true
+    or_second true b e h = cc
+    or_second false b e h = h
+
+tops : (f : ℕ → ℕ) (v : List ℕ) → agree_below (λ x. top 7 (f x)) differs 256 ≡ true → Each1 (Fits w8) v → map (top 7) (map f v) ≡ map differs v
+tops f [] all fits = refl
+tops f (x ∷ v) all fits = ap₂ (λ a b. a ∷ b) (agree_below_at (λ y. top 7 (f y)) differs 256 x all fits.0.fits) (tops f v all fits.1)
+
+-- lanes that were computed from a load by f, whose top bits tell them
+pub others_tell : (xs : List ℕ) (i n : ℕ) (f : ℕ → ℕ) (z : List ℕ) → i + n ≤ length xs → n ≤ 64 → Each1 (Fits w8) (chunk i n xs) → z ≡ map f (chunk i n xs) → agree_below (λ x. top 7 (f x)) differs 256 ≡ true
+    → (k : ℕ) → k < n → bit_at (mask_l (map (top 7) z) % 2 ^ 64) k ≡ 0 → is_value_digit (slice_index xs (i + k)) ≡ true
+others_tell xs i n f z room few fits e all k less none =
+    let v = chunk i n xs in
+    let ms = map differs v in
+    let long : length v ≡ n = length-chunk i n xs room in
+    let mask : mask_l (map (top 7) z) % 2 ^ 64 ≡ mask_l ms = ap (λ l. mask_l l % 2 ^ 64) (ap (map (top 7)) e ∙ tops f v all fits) ∙ mask_l-mod ms 64 (omega (arith, length-map v differs)) in
+    let bit : bit_at (mask_l (map (top 7) z) % 2 ^ 64) k ≡ cond (get_or ms k false) 1 0 = ap (λ m. bit_at m k) mask ∙ bit_mask_l ms k in
+    let at : get_or ms k false ≡ differs (get_or xs (i + k) 0) = get_or-map differs v k 0 false (omega arith) ∙ ap differs (get_or-chunk i n xs k 0 less) in
+    let fit : get_or v k 0 < 256 = (Each1-get_or (Fits w8) v k 0 (omega arith) fits).fits in
+    two_alone (get_or xs (i + k) 0) (omega (arith, fit, get_or-chunk i n xs k 0 less)) (sym at ∙ no_bit _ (sym bit ∙ none))
+
+-- a mask with no bit set below n
+pub low_clear : (mask n k : ℕ) → n ≤ 32 → bit_and mask (1 * 2 ^ n % 2 ^ 64 - 1) ≡ 0 → k < n → bit_at mask k ≡ 0
+low_clear mask n k few e less =
+    let fits : 1 * 2 ^ n % 2 ^ 64 ≡ 2 ^ n = omega (arith, pow_below n 64 (omega arith)) in
+    let both : min (bit_at mask k) (bit_at (2 ^ n - 1) k) ≡ 0 = sym (bit_at_and mask (2 ^ n - 1) k) ∙ ap (λ m. bit_at m k) (ap (λ p. bit_and mask (p - 1)) (sym fits) ∙ e) ∙ bit_at-zero k in
+    omega (arith, both, bit_at_ones n k less)
+
+pub no_bits : (mask k : ℕ) → mask ≡ 0 → bit_at mask k ≡ 0
+no_bits mask k e = ap (λ m. bit_at m k) e ∙ bit_at-zero k
+
+-- places from i on, by how far behind it they are
+pub behind : (p : ℕ → Bool) (xs : List ℕ) (i n : ℕ) → ((k : ℕ) → k < n → p (slice_index xs (i + k)) ≡ true) → (k : ℕ) → i ≤ k → k < i + n → p (slice_index xs k) ≡ true
+behind p xs i n h k low high =
+    let back : i + (k - i) ≡ k = omega arith in
+    subst (λ j. p (slice_index xs j) ≡ true) back (h (k - i) (omega arith))
+
+-- ---- digits that stand in some bytes
+
+-- a byte of them
+byte_there : (xs bytes : List ℕ) (at n k : ℕ) → k < n → xs ≡ slice_range bytes at (at + n) → slice_index xs k ≡ slice_index bytes (at + k)
+byte_there xs bytes at n k less place =
+    let long : at + n - at ≡ n = omega arith in
+    ap (λ (l : List ℕ). get_or l k 0) (place ∙ ap (λ m. take m (drop at bytes)) long) ∙ get_or-take n (drop at bytes) k 0 less ∙ get_or-drop at bytes k 0
+
+pub digits_there : (digits bytes : List ℕ) (at : ℕ) → 1 ≤ length digits → digits ≡ slice_range bytes at (at + length digits) → ((k : ℕ) → k < length digits → is_value_digit (slice_index bytes (at + k)) ≡ true) → true ≡ (not (is_empty digits) && list_all is_value_digit digits)
+digits_there [] bytes at some place each = absurd (omega arith)
+digits_there (d ∷ digits) bytes at some place each = sym (all_by_place is_value_digit (d ∷ digits) (λ k less. ap is_value_digit (byte_there (d ∷ digits) bytes at (length (d ∷ digits)) k less place) ∙ each k less))

@@ -1,5 +1,5 @@
 // Items whose tokens lie whole ahead in the chunk: most cost no change of the feed.
-ghost use Rattle.std.specs.Prelude.{◌≡◌, ℕ, ◌+◌, ◌<◌, ◌≤◌, ◌^◌, List, [], ◌∷◌, ◌++◌, drop, length, slice_get, None, Some, IfSome, MatchOption};
+ghost use Rattle.std.specs.Prelude.{◌≡◌, ℕ, ◌+◌, ◌<◌, ◌≤◌, ◌^◌, List, [], ◌∷◌, ◌++◌, drop, length, slice_get, slice_range, None, Some, IfSome, MatchOption};
 ghost use Rattle.vcd_model.specs.Input.{Input};
 ghost use Rattle.vcd_model.specs.Tokens.{Token};
 ghost use Rattle.vcd_model.specs.Header.{Header};
@@ -21,7 +21,7 @@ ghost use Rattle.vcd_body.specs.Ahead.{GaveAhead, GaveLast, IsPlain, LooksOver, 
 
 use crate::item::{Form, Item, Regs};
 use crate::phrases::{scalar_code, takes, time_of};
-use crate::words::{First, are_value_digits, first_byte_of, first_of, rest_of};
+use crate::words::{First, are_digits_at, first_byte_of, first_of, rest_of};
 use vcd_head::{HeadView, find_sized};
 use vcd_text::{Ahead, Feed, Source};
 
@@ -34,9 +34,18 @@ pub struct Plain<'a> {
     pub text: &'a [u8],
 }
 
-/// The place of the code that stands after the digits of a vector, where there are digits, and the code has room for them.
+/// The place of the code that stands after the digits of a vector, where there are digits, and the code has room for them. The
+/// vector is a token at a place of these bytes.
 #[inline(always)]
-fn vector_code(token: &[u8], code: &[u8], view: HeadView<'_>) -> Option<usize>
+fn vector_code(
+    bytes: &[u8],
+    at: usize,
+    token: &[u8],
+    code: &[u8],
+    view: HeadView<'_>,
+) -> Option<usize>
+    requires within { at + length token.now ≤ length bytes.now }
+    requires place { token.now ≡ slice_range bytes.now at (at + length token.now) }
     requires begins { Begins token.now first.Vector }
     ensures code { (h : Header) → IsViewOf view.entry h
         → IfSome result (λ place. (c : IdCode) × (slice_get h.codes place ≡ Some c)
@@ -50,7 +59,7 @@ fn vector_code(token: &[u8], code: &[u8], view: HeadView<'_>) -> Option<usize>
         (λ place. IsGoodText view.entry.codes.now place form.Vector (drop 1 token.now)) }
 {
     let digits = rest_of(token);
-    if !are_value_digits(digits) {
+    if !are_digits_at(bytes, at + 1, digits) {
         return None;
     }
     let found = find_sized(view, code)?;
@@ -105,7 +114,7 @@ pub fn item_ahead<'a>(
         },
         First::Vector => Plain {
             item: Item::Change {
-                code: vector_code(token, next.next()?, view)?,
+                code: vector_code(ahead.bytes(), ahead.passed(), token, next.next()?, view)?,
                 form: Form::Vector,
             },
             text: rest_of(token),

@@ -1,10 +1,11 @@
 // Bodies that are read to their end, bodies that are refused, a source that fails, and changes that are written.
-ghost use Rattle.std.specs.Prelude.{◌<◌, length};
+ghost use Rattle.std.specs.Prelude.{◌+◌, ◌<◌, ◌≤◌, length};
 
 use crate::ahead::{item_ahead, pass_items};
 use crate::change::put_change;
 use crate::item::{Form, Item, Regs};
 use crate::read::{change_text, next_item};
+use crate::words::are_digits_at;
 use std::alloc::{AllocError, Global};
 use std::test::Fail;
 use vcd_head::read_head;
@@ -214,6 +215,28 @@ fn plain_items_taken_ahead(rt: HostRuntime) -> Result<(), Fail> {
         "#0 0:Scalar:1 1:Vector:101 #5 0:Scalar:Z 1:Vector:x then fault 14 at 11"
     );
     Ok(())
+}
+
+// The last of some digits decides, wherever they stand in 100 bytes. The bytes around them are none.
+fn last_decides(at: usize, n: usize) -> bool
+    requires { (0 < n) × (at + n ≤ 100) }
+{
+    let mut bytes = [b'?'; 100];
+    bytes[at..at + n].fill(b'1');
+    let two_alone = are_digits_at(&bytes, at, &bytes[at..at + n]);
+    bytes[at + n - 1] = b'Z';
+    let with_another = are_digits_at(&bytes, at, &bytes[at..at + n]);
+    bytes[at + n - 1] = b'2';
+    two_alone && with_another && !are_digits_at(&bytes, at, &bytes[at..at + n])
+}
+
+#[test]
+fn digits_that_stand_in_some_bytes(rt: HostRuntime) {
+    for n in 1..=70 {
+        assert!(rt; last_decides(7, n));
+        assert!(rt; last_decides(100 - n, n));
+    }
+    assert!(rt; !are_digits_at(b"", 0, b""));
 }
 
 // A change of digits is written so, where the code is no event.

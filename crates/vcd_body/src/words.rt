@@ -1,6 +1,7 @@
 // What tokens of a body are.
-ghost use Rattle.std.specs.Prelude.{◌≡◌, ℕ, ◌+◌, ◌<◌, ◌≤◌, length, slice_index, true, List, drop, take, ◌∷◌, ◌^◌, ◌&&◌, not, nat_lt, cond, Some, None, bytes_eq};
+ghost use Rattle.std.specs.Prelude.{◌≡◌, ℕ, ◌+◌, ◌<◌, ◌≤◌, length, slice_index, slice_range, true, List, drop, take, ◌∷◌, ◌^◌, ◌&&◌, not, nat_lt, cond, Some, None, bytes_eq};
 ghost use Rattle.std.specs.List.{list_all};
+ghost use Rattle.std.specs.Int.{bit_at};
 ghost use Rattle.vcd_model.specs.Bytes.{is_decimal, decimal_value, is_empty};
 ghost use Rattle.vcd_model.specs.BodyPhrases.{is_value_digit as is_digit};
 ghost use Rattle.vcd_model.specs.Keywords.{is_end as ends};
@@ -132,18 +133,29 @@ fn is_value_digit(byte: u8) -> bool
     byte == b'0' || byte == b'1' || byte == b'x' || byte == b'X' || byte == b'z' || byte == b'Z'
 }
 
-/// The 16 digits from a place on are `0` and `1` alone.
+/// Bit k is set where byte `at + k` is neither `0` nor `1`.
 #[inline(always)]
-fn are_binary_16(digits: &[u8], at: usize) -> bool
-    requires { at + 16 ≤ length digits.now }
-    ensures { result ≡ true → (k : ℕ) → at ≤ k → k < at + 16
-        → is_digit (slice_index digits.now k) ≡ true }
+fn other_32(bytes: &[u8], at: usize) -> u64
+    requires { at + 32 ≤ length bytes.now }
+    ensures { (k : ℕ) → k < 32 → bit_at result k ≡ 0
+        → is_digit (slice_index bytes.now (at + k)) ≡ true }
 {
-    let above = u8x16::from_slice(&digits[at..]) - u8x16::splat(b'0');
-    above.simd_gt(u8x16::splat(1)).to_bitmask() == 0
+    let v = u8x32::from_slice(&bytes[at..]) & u8x32::splat(0xfe);
+    v.simd_ne(u8x32::splat(b'0')).to_bitmask()
 }
 
-/// The same of all of them, looked at one by one. No byte is branched on.
+/// So many bytes from a place on are `0` and `1` alone. Those after them are looked at too.
+#[inline(always)]
+fn are_binary_at(bytes: &[u8], at: usize, n: usize) -> bool
+    requires room { at + 32 ≤ length bytes.now }
+    requires few { n ≤ 32 }
+    ensures { result ≡ true → (k : ℕ) → k < n
+        → is_digit (slice_index bytes.now (at + k)) ≡ true }
+{
+    other_32(bytes, at) & ((1 << n) - 1) == 0
+}
+
+/// The digits are `0` and `1` alone, looked at one by one. No byte is branched on.
 fn are_few_binary(digits: &[u8]) -> bool
     ensures { result ≡ true → list_all is_digit digits.now ≡ true }
 {
@@ -155,24 +167,26 @@ fn are_few_binary(digits: &[u8]) -> bool
     most <= 1
 }
 
-/// The digits are `0` and `1` alone, as most are. The last 16 may have been looked at in part.
+/// The same, 32 at a time where there are so many. Of the last 32 some may have been looked at before.
 fn are_binary(digits: &[u8]) -> bool
     ensures { result ≡ true → list_all is_digit digits.now ≡ true }
 {
-    if digits.len() < 16 {
+    if digits.len() < 32 {
         return are_few_binary(digits);
     }
-    let last = digits.len() - 16;
+    let last = digits.len() - 32;
     let mut at = 0;
-    'sixteens: while at < last {
-        if !are_binary_16(digits, at) {
+    'loads: while at < last {
+        if other_32(digits, at) != 0 {
             return false;
         }
-        at += 16;
+        at += 32;
     }
-    are_binary_16(digits, last)
+    other_32(digits, last) == 0
 }
 
+// Out of line, so that the short way of `are_digits_at` stays small.
+#[inline(never)]
 fn all_are_digits(digits: &[u8]) -> bool
     ensures { result ≡ list_all is_digit digits.now }
 {
@@ -184,4 +198,19 @@ pub(crate) fn are_value_digits(digits: &[u8]) -> bool
     ensures { result ≡ (not (is_empty digits.now) && list_all is_digit digits.now) }
 {
     !digits.is_empty() && all_are_digits(digits)
+}
+
+/// The same of digits that begin at a place of these bytes. Most are few, and `0` and `1`: they are looked at at once, whatever
+/// their number is.
+#[inline(always)]
+pub(crate) fn are_digits_at(bytes: &[u8], at: usize, digits: &[u8]) -> bool
+    requires within { at ≤ length bytes.now }
+    requires place { digits.now ≡ slice_range bytes.now at (at + length digits.now) }
+    ensures { result ≡ (not (is_empty digits.now) && list_all is_digit digits.now) }
+{
+    let n = digits.len();
+    if 1 <= n && n <= 32 && bytes.len() - at >= 32 && are_binary_at(bytes, at, n) {
+        return true;
+    }
+    are_value_digits(digits)
 }

@@ -1,11 +1,17 @@
-use Rattle.std.proofs.Common.{inl, inr, arith}
-use Rattle.std.proofs.lemmas.Bool.{cases_lt}
+use Rattle.std.proofs.Common.{◌-◌, length, inl, inr, arith}
+use Rattle.std.proofs.lemmas.Bool.{eqb-true, cases_lt}
 use Rattle.vcd_model.specs.BodyPhrases.{is_value_digit}
-use Rattle.vcd_body.proofs.WordLemmas.{all_by_place}
+use Rattle.vcd_body.proofs.WordLemmas.{all_by_place, behind, no_bits}
 use Rattle.vcd_body.proofs.words.are_binary.Goals as goal
 
+pub loads-preserved : goal.loads-preserved
+loads-preserved c = λ k less. elim (cases_lt k c.loads.at) [
+  | inl before ↦ c.loads.invariant k before
+  | inr late ↦ behind is_value_digit c.args.digits.now c.loads.at 32 (λ j below. c.other_32.ensures j below (no_bits _ j c.if-other_32-ne0.false)) k late less
+]
+
 pub returns : goal.returns
-returns c = λ e. all_by_place is_value_digit c.args.digits.now (λ k less. elim (cases_lt k c.sixteens.at) [
-  | inl before ↦ c.sixteens.invariant k before
-  | inr behind ↦ c.are_binary_16-2.ensures e k (omega (arith, c.sixteens-test.false)) (omega arith)
+returns c = λ e. all_by_place is_value_digit c.args.digits.now (λ k less. elim (cases_lt k c.loads.at) [
+  | inl before ↦ c.loads.invariant k before
+  | inr late ↦ behind is_value_digit c.args.digits.now (length c.args.digits.now - 32) 32 (λ j below. c.other_32-2.ensures j below (no_bits _ j (eqb-true _ _ e))) k (omega (arith, c.loads-test.false)) (omega arith)
 ])
