@@ -28,13 +28,13 @@ use Rattle.vcd_body.specs.Given.{IsItem}
 use Rattle.vcd_body.specs.Ahead.{GaveAhead, GaveLast, PassBoth}
 use Rattle.vcd_body.proofs.ReadLemmas.{known_change, known_time}
 
--- a look ahead passes one token more
-abbrev PassesOne : ℕ → ℕ → List ℕ → ℕ → ℕ → List ℕ → Type 0
-PassesOne limit lines bytes at n token = (ts : List Token) → Passed limit lines bytes at ts → Passed limit lines bytes n (ts ++ record { bytes = token; line = line_ahead lines bytes at } ∷ [])
+-- a look ahead that was at one place passes one token more, which stands on this line, and is at place n
+abbrev PassesOne : ℕ → ℕ → List ℕ → ℕ → ℕ → List ℕ → ℕ → Type 0
+PassesOne limit lines bytes at n token line = (ts : List Token) → Passed limit lines bytes at ts → Passed limit lines bytes n (ts ++ record { bytes = token; line = line } ∷ [])
 
 -- over the same bytes
-pub passes_same : (limit limit' lines : ℕ) (bytes bytes' : List ℕ) (at n : ℕ) (token : List ℕ) → limit' ≡ limit → bytes' ≡ bytes → PassesOne limit' lines bytes' at n token → PassesOne limit lines bytes at n token
-passes_same limit limit' lines bytes bytes' at n token e f h = subst (λ k. PassesOne k lines bytes at n token) e (subst (λ (b : List ℕ). PassesOne limit' lines b at n token) f h)
+pub passes_same : (limit limit' lines : ℕ) (bytes bytes' : List ℕ) (at n start : ℕ) (token : List ℕ) → limit' ≡ limit → bytes' ≡ bytes → PassesOne limit' lines bytes' at n token (line_ahead lines bytes' start) → PassesOne limit lines bytes at n token (line_ahead lines bytes start)
+passes_same limit limit' lines bytes bytes' at n start token e f h = subst (λ k. PassesOne k lines bytes at n token (line_ahead lines bytes start)) e (subst (λ (b : List ℕ). PassesOne limit' lines b at n token (line_ahead lines b start)) f h)
 
 -- some bytes have some tokens
 some_tokens : (limit lines : ℕ) (bytes : List ℕ) (n : ℕ) (ts : List Token) → 0 < n → Passed limit lines bytes n ts → ts ≢ []

@@ -3,7 +3,7 @@ use Rattle.std.proofs.Common.{◌≡◌, ◌≢◌, ℕ, suc, ◌+◌, ◌-◌, 
 use Rattle.std.specs.Prelude.{slice_index, slice_range, ◌==◌, Option}
 use Rattle.std.proofs.lemmas.List.{get_or-take, get_or-drop, drop-take, drop-drop, take-take}
 use Rattle.std.proofs.lemmas.List.Sums.{count_by-le-length}
-use Rattle.std.proofs.lemmas.Bool.{cases_order}
+use Rattle.std.proofs.lemmas.Bool.{cases_lt, cases_order}
 use Rattle.vcd_model.specs.Bytes.{is_white_space}
 use Rattle.vcd_model.specs.Input.{Input}
 use Rattle.vcd_model.specs.Tokens.{Token, end_of_tokens, line_at}
@@ -12,7 +12,7 @@ use Rattle.vcd_text.specs.Masks.{Marks}
 use Rattle.vcd_text.specs.declared.registers.White.{White}
 use Rattle.vcd_text.proofs.Masks.{marks-before, marks-at}
 use Rattle.vcd_text.specs.LookedAt.{HasLookedAt}
-use Rattle.vcd_text.specs.Passed.{IsRun, StandsAt, PassedFrom, Passed, line_ahead}
+use Rattle.vcd_text.specs.Passed.{AreWhite, IsRun, StandsAt, PassedFrom, Passed, line_ahead}
 use Rattle.vcd_text.specs.Registers.{Fits, ahead_in, looked}
 use Rattle.vcd_text.specs.Window.{line_feeds_in, gone_on}
 use Rattle.vcd_text.specs.Given.{At, InPhase}
@@ -20,17 +20,17 @@ use Rattle.vcd_text.specs.declared.registers.Parked.{Parked}
 use Rattle.vcd_text.specs.declared.registers.Phase.{Phase}
 use Rattle.vcd_text.specs.declared.registers.Phase.TheVariants.{Going, Ended, Halted}
 use Rattle.vcd_text.proofs.Places.{length-slice_range}
-use Rattle.vcd_text.proofs.Steps.{live-others, live-end, token_to, true-false}
+use Rattle.vcd_text.proofs.Steps.{live-others, live-whites, live-end, token_to, true-false}
 use Rattle.vcd_text.proofs.Streams.{end-of-token}
 use Rattle.vcd_text.proofs.AheadLemmas.{ahead-length, ahead-drop, ahead-slice, line_feeds_in-more}
 use Rattle.vcd_text.proofs.WindowLemmas.{cleared}
 
 -- ---- one token more
 
--- behind tokens that were passed
-pub passed_on : (limit lines : ℕ) (bytes : List ℕ) (from at : ℕ) (ts : List Token) (t : Token) → PassedFrom limit lines bytes from ts at → StandsAt limit lines bytes at t → PassedFrom limit lines bytes from (ts ++ t ∷ []) (at + length t.bytes + 1)
-passed_on limit lines bytes from at [] t e s = (subst (λ k. StandsAt limit lines bytes k t) e s, omega arith)
-passed_on limit lines bytes from at (x ∷ ts) t p s = (p.0, passed_on limit lines bytes (from + length x.bytes + 1) at ts t p.1 s)
+-- behind tokens that were passed, and white space
+pub passed_on : (limit lines : ℕ) (bytes : List ℕ) (from at start : ℕ) (ts : List Token) (t : Token) → PassedFrom limit lines bytes from ts at → AreWhite bytes at start → StandsAt limit lines bytes start t → PassedFrom limit lines bytes from (ts ++ t ∷ []) (start + length t.bytes + 1)
+passed_on limit lines bytes from at start [] t e w s = (start, subst (λ k. AreWhite bytes k start) e w, s, refl)
+passed_on limit lines bytes from at start (x ∷ ts) t p w s = (p.0, p.1, p.2, passed_on limit lines bytes (p.0 + length x.bytes + 1) at start ts t p.3 w s)
 
 length-run : (limit : ℕ) (bytes : List ℕ) (at n : ℕ) → IsRun limit bytes at n → length (slice_range bytes at (at + n)) ≡ n
 length-run limit bytes at n r = length-slice_range bytes at (at + n) (omega (arith, r.within)) ∙ omega arith
@@ -45,16 +45,16 @@ run_stands limit lines bytes at n r =
     }
 
 -- a token that ends at this place
-pub passed_to : (limit lines : ℕ) (bytes : List ℕ) (at end : ℕ) (ts : List Token) → at ≤ end → IsRun limit bytes at (end - at) → Passed limit lines bytes at ts
-    → Passed limit lines bytes (end + 1) (ts ++ (record { bytes = slice_range bytes at end; line = line_ahead lines bytes at }) ∷ [])
-passed_to limit lines bytes at end ts le r p =
-    let d : ℕ = end - at in
-    let e : at + d ≡ end = omega arith in
-    let len = length-run limit bytes at d r in
-    let on = passed_on limit lines bytes 0 at ts (record { bytes = slice_range bytes at (at + d); line = line_ahead lines bytes at }) p (run_stands limit lines bytes at d r) in
-    let short : Passed limit lines bytes (at + d + 1) (ts ++ (record { bytes = slice_range bytes at (at + d); line = line_ahead lines bytes at }) ∷ []) =
-    subst (λ n. Passed limit lines bytes (at + n + 1) (ts ++ (record { bytes = slice_range bytes at (at + d); line = line_ahead lines bytes at }) ∷ [])) len on in
-    subst (λ k. Passed limit lines bytes (k + 1) (ts ++ (record { bytes = slice_range bytes at k; line = line_ahead lines bytes at }) ∷ [])) e short
+pub passed_to : (limit lines : ℕ) (bytes : List ℕ) (at start end : ℕ) (ts : List Token) → AreWhite bytes at start → start ≤ end → IsRun limit bytes start (end - start) → Passed limit lines bytes at ts
+    → Passed limit lines bytes (end + 1) (ts ++ (record { bytes = slice_range bytes start end; line = line_ahead lines bytes start }) ∷ [])
+passed_to limit lines bytes at start end ts w le r p =
+    let d : ℕ = end - start in
+    let e : start + d ≡ end = omega arith in
+    let len = length-run limit bytes start d r in
+    let on = passed_on limit lines bytes 0 at start ts (record { bytes = slice_range bytes start (start + d); line = line_ahead lines bytes start }) p w (run_stands limit lines bytes start d r) in
+    let short : Passed limit lines bytes (start + d + 1) (ts ++ (record { bytes = slice_range bytes start (start + d); line = line_ahead lines bytes start }) ∷ []) =
+    subst (λ n. Passed limit lines bytes (start + n + 1) (ts ++ (record { bytes = slice_range bytes start (start + d); line = line_ahead lines bytes start }) ∷ [])) len on in
+    subst (λ k. Passed limit lines bytes (k + 1) (ts ++ (record { bytes = slice_range bytes start k; line = line_ahead lines bytes start }) ∷ [])) e short
 
 -- a run ends at the first white byte
 pub run_is : (limit : ℕ) (bytes : List ℕ) (at d n : ℕ) → ((k : ℕ) → k < d → is_white_space (slice_index bytes (at + k)) ≡ false) → is_white_space (slice_index bytes (at + d)) ≡ true → IsRun limit bytes at n → n ≡ d
@@ -68,12 +68,12 @@ run_is limit bytes at d n other white r = elim (cases_order n d) [
 
 pub passed_within : (limit lines : ℕ) (bytes : List ℕ) (from n : ℕ) (ts : List Token) → from ≤ length bytes → PassedFrom limit lines bytes from ts n → n ≤ length bytes
 passed_within limit lines bytes from n [] le e = omega arith
-passed_within limit lines bytes from n (t ∷ ts) le p = passed_within limit lines bytes (from + length t.bytes + 1) n ts (omega (arith, p.0.run.within)) p.1
+passed_within limit lines bytes from n (t ∷ ts) le p = passed_within limit lines bytes (p.0 + length t.bytes + 1) n ts (omega (arith, p.2.run.within)) p.3
 
 -- of no bytes there are none
 passed_none : (limit lines n : ℕ) (ts : List Token) → Passed limit lines [] n ts → (n ≡ 0) × (ts ≡ [])
 passed_none limit lines n [] e = (e, refl)
-passed_none limit lines n (t ∷ ts) p = absurd (omega (arith, p.0.run.within))
+passed_none limit lines n (t ∷ ts) p = absurd (omega (arith, p.2.run.within))
 
 -- ---- the text goes on behind them
 
@@ -121,16 +121,33 @@ module _ (limit : ℕ) (text : List ℕ) (p q lines : ℕ) (order : p ≤ q) (fi
     ends : end_of_tokens text (suc (length given)) ≡ p + m + length t.bytes
     ends = end-of-token limit text (p + m + length t.bytes) (p + m) given begun (omega (arith, inside)) (omega (arith, s.run.some)) (λ _. white)
 
+  -- behind white space
+  behind-white : (m start : ℕ) (given : List Token) → AreWhite (slice_range text p q) m start → start ≤ q - p → HasLookedAt limit text (p + m) (p + m) given → HasLookedAt limit text (p + start) (p + start) given
+  behind-white m start given w le l =
+      let o = w.order in
+      let e : p + m + (start - m) ≡ p + start = omega arith in
+      subst (λ k. HasLookedAt limit text k k given) e (live-whites limit text (p + m) (start - m) given
+      (λ k h. let f : p + m + k ≡ p + (m + k) = omega arith in rw f (ap is_white_space (byte (m + k) (omega arith)) ∙ w.white (m + k) (omega arith) (omega arith)))
+      (omega arith) l)
+
+  begins-in : (m : ℕ) (t : Token) → StandsAt limit lines (slice_range text p q) m t → m ≤ q - p
+  begins-in m t s = omega (arith, s.run.within, length-slice_range text p q fits)
+
   passed-live : (m n : ℕ) (ts given : List Token) → PassedFrom limit lines (slice_range text p q) m ts n → HasLookedAt limit text (p + m) (p + m) given → HasLookedAt limit text (p + n) (p + n) (given ++ ts)
   passed-live m n [] given e l = rw (e, append-nil) l
-  passed-live m n (t ∷ ts) given w l = subst (λ xs. HasLookedAt limit text (p + n) (p + n) xs) (append_assoc given (t ∷ []) ts) (passed-live (m + length t.bytes + 1) n ts (given ++ t ∷ []) w.1 (next-live m t given w.0 l))
+  passed-live m n (t ∷ ts) given w l =
+      let there = behind-white m w.0 given w.1 (begins-in w.0 t w.2) l in
+      subst (λ xs. HasLookedAt limit text (p + n) (p + n) xs) (append_assoc given (t ∷ []) ts) (passed-live (w.0 + length t.bytes + 1) n ts (given ++ t ∷ []) w.3 (next-live w.0 t given w.2 there))
 
   -- the last of them ends behind place p
   passed-far : (m n : ℕ) (t : Token) (ts given : List Token) → PassedFrom limit lines (slice_range text p q) m (t ∷ ts) n → HasLookedAt limit text (p + m) (p + m) given → p ≤ end_of_tokens text (length (given ++ t ∷ ts))
   passed-far m n t [] given w l =
       let e : length (given ++ t ∷ []) ≡ suc (length given) = simp length-append (omega arith) in
-      rw (e, ends m t given w.0 l) (omega arith)
-  passed-far m n t (u ∷ ts) given w l = subst (λ xs. p ≤ end_of_tokens text (length xs)) (append_assoc given (t ∷ []) (u ∷ ts)) (passed-far (m + length t.bytes + 1) n u ts (given ++ t ∷ []) w.1 (next-live m t given w.0 l))
+      let there = behind-white m w.0 given w.1 (begins-in w.0 t w.2) l in
+      rw (e, ends w.0 t given w.2 there) (omega arith)
+  passed-far m n t (u ∷ ts) given w l =
+      let there = behind-white m w.0 given w.1 (begins-in w.0 t w.2) l in
+      subst (λ xs. p ≤ end_of_tokens text (length xs)) (append_assoc given (t ∷ []) (u ∷ ts)) (passed-far (w.0 + length t.bytes + 1) n u ts (given ++ t ∷ []) w.3 (next-live w.0 t given w.2 there))
 
 -- ---- the registers
 
@@ -223,8 +240,8 @@ pass_far Going limit rest chunk p i given (t ∷ ts) n f some w st =
     let small : q < 2 ^ 63 = omega (arith, f.counted, f.at) in
     let there = subst (λ bs. Passed limit p.line_feeds bs n (t ∷ ts)) (sym g.0) w in
     passed-far limit i.bytes (looked p) q p.line_feeds (omega arith) g.1 small g.3 0 n t ts given there g.2
-pass_far Ended limit rest chunk p i given (t ∷ ts) n f some w st = absurd (omega (arith, w.0.run.within))
-pass_far (Halted h) limit rest chunk p i given (t ∷ ts) n f some w st = absurd (omega (arith, w.0.run.within))
+pass_far Ended limit rest chunk p i given (t ∷ ts) n f some w st = absurd (omega (arith, w.2.run.within))
+pass_far (Halted h) limit rest chunk p i given (t ∷ ts) n f some w st = absurd (omega (arith, w.2.run.within))
 
 -- ---- the token that the first mark ends
 
@@ -244,3 +261,42 @@ module _ (bytes : List ℕ) (at : ℕ) (w : White) (bit : ℕ) (m : Marks bytes 
   -- another is not there
   pub marked_only : (limit n : ℕ) → IsRun limit bytes at n → n ≡ w.next + bit - 64 - at
   marked_only limit n r = run_is limit bytes at (w.next + bit - 64 - at) n (marks-before bytes at (length bytes) w bit _ m set below refl) (marks-at bytes at (length bytes) w bit _ m set refl) r
+
+  -- the token that stands next begins here, where this byte is another
+  pub marked_first : (limit start n : ℕ) → w.next + bit - 64 - at ≢ 0 → AreWhite bytes at start → IsRun limit bytes start n → n ≡ w.next + bit - 64 - at
+  marked_first limit start n some front r = elim (cases_lt at start) [
+    | inl lt ↦ (let e : at + 0 ≡ at = omega arith in
+        true-false (is_white_space (slice_index bytes at)) (front.white at (omega arith) lt) (subst (λ k. is_white_space (slice_index bytes k) ≡ false) e (marks-before bytes at (length bytes) w bit _ m set below refl 0 (omega arith))))
+    | inr le ↦ (let o = front.order in
+        let e : start ≡ at = omega arith in
+        marked_only limit n (subst (λ k. IsRun limit bytes k n) e r))
+  ]
+
+-- white space goes on
+pub white_on : (bytes : List ℕ) (from at : ℕ) → AreWhite bytes from at → is_white_space (slice_index bytes at) ≡ true → AreWhite bytes from (at + 1)
+white_on bytes from at w one = record {
+  order = omega (arith, w.order);
+  white = λ k le lt. elim (cases_lt k at) [
+    | inl before ↦ w.white k le before
+    | inr after ↦ (let e : at ≡ k = omega arith in subst (λ j. is_white_space (slice_index bytes j) ≡ true) e one)
+  ];
+}
+
+-- the token behind white space begins no earlier than that goes
+pub run_behind : (limit : ℕ) (bytes : List ℕ) (from at start n : ℕ) → AreWhite bytes from at → AreWhite bytes from start → IsRun limit bytes start n → at ≤ start
+run_behind limit bytes from at start n w front r = elim (cases_lt start at) [
+  | inl lt ↦ (let e : start + 0 ≡ start = omega arith in
+      true-false (is_white_space (slice_index bytes start)) (w.white start front.order lt) (subst (λ k. is_white_space (slice_index bytes k) ≡ false) e (r.other 0 r.some)))
+  | inr le ↦ le
+]
+
+-- and ends no earlier than the first white byte behind it
+pub run_past : (limit : ℕ) (bytes : List ℕ) (at next start n : ℕ) → at ≤ start → ((j : ℕ) → at ≤ j → j < next → is_white_space (slice_index bytes j) ≡ false) → IsRun limit bytes start n → next ≤ start + n
+run_past limit bytes at next start n le other r = elim (cases_lt (start + n) next) [
+  | inl lt ↦ true-false (is_white_space (slice_index bytes (start + n))) r.white (other (start + n) (omega arith) lt)
+  | inr far ↦ far
+]
+
+-- the white space that is left from a later place on
+pub white_rest : (bytes : List ℕ) (from at start : ℕ) → from ≤ at → at ≤ start → AreWhite bytes from start → AreWhite bytes at start
+white_rest bytes from at start le far w = record { order = far; white = λ k h lt. w.white k (omega arith) lt }

@@ -1,5 +1,5 @@
 -- What stands ahead in a feed's chunk, and how far it was looked over.
-use Rattle.std.specs.Prelude.{ℕ, List}
+use Rattle.std.specs.Prelude.{ℕ, ◌-◌, List, length}
 use Rattle.vcd_text.specs.Registers.{ahead_in}
 use Rattle.vcd_text.specs.declared.device.Source.{Ghosts}
 use Rattle.vcd_text.specs.declared.feed.Feed.{Feed}
@@ -28,3 +28,7 @@ passed_of a = a.at
 -- the most bytes that a token may have
 abbrev pub longest_of : Ahead → ℕ
 longest_of a = a.limit
+
+-- where the token that it gave last begins: one white byte was passed after it
+abbrev pub start_of : Ahead → List ℕ → ℕ
+start_of a token = passed_of a - length token - 1

@@ -1,5 +1,5 @@
 use Rattle.std.proofs.Common.{[], ◌∷◌, ◌++◌, ◌<◌, ◌∙◌, arith}
-use Rattle.vcd_text.specs.Ahead.{bytes_of, longest_of, passed_of}
+use Rattle.vcd_text.specs.Ahead.{bytes_of, longest_of, passed_of, start_of}
 use Rattle.vcd_text.specs.Passed.{line_ahead}
 use Rattle.vcd_body.proofs.AheadLemmas.{passes_same, scalar_taken, vector_taken, mark_taken}
 use Rattle.vcd_body.proofs.ahead.item_ahead.Goals as goal
@@ -11,17 +11,18 @@ returns-clause-gives c = λ h limit lines bytes before items v over k g.
     let token = c.in_ok-token.token.now in
     let at = passed_of c.args.ahead.now in
     let behind = passed_of c.next.new.self in
+    let line = line_ahead lines bytes (start_of c.next.new.self token) in
     let less : at < behind = omega (arith, n.further) in
-    let one = passes_same limit (longest_of c.args.ahead.now) lines bytes (bytes_of c.args.ahead.now) at behind token over.0 over.1 (n.gives lines) g.tokens g.passed in
+    let one = passes_same limit (longest_of c.args.ahead.now) lines bytes (bytes_of c.args.ahead.now) at behind (start_of c.next.new.self token) token over.0 over.1 (n.gives lines) g.tokens g.passed in
     elim c.match-first_of.branch [
       | in-Scalar+in_ok-ok-in-Scalar w ↦ rw (w.plain-is, w.regs-is, w.next-is)
-          (scalar_taken h.codes limit lines bytes before items at _ g k _ _ (line_ahead lines bytes at) token _ w.scalar_code.result less one w.first_byte_of.ensures w.in_ok-ok-in-Scalar.ensures.value (λ earlier. w.scalar_code.ensures.code h earlier v))
+          (scalar_taken h.codes limit lines bytes before items at _ g k _ _ line token _ w.scalar_code.result less one w.first_byte_of.ensures w.in_ok-ok-in-Scalar.ensures.value (λ earlier. w.scalar_code.ensures.code h earlier v))
       | in-Vector+in_ok-next-in-Vector+in_ok-vector_code-in-Vector w ↦
           let m = w.in_ok-next-in-Vector.ensures in
-          let two = passes_same limit (longest_of c.next.new.self) lines bytes (bytes_of c.next.new.self) behind _ _ (n.same.1 ∙ over.0) (n.same.0 ∙ over.1) (m.gives lines) (g.tokens ++ record { bytes = token; line = line_ahead lines bytes at } ∷ []) one in
+          let two = passes_same limit (longest_of c.next.new.self) lines bytes (bytes_of c.next.new.self) behind _ _ _ (n.same.1 ∙ over.0) (n.same.0 ∙ over.1) (m.gives lines) (g.tokens ++ record { bytes = token; line = line } ∷ []) one in
           let s = w.in_ok-vector_code-in-Vector.ensures.code h v in
           rw (w.plain-is, w.regs-is, w.next-is)
-          (vector_taken h.codes limit lines bytes before items at _ g k _ _ (line_ahead lines bytes at) (line_ahead lines bytes behind) token _ _ (omega (arith, m.further)) two w.rest_of.ensures s.0 s.1 s.2)
+          (vector_taken h.codes limit lines bytes before items at _ g k _ _ line _ token _ _ (omega (arith, m.further)) two w.rest_of.ensures s.0 s.1 s.2)
       | in-Mark+in_ok-time-in-Mark w ↦ rw (w.plain-is, w.regs-is, w.next-is)
-          (mark_taken h.codes limit lines bytes before items at _ g k _ _ (line_ahead lines bytes at) token w.time_of.result less one w.in_ok-time-in-Mark.ensures.value (λ earlier e. w.time_of.ensures.time h.codes earlier e))
+          (mark_taken h.codes limit lines bytes before items at _ g k _ _ line token w.time_of.result less one w.in_ok-time-in-Mark.ensures.value (λ earlier e. w.time_of.ensures.time h.codes earlier e))
     ]
