@@ -104,6 +104,7 @@ pub fn item_ahead<'a>(
 {
     let mut next = *ahead;
     let token = next.next()?;
+    let start = next.passed() - 1 - token.len();
     let plain = match first_of(token) {
         First::Scalar => Plain {
             item: Item::Change {
@@ -114,7 +115,7 @@ pub fn item_ahead<'a>(
         },
         First::Vector => Plain {
             item: Item::Change {
-                code: vector_code(ahead.bytes(), ahead.passed(), token, next.next()?, view)?,
+                code: vector_code(ahead.bytes(), start, token, next.next()?, view)?,
                 form: Form::Vector,
             },
             text: rest_of(token),
