@@ -71,7 +71,9 @@ impl<'a> Ahead<'a> {
         ensures place { IfSome result (λ token. token.now
             ≡ slice_range (bytes_of self.old) (start_of self.new token.now) (passed_of self.new - 1)) }
 
-        // Before it there are only white bytes, or none.
+        // It is a whole run of other bytes, and before it there are only white bytes, or none.
+        ensures run { IfSome result (λ token. IsRun (longest_of self.old) (bytes_of self.old)
+            (start_of self.new token.now) (length token.now)) }
         ensures before { IfSome result (λ token.
             AreWhite (bytes_of self.old) (passed_of self.old) (start_of self.new token.now)) }
         ensures further { IfSome result

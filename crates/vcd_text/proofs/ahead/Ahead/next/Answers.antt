@@ -1,7 +1,7 @@
 use Rattle.std.proofs.Common.{◌≡◌, ℕ, ◌+◌, ◌-◌, true, [], ◌∷◌, ◌++◌, length, arith, sym, subst, ap₂}
 use Rattle.std.specs.Prelude.{slice_index, slice_range}
 use Rattle.vcd_model.specs.Bytes.{is_white_space}
-use Rattle.vcd_text.specs.Passed.{AreWhite, Passed, line_ahead}
+use Rattle.vcd_text.specs.Passed.{AreWhite, IsRun, Passed, line_ahead}
 use Rattle.vcd_text.proofs.Masks.{marks-on}
 use Rattle.vcd_text.proofs.Places.{length-slice_range}
 use Rattle.vcd_text.proofs.PassedLemmas.{passed_to, marked_run, marked_first, white_on, white_rest, run_behind, run_past}
@@ -126,6 +126,21 @@ returns-clause-place c =
     let e : end + 1 - length (slice_range a.bytes.now at end) - 1 ≡ at = omega arith in
     let f : end + 1 - 1 ≡ end = omega arith in
     ap₂ (slice_range a.bytes.now) (sym e) (sym f)
+
+pub returns-clause-run : goal.returns-clause-run
+returns-clause-run c =
+    let a = c.args.self.now in
+    let inv = c.loop-white.invariant in
+    let at = c.loop-white.start in
+    let w = c.white_ahead-white.result in
+    let bit = c.lowest-bit.result in
+    let m = c.white_ahead-white.ensures.marks c.if-white-eq0.false at inv.0 inv.2 in
+    let ahead = m.ahead bit c.lowest-bit.ensures.set in
+    let end : ℕ = w.next + bit - 64 in
+    let run = marked_run a.bytes.now at w bit m c.lowest-bit.ensures.set c.lowest-bit.ensures.below a.limit (λ e. c.if-at-start.true (omega arith)) c.if-end-start.false in
+    let len = length-slice_range a.bytes.now at end (omega (arith, m.within, c.lowest-bit.ensures.bound)) in
+    let e : end + 1 - length (slice_range a.bytes.now at end) - 1 ≡ at = omega arith in
+    subst (λ k. IsRun a.limit a.bytes.now k (length (slice_range a.bytes.now at end))) (sym e) (subst (IsRun a.limit a.bytes.now at) (sym len) run)
 
 pub returns-clause-before : goal.returns-clause-before
 returns-clause-before c =
