@@ -1,14 +1,15 @@
 -- One item more that lies ahead.
-use Rattle.std.proofs.Common.{◌≡◌, ◌≢◌, ℕ, ◌<◌, ◌≤◌, List, [], ◌∷◌, ◌++◌, map, take, drop, Some, Result, Ok, Err, MatchResult, refl, sym, ap, subst, ◌∙◌, arith, length-append}
+use Rattle.std.proofs.Common.{◌≡◌, ◌≢◌, ℕ, ◌<◌, ◌≤◌, List, [], ◌∷◌, ◌++◌, map, take, drop, length, Option, None, Some, IfSome, Result, Ok, Err, MatchResult, refl, sym, ap, subst, ◌∙◌, arith, length-append}
 use Rattle.std.specs.Prelude.{slice_get}
 use Rattle.std.specs.Result.{result_ok}
+use Rattle.std.proofs.lemmas.Option.{slice_get-get_or}
 use Rattle.std.proofs.lemmas.List.{append_assoc, map-append}
 use Rattle.std.proofs.lemmas.List.Elements.{filter_map-append}
 use Rattle.vcd_model.specs.Input.{Input}
 use Rattle.vcd_model.specs.Tokens.{Token}
 use Rattle.vcd_model.specs.Declarations.{IdCode}
 use Rattle.vcd_model.specs.Items.{BodyItem, Change, ChangeForm, time_after}
-use Rattle.vcd_model.specs.BodyPhrases.{BodyPhrase, items_of}
+use Rattle.vcd_model.specs.BodyPhrases.{BodyPhrase, declared_code, items_of}
 use Rattle.vcd_model.specs.BodyReading.{body_grammar}
 use Rattle.vcd_model.specs.Reading.{Placed, phrases_of}
 use Rattle.vcd_model.specs.SoFar.{IsSoFar}
@@ -17,15 +18,19 @@ use Rattle.vcd_text.specs.Passed.{Passed, line_ahead}
 use Rattle.vcd_text.specs.Feed.{HasGiven, HasReadTo}
 use Rattle.vcd_text.specs.declared.device.Source.{Ghosts}
 use Rattle.vcd_text.specs.declared.feed.Feed.{Feed}
+use Rattle.vcd_head.specs.Finds.{Finds}
+use Rattle.vcd_head.specs.declared.view.Code.{Code}
 use Rattle.vcd_body.specs.declared.fault.BodyFault.{BodyFault}
+use Rattle.vcd_body.specs.declared.item.Form.{Form}
 use Rattle.vcd_body.specs.declared.item.Form.TheVariants as form
 use Rattle.vcd_body.specs.declared.item.Item.{Item}
 use Rattle.vcd_body.specs.declared.item.Item.TheVariants as item
 use Rattle.vcd_body.specs.declared.item.Regs.{Regs}
-use Rattle.vcd_body.specs.Items.{AreRegsAfter, regs_after}
+use Rattle.vcd_body.specs.Items.{AreRegsAfter, model_form, regs_after}
 use Rattle.vcd_body.specs.Reads.{GaveItems, Passes, Refuses}
 use Rattle.vcd_body.specs.Given.{IsItem}
 use Rattle.vcd_body.specs.Ahead.{GaveAhead, GaveLast, PassBoth}
+use Rattle.vcd_body.proofs.RegsLemmas.{the_code}
 use Rattle.vcd_body.proofs.ReadLemmas.{known_change, known_time}
 
 -- a look ahead that was at one place passes one token more, which stands on this line, and is at place n
@@ -56,6 +61,15 @@ some_is e = cc
 at_ok : {A E : Type 0} (P : A → Type 0) (Q : E → Type 0) (r : Result A E) (x : A) → Some x ≡ result_ok r → MatchResult r P Q → P x
 at_ok P Q (Ok y) x e h = subst P (some_is (sym e)) h
 at_ok P Q (Err y) x e h = cc
+
+-- what is so of the code that was found, whichever it is
+pub code_behind : (codes : List IdCode) (text : List ℕ) (found : Option ℕ) {P : IdCode → Type 0} → Finds codes text found → ((c : IdCode) → declared_code codes text ≡ Some c → P c) → IfSome found (λ place. (c : IdCode) × (slice_get codes place ≡ Some c) × P c)
+code_behind codes text None f h = tt
+code_behind codes text (Some place) f h = (f.0, f.1, h f.0 f.2)
+
+pub code_within : (codes : List Code) (found : Option ℕ) {P : ℕ → Type 0} → IfSome found (λ place. place < length codes) → ((place : ℕ) (x : Code) → slice_get codes place ≡ Some x → P place) → IfSome found P
+code_within codes None within h = tt
+code_within codes (Some place) within h = h place _ (slice_get-get_or codes place the_code within)
 
 -- phrases of which the last is this one
 split_phrases : {P : Type 0} (ps : List (Placed P)) (qs : List P) (y : P) → phrases_of ps ≡ qs ++ y ∷ [] → (m : List (Placed P)) × (line : ℕ) × (ps ≡ m ++ record { phrase = y; line = line } ∷ []) × (phrases_of m ≡ qs)
@@ -163,15 +177,15 @@ module _ (codes : List IdCode) (limit lines : ℕ) (bytes : List ℕ) (before it
           known_more r x k,
         )
 
-    -- digits, and the code behind them
-    pub vector_taken : (n' place line line' : ℕ) (token code text : List ℕ) → n < n' → Passed limit lines bytes n' ((g.tokens ++ record { bytes = token; line = line } ∷ []) ++ record { bytes = code; line = line' } ∷ []) → text ≡ drop 1 token
-        → (c : IdCode) → slice_get codes place ≡ Some c → ((earlier : List BodyPhrase) → PassBoth codes earlier token code (BodyItem.Changes (record { code = c; form = ChangeForm.Vector; text = drop 1 token }))) → TakesOne n' r (item.Change place form.Vector) text
-    vector_taken n' place line line' token code text less p is c at h =
-        let x : Change = record { code = c; form = ChangeForm.Vector; text = text } in (
+    -- a value, and the code behind it
+    pub both_taken : (f : Form) (n' place line line' : ℕ) (token code text : List ℕ) → n < n' → Passed limit lines bytes n' ((g.tokens ++ record { bytes = token; line = line } ∷ []) ++ record { bytes = code; line = line' } ∷ []) → text ≡ drop 1 token
+        → (c : IdCode) → slice_get codes place ≡ Some c → ((earlier : List BodyPhrase) → PassBoth codes earlier token code (BodyItem.Changes (record { code = c; form = model_form f; text = drop 1 token }))) → TakesOne n' r (item.Change place f) text
+    both_taken f n' place line line' token code text less p is c at h =
+        let x : Change = record { code = c; form = model_form f; text = text } in (
           BodyItem.Changes x,
           (c, at, refl),
           two_more n n' (record { bytes = token; line = line }) (record { bytes = code; line = line' }) (BodyItem.Changes x) g less p
-              (λ earlier e. subst (λ (l : List ℕ). PassBoth codes earlier token code (BodyItem.Changes (record { code = c; form = ChangeForm.Vector; text = l }))) (sym is) (h earlier)),
+              (λ earlier e. subst (λ (l : List ℕ). PassBoth codes earlier token code (BodyItem.Changes (record { code = c; form = model_form f; text = l }))) (sym is) (h earlier)),
           known_more r x k,
         )
 

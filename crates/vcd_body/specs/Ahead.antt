@@ -1,5 +1,5 @@
 -- Items that are taken ahead of the feed, and what they leave once it has passed them.
-use Rattle.std.specs.Prelude.{◌≡◌, ◌≢◌, ℕ, ◌≤◌, List, [], ◌∷◌, ◌++◌, length, map, Some, None}
+use Rattle.std.specs.Prelude.{◌≡◌, ℕ, ◌≤◌, List, [], ◌∷◌, ◌++◌, length, map, Some, None}
 use Rattle.vcd_model.specs.Input.{Input}
 use Rattle.vcd_model.specs.Tokens.{Token}
 use Rattle.vcd_model.specs.Declarations.{IdCode}
@@ -15,16 +15,15 @@ use Rattle.vcd_text.specs.declared.ahead.Ahead.{Ahead}
 use Rattle.vcd_text.specs.Feed.{HasReadTo}
 use Rattle.vcd_text.specs.declared.device.Source.{Ghosts}
 use Rattle.vcd_text.specs.declared.feed.Feed.{Feed}
-use Rattle.vcd_body.specs.declared.item.Form.TheVariants.{RealText}
 use Rattle.vcd_body.specs.declared.item.Item.{Item}
 use Rattle.vcd_body.specs.declared.item.Item.TheVariants.{Time, Change}
 use Rattle.vcd_body.specs.declared.item.Regs.{Regs}
 use Rattle.vcd_body.specs.Reads.{GaveItems}
 
--- a time mark, with no text, or a change of digits
+-- a time mark, with no text, or a change
 abbrev pub IsPlain : List ℕ → Item → Type 0
 IsPlain text (Time t) = text ≡ []
-IsPlain text (Change place form) = form ≢ RealText
+IsPlain text (Change place form) = Unit {0}
 IsPlain text item = ⊥
 
 -- it looks over these bytes, for tokens of at most so many

@@ -22,15 +22,15 @@ ghost use Rattle.vcd_body.specs.Ahead.{GaveAhead, GaveLast, IsPlain, LooksOver, 
 use crate::item::{Form, Item, Regs};
 use crate::phrases::{scalar_code, takes, time_of};
 use crate::words::{First, are_digits_at, first_byte_of, first_of, rest_of};
-use vcd_head::{HeadView, find_sized};
+use vcd_head::{HeadView, find, find_sized};
 use vcd_text::{Ahead, Feed, Source};
 
 /// An item that was taken ahead.
 #[derive(Clone, Copy)]
 pub struct Plain<'a> {
-    /// A time mark or a change of digits.
+    /// A time mark or a change.
     pub item: Item,
-    /// The digits of a change; none for a mark.
+    /// The text of a change; none for a mark.
     pub text: &'a [u8],
 }
 
@@ -69,8 +69,30 @@ fn vector_code(
     None
 }
 
-/// The next item, where it is a time mark or a change of digits, and its tokens lie whole ahead. Else none, and then nothing has
-/// changed: `next_item` gives it, or its fault.
+/// The place of the code that stands after the text of a real number, where the text has 1 to 64 bytes.
+#[inline(never)]
+fn real_code(token: &[u8], code: &[u8], view: HeadView<'_>) -> Option<usize>
+    requires begins { Begins token.now first.Real }
+    ensures code { (h : Header) → IsViewOf view.entry h
+        → IfSome result (λ place. (c : IdCode) × (slice_get h.codes place ≡ Some c)
+        × ((earlier : List BodyPhrase) → PassBoth h.codes earlier token.now code.now
+        (BodyItem.Changes (record {
+          code = c;
+          form = ChangeForm.RealText;
+          text = drop 1 token.now;
+        })))) }
+    ensures sound { IfSome result
+        (λ place. IsGoodText view.entry.codes.now place form.RealText (drop 1 token.now)) }
+{
+    let text = rest_of(token);
+    if text.is_empty() || text.len() > 64 {
+        return None;
+    }
+    find(view, code)
+}
+
+/// The next item, where it is a time mark or a change, and its tokens lie whole ahead. Else none, and then nothing has changed:
+/// `next_item` gives it, or its fault.
 #[inline(always)]
 pub fn item_ahead<'a>(
     ahead: &mut Ahead<'a>,
@@ -129,7 +151,14 @@ pub fn item_ahead<'a>(
                 text: &[],
             }
         }
-        First::Real | First::Other => return None,
+        First::Real => Plain {
+            item: Item::Change {
+                code: real_code(token, next.next()?, view)?,
+                form: Form::RealText,
+            },
+            text: rest_of(token),
+        },
+        First::Other => return None,
     };
     *ahead = next;
     Some(plain)

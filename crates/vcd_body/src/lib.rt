@@ -2,7 +2,7 @@
 //!
 //! `next_item` reads the next item from a feed that stands after a header: a time mark, the begin or end of a section, a value
 //! change, or the end of the body (`Finish`). `change_text` is the text of the change that was read last, and `put_change`
-//! writes one as its line. Most items are time marks and changes of digits that lie whole in the chunk: a loop takes these with
+//! writes one as its line. Most items are time marks and changes that lie whole in the chunk: a loop takes these with
 //! `item_ahead`, which leaves the feed where it is, and then takes the feed past all of them with `pass_items`. A `Table` keeps
 //! of each code its current value, three counters, and whether it is chosen. None of them takes memory.
 //!

@@ -239,6 +239,17 @@ fn digits_that_stand_in_some_bytes(rt: HostRuntime) {
     assert!(rt; !are_digits_at(b"", 0, b""));
 }
 
+#[test]
+fn real_numbers_taken_ahead(rt: HostRuntime) -> Result<(), Fail> {
+    let body =
+        b"#0\nr1.5 \"\n1!\nR-2E3 !\nr1234567890123456789012345678901234567890123456789012345678901234 \"\nr \"\n$comment of more than sixty-three bytes, for the look ahead to end before it $end\n";
+    assert_eq!(rt;
+        taken_ahead(rt.alloc(), body)?.as_str(),
+        "#0 1:RealText:1.5 0:Scalar:1 0:RealText:-2E3 1:RealText:1234567890123456789012345678901234567890123456789012345678901234 then fault 15 at 12"
+    );
+    Ok(())
+}
+
 // A change of digits is written so, where the code is no event.
 fn writes(size: usize, form: Form, text: &[u8], line: &[u8]) -> bool
     requires { 0 < length text.now }

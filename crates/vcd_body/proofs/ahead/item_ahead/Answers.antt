@@ -1,9 +1,11 @@
-use Rattle.std.proofs.Common.{[], ◌∷◌, ◌++◌, ◌<◌, ◌∙◌, arith}
+use Rattle.std.proofs.Common.{[], ◌∷◌, ◌++◌, ◌<◌, ◌∙◌, append_assoc, subst, arith}
+use Rattle.vcd_model.specs.Tokens.{Token}
 use Rattle.vcd_text.specs.Ahead.{bytes_of, longest_of, passed_of, start_of}
-use Rattle.vcd_text.specs.Passed.{line_ahead}
-use Rattle.vcd_body.proofs.AheadLemmas.{passes_same, scalar_taken, vector_taken, mark_taken}
+use Rattle.vcd_text.specs.Passed.{Passed, line_ahead}
+use Rattle.vcd_body.specs.declared.item.Form.TheVariants as form
+use Rattle.vcd_body.proofs.AheadLemmas.{passes_same, scalar_taken, both_taken, mark_taken}
 use Rattle.vcd_body.proofs.ahead.item_ahead.Goals as goal
-use Rattle.vcd_body.proofs.ahead.item_ahead.Goals.{in-Scalar+in_ok-ok-in-Scalar, in-Vector+in_ok-next-in-Vector+in_ok-vector_code-in-Vector, in-Mark+in_ok-time-in-Mark}
+use Rattle.vcd_body.proofs.ahead.item_ahead.Goals.{in-Scalar+in_ok-ok-in-Scalar, in-Vector+in_ok-next-in-Vector+in_ok-vector_code-in-Vector, in-Mark+in_ok-time-in-Mark, in-Real+in_ok-next-in-Real+in_ok-real_code-in-Real}
 
 pub returns-clause-gives : goal.returns-clause-gives
 returns-clause-gives c = λ h limit lines bytes before items v over k g.
@@ -22,7 +24,33 @@ returns-clause-gives c = λ h limit lines bytes before items v over k g.
           let two = passes_same limit (longest_of c.next.new.self) lines bytes (bytes_of c.next.new.self) behind _ _ _ (n.same.1 ∙ over.0) (n.same.0 ∙ over.1) (m.gives lines) (g.tokens ++ record { bytes = token; line = line } ∷ []) one in
           let s = w.in_ok-vector_code-in-Vector.ensures.code h v in
           rw (w.plain-is, w.regs-is, w.next-is)
-          (vector_taken h.codes limit lines bytes before items at _ g k _ _ line _ token _ _ (omega (arith, m.further)) two w.rest_of.ensures s.0 s.1 s.2)
+          (both_taken h.codes limit lines bytes before items at _ g k form.Vector _ _ line _ token _ _ (omega (arith, m.further)) two w.rest_of.ensures s.0 s.1 s.2)
       | in-Mark+in_ok-time-in-Mark w ↦ rw (w.plain-is, w.regs-is, w.next-is)
           (mark_taken h.codes limit lines bytes before items at _ g k _ _ line token w.time_of.result less one w.in_ok-time-in-Mark.ensures.value (λ earlier e. w.time_of.ensures.time h.codes earlier e))
+      | in-Real+in_ok-next-in-Real+in_ok-real_code-in-Real w ↦
+          let m = w.in_ok-next-in-Real.ensures in
+          let two = passes_same limit (longest_of c.next.new.self) lines bytes (bytes_of c.next.new.self) behind _ _ _ (n.same.1 ∙ over.0) (n.same.0 ∙ over.1) (m.gives lines) (g.tokens ++ record { bytes = token; line = line } ∷ []) one in
+          let s = w.in_ok-real_code-in-Real.ensures.code h v in
+          rw (w.plain-is, w.regs-is, w.next-is)
+          (both_taken h.codes limit lines bytes before items at _ g k form.RealText _ _ line _ token _ _ (omega (arith, m.further)) two w.rest_of-in-Real.ensures s.0 s.1 s.2)
+    ]
+
+pub returns-clause-passes : goal.returns-clause-passes
+returns-clause-passes c = λ limit lines bytes ts over p.
+    let n = c.in_ok-token.ensures in
+    let token = c.in_ok-token.token.now in
+    let behind = passed_of c.next.new.self in
+    let t : Token = record { bytes = token; line = line_ahead lines bytes (start_of c.next.new.self token) } in
+    let one = passes_same limit (longest_of c.args.ahead.now) lines bytes (bytes_of c.args.ahead.now) (passed_of c.args.ahead.now) behind (start_of c.next.new.self token) token over.0 over.1 (n.gives lines) ts p in
+    elim c.match-first_of.branch [
+      | in-Scalar+in_ok-ok-in-Scalar w ↦ rw w.next-is (t ∷ [], one)
+      | in-Vector+in_ok-next-in-Vector+in_ok-vector_code-in-Vector w ↦
+          let m = w.in_ok-next-in-Vector.ensures in
+          let two = passes_same limit (longest_of c.next.new.self) lines bytes (bytes_of c.next.new.self) behind _ _ _ (n.same.1 ∙ over.0) (n.same.0 ∙ over.1) (m.gives lines) (ts ++ t ∷ []) one in
+          rw w.next-is (t ∷ _ ∷ [], subst (Passed limit lines bytes _) (append_assoc ts (t ∷ []) _) two)
+      | in-Mark+in_ok-time-in-Mark w ↦ rw w.next-is (t ∷ [], one)
+      | in-Real+in_ok-next-in-Real+in_ok-real_code-in-Real w ↦
+          let m = w.in_ok-next-in-Real.ensures in
+          let two = passes_same limit (longest_of c.next.new.self) lines bytes (bytes_of c.next.new.self) behind _ _ _ (n.same.1 ∙ over.0) (n.same.0 ∙ over.1) (m.gives lines) (ts ++ t ∷ []) one in
+          rw w.next-is (t ∷ _ ∷ [], subst (Passed limit lines bytes _) (append_assoc ts (t ∷ []) _) two)
     ]
