@@ -1,16 +1,18 @@
 #!/usr/bin/env bash
-# check_speed.sh [MB] [--large]   how fast `vcdkit check` is on a plain dump of so many megabytes (200), beside rivals and
-# `wc -l` on the same dump, and what memory each takes on 1 MB, on that dump and, with --large, on 1 GB. See README.md.
+# check_speed.sh [MB | DUMP ...] [--large]   how fast `vcdkit check` is on a plain dump of so many megabytes (200) or on these dumps,
+# beside rivals and `wc -l`; and on plain ones what memory each takes on 1 MB, on that dump and, with --large, on 1 GB. See README.md.
 set -eu
 here=$(cd "$(dirname "$0")" && pwd)
 rivals=${RIVALS:-$here/../../shared/bench/baseline}
 
 megabytes=200
 large=()
+dumps=()
 for word in "$@"; do
     case $word in
         --large) large=(1000) ;;
-        *[!0-9]* | '' | 0*) sed -n '2,3s/^# //p' "$0" >&2; exit 2 ;;
+        '' | 0*) sed -n '2,3s/^# //p' "$0" >&2; exit 2 ;;
+        *[!0-9]*) [ -r "$word" ] || { sed -n '2,3s/^# //p' "$0" >&2; exit 2; }; dumps+=("$word") ;;
         *) megabytes=$word ;;
     esac
 done
@@ -20,9 +22,9 @@ done
 programs=(vcdkit)
 if [ -d "$rivals" ]; then
     cp -r "$rivals" "$work/rivals" && chmod -R u+w "$work/rivals"
-    (cd "$work/rivals" && cargo build --quiet --release --offline --target-dir "$work/target" --bin simple --bin fast)
-    cp "$work/target/release/simple" "$work/target/release/fast" "$work"
-    programs+=(simple fast)
+    (cd "$work/rivals" && cargo build --quiet --release --offline --target-dir "$work/target" --bin simple --bin fast --bin simd)
+    cp "$work/target/release/simple" "$work/target/release/fast" "$work/target/release/simd" "$work"
+    programs+=(simple fast simd)
 else
     echo "check_speed.sh: there is no folder $rivals, so no rivals: RIVALS names another" >&2
 fi
@@ -42,38 +44,47 @@ dump_of() {
     echo "$work/$1.vcd"
 }
 
-dump=$(dump_of "$megabytes")
-for program in "${programs[@]}"; do
-    find_command "$program"
-    "${command[@]}" < "$dump" > "$work/$program.report"
-    cmp "$work/vcdkit.report" "$work/$program.report"
-done
-
-# The programs take turns, so that what else the machine does meets all of them.
-for _ in 1 2 3; do
-    for program in "${programs[@]}" 'wc -l'; do
-        echo "$program:$(times_of "$program" "$dump")"
+# Measures all programs on a dump, whose reports have to be the same.
+measure() {
+    local dump=$1 program
+    for program in "${programs[@]}"; do
+        find_command "$program"
+        "${command[@]}" < "$dump" > "$work/$program.report"
+        cmp "$work/vcdkit.report" "$work/$program.report"
     done
-done > "$work/times"
 
-echo "check of a plain dump of $megabytes MB, best of three"
-awk -F: -v bytes="$(wc -c < "$dump")" '
-    function rate(seconds) { return bytes / 1e6 / (seconds + 1e-9) }
-    {
-        split($2, t, " ")
-        if (!($1 in cpu)) { order[++n] = $1; cpu[$1] = t[1]; wall[$1] = t[2] }
-        if (t[1] < cpu[$1]) cpu[$1] = t[1]
-        if (t[2] < wall[$1]) wall[$1] = t[2]
-    }
-    END {
-        printf "%-8s | %17s %8s %8s | %9s %8s %8s\n", "", "user and system s", "MB/s", "ratio", "wall s", "MB/s", "ratio"
-        for (k = 1; k <= n; k++) {
-            p = order[k]
-            printf "%-8s | %17.3f %8.0f %8.2f | %9.3f %8.0f %8.2f\n", p, cpu[p], rate(cpu[p]), cpu[p] / (cpu["vcdkit"] + 1e-9),
-                wall[p], rate(wall[p]), wall[p] / (wall["vcdkit"] + 1e-9)
+    # The programs take turns, so that what else the machine does meets all of them.
+    for _ in 1 2 3; do
+        for program in "${programs[@]}" 'wc -l'; do
+            echo "$program:$(times_of "$program" "$dump")"
+        done
+    done > "$work/times"
+
+    echo "check of $2, best of three"
+    awk -F: -v bytes="$(wc -c < "$dump")" '
+        function rate(seconds) { return bytes / 1e6 / (seconds + 1e-9) }
+        {
+            split($2, t, " ")
+            if (!($1 in cpu)) { order[++n] = $1; cpu[$1] = t[1]; wall[$1] = t[2] }
+            if (t[1] < cpu[$1]) cpu[$1] = t[1]
+            if (t[2] < wall[$1]) wall[$1] = t[2]
         }
-        print "ratio: the speed of vcdkit over that of the program in the line"
-    }' "$work/times"
+        END {
+            printf "%-8s | %17s %8s %8s | %9s %8s %8s\n", "", "user and system s", "MB/s", "ratio", "wall s", "MB/s", "ratio"
+            for (k = 1; k <= n; k++) {
+                p = order[k]
+                printf "%-8s | %17.3f %8.0f %8.2f | %9.3f %8.0f %8.2f\n", p, cpu[p], rate(cpu[p]), cpu[p] / (cpu["vcdkit"] + 1e-9),
+                    wall[p], rate(wall[p]), wall[p] / (wall["vcdkit"] + 1e-9)
+            }
+            print "ratio: the speed of vcdkit over that of the program in the line"
+        }' "$work/times"
+}
+
+if [ ${#dumps[@]} -gt 0 ]; then
+    for dump in "${dumps[@]}"; do measure "$dump" "${dump##*/}"; echo; done
+    exit
+fi
+measure "$(dump_of "$megabytes")" "a plain dump of $megabytes MB"
 
 echo
 echo "peak resident memory, in kilobytes"
