@@ -1,6 +1,6 @@
 -- What several calls leave of a feed.
-use Rattle.std.proofs.Common.{◌≡◌, ℕ, ◌+◌, refl, ap, ◌∙◌, arith}
-use Rattle.vcd_text.specs.Advances.{Advances, CallEnd, GoesOn, Fails}
+use Rattle.std.proofs.Common.{ℕ, ◌+◌, refl, ap, ◌∙◌, arith}
+use Rattle.vcd_text.specs.Advances.{Advances, CallEnd, GoesOn}
 use Rattle.vcd_text.specs.declared.device.Source.{Ghosts}
 use Rattle.vcd_text.specs.declared.feed.Feed.{Feed}
 

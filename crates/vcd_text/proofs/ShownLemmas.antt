@@ -1,8 +1,8 @@
 -- What a token that is shown says of how much was read.
-use Rattle.std.proofs.Common.{◌≡◌, ◌≢◌, ℕ, ◌<◌, List, [], ◌∷◌, ◌++◌, length, arith, subst}
+use Rattle.std.proofs.Common.{◌≢◌, ℕ, List, [], ◌∷◌, ◌++◌, arith, subst}
 use Rattle.std.specs.List.{AllByRecursion}
 use Rattle.vcd_model.specs.Input.{Input}
-use Rattle.vcd_model.specs.Tokens.{Token, stream_of}
+use Rattle.vcd_model.specs.Tokens.{Token}
 use Rattle.vcd_model.specs.Reading.{texts_of}
 use Rattle.vcd_model.proofs.TokenTexts.{IsWord}
 use Rattle.vcd_model.proofs.HeaderFacts.{stream_words}

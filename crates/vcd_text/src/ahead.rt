@@ -1,7 +1,9 @@
 //! A look ahead over the bytes of a chunk, in a caller's loop: most tokens cost no change of the feed.
-ghost use Rattle.std.specs.Prelude.{◌≡◌, ◌≢◌, ℕ, ◌+◌, ◌-◌, ◌<◌, ◌≤◌, false, length, slice_index};
+ghost use Rattle.std.specs.Prelude.{◌≡◌, ◌≢◌, ℕ, ◌+◌, ◌-◌, ◌^◌, ◌<◌, ◌≤◌, true, false, length, slice_index};
+ghost use Rattle.std.specs.Int.{bit_at};
 ghost use Rattle.vcd_model.specs.Bytes.{is_white_space};
 ghost use Rattle.vcd_text.specs.Masks.{Marks};
+ghost use Rattle.vcd_text.specs.Passed.{AreWhite};
 
 use crate::registers::White;
 use crate::scan::{lowest, white_64, without};
@@ -21,7 +23,7 @@ pub struct Ahead<'a> {
 impl<'a> Ahead<'a> {
     ghost use Rattle.std.specs.Prelude.{List, [], ◌∷◌, ◌++◌, None, IfSome, slice_range};
     ghost use Rattle.vcd_model.specs.Tokens.{Token};
-    ghost use Rattle.vcd_text.specs.Passed.{AreWhite, IsRun, Passed, line_ahead};
+    ghost use Rattle.vcd_text.specs.Passed.{IsRun, Passed, line_ahead};
     ghost use Rattle.vcd_text.specs.Ahead.{bytes_of, longest_of, passed_of, start_of};
 
     /// Over these bytes.
@@ -89,22 +91,55 @@ impl<'a> Ahead<'a> {
         ensures same { (bytes_of self.new ≡ bytes_of self.old)
             × (longest_of self.new ≡ longest_of self.old) }
     {
-        let mut start = self.at;
-        let mut white = self.white;
-        let end = loop {
-            white = white_ahead(self.bytes, white);
-            if white.bits == 0 {
-                return None;
-            }
-            let bit = lowest(white.bits);
-            let at = white.next + bit - 64;
-            white.bits = without(white.bits, bit);
-            if at != start {
-                break at;
-            }
-            // A white byte before the token.
-            start += 1;
-        };
+        let white = white_ahead(self.bytes, self.white);
+        if white.bits == 0 {
+            return None;
+        }
+        if !stands_at(white, self.at) {
+            return self.take(self.at, white);
+        }
+        let (start, white) = past_white(self.bytes, self.at, white);
+        if white.bits == 0 {
+            return None;
+        }
+        self.take(start, white)
+    }
+
+    /// Takes the token at a place, before which all bytes are white.
+    #[inline(always)]
+    fn take(&mut self, start: usize, white: White) -> Option<&'a [u8]>
+        requires order { start ≤ white.next }
+        requires before { AreWhite (bytes_of self.old) (passed_of self.old) start }
+        requires marks { Marks (bytes_of self.old) start (length (bytes_of self.old)) white }
+        requires some { white.bits ≢ 0 }
+        requires token { (k : ℕ) → bit_at white.bits k ≡ 1 → start + 64 < white.next + k }
+        ensures gives { IfSome result (λ token. (lines : ℕ) (ts : List Token)
+            → Passed (longest_of self.old) lines (bytes_of self.old) (passed_of self.old) ts
+            → Passed (longest_of self.old) lines (bytes_of self.old) (passed_of self.new) (ts ++ (record {
+              bytes = token.now;
+              line = line_ahead lines (bytes_of self.old) (start_of self.new token.now);
+            }) ∷ [])) }
+        ensures some { IfSome result (λ token. 0 < length token.now) }
+        ensures short { IfSome result (λ token. length token.now ≤ longest_of self.old) }
+        ensures place { IfSome result (λ token. token.now
+            ≡ slice_range (bytes_of self.old) (start_of self.new token.now) (passed_of self.new - 1)) }
+        ensures run { IfSome result (λ token. IsRun (longest_of self.old) (bytes_of self.old)
+            (start_of self.new token.now) (length token.now)) }
+        ensures before { IfSome result (λ token.
+            AreWhite (bytes_of self.old) (passed_of self.old) (start_of self.new token.now)) }
+        ensures further { IfSome result
+            (λ token. passed_of self.old + length token.now + 1 ≤ passed_of self.new) }
+        ensures within { passed_of self.new ≤ length (bytes_of self.old) }
+        ensures none { result ≡ None → self.new ≡ self.old }
+        ensures needed { result ≡ None → (at n : ℕ)
+            → AreWhite (bytes_of self.old) (passed_of self.old) at
+            → IsRun (longest_of self.old) (bytes_of self.old) at n
+            → length (bytes_of self.old) < at + n + 64 }
+        ensures same { (bytes_of self.new ≡ bytes_of self.old)
+            × (longest_of self.new ≡ longest_of self.old) }
+    {
+        let bit = lowest(white.bits);
+        let end = white.next + bit - 64;
         if end - start > self.limit {
             return None;
         }
@@ -112,9 +147,49 @@ impl<'a> Ahead<'a> {
             bytes: self.bytes,
             at: end + 1,
             limit: self.limit,
-            white,
+            white: White {
+                bits: without(white.bits, bit),
+                next: white.next,
+            },
         };
         Some(&self.bytes[start..end])
+    }
+}
+
+/// The lowest bit is that of the byte at a place.
+#[inline(always)]
+fn stands_at(white: White, at: usize) -> bool
+    requires some { white.bits ≢ 0 }
+    requires next { white.next + 64 < 2 ^ 64 }
+    requires ahead { (k : ℕ) → bit_at white.bits k ≡ 1 → at + 64 ≤ white.next + k }
+    ensures there { result ≡ true → (bit_at white.bits (at + 64 - white.next) ≡ 1) × (white.next ≤ at + 64) × ((k : ℕ) → k < at + 64 - white.next → bit_at white.bits k ≡ 0) }
+    ensures beyond { result ≡ false → (k : ℕ) → bit_at white.bits k ≡ 1 → at + 64 < white.next + k }
+{
+    white.next + lowest(white.bits) - 64 == at
+}
+
+/// Where the next token begins, after the white byte at a place and those that follow it, and the white space that is known from
+/// there on: no bits where there is none, or fewer than 64 bytes from it on.
+#[inline(never)]
+fn past_white(bytes: &[u8], at: usize, known: White) -> (usize, White)
+    requires order { at ≤ known.next }
+    requires marks { Marks bytes.now at (length bytes.now) known }
+    ensures order { result.0 ≤ result.1.next }
+    ensures before { AreWhite bytes.now at result.0 }
+    ensures marks { result.1.bits ≢ 0 → Marks bytes.now result.0 (length bytes.now) result.1 }
+    ensures token { result.1.bits ≢ 0 → (k : ℕ) → bit_at result.1.bits k ≡ 1 → result.0 + 64 < result.1.next + k }
+    ensures none { result.1.bits ≡ 0 → (length bytes.now < result.1.next + 64)
+        × ((j : ℕ) → result.0 ≤ j → j < result.1.next → is_white_space (slice_index bytes.now j) ≡ false) }
+{
+    let mut start = at;
+    let mut white = known;
+    loop {
+        white = white_ahead(bytes, white);
+        if white.bits == 0 || !stands_at(white, start) {
+            return (start, white);
+        }
+        white.bits = without(white.bits, start + 64 - white.next);
+        start += 1;
     }
 }
 

@@ -1,0 +1,130 @@
+use Rattle.std.proofs.Common.{◌≡◌, ℕ, ◌+◌, ◌-◌, [], ◌∷◌, ◌++◌, length, arith, sym, subst, ap₂}
+use Rattle.std.specs.Prelude.{slice_range}
+use Rattle.vcd_text.specs.Passed.{AreWhite, IsRun, Passed, line_ahead}
+use Rattle.vcd_text.proofs.Masks.{marks-on}
+use Rattle.vcd_text.proofs.Places.{length-slice_range}
+use Rattle.vcd_text.proofs.PassedLemmas.{passed_to, marked_run, marked_first, white_rest, run_behind}
+use Rattle.vcd_text.proofs.ahead.Ahead.take.Goals as goal
+
+pub overflow_sub-end : goal.overflow_sub-end
+overflow_sub-end c =
+    let inv = c.requires in
+    let m = inv.marks in
+    omega (arith, m.ahead c.lowest-bit.result c.lowest-bit.ensures.set)
+
+pub returns-then-end-start-clause-needed : goal.returns-then-end-start-clause-needed
+returns-then-end-start-clause-needed c = λ _ start n front r.
+    let a = c.args.self.now in
+    let inv = c.requires in
+    let at = c.args.start in
+    let m = inv.marks in
+    let ahead = m.ahead c.lowest-bit.result c.lowest-bit.ensures.set in
+    let le = run_behind a.limit a.bytes.now a.at at start n inv.before front r in
+    let rest = white_rest a.bytes.now a.at at start inv.before.order le front in
+    let n-is = marked_first a.bytes.now at c.args.white c.lowest-bit.result m c.lowest-bit.ensures.set c.lowest-bit.ensures.below a.limit start n (λ e. let o = inv.token c.lowest-bit.result c.lowest-bit.ensures.set in absurd (omega (arith, e, o))) rest r in
+    absurd (omega (arith, r.short, n-is, c.if-end-start.true))
+
+pub invariant_of-self-clause-marks : goal.invariant_of-self-clause-marks
+invariant_of-self-clause-marks c =
+    let a = c.args.self.now in
+    let inv = c.requires in
+    let w = c.args.white in
+    let bit = c.lowest-bit.result in
+    let m = inv.marks in
+    let ahead = m.ahead bit c.lowest-bit.ensures.set in
+    marks-on a.bytes.now c.args.start (w.next + bit - 64 + 1) (length a.bytes.now) w bit c.without.result m c.lowest-bit.ensures.set c.lowest-bit.ensures.below c.without.ensures.kept c.without.ensures.no_more c.without.ensures.gone (omega arith)
+
+pub invariant_of-self-clause-order : goal.invariant_of-self-clause-order
+invariant_of-self-clause-order c =
+    let inv = c.requires in
+    let m = inv.marks in
+    omega (arith, m.ahead c.lowest-bit.result c.lowest-bit.ensures.set, c.lowest-bit.ensures.bound)
+
+pub slice_bounds-result-count : goal.slice_bounds-result-count
+slice_bounds-result-count c =
+    let inv = c.requires in
+    let m = inv.marks in
+    omega (arith, m.ahead c.lowest-bit.result c.lowest-bit.ensures.set)
+
+pub slice_bounds-result-start : goal.slice_bounds-result-start
+slice_bounds-result-start c =
+    let inv = c.requires in
+    let m = inv.marks in
+    omega (arith, m.ahead c.lowest-bit.result c.lowest-bit.ensures.set, m.within, c.lowest-bit.ensures.bound)
+
+pub returns-clause-gives : goal.returns-clause-gives
+returns-clause-gives c = λ lines ts passed.
+    let a = c.args.self.now in
+    let inv = c.requires in
+    let at = c.args.start in
+    let w = c.args.white in
+    let bit = c.lowest-bit.result in
+    let m = inv.marks in
+    let ahead = m.ahead bit c.lowest-bit.ensures.set in
+    let end : ℕ = w.next + bit - 64 in
+    let run = marked_run a.bytes.now at w bit m c.lowest-bit.ensures.set c.lowest-bit.ensures.below a.limit (λ e. let o = inv.token c.lowest-bit.result c.lowest-bit.ensures.set in absurd (omega (arith, e, o))) c.if-end-start.false in
+    let len = length-slice_range a.bytes.now at end (omega (arith, m.within, c.lowest-bit.ensures.bound)) in
+    let e : end + 1 - length (slice_range a.bytes.now at end) - 1 ≡ at = omega arith in
+    subst (λ k. Passed a.limit lines a.bytes.now (end + 1) (ts ++ record { bytes = slice_range a.bytes.now at end; line = line_ahead lines a.bytes.now k } ∷ [])) (sym e)
+    (passed_to a.limit lines a.bytes.now a.at at end ts inv.before (omega arith) run passed)
+
+pub returns-clause-some : goal.returns-clause-some
+returns-clause-some c =
+    let inv = c.requires in
+    let at = c.args.start in
+    let end : ℕ = c.args.white.next + c.lowest-bit.result - 64 in
+    let m = inv.marks in
+    let ahead = m.ahead c.lowest-bit.result c.lowest-bit.ensures.set in
+    let len = length-slice_range c.args.self.now.bytes.now at end (omega (arith, m.within, c.lowest-bit.ensures.bound)) in
+    omega (arith, len, inv.token c.lowest-bit.result c.lowest-bit.ensures.set)
+
+pub returns-clause-place : goal.returns-clause-place
+returns-clause-place c =
+    let a = c.args.self.now in
+    let inv = c.requires in
+    let at = c.args.start in
+    let end : ℕ = c.args.white.next + c.lowest-bit.result - 64 in
+    let m = inv.marks in
+    let ahead = m.ahead c.lowest-bit.result c.lowest-bit.ensures.set in
+    let len = length-slice_range a.bytes.now at end (omega (arith, m.within, c.lowest-bit.ensures.bound)) in
+    let e : end + 1 - length (slice_range a.bytes.now at end) - 1 ≡ at = omega arith in
+    let f : end + 1 - 1 ≡ end = omega arith in
+    ap₂ (slice_range a.bytes.now) (sym e) (sym f)
+
+pub returns-clause-run : goal.returns-clause-run
+returns-clause-run c =
+    let a = c.args.self.now in
+    let inv = c.requires in
+    let at = c.args.start in
+    let w = c.args.white in
+    let bit = c.lowest-bit.result in
+    let m = inv.marks in
+    let ahead = m.ahead bit c.lowest-bit.ensures.set in
+    let end : ℕ = w.next + bit - 64 in
+    let run = marked_run a.bytes.now at w bit m c.lowest-bit.ensures.set c.lowest-bit.ensures.below a.limit (λ e. let o = inv.token c.lowest-bit.result c.lowest-bit.ensures.set in absurd (omega (arith, e, o))) c.if-end-start.false in
+    let len = length-slice_range a.bytes.now at end (omega (arith, m.within, c.lowest-bit.ensures.bound)) in
+    let e : end + 1 - length (slice_range a.bytes.now at end) - 1 ≡ at = omega arith in
+    subst (λ k. IsRun a.limit a.bytes.now k (length (slice_range a.bytes.now at end))) (sym e) (subst (IsRun a.limit a.bytes.now at) (sym len) run)
+
+pub returns-clause-before : goal.returns-clause-before
+returns-clause-before c =
+    let a = c.args.self.now in
+    let inv = c.requires in
+    let at = c.args.start in
+    let end : ℕ = c.args.white.next + c.lowest-bit.result - 64 in
+    let m = inv.marks in
+    let ahead = m.ahead c.lowest-bit.result c.lowest-bit.ensures.set in
+    let len = length-slice_range a.bytes.now at end (omega (arith, m.within, c.lowest-bit.ensures.bound)) in
+    let e : end + 1 - length (slice_range a.bytes.now at end) - 1 ≡ at = omega arith in
+    subst (AreWhite a.bytes.now a.at) (sym e) inv.before
+
+pub returns-clause-further : goal.returns-clause-further
+returns-clause-further c =
+    let a = c.args.self.now in
+    let inv = c.requires in
+    let at = c.args.start in
+    let end : ℕ = c.args.white.next + c.lowest-bit.result - 64 in
+    let m = inv.marks in
+    let ahead = m.ahead c.lowest-bit.result c.lowest-bit.ensures.set in
+    let len = length-slice_range a.bytes.now at end (omega (arith, m.within, c.lowest-bit.ensures.bound)) in
+    omega (arith, len, inv.before.order)
