@@ -44,7 +44,14 @@ pub fn find_sized(view: HeadView<'_>, code: &[u8]) -> Option<Found>
 {
     match find_at_once(view, code) {
         Some(found) => Some(found),
-        None => find_slowly(view.text, view.codes, view.index, code),
+        None => {
+            let place = find_slowly(view.text, view.codes, view.index, code)?;
+            let code = code_in(view.codes, place)?;
+            Some(Found {
+                place,
+                most: most_of(code) as usize,
+            })
+        }
     }
 }
 
@@ -67,19 +74,15 @@ fn find_at_once(view: HeadView<'_>, code: &[u8]) -> Option<Found>
     }
 }
 
-// The same by a binary search. It takes no view, so that a look-up that is done at once need not make one ready.
+// The place of a code by a binary search. It takes no view, so that a look-up that is done at once need not make one ready, and
+// returns a number alone, which needs no memory.
 #[inline(never)]
-fn find_slowly(text: &[u8], codes: &[Code], index: &[usize], code: &[u8]) -> Option<Found>
+fn find_slowly(text: &[u8], codes: &[Code], index: &[usize], code: &[u8]) -> Option<usize>
     ensures found { (ks : List IdCode) → AllZip (IsCode text.now) codes.now ks
-        → IsIndex ks index.now → Finds ks code.now (option_map (λ found. found.place) result) }
-    ensures sized { IfSome result (λ found. IsSized codes.now found) }
+        → IsIndex ks index.now → Finds ks code.now result }
+    ensures within { IfSome result (λ place. place < length codes.now) }
 {
-    let place = search(text, codes, index, code, &mut Probes::new())?;
-    let code = code_in(codes, place)?;
-    Some(Found {
-        place,
-        most: most_of(code) as usize,
-    })
+    search(text, codes, index, code, &mut Probes::new())
 }
 
 /// The same by a binary search alone, which counts its probes.

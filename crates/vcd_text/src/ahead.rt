@@ -6,7 +6,7 @@ ghost use Rattle.vcd_text.specs.Masks.{Marks};
 ghost use Rattle.vcd_text.specs.Passed.{AreWhite};
 
 use crate::registers::White;
-use crate::scan::{lowest, white_64, without};
+use crate::scan::{is_white_space, lowest, white_64, without};
 
 /// The tokens that stand ahead in a feed's chunk, up to a place that needs the feed itself. A copy of it is a place to go back to.
 #[derive(Clone, Copy)]
@@ -98,7 +98,8 @@ impl<'a> Ahead<'a> {
         if !stands_at(white, self.at) {
             return self.take(self.at, white);
         }
-        let (start, white) = past_white(self.bytes, self.at, white);
+        let start = past_white(self.bytes, self.at);
+        let white = look_ahead(self.bytes, start);
         if white.bits == 0 {
             return None;
         }
@@ -168,29 +169,21 @@ fn stands_at(white: White, at: usize) -> bool
     white.next + lowest(white.bits) - 64 == at
 }
 
-/// Where the next token begins, after the white byte at a place and those that follow it, and the white space that is known from
-/// there on: no bits where there is none, or fewer than 64 bytes from it on.
+/// Where the white bytes from a place on end.
+// Out of line, as is `look_ahead`, and both return numbers alone: what is returned through memory would be cleared for each token.
 #[inline(never)]
-fn past_white(bytes: &[u8], at: usize, known: White) -> (usize, White)
-    requires order { at ≤ known.next }
-    requires marks { Marks bytes.now at (length bytes.now) known }
-    ensures order { result.0 ≤ result.1.next }
-    ensures before { AreWhite bytes.now at result.0 }
-    ensures marks { result.1.bits ≢ 0 → Marks bytes.now result.0 (length bytes.now) result.1 }
-    ensures token { result.1.bits ≢ 0 → (k : ℕ) → bit_at result.1.bits k ≡ 1 → result.0 + 64 < result.1.next + k }
-    ensures none { result.1.bits ≡ 0 → (length bytes.now < result.1.next + 64)
-        × ((j : ℕ) → result.0 ≤ j → j < result.1.next → is_white_space (slice_index bytes.now j) ≡ false) }
+fn past_white(bytes: &[u8], from: usize) -> usize
+    requires { from ≤ length bytes.now }
+    ensures within { result ≤ length bytes.now }
+    ensures white { AreWhite bytes.now from result }
+    ensures stops { result < length bytes.now
+        → is_white_space (slice_index bytes.now result) ≡ false }
 {
-    let mut start = at;
-    let mut white = known;
-    loop {
-        white = white_ahead(bytes, white);
-        if white.bits == 0 || !stands_at(white, start) {
-            return (start, white);
-        }
-        white.bits = without(white.bits, start + 64 - white.next);
-        start += 1;
+    let mut at = from;
+    while at < bytes.len() && is_white_space(bytes[at]) {
+        at += 1;
     }
+    at
 }
 
 /// The white space that is known ahead: no bits where there is none, or fewer than 64 bytes from it on.

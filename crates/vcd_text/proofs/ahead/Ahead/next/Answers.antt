@@ -1,5 +1,9 @@
-use Rattle.std.proofs.Common.{arith}
+use Rattle.std.proofs.Common.{◌≡◌, ◌+◌, ◌-◌, Bool, true, false, inl, inr, arith, sym, subst, ◌∙◌}
+use Rattle.std.specs.Prelude.{slice_index}
+use Rattle.std.proofs.lemmas.Bool.{cases_lt}
+use Rattle.vcd_model.specs.Bytes.{is_white_space}
 use Rattle.vcd_text.proofs.PassedLemmas.{run_behind, run_past}
+use Rattle.vcd_text.proofs.Steps.{true-false}
 use Rattle.vcd_text.proofs.ahead.Ahead.next.Goals as goal
 
 pub returns-then-white-eq0-clause-needed : goal.returns-then-white-eq0-clause-needed
@@ -19,17 +23,32 @@ take-requires-clause-marks c =
     let a = c.args.self.now in
     c.white_ahead-white.ensures.marks c.if-white-eq0.false a.at a.order a.marks
 
-pub past_white-start-requires-clause-marks : goal.past_white-start-requires-clause-marks
-past_white-start-requires-clause-marks c =
-    let a = c.args.self.now in
-    c.white_ahead-white.ensures.marks c.if-white-eq0.false a.at a.order a.marks
-
 pub returns-then-white-eq0-2-clause-needed : goal.returns-then-white-eq0-2-clause-needed
 returns-then-white-eq0-2-clause-needed c = λ _ start n front r.
     let a = c.args.self.now in
-    let p = c.past_white-start.ensures in
-    let at = c.past_white-start.result.0 in
-    let le = run_behind a.limit a.bytes.now a.at at start n p.before front r in
-    let none = p.none c.if-white-eq0-2.true in
-    let far = run_past a.limit a.bytes.now at c.past_white-start.result.1.next start n le none.1 r in
+    let at = c.past_white-start.result in
+    let le = run_behind a.limit a.bytes.now a.at at start n c.past_white-start.ensures.white front r in
+    let none = c.look_ahead-white.ensures.none c.if-white-eq0-2.true in
+    let far = run_past a.limit a.bytes.now at c.look_ahead-white.result.next start n le none.1 r in
     omega (arith, far, none.0)
+
+pub take-requires-2-clause-marks : goal.take-requires-2-clause-marks
+take-requires-2-clause-marks c =
+    let at = c.past_white-start.result in
+    c.look_ahead-white.ensures.marks c.if-white-eq0-2.false at (omega arith) (λ j from below. absurd (omega (arith, from, below)))
+
+pub take-requires-2-clause-token : goal.take-requires-2-clause-token
+take-requires-2-clause-token c = λ k set.
+    let bytes = c.args.self.now.bytes.now in
+    let at = c.past_white-start.result in
+    let m = c.look_ahead-white.ensures.marks c.if-white-eq0-2.false at (omega arith) (λ j from below. absurd (omega (arith, from, below))) in
+    let far = m.ahead k set in
+    let few = m.inside k set in
+    let end = m.within in
+    let other = c.past_white-start.ensures.stops in
+    elim (cases_lt (at + 64) (c.look_ahead-white.result.next + k)) [
+      | inl lt ↦ lt
+      | inr le ↦ (let here : c.look_ahead-white.result.next + k - 64 ≡ at = omega arith in
+          let white = subst (λ n. is_white_space (slice_index bytes n) ≡ true) here (m.white k set) in
+          true-false (is_white_space (slice_index bytes at)) white (other (omega arith)))
+    ]
