@@ -6,6 +6,7 @@ pub mod Lines
 pub mod EngineLemmas
 pub mod AheadLemmas
 pub mod CheckLemmas
+pub mod AheadTrails
 pub mod AskedLemmas
 pub mod RoomLemmas
 pub mod RunLemmas
@@ -20,6 +21,7 @@ pub mod SampleLines
 pub mod SampleLemmas
 pub mod MergeItem
 pub mod Dumps
+pub mod SeatAhead
 pub mod SeatLemmas
 pub mod SeatTrails
 pub mod PartLemmas

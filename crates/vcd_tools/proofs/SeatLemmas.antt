@@ -12,6 +12,7 @@ use Rattle.vcd_model.proofs.BodyFacts.{all_append}
 use Rattle.vcd_text.specs.Feed.{chunk_len_of, limit_of, token_of, seen, supply_of}
 use Rattle.vcd_text.specs.declared.device.Source.{Ghosts}
 use Rattle.vcd_text.specs.declared.feed.Feed.{Feed}
+use Rattle.vcd_body.specs.Ahead.{GaveLast}
 use Rattle.vcd_body.specs.Given.{GivesItem}
 use Rattle.vcd_body.specs.Items.{AreRegsAfter}
 use Rattle.vcd_body.specs.Reads.{GaveAll, GaveItem, GaveItems, Fails, StopsAt}
@@ -60,6 +61,10 @@ module _ {X : Type 0} {g : Ghosts X} (l : Lane) (left : Input) (items : List Bod
 
   pub no_more_at_item : (x : BodyItem) (r : Regs) → GaveItem l.header.codes left l.front items x f r → ReadsNoMore (limit_of f) (chunk_len_of f) l left (supply_of f).rest
   no_more_at_item x r m = however_many (limit_of f) (chunk_len_of f) (supply_of f) left l.front _ (λ old. read_to_item Request.Merge l.header left l.front items f (limit_of f) (chunk_len_of f) old refl refl (can_merge l.header) (none_early items) x r (last_given l.header.codes left l.front items x f r m))
+
+  -- and where its line is not known
+  pub no_more_at_last : (x : BodyItem) (r : Regs) → GaveLast l.header.codes left l.front items x f r → ReadsNoMore (limit_of f) (chunk_len_of f) l left (supply_of f).rest
+  no_more_at_last x r m = however_many (limit_of f) (chunk_len_of f) (supply_of f) left l.front _ (λ old. read_to_item Request.Merge l.header left l.front items f (limit_of f) (chunk_len_of f) old refl refl (can_merge l.header) (none_early items) x r m)
 
 -- ---- where it stands
 

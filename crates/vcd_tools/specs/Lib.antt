@@ -17,6 +17,7 @@ pub mod Ahead
 pub mod Step
 pub mod Seat
 pub mod SeatStep
+pub mod MergeAhead
 pub mod MergeOrder
 pub mod MergeTurns
 pub mod MergeParts

@@ -1,5 +1,5 @@
 -- Several items of one input of a merge, taken one after another.
-use Rattle.std.specs.Prelude.{◌≡◌, ℕ, ◌<◌, ◌⊎◌, Bool, true, List, [], ◌∷◌, ◌++◌, length, map, slice_get, Option, Some, Result}
+use Rattle.std.specs.Prelude.{◌≡◌, ℕ, ◌<◌, ◌⊎◌, Bool, true, false, List, [], ◌∷◌, ◌++◌, length, map, slice_get, Option, Some, Result, Ok, Err}
 use Rattle.vcd_model.specs.Header.{Header}
 use Rattle.vcd_model.specs.Items.{BodyItem}
 use Rattle.vcd_model.specs.Merge.{Dump, merge_open, merged_items}
@@ -11,9 +11,10 @@ use Rattle.vcd_tools.specs.Device.{Grows}
 use Rattle.vcd_tools.specs.MergeOrder.{IsNext}
 use Rattle.vcd_tools.specs.MergeParts.{part_len}
 use Rattle.vcd_tools.specs.MergeStep.{Gives, Holds, IsReady, Standing}
-use Rattle.vcd_tools.specs.Seat.{GivesOne, IsSeated, Lane, ReadsNoMore, Spot, Turns}
+use Rattle.vcd_tools.specs.Seat.{AtSeat, GivesOne, IsSeated, Lane, ReadsNoMore, Spot, Turns, spot_with}
 use Rattle.vcd_tools.specs.declared.answer.More.{More}
 use Rattle.vcd_tools.specs.declared.answer.Stop.{Stop}
+use Rattle.vcd_tools.specs.declared.answer.Stop.TheVariants.{Write}
 use Rattle.vcd_tools.specs.declared.seat.Seat.{Seat}
 
 -- where an input stands after some of its items, and the output with it
@@ -50,11 +51,28 @@ pub data Trail {X : Type 0} (rest : X → Option (List ℕ)) (failures : X → �
   Stands : Trail rest failures scale first l before a a
   Further : (b c : Stage X) (so_far : Trail rest failures scale first l before a b) (on : TakesOn rest failures scale first l before b c) → Trail rest failures scale first l before a c
 
+-- such items lead to a stage like this one: behind the same items, with the same output, source and windows
+pub record Reaches {X : Type 0} (rest : X → Option (List ℕ)) (failures : X → ℕ) (scale first : ℕ) (l : Lane) (before : ℕ) (a b : Stage X) : Type 0 where
+  pub mid : Stage X
+  pub trail : Trail rest failures scale first l before a mid
+  pub items_are : mid.items ≡ b.items
+  pub written_is : mid.written ≡ b.written
+  pub out_is : mid.out ≡ b.out
+  pub failures_are : failures mid.source ≡ failures b.source
+  pub chunk : length mid.chunk ≡ length b.chunk
+  pub token : length mid.token ≡ length b.token
+
 -- and then the step that ends them
 pub record RunTurns {X A : Type 0} (rest : X → Option (List ℕ)) (failures : X → ℕ) (k scale first : ℕ) (l : Lane) (before : ℕ) (a : Stage X) (written : Option ℕ) (s : Spot) (out : Device) (result : Result A Stop) : Type 0 where
   pub mid : Stage X
   pub trail : Trail rest failures scale first l before a mid
   pub last : Turns k scale first l mid.items mid.written written s mid.out out result
+
+-- what the items that lie ahead leave: all of them were taken; or, with the last of them, the run has ended, or a write failed
+abbrev pub AheadTurns : {X E : Type 0} {g : Ghosts X} → (X → Option (List ℕ)) → (X → ℕ) → (k scale first : ℕ) → Lane → ℕ → Stage X → Option ℕ → Seat → Feed X g → Device → Result Bool E → Type 0
+AheadTurns rest failures k scale first l before a written s f out (Ok false) = (xs : List BodyItem) × AtSeat scale first l xs (spot_with s f) × Reaches rest failures scale first l before a (stage_with xs written s f out)
+AheadTurns rest failures k scale first l before a written s f out (Ok true) = RunTurns {A = Bool} rest failures k scale first l before a written (spot_with s f) out (Ok true)
+AheadTurns rest failures k scale first l before a written s f out (Err e) = RunTurns {A = Bool} rest failures k scale first l before a written (spot_with s f) out (Err Write)
 
 -- the same from what the input has in a merge
 pub record TurnsAt {X A : Type 0} (rest : X → Option (List ℕ)) (failures : X → ℕ) (sources : List X) (k scale first : ℕ) (l : Lane) (before : ℕ) (items : List BodyItem) (written written' : Option ℕ) (s s' : Spot) (out out' : Device) (result : Result A Stop) : Type 0 where

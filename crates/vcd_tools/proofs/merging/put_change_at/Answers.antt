@@ -1,7 +1,6 @@
 use Rattle.std.proofs.Common.{◌≡◌, ◌&&◌, true, false, ap, sym, ◌∙◌, Err, rules, ℕ, ◌+◌, ◌*◌, Some, arith}
 use Rattle.vcd_model.specs.Items.{Change, leaves_open, time_after}
 use Rattle.vcd_head.specs.Shown.{parts}
-use Rattle.vcd_body.specs.Given.{text_of}
 use Rattle.vcd_body.specs.Items.{model_form}
 use Rattle.vcd_text.proofs.Writes.{appends-none, appends-first, takes-twice}
 use Rattle.vcd_tools.proofs.Results.{if_ok}
@@ -12,14 +11,14 @@ use Rattle.vcd_tools.proofs.merging.put_change_at.Goals as goal
 
 pub returns-then-is_left_out-clause-takes : goal.returns-then-is_left_out-clause-takes
 returns-then-is_left_out-clause-takes g c = λ scale first h items x views known time number few is.
-    let y : Change = record { code = is.0; form = model_form c.args.form; text = text_of c.args.form c.args.feed.now } in
+    let y : Change = record { code = is.0; form = model_form c.args.form; text = c.args.text.now } in
     let shown = sym c.code_at.ensures ∙ c.in-Some.is in
     let out : (is.0.event && leaves_open items) ≡ true = rw (sym (event_of (parts c.args.view) h c.args.code is.0 c.in-Some.declared views is.1 shown), sym (section_is items c.args.seat.now.regs known)) (sym c.is_left_out.ensures ∙ c.if-is_left_out.true) in
     rw (is.2, left_out scale first h items y c.args.written.now out) (appends-none (g.W.Sink.device c.args.out.now).held, left_time scale first h items y c.args.written.now out)
 
 pub returns-in_err-put_time_unless-clause-takes : goal.returns-in_err-put_time_unless-clause-takes
 returns-in_err-put_time_unless-clause-takes g c = λ scale first h items x views known time number few is.
-    let y : Change = record { code = is.0; form = model_form c.args.form; text = text_of c.args.form c.args.feed.now } in
+    let y : Change = record { code = is.0; form = model_form c.args.form; text = c.args.text.now } in
     let shown = sym c.code_at.ensures ∙ c.in-Some.is in
     let out : (is.0.event && leaves_open items) ≡ false = rw (sym (event_of (parts c.args.view) h c.args.code is.0 c.in-Some.declared views is.1 shown), sym (section_is items c.args.seat.now.regs known)) (sym c.is_left_out.ensures ∙ c.if-is_left_out.false) in
     let e : c.from_residual.result ≡ Err c.in_err-put_time_unless.field-0.0 = search rules in
@@ -28,14 +27,14 @@ returns-in_err-put_time_unless-clause-takes g c = λ scale first h items x views
 
 pub returns-clause-takes : goal.returns-clause-takes
 returns-clause-takes g c = λ scale first h items x views known time number few is.
-    let y : Change = record { code = is.0; form = model_form c.args.form; text = text_of c.args.form c.args.feed.now } in
+    let y : Change = record { code = is.0; form = model_form c.args.form; text = c.args.text.now } in
     let shown = sym c.code_at.ensures ∙ c.in-Some.is in
     let out : (is.0.event && leaves_open items) ≡ false = rw (sym (event_of (parts c.args.view) h c.args.code is.0 c.in-Some.declared views is.1 shown), sym (section_is items c.args.seat.now.regs known)) (sym c.is_left_out.ensures ∙ c.if-is_left_out.false) in
     let fits = number_fits h c.args.code is.0 is.1 first few in
     let sum : c.saturating_add.result ≡ first + c.args.code = omega (arith, c.saturating_add.ensures) in
-    let line = line_is first c.args.code c.saturating_add.result (parts c.args.view) h is.0 c.in-Some.declared (model_form c.args.form) (text_of c.args.form c.args.feed.now) c.text.result.now views is.1 shown sum (c.text.ensures ∙ c.of-id.ensures) in
+    let line = line_is first c.args.code c.saturating_add.result (parts c.args.view) h is.0 c.in-Some.declared (model_form c.args.form) c.args.text.now c.text.result.now views is.1 shown sum (c.text.ensures ∙ c.of-id.ensures) in
     let t = rw time at c.in_ok-put_time_unless.ensures.0 in
-    let l = rw (c.change_text.ensures, line) at c.put_change.ensures.0 in
+    let l = rw line at c.put_change.ensures.0 in
     rw (is.2, line_due scale first h items y c.args.written.now out) (
       takes-twice _ _ _ (time_due c.args.written.now (scale * time_after items)) _ c.put_change.result t l,
       if_ok c.put_change.result _ (ap (λ (n : ℕ). Some n) time ∙ time_written scale first h items y c.args.written.now out),
