@@ -3,7 +3,7 @@
 # beside rivals and `wc -l`; and on plain ones what memory each takes on 1 MB, on that dump and, with --large, on 1 GB. See README.md.
 set -eu
 here=$(cd "$(dirname "$0")" && pwd)
-rivals=${RIVALS:-$here/../../shared/bench/baseline}
+. "$here/common.sh"
 
 megabytes=200
 large=()
@@ -11,23 +11,23 @@ dumps=()
 for word in "$@"; do
     case $word in
         --large) large=(1000) ;;
-        '' | 0*) sed -n '2,3s/^# //p' "$0" >&2; exit 2 ;;
-        *[!0-9]*) [ -r "$word" ] || { sed -n '2,3s/^# //p' "$0" >&2; exit 2; }; dumps+=("$word") ;;
+        '' | 0*) stop_with_usage ;;
+        *[!0-9]*) need_files "$word"; dumps+=("$word") ;;
         *) megabytes=$word ;;
     esac
 done
 
-. "$here/common.sh"
-
 programs=(vcdkit)
-if [ -d "$rivals" ]; then
-    cp -r "$rivals" "$work/rivals" && chmod -R u+w "$work/rivals"
-    (cd "$work/rivals" && cargo build --quiet --release --offline --target-dir "$work/target" --bin simple --bin fast --bin simd)
-    cp "$work/target/release/simple" "$work/target/release/fast" "$work/target/release/simd" "$work"
-    programs+=(simple fast simd)
+if [ -x "$(command -v rustc)" ]; then
+    rustc -O -o "$work/rival" "$here/rival.rs"
+    programs+=(rival)
 else
-    echo "check_speed.sh: there is no folder $rivals, so no rivals: RIVALS names another" >&2
+    echo 'check_speed.sh: there is no rustc, so no rival' >&2
 fi
+for rival in ${RIVALS:-}; do
+    cp "$rival" "$work"
+    programs+=("${rival##*/}")
+done
 
 # Sets `command` to the words that run a program.
 find_command() {

@@ -72,10 +72,30 @@ print_best() {
         }' "$work/written" "$work/times"
 }
 
-# Stops with how the script is used where a word is no number above 0.
+# Stops with how the script is used, as its second and third line say.
+stop_with_usage() {
+    sed -n '2,3s/^# //p' "$0" >&2
+    exit 2
+}
+
+# Stops so where a word is no number above 0.
 need_numbers() {
     local word
     for word in "$@"; do
-        case $word in *[!0-9]* | '' | 0*) sed -n '2,3s/^# //p' "$0" >&2; exit 2 ;; esac
+        case $word in *[!0-9]* | '' | 0*) stop_with_usage ;; esac
     done
+}
+
+# Stops so where a word names no file.
+need_files() {
+    local word
+    for word in "$@"; do
+        [ -f "$word" ] || stop_with_usage
+    done
+}
+
+# The greatest time, and the last time mark of a dump: sets `last`, to 0 where there is none.
+greatest=18446744073709551615
+find_last() {
+    last=$("$work/vcdkit" check < "$1" | awk '$1 == "last" { print $2 == "-" ? 0 : $2 }')
 }

@@ -4,17 +4,8 @@
 set -eu -o pipefail
 here=$(cd "$(dirname "$0")" && pwd)
 programs=(check 'cut before' 'cut within' 'cut middle' 'wc -l')
-greatest=18446744073709551615
-
-for dump in "$@"; do
-    [ -f "$dump" ] || { sed -n '2,3s/^# //p' "$0" >&2; exit 2; }
-done
 . "$here/common.sh"
-
-# Sets `last` to the last time mark.
-find_last() {
-    last=$("$work/vcdkit" check < "$1" | awk '$1 == "last" { print $2 }')
-}
+need_files "$@"
 
 # Sets `command` to the words that run a program.
 find_command() {

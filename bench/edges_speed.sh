@@ -4,11 +4,8 @@
 set -eu -o pipefail
 here=$(cd "$(dirname "$0")" && pwd)
 programs=(check 'edges one' 'edges all' 'wc -l')
-
-for dump in "$@"; do
-    [ -f "$dump" ] || { sed -n '2,3s/^# //p' "$0" >&2; exit 2; }
-done
 . "$here/common.sh"
+need_files "$@"
 
 # Sets `command` to the words that run a program.
 find_command() {

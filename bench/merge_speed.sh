@@ -3,11 +3,8 @@
 # them in turn, and of the first one 64 times where it is small. See README.md.
 set -eu -o pipefail
 here=$(cd "$(dirname "$0")" && pwd)
-
-for dump in "$@"; do
-    [ -f "$dump" ] || { sed -n '2,3s/^# //p' "$0" >&2; exit 2; }
-done
 . "$here/common.sh"
+need_files "$@"
 
 dumps=("$@")
 if [ $# -eq 0 ]; then

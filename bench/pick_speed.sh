@@ -4,11 +4,8 @@
 set -eu -o pipefail
 here=$(cd "$(dirname "$0")" && pwd)
 programs=(check 'pick one' 'pick all' 'wc -l')
-
-for dump in "$@"; do
-    [ -f "$dump" ] || { sed -n '2,3s/^# //p' "$0" >&2; exit 2; }
-done
 . "$here/common.sh"
+need_files "$@"
 
 # Sets `one` to the path in the middle of the list, and `all` to the names before the first points, which select all that there is.
 find_names() {

@@ -4,17 +4,8 @@
 set -eu -o pipefail
 here=$(cd "$(dirname "$0")" && pwd)
 programs=(check 'sample one' 'sample all' 'sample end' 'wc -l')
-greatest=18446744073709551615
-
-for dump in "$@"; do
-    [ -f "$dump" ] || { sed -n '2,3s/^# //p' "$0" >&2; exit 2; }
-done
 . "$here/common.sh"
-
-# Sets `last` to the last time mark, 0 where there is none.
-find_last() {
-    last=$("$work/vcdkit" check < "$1" | awk '$1 == "last" { print $2 == "-" ? 0 : $2 }')
-}
+need_files "$@"
 
 # So many times with commas between them, from 0 to near the last time mark, or past it where there are fewer.
 times_over() {
