@@ -19,7 +19,3 @@ advances_on failures old mid new end a b = record {
 -- nothing was read
 pub advances_nowhere : {X : Type 0} {g : Ghosts X} (failures : X → ℕ) (f : Feed X g) → Advances failures f f GoesOn
 advances_nowhere failures f = record { loans = record { source = refl; chunk = refl; token = refl; value = refl }; limit = refl; chunk = refl; on = λ e. omega arith; goes = λ e o. o; failed = λ e o. cc; same = λ e. refl }
-
--- a reading that went on, and then is refused without a read
-pub advances_own : {X : Type 0} {g : Ghosts X} (failures : X → ℕ) (old new : Feed X g) → Advances failures old new GoesOn → Advances failures old new CallEnd.Ends
-advances_own failures old new a = record { loans = a.loans; limit = a.limit; chunk = a.chunk; on = λ e. cc; goes = λ e o. cc; failed = λ e o. cc; same = λ e. a.same (λ x. cc) }

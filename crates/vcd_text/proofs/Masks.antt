@@ -81,22 +81,6 @@ white_first xs n mask r t set = let e : 0 + r ≡ r = omega arith in subst (λ j
 abbrev marks-of : ℕ → ℕ → White
 marks-of bits next = record { bits = bits; next = next }
 
--- a load at `next`, where the bytes from `at` up to it are others
-pub marks-load : (chunk : List ℕ) (at stop next mask : ℕ) → next + 64 ≤ stop → at ≤ next → ((j : ℕ) → at ≤ j → j < next → is_white_space (get_or chunk j 0) ≡ false) → TellsWhite chunk next 64 mask
-    → Marks chunk at stop (marks-of mask (next + 64))
-marks-load chunk at stop next mask room from front t = record {
-  within = room;
-  ahead = λ k set. omega arith;
-  inside = t.inside;
-  white = λ k set. (let e : next + k ≡ next + 64 + k - 64 = omega arith in subst (λ j. is_white_space (get_or chunk j 0) ≡ true) e (t.white k set));
-  other = λ j le lt none. elim (cases_lt j next) [
-    | inl early ↦ front j le early
-    | inr late ↦ (let e : j + 64 - (next + 64) ≡ j - next = omega arith in
-        let back : next + (j - next) ≡ j = omega arith in
-        subst (λ i. is_white_space (get_or chunk i 0) ≡ false) back (t.other (j - next) (omega arith) (ap (bit_at mask) (sym e) ∙ none (omega arith))))
-  ];
-}
-
 -- where no bit is set, the bytes before `next` are others
 pub marks-none : (chunk : List ℕ) (at stop : ℕ) (w : White) → w.bits ≡ 0 → Marks chunk at stop w → (j : ℕ) → at ≤ j → j < w.next → is_white_space (get_or chunk j 0) ≡ false
 marks-none chunk at stop w e m j le lt = m.other j le lt (λ _. no_bits w.bits (j + 64 - w.next) e)

