@@ -22,15 +22,25 @@ pub(crate) enum Match<'n> {
     Differs,
 }
 
-// A quick test, which is false only where the text does not begin with the front: whether the last byte of the front stands in its
-// place. Names that stand together often differ in their last bytes alone.
+// A byte of the front stands in the text too. Where it does not, the text does not begin with the front.
+#[inline(always)]
+fn same_at(text: &[u8], front: &[u8], place: usize) -> bool
+    requires { place < length front.now }
+    ensures { result ≡ false → (rest : List ℕ) → text.now ≢ front.now ++ rest }
+{
+    place < text.len() && text[place] == front[place]
+}
+
+// A quick test, which is false only where the text does not begin with the front: whether the last two bytes of the front stand in
+// their places. Names that stand together often differ in a number at their end, which a bracket may close.
+#[inline(always)]
 fn may_begin(text: &[u8], front: &[u8]) -> bool
     ensures { result ≡ false → (rest : List ℕ) → text.now ≢ front.now ++ rest }
 {
     let Some(last) = front.len().checked_sub(1) else {
         return true;
     };
-    last < text.len() && text[last] == front[last]
+    same_at(text, front, last) && same_at(text, front, last.saturating_sub(1))
 }
 
 // The text is the name, or begins with it and a point.
