@@ -1,6 +1,7 @@
 mod again;
 mod check;
 mod cut;
+mod devices;
 mod edges;
 mod failures;
 mod headers;
