@@ -41,6 +41,14 @@ fn are_lower_at(bytes: &[u8], at: usize, n: usize) -> bool
     capitals_32(bytes, at) & ((1 << n) - 1) == 0
 }
 
+// Out of line, so that the short way of `are_lower` stays small.
+#[inline(never)]
+fn are_all_lower(digits: &[u8]) -> bool
+    ensures { result ≡ true → str_to_ascii_lowercase digits.now ≡ digits.now }
+{
+    !has_capital(digits)
+}
+
 /// The digits, which begin at a place of these bytes, are in lower case. Most are few: they are looked at at once.
 #[inline(always)]
 fn are_lower(bytes: &[u8], at: usize, digits: &[u8]) -> bool
@@ -52,7 +60,7 @@ fn are_lower(bytes: &[u8], at: usize, digits: &[u8]) -> bool
     if n <= 32 && bytes.len() - at >= 32 {
         return are_lower_at(bytes, at, n);
     }
-    !has_capital(digits)
+    are_all_lower(digits)
 }
 
 /// There are digits, and none can be left out on the left.
