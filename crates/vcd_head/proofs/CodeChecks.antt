@@ -1,7 +1,6 @@
 -- The checks of a variable's code, by what was found of it.
 use Rattle.std.proofs.Common.{◌≡◌, ◌≢◌, ℕ, Bool, true, false, cond, not, List, [], ◌∷◌, find, bytes_eq, codes, Option, Some, None, refl, sym, ap, subst, ◌∙◌}
 use mathlib.Core.Bool.{beq}
-use Rattle.std.specs.Global.{Vec}
 use Rattle.std.specs.List.{list_all}
 use Rattle.std.proofs.lemmas.Slice.Eq.{bytes_eq-Decides}
 use Rattle.vcd_model.specs.Bytes.{decimal_value, is_code_byte}
@@ -57,12 +56,12 @@ module _ (text : List ℕ) (es : Codes) (ds : List Declaration) (type digits tok
   check_event x good l a b =
       checked false (event_differs text es ds (read_variable []) l.0 h l.2 (sym l.3.same_size ∙ a ∙ sym s) (λ q. b (l.3.same_event ∙ q ∙ e))) good
 
-  pub found_new : (bytes : Vec ℕ) (reference : List (List ℕ)) → IsKnown (codes_of ds) tok None → bytes.items ≡ tok → IsFound ds (record { type = type; size = decimal_value digits; code = tok; reference = reference }) (found.New bytes)
-  found_new bytes reference l b = (b, l)
+  pub found_new : (held : List ℕ) (reference : List (List ℕ)) → IsKnown (codes_of ds) tok None → held ≡ tok → IsFound ds (record { type = type; size = decimal_value digits; code = tok; reference = reference }) held found.New
+  found_new held reference l b = (b, l)
 
-  pub found_same : (x : Coded) (reference : List (List ℕ)) → IsKnown (codes_of ds) tok (Some x) → x.code.size ≡ size → x.code.event ≡ event
-      → IsFound ds (record { type = type; size = decimal_value digits; code = tok; reference = reference }) (found.Declared x.place)
-  found_same x reference l a b =
+  pub found_same : (held : List ℕ) (x : Coded) (reference : List (List ℕ)) → IsKnown (codes_of ds) tok (Some x) → x.code.size ≡ size → x.code.event ≡ event
+      → IsFound ds (record { type = type; size = decimal_value digits; code = tok; reference = reference }) held (found.Declared x.place)
+  found_same held x reference l a b =
       let t : tok ≡ l.0.text = (bytes_eq-Decides tok l.0.text).0 (found_passes (has_text tok) (codes_of ds) l.0 l.2) in
       let k : l.0 ≡ record { text = tok; size = decimal_value digits; event = bytes_eq (codes "event") type } = λ j. record { text = sym t j; size = (sym l.3.same_size ∙ a ∙ sym s) j; event = (sym l.3.same_event ∙ b ∙ sym e) j } in
       (l.1 ∙ ap Some k, l.2 ∙ ap Some k)

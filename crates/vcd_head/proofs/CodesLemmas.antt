@@ -1,200 +1,260 @@
--- The tree that finds codes while a header is read.
-use Rattle.std.proofs.Common.{◌≡◌, ℕ, zero, suc, ◌+◌, ◌<◌, Bool, true, false, cond, List, [], ◌∷◌, ◌++◌, length, map, find, get_or, bytes_eq, slice_get, Some, None, refl, sym, ap, subst, ◌∙◌, arith, zero-add}
+-- The table that finds codes while a header is read.
+use Rattle.std.proofs.Common.{◌≡◌, ◌≢◌, ◌⊎◌, inl, inr, ℕ, zero, suc, ◌+◌, ◌<◌, ◌==◌, ◌&&◌, not, Bool, true, false, cond, List, [], ◌∷◌, ◌++◌, length, map, take, set, find, bytes_eq, slice_get, Option, Some, None, refl, sym, ap, subst, ◌∙◌, arith, add-one}
 use Rattle.std.specs.Global.{Vec}
-use Rattle.std.specs.Prelude.{IsPermutation}
-use Rattle.std.specs.List.{AllByRecursion, AllZip, All, range_with_len}
-use Rattle.std.specs.List.Sorted.{IsStrictlySortedBy}
-use Rattle.std.specs.Map.{lookup}
+use Rattle.std.specs.List.{AllByRecursion, AllZip, IsDistinct}
 use Rattle.std.specs.BTreeMap.{insert_entry}
+use Rattle.std.specs.Option.{option_or}
 use Rattle.std.specs.Ordering.{nat_cmp, is_eq, match_ordering}
 use Rattle.std.specs.declared.cmp.Ordering.{Ordering}
 use Rattle.std.specs.declared.cmp.Ordering.TheVariants.{Less, Equal, Greater}
 use Rattle.std.specs.Cmp.Lexicographic.{slice_cmp}
-use Rattle.std.proofs.lemmas.List.{length_push}
-use Rattle.std.proofs.lemmas.List.FromFn.{length-range_with_len, get_or-range_with_len}
-use Rattle.std.proofs.lemmas.List.Sorted.{All-permutation, IsPermutation-refl, IsPermutation-sym, IsPermutation-cons, IsPermutation-trans, IsPermutation-middle, IsPermutation-push_more}
-use Rattle.std.proofs.lemmas.Map.{none_passes_from_lookup}
+use Rattle.std.proofs.lemmas.Bool.{eqb-true, eq-eqb, ne_eqb, and_parts}
+use Rattle.std.proofs.lemmas.List.{length-set}
+use Rattle.std.proofs.lemmas.List.Folds.{find-append}
 use Rattle.std.proofs.lemmas.Map.Text.{is_eq-slice_cmp}
-use Rattle.std.proofs.lemmas.Option.{none-some, same_Some, slice_get-get_or}
+use Rattle.std.proofs.lemmas.Option.{none-some, same_Some}
 use Rattle.std.proofs.lemmas.Slice.Eq.{bytes_eq-Decides}
 use Rattle.vcd_model.specs.Declarations.{IdCode, has_text}
 use Rattle.vcd_head.specs.declared.view.Code.{Code}
-use Rattle.vcd_head.specs.Codes.{ArePlaces, IsKnown, IsOfKind, places_in}
-use Rattle.vcd_head.specs.Views.{IsCode, code_text}
-use Rattle.vcd_head.proofs.DraftGrows.{to_all, from_all, slice_get-front, slice_get-seam}
-use Rattle.vcd_head.proofs.LookUpLemmas.{blank, code_at, codes_len, text_at, found_at, none_with}
+use Rattle.vcd_head.specs.declared.view.Entry.{Entry}
+use Rattle.vcd_head.specs.declared.table.Table.{Table}
+use Rattle.vcd_head.specs.Codes.{AreHeld, FindsAll, IsEntered, IsKnown, IsOfKind, entered, in_tree, place_in, place_told}
+use Rattle.vcd_head.specs.Entries.{entry_in, text_in}
+use Rattle.vcd_head.specs.Finds.{Finds}
+use Rattle.vcd_head.specs.Keys.{AreBytes, key_in}
+use Rattle.vcd_head.specs.Views.{IsCode}
+use Rattle.vcd_head.proofs.DraftGrows.{all_push, all_zip_push, bytes_flip, same_bytes, slice_get-front, slice_get-seam}
+use Rattle.vcd_head.proofs.EntryLemmas.{code_found}
+use Rattle.vcd_head.proofs.KeyLemmas.{bytes_at_place, same_key}
+use Rattle.vcd_head.proofs.LookUpLemmas.{apart_at}
+use Rattle.vcd_head.proofs.RowLemmas.{text_within}
 
--- ---- places
+-- ---- the tree
 
--- each place is that of a code
-places_below : (es : List (Vec ℕ × ℕ)) (cs : List IdCode) → ArePlaces es cs → AllByRecursion (λ (e : Vec ℕ × ℕ). e.1 < length cs) es
-places_below es cs h = unmapped es (from_all (λ p. p < length cs) (places_in es) (All-permutation (λ p. p < length cs) (range_with_len 0 (length cs)) (places_in es) h.index.places in_range))
+-- what is inserted is found, and else what was
+in_tree_insert : (es : List (Vec ℕ × ℕ)) (k : Vec ℕ) (v : ℕ) (t : List ℕ) → in_tree (insert_entry (λ (a b : Vec ℕ). slice_cmp nat_cmp a.items b.items) es k v) t ≡ cond (bytes_eq t k.items) (Some v) (in_tree es t)
+in_tree_insert [] k v t = ap (λ b. cond b (Some v) None) (is_eq-slice_cmp t k.items)
+in_tree_insert (e ∷ es) k v t = by_order (slice_cmp nat_cmp k.items e.0.items) refl (in_tree_insert es k v t)
   where
-    in_range : All (λ p. p < length cs) (range_with_len 0 (length cs))
-    in_range k d b = let n = length-range_with_len 0 (length cs) in let l : k < length cs = omega arith in omega (arith, get_or-range_with_len 0 (length cs) k d l)
+    rest : List (Vec ℕ × ℕ)
+    rest = insert_entry (λ (a b : Vec ℕ). slice_cmp nat_cmp a.items b.items) es k v
 
-    unmapped : (es : List (Vec ℕ × ℕ)) → AllByRecursion (λ p. p < length cs) (places_in es) → AllByRecursion (λ (e : Vec ℕ × ℕ). e.1 < length cs) es
-    unmapped [] a = tt
-    unmapped (e ∷ es) a = (a.0, unmapped es a.1)
+    by_order : (o : Ordering) → slice_cmp nat_cmp k.items e.0.items ≡ o → in_tree rest t ≡ cond (bytes_eq t k.items) (Some v) (in_tree es t)
+        → in_tree (match_ordering o ((k, v) ∷ e ∷ es) ((e.0, v) ∷ es) (e ∷ rest)) t ≡ cond (bytes_eq t k.items) (Some v) (in_tree (e ∷ es) t)
+    by_order Less q more = ap (λ b. cond b (Some v) (in_tree (e ∷ es) t)) (is_eq-slice_cmp t k.items)
+    by_order Equal q more =
+        let same : k.items ≡ e.0.items = same_bytes k.items e.0.items (sym (is_eq-slice_cmp k.items e.0.items) ∙ ap is_eq q) in
+        let test : is_eq (slice_cmp nat_cmp t e.0.items) ≡ bytes_eq t k.items = is_eq-slice_cmp t e.0.items ∙ ap (bytes_eq t) (sym same) in
+        ap (λ b. cond b (Some v) (in_tree es t)) test ∙ twice (bytes_eq t k.items) ∙ ap (λ b. cond (bytes_eq t k.items) (Some v) (cond b (Some e.1) (in_tree es t))) (sym test)
+      where
+        twice : (b : Bool) → cond b (Some v) (in_tree es t) ≡ cond b (Some v) (cond b (Some e.1) (in_tree es t))
+        twice true = refl
+        twice false = refl
+    by_order Greater q more = by_test (is_eq (slice_cmp nat_cmp t e.0.items)) refl
+      where
+        apart : bytes_eq k.items e.0.items ≡ false
+        apart = sym (is_eq-slice_cmp k.items e.0.items) ∙ ap is_eq q
+
+        by_test : (b : Bool) → is_eq (slice_cmp nat_cmp t e.0.items) ≡ b → cond b (Some e.1) (in_tree rest t) ≡ cond (bytes_eq t k.items) (Some v) (cond b (Some e.1) (in_tree es t))
+        by_test true s =
+            let same : t ≡ e.0.items = same_bytes t e.0.items (sym (is_eq-slice_cmp t e.0.items) ∙ s) in
+            ap (λ b. cond b (Some v) (Some e.1)) (sym (ap (λ x. bytes_eq x k.items) same ∙ bytes_flip e.0.items k.items ∙ apart))
+        by_test false s = more
+
+-- ---- a code that is entered
+
+-- a code that the tree takes
+pub tree_entered : (old new : Table) (bytes : Vec ℕ) (place : ℕ) → place_in old bytes.items ≡ None → new.entries.items ≡ old.entries.items
+    → new.others.entries ≡ insert_entry (λ (a b : Vec ℕ). slice_cmp nat_cmp a.items b.items) old.others.entries bytes place → IsEntered old new bytes.items place
+tree_entered old new bytes place n same more = λ t a.
+    ap (λ es. option_or (entered es t) (in_tree new.others.entries t)) same ∙ ap (λ es. option_or (entered old.entries.items t) (in_tree es t)) more ∙ ap (option_or (entered old.entries.items t)) (in_tree_insert old.others.entries bytes place t) ∙ by_text t (bytes_eq t bytes.items) refl
+  where
+    none : (o p : Option ℕ) → option_or o p ≡ None → o ≡ None
+    none None p e = refl
+    none (Some x) p e = e
+
+    by_text : (t : List ℕ) (b : Bool) → bytes_eq t bytes.items ≡ b → option_or (entered old.entries.items t) (cond b (Some place) (in_tree old.others.entries t)) ≡ cond b (Some place) (place_in old t)
+    by_text t true q =
+        let own : entered old.entries.items t ≡ None = none _ _ (ap (place_in old) (same_bytes t bytes.items q) ∙ n) in
+        ap (λ o. option_or o (Some place)) own
+    by_text t false q = refl
+
+set_same : {X : Type 0} (xs : List X) (i : ℕ) (x y : X) → slice_get xs i ≡ Some x → slice_get (set xs i y) i ≡ Some y
+set_same [] i x y e = absurd (none-some x e)
+set_same (z ∷ xs) zero x y e = refl
+set_same (z ∷ xs) (suc i) x y e = set_same xs i x y e
+
+set_other : {X : Type 0} (xs : List X) (i j : ℕ) (y : X) → (i ≡ j → ⊥) → slice_get (set xs i y) j ≡ slice_get xs j
+set_other [] i j y n = refl
+set_other (z ∷ xs) zero zero y n = absurd (n refl)
+set_other (z ∷ xs) zero (suc j) y n = refl
+set_other (z ∷ xs) (suc i) zero y n = refl
+set_other (z ∷ xs) (suc i) (suc j) y n = set_other xs i j y (λ e. n (ap suc e))
+
+-- an empty entry gives no place
+empty_told : (t : List ℕ) (e : Entry) → e.key ≡ 0 → place_told t (Some e) ≡ None
+empty_told t e z = ap (λ k. cond (not (key_in t == 0) && (k == key_in t)) (Some e.place) None) z ∙ by_key (key_in t)
+  where
+    by_key : (k : ℕ) → cond (not (k == 0) && (0 == k)) (Some e.place) None ≡ None
+    by_key zero = refl
+    by_key (suc k) = ap (λ b. cond (not (suc k == 0) && b) (Some e.place) None) (ne_eqb 0 (suc k) (λ z. omega (arith, z))) ∙ ap (λ b. cond b (Some e.place) None) (and_false (not (suc k == 0)))
+      where
+        and_false : (b : Bool) → (b && false) ≡ false
+        and_false true = refl
+        and_false false = refl
+
+-- the entry of a code gives its place for its bytes alone
+own_told : (t bytes : List ℕ) (e : Entry) → AreBytes t → AreBytes bytes → e.key ≢ 0 → e.key ≡ key_in bytes → place_told t (Some e) ≡ cond (bytes_eq t bytes) (Some e.place) None
+own_told t bytes e a b n k = by_text (bytes_eq t bytes) refl
+  where
+    by_text : (q : Bool) → bytes_eq t bytes ≡ q → place_told t (Some e) ≡ cond q (Some e.place) None
+    by_text true q =
+        let same : e.key ≡ key_in t = k ∙ ap key_in (sym (same_bytes t bytes q)) in
+        rw (ne_eqb (key_in t) 0 (λ z. n (same ∙ z)), eq-eqb e.key (key_in t) same) refl
+    by_text false q = by_key (not (key_in t == 0) && (e.key == key_in t)) refl
+      where
+        by_key : (r : Bool) → (not (key_in t == 0) && (e.key == key_in t)) ≡ r → cond r (Some e.place) None ≡ None
+        by_key true s =
+            let told : e.key ≡ key_in t = eqb-true _ _ (and_parts (not (key_in t == 0)) (e.key == key_in t) s).1 in
+            let some : 0 < key_in bytes = omega (arith, n, k) in
+            let same : bytes ≡ t = same_key bytes t b a (sym k ∙ told) some in
+            let yes : bytes_eq t bytes ≡ true = (bytes_eq-Decides t bytes).1 (sym same) in
+            cc
+        by_key false s = refl
+
+entry_written : (es : List Entry) (bytes : List ℕ) (free e : Entry) (t : List ℕ) → slice_get es (entry_in bytes (length es)) ≡ Some free → free.key ≡ 0 → AreBytes bytes → e.key ≢ 0 → e.key ≡ key_in bytes → AreBytes t
+    → entered (set es (entry_in bytes (length es)) e) t ≡ cond (bytes_eq t bytes) (Some e.place) (entered es t)
+entry_written es bytes free e t there empty b n k a =
+    let at = entry_in bytes (length es) in
+    ap (λ m. place_told t (slice_get (set es at e) (entry_in t m))) (length-set es at e) ∙ by_place (at == entry_in t (length es)) refl
+  where
+    by_place : (q : Bool) → (entry_in bytes (length es) == entry_in t (length es)) ≡ q → place_told t (slice_get (set es (entry_in bytes (length es)) e) (entry_in t (length es))) ≡ cond (bytes_eq t bytes) (Some e.place) (entered es t)
+    by_place true q =
+        let at = entry_in bytes (length es) in
+        let same : at ≡ entry_in t (length es) = eqb-true _ _ q in
+        let old : entered es t ≡ None = ap (λ i. place_told t (slice_get es i)) (sym same) ∙ ap (place_told t) there ∙ empty_told t free empty in
+        ap (λ i. place_told t (slice_get (set es at e) i)) (sym same) ∙ ap (place_told t) (set_same es at free e there) ∙ own_told t bytes e a b n k ∙ ap (cond (bytes_eq t bytes) (Some e.place)) (sym old)
+    by_place false q =
+        let at = entry_in bytes (length es) in
+        let differ : at ≡ entry_in t (length es) → ⊥ = λ s. let z : (at == entry_in t (length es)) ≡ true = eq-eqb _ _ s in cc in
+        ap (place_told t) (set_other es at (entry_in t (length es)) e differ) ∙ by_text (bytes_eq t bytes) refl differ
+      where
+        by_text : (r : Bool) → bytes_eq t bytes ≡ r → (entry_in bytes (length es) ≡ entry_in t (length es) → ⊥) → entered es t ≡ cond r (Some e.place) (entered es t)
+        by_text true s differ = absurd (differ (ap (λ x. entry_in x (length es)) (sym (same_bytes t bytes s))))
+        by_text false s differ = refl
+
+-- a code that an entry takes
+pub entry_entered : (old new : Table) (bytes : List ℕ) (free e : Entry) → slice_get old.entries.items (entry_in bytes (length old.entries.items)) ≡ Some free → free.key ≡ 0 → AreBytes bytes → e.key ≢ 0 → e.key ≡ key_in bytes
+    → new.entries.items ≡ set old.entries.items (entry_in bytes (length old.entries.items)) e → new.others.entries ≡ old.others.entries → IsEntered old new bytes e.place
+entry_entered old new bytes free e there empty b n k written same = λ t a.
+    ap (λ es. option_or (entered es t) (in_tree new.others.entries t)) written ∙ ap (λ es. option_or (entered (set old.entries.items (entry_in bytes (length old.entries.items)) e) t) (in_tree es t)) same
+    ∙ ap (λ o. option_or o (in_tree old.others.entries t)) (entry_written old.entries.items bytes free e t there empty b n k a) ∙ moved t (bytes_eq t bytes)
+  where
+    moved : (t : List ℕ) (q : Bool) → option_or (cond q (Some e.place) (entered old.entries.items t)) (in_tree old.others.entries t) ≡ cond q (Some e.place) (place_in old t)
+    moved t true = refl
+    moved t false = refl
+
+-- ---- what a table finds
+
+pub find_more : (cs : List IdCode) (t : List ℕ) (c : IdCode) → find (has_text t) (cs ++ c ∷ []) ≡ option_or (find (has_text t) cs) (cond (has_text t c) (Some c) None)
+find_more cs t c = find-append (has_text t) cs (c ∷ [])
+
+-- a code that none has is not found
+pub not_found : (cs : List IdCode) (d : Table) (bytes : List ℕ) → FindsAll cs d → AreBytes bytes → find (has_text bytes) cs ≡ None → place_in d bytes ≡ None
+not_found cs d bytes h a f = by_place (place_in d bytes) refl (h bytes a)
+  where
+    by_place : (o : Option ℕ) → place_in d bytes ≡ o → Finds cs bytes o → o ≡ None
+    by_place None e g = refl
+    by_place (Some p) e g = absurd (none-some g.0 (sym f ∙ g.2))
+
+-- a table with a code more
+pub finds_more : (cs : List IdCode) (k : IdCode) (old new : Table) (bytes : List ℕ) (place : ℕ) → FindsAll cs old → find (has_text bytes) cs ≡ None → k.text ≡ bytes → place ≡ length cs → IsEntered old new bytes place → FindsAll (cs ++ k ∷ []) new
+finds_more cs k old new bytes place h f same last in_new = λ t a. subst (Finds (cs ++ k ∷ []) t) (sym (in_new t a)) (by_text t a (bytes_eq t bytes) refl)
+  where
+    by_text : (t : List ℕ) → AreBytes t → (b : Bool) → bytes_eq t bytes ≡ b → Finds (cs ++ k ∷ []) t (cond b (Some place) (place_in old t))
+    by_text t a true q =
+        let none : find (has_text t) cs ≡ None = ap (λ x. find (has_text x) cs) (same_bytes t bytes q) ∙ f in
+        let own : has_text t k ≡ true = ap (bytes_eq t) same ∙ q in
+        (k, ap (slice_get (cs ++ k ∷ [])) last ∙ slice_get-seam cs k [], find_more cs t k ∙ ap (λ o. option_or o (cond (has_text t k) (Some k) None)) none ∙ ap (λ b. cond b (Some k) None) own)
+    by_text t a false q = by_place (place_in old t) (h t a)
+      where
+        by_place : (o : Option ℕ) → Finds cs t o → Finds (cs ++ k ∷ []) t o
+        by_place None g =
+            let other : has_text t k ≡ false = ap (bytes_eq t) same ∙ q in
+            find_more cs t k ∙ ap (λ o. option_or o (cond (has_text t k) (Some k) None)) g ∙ ap (λ b. cond b (Some k) None) other
+        by_place (Some p) g = (g.0, slice_get-front cs (k ∷ []) p g.0 g.1, find_more cs t k ∙ ap (λ o. option_or o (cond (has_text t k) (Some k) None)) g.2)
 
 -- ---- a code that is looked up
 
-code_there : (cs : List IdCode) (p : ℕ) → p < length cs → (k : IdCode) × (slice_get cs p ≡ Some k)
-code_there [] p l = absurd (omega arith)
-code_there (c ∷ cs) zero l = (c, refl)
-code_there (c ∷ cs) (suc p) l = code_there cs p (omega arith)
+pub known : (text : List ℕ) (list : List Code) (cs : List IdCode) (t : List ℕ) (place : ℕ) (code : Code) → AreHeld text list cs → Finds cs t (Some place) → slice_get list place ≡ Some code → IsKnown cs t (Some (record { place = place; code = code }))
+known text list cs t place code h f at =
+    let k = code_found text list cs place code h.stand at in
+    (f.0, f.1, f.2, subst (IsOfKind code) (same_Some k.0 f.0 (sym k.1 ∙ f.1)) (record { same_size = k.2.size_is; same_event = k.2.event_is }))
 
--- an entry that is found is that of a code with this text
-entry_found : (es : List (Vec ℕ × ℕ)) (cs : List IdCode) (t : List ℕ) (p : ℕ) → AllByRecursion (λ (e : Vec ℕ × ℕ). code_text cs e.1 ≡ e.0.items) es → AllByRecursion (λ (e : Vec ℕ × ℕ). e.1 < length cs) es
-    → lookup (λ (k : Vec ℕ). is_eq (slice_cmp nat_cmp t k.items)) es ≡ Some p → (p < length cs) × (t ≡ code_text cs p)
-entry_found [] cs t p a b e = cc
-entry_found (x ∷ es) cs t p a b e = by_test (is_eq (slice_cmp nat_cmp t x.0.items)) refl e (entry_found es cs t p a.1 b.1)
+-- what is found stands in the list
+pub listed : (text : List ℕ) (list : List Code) (cs : List IdCode) (place : ℕ) (k : IdCode) → AllZip (IsCode text) list cs → slice_get cs place ≡ Some k → slice_get list place ≡ None → ⊥
+listed text [] [] place k h e n = none-some k e
+listed text [] (x ∷ cs) place k h e n = absurd h
+listed text (c ∷ list) [] place k h e n = absurd h
+listed text (c ∷ list) (x ∷ cs) zero k h e n = none-some c (sym n)
+listed text (c ∷ list) (x ∷ cs) (suc place) k h e n = listed text list cs place k h.1 e n
+
+-- ---- codes that are held
+
+-- none of the codes before one has its bytes
+pub none_before : (cs : List IdCode) (p : ℕ) (k : IdCode) → IsDistinct bytes_eq (map (λ (c : IdCode). c.text) cs) → slice_get cs p ≡ Some k → find (has_text k.text) (take p cs) ≡ None
+unfolding IsDistinct
+none_before [] p k d e = absurd (none-some k e)
+none_before (x ∷ cs) zero k d e = refl
+none_before (x ∷ cs) (suc p) k d e = rw (bytes_flip k.text x.text ∙ apart_at x.text cs p k d.0 e) (none_before cs p k d.1 e)
+
+distinct_more : (cs : List IdCode) (k : IdCode) → IsDistinct bytes_eq (map (λ (c : IdCode). c.text) cs) → find (has_text k.text) cs ≡ None → IsDistinct bytes_eq (map (λ (c : IdCode). c.text) (cs ++ k ∷ []))
+unfolding IsDistinct
+distinct_more [] k d f = (tt, tt)
+distinct_more (x ∷ cs) k d f = by_text (bytes_eq k.text x.text) refl f (distinct_more cs k d.1)
   where
-    by_test : (q : Bool) → is_eq (slice_cmp nat_cmp t x.0.items) ≡ q → cond q (Some x.1) (lookup (λ (k : Vec ℕ). is_eq (slice_cmp nat_cmp t k.items)) es) ≡ Some p
-        → (lookup (λ (k : Vec ℕ). is_eq (slice_cmp nat_cmp t k.items)) es ≡ Some p → (p < length cs) × (t ≡ code_text cs p)) → (p < length cs) × (t ≡ code_text cs p)
-    by_test true q f more =
-        let same : x.1 ≡ p = same_Some x.1 p f in
-        let text : t ≡ x.0.items = (bytes_eq-Decides t x.0.items).0 (sym (is_eq-slice_cmp t x.0.items) ∙ q) in
-        (subst (λ n. n < length cs) same b.0, text ∙ sym a.0 ∙ ap (code_text cs) same)
-    by_test false q f more = more f
+    apart : (ys : List IdCode) → AllByRecursion (λ y. bytes_eq x.text y ≡ false) (map (λ (c : IdCode). c.text) ys) → bytes_eq x.text k.text ≡ false → AllByRecursion (λ y. bytes_eq x.text y ≡ false) (map (λ (c : IdCode). c.text) (ys ++ k ∷ []))
+    apart [] h e = (e, tt)
+    apart (y ∷ ys) h e = (h.0, apart ys h.1 e)
 
--- where no entry is found, no code has the text
-pub none_found : (es : List (Vec ℕ × ℕ)) (cs : List IdCode) (t : List ℕ) → ArePlaces es cs → lookup (λ (k : Vec ℕ). is_eq (slice_cmp nat_cmp t k.items)) es ≡ None → find (has_text t) cs ≡ None
-none_found es cs t h e = none_with cs t (λ p l.
-    let range = range_with_len 0 (length cs) in
-    let apart = All-permutation (λ q. bytes_eq t (code_text cs q) ≡ false) (places_in es) range (IsPermutation-sym range (places_in es) h.index.places) (to_all (λ q. bytes_eq t (code_text cs q) ≡ false) (places_in es) (differ es h.keyed (none_passes_from_lookup (λ (k : Vec ℕ). is_eq (slice_cmp nat_cmp t k.items)) es e))) in
-    let n = length-range_with_len 0 (length cs) in
-    subst (λ q. bytes_eq t (code_text cs q) ≡ false) (get_or-range_with_len 0 (length cs) p 0 l ∙ zero-add p) (apart p 0 (omega arith)))
+    by_text : (b : Bool) → bytes_eq k.text x.text ≡ b → cond b (Some x) (find (has_text k.text) cs) ≡ None → (find (has_text k.text) cs ≡ None → IsDistinct bytes_eq (map (λ (c : IdCode). c.text) (cs ++ k ∷ [])))
+        → AllByRecursion (λ y. bytes_eq x.text y ≡ false) (map (λ (c : IdCode). c.text) (cs ++ k ∷ [])) × IsDistinct bytes_eq (map (λ (c : IdCode). c.text) (cs ++ k ∷ []))
+    by_text true q e more = absurd (none-some x (sym e))
+    by_text false q e more = (apart cs d.0 (bytes_flip x.text k.text ∙ q), more e)
+
+pub held_more : (text : List ℕ) (list : List Code) (cs : List IdCode) (c : Code) (k : IdCode) → AreHeld text list cs → IsCode text c k → AreBytes k.text → find (has_text k.text) cs ≡ None → AreHeld text (list ++ c ∷ []) (cs ++ k ∷ [])
+held_more text list cs c k h is bytes f = record {
+  stand = all_zip_push (IsCode text) list cs c k h.stand is;
+  distinct = distinct_more cs k h.distinct f;
+  texts = all_push (λ (x : IdCode). AreBytes x.text) cs k h.texts bytes;
+}
+
+pub none_held : (text : List ℕ) → AreHeld text [] []
+unfolding IsDistinct
+none_held text = record { stand = tt; distinct = tt; texts = tt }
+
+-- ---- a table that is filled
+
+pub finds_none : (d : Table) → ((t : List ℕ) → place_in d t ≡ None) → FindsAll [] d
+finds_none d h = λ t a. subst (Finds [] t) (sym (h t)) refl
+
+-- a table of the first codes, with the next one
+pub finds_next : (text : List ℕ) (list : List Code) (cs : List IdCode) (old new : Table) (bytes : List ℕ) (p : ℕ) (code : Code) → AreHeld text list cs → FindsAll (take p cs) old → slice_get list p ≡ Some code → bytes ≡ text_in text code.start code.len
+    → (place_in old bytes ≡ None → IsEntered old new bytes p) → FindsAll (take (p + 1) cs) new
+finds_next text list cs old new bytes p code h found at read more =
+    let k = code_found text list cs p code h.stand at in
+    let same : k.0.text ≡ bytes = sym (read ∙ text_within text code.start code.len k.2.within ∙ k.2.text_is) in
+    let none : find (has_text bytes) (take p cs) ≡ None = ap (λ t. find (has_text t) (take p cs)) (sym same) ∙ none_before cs p k.0 h.distinct k.1 in
+    let own : AreBytes bytes = subst AreBytes same (bytes_at_place cs p k.0 h.texts k.1) in
+    let len = length_front cs p k.0 k.1 in
+    subst (λ l. FindsAll l new) (sym (ap (λ n. take n cs) (add-one p) ∙ front_more cs p k.0 k.1)) (finds_more (take p cs) k.0 old new bytes p found none same (sym len) (more (not_found (take p cs) old bytes found own none)))
   where
-    differ : (es : List (Vec ℕ × ℕ)) → AllByRecursion (λ (x : Vec ℕ × ℕ). code_text cs x.1 ≡ x.0.items) es → AllByRecursion (λ (x : Vec ℕ × ℕ). is_eq (slice_cmp nat_cmp t x.0.items) ≡ false) es → AllByRecursion (λ q. bytes_eq t (code_text cs q) ≡ false) (places_in es)
-    differ [] a b = tt
-    differ (x ∷ es) a b = (ap (bytes_eq t) a.0 ∙ sym (is_eq-slice_cmp t x.0.items) ∙ b.0, differ es a.1 b.1)
+    length_front : (xs : List IdCode) (i : ℕ) (x : IdCode) → slice_get xs i ≡ Some x → length (take i xs) ≡ i
+    length_front [] i x e = absurd (none-some x e)
+    length_front (y ∷ xs) zero x e = refl
+    length_front (y ∷ xs) (suc i) x e = ap suc (length_front xs i x e)
 
--- a code that is found, and its place
-pub some_found : (text : List ℕ) (list : List Code) (es : List (Vec ℕ × ℕ)) (cs : List IdCode) (t : List ℕ) (place : ℕ) (code : Code) → AllZip (IsCode text) list cs → ArePlaces es cs
-    → lookup (λ (k : Vec ℕ). is_eq (slice_cmp nat_cmp t k.items)) es ≡ Some place → slice_get list place ≡ Some code → IsKnown cs t (Some (record { place = place; code = code }))
-some_found text list es cs t place code a h e at =
-    let found = entry_found es cs t place h.keyed (places_below es cs h) e in
-    let n = codes_len text list cs a in
-    let l : place < length list = let below = found.0 in omega arith in
-    let k = code_at text list cs place a l in
-    let same : get_or list place blank ≡ code = same_Some _ _ (sym (slice_get-get_or list place blank l) ∙ at) in
-    let is : IsCode text code k.0 = subst (λ c. IsCode text c k.0) same k.2 in
-    let f = found_at cs (places_in es) t place k.0 h.index k.1 (found.1 ∙ text_at cs place k.0 k.1) in
-    (f.0, f.1, f.2, subst (λ x. IsOfKind code x) (same_Some k.0 f.0 (sym k.1 ∙ f.1)) (record { same_size = is.size_is; same_event = is.event_is }))
-
--- what is found in the tree stands in the list
-pub found_within : (text : List ℕ) (list : List Code) (es : List (Vec ℕ × ℕ)) (cs : List IdCode) (t : List ℕ) (place : ℕ) → AllZip (IsCode text) list cs → ArePlaces es cs
-    → lookup (λ (k : Vec ℕ). is_eq (slice_cmp nat_cmp t k.items)) es ≡ Some place → place < length list
-found_within text list es cs t place a h e =
-    let below = (entry_found es cs t place h.keyed (places_below es cs h) e).0 in
-    let n = codes_len text list cs a in
-    omega arith
-
--- ---- a code that is added
-
--- a code has another text, where none has this one
-other_text : (cs : List IdCode) (t : List ℕ) (p : ℕ) (k : IdCode) → find (has_text t) cs ≡ None → slice_get cs p ≡ Some k → bytes_eq t k.text ≡ false
-other_text [] t p k e at = absurd (none-some k at)
-other_text (c ∷ cs) t zero k e at = by_test (bytes_eq t c.text) refl e
-  where
-    by_test : (q : Bool) → bytes_eq t c.text ≡ q → cond q (Some c) (find (has_text t) cs) ≡ None → bytes_eq t k.text ≡ false
-    by_test true q f = cc
-    by_test false q f = ap (λ (x : IdCode). bytes_eq t x.text) (sym (same_Some c k at)) ∙ q
-other_text (c ∷ cs) t (suc p) k e at = by_test (bytes_eq t c.text) refl e (λ f. other_text cs t p k f at)
-  where
-    by_test : (q : Bool) → bytes_eq t c.text ≡ q → cond q (Some c) (find (has_text t) cs) ≡ None → (find (has_text t) cs ≡ None → bytes_eq t k.text ≡ false) → bytes_eq t k.text ≡ false
-    by_test true q f more = cc
-    by_test false q f more = more f
-
--- no entry has a text that no code has
-none_passes : (es : List (Vec ℕ × ℕ)) (cs : List IdCode) (t : List ℕ) → AllByRecursion (λ (e : Vec ℕ × ℕ). code_text cs e.1 ≡ e.0.items) es → AllByRecursion (λ (e : Vec ℕ × ℕ). e.1 < length cs) es → find (has_text t) cs ≡ None
-    → AllByRecursion (λ (e : Vec ℕ × ℕ). is_eq (slice_cmp nat_cmp t e.0.items) ≡ false) es
-none_passes [] cs t a b e = tt
-none_passes (x ∷ es) cs t a b e =
-    let k = code_there cs x.1 b.0 in
-    (is_eq-slice_cmp t x.0.items ∙ ap (bytes_eq t) (sym a.0 ∙ text_at cs x.1 k.0 k.1) ∙ other_text cs t x.1 k.0 e k.1, none_passes es cs t a.1 b.1 e)
-
--- what is inserted is one entry more
-inserted_more : (es : List (Vec ℕ × ℕ)) (k : Vec ℕ) (v : ℕ) → AllByRecursion (λ (e : Vec ℕ × ℕ). is_eq (slice_cmp nat_cmp k.items e.0.items) ≡ false) es
-    → IsPermutation (v ∷ places_in es) (places_in (insert_entry (λ (a b : Vec ℕ). slice_cmp nat_cmp a.items b.items) es k v))
-inserted_more [] k v h = IsPermutation-refl (v ∷ [])
-inserted_more (e ∷ es) k v h = by_order (slice_cmp nat_cmp k.items e.0.items) refl (inserted_more es k v h.1)
-  where
-    rest : List (Vec ℕ × ℕ)
-    rest = insert_entry (λ (a b : Vec ℕ). slice_cmp nat_cmp a.items b.items) es k v
-
-    by_order : (o : Ordering) → slice_cmp nat_cmp k.items e.0.items ≡ o → IsPermutation (v ∷ places_in es) (places_in rest) → IsPermutation (v ∷ e.1 ∷ places_in es) (places_in (match_ordering o ((k, v) ∷ e ∷ es) ((e.0, v) ∷ es) (e ∷ rest)))
-    by_order Less q m = IsPermutation-refl (v ∷ e.1 ∷ places_in es)
-    by_order Equal q m = let f = h.0 in let g = ap is_eq q in cc
-    by_order Greater q m =
-        IsPermutation-trans (v ∷ e.1 ∷ places_in es) (e.1 ∷ v ∷ places_in es) (e.1 ∷ places_in rest)
-        (IsPermutation-sym (e.1 ∷ v ∷ places_in es) (v ∷ e.1 ∷ places_in es) (IsPermutation-middle (e.1 ∷ []) v (places_in es)))
-        (IsPermutation-cons e.1 (v ∷ places_in es) (places_in rest) m)
-
-all_inserted : (P : Vec ℕ × ℕ → Type 0) (es : List (Vec ℕ × ℕ)) (k : Vec ℕ) (v : ℕ) → AllByRecursion (λ (e : Vec ℕ × ℕ). is_eq (slice_cmp nat_cmp k.items e.0.items) ≡ false) es → AllByRecursion P es → P (k, v)
-    → AllByRecursion P (insert_entry (λ (a b : Vec ℕ). slice_cmp nat_cmp a.items b.items) es k v)
-all_inserted P [] k v n h p = (p, tt)
-all_inserted P (e ∷ es) k v n h p = by_order (slice_cmp nat_cmp k.items e.0.items) refl (all_inserted P es k v n.1 h.1 p)
-  where
-    rest : List (Vec ℕ × ℕ)
-    rest = insert_entry (λ (a b : Vec ℕ). slice_cmp nat_cmp a.items b.items) es k v
-
-    by_order : (o : Ordering) → slice_cmp nat_cmp k.items e.0.items ≡ o → AllByRecursion P rest → AllByRecursion P (match_ordering o ((k, v) ∷ e ∷ es) ((e.0, v) ∷ es) (e ∷ rest))
-    by_order Less q m = (p, h)
-    by_order Equal q m = let f = n.0 in let g = ap is_eq q in cc
-    by_order Greater q m = (h.0, m)
-
--- the texts rise as the keys do
-rising : (es : List (Vec ℕ × ℕ)) (cs : List IdCode) → AllByRecursion (λ (e : Vec ℕ × ℕ). code_text cs e.1 ≡ e.0.items) es → IsStrictlySortedBy (λ (a b : Vec ℕ). slice_cmp nat_cmp a.items b.items) (map (λ (e : Vec ℕ × ℕ). e.0) es)
-    → IsStrictlySortedBy (slice_cmp nat_cmp) (map (code_text cs) (places_in es))
-unfolding IsStrictlySortedBy
-rising [] cs h s = tt
-rising (e ∷ es) cs h s = (above es h.1 s.0, rising es cs h.1 s.1)
-  where
-    above : (es : List (Vec ℕ × ℕ)) → AllByRecursion (λ (x : Vec ℕ × ℕ). code_text cs x.1 ≡ x.0.items) es → AllByRecursion (λ (y : Vec ℕ). slice_cmp nat_cmp e.0.items y.items ≡ Less) (map (λ (x : Vec ℕ × ℕ). x.0) es)
-        → AllByRecursion (λ y. slice_cmp nat_cmp (code_text cs e.1) y ≡ Less) (map (code_text cs) (places_in es))
-    above [] k a = tt
-    above (x ∷ xs) k a = (rw (h.0, k.0) a.0, above xs k.1 a.1)
-
-range_push : (a n : ℕ) → range_with_len a (suc n) ≡ range_with_len a n ++ (a + n) ∷ []
-range_push a zero = ap (λ k. k ∷ []) (none_more a)
-  where
-    none_more : (a : ℕ) → a ≡ a + 0
-    none_more a = omega arith
-range_push a (suc n) = ap (λ l. a ∷ l) (range_push (a + 1) n ∙ ap (λ k. range_with_len (a + 1) n ++ k ∷ []) (one_more a n))
-  where
-    one_more : (a n : ℕ) → (a + 1) + n ≡ a + suc n
-    one_more a n = omega arith
-
-pub places_push : (es new : List (Vec ℕ × ℕ)) (cs : List IdCode) (k : Vec ℕ) (v : ℕ) (c : IdCode) → ArePlaces es cs → find (has_text k.items) cs ≡ None → k.items ≡ c.text → v ≡ length cs
-    → new ≡ insert_entry (λ (a b : Vec ℕ). slice_cmp nat_cmp a.items b.items) es k v → IsStrictlySortedBy (λ (a b : Vec ℕ). slice_cmp nat_cmp a.items b.items) (map (λ (e : Vec ℕ × ℕ). e.0) new) → ArePlaces new (cs ++ c ∷ [])
-places_push es new cs k v c h f t p e s =
-    let below = places_below es cs h in
-    let none = none_passes es cs k.items h.keyed below f in
-    let all = cs ++ c ∷ [] in
-    let keyed : AllByRecursion (λ (x : Vec ℕ × ℕ). code_text all x.1 ≡ x.0.items) new =
-    subst (λ l. AllByRecursion (λ (x : Vec ℕ × ℕ). code_text all x.1 ≡ x.0.items) l) (sym e)
-    (all_inserted (λ (x : Vec ℕ × ℕ). code_text all x.1 ≡ x.0.items) es k v none (kept es h.keyed below) (ap (code_text all) p ∙ text_at all (length cs) c (slice_get-seam cs c []) ∙ sym t)) in
-    let more : IsPermutation (v ∷ places_in es) (places_in new) = subst (λ l. IsPermutation (v ∷ places_in es) (places_in l)) (sym e) (inserted_more es k v none) in
-    let push = IsPermutation-push_more (range_with_len 0 (length cs)) (places_in es) (places_in new) v h.index.places more in
-    let one_more : suc (length cs) ≡ length all = omega (arith, length_push cs c) in
-    let range : range_with_len 0 (length cs) ++ v ∷ [] ≡ range_with_len 0 (length all) = ap (λ n. range_with_len 0 (length cs) ++ n ∷ []) (p ∙ sym (zero-add (length cs))) ∙ sym (range_push 0 (length cs)) ∙ ap (range_with_len 0) one_more in
-    record {
-      index = record {
-        places = subst (λ l. IsPermutation l (places_in new)) range push;
-        rising = rising new all keyed s;
-      };
-      keyed = keyed;
-    }
-  where
-    kept : (es : List (Vec ℕ × ℕ)) → AllByRecursion (λ (x : Vec ℕ × ℕ). code_text cs x.1 ≡ x.0.items) es → AllByRecursion (λ (x : Vec ℕ × ℕ). x.1 < length cs) es → AllByRecursion (λ (x : Vec ℕ × ℕ). code_text (cs ++ c ∷ []) x.1 ≡ x.0.items) es
-    kept [] a b = tt
-    kept (x ∷ es) a b =
-        let k = code_there cs x.1 b.0 in
-        (text_at (cs ++ c ∷ []) x.1 k.0 (slice_get-front cs (c ∷ []) x.1 k.0 k.1) ∙ sym (text_at cs x.1 k.0 k.1) ∙ a.0, kept es a.1 b.1)
-
--- no codes have no entries
-pub no_places : ArePlaces [] []
-unfolding IsStrictlySortedBy
-no_places = record { index = record { places = IsPermutation-refl []; rising = tt }; keyed = tt }
+    front_more : (xs : List IdCode) (i : ℕ) (x : IdCode) → slice_get xs i ≡ Some x → take (suc i) xs ≡ take i xs ++ x ∷ []
+    front_more [] i x e = absurd (none-some x e)
+    front_more (y ∷ xs) zero x e = ap (λ z. z ∷ []) (same_Some y x e)
+    front_more (y ∷ xs) (suc i) x e = ap (λ l. y ∷ l) (front_more xs i x e)

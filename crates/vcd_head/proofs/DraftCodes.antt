@@ -1,6 +1,5 @@
 -- The codes of one variable more.
 use Rattle.std.proofs.Common.{◌≡◌, ◌≢◌, ℕ, ◌+◌, Bool, true, false, cond, not, ◌&&◌, ◌||◌, ◌==◌, List, [], ◌∷◌, ◌++◌, length, find, bytes_eq, slice_get, slice_range, Option, Some, None, is_some, refl, sym, ap, subst, ◌∙◌, arith}
-use Rattle.std.specs.Global.{Vec}
 use Rattle.std.specs.Option.{option_or}
 use Rattle.std.specs.List.{AllByRecursion, AllZip, list_any, list_all}
 use Rattle.std.proofs.lemmas.List.{append-nil, length-append}
@@ -11,13 +10,13 @@ use Rattle.vcd_model.specs.Declarations.{Declaration, Variable, IdCode, code_of,
 use Rattle.vcd_model.specs.HeaderChecks.{agrees, same_flag}
 use Rattle.vcd_head.specs.declared.view.Code.{Code}
 use Rattle.vcd_head.specs.declared.codes.Codes.{Codes}
-use Rattle.vcd_head.specs.Codes.{ArePlaces, IsAdded}
+use Rattle.vcd_head.specs.Codes.{AreHeld, FindsAll, IsAdded}
 use Rattle.vcd_head.specs.Keys.{AreBytes}
 use Rattle.vcd_head.specs.Views.{IsCode, IsSize}
 use Rattle.vcd_head.specs.Draft.{HasCodes, CodeHeld}
 use Rattle.vcd_head.specs.declared.draft.Draft.{Draft}
-use Rattle.vcd_head.proofs.DraftLemmas.{range_at}
-use Rattle.vcd_head.proofs.CodesLemmas.{places_push}
+use Rattle.vcd_head.proofs.DraftLemmas.{range_at, held_grow}
+use Rattle.vcd_head.proofs.CodesLemmas.{find_more, held_more}
 use Rattle.vcd_head.proofs.LookUpLemmas.{codes_len}
 use Rattle.vcd_head.proofs.DraftGrows.{all_push, all_zip_push, are_codes_grow, same_bytes, bytes_flip, variables_push, codes-alias, codes-new, all_weaker, slice_get-seam}
 
@@ -38,13 +37,12 @@ codes_alias text es ds v h f =
     let c = sym (codes-alias ds v (h.seen v.code ∙ ap is_some f)) in
     let vars = sym (variables_push ds (Declaration.Var v)) in
     record {
-      stand = subst (λ ks. AllZip (IsCode text) es.list.items ks) c h.stand;
-      numbered = subst (λ ks. ArePlaces es.places.entries ks) c h.numbered;
+      held = subst (AreHeld text es.list.items) c h.held;
+      finds = subst (λ ks. FindsAll ks es.table) c h.finds;
       known = subst (λ ks. AllByRecursion (λ u. find (has_text u.code) ks ≡ Some (code_of u)) (variables_of (ds ++ Declaration.Var v ∷ []))) c
           (subst (λ vs. AllByRecursion (λ u. find (has_text u.code) (codes_of ds) ≡ Some (code_of u)) vs) vars (all_push (λ u. find (has_text u.code) (codes_of ds) ≡ Some (code_of u)) (variables_of ds) v h.known f));
       seen = λ t. ap (list_any (λ u. bytes_eq u.code t)) (sym vars) ∙ any_push (variables_of ds) v t ∙ seen_or t (bytes_eq v.code t) refl ∙ ap (λ ks. is_some (find (has_text t) ks)) c;
       sizes = subst (λ ks. AllByRecursion (λ (k : IdCode). IsSize k.size) ks) c h.sizes;
-      texts = subst (λ ks. AllByRecursion (λ (k : IdCode). AreBytes k.text) ks) c h.texts;
     }
   where
     seen_or : (t : List ℕ) (b : Bool) → bytes_eq v.code t ≡ b → (list_any (λ u. bytes_eq u.code t) (variables_of ds) || b) ≡ is_some (find (has_text t) (codes_of ds))
@@ -53,19 +51,15 @@ codes_alias text es ds v h f =
 
 -- ---- a new code
 
-find_more : (cs : List IdCode) (t : List ℕ) (c : IdCode) → find (has_text t) (cs ++ c ∷ []) ≡ option_or (find (has_text t) cs) (cond (has_text t c) (Some c) None)
-find_more cs t c = find-append (has_text t) cs (c ∷ [])
-
-pub codes_new : (text more : List ℕ) (old new : Codes) (ds : List Declaration) (v : Variable) (k : Vec ℕ) (code : Code) (place : ℕ) → HasCodes text old ds → find (has_text v.code) (codes_of ds) ≡ None → k.items ≡ v.code → IsAdded old new k code place
-    → IsCode (text ++ more) code (code_of v) → IsSize (code_of v).size → AreBytes v.code → HasCodes (text ++ more) new (ds ++ Declaration.Var v ∷ [])
-codes_new text more old new ds v k code place h f b added is size bytes =
+pub codes_new : (text more : List ℕ) (old new : Codes) (ds : List Declaration) (v : Variable) (k : List ℕ) (code : Code) (place : ℕ) → HasCodes text old ds → find (has_text v.code) (codes_of ds) ≡ None → k ≡ v.code → IsAdded (text ++ more) old new k code place
+    → IsCode (text ++ more) code (code_of v) → IsSize (code_of v).size → HasCodes (text ++ more) new (ds ++ Declaration.Var v ∷ [])
+codes_new text more old new ds v k code place h f b added is size =
     let c = sym (codes-new ds v (h.seen v.code ∙ ap is_some f)) in
     let vars = sym (variables_push ds (Declaration.Var v)) in
     record {
-      stand = subst (λ ks. AllZip (IsCode (text ++ more)) new.list.items ks) c
-          (subst (λ xs. AllZip (IsCode (text ++ more)) xs (codes_of ds ++ code_of v ∷ [])) (sym added.listed) (all_zip_push (IsCode (text ++ more)) old.list.items (codes_of ds) code (code_of v) (are_codes_grow text more old.list.items (codes_of ds) h.stand) is));
-      numbered = subst (λ ks. ArePlaces new.places.entries ks) c
-          (places_push old.places.entries new.places.entries (codes_of ds) k place (code_of v) h.numbered (ap (λ t. find (has_text t) (codes_of ds)) b ∙ f) b (added.last ∙ codes_len text old.list.items (codes_of ds) h.stand) added.placed added.ordered);
+      held = subst (AreHeld (text ++ more) new.list.items) c
+          (subst (λ xs. AreHeld (text ++ more) xs (codes_of ds ++ code_of v ∷ [])) (sym added.listed) (held_more (text ++ more) old.list.items (codes_of ds) code (code_of v) grown is (subst AreBytes b added.own) f));
+      finds = subst (λ ks. FindsAll ks new.table) c (added.found (codes_of ds) (code_of v) grown h.finds (ap (λ t. find (has_text t) (codes_of ds)) b ∙ f) (sym b));
       known = subst (λ ks. AllByRecursion (λ u. find (has_text u.code) ks ≡ Some (code_of u)) (variables_of (ds ++ Declaration.Var v ∷ []))) c
           (subst (λ vs. AllByRecursion (λ u. find (has_text u.code) (codes_of ds ++ code_of v ∷ []) ≡ Some (code_of u)) vs) vars
           (all_push (λ u. find (has_text u.code) (codes_of ds ++ code_of v ∷ []) ≡ Some (code_of u)) (variables_of ds) v
@@ -74,9 +68,11 @@ codes_new text more old new ds v k code place h f b added is size bytes =
       seen = λ t. ap (list_any (λ u. bytes_eq u.code t)) (sym vars) ∙ any_push (variables_of ds) v t ∙ ap (λ x. x || bytes_eq v.code t) (h.seen t) ∙ seen_or t (find (has_text t) (codes_of ds)) (bytes_eq v.code t) (bytes_flip t v.code)
           ∙ sym (ap is_some (find_more (codes_of ds) t (code_of v))) ∙ ap (λ ks. is_some (find (has_text t) ks)) c;
       sizes = subst (λ ks. AllByRecursion (λ (k : IdCode). IsSize k.size) ks) c (all_push (λ (k : IdCode). IsSize k.size) (codes_of ds) (code_of v) h.sizes size);
-      texts = subst (λ ks. AllByRecursion (λ (k : IdCode). AreBytes k.text) ks) c (all_push (λ (k : IdCode). AreBytes k.text) (codes_of ds) (code_of v) h.texts bytes);
     }
   where
+    grown : AreHeld (text ++ more) old.list.items (codes_of ds)
+    grown = held_grow text more old.list.items (codes_of ds) h.held
+
     seen_or : (t : List ℕ) (o : Option IdCode) (x : Bool) → bytes_eq t v.code ≡ x → (is_some o || x) ≡ is_some (option_or o (cond (bytes_eq t v.code) (Some (code_of v)) None))
     seen_or t (Some k) x q = refl
     seen_or t None true q = rw q refl
@@ -156,22 +152,22 @@ held_alias d ds v place h at f = record {
   short = omega arith;
 }
 
-pub held_new : (old new : Draft) (ds : List Declaration) (v : Variable) (k : Vec ℕ) (code : Code) (place : ℕ) → HasCodes old.text.items old.codes ds → find (has_text v.code) (codes_of ds) ≡ None → k.items ≡ v.code → AreBytes k.items → IsSize (code_of v).size
-    → code ≡ record { start = length old.text.items; len = length k.items; size = (code_of v).size; event = (code_of v).event } → new.text.items ≡ old.text.items ++ k.items → IsAdded old.codes new.codes k code place → CodeHeld old new ds v place
-held_new old new ds v k code place h f b bytes size is_code text added =
-    let at : place ≡ length (codes_of ds) = added.last ∙ codes_len old.text.items old.codes.list.items (codes_of ds) h.stand in
+pub held_new : (old new : Draft) (ds : List Declaration) (v : Variable) (k : List ℕ) (code : Code) (place : ℕ) → HasCodes old.text.items old.codes ds → find (has_text v.code) (codes_of ds) ≡ None → k ≡ v.code → IsSize (code_of v).size
+    → code ≡ record { start = length old.text.items; len = length k; size = (code_of v).size; event = (code_of v).event } → new.text.items ≡ old.text.items ++ k → IsAdded (old.text.items ++ k) old.codes new.codes k code place → CodeHeld old new ds v place
+held_new old new ds v k code place h f b size is_code text added =
+    let at : place ≡ length (codes_of ds) = added.last ∙ codes_len old.text.items old.codes.list.items (codes_of ds) h.held.stand in
     let from = ap (λ (c : Code). c.start) is_code in
     let size_of = ap (λ (c : Code). c.len) is_code in
-    let is : IsCode (old.text.items ++ k.items) code (code_of v) = record {
-      within = omega (arith, length-append old.text.items k.items);
-      text_is = ap (λ l. slice_range l code.start (code.start + code.len)) (ap (λ l. old.text.items ++ l) (sym (append-nil k.items))) ∙ range_at old.text.items k.items [] code.start (code.start + code.len) from (omega arith) ∙ b;
+    let is : IsCode (old.text.items ++ k) code (code_of v) = record {
+      within = omega (arith, length-append old.text.items k);
+      text_is = ap (λ l. slice_range l code.start (code.start + code.len)) (ap (λ l. old.text.items ++ l) (sym (append-nil k))) ∙ range_at old.text.items k [] code.start (code.start + code.len) from (omega arith) ∙ b;
       size_is = ap (λ (c : Code). c.size) is_code;
       event_is = ap (λ (c : Code). c.event) is_code;
     } in
     record {
-      held_codes = rw text (codes_new old.text.items k.items old.codes new.codes ds v k code place h f b added is size (subst AreBytes b bytes));
+      held_codes = rw text (codes_new old.text.items k old.codes new.codes ds v k code place h f b added is size);
       held_at = ap (λ ks. slice_get ks place) (codes-new ds v (h.seen v.code ∙ ap is_some f)) ∙ ap (slice_get (codes_of ds ++ code_of v ∷ [])) at ∙ slice_get-seam (codes_of ds) (code_of v) [];
-      more = k.items;
+      more = k;
       grown = text;
       short = omega (arith, ap length b);
     }

@@ -12,7 +12,8 @@ use Rattle.vcd_head.specs.declared.view.Kind.TheVariants as kind
 use Rattle.vcd_head.specs.declared.view.Row.{Row}
 use Rattle.vcd_head.specs.declared.view.Scale.{Scale}
 use Rattle.vcd_head.specs.declared.codes.Codes.{Codes}
-use Rattle.vcd_head.specs.Codes.{ArePlaces}
+use Rattle.vcd_head.specs.Codes.{AreHeld, FindsAll}
+use Rattle.vcd_head.specs.declared.view.Code.{Code}
 use Rattle.vcd_head.specs.declared.draft.Draft.{Draft}
 use Rattle.vcd_head.specs.Keys.{AreBytes}
 use Rattle.vcd_head.specs.Views.{HasTexts, IsRow, AreRows, IsCode, IsExponent, IsSize, counted_from_one}
@@ -68,8 +69,11 @@ texts_there text type reference more r t s w a n =
 
 -- ---- codes, where no variable is declared
 
+pub held_grow : (text more : List ℕ) (list : List Code) (cs : List IdCode) → AreHeld text list cs → AreHeld (text ++ more) list cs
+held_grow text more list cs h = record { stand = are_codes_grow text more list cs h.stand; distinct = h.distinct; texts = h.texts }
+
 pub has_codes_grow : (text more : List ℕ) (es : Codes) (ds : List Declaration) → HasCodes text es ds → HasCodes (text ++ more) es ds
-has_codes_grow text more es ds h = record { stand = are_codes_grow text more es.list.items (codes_of ds) h.stand; numbered = h.numbered; known = h.known; seen = h.seen; sizes = h.sizes; texts = h.texts }
+has_codes_grow text more es ds h = record { held = held_grow text more es.list.items (codes_of ds) h.held; finds = h.finds; known = h.known; seen = h.seen; sizes = h.sizes }
 
 same_variables : (ds : List Declaration) (d : Declaration) → variable_of d ≡ None → variables_of (ds ++ d ∷ []) ≡ variables_of ds
 same_variables ds d h = variables_push ds d ∙ rw h (append-nil (variables_of ds))
@@ -79,12 +83,11 @@ has_codes_other text es ds d n h =
     let c = sym (codes-other ds d n) in
     let v = sym (same_variables ds d n) in
     record {
-      stand = subst (λ ks. AllZip (IsCode text) es.list.items ks) c h.stand;
-      numbered = subst (λ ks. ArePlaces es.places.entries ks) c h.numbered;
+      held = subst (AreHeld text es.list.items) c h.held;
+      finds = subst (λ ks. FindsAll ks es.table) c h.finds;
       known = subst (λ ks. AllByRecursion (λ u. find (has_text u.code) ks ≡ Some (code_of u)) (variables_of (ds ++ d ∷ []))) c (subst (λ vs. AllByRecursion (λ u. find (has_text u.code) (codes_of ds) ≡ Some (code_of u)) vs) v h.known);
       seen = λ t. ap (list_any (λ u. bytes_eq u.code t)) (sym v) ∙ h.seen t ∙ ap (λ ks. is_some (find (has_text t) ks)) c;
       sizes = subst (λ ks. AllByRecursion (λ (k : IdCode). IsSize k.size) ks) c h.sizes;
-      texts = subst (λ ks. AllByRecursion (λ (k : IdCode). AreBytes k.text) ks) c h.texts;
     }
 
 -- ---- scopes

@@ -18,6 +18,7 @@ pub mod MatchLemmas
 pub mod DraftSteps
 pub mod DraftCodes
 pub mod CodesLemmas
+pub mod IndexLemmas
 pub mod CodeChecks
 pub mod ScaleLemmas
 pub mod ScaleChecks

@@ -49,7 +49,7 @@ text_at ks p k e = ap (λ (o : Option IdCode). unwrap_or (option_map (λ c. c.te
 
 -- ---- no two codes have one text
 
-texts_range : (front back : List IdCode) → map (code_text (front ++ back)) (range_with_len (length front) (length back)) ≡ map (λ (k : IdCode). k.text) back
+pub texts_range : (front back : List IdCode) → map (code_text (front ++ back)) (range_with_len (length front) (length back)) ≡ map (λ (k : IdCode). k.text) back
 texts_range front [] = refl
 texts_range front (k ∷ back) =
     let all : map (code_text (front ++ k ∷ [] ++ back)) (range_with_len (length front + 1) (length back)) ≡ map (λ (x : IdCode). x.text) back =
@@ -69,7 +69,7 @@ distinct ks index h =
     IsDistinct-IsPermutation bytes_eq bytes_flip (map (code_text ks) index) texts (IsPermutation-sym texts (map (code_text ks) index) moved) apart
 
 -- a code with this text is the first with it
-apart_at : (t : List ℕ) (ks : List IdCode) (p : ℕ) (k : IdCode) → AllByRecursion (λ y. bytes_eq t y ≡ false) (map (λ (x : IdCode). x.text) ks) → slice_get ks p ≡ Some k → bytes_eq t k.text ≡ false
+pub apart_at : (t : List ℕ) (ks : List IdCode) (p : ℕ) (k : IdCode) → AllByRecursion (λ y. bytes_eq t y ≡ false) (map (λ (x : IdCode). x.text) ks) → slice_get ks p ≡ Some k → bytes_eq t k.text ≡ false
 apart_at t [] p k h e = absurd (none-some k e)
 apart_at t (x ∷ ks) zero k h e = subst (λ (y : IdCode). bytes_eq t y.text ≡ false) (same_Some x k e) h.0
 apart_at t (x ∷ ks) (suc p) k h e = apart_at t ks p k h.1 e

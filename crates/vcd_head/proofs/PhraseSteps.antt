@@ -21,7 +21,7 @@ use Rattle.vcd_head.specs.Keywords.{model_keyword}
 use Rattle.vcd_head.specs.declared.keyword.Keyword.{Keyword as WordOf}
 use Rattle.vcd_head.specs.declared.codes.Codes.{Codes}
 use Rattle.vcd_head.specs.Codes.{HasNone}
-use Rattle.vcd_head.proofs.CodesLemmas.{no_places}
+use Rattle.vcd_head.proofs.CodesLemmas.{none_held}
 use Rattle.vcd_head.specs.Draft.{IsDraftOf, HasCodes, IsNew, AtKeyword, AtFirstToken, AtOther, DraftsUpTo, DraftsAll}
 use Rattle.vcd_head.specs.Views.{IsExponent, AreRows, Views}
 use Rattle.vcd_head.specs.Shown.{shown}
@@ -118,7 +118,7 @@ begun_by most i d f placed (Some k) e l h = record { placed = placed; token_read
 
 no_codes_yet : (text : List ℕ) (c : Codes) → HasNone c → HasCodes text c []
 unfolding codes_of
-no_codes_yet text c n = record { stand = rw n.no_codes tt; numbered = rw n.no_places no_places; known = tt; seen = λ t. refl; sizes = tt; texts = tt }
+no_codes_yet text c n = record { held = rw n.no_codes (none_held text); finds = n.finds_none; known = tt; seen = λ t. refl; sizes = tt }
 
 no_rows_yet : (text : List ℕ) → AreRows text (codes_of []) [] [] []
 no_rows_yet text = tt

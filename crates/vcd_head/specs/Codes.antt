@@ -1,29 +1,57 @@
 -- What is kept of the distinct codes while a header is read.
-use Rattle.std.specs.Prelude.{◌≡◌, ℕ, List, [], ◌∷◌, ◌++◌, length, map, find, slice_get, Option, Some, None}
+use Rattle.std.specs.Prelude.{◌≡◌, ℕ, ◌==◌, ◌&&◌, not, cond, List, [], ◌∷◌, ◌++◌, length, map, find, bytes_eq, slice_get, Option, Some, None}
 use Rattle.std.specs.Global.{Vec}
-use Rattle.std.specs.List.{AllByRecursion}
-use Rattle.std.specs.Ordering.{nat_cmp}
+use Rattle.std.specs.List.{AllByRecursion, AllZip, IsDistinct}
+use Rattle.std.specs.Map.{lookup}
+use Rattle.std.specs.Option.{option_or}
+use Rattle.std.specs.Ordering.{nat_cmp, is_eq}
 use Rattle.std.specs.Cmp.Lexicographic.{slice_cmp}
-use Rattle.std.specs.BTreeMap.{IsOrdered, insert_entry}
 use Rattle.vcd_model.specs.Declarations.{IdCode, has_text}
 use Rattle.vcd_head.specs.declared.view.Code.{Code}
+use Rattle.vcd_head.specs.declared.view.Entry.{Entry}
 use Rattle.vcd_head.specs.declared.codes.Coded.{Coded}
 use Rattle.vcd_head.specs.declared.codes.Codes.{Codes}
-use Rattle.vcd_head.specs.Views.{IsIndex, code_text}
+use Rattle.vcd_head.specs.declared.table.Table.{Table}
+use Rattle.vcd_head.specs.Entries.{entry_in}
+use Rattle.vcd_head.specs.Finds.{Finds}
+use Rattle.vcd_head.specs.Keys.{AreBytes, key_in}
+use Rattle.vcd_head.specs.Views.{IsCode}
 
 -- the code has this size, and is an event or none
 pub record IsOfKind (c : Code) (k : IdCode) : Type 0 where
   pub same_size : c.size ≡ k.size
   pub same_event : c.event ≡ k.event
 
--- the places in a tree
-abbrev pub places_in : List (Vec ℕ × ℕ) → List ℕ
-places_in es = map (λ e. e.1) es
+-- the place that an entry gives for these bytes: its own, if its key is theirs
+abbrev pub place_told : List ℕ → Option Entry → Option ℕ
+place_told t None = None
+place_told t (Some e) = cond (not (key_in t == 0) && (e.key == key_in t)) (Some e.place) None
 
--- the entries of a tree are the bytes of these codes, each with its place, in rising order
-pub record ArePlaces (es : List (Vec ℕ × ℕ)) (cs : List IdCode) : Type 0 where
-  pub index : IsIndex cs (places_in es)
-  pub keyed : AllByRecursion (λ e. code_text cs e.1 ≡ e.0.items) es
+-- the place that the entries give for these bytes
+abbrev pub entered : List Entry → List ℕ → Option ℕ
+entered es t = place_told t (slice_get es (entry_in t (length es)))
+
+-- the place that a tree gives for these bytes
+abbrev pub in_tree : List (Vec ℕ × ℕ) → List ℕ → Option ℕ
+in_tree es t = lookup (λ (k : Vec ℕ). is_eq (slice_cmp nat_cmp t k.items)) es
+
+-- the place that a table gives for these bytes
+abbrev pub place_in : Table → List ℕ → Option ℕ
+place_in d t = option_or (entered d.entries.items t) (in_tree d.others.entries t)
+
+-- the table finds these codes and no others
+abbrev pub FindsAll : List IdCode → Table → Type 0
+FindsAll cs d = (t : List ℕ) → AreBytes t → Finds cs t (place_in d t)
+
+-- the table gives this place for these bytes, and else what it gave
+abbrev pub IsEntered : Table → Table → List ℕ → ℕ → Type 0
+IsEntered old new bytes place = (t : List ℕ) → AreBytes t → place_in new t ≡ cond (bytes_eq t bytes) (Some place) (place_in old t)
+
+-- the codes stand in the text, and no two have the same bytes
+pub record AreHeld (text : List ℕ) (list : List Code) (cs : List IdCode) : Type 0 where
+  pub stand : AllZip (IsCode text) list cs
+  pub distinct : IsDistinct bytes_eq (map (λ (c : IdCode). c.text) cs)
+  pub texts : AllByRecursion (λ (c : IdCode). AreBytes c.text) cs
 
 -- the code with these bytes among these, and its place
 abbrev pub IsKnown : List IdCode → List ℕ → Option Coded → Type 0
@@ -33,11 +61,11 @@ IsKnown cs t None = find (has_text t) cs ≡ None
 -- there is none yet
 pub record HasNone (c : Codes) : Type 0 where
   pub no_codes : c.list.items ≡ []
-  pub no_places : c.places.entries ≡ []
+  pub finds_none : FindsAll [] c.table
 
 -- a code was added at this place, the last one
-pub record IsAdded (old new : Codes) (bytes : Vec ℕ) (code : Code) (place : ℕ) : Type 0 where
+pub record IsAdded (text : List ℕ) (old new : Codes) (bytes : List ℕ) (code : Code) (place : ℕ) : Type 0 where
+  pub own : AreBytes bytes
   pub last : place ≡ length old.list.items
   pub listed : new.list.items ≡ old.list.items ++ code ∷ []
-  pub placed : new.places.entries ≡ insert_entry (λ (a b : Vec ℕ). slice_cmp nat_cmp a.items b.items) old.places.entries bytes place
-  pub ordered : IsOrdered (λ (a b : Vec ℕ). slice_cmp nat_cmp a.items b.items) new.places
+  pub found : (cs : List IdCode) (k : IdCode) → AreHeld text old.list.items cs → FindsAll cs old.table → find (has_text bytes) cs ≡ None → k.text ≡ bytes → FindsAll (cs ++ k ∷ []) new.table

@@ -1,17 +1,16 @@
 -- What a draft holds of the phrases read so far, beside the feed that they come from.
 use Rattle.std.specs.Prelude.{◌≡◌, ℕ, suc, ◌+◌, ◌≤◌, List, [], ◌∷◌, ◌++◌, length, map, reverse, find, filter_map, count_by, sum_by, bytes_eq, Some, None, is_some, option_map, unwrap_or, slice_get, Bool, true, false, Option, IfSome}
-use Rattle.std.specs.List.{AllByRecursion, AllZip, list_any, last_or}
+use Rattle.std.specs.List.{AllByRecursion, list_any, last_or}
 use Rattle.vcd_model.specs.Declarations.{Declaration, Variable, IdCode, code_of, codes_of, variables_of, has_text, is_scope, is_up, enclosing}
 use Rattle.vcd_model.specs.HeaderPhrases.{HeaderPhrase, declarations_of, date_of, version_of, timescale_of}
 use Rattle.vcd_model.specs.Bound.{kept_bytes}
 use Rattle.vcd_head.specs.declared.view.Scale.{Scale}
 use Rattle.vcd_head.specs.declared.codes.Codes.{Codes}
-use Rattle.vcd_head.specs.Codes.{ArePlaces, HasNone}
+use Rattle.vcd_head.specs.Codes.{AreHeld, FindsAll, HasNone}
 use Rattle.vcd_head.specs.declared.draft.Draft.{Draft}
 use Rattle.vcd_head.specs.declared.draft.Found.{Found}
 use Rattle.vcd_head.specs.declared.draft.Found.TheVariants as found
-use Rattle.vcd_head.specs.Keys.{AreBytes}
-use Rattle.vcd_head.specs.Views.{IsCode, IsExponent, IsSize, AreRows}
+use Rattle.vcd_head.specs.Views.{IsExponent, IsSize, AreRows}
 use Rattle.vcd_model.specs.Input.{Input}
 use Rattle.vcd_model.specs.Keywords.{Keyword, keyword_of, keyword_text}
 use Rattle.vcd_model.specs.Reading.{Placed, phrases_of}
@@ -25,17 +24,16 @@ use Rattle.vcd_head.specs.declared.keyword.Keyword.TheVariants as word
 
 -- the codes of these declarations are held
 pub record HasCodes (text : List ℕ) (c : Codes) (ds : List Declaration) : Type 0 where
-  pub stand : AllZip (IsCode text) c.list.items (codes_of ds)
-  pub numbered : ArePlaces c.places.entries (codes_of ds)
+  pub held : AreHeld text c.list.items (codes_of ds)
+  pub finds : FindsAll (codes_of ds) c.table
   pub known : AllByRecursion (λ u. find (has_text u.code) (codes_of ds) ≡ Some (code_of u)) (variables_of ds)
   pub seen : (t : List ℕ) → list_any (λ u. bytes_eq u.code t) (variables_of ds) ≡ is_some (find (has_text t) (codes_of ds))
   pub sizes : AllByRecursion (λ (c : IdCode). IsSize c.size) (codes_of ds)
-  pub texts : AllByRecursion (λ (c : IdCode). AreBytes c.text) (codes_of ds)
 
--- the code of a variable after these declarations was found among theirs, or is new
-abbrev pub IsFound : List Declaration → Variable → Found → Type 0
-IsFound ds v (found.Declared place) = (slice_get (codes_of ds) place ≡ Some (code_of v)) × (find (has_text v.code) (codes_of ds) ≡ Some (code_of v))
-IsFound ds v (found.New code) = (code.items ≡ v.code) × (find (has_text v.code) (codes_of ds) ≡ None)
+-- the code of a variable after these declarations was found among theirs, or is new and held
+abbrev pub IsFound : List Declaration → Variable → List ℕ → Found → Type 0
+IsFound ds v held (found.Declared place) = (slice_get (codes_of ds) place ≡ Some (code_of v)) × (find (has_text v.code) (codes_of ds) ≡ Some (code_of v))
+IsFound ds v held found.New = (held ≡ v.code) × (find (has_text v.code) (codes_of ds) ≡ None)
 
 -- the draft holds these declarations, of which `most` are allowed
 pub record Declares (most : ℕ) (d : Draft) (ds : List Declaration) : Type 0 where

@@ -1,5 +1,5 @@
 -- The entries by which codes are looked up.
-use Rattle.std.specs.Prelude.{ℕ, ◌+◌, ◌^◌, ◌==◌, ◌&&◌, ◌||◌, nat_le, cond, Bool, false, List, [], length, slice_get, slice_range, option_map, unwrap_or}
+use Rattle.std.specs.Prelude.{ℕ, ◌+◌, ◌-◌, ◌*◌, ◌%◌, ◌^◌, ◌==◌, ◌&&◌, ◌||◌, nat_le, bit_and, cond, Bool, false, List, [], ◌∷◌, length, slice_get, slice_range, option_map, unwrap_or}
 use Rattle.std.specs.List.{list_all}
 use Rattle.vcd_head.specs.declared.view.Code.{Code}
 use Rattle.vcd_head.specs.declared.view.Entry.{Entry}
@@ -24,3 +24,16 @@ is_right text codes e = (e.key == 0) || unwrap_or (option_map (is_entry_of text 
 -- each entry is
 abbrev pub are_right : List ℕ → List Code → List Entry → Bool
 are_right text codes es = list_all (is_right text codes) es
+
+-- the number with a lower digit after it, in 64 bits
+abbrev pub above : ℕ → ℕ → ℕ
+above n b = ((n * 94) % 2 ^ 64 + (b + (2 ^ 64 - 32)) % 2 ^ 64) % 2 ^ 64
+
+-- the number whose digits are the bytes of a code, the first one lowest
+abbrev pub number_in : List ℕ → ℕ
+number_in [] = 0
+number_in (b ∷ bs) = above (number_in bs) b
+
+-- which of so many entries is that of the code
+abbrev pub entry_in : List ℕ → ℕ → ℕ
+entry_in code entries = bit_and (number_in code) ((entries + (2 ^ 64 - 1)) % 2 ^ 64)

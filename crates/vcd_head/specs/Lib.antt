@@ -13,6 +13,7 @@ pub mod Words
 pub mod Keywords
 pub mod Texts
 pub mod Codes
+pub mod Fronts
 pub mod Draft
 pub mod Variables
 pub mod Scaled

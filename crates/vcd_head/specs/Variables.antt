@@ -18,7 +18,7 @@ pub record SizeRead {X : Type 0} {g : Ghosts X} (most : ℕ) (i : Input) (placed
   pub reads : Reads most i placed (keyword_text Keyword.Var ∷ type ∷ (token_of f).bytes ∷ []) f
   pub size_is : size_in (token_of f).bytes ≡ Some size
 
--- type, size and code are read, and the code was found so
-pub record CodeRead {X : Type 0} {g : Ghosts X} (most : ℕ) (i : Input) (placed : List (Placed HeaderPhrase)) (type digits : List ℕ) (f : Feed X g) (found : Found) : Type 0 where
+-- type, size and code are read, and the code was found so; its bytes are held where it is new
+pub record CodeRead {X : Type 0} {g : Ghosts X} (most : ℕ) (i : Input) (placed : List (Placed HeaderPhrase)) (type digits held : List ℕ) (f : Feed X g) (found : Found) : Type 0 where
   pub reads : Reads most i placed (keyword_text Keyword.Var ∷ type ∷ digits ∷ (token_of f).bytes ∷ []) f
-  pub found_is : (reference : List (List ℕ)) → IsFound (declarations_of (phrases_of placed)) (record { type = type; size = decimal_value digits; code = (token_of f).bytes; reference = reference }) found
+  pub found_is : (reference : List (List ℕ)) → IsFound (declarations_of (phrases_of placed)) (record { type = type; size = decimal_value digits; code = (token_of f).bytes; reference = reference }) held found

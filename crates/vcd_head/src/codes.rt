@@ -1,14 +1,15 @@
 // The distinct codes of a header that is read.
 ghost use Rattle.std.specs.Prelude.{◌≡◌, ℕ, List, IfOk, IfErr};
-ghost use Rattle.std.specs.List.{AllZip};
 ghost use Rattle.vcd_model.specs.Declarations.{IdCode};
-ghost use Rattle.vcd_head.specs.Views.{IsCode};
-ghost use Rattle.vcd_head.specs.Codes.{ArePlaces, HasNone, IsAdded, IsKnown};
+ghost use Rattle.vcd_head.specs.Codes.{AreHeld, FindsAll, HasNone, IsAdded, IsKnown};
 
 use crate::fault::HeadFault;
+use crate::table::{Table, table_of};
 use crate::view::{Code, code_in};
-use std::alloc::Global;
-use std::collections::BTreeMap;
+use std::alloc::{AllocError, Global};
+
+// The fewest entries of a table that has codes.
+const FEWEST_ENTRIES: usize = 64;
 
 // A code with its place among the distinct codes.
 #[derive(Clone, Copy)]
@@ -18,14 +19,11 @@ pub(crate) struct Coded {
 }
 
 // The codes in order of first declaration, found by their bytes.
-//
-// A tree finds them, so that no choice of codes makes a look-up slow, as it can where their hashes fall together. Its order is
-// that of the bytes, which the index of a head has.
 #[derive(Drop)]
 pub(crate) struct Codes {
     pub(crate) list: Vec<Code>,
     // The place of each in the list.
-    pub(crate) places: BTreeMap<Vec<u8>, usize>,
+    pub(crate) table: Table,
 }
 
 impl Codes {
@@ -34,28 +32,49 @@ impl Codes {
     {
         Codes {
             list: Vec::new(alloc),
-            places: BTreeMap::new(alloc),
+            table: Table::new(alloc),
         }
     }
 
     /// The code with these bytes.
+    #[inline(always)]
     pub(crate) fn find(&self, bytes: &[u8]) -> Option<Coded>
-        ensures { (text : List ℕ) (cs : List IdCode) → AllZip (IsCode text) self.now.list.items cs
-            → ArePlaces self.now.places.entries cs → IsKnown cs bytes.now result }
+        ensures { (text : List ℕ) (cs : List IdCode) → AreHeld text self.now.list.items cs
+            → FindsAll cs self.now.table → IsKnown cs bytes.now result }
     {
-        let place = *self.places.get(bytes)?;
+        let place = self.table.place_of(bytes)?;
         let code = code_in(&self.list, place)?;
         Some(Coded { place, code })
     }
 
-    /// Adds a code that is new, with its bytes; gives its place.
-    pub(crate) fn push(&mut self, bytes: Vec<u8>, code: Code) -> Result<usize, HeadFault>
-        ensures added { IfOk result (IsAdded self.old self.new bytes code) }
+    /// Adds a code that is new, with its bytes; gives its place. The bytes of those before it lie in the text.
+    pub(crate) fn push(
+        &mut self,
+        alloc: Global,
+        text: &[u8],
+        bytes: &[u8],
+        code: Code,
+    ) -> Result<usize, HeadFault>
+        ensures added { IfOk result (IsAdded text.now self.old self.new bytes.now code) }
         ensures memory { IfErr result (λ fault. fault ≡ HeadFault.OutOfMemory) }
     {
         let place = self.list.len();
+        self.make_room(alloc, text)?;
+        self.table.enter(alloc, bytes, place, code)?;
         self.list.push(code)?;
-        self.places.insert(bytes, place)?;
         Ok(place)
+    }
+
+    // Gives the table more entries where they are worth it.
+    fn make_room(&mut self, alloc: Global, text: &[u8]) -> Result<(), AllocError>
+        ensures found { (cs : List IdCode) → AreHeld text.now self.old.list.items cs
+            → FindsAll cs self.old.table → IfOk result (λ _. FindsAll cs self.new.table) }
+        ensures same { self.new.list ≡ self.old.list }
+    {
+        if self.table.is_narrow(self.list.len()) {
+            let entries = self.table.entries.len().saturating_mul(2);
+            self.table = table_of(alloc, text, &self.list, entries.max(FEWEST_ENTRIES))?;
+        }
+        Ok(())
     }
 }

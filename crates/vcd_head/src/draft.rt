@@ -20,6 +20,8 @@ pub(crate) struct Draft {
     pub(crate) scale: Option<Scale>,
     // 1 plus the row of each open scope, outermost first.
     pub(crate) scopes: Vec<usize>,
+    // The bytes of the code that is read, where it is new.
+    pub(crate) held: Vec<u8>,
 }
 
 impl Draft {
@@ -34,6 +36,7 @@ impl Draft {
             version: Vec::new(alloc),
             scale: None,
             scopes: Vec::new(alloc),
+            held: Vec::new(alloc),
         }
     }
 
@@ -48,27 +51,29 @@ impl Draft {
     /// The place of the code of a variable, which is added where it is new.
     pub(crate) fn place_of(
         &mut self,
+        alloc: Global,
         found: Found,
         size: usize,
         event: bool,
     ) -> Result<usize, HeadFault>
         ensures codes { (ds : List Declaration) (v : Variable)
             → HasCodes self.old.text.items self.old.codes ds
-            → IsFound ds v found → IsSize size → size ≡ (code_of v).size → event ≡ (code_of v).event
+            → IsFound ds v self.old.held.items found → IsSize size → size ≡ (code_of v).size
+            → event ≡ (code_of v).event
             → IfOk result (CodeHeld self.old self.new ds v) }
         ensures others { IsSameBut self.old self.new }
         ensures memory { IfErr result (λ fault. fault ≡ HeadFault.OutOfMemory) }
     {
         match found {
             Found::Declared(place) => Ok(place),
-            Found::New(bytes) => self.add_code(bytes, size, event),
+            Found::New => self.add_code(alloc, size, event),
         }
     }
 
-    fn add_code(&mut self, bytes: Vec<u8>, size: usize, event: bool) -> Result<usize, HeadFault>
+    fn add_code(&mut self, alloc: Global, size: usize, event: bool) -> Result<usize, HeadFault>
         ensures codes { (ds : List Declaration) (v : Variable)
             → HasCodes self.old.text.items self.old.codes ds
-            → IsFound ds v (Found.New bytes) → IsSize size → size ≡ (code_of v).size
+            → IsFound ds v self.old.held.items Found.New → IsSize size → size ≡ (code_of v).size
             → event ≡ (code_of v).event
             → IfOk result (CodeHeld self.old self.new ds v) }
         ensures others { IsSameBut self.old self.new }
@@ -76,20 +81,20 @@ impl Draft {
     {
         let code = Code {
             start: self.text.len(),
-            len: bytes.len(),
+            len: self.held.len(),
             size,
             event,
         };
-        self.text.extend_from_slice(&bytes)?;
-        self.codes.push(bytes, code)
+        self.text.extend_from_slice(&self.held)?;
+        self.codes.push(alloc, &self.text, &self.held, code)
     }
 }
 
 // The code of a variable that is read.
-#[derive(Drop)]
+#[derive(Clone, Copy)]
 pub(crate) enum Found {
     // An earlier variable has it: its place among the distinct codes.
     Declared(usize),
-    // None has it: its bytes.
-    New(Vec<u8>),
+    // None has it, and the draft holds its bytes.
+    New,
 }

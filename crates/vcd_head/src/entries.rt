@@ -1,15 +1,16 @@
 // The entries by which codes are looked up: where a code's entry is, and how they are filled. Any code may have any place among
 // them, and two the same: where an entry is decides only how fast a look-up is.
-ghost use Rattle.std.specs.Prelude.{◌≡◌, ◌+◌, ◌*◌, ◌^◌, ◌≤◌, ◌<◌, ℕ, List, true, length, set, slice_get, Some, IfOk};
-ghost use Rattle.vcd_head.specs.Entries.{are_right, is_right, most_of, text_in};
+ghost use Rattle.std.specs.Prelude.{◌≡◌, ◌≢◌, ◌+◌, ◌*◌, ◌^◌, ◌≤◌, ◌<◌, ℕ, List, true, length, set, slice_get, Some, IfOk};
+ghost use Rattle.vcd_head.specs.Entries.{above, are_right, entry_in, is_right, most_of, number_in, text_in};
+ghost use Rattle.vcd_head.specs.Keys.{key_in};
 ghost use Rattle.vcd_head.specs.declared.view.Code.{Code};
 
 use crate::key::key_of;
 use crate::view::{Code, Entry, text_in};
 use std::alloc::{AllocError, Global};
 
-// The entry of no code.
-const EMPTY: Entry = Entry {
+/// The entry of no code.
+pub(crate) const EMPTY: Entry = Entry {
     key: 0,
     place: 0,
     most: 0,
@@ -20,13 +21,15 @@ const EMPTY: Entry = Entry {
 /// Simulators number codes from `!` on in base 94, the lowest digit first, in the order of
 /// declaration. Read back as such a number, neighbours have entries of their own.
 #[inline(always)]
-pub(crate) fn entry_of(code: &[u8], entries: usize) -> usize {
+pub(crate) fn entry_of(code: &[u8], entries: usize) -> usize
+    ensures { result ≡ entry_in code.now entries }
+{
     let number = match code {
-        [first] => digit_of(*first),
-        [first, second] => above(digit_of(*second), *first),
-        [first, second, third] => above(above(digit_of(*third), *second), *first),
+        [first] => above(0, *first),
+        [first, second] => above(above(0, *second), *first),
+        [first, second, third] => above(above(above(0, *third), *second), *first),
         [first, second, third, fourth] => above(
-            above(above(digit_of(*fourth), *third), *second),
+            above(above(above(0, *fourth), *third), *second),
             *first,
         ),
         _ => number_of(code),
@@ -34,23 +37,25 @@ pub(crate) fn entry_of(code: &[u8], entries: usize) -> usize {
     number & entries.wrapping_sub(1)
 }
 
-// The digit that a byte stands for.
-#[inline(always)]
-fn digit_of(byte: u8) -> usize {
-    usize::from(byte).wrapping_sub(32)
-}
-
 // The number with a lower digit after it.
 #[inline(always)]
-fn above(number: usize, byte: u8) -> usize {
-    number.wrapping_mul(94).wrapping_add(digit_of(byte))
+fn above(number: usize, byte: u8) -> usize
+    ensures { result ≡ above number byte }
+{
+    number
+        .wrapping_mul(94)
+        .wrapping_add(usize::from(byte).wrapping_sub(32))
 }
 
 // The number of a code of any length.
-fn number_of(code: &[u8]) -> usize {
+fn number_of(code: &[u8]) -> usize
+    ensures { result ≡ number_in code.now }
+{
     let mut number: usize = 0;
-    for byte in code.iter().rev() {
-        number = above(number, *byte);
+    let mut place = code.len();
+    while place > 0 {
+        place -= 1;
+        number = above(number, code[place]);
     }
     number
 }
@@ -98,10 +103,11 @@ fn fill(entries: &mut [Entry], text: &[u8], codes: &[Code])
     }
 }
 
-// The entry of a code with these bytes, which is at this place; an empty one where 32 bits do not hold the place.
-fn entry_at(place: usize, code: Code, bytes: &[u8]) -> Entry
-    ensures { (text : List ℕ) (codes : List Code) → slice_get codes place ≡ Some code
+/// The entry of a code with these bytes, which is at this place; an empty one where 32 bits do not hold the place.
+pub(crate) fn entry_at(place: usize, code: Code, bytes: &[u8]) -> Entry
+    ensures right { (text : List ℕ) (codes : List Code) → slice_get codes place ≡ Some code
         → bytes.now ≡ text_in text code.start code.len → is_right text codes result ≡ true }
+    ensures own { result.key ≢ 0 → (result.key ≡ key_in bytes.now) × (result.place ≡ place) }
 {
     let Ok(place) = u32::try_from(place) else {
         return EMPTY;
@@ -113,8 +119,8 @@ fn entry_at(place: usize, code: Code, bytes: &[u8]) -> Entry
     }
 }
 
-// Writes one entry, if there are so many.
-fn put(entries: &mut [Entry], at: usize, entry: Entry)
+/// Writes one entry, if there are so many.
+pub(crate) fn put(entries: &mut [Entry], at: usize, entry: Entry)
     ensures { entries.new ≡ set entries.old at entry }
 {
     if at < entries.len() {

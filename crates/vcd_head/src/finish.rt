@@ -1,9 +1,8 @@
 // A draft becomes a head.
-ghost use Rattle.std.specs.Prelude.{◌≡◌, ℕ, ◌≤◌, List, map, IfOk, IfErr};
+ghost use Rattle.std.specs.Prelude.{◌≡◌, ℕ, ◌≤◌, List, IfOk, IfErr};
 ghost use Rattle.vcd_model.specs.HeaderPhrases.{HeaderPhrase};
 ghost use Rattle.vcd_model.specs.Header.{header_of};
 ghost use Rattle.vcd_head.specs.Draft.{IsDraftOf};
-ghost use Rattle.vcd_head.specs.Codes.{places_in};
 ghost use Rattle.vcd_head.specs.Shown.{shown};
 ghost use Rattle.vcd_head.specs.Views.{Views};
 
@@ -12,19 +11,8 @@ use crate::draft::Draft;
 use crate::entries::entries_of;
 use crate::fault::HeadFault;
 use crate::head::Head;
-use std::alloc::{AllocError, Global};
-use std::collections::BTreeMap;
-
-/// The places of the codes, in the order of their bytes.
-fn places_of(alloc: Global, places: &BTreeMap<Vec<u8>, usize>) -> Result<Vec<usize>, AllocError>
-    ensures { IfOk result (λ index. index.items ≡ places_in places.now.entries) }
-{
-    let mut index = Vec::with_capacity(alloc, places.len())?;
-    for place in places.values() {
-        index.push(*place)?;
-    }
-    Ok(index)
-}
+use crate::index::index_of;
+use std::alloc::Global;
 
 /// The head of a draft that holds all phrases of a header.
 pub(crate) fn finish(alloc: Global, draft: Draft) -> Result<Head, HeadFault>
@@ -39,13 +27,10 @@ pub(crate) fn finish(alloc: Global, draft: Draft) -> Result<Head, HeadFault>
         date,
         version,
         scale,
-        scopes: _,
+        ..
     } = draft;
-    let Codes {
-        list: codes,
-        places,
-    } = codes;
-    let index = places_of(alloc, &places)?;
+    let Codes { list: codes, .. } = codes;
+    let index = index_of(alloc, &text, &codes)?;
     let entries = entries_of(alloc, &text, &codes)?;
     Ok(Head {
         text,

@@ -49,6 +49,7 @@ mod entries;
 mod fault;
 mod finish;
 mod head;
+mod index;
 mod inside;
 mod key;
 mod keyword;
@@ -64,6 +65,7 @@ mod room;
 mod scale;
 mod scopes;
 mod selection;
+mod table;
 #[cfg(test)]
 mod tests;
 mod texts;

@@ -38,11 +38,11 @@ fn read_size<S: Source>(feed: &mut Feed<'_, '_, '_, '_, S>) -> Result<usize, Hea
     }
 }
 
-/// The code of a variable of this size, which is an event or none.
+/// The code of a variable of this size, which is an event or none. Its bytes are held where it is new.
 fn read_code<S: Source>(
-    alloc: Global,
     feed: &mut Feed<'_, '_, '_, '_, S>,
     known: &Codes,
+    held: &mut Vec<u8>,
     size: usize,
     event: bool,
 ) -> Result<Found, HeadFault>
@@ -52,7 +52,7 @@ fn read_code<S: Source>(
         → HasCodes text known.now (declarations_of (phrases_of placed))
         → decimal_value digits ≡ size → bytes_eq (codes "event") type ≡ event
         → Reads most i placed (keyword_text Keyword.Var ∷ type ∷ digits ∷ []) feed.old
-        → MatchResult result (CodeRead most i placed type digits feed.new)
+        → MatchResult result (CodeRead most i placed type digits held.new.items feed.new)
         (λ fault. Fails most i fault feed.new) }
     ensures advances { Advances S.failures feed.old feed.new (call_end result) }
 {
@@ -62,7 +62,9 @@ fn read_code<S: Source>(
         return Err(HeadFault::BadVariable);
     }
     let Some(coded) = known.find(token) else {
-        return Ok(Found::New(Vec::from_slice(alloc, token)?));
+        held.clear();
+        held.extend_from_slice(token)?;
+        return Ok(Found::New);
     };
     if coded.code.size != size {
         return Err(HeadFault::CodeDiffers);
@@ -95,13 +97,13 @@ pub(crate) fn read_variable<S: Source>(
     };
     let event = is_event(feed.token());
     let size = read_size(feed)?;
-    let found = read_code(alloc, feed, &draft.codes, size, event)?;
+    let found = read_code(feed, &draft.codes, &mut draft.held, size, event)?;
     let Some(name) = next_word(feed, &mut draft.text)? else {
         return Err(HeadFault::BadVariable);
     };
     append_to_end(feed, &mut draft.text)?;
     let all = draft.text.len() - start - word;
-    let code = draft.place_of(found, size, event)?;
+    let code = draft.place_of(alloc, found, size, event)?;
     let parent = draft.parent();
     draft.rows.push(Row {
         kind: Kind::Var,

@@ -10,7 +10,7 @@ loop-place-preserved c =
     let text = c.args.text.now in
     let codes = c.args.codes.now in
     let there = slice_get-get_or codes c.loop-place.place _ (omega arith) in
-    let right = c.entry_at.ensures text codes there c.text_in-bytes.ensures in (
+    let right = c.entry_at.ensures.right text codes there c.text_in-bytes.ensures in (
       λ h. ap (are_right text codes) c.put.ensures ∙ all_written (is_right text codes) c.loop-place.entries c.entry_of-at.result c.entry_at.result (c.loop-place.invariant.0 h) right,
       ap length c.put.ensures ∙ length-set _ _ _ ∙ c.loop-place.invariant.1,
     )

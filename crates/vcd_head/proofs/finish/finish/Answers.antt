@@ -1,4 +1,4 @@
-use Rattle.std.proofs.Common.{length, sym, ap, subst, arith}
+use Rattle.std.proofs.Common.{length, ap, subst, arith}
 use Rattle.vcd_model.specs.Declarations.{codes_of}
 use Rattle.vcd_model.specs.HeaderPhrases.{declarations_of}
 use Rattle.vcd_model.specs.Header.{header_of}
@@ -14,18 +14,18 @@ returns-clause-head c = λ most ps m h.
     let held = h.declares.held in
     let few = h.declares.few in
     let ds_codes = codes_of ds in
-    let stand = h.declares.codes.stand in
+    let stand = h.declares.codes.held.stand in
     let list = c.args.draft.codes.list.items in
     record {
       rows = h.declares.rows;
       codes = stand;
-      index = subst (IsIndex ds_codes) (sym c.in_ok-index.ensures) h.declares.codes.numbered.index;
+      index = subst (λ t. IsIndex ds_codes c.in_ok-index.index.items) c.deref.ensures.value (c.in_ok-index.ensures ds_codes (rw (c.deref.ensures.value, c.deref-2.ensures.value) h.declares.codes.held));
       date = h.date;
       version = h.version;
       scale = h.scale;
       scaled = h.scaled;
       held = omega (arith, held, ap length h.date, ap length h.version);
-      texts = h.declares.codes.texts;
+      texts = h.declares.codes.held.texts;
       look_up = omega (arith, c.in_ok-entries.ensures.few, ap length c.deref-2.ensures.value, codes_len c.args.draft.text.items list ds_codes stand);
       sizes = h.declares.codes.sizes;
       few = omega arith;

@@ -1,4 +1,4 @@
-use Rattle.std.proofs.Common.{◌≡◌, ◌∷◌, [], true, false, refl, sym, ap, subst, ◌∙◌, Some, None}
+use Rattle.std.proofs.Common.{◌≡◌, ◌∷◌, ◌++◌, [], true, false, refl, sym, ap, subst, ◌∙◌, Some, None}
 use Rattle.std.proofs.lemmas.Result.{err_from_is_err_and}
 use Rattle.vcd_model.specs.Bytes.{is_code_byte}
 use Rattle.vcd_model.specs.Keywords.{Keyword, keyword_text}
@@ -24,16 +24,16 @@ returns-then-not-is_code-clause-reads g c = λ most i placed type digits text h 
     refused_inside most i placed Keyword.Var c.next_token.new.feed (type ∷ digits ∷ []) 7 (code_bad (declarations_of (phrases_of placed)) type digits (token_of c.next_token.new.feed).bytes bad)
     (c.in_ok-next_token.ensures.reads most i placed (keyword_text Keyword.Var ∷ type ∷ digits ∷ []) r)
 
-pub returns-in_err-from_slice-clause-reads : goal.returns-in_err-from_slice-clause-reads
-returns-in_err-from_slice-clause-reads g c =
-    let p = err_from_is_err_and c.from_residual-in_err-from_slice.result c.from_residual-in_err-from_slice.ensures.1 in
+pub returns-in_err-extend_from_slice-clause-reads : goal.returns-in_err-extend_from_slice-clause-reads
+returns-in_err-extend_from_slice-clause-reads g c =
+    let p = err_from_is_err_and c.from_residual-in_err-extend_from_slice.result c.from_residual-in_err-extend_from_slice.ensures.1 in
     rw (p.1, p.2) (λ most i placed type digits text h s e r.
     let tok = (token_of c.next_token.new.feed).bytes in
     let ds = declarations_of (phrases_of placed) in
     let es = c.args.known.now in
     let good : list_all is_code_byte tok ≡ true = sym (c.is_code.ensures ∙ ap (list_all is_code_byte) c.token-token.ensures) ∙ c.if-not-is_code.false in
     let l = c.in_ok-next_token.ensures.reads most i placed (keyword_text Keyword.Var ∷ type ∷ digits ∷ []) r in
-    let none : IsKnown (codes_of ds) tok None = subst (IsKnown (codes_of ds) tok) (not_some c.find.result c.in_default.not-Some) (subst (λ t. IsKnown (codes_of ds) t c.find.result) c.token-token.ensures (c.find.ensures text (codes_of ds) h.stand h.numbered)) in
+    let none : IsKnown (codes_of ds) tok None = subst (IsKnown (codes_of ds) tok) (not_some c.find.result c.in_default.not-Some) (subst (λ t. IsKnown (codes_of ds) t c.find.result) c.token-token.ensures (c.find.ensures text (codes_of ds) h.held h.finds)) in
     let read = inside most i placed Keyword.Var c.next_token.new.feed (type ∷ digits ∷ []) (check_new text es ds type digits tok c.args.size c.args.event h s e good none) refl l in
     faultless most i placed (keyword_text Keyword.Var ∷ type ∷ digits ∷ []) tok c.next_token.new.feed read)
 
@@ -44,9 +44,9 @@ returns-in_default-clause-reads g c = λ most i placed type digits text h s e r.
     let es = c.args.known.now in
     let good : list_all is_code_byte tok ≡ true = sym (c.is_code.ensures ∙ ap (list_all is_code_byte) c.token-token.ensures) ∙ c.if-not-is_code.false in
     let l = c.in_ok-next_token.ensures.reads most i placed (keyword_text Keyword.Var ∷ type ∷ digits ∷ []) r in
-    let none : IsKnown (codes_of ds) tok None = subst (IsKnown (codes_of ds) tok) (not_some c.find.result c.in_default.not-Some) (subst (λ t. IsKnown (codes_of ds) t c.find.result) c.token-token.ensures (c.find.ensures text (codes_of ds) h.stand h.numbered)) in
+    let none : IsKnown (codes_of ds) tok None = subst (IsKnown (codes_of ds) tok) (not_some c.find.result c.in_default.not-Some) (subst (λ t. IsKnown (codes_of ds) t c.find.result) c.token-token.ensures (c.find.ensures text (codes_of ds) h.held h.finds)) in
     let read = inside most i placed Keyword.Var c.next_token.new.feed (type ∷ digits ∷ []) (check_new text es ds type digits tok c.args.size c.args.event h s e good none) refl l in
-    record { reads = read; found_is = λ reference. found_new text es ds type digits tok c.args.size c.args.event h s e c.in_ok-from_slice.field-0 reference none (c.in_ok-from_slice.ensures.items ∙ c.token-token.ensures) }
+    record { reads = read; found_is = λ reference. found_new text es ds type digits tok c.args.size c.args.event h s e c.extend_from_slice.new.self.items reference none (c.in_ok-extend_from_slice.ensures.items ∙ ap (λ l. l ++ c.token-token.result.now) c.clear.ensures.items ∙ c.token-token.ensures) }
 
 pub returns-then-coded-size-clause-reads : goal.returns-then-coded-size-clause-reads
 returns-then-coded-size-clause-reads g c = λ most i placed type digits text h s e r.
@@ -55,7 +55,7 @@ returns-then-coded-size-clause-reads g c = λ most i placed type digits text h s
     let es = c.args.known.now in
     let good : list_all is_code_byte tok ≡ true = sym (c.is_code.ensures ∙ ap (list_all is_code_byte) c.token-token.ensures) ∙ c.if-not-is_code.false in
     let l = c.in_ok-next_token.ensures.reads most i placed (keyword_text Keyword.Var ∷ type ∷ digits ∷ []) r in
-    let some : IsKnown (codes_of ds) tok (Some c.in-Some.coded) = subst (IsKnown (codes_of ds) tok) c.in-Some.is (subst (λ t. IsKnown (codes_of ds) t c.find.result) c.token-token.ensures (c.find.ensures text (codes_of ds) h.stand h.numbered)) in
+    let some : IsKnown (codes_of ds) tok (Some c.in-Some.coded) = subst (IsKnown (codes_of ds) tok) c.in-Some.is (subst (λ t. IsKnown (codes_of ds) t c.find.result) c.token-token.ensures (c.find.ensures text (codes_of ds) h.held h.finds)) in
     refused_inside most i placed Keyword.Var c.next_token.new.feed (type ∷ digits ∷ []) 8 (check_size text es ds type digits tok c.args.size c.args.event h s e c.in-Some.coded good some c.if-coded-size.true) l
 
 pub returns-then-coded-event-clause-reads : goal.returns-then-coded-event-clause-reads
@@ -65,7 +65,7 @@ returns-then-coded-event-clause-reads g c = λ most i placed type digits text h 
     let es = c.args.known.now in
     let good : list_all is_code_byte tok ≡ true = sym (c.is_code.ensures ∙ ap (list_all is_code_byte) c.token-token.ensures) ∙ c.if-not-is_code.false in
     let l = c.in_ok-next_token.ensures.reads most i placed (keyword_text Keyword.Var ∷ type ∷ digits ∷ []) r in
-    let some : IsKnown (codes_of ds) tok (Some c.in-Some.coded) = subst (IsKnown (codes_of ds) tok) c.in-Some.is (subst (λ t. IsKnown (codes_of ds) t c.find.result) c.token-token.ensures (c.find.ensures text (codes_of ds) h.stand h.numbered)) in
+    let some : IsKnown (codes_of ds) tok (Some c.in-Some.coded) = subst (IsKnown (codes_of ds) tok) c.in-Some.is (subst (λ t. IsKnown (codes_of ds) t c.find.result) c.token-token.ensures (c.find.ensures text (codes_of ds) h.held h.finds)) in
     refused_inside most i placed Keyword.Var c.next_token.new.feed (type ∷ digits ∷ []) 8 (check_event text es ds type digits tok c.args.size c.args.event h s e c.in-Some.coded good some c.if-coded-size.false (flags_differ c.in-Some.coded.code.event c.args.event c.if-coded-event.true)) l
 
 pub returns-clause-reads : goal.returns-clause-reads
@@ -75,6 +75,6 @@ returns-clause-reads g c = λ most i placed type digits text h s e r.
     let es = c.args.known.now in
     let good : list_all is_code_byte tok ≡ true = sym (c.is_code.ensures ∙ ap (list_all is_code_byte) c.token-token.ensures) ∙ c.if-not-is_code.false in
     let l = c.in_ok-next_token.ensures.reads most i placed (keyword_text Keyword.Var ∷ type ∷ digits ∷ []) r in
-    let some : IsKnown (codes_of ds) tok (Some c.in-Some.coded) = subst (IsKnown (codes_of ds) tok) c.in-Some.is (subst (λ t. IsKnown (codes_of ds) t c.find.result) c.token-token.ensures (c.find.ensures text (codes_of ds) h.stand h.numbered)) in
+    let some : IsKnown (codes_of ds) tok (Some c.in-Some.coded) = subst (IsKnown (codes_of ds) tok) c.in-Some.is (subst (λ t. IsKnown (codes_of ds) t c.find.result) c.token-token.ensures (c.find.ensures text (codes_of ds) h.held h.finds)) in
     let read = inside most i placed Keyword.Var c.next_token.new.feed (type ∷ digits ∷ []) (check_same text es ds type digits tok c.args.size c.args.event h s e c.in-Some.coded good some c.if-coded-size.false (flags_same c.in-Some.coded.code.event c.args.event c.if-coded-event.false)) refl l in
-    record { reads = read; found_is = λ reference. found_same text es ds type digits tok c.args.size c.args.event h s e c.in-Some.coded reference some c.if-coded-size.false (flags_same c.in-Some.coded.code.event c.args.event c.if-coded-event.false) }
+    record { reads = read; found_is = λ reference. found_same text es ds type digits tok c.args.size c.args.event h s e c.args.held.now.items c.in-Some.coded reference some c.if-coded-size.false (flags_same c.in-Some.coded.code.event c.args.event c.if-coded-event.false) }

@@ -1,39 +1,29 @@
-use Rattle.std.proofs.Common.{◌≡◌, List, ℕ, Option, Some, None, slice_get, sym, subst, rules}
-use Rattle.std.proofs.lemmas.Option.{slice_get-get_or}
-use Rattle.std.specs.Cmp.Lexicographic.{slice_cmp}
-use Rattle.std.specs.Global.{Vec}
-use Rattle.std.specs.Map.{lookup}
-use Rattle.std.specs.Ordering.{nat_cmp, is_eq}
-use Rattle.vcd_head.specs.Codes.{IsKnown}
-use Rattle.vcd_head.proofs.LookUpLemmas.{blank}
-use Rattle.vcd_head.proofs.CodesLemmas.{none_found, some_found, found_within}
+use Rattle.std.proofs.Common.{◌≡◌, Some, None, slice_get, subst, arith, rules}
+use Rattle.std.proofs.lemmas.Grind.{get_or_default_zero}
+use Rattle.vcd_head.specs.Codes.{place_in}
+use Rattle.vcd_head.specs.Finds.{Finds}
+use Rattle.vcd_head.specs.Keys.{AreBytes}
+use Rattle.vcd_head.proofs.CodesLemmas.{known, listed}
+use Rattle.vcd_head.proofs.KeyLemmas.{are_bytes}
 use Rattle.vcd_head.proofs.codes.Codes.find.Goals as goal
 
--- what the tree has for these bytes
-looked_up : List ℕ → List (Vec ℕ × ℕ) → Option ℕ
-looked_up bytes es = lookup (λ (k : Vec ℕ). is_eq (slice_cmp nat_cmp bytes k.items)) es
-
-pub returns-in_err-place : goal.returns-in_err-place
-unfolding looked_up
-returns-in_err-place c = λ text cs a h.
-    let none : looked_up c.args.bytes.now c.args.self.now.places.entries ≡ None = search rules in
-    subst (IsKnown cs c.args.bytes.now) (sym c.from_residual.ensures) (none_found c.args.self.now.places.entries cs c.args.bytes.now h none)
-
 pub returns-in_err-code : goal.returns-in_err-code
-unfolding looked_up
-returns-in_err-code c = λ text cs a h.
+returns-in_err-code c = λ text cs h f.
     let list = c.args.self.now.list.items in
-    let place = c.in_ok-place.field-0.now in
-    let some : looked_up c.args.bytes.now c.args.self.now.places.entries ≡ Some place = search rules in
+    let bytes = c.args.bytes.now in
+    let place = c.in_ok-place.place in
+    let own : AreBytes bytes = are_bytes bytes (λ i d l. rw (get_or_default_zero bytes i d l) (let fit = c.type_inv.bytes i in omega (arith, fit))) in
+    let told : place_in c.args.self.now.table bytes ≡ Some place = search rules in
     let none : slice_get list place ≡ None = search rules in
-    let there = slice_get-get_or list place blank (found_within text list c.args.self.now.places.entries cs c.args.bytes.now place a h some) in
-    cc
+    let k = subst (Finds cs bytes) told (f bytes own) in
+    absurd (listed text list cs place k.0 h.stand k.1 none)
 
 pub returns : goal.returns
-unfolding looked_up
-returns c = λ text cs a h.
+returns c = λ text cs h f.
     let list = c.args.self.now.list.items in
-    let place = c.in_ok-place.field-0.now in
-    let some : looked_up c.args.bytes.now c.args.self.now.places.entries ≡ Some place = search rules in
+    let bytes = c.args.bytes.now in
+    let place = c.in_ok-place.place in
+    let own : AreBytes bytes = are_bytes bytes (λ i d l. rw (get_or_default_zero bytes i d l) (let fit = c.type_inv.bytes i in omega (arith, fit))) in
+    let told : place_in c.args.self.now.table bytes ≡ Some place = search rules in
     let at : slice_get list place ≡ Some c.in_ok-code.code = search rules in
-    some_found text list c.args.self.now.places.entries cs c.args.bytes.now place c.in_ok-code.code a h some at
+    known text list cs bytes place c.in_ok-code.code h (subst (Finds cs bytes) told (f bytes own)) at

@@ -5,5 +5,5 @@ use Rattle.vcd_head.proofs.draft.Draft.place_of.Goals as goal
 
 pub returns-in-Declared-clause-codes : goal.returns-in-Declared-clause-codes
 returns-in-Declared-clause-codes c = λ ds v h found size same event.
-    let f = subst (IsFound ds v) c.in-Declared.is found in
+    let f = subst (IsFound ds v c.args.self.now.held.items) c.in-Declared.is found in
     held_alias c.args.self.now ds v c.in-Declared.place h f.0 f.1

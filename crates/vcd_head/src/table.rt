@@ -1,0 +1,131 @@
+// The table that finds codes by their bytes while a header is read.
+ghost use Rattle.std.specs.Prelude.{◌≡◌, ℕ, List, true, slice_get, Some, None, IfOk};
+ghost use Rattle.vcd_model.specs.Declarations.{IdCode};
+ghost use Rattle.vcd_head.specs.Codes.{AreHeld, FindsAll, IsEntered, entered, in_tree, place_in};
+ghost use Rattle.vcd_head.specs.declared.view.Entry.{Entry};
+
+use crate::entries::{EMPTY, entry_at, entry_of, put};
+use crate::key::key_of;
+use crate::view::{Code, Entry, text_in};
+use std::alloc::{AllocError, Global};
+use std::collections::BTreeMap;
+
+// The places of codes by their bytes.
+//
+// Each code that can has an entry of its own, so that a look at one entry finds it. A tree has the others: those whose entry was
+// taken, and those that are too long for a key. So no choice of codes makes a look-up slower than a tree is.
+#[derive(Drop)]
+pub(crate) struct Table {
+    pub(crate) entries: Vec<Entry>,
+    pub(crate) others: BTreeMap<Vec<u8>, usize>,
+}
+
+impl Table {
+    /// A table of no code, with no entries.
+    pub(crate) fn new(alloc: Global) -> Self
+        ensures { (t : List ℕ) → place_in result t ≡ None }
+    {
+        Table {
+            entries: Vec::new(alloc),
+            others: BTreeMap::new(alloc),
+        }
+    }
+
+    /// A table of no code, with so many entries.
+    fn with_entries(alloc: Global, entries: usize) -> Result<Self, AllocError>
+        ensures { IfOk result (λ table. (t : List ℕ) → place_in table t ≡ None) }
+    {
+        Ok(Table {
+            entries: vec![in alloc; EMPTY; entries]?,
+            others: BTreeMap::new(alloc),
+        })
+    }
+
+    /// The place of the code with these bytes.
+    #[inline(always)]
+    pub(crate) fn place_of(&self, bytes: &[u8]) -> Option<usize>
+        ensures { result ≡ place_in self.now bytes.now }
+    {
+        match entered(&self.entries, bytes) {
+            Some(place) => Some(place),
+            None => self.other_place(bytes),
+        }
+    }
+
+    // The place of a code that has no entry.
+    fn other_place(&self, bytes: &[u8]) -> Option<usize>
+        ensures { result ≡ in_tree self.now.others.entries bytes.now }
+    {
+        if self.others.is_empty() {
+            return None;
+        }
+        self.others.get(bytes).copied()
+    }
+
+    /// Whether more entries are worth their memory for so many codes: there are fewer than two for each, and most codes have one.
+    pub(crate) fn is_narrow(&self, codes: usize) -> bool {
+        self.entries.len() / 2 <= codes && self.others.len() <= codes / 2
+    }
+
+    /// Enters a code that is new, with these bytes and this place.
+    pub(crate) fn enter(
+        &mut self,
+        alloc: Global,
+        bytes: &[u8],
+        place: usize,
+        code: Code,
+    ) -> Result<(), AllocError>
+        ensures { place_in self.old bytes.now ≡ None
+            → IfOk result (λ _. IsEntered self.old self.new bytes.now place) }
+    {
+        let entry = entry_at(place, code, bytes);
+        let at = entry_of(bytes, self.entries.len());
+        if entry.key != 0 && is_free(&self.entries, at) {
+            put(&mut self.entries, at, entry);
+            return Ok(());
+        }
+        self.others.insert(Vec::from_slice(alloc, bytes)?, place)?;
+        Ok(())
+    }
+}
+
+// The place that the entry of these bytes gives, if it is theirs.
+#[inline(always)]
+fn entered(entries: &[Entry], bytes: &[u8]) -> Option<usize>
+    ensures { result ≡ entered entries.now bytes.now }
+{
+    let key = key_of(bytes);
+    let entry = entries.get(entry_of(bytes, entries.len()))?;
+    if key != 0 && entry.key == key {
+        Some(entry.place as usize)
+    } else {
+        None
+    }
+}
+
+// Whether there is such an entry, and it is that of no code.
+fn is_free(entries: &[Entry], at: usize) -> bool
+    ensures { result ≡ true → (e : Entry) × (slice_get entries.now at ≡ Some e) × (e.key ≡ 0) }
+{
+    match entries.get(at) {
+        Some(entry) => entry.key == 0,
+        None => false,
+    }
+}
+
+/// A table of these codes with so many entries, a power of two of them.
+pub(crate) fn table_of(
+    alloc: Global,
+    text: &[u8],
+    codes: &[Code],
+    entries: usize,
+) -> Result<Table, AllocError>
+    ensures { (cs : List IdCode) → AreHeld text.now codes.now cs → IfOk result (FindsAll cs) }
+{
+    let mut table = Table::with_entries(alloc, entries)?;
+    for (place, code) in codes.iter().enumerate() {
+        let bytes = text_in(text, code.start, code.len);
+        table.enter(alloc, bytes, place, *code)?;
+    }
+    Ok(table)
+}
