@@ -1,34 +1,29 @@
 -- Items that a machine takes ahead in a feed's chunk, one after the other.
-use Rattle.std.proofs.Common.{◌≡◌, ℕ, ◌+◌, ◌^◌, ◌<◌, ◌≤◌, Bool, true, false, List, [], ◌∷◌, ◌++◌, length, Result, Ok, Err, inl, refl, sym, ap, subst, ◌∙◌, append-nil, append_assoc, arith}
+use Rattle.std.proofs.Common.{◌≡◌, ℕ, ◌+◌, ◌^◌, ◌<◌, ◌≤◌, false, List, [], ◌∷◌, ◌++◌, length, sym, ap, subst, ◌∙◌, append-nil, append_assoc, arith}
 use Rattle.std.specs.List.{list_any}
 use Rattle.std.proofs.lemmas.List.{length-append}
-use Rattle.vcd_model.specs.BodyReading.{body_grammar}
 use Rattle.vcd_model.specs.Declarations.{IdCode}
 use Rattle.vcd_model.specs.Header.{Header}
 use Rattle.vcd_model.specs.Input.{Input}
 use Rattle.vcd_model.specs.Items.{BodyItem}
 use Rattle.vcd_model.specs.ItemText.{last_mark}
 use Rattle.vcd_model.specs.Outcome.{Request, ends_early, open_text}
-use Rattle.vcd_model.specs.SoFar.{IsSoFar}
 use Rattle.vcd_model.specs.Tokens.{Token}
 use Rattle.vcd_text.specs.Device.{Device}
 use Rattle.vcd_text.specs.Feed.{seen}
 use Rattle.vcd_text.specs.declared.device.Source.{Ghosts}
 use Rattle.vcd_text.specs.declared.feed.Feed.{Feed}
-use Rattle.vcd_text.proofs.Writes.{both-written}
-use Rattle.vcd_body.specs.Ahead.{GaveAhead, GaveLast}
+use Rattle.vcd_text.proofs.Writes.{both-written, some-behind}
+use Rattle.vcd_body.proofs.CallerLemmas.{gave_none_ahead}
+use Rattle.vcd_body.specs.Ahead.{GaveAhead}
 use Rattle.vcd_body.specs.Given.{IsItem}
 use Rattle.vcd_body.specs.Items.{AreRegsAfter, regs_after}
 use Rattle.vcd_body.specs.Reads.{GaveItems}
 use Rattle.vcd_body.specs.declared.item.Item.{Item}
 use Rattle.vcd_body.specs.declared.item.Regs.{Regs}
-use Rattle.vcd_tools.specs.Ahead.{EndsAhead, GaveOneAhead, RunsAhead, StandsAhead}
-use Rattle.vcd_tools.specs.Device.{Grows}
-use Rattle.vcd_tools.specs.Engine.{CanRun, Keeps, Runs, TakesOne, last_of, request_of_engine}
-use Rattle.vcd_tools.specs.Step.{LastGives, TakesAhead}
-use Rattle.vcd_tools.specs.declared.answer.Done.TheVariants.{Early}
-use Rattle.vcd_tools.specs.declared.answer.More.TheVariants.{Again, Ended}
-use Rattle.vcd_tools.specs.declared.answer.Stop.TheVariants.{Write}
+use Rattle.vcd_tools.specs.Ahead.{StandsAhead}
+use Rattle.vcd_tools.specs.Device.{Grows, GrowsSome}
+use Rattle.vcd_tools.specs.Engine.{CanRun, Keeps, Runs, last_of, request_of_engine}
 use Rattle.vcd_tools.specs.declared.engine.Engine.{Engine}
 use Rattle.vcd_tools.specs.declared.machine.Machine.{Machine}
 use Rattle.vcd_tools.proofs.EngineLemmas.{last_more, none_at, writes-none}
@@ -40,6 +35,10 @@ grows-none out text = ([], sym (append-nil text), writes-none out)
 -- what is due grows with each item
 pub grows_on : (out mid new : Device) (a b c : List ℕ) → Grows out mid a b → Grows mid new b c → Grows out new a c
 grows_on out mid new a b c first then = (first.0 ++ then.0, then.1 ∙ ap (λ l. l ++ then.0) first.1 ∙ append_assoc a first.0 then.0, both-written out mid new first.0 then.0 first.2 then.2)
+
+-- or of the last a prefix
+pub some_on : (out mid new : Device) (a b c : List ℕ) → Grows out mid a b → GrowsSome mid new b c → GrowsSome out new a c
+some_on out mid new a b c first then = (first.0 ++ then.0, then.1 ∙ ap (λ l. l ++ then.0) first.1 ∙ append_assoc a first.0 then.0, some-behind out mid new first.0 then.0 first.2 then.2)
 
 module _ (t : Request) (h : Header) (limit lines : ℕ) (bytes : List ℕ) (before : List BodyItem) where
   module _ (n : ℕ) (items : List BodyItem) (m : Machine) (r : Regs) (s : StandsAhead t h limit lines bytes before n items m r) where
@@ -72,7 +71,7 @@ pub stands_first : {X : Type 0} {g : Ghosts X} (e : Engine) (h : Header) (i : In
 stands_first e h i front items f limit lines bytes s =
     let nil = sym (append-nil items) in
     record {
-      gave = record { tokens = []; passed = refl; placed = []; item_each = refl; so_far = λ given earlier are so_far. subst (λ ts. IsSoFar (body_grammar h.codes) ts (earlier ++ []) []) (sym (append-nil given)) (subst (λ ps. IsSoFar (body_grammar h.codes) given ps []) (sym (append-nil earlier)) so_far); few = omega arith };
+      gave = gave_none_ahead h.codes limit lines bytes items;
       known = subst (λ l. AreRegsAfter l e.regs) nil s.holds.known;
       last = subst (λ l. last_of e.regs ≡ last_mark l) nil s.holds.last;
       keeps = subst (Keeps e.machine h) nil s.holds.keeps;

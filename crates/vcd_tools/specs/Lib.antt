@@ -13,6 +13,7 @@ pub mod Cut
 pub mod Sample
 pub mod Edges
 pub mod Engine
+pub mod Several
 pub mod Ahead
 pub mod Step
 pub mod Seat

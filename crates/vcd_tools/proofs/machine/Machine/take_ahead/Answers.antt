@@ -1,10 +1,9 @@
-use Rattle.std.proofs.Common.{rules, ◌≡◌, ◌≤◌, ◌++◌, ◌∷◌, [], List, Bool, Ok, Err, length, refl, sym, ap, subst, ◌∙◌, append-nil, append_assoc}
-use Rattle.vcd_model.specs.Outcome.{Request, ends_early}
+use Rattle.std.proofs.Common.{◌≤◌, ◌++◌, ◌∷◌, [], Ok, Err, length, refl, sym, ap, subst, ◌∙◌, append-nil, append_assoc}
+use Rattle.vcd_model.specs.Outcome.{Request}
 use Rattle.vcd_text.specs.Ahead.{bytes_of, longest_of, passed_of}
-use Rattle.vcd_text.specs.Passed.{Passed}
 use Rattle.vcd_text.specs.declared.device.WriteFailed.{WriteFailed}
 use Rattle.vcd_tools.specs.Engine.{Keeps, TakesOne, request_in}
-use Rattle.vcd_tools.proofs.AheadLemmas.{due_on, few_ahead, grows-none, stands_on}
+use Rattle.vcd_tools.proofs.AheadLemmas.{due_on, few_ahead, grows-none, grows_on, some_on, stands_on}
 use Rattle.vcd_tools.proofs.machine.Machine.take_ahead.Goals as goal
 
 pub items-init : goal.items-init
@@ -14,7 +13,7 @@ pub returns-in_default-clause-gives : goal.returns-in_default-clause-gives
 returns-in_default-clause-gives g c = λ h lines before v few s.
     let all = c.items.invariant.7 h lines before v few s in
     let u = c.until.ensures in
-    rw (u.passed, u.regs, u.ended) (record { items = all.0; mid = g.W.Sink.device c.items.out; on = all.1.on; grows = all.2; ends = (rw (c.in_default.ensures.stays refl, c.in_default.ensures.regs) all.1, refl) })
+    rw (u.passed, u.regs, u.ended) (record { more = all.0; on = all.1.on; last = (rw (c.in_default.ensures.stays refl, c.in_default.ensures.regs) all.1, all.2) })
 
 pub returns-in-Err-clause-gives : goal.returns-in-Err-clause-gives
 returns-in-Err-clause-gives g c = λ h lines before v few s.
@@ -26,7 +25,7 @@ returns-in-Err-clause-gives g c = λ h lines before v few s.
     let t = c.in-Err.ensures.takes h (before ++ all.0) c.items.regs one.0 v all.1.known c.in-Some.ensures.regs one.1 (few_ahead t' h _ lines _ before _ all.0 c.items.self c.items.regs all.1 within few) all.1.keeps in
     let due = (subst (λ (q : Request). TakesOne {E = WriteFailed} (Keeps c.take.new.self h ((before ++ all.0) ++ one.0 ∷ [])) q h (before ++ all.0) one.0 (g.W.Sink.device c.items.out) (g.W.Sink.device c.take.new.out) (Err c.in-Err.failed)) inv.4 t).due in
     let u = c.until-in-Err.ensures in
-    rw (u.passed, u.regs, u.ended) (record { items = all.0; mid = g.W.Sink.device c.items.out; on = all.1.on; grows = all.2; ends = (one.0, record { gave = one.2; known = one.3 }, (due.0, due.1, (due.2, c.in-Err.ensures.counts))) })
+    rw (u.passed, u.regs, u.ended) (record { more = all.0; on = all.1.on; last = (one.0, record { gave = one.2; known = one.3 }, some_on _ _ _ _ _ _ all.2 (due.0, due.1, (due.2, c.in-Err.ensures.counts))) })
 
 pub returns-in-Ok-true-clause-gives : goal.returns-in-Ok-true-clause-gives
 returns-in-Ok-true-clause-gives g c = λ h lines before v few s.
@@ -39,7 +38,7 @@ returns-in-Ok-true-clause-gives g c = λ h lines before v few s.
     let taken = subst (λ (q : Request). TakesOne {E = WriteFailed} (Keeps c.take.new.self h ((before ++ all.0) ++ one.0 ∷ [])) q h (before ++ all.0) one.0 (g.W.Sink.device c.items.out) (g.W.Sink.device c.take.new.out) (Ok c.in-Ok-true.field-0)) inv.4 t in
     let due = taken.due in
     let u = c.until-in-Ok-true.ensures in
-    rw (u.passed, u.regs, u.ended) (record { items = all.0; mid = g.W.Sink.device c.items.out; on = all.1.on; grows = all.2; ends = (one.0, sym taken.ends ∙ c.in-Ok-true.field-0-test, record { gave = one.2; known = one.3 }, (due.0, due.1, (due.2, c.in-Ok-true.ensures.counts))) })
+    rw (u.passed, u.regs, u.ended) (record { more = all.0; on = all.1.on; last = (one.0, sym taken.ends ∙ c.in-Ok-true.field-0-test, record { gave = one.2; known = one.3 }, grows_on _ _ _ _ _ _ all.2 (due.0, due.1, (due.2, c.in-Ok-true.ensures.counts))) })
 
 pub items-preserved : goal.items-preserved
 items-preserved g c =
