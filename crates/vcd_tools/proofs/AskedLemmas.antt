@@ -45,7 +45,7 @@ front_is (a ∷ xs) (b ∷ ys) x y e =
     let t = tail_is a b (xs ++ x ∷ []) (ys ++ y ∷ []) e in
     ap (λ c. c ∷ xs) t.0 ∙ ap (λ l. b ∷ l) (front_is xs ys x y t.1)
 
-split_last : {A : Type 0} (xs : List A) → (xs ≡ []) ⊎ ((front : List A) × (last : A) × (xs ≡ front ++ last ∷ []))
+pub split_last : {A : Type 0} (xs : List A) → (xs ≡ []) ⊎ ((front : List A) × (last : A) × (xs ≡ front ++ last ∷ []))
 split_last [] = inl refl
 split_last (x ∷ xs) = by_rest (split_last xs)
   where

@@ -60,6 +60,7 @@ mod merge_steps;
 #[cfg(test)]
 mod merge_tests;
 mod merging;
+mod pieces;
 mod report;
 mod rows;
 mod sample_lines;
