@@ -1,5 +1,5 @@
 -- What callers use: nothing was given yet, and what was given stands first in the body.
-use Rattle.std.proofs.Common.{◌≡◌, ℕ, ◌+◌, ◌^◌, ◌<◌, ◌≤◌, List, [], ◌∷◌, ◌++◌, length, Option, Some, None, refl, sym, ap, subst, ◌∙◌, append-nil, arith}
+use Rattle.std.proofs.Common.{◌≡◌, ℕ, List, [], ◌∷◌, ◌++◌, Option, Some, None, refl, sym, ap, subst, ◌∙◌, append-nil, arith}
 use Rattle.std.proofs.lemmas.List.{append_assoc, map-append}
 use Rattle.std.proofs.lemmas.List.Elements.{filter_map-append}
 use Rattle.vcd_model.specs.Input.{Input}
@@ -13,9 +13,7 @@ use Rattle.vcd_model.specs.BodyChecks.{body_fault}
 use Rattle.vcd_model.specs.Reading.{Placed, Reading, phrases_of, reading_of}
 use Rattle.vcd_model.specs.SoFar.{IsSoFar}
 use Rattle.vcd_model.proofs.SoFarLemmas.{so_far-nothing, so_far-token, so_far-phrase, faulty-token}
-use Rattle.vcd_text.specs.Feed.{HasGiven, limit_of, seen, token_of}
-use Rattle.vcd_text.specs.Ahead.{ahead_of}
-use Rattle.vcd_text.proofs.PassedLemmas.{ahead_fits}
+use Rattle.vcd_text.specs.Feed.{HasGiven, limit_of, token_of}
 use Rattle.vcd_text.specs.declared.device.Source.{Ghosts}
 use Rattle.vcd_text.specs.declared.feed.Feed.{Feed}
 use Rattle.vcd_body.specs.declared.item.Regs.{Regs}
@@ -90,10 +88,6 @@ gave_none_ahead codes limit lines bytes before = record {
       subst (λ (l : List (Placed BodyPhrase)). IsSoFar (body_grammar codes) (given ++ []) l []) (sym (append-nil earlier)) (subst (λ (l : List Token). IsSoFar (body_grammar codes) l earlier []) (sym (append-nil given)) s);
   few = omega arith;
 }
-
--- bytes ahead were not looked at yet, and all that are make fewer than 2^63
-pub ahead_counted : {X : Type 0} {g : Ghosts X} (f : Feed X g) (n : ℕ) → n ≤ length (ahead_of f) → seen f + n < 2 ^ 63
-ahead_counted f n le = omega (arith, f.fits.counted, ahead_fits f.parked.phase f.chunk.now f.parked (limit_of f) n f.fits le)
 
 -- an item that was given is the last one
 pub last_given : {X : Type 0} {g : Ghosts X} (codes : List IdCode) (i : Input) (front : List Token) (items : List BodyItem) (x : BodyItem) (f : Feed X g) (r : Regs) → GaveItem codes i front items x f r → GaveLast codes i front items x f r

@@ -20,3 +20,4 @@ pub mod SetLemmas
 pub mod CompareLemmas
 pub mod StepLemmas
 pub mod AheadLemmas
+pub mod LineLemmas

@@ -1,6 +1,7 @@
 -- What the tests of words say.
 use Rattle.std.proofs.Common.{◌≡◌, Some, ◌⊎◌, take, drop, slice_range, ◌&&◌, inl, inr, ◌+◌, ◌-◌, ◌*◌, ◌<◌, ◌≤◌, ◌∙◌, get_or, ℕ, suc, ◌%◌, ◌^◌, map, Bool, true, false, cond, not, ◌||◌, ◌==◌, List, [], ◌∷◌, length, Fits, w8, refl, sym, ap, ap₂, subst, arith}
 use Rattle.std.specs.Prelude.{slice_index, min, bit_and}
+use Rattle.std.specs.Char.{to_ascii_lowercase}
 use Rattle.std.specs.Int.{bit_at}
 use Rattle.std.specs.List.{list_all}
 use Rattle.std.proofs.lemmas.Bool.{eqb-true, cases_lt, agree_below, agree_below_at}
@@ -90,31 +91,49 @@ no_bit : (b : Bool) → cond {A = ℕ} b 1 0 ≡ 0 → b ≡ false
 no_bit true e = absurd (omega arith)
 no_bit false e = refl
 
+or_second : (a b : Bool) → a ≡ false → (a || b) ≡ true → b ≡ true
+or_second true b e h = cc
+or_second false b e h = h
+
 -- whatever differs not is a digit
 two_alone : (d : ℕ) → d < 256 → differs d ≡ false → is_value_digit d ≡ true
 unfolding is_value_digit
 two_alone d fit e = or_second (differs d) (is_value_digit d) e (agree_below_at (λ x. differs x || is_value_digit x) (λ _. true) 256 d refl fit)
-  where
-    or_second : (a b : Bool) → a ≡ false → (a || b) ≡ true → b ≡ true
-    or_second true b e h = cc
-    or_second false b e h = h
 
-tops : (f : ℕ → ℕ) (v : List ℕ) → agree_below (λ x. top 7 (f x)) differs 256 ≡ true → Each1 (Fits w8) v → map (top 7) (map f v) ≡ map differs v
-tops f [] all fits = refl
-tops f (x ∷ v) all fits = ap₂ (λ a b. a ∷ b) (agree_below_at (λ y. top 7 (f y)) differs 256 x all fits.0.fits) (tops f v all fits.1)
+tops : (p : ℕ → Bool) (f : ℕ → ℕ) (v : List ℕ) → agree_below (λ x. top 7 (f x)) p 256 ≡ true → Each1 (Fits w8) v → map (top 7) (map f v) ≡ map p v
+tops p f [] all fits = refl
+tops p f (x ∷ v) all fits = ap₂ (λ a b. a ∷ b) (agree_below_at (λ y. top 7 (f y)) p 256 x all fits.0.fits) (tops p f v all fits.1)
 
--- lanes that were computed from a load by f, whose top bits tell them
+-- lanes that were computed from a load by f, whose top bits tell which bytes pass a test: of a bit that is not set, the byte does not
+mask_tells : (p : ℕ → Bool) (xs : List ℕ) (i n : ℕ) (f : ℕ → ℕ) (z : List ℕ) → i + n ≤ length xs → n ≤ 64 → Each1 (Fits w8) (chunk i n xs) → z ≡ map f (chunk i n xs) → agree_below (λ x. top 7 (f x)) p 256 ≡ true
+    → (k : ℕ) → k < n → bit_at (mask_l (map (top 7) z) % 2 ^ 64) k ≡ 0 → (slice_index xs (i + k) < 256) × (p (slice_index xs (i + k)) ≡ false)
+mask_tells p xs i n f z room few fits e all k less none =
+    let v = chunk i n xs in
+    let ms = map p v in
+    let long : length v ≡ n = length-chunk i n xs room in
+    let mask : mask_l (map (top 7) z) % 2 ^ 64 ≡ mask_l ms = ap (λ l. mask_l l % 2 ^ 64) (ap (map (top 7)) e ∙ tops p f v all fits) ∙ mask_l-mod ms 64 (omega (arith, length-map v p)) in
+    let bit : bit_at (mask_l (map (top 7) z) % 2 ^ 64) k ≡ cond (get_or ms k false) 1 0 = ap (λ m. bit_at m k) mask ∙ bit_mask_l ms k in
+    let at : get_or ms k false ≡ p (get_or xs (i + k) 0) = get_or-map p v k 0 false (omega arith) ∙ ap p (get_or-chunk i n xs k 0 less) in
+    let fit : get_or v k 0 < 256 = (Each1-get_or (Fits w8) v k 0 (omega arith) fits).fits in
+    (omega (arith, fit, get_or-chunk i n xs k 0 less), sym at ∙ no_bit _ (sym bit ∙ none))
+
 pub others_tell : (xs : List ℕ) (i n : ℕ) (f : ℕ → ℕ) (z : List ℕ) → i + n ≤ length xs → n ≤ 64 → Each1 (Fits w8) (chunk i n xs) → z ≡ map f (chunk i n xs) → agree_below (λ x. top 7 (f x)) differs 256 ≡ true
     → (k : ℕ) → k < n → bit_at (mask_l (map (top 7) z) % 2 ^ 64) k ≡ 0 → is_value_digit (slice_index xs (i + k)) ≡ true
-others_tell xs i n f z room few fits e all k less none =
-    let v = chunk i n xs in
-    let ms = map differs v in
-    let long : length v ≡ n = length-chunk i n xs room in
-    let mask : mask_l (map (top 7) z) % 2 ^ 64 ≡ mask_l ms = ap (λ l. mask_l l % 2 ^ 64) (ap (map (top 7)) e ∙ tops f v all fits) ∙ mask_l-mod ms 64 (omega (arith, length-map v differs)) in
-    let bit : bit_at (mask_l (map (top 7) z) % 2 ^ 64) k ≡ cond (get_or ms k false) 1 0 = ap (λ m. bit_at m k) mask ∙ bit_mask_l ms k in
-    let at : get_or ms k false ≡ differs (get_or xs (i + k) 0) = get_or-map differs v k 0 false (omega arith) ∙ ap differs (get_or-chunk i n xs k 0 less) in
-    let fit : get_or v k 0 < 256 = (Each1-get_or (Fits w8) v k 0 (omega arith) fits).fits in
-    two_alone (get_or xs (i + k) 0) (omega (arith, fit, get_or-chunk i n xs k 0 less)) (sym at ∙ no_bit _ (sym bit ∙ none))
+others_tell xs i n f z room few fits e all k less none = let t = mask_tells differs xs i n f z room few fits e all k less none in two_alone (slice_index xs (i + k)) t.0 t.1
+
+-- ---- a mask of the bytes that may be capital letters
+
+-- bit 5 is clear
+abbrev pub is_low : ℕ → Bool
+is_low x = bit_and x 32 == 0
+
+-- whatever has it set is no capital letter
+pub lower_alone : (b : ℕ) → b < 256 → is_low b ≡ false → to_ascii_lowercase b ≡ b
+lower_alone b fit e = eqb-true (to_ascii_lowercase b) b (or_second (is_low b) (to_ascii_lowercase b == b) e (agree_below_at (λ x. is_low x || (to_ascii_lowercase x == x)) (λ _. true) 256 b refl fit))
+
+pub capitals_tell : (xs : List ℕ) (i n : ℕ) (f : ℕ → ℕ) (z : List ℕ) → i + n ≤ length xs → n ≤ 64 → Each1 (Fits w8) (chunk i n xs) → z ≡ map f (chunk i n xs) → agree_below (λ x. top 7 (f x)) is_low 256 ≡ true
+    → (k : ℕ) → k < n → bit_at (mask_l (map (top 7) z) % 2 ^ 64) k ≡ 0 → to_ascii_lowercase (slice_index xs (i + k)) ≡ slice_index xs (i + k)
+capitals_tell xs i n f z room few fits e all k less none = let t = mask_tells is_low xs i n f z room few fits e all k less none in lower_alone (slice_index xs (i + k)) t.0 t.1
 
 -- a mask with no bit set below n
 pub low_clear : (mask n k : ℕ) → n ≤ 32 → bit_and mask (1 * 2 ^ n % 2 ^ 64 - 1) ≡ 0 → k < n → bit_at mask k ≡ 0
@@ -135,7 +154,7 @@ behind p xs i n h k low high =
 -- ---- digits that stand in some bytes
 
 -- a byte of them
-byte_there : (xs bytes : List ℕ) (at n k : ℕ) → k < n → xs ≡ slice_range bytes at (at + n) → slice_index xs k ≡ slice_index bytes (at + k)
+pub byte_there : (xs bytes : List ℕ) (at n k : ℕ) → k < n → xs ≡ slice_range bytes at (at + n) → slice_index xs k ≡ slice_index bytes (at + k)
 byte_there xs bytes at n k less place =
     let long : at + n - at ≡ n = omega arith in
     ap (λ (l : List ℕ). get_or l k 0) (place ∙ ap (λ m. take m (drop at bytes)) long) ∙ get_or-take n (drop at bytes) k 0 less ∙ get_or-drop at bytes k 0

@@ -9,3 +9,4 @@ pub mod Packed
 pub mod Kept
 pub mod Stored
 pub mod Ahead
+pub mod Spelled

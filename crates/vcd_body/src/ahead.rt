@@ -18,6 +18,7 @@ ghost use Rattle.vcd_body.specs.Words.{Begins};
 ghost use Rattle.vcd_body.specs.Reads.{GaveItems};
 ghost use Rattle.vcd_body.specs.Given.{HasGoodText, IsGoodText, IsItem};
 ghost use Rattle.vcd_body.specs.Ahead.{GaveAhead, GaveLast, IsPlain, LooksOver, PassBoth};
+ghost use Rattle.vcd_body.specs.Spelled.{HasSpelled, Names};
 
 use crate::item::{Form, Item, Regs};
 use crate::phrases::{scalar_code, takes, time_of};
@@ -57,6 +58,7 @@ fn vector_code(
         })))) }
     ensures sound { IfSome result
         (λ place. IsGoodText view.entry.codes.now place form.Vector (drop 1 token.now)) }
+    ensures names { IfSome result (λ place. Names view.entry place code.now) }
 {
     let digits = rest_of(token);
     if !are_digits_at(bytes, at + 1, digits) {
@@ -83,6 +85,7 @@ fn real_code(token: &[u8], code: &[u8], view: HeadView<'_>) -> Option<usize>
         })))) }
     ensures sound { IfSome result
         (λ place. IsGoodText view.entry.codes.now place form.RealText (drop 1 token.now)) }
+    ensures names { IfSome result (λ place. Names view.entry place code.now) }
 {
     let text = rest_of(token);
     if text.is_empty() || text.len() > 64 {
@@ -116,6 +119,10 @@ pub fn item_ahead<'a>(
     ensures sound { IfSome result
         (λ plain. HasGoodText view.entry.codes.now plain.text.now plain.item) }
     ensures plain { IfSome result (λ plain. IsPlain plain.text.now plain.item) }
+
+    // A change is spelled by the bytes that were passed with it.
+    ensures spelled { IfSome result (λ plain. HasSpelled view.entry (bytes_of ahead.old)
+        (passed_of ahead.old) (passed_of ahead.new) plain.text.now plain.item) }
     ensures regs { MatchOption result (regs.new ≡ regs.old)
         (λ plain. regs.new ≡ regs_after regs.old plain.item) }
     ensures stays { result ≡ None → ahead.new ≡ ahead.old }

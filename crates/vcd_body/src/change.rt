@@ -88,7 +88,7 @@ fn shortest(digits: &[u8]) -> &[u8]
 }
 
 // Whether a byte is a capital letter.
-fn has_capital(bytes: &[u8]) -> bool
+pub(crate) fn has_capital(bytes: &[u8]) -> bool
     ensures { result ≡ false → str_to_ascii_lowercase bytes.now ≡ bytes.now }
 {
     let mut found = false;

@@ -18,6 +18,7 @@ ghost use Rattle.vcd_body.specs.Words.{Begins};
 ghost use Rattle.vcd_body.specs.Reads.{Reads, ReadsPhrase, Looks, Fails, Passes, Refuses};
 ghost use Rattle.vcd_body.specs.Reads.{AsksForCode};
 ghost use Rattle.vcd_body.specs.Given.{IsGoodText};
+ghost use Rattle.vcd_body.specs.Spelled.{Names};
 ghost use Rattle.vcd_body.specs.declared.item.Form.TheVariants as form;
 ghost use Rattle.vcd_text.specs.Advances.{Advances};
 ghost use Rattle.vcd_body.specs.Fault.{call_end};
@@ -69,6 +70,7 @@ pub(crate) fn scalar_code(token: &[u8], view: HeadView<'_>) -> Result<usize, Bod
         (Refuses h.codes earlier token.now) }
     ensures sound { IfOk result
         (λ place. IsGoodText view.entry.codes.now place form.Scalar (take 1 token.now)) }
+    ensures names { IfOk result (λ place. Names view.entry place (drop 1 token.now)) }
     ensures own { IfErr result (λ fault. fault ≢ BodyFault.ReadFailed) }
 {
     let code = rest_of(token);

@@ -4,6 +4,7 @@ ghost use Rattle.std.specs.Prelude.{◌+◌, ◌<◌, ◌≤◌, length};
 use crate::ahead::{item_ahead, pass_items};
 use crate::change::put_change;
 use crate::item::{Form, Item, Regs};
+use crate::lines::stands_as_line;
 use crate::read::{change_text, next_item};
 use crate::words::are_digits_at;
 use std::alloc::{AllocError, Global};
@@ -213,6 +214,66 @@ fn plain_items_taken_ahead(rt: HostRuntime) -> Result<(), Fail> {
     assert_eq!(rt;
         taken_ahead(rt.alloc(), body)?.as_str(),
         "#0 0:Scalar:1 1:Vector:101 #5 0:Scalar:Z 1:Vector:x then fault 14 at 11"
+    );
+    Ok(())
+}
+
+// Codes of 1, 4 and 40 bits, and an event.
+const CODES: &[u8] =
+    b"$var wire 1 ! clk $end $var reg 4 \" q $end $var reg 40 & w $end $var event 1 % go $end $enddefinitions $end\n";
+
+// Which of the items that are taken ahead of the body's first stand as their lines (`=`), and which do not (`.`).
+fn standing(alloc: Global, body: &[u8]) -> Result<String, Fail> {
+    let mut text = Vec::new(alloc);
+    text.extend_from_slice(CODES)?;
+    text.extend_from_slice(body)?;
+    text.extend_from_slice(&[b'\n'; 64])?;
+    let mut source = Watch::new(Pieces::new(&text, 512));
+    let mut chunk = [0u8; 512];
+    let mut token = [0u8; 72];
+    let mut value = [0u8; 72];
+    let mut feed = Feed::new(&mut source, &mut chunk, &mut token, &mut value);
+    let head = read_head(alloc, &mut feed, 16_777_216)?;
+    let view = head.view();
+    let mut marks = String::new(alloc);
+    let mut regs = Regs::new();
+    let mut ahead = feed.ahead();
+    let mut from = ahead.passed();
+    while let Some(plain) = item_ahead(&mut ahead, view, &mut regs) {
+        let to = ahead.passed();
+        let stands = stands_as_line(view, plain, ahead.bytes(), from, to);
+        marks.push_str(if stands { "=" } else { "." })?;
+        from = to;
+    }
+    Ok(marks)
+}
+
+#[test]
+fn changes_that_stand_as_their_lines(rt: HostRuntime) -> Result<(), Fail> {
+    let alloc = rt.alloc();
+    assert_eq!(rt;
+        standing(alloc, b"1!\nZ!\n 0!\nx! 1!\n1\"\n1%\n#5\n0!\n")?.as_str(),
+        "=...=...="
+    );
+    assert_eq!(rt;
+        standing(
+            alloc,
+            b"b101 \"\nB101 \"\nb0101 \"\nb00 \"\nb0x \"\nbzz1 \"\nbzx0 \"\nb1X \"\nb10  \"\nb10\t\"\nb1 !\nb0 \"\nb1 % b1 \"\n"
+        )?
+        .as_str(),
+        "=...=.=....=.="
+    );
+    assert_eq!(rt;
+        standing(
+            alloc,
+            b"b1010101010101010101010101010101x &\nb1010101010101010101010101010101X &\nb1010101010101010101010101010101010x &\nb1010101010101010101010101010101010X &\n"
+        )?
+        .as_str(),
+        "=.=."
+    );
+    assert_eq!(rt;
+        standing(alloc, b"r1.5 \"\nR1.5 \"\nr1E3 !\nr1.5  !\nr1 %\n")?.as_str(),
+        "=.=.."
     );
     Ok(())
 }

@@ -1,9 +1,11 @@
-use Rattle.std.proofs.Common.{[], ◌∷◌, ◌++◌, ◌<◌, ◌∙◌, append_assoc, subst, arith}
+use Rattle.std.proofs.Common.{[], ◌∷◌, ◌++◌, ◌<◌, ◌∙◌, append_assoc, drop, subst, arith}
 use Rattle.vcd_model.specs.Tokens.{Token}
 use Rattle.vcd_text.specs.Ahead.{bytes_of, longest_of, passed_of, start_of}
 use Rattle.vcd_text.specs.Passed.{Passed, line_ahead}
 use Rattle.vcd_body.specs.declared.item.Form.TheVariants as form
+use Rattle.vcd_body.specs.Words.{Begins}
 use Rattle.vcd_body.proofs.AheadLemmas.{passes_same, scalar_taken, both_taken, mark_taken}
+use Rattle.vcd_body.proofs.LineLemmas.{named_of, token_there, scalar_there, both_there}
 use Rattle.vcd_body.proofs.ahead.item_ahead.Goals as goal
 use Rattle.vcd_body.proofs.ahead.item_ahead.Goals.{in-Scalar+in_ok-ok-in-Scalar, in-Vector+in_ok-next-in-Vector+in_ok-vector_code-in-Vector, in-Mark+in_ok-time-in-Mark, in-Real+in_ok-next-in-Real+in_ok-real_code-in-Real}
 
@@ -53,4 +55,30 @@ returns-clause-passes c = λ limit lines bytes ts over p.
           let m = w.in_ok-next-in-Real.ensures in
           let two = passes_same limit (longest_of c.next.new.self) lines bytes (bytes_of c.next.new.self) behind _ _ _ (n.same.1 ∙ over.0) (n.same.0 ∙ over.1) (m.gives lines) (ts ++ t ∷ []) one in
           rw w.next-is (t ∷ _ ∷ [], subst (Passed limit lines bytes _) (append_assoc ts (t ∷ []) _) two)
+    ]
+
+pub returns-clause-spelled : goal.returns-clause-spelled
+returns-clause-spelled c =
+    let n = c.in_ok-token.ensures in
+    let token = c.in_ok-token.token.now in
+    let bytes = bytes_of c.args.ahead.now in
+    let first = token_there bytes (passed_of c.args.ahead.now) (passed_of c.next.new.self) token n.further n.within n.before n.place in
+    elim c.match-first_of.branch [
+      | in-Scalar+in_ok-ok-in-Scalar w ↦
+          let b = subst (Begins token) w.in-Scalar.is c.first_of.ensures in
+          rw (w.plain-is, w.next-is)
+          (drop 1 token, scalar_there bytes _ _ token _ b.0 b.1 b.3 w.first_byte_of.ensures first, named_of c.args.view (drop 1 token) w.scalar_code.result _ w.in_ok-ok-in-Scalar.ensures.value w.scalar_code.ensures.names)
+      | in-Vector+in_ok-next-in-Vector+in_ok-vector_code-in-Vector w ↦
+          let m = w.in_ok-next-in-Vector.ensures in
+          let b = subst (Begins token) w.in-Vector.is c.first_of.ensures in
+          let second = token_there (bytes_of c.next.new.self) (passed_of c.next.new.self) (passed_of w.next-in-Vector.new.self) _ m.further m.within m.before m.place in
+          rw (w.plain-is, w.next-is)
+          (_, both_there bytes (bytes_of c.next.new.self) _ _ _ token _ _ b.0 b.1 b.3 w.rest_of.ensures n.same.0 first second, w.in_ok-vector_code-in-Vector.ensures.names)
+      | in-Mark+in_ok-time-in-Mark w ↦ rw w.plain-is tt
+      | in-Real+in_ok-next-in-Real+in_ok-real_code-in-Real w ↦
+          let m = w.in_ok-next-in-Real.ensures in
+          let b = subst (Begins token) w.in-Real.is c.first_of.ensures in
+          let second = token_there (bytes_of c.next.new.self) (passed_of c.next.new.self) (passed_of w.next-in-Real.new.self) _ m.further m.within m.before m.place in
+          rw (w.plain-is, w.next-is)
+          (_, both_there bytes (bytes_of c.next.new.self) _ _ _ token _ _ b.0 b.1 b.3 w.rest_of-in-Real.ensures n.same.0 first second, w.in_ok-real_code-in-Real.ensures.names)
     ]

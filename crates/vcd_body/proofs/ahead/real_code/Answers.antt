@@ -3,6 +3,7 @@ use Rattle.vcd_body.proofs.WordLemmas.{filled, some_bytes}
 use Rattle.vcd_body.proofs.PhraseLemmas.{number_begins, real_passes}
 use Rattle.vcd_body.proofs.RegsLemmas.{real_sound}
 use Rattle.vcd_body.proofs.AheadLemmas.{code_behind, code_within}
+use Rattle.vcd_body.proofs.LineLemmas.{named_where_found}
 use Rattle.vcd_body.proofs.ahead.real_code.Goals as goal
 
 pub returns-clause-code : goal.returns-clause-code
@@ -21,3 +22,6 @@ returns-clause-sound c =
     let n = ap length c.rest_of-text.ensures in
     let some = some_bytes c.rest_of-text.result.now (sym c.is_empty.ensures ∙ c.if-is_empty.false) in
     code_within c.args.view.codes.now c.find.result c.find.ensures.within (λ place x there. real_sound c.args.view.codes.now (drop 1 t) place x there (omega arith) (omega arith))
+
+pub returns-clause-names : goal.returns-clause-names
+returns-clause-names c = named_where_found c.args.view c.args.code.now c.find.result c.find.ensures.found

@@ -7,6 +7,7 @@ use Rattle.vcd_head.specs.Shown.{parts}
 use Rattle.vcd_body.proofs.PhraseLemmas.{digits_begin, vector_passes}
 use Rattle.vcd_body.proofs.RegsLemmas.{same_room, vector_sound}
 use Rattle.vcd_body.proofs.WordLemmas.{filled_some}
+use Rattle.vcd_body.proofs.LineLemmas.{found_named}
 use Rattle.vcd_body.proofs.ahead.vector_code.Goals as goal
 
 pub returns-then-takes-clause-code : goal.returns-then-takes-clause-code
@@ -37,3 +38,6 @@ returns-then-takes-clause-sound c =
     let d = and_parts (not (is_empty (drop 1 t))) (list_all is_value_digit (drop 1 t)) (ap (λ x. not (is_empty x) && list_all is_value_digit x) (sym text) ∙ sym c.are_digits_at.ensures ∙ c.if-not-are_digits_at.false) in
     vector_sound c.args.view.codes.now (drop 1 t) place x.0 x.1 (filled_some (drop 1 t) d.0) d.1
     (ap (λ m. x.0.event || nat_le m x.0.size) n ∙ sym (c.takes.ensures x.0 x.1) ∙ c.if-takes.true)
+
+pub returns-then-takes-clause-names : goal.returns-then-takes-clause-names
+returns-then-takes-clause-names c = found_named c.args.view c.in_ok-found.found.place c.args.code.now c.in_ok-found.ensures.found

@@ -4,6 +4,8 @@ use Rattle.vcd_head.specs.Finds.{Finds}
 use Rattle.vcd_body.proofs.WordLemmas.{filled, empty}
 use Rattle.vcd_body.proofs.RegsLemmas.{the_code}
 use Rattle.vcd_body.proofs.PhraseLemmas.{no_code, unknown_code, scalar_passes, first_byte}
+use Rattle.vcd_body.specs.Spelled.{Names}
+use Rattle.vcd_body.proofs.LineLemmas.{found_named}
 use Rattle.vcd_body.proofs.phrases.scalar_code.Goals as goal
 
 pub returns-then-is_empty-clause-code : goal.returns-then-is_empty-clause-code
@@ -24,3 +26,6 @@ pub returns-in-None-clause-code : goal.returns-in-None-clause-code
 returns-in-None-clause-code c = λ h earlier v.
     let f = subst (λ t. Finds h.codes t None) c.rest_of-code.ensures (c.in-None.ensures.found h v) in
     (λ x. cc, unknown_code h.codes earlier c.args.token.now c.requires.begins (filled (drop 1 c.args.token.now) (ap (λ l. length l == 0) (sym c.rest_of-code.ensures) ∙ sym c.is_empty.ensures ∙ c.if-is_empty.false)) f)
+
+pub returns-in-Some-clause-names : goal.returns-in-Some-clause-names
+returns-in-Some-clause-names c = subst (Names c.args.view c.in-Some.place) c.rest_of-code.ensures (found_named c.args.view c.in-Some.place c.rest_of-code.result.now c.in-Some.ensures.found)

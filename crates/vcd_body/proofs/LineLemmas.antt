@@ -1,0 +1,213 @@
+-- Changes that stand in some bytes, and their lines.
+use Rattle.std.proofs.Common.{◌≡◌, ◌≢◌, ℕ, zero, suc, ◌+◌, ◌-◌, max, ◌≤◌, ◌<◌, ◌==◌, Bool, true, false, not, ◌&&◌, List, [], ◌∷◌, ◌++◌, length, take, drop, get_or, Option, Some, None, IfSome, Result, Ok, Err, IfOk, ◌⊎◌, inl, inr, refl, sym, ap, ap₂, subst, ◌∙◌, append_assoc, arith}
+use Rattle.std.specs.Prelude.{bit_and, slice_get, slice_index, slice_range}
+use Rattle.std.specs.Char.{to_ascii_lowercase}
+use Rattle.std.specs.Str.{str_to_ascii_lowercase}
+use Rattle.std.specs.Result.{result_ok}
+use Rattle.std.proofs.lemmas.Bool.{and_parts, cases_lt, eqb-true, eqb-false, ne_eqb}
+use Rattle.std.proofs.lemmas.List.{drop-drop, drop-take}
+use Rattle.std.proofs.lemmas.Slice.Eq.{bytes_eq-Decides}
+use Rattle.vcd_model.specs.Bytes.{is_white_space}
+use Rattle.vcd_model.specs.Header.{Header}
+use Rattle.vcd_model.specs.Declarations.{IdCode, has_text}
+use Rattle.vcd_model.specs.Items.{BodyItem, ChangeForm}
+use Rattle.vcd_model.specs.Values.{extend, extension, short}
+use Rattle.vcd_model.specs.ItemText.{item_line}
+use Rattle.vcd_model.proofs.HeaderGrammar.{find_passes}
+use Rattle.vcd_text.specs.Passed.{AreWhite}
+use Rattle.vcd_text.proofs.AheadLemmas.{slice_range-append}
+use Rattle.vcd_head.specs.declared.view.HeadView.{HeadView}
+use Rattle.vcd_head.specs.Views.{IsViewOf}
+use Rattle.vcd_head.specs.Finds.{Finds}
+use Rattle.vcd_text.proofs.Places.{length-slice_range}
+use Rattle.vcd_head.specs.declared.view.Code.{Code}
+use Rattle.vcd_head.specs.Shown.{parts}
+use Rattle.vcd_head.specs.Views.{IsCode}
+use Rattle.vcd_body.specs.declared.item.Form.{Form}
+use Rattle.vcd_body.specs.declared.item.Form.TheVariants as form
+use Rattle.vcd_body.specs.declared.item.Item.TheVariants as item
+use Rattle.vcd_body.specs.Items.{model_form}
+use Rattle.vcd_body.specs.Given.{IsItem}
+use Rattle.vcd_body.proofs.FindLemmas.{code_at}
+use Rattle.vcd_body.specs.Spelled.{HasToken, HasChange, Names}
+use Rattle.vcd_body.proofs.Shortest.{IsBare, bare_is_short, extend_where_fits}
+use Rattle.vcd_body.proofs.WordLemmas.{byte_there, lower_alone}
+
+-- ---- what was found
+
+some_is : {A : Type 0} {x y : A} → Some x ≡ Some y → x ≡ y
+some_is e = cc
+
+-- the code that was found has the bytes that were looked for
+pub found_named : (v : HeadView) (place : ℕ) (text : List ℕ) → ((h : Header) → IsViewOf v h → Finds h.codes text (Some place)) → Names v place text
+found_named v place text f h c view e =
+    let k = f h view in
+    let same = some_is (sym k.1 ∙ e) in
+    sym ((bytes_eq-Decides text c.text).0 (find_passes (has_text text) h.codes c (k.2 ∙ ap Some same)))
+
+pub named_where_found : (v : HeadView) (text : List ℕ) (found : Option ℕ) → ((h : Header) → IsViewOf v h → Finds h.codes text found) → IfSome found (λ place. Names v place text)
+named_where_found v text None f = tt
+named_where_found v text (Some place) f = found_named v place text f
+
+pub named_of : {E : Type 0} (v : HeadView) (text : List ℕ) (found : Result ℕ E) (place : ℕ) → Some place ≡ result_ok found → IfOk found (λ p. Names v p text) → Names v place text
+named_of v text (Ok p) place e n = subst (λ q. Names v q text) (some_is (sym e)) n
+named_of v text (Err f) place e n = cc
+
+-- the header's change that an item with this text and this code is, where the view shows that code
+pub of_shown : (v : HeadView) (h : Header) → IsViewOf v h → (place : ℕ) (y : Code) → slice_get v.codes.now place ≡ Some y → (f : Form) (text code : List ℕ) → Names v place code → (x : BodyItem) → IsItem h.codes text (item.Change place f) x
+    → (k : IdCode) × (x ≡ BodyItem.Changes (record { code = k; form = model_form f; text = text })) × (k.text ≡ code) × (length code ≡ y.len) × (y.size ≡ k.size) × (y.event ≡ k.event)
+of_shown v h view place y there f text code named x (k, at, is) =
+    let z = code_at (parts v) h view place k at in
+    let same = some_is (sym there ∙ z.1) in
+    let shown = subst (λ o. IsCode v.text.now o k) (sym same) z.2 in
+    let name = named h k view at in
+    let len : y.start + y.len - y.start ≡ y.len = omega arith in
+    (k, is, name, ap length (sym name ∙ sym shown.text_is) ∙ length-slice_range v.text.now y.start (y.start + y.len) shown.within ∙ len, shown.size_is, shown.event_is)
+
+-- ---- tokens ahead
+
+-- a token that was given ahead
+pub token_there : (bytes : List ℕ) (from to : ℕ) (token : List ℕ) → from + length token + 1 ≤ to → to ≤ length bytes → AreWhite bytes from (to - length token - 1) → token ≡ slice_range bytes (to - length token - 1) (to - 1) → HasToken bytes from to token
+token_there bytes from to token further within before place = record { start = to - length token - 1; before = before; ends = omega arith; within = within; token_is = place }
+
+-- a digit and a code at once
+pub scalar_there : (bytes : List ℕ) (from to : ℕ) (token text : List ℕ) (digit : ℕ) (rest : List ℕ) → token ≡ digit ∷ rest → text ≡ take 1 token → HasToken bytes from to token → HasChange bytes from to form.Scalar text (drop 1 token)
+scalar_there bytes from to token text digit rest e is t = (digit, is ∙ ap (take 1) e, subst (HasToken bytes from to) (e ∙ ap (λ l. digit ∷ drop 1 l) (sym e)) t)
+
+-- a letter and a text, and a code behind them
+pub both_there : (bytes bytes' : List ℕ) (from middle to : ℕ) (token text code : List ℕ) (letter : ℕ) (rest : List ℕ) → token ≡ letter ∷ rest → text ≡ drop 1 token → bytes' ≡ bytes → HasToken bytes from middle token → HasToken bytes' middle to code → HasChange bytes from to form.Vector text code
+both_there bytes bytes' from middle to token text code letter rest e is same t u =
+    (letter, middle, subst (HasToken bytes from middle) (e ∙ ap (λ l. letter ∷ l) (sym (is ∙ ap (drop 1) e))) t, subst (λ b. HasToken b middle to code) same u)
+
+-- ---- a line
+
+flip : (b : Bool) → not b ≡ true → b ≡ false
+flip true e = cc
+flip false e = refl
+
+pub apart : (a b : ℕ) → not (a == b) ≡ true → a ≡ b → ⊥
+apart a b e = eqb-false a b (flip (a == b) e)
+
+one_byte : (bytes : List ℕ) (p : ℕ) → p < length bytes → slice_range bytes p (p + 1) ≡ slice_index bytes p ∷ []
+one_byte bytes p inside =
+    let one : p + 1 - p ≡ 1 = omega arith in
+    ap (λ n. take n (drop p bytes)) one ∙ front bytes p inside
+  where
+    front : (bytes : List ℕ) (p : ℕ) → p < length bytes → take 1 (drop p bytes) ≡ get_or bytes p 0 ∷ []
+    front [] p inside = absurd (omega arith)
+    front (b ∷ bytes) zero inside = refl
+    front (b ∷ bytes) (suc p) inside = front bytes p (omega arith)
+
+-- a token that begins at once, and the byte behind it
+pub token_line : (bytes : List ℕ) (from to : ℕ) (token : List ℕ) (x : ℕ) → HasToken bytes from to token → to ≡ from + length token + 1 → slice_index bytes (to - 1) ≡ x → slice_range bytes from to ≡ token ++ x ∷ []
+token_line bytes from to token x t e last =
+    let n = length token in
+    let within = t.within in
+    let ends = t.ends in
+    let start : t.start ≡ from = omega arith in
+    let end : to - 1 ≡ from + n = omega arith in
+    let is : token ≡ slice_range bytes from (from + n) = t.token_is ∙ ap₂ (slice_range bytes) start end in
+    let one : slice_range bytes (from + n) (from + n + 1) ≡ x ∷ [] = one_byte bytes (from + n) (omega arith) ∙ ap (λ b. b ∷ []) (ap (slice_index bytes) (sym end) ∙ last) in
+    ap (slice_range bytes from) e ∙ sym (slice_range-append bytes from (from + n) 1 (omega arith)) ∙ ap₂ (λ (a b : List ℕ). a ++ b) (sym is) one
+
+-- two tokens with a blank between them
+pub both_line : (bytes : List ℕ) (from middle to : ℕ) (letter first : ℕ) (text code : List ℕ) → HasToken bytes from middle (letter ∷ text) → HasToken bytes middle to code → to ≡ from + length text + length code + 3
+    → slice_index bytes from ≡ first → slice_index bytes (from + 1 + length text) ≡ 32 → slice_index bytes (to - 1) ≡ 10 → slice_range bytes from to ≡ first ∷ text ++ (32 ∷ code ++ 10 ∷ [])
+both_line bytes from middle to letter first text code t u e begins blank last =
+    let one = t.before.order in
+    let two = u.before.order in
+    let ends = t.ends in
+    let ends' = u.ends in
+    let first_end : middle ≡ from + length (letter ∷ text) + 1 = omega arith in
+    let second_end : to ≡ middle + length code + 1 = omega arith in
+    let between : middle - 1 ≡ from + 1 + length text = omega arith in
+    let start : t.start ≡ from = omega arith in
+    let end : middle - 1 ≡ from + length (letter ∷ text) = omega arith in
+    let whole : middle + (to - middle) ≡ to = omega arith in
+    let none : from + 0 ≡ from = omega arith in
+    let is : letter ∷ text ≡ slice_range bytes from (from + length (letter ∷ text)) = t.token_is ∙ ap₂ (slice_range bytes) start end in
+    let same : letter ≡ first = byte_there (letter ∷ text) bytes from (length (letter ∷ text)) 0 (omega arith) is ∙ ap (slice_index bytes) none ∙ begins in
+    let front : slice_range bytes from middle ≡ (first ∷ text) ++ 32 ∷ [] = token_line bytes from middle (letter ∷ text) 32 t first_end (ap (slice_index bytes) between ∙ blank) ∙ ap (λ d. (d ∷ text) ++ 32 ∷ []) same in
+    let back : slice_range bytes middle to ≡ code ++ 10 ∷ [] = token_line bytes middle to code 10 u second_end last in
+    ap (slice_range bytes from) (sym whole) ∙ sym (slice_range-append bytes from middle (to - middle) (omega arith)) ∙ ap₂ (λ (a b : List ℕ). a ++ b) front (ap (slice_range bytes middle) whole ∙ back) ∙ append_assoc (first ∷ text) (32 ∷ []) (code ++ 10 ∷ [])
+
+-- where the first byte is not white, a token begins at once
+begins_there : (bytes : List ℕ) (from start first : ℕ) → AreWhite bytes from start → slice_index bytes from ≡ first → is_white_space first ≡ false → start ≡ from
+begins_there bytes from start first before here other = by_order (cases_lt from start)
+  where
+    by_order : (from < start) ⊎ (start ≤ from) → start ≡ from
+    by_order (inl less) = let w = before.white from (omega arith) less in let z : is_white_space (slice_index bytes from) ≡ false = ap is_white_space here ∙ other in cc
+    by_order (inr less) = let order = before.order in omega arith
+
+-- so does the text after its letter
+text_of : (bytes : List ℕ) (from middle : ℕ) (letter : ℕ) (text : List ℕ) (t : HasToken bytes from middle (letter ∷ text)) → t.start ≡ from → text ≡ slice_range bytes (from + 1) (from + 1 + length text)
+text_of bytes from middle letter text t start =
+    let n = length text in
+    let ends = t.ends in
+    let long : middle - 1 - from ≡ 1 + n = omega arith in
+    let rest : from + 1 + n - (from + 1) ≡ n = omega arith in
+    ap (drop 1) (t.token_is ∙ ap (λ a. take (middle - 1 - a) (drop a bytes)) start ∙ ap (λ k. take k (drop from bytes)) long) ∙ drop-take 1 n (drop from bytes) ∙ ap (take n) (drop-drop 1 from bytes) ∙ ap (λ k. take k (drop (from + 1) bytes)) (sym rest)
+
+module _ (bytes : List ℕ) (from to first len : ℕ) (text : List ℕ) (e : (((to - (from + 1 + length text) - 2 == len) && (slice_index bytes from == first)) && (slice_index bytes (from + 1 + length text) == 32)) ≡ true) where
+  pub text_there : (code : List ℕ) → HasChange bytes from to form.Vector text code → is_white_space first ≡ false → text ≡ slice_range bytes (from + 1) (from + 1 + length text)
+  text_there code (letter, middle, t, u) other =
+      let p = and_parts ((to - (from + 1 + length text) - 2 == len) && (slice_index bytes from == first)) (slice_index bytes (from + 1 + length text) == 32) e in
+      let q = and_parts (to - (from + 1 + length text) - 2 == len) (slice_index bytes from == first) p.0 in
+      text_of bytes from middle letter text t (begins_there bytes from t.start first t.before (eqb-true (slice_index bytes from) first q.1) other)
+
+  pub both_line_there : (code : List ℕ) → HasChange bytes from to form.Vector text code → slice_index bytes (to - 1) ≡ 10 → length code ≡ len → slice_range bytes from to ≡ first ∷ text ++ (32 ∷ code ++ 10 ∷ [])
+  both_line_there code (letter, middle, t, u) last long =
+      let p = and_parts ((to - (from + 1 + length text) - 2 == len) && (slice_index bytes from == first)) (slice_index bytes (from + 1 + length text) == 32) e in
+      let q = and_parts (to - (from + 1 + length text) - 2 == len) (slice_index bytes from == first) p.0 in
+      let room = eqb-true (to - (from + 1 + length text) - 2) len q.0 in
+      let one = t.before.order in
+      let two = u.before.order in
+      let ends = t.ends in
+      let ends' = u.ends in
+      both_line bytes from middle to letter first text code t u (omega arith) (eqb-true (slice_index bytes from) first q.1) (eqb-true (slice_index bytes (from + 1 + length text)) 32 p.1) last
+
+-- a digit in lower case, its code and a line feed
+pub bit_line_there : (bytes : List ℕ) (from to len : ℕ) (text code : List ℕ) → ((to - from - 2 == len) && not (bit_and (slice_index bytes from) 32 == 0)) ≡ true → HasChange bytes from to form.Scalar text code → slice_index bytes (to - 1) ≡ 10 → length code ≡ len → slice_index bytes from < 256
+    → slice_range bytes from to ≡ str_to_ascii_lowercase text ++ (code ++ 10 ∷ [])
+bit_line_there bytes from to len text code e (digit, is, t) last long fits =
+    let p = and_parts (to - from - 2 == len) (not (bit_and (slice_index bytes from) 32 == 0)) e in
+    let room = eqb-true (to - from - 2) len p.0 in
+    let ends = t.ends in
+    let order = t.before.order in
+    let start : t.start ≡ from = omega arith in
+    let end : to - 1 ≡ from + length (digit ∷ code) = omega arith in
+    let none : from + 0 ≡ from = omega arith in
+    let here : digit ≡ slice_index bytes from = byte_there (digit ∷ code) bytes from (length (digit ∷ code)) 0 (omega arith) (t.token_is ∙ ap₂ (slice_range bytes) start end) ∙ ap (slice_index bytes) none in
+    let lower : to_ascii_lowercase digit ≡ digit = subst (λ d. to_ascii_lowercase d ≡ d) (sym here) (lower_alone (slice_index bytes from) fits (flip _ p.1)) in
+    token_line bytes from to (digit ∷ code) 10 t (omega arith) last ∙ ap (λ d. d ∷ code ++ 10 ∷ []) (sym lower) ∙ ap (λ l. str_to_ascii_lowercase l ++ (code ++ 10 ∷ [])) (sym is)
+
+-- ---- digits
+
+-- as they stand they are those that are written
+pub bare_short : (s : List ℕ) → IsBare s → (size : ℕ) → s ≡ short (extend s size)
+bare_short s b size = bare_is_short s (max size (length s)) b (omega arith) ∙ ap short (sym (extend_where_fits s size (max size (length s)) refl))
+
+pub one_digit : (s : List ℕ) → 1 ≤ length s → length s < 2 → IsBare s
+one_digit [] some few = absurd (omega arith)
+one_digit (x ∷ []) some few = tt
+one_digit (x ∷ y ∷ s) some few = absurd (omega arith)
+
+pub two_digits : (s : List ℕ) → 2 ≤ length s → (get_or s 0 0 ≡ extension (get_or s 1 0 ∷ []) → ⊥) → IsBare s
+two_digits [] more n = absurd (omega arith)
+two_digits (x ∷ []) more n = absurd (omega arith)
+two_digits (x ∷ y ∷ s) more n = n
+
+-- ---- lines of items
+
+module _ (c : IdCode) (text : List ℕ) (none : c.event ≡ false) where
+  -- a digit of a code of one bit
+  pub bit_item : (d : ℕ) → text ≡ d ∷ [] → c.size ≡ 1 → item_line (BodyItem.Changes (record { code = c; form = ChangeForm.Scalar; text = text })) ≡ str_to_ascii_lowercase text ++ (c.text ++ 10 ∷ [])
+  bit_item d is size = rw (none, size, is) refl
+
+  -- digits of a code of any other size, of which none can be left out
+  pub vector_item : c.size ≢ 1 → str_to_ascii_lowercase text ≡ text → text ≡ short (extend text c.size) → item_line (BodyItem.Changes (record { code = c; form = ChangeForm.Vector; text = text })) ≡ 98 ∷ text ++ (32 ∷ c.text ++ 10 ∷ [])
+  vector_item size lower bare = rw (none, ne_eqb c.size 1 size, lower) (ap (λ l. (98 ∷ l ++ 32 ∷ c.text) ++ 10 ∷ []) (sym bare) ∙ append_assoc (98 ∷ text) (32 ∷ c.text) (10 ∷ []))
+
+  -- the text of a real number
+  pub real_item : item_line (BodyItem.Changes (record { code = c; form = ChangeForm.RealText; text = text })) ≡ 114 ∷ text ++ (32 ∷ c.text ++ 10 ∷ [])
+  real_item = rw none (append_assoc (114 ∷ text) (32 ∷ c.text) (10 ∷ []))

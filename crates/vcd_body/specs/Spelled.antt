@@ -1,0 +1,34 @@
+-- The bytes that an item was taken from, ahead of the feed.
+use Rattle.std.specs.Prelude.{◌≡◌, ℕ, ◌+◌, ◌-◌, ◌≤◌, List, [], ◌∷◌, length, slice_get, slice_range, Some}
+use Rattle.vcd_model.specs.Header.{Header}
+use Rattle.vcd_model.specs.Declarations.{IdCode}
+use Rattle.vcd_text.specs.Passed.{AreWhite}
+use Rattle.vcd_head.specs.declared.view.HeadView.{HeadView}
+use Rattle.vcd_head.specs.Views.{IsViewOf}
+use Rattle.vcd_body.specs.declared.item.Form.{Form}
+use Rattle.vcd_body.specs.declared.item.Form.TheVariants.{Scalar, Vector, RealText}
+use Rattle.vcd_body.specs.declared.item.Item.{Item}
+use Rattle.vcd_body.specs.declared.item.Item.TheVariants.{Change}
+
+-- from one place up to another stand white bytes, none or more, then this token, and one byte after it
+pub record HasToken (bytes : List ℕ) (from to : ℕ) (token : List ℕ) : Type 0 where
+  pub start : ℕ
+  pub before : AreWhite bytes from start
+  pub ends : to ≡ start + length token + 1
+  pub within : to ≤ length bytes
+  pub token_is : token ≡ slice_range bytes start (to - 1)
+
+-- there stands a change of this form with this text and this code: a digit and the code at once, or a letter and the text, and then the code
+abbrev pub HasChange : List ℕ → ℕ → ℕ → Form → List ℕ → List ℕ → Type 0
+HasChange bytes from to Scalar text code = (digit : ℕ) × (text ≡ digit ∷ []) × HasToken bytes from to (digit ∷ code)
+HasChange bytes from to Vector text code = (letter : ℕ) × (middle : ℕ) × HasToken bytes from middle (letter ∷ text) × HasToken bytes middle to code
+HasChange bytes from to RealText text code = (letter : ℕ) × (middle : ℕ) × HasToken bytes from middle (letter ∷ text) × HasToken bytes middle to code
+
+-- the code at this place has these bytes, in each header that the view shows
+abbrev pub Names : HeadView → ℕ → List ℕ → Type 0
+Names v place text = (h : Header) (c : IdCode) → IsViewOf v h → slice_get h.codes place ≡ Some c → c.text ≡ text
+
+-- where the item is a change, it stands there, with this text and with its code
+abbrev pub HasSpelled : HeadView → List ℕ → ℕ → ℕ → List ℕ → Item → Type 0
+HasSpelled v bytes from to text (Change place form) = (code : List ℕ) × HasChange bytes from to form text code × Names v place code
+HasSpelled v bytes from to text item = Unit {0}

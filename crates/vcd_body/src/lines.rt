@@ -1,0 +1,153 @@
+// Changes that stand in the chunk as they are written.
+ghost use Rattle.std.specs.Prelude.{◌≡◌, ℕ, ◌+◌, ◌-◌, ◌<◌, ◌≤◌, List, [], ◌∷◌, ◌++◌, true, false, length, slice_index, slice_range};
+ghost use Rattle.std.specs.Int.{bit_at};
+ghost use Rattle.std.specs.Char.{to_ascii_lowercase as lower};
+ghost use Rattle.std.specs.Str.{str_to_ascii_lowercase};
+ghost use Rattle.vcd_model.specs.Bytes.{is_white_space};
+ghost use Rattle.vcd_model.specs.Header.{Header};
+ghost use Rattle.vcd_model.specs.Items.{BodyItem};
+ghost use Rattle.vcd_model.specs.ItemText.{item_line};
+ghost use Rattle.vcd_model.specs.Values.{extend, short};
+ghost use Rattle.vcd_head.specs.Views.{IsViewOf};
+ghost use Rattle.vcd_body.specs.Given.{IsItem};
+ghost use Rattle.vcd_body.specs.Spelled.{HasChange, HasSpelled};
+ghost use Rattle.vcd_body.specs.declared.item.Form.TheVariants as form;
+
+use crate::ahead::Plain;
+use crate::change::{extension_of, has_capital};
+use crate::item::{Form, Item};
+use std::simd::prelude::*;
+use vcd_head::HeadView;
+
+/// Bit k is set where byte `at + k` may be a capital letter: of letters and digits just the capital letters have bit 5 clear.
+#[inline(always)]
+fn capitals_32(bytes: &[u8], at: usize) -> u64
+    requires { at + 32 ≤ length bytes.now }
+    ensures { (k : ℕ) → k < 32 → bit_at result k ≡ 0
+        → lower (slice_index bytes.now (at + k)) ≡ slice_index bytes.now (at + k) }
+{
+    let v = u8x32::from_slice(&bytes[at..]) & u8x32::splat(0x20);
+    v.simd_eq(u8x32::splat(0)).to_bitmask()
+}
+
+/// So many bytes from a place on are no capital letters. Those after them are looked at too.
+#[inline(always)]
+fn are_lower_at(bytes: &[u8], at: usize, n: usize) -> bool
+    requires room { at + 32 ≤ length bytes.now }
+    requires few { n ≤ 32 }
+    ensures { result ≡ true → (k : ℕ) → k < n
+        → lower (slice_index bytes.now (at + k)) ≡ slice_index bytes.now (at + k) }
+{
+    capitals_32(bytes, at) & ((1 << n) - 1) == 0
+}
+
+// Out of line, so that the short way of `are_lower` stays small.
+#[inline(never)]
+fn are_all_lower(digits: &[u8]) -> bool
+    ensures { result ≡ true → str_to_ascii_lowercase digits.now ≡ digits.now }
+{
+    !has_capital(digits)
+}
+
+/// The digits, which begin at a place of these bytes, are in lower case. Most are few: they are looked at at once.
+#[inline(always)]
+fn are_lower(bytes: &[u8], at: usize, digits: &[u8]) -> bool
+    requires within { at ≤ length bytes.now }
+    requires place { digits.now ≡ slice_range bytes.now at (at + length digits.now) }
+    ensures { result ≡ true → str_to_ascii_lowercase digits.now ≡ digits.now }
+{
+    let n = digits.len();
+    if n <= 32 && bytes.len() - at >= 32 {
+        return are_lower_at(bytes, at, n);
+    }
+    are_all_lower(digits)
+}
+
+/// There are digits, and none can be left out on the left.
+#[inline(always)]
+fn are_shortest(digits: &[u8]) -> bool
+    ensures { result ≡ true → (size : ℕ) → digits.now ≡ short (extend digits.now size) }
+{
+    match digits {
+        [first, second, ..] => *first != extension_of(*second),
+        [_] => true,
+        [] => false,
+    }
+}
+
+/// A digit and a code of this length stand there alone, and the digit is in lower case.
+#[inline(always)]
+fn is_bit_line(bytes: &[u8], from: usize, to: usize, len: usize) -> bool
+    requires { (text code : List ℕ) × HasChange bytes.now from to form.Scalar text code }
+    ensures { result ≡ true → (text code : List ℕ)
+        → HasChange bytes.now from to form.Scalar text code
+        → slice_index bytes.now (to - 1) ≡ 10 → length code ≡ len
+        → slice_range bytes.now from to ≡ str_to_ascii_lowercase text ++ (code ++ 10 ∷ []) }
+{
+    (to - from - 2 == len) & (bytes[from] & 0x20 != 0)
+}
+
+/// A value with this first byte and a code of this length stand there with just a blank between them.
+#[inline(always)]
+fn has_one_blank(bytes: &[u8], from: usize, to: usize, first: u8, text: &[u8], len: usize) -> bool
+    requires spelled { (code : List ℕ) × HasChange bytes.now from to form.Vector text.now code }
+    requires letter { is_white_space first ≡ false }
+    ensures place { result ≡ true
+        → text.now ≡ slice_range bytes.now (from + 1) (from + 1 + length text.now) }
+    ensures line { result ≡ true → (code : List ℕ)
+        → HasChange bytes.now from to form.Vector text.now code
+        → slice_index bytes.now (to - 1) ≡ 10 → length code ≡ len
+        → slice_range bytes.now from to ≡ first ∷ text.now ++ (32 ∷ code ++ 10 ∷ []) }
+{
+    let behind = from + 1 + text.len();
+    (to - behind - 2 == len) & (bytes[from] == first) & (bytes[behind] == b' ')
+}
+
+/// The same after `b`, and the digits are in lower case and the shortest.
+#[inline(always)]
+fn is_vector_line(bytes: &[u8], from: usize, to: usize, digits: &[u8], len: usize) -> bool
+    requires { (code : List ℕ) × HasChange bytes.now from to form.Vector digits.now code }
+    ensures line { result ≡ true → (code : List ℕ)
+        → HasChange bytes.now from to form.Vector digits.now code
+        → slice_index bytes.now (to - 1) ≡ 10 → length code ≡ len
+        → slice_range bytes.now from to ≡ 98 ∷ digits.now ++ (32 ∷ code ++ 10 ∷ []) }
+    ensures lower { result ≡ true → str_to_ascii_lowercase digits.now ≡ digits.now }
+    ensures shortest { result ≡ true → (size : ℕ) → digits.now ≡ short (extend digits.now size) }
+{
+    if !has_one_blank(bytes, from, to, b'b', digits, len) {
+        return false;
+    }
+    are_shortest(digits) && are_lower(bytes, from + 1, digits)
+}
+
+/// Whether the bytes of an item that was taken ahead are its line as it would be written. The item's tokens are passed from one
+/// place of the bytes up to another. Where it returns that they are not, they may be all the same.
+#[inline(always)]
+pub fn stands_as_line(
+    view: HeadView<'_>,
+    plain: Plain<'_>,
+    bytes: &[u8],
+    from: usize,
+    to: usize,
+) -> bool
+    requires { HasSpelled view bytes.now from to plain.text.now plain.item }
+    ensures { result ≡ true → (h : Header) (x : BodyItem) → IsViewOf view.entry h
+        → IsItem h.codes plain.entry.text.now plain.entry.item x
+        → slice_range bytes.now from to ≡ item_line x }
+{
+    let Item::Change { code, form } = plain.item else {
+        return false;
+    };
+    let Some(code) = view.code_at(code) else {
+        return false;
+    };
+    if code.event || bytes[to - 1] != b'\n' {
+        return false;
+    }
+    let text = plain.text;
+    match form {
+        Form::Scalar => code.size == 1 && is_bit_line(bytes, from, to, code.len),
+        Form::Vector => code.size != 1 && is_vector_line(bytes, from, to, text, code.len),
+        Form::RealText => has_one_blank(bytes, from, to, b'r', text, code.len),
+    }
+}
