@@ -8,7 +8,7 @@ ghost use Rattle.vcd_head.specs.Views.{IsViewOf};
 ghost use Rattle.vcd_body.specs.Given.{IsItem};
 ghost use Rattle.vcd_tools.specs.Pieces.{IsPart, Lies, PutsOn, held_in};
 
-use vcd_body::Plain;
+use vcd_body::{Plain, stands_as_line};
 use vcd_head::HeadView;
 use vcd_text::{Sink, WriteFailed, put};
 
@@ -30,8 +30,7 @@ impl Lying<'_> {
             → IsItem h.codes self.now.plain.text.now self.now.plain.item x
             → slice_range self.now.bytes.now self.now.from self.now.to ≡ item_line x }
     {
-        let _view = view;
-        false
+        stands_as_line(view, self.plain, self.bytes, self.from, self.to)
     }
 }
 
