@@ -6,7 +6,6 @@ use Rattle.std.proofs.lemmas.List.{append_assoc}
 use Rattle.vcd_model.specs.Input.{Input}
 use Rattle.vcd_model.specs.Tokens.{Token, end_of_tokens, halt_place, stream_of}
 use Rattle.vcd_model.specs.Laws.{IsPrefixOf}
-use Rattle.vcd_model.specs.Declarations.{IdCode}
 use Rattle.vcd_model.specs.Header.{Header}
 use Rattle.vcd_model.specs.Items.{BodyItem}
 use Rattle.vcd_model.specs.BodyPhrases.{BodyPhrase, items_of}
@@ -23,7 +22,7 @@ use Rattle.vcd_text.specs.Feed.{supply_of, token_of, limit_of, chunk_len_of}
 use Rattle.vcd_text.specs.declared.device.Source.{Ghosts}
 use Rattle.vcd_text.specs.declared.feed.Feed.{Feed}
 use Rattle.vcd_body.specs.Ahead.{GaveLast}
-use Rattle.vcd_body.specs.Reads.{GaveAll, GaveItem, StopsAt}
+use Rattle.vcd_body.specs.Reads.{GaveAll, StopsAt}
 use Rattle.vcd_body.specs.Reads.StopsAt.{AtToken, AtEnd}
 use Rattle.vcd_body.specs.declared.item.Regs.{Regs}
 use Rattle.vcd_tools.specs.Engine.{CanRun}
@@ -46,19 +45,13 @@ front_is (a ∷ xs) (b ∷ ys) x y e =
     let t = tail_is a b (xs ++ x ∷ []) (ys ++ y ∷ []) e in
     ap (λ c. c ∷ xs) t.0 ∙ ap (λ l. b ∷ l) (front_is xs ys x y t.1)
 
-split_last : {A : Type 0} (xs : List A) → (xs ≡ []) ⊎ ((front : List A) × (last : A) × (xs ≡ front ++ last ∷ []))
+pub split_last : {A : Type 0} (xs : List A) → (xs ≡ []) ⊎ ((front : List A) × (last : A) × (xs ≡ front ++ last ∷ []))
 split_last [] = inl refl
 split_last (x ∷ xs) = by_rest (split_last xs)
   where
     by_rest : (xs ≡ []) ⊎ ((front : List _) × (last : _) × (xs ≡ front ++ last ∷ [])) → (x ∷ xs ≡ []) ⊎ ((front : List _) × (last : _) × (x ∷ xs ≡ front ++ last ∷ []))
     by_rest (inl e) = inr ([], x, ap (λ l. x ∷ l) e)
     by_rest (inr s) = inr (x ∷ s.0, s.1, ap (λ l. x ∷ l) s.2)
-
--- ---- the last item
-
--- of an item its line need not be known
-pub last_given : {X : Type 0} {g : Ghosts X} (codes : List IdCode) (i : Input) (front : List Token) (items : List BodyItem) (x : BodyItem) (f : Feed X g) (r : Regs) → GaveItem codes i front items x f r → GaveLast codes i front items x f r
-last_given codes i front items x f r m = record { gave = m.gave; before = m.before; before_are = m.before_are; line = (token_of f).line; last = m.last; near = m.near }
 
 -- ---- nothing is settled yet
 

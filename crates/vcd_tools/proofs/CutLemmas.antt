@@ -21,7 +21,7 @@ use Rattle.vcd_text.specs.Device.{Counts, Device, Takes}
 use Rattle.vcd_text.proofs.Writes.{AppendsSome, appends-first, appends-none, takes-failed, takes-first, takes-twice}
 use Rattle.std.specs.Io.KnownBytes.{Appends}
 use Rattle.vcd_tools.specs.Cut.{AreCut, BeginsBy, HasBegun, HasNone, IsNoMark, kept_from, may_be_kept, values_text}
-use Rattle.vcd_tools.specs.Device.{TakesDue}
+use Rattle.vcd_tools.specs.Device.{DueBy, TakesDue}
 use Rattle.vcd_tools.specs.Engine.{TakesOne, last_of}
 use Rattle.vcd_model.specs.Outcome.{Request}
 use Rattle.vcd_body.specs.Given.{IsItem}
@@ -208,10 +208,9 @@ module _ (v : HeadView) (h : Header) (items : List BodyItem) (before : Regs) (m 
   item_tells s = last_tells m.from items (time_after items) (due m.from items (sym is.started_is ∙ s)) (omega arith)
 
   -- a kept item
-  pub due_item : {A E : Type 0} (out out' : Device) (r : Result A E) → m.started ≡ true → keeps (from_on m.from) items x ≡ true
-      → TakesDue out out' (text_after (m.from ∷ []) (kept_from m.from items)) (text_after (m.from ∷ []) (kept_from m.from items ++ entry_after items x ∷ [])) r
-      → TakesDue out out' (cut_open h m.from m.to items) (cut_open h m.from m.to (items ++ x ∷ [])) r
-  due_item out out' r s k d = (d.0, due_kept h m.from m.to items is.on x d.0 low (sym is.started_is ∙ s) k d.1, d.2)
+  pub due_item : (takes : List ℕ → Type 0) → m.started ≡ true → keeps (from_on m.from) items x ≡ true
+      → DueBy takes (text_after (m.from ∷ []) (kept_from m.from items)) (text_after (m.from ∷ []) (kept_from m.from items ++ entry_after items x ∷ [])) → DueBy takes (cut_open h m.from m.to items) (cut_open h m.from m.to (items ++ x ∷ []))
+  due_item takes s k d = (d.0, due_kept h m.from m.to items is.on x d.0 low (sym is.started_is ∙ s) k d.1, d.2)
 
   pub item_kept : (t : ItemText) → m.started ≡ true → keeps (from_on m.from) items x ≡ true → HasWritten (m.from ∷ []) (kept_from m.from items ++ entry_after items x ∷ []) t → AreCut (record { from = m.from; to = m.to; table = m.table; text = t; started = m.started }) h (items ++ x ∷ [])
   item_kept t s k has = record {

@@ -1,5 +1,5 @@
 -- Which items `pick` keeps, and what that makes of its text.
-use Rattle.std.proofs.Common.{◌≡◌, ℕ, Bool, true, false, ◌&&◌, cond, List, [], ◌∷◌, ◌++◌, slice_get, Option, Some, None, Result, refl, sym, ap, subst, ◌∙◌, append-nil, append_assoc}
+use Rattle.std.proofs.Common.{◌≡◌, ℕ, Bool, true, false, ◌&&◌, cond, List, [], ◌∷◌, ◌++◌, slice_get, Option, Some, None, refl, sym, ap, subst, ◌∙◌, append-nil, append_assoc}
 use Rattle.vcd_model.specs.Declarations.{IdCode}
 use Rattle.vcd_model.specs.Header.{Header}
 use Rattle.vcd_model.specs.HeadText.{head_for}
@@ -16,8 +16,7 @@ use Rattle.vcd_body.specs.Items.{AreRegsAfter, regs_after}
 use Rattle.vcd_body.specs.declared.item.Item.{Item}
 use Rattle.vcd_body.specs.declared.item.Item.TheVariants.{Time, Begin, End, Change, Finish}
 use Rattle.vcd_body.specs.declared.item.Regs.{Regs}
-use Rattle.vcd_text.specs.Device.{Device}
-use Rattle.vcd_tools.specs.Device.{TakesDue}
+use Rattle.vcd_tools.specs.Device.{DueBy}
 use Rattle.vcd_tools.specs.Engine.{last_of}
 use Rattle.vcd_body.specs.Given.{IsItem}
 use Rattle.vcd_tools.specs.ItemText.{HasWritten, LastTells, times_with}
@@ -79,10 +78,9 @@ module _ (h : Header) (names : List (List ℕ)) (items : List BodyItem) (x : Bod
   kept_same k = kept_more h names items x false k ∙ append-nil (pick_kept h names items)
 
   -- what is due with an entry is due with its item
-  pub due_one : {A E : Type 0} (out out' : Device) (result : Result A E) → keeps (picked_by h names) items x ≡ true → TakesDue out out' (text_after [] (pick_kept h names items)) (text_after [] (pick_kept h names items ++ entry_after items x ∷ [])) result
-      → TakesDue out out' (pick_open h names items) (pick_open h names (items ++ x ∷ [])) result
+  pub due_one : (takes : List ℕ → Type 0) → keeps (picked_by h names) items x ≡ true → DueBy takes (text_after [] (pick_kept h names items)) (text_after [] (pick_kept h names items ++ entry_after items x ∷ [])) → DueBy takes (pick_open h names items) (pick_open h names (items ++ x ∷ []))
   unfolding pick_open
-  due_one out out' result k d =
+  due_one takes k d =
       (d.0, ap (λ es. head_for h names ++ text_after [] es) (kept_one k) ∙ ap (λ l. head_for h names ++ l) d.1 ∙ sym (append_assoc (head_for h names) (text_after [] (pick_kept h names items)) d.0), d.2)
 
   -- and nothing with an item that is not kept

@@ -5,7 +5,6 @@ use Rattle.std.specs.List.{list_any}
 use Rattle.vcd_model.specs.Backward.{up_to_first}
 use Rattle.vcd_model.specs.Input.{Input}
 use Rattle.vcd_model.specs.Tokens.{Token, Stream, stream_of}
-use Rattle.vcd_model.specs.Declarations.{IdCode}
 use Rattle.vcd_model.specs.Header.{Header}
 use Rattle.vcd_model.specs.Items.{BodyItem}
 use Rattle.vcd_model.specs.BodyReading.{body_grammar, read_body, body_items, body_fault_of}
@@ -33,8 +32,10 @@ use Rattle.vcd_tools.specs.Device.{Grows, GrowsSome}
 use Rattle.vcd_model.proofs.MergeSoFar.{fault_output}
 use Rattle.vcd_tools.specs.Engine.{CanRun, Holds, Runs, StopsAtStart, reads_body, request_of_engine}
 use Rattle.vcd_tools.specs.Run.{Belongs, Follows, IsLeft, IsRefused, is_early}
-use Rattle.vcd_tools.proofs.AskedLemmas.{last_given, read_to_end, read_to_item, read_to_stop}
-use Rattle.vcd_tools.specs.Step.{AheadGives, LastGives, StepGives, StepsGive, TakesAhead, step_end}
+use Rattle.vcd_body.proofs.CallerLemmas.{last_given}
+use Rattle.vcd_tools.proofs.AheadLemmas.{grows_on, some_on}
+use Rattle.vcd_tools.proofs.AskedLemmas.{read_to_end, read_to_item, read_to_stop}
+use Rattle.vcd_tools.specs.Step.{LastGives, StepGives, StepsGive, TakesAhead, step_end}
 use Rattle.vcd_text.specs.Advances.{Advances, HasNotFailed}
 use Rattle.vcd_tools.specs.declared.answer.Done.{Done}
 use Rattle.vcd_tools.specs.declared.answer.Done.TheVariants.{Whole, Early}
@@ -93,8 +94,7 @@ over_task t name h stream rest items fault can on e f =
     let r = read_body h.codes rest in
     over_matched t name (record { header = h; stream = stream; rest = rest }) can.body can.matched ∙ ap (λ x. over_body t h x name (body_fault_of stream r)) e ∙ ap (over_body t h items name) f ∙ to_end t name h items fault on
 
--- `mid` holds what is due behind these items; a step took the run from there to `new`
-module _ {X : Type 0} {g : Ghosts X} (t : Request) (h : Header) (i : Input) (front : List Token) (items : List BodyItem) (name : List ℕ) (limit chunk : ℕ) (before : Supply) (out mid new : Device) (can : CanRun t h) (on : list_any (ends_early t) items ≡ false) (open_is : Writes out mid (open_text t h items)) (f : Feed X g) (same : limit_of f ≡ limit) (size : chunk_len_of f ≡ chunk) where
+module _ {X : Type 0} {g : Ghosts X} (t : Request) (h : Header) (i : Input) (front : List Token) (items : List BodyItem) (name : List ℕ) (limit chunk : ℕ) (before : Supply) (out new : Device) (can : CanRun t h) (on : list_any (ends_early t) items ≡ false) (f : Feed X g) (same : limit_of f ≡ limit) (size : chunk_len_of f ≡ chunk) where
   -- an answer that belongs to the outcome of a body
   follows : (left : Input) (fault : Option Fault) (r : Result Done Stop) → IsLeft i before (supply_of f) left → BodyHas h.codes left front (limit_of f) items fault → ReadsAsNeeded limit chunk before (supply_of f) left front (is_settled_behind t h)
       → IfOk r (λ done. is_early done ≡ false) → IfErr r (IsRefused t h) → Belongs t (at_end t h items name fault) name out new r → Follows t limit chunk i front h name before (supply_of f) out new r
@@ -115,6 +115,16 @@ module _ {X : Type 0} {g : Ghosts X} (t : Request) (h : Header) (i : Input) (fro
       no_early (Ok done) e h = h ∙ e
       no_early (Err stop) e h = tt
 
+  -- a write of what is due behind the items and at the end of the body failed
+  pub stopped_close : (r : Regs) → (supply_of f).failures ≡ before.failures → GaveAll h.codes i front items f r → WritesSome out new (open_text t h items ++ close_text t h items) → Follows t limit chunk i front h name before (supply_of f) out new (Err Write)
+  stopped_close r q has some = follows i None (Err Write) (inl (q, refl)) has.has (read_to_end t h i front items f limit chunk before same size can on r has) tt tt some
+
+-- `mid` holds what is due behind these items; a step took the run from there to `new`
+module _ {X : Type 0} {g : Ghosts X} (t : Request) (h : Header) (i : Input) (front : List Token) (items : List BodyItem) (name : List ℕ) (limit chunk : ℕ) (before : Supply) (out mid new : Device) (can : CanRun t h) (on : list_any (ends_early t) items ≡ false) (open_is : Writes out mid (open_text t h items)) (f : Feed X g) (same : limit_of f ≡ limit) (size : chunk_len_of f ≡ chunk) where
+  follows_step : (left : Input) (fault : Option Fault) (r : Result Done Stop) → IsLeft i before (supply_of f) left → BodyHas h.codes left front (limit_of f) items fault → ReadsAsNeeded limit chunk before (supply_of f) left front (is_settled_behind t h)
+      → IfOk r (λ done. is_early done ≡ false) → IfErr r (IsRefused t h) → Belongs t (at_end t h items name fault) name out new r → Follows t limit chunk i front h name before (supply_of f) out new r
+  follows_step = follows t h i front items name limit chunk before out new can on f same size
+
   -- a fault in a body
   faulty : (fault line : ℕ) → Writes mid new [] → let f : Fault = record { number = fault; line = line } in let o = at_end t h items name (Some f) in (o ≡ fault_outcome o.output name f) × Writes out new o.output
   faulty fault line w =
@@ -124,36 +134,23 @@ module _ {X : Type 0} {g : Ghosts X} (t : Request) (h : Header) (i : Input) (fro
 
   module _ (e : Engine) where
     -- the run has ended, with the body
-    pub ended_whole : (supply_of f).failures ≡ before.failures → LastGives t h i front items e f mid new (Ok (Ended Whole)) → Follows t limit chunk i front h name before (supply_of f) out new (Ok Whole)
-    ended_whole q s = follows i None (Ok Whole) (inl (q, refl)) s.0.has (read_to_end t h i front items f limit chunk before same size can on e.regs s.0) refl tt (refl, both-written out mid new (open_text t h items) (close_text t h items) open_is s.1)
+    pub ended_whole : (supply_of f).failures ≡ before.failures → StepGives t h i front items e f mid new (Ok (Ended Whole)) → Follows t limit chunk i front h name before (supply_of f) out new (Ok Whole)
+    ended_whole q s = follows_step i None (Ok Whole) (inl (q, refl)) s.0.has (read_to_end t h i front items f limit chunk before same size can on e.regs s.0) refl tt (refl, both-written out mid new (open_text t h items) (close_text t h items) open_is s.1)
 
     -- the run has stopped at a fault
-    pub stopped_dump : (input line fault : ℕ) → (supply_of f).failures ≡ before.failures → LastGives t h i front items e f mid new (Err (Dump input line fault)) → Follows t limit chunk i front h name before (supply_of f) out new (Err (Dump input line fault))
+    pub stopped_dump : (input line fault : ℕ) → (supply_of f).failures ≡ before.failures → StepGives t h i front items e f mid new (Err (Dump input line fault)) → Follows t limit chunk i front h name before (supply_of f) out new (Err (Dump input line fault))
     stopped_dump input line fault q s =
         let b = faulty fault line s.4 in
         let has = subst (λ (n : ℕ). BodyHas h.codes i front (limit_of f) items (Some (record { number = fault; line = n }))) (sym s.2) s.3.0 in
-        follows i (Some (record { number = fault; line = line })) (Err (Dump input line fault)) (inl (q, refl)) has (read_to_stop t h i front items f limit chunk before same size can on s.3.1) tt tt (s.0, b.0, s.1, b.1)
+        follows_step i (Some (record { number = fault; line = line })) (Err (Dump input line fault)) (inl (q, refl)) has (read_to_stop t h i front items f limit chunk before same size can on s.3.1) tt tt (s.0, b.0, s.1, b.1)
 
     -- a read failed
-    pub stopped_read : (input : ℕ) → (supply_of f).failures ≡ before.failures + 1 → LastGives t h i front items e f mid new (Err (Read input)) → Follows t limit chunk i front h name before (supply_of f) out new (Err (Read input))
+    pub stopped_read : (input : ℕ) → (supply_of f).failures ≡ before.failures + 1 → StepGives t h i front items e f mid new (Err (Read input)) → Follows t limit chunk i front h name before (supply_of f) out new (Err (Read input))
     stopped_read input q s =
         let left = failed_after (seen f) i in
         let line = (token_of f).line in
         let b = faulty 31 line s.3 in
-        follows left (Some (record { number = 31; line = line })) (Err (Read input)) (inr (q, seen f, refl, s.2)) s.1.0 (read_to_stop t h left front items f limit chunk before same size can on s.1.1) tt tt (s.0, (line, b.0), b.1)
-
-    -- a write of what follows the items failed
-    pub stopped_close : (supply_of f).failures ≡ before.failures → GaveAll h.codes i front items f e.regs → GrowsSome mid new [] (close_text t h items) → Follows t limit chunk i front h name before (supply_of f) out new (Err Write)
-    stopped_close q has due =
-        let some = some-behind out mid new (open_text t h items) due.0 open_is due.2 in
-        follows i None (Err Write) (inl (q, refl)) has.has (read_to_end t h i front items f limit chunk before same size can on e.regs has) tt tt (subst (WritesSome out new) (ap (λ l. open_text t h items ++ l) (sym due.1)) some)
-
--- the run goes on
-pub run_goes_on : {X : Type 0} {g : Ghosts X} (t : Request) (h : Header) (i : Input) (front : List Token) (items : List BodyItem) (out mid new : Device) → Writes out mid (open_text t h items) → (e : Engine) (f : Feed X g) → LastGives t h i front items e f mid new (Ok Again)
-    → (more : List BodyItem) × Runs e h i front more f × Writes out new (open_text t h more)
-run_goes_on t h i front items out mid new open_is e f s =
-    let due = s.2 in
-    (items ++ s.0 ∷ [], s.1, subst (Writes out new) (sym due.1) (both-written out mid new (open_text t h items) due.0 open_is due.2))
+        follows_step left (Some (record { number = 31; line = line })) (Err (Read input)) (inr (q, seen f, refl, s.2)) s.1.0 (read_to_stop t h left front items f limit chunk before same size can on s.1.1) tt tt (s.0, (line, b.0), b.1)
 
 -- ---- runs that end before their body
 
@@ -191,7 +188,7 @@ begins_with t h p more name fault valid on = by_end (list_any (ends_early t) (p 
         rw (e, over_body) (r.0, ap (open_text t h) (goes_on (ends_early t) p more on) ∙ r.1)
     by_end false e = rw (e, over_body) (by_fault fault)
 
-module _ {X : Type 0} {g : Ghosts X} (t : Request) (h : Header) (i : Input) (front : List Token) (items : List BodyItem) (name : List ℕ) (limit chunk : ℕ) (before : Supply) (out mid new : Device) (can : CanRun t h) (on : list_any (ends_early t) items ≡ false) (open_is : Writes out mid (open_text t h items)) (f : Feed X g) (same : limit_of f ≡ limit) (size : chunk_len_of f ≡ chunk) where
+module _ {X : Type 0} {g : Ghosts X} (t : Request) (h : Header) (i : Input) (front : List Token) (items : List BodyItem) (name : List ℕ) (limit chunk : ℕ) (before : Supply) (out new : Device) (can : CanRun t h) (on : list_any (ends_early t) items ≡ false) (f : Feed X g) (same : limit_of f ≡ limit) (size : chunk_len_of f ≡ chunk) where
   -- and so with what is due behind one item more
   begins_first : (x : BodyItem) (more : List BodyItem) (fault : Option Fault) → IsPrefixOf (open_text t h (items ++ x ∷ [])) (over_body t h ((items ++ x ∷ []) ++ more) name fault).output
   begins_first x more fault = by_item (ends_early t x) refl
@@ -225,90 +222,91 @@ module _ {X : Type 0} {g : Ghosts X} (t : Request) (h : Header) (i : Input) (fro
       }
 
   -- a time mark ended the run
-  pub ended_early : (e : Engine) → (supply_of f).failures ≡ before.failures → LastGives t h i front items e f mid new (Ok (Ended Early)) → Follows t limit chunk i front h name before (supply_of f) out new (Ok Early)
-  ended_early e q s =
-      let x = s.0 in
-      let due = s.3 in
-      let whole : Writes out new (open_text t h (items ++ x ∷ [])) = subst (Writes out new) (sym due.1) (both-written out mid new (open_text t h items) due.0 open_is due.2) in
-      follows_first e.regs x (Ok Early) q s.2 (λ more fault. subst (λ (o : Outcome). Belongs t o name out new (Ok Early)) (sym (early_outcome t h items more x name fault on s.1)) (refl, whole))
-      (λ more. sym (ap (list_any (ends_early t)) (append_assoc items (x ∷ []) more) ∙ any_at (ends_early t) items more x s.1)) tt
+  pub ended_early : (r : Regs) (x : BodyItem) → (supply_of f).failures ≡ before.failures → ends_early t x ≡ true → GaveLast h.codes i front items x f r → Writes out new (open_text t h (items ++ x ∷ [])) → Follows t limit chunk i front h name before (supply_of f) out new (Ok Early)
+  ended_early r x q ends gave whole =
+      follows_first r x (Ok Early) q gave (λ more fault. subst (λ (o : Outcome). Belongs t o name out new (Ok Early)) (sym (early_outcome t h items more x name fault on ends)) (refl, whole))
+      (λ more. sym (ap (list_any (ends_early t)) (append_assoc items (x ∷ []) more) ∙ any_at (ends_early t) items more x ends)) tt
 
   -- a write of what is due behind an item failed
-  pub stopped_item : (r : Regs) (x : BodyItem) → (supply_of f).failures ≡ before.failures → GaveLast h.codes i front items x f r → GrowsSome mid new (open_text t h items) (open_text t h (items ++ x ∷ [])) → Follows t limit chunk i front h name before (supply_of f) out new (Err Write)
-  stopped_item r x q gave due =
-      let some : WritesSome out new (open_text t h (items ++ x ∷ [])) = subst (WritesSome out new) (sym due.1) (some-behind out mid new (open_text t h items) due.0 open_is due.2) in
+  pub stopped_item : (r : Regs) (x : BodyItem) → (supply_of f).failures ≡ before.failures → GaveLast h.codes i front items x f r → WritesSome out new (open_text t h (items ++ x ∷ [])) → Follows t limit chunk i front h name before (supply_of f) out new (Err Write)
+  stopped_item r x q gave some =
       follows_first r x (Err Write) q gave
       (λ more fault.
       let b = begins_first x more fault in
       subst (WritesSome out new) (sym b.1) (some-first out new (open_text t h (items ++ x ∷ [])) b.0 some)) (λ more. tt) tt
 
--- `mid` holds what is due behind these items; the last step took the run from there to `new`
-module _ {X : Type 0} {g : Ghosts X} (t : Request) (h : Header) (i : Input) (front : List Token) (items : List BodyItem) (name : List ℕ) (limit chunk : ℕ) (before : Supply) (out mid new : Device) (can : CanRun t h) (on : list_any (ends_early t) items ≡ false) (open_is : Writes out mid (open_text t h items)) (e : Engine) (f : Feed X g) (same : limit_of f ≡ limit) (size : chunk_len_of f ≡ chunk) where
-  -- the run has ended
-  pub followed : (done : Done) → (supply_of f).failures ≡ before.failures → LastGives t h i front items e f mid new (Ok (Ended done)) → Follows t limit chunk i front h name before (supply_of f) out new (Ok done)
-  followed Whole q s = ended_whole t h i front items name limit chunk before out mid new can on open_is f same size e q s
-  followed Early q s = ended_early t h i front items name limit chunk before out mid new can on open_is f same size e q s
-
-  -- the run has stopped
-  pub followed_stop : (stop : Stop) → (supply_of f).failures ≡ before.failures + reads_failed {A = Done} (Err stop) → LastGives t h i front items e f mid new (Err stop) → Follows t limit chunk i front h name before (supply_of f) out new (Err stop)
-  followed_stop (Dump input line fault) q s = stopped_dump t h i front items name limit chunk before out mid new can on open_is f same size e input line fault (omega arith) s
-  followed_stop (Read input) q s = stopped_read t h i front items name limit chunk before out mid new can on open_is f same size e input q s
-  followed_stop (Unmatched place) q s = absurd s
-  followed_stop Write q s = by_due s
-    where
-      by_due : LastGives t h i front items e f mid new (Err Write) → Follows t limit chunk i front h name before (supply_of f) out new (Err Write)
-      by_due (inl d) = stopped_item t h i front items name limit chunk before out mid new can on open_is f same size e.regs d.0 (omega arith) d.1 d.2
-      by_due (inr d) = stopped_close t h i front items name limit chunk before out mid new can on open_is f same size e (omega arith) d.0 d.1
-
 -- ---- several steps
 
-as_last : {X : Type 0} {g : Ghosts X} (t : Request) (h : Header) (i : Input) (front : List Token) (items : List BodyItem) (e : Engine) (f : Feed X g) (out out' : Device) (r : Result More Stop) → StepGives t h i front items e f out out' r → LastGives t h i front items e f out out' r
-as_last t h i front items e f out out' (Ok Again) s = (s.0, s.1, s.2)
-as_last t h i front items e f out out' (Ok (Ended Whole)) s = s
-as_last t h i front items e f out out' (Ok (Ended Early)) s = (s.0, s.1, last_given h.codes i front items s.0 f e.regs s.2, s.3)
-as_last t h i front items e f out out' (Err (Dump input line fault)) s = s
-as_last t h i front items e f out out' (Err (Read input)) s = s
-as_last t h i front items e f out out' (Err Write) (inl s) = inl (s.0, last_given h.codes i front items s.0 f e.regs s.1, s.2)
-as_last t h i front items e f out out' (Err Write) (inr s) = inr s
-as_last t h i front items e f out out' (Err (Unmatched name)) s = absurd s
+-- what one text has more than what stands was written
+pub written_behind : (begin out new : Device) (text more : List ℕ) → Writes begin out text → Grows out new text more → Writes begin new more
+written_behind begin out new text more w due = subst (Writes begin new) (sym due.1) (both-written begin out new text due.0 w due.2)
+
+-- or a prefix of it
+some_written : (begin out new : Device) (text more : List ℕ) → Writes begin out text → GrowsSome out new text more → WritesSome begin new more
+some_written begin out new text more w due = subst (WritesSome begin new) (sym due.1) (some-behind begin out new text due.0 w due.2)
+
+-- `out` holds what is due behind these items; several steps took the run from there to `new`
+module _ {X : Type 0} {g : Ghosts X} (t : Request) (h : Header) (i : Input) (front : List Token) (items more : List BodyItem) (name : List ℕ) (limit chunk : ℕ) (before : Supply) (begin out new : Device) (can : CanRun t h) (on : list_any (ends_early t) (items ++ more) ≡ false) (open_is : Writes begin out (open_text t h items)) (e : Engine) (f : Feed X g) (same : limit_of f ≡ limit) (size : chunk_len_of f ≡ chunk) where
+  abbrev text : List ℕ
+  text = open_text t h items
+
+  abbrev all : List BodyItem
+  all = items ++ more
+
+  -- the run has ended
+  pub followed : (done : Done) → (supply_of f).failures ≡ before.failures → LastGives t h i front items e f out new (Ok (Ended done)) more → Follows t limit chunk i front h name before (supply_of f) begin new (Ok done)
+  followed Whole q s = ended_whole t h i front all name limit chunk before begin s.0 new can on (written_behind begin out s.0 text (open_text t h all) open_is s.1) f same size e q s.2
+  followed Early q s = ended_early t h i front all name limit chunk before begin new can on f same size e.regs s.0 q s.1 s.2 (written_behind begin out new text (open_text t h (all ++ s.0 ∷ [])) open_is s.3)
+
+  -- the run has stopped
+  pub followed_stop : (stop : Stop) → (supply_of f).failures ≡ before.failures + reads_failed {A = Done} (Err stop) → LastGives t h i front items e f out new (Err stop) more → Follows t limit chunk i front h name before (supply_of f) begin new (Err stop)
+  followed_stop (Dump input line fault) q s = stopped_dump t h i front all name limit chunk before begin s.0 new can on (written_behind begin out s.0 text (open_text t h all) open_is s.1) f same size e input line fault (omega arith) s.2
+  followed_stop (Read input) q s = stopped_read t h i front all name limit chunk before begin s.0 new can on (written_behind begin out s.0 text (open_text t h all) open_is s.1) f same size e input q s.2
+  followed_stop (Unmatched place) q s = absurd s.2
+  followed_stop Write q s = by_due s
+    where
+      by_due : LastGives t h i front items e f out new (Err Write) more → Follows t limit chunk i front h name before (supply_of f) begin new (Err Write)
+      by_due (inl d) = stopped_item t h i front all name limit chunk before begin new can on f same size e.regs d.0 (omega arith) d.1 (some_written begin out new text (open_text t h (all ++ d.0 ∷ [])) open_is d.2)
+      by_due (inr d) = stopped_close t h i front all name limit chunk before begin new can on f same size e.regs (omega arith) d.0 (some_written begin out new text (open_text t h all ++ close_text t h all) open_is d.1)
+
+-- a step behind some items more
+behind : {X : Type 0} {g : Ghosts X} (t : Request) (h : Header) (i : Input) (front : List Token) (items more : List BodyItem) (e : Engine) (f : Feed X g) (out mid new : Device) (r : Result More Stop) → Grows out mid (open_text t h items) (open_text t h (items ++ more)) → StepGives t h i front (items ++ more) e f mid new r
+    → LastGives t h i front items e f out new r more
+behind t h i front items more e f out mid new (Ok Again) w s = (mid, w, s)
+behind t h i front items more e f out mid new (Ok (Ended Whole)) w s = (mid, w, s)
+behind t h i front items more e f out mid new (Ok (Ended Early)) w s = (s.0, s.1, last_given h.codes i front (items ++ more) s.0 f e.regs s.2, grows_on out mid new (open_text t h items) (open_text t h (items ++ more)) (open_text t h ((items ++ more) ++ s.0 ∷ [])) w s.3)
+behind t h i front items more e f out mid new (Err (Dump input line fault)) w s = (mid, w, s)
+behind t h i front items more e f out mid new (Err (Read input)) w s = (mid, w, s)
+behind t h i front items more e f out mid new (Err Write) w (inl s) = inl (s.0, last_given h.codes i front (items ++ more) s.0 f e.regs s.1, some_on out mid new (open_text t h items) (open_text t h (items ++ more)) (open_text t h ((items ++ more) ++ s.0 ∷ [])) w s.2)
+behind t h i front items more e f out mid new (Err Write) w (inr s) =
+    let all = items ++ more in
+    inr (s.0, some_on out mid new (open_text t h items) (open_text t h all) (open_text t h all ++ close_text t h all) w (s.1.0, ap (λ l. open_text t h all ++ l) s.1.1, s.1.2))
+behind t h i front items more e f out mid new (Err (Unmatched name)) w s = absurd s
 
 -- items that were taken ahead, and a step behind them
 pub steps_behind : {X : Type 0} {g : Ghosts X} (t : Request) (h : Header) (i : Input) (front : List Token) (items : List BodyItem) (e e' : Engine) (f f' : Feed X g) (out out' new : Device) (r : Result More Stop) (a : TakesAhead t h i front items e f out out' (Ok Again))
     → StepGives t h i front (items ++ a.more) e' f' out' new r → StepsGive t h i front items e' f' out new r
-steps_behind t h i front items e e' f f' out out' new r a s = record {
-  more = a.more;
-  mid = a.mid;
-  on = a.on;
-  grows = a.grows;
-  last = subst (λ (o : Device). LastGives t h i front (items ++ a.more) e' f' o new r) a.last.1 (as_last t h i front (items ++ a.more) e' f' out' new r s);
-}
-
--- items that were taken ahead, the last of which has ended the run
-pub steps_end_ahead : {X : Type 0} {g : Ghosts X} (t : Request) (h : Header) (i : Input) (front : List Token) (items : List BodyItem) (e : Engine) (f : Feed X g) (out new : Device) (done : Done) → TakesAhead t h i front items e f out new (Ok (Ended done)) → StepsGive t h i front items e f out new (Ok (Ended done))
-steps_end_ahead t h i front items e f out new done a = record { more = a.more; mid = a.mid; on = a.on; grows = a.grows; last = a.last }
-
--- or of which a write failed
-pub steps_stop_ahead : {X : Type 0} {g : Ghosts X} (t : Request) (h : Header) (i : Input) (front : List Token) (items : List BodyItem) (e : Engine) (f : Feed X g) (out new : Device) (stop : Stop) → TakesAhead t h i front items e f out new (Err stop) → StepsGive t h i front items e f out new (Err stop)
-steps_stop_ahead t h i front items e f out new stop a = record { more = a.more; mid = a.mid; on = a.on; grows = a.grows; last = a.last }
-
--- what was due with more items was written
-pub written_on : (t : Request) (h : Header) (items more : List BodyItem) (begin out mid : Device) → Writes begin out (open_text t h items) → Grows out mid (open_text t h items) (open_text t h (items ++ more)) → Writes begin mid (open_text t h (items ++ more))
-written_on t h items more begin out mid w due = subst (Writes begin mid) (sym due.1) (both-written begin out mid (open_text t h items) due.0 w due.2)
+steps_behind t h i front items e e' f f' out out' new r a s = record { more = a.more; on = a.on; last = behind t h i front items a.more e' f' out out' new r a.last.1 s }
 
 -- `out` holds what is due behind these items; some steps took the run from there to `new`
 module _ {X : Type 0} {g : Ghosts X} (t : Request) (h : Header) (i : Input) (front : List Token) (items : List BodyItem) (begin out new : Device) (open_is : Writes begin out (open_text t h items)) (e : Engine) (f : Feed X g) where
   -- the run goes on
   pub steps_go_on : StepsGive t h i front items e f out new (Ok Again) → (more : List BodyItem) × Runs e h i front more f × Writes begin new (open_text t h more)
-  steps_go_on s = run_goes_on t h i front (items ++ s.more) begin s.mid new (written_on t h items s.more begin out s.mid open_is s.grows) e f s.last
+  steps_go_on s =
+      let all = items ++ s.more in
+      let mid = s.last.0 in
+      let step = s.last.2 in
+      let first = written_behind begin out mid (open_text t h items) (open_text t h all) open_is s.last.1 in
+      (all ++ step.0 ∷ [], step.1, written_behind begin mid new (open_text t h all) (open_text t h (all ++ step.0 ∷ [])) first step.2)
 
   module _ (name : List ℕ) (limit chunk : ℕ) (before : Supply) (can : CanRun t h) (same : limit_of f ≡ limit) (size : chunk_len_of f ≡ chunk) where
     -- it has ended
     pub steps_end : (done : Done) → (supply_of f).failures ≡ before.failures → StepsGive t h i front items e f out new (Ok (Ended done)) → Follows t limit chunk i front h name before (supply_of f) begin new (Ok done)
-    steps_end done q s = followed t h i front (items ++ s.more) name limit chunk before begin s.mid new can s.on (written_on t h items s.more begin out s.mid open_is s.grows) e f same size done q s.last
+    steps_end done q s = followed t h i front items s.more name limit chunk before begin out new can s.on open_is e f same size done q s.last
 
     -- it has stopped
     pub steps_stop : (stop : Stop) → (supply_of f).failures ≡ before.failures + reads_failed {A = Done} (Err stop) → StepsGive t h i front items e f out new (Err stop) → Follows t limit chunk i front h name before (supply_of f) begin new (Err stop)
-    steps_stop stop q s = followed_stop t h i front (items ++ s.more) name limit chunk before begin s.mid new can s.on (written_on t h items s.more begin out s.mid open_is s.grows) e f same size stop q s.last
+    steps_stop stop q s = followed_stop t h i front items s.more name limit chunk before begin out new can s.on open_is e f same size stop q s.last
 
 -- steps of this task that answer so
 pub asked : {X : Type 0} {g : Ghosts X} (t t' : Request) (h : Header) (i : Input) (front : List Token) (items : List BodyItem) (e : Engine) (f : Feed X g) (out out' : Device) (r r' : Result More Stop) → t ≡ t' → r ≡ r' → StepsGive t h i front items e f out out' r
@@ -318,9 +316,6 @@ asked t t' h i front items e f out out' r r' et er s = subst (λ (q : Result Mor
 -- what holds of the request of an engine that runs
 pub can_run : {X : Type 0} {g : Ghosts X} (t : Request) (e : Engine) (h : Header) (i : Input) (front : List Token) (items : List BodyItem) (f : Feed X g) → request_of_engine e ≡ t → Runs e h i front items f → CanRun t h
 can_run t e h i front items f same r = subst (λ (q : Request). CanRun q h) same r.holds.can
-
-pub none_ends : {X : Type 0} {g : Ghosts X} (t : Request) (e : Engine) (h : Header) (i : Input) (front : List Token) (items : List BodyItem) (f : Feed X g) → request_of_engine e ≡ t → Runs e h i front items f → list_any (ends_early t) items ≡ false
-none_ends t e h i front items f same r = subst (λ (q : Request). list_any (ends_early q) items ≡ false) same r.on
 
 -- ---- runs that stop at their begin
 

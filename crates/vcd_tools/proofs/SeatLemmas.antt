@@ -29,7 +29,8 @@ use Rattle.vcd_tools.specs.Seat.{AtSeat, GaveParked, Lane, ReadsNoMore, Turns, s
 use Rattle.vcd_tools.specs.declared.seat.Seat.{Seat}
 use Rattle.vcd_tools.proofs.EngineLemmas.{writes-none}
 use Rattle.vcd_tools.proofs.Dumps.{has_dump}
-use Rattle.vcd_tools.proofs.AskedLemmas.{last_given, read_to_end, read_to_item, read_to_stop}
+use Rattle.vcd_body.proofs.CallerLemmas.{last_given}
+use Rattle.vcd_tools.proofs.AskedLemmas.{read_to_end, read_to_item, read_to_stop}
 
 -- ---- how much was read
 

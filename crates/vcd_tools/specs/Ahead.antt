@@ -11,6 +11,7 @@ use Rattle.vcd_body.specs.Items.{AreRegsAfter}
 use Rattle.vcd_body.specs.declared.item.Regs.{Regs}
 use Rattle.vcd_tools.specs.Device.{Grows, GrowsSome}
 use Rattle.vcd_tools.specs.Engine.{Keeps, last_of}
+use Rattle.vcd_tools.specs.Several.{TakesSeveral}
 use Rattle.vcd_tools.specs.declared.machine.Machine.{Machine}
 
 module _ (task : Request) (h : Header) (limit lines : ℕ) (bytes : List ℕ) (before : List BodyItem) where
@@ -27,16 +28,12 @@ module _ (task : Request) (h : Header) (limit lines : ℕ) (bytes : List ℕ) (b
     pub gave : GaveAhead h.codes limit lines bytes n before (items ++ x ∷ [])
     pub known : AreRegsAfter (before ++ (items ++ x ∷ [])) r
 
-  -- how that ends behind these items: no other was taken; one more has ended the run; or a write of what is due with one more failed
-  abbrev pub EndsAhead : {E : Type 0} → ℕ → List BodyItem → Machine → Regs → Device → Device → Result Bool E → Type 0
-  EndsAhead n items m r out out' (Ok false) = StandsAhead n items m r × (out' ≡ out)
-  EndsAhead n items m r out out' (Ok true) = (x : BodyItem) × (ends_early task x ≡ true) × GaveOneAhead n items x r × Grows out out' (open_text task h (before ++ items)) (open_text task h ((before ++ items) ++ x ∷ []))
-  EndsAhead n items m r out out' (Err e) = (x : BodyItem) × GaveOneAhead n items x r × GrowsSome out out' (open_text task h (before ++ items)) (open_text task h ((before ++ items) ++ x ∷ []))
+  -- how that ends behind these items: no other was taken; one more has ended the run; or a write of what is due with these or with one more failed
+  abbrev pub EndsAhead : {E : Type 0} → ℕ → Machine → Regs → Device → Device → Result Bool E → List BodyItem → Type 0
+  EndsAhead n m r out out' (Ok false) items = StandsAhead n items m r × Grows out out' (open_text task h before) (open_text task h (before ++ items))
+  EndsAhead n m r out out' (Ok true) items = (x : BodyItem) × (ends_early task x ≡ true) × GaveOneAhead n items x r × Grows out out' (open_text task h before) (open_text task h ((before ++ items) ++ x ∷ []))
+  EndsAhead n m r out out' (Err e) items = (x : BodyItem) × GaveOneAhead n items x r × GrowsSome out out' (open_text task h before) (open_text task h ((before ++ items) ++ x ∷ []))
 
-  -- some of the items were taken, and what is due with them was written; then this
-  pub record RunsAhead {E : Type 0} (n : ℕ) (m : Machine) (r : Regs) (out out' : Device) (result : Result Bool E) : Type 0 where
-    pub items : List BodyItem
-    pub mid : Device
-    pub on : list_any (ends_early task) (before ++ items) ≡ false
-    pub grows : Grows out mid (open_text task h before) (open_text task h (before ++ items))
-    pub ends : EndsAhead n items m r mid out' result
+  -- some of the items were taken, and what is due with them was written, or a prefix of it where a write failed
+  abbrev pub RunsAhead : {E : Type 0} → ℕ → Machine → Regs → Device → Device → Result Bool E → Type 0
+  RunsAhead n m r out out' result = TakesSeveral task before (EndsAhead n m r out out' result)

@@ -17,8 +17,8 @@ use Rattle.vcd_body.specs.Items.{AreRegsAfter}
 use Rattle.vcd_body.specs.Reads.{GaveItems}
 use Rattle.vcd_body.specs.declared.item.Regs.{Regs}
 use Rattle.vcd_tools.specs.Check.{AreCounted}
-use Rattle.vcd_text.specs.Device.{Device, Writes, WritesSome}
-use Rattle.vcd_tools.specs.Device.{TakesDue}
+use Rattle.vcd_text.specs.Device.{Device, Takes, Writes, WritesSome}
+use Rattle.vcd_tools.specs.Device.{DueBy}
 use Rattle.vcd_tools.specs.Cut.{AreCut, span_in}
 use Rattle.vcd_tools.specs.Edges.{AreEdges, names_counted}
 use Rattle.vcd_tools.specs.Pick.{ArePicked, names_in}
@@ -109,11 +109,15 @@ Starts holds task h out out' result = MatchResult result (λ a. CanRun task h ×
 abbrev pub last_of : Regs → Option ℕ
 last_of r = cond r.marked (Some r.time) None
 
--- what is due with one item more was written, and it was returned whether the item ends the run; if not, this holds
-pub record TakesOne {E : Type 0} (holds : Type 0) (task : Request) (h : Header) (items : List BodyItem) (x : BodyItem) (out out' : Device) (result : Result Bool E) : Type 0 where
-  pub due : TakesDue out out' (open_text task h items) (open_text task h (items ++ x ∷ [])) result
+-- what is due with one item more was taken so, and it was returned whether the item ends the run; if not, this holds
+pub record TakesOneBy {E : Type 0} (takes : List ℕ → Type 0) (holds : Type 0) (task : Request) (h : Header) (items : List BodyItem) (x : BodyItem) (result : Result Bool E) : Type 0 where
+  pub due : DueBy takes (open_text task h items) (open_text task h (items ++ x ∷ []))
   pub ends : IfOk result (λ ended. ended ≡ ends_early task x)
   pub keeps : result ≡ Ok false → holds
+
+-- what is due with one item more was written
+abbrev pub TakesOne : {E : Type 0} → Type 0 → Request → Header → List BodyItem → BodyItem → Device → Device → Result Bool E → Type 0
+TakesOne holds task h items x out out' result = TakesOneBy (λ due. Takes out out' due result) holds task h items x result
 
 -- a task has begun over this header
 abbrev pub HasBegun : Begun → Header → Type 0

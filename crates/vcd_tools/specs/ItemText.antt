@@ -1,5 +1,5 @@
 -- The text of kept items, and the item that was read last.
-use Rattle.std.specs.Prelude.{◌≡◌, ℕ, ◌++◌, List, map, Some, None, slice_get}
+use Rattle.std.specs.Prelude.{◌≡◌, ℕ, ◌++◌, List, map, None}
 use Rattle.std.specs.List.{last_or}
 use Rattle.vcd_model.specs.Declarations.{IdCode}
 use Rattle.vcd_model.specs.Items.{BodyItem, Entry}
@@ -8,9 +8,7 @@ use Rattle.vcd_text.specs.declared.device.Source.{Ghosts}
 use Rattle.vcd_text.specs.declared.feed.Feed.{Feed}
 use Rattle.vcd_body.specs.Given.{IsItem}
 use Rattle.vcd_body.specs.Given.{item_text}
-use Rattle.vcd_body.specs.Items.{model_section, model_form}
 use Rattle.vcd_body.specs.declared.item.Item.{Item}
-use Rattle.vcd_body.specs.declared.item.Item.TheVariants.{Time, Begin, End, Change, Finish}
 use Rattle.vcd_tools.specs.declared.item_text.ItemText.{ItemText}
 
 -- the times whose lines stand: these, and then those of kept entries

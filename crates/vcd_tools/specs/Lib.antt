@@ -13,6 +13,8 @@ pub mod Cut
 pub mod Sample
 pub mod Edges
 pub mod Engine
+pub mod Several
+pub mod Pieces
 pub mod Ahead
 pub mod Step
 pub mod Seat

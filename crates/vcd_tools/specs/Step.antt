@@ -1,6 +1,5 @@
 -- What a step of an engine leaves.
 use Rattle.std.specs.Prelude.{◌≡◌, List, ◌++◌, Result, ◌==◌, ◌⊎◌, Bool, true, false, [], ◌∷◌, Ok, Err}
-use Rattle.std.specs.List.{list_any}
 use Rattle.vcd_model.specs.Items.{BodyItem}
 use Rattle.vcd_model.specs.Input.{Input}
 use Rattle.vcd_model.specs.Tokens.{Token}
@@ -22,6 +21,7 @@ use Rattle.vcd_tools.specs.declared.answer.More.{More}
 use Rattle.vcd_tools.specs.declared.answer.More.TheVariants.{Again, Ended}
 use Rattle.vcd_tools.specs.declared.engine.Engine.{Engine}
 use Rattle.vcd_tools.specs.Engine.{Runs}
+use Rattle.vcd_tools.specs.Several.{TakesSeveral}
 
 -- what a step after these items returns, by the engine, the feed and the output that it leaves
 abbrev pub StepGives : {X : Type 0} {g : Ghosts X} → Request → Header → Input → List Token → List BodyItem → Engine → Feed X g → Device → Device → Result More Stop → Type 0
@@ -39,41 +39,27 @@ StepGives task h i front items e f out out' (Err Write) =
     ⊎ (GaveAll h.codes i front items f e.regs × GrowsSome out out' [] (close_text task h items))
 StepGives task h i front items e f out out' (Err (Unmatched name)) = ⊥
 
--- the same, where of an item it is not said on which line it stands
-abbrev pub LastGives : {X : Type 0} {g : Ghosts X} → Request → Header → Input → List Token → List BodyItem → Engine → Feed X g → Device → Device → Result More Stop → Type 0
-LastGives task h i front items e f out out' (Ok Again) = (x : BodyItem) × Runs e h i front (items ++ x ∷ []) f × Grows out out' (open_text task h items) (open_text task h (items ++ x ∷ []))
-LastGives task h i front items e f out out' (Ok (Ended Whole)) = GaveAll h.codes i front items f e.regs × Writes out out' (close_text task h items)
-LastGives task h i front items e f out out' (Ok (Ended Early)) =
-    (x : BodyItem) × (ends_early task x ≡ true) × GaveLast h.codes i front items x f e.regs × Grows out out' (open_text task h items) (open_text task h (items ++ x ∷ []))
-LastGives task h i front items e f out out' (Err (Dump input line fault)) =
-    (input ≡ 0) × ((fault == 31) ≡ false) × (line ≡ (token_of f).line) × FailsOver h.codes i front items fault f × Writes out out' []
-LastGives task h i front items e f out out' (Err (Read input)) =
-    (input ≡ 0) × FailsOver h.codes (failed_after (seen f) i) front items 31 f × GaveOnlySeen i f × Writes out out' []
-LastGives task h i front items e f out out' (Err Write) =
-    ((x : BodyItem) × GaveLast h.codes i front items x f e.regs × GrowsSome out out' (open_text task h items) (open_text task h (items ++ x ∷ [])))
-    ⊎ (GaveAll h.codes i front items f e.regs × GrowsSome out out' [] (close_text task h items))
-LastGives task h i front items e f out out' (Err (Unmatched name)) = ⊥
+-- What several steps leave behind these items and some more, by all that they wrote: the last one is a step behind those. Where it takes an item after which the run is over, it is not said on which line that stands; and a write that failed may be of any item that was not there before.
+abbrev pub LastGives : {X : Type 0} {g : Ghosts X} → Request → Header → Input → List Token → List BodyItem → Engine → Feed X g → Device → Device → Result More Stop → List BodyItem → Type 0
+LastGives task h i front items e f out out' (Ok (Ended Early)) more =
+    (x : BodyItem) × (ends_early task x ≡ true) × GaveLast h.codes i front (items ++ more) x f e.regs × Grows out out' (open_text task h items) (open_text task h ((items ++ more) ++ x ∷ []))
+LastGives task h i front items e f out out' (Err Write) more =
+    ((x : BodyItem) × GaveLast h.codes i front (items ++ more) x f e.regs × GrowsSome out out' (open_text task h items) (open_text task h ((items ++ more) ++ x ∷ [])))
+    ⊎ (GaveAll h.codes i front (items ++ more) f e.regs × GrowsSome out out' (open_text task h items) (open_text task h (items ++ more) ++ close_text task h (items ++ more)))
+LastGives task h i front items e f out out' result more = (mid : Device) × Grows out mid (open_text task h items) (open_text task h (items ++ more)) × StepGives task h i front (items ++ more) e f mid out' result
 
--- what several steps leave: items were given and taken, of which none ends the run, and what is due with them was written; then a last step
-pub record StepsGive {X : Type 0} {g : Ghosts X} (task : Request) (h : Header) (i : Input) (front : List Token) (items : List BodyItem) (e : Engine) (f : Feed X g) (out out' : Device) (result : Result More Stop) : Type 0 where
-  pub more : List BodyItem
-  pub mid : Device
-  pub on : list_any (ends_early task) (items ++ more) ≡ false
-  pub grows : Grows out mid (open_text task h items) (open_text task h (items ++ more))
-  pub last : LastGives task h i front (items ++ more) e f mid out' result
+-- what several steps leave: items were given and taken, of which none ends the run, and then a last step
+abbrev pub StepsGive : {X : Type 0} {g : Ghosts X} → Request → Header → Input → List Token → List BodyItem → Engine → Feed X g → Device → Device → Result More Stop → Type 0
+StepsGive task h i front items e f out out' result = TakesSeveral task items (LastGives task h i front items e f out out' result)
 
--- what the items that lie ahead leave: all of them were taken; or the last of them ended the run, or a write of what is due with it failed
-abbrev pub AheadGives : {X : Type 0} {g : Ghosts X} → Request → Header → Input → List Token → List BodyItem → Engine → Feed X g → Device → Device → Result More Stop → Type 0
-AheadGives task h i front items e f out out' (Ok Again) = Runs e h i front items f × (out' ≡ out)
-AheadGives task h i front items e f out out' result = LastGives task h i front items e f out out' result
+-- what the items that lie ahead leave: all of them were taken; or the last of them ended the run, or a write of what is due with them failed
+abbrev pub AheadGives : {X : Type 0} {g : Ghosts X} → Request → Header → Input → List Token → List BodyItem → Engine → Feed X g → Device → Device → Result More Stop → List BodyItem → Type 0
+AheadGives task h i front items e f out out' (Ok Again) more = Runs e h i front (items ++ more) f × Grows out out' (open_text task h items) (open_text task h (items ++ more))
+AheadGives task h i front items e f out out' result more = LastGives task h i front items e f out out' result more
 
 -- some items were taken, and then this
-pub record TakesAhead {X : Type 0} {g : Ghosts X} (task : Request) (h : Header) (i : Input) (front : List Token) (items : List BodyItem) (e : Engine) (f : Feed X g) (out out' : Device) (result : Result More Stop) : Type 0 where
-  pub more : List BodyItem
-  pub mid : Device
-  pub on : list_any (ends_early task) (items ++ more) ≡ false
-  pub grows : Grows out mid (open_text task h items) (open_text task h (items ++ more))
-  pub last : AheadGives task h i front (items ++ more) e f mid out' result
+abbrev pub TakesAhead : {X : Type 0} {g : Ghosts X} → Request → Header → Input → List Token → List BodyItem → Engine → Feed X g → Device → Device → Result More Stop → Type 0
+TakesAhead task h i front items e f out out' result = TakesSeveral task items (AheadGives task h i front items e f out out' result)
 
 -- the answer is that the run goes on
 abbrev pub goes_on : Result More Stop → Bool

@@ -1,5 +1,5 @@
 //! The text of kept items: each as its line, after the line of its time where that does not stand yet.
-ghost use Rattle.std.specs.Prelude.{◌≡◌, ℕ, ◌-◌, ◌^◌, ◌<◌, ◌∷◌, ◌++◌, [], List, Some, IfOk};
+ghost use Rattle.std.specs.Prelude.{◌≡◌, ℕ, ◌-◌, ◌^◌, ◌<◌, ◌≤◌, ◌∷◌, ◌++◌, [], List, length, slice_range, Some, IfOk};
 ghost use Rattle.vcd_model.specs.Bytes.{as_line};
 ghost use Rattle.vcd_model.specs.BodyPhrases.{section_keyword};
 ghost use Rattle.vcd_model.specs.Header.{Header};
@@ -11,10 +11,12 @@ ghost use Rattle.vcd_text.specs.Device.{Counts, Puts, Takes, failures_after};
 ghost use Rattle.vcd_head.specs.Views.{IsViewOf};
 ghost use Rattle.vcd_body.specs.Given.{HasGoodText};
 ghost use Rattle.vcd_body.specs.Items.{model_section};
-ghost use Rattle.vcd_tools.specs.Device.{TakesDue};
+ghost use Rattle.vcd_tools.specs.Device.{DueBy, TakesDue};
 ghost use Rattle.vcd_body.specs.Given.{IsItem};
 ghost use Rattle.vcd_tools.specs.ItemText.{HasWritten, LastTells, times_with};
+ghost use Rattle.vcd_tools.specs.Pieces.{IsPart, Lies, PutsOn, held_in};
 
+use crate::pieces::{Lying, Pieces};
 use vcd_body::{Form, Item, Section, put_change};
 use vcd_head::HeadView;
 use vcd_text::{Sink, WriteFailed, put, put_number};
@@ -50,6 +52,29 @@ pub(crate) fn put_time_unless<W: Sink>(
         return Ok(());
     }
     put_time(time, out)
+}
+
+/// Writes the line of a time, unless it was written last, behind what is held of the bytes.
+#[inline(always)]
+fn put_time_behind<W: Sink>(
+    written: Option<u64>,
+    time: u64,
+    bytes: &[u8],
+    pieces: &mut Pieces,
+    out: &mut W,
+) -> Result<(), WriteFailed>
+    requires failures { (W.device out.old).failures < 2 ^ 64 - 1 }
+    requires part { IsPart bytes.now pieces.old }
+    ensures puts { PutsOn (held_in bytes.now pieces.old) (held_in bytes.now pieces.new)
+        (W.device out.old) (W.device out.new) (time_due written time) result }
+    ensures counts { Counts (W.device out.old) (W.device out.new) result }
+    ensures part { IfOk result (λ _. IsPart bytes.now pieces.new) }
+{
+    if written == Some(time) {
+        return Ok(());
+    }
+    pieces.flush(bytes, out)?;
+    put_time_unless(written, time, out)
 }
 
 /// The keyword that begins a section, as its line.
@@ -150,6 +175,64 @@ impl ItemText {
         put_time_unless(self.written, time, out)?;
         self.written = Some(time);
         put_item(view, item, text, out)
+    }
+
+    /// Writes an item that lies ahead as an entry at this time, behind what is held. Where it stands there as its line, that is held.
+    #[inline(always)]
+    pub(crate) fn put_lying<W: Sink>(
+        &mut self,
+        view: HeadView<'_>,
+        time: u64,
+        lying: Lying<'_>,
+        pieces: &mut Pieces,
+        out: &mut W,
+    ) -> Result<(), WriteFailed>
+        requires failures { (W.device out.old).failures < 2 ^ 64 - 1 }
+        requires lies { Lies view lying }
+        requires part { IsPart lying.bytes.now pieces.old }
+        ensures text { (h : Header) (before : List ℕ) (kept : List Entry) (e : Entry)
+            → IsViewOf view.entry h
+            → IsItem h.codes lying.entry.plain.text.now lying.entry.plain.item e.item
+            → e.time ≡ time → HasWritten before kept self.old
+            → LastTells (times_with before kept) time
+            → DueBy (λ due. PutsOn (held_in lying.entry.bytes.now pieces.old)
+            (held_in lying.entry.bytes.now pieces.new)
+            (W.device out.old) (W.device out.new) due result)
+            (text_after before kept) (text_after before (kept ++ e ∷ []))
+            × IfOk result (λ _. HasWritten before (kept ++ e ∷ []) self.new) }
+        ensures counts { Counts (W.device out.old) (W.device out.new) result }
+        ensures part { IfOk result (λ _. IsPart lying.entry.bytes.now pieces.new) }
+    {
+        if lying.stands_as_line(view) {
+            return self.put_line(time, lying, pieces, out);
+        }
+        pieces.flush(lying.bytes, out)?;
+        self.put(view, time, lying.plain.item, lying.plain.text, out)
+    }
+
+    /// Writes the line of a time, unless it was written last, and then the bytes of an item that lies ahead, behind what is held.
+    #[inline(always)]
+    fn put_line<W: Sink>(
+        &mut self,
+        time: u64,
+        lying: Lying<'_>,
+        pieces: &mut Pieces,
+        out: &mut W,
+    ) -> Result<(), WriteFailed>
+        requires failures { (W.device out.old).failures < 2 ^ 64 - 1 }
+        requires within { (lying.from ≤ lying.to) × (lying.to ≤ length lying.bytes.now) }
+        requires part { IsPart lying.bytes.now pieces.old }
+        ensures puts { PutsOn (held_in lying.entry.bytes.now pieces.old)
+            (held_in lying.entry.bytes.now pieces.new)
+            (W.device out.old) (W.device out.new) (time_due self.old.written time
+            ++ slice_range lying.entry.bytes.now lying.entry.from lying.entry.to) result }
+        ensures counts { Counts (W.device out.old) (W.device out.new) result }
+        ensures part { IfOk result (λ _. IsPart lying.entry.bytes.now pieces.new) }
+        ensures written { IfOk result (λ _. self.new.written ≡ Some time) }
+    {
+        put_time_behind(self.written, time, lying.bytes, pieces, out)?;
+        self.written = Some(time);
+        pieces.append(lying.bytes, lying.from, lying.to, out)
     }
 
     /// Writes what closes the text where this is the last time mark: its line, where it does not stand yet.

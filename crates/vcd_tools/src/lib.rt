@@ -26,6 +26,7 @@
 //! - `answer`: `Done`, `More`, `Stop`: how a run ends, and whether it goes on
 //! - `choice`: which codes are chosen, a byte a code
 //! - `item_text`: kept items as lines, each after the line of its time
+//! - `pieces`: text that is due and stands in the chunk, which is written at once
 //! - `selection`: the variables that names select, as marks and as chosen codes
 //! - `report`, `rows`, `tally`: the seven lines of `check`; `list`; the counters of `edges`, and its rows
 //! - `samples`, `sample_lines`: `Samples`, what a sample is asked for; its lines
@@ -60,6 +61,7 @@ mod merge_steps;
 #[cfg(test)]
 mod merge_tests;
 mod merging;
+mod pieces;
 mod report;
 mod rows;
 mod sample_lines;

@@ -13,8 +13,9 @@ ghost use Rattle.vcd_body.specs.Given.{HasGoodText};
 ghost use Rattle.vcd_body.specs.Items.{AreRegsAfter, regs_after};
 ghost use Rattle.vcd_tools.specs.Ahead.{RunsAhead, StandsAhead};
 ghost use Rattle.vcd_tools.specs.Answer.{writes_failed};
-ghost use Rattle.vcd_tools.specs.Engine.{Keeps, Starts, StopsUnread, TakesOne, last_of, may_end_early, request_in, request_of};
+ghost use Rattle.vcd_tools.specs.Engine.{Keeps, Starts, StopsUnread, TakesOne, TakesOneBy, last_of, may_end_early, request_in, request_of};
 ghost use Rattle.vcd_body.specs.Given.{IsItem};
+ghost use Rattle.vcd_tools.specs.Pieces.{IsPart, Lies, PutsOn, held_in};
 ghost use Rattle.vcd_tools.specs.Room.{HasRoomFor, IsWithin, room_of, room_size};
 
 pub(crate) mod check;
@@ -24,6 +25,7 @@ pub(crate) mod pick;
 pub(crate) mod sample;
 
 use crate::answer::Stop;
+use crate::pieces::{Lying, Pieces};
 use crate::task::{Room, Task};
 use vcd_body::{Item, Regs, item_ahead};
 use vcd_head::HeadView;
@@ -46,7 +48,7 @@ pub(crate) struct Taken {
     pub(crate) passed: usize,
     /// The registers after them.
     pub(crate) regs: Regs,
-    /// Whether the last of them has ended the run; or that a write of what is due with it failed.
+    /// Whether the last of them has ended the run; or that a write of what is due with them failed.
     pub(crate) ended: Result<bool, WriteFailed>,
 }
 
@@ -140,6 +142,49 @@ impl<'n, 'r> Machine<'n, 'r> {
         Ok(false)
     }
 
+    /// Takes an item that lies ahead, writes what is due after it behind what is held, and returns whether it ended the run. The
+    /// registers are those after it.
+    #[inline(always)]
+    fn take_lying<W: Sink>(
+        &mut self,
+        view: HeadView<'_>,
+        regs: Regs,
+        lying: Lying<'_>,
+        pieces: &mut Pieces,
+        out: &mut W,
+    ) -> Result<bool, WriteFailed>
+        requires failures { (W.device out.old).failures < 2 ^ 64 - 1 }
+        requires lies { Lies view lying }
+        requires part { IsPart lying.bytes.now pieces.old }
+        ensures takes { (h : Header) (items : List BodyItem) (before : Regs) (x : BodyItem)
+            → IsViewOf view.entry h → AreRegsAfter items before
+            → regs ≡ regs_after before lying.entry.plain.item
+            → IsItem h.codes lying.entry.plain.text.now lying.entry.plain.item x
+            → length items < 2 ^ 63 → Keeps self.old h items
+            → TakesOneBy (λ due. PutsOn (held_in lying.entry.bytes.now pieces.old)
+            (held_in lying.entry.bytes.now pieces.new)
+            (W.device out.old) (W.device out.new) due result)
+            (Keeps self.new h (items ++ x ∷ [])) (request_in self.old) h items x result }
+        ensures counts { Counts (W.device out.old) (W.device out.new) result }
+        ensures part { IfOk result (λ _. IsPart lying.entry.bytes.now pieces.new) }
+        ensures request { request_in self.new ≡ request_in self.old }
+        ensures room { room_of self.new ≡ room_of self.old }
+        ensures early { IfOk result
+            (λ ended. ended ≡ true → may_end_early (request_in self.old) ≡ true) }
+    {
+        match self {
+            Machine::Pick(pick) => {
+                pick.take_lying(view, regs, lying, pieces, out)?;
+                Ok(false)
+            }
+            Machine::Cut(cut) => cut.take_lying(view, regs, lying, pieces, out),
+            Machine::Check(_) | Machine::Sample(_) | Machine::Edges(_) => {
+                pieces.flush(lying.bytes, out)?;
+                self.take(view, regs, lying.plain.item, lying.plain.text, out)
+            }
+        }
+    }
+
     /// Takes the items that lie ahead, one after the other, up to one that ends the run, and writes what is due after each.
     // Registers and place come and go by value, so that the loop keeps them out of memory.
     pub(crate) fn take_ahead<W: Sink>(
@@ -168,13 +213,23 @@ impl<'n, 'r> Machine<'n, 'r> {
         ensures early { IfOk result.ended
             (λ ended. ended ≡ true → may_end_early (request_in self.old) ≡ true) }
     {
+        let bytes = ahead.bytes();
+        let mut pieces = Pieces::new();
         'items: loop {
+            let from = ahead.passed();
             let Some(plain) = item_ahead(&mut ahead, view, &mut regs) else {
-                return Taken::until(ahead, regs, Ok(false));
+                return Taken::until(ahead, regs, pieces.finish(bytes, false, out));
             };
-            match self.take(view, regs, plain.item, plain.text, out) {
+            let to = ahead.passed();
+            let lying = Lying {
+                plain,
+                bytes,
+                from,
+                to,
+            };
+            match self.take_lying(view, regs, lying, &mut pieces, out) {
                 Ok(false) => {}
-                Ok(true) => return Taken::until(ahead, regs, Ok(true)),
+                Ok(true) => return Taken::until(ahead, regs, pieces.finish(bytes, true, out)),
                 Err(failed) => return Taken::until(ahead, regs, Err(failed)),
             }
         }

@@ -12,8 +12,9 @@ ghost use Rattle.vcd_body.specs.Given.{HasGoodText};
 ghost use Rattle.vcd_body.specs.Items.{AreRegsAfter, regs_after};
 ghost use Rattle.vcd_tools.specs.Answer.{writes_failed};
 ghost use Rattle.vcd_tools.specs.Cut.{AreCut, BeginsBy, IsNoMark, lent_to, may_be_kept, span_in, values_text};
-ghost use Rattle.vcd_tools.specs.Device.{TakesDue};
-ghost use Rattle.vcd_tools.specs.Engine.{Starts, StopsUnread, TakesOne, last_of};
+ghost use Rattle.vcd_tools.specs.Device.{DueBy, TakesDue};
+ghost use Rattle.vcd_tools.specs.Pieces.{IsPart, Lies, PutsOn, held_in};
+ghost use Rattle.vcd_tools.specs.Engine.{Starts, StopsUnread, TakesOne, TakesOneBy, last_of};
 ghost use Rattle.vcd_body.specs.Given.{IsItem};
 ghost use Rattle.vcd_tools.specs.ItemText.{HasWritten};
 ghost use Rattle.vcd_tools.specs.Room.{HasRoomFor, IsWithin, room_size};
@@ -23,6 +24,7 @@ ghost use Rattle.vcd_tools.specs.declared.task.Task.TheVariants as task;
 use crate::answer::Stop;
 use crate::item_text::{ItemText, put_time};
 use crate::machine::last_of;
+use crate::pieces::{Lying, Pieces};
 use crate::span::Span;
 use crate::task::Room;
 use vcd_body::{Item, Regs, Table};
@@ -259,6 +261,81 @@ impl<'r> Cut<'r> {
             return Ok(());
         }
         self.text.put(view, regs.time, item, text, out)
+    }
+
+    /// Does the same with an item that lies ahead, behind what is held.
+    #[inline(always)]
+    fn put_kept_lying<W: Sink>(
+        &mut self,
+        view: HeadView<'_>,
+        regs: Regs,
+        lying: Lying<'_>,
+        pieces: &mut Pieces,
+        out: &mut W,
+    ) -> Result<(), WriteFailed>
+        requires failures { (W.device out.old).failures < 2 ^ 64 - 1 }
+        requires lies { Lies view lying }
+        requires part { IsPart lying.bytes.now pieces.old }
+        ensures takes { (h : Header) (items : List BodyItem) (before : Regs) (x : BodyItem)
+            → IsViewOf view.entry h → AreRegsAfter items before
+            → regs ≡ regs_after before lying.entry.plain.item
+            → IsItem h.codes lying.entry.plain.text.now lying.entry.plain.item x
+            → IsNoMark lying.entry.plain.item → AreCut self.old h items
+            → self.old.started ≡ true
+            → DueBy (λ due. PutsOn (held_in lying.entry.bytes.now pieces.old)
+            (held_in lying.entry.bytes.now pieces.new)
+            (W.device out.old) (W.device out.new) due result)
+            (cut_open h self.old.from self.old.to items)
+            (cut_open h self.old.from self.old.to (items ++ x ∷ []))
+            × IfOk result (λ _. AreCut self.new h (items ++ x ∷ [])) }
+        ensures counts { Counts (W.device out.old) (W.device out.new) result }
+        ensures part { IfOk result (λ _. IsPart lying.entry.bytes.now pieces.new) }
+        ensures span { span_in self.new ≡ span_in self.old }
+        ensures room { lent_to self.new ≡ lent_to self.old }
+    {
+        if !may_keep(view, regs, lying.plain.item) {
+            return Ok(());
+        }
+        self.text.put_lying(view, regs.time, lying, pieces, out)
+    }
+
+    /// Takes an item that lies ahead, writes what is due after it behind what is held, and returns whether it ended the run. The
+    /// registers are those after it.
+    #[inline(always)]
+    pub(crate) fn take_lying<W: Sink>(
+        &mut self,
+        view: HeadView<'_>,
+        regs: Regs,
+        lying: Lying<'_>,
+        pieces: &mut Pieces,
+        out: &mut W,
+    ) -> Result<bool, WriteFailed>
+        requires failures { (W.device out.old).failures < 2 ^ 64 - 1 }
+        requires lies { Lies view lying }
+        requires part { IsPart lying.bytes.now pieces.old }
+        ensures takes { (h : Header) (items : List BodyItem) (before : Regs) (x : BodyItem)
+            → IsViewOf view.entry h → AreRegsAfter items before
+            → regs ≡ regs_after before lying.entry.plain.item
+            → IsItem h.codes lying.entry.plain.text.now lying.entry.plain.item x
+            → AreCut self.old h items
+            → TakesOneBy (λ due. PutsOn (held_in lying.entry.bytes.now pieces.old)
+            (held_in lying.entry.bytes.now pieces.new)
+            (W.device out.old) (W.device out.new) due result)
+            (AreCut self.new h (items ++ x ∷ []))
+            (Request.Cut self.old.from self.old.to) h items x result }
+        ensures counts { Counts (W.device out.old) (W.device out.new) result }
+        ensures part { IfOk result (λ _. IsPart lying.entry.bytes.now pieces.new) }
+        ensures span { span_in self.new ≡ span_in self.old }
+        ensures room { lent_to self.new ≡ lent_to self.old }
+    {
+        if let Item::Change { .. } = lying.plain.item
+            && self.started
+        {
+            self.put_kept_lying(view, regs, lying, pieces, out)?;
+            return Ok(false);
+        }
+        pieces.flush(lying.bytes, out)?;
+        self.take(view, regs, lying.plain.item, lying.plain.text, out)
     }
 
     /// Takes an item with its text, writes what is due after it, and returns whether it ended the run. The registers are those after

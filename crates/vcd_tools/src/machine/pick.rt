@@ -10,9 +10,10 @@ ghost use Rattle.vcd_head.specs.Views.{IsViewOf};
 ghost use Rattle.vcd_body.specs.Given.{HasGoodText};
 ghost use Rattle.vcd_body.specs.Items.{AreRegsAfter, regs_after};
 ghost use Rattle.vcd_tools.specs.Answer.{writes_failed};
-ghost use Rattle.vcd_tools.specs.Device.{TakesDue};
+ghost use Rattle.vcd_tools.specs.Device.{DueBy, TakesDue};
 ghost use Rattle.vcd_tools.specs.Engine.{Starts, StopsUnread, last_of};
 ghost use Rattle.vcd_body.specs.Given.{IsItem};
+ghost use Rattle.vcd_tools.specs.Pieces.{IsPart, Lies, PutsOn, held_in};
 ghost use Rattle.vcd_tools.specs.Pick.{ArePicked, is_event_at, is_kept, names_in, flags_in};
 ghost use Rattle.vcd_tools.specs.Room.{HasRoomFor};
 ghost use Rattle.vcd_tools.specs.declared.task.Task.TheVariants as task;
@@ -21,6 +22,7 @@ use crate::answer::Stop;
 use crate::choice::Choice;
 use crate::item_text::ItemText;
 use crate::machine::last_of;
+use crate::pieces::{Lying, Pieces};
 use crate::selection::select_codes;
 use crate::task::Room;
 use vcd_body::{Item, Regs};
@@ -107,6 +109,41 @@ impl<'n, 'r> Pick<'n, 'r> {
             return Ok(());
         }
         self.text.put(view, regs.time, item, text, out)
+    }
+
+    /// Does the same with an item that lies ahead, behind what is held.
+    #[inline(always)]
+    pub(crate) fn take_lying<W: Sink>(
+        &mut self,
+        view: HeadView<'_>,
+        regs: Regs,
+        lying: Lying<'_>,
+        pieces: &mut Pieces,
+        out: &mut W,
+    ) -> Result<(), WriteFailed>
+        requires failures { (W.device out.old).failures < 2 ^ 64 - 1 }
+        requires lies { Lies view lying }
+        requires part { IsPart lying.bytes.now pieces.old }
+        ensures takes { (h : Header) (items : List BodyItem) (before : Regs) (x : BodyItem)
+            → IsViewOf view.entry h → AreRegsAfter items before
+            → regs ≡ regs_after before lying.entry.plain.item
+            → IsItem h.codes lying.entry.plain.text.now lying.entry.plain.item x
+            → ArePicked self.old h items
+            → DueBy (λ due. PutsOn (held_in lying.entry.bytes.now pieces.old)
+            (held_in lying.entry.bytes.now pieces.new)
+            (W.device out.old) (W.device out.new) due result)
+            (pick_open h (names_in self.old) items)
+            (pick_open h (names_in self.old) (items ++ x ∷ []))
+            × IfOk result (λ _. ArePicked self.new h (items ++ x ∷ [])) }
+        ensures counts { Counts (W.device out.old) (W.device out.new) result }
+        ensures part { IfOk result (λ _. IsPart lying.entry.bytes.now pieces.new) }
+        ensures names { names_in self.new ≡ names_in self.old }
+        ensures room { flags_in self.new ≡ flags_in self.old }
+    {
+        if !self.keeps(view, regs, lying.plain.item) {
+            return Ok(());
+        }
+        self.text.put_lying(view, regs.time, lying, pieces, out)
     }
 
     /// Writes the line of the last time mark, where it does not stand yet.

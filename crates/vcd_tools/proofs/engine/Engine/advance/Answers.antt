@@ -1,16 +1,16 @@
-use Rattle.std.proofs.Common.{◌≡◌, ◌++◌, Ok, Err, ap, refl, rules, subst}
+use Rattle.std.proofs.Common.{◌≡◌, ◌++◌, Ok, Err, rules, subst}
 use Rattle.vcd_model.specs.Outcome.{Request}
 use Rattle.vcd_tools.specs.Engine.{request_of_engine}
 use Rattle.vcd_tools.specs.Step.{StepGives, TakesAhead}
 use Rattle.vcd_tools.specs.declared.answer.More.{More}
-use Rattle.vcd_tools.proofs.RunLemmas.{steps_behind, steps_end_ahead, steps_stop_ahead}
+use Rattle.vcd_tools.proofs.RunLemmas.{steps_behind}
 use Rattle.vcd_tools.proofs.engine.Engine.advance.Goals as goal
 
 pub returns-in_err-take_ahead-clause-gives : goal.returns-in_err-take_ahead-clause-gives
 returns-in_err-take_ahead-clause-gives g c = λ h i front items s.
     let stop = c.in_err-take_ahead.field-0.0 in
     let e : c.from_residual.result ≡ Err stop = search rules in
-    rw e (steps_stop_ahead (request_of_engine c.args.self.now) h i front items c.take_ahead.new.self c.take_ahead.new.feed (g.W.Sink.device c.args.out.now) (g.W.Sink.device c.take_ahead.new.out) stop (c.in_err-take_ahead.ensures.gives h i front items s))
+    rw e (c.in_err-take_ahead.ensures.gives h i front items s)
 
 pub returns-in-Again-clause-gives : goal.returns-in-Again-clause-gives
 returns-in-Again-clause-gives g c = λ h i front items s.
@@ -29,5 +29,4 @@ returns-in-Ended-clause-gives g c = λ h i front items s.
     let t = request_of_engine c.args.self.now in
     let out = g.W.Sink.device c.args.out.now in
     let mid = g.W.Sink.device c.take_ahead.new.out in
-    steps_end_ahead t h i front items c.take_ahead.new.self c.take_ahead.new.feed out mid c.in-Ended.done
-    (subst (λ (m : More). TakesAhead t h i front items c.take_ahead.new.self c.take_ahead.new.feed out mid (Ok m)) c.in-Ended.is (c.in_ok-take_ahead.ensures.gives h i front items s))
+    subst (λ (m : More). TakesAhead t h i front items c.take_ahead.new.self c.take_ahead.new.feed out mid (Ok m)) c.in-Ended.is (c.in_ok-take_ahead.ensures.gives h i front items s)

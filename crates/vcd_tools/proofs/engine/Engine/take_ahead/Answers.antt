@@ -1,11 +1,9 @@
-use Rattle.std.proofs.Common.{rules, ◌≡◌, ◌+◌, ◌^◌, ◌<◌, ◌++◌, ◌∷◌, [], List, Bool, true, false, Result, Ok, Err, length, inl, refl, sym, ap, subst, ◌∙◌, arith}
-use Rattle.vcd_text.specs.Ahead.{ahead_of, bytes_of, lines_of, longest_of, passed_of}
+use Rattle.std.proofs.Common.{rules, ◌≡◌, ◌+◌, ◌^◌, ◌<◌, ◌++◌, ◌∷◌, [], Bool, true, false, Result, Ok, length, inl, refl, sym, subst, arith}
+use Rattle.vcd_text.specs.Ahead.{ahead_of, bytes_of, lines_of, longest_of}
 use Rattle.vcd_text.specs.Feed.{limit_of, seen}
-use Rattle.vcd_text.specs.Passed.{Passed}
 use Rattle.vcd_text.specs.declared.device.WriteFailed.{WriteFailed}
 use Rattle.vcd_head.specs.Shown.{parts}
 use Rattle.vcd_head.specs.Views.{Views}
-use Rattle.vcd_body.specs.Ahead.{GaveAhead}
 use Rattle.vcd_tools.specs.Ahead.{RunsAhead, StandsAhead}
 use Rattle.vcd_tools.specs.Engine.{request_of_engine}
 use Rattle.vcd_tools.specs.declared.answer.Stop.TheVariants.{Write}
@@ -33,10 +31,10 @@ returns-in-Ok-true-clause-gives g c = λ h i front items s.
     let is : c.take_ahead-taken.result.ended ≡ Ok true = search rules in
     let r = subst (λ (q : Result Bool WriteFailed). RunsAhead (request_of_engine e) h (longest_of ahead) lines (bytes_of ahead) items {E = WriteFailed} c.take_ahead-taken.result.passed c.take_ahead-taken.new.self c.take_ahead-taken.result.regs (g.W.Sink.device c.args.out.now) (g.W.Sink.device c.take_ahead-taken.new.out) q)
     is (c.take_ahead-taken.ensures.gives h lines items v few first) in
-    let x = r.ends.0 in
-    let one = r.ends.2 in
-    let over = gave_over h.codes (longest_of ahead) (limit_of f) lines (bytes_of ahead) (ahead_of f) c.take_ahead-taken.result.passed items (r.items ++ x ∷ []) a.limit a.bytes one.gave in
-    record { more = r.items; mid = r.mid; on = r.on; grows = r.grows; last = (x, r.ends.1, c.pass_items.ensures.ends h.codes i front items r.items x e.regs c.take_ahead-taken.result.regs s.gave over one.known, r.ends.3) }
+    let x = r.last.0 in
+    let one = r.last.2 in
+    let over = gave_over h.codes (longest_of ahead) (limit_of f) lines (bytes_of ahead) (ahead_of f) c.take_ahead-taken.result.passed items (r.more ++ x ∷ []) a.limit a.bytes one.gave in
+    record { more = r.more; on = r.on; last = (x, r.last.1, c.pass_items.ensures.ends h.codes i front items r.more x e.regs c.take_ahead-taken.result.regs s.gave over one.known, r.last.3) }
 
 pub returns-in-Ok-false-clause-gives : goal.returns-in-Ok-false-clause-gives
 returns-in-Ok-false-clause-gives g c = λ h i front items s.
@@ -52,19 +50,17 @@ returns-in-Ok-false-clause-gives g c = λ h i front items s.
     let is : c.take_ahead-taken.result.ended ≡ Ok false = search rules in
     let r = subst (λ (q : Result Bool WriteFailed). RunsAhead (request_of_engine e) h (longest_of ahead) lines (bytes_of ahead) items {E = WriteFailed} c.take_ahead-taken.result.passed c.take_ahead-taken.new.self c.take_ahead-taken.result.regs (g.W.Sink.device c.args.out.now) (g.W.Sink.device c.take_ahead-taken.new.out) q)
     is (c.take_ahead-taken.ensures.gives h lines items v few first) in
-    let stands = r.ends.0 in
-    let over = gave_over h.codes (longest_of ahead) (limit_of f) lines (bytes_of ahead) (ahead_of f) c.take_ahead-taken.result.passed items r.items a.limit a.bytes stands.gave in
+    let stands = r.last.0 in
+    let over = gave_over h.codes (longest_of ahead) (limit_of f) lines (bytes_of ahead) (ahead_of f) c.take_ahead-taken.result.passed items r.more a.limit a.bytes stands.gave in
     let e' : Engine = record { view = e.view; regs = c.take_ahead-taken.result.regs; machine = c.take_ahead-taken.new.self; going = e.going } in
     record {
-      more = r.items;
-      mid = r.mid;
+      more = r.more;
       on = r.on;
-      grows = r.grows;
       last = (
-        runs_behind h i front items e e' f c.pass_items.new.feed (longest_of ahead) lines (bytes_of ahead) c.take_ahead-taken.result.passed s r.items stands
-            (c.pass_items.ensures.gives h.codes i front items r.items e.regs c.take_ahead-taken.result.regs s.gave over stands.known) refl c.take_ahead-taken.ensures.request
+        runs_behind h i front items e e' f c.pass_items.new.feed (longest_of ahead) lines (bytes_of ahead) c.take_ahead-taken.result.passed s r.more stands
+            (c.pass_items.ensures.gives h.codes i front items r.more e.regs c.take_ahead-taken.result.regs s.gave over stands.known) refl c.take_ahead-taken.ensures.request
             c.pass_items.ensures.looked,
-        r.ends.1,
+        r.last.1,
       );
     }
 
@@ -81,8 +77,8 @@ returns-in-Err-clause-gives g c = λ h i front items s.
     let first = subst (λ n. StandsAhead (request_of_engine e) h (longest_of ahead) lines (bytes_of ahead) items n [] e.machine e.regs) (sym a.passed) (stands_first e h i front items f (longest_of ahead) lines (bytes_of ahead) s) in
     let r = subst (λ (q : Result Bool WriteFailed). RunsAhead (request_of_engine e) h (longest_of ahead) lines (bytes_of ahead) items {E = WriteFailed} c.take_ahead-taken.result.passed c.take_ahead-taken.new.self c.take_ahead-taken.result.regs (g.W.Sink.device c.args.out.now) (g.W.Sink.device c.take_ahead-taken.new.out) q)
     c.in-Err.is (c.take_ahead-taken.ensures.gives h lines items v few first) in
-    let x = r.ends.0 in
-    let one = r.ends.1 in
-    let over = gave_over h.codes (longest_of ahead) (limit_of f) lines (bytes_of ahead) (ahead_of f) c.take_ahead-taken.result.passed items (r.items ++ x ∷ []) a.limit a.bytes one.gave in
+    let x = r.last.0 in
+    let one = r.last.1 in
+    let over = gave_over h.codes (longest_of ahead) (limit_of f) lines (bytes_of ahead) (ahead_of f) c.take_ahead-taken.result.passed items (r.more ++ x ∷ []) a.limit a.bytes one.gave in
     let w : c.into.result ≡ Write = search rules in
-    rw w (record { more = r.items; mid = r.mid; on = r.on; grows = r.grows; last = inl (x, c.pass_items.ensures.ends h.codes i front items r.items x e.regs c.take_ahead-taken.result.regs s.gave over one.known, r.ends.2) })
+    rw w (record { more = r.more; on = r.on; last = inl (x, c.pass_items.ensures.ends h.codes i front items r.more x e.regs c.take_ahead-taken.result.regs s.gave over one.known, r.last.2) })

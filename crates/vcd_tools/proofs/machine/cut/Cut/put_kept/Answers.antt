@@ -24,6 +24,6 @@ returns-clause-takes g c = λ h items before x views known re read none is start
     let t = ap (λ (r : Regs). r.time) re ∙ item_time c.args.view h items before m c.args.text.now c.args.item x views known is read none in
     let tells = item_tells c.args.view h items before m c.args.text.now c.args.item x views known is read none started in
     let one = c.put.ensures.text h (m.from ∷ []) (kept_from m.from items) (entry_after items x) views read (sym t) (is.written started) (subst (λ n. LastTells (times_with (m.from ∷ []) (kept_from m.from items)) n) (sym t) tells) in (
-      due_item c.args.view h items before m c.args.text.now c.args.item x views known is read none (g.W.Sink.device c.args.out.now) (g.W.Sink.device c.put.new.out) c.put.result started k one.0,
+      due_item c.args.view h items before m c.args.text.now c.args.item x views known is read none _ started k one.0,
       if_ok_more c.put.result _ _ (item_kept c.args.view h items before m c.args.text.now c.args.item x views known is read none _ started k) one.1,
     )

@@ -23,4 +23,4 @@ returns-clause-takes g c = λ h items before x views known re is picked.
     let k = sym (kept_is c.args.view h items before p views known picked c.args.text.now c.args.item x is) ∙ yes in
     let t = ap (λ (r : Regs). r.time) re ∙ kept_time c.args.view h items before p views known picked c.args.item yes in
     let one = c.put.ensures.text h [] (pick_kept h (names_in p) items) (entry_after items x) views is (sym t) picked.written (last_tells h (names_in p) items c.args.regs.time t) in
-    (due_one h (names_in p) items x (g.W.Sink.device c.args.out.now) (g.W.Sink.device c.put.new.out) c.put.result k one.0, if_ok_more c.put.result _ _ (picks_on h items p picked x _ k) one.1)
+    (due_one h (names_in p) items x _ k one.0, if_ok_more c.put.result _ _ (picks_on h items p picked x _ k) one.1)

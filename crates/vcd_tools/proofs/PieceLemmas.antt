@@ -1,0 +1,73 @@
+-- What is written and what is held, where text is due.
+use Rattle.std.proofs.Common.{◌≡◌, ℕ, ◌+◌, ◌-◌, ◌≤◌, List, [], ◌++◌, slice_range, Result, Ok, Err, sym, ap, subst, ◌∙◌, append-nil, append_assoc, arith}
+use Rattle.vcd_text.specs.Device.{Device, Puts, Writes, WritesSome}
+use Rattle.vcd_text.proofs.AheadLemmas.{slice_range-append}
+use Rattle.vcd_text.proofs.Writes.{both-written, some-behind, some-first}
+use Rattle.vcd_tools.specs.Device.{Grows, GrowsSome}
+use Rattle.vcd_tools.specs.Pieces.{GrowsBut, PutsAll, PutsOn}
+use Rattle.vcd_tools.proofs.EngineLemmas.{writes-none}
+
+-- a part that begins where another ends
+pub joined : (bytes : List ℕ) (a b from to : ℕ) → a ≤ b → from ≡ b → from ≤ to → slice_range bytes a b ++ slice_range bytes from to ≡ slice_range bytes a to
+joined bytes a b from to le e on =
+    let all : b + (to - b) ≡ to = omega (arith, e) in
+    ap (λ n. slice_range bytes a b ++ slice_range bytes n to) e ∙ subst (λ n. slice_range bytes a b ++ slice_range bytes b n ≡ slice_range bytes a n) all (slice_range-append bytes a b (to - b) le)
+
+-- ---- one call
+
+-- nothing is written, and what is held grows
+pub held_on : (held held' due : List ℕ) (out : Device) → held ++ due ≡ held' → PutsAll held held' out out due
+held_on held held' due out e = ([], e, writes-none out)
+
+-- nothing is due
+pub none_on : (held : List ℕ) (out : Device) → PutsAll held held out out []
+none_on held out = held_on held held [] out (append-nil held)
+
+-- what was held was written, and then nothing is held; then this was put
+pub put_on : {A E : Type 0} (held held' due : List ℕ) (out mid out' : Device) (r : Result A E) → Writes out mid held → held' ≡ [] → Puts mid out' due r → PutsOn held held' out out' due r
+put_on held held' due out mid out' (Ok v) w e puts = (held ++ due, sym (ap (λ l. (held ++ due) ++ l) e ∙ append-nil (held ++ due)), both-written out mid out' held due w puts)
+put_on held held' due out mid out' (Err v) w e puts = some-behind out mid out' held due w puts
+
+-- ---- two calls
+
+-- the first one failed
+pub first_on : (held a b : List ℕ) (out out' : Device) → WritesSome out out' (held ++ a) → WritesSome out out' (held ++ (a ++ b))
+first_on held a b out out' some = subst (WritesSome out out') (append_assoc held a b) (some-first out out' (held ++ a) b some)
+
+-- one text is due, and then another
+pub twice_on : {A E : Type 0} (held mid held' a b : List ℕ) (out between out' : Device) (r : Result A E) → PutsAll held mid out between a → PutsOn mid held' between out' b r → PutsOn held held' out out' (a ++ b) r
+twice_on held mid held' a b out between out' (Ok w) first then =
+    (first.0 ++ then.0, sym (append_assoc held a b) ∙ ap (λ l. l ++ b) first.1 ∙ append_assoc first.0 mid b ∙ ap (λ l. first.0 ++ l) then.1 ∙ sym (append_assoc first.0 then.0 held'), both-written out between out' first.0 then.0 first.2 then.2)
+twice_on held mid held' a b out between out' (Err f) first then =
+    subst (WritesSome out out') (sym (append_assoc first.0 mid b) ∙ sym (ap (λ l. l ++ b) first.1) ∙ append_assoc held a b) (some-behind out between out' first.0 (mid ++ b) first.2 then)
+
+-- ---- several calls, of which the text is some text with each item
+
+module _ (out mid out' : Device) (held text some : List ℕ) (g : GrowsBut out mid held text some) where
+  -- one more
+  pub but_on : (held' due more : List ℕ) → more ≡ some ++ due → PutsAll held held' mid out' due → GrowsBut out out' held' text more
+  but_on held' due more is p = (
+    g.0 ++ p.0,
+    is ∙ ap (λ l. l ++ due) g.1 ∙ append_assoc text (g.0 ++ held) due ∙ ap (λ l. text ++ l) (append_assoc g.0 held due ∙ ap (λ l. g.0 ++ l) p.1 ∙ sym (append_assoc g.0 p.0 held')),
+    both-written out mid out' g.0 p.0 g.2 p.2,
+  )
+
+  -- a write failed
+  pub but_failed : (due more : List ℕ) → more ≡ some ++ due → WritesSome mid out' (held ++ due) → GrowsSome out out' text more
+  but_failed due more is p = (
+    g.0 ++ (held ++ due),
+    is ∙ ap (λ l. l ++ due) g.1 ∙ append_assoc text (g.0 ++ held) due ∙ ap (λ l. text ++ l) (append_assoc g.0 held due),
+    some-behind out mid out' g.0 (held ++ due) g.2 p,
+  )
+
+  -- what is held was written
+  pub but_written : Writes mid out' held → Grows out out' text some
+  but_written w = (g.0 ++ held, g.1, both-written out mid out' g.0 held g.2 w)
+
+  -- or a prefix of it
+  pub but_some : WritesSome mid out' held → GrowsSome out out' text some
+  but_some w = (g.0 ++ held, g.1, some-behind out mid out' g.0 held g.2 w)
+
+-- nothing is held
+pub but_none : (out : Device) (held text : List ℕ) → held ≡ [] → GrowsBut out out held text text
+but_none out held text e = ([], sym (ap (λ l. text ++ l) e ∙ append-nil text), writes-none out)

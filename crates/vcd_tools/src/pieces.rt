@@ -1,0 +1,124 @@
+//! Text that is due and stands in the chunk: the pieces of it that follow each other are written at once.
+ghost use Rattle.std.specs.Prelude.{◌≡◌, ◌-◌, ◌^◌, ◌<◌, ◌≤◌, [], length, slice_range, true, IfErr, IfOk};
+ghost use Rattle.vcd_model.specs.Header.{Header};
+ghost use Rattle.vcd_model.specs.Items.{BodyItem};
+ghost use Rattle.vcd_model.specs.ItemText.{item_line};
+ghost use Rattle.vcd_text.specs.Device.{Counts, Puts};
+ghost use Rattle.vcd_head.specs.Views.{IsViewOf};
+ghost use Rattle.vcd_body.specs.Given.{IsItem};
+ghost use Rattle.vcd_tools.specs.Pieces.{IsPart, Lies, PutsOn, held_in};
+
+use vcd_body::{Plain, stands_as_line};
+use vcd_head::HeadView;
+use vcd_text::{Sink, WriteFailed, put};
+
+/// An item that lies ahead: its tokens are passed from one place of these bytes up to another.
+#[derive(Clone, Copy)]
+pub(crate) struct Lying<'a> {
+    pub(crate) plain: Plain<'a>,
+    pub(crate) bytes: &'a [u8],
+    pub(crate) from: usize,
+    pub(crate) to: usize,
+}
+
+impl Lying<'_> {
+    /// Its bytes are its line as it would be written.
+    #[inline(always)]
+    pub(crate) fn stands_as_line(&self, view: HeadView<'_>) -> bool
+        requires { Lies view self.now }
+        ensures { result ≡ true → (h : Header) (x : BodyItem) → IsViewOf view.entry h
+            → IsItem h.codes self.now.plain.text.now self.now.plain.item x
+            → slice_range self.now.bytes.now self.now.from self.now.to ≡ item_line x }
+    {
+        stands_as_line(view, self.plain, self.bytes, self.from, self.to)
+    }
+}
+
+/// The part of the chunk that is due and not yet written. It holds numbers alone, so that a loop keeps it out of memory.
+#[derive(Clone, Copy)]
+pub(crate) struct Pieces {
+    from: usize,
+    to: usize,
+}
+
+/// Writes the part of the bytes.
+#[inline(never)]
+fn put_part<W: Sink>(bytes: &[u8], from: usize, to: usize, out: &mut W) -> Result<(), WriteFailed>
+    requires failures { (W.device out.old).failures < 2 ^ 64 - 1 }
+    requires within { (from ≤ to) × (to ≤ length bytes.now) }
+    ensures { Puts (W.device out.old) (W.device out.new) (slice_range bytes.now from to) result }
+{
+    put(out, &bytes[from..to])
+}
+
+impl Pieces {
+    /// Nothing is held.
+    #[inline(always)]
+    pub(crate) fn new() -> Pieces
+        ensures { (result.from ≡ 0) × (result.to ≡ 0) }
+    {
+        Pieces { from: 0, to: 0 }
+    }
+
+    /// Writes what is held.
+    #[inline(always)]
+    pub(crate) fn flush<W: Sink>(&mut self, bytes: &[u8], out: &mut W) -> Result<(), WriteFailed>
+        requires failures { (W.device out.old).failures < 2 ^ 64 - 1 }
+        requires part { IsPart bytes.now self.old }
+        ensures puts { Puts (W.device out.old) (W.device out.new) (held_in bytes.now self.old) result }
+        ensures held { IfOk result
+            (λ _. (held_in bytes.now self.new ≡ []) × IsPart bytes.now self.new) }
+        ensures some { IfErr result (λ _. self.old.from < self.old.to) }
+    {
+        if self.from < self.to {
+            put_part(bytes, self.from, self.to, out)?;
+            self.from = self.to;
+        }
+        Ok(())
+    }
+
+    /// Writes what is held, and returns this.
+    #[inline(always)]
+    pub(crate) fn finish<W: Sink>(
+        mut self,
+        bytes: &[u8],
+        ended: bool,
+        out: &mut W,
+    ) -> Result<bool, WriteFailed>
+        requires failures { (W.device out.old).failures < 2 ^ 64 - 1 }
+        requires part { IsPart bytes.now self }
+        ensures puts { Puts (W.device out.old) (W.device out.new)
+            (held_in bytes.now self) result }
+        ensures ended { IfOk result (λ e. e ≡ ended) }
+        ensures some { IfErr result (λ _. self.from < self.to) }
+    {
+        self.flush(bytes, out)?;
+        Ok(ended)
+    }
+
+    /// Takes the part of the bytes that is due next: where it follows what is held, that grows, and nothing is written.
+    #[inline(always)]
+    pub(crate) fn append<W: Sink>(
+        &mut self,
+        bytes: &[u8],
+        from: usize,
+        to: usize,
+        out: &mut W,
+    ) -> Result<(), WriteFailed>
+        requires failures { (W.device out.old).failures < 2 ^ 64 - 1 }
+        requires part { IsPart bytes.now self.old }
+        requires within { (from ≤ to) × (to ≤ length bytes.now) }
+        ensures puts { PutsOn (held_in bytes.now self.old) (held_in bytes.now self.new)
+            (W.device out.old) (W.device out.new) (slice_range bytes.now from to) result }
+        ensures counts { Counts (W.device out.old) (W.device out.new) result }
+        ensures part { IfOk result (λ _. IsPart bytes.now self.new) }
+    {
+        if from == self.to {
+            self.to = to;
+            return Ok(());
+        }
+        self.flush(bytes, out)?;
+        *self = Pieces { from, to };
+        Ok(())
+    }
+}
