@@ -29,7 +29,8 @@ pub(crate) fn finish(alloc: Global, draft: Draft) -> Result<Head, HeadFault>
         scale,
         ..
     } = draft;
-    let Codes { list: codes, .. } = codes;
+    let Codes { list: codes, table } = codes;
+    drop(table);
     let index = index_of(alloc, &text, &codes)?;
     let entries = entries_of(alloc, &text, &codes)?;
     Ok(Head {

@@ -19,10 +19,12 @@
 //! - `read`, `phrases`: the whole header; one phrase of it
 //! - `tokens`, `texts`, `words`, `keyword`: the next token; texts up to `$end`; tests of tokens; the keywords
 //! - `scopes`, `variable`, `scale`: what a phrase declares
-//! - `draft`, `codes`, `finish`: a header while it is read, and its codes; the head that it becomes
+//! - `draft`, `codes`, `table`, `finish`: a header while it is read, its codes, and how they are found by their bytes; the head
+//!   that it becomes
 //! - `head`, `view`, `fault`: `Head`; `HeadView` with its rows and codes, and `Need`; `HeadFault`
 //! - `look_up`, `entries`, `key`, `probes`: a look at one entry, then a binary search; the entries; codes as numbers; comparisons,
 //!   counted
+//! - `index`: the order of the codes by their bytes
 //! - `enclosing`, `path`: the scopes around a declaration, outermost first; paths
 //! - `selection`, `inside`: which variables names select; what is left of names inside open scopes
 //! - `write`: headers as they are written
