@@ -186,8 +186,83 @@ impl<'n, 'r> Machine<'n, 'r> {
     }
 
     /// Takes the items that lie ahead, one after the other, up to one that ends the run, and writes what is due after each.
-    // Registers and place come and go by value, so that the loop keeps them out of memory.
+    // Two loops, since one that holds pieces is slower where nothing is copied.
     pub(crate) fn take_ahead<W: Sink>(
+        &mut self,
+        view: HeadView<'_>,
+        regs: Regs,
+        ahead: Ahead<'_>,
+        out: &mut W,
+    ) -> Taken
+        requires failures { (W.device out.old).failures < 2 ^ 64 - 1 }
+        requires within { passed_of ahead ≤ length (bytes_of ahead) }
+        ensures gives { (h : Header) (lines : ℕ) (before : List BodyItem) → IsViewOf view.entry h
+            → length before + length (bytes_of ahead.entry) < 2 ^ 63
+            → StandsAhead (request_in self.old) h (longest_of ahead.entry) lines
+            (bytes_of ahead.entry) before (passed_of ahead.entry) [] self.old regs
+            → RunsAhead (request_in self.old) h (longest_of ahead.entry) lines
+            (bytes_of ahead.entry) before result.passed self.new result.regs
+            (W.device out.old) (W.device out.new) result.ended }
+        ensures passes { (lines : ℕ) (ts : List Token)
+            → Passed (longest_of ahead.entry) lines (bytes_of ahead.entry) (passed_of ahead.entry) ts
+            → (more : List Token) × Passed (longest_of ahead.entry) lines (bytes_of ahead.entry)
+            result.passed (ts ++ more) }
+        ensures counts { Counts (W.device out.old) (W.device out.new) result.ended }
+        ensures request { request_in self.new ≡ request_in self.old }
+        ensures room { room_of self.new ≡ room_of self.old }
+        ensures early { IfOk result.ended
+            (λ ended. ended ≡ true → may_end_early (request_in self.old) ≡ true) }
+    {
+        match self {
+            Machine::Pick(_) | Machine::Cut(_) => self.take_lying_ahead(view, regs, ahead, out),
+            Machine::Check(_) | Machine::Sample(_) | Machine::Edges(_) => {
+                self.take_each_ahead(view, regs, ahead, out)
+            }
+        }
+    }
+
+    /// The same, each with what is due after it.
+    // Registers and place come and go by value, so that the loop keeps them out of memory.
+    fn take_each_ahead<W: Sink>(
+        &mut self,
+        view: HeadView<'_>,
+        mut regs: Regs,
+        mut ahead: Ahead<'_>,
+        out: &mut W,
+    ) -> Taken
+        requires failures { (W.device out.old).failures < 2 ^ 64 - 1 }
+        requires within { passed_of ahead ≤ length (bytes_of ahead) }
+        ensures gives { (h : Header) (lines : ℕ) (before : List BodyItem) → IsViewOf view.entry h
+            → length before + length (bytes_of ahead.entry) < 2 ^ 63
+            → StandsAhead (request_in self.old) h (longest_of ahead.entry) lines
+            (bytes_of ahead.entry) before (passed_of ahead.entry) [] self.old regs
+            → RunsAhead (request_in self.old) h (longest_of ahead.entry) lines
+            (bytes_of ahead.entry) before result.passed self.new result.regs
+            (W.device out.old) (W.device out.new) result.ended }
+        ensures passes { (lines : ℕ) (ts : List Token)
+            → Passed (longest_of ahead.entry) lines (bytes_of ahead.entry) (passed_of ahead.entry) ts
+            → (more : List Token) × Passed (longest_of ahead.entry) lines (bytes_of ahead.entry)
+            result.passed (ts ++ more) }
+        ensures counts { Counts (W.device out.old) (W.device out.new) result.ended }
+        ensures request { request_in self.new ≡ request_in self.old }
+        ensures room { room_of self.new ≡ room_of self.old }
+        ensures early { IfOk result.ended
+            (λ ended. ended ≡ true → may_end_early (request_in self.old) ≡ true) }
+    {
+        'items: loop {
+            let Some(plain) = item_ahead(&mut ahead, view, &mut regs) else {
+                return Taken::until(ahead, regs, Ok(false));
+            };
+            match self.take(view, regs, plain.item, plain.text, out) {
+                Ok(false) => {}
+                Ok(true) => return Taken::until(ahead, regs, Ok(true)),
+                Err(failed) => return Taken::until(ahead, regs, Err(failed)),
+            }
+        }
+    }
+
+    /// The same, with pieces of the chunk where what is due stands there.
+    fn take_lying_ahead<W: Sink>(
         &mut self,
         view: HeadView<'_>,
         mut regs: Regs,

@@ -7,7 +7,7 @@ use Rattle.vcd_tools.specs.Engine.{Keeps, TakesOneBy, request_in}
 use Rattle.vcd_tools.specs.Pieces.{GrowsBut, IsPart, PutsAll, held_in}
 use Rattle.vcd_tools.proofs.AheadLemmas.{ends_before, ends_with, few_ahead, stands_on}
 use Rattle.vcd_tools.proofs.PieceLemmas.{but_failed, but_on}
-use Rattle.vcd_tools.proofs.machine.Machine.take_ahead.Goals as goal
+use Rattle.vcd_tools.proofs.machine.Machine.take_lying_ahead.Goals as goal
 
 pub returns-in_default-clause-gives : goal.returns-in_default-clause-gives
 returns-in_default-clause-gives g c = λ h lines before v few s.
