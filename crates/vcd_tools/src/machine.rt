@@ -67,6 +67,134 @@ impl Taken {
     }
 }
 
+/// A task alone, for a loop of its own.
+trait Taker {
+    ghost use Rattle.vcd_tools.specs.declared.machine.Machine.{Machine};
+
+    // The machine that it is.
+    ghost machine: { Self → Machine };
+
+    /// Takes an item with its text, writes what is due after it, and returns whether it ended the run. The text is that of a change,
+    /// and any bytes for other items; the registers are those after the item.
+    fn take_one<W: Sink>(
+        &mut self,
+        view: HeadView<'_>,
+        regs: Regs,
+        item: Item,
+        text: &[u8],
+        out: &mut W,
+    ) -> Result<bool, WriteFailed>
+        requires failures { (W.device out.old).failures < 2 ^ 64 - 1 }
+        requires sound { HasGoodText view.codes.now text.now item }
+        ensures takes { (h : Header) (items : List BodyItem) (before : Regs) (x : BodyItem)
+            → IsViewOf view.entry h → AreRegsAfter items before → regs ≡ regs_after before item
+            → IsItem h.codes text.now item x → length items < 2 ^ 63
+            → Keeps (machine self.old) h items
+            → TakesOne (Keeps (machine self.new) h (items ++ x ∷ []))
+            (request_in (machine self.old)) h items x (W.device out.old) (W.device out.new) result }
+        ensures counts { Counts (W.device out.old) (W.device out.new) result }
+        ensures request { request_in (machine self.new) ≡ request_in (machine self.old) }
+        ensures room { room_of (machine self.new) ≡ room_of (machine self.old) }
+        ensures early { IfOk result
+            (λ ended. ended ≡ true → may_end_early (request_in (machine self.old)) ≡ true) };
+}
+
+impl Taker for check::Check {
+    ghost use Rattle.vcd_tools.specs.declared.machine.Machine.TheVariants as machine;
+
+    ghost machine = { λ taker. machine.Check taker };
+
+    #[inline(always)]
+    fn take_one<W: Sink>(
+        &mut self,
+        _view: HeadView<'_>,
+        _regs: Regs,
+        item: Item,
+        _text: &[u8],
+        _out: &mut W,
+    ) -> Result<bool, WriteFailed> {
+        self.take(item);
+        Ok(false)
+    }
+}
+
+impl<'n, 'r> Taker for sample::Sample<'n, 'r> {
+    ghost use Rattle.vcd_tools.specs.declared.machine.Machine.TheVariants as machine;
+
+    ghost machine = { λ taker. machine.Sample taker };
+
+    #[inline(always)]
+    fn take_one<W: Sink>(
+        &mut self,
+        view: HeadView<'_>,
+        _regs: Regs,
+        item: Item,
+        text: &[u8],
+        out: &mut W,
+    ) -> Result<bool, WriteFailed> {
+        self.take(view, item, text, out)
+    }
+}
+
+impl<'n, 'r> Taker for edges::Edges<'n, 'r> {
+    ghost use Rattle.vcd_tools.specs.declared.machine.Machine.TheVariants as machine;
+
+    ghost machine = { λ taker. machine.Edges taker };
+
+    #[inline(always)]
+    fn take_one<W: Sink>(
+        &mut self,
+        view: HeadView<'_>,
+        regs: Regs,
+        item: Item,
+        text: &[u8],
+        _out: &mut W,
+    ) -> Result<bool, WriteFailed> {
+        self.take(view, regs, item, text);
+        Ok(false)
+    }
+}
+
+/// Takes the items that lie ahead, one after the other, up to one that ends the run, each with what is due after it.
+// Registers and place come and go by value, so that the loop keeps them out of memory.
+fn take_each<T: Taker, W: Sink>(
+    taker: &mut T,
+    view: HeadView<'_>,
+    mut regs: Regs,
+    mut ahead: Ahead<'_>,
+    out: &mut W,
+) -> Taken
+    requires failures { (W.device out.old).failures < 2 ^ 64 - 1 }
+    requires within { passed_of ahead ≤ length (bytes_of ahead) }
+    ensures gives { (h : Header) (lines : ℕ) (before : List BodyItem) → IsViewOf view.entry h
+        → length before + length (bytes_of ahead.entry) < 2 ^ 63
+        → StandsAhead (request_in (T.machine taker.old)) h (longest_of ahead.entry) lines
+        (bytes_of ahead.entry) before (passed_of ahead.entry) [] (T.machine taker.old) regs
+        → RunsAhead (request_in (T.machine taker.old)) h (longest_of ahead.entry) lines
+        (bytes_of ahead.entry) before result.passed (T.machine taker.new) result.regs
+        (W.device out.old) (W.device out.new) result.ended }
+    ensures passes { (lines : ℕ) (ts : List Token)
+        → Passed (longest_of ahead.entry) lines (bytes_of ahead.entry) (passed_of ahead.entry) ts
+        → (more : List Token) × Passed (longest_of ahead.entry) lines (bytes_of ahead.entry)
+        result.passed (ts ++ more) }
+    ensures counts { Counts (W.device out.old) (W.device out.new) result.ended }
+    ensures request { request_in (T.machine taker.new) ≡ request_in (T.machine taker.old) }
+    ensures room { room_of (T.machine taker.new) ≡ room_of (T.machine taker.old) }
+    ensures early { IfOk result.ended
+        (λ ended. ended ≡ true → may_end_early (request_in (T.machine taker.old)) ≡ true) }
+{
+    'items: loop {
+        let Some(plain) = item_ahead(&mut ahead, view, &mut regs) else {
+            return Taken::until(ahead, regs, Ok(false));
+        };
+        match taker.take_one(view, regs, plain.item, plain.text, out) {
+            Ok(false) => {}
+            Ok(true) => return Taken::until(ahead, regs, Ok(true)),
+            Err(failed) => return Taken::until(ahead, regs, Err(failed)),
+        }
+    }
+}
+
 /// The last time mark.
 pub(crate) fn last_of(regs: Regs) -> Option<u64>
     ensures { result ≡ last_of regs }
@@ -186,7 +314,7 @@ impl<'n, 'r> Machine<'n, 'r> {
     }
 
     /// Takes the items that lie ahead, one after the other, up to one that ends the run, and writes what is due after each.
-    // Two loops, since one that holds pieces is slower where nothing is copied.
+    // What copies nothing holds no pieces, and has a loop for each task, which does not ask for each item what the task is.
     pub(crate) fn take_ahead<W: Sink>(
         &mut self,
         view: HeadView<'_>,
@@ -214,50 +342,10 @@ impl<'n, 'r> Machine<'n, 'r> {
             (λ ended. ended ≡ true → may_end_early (request_in self.old) ≡ true) }
     {
         match self {
+            Machine::Check(check) => take_each(check, view, regs, ahead, out),
+            Machine::Sample(sample) => take_each(sample, view, regs, ahead, out),
+            Machine::Edges(edges) => take_each(edges, view, regs, ahead, out),
             Machine::Pick(_) | Machine::Cut(_) => self.take_lying_ahead(view, regs, ahead, out),
-            Machine::Check(_) | Machine::Sample(_) | Machine::Edges(_) => {
-                self.take_each_ahead(view, regs, ahead, out)
-            }
-        }
-    }
-
-    /// The same, each with what is due after it.
-    // Registers and place come and go by value, so that the loop keeps them out of memory.
-    fn take_each_ahead<W: Sink>(
-        &mut self,
-        view: HeadView<'_>,
-        mut regs: Regs,
-        mut ahead: Ahead<'_>,
-        out: &mut W,
-    ) -> Taken
-        requires failures { (W.device out.old).failures < 2 ^ 64 - 1 }
-        requires within { passed_of ahead ≤ length (bytes_of ahead) }
-        ensures gives { (h : Header) (lines : ℕ) (before : List BodyItem) → IsViewOf view.entry h
-            → length before + length (bytes_of ahead.entry) < 2 ^ 63
-            → StandsAhead (request_in self.old) h (longest_of ahead.entry) lines
-            (bytes_of ahead.entry) before (passed_of ahead.entry) [] self.old regs
-            → RunsAhead (request_in self.old) h (longest_of ahead.entry) lines
-            (bytes_of ahead.entry) before result.passed self.new result.regs
-            (W.device out.old) (W.device out.new) result.ended }
-        ensures passes { (lines : ℕ) (ts : List Token)
-            → Passed (longest_of ahead.entry) lines (bytes_of ahead.entry) (passed_of ahead.entry) ts
-            → (more : List Token) × Passed (longest_of ahead.entry) lines (bytes_of ahead.entry)
-            result.passed (ts ++ more) }
-        ensures counts { Counts (W.device out.old) (W.device out.new) result.ended }
-        ensures request { request_in self.new ≡ request_in self.old }
-        ensures room { room_of self.new ≡ room_of self.old }
-        ensures early { IfOk result.ended
-            (λ ended. ended ≡ true → may_end_early (request_in self.old) ≡ true) }
-    {
-        'items: loop {
-            let Some(plain) = item_ahead(&mut ahead, view, &mut regs) else {
-                return Taken::until(ahead, regs, Ok(false));
-            };
-            match self.take(view, regs, plain.item, plain.text, out) {
-                Ok(false) => {}
-                Ok(true) => return Taken::until(ahead, regs, Ok(true)),
-                Err(failed) => return Taken::until(ahead, regs, Err(failed)),
-            }
         }
     }
 
