@@ -1,5 +1,5 @@
 -- Items that a machine takes ahead in a feed's chunk, one after the other.
-use Rattle.std.proofs.Common.{◌≡◌, ℕ, ◌+◌, ◌^◌, ◌<◌, ◌≤◌, false, List, [], ◌∷◌, ◌++◌, length, sym, ap, subst, ◌∙◌, append-nil, append_assoc, arith, Bool, true, Result, Ok, Err, inl, inr, ◌⊎◌, ◌||◌, map, string_bytes, refl}
+use Rattle.std.proofs.Common.{◌≡◌, ℕ, ◌+◌, ◌^◌, ◌<◌, ◌≤◌, false, List, [], ◌∷◌, ◌++◌, length, sym, ap, subst, ◌∙◌, append-nil, append_assoc, arith, Bool, true, Result, Ok, Err, inl, inr, ◌⊎◌, ◌||◌, refl}
 use Rattle.std.specs.List.{list_any}
 use Rattle.std.proofs.lemmas.List.{length-append}
 use Rattle.vcd_model.specs.Declarations.{IdCode}
@@ -7,7 +7,6 @@ use Rattle.vcd_model.specs.Header.{Header}
 use Rattle.vcd_model.specs.Input.{Input}
 use Rattle.vcd_model.specs.Items.{BodyItem}
 use Rattle.vcd_model.specs.ItemText.{last_mark}
-use Rattle.vcd_model.specs.Laws.{IsPrefixOf}
 use Rattle.vcd_model.specs.Outcome.{Request, ends_early, open_text}
 use Rattle.vcd_model.specs.Tokens.{Token}
 use Rattle.vcd_text.specs.Device.{Device}
@@ -24,7 +23,7 @@ use Rattle.vcd_body.specs.declared.item.Item.{Item}
 use Rattle.vcd_body.specs.declared.item.Regs.{Regs}
 use Rattle.vcd_tools.specs.Ahead.{StandsAhead}
 use Rattle.vcd_tools.specs.Device.{Grows, GrowsSome}
-use Rattle.vcd_tools.specs.Engine.{request_in, CanRun, Keeps, Runs, last_of, request_of_engine}
+use Rattle.vcd_tools.specs.Engine.{CanRun, Keeps, Runs, last_of, request_of_engine}
 use Rattle.vcd_tools.specs.declared.engine.Engine.{Engine}
 use Rattle.vcd_tools.specs.declared.machine.Machine.{Machine}
 use Rattle.vcd_tools.specs.Ahead.{GaveOneAhead, RunsAhead}
@@ -35,10 +34,6 @@ use Rattle.vcd_tools.proofs.PieceLemmas.{but_some, but_written}
 use Rattle.vcd_text.specs.Device.{Puts, WritesSome}
 use Rattle.vcd_text.proofs.AheadLemmas.{length-ahead}
 use Rattle.std.specs.Prelude.{IfErr, IfOk}
-use Rattle.vcd_tools.specs.declared.machine.Machine.TheVariants as machine
-use Rattle.vcd_tools.specs.Pick.{names_in}
-use Rattle.vcd_model.proofs.Revised.{nothing_revised}
-use Rattle.vcd_model.proofs.SampleGrows.{sample_grows}
 use Rattle.vcd_tools.proofs.EngineLemmas.{last_more, none_at, writes-none}
 
 -- nothing is due with no item
@@ -165,15 +160,3 @@ module _ {X : Type 0} {g : Ghosts X} (h : Header) (i : Input) (front : List Toke
     on = subst (λ (t : Request). list_any (ends_early t) (items ++ more) ≡ false) (sym same) stands.on;
     few = let each = stands.gave.few in let before = s.few in omega (arith, length-append items more, looked);
   }
-
--- what is due behind some items begins what is due with one more
-pub due_more : (m : Machine) (h : Header) (items : List BodyItem) (x : BodyItem) → Keeps m h items → IsPrefixOf (open_text (request_in m) h items) (open_text (request_in m) h (items ++ x ∷ []))
-due_more (machine.Check c) h items x s = ([], refl)
-due_more (machine.Pick p) h items x s = nothing_revised (Request.Pick (names_in p)) h items (x ∷ []) tt (none_early items)
-  where
-    none_early : (l : List BodyItem) → list_any (λ y. false) l ≡ false
-    none_early [] = refl
-    none_early (y ∷ l) = none_early l
-due_more (machine.Cut m) h items x s = nothing_revised (Request.Cut m.from m.to) h items (x ∷ []) s.ordered s.on
-due_more (machine.Sample m) h items x s = sample_grows h m.times.now (map string_bytes m.names.now) items (x ∷ []) s.rising
-due_more (machine.Edges e) h items x s = ([], refl)

@@ -67,6 +67,258 @@ impl Taken {
     }
 }
 
+/// A task alone, for a loop of its own.
+trait Taker {
+    ghost use Rattle.vcd_tools.specs.declared.machine.Machine.{Machine};
+
+    // The machine that it is.
+    ghost machine: { Self → Machine };
+
+    /// Takes an item with its text, writes what is due after it, and returns whether it ended the run. The text is that of a change,
+    /// and any bytes for other items; the registers are those after the item.
+    fn take_one<W: Sink>(
+        &mut self,
+        view: HeadView<'_>,
+        regs: Regs,
+        item: Item,
+        text: &[u8],
+        out: &mut W,
+    ) -> Result<bool, WriteFailed>
+        requires failures { (W.device out.old).failures < 2 ^ 64 - 1 }
+        requires sound { HasGoodText view.codes.now text.now item }
+        ensures takes { (h : Header) (items : List BodyItem) (before : Regs) (x : BodyItem)
+            → IsViewOf view.entry h → AreRegsAfter items before → regs ≡ regs_after before item
+            → IsItem h.codes text.now item x → length items < 2 ^ 63
+            → Keeps (machine self.old) h items
+            → TakesOne (Keeps (machine self.new) h (items ++ x ∷ []))
+            (request_in (machine self.old)) h items x (W.device out.old) (W.device out.new) result }
+        ensures counts { Counts (W.device out.old) (W.device out.new) result }
+        ensures request { request_in (machine self.new) ≡ request_in (machine self.old) }
+        ensures room { room_of (machine self.new) ≡ room_of (machine self.old) }
+        ensures early { IfOk result
+            (λ ended. ended ≡ true → may_end_early (request_in (machine self.old)) ≡ true) };
+}
+
+impl Taker for check::Check {
+    ghost use Rattle.vcd_tools.specs.declared.machine.Machine.TheVariants as machine;
+
+    ghost machine = { λ taker. machine.Check taker };
+
+    #[inline(always)]
+    fn take_one<W: Sink>(
+        &mut self,
+        _view: HeadView<'_>,
+        _regs: Regs,
+        item: Item,
+        _text: &[u8],
+        _out: &mut W,
+    ) -> Result<bool, WriteFailed> {
+        self.take(item);
+        Ok(false)
+    }
+}
+
+impl<'n, 'r> Taker for sample::Sample<'n, 'r> {
+    ghost use Rattle.vcd_tools.specs.declared.machine.Machine.TheVariants as machine;
+
+    ghost machine = { λ taker. machine.Sample taker };
+
+    #[inline(always)]
+    fn take_one<W: Sink>(
+        &mut self,
+        view: HeadView<'_>,
+        _regs: Regs,
+        item: Item,
+        text: &[u8],
+        out: &mut W,
+    ) -> Result<bool, WriteFailed> {
+        self.take(view, item, text, out)
+    }
+}
+
+impl<'n, 'r> Taker for edges::Edges<'n, 'r> {
+    ghost use Rattle.vcd_tools.specs.declared.machine.Machine.TheVariants as machine;
+
+    ghost machine = { λ taker. machine.Edges taker };
+
+    #[inline(always)]
+    fn take_one<W: Sink>(
+        &mut self,
+        view: HeadView<'_>,
+        regs: Regs,
+        item: Item,
+        text: &[u8],
+        _out: &mut W,
+    ) -> Result<bool, WriteFailed> {
+        self.take(view, regs, item, text);
+        Ok(false)
+    }
+}
+
+/// Takes the items that lie ahead, one after the other, up to one that ends the run, each with what is due after it.
+// Registers and place come and go by value, so that the loop keeps them out of memory.
+fn take_each<T: Taker, W: Sink>(
+    taker: &mut T,
+    view: HeadView<'_>,
+    mut regs: Regs,
+    mut ahead: Ahead<'_>,
+    out: &mut W,
+) -> Taken
+    requires failures { (W.device out.old).failures < 2 ^ 64 - 1 }
+    requires within { passed_of ahead ≤ length (bytes_of ahead) }
+    ensures gives { (h : Header) (lines : ℕ) (before : List BodyItem) → IsViewOf view.entry h
+        → length before + length (bytes_of ahead.entry) < 2 ^ 63
+        → StandsAhead (request_in (T.machine taker.old)) h (longest_of ahead.entry) lines
+        (bytes_of ahead.entry) before (passed_of ahead.entry) [] (T.machine taker.old) regs
+        → RunsAhead (request_in (T.machine taker.old)) h (longest_of ahead.entry) lines
+        (bytes_of ahead.entry) before result.passed (T.machine taker.new) result.regs
+        (W.device out.old) (W.device out.new) result.ended }
+    ensures passes { (lines : ℕ) (ts : List Token)
+        → Passed (longest_of ahead.entry) lines (bytes_of ahead.entry) (passed_of ahead.entry) ts
+        → (more : List Token) × Passed (longest_of ahead.entry) lines (bytes_of ahead.entry)
+        result.passed (ts ++ more) }
+    ensures counts { Counts (W.device out.old) (W.device out.new) result.ended }
+    ensures request { request_in (T.machine taker.new) ≡ request_in (T.machine taker.old) }
+    ensures room { room_of (T.machine taker.new) ≡ room_of (T.machine taker.old) }
+    ensures early { IfOk result.ended
+        (λ ended. ended ≡ true → may_end_early (request_in (T.machine taker.old)) ≡ true) }
+{
+    'items: loop {
+        let Some(plain) = item_ahead(&mut ahead, view, &mut regs) else {
+            return Taken::until(ahead, regs, Ok(false));
+        };
+        match taker.take_one(view, regs, plain.item, plain.text, out) {
+            Ok(false) => {}
+            Ok(true) => return Taken::until(ahead, regs, Ok(true)),
+            Err(failed) => return Taken::until(ahead, regs, Err(failed)),
+        }
+    }
+}
+
+/// A task alone that copies pieces of the chunk.
+trait Copier {
+    ghost use Rattle.vcd_tools.specs.declared.machine.Machine.{Machine};
+
+    // The machine that it is.
+    ghost machine: { Self → Machine };
+
+    /// Takes an item that lies ahead, writes what is due after it behind what is held, and returns whether it ended the run. The
+    /// registers are those after it.
+    fn take_one_lying<W: Sink>(
+        &mut self,
+        view: HeadView<'_>,
+        regs: Regs,
+        lying: Lying<'_>,
+        pieces: &mut Pieces,
+        out: &mut W,
+    ) -> Result<bool, WriteFailed>
+        requires failures { (W.device out.old).failures < 2 ^ 64 - 1 }
+        requires lies { Lies view lying }
+        requires part { IsPart lying.bytes.now pieces.old }
+        ensures takes { (h : Header) (items : List BodyItem) (before : Regs) (x : BodyItem)
+            → IsViewOf view.entry h → AreRegsAfter items before
+            → regs ≡ regs_after before lying.entry.plain.item
+            → IsItem h.codes lying.entry.plain.text.now lying.entry.plain.item x
+            → length items < 2 ^ 63 → Keeps (machine self.old) h items
+            → TakesOneBy (λ due. PutsOn (held_in lying.entry.bytes.now pieces.old)
+            (held_in lying.entry.bytes.now pieces.new)
+            (W.device out.old) (W.device out.new) due result)
+            (Keeps (machine self.new) h (items ++ x ∷ []))
+            (request_in (machine self.old)) h items x result }
+        ensures counts { Counts (W.device out.old) (W.device out.new) result }
+        ensures part { IfOk result (λ _. IsPart lying.entry.bytes.now pieces.new) }
+        ensures request { request_in (machine self.new) ≡ request_in (machine self.old) }
+        ensures room { room_of (machine self.new) ≡ room_of (machine self.old) }
+        ensures early { IfOk result
+            (λ ended. ended ≡ true → may_end_early (request_in (machine self.old)) ≡ true) };
+}
+
+impl<'n, 'r> Copier for pick::Pick<'n, 'r> {
+    ghost use Rattle.vcd_tools.specs.declared.machine.Machine.TheVariants as machine;
+
+    ghost machine = { λ copier. machine.Pick copier };
+
+    #[inline(always)]
+    fn take_one_lying<W: Sink>(
+        &mut self,
+        view: HeadView<'_>,
+        regs: Regs,
+        lying: Lying<'_>,
+        pieces: &mut Pieces,
+        out: &mut W,
+    ) -> Result<bool, WriteFailed> {
+        self.take_lying(view, regs, lying, pieces, out)?;
+        Ok(false)
+    }
+}
+
+impl<'r> Copier for cut::Cut<'r> {
+    ghost use Rattle.vcd_tools.specs.declared.machine.Machine.TheVariants as machine;
+
+    ghost machine = { λ copier. machine.Cut copier };
+
+    #[inline(always)]
+    fn take_one_lying<W: Sink>(
+        &mut self,
+        view: HeadView<'_>,
+        regs: Regs,
+        lying: Lying<'_>,
+        pieces: &mut Pieces,
+        out: &mut W,
+    ) -> Result<bool, WriteFailed> {
+        self.take_lying(view, regs, lying, pieces, out)
+    }
+}
+
+/// Takes the items that lie ahead as `take_each` does, with pieces of the chunk where what is due stands there.
+fn take_each_lying<T: Copier, W: Sink>(
+    copier: &mut T,
+    view: HeadView<'_>,
+    mut regs: Regs,
+    mut ahead: Ahead<'_>,
+    out: &mut W,
+) -> Taken
+    requires failures { (W.device out.old).failures < 2 ^ 64 - 1 }
+    requires within { passed_of ahead ≤ length (bytes_of ahead) }
+    ensures gives { (h : Header) (lines : ℕ) (before : List BodyItem) → IsViewOf view.entry h
+        → length before + length (bytes_of ahead.entry) < 2 ^ 63
+        → StandsAhead (request_in (T.machine copier.old)) h (longest_of ahead.entry) lines
+        (bytes_of ahead.entry) before (passed_of ahead.entry) [] (T.machine copier.old) regs
+        → RunsAhead (request_in (T.machine copier.old)) h (longest_of ahead.entry) lines
+        (bytes_of ahead.entry) before result.passed (T.machine copier.new) result.regs
+        (W.device out.old) (W.device out.new) result.ended }
+    ensures passes { (lines : ℕ) (ts : List Token)
+        → Passed (longest_of ahead.entry) lines (bytes_of ahead.entry) (passed_of ahead.entry) ts
+        → (more : List Token) × Passed (longest_of ahead.entry) lines (bytes_of ahead.entry)
+        result.passed (ts ++ more) }
+    ensures counts { Counts (W.device out.old) (W.device out.new) result.ended }
+    ensures request { request_in (T.machine copier.new) ≡ request_in (T.machine copier.old) }
+    ensures room { room_of (T.machine copier.new) ≡ room_of (T.machine copier.old) }
+    ensures early { IfOk result.ended
+        (λ ended. ended ≡ true → may_end_early (request_in (T.machine copier.old)) ≡ true) }
+{
+    let bytes = ahead.bytes();
+    let mut pieces = Pieces::new();
+    'items: loop {
+        let from = ahead.passed();
+        let Some(plain) = item_ahead(&mut ahead, view, &mut regs) else {
+            return Taken::until(ahead, regs, pieces.finish(bytes, false, out));
+        };
+        let to = ahead.passed();
+        let lying = Lying {
+            plain,
+            bytes,
+            from,
+            to,
+        };
+        match copier.take_one_lying(view, regs, lying, &mut pieces, out) {
+            Ok(false) => {}
+            Ok(true) => return Taken::until(ahead, regs, pieces.finish(bytes, true, out)),
+            Err(failed) => return Taken::until(ahead, regs, Err(failed)),
+        }
+    }
+}
+
 /// The last time mark.
 pub(crate) fn last_of(regs: Regs) -> Option<u64>
     ensures { result ≡ last_of regs }
@@ -142,51 +394,8 @@ impl<'n, 'r> Machine<'n, 'r> {
         Ok(false)
     }
 
-    /// Takes an item that lies ahead, writes what is due after it behind what is held, and returns whether it ended the run. The
-    /// registers are those after it.
-    #[inline(always)]
-    fn take_lying<W: Sink>(
-        &mut self,
-        view: HeadView<'_>,
-        regs: Regs,
-        lying: Lying<'_>,
-        pieces: &mut Pieces,
-        out: &mut W,
-    ) -> Result<bool, WriteFailed>
-        requires failures { (W.device out.old).failures < 2 ^ 64 - 1 }
-        requires lies { Lies view lying }
-        requires part { IsPart lying.bytes.now pieces.old }
-        ensures takes { (h : Header) (items : List BodyItem) (before : Regs) (x : BodyItem)
-            → IsViewOf view.entry h → AreRegsAfter items before
-            → regs ≡ regs_after before lying.entry.plain.item
-            → IsItem h.codes lying.entry.plain.text.now lying.entry.plain.item x
-            → length items < 2 ^ 63 → Keeps self.old h items
-            → TakesOneBy (λ due. PutsOn (held_in lying.entry.bytes.now pieces.old)
-            (held_in lying.entry.bytes.now pieces.new)
-            (W.device out.old) (W.device out.new) due result)
-            (Keeps self.new h (items ++ x ∷ [])) (request_in self.old) h items x result }
-        ensures counts { Counts (W.device out.old) (W.device out.new) result }
-        ensures part { IfOk result (λ _. IsPart lying.entry.bytes.now pieces.new) }
-        ensures request { request_in self.new ≡ request_in self.old }
-        ensures room { room_of self.new ≡ room_of self.old }
-        ensures early { IfOk result
-            (λ ended. ended ≡ true → may_end_early (request_in self.old) ≡ true) }
-    {
-        match self {
-            Machine::Pick(pick) => {
-                pick.take_lying(view, regs, lying, pieces, out)?;
-                Ok(false)
-            }
-            Machine::Cut(cut) => cut.take_lying(view, regs, lying, pieces, out),
-            Machine::Check(_) | Machine::Sample(_) | Machine::Edges(_) => {
-                pieces.flush(lying.bytes, out)?;
-                self.take(view, regs, lying.plain.item, lying.plain.text, out)
-            }
-        }
-    }
-
     /// Takes the items that lie ahead, one after the other, up to one that ends the run, and writes what is due after each.
-    // Two loops, since one that holds pieces is slower where nothing is copied.
+    // A loop for each task, so that none asks for each item what the task is; and what copies nothing holds no pieces.
     pub(crate) fn take_ahead<W: Sink>(
         &mut self,
         view: HeadView<'_>,
@@ -214,99 +423,11 @@ impl<'n, 'r> Machine<'n, 'r> {
             (λ ended. ended ≡ true → may_end_early (request_in self.old) ≡ true) }
     {
         match self {
-            Machine::Pick(_) | Machine::Cut(_) => self.take_lying_ahead(view, regs, ahead, out),
-            Machine::Check(_) | Machine::Sample(_) | Machine::Edges(_) => {
-                self.take_each_ahead(view, regs, ahead, out)
-            }
-        }
-    }
-
-    /// The same, each with what is due after it.
-    // Registers and place come and go by value, so that the loop keeps them out of memory.
-    fn take_each_ahead<W: Sink>(
-        &mut self,
-        view: HeadView<'_>,
-        mut regs: Regs,
-        mut ahead: Ahead<'_>,
-        out: &mut W,
-    ) -> Taken
-        requires failures { (W.device out.old).failures < 2 ^ 64 - 1 }
-        requires within { passed_of ahead ≤ length (bytes_of ahead) }
-        ensures gives { (h : Header) (lines : ℕ) (before : List BodyItem) → IsViewOf view.entry h
-            → length before + length (bytes_of ahead.entry) < 2 ^ 63
-            → StandsAhead (request_in self.old) h (longest_of ahead.entry) lines
-            (bytes_of ahead.entry) before (passed_of ahead.entry) [] self.old regs
-            → RunsAhead (request_in self.old) h (longest_of ahead.entry) lines
-            (bytes_of ahead.entry) before result.passed self.new result.regs
-            (W.device out.old) (W.device out.new) result.ended }
-        ensures passes { (lines : ℕ) (ts : List Token)
-            → Passed (longest_of ahead.entry) lines (bytes_of ahead.entry) (passed_of ahead.entry) ts
-            → (more : List Token) × Passed (longest_of ahead.entry) lines (bytes_of ahead.entry)
-            result.passed (ts ++ more) }
-        ensures counts { Counts (W.device out.old) (W.device out.new) result.ended }
-        ensures request { request_in self.new ≡ request_in self.old }
-        ensures room { room_of self.new ≡ room_of self.old }
-        ensures early { IfOk result.ended
-            (λ ended. ended ≡ true → may_end_early (request_in self.old) ≡ true) }
-    {
-        'items: loop {
-            let Some(plain) = item_ahead(&mut ahead, view, &mut regs) else {
-                return Taken::until(ahead, regs, Ok(false));
-            };
-            match self.take(view, regs, plain.item, plain.text, out) {
-                Ok(false) => {}
-                Ok(true) => return Taken::until(ahead, regs, Ok(true)),
-                Err(failed) => return Taken::until(ahead, regs, Err(failed)),
-            }
-        }
-    }
-
-    /// The same, with pieces of the chunk where what is due stands there.
-    fn take_lying_ahead<W: Sink>(
-        &mut self,
-        view: HeadView<'_>,
-        mut regs: Regs,
-        mut ahead: Ahead<'_>,
-        out: &mut W,
-    ) -> Taken
-        requires failures { (W.device out.old).failures < 2 ^ 64 - 1 }
-        requires within { passed_of ahead ≤ length (bytes_of ahead) }
-        ensures gives { (h : Header) (lines : ℕ) (before : List BodyItem) → IsViewOf view.entry h
-            → length before + length (bytes_of ahead.entry) < 2 ^ 63
-            → StandsAhead (request_in self.old) h (longest_of ahead.entry) lines
-            (bytes_of ahead.entry) before (passed_of ahead.entry) [] self.old regs
-            → RunsAhead (request_in self.old) h (longest_of ahead.entry) lines
-            (bytes_of ahead.entry) before result.passed self.new result.regs
-            (W.device out.old) (W.device out.new) result.ended }
-        ensures passes { (lines : ℕ) (ts : List Token)
-            → Passed (longest_of ahead.entry) lines (bytes_of ahead.entry) (passed_of ahead.entry) ts
-            → (more : List Token) × Passed (longest_of ahead.entry) lines (bytes_of ahead.entry)
-            result.passed (ts ++ more) }
-        ensures counts { Counts (W.device out.old) (W.device out.new) result.ended }
-        ensures request { request_in self.new ≡ request_in self.old }
-        ensures room { room_of self.new ≡ room_of self.old }
-        ensures early { IfOk result.ended
-            (λ ended. ended ≡ true → may_end_early (request_in self.old) ≡ true) }
-    {
-        let bytes = ahead.bytes();
-        let mut pieces = Pieces::new();
-        'items: loop {
-            let from = ahead.passed();
-            let Some(plain) = item_ahead(&mut ahead, view, &mut regs) else {
-                return Taken::until(ahead, regs, pieces.finish(bytes, false, out));
-            };
-            let to = ahead.passed();
-            let lying = Lying {
-                plain,
-                bytes,
-                from,
-                to,
-            };
-            match self.take_lying(view, regs, lying, &mut pieces, out) {
-                Ok(false) => {}
-                Ok(true) => return Taken::until(ahead, regs, pieces.finish(bytes, true, out)),
-                Err(failed) => return Taken::until(ahead, regs, Err(failed)),
-            }
+            Machine::Check(check) => take_each(check, view, regs, ahead, out),
+            Machine::Pick(pick) => take_each_lying(pick, view, regs, ahead, out),
+            Machine::Cut(cut) => take_each_lying(cut, view, regs, ahead, out),
+            Machine::Sample(sample) => take_each(sample, view, regs, ahead, out),
+            Machine::Edges(edges) => take_each(edges, view, regs, ahead, out),
         }
     }
 

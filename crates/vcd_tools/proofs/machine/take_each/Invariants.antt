@@ -8,20 +8,19 @@ use Rattle.vcd_text.specs.Passed.{Passed}
 use Rattle.vcd_head.specs.Shown.{parts}
 use Rattle.vcd_head.specs.Views.{Views}
 use Rattle.vcd_tools.specs.Ahead.{StandsAhead}
-use Rattle.vcd_tools.specs.Pieces.{GrowsBut, IsPart, held_in}
+use Rattle.vcd_tools.specs.Device.{Grows}
 use Rattle.vcd_tools.specs.Engine.{request_in}
 use Rattle.vcd_tools.specs.Room.{room_of}
-use Rattle.vcd_tools.proofs.machine.Machine.take_lying_ahead.Given as goal
+use Rattle.vcd_tools.proofs.machine.take_each.Given as goal
 
 abbrev pub invariant-items : goal.invariant-items
 invariant-items g l = (bytes_of l.ahead ≡ bytes_of l.fn.ahead) × (longest_of l.ahead ≡ longest_of l.fn.ahead) × (passed_of l.ahead ≤ length (bytes_of l.ahead)) × ((g.W.Sink.device l.out).failures ≡ (g.W.Sink.device l.fn.out).failures)
-    × (request_in l.self ≡ request_in l.fn.self) × (room_of l.self ≡ room_of l.fn.self)
+    × (request_in (g.T.Taker.machine l.taker) ≡ request_in (g.T.Taker.machine l.fn.taker)) × (room_of (g.T.Taker.machine l.taker) ≡ room_of (g.T.Taker.machine l.fn.taker))
     × ((lines : ℕ) (ts : List Token) → Passed (longest_of l.fn.ahead) lines (bytes_of l.fn.ahead) (passed_of l.fn.ahead) ts → (more : List Token) × Passed (longest_of l.fn.ahead) lines (bytes_of l.fn.ahead) (passed_of l.ahead) (ts ++ more))
-    × IsPart (bytes_of l.fn.ahead) l.pieces
     × ((h : Header) (lines : ℕ) (before : List BodyItem) → Views (parts l.fn.view) h → length before + length (bytes_of l.fn.ahead) < 2 ^ 63
-    → StandsAhead (request_in l.fn.self) h (longest_of l.fn.ahead) lines (bytes_of l.fn.ahead) before (passed_of l.fn.ahead) [] l.fn.self l.fn.regs
-    → (items : List BodyItem) × StandsAhead (request_in l.fn.self) h (longest_of l.fn.ahead) lines (bytes_of l.fn.ahead) before (passed_of l.ahead) items l.self l.regs
-    × GrowsBut (g.W.Sink.device l.fn.out) (g.W.Sink.device l.out) (held_in (bytes_of l.fn.ahead) l.pieces) (open_text (request_in l.fn.self) h before) (open_text (request_in l.fn.self) h (before ++ items)))
+    → StandsAhead (request_in (g.T.Taker.machine l.fn.taker)) h (longest_of l.fn.ahead) lines (bytes_of l.fn.ahead) before (passed_of l.fn.ahead) [] (g.T.Taker.machine l.fn.taker) l.fn.regs
+    → (items : List BodyItem) × StandsAhead (request_in (g.T.Taker.machine l.fn.taker)) h (longest_of l.fn.ahead) lines (bytes_of l.fn.ahead) before (passed_of l.ahead) items (g.T.Taker.machine l.taker) l.regs
+    × Grows (g.W.Sink.device l.fn.out) (g.W.Sink.device l.out) (open_text (request_in (g.T.Taker.machine l.fn.taker)) h before) (open_text (request_in (g.T.Taker.machine l.fn.taker)) h (before ++ items)))
 
 abbrev pub decreases-items : goal.decreases-items
 decreases-items g l = length (bytes_of l.ahead) - passed_of l.ahead

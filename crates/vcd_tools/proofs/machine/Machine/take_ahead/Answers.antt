@@ -1,0 +1,16 @@
+use Rattle.vcd_tools.proofs.machine.Machine.take_ahead.Goals as goal
+
+pub returns-in-Check-clause-gives : goal.returns-in-Check-clause-gives
+returns-in-Check-clause-gives g c = rw c.in-Check.is c.take_each.ensures.gives
+
+pub returns-in-Sample-clause-gives : goal.returns-in-Sample-clause-gives
+returns-in-Sample-clause-gives g c = rw c.in-Sample.is c.take_each-in-Sample.ensures.gives
+
+pub returns-in-Edges-clause-gives : goal.returns-in-Edges-clause-gives
+returns-in-Edges-clause-gives g c = rw c.in-Edges.is c.take_each-in-Edges.ensures.gives
+
+pub returns-in-Pick-clause-gives : goal.returns-in-Pick-clause-gives
+returns-in-Pick-clause-gives g c = rw c.in-Pick.is c.take_each_lying.ensures.gives
+
+pub returns-in-Cut-clause-gives : goal.returns-in-Cut-clause-gives
+returns-in-Cut-clause-gives g c = rw c.in-Cut.is c.take_each_lying-in-Cut.ensures.gives
