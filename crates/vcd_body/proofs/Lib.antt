@@ -20,4 +20,5 @@ pub mod SetLemmas
 pub mod CompareLemmas
 pub mod StepLemmas
 pub mod AheadLemmas
+pub mod LeftOut
 pub mod LineLemmas

@@ -204,9 +204,9 @@ module _ (c : IdCode) (text : List ℕ) (none : c.event ≡ false) where
   pub bit_item : (d : ℕ) → text ≡ d ∷ [] → c.size ≡ 1 → item_line (BodyItem.Changes (record { code = c; form = ChangeForm.Scalar; text = text })) ≡ str_to_ascii_lowercase text ++ (c.text ++ 10 ∷ [])
   bit_item d is size = rw (none, size, is) refl
 
-  -- digits of a code of any other size, of which none can be left out
-  pub vector_item : c.size ≢ 1 → str_to_ascii_lowercase text ≡ text → text ≡ short (extend text c.size) → item_line (BodyItem.Changes (record { code = c; form = ChangeForm.Vector; text = text })) ≡ 98 ∷ text ++ (32 ∷ c.text ++ 10 ∷ [])
-  vector_item size lower bare = rw (none, ne_eqb c.size 1 size, lower) (ap (λ l. (98 ∷ l ++ 32 ∷ c.text) ++ 10 ∷ []) (sym bare) ∙ append_assoc (98 ∷ text) (32 ∷ c.text) (10 ∷ []))
+  -- digits of a code of any other size
+  pub vector_item : c.size ≢ 1 → item_line (BodyItem.Changes (record { code = c; form = ChangeForm.Vector; text = text })) ≡ 98 ∷ short (extend (str_to_ascii_lowercase text) c.size) ++ (32 ∷ c.text ++ 10 ∷ [])
+  vector_item size = rw (none, ne_eqb c.size 1 size) (append_assoc (98 ∷ short (extend (str_to_ascii_lowercase text) c.size)) (32 ∷ c.text) (10 ∷ []))
 
   -- the text of a real number
   pub real_item : item_line (BodyItem.Changes (record { code = c; form = ChangeForm.RealText; text = text })) ≡ 114 ∷ text ++ (32 ∷ c.text ++ 10 ∷ [])

@@ -1,5 +1,5 @@
 -- The bytes that an item was taken from, ahead of the feed.
-use Rattle.std.specs.Prelude.{◌≡◌, ℕ, ◌+◌, ◌-◌, ◌≤◌, List, [], ◌∷◌, length, slice_get, slice_range, Some}
+use Rattle.std.specs.Prelude.{◌≡◌, ℕ, ◌+◌, ◌-◌, ◌≤◌, List, [], ◌∷◌, ◌++◌, length, slice_get, slice_range, Some}
 use Rattle.vcd_model.specs.Header.{Header}
 use Rattle.vcd_model.specs.Declarations.{IdCode}
 use Rattle.vcd_text.specs.Passed.{AreWhite}
@@ -32,3 +32,7 @@ Names v place text = (h : Header) (c : IdCode) → IsViewOf v h → slice_get h.
 abbrev pub HasSpelled : HeadView → List ℕ → ℕ → ℕ → List ℕ → Item → Type 0
 HasSpelled v bytes from to text (Change place form) = (code : List ℕ) × HasChange bytes from to form text code × Names v place code
 HasSpelled v bytes from to text item = Unit {0}
+
+-- the bytes from one place up to another, without so many behind the first one
+abbrev pub bytes_without : List ℕ → ℕ → ℕ → ℕ → List ℕ
+bytes_without bytes from to n = slice_range bytes from (from + 1) ++ slice_range bytes (from + 1 + n) to

@@ -71,7 +71,7 @@ fn cut_zeros(digits: &[u8]) -> &[u8]
 }
 
 // The shortest digits that extend to the same value.
-fn shortest(digits: &[u8]) -> &[u8]
+pub(crate) fn shortest(digits: &[u8]) -> &[u8]
     requires { 0 < length digits.now }
     ensures { (size : ℕ) → str_to_ascii_lowercase result.now
         ≡ short (extend (str_to_ascii_lowercase digits.now) size) }

@@ -4,9 +4,9 @@
 //! change, or the end of the body (`Finish`). `change_text` is the text of the change that was read last, and `put_change`
 //! writes one as its line. Most items are time marks and changes that lie whole in the chunk: a loop takes these with
 //! `item_ahead`, which leaves the feed where it is, and then takes the feed past all of them with `pass_items`. Where a change
-//! that it took stands in the chunk as the line that `put_change` would write (`stands_as_line`), it may be copied from there, and
-//! many such lines in a row at once. A `Table` keeps of each code its current value, three counters, and whether it is chosen.
-//! None of them takes memory.
+//! that it took stands in the chunk as the line that `put_change` would write, but for digits that it does not need (`left_out`
+//! counts them), it may be copied from there, and many such lines in a row at once. A `Table` keeps of each code its current
+//! value, three counters, and whether it is chosen. None of them takes memory.
 //!
 //! # The relation
 //!
@@ -19,7 +19,7 @@
 //! `GaveAhead codes limit lines bytes n before items`: the first n bytes ahead are phrases with these items, which go on behind
 //! any with the items before. `item_ahead` takes it to one item more; `pass_items` takes `GaveItems` to all of them, and at the
 //! last of them to `GaveLast`, which tells how much was read. `HasSpelled view bytes from to text item` says by which bytes a change
-//! that was taken ahead is spelled; `stands_as_line` asks for it.
+//! that was taken ahead is spelled; `left_out` asks for it.
 //!
 //! What is kept of a code is told by `kept_at t code`, over each place. A call of a table changes what is kept of the code at
 //! the place that it names, and nothing else (`ChangesCode`).
@@ -30,7 +30,7 @@
 //! - `ahead`: `item_ahead`, `pass_items`, `Plain`
 //! - `phrases`, `tokens`, `words`: phrases by what they begin with; the next token; what a token is, by its first byte
 //! - `item`, `fault`: `Item`, `Form`, `Section`, `Regs`; `BodyFault`
-//! - `change`: `put_change`; `lines`: `stands_as_line`
+//! - `change`: `put_change`; `lines`: `left_out`
 //! - `table`, `slot`: `Table`, `Shown`; `Slot`; `step`: `Step`, what became of a value that was set
 //! - `store`: slots and shares of the values, and how they are set; `packed`: digits in a share, a byte each or four to a byte
 //! - `held`, `held_text`: the digits of a held value, and how it is written; `compare`: whether a change gives another one
@@ -71,7 +71,7 @@ pub use ahead::{Plain, item_ahead, pass_items};
 pub use change::put_change;
 pub use fault::BodyFault;
 pub use item::{Form, Item, Regs, Section};
-pub use lines::stands_as_line;
+pub use lines::left_out;
 pub use read::{change_text, next_item};
 pub use slot::{Shown, Slot};
 pub use step::Step;

@@ -1,5 +1,5 @@
 // Changes that stand in the chunk as they are written.
-ghost use Rattle.std.specs.Prelude.{◌≡◌, ℕ, ◌+◌, ◌-◌, ◌<◌, ◌≤◌, List, [], ◌∷◌, ◌++◌, true, false, length, slice_index, slice_range};
+ghost use Rattle.std.specs.Prelude.{◌≡◌, ℕ, ◌+◌, ◌-◌, ◌<◌, ◌≤◌, List, [], ◌∷◌, ◌++◌, true, false, drop, length, slice_index, slice_range, Some, IfSome};
 ghost use Rattle.std.specs.Int.{bit_at};
 ghost use Rattle.std.specs.Char.{to_ascii_lowercase as lower};
 ghost use Rattle.std.specs.Str.{str_to_ascii_lowercase};
@@ -10,11 +10,11 @@ ghost use Rattle.vcd_model.specs.ItemText.{item_line};
 ghost use Rattle.vcd_model.specs.Values.{extend, short};
 ghost use Rattle.vcd_head.specs.Views.{IsViewOf};
 ghost use Rattle.vcd_body.specs.Given.{IsItem};
-ghost use Rattle.vcd_body.specs.Spelled.{HasChange, HasSpelled};
+ghost use Rattle.vcd_body.specs.Spelled.{HasChange, HasSpelled, bytes_without};
 ghost use Rattle.vcd_body.specs.declared.item.Form.TheVariants as form;
 
 use crate::ahead::Plain;
-use crate::change::{extension_of, has_capital};
+use crate::change::{extension_of, has_capital, shortest};
 use crate::item::{Form, Item};
 use std::simd::prelude::*;
 use vcd_head::HeadView;
@@ -103,51 +103,96 @@ fn has_one_blank(bytes: &[u8], from: usize, to: usize, first: u8, text: &[u8], l
     (to - behind - 2 == len) & (bytes[from] == first) & (bytes[behind] == b' ')
 }
 
-/// The same after `b`, and the digits are in lower case and the shortest.
-#[inline(always)]
-fn is_vector_line(bytes: &[u8], from: usize, to: usize, digits: &[u8], len: usize) -> bool
-    requires { (code : List ℕ) × HasChange bytes.now from to form.Vector digits.now code }
-    ensures line { result ≡ true → (code : List ℕ)
-        → HasChange bytes.now from to form.Vector digits.now code
-        → slice_index bytes.now (to - 1) ≡ 10 → length code ≡ len
-        → slice_range bytes.now from to ≡ 98 ∷ digits.now ++ (32 ∷ code ++ 10 ∷ []) }
-    ensures lower { result ≡ true → str_to_ascii_lowercase digits.now ≡ digits.now }
-    ensures shortest { result ≡ true → (size : ℕ) → digits.now ≡ short (extend digits.now size) }
+/// How many digits on the left the shortest ones leave out, where these are in lower case. The digits begin at a place of these bytes.
+#[inline(never)]
+fn needless(bytes: &[u8], at: usize, digits: &[u8]) -> Option<usize>
+    requires within { at ≤ length bytes.now }
+    requires place { digits.now ≡ slice_range bytes.now at (at + length digits.now) }
+    ensures { IfSome result (λ k. (k ≤ length digits.now)
+        × ((size : ℕ) → drop k digits.now
+        ≡ short (extend (str_to_ascii_lowercase digits.now) size))) }
 {
-    if !has_one_blank(bytes, from, to, b'b', digits, len) {
-        return false;
+    if digits.is_empty() {
+        return None;
     }
-    are_shortest(digits) && are_lower(bytes, from + 1, digits)
+    let k = digits.len() - shortest(digits).len();
+    if !are_lower(bytes, at + k, &digits[k..]) {
+        return None;
+    }
+    Some(k)
 }
 
-/// Whether the bytes of an item that was taken ahead are its line as it would be written. The item's tokens are passed from one
-/// place of the bytes up to another. Where it returns that they are not, they may be all the same.
+/// The same, where most need all of their digits.
 #[inline(always)]
-pub fn stands_as_line(
+fn left_out_of(bytes: &[u8], at: usize, digits: &[u8]) -> Option<usize>
+    requires within { at ≤ length bytes.now }
+    requires place { digits.now ≡ slice_range bytes.now at (at + length digits.now) }
+    ensures { IfSome result (λ k. (k ≤ length digits.now)
+        × ((size : ℕ) → drop k digits.now
+        ≡ short (extend (str_to_ascii_lowercase digits.now) size))) }
+{
+    if !are_shortest(digits) {
+        return needless(bytes, at, digits);
+    }
+    if !are_lower(bytes, at, digits) {
+        return None;
+    }
+    Some(0)
+}
+
+/// How many digits after a `b` are left out, where the rest is the line with a code of this length.
+#[inline(always)]
+fn left_out_of_vector(
+    bytes: &[u8],
+    from: usize,
+    to: usize,
+    digits: &[u8],
+    len: usize,
+) -> Option<usize>
+    requires { (code : List ℕ) × HasChange bytes.now from to form.Vector digits.now code }
+    ensures { IfSome result (λ k. (k ≤ length digits.now) × ((code : List ℕ)
+        → HasChange bytes.now from to form.Vector digits.now code
+        → slice_index bytes.now (to - 1) ≡ 10 → length code ≡ len → (size : ℕ)
+        → bytes_without bytes.now from to k
+        ≡ 98 ∷ short (extend (str_to_ascii_lowercase digits.now) size)
+        ++ (32 ∷ code ++ 10 ∷ []))) }
+{
+    if !has_one_blank(bytes, from, to, b'b', digits, len) {
+        return None;
+    }
+    left_out_of(bytes, from + 1, digits)
+}
+
+/// How many bytes behind the first one are left out of the bytes of an item that was taken ahead, so that the others are its line as
+/// it would be written: the first digits of a vector that has more than it needs. The item's tokens are passed from one place of the
+/// bytes up to another. Where it returns none, its bytes may be the line all the same.
+#[inline(always)]
+pub fn left_out(
     view: HeadView<'_>,
     plain: Plain<'_>,
     bytes: &[u8],
     from: usize,
     to: usize,
-) -> bool
+) -> Option<usize>
     requires { HasSpelled view bytes.now from to plain.text.now plain.item }
-    ensures { result ≡ true → (h : Header) (x : BodyItem) → IsViewOf view.entry h
-        → IsItem h.codes plain.entry.text.now plain.entry.item x
-        → slice_range bytes.now from to ≡ item_line x }
+    ensures { IfSome result (λ k. (from + 1 + k ≤ to) × ((h : Header) (x : BodyItem)
+        → IsViewOf view.entry h → IsItem h.codes plain.entry.text.now plain.entry.item x
+        → bytes_without bytes.now from to k ≡ item_line x)) }
 {
     let Item::Change { code, form } = plain.item else {
-        return false;
+        return None;
     };
     let Some(code) = view.code_at(code) else {
-        return false;
+        return None;
     };
     if code.event || bytes[to - 1] != b'\n' {
-        return false;
+        return None;
     }
     let text = plain.text;
     match form {
-        Form::Scalar => code.size == 1 && is_bit_line(bytes, from, to, code.len),
-        Form::Vector => code.size != 1 && is_vector_line(bytes, from, to, text, code.len),
-        Form::RealText => has_one_blank(bytes, from, to, b'r', text, code.len),
+        Form::Scalar if code.size == 1 && is_bit_line(bytes, from, to, code.len) => Some(0),
+        Form::Vector if code.size != 1 => left_out_of_vector(bytes, from, to, text, code.len),
+        Form::RealText if has_one_blank(bytes, from, to, b'r', text, code.len) => Some(0),
+        _ => None,
     }
 }

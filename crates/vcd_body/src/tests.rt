@@ -4,7 +4,7 @@ ghost use Rattle.std.specs.Prelude.{◌+◌, ◌<◌, ◌≤◌, length};
 use crate::ahead::{item_ahead, pass_items};
 use crate::change::put_change;
 use crate::item::{Form, Item, Regs};
-use crate::lines::stands_as_line;
+use crate::lines::left_out;
 use crate::read::{change_text, next_item};
 use crate::words::are_digits_at;
 use std::alloc::{AllocError, Global};
@@ -222,7 +222,8 @@ fn plain_items_taken_ahead(rt: HostRuntime) -> Result<(), Fail> {
 const CODES: &[u8] =
     b"$var wire 1 ! clk $end $var reg 4 \" q $end $var reg 40 & w $end $var event 1 % go $end $enddefinitions $end\n";
 
-// Which of the items that are taken ahead of the body's first stand as their lines (`=`), and which do not (`.`).
+// Which of the items that are taken ahead of the body's first stand as their lines (`=`), which but for so many digits, and which do
+// not (`.`).
 fn standing(alloc: Global, body: &[u8]) -> Result<String, Fail> {
     let mut text = Vec::new(alloc);
     text.extend_from_slice(CODES)?;
@@ -241,8 +242,11 @@ fn standing(alloc: Global, body: &[u8]) -> Result<String, Fail> {
     let mut from = ahead.passed();
     while let Some(plain) = item_ahead(&mut ahead, view, &mut regs) {
         let to = ahead.passed();
-        let stands = stands_as_line(view, plain, ahead.bytes(), from, to);
-        marks.push_str(if stands { "=" } else { "." })?;
+        match left_out(view, plain, ahead.bytes(), from, to) {
+            Some(0) => marks.push_str("=")?,
+            Some(n) => marks.push_str(&format!(in alloc; "{n}")?)?,
+            None => marks.push_str(".")?,
+        }
         from = to;
     }
     Ok(marks)
@@ -261,7 +265,23 @@ fn changes_that_stand_as_their_lines(rt: HostRuntime) -> Result<(), Fail> {
             b"b101 \"\nB101 \"\nb0101 \"\nb00 \"\nb0x \"\nbzz1 \"\nbzx0 \"\nb1X \"\nb10  \"\nb10\t\"\nb1 !\nb0 \"\nb1 % b1 \"\n"
         )?
         .as_str(),
-        "=...=.=....=.="
+        "=.11=1=....=.="
+    );
+    assert_eq!(rt;
+        standing(
+            alloc,
+            b"b0010 \"\nb0001 \"\nb0000 \"\nb000x \"\nbx0 \"\nbxxx1 \"\nbxxxx \"\nbXXx1 \"\nbXX1 \"\nbxX1 \"\nb00  \"\nb1111 \"\nb0 \"\n"
+        )?
+        .as_str(),
+        "2332=232...=="
+    );
+    assert_eq!(rt;
+        standing(
+            alloc,
+            b"b00000000000000000000000000001010 &\nb0000000000000000000000000000101X &\nb0000000000000000000000000000000000000000 &\nb0101010101010101010101010101010101010x &\n"
+        )?
+        .as_str(),
+        "28.391"
     );
     assert_eq!(rt;
         standing(

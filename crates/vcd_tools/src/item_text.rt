@@ -1,5 +1,5 @@
 //! The text of kept items: each as its line, after the line of its time where that does not stand yet.
-ghost use Rattle.std.specs.Prelude.{◌≡◌, ℕ, ◌-◌, ◌^◌, ◌<◌, ◌≤◌, ◌∷◌, ◌++◌, [], List, length, slice_range, Some, IfOk};
+ghost use Rattle.std.specs.Prelude.{◌≡◌, ℕ, ◌+◌, ◌-◌, ◌^◌, ◌<◌, ◌≤◌, ◌∷◌, ◌++◌, [], List, length, Some, IfOk};
 ghost use Rattle.vcd_model.specs.Bytes.{as_line};
 ghost use Rattle.vcd_model.specs.BodyPhrases.{section_keyword};
 ghost use Rattle.vcd_model.specs.Header.{Header};
@@ -13,6 +13,7 @@ ghost use Rattle.vcd_body.specs.Given.{HasGoodText};
 ghost use Rattle.vcd_body.specs.Items.{model_section};
 ghost use Rattle.vcd_tools.specs.Device.{DueBy, TakesDue};
 ghost use Rattle.vcd_body.specs.Given.{IsItem};
+ghost use Rattle.vcd_body.specs.Spelled.{bytes_without};
 ghost use Rattle.vcd_tools.specs.ItemText.{HasWritten, LastTells, times_with};
 ghost use Rattle.vcd_tools.specs.Pieces.{IsPart, Lies, PutsOn, held_in};
 
@@ -177,7 +178,7 @@ impl ItemText {
         put_item(view, item, text, out)
     }
 
-    /// Writes an item that lies ahead as an entry at this time, behind what is held. Where it stands there as its line, that is held.
+    /// Writes an item that lies ahead as an entry at this time, behind what is held. Where its line stands there, that is held.
     #[inline(always)]
     pub(crate) fn put_lying<W: Sink>(
         &mut self,
@@ -203,36 +204,38 @@ impl ItemText {
         ensures counts { Counts (W.device out.old) (W.device out.new) result }
         ensures part { IfOk result (λ _. IsPart lying.entry.bytes.now pieces.new) }
     {
-        if lying.stands_as_line(view) {
-            return self.put_line(time, lying, pieces, out);
-        }
-        pieces.flush(lying.bytes, out)?;
-        self.put(view, time, lying.plain.item, lying.plain.text, out)
+        let Some(n) = lying.left_out(view) else {
+            pieces.flush(lying.bytes, out)?;
+            return self.put(view, time, lying.plain.item, lying.plain.text, out);
+        };
+        self.put_line(time, lying, n, pieces, out)
     }
 
-    /// Writes the line of a time, unless it was written last, and then the bytes of an item that lies ahead, behind what is held.
+    /// Writes the line of a time, unless it was written last, and then the bytes of an item that lies ahead without so many behind the
+    /// first one, behind what is held.
     #[inline(always)]
     fn put_line<W: Sink>(
         &mut self,
         time: u64,
         lying: Lying<'_>,
+        n: usize,
         pieces: &mut Pieces,
         out: &mut W,
     ) -> Result<(), WriteFailed>
         requires failures { (W.device out.old).failures < 2 ^ 64 - 1 }
-        requires within { (lying.from ≤ lying.to) × (lying.to ≤ length lying.bytes.now) }
+        requires within { (lying.from + 1 + n ≤ lying.to) × (lying.to ≤ length lying.bytes.now) }
         requires part { IsPart lying.bytes.now pieces.old }
         ensures puts { PutsOn (held_in lying.entry.bytes.now pieces.old)
             (held_in lying.entry.bytes.now pieces.new)
             (W.device out.old) (W.device out.new) (time_due self.old.written time
-            ++ slice_range lying.entry.bytes.now lying.entry.from lying.entry.to) result }
+            ++ bytes_without lying.entry.bytes.now lying.entry.from lying.entry.to n) result }
         ensures counts { Counts (W.device out.old) (W.device out.new) result }
         ensures part { IfOk result (λ _. IsPart lying.entry.bytes.now pieces.new) }
         ensures written { IfOk result (λ _. self.new.written ≡ Some time) }
     {
         put_time_behind(self.written, time, lying.bytes, pieces, out)?;
         self.written = Some(time);
-        pieces.append(lying.bytes, lying.from, lying.to, out)
+        pieces.append_without(lying.bytes, lying.from, lying.to, n, out)
     }
 
     /// Writes what closes the text where this is the last time mark: its line, where it does not stand yet.

@@ -1,14 +1,15 @@
 //! Text that is due and stands in the chunk: the pieces of it that follow each other are written at once.
-ghost use Rattle.std.specs.Prelude.{◌≡◌, ◌-◌, ◌^◌, ◌<◌, ◌≤◌, [], length, slice_range, true, IfErr, IfOk};
+ghost use Rattle.std.specs.Prelude.{◌≡◌, ◌+◌, ◌-◌, ◌^◌, ◌<◌, ◌≤◌, [], length, slice_range, IfErr, IfOk, IfSome};
 ghost use Rattle.vcd_model.specs.Header.{Header};
 ghost use Rattle.vcd_model.specs.Items.{BodyItem};
 ghost use Rattle.vcd_model.specs.ItemText.{item_line};
 ghost use Rattle.vcd_text.specs.Device.{Counts, Puts};
 ghost use Rattle.vcd_head.specs.Views.{IsViewOf};
 ghost use Rattle.vcd_body.specs.Given.{IsItem};
+ghost use Rattle.vcd_body.specs.Spelled.{bytes_without};
 ghost use Rattle.vcd_tools.specs.Pieces.{IsPart, Lies, PutsOn, held_in};
 
-use vcd_body::{Plain, stands_as_line};
+use vcd_body::{Plain, left_out};
 use vcd_head::HeadView;
 use vcd_text::{Sink, WriteFailed, put};
 
@@ -22,15 +23,16 @@ pub(crate) struct Lying<'a> {
 }
 
 impl Lying<'_> {
-    /// Its bytes are its line as it would be written.
+    /// How many of its bytes behind the first one are left out, so that the others are its line as it would be written.
     #[inline(always)]
-    pub(crate) fn stands_as_line(&self, view: HeadView<'_>) -> bool
+    pub(crate) fn left_out(&self, view: HeadView<'_>) -> Option<usize>
         requires { Lies view self.now }
-        ensures { result ≡ true → (h : Header) (x : BodyItem) → IsViewOf view.entry h
+        ensures { IfSome result (λ n. (self.now.from + 1 + n ≤ self.now.to)
+            × ((h : Header) (x : BodyItem) → IsViewOf view.entry h
             → IsItem h.codes self.now.plain.text.now self.now.plain.item x
-            → slice_range self.now.bytes.now self.now.from self.now.to ≡ item_line x }
+            → bytes_without self.now.bytes.now self.now.from self.now.to n ≡ item_line x)) }
     {
-        stands_as_line(view, self.plain, self.bytes, self.from, self.to)
+        left_out(view, self.plain, self.bytes, self.from, self.to)
     }
 }
 
@@ -120,5 +122,30 @@ impl Pieces {
         self.flush(bytes, out)?;
         *self = Pieces { from, to };
         Ok(())
+    }
+
+    /// Takes the part of the bytes that is due next, but for so many bytes behind its first one.
+    #[inline(always)]
+    pub(crate) fn append_without<W: Sink>(
+        &mut self,
+        bytes: &[u8],
+        from: usize,
+        to: usize,
+        n: usize,
+        out: &mut W,
+    ) -> Result<(), WriteFailed>
+        requires failures { (W.device out.old).failures < 2 ^ 64 - 1 }
+        requires part { IsPart bytes.now self.old }
+        requires within { (from + 1 + n ≤ to) × (to ≤ length bytes.now) }
+        ensures puts { PutsOn (held_in bytes.now self.old) (held_in bytes.now self.new)
+            (W.device out.old) (W.device out.new) (bytes_without bytes.now from to n) result }
+        ensures counts { Counts (W.device out.old) (W.device out.new) result }
+        ensures part { IfOk result (λ _. IsPart bytes.now self.new) }
+    {
+        if n == 0 {
+            return self.append(bytes, from, to, out);
+        }
+        self.append(bytes, from, from + 1, out)?;
+        self.append(bytes, from + 1 + n, to, out)
     }
 }

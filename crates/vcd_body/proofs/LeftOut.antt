@@ -1,0 +1,109 @@
+-- Lines that stand in some bytes but for digits on the left that are not needed.
+use Rattle.std.proofs.Common.{◌≡◌, ◌≢◌, ℕ, zero, suc, ◌+◌, ◌-◌, ◌≤◌, ◌<◌, ◌==◌, false, List, [], ◌∷◌, ◌++◌, length, replicate, take, drop, Option, Some, None, IfSome, sym, ap, ap₂, ◌∙◌, arith}
+use Rattle.std.specs.Prelude.{slice_range}
+use Rattle.std.specs.Char.{to_ascii_lowercase}
+use Rattle.std.specs.Str.{str_to_ascii_lowercase}
+use Rattle.std.proofs.lemmas.List.{drop-append-le, drop-drop, drop-map, drop-take, length-append, length-drop, length-map, length-replicate}
+use Rattle.std.proofs.Math.Seq.{drop-append_seam, take-length}
+use Rattle.vcd_model.specs.Values.{extend, extension, short}
+use Rattle.vcd_model.proofs.ShortLemmas.{short_is_shortest}
+use Rattle.vcd_text.proofs.AheadLemmas.{slice_range-append}
+use Rattle.vcd_body.specs.declared.item.Form.TheVariants as form
+use Rattle.vcd_body.specs.Spelled.{HasChange, bytes_without}
+use Rattle.vcd_body.proofs.Shortest.{extend_wide}
+
+-- ---- digits
+
+positive : (l : List ℕ) → (length l == 0) ≡ false → 0 < length l
+positive [] e = cc
+positive (x ∷ l) e = omega arith
+
+not_empty : (l : List ℕ) → 0 < length l → l ≢ []
+not_empty [] h = absurd (omega arith)
+not_empty (x ∷ l) h = λ e. cc
+
+-- the shortest digits are the end of those that they extend to
+short_is_end : (v : List ℕ) → v ≢ [] → (length (short v) ≤ length v) × (drop (length v - length (short v)) v ≡ short v)
+short_is_end v some =
+    let y = short v in
+    let n = length v - length y in
+    let back = (short_is_shortest v some).1 in
+    let same = ap length back in
+    let parts = length-append (replicate n (extension y)) y in
+    let front = length-replicate n (extension y) in
+    (omega arith, ap (drop n) (sym back) ∙ ap (λ m. drop m (replicate n (extension y) ++ y)) (sym front) ∙ drop-append_seam (replicate n (extension y)) y)
+
+-- so are the shortest ones of digits in either case
+module _ (l rest : List ℕ) (s : (size : ℕ) → str_to_ascii_lowercase rest ≡ short (extend (str_to_ascii_lowercase l) size)) (some : (length l == 0) ≡ false) where
+  pub shortest_end : (length rest ≤ length l) × ((size : ℕ) → str_to_ascii_lowercase (drop (length l - length rest) l) ≡ short (extend (str_to_ascii_lowercase l) size))
+  shortest_end =
+      let low = str_to_ascii_lowercase l in
+      let more = positive l some in
+      let size = length-map l to_ascii_lowercase in
+      let size' = length-map rest to_ascii_lowercase in
+      let e : str_to_ascii_lowercase rest ≡ short low = s (length low) ∙ ap short (extend_wide low (length low) (omega arith)) in
+      let p = short_is_end low (not_empty low (omega arith)) in
+      let few = p.0 in
+      let same = ap length e in
+      let n : length low - length (short low) ≡ length l - length rest = omega arith in (
+        omega arith,
+        λ z. sym (drop-map to_ascii_lowercase (length l - length rest) l) ∙ ap (λ m. drop m low) (sym n) ∙ p.1 ∙ sym e ∙ s z,
+      )
+
+-- a slice from there on
+pub end_is : (l : List ℕ) (k : ℕ) → take (length l - k) (drop k l) ≡ drop k l
+end_is l k = ap (λ m. take m (drop k l)) (sym (length-drop k l)) ∙ take-length (drop k l)
+
+-- it stands there too
+pub end_place : (bytes l : List ℕ) (at k : ℕ) → k ≤ length l → l ≡ slice_range bytes at (at + length l) → take (length l - k) (drop k l) ≡ slice_range bytes (at + k) (at + k + length (take (length l - k) (drop k l)))
+end_place bytes l at k few place =
+    let rest = length l - k in
+    let size : length (take rest (drop k l)) ≡ rest = ap length (end_is l k) ∙ length-drop k l in
+    let all : at + length l - at ≡ k + rest = omega arith in
+    let some : at + k + length (take rest (drop k l)) - (at + k) ≡ rest = omega arith in
+    end_is l k ∙ ap (drop k) place ∙ ap (λ n. drop k (take n (drop at bytes))) all ∙ drop-take k rest (drop at bytes) ∙ ap (take rest) (drop-drop k at bytes) ∙ ap (λ n. take n (drop (at + k) bytes)) (sym some)
+
+-- ---- bytes
+
+first_of : (n : ℕ) (l : List ℕ) (first : ℕ) (rest : List ℕ) → take n l ≡ first ∷ rest → take 1 l ≡ first ∷ []
+first_of zero l first rest e = cc
+first_of (suc n) [] first rest e = cc
+first_of (suc n) (x ∷ l) first rest e = ap (take 1) e
+
+-- without some of a text behind the first byte
+pub without_some : (bytes : List ℕ) (from to k first : ℕ) (text rest : List ℕ) → from + 1 + k ≤ to → k ≤ length text → slice_range bytes from to ≡ first ∷ text ++ rest → bytes_without bytes from to k ≡ first ∷ drop k text ++ rest
+without_some bytes from to k first text rest within few e =
+    let n = to - (from + 1 + k) in
+    let one : from + 1 - from ≡ 1 = omega arith in
+    let all : to - from ≡ suc k + n = omega arith in
+    let on : from + suc k ≡ from + 1 + k = omega arith in
+    let front : slice_range bytes from (from + 1) ≡ first ∷ [] = ap (λ m. take m (drop from bytes)) one ∙ first_of (to - from) (drop from bytes) first (text ++ rest) e in
+    let back : drop (suc k) (slice_range bytes from to) ≡ slice_range bytes (from + 1 + k) to = ap (λ m. drop (suc k) (take m (drop from bytes))) all ∙ drop-take (suc k) n (drop from bytes) ∙ ap (take n) (drop-drop (suc k) from bytes) ∙ ap (λ m. take n (drop m bytes)) on in
+    ap₂ (λ (a b : List ℕ). a ++ b) front (sym back ∙ ap (drop (suc k)) e ∙ drop-append-le k text rest few)
+
+-- without none
+pub without_none : (bytes : List ℕ) (from to : ℕ) → from + 1 ≤ to → bytes_without bytes from to 0 ≡ slice_range bytes from to
+without_none bytes from to within =
+    let all : from + 1 + (to - (from + 1)) ≡ to = omega arith in
+    let none : from + 1 + 0 ≡ from + 1 = omega arith in
+    ap₂ (λ (a b : ℕ). slice_range bytes from (from + 1) ++ slice_range bytes a b) none (sym all) ∙ slice_range-append bytes from (from + 1) (to - (from + 1)) (omega arith) ∙ ap (slice_range bytes from) all
+
+-- the bytes of a change are one or more, and of digits or a number as many more as these
+pub bit_within : (bytes : List ℕ) (from to : ℕ) (text code : List ℕ) → HasChange bytes from to form.Scalar text code → from + 1 ≤ to
+bit_within bytes from to text code (digit, is, t) = let order = t.before.order in let ends = t.ends in omega arith
+
+pub text_within : (bytes : List ℕ) (from to : ℕ) (text code : List ℕ) → HasChange bytes from to form.Vector text code → from + 1 + length text ≤ to
+text_within bytes from to text code (letter, middle, t, u) =
+    let order = t.before.order in
+    let order' = u.before.order in
+    let ends = t.ends in
+    let ends' = u.ends in
+    omega arith
+
+-- a line with the shortest of these digits
+pub shortest_line : (bytes : List ℕ) (from to k first : ℕ) (text rest : List ℕ) (digits : List ℕ) → from + 1 + length text ≤ to → k ≤ length text → drop k text ≡ digits → slice_range bytes from to ≡ first ∷ text ++ rest → bytes_without bytes from to k ≡ first ∷ digits ++ rest
+shortest_line bytes from to k first text rest digits within few is e = without_some bytes from to k first text rest (omega arith) few e ∙ ap (λ d. first ∷ d ++ rest) is
+
+pub if_some_more : {A : Type 0} {P Q : A → Type 0} (o : Option A) → ((x : A) → P x → Q x) → IfSome o P → IfSome o Q
+if_some_more (Some x) f p = f x p
+if_some_more None f p = tt
