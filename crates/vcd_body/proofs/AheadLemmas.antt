@@ -1,8 +1,7 @@
 -- One item more that lies ahead.
-use Rattle.std.proofs.Common.{◌≡◌, ◌≢◌, ℕ, ◌<◌, ◌≤◌, List, [], ◌∷◌, ◌++◌, map, take, drop, length, Option, None, Some, IfSome, Result, Ok, Err, MatchResult, refl, sym, ap, subst, ◌∙◌, arith, length-append}
-use Rattle.std.specs.Prelude.{slice_get}
+use Rattle.std.proofs.Common.{◌≡◌, ◌≢◌, ℕ, ◌<◌, ◌≤◌, List, [], ◌∷◌, ◌++◌, map, take, drop, Option, None, Some, IfSome, Result, Ok, Err, MatchResult, refl, sym, ap, subst, ◌∙◌, arith, length-append}
+use Rattle.std.specs.Prelude.{option_map, slice_get}
 use Rattle.std.specs.Result.{result_ok}
-use Rattle.std.proofs.lemmas.Option.{slice_get-get_or}
 use Rattle.std.proofs.lemmas.List.{append_assoc, map-append}
 use Rattle.std.proofs.lemmas.List.Elements.{filter_map-append}
 use Rattle.vcd_model.specs.Input.{Input}
@@ -18,7 +17,8 @@ use Rattle.vcd_text.specs.Passed.{Passed, line_ahead}
 use Rattle.vcd_text.specs.Feed.{HasGiven, HasReadTo}
 use Rattle.vcd_text.specs.declared.device.Source.{Ghosts}
 use Rattle.vcd_text.specs.declared.feed.Feed.{Feed}
-use Rattle.vcd_head.specs.Finds.{Finds}
+use Rattle.vcd_head.specs.Finds.{Finds, IsSized}
+use Rattle.vcd_head.specs.declared.look_up.Found.{Found}
 use Rattle.vcd_head.specs.declared.view.Code.{Code}
 use Rattle.vcd_body.specs.declared.fault.BodyFault.{BodyFault}
 use Rattle.vcd_body.specs.declared.item.Form.{Form}
@@ -30,7 +30,6 @@ use Rattle.vcd_body.specs.Items.{AreRegsAfter, model_form, regs_after}
 use Rattle.vcd_body.specs.Reads.{GaveItems, Passes, Refuses}
 use Rattle.vcd_body.specs.Given.{IsItem}
 use Rattle.vcd_body.specs.Ahead.{GaveAhead, GaveLast, PassBoth}
-use Rattle.vcd_body.proofs.RegsLemmas.{the_code}
 use Rattle.vcd_body.proofs.ReadLemmas.{known_change, known_time}
 
 -- a look ahead that was at one place passes one token more, which stands on this line, and is at place n
@@ -63,13 +62,13 @@ at_ok P Q (Ok y) x e h = subst P (some_is (sym e)) h
 at_ok P Q (Err y) x e h = cc
 
 -- what is so of the code that was found, whichever it is
-pub code_behind : (codes : List IdCode) (text : List ℕ) (found : Option ℕ) {P : IdCode → Type 0} → Finds codes text found → ((c : IdCode) → declared_code codes text ≡ Some c → P c) → IfSome found (λ place. (c : IdCode) × (slice_get codes place ≡ Some c) × P c)
+pub code_behind : (codes : List IdCode) (text : List ℕ) (found : Option Found) {P : IdCode → Type 0} → Finds codes text (option_map (λ f. f.place) found) → ((c : IdCode) → declared_code codes text ≡ Some c → P c) → IfSome found (λ f. (c : IdCode) × (slice_get codes f.place ≡ Some c) × P c)
 code_behind codes text None f h = tt
 code_behind codes text (Some place) f h = (f.0, f.1, h f.0 f.2)
 
-pub code_within : (codes : List Code) (found : Option ℕ) {P : ℕ → Type 0} → IfSome found (λ place. place < length codes) → ((place : ℕ) (x : Code) → slice_get codes place ≡ Some x → P place) → IfSome found P
-code_within codes None within h = tt
-code_within codes (Some place) within h = h place _ (slice_get-get_or codes place the_code within)
+pub code_within : (codes : List Code) (found : Option Found) {P : ℕ → Type 0} → IfSome found (IsSized codes) → ((place : ℕ) (x : Code) → slice_get codes place ≡ Some x → P place) → IfSome found (λ f. P f.place)
+code_within codes None sized h = tt
+code_within codes (Some f) sized h = h f.place sized.0 sized.1
 
 -- phrases of which the last is this one
 split_phrases : {P : Type 0} (ps : List (Placed P)) (qs : List P) (y : P) → phrases_of ps ≡ qs ++ y ∷ [] → (m : List (Placed P)) × (line : ℕ) × (ps ≡ m ++ record { phrase = y; line = line } ∷ []) × (phrases_of m ≡ qs)
@@ -161,10 +160,11 @@ module _ (codes : List IdCode) (limit lines : ℕ) (bytes : List ℕ) (before it
 
   module _ (n : ℕ) (r : Regs) (g : GaveAhead codes limit lines bytes n before items) (k : AreRegsAfter (before ++ items) r) where
     -- a digit with its code
-    pub scalar_taken : (n' place line : ℕ) (token text : List ℕ) (found : Result ℕ BodyFault) → n < n' → Passed limit lines bytes n' (g.tokens ++ record { bytes = token; line = line } ∷ []) → text ≡ take 1 token → Some place ≡ result_ok found
-        → ((earlier : List BodyPhrase) → MatchResult found (IsScalar earlier token) (Refuses codes earlier token)) → TakesOne n' r (item.Change place form.Scalar) text
-    scalar_taken n' place line token text found less p is ok m =
-        let h : (earlier : List BodyPhrase) → IsScalar earlier token place = λ earlier. at_ok (IsScalar earlier token) (Refuses codes earlier token) found place ok (m earlier) in
+    pub scalar_taken : (n' : ℕ) (f : Found) (line : ℕ) (token text : List ℕ) (found : Result Found BodyFault) → n < n' → Passed limit lines bytes n' (g.tokens ++ record { bytes = token; line = line } ∷ []) → text ≡ take 1 token → Some f ≡ result_ok found
+        → ((earlier : List BodyPhrase) → MatchResult found (λ x. IsScalar earlier token x.place) (Refuses codes earlier token)) → TakesOne n' r (item.Change f.place form.Scalar) text
+    scalar_taken n' f line token text found less p is ok m =
+        let place = f.place in
+        let h : (earlier : List BodyPhrase) → IsScalar earlier token place = λ earlier. at_ok (λ (x : Found). IsScalar earlier token x.place) (Refuses codes earlier token) found f ok (m earlier) in
         let c = (h []).0 in
         let x : Change = record { code = c; form = ChangeForm.Scalar; text = text } in
         let same : (o : IdCode) → slice_get codes place ≡ Some o → o ≡ c = λ o e. some_is (sym e ∙ (h []).1) in (

@@ -1,13 +1,13 @@
 -- Changes that stand in some bytes, and their lines.
 use Rattle.std.proofs.Common.{◌≡◌, ◌≢◌, ℕ, zero, suc, ◌+◌, ◌-◌, max, ◌≤◌, ◌<◌, ◌==◌, Bool, true, false, not, ◌&&◌, List, [], ◌∷◌, ◌++◌, length, take, drop, get_or, Option, Some, None, IfSome, Result, Ok, Err, IfOk, ◌⊎◌, inl, inr, refl, sym, ap, ap₂, subst, ◌∙◌, append_assoc, arith}
-use Rattle.std.specs.Prelude.{bit_and, slice_get, slice_index, slice_range}
+use Rattle.std.specs.Prelude.{bit_and, option_map, slice_get, slice_index, slice_range}
 use Rattle.std.specs.Char.{to_ascii_lowercase}
 use Rattle.std.specs.Str.{str_to_ascii_lowercase}
 use Rattle.std.specs.Result.{result_ok}
 use Rattle.std.proofs.lemmas.Bool.{and_parts, cases_lt, eqb-true, eqb-false, ne_eqb}
-use Rattle.std.proofs.lemmas.List.{drop-drop, drop-take}
+use Rattle.std.proofs.lemmas.List.{drop-drop, drop-take, take-take}
 use Rattle.std.proofs.lemmas.Slice.Eq.{bytes_eq-Decides}
-use Rattle.vcd_model.specs.Bytes.{is_white_space}
+use Rattle.vcd_model.specs.Bytes.{decimal_value, is_white_space}
 use Rattle.vcd_model.specs.Header.{Header}
 use Rattle.vcd_model.specs.Declarations.{IdCode, has_text}
 use Rattle.vcd_model.specs.Items.{BodyItem, ChangeForm}
@@ -19,6 +19,7 @@ use Rattle.vcd_text.proofs.AheadLemmas.{slice_range-append}
 use Rattle.vcd_head.specs.declared.view.HeadView.{HeadView}
 use Rattle.vcd_head.specs.Views.{IsViewOf}
 use Rattle.vcd_head.specs.Finds.{Finds}
+use Rattle.vcd_head.specs.declared.look_up.Found.{Found}
 use Rattle.vcd_text.proofs.Places.{length-slice_range}
 use Rattle.vcd_head.specs.declared.view.Code.{Code}
 use Rattle.vcd_head.specs.Shown.{parts}
@@ -29,7 +30,7 @@ use Rattle.vcd_body.specs.declared.item.Item.TheVariants as item
 use Rattle.vcd_body.specs.Items.{model_form}
 use Rattle.vcd_body.specs.Given.{IsItem}
 use Rattle.vcd_body.proofs.FindLemmas.{code_at}
-use Rattle.vcd_body.specs.Spelled.{HasToken, HasChange, Names}
+use Rattle.vcd_body.specs.Spelled.{HasToken, HasChange, HasMark, HasPlaces, Names}
 use Rattle.vcd_body.proofs.Shortest.{IsBare, bare_is_short, extend_where_fits}
 use Rattle.vcd_body.proofs.WordLemmas.{byte_there, lower_alone}
 
@@ -45,13 +46,14 @@ found_named v place text f h c view e =
     let same = some_is (sym k.1 ∙ e) in
     sym ((bytes_eq-Decides text c.text).0 (find_passes (has_text text) h.codes c (k.2 ∙ ap Some same)))
 
-pub named_where_found : (v : HeadView) (text : List ℕ) (found : Option ℕ) → ((h : Header) → IsViewOf v h → Finds h.codes text found) → IfSome found (λ place. Names v place text)
+pub named_where_found : (v : HeadView) (text : List ℕ) (found : Option Found) → ((h : Header) → IsViewOf v h → Finds h.codes text (option_map (λ f. f.place) found)) → IfSome found (λ f. Names v f.place text)
 named_where_found v text None f = tt
-named_where_found v text (Some place) f = found_named v place text f
+named_where_found v text (Some x) f = found_named v x.place text f
 
-pub named_of : {E : Type 0} (v : HeadView) (text : List ℕ) (found : Result ℕ E) (place : ℕ) → Some place ≡ result_ok found → IfOk found (λ p. Names v p text) → Names v place text
-named_of v text (Ok p) place e n = subst (λ q. Names v q text) (some_is (sym e)) n
-named_of v text (Err f) place e n = cc
+-- what is so of what was found
+pub of_found : {A E : Type 0} (P : A → Type 0) (found : Result A E) (f : A) → Some f ≡ result_ok found → IfOk found P → P f
+of_found P (Ok p) f e n = subst P (some_is (sym e)) n
+of_found P (Err p) f e n = cc
 
 -- the header's change that an item with this text and this code is, where the view shows that code
 pub of_shown : (v : HeadView) (h : Header) → IsViewOf v h → (place : ℕ) (y : Code) → slice_get v.codes.now place ≡ Some y → (f : Form) (text code : List ℕ) → Names v place code → (x : BodyItem) → IsItem h.codes text (item.Change place f) x
@@ -78,6 +80,78 @@ scalar_there bytes from to token text digit rest e is t = (digit, is ∙ ap (tak
 pub both_there : (bytes bytes' : List ℕ) (from middle to : ℕ) (token text code : List ℕ) (letter : ℕ) (rest : List ℕ) → token ≡ letter ∷ rest → text ≡ drop 1 token → bytes' ≡ bytes → HasToken bytes from middle token → HasToken bytes' middle to code → HasChange bytes from to form.Vector text code
 both_there bytes bytes' from middle to token text code letter rest e is same t u =
     (letter, middle, subst (HasToken bytes from middle) (e ∙ ap (λ l. letter ∷ l) (sym (is ∙ ap (drop 1) e))) t, subst (λ b. HasToken b middle to code) same u)
+
+-- a text within a token stands at its own place
+part_there : (bytes : List ℕ) (start end k : ℕ) (token : List ℕ) → token ≡ slice_range bytes start end → length token ≡ end - start → start ≤ end → k ≤ length token → drop k token ≡ slice_range bytes (start + k) end
+part_there bytes start end k token is long order few =
+    let all : end - start ≡ k + (end - (start + k)) = omega arith in
+    ap (drop k) (is ∙ ap (λ n. take n (drop start bytes)) all) ∙ drop-take k (end - (start + k)) (drop start bytes) ∙ ap (take (end - (start + k))) (drop-drop k start bytes ∙ ap (λ n. drop n bytes) (omega arith))
+
+length_rest : (digit : ℕ) (rest token : List ℕ) → token ≡ digit ∷ rest → (length (drop 1 token) + 1 ≡ length token) × (length (take 1 token) ≡ 1)
+length_rest digit rest token e = rw e (omega arith, refl)
+
+-- the places of a digit and of the code at once after it
+pub scalar_places : (bytes : List ℕ) (from to : ℕ) (token text : List ℕ) (digit : ℕ) (rest : List ℕ) → token ≡ digit ∷ rest → text ≡ take 1 token → (t : HasToken bytes from to token) → HasPlaces bytes from to (to - 1 - length token) (to - 1 - length token + 1) text (drop 1 token)
+scalar_places bytes from to token text digit rest e is t =
+    let ends = t.ends in
+    let order = t.before.order in
+    let one = length_rest digit rest token e in
+    let long = ap length is ∙ one.1 in
+    let some = one.0 in
+    let start : t.start ≡ to - 1 - length token = omega arith in
+    let place : token ≡ slice_range bytes (to - 1 - length token) (to - 1) = t.token_is ∙ ap (λ a. slice_range bytes a (to - 1)) start in
+    let last : to - 1 ≡ to - 1 - length token + 1 + length (drop 1 token) = omega arith in
+    record {
+      after = omega arith;
+      apart = omega arith;
+      ends = omega arith;
+      within = t.within;
+      text_is = is ∙ first_there bytes (to - 1 - length token) (to - 1) token text long place (omega arith);
+      code_is = part_there bytes (to - 1 - length token) (to - 1) 1 token place (omega arith) (omega arith) (omega arith) ∙ ap (slice_range bytes (to - 1 - length token + 1)) last;
+    }
+  where
+    first_there : (bytes : List ℕ) (start end : ℕ) (token text : List ℕ) → length text ≡ 1 → token ≡ slice_range bytes start end → start < end → take 1 token ≡ slice_range bytes start (start + length text)
+    first_there bytes start end token text long place less =
+        let m : start + length text - start ≡ 1 = omega arith in
+        ap (take 1) place ∙ take-take 1 (end - start) (drop start bytes) (omega arith) ∙ ap (λ k. take k (drop start bytes)) (sym m)
+
+-- those of a text after its letter, and of the code
+pub both_places : (bytes bytes' : List ℕ) (from middle to : ℕ) (token text code : List ℕ) (letter : ℕ) (rest : List ℕ) → token ≡ letter ∷ rest → text ≡ drop 1 token → bytes' ≡ bytes → HasToken bytes from middle token → HasToken bytes' middle to code
+    → HasPlaces bytes from to (middle - 1 - length token + 1) (to - 1 - length code) text code
+both_places bytes bytes' from middle to token text code letter rest e is same t u =
+    let ends = t.ends in
+    let order = t.before.order in
+    let ends' = u.ends in
+    let order' = u.before.order in
+    let long = ap length is in
+    let some = (length_rest letter rest token e).0 in
+    let start : t.start ≡ middle - 1 - length token = omega arith in
+    let start' : u.start ≡ to - 1 - length code = omega arith in
+    let place : token ≡ slice_range bytes (middle - 1 - length token) (middle - 1) = t.token_is ∙ ap (λ a. slice_range bytes a (middle - 1)) start in
+    let last : middle - 1 ≡ middle - 1 - length token + 1 + length text = omega arith in
+    let last' : to - 1 ≡ to - 1 - length code + length code = omega arith in
+    record {
+      after = omega arith;
+      apart = omega arith;
+      ends = omega arith;
+      within = subst (λ b. to ≤ length b) same u.within;
+      text_is = is ∙ part_there bytes (middle - 1 - length token) (middle - 1) 1 token place (omega arith) (omega arith) (omega arith) ∙ ap (slice_range bytes (middle - 1 - length token + 1)) last;
+      code_is = u.token_is ∙ ap₂ (slice_range bytes') start' last' ∙ ap (λ b. slice_range b (to - 1 - length code) (to - 1 - length code + length code)) same;
+    }
+
+-- those of a mark's digits
+pub mark_there : (bytes : List ℕ) (from to : ℕ) (token : List ℕ) (time : ℕ) → 0 < length token → decimal_value (drop 1 token) ≡ time → HasToken bytes from to token → HasMark bytes from to (to - 1 - length token + 1) time
+mark_there bytes from to token time some value t =
+    let ends = t.ends in
+    let order = t.before.order in
+    let start : t.start ≡ to - 1 - length token = omega arith in
+    let place : token ≡ slice_range bytes (to - 1 - length token) (to - 1) = t.token_is ∙ ap (λ a. slice_range bytes a (to - 1)) start in
+    record {
+      after = omega arith;
+      before = omega arith;
+      within = t.within;
+      value = ap decimal_value (sym (part_there bytes (to - 1 - length token) (to - 1) 1 token place (omega arith) (omega arith) (omega arith))) ∙ value;
+    }
 
 -- ---- a line
 

@@ -15,6 +15,8 @@ use Rattle.vcd_text.specs.declared.ahead.Ahead.{Ahead}
 use Rattle.vcd_text.specs.Feed.{HasReadTo}
 use Rattle.vcd_text.specs.declared.device.Source.{Ghosts}
 use Rattle.vcd_text.specs.declared.feed.Feed.{Feed}
+use Rattle.vcd_head.specs.declared.view.Code.{Code}
+use Rattle.vcd_head.specs.Finds.{IsSized}
 use Rattle.vcd_body.specs.declared.item.Item.{Item}
 use Rattle.vcd_body.specs.declared.item.Item.TheVariants.{Time, Change}
 use Rattle.vcd_body.specs.declared.item.Regs.{Regs}
@@ -25,6 +27,11 @@ abbrev pub IsPlain : List ℕ → Item → Type 0
 IsPlain text (Time t) = text ≡ []
 IsPlain text (Change place form) = Unit {0}
 IsPlain text item = ⊥
+
+-- a change's code is one of these and has this size, as a look-up tells it; a mark has none
+abbrev pub IsSizedItem : List Code → Item → ℕ → Type 0
+IsSizedItem codes (Change place form) most = IsSized codes (record { place = place; most = most })
+IsSizedItem codes item most = most ≡ 0
 
 -- it looks over these bytes, for tokens of at most so many
 abbrev pub LooksOver : ℕ → List ℕ → Ahead → Type 0

@@ -1,5 +1,6 @@
 -- The bytes that an item was taken from, ahead of the feed.
-use Rattle.std.specs.Prelude.{◌≡◌, ℕ, ◌+◌, ◌-◌, ◌≤◌, List, [], ◌∷◌, ◌++◌, length, slice_get, slice_range, Some}
+use Rattle.std.specs.Prelude.{◌≡◌, ℕ, ◌+◌, ◌-◌, ◌<◌, ◌≤◌, List, [], ◌∷◌, ◌++◌, length, slice_get, slice_range, Some}
+use Rattle.vcd_model.specs.Bytes.{decimal_value}
 use Rattle.vcd_model.specs.Header.{Header}
 use Rattle.vcd_model.specs.Declarations.{IdCode}
 use Rattle.vcd_text.specs.Passed.{AreWhite}
@@ -8,7 +9,7 @@ use Rattle.vcd_head.specs.Views.{IsViewOf}
 use Rattle.vcd_body.specs.declared.item.Form.{Form}
 use Rattle.vcd_body.specs.declared.item.Form.TheVariants.{Scalar, Vector, RealText}
 use Rattle.vcd_body.specs.declared.item.Item.{Item}
-use Rattle.vcd_body.specs.declared.item.Item.TheVariants.{Change}
+use Rattle.vcd_body.specs.declared.item.Item.TheVariants.{Time, Change}
 
 -- from one place up to another stand white bytes, none or more, then this token, and one byte after it
 pub record HasToken (bytes : List ℕ) (from to : ℕ) (token : List ℕ) : Type 0 where
@@ -28,10 +29,27 @@ HasChange bytes from to RealText text code = (letter : ℕ) × (middle : ℕ) ×
 abbrev pub Names : HeadView → ℕ → List ℕ → Type 0
 Names v place text = (h : Header) (c : IdCode) → IsViewOf v h → slice_get h.codes place ≡ Some c → c.text ≡ text
 
--- where the item is a change, it stands there, with this text and with its code
-abbrev pub HasSpelled : HeadView → List ℕ → ℕ → ℕ → List ℕ → Item → Type 0
-HasSpelled v bytes from to text (Change place form) = (code : List ℕ) × HasChange bytes from to form text code × Names v place code
-HasSpelled v bytes from to text item = Unit {0}
+-- the text of the change stands at one place, and its code behind it at another, up to the last byte
+pub record HasPlaces (bytes : List ℕ) (from to at code_at : ℕ) (text code : List ℕ) : Type 0 where
+  pub after : from ≤ at
+  pub apart : at + length text ≤ code_at
+  pub ends : to ≡ code_at + length code + 1
+  pub within : to ≤ length bytes
+  pub text_is : text ≡ slice_range bytes at (at + length text)
+  pub code_is : code ≡ slice_range bytes code_at (code_at + length code)
+
+-- the decimal digits of a mark stand at this place, up to the last byte
+pub record HasMark (bytes : List ℕ) (from to at time : ℕ) : Type 0 where
+  pub after : from < at
+  pub before : at < to
+  pub within : to ≤ length bytes
+  pub value : decimal_value (slice_range bytes at (to - 1)) ≡ time
+
+-- a change stands there, with this text and with its code, at these places; or the digits of a mark
+abbrev pub HasSpelled : HeadView → List ℕ → ℕ → ℕ → ℕ → ℕ → List ℕ → Item → Type 0
+HasSpelled v bytes from to at code_at text (Time time) = HasMark bytes from to at time
+HasSpelled v bytes from to at code_at text (Change place form) = (code : List ℕ) × HasChange bytes from to form text code × Names v place code × HasPlaces bytes from to at code_at text code
+HasSpelled v bytes from to at code_at text item = Unit {0}
 
 -- the bytes from one place up to another, without so many behind the first one
 abbrev pub bytes_without : List ℕ → ℕ → ℕ → ℕ → List ℕ

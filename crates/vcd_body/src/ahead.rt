@@ -11,19 +11,21 @@ ghost use Rattle.vcd_text.specs.Ahead.{ahead_of, bytes_of, lines_of, longest_of,
 ghost use Rattle.vcd_text.specs.Passed.{Passed};
 ghost use Rattle.vcd_text.specs.Feed.{limit_of, seen, source_of};
 ghost use Rattle.vcd_text.specs.Advances.{Advances, CallEnd};
+ghost use Rattle.vcd_head.specs.Finds.{IsSized};
 ghost use Rattle.vcd_body.specs.declared.item.Form.TheVariants as form;
+ghost use Rattle.vcd_body.specs.declared.item.Item.TheVariants as item;
 ghost use Rattle.vcd_body.specs.declared.words.First.TheVariants as first;
 ghost use Rattle.vcd_body.specs.Items.{AreRegsAfter, regs_after};
 ghost use Rattle.vcd_body.specs.Words.{Begins};
 ghost use Rattle.vcd_body.specs.Reads.{GaveItems};
 ghost use Rattle.vcd_body.specs.Given.{HasGoodText, IsGoodText, IsItem};
-ghost use Rattle.vcd_body.specs.Ahead.{GaveAhead, GaveLast, IsPlain, LooksOver, PassBoth};
+ghost use Rattle.vcd_body.specs.Ahead.{GaveAhead, GaveLast, IsPlain, IsSizedItem, LooksOver, PassBoth};
 ghost use Rattle.vcd_body.specs.Spelled.{HasSpelled, Names};
 
 use crate::item::{Form, Item, Regs};
 use crate::phrases::{scalar_code, takes, time_of};
 use crate::words::{First, are_digits_at, first_byte_of, first_of, rest_of};
-use vcd_head::{HeadView, find, find_sized};
+use vcd_head::{Found, HeadView, find_sized};
 use vcd_text::{Ahead, Feed, Source};
 
 /// An item that was taken ahead.
@@ -33,6 +35,52 @@ pub struct Plain<'a> {
     pub item: Item,
     /// The text of a change; none for a mark.
     pub text: &'a [u8],
+    /// The size of a change's code; 0 where it is an event, and where 32 bits do not hold the size, and for a mark.
+    pub most: usize,
+    /// Where the text of a change begins in the bytes that are looked over; where the digits of a mark begin.
+    pub at: usize,
+    /// Where a change's code begins; it ends one byte before the last one that is passed.
+    pub code_at: usize,
+}
+
+/// A change of the code that was found.
+#[inline(always)]
+fn change_of(found: Found, form: Form, text: &[u8], at: usize, code_at: usize) -> Plain<'_>
+    ensures { result ≡ record {
+      item = item.Change found.place form;
+      text = text.entry;
+      most = found.most;
+      at = at;
+      code_at = code_at;
+    } }
+{
+    Plain {
+        item: Item::Change {
+            code: found.place,
+            form,
+        },
+        text,
+        most: found.most,
+        at,
+        code_at,
+    }
+}
+
+/// A time mark, whose digits begin at this place.
+#[inline(always)]
+fn mark_of<'a>(time: u64, at: usize) -> Plain<'a>
+    ensures item { result.item ≡ item.Time time }
+    ensures text { result.text.now ≡ [] }
+    ensures most { result.most ≡ 0 }
+    ensures places { (result.at ≡ at) × (result.code_at ≡ at) }
+{
+    Plain {
+        item: Item::Time(time),
+        text: &[],
+        most: 0,
+        at,
+        code_at: at,
+    }
 }
 
 /// The place of the code that stands after the digits of a vector, where there are digits, and the code has room for them. The
@@ -44,12 +92,12 @@ fn vector_code(
     token: &[u8],
     code: &[u8],
     view: HeadView<'_>,
-) -> Option<usize>
+) -> Option<Found>
     requires within { at + length token.now ≤ length bytes.now }
     requires place { token.now ≡ slice_range bytes.now at (at + length token.now) }
     requires begins { Begins token.now first.Vector }
     ensures code { (h : Header) → IsViewOf view.entry h
-        → IfSome result (λ place. (c : IdCode) × (slice_get h.codes place ≡ Some c)
+        → IfSome result (λ found. (c : IdCode) × (slice_get h.codes found.place ≡ Some c)
         × ((earlier : List BodyPhrase) → PassBoth h.codes earlier token.now code.now
         (BodyItem.Changes (record {
           code = c;
@@ -57,8 +105,9 @@ fn vector_code(
           text = drop 1 token.now;
         })))) }
     ensures sound { IfSome result
-        (λ place. IsGoodText view.entry.codes.now place form.Vector (drop 1 token.now)) }
-    ensures names { IfSome result (λ place. Names view.entry place code.now) }
+        (λ found. IsGoodText view.entry.codes.now found.place form.Vector (drop 1 token.now)) }
+    ensures names { IfSome result (λ found. Names view.entry found.place code.now) }
+    ensures sized { IfSome result (IsSized view.entry.codes.now) }
 {
     let digits = rest_of(token);
     if !are_digits_at(bytes, at + 1, digits) {
@@ -66,17 +115,17 @@ fn vector_code(
     }
     let found = find_sized(view, code)?;
     if takes(view.codes, found, digits.len()) {
-        return Some(found.place);
+        return Some(found);
     }
     None
 }
 
 /// The place of the code that stands after the text of a real number, where the text has 1 to 64 bytes.
-#[inline(never)]
-fn real_code(token: &[u8], code: &[u8], view: HeadView<'_>) -> Option<usize>
+#[inline(always)]
+fn real_code(token: &[u8], code: &[u8], view: HeadView<'_>) -> Option<Found>
     requires begins { Begins token.now first.Real }
     ensures code { (h : Header) → IsViewOf view.entry h
-        → IfSome result (λ place. (c : IdCode) × (slice_get h.codes place ≡ Some c)
+        → IfSome result (λ found. (c : IdCode) × (slice_get h.codes found.place ≡ Some c)
         × ((earlier : List BodyPhrase) → PassBoth h.codes earlier token.now code.now
         (BodyItem.Changes (record {
           code = c;
@@ -84,14 +133,15 @@ fn real_code(token: &[u8], code: &[u8], view: HeadView<'_>) -> Option<usize>
           text = drop 1 token.now;
         })))) }
     ensures sound { IfSome result
-        (λ place. IsGoodText view.entry.codes.now place form.RealText (drop 1 token.now)) }
-    ensures names { IfSome result (λ place. Names view.entry place code.now) }
+        (λ found. IsGoodText view.entry.codes.now found.place form.RealText (drop 1 token.now)) }
+    ensures names { IfSome result (λ found. Names view.entry found.place code.now) }
+    ensures sized { IfSome result (IsSized view.entry.codes.now) }
 {
     let text = rest_of(token);
     if text.is_empty() || text.len() > 64 {
         return None;
     }
-    find(view, code)
+    find_sized(view, code)
 }
 
 /// The next item, where it is a time mark or a change, and its tokens lie whole ahead. Else none, and then nothing has changed:
@@ -120,9 +170,13 @@ pub fn item_ahead<'a>(
         (λ plain. HasGoodText view.entry.codes.now plain.text.now plain.item) }
     ensures plain { IfSome result (λ plain. IsPlain plain.text.now plain.item) }
 
-    // A change is spelled by the bytes that were passed with it.
+    ensures sized { IfSome result
+        (λ plain. IsSizedItem view.entry.codes.now plain.item plain.most) }
+
+    // It is spelled by the bytes that were passed with it: the text of a change and its code, or the digits of a mark.
     ensures spelled { IfSome result (λ plain. HasSpelled view.entry (bytes_of ahead.old)
-        (passed_of ahead.old) (passed_of ahead.new) plain.text.now plain.item) }
+        (passed_of ahead.old) (passed_of ahead.new) plain.at plain.code_at plain.text.now
+        plain.item) }
     ensures regs { MatchOption result (regs.new ≡ regs.old)
         (λ plain. regs.new ≡ regs_after regs.old plain.item) }
     ensures stays { result ≡ None → ahead.new ≡ ahead.old }
@@ -135,36 +189,28 @@ pub fn item_ahead<'a>(
     let token = next.next()?;
     let start = next.passed() - 1 - token.len();
     let plain = match first_of(token) {
-        First::Scalar => Plain {
-            item: Item::Change {
-                code: scalar_code(token, view).ok()?,
-                form: Form::Scalar,
-            },
-            text: first_byte_of(token),
-        },
-        First::Vector => Plain {
-            item: Item::Change {
-                code: vector_code(ahead.bytes(), start, token, next.next()?, view)?,
-                form: Form::Vector,
-            },
-            text: rest_of(token),
-        },
+        First::Scalar => {
+            let found = scalar_code(token, view).ok()?;
+            change_of(found, Form::Scalar, first_byte_of(token), start, start + 1)
+        }
+        First::Vector => {
+            let code = next.next()?;
+            let found = vector_code(ahead.bytes(), start, token, code, view)?;
+            let code_at = next.passed() - 1 - code.len();
+            change_of(found, Form::Vector, rest_of(token), start + 1, code_at)
+        }
         First::Mark => {
             let time = time_of(token, *regs).ok()?;
             regs.time = time;
             regs.marked = true;
-            Plain {
-                item: Item::Time(time),
-                text: &[],
-            }
+            mark_of(time, start + 1)
         }
-        First::Real => Plain {
-            item: Item::Change {
-                code: real_code(token, next.next()?, view)?,
-                form: Form::RealText,
-            },
-            text: rest_of(token),
-        },
+        First::Real => {
+            let code = next.next()?;
+            let found = real_code(token, code, view)?;
+            let code_at = next.passed() - 1 - code.len();
+            change_of(found, Form::RealText, rest_of(token), start + 1, code_at)
+        }
         First::Other => return None,
     };
     *ahead = next;

@@ -174,7 +174,7 @@ pub fn left_out(
     from: usize,
     to: usize,
 ) -> Option<usize>
-    requires { HasSpelled view bytes.now from to plain.text.now plain.item }
+    requires { HasSpelled view bytes.now from to plain.at plain.code_at plain.text.now plain.item }
     ensures { IfSome result (λ k. (from + 1 + k ≤ to) × ((h : Header) (x : BodyItem)
         → IsViewOf view.entry h → IsItem h.codes plain.entry.text.now plain.entry.item x
         → bytes_without bytes.now from to k ≡ item_line x)) }

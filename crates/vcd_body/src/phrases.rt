@@ -1,5 +1,6 @@
 // The phrases of a body, by what they begin with.
 ghost use Rattle.std.specs.Prelude.{◌≡◌, ◌≢◌, ℕ, true, ◌+◌, ◌-◌, ◌^◌, ◌<◌, ◌≤◌, List, [], ◌∷◌, length, take, drop, Some, None, slice_get, OnOk, IfOk, IfErr, MatchResult, ◌||◌, nat_le};
+ghost use Rattle.vcd_model.specs.Bytes.{decimal_value};
 ghost use Rattle.vcd_model.specs.Input.{Input};
 ghost use Rattle.vcd_model.specs.Tokens.{Token};
 ghost use Rattle.vcd_model.specs.Keywords.{Keyword as Named, keyword_text};
@@ -27,7 +28,7 @@ use crate::fault::BodyFault;
 use crate::item::Regs;
 use crate::tokens::next_inner;
 use crate::words::{are_value_digits, is_end, rest_of};
-use vcd_head::{Code, Found, HeadView, find, find_sized};
+use vcd_head::{Code, Found, HeadView, find_sized};
 use vcd_text::{Feed, Source, decimal_of};
 
 /// The time of a time mark.
@@ -40,6 +41,7 @@ pub(crate) fn time_of(token: &[u8], regs: Regs) -> Result<u64, BodyFault>
         (λ time. Passes codes earlier token.now (BodyItem.Time time)
         × (time_after (items_of earlier) ≤ time))
         (Refuses codes earlier token.now) }
+    ensures value { IfOk result (λ time. decimal_value (drop 1 token.now) ≡ time) }
     ensures own { IfErr result (λ fault. fault ≢ BodyFault.ReadFailed) }
 {
     let Some(time) = decimal_of(rest_of(token)) else {
@@ -54,13 +56,13 @@ pub(crate) fn time_of(token: &[u8], regs: Regs) -> Result<u64, BodyFault>
     Ok(time)
 }
 
-/// The place of the code that stands after a digit, at once.
+/// The code that stands after a digit, at once.
 #[inline(always)]
-pub(crate) fn scalar_code(token: &[u8], view: HeadView<'_>) -> Result<usize, BodyFault>
+pub(crate) fn scalar_code(token: &[u8], view: HeadView<'_>) -> Result<Found, BodyFault>
     requires begins { Begins token.now first.Scalar }
     ensures code { (h : Header) (earlier : List BodyPhrase) → IsViewOf view.entry h
         → MatchResult result
-        (λ place. (c : IdCode) × (slice_get h.codes place ≡ Some c)
+        (λ found. (c : IdCode) × (slice_get h.codes found.place ≡ Some c)
         × Passes h.codes earlier token.now
         (BodyItem.Changes (record {
           code = c;
@@ -69,16 +71,17 @@ pub(crate) fn scalar_code(token: &[u8], view: HeadView<'_>) -> Result<usize, Bod
         })))
         (Refuses h.codes earlier token.now) }
     ensures sound { IfOk result
-        (λ place. IsGoodText view.entry.codes.now place form.Scalar (take 1 token.now)) }
-    ensures names { IfOk result (λ place. Names view.entry place (drop 1 token.now)) }
+        (λ found. IsGoodText view.entry.codes.now found.place form.Scalar (take 1 token.now)) }
+    ensures names { IfOk result (λ found. Names view.entry found.place (drop 1 token.now)) }
+    ensures sized { IfOk result (IsSized view.entry.codes.now) }
     ensures own { IfErr result (λ fault. fault ≢ BodyFault.ReadFailed) }
 {
     let code = rest_of(token);
     if code.is_empty() {
         return Err(BodyFault::BadValue);
     }
-    match find(view, code) {
-        Some(place) => Ok(place),
+    match find_sized(view, code) {
+        Some(found) => Ok(found),
         None => Err(BodyFault::UnknownCode),
     }
 }

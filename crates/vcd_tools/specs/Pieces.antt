@@ -11,7 +11,7 @@ use Rattle.vcd_tools.specs.declared.pieces.Pieces.{Pieces}
 pub record Lies (v : HeadView) (l : Lying) : Type 0 where
   pub within : (l.from ≤ l.to) × (l.to ≤ length l.bytes.now)
   pub good : HasGoodText v.codes.now l.plain.text.now l.plain.item
-  pub spelled : HasSpelled v l.bytes.now l.from l.to l.plain.text.now l.plain.item
+  pub spelled : HasSpelled v l.bytes.now l.from l.to l.plain.at l.plain.code_at l.plain.text.now l.plain.item
 
 -- the piece is a part of these bytes
 abbrev pub IsPart : List ℕ → Pieces → Type 0

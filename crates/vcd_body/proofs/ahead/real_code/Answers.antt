@@ -11,7 +11,7 @@ returns-clause-code c = λ h v.
     let t = c.args.token.now in
     let text = c.rest_of-text.ensures in
     let n = ap length text in
-    code_behind h.codes c.args.code.now c.find.result (c.find.ensures.found h v) (λ x d earlier.
+    code_behind h.codes c.args.code.now c.find_sized.result (c.find_sized.ensures.found h v) (λ x d earlier.
     let b = number_begins h.codes earlier t c.requires.begins (filled (drop 1 t) (ap (λ l. length l == 0) (sym text) ∙ sym c.is_empty.ensures ∙ c.if-is_empty.false)) (omega arith) in
     let p = real_passes h.codes earlier t c.requires.begins c.args.code.now x d in
     record { begins = b.0; open_after = b.1; goes_on = p.0; whole = p.1 })
@@ -21,7 +21,7 @@ returns-clause-sound c =
     let t = c.args.token.now in
     let n = ap length c.rest_of-text.ensures in
     let some = some_bytes c.rest_of-text.result.now (sym c.is_empty.ensures ∙ c.if-is_empty.false) in
-    code_within c.args.view.codes.now c.find.result c.find.ensures.within (λ place x there. real_sound c.args.view.codes.now (drop 1 t) place x there (omega arith) (omega arith))
+    code_within c.args.view.codes.now c.find_sized.result c.find_sized.ensures.sized (λ place x there. real_sound c.args.view.codes.now (drop 1 t) place x there (omega arith) (omega arith))
 
 pub returns-clause-names : goal.returns-clause-names
-returns-clause-names c = named_where_found c.args.view c.args.code.now c.find.result c.find.ensures.found
+returns-clause-names c = named_where_found c.args.view c.args.code.now c.find_sized.result c.find_sized.ensures.found

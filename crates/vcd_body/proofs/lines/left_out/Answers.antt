@@ -12,14 +12,14 @@ use Rattle.vcd_body.proofs.lines.left_out.Goals as goal
 
 pub is_bit_line-requires : goal.is_bit_line-requires
 is_bit_line-requires c =
-    let s = subst (HasSpelled c.args.view c.args.bytes.now c.args.from c.args.to c.args.plain.text.now) (c.in-Change.is ∙ ap (Change c.in-Change.code) c.in-Scalar.is) c.requires in
+    let s = subst (HasSpelled c.args.view c.args.bytes.now c.args.from c.args.to c.args.plain.at c.args.plain.code_at c.args.plain.text.now) (c.in-Change.is ∙ ap (Change c.in-Change.code) c.in-Scalar.is) c.requires in
     (c.args.plain.text.now, s.0, s.1)
 
 pub returns-in-Scalar : goal.returns-in-Scalar
 returns-in-Scalar c =
     let text = c.args.plain.text.now in
     let same = c.in-Change.is ∙ ap (Change c.in-Change.code) c.in-Scalar.is in
-    let s = subst (HasSpelled c.args.view c.args.bytes.now c.args.from c.args.to text) same c.requires in
+    let s = subst (HasSpelled c.args.view c.args.bytes.now c.args.from c.args.to c.args.plain.at c.args.plain.code_at text) same c.requires in
     let within = bit_within c.args.bytes.now c.args.from c.args.to text s.0 s.1 in (
       omega arith,
       λ h x v i.
@@ -34,7 +34,7 @@ pub returns-in-Vector : goal.returns-in-Vector
 returns-in-Vector c =
     let text = c.args.plain.text.now in
     let same = c.in-Change.is ∙ ap (Change c.in-Change.code) c.in-Vector.is in
-    let s = subst (HasSpelled c.args.view c.args.bytes.now c.args.from c.args.to text) same c.requires in
+    let s = subst (HasSpelled c.args.view c.args.bytes.now c.args.from c.args.to c.args.plain.at c.args.plain.code_at text) same c.requires in
     let within = text_within c.args.bytes.now c.args.from c.args.to text s.0 s.1 in
     if_some_more c.left_out_of_vector.result (λ n p. let few = p.0 in (
       omega arith,
@@ -49,7 +49,7 @@ pub returns-in-RealText : goal.returns-in-RealText
 returns-in-RealText c =
     let text = c.args.plain.text.now in
     let same = c.in-Change.is ∙ ap (Change c.in-Change.code) c.in-RealText.is in
-    let s = subst (HasSpelled c.args.view c.args.bytes.now c.args.from c.args.to text) same c.requires in
+    let s = subst (HasSpelled c.args.view c.args.bytes.now c.args.from c.args.to c.args.plain.at c.args.plain.code_at text) same c.requires in
     let within = text_within c.args.bytes.now c.args.from c.args.to text s.0 s.1 in (
       omega arith,
       λ h x v i.

@@ -1,8 +1,6 @@
 use Rattle.std.proofs.Common.{◌==◌, Some, None, drop, length, subst, sym, ap, ◌∙◌}
-use Rattle.std.proofs.lemmas.Option.{slice_get-get_or}
 use Rattle.vcd_head.specs.Finds.{Finds}
 use Rattle.vcd_body.proofs.WordLemmas.{filled, empty}
-use Rattle.vcd_body.proofs.RegsLemmas.{the_code}
 use Rattle.vcd_body.proofs.PhraseLemmas.{no_code, unknown_code, scalar_passes, first_byte}
 use Rattle.vcd_body.specs.Spelled.{Names}
 use Rattle.vcd_body.proofs.LineLemmas.{found_named}
@@ -14,13 +12,14 @@ returns-then-is_empty-clause-code c = λ h earlier v.
 
 pub returns-in-Some-clause-code : goal.returns-in-Some-clause-code
 returns-in-Some-clause-code c = λ h earlier v.
-    let f = subst (λ t. Finds h.codes t (Some c.in-Some.place)) c.rest_of-code.ensures (c.in-Some.ensures.found h v) in
+    let f = subst (λ t. Finds h.codes t (Some c.in-Some.found.place)) c.rest_of-code.ensures (c.in-Some.ensures.found h v) in
     (f.0, f.1, scalar_passes h.codes earlier c.args.token.now c.requires.begins f.0 (filled (drop 1 c.args.token.now) (ap (λ l. length l == 0) (sym c.rest_of-code.ensures) ∙ sym c.is_empty.ensures ∙ c.if-is_empty.false)) f.2)
 
 pub returns-in-Some-clause-sound : goal.returns-in-Some-clause-sound
 returns-in-Some-clause-sound c =
     let b = c.requires.begins in
-    (_, slice_get-get_or c.args.view.codes.now c.in-Some.place the_code c.in-Some.ensures.within, (b.0, b.2, first_byte c.args.token.now b.0 b.1 b.3))
+    let x = c.in-Some.ensures.sized in
+    (x.0, x.1, (b.0, b.2, first_byte c.args.token.now b.0 b.1 b.3))
 
 pub returns-in-None-clause-code : goal.returns-in-None-clause-code
 returns-in-None-clause-code c = λ h earlier v.
@@ -28,4 +27,4 @@ returns-in-None-clause-code c = λ h earlier v.
     (λ x. cc, unknown_code h.codes earlier c.args.token.now c.requires.begins (filled (drop 1 c.args.token.now) (ap (λ l. length l == 0) (sym c.rest_of-code.ensures) ∙ sym c.is_empty.ensures ∙ c.if-is_empty.false)) f)
 
 pub returns-in-Some-clause-names : goal.returns-in-Some-clause-names
-returns-in-Some-clause-names c = subst (Names c.args.view c.in-Some.place) c.rest_of-code.ensures (found_named c.args.view c.in-Some.place c.rest_of-code.result.now c.in-Some.ensures.found)
+returns-in-Some-clause-names c = subst (Names c.args.view c.in-Some.found.place) c.rest_of-code.ensures (found_named c.args.view c.in-Some.found.place c.rest_of-code.result.now c.in-Some.ensures.found)

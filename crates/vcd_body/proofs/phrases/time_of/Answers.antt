@@ -26,3 +26,6 @@ returns-clause-time c = λ codes earlier k.
     let value = t.1 in
     subst (λ (n : ℕ). Passes codes earlier c.args.token.now (BodyItem.Time n) × (time_after (items_of earlier) ≤ n)) t.1
     (time_passes codes earlier c.args.token.now c.requires c.args.regs k t.0 (sym c.is_some.ensures ∙ c.if-is_some.false) (omega arith))
+
+pub returns-clause-value : goal.returns-clause-value
+returns-clause-value c = (time_spelled (drop 1 c.args.token.now) c.in-Some.time (ap spelled (sym c.rest_of.ensures) ∙ sym c.decimal_of.ensures ∙ c.in-Some.is)).1
