@@ -1,5 +1,5 @@
 -- Binary digits tell their number, at each size.
-use Rattle.std.proofs.Common.{◌≡◌, ℕ, zero, suc, ◌+◌, ◌-◌, ◌*◌, ◌/◌, ◌%◌, ◌^◌, ◌<◌, ◌≤◌, ◌==◌, ◌&&◌, max, nat_lt, get_or, Bool, true, false, not, cond, List, [], ◌∷◌, ◌++◌, length, map, replicate, take, Option, Some, None, refl, sym, ap, ◌∙◌, arith}
+use Rattle.std.proofs.Common.{◌≡◌, ℕ, zero, suc, ◌+◌, ◌-◌, ◌*◌, ◌/◌, ◌%◌, ◌^◌, ◌<◌, ◌≤◌, ◌==◌, ◌&&◌, max, nat_lt, get_or, Bool, true, false, not, cond, List, ◌∷◌, ◌++◌, length, map, replicate, take, Option, Some, None, refl, sym, ap, ◌∙◌, arith}
 use Rattle.std.specs.Bool.{Decides}
 use Rattle.std.specs.Char.{to_ascii_lowercase}
 use Rattle.std.specs.List.{last_or}
@@ -11,10 +11,10 @@ use Rattle.std.proofs.lemmas.Grind.{div_ceil_times}
 use Rattle.std.proofs.lemmas.List.{length-map, length-take}
 use Rattle.std.proofs.lemmas.Nat.{mod-pow-add, mod_below, pow_pos}
 use Rattle.std.proofs.lemmas.Slice.Eq.{bytes_eq-Decides}
-use Rattle.vcd_model.specs.Values.{Value, extend, extension, value_with}
+use Rattle.vcd_model.specs.Values.{extend, extension, value_with}
 use Rattle.vcd_body.specs.Binary.{binary_digits, count_in, is_proper, number_in}
 use Rattle.vcd_body.specs.Items.{model_form}
-use Rattle.vcd_body.specs.Kept.{Held, IsStep, Kept, bytes_for, differs, goes_from, last_digit_in, room_for, value_at_size, with_held, with_text}
+use Rattle.vcd_body.specs.Kept.{Held, IsStep, Kept, bytes_for, goes_from, room_for, value_at_size, with_held, with_text}
 use Rattle.vcd_body.specs.Packed.{held_digit, quarter_of, unpacked}
 use Rattle.vcd_body.specs.Stored.{digits_held, held_by, held_of, kept_with, some_by}
 use Rattle.vcd_body.specs.declared.item.Form.TheVariants as form
@@ -214,3 +214,13 @@ held_few state.Plain len most bytes a b m = let l = length-map bytes held_digit 
 held_few state.Digits len most bytes a b m = let l = length-take len (unpacked (take (quarter_of len) bytes)) in omega arith
 held_few state.Bits len most bytes a b m = let l = length_binary (count_in len) (number_in len) in omega arith
 held_few state.Real len most bytes a b m = omega arith
+
+-- a number of so many digits
+pub small_number : (l n : ℕ) → n / 2 ^ l ≡ 0 → n < 2 ^ l
+small_number l n none =
+    let s = lt-div-mul-add {a = n} (pow_pos l) in
+    let z : n / 2 ^ l * 2 ^ l ≡ 0 = ap (λ q. q * 2 ^ l) none ∙ zero-mul (2 ^ l) in
+    omega (arith, s, z)
+
+pub small_rest : (l n : ℕ) → n < 2 ^ l → n / 2 ^ l ≡ 0
+small_rest l n h = div-eq_of_lt h

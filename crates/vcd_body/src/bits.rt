@@ -14,6 +14,23 @@ pub struct Bits {
     ghost fits: { number < 2 ^ len },
 }
 
+impl Bits {
+    ghost use Rattle.std.specs.Prelude.{IfSome, None, ◌≢◌};
+
+    /// So many digits of this number. None where they are none or more than 32, or the number has more.
+    #[inline(always)]
+    #[tactic(auto, using(crate::proofs::NumberLemmas::small_number, crate::proofs::NumberLemmas::small_rest))]
+    pub fn new(len: usize, number: usize) -> Option<Bits>
+        ensures same { IfSome result (λ b. (b.len ≡ len) × (b.number ≡ number)) }
+        ensures there { 1 ≤ len → len ≤ 32 → number < 2 ^ len → result ≢ None }
+    {
+        if len == 0 || len > 32 || number >> len != 0 {
+            return None;
+        }
+        Some(Bits { len, number })
+    }
+}
+
 /// The digits as a slot holds them: their number beside how many they are.
 #[inline(always)]
 pub(crate) fn packed(bits: Bits) -> usize

@@ -1,4 +1,4 @@
-use Rattle.std.proofs.Common.{◌≡◌, ◌-◌, ◌+◌, ◌/◌, ◌%◌, ◌^◌, Some, sym, ap, ◌∙◌, arith}
+use Rattle.std.proofs.Common.{◌-◌, ◌+◌, ◌/◌, ◌%◌, ◌^◌, Some, sym, ap, ◌∙◌, arith}
 use Rattle.vcd_body.specs.Binary.{count_in, number_in}
 use Rattle.vcd_body.proofs.BinaryLemmas.{binary_at, binary_past}
 use Rattle.vcd_body.proofs.bits.binary_digit.Goals as goal

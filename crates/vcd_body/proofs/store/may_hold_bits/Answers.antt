@@ -1,6 +1,6 @@
-use Rattle.std.proofs.Common.{◌≡◌, ◌+◌, ◌≤◌, arith, subst, ap}
+use Rattle.std.proofs.Common.{arith, ap}
 use Rattle.std.proofs.lemmas.Option.{slice_get_within}
-use Rattle.vcd_body.specs.Stored.{end_at, used_by}
+use Rattle.vcd_body.specs.Stored.{used_by}
 use Rattle.vcd_body.specs.declared.slot.State.{State}
 use Rattle.vcd_body.proofs.store.may_hold_bits.Goals as goal
 

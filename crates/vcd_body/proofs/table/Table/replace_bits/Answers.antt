@@ -1,7 +1,6 @@
-use Rattle.std.proofs.Common.{◌≡◌, ◌≤◌, ◌∙◌, ap, arith, drop, slice_get, subst, sym, take}
-use Rattle.vcd_body.specs.Binary.{binary_digits, count_in, number_in}
+use Rattle.std.proofs.Common.{◌≤◌, ◌∙◌, ap, drop, subst, sym, take}
+use Rattle.vcd_body.specs.Binary.{count_in, number_in}
 use Rattle.vcd_body.specs.Contents.{held_at}
-use Rattle.vcd_body.specs.Kept.{Held}
 use Rattle.vcd_body.specs.Stored.{held_by, some_by, used}
 use Rattle.vcd_body.specs.declared.slot.State.{State}
 use Rattle.vcd_body.proofs.BinaryLemmas.{proper, proper_count}
