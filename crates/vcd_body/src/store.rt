@@ -243,9 +243,10 @@ pub(crate) fn set_bits(slots: &mut [Slot], values: &mut [u8], code: usize, bits:
         set_written(slots, values, code, bits);
         return;
     }
+    let len = packed(bits);
     let slot = &mut slots[code];
     slot.state = State::Bits;
-    slot.len = packed(bits);
+    slot.len = len;
 }
 
 /// Adds one to a counter of a code. A full one stays.

@@ -20,8 +20,8 @@ returns-clause-changes c = λ laid.
     let at = sym c.slot_at.ensures ∙ c.in-Some.is in
     let same : get_or slots c.args.code blank ≡ slot = cc (sym (slice_get-get_or slots c.args.code blank (slice_get_within slots c.args.code slot at)) ∙ at) in
     let room = c.may_hold_bits.ensures c.if-not-may_hold_bits.false laid in
-    rw same (changes slots c.args.code slot (set_slot state.Bits c.packed-slot.result slot) at refl values values (with_text form.Vector (binary_digits c.args.bits.len c.args.bits.number)) refl
-    (bits_kept slot c.packed-slot.result c.args.bits.len c.args.bits.number (end_at slots (length values) c.args.code) values c.packed-slot.ensures.count c.packed-slot.ensures.number c.args.bits.some c.args.bits.few room) (λ j d e there. refl))
+    rw same (changes slots c.args.code slot (set_slot state.Bits c.packed-len.result slot) at refl values values (with_text form.Vector (binary_digits c.args.bits.len c.args.bits.number)) refl
+    (bits_kept slot c.packed-len.result c.args.bits.len c.args.bits.number (end_at slots (length values) c.args.code) values c.packed-len.ensures.count c.packed-len.ensures.number c.args.bits.some c.args.bits.few room) (λ j d e there. refl))
 
 pub returns-clause-laid : goal.returns-clause-laid
 returns-clause-laid c = λ laid.
@@ -30,4 +30,4 @@ returns-clause-laid c = λ laid.
     let at = sym c.slot_at.ensures ∙ c.in-Some.is in
     let same : get_or slots c.args.code blank ≡ slot = cc (sym (slice_get-get_or slots c.args.code blank (slice_get_within slots c.args.code slot at)) ∙ at) in
     let room = c.may_hold_bits.ensures c.if-not-may_hold_bits.false laid in
-    rw same (laid_set slots (length c.args.values.now) laid c.args.code slot (set_slot state.Bits c.packed-slot.result slot) at refl room (bits_some c.packed-slot.result c.args.bits.len c.args.bits.number c.packed-slot.ensures.count c.packed-slot.ensures.number c.args.bits.some c.args.bits.fits))
+    rw same (laid_set slots (length c.args.values.now) laid c.args.code slot (set_slot state.Bits c.packed-len.result slot) at refl room (bits_some c.packed-len.result c.args.bits.len c.args.bits.number c.packed-len.ensures.count c.packed-len.ensures.number c.args.bits.some c.args.bits.fits))
