@@ -10,12 +10,14 @@ use Rattle.std.proofs.lemmas.List.{length-append, length-map, length-replicate, 
 use Rattle.std.proofs.lemmas.Slice.Eq.{bytes_eq-Decides}
 use Rattle.vcd_model.specs.Values.{extend, extension}
 use Rattle.vcd_body.specs.Kept.{last_digit_in, value_at_size}
+use Rattle.vcd_body.specs.Binary.{binary_digits, count_in, number_in}
 use Rattle.vcd_body.specs.Packed.{held_digit}
-use Rattle.vcd_body.specs.Stored.{digits_held, held_by, one_digit, used_by}
+use Rattle.vcd_body.specs.Stored.{digits_held, held_by, one_digit, some_by, used_by}
 use Rattle.vcd_body.specs.declared.slot.State.{State}
 use Rattle.vcd_body.specs.declared.slot.State.TheVariants as state
 use Rattle.std.specs.Prelude.{option_map}
 use Rattle.std.proofs.lemmas.Option.{slice_get-get_or, slice_get-map}
+use Rattle.vcd_body.proofs.BinaryLemmas.{length_binary}
 use Rattle.vcd_body.proofs.HeldLemmas.{digit_behind, length_held}
 use Rattle.vcd_body.proofs.Shortest.{extend_wide, extension_again}
 
@@ -224,16 +226,23 @@ last_plain len bytes size k is =
     let l = length-map bytes held_digit in
     last_extended ds size (omega arith) ∙ last_at ds None k (omega arith)
 
+pub last_number : (len size k : ℕ) → 1 ≤ some_by state.Bits len → count_in len ≡ suc k → (bytes : List ℕ) → last_digit_in (value_at_size size (held_by state.Bits len bytes)) ≡ slice_get (binary_digits (count_in len) (number_in len)) k
+last_number len size k some is bytes =
+    let ds = binary_digits (count_in len) (number_in len) in
+    let l = length_binary (count_in len) (number_in len) in
+    last_extended ds size (omega arith) ∙ last_at ds None k (omega arith)
+
 -- a state that holds one, or none
-pub last_of_state : (st : State) (len : ℕ) (bytes : List ℕ) (size : ℕ) → st ≢ state.Plain → st ≢ state.Digits → one_digit st ≡ last_digit_in (value_at_size size (held_by st len bytes))
-last_of_state state.Unset len bytes size p h = refl
-last_of_state state.Zero len bytes size p h = sym (last_extended (48 ∷ []) size (omega arith))
-last_of_state state.One len bytes size p h = sym (last_extended (49 ∷ []) size (omega arith))
-last_of_state state.Unknown len bytes size p h = sym (last_extended (120 ∷ []) size (omega arith))
-last_of_state state.High len bytes size p h = sym (last_extended (122 ∷ []) size (omega arith))
-last_of_state state.Plain len bytes size p h = absurd (p refl)
-last_of_state state.Digits len bytes size p h = absurd (h refl)
-last_of_state state.Real len bytes size p h = refl
+pub last_of_state : (st : State) (len : ℕ) (bytes : List ℕ) (size : ℕ) → st ≢ state.Plain → st ≢ state.Digits → st ≢ state.Bits → one_digit st ≡ last_digit_in (value_at_size size (held_by st len bytes))
+last_of_state state.Unset len bytes size p h b = refl
+last_of_state state.Zero len bytes size p h b = sym (last_extended (48 ∷ []) size (omega arith))
+last_of_state state.One len bytes size p h b = sym (last_extended (49 ∷ []) size (omega arith))
+last_of_state state.Unknown len bytes size p h b = sym (last_extended (120 ∷ []) size (omega arith))
+last_of_state state.High len bytes size p h b = sym (last_extended (122 ∷ []) size (omega arith))
+last_of_state state.Plain len bytes size p h b = absurd (p refl)
+last_of_state state.Digits len bytes size p h b = absurd (h refl)
+last_of_state state.Bits len bytes size p h b = absurd (b refl)
+last_of_state state.Real len bytes size p h b = refl
 
 -- a text of one digit, in lower case
 pub one_lower : (text : List ℕ) (d : ℕ) → 1 ≤ length text → length text < 2 → d ≡ to_ascii_lowercase (get_or text 0 0) → str_to_ascii_lowercase text ≡ d ∷ []

@@ -5,10 +5,12 @@ use Rattle.std.proofs.lemmas.Grind.{div_ceil_times}
 use Rattle.std.proofs.lemmas.Option.{slice_get_past}
 use Rattle.vcd_model.specs.Values.{extend, extension}
 use Rattle.vcd_body.specs.Kept.{Held, bytes_for, digit_in, value_at_size}
+use Rattle.vcd_body.specs.Binary.{binary_digits, count_in, number_in}
 use Rattle.vcd_body.specs.Packed.{digits_in, held_digit, quarter_of, unpacked}
 use Rattle.vcd_body.specs.Stored.{digits_held, held_by, some_by, used_by}
 use Rattle.vcd_body.specs.declared.slot.State.{State}
 use Rattle.vcd_body.specs.declared.slot.State.TheVariants as state
+use Rattle.vcd_body.proofs.BinaryLemmas.{some_binary}
 use Rattle.vcd_body.proofs.PackedLemmas.{length_unpacked}
 
 -- ---- held digits
@@ -67,6 +69,7 @@ no_digits state.Unknown len size place bytes u s e = cc
 no_digits state.High len size place bytes u s e = cc
 no_digits state.Plain len size place bytes u s e = absurd (first_there (map held_digit bytes) (let l = length-map bytes held_digit in omega arith) e)
 no_digits state.Digits len size place bytes u s e = absurd (first_there (digits_in len bytes) (let l = length_held len bytes u in omega arith) e)
+no_digits state.Bits len size place bytes u s e = absurd (first_there (binary_digits (count_in len) (number_in len)) (some_binary len s) e)
 no_digits state.Real len size place bytes u s e = refl
 
 -- the digit that others are extended by is that of the first one

@@ -10,6 +10,7 @@ use Rattle.vcd_body.specs.Packed.{held_digit}
 use Rattle.vcd_body.specs.Stored.{digits_held, held_by, held_line, some_by, used_by}
 use Rattle.vcd_body.specs.declared.slot.State.{State}
 use Rattle.vcd_body.specs.declared.slot.State.TheVariants as state
+use Rattle.vcd_body.proofs.BinaryLemmas.{some_binary}
 use Rattle.vcd_body.proofs.HeldLemmas.{length_held}
 use Rattle.vcd_body.proofs.Shortest.{extend_wide}
 
@@ -22,6 +23,7 @@ all_digits state.Unknown len bytes u r = refl
 all_digits state.High len bytes u r = refl
 all_digits state.Plain len bytes u r = refl
 all_digits state.Digits len bytes u r = refl
+all_digits state.Bits len bytes u r = refl
 all_digits state.Real len bytes u r = absurd (r refl)
 
 -- and they are some
@@ -33,6 +35,7 @@ some_digits state.Unknown len bytes h s u r = omega arith
 some_digits state.High len bytes h s u r = omega arith
 some_digits state.Plain len bytes h s u r = let l = length-map bytes held_digit in omega arith
 some_digits state.Digits len bytes h s u r = let l = length_held len bytes h in omega arith
+some_digits state.Bits len bytes h s u r = some_binary len s
 some_digits state.Real len bytes h s u r = absurd (r refl)
 
 -- the definitions' line of digits

@@ -9,6 +9,7 @@ pub mod Shortest
 pub mod LowerCase
 pub mod ChangeLine
 pub mod PackedLemmas
+pub mod BinaryLemmas
 pub mod StoreLemmas
 pub mod LayoutLemmas
 pub mod HeldLemmas
@@ -19,6 +20,7 @@ pub mod HeldLines
 pub mod SetLemmas
 pub mod CompareLemmas
 pub mod StepLemmas
+pub mod NumberLemmas
 pub mod AheadLemmas
 pub mod LeftOut
 pub mod LineLemmas

@@ -293,6 +293,7 @@ held_one state.Unknown len d bytes h = let e : byte "x" ≡ d = cc in ap (λ x. 
 held_one state.High len d bytes h = let e : byte "z" ≡ d = cc in ap (λ x. Held.Digits (x ∷ [])) e
 held_one state.Plain len d bytes h = cc
 held_one state.Digits len d bytes h = cc
+held_one state.Bits len d bytes h = cc
 held_one state.Real len d bytes h = cc
 
 pub used_none : (st : State) (len d : ℕ) → one_digit st ≡ Some d → (used_by st len ≡ 0) × (some_by st len ≡ 1)
@@ -303,6 +304,7 @@ used_none state.Unknown len d h = (refl, refl)
 used_none state.High len d h = (refl, refl)
 used_none state.Plain len d h = cc
 used_none state.Digits len d h = cc
+used_none state.Bits len d h = cc
 used_none state.Real len d h = cc
 
 -- one digit is held in the slot

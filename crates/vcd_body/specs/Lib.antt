@@ -6,6 +6,7 @@ pub mod Given
 pub mod Changes
 pub mod Contents
 pub mod Packed
+pub mod Binary
 pub mod Kept
 pub mod Stored
 pub mod Ahead

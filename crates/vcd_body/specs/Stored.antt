@@ -4,6 +4,7 @@ use Rattle.std.specs.Str.{byte}
 use Rattle.vcd_head.specs.declared.view.Code.{Code}
 use Rattle.vcd_body.specs.Kept.{Held, Kept, bytes_for}
 use Rattle.vcd_model.specs.Values.{extend, short}
+use Rattle.vcd_body.specs.Binary.{binary_digits, count_in, is_proper, number_in}
 use Rattle.vcd_body.specs.Packed.{digits_in, held_digit}
 use Rattle.vcd_body.specs.declared.slot.Slot.{Slot}
 use Rattle.vcd_body.specs.declared.slot.State.{State}
@@ -18,9 +19,10 @@ one_digit state.Unknown = Some (byte "x")
 one_digit state.High = Some (byte "z")
 one_digit state.Plain = None
 one_digit state.Digits = None
+one_digit state.Bits = None
 one_digit state.Real = None
 
--- how many bytes of its share are in use
+-- how many bytes of its share are in use; those of a number are left alone, and as many as 32 digits would take
 abbrev pub used_by : State → ℕ → ℕ
 used_by state.Unset len = 0
 used_by state.Zero len = 0
@@ -29,6 +31,7 @@ used_by state.Unknown len = 0
 used_by state.High len = 0
 used_by state.Plain len = len
 used_by state.Digits len = bytes_for len
+used_by state.Bits len = 8
 used_by state.Real len = len
 
 abbrev pub used : Slot → ℕ
@@ -43,6 +46,7 @@ held_by state.Unknown len bytes = Held.Digits (byte "x" ∷ [])
 held_by state.High len bytes = Held.Digits (byte "z" ∷ [])
 held_by state.Plain len bytes = Held.Digits (map held_digit bytes)
 held_by state.Digits len bytes = Held.Digits (digits_in len bytes)
+held_by state.Bits len bytes = Held.Digits (binary_digits (count_in len) (number_in len))
 held_by state.Real len bytes = Held.Text bytes
 
 -- the digits, none where there are none
@@ -85,7 +89,7 @@ kept_in values slots code = option_map (kept_with values (end_at slots (length v
 abbrev pub ChangesAt : ℕ → (Kept → Kept) → List ℕ → List Slot → List ℕ → List Slot → Type 0
 ChangesAt code f values slots values' slots' = (place : ℕ) → kept_in values' slots' place ≡ cond (place == code) (option_map f (kept_in values slots place)) (kept_in values slots place)
 
--- digits in a share are one or more
+-- several digits are one or more
 abbrev pub some_by : State → ℕ → ℕ
 some_by state.Unset len = 1
 some_by state.Zero len = 1
@@ -94,6 +98,7 @@ some_by state.Unknown len = 1
 some_by state.High len = 1
 some_by state.Plain len = len
 some_by state.Digits len = len
+some_by state.Bits len = cond (is_proper len) 1 0
 some_by state.Real len = 1
 
 -- the shares follow one another, and each is large enough for what it holds

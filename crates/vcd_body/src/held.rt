@@ -3,6 +3,7 @@ ghost use Rattle.std.specs.Prelude.{◌≡◌, ℕ, ◌≤◌, length, slice_get
 ghost use Rattle.vcd_body.specs.Kept.{digit_in, last_digit_in, value_at_size};
 ghost use Rattle.vcd_body.specs.Stored.{digits_with, held_with, some_by, used};
 
+use crate::bits::{binary_digit, count_in, last_binary};
 use crate::change::extension_of;
 use crate::packed::{digit_at, plain_digit_at};
 use crate::slot::{Slot, State, digit_of_state};
@@ -18,6 +19,7 @@ pub(crate) fn count_of(slot: Slot, share: &[u8]) -> usize
         State::Zero | State::One | State::Unknown | State::High => 1,
         State::Plain => share.len(),
         State::Digits => slot.len,
+        State::Bits => count_in(slot.len),
     }
 }
 
@@ -29,6 +31,7 @@ pub(crate) fn digit_held(slot: Slot, share: &[u8], place: usize) -> Option<u8>
     match slot.state {
         State::Plain => plain_digit_at(share, place),
         State::Digits => digit_at(share, slot.len, place),
+        State::Bits => binary_digit(slot.len, place),
         state if place == 0 => digit_of_state(state),
         _ => None,
     }
@@ -63,6 +66,7 @@ pub(crate) fn last_held(slot: Slot, share: &[u8]) -> Option<u8>
     match slot.state {
         State::Plain => plain_digit_at(share, share.len() - 1),
         State::Digits => digit_at(share, slot.len, slot.len - 1),
+        State::Bits => last_binary(slot.len),
         state => digit_of_state(state),
     }
 }

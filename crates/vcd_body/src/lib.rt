@@ -33,6 +33,7 @@
 //! - `change`: `put_change`; `lines`: `left_out`
 //! - `table`, `slot`: `Table`, `Shown`; `Slot`; `step`: `Step`, what became of a value that was set
 //! - `store`: slots and shares of the values, and how they are set; `packed`: digits in a share, a byte each or four to a byte
+//! - `bits`: `Bits`, up to 32 binary digits as a number, and how a slot holds them
 //! - `held`, `held_text`: the digits of a held value, and how it is written; `compare`: whether a change gives another one
 //!
 //! In `specs/` callers read `Items`, `Reads`, `Given`, `Ahead`, `Spelled` and `Fault`, and for the table `Contents` and `Kept`.
@@ -46,6 +47,7 @@
 #![tactic(auto)]
 
 mod ahead;
+mod bits;
 mod change;
 mod compare;
 mod fault;
@@ -68,6 +70,7 @@ mod tokens;
 mod words;
 
 pub use ahead::{Plain, item_ahead, pass_items};
+pub use bits::Bits;
 pub use change::put_change;
 pub use fault::BodyFault;
 pub use item::{Form, Item, Regs, Section};

@@ -20,6 +20,8 @@ pub(crate) enum State {
     Plain,
     /// By several digits, packed four to a byte, where it has not.
     Digits,
+    /// By up to 32 binary digits, as their number beside how many they are, in the slot alone.
+    Bits,
     /// By the text of a real number, in its share of the values.
     Real,
 }
@@ -29,7 +31,7 @@ pub(crate) enum State {
 pub struct Slot {
     // Where its share of the values begins. It ends where the next one begins.
     pub(crate) start: usize,
-    // How many digits, or bytes of a text, are held in the share.
+    // How many digits, or bytes of a text, are held in the share; or binary digits, as `bits` packs them.
     pub(crate) len: usize,
     pub(crate) counts: [u64; 3],
     pub(crate) state: State,
@@ -97,6 +99,6 @@ pub(crate) fn digit_of_state(state: State) -> Option<u8>
         State::One => Some(b'1'),
         State::Unknown => Some(b'x'),
         State::High => Some(b'z'),
-        State::Unset | State::Plain | State::Digits | State::Real => None,
+        State::Unset | State::Plain | State::Digits | State::Bits | State::Real => None,
     }
 }

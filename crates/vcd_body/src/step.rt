@@ -1,5 +1,5 @@
 //! What a change of a value is, by its last digit.
-ghost use Rattle.std.specs.Prelude.{◌≡◌, ◌≢◌, ◌<◌, ℕ, ◌==◌, length, true, not, Some};
+ghost use Rattle.std.specs.Prelude.{◌≡◌, ◌≢◌, ◌<◌, ◌+◌, ◌%◌, ℕ, ◌==◌, length, true, not, Some};
 ghost use Rattle.std.specs.Char.{to_ascii_lowercase as lower};
 ghost use Rattle.vcd_model.specs.Values.{value_with};
 ghost use Rattle.vcd_body.specs.Items.{model_form};
@@ -79,7 +79,7 @@ fn holds_one(state: State) -> bool
 {
     match state {
         State::Zero | State::One | State::Unknown | State::High => true,
-        State::Unset | State::Plain | State::Digits | State::Real => false,
+        State::Unset | State::Plain | State::Digits | State::Bits | State::Real => false,
     }
 }
 
@@ -104,7 +104,7 @@ fn is_zero(state: State) -> bool
     match state {
         State::Zero => true,
         State::Unset | State::One | State::Unknown | State::High => false,
-        State::Plain | State::Digits | State::Real => false,
+        State::Plain | State::Digits | State::Bits | State::Real => false,
     }
 }
 
@@ -116,7 +116,7 @@ fn is_one(state: State) -> bool
     match state {
         State::One => true,
         State::Unset | State::Zero | State::Unknown | State::High => false,
-        State::Plain | State::Digits | State::Real => false,
+        State::Plain | State::Digits | State::Bits | State::Real => false,
     }
 }
 
@@ -133,5 +133,23 @@ pub(crate) fn step_by_digit(before: State, digit: u8) -> Step
         differs: digit_of_one(before) != after,
         rises: is_zero(before) & (b'1' == after),
         falls: is_one(before) & (b'0' == after),
+    }
+}
+
+/// The step from one number of binary digits to another.
+#[inline(always)]
+pub(crate) fn step_by_number(before: usize, after: usize) -> Step
+    ensures differs { result.differs ≡ not (before == after) }
+    ensures rises { result.rises
+        ≡ goes_from 48 49 (Some (48 + before % 2)) (Some (48 + after % 2)) }
+    ensures falls { result.falls
+        ≡ goes_from 49 48 (Some (48 + before % 2)) (Some (48 + after % 2)) }
+{
+    let first = Some(b'0' + (before % 2) as u8);
+    let last = Some(b'0' + (after % 2) as u8);
+    Step {
+        differs: before != after,
+        rises: goes(b'0', b'1', first, last),
+        falls: goes(b'1', b'0', first, last),
     }
 }

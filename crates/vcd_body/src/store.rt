@@ -1,10 +1,12 @@
 // What is kept of each code, in lent slices: slots, and a share of the values for each.
-ghost use Rattle.std.specs.Prelude.{◌≡◌, ◌≢◌, ℕ, ◌+◌, ◌-◌, ◌*◌, ◌<◌, ◌≤◌, ◌∷◌, [], List, cond, length, take, drop, map, sum_by, IfSome, None, Some, slice_get, slice_index};
+ghost use Rattle.std.specs.Prelude.{◌≡◌, ◌≢◌, ℕ, ◌+◌, ◌-◌, ◌*◌, ◌<◌, ◌≤◌, ◌∷◌, [], List, true, false, length, take, drop, map, sum_by, IfSome, None, Some, slice_get, slice_index};
 ghost use Rattle.vcd_head.specs.declared.view.Code.{Code};
+ghost use Rattle.vcd_body.specs.Binary.{binary_digits};
 ghost use Rattle.vcd_body.specs.Kept.{Held, as_chosen, one_more, counts_if, counts_with, with_held, with_step, with_text};
 ghost use Rattle.vcd_body.specs.Packed.{held_digit};
 ghost use Rattle.vcd_body.specs.Stored.{AreLaidOut, ChangesAt, end_at, held_by, share_of, some_by, start_of, unset_at, used, used_by};
 
+use crate::bits::{Bits, is_proper, packed, put_digits};
 use crate::item::Form;
 use crate::packed::pack;
 use crate::slot::{Slot, State, state_of};
@@ -41,19 +43,22 @@ fn used_by(slot: Slot) -> usize
     match slot.state {
         State::Digits => slot.len.div_ceil(4),
         State::Plain | State::Real => slot.len,
+        State::Bits => 8,
         State::Unset | State::Zero | State::One | State::Unknown | State::High => 0,
     }
 }
 
-/// Whether several digits are held so.
+/// Whether digits are some where several are held.
 #[inline(always)]
-fn holds_several(state: State) -> bool
-    ensures { (len : ℕ) → some_by state len ≡ cond result len 1 }
+fn holds_some(slot: Slot) -> bool
+    ensures yes { result ≡ true → 1 ≤ some_by slot.state slot.len }
+    ensures no { result ≡ false → some_by slot.state slot.len ≡ 0 }
 {
-    match state {
-        State::Plain | State::Digits => true,
+    match slot.state {
+        State::Plain | State::Digits => slot.len > 0,
+        State::Bits => is_proper(slot.len),
         State::Unset | State::Zero | State::One | State::Unknown | State::High | State::Real =>
-            false,
+            true,
     }
 }
 
@@ -68,7 +73,7 @@ pub(crate) fn share_in(values: &[u8], slot: Slot) -> Option<&[u8]>
     ensures there { slot.start + used slot ≤ length values.now
         → 1 ≤ some_by slot.state slot.len → result ≢ None }
 {
-    if slot.len == 0 && holds_several(slot.state) {
+    if !holds_some(slot) {
         return None;
     }
     let end = slot.start.checked_add(used_by(slot))?;
@@ -165,7 +170,7 @@ fn copy_front(to: &mut [u8], from: &[u8])
 
 /// Sets the value of a code to digits. Most changes are of one digit, and touch one slot alone.
 #[inline(always)]
-fn set_bits(slots: &mut [Slot], values: &mut [u8], code: usize, text: &[u8])
+fn set_text(slots: &mut [Slot], values: &mut [u8], code: usize, text: &[u8])
     ensures changes { AreLaidOut slots.old (length values.old)
         → ChangesAt code (with_text Form.Vector text.now) values.old slots.old
         values.new slots.new }
@@ -189,9 +194,59 @@ pub(crate) fn set_at(slots: &mut [Slot], values: &mut [u8], code: usize, form: F
 {
     match form {
         Form::RealText => set_real(slots, values, code, text),
-        Form::Scalar => set_bits(slots, values, code, text),
-        Form::Vector => set_bits(slots, values, code, text),
+        Form::Scalar => set_text(slots, values, code, text),
+        Form::Vector => set_text(slots, values, code, text),
     }
+}
+
+/// Whether binary digits may be held in a slot: where such are, or its share has the bytes that they would take.
+#[inline(always)]
+fn may_hold_bits(slots: &[Slot], values: usize, code: usize, slot: Slot) -> bool
+    requires { slice_get slots.now code ≡ Some slot }
+    ensures { result ≡ true → AreLaidOut slots.now values
+        → slot.start + 8 ≤ end_at slots.now values code }
+{
+    match slot.state {
+        State::Bits => true,
+        _ => end_of(slots, values, code).saturating_sub(slot.start) >= 8,
+    }
+}
+
+/// Sets the value of a code to binary digits as to their text.
+#[inline(never)]
+fn set_written(slots: &mut [Slot], values: &mut [u8], code: usize, bits: Bits)
+    ensures changes { AreLaidOut slots.old (length values.old)
+        → ChangesAt code (with_text Form.Vector (binary_digits bits.len bits.number)) values.old
+        slots.old values.new slots.new }
+    ensures laid { AreLaidOut slots.old (length values.old)
+        → AreLaidOut slots.new (length values.old) }
+{
+    let mut block = [0u8; 32];
+    let text = &mut block[..bits.len];
+    put_digits(bits, text);
+    set_at(slots, values, code, Form::Vector, text);
+}
+
+/// Sets the value of a code to binary digits. Where its slot holds such, it is touched alone.
+#[inline(always)]
+pub(crate) fn set_bits(slots: &mut [Slot], values: &mut [u8], code: usize, bits: Bits)
+    ensures changes { AreLaidOut slots.old (length values.old)
+        → ChangesAt code (with_text Form.Vector (binary_digits bits.len bits.number)) values.old
+        slots.old values.new slots.new }
+    ensures laid { AreLaidOut slots.old (length values.old)
+        → AreLaidOut slots.new (length values.old) }
+{
+    let Some(slot) = slot_at(slots, code) else {
+        return;
+    };
+    if !may_hold_bits(slots, values.len(), code, slot) {
+        set_written(slots, values, code, bits);
+        return;
+    }
+    let len = packed(bits);
+    let slot = &mut slots[code];
+    slot.state = State::Bits;
+    slot.len = len;
 }
 
 /// Adds one to a counter of a code. A full one stays.

@@ -2,16 +2,18 @@
 ghost use Rattle.std.specs.Prelude.{◌≡◌, ℕ, ◌+◌, ◌-◌, ◌^◌, ◌<◌, ◌≤◌, length};
 ghost use Rattle.vcd_model.specs.Sample.{shown};
 ghost use Rattle.vcd_text.specs.Device.{Counts, Takes, failures_after};
+ghost use Rattle.vcd_body.specs.Binary.{binary_digits};
 ghost use Rattle.vcd_body.specs.Kept.{Held, as_chosen, differs, digit_in, IsStep, one_more, real_text, with_step, with_text};
 ghost use Rattle.vcd_body.specs.Stored.{room_of};
 
+use crate::bits::{Bits, is_number_step, number_in, put_digits};
 use crate::compare::value_differs;
 use crate::held::{digit_shown, last_held};
 use crate::held_text::{put_value, put_value_line};
 use crate::item::Form;
 use crate::slot::{Shown, Slot, State};
-use crate::step::{Step, is_digit_step, step_by_digit, step_to_text};
-use crate::store::{bump_at, choose_at, count_at, lay_out, set_at, share_in, slot_at};
+use crate::step::{Step, is_digit_step, step_by_digit, step_by_number, step_to_text};
+use crate::store::{bump_at, choose_at, count_at, lay_out, set_at, set_bits, share_in, slot_at};
 use vcd_head::HeadView;
 use vcd_text::{Sink, WriteFailed, put};
 
@@ -72,6 +74,24 @@ impl<'a> Table<'a> {
         set_at(self.slots, self.values, code, form, text);
     }
 
+    /// Sets the value of the code at a place by binary digits, as `set` does by their text. Over others that were set so it
+    /// touches the code's slot alone, and takes the same time for all.
+    #[inline(always)]
+    pub fn set_bits(&mut self, code: usize, bits: Bits)
+        ensures laid { IsLaidOut self.old → IsLaidOut self.new }
+        ensures changes { IsLaidOut self.old → ChangesCode code
+            (with_text Form.Vector (binary_digits bits.len bits.number)) self.old self.new }
+        ensures value { IsLaidOut self.old → (c : Code) (k : Kept)
+            → IsText Form.Vector c (binary_digits bits.len bits.number)
+            → c.event ≡ false → kept_at self.old code ≡ Some k → share_of c.size ≤ k.room
+            → value_at_size c.size (held_at self.new code) ≡ Some (value_with c.size
+            (model_form Form.Vector) (binary_digits bits.len bits.number)) }
+        ensures codes { codes_in self.new ≡ codes_in self.old }
+        ensures bytes { bytes_in self.new ≡ bytes_in self.old }
+    {
+        set_bits(self.slots, self.values, code, bits);
+    }
+
     /// Sets the value of the code at a place as `set` does, and tells what becomes of it at this size: the step from what it was
     /// to that of the text. One digit over another touches the code's slot alone, and takes no branches by what they are.
     #[inline(always)]
@@ -96,6 +116,58 @@ impl<'a> Table<'a> {
             }
             _ => self.replace_any(code, size, form, text),
         }
+    }
+
+    /// Sets the value of the code at a place by binary digits, and tells what becomes of it at this size, as `replace` does by
+    /// their text. Over others that were set so it touches the code's slot alone.
+    #[inline(always)]
+    pub fn replace_bits(&mut self, code: usize, size: usize, bits: Bits) -> Step
+        ensures laid { IsLaidOut self.old → IsLaidOut self.new }
+        ensures changes { IsLaidOut self.old → ChangesCode code
+            (with_text Form.Vector (binary_digits bits.len bits.number)) self.old self.new }
+        ensures value { IsLaidOut self.old → (c : Code) (k : Kept)
+            → IsText Form.Vector c (binary_digits bits.len bits.number)
+            → c.event ≡ false → kept_at self.old code ≡ Some k → share_of c.size ≤ k.room
+            → value_at_size c.size (held_at self.new code) ≡ Some (value_with c.size
+            (model_form Form.Vector) (binary_digits bits.len bits.number)) }
+        ensures step { IsLaidOut self.old
+            → IsStep result (value_at_size size (held_at self.old code)) (value_with size
+            (model_form Form.Vector) (binary_digits bits.len bits.number)) }
+        ensures codes { codes_in self.new ≡ codes_in self.old }
+        ensures bytes { bytes_in self.new ≡ bytes_in self.old }
+    {
+        match self.slot(code) {
+            Some(slot) if is_number_step(slot, size, bits) => {
+                self.set_bits(code, bits);
+                step_by_number(number_in(slot.len), bits.number)
+            }
+            _ => self.replace_bits_any(code, size, bits),
+        }
+    }
+
+    /// The same over any value.
+    #[inline(never)]
+    fn replace_bits_any(&mut self, code: usize, size: usize, bits: Bits) -> Step
+        ensures laid { IsLaidOut self.old → IsLaidOut self.new }
+        ensures changes { IsLaidOut self.old → ChangesCode code
+            (with_text Form.Vector (binary_digits bits.len bits.number)) self.old self.new }
+        ensures value { IsLaidOut self.old → (c : Code) (k : Kept)
+            → IsText Form.Vector c (binary_digits bits.len bits.number)
+            → c.event ≡ false → kept_at self.old code ≡ Some k → share_of c.size ≤ k.room
+            → value_at_size c.size (held_at self.new code) ≡ Some (value_with c.size
+            (model_form Form.Vector) (binary_digits bits.len bits.number)) }
+        ensures step { IsLaidOut self.old
+            → IsStep result (value_at_size size (held_at self.old code)) (value_with size
+            (model_form Form.Vector) (binary_digits bits.len bits.number)) }
+        ensures codes { codes_in self.new ≡ codes_in self.old }
+        ensures bytes { bytes_in self.new ≡ bytes_in self.old }
+    {
+        let mut block = [0u8; 32];
+        let text = &mut block[..bits.len];
+        put_digits(bits, text);
+        let step = self.step_to(code, size, Form::Vector, text);
+        self.set_bits(code, bits);
+        step
     }
 
     /// The slot of the code at a place.
@@ -155,7 +227,7 @@ impl<'a> Table<'a> {
                 State::Unset => Shown::Unset,
                 State::Real => Shown::Real,
                 State::Zero | State::One | State::Unknown | State::High => Shown::Bits,
-                State::Plain | State::Digits => Shown::Bits,
+                State::Plain | State::Digits | State::Bits => Shown::Bits,
             },
         }
     }

@@ -1,8 +1,10 @@
 use Rattle.std.proofs.Common.{◌≡◌, ◌≤◌, ◌-◌, suc, length, sym, ap, subst, ◌∙◌, arith}
+use Rattle.vcd_body.specs.Binary.{count_in}
 use Rattle.vcd_body.specs.Kept.{last_digit_in, value_at_size}
 use Rattle.vcd_body.specs.Stored.{held_by, some_by, used_by}
 use Rattle.vcd_body.specs.declared.slot.State.{State}
-use Rattle.vcd_body.proofs.CompareLemmas.{last_of_state, last_packed, last_plain}
+use Rattle.vcd_body.proofs.BinaryLemmas.{proper, proper_count}
+use Rattle.vcd_body.proofs.CompareLemmas.{last_number, last_of_state, last_packed, last_plain}
 use Rattle.vcd_body.proofs.held.last_held.Goals as goal
 
 pub returns-in-Plain : goal.returns-in-Plain
@@ -27,5 +29,21 @@ returns-in-Digits c size =
     ∙ sym (last_packed len bytes size (len - 1) used one)
     ∙ sym (ap (λ (s : State). last_digit_in (value_at_size size (held_by s len bytes))) c.in-Digits.is)
 
+pub last_binary-requires : goal.last_binary-requires
+last_binary-requires c =
+    let some = subst (λ (s : State). 1 ≤ some_by s c.args.slot.len) c.in-Bits.is c.requires.some in
+    proper_count c.args.slot.len (proper c.args.slot.len some)
+
+pub returns-in-Bits : goal.returns-in-Bits
+returns-in-Bits c size =
+    let len = c.args.slot.len in
+    let bytes = c.args.share.now in
+    let some = subst (λ (s : State). 1 ≤ some_by s len) c.in-Bits.is c.requires.some in
+    let count = proper_count len (proper len some) in
+    let one : count_in len ≡ suc (count_in len - 1) = omega (arith, count) in
+    c.last_binary.ensures
+    ∙ sym (last_number len size (count_in len - 1) some one bytes)
+    ∙ sym (ap (λ (s : State). last_digit_in (value_at_size size (held_by s len bytes))) c.in-Bits.is)
+
 pub returns-in_default : goal.returns-in_default
-returns-in_default c size = c.digit_of_state.ensures ∙ last_of_state c.args.slot.state c.args.slot.len c.args.share.now size c.in_default.not-Plain c.in_default.not-Digits
+returns-in_default c size = c.digit_of_state.ensures ∙ last_of_state c.args.slot.state c.args.slot.len c.args.share.now size c.in_default.not-Plain c.in_default.not-Digits c.in_default.not-Bits

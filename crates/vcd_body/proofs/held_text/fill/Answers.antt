@@ -1,7 +1,15 @@
-use Rattle.std.proofs.Common.{take, drop, ap, ◌∙◌, arith}
+use Rattle.std.proofs.Common.{◌^◌, ◌-◌, take, drop, ap, ◌∙◌, arith}
 use Rattle.vcd_body.specs.Stored.{digits_with}
+use Rattle.vcd_body.proofs.NumberLemmas.{held_few}
 use Rattle.vcd_body.proofs.Pieces.{same_part}
 use Rattle.vcd_body.proofs.held_text.fill.Goals as goal
+
+pub overflow_add-from : goal.overflow_add-from
+overflow_add-from c =
+    let slot = c.args.slot in
+    let few = held_few slot.state slot.len (2 ^ 64 - 1) c.args.share.now (omega arith) (omega arith) (omega arith) in
+    let long = c.loop-place.auto.to in
+    omega (arith, few, long, c.requires)
 
 pub returns : goal.returns
 returns c =

@@ -1,0 +1,11 @@
+use Rattle.std.proofs.Common.{arith}
+use Rattle.std.proofs.lemmas.Grind.{same_number_lists}
+use Rattle.vcd_body.specs.Binary.{binary_digits}
+use Rattle.vcd_body.proofs.BinaryLemmas.{length_binary}
+use Rattle.vcd_body.proofs.bits.put_digits.Goals as goal
+
+pub returns : goal.returns
+returns c =
+    let long = c.loop-place.auto.to in
+    let count = length_binary c.args.bits.len c.args.bits.number in
+    same_number_lists c.loop-place.to (binary_digits c.args.bits.len c.args.bits.number) (omega (arith, long, count, c.requires)) (λ k few. c.loop-place.invariant k (omega (arith, long, few)))

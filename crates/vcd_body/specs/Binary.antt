@@ -1,0 +1,19 @@
+-- Binary digits as a number, the first one in its highest bit; and how many they are beside it, as a slot holds them.
+use Rattle.std.specs.Prelude.{ℕ, zero, suc, ◌+◌, ◌/◌, ◌%◌, ◌^◌, ◌==◌, ◌&&◌, nat_lt, min, Bool, List, [], ◌∷◌}
+use Rattle.std.specs.Str.{byte}
+
+-- the last digits of a number, so many
+abbrev pub binary_digits : ℕ → ℕ → List ℕ
+binary_digits zero n = []
+binary_digits (suc l) n = (byte "0" + n / 2 ^ l % 2) ∷ binary_digits l n
+
+-- how many digits a slot holds, and their number
+abbrev pub count_in : ℕ → ℕ
+count_in len = min 32 (len / 4294967296)
+
+abbrev pub number_in : ℕ → ℕ
+number_in len = len % 4294967296
+
+-- they are some, and the number has no others
+abbrev pub is_proper : ℕ → Bool
+is_proper len = nat_lt 0 (count_in len) && (number_in len / 2 ^ count_in len == 0)

@@ -1,0 +1,120 @@
+//! Up to 32 binary digits as a number, and how a slot holds them.
+ghost use Rattle.std.specs.Prelude.{◌≡◌, ◌-◌, ◌<◌, ◌≤◌, ◌^◌, get_or, length, max, slice_get, true};
+ghost use Rattle.vcd_body.specs.Binary.{binary_digits, count_in, is_proper, number_in};
+
+use crate::slot::{Slot, State};
+
+/// One to 32 binary digits, as the number that they write.
+#[derive(Clone, Copy, PartialEq, Eq, Debug)]
+pub struct Bits {
+    pub(crate) len: usize,
+    pub(crate) number: usize,
+    ghost some: { 1 ≤ len },
+    ghost few: { len ≤ 32 },
+    ghost fits: { number < 2 ^ len },
+}
+
+impl Bits {
+    ghost use Rattle.std.specs.Prelude.{IfSome, None, ◌≢◌};
+
+    /// So many digits of this number. None where they are none or more than 32, or the number has more.
+    #[inline(always)]
+    #[tactic(auto, using(crate::proofs::NumberLemmas::small_number, crate::proofs::NumberLemmas::small_rest))]
+    pub fn new(len: usize, number: usize) -> Option<Bits>
+        ensures same { IfSome result (λ b. (b.len ≡ len) × (b.number ≡ number)) }
+        ensures there { 1 ≤ len → len ≤ 32 → number < 2 ^ len → result ≢ None }
+    {
+        if len == 0 || len > 32 || number >> len != 0 {
+            return None;
+        }
+        Some(Bits { len, number })
+    }
+}
+
+/// The digits as a slot holds them: their number beside how many they are.
+#[inline(always)]
+pub(crate) fn packed(bits: Bits) -> usize
+    ensures count { count_in result ≡ bits.len }
+    ensures number { number_in result ≡ bits.number }
+{
+    bits.len * 4_294_967_296 + bits.number
+}
+
+/// How many digits a slot holds.
+#[inline(always)]
+pub(crate) fn count_in(len: usize) -> usize
+    ensures { result ≡ count_in len }
+{
+    (len / 4_294_967_296).min(32)
+}
+
+/// Their number.
+#[inline(always)]
+pub(crate) fn number_in(len: usize) -> usize
+    ensures { result ≡ number_in len }
+{
+    len % 4_294_967_296
+}
+
+/// Whether they are some, and the number has no others.
+#[inline(always)]
+pub(crate) fn is_proper(len: usize) -> bool
+    ensures { result ≡ is_proper len }
+{
+    let count = count_in(len);
+    count > 0 && number_in(len) >> count == 0
+}
+
+/// The digit at a place of those that a slot holds; none after the last.
+#[inline(always)]
+pub(crate) fn binary_digit(len: usize, place: usize) -> Option<u8>
+    ensures { result ≡ slice_get (binary_digits (count_in len) (number_in len)) place }
+{
+    let count = count_in(len);
+    if place >= count {
+        return None;
+    }
+    let back = count - 1 - place;
+    let digit = (number_in(len) >> back) % 2;
+    Some(b'0' + digit as u8)
+}
+
+/// The last digit of those that a slot holds.
+#[inline(always)]
+pub(crate) fn last_binary(len: usize) -> Option<u8>
+    requires { 1 ≤ count_in len }
+    ensures { result
+        ≡ slice_get (binary_digits (count_in len) (number_in len)) (count_in len - 1) }
+{
+    binary_digit(len, count_in(len) - 1)
+}
+
+/// The digit at a place.
+#[inline(always)]
+fn digit_of_bits(bits: Bits, place: usize) -> u8
+    requires { place < bits.len }
+    ensures { result ≡ get_or (binary_digits bits.len bits.number) place 0 }
+{
+    let back = bits.len - 1 - place;
+    let digit = (bits.number >> back) % 2;
+    b'0' + digit as u8
+}
+
+/// Puts all digits.
+pub(crate) fn put_digits(bits: Bits, to: &mut [u8])
+    requires { length to.old ≡ bits.len }
+    ensures { to.new ≡ binary_digits bits.len bits.number }
+{
+    for place in 0..to.len() {
+        to[place] = digit_of_bits(bits, place);
+    }
+}
+
+/// Whether a slot holds binary digits, and these make a value of as many digits at this size.
+#[inline(always)]
+pub(crate) fn is_number_step(slot: Slot, size: usize, bits: Bits) -> bool
+    ensures state { result ≡ true → slot.state ≡ State.Bits }
+    ensures long { result ≡ true → max size (count_in slot.len) ≡ max size bits.len }
+{
+    slot.state == State::Bits && size.max(count_in(slot.len)) == size.max(bits.len)
+}
