@@ -1,5 +1,5 @@
 // Tables with room of exactly `need`: what is held, how it is written, counters, and codes that are chosen.
-ghost use Rattle.std.specs.Prelude.{◌≡◌};
+ghost use Rattle.std.specs.Prelude.{◌≡◌, ◌<◌};
 
 use crate::item::Form;
 use crate::slot::{Shown, Slot};
@@ -109,53 +109,104 @@ fn are_shown(
     is_shown(alloc, size, Form::Vector, text, &line, full)
 }
 
+// Digits of a code of some size: these alone, one for each place, `1` at the last place and `0` before it, and `z x 0 1` over and over.
+#[derive(Clone, Copy)]
+enum Digits {
+    Alone(u8),
+    Each(u8),
+    LastOne,
+    Mixed,
+}
+
+fn text_of(alloc: Global, size: usize, digits: Digits) -> Result<Vec<u8>, AllocError>
+    requires { 0 < size }
+{
+    match digits {
+        Digits::Alone(digit) => padded(alloc, digit, 1, b""),
+        Digits::Each(digit) => padded(alloc, digit, size, b""),
+        Digits::LastOne => padded(alloc, b'0', size - 1, b"1"),
+        Digits::Mixed => mixed(alloc, size),
+    }
+}
+
+// Digits that set a code, the shortest for them, and those in full.
+const VALUES: [(&str, Digits, Digits, Digits); 9] = [
+    (
+        "1",
+        Digits::Alone(b'1'),
+        Digits::Alone(b'1'),
+        Digits::LastOne,
+    ),
+    (
+        "0",
+        Digits::Alone(b'0'),
+        Digits::Alone(b'0'),
+        Digits::Each(b'0'),
+    ),
+    (
+        "X",
+        Digits::Alone(b'X'),
+        Digits::Alone(b'x'),
+        Digits::Each(b'x'),
+    ),
+    (
+        "Z",
+        Digits::Alone(b'Z'),
+        Digits::Alone(b'z'),
+        Digits::Each(b'z'),
+    ),
+    (
+        "1s",
+        Digits::Each(b'1'),
+        Digits::Each(b'1'),
+        Digits::Each(b'1'),
+    ),
+    (
+        "0s",
+        Digits::Each(b'0'),
+        Digits::Alone(b'0'),
+        Digits::Each(b'0'),
+    ),
+    (
+        "xs",
+        Digits::Each(b'x'),
+        Digits::Alone(b'x'),
+        Digits::Each(b'x'),
+    ),
+    (
+        "0s and 1",
+        Digits::LastOne,
+        Digits::Alone(b'1'),
+        Digits::LastOne,
+    ),
+    ("all digits", Digits::Mixed, Digits::Mixed, Digits::Mixed),
+];
+
 #[test]
-fn values_of_each_form_at_each_size(rt: HostRuntime) -> Result<(), Fail> {
+fn digits_of_each_form_at_each_size(rt: HostRuntime) -> Result<(), Fail> {
     let alloc = rt.alloc();
     for size in [1, 2, 4, 5, 63, 64, 65, 1_000] {
-        let ones = padded(alloc, b'1', size, b"")?;
-        let unknown = padded(alloc, b'x', size, b"")?;
-        let high = padded(alloc, b'z', size, b"")?;
-        let zeros = padded(alloc, b'0', size, b"")?;
-        let one = padded(alloc, b'0', size - 1, b"1")?;
-        let all = mixed(alloc, size)?;
-        assert!(rt; are_shown(alloc, size, b"1", b"1", &one)?, "1 at {size}");
-        assert!(rt; are_shown(alloc, size, b"0", b"0", &zeros)?, "0 at {size}");
+        for (name, digits, shortest, full) in VALUES {
+            let text = text_of(alloc, size, digits)?;
+            let shortest = text_of(alloc, size, shortest)?;
+            let full = text_of(alloc, size, full)?;
+            assert!(rt;
+                are_shown(alloc, size, &text, &shortest, &full)?,
+                "{name} at {size}"
+            );
+        }
+    }
+    Ok(())
+}
+
+#[test]
+fn real_number_at_each_size(rt: HostRuntime) -> Result<(), Fail> {
+    let line = b"r-1.5E3 !\n".as_slice();
+    let full = b"r-1.5E3".as_slice();
+    for size in [1, 2, 4, 5, 63, 64, 65, 1_000] {
         assert!(rt;
-            are_shown(alloc, size, b"X", b"x", &unknown)?,
-            "x at {size}"
-        );
-        assert!(rt; are_shown(alloc, size, b"Z", b"z", &high)?, "z at {size}");
-        assert!(rt;
-            are_shown(alloc, size, &ones, &ones, &ones)?,
-            "1s at {size}"
-        );
-        assert!(rt;
-            are_shown(alloc, size, &zeros, b"0", &zeros)?,
-            "0s at {size}"
-        );
-        assert!(rt;
-            are_shown(alloc, size, &unknown, b"x", &unknown)?,
-            "xs at {size}"
-        );
-        assert!(rt;
-            are_shown(alloc, size, &one, b"1", &one)?,
-            "0s and 1 at {size}"
-        );
-        assert!(rt;
-            are_shown(alloc, size, &all, &all, &all)?,
-            "all digits at {size}"
-        );
-        assert!(rt;
-            is_shown(
-                alloc,
-                size,
-                Form::RealText,
-                b"-1.5E3",
-                b"r-1.5E3 !\n",
-                b"r-1.5E3"
-            )?,
-            "a real number at {size}"
+            is_shown(rt.alloc(), size, Form::RealText, b"-1.5E3", line, full)?,
+            "at {size}"
         );
     }
     Ok(())
@@ -185,22 +236,34 @@ fn digits_that_have_a_byte_each_and_more(rt: HostRuntime) -> Result<(), Fail> {
     Ok(())
 }
 
+// A size, digits that set a code of it, the shortest for them, and those in full.
+const SHORT_DIGITS: [(usize, &[u8], &[u8], &[u8]); 10] = [
+    (4, b"10", b"10", b"0010"),
+    (4, b"x10", b"x10", b"xx10"),
+    (4, b"zx0", b"zx0", b"zzx0"),
+    (4, b"0x10", b"0x10", b"0x10"),
+    (4, b"00x1", b"0x1", b"00x1"),
+    (4, b"0xxx", b"0xxx", b"0xxx"),
+    (4, b"ZzX0", b"zx0", b"zzx0"),
+    (4, b"xz10", b"xz10", b"xz10"),
+    (5, b"x10", b"x10", b"xxx10"),
+    (2, b"01", b"1", b"01"),
+];
+
 #[test]
 fn short_digits_are_extended(rt: HostRuntime) -> Result<(), Fail> {
+    for (size, text, shortest, full) in SHORT_DIGITS {
+        assert!(rt; are_shown(rt.alloc(), size, text, shortest, full)?);
+    }
+    Ok(())
+}
+
+#[test]
+fn short_digits_are_extended_past_a_word(rt: HostRuntime) -> Result<(), Fail> {
     let alloc = rt.alloc();
-    assert!(rt; are_shown(alloc, 4, b"10", b"10", b"0010")?);
-    assert!(rt; are_shown(alloc, 4, b"x10", b"x10", b"xx10")?);
-    assert!(rt; are_shown(alloc, 4, b"zx0", b"zx0", b"zzx0")?);
-    assert!(rt; are_shown(alloc, 4, b"0x10", b"0x10", b"0x10")?);
-    assert!(rt; are_shown(alloc, 4, b"00x1", b"0x1", b"00x1")?);
-    assert!(rt; are_shown(alloc, 4, b"0xxx", b"0xxx", b"0xxx")?);
-    assert!(rt; are_shown(alloc, 4, b"ZzX0", b"zx0", b"zzx0")?);
-    assert!(rt; are_shown(alloc, 4, b"xz10", b"xz10", b"xz10")?);
-    assert!(rt; are_shown(alloc, 5, b"x10", b"x10", b"xxx10")?);
-    assert!(rt; are_shown(alloc, 2, b"01", b"1", b"01")?);
-    let five = padded(alloc, b'x', 63, b"10")?;
-    assert!(rt; are_shown(alloc, 65, b"x10", b"x10", &five)?);
-    assert!(rt; are_shown(alloc, 65, &five, b"x10", &five)?);
+    let wide = padded(alloc, b'x', 63, b"10")?;
+    assert!(rt; are_shown(alloc, 65, b"x10", b"x10", &wide)?);
+    assert!(rt; are_shown(alloc, 65, &wide, b"x10", &wide)?);
     Ok(())
 }
 
@@ -215,20 +278,58 @@ fn unset_codes_and_places_of_none(rt: HostRuntime) -> Result<(), Fail> {
     table.set(1, Form::Vector, b"10");
     table.bump(1, 0);
     table.choose(1);
-    let mut page = Watch::new(Narrow::new(80));
-    assert!(rt; table.put_short(view, 0, &mut page).is_ok());
-    assert!(rt; table.put_short(view, 1, &mut page).is_ok());
-    assert!(rt; table.put_full(view, 0, &mut page).is_ok());
-    assert!(rt; table.put_full(view, 1, &mut page).is_ok());
-    assert_eq!(rt; page.device.held(), b"--".as_slice());
-    assert_eq!(rt; table.get(0), Shown::Unset);
-    assert_eq!(rt; table.get(1), Shown::Unset);
-    assert_eq!(rt; table.digit(view, 0, 0), None);
-    assert_eq!(rt; table.real(0), b"".as_slice());
-    assert_eq!(rt; table.tally(1), [0, 0, 0]);
-    assert!(rt; !table.chosen(1));
+    for code in 0..2 {
+        assert!(rt; is_short(&table, view, code, b""), "at {code}");
+        assert!(rt; is_full(&table, view, code, b"-"), "at {code}");
+    }
+    assert!(rt; is_nothing(&table, view));
     Ok(())
 }
+
+// The first code is unset, and the second place has no value, counter or choice.
+fn is_nothing(table: &Table<'_>, view: HeadView<'_>) -> bool {
+    table.get(0) == Shown::Unset
+        && table.get(1) == Shown::Unset
+        && table.digit(view, 0, 0).is_none()
+        && table.real(0).is_empty()
+        && table.tally(1) == [0, 0, 0]
+        && !table.chosen(1)
+}
+
+// A text that sets a code of 6 bits, what is shown then, the digits by their places, and the text of a real number.
+const PLACES: [(Form, &[u8], Shown, [Option<u8>; 7], &[u8]); 3] = [
+    (
+        Form::Vector,
+        b"X0z10",
+        Shown::Bits,
+        [
+            Some(b'x'),
+            Some(b'x'),
+            Some(b'0'),
+            Some(b'z'),
+            Some(b'1'),
+            Some(b'0'),
+            None,
+        ],
+        b"",
+    ),
+    (Form::RealText, b"2", Shown::Real, [None; 7], b"2"),
+    (
+        Form::Scalar,
+        b"1",
+        Shown::Bits,
+        [
+            Some(b'0'),
+            Some(b'0'),
+            Some(b'0'),
+            Some(b'0'),
+            Some(b'0'),
+            Some(b'1'),
+            None,
+        ],
+        b"",
+    ),
+];
 
 #[test]
 fn digits_by_their_places(rt: HostRuntime) -> Result<(), Fail> {
@@ -238,23 +339,14 @@ fn digits_by_their_places(rt: HostRuntime) -> Result<(), Fail> {
     let mut values = vec![in alloc; 255u8; need(view).values]?;
     let mut slots = [Slot::new()];
     let mut table = Table::new(view, &mut values, &mut slots);
-    table.set(0, Form::Vector, b"X0z10");
-    assert_eq!(rt; table.get(0), Shown::Bits);
-    assert_eq!(rt; table.digit(view, 0, 0), Some(b'x'));
-    assert_eq!(rt; table.digit(view, 0, 1), Some(b'x'));
-    assert_eq!(rt; table.digit(view, 0, 2), Some(b'0'));
-    assert_eq!(rt; table.digit(view, 0, 3), Some(b'z'));
-    assert_eq!(rt; table.digit(view, 0, 4), Some(b'1'));
-    assert_eq!(rt; table.digit(view, 0, 5), Some(b'0'));
-    assert_eq!(rt; table.digit(view, 0, 6), None);
-    table.set(0, Form::RealText, b"2");
-    assert_eq!(rt; table.get(0), Shown::Real);
-    assert_eq!(rt; table.digit(view, 0, 5), None);
-    assert_eq!(rt; table.real(0), b"2".as_slice());
-    table.set(0, Form::Scalar, b"1");
-    assert_eq!(rt; table.digit(view, 0, 0), Some(b'0'));
-    assert_eq!(rt; table.digit(view, 0, 5), Some(b'1'));
-    assert_eq!(rt; table.real(0), b"".as_slice());
+    for (form, text, kind, digits, real) in PLACES {
+        table.set(0, form, text);
+        assert_eq!(rt; table.get(0), kind);
+        for place in 0..7 {
+            assert_eq!(rt; table.digit(view, 0, place), digits[place], "at {place}");
+        }
+        assert_eq!(rt; table.real(0), real);
+    }
     Ok(())
 }
 
@@ -287,28 +379,54 @@ fn are_one(alloc: Global, size: usize, one: &[u8], other: &[u8]) -> Result<bool,
     Ok(!there && !back)
 }
 
+// Digits that are one value of a code.
+const ONE_VALUE: [(&str, Digits, Digits); 5] = [
+    ("0", Digits::Alone(b'0'), Digits::Each(b'0')),
+    ("1", Digits::Alone(b'1'), Digits::LastOne),
+    ("x", Digits::Alone(b'x'), Digits::Each(b'X')),
+    ("Z", Digits::Alone(b'Z'), Digits::Each(b'z')),
+    ("all", Digits::Mixed, Digits::Mixed),
+];
+
 #[test]
-fn values_that_differ_at_each_size(rt: HostRuntime) -> Result<(), Fail> {
+fn digits_of_one_value_at_each_size(rt: HostRuntime) -> Result<(), Fail> {
+    let alloc = rt.alloc();
+    for size in [1, 2, 4, 5, 63, 64, 65] {
+        for (name, one, other) in ONE_VALUE {
+            let one = text_of(alloc, size, one)?;
+            let other = text_of(alloc, size, other)?;
+            assert!(rt; are_one(alloc, size, &one, &other)?, "{name} at {size}");
+        }
+    }
+    Ok(())
+}
+
+// Digits that are two values of a code.
+const TWO_VALUES: [(&str, Digits, Digits); 4] = [
+    ("0 and 1", Digits::Alone(b'0'), Digits::Alone(b'1')),
+    ("x and z", Digits::Alone(b'x'), Digits::Alone(b'z')),
+    ("0s and xs", Digits::Each(b'0'), Digits::Each(b'X')),
+    ("0 and 1s", Digits::Alone(b'0'), Digits::Each(b'1')),
+];
+
+#[test]
+fn digits_of_two_values_at_each_size(rt: HostRuntime) -> Result<(), Fail> {
+    let alloc = rt.alloc();
+    for size in [1, 2, 4, 5, 63, 64, 65] {
+        for (name, one, other) in TWO_VALUES {
+            let one = text_of(alloc, size, one)?;
+            let other = text_of(alloc, size, other)?;
+            assert!(rt; are_two(alloc, size, &one, &other)?, "{name} at {size}");
+        }
+    }
+    Ok(())
+}
+
+#[test]
+fn one_digit_and_each_digit_a_one(rt: HostRuntime) -> Result<(), Fail> {
     let alloc = rt.alloc();
     for size in [1, 2, 4, 5, 63, 64, 65] {
         let ones = padded(alloc, b'1', size, b"")?;
-        let unknown = padded(alloc, b'X', size, b"")?;
-        let high = padded(alloc, b'z', size, b"")?;
-        let zeros = padded(alloc, b'0', size, b"")?;
-        let one = padded(alloc, b'0', size - 1, b"1")?;
-        let all = mixed(alloc, size)?;
-        assert!(rt; are_one(alloc, size, b"0", &zeros)?, "0 at {size}");
-        assert!(rt; are_one(alloc, size, b"1", &one)?, "1 at {size}");
-        assert!(rt; are_one(alloc, size, b"x", &unknown)?, "x at {size}");
-        assert!(rt; are_one(alloc, size, b"Z", &high)?, "z at {size}");
-        assert!(rt; are_one(alloc, size, &all, &all)?, "all at {size}");
-        assert!(rt; are_two(alloc, size, b"0", b"1")?, "0 and 1 at {size}");
-        assert!(rt; are_two(alloc, size, b"x", b"z")?, "x and z at {size}");
-        assert!(rt;
-            are_two(alloc, size, &zeros, &unknown)?,
-            "0s and xs at {size}"
-        );
-        assert!(rt; are_two(alloc, size, b"0", &ones)?, "0 and 1s at {size}");
         assert_eq!(rt;
             are_one(alloc, size, b"1", &ones)?,
             size == 1,
@@ -318,31 +436,54 @@ fn values_that_differ_at_each_size(rt: HostRuntime) -> Result<(), Fail> {
     Ok(())
 }
 
+// Digits that are one value of a code of 4 bits, and digits that are two.
+const ONE_OF_FOUR: [(&[u8], &[u8]); 2] = [(b"10", b"010"), (b"x10", b"XX10")];
+
+const TWO_OF_FOUR: [(&[u8], &[u8]); 3] = [(b"10", b"x10"), (b"x10", b"0x10"), (b"110", b"10")];
+
 #[test]
 fn short_digits_that_differ(rt: HostRuntime) -> Result<(), Fail> {
+    for (one, other) in ONE_OF_FOUR {
+        assert!(rt; are_one(rt.alloc(), 4, one, other)?);
+    }
+    for (one, other) in TWO_OF_FOUR {
+        assert!(rt; are_two(rt.alloc(), 4, one, other)?);
+    }
+    Ok(())
+}
+
+#[test]
+fn short_digits_that_differ_past_a_word(rt: HostRuntime) -> Result<(), Fail> {
     let alloc = rt.alloc();
-    assert!(rt; are_one(alloc, 4, b"10", b"010")?);
-    assert!(rt; are_one(alloc, 4, b"x10", b"XX10")?);
-    assert!(rt; are_two(alloc, 4, b"10", b"x10")?);
-    assert!(rt; are_two(alloc, 4, b"x10", b"0x10")?);
-    assert!(rt; are_two(alloc, 4, b"110", b"10")?);
     let wide = padded(alloc, b'x', 63, b"10")?;
     assert!(rt; are_one(alloc, 65, b"x10", &wide)?);
     assert!(rt; are_two(alloc, 66, b"10", &wide)?);
     Ok(())
 }
 
+// A size, two texts that set a code of it, and whether they are two values.
+const REAL_NUMBERS: [(usize, (Form, &[u8]), (Form, &[u8]), bool); 4] = [
+    (
+        64,
+        (Form::RealText, b"0.5"),
+        (Form::RealText, b"0.5"),
+        false,
+    ),
+    (
+        64,
+        (Form::RealText, b"0.5"),
+        (Form::RealText, b"0.50"),
+        true,
+    ),
+    (1, (Form::Scalar, b"1"), (Form::RealText, b"1"), true),
+    (1, (Form::RealText, b"1"), (Form::Scalar, b"1"), true),
+];
+
 #[test]
 fn real_numbers_that_differ(rt: HostRuntime) -> Result<(), Fail> {
-    let alloc = rt.alloc();
-    let half = (Form::RealText, b"0.5".as_slice());
-    let same = (Form::RealText, b"0.50".as_slice());
-    let digit = (Form::Scalar, b"1".as_slice());
-    let number = (Form::RealText, b"1".as_slice());
-    assert!(rt; !is_changed(alloc, 64, half, half)?);
-    assert!(rt; is_changed(alloc, 64, half, same)?);
-    assert!(rt; is_changed(alloc, 1, digit, number)?);
-    assert!(rt; is_changed(alloc, 1, number, digit)?);
+    for (size, first, second, differs) in REAL_NUMBERS {
+        assert_eq!(rt; is_changed(rt.alloc(), size, first, second)?, differs);
+    }
     Ok(())
 }
 
@@ -351,9 +492,12 @@ fn value_of_no_code_never_differs(rt: HostRuntime) {
     let codes = [code_of(4)];
     let mut slots = [Slot::new()];
     let mut table = Table::new(view_of(&codes), &mut [], &mut slots);
-    assert_eq!(rt; table.replace(0, 4, Form::Scalar, b"1"), step_of(false, 0));
-    assert_eq!(rt; table.replace(1, 4, Form::Scalar, b"1"), step_of(false, 0));
-    assert_eq!(rt; table.replace(1, 4, Form::Scalar, b"0"), step_of(false, 0));
+    for (code, text) in [(0, b"1"), (1, b"1"), (1, b"0")] {
+        assert_eq!(rt;
+            table.replace(code, 4, Form::Scalar, text),
+            step_of(false, 0)
+        );
+    }
 }
 
 // A step that differs or not, and goes up, down, or neither.
@@ -365,6 +509,22 @@ fn step_of(differs: bool, way: i8) -> Step {
     }
 }
 
+// Texts that set a code of 9 bits one after another, whether its value differs by each, and whether its last digit goes up (1) or down (-1).
+const STEPS: [(Form, &[u8], bool, i8); 12] = [
+    (Form::Scalar, b"Z", false, 0),
+    (Form::Scalar, b"z", false, 0),
+    (Form::Vector, b"01", true, 0),
+    (Form::Scalar, b"1", false, 0),
+    (Form::Scalar, b"0", true, -1),
+    (Form::Scalar, b"1", true, 1),
+    (Form::Vector, b"x00110010", true, -1),
+    (Form::Vector, b"X00110010", false, 0),
+    (Form::Vector, b"100110010", true, 0),
+    (Form::Vector, b"110011", true, 1),
+    (Form::RealText, b"1", true, 0),
+    (Form::RealText, b"1", false, 0),
+];
+
 #[test]
 fn steps_of_values(rt: HostRuntime) -> Result<(), Fail> {
     let alloc = rt.alloc();
@@ -373,40 +533,29 @@ fn steps_of_values(rt: HostRuntime) -> Result<(), Fail> {
     let mut values = vec![in alloc; 255u8; need(view).values]?;
     let mut slots = [Slot::new()];
     let mut table = Table::new(view, &mut values, &mut slots);
-    assert_eq!(rt; table.replace(0, 9, Form::Scalar, b"Z"), step_of(false, 0));
-    assert_eq!(rt; table.replace(0, 9, Form::Scalar, b"z"), step_of(false, 0));
-    assert_eq!(rt; table.replace(0, 9, Form::Vector, b"01"), step_of(true, 0));
-    assert_eq!(rt; table.replace(0, 9, Form::Scalar, b"1"), step_of(false, 0));
-    assert_eq!(rt; table.replace(0, 9, Form::Scalar, b"0"), step_of(true, -1));
-    assert_eq!(rt; table.replace(0, 9, Form::Scalar, b"1"), step_of(true, 1));
-    assert_eq!(rt;
-        table.replace(0, 9, Form::Vector, b"x00110010"),
-        step_of(true, -1)
-    );
-    assert_eq!(rt;
-        table.replace(0, 9, Form::Vector, b"X00110010"),
-        step_of(false, 0)
-    );
-    assert_eq!(rt;
-        table.replace(0, 9, Form::Vector, b"100110010"),
-        step_of(true, 0)
-    );
-    assert_eq!(rt;
-        table.replace(0, 9, Form::Vector, b"110011"),
-        step_of(true, 1)
-    );
-    assert_eq!(rt; table.replace(0, 9, Form::RealText, b"1"), step_of(true, 0));
-    assert_eq!(rt;
-        table.replace(0, 9, Form::RealText, b"1"),
-        step_of(false, 0)
-    );
+    for (form, text, differs, way) in STEPS {
+        assert_eq!(rt; table.replace(0, 9, form, text), step_of(differs, way));
+    }
     Ok(())
+}
+
+// The line of a code's value is this.
+fn is_short(table: &Table<'_>, view: HeadView<'_>, code: usize, line: &[u8]) -> bool {
+    let mut page = Watch::new(Narrow::new(1024));
+    table.put_short(view, code, &mut page).is_ok() && page.device.held() == line
 }
 
 // The value of a code in full is this.
 fn is_full(table: &Table<'_>, view: HeadView<'_>, code: usize, full: &[u8]) -> bool {
     let mut page = Watch::new(Narrow::new(1024));
     table.put_full(view, code, &mut page).is_ok() && page.device.held() == full
+}
+
+// The values of three codes in full are these.
+fn are_full(table: &Table<'_>, view: HeadView<'_>, full: [&[u8]; 3]) -> bool {
+    is_full(table, view, 0, full[0])
+        && is_full(table, view, 1, full[1])
+        && is_full(table, view, 2, full[2])
 }
 
 #[test]
@@ -424,14 +573,11 @@ fn shares_lie_apart(rt: HostRuntime) -> Result<(), Fail> {
     table.set(2, Form::Vector, &third);
     table.set(0, Form::Vector, &first);
     table.set(1, Form::Vector, &second);
-    assert!(rt; is_full(&table, view, 0, &first));
-    assert!(rt; is_full(&table, view, 1, &second));
-    assert!(rt; is_full(&table, view, 2, &third));
+    assert!(rt; are_full(&table, view, [&first, &second, &third]));
     let real = padded(alloc, b'7', 64, b"")?;
     let text = padded(alloc, b'r', 1, &real)?;
     table.set(0, Form::RealText, &real);
-    assert!(rt; is_full(&table, view, 0, &text));
-    assert!(rt; is_full(&table, view, 1, &second));
+    assert!(rt; are_full(&table, view, [&text, &second, &third]));
     Ok(())
 }
 

@@ -1,5 +1,5 @@
 // Bodies that are read to their end, bodies that are refused, a source that fails, and changes that are written.
-ghost use Rattle.std.specs.Prelude.{◌+◌, ◌<◌, ◌≤◌, length};
+ghost use Rattle.std.specs.Prelude.{◌+◌, ◌<◌, ◌≤◌};
 
 use crate::ahead::{item_ahead, pass_items};
 use crate::change::put_change;
@@ -78,81 +78,75 @@ fn gives(alloc: Global, body: &[u8], items: &str) -> Result<bool, Fail> {
     Ok(transcript(alloc, HEAD, body, false)?.as_str() == items)
 }
 
+// Bodies and their items.
+const ITEMS: [(&[u8], &str); 4] = [
+    (b"", "Finish"),
+    (
+        b"#0\n$dumpvars\nZ!\nBx \"\n$end\n#05\n1!\nb101 \"\n#5\n",
+        "#0 Vars 0:Scalar:Z 1:Vector:x End #5 0:Scalar:1 1:Vector:101 #5 Finish",
+    ),
+    (
+        b"$dumpoff $end $dumpon rnan ! $end $dumpall $comment #x x$end $dumpvars $end R-1.5e3 \" $end",
+        "Off End On 0:RealText:nan End All 1:RealText:-1.5e3 End Finish",
+    ),
+    (b"#18446744073709551615", "#18446744073709551615 Finish"),
+];
+
 #[test]
 fn items_of_each_form(rt: HostRuntime) -> Result<(), Fail> {
-    let alloc = rt.alloc();
-    assert!(rt; gives(alloc, b"", "Finish")?);
-    assert!(rt;
-        gives(
-            alloc,
-            b"#0\n$dumpvars\nZ!\nBx \"\n$end\n#05\n1!\nb101 \"\n#5\n",
-            "#0 Vars 0:Scalar:Z 1:Vector:x End #5 0:Scalar:1 1:Vector:101 #5 Finish"
-        )?
-    );
-    assert!(rt;
-        gives(
-            alloc,
-            b"$dumpoff $end $dumpon rnan ! $end $dumpall $comment #x x$end $dumpvars $end R-1.5e3 \" $end",
-            "Off End On 0:RealText:nan End All 1:RealText:-1.5e3 End Finish"
-        )?
-    );
-    assert!(rt;
-        gives(
-            alloc,
-            b"#18446744073709551615",
-            "#18446744073709551615 Finish"
-        )?
-    );
+    for (body, items) in ITEMS {
+        assert!(rt; gives(rt.alloc(), body, items)?, "{items}");
+    }
     Ok(())
 }
+
+// Bodies with a value or a time that is refused, and their items up to the fault.
+const REFUSED_VALUES: [(&[u8], &str); 11] = [
+    (b"#5\n#5\n1!\n#4\n", "#5 #5 0:Scalar:1 fault 14 at 10"),
+    (b"#5\n$dumpvars\n#4\n", "#5 Vars fault 19 at 9"),
+    (b"#x\n", "fault 13 at 7"),
+    (b"#18446744073709551616\n", "fault 13 at 7"),
+    (b"b101 $end\n", "fault 16 at 7"),
+    (b"b10110 ?\n", "fault 16 at 7"),
+    (b"b10110 \"\n", "fault 17 at 7"),
+    (b"1\n", "fault 15 at 7"),
+    (b"b12 \"\n", "fault 15 at 7"),
+    (b"r \"\n", "fault 15 at 7"),
+    (
+        b"r11111111111111111111111111111111111111111111111111111111111111111 \"\n",
+        "fault 18 at 7",
+    ),
+];
 
 #[test]
 fn values_and_times_that_are_refused(rt: HostRuntime) -> Result<(), Fail> {
-    let alloc = rt.alloc();
-    assert!(rt;
-        gives(
-            alloc,
-            b"#5\n#5\n1!\n#4\n",
-            "#5 #5 0:Scalar:1 fault 14 at 10"
-        )?
-    );
-    assert!(rt; gives(alloc, b"#5\n$dumpvars\n#4\n", "#5 Vars fault 19 at 9")?);
-    assert!(rt; gives(alloc, b"#x\n", "fault 13 at 7")?);
-    assert!(rt; gives(alloc, b"#18446744073709551616\n", "fault 13 at 7")?);
-    assert!(rt; gives(alloc, b"b101 $end\n", "fault 16 at 7")?);
-    assert!(rt; gives(alloc, b"b10110 ?\n", "fault 16 at 7")?);
-    assert!(rt; gives(alloc, b"b10110 \"\n", "fault 17 at 7")?);
-    assert!(rt; gives(alloc, b"1\n", "fault 15 at 7")?);
-    assert!(rt; gives(alloc, b"b12 \"\n", "fault 15 at 7")?);
-    assert!(rt; gives(alloc, b"r \"\n", "fault 15 at 7")?);
-    assert!(rt;
-        gives(
-            alloc,
-            b"r11111111111111111111111111111111111111111111111111111111111111111 \"\n",
-            "fault 18 at 7"
-        )?
-    );
+    for (body, items) in REFUSED_VALUES {
+        assert!(rt; gives(rt.alloc(), body, items)?, "{items}");
+    }
     Ok(())
 }
 
+// Bodies with a command or an end that is refused, and their items up to the fault.
+const REFUSED_COMMANDS: [(&[u8], &str); 9] = [
+    (b"$end\n", "fault 4 at 7"),
+    (b"$var", "fault 4 at 7"),
+    (b"$dumpvars\n$dumpon\n", "Vars fault 4 at 8"),
+    (b"?\n", "fault 3 at 7"),
+    (b"$foo $end\n", "fault 3 at 7"),
+    (b"#0\n0!\n#5\nb10", "#0 0:Scalar:0 #5 fault 2 at 10"),
+    (b"$dumpvars\n", "Vars fault 2 at 8"),
+    (b"$comment x$end", "fault 2 at 7"),
+    (
+        b"#0 1234567890123456789012345678901234567890123456789012345678901234567890123",
+        "#0 fault 1 at 7",
+    ),
+];
+
 #[test]
 fn commands_and_ends_that_are_refused(rt: HostRuntime) -> Result<(), Fail> {
-    let alloc = rt.alloc();
-    assert!(rt; gives(alloc, b"$end\n", "fault 4 at 7")?);
-    assert!(rt; gives(alloc, b"$var", "fault 4 at 7")?);
-    assert!(rt; gives(alloc, b"$dumpvars\n$dumpon\n", "Vars fault 4 at 8")?);
-    assert!(rt; gives(alloc, b"?\n", "fault 3 at 7")?);
-    assert!(rt; gives(alloc, b"$foo $end\n", "fault 3 at 7")?);
-    assert!(rt; gives(alloc, b"#0\n0!\n#5\nb10", "#0 0:Scalar:0 #5 fault 2 at 10")?);
-    assert!(rt; gives(alloc, b"$dumpvars\n", "Vars fault 2 at 8")?);
-    assert!(rt; gives(alloc, b"$comment x$end", "fault 2 at 7")?);
-    assert!(rt;
-        gives(
-            alloc,
-            b"#0 1234567890123456789012345678901234567890123456789012345678901234567890123",
-            "#0 fault 1 at 7"
-        )?
-    );
+    for (body, items) in REFUSED_COMMANDS {
+        assert!(rt; gives(rt.alloc(), body, items)?, "{items}");
+    }
     Ok(())
 }
 
@@ -252,49 +246,34 @@ fn standing(alloc: Global, body: &[u8]) -> Result<String, Fail> {
     Ok(marks)
 }
 
+// Changes, and which of them stand as their lines: single digits, vectors of a few digits, vectors with digits that are left out, vectors of more
+// than 30 digits that are left out and that are not, and real numbers.
+const STANDING: [(&[u8], &str); 6] = [
+    (b"1!\nZ!\n 0!\nx! 1!\n1\"\n1%\n#5\n0!\n", "=...=...="),
+    (
+        b"b101 \"\nB101 \"\nb0101 \"\nb00 \"\nb0x \"\nbzz1 \"\nbzx0 \"\nb1X \"\nb10  \"\nb10\t\"\nb1 !\nb0 \"\nb1 % b1 \"\n",
+        "=.11=1=....=.=",
+    ),
+    (
+        b"b0010 \"\nb0001 \"\nb0000 \"\nb000x \"\nbx0 \"\nbxxx1 \"\nbxxxx \"\nbXXx1 \"\nbXX1 \"\nbxX1 \"\nb00  \"\nb1111 \"\nb0 \"\n",
+        "2332=232...==",
+    ),
+    (
+        b"b00000000000000000000000000001010 &\nb0000000000000000000000000000101X &\nb0000000000000000000000000000000000000000 &\nb0101010101010101010101010101010101010x &\n",
+        "28.391",
+    ),
+    (
+        b"b1010101010101010101010101010101x &\nb1010101010101010101010101010101X &\nb1010101010101010101010101010101010x &\nb1010101010101010101010101010101010X &\n",
+        "=.=.",
+    ),
+    (b"r1.5 \"\nR1.5 \"\nr1E3 !\nr1.5  !\nr1 %\n", "=.=.."),
+];
+
 #[test]
 fn changes_that_stand_as_their_lines(rt: HostRuntime) -> Result<(), Fail> {
-    let alloc = rt.alloc();
-    assert_eq!(rt;
-        standing(alloc, b"1!\nZ!\n 0!\nx! 1!\n1\"\n1%\n#5\n0!\n")?.as_str(),
-        "=...=...="
-    );
-    assert_eq!(rt;
-        standing(
-            alloc,
-            b"b101 \"\nB101 \"\nb0101 \"\nb00 \"\nb0x \"\nbzz1 \"\nbzx0 \"\nb1X \"\nb10  \"\nb10\t\"\nb1 !\nb0 \"\nb1 % b1 \"\n"
-        )?
-        .as_str(),
-        "=.11=1=....=.="
-    );
-    assert_eq!(rt;
-        standing(
-            alloc,
-            b"b0010 \"\nb0001 \"\nb0000 \"\nb000x \"\nbx0 \"\nbxxx1 \"\nbxxxx \"\nbXXx1 \"\nbXX1 \"\nbxX1 \"\nb00  \"\nb1111 \"\nb0 \"\n"
-        )?
-        .as_str(),
-        "2332=232...=="
-    );
-    assert_eq!(rt;
-        standing(
-            alloc,
-            b"b00000000000000000000000000001010 &\nb0000000000000000000000000000101X &\nb0000000000000000000000000000000000000000 &\nb0101010101010101010101010101010101010x &\n"
-        )?
-        .as_str(),
-        "28.391"
-    );
-    assert_eq!(rt;
-        standing(
-            alloc,
-            b"b1010101010101010101010101010101x &\nb1010101010101010101010101010101X &\nb1010101010101010101010101010101010x &\nb1010101010101010101010101010101010X &\n"
-        )?
-        .as_str(),
-        "=.=."
-    );
-    assert_eq!(rt;
-        standing(alloc, b"r1.5 \"\nR1.5 \"\nr1E3 !\nr1.5  !\nr1 %\n")?.as_str(),
-        "=.=.."
-    );
+    for (body, marks) in STANDING {
+        assert_eq!(rt; standing(rt.alloc(), body)?.as_str(), marks);
+    }
     Ok(())
 }
 
@@ -331,40 +310,45 @@ fn real_numbers_taken_ahead(rt: HostRuntime) -> Result<(), Fail> {
     Ok(())
 }
 
-// A change of digits is written so, where the code is no event.
-fn writes(size: usize, form: Form, text: &[u8], line: &[u8]) -> bool
-    requires { 0 < length text.now }
-{
+// A change of digits, of which there is at least one, is written so, where the code is no event.
+fn writes(size: usize, form: Form, text: &[u8], line: &[u8]) -> bool {
     let mut page = Watch::new(Narrow::new(80));
-    put_change(size, false, form, text, b"!", &mut page).is_ok() && page.device.held() == line
+    !text.is_empty()
+        && put_change(size, false, form, text, b"!", &mut page).is_ok()
+        && page.device.held() == line
 }
+
+// A size, a change of a code of it, and the line that is written.
+const LINES: [(usize, Form, &[u8], &[u8]); 17] = [
+    (1, Form::Vector, b"1", b"1!\n"),
+    (1, Form::Scalar, b"Z", b"z!\n"),
+    (4, Form::Scalar, b"1", b"b1 !\n"),
+    (4, Form::Vector, b"0010", b"b10 !\n"),
+    (4, Form::Vector, b"xX10", b"bx10 !\n"),
+    (4, Form::Scalar, b"Z", b"bz !\n"),
+    (4, Form::Vector, b"0000", b"b0 !\n"),
+    (4, Form::Vector, b"1111", b"b1111 !\n"),
+    (4, Form::Vector, b"XxXx", b"bx !\n"),
+    (4, Form::Vector, b"00x1", b"b0x1 !\n"),
+    (4, Form::Vector, b"0xxx", b"b0xxx !\n"),
+    (4, Form::Vector, b"Zzx0", b"bzx0 !\n"),
+    (4, Form::Vector, b"xz10", b"bxz10 !\n"),
+    (2, Form::Vector, b"Xx10", b"bx10 !\n"),
+    (2, Form::Vector, b"0X10", b"b0x10 !\n"),
+    (1, Form::Vector, b"0010", b"0010!\n"),
+    (
+        70,
+        Form::Vector,
+        b"XZXZXZXZXZXZXZXZXZXZXZXZXZXZXZXZXZXZXZXZXZXZXZXZXZXZXZXZXZXZXZXZXZ",
+        b"bxzxzxzxzxzxzxzxzxzxzxzxzxzxzxzxzxzxzxzxzxzxzxzxzxzxzxzxzxzxzxzxzxz !\n",
+    ),
+];
 
 #[test]
 fn shortest_digits_are_written(rt: HostRuntime) {
-    assert!(rt; writes(1, Form::Vector, b"1", b"1!\n"));
-    assert!(rt; writes(1, Form::Scalar, b"Z", b"z!\n"));
-    assert!(rt; writes(4, Form::Scalar, b"1", b"b1 !\n"));
-    assert!(rt; writes(4, Form::Vector, b"0010", b"b10 !\n"));
-    assert!(rt; writes(4, Form::Vector, b"xX10", b"bx10 !\n"));
-    assert!(rt; writes(4, Form::Scalar, b"Z", b"bz !\n"));
-    assert!(rt; writes(4, Form::Vector, b"0000", b"b0 !\n"));
-    assert!(rt; writes(4, Form::Vector, b"1111", b"b1111 !\n"));
-    assert!(rt; writes(4, Form::Vector, b"XxXx", b"bx !\n"));
-    assert!(rt; writes(4, Form::Vector, b"00x1", b"b0x1 !\n"));
-    assert!(rt; writes(4, Form::Vector, b"0xxx", b"b0xxx !\n"));
-    assert!(rt; writes(4, Form::Vector, b"Zzx0", b"bzx0 !\n"));
-    assert!(rt; writes(4, Form::Vector, b"xz10", b"bxz10 !\n"));
-    assert!(rt; writes(2, Form::Vector, b"Xx10", b"bx10 !\n"));
-    assert!(rt; writes(2, Form::Vector, b"0X10", b"b0x10 !\n"));
-    assert!(rt; writes(1, Form::Vector, b"0010", b"0010!\n"));
-    assert!(rt;
-        writes(
-            70,
-            Form::Vector,
-            b"XZXZXZXZXZXZXZXZXZXZXZXZXZXZXZXZXZXZXZXZXZXZXZXZXZXZXZXZXZXZXZXZXZ",
-            b"bxzxzxzxzxzxzxzxzxzxzxzxzxzxzxzxzxzxzxzxzxzxzxzxzxzxzxzxzxzxzxzxzxz !\n"
-        )
-    );
+    for (size, form, text, line) in LINES {
+        assert!(rt; writes(size, form, text, line));
+    }
 }
 
 #[test]
