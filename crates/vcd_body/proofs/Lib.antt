@@ -8,6 +8,7 @@ pub mod CallerLemmas
 pub mod Shortest
 pub mod LowerCase
 pub mod ChangeLine
+pub mod RenamedLemmas
 pub mod PackedLemmas
 pub mod BinaryLemmas
 pub mod StoreLemmas

@@ -237,7 +237,7 @@ fn put_event<W: Sink>(w: &mut W, id: &[u8]) -> Result<(), WriteFailed>
 
 // Whether a change of one digit is that of a bit, as most are. One branch tells.
 #[inline(always)]
-fn is_bit(size: usize, event: bool, form: Form) -> bool
+pub(crate) fn is_bit(size: usize, event: bool, form: Form) -> bool
     ensures { result ≡ true → (size ≡ 1) × (event ≡ false) × (form ≡ Form.Scalar) }
 {
     (size == 1) & !event & (form == Form::Scalar)

@@ -27,8 +27,8 @@ ghost use Rattle.vcd_tools.specs.MergeAhead.{IsAhead, RunsAhead, seat_with};
 use crate::answer::Stop;
 use crate::item_text::put_time_unless;
 use crate::seat::Seat;
-use vcd_body::{Form, Item, change_text, item_ahead, next_item, pass_items, put_change};
-use vcd_head::{HeadView, NewCode};
+use vcd_body::{Form, Item, change_text, item_ahead, next_item, pass_items, put_renamed_change};
+use vcd_head::HeadView;
 use vcd_text::{Ahead, Feed, Sink, Source, WriteFailed};
 
 /// An event inside a section is not written.
@@ -70,8 +70,8 @@ fn put_change_at<W: Sink>(
     }
     put_time_unless(*written, seat.time, out)?;
     *written = Some(seat.time);
-    let id = NewCode::of(seat.first.saturating_add(code as u64));
-    put_change(declared.size, declared.event, form, text, id.text(), out)
+    let number = seat.first.saturating_add(code as u64);
+    put_renamed_change(declared.size, declared.event, form, text, number, out)
 }
 
 /// Writes what is due with an item of this text; a change alone has something.

@@ -1,4 +1,5 @@
-use Rattle.std.proofs.Common.{◌≡◌, ◌&&◌, true, false, ap, sym, ◌∙◌, Err, rules, ℕ, ◌+◌, ◌*◌, Some, arith}
+use Rattle.std.proofs.Common.{◌≡◌, ◌&&◌, true, false, ap, sym, ◌∙◌, Err, rules, ℕ, ◌+◌, ◌*◌, Some, arith, refl}
+use Rattle.vcd_model.specs.HeadText.{new_code}
 use Rattle.vcd_model.specs.Items.{Change, leaves_open, time_after}
 use Rattle.vcd_head.specs.Shown.{parts}
 use Rattle.vcd_body.specs.Items.{model_form}
@@ -31,11 +32,11 @@ returns-clause-takes g c = λ scale first h items x views known time number few 
     let shown = sym c.code_at.ensures ∙ c.in-Some.is in
     let out : (is.0.event && leaves_open items) ≡ false = rw (sym (event_of (parts c.args.view) h c.args.code is.0 c.in-Some.declared views is.1 shown), sym (section_is items c.args.seat.now.regs known)) (sym c.is_left_out.ensures ∙ c.if-is_left_out.false) in
     let fits = number_fits h c.args.code is.0 is.1 first few in
-    let sum : c.saturating_add.result ≡ first + c.args.code = omega (arith, c.saturating_add.ensures) in
-    let line = line_is first c.args.code c.saturating_add.result (parts c.args.view) h is.0 c.in-Some.declared (model_form c.args.form) c.args.text.now c.text.result.now views is.1 shown sum (c.text.ensures ∙ c.of-id.ensures) in
+    let sum : c.saturating_add-number.result ≡ first + c.args.code = omega (arith, c.saturating_add-number.ensures) in
+    let line = line_is first c.args.code c.saturating_add-number.result (parts c.args.view) h is.0 c.in-Some.declared (model_form c.args.form) c.args.text.now (new_code c.saturating_add-number.result) views is.1 shown sum refl in
     let t = rw time at c.in_ok-put_time_unless.ensures.0 in
-    let l = rw line at c.put_change.ensures.0 in
+    let l = rw line at c.put_renamed_change.ensures.0 in
     rw (is.2, line_due scale first h items y c.args.written.now out) (
-      takes-twice _ _ _ (time_due c.args.written.now (scale * time_after items)) _ c.put_change.result t l,
-      if_ok c.put_change.result _ (ap (λ (n : ℕ). Some n) time ∙ time_written scale first h items y c.args.written.now out),
+      takes-twice _ _ _ (time_due c.args.written.now (scale * time_after items)) _ c.put_renamed_change.result t l,
+      if_ok c.put_renamed_change.result _ (ap (λ (n : ℕ). Some n) time ∙ time_written scale first h items y c.args.written.now out),
     )

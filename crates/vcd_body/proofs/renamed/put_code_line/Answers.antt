@@ -1,0 +1,20 @@
+use Rattle.std.proofs.Common.{[], ◌∷◌, ◌++◌, List, ℕ, sym, ap, arith}
+use Rattle.vcd_model.specs.HeadText.{new_code}
+use Rattle.vcd_text.specs.Device.{Puts}
+use Rattle.vcd_body.proofs.RenamedLemmas.{one_digit, two_digits, three_digits}
+use Rattle.vcd_body.proofs.renamed.put_code_line.Goals as goal
+
+pub returns-then-number-lt94 : goal.returns-then-number-lt94
+returns-then-number-lt94 g c =
+    let code = one_digit c.args.number c.if-number-lt94.true in
+    rw (code, sym c.digit_of-low.ensures) c.put.ensures
+
+pub returns-then-rest-lt94 : goal.returns-then-rest-lt94
+returns-then-rest-lt94 g c =
+    let code = two_digits c.args.number (omega (arith, c.if-number-lt94.false)) c.if-rest-lt94.true in
+    rw (code, sym c.digit_of-low.ensures, sym c.digit_of-middle.ensures) c.put-then-rest-lt94.ensures
+
+pub returns-then-high-lt94 : goal.returns-then-high-lt94
+returns-then-high-lt94 g c =
+    let code = three_digits c.args.number (omega (arith, c.if-number-lt94.false)) (omega (arith, c.if-rest-lt94.false)) c.if-high-lt94.true in
+    rw (code, sym c.digit_of-low.ensures, sym c.digit_of-middle.ensures, sym c.digit_of.ensures) c.put-then-high-lt94.ensures

@@ -1,0 +1,103 @@
+// Changes as they are written under new codes.
+ghost use Rattle.std.specs.Prelude.{◌≡◌, ◌≢◌, ℕ, ◌+◌, ◌-◌, ◌%◌, ◌^◌, ◌<◌, ◌++◌, ◌∷◌, [], false, length};
+ghost use Rattle.vcd_model.specs.HeadText.{new_code};
+ghost use Rattle.vcd_model.specs.Values.{change_line};
+ghost use Rattle.vcd_text.specs.Device.{Puts};
+ghost use Rattle.vcd_body.specs.Items.{model_form};
+
+use crate::change::{is_bit, put_change};
+use crate::item::Form;
+use vcd_head::{NewCode, put_code};
+use vcd_text::{Sink, WriteFailed, put};
+
+/// The first byte of the code of a number.
+#[inline(always)]
+fn digit_of(number: u64) -> u8
+    ensures { result ≡ 33 + number % 94 }
+{
+    (number % 94) as u8 + 33
+}
+
+/// Writes a byte, the code of a number and a line feed, one after the other.
+#[cold]
+#[inline(never)]
+fn put_long_line<W: Sink>(first: u8, number: u64, w: &mut W) -> Result<(), WriteFailed>
+    requires { (W.device w.old).failures < 2 ^ 64 - 1 }
+    ensures { Puts (W.device w.old) (W.device w.new) (first ∷ new_code number ++ 10 ∷ []) result }
+{
+    put(w, &[first])?;
+    put_code(number, w)?;
+    put(w, b"\n")
+}
+
+/// Writes a byte, the code of a number and a line feed. A code of up to three bytes, as most are, is written by one write of a
+/// known length.
+#[inline(always)]
+fn put_code_line<W: Sink>(first: u8, number: u64, w: &mut W) -> Result<(), WriteFailed>
+    requires { (W.device w.old).failures < 2 ^ 64 - 1 }
+    ensures { Puts (W.device w.old) (W.device w.new) (first ∷ new_code number ++ 10 ∷ []) result }
+{
+    let low = digit_of(number);
+    if number < 94 {
+        return put(w, &[first, low, b'\n']);
+    }
+    let rest = number / 94;
+    let middle = digit_of(rest);
+    if rest < 94 {
+        return put(w, &[first, low, middle, b'\n']);
+    }
+    let high = rest / 94;
+    if high < 94 {
+        return put(w, &[first, low, middle, digit_of(high), b'\n']);
+    }
+    put_long_line(first, number, w)
+}
+
+/// The same of any change.
+#[inline(never)]
+fn put_any<W: Sink>(
+    size: usize,
+    event: bool,
+    form: Form,
+    text: &[u8],
+    number: u64,
+    w: &mut W,
+) -> Result<(), WriteFailed>
+    requires failures { (W.device w.old).failures < 2 ^ 64 - 1 }
+    requires digits { event ≡ false → form ≢ Form.RealText → 0 < length text.now }
+    ensures { Puts (W.device w.old) (W.device w.new)
+        (change_line (record {
+          code = record { text = new_code number; size = size; event = event };
+          form = model_form form;
+          text = text.now;
+        })) result }
+{
+    put_change(size, event, form, text, NewCode::of(number).text(), w)
+}
+
+/// Writes a change as `put_change` does, under the new code of this number.
+#[inline(always)]
+pub fn put_renamed_change<W: Sink>(
+    size: usize,
+    event: bool,
+    form: Form,
+    text: &[u8],
+    number: u64,
+    w: &mut W,
+) -> Result<(), WriteFailed>
+    requires failures { (W.device w.old).failures < 2 ^ 64 - 1 }
+    requires digits { event ≡ false → form ≢ Form.RealText → 0 < length text.now }
+    ensures { Puts (W.device w.old) (W.device w.new)
+        (change_line (record {
+          code = record { text = new_code number; size = size; event = event };
+          form = model_form form;
+          text = text.now;
+        })) result }
+{
+    match text {
+        [digit] if is_bit(size, event, form) => {
+            put_code_line(digit.to_ascii_lowercase(), number, w)
+        }
+        _ => put_any(size, event, form, text, number, w),
+    }
+}
