@@ -1,6 +1,6 @@
 -- Changes that stand in some bytes, and their lines.
 use Rattle.std.proofs.Common.{◌≡◌, ◌≢◌, ℕ, zero, suc, ◌+◌, ◌-◌, max, ◌≤◌, ◌<◌, ◌==◌, Bool, true, false, not, ◌&&◌, List, [], ◌∷◌, ◌++◌, length, take, drop, get_or, Option, Some, None, IfSome, Result, Ok, Err, IfOk, ◌⊎◌, inl, inr, refl, sym, ap, ap₂, subst, ◌∙◌, append_assoc, arith}
-use Rattle.std.specs.Prelude.{bit_and, option_map, slice_get, slice_index, slice_range}
+use Rattle.std.specs.Prelude.{bit_and, nat_le, ◌^◌, option_map, slice_get, slice_index, slice_range}
 use Rattle.std.specs.Char.{to_ascii_lowercase}
 use Rattle.std.specs.Str.{str_to_ascii_lowercase}
 use Rattle.std.specs.Result.{result_ok}
@@ -18,7 +18,8 @@ use Rattle.vcd_text.specs.Passed.{AreWhite}
 use Rattle.vcd_text.proofs.AheadLemmas.{slice_range-append}
 use Rattle.vcd_head.specs.declared.view.HeadView.{HeadView}
 use Rattle.vcd_head.specs.Views.{IsViewOf}
-use Rattle.vcd_head.specs.Finds.{Finds}
+use Rattle.vcd_head.specs.Entries.{most_of}
+use Rattle.vcd_head.specs.Finds.{Finds, IsSized}
 use Rattle.vcd_head.specs.declared.look_up.Found.{Found}
 use Rattle.vcd_text.proofs.Places.{length-slice_range}
 use Rattle.vcd_head.specs.declared.view.Code.{Code}
@@ -65,6 +66,24 @@ of_shown v h view place y there f text code named x (k, at, is) =
     let name = named h k view at in
     let len : y.start + y.len - y.start ≡ y.len = omega arith in
     (k, is, name, ap length (sym name ∙ sym shown.text_is) ∙ length-slice_range v.text.now y.start (y.start + y.len) shown.within ∙ len, shown.size_is, shown.event_is)
+
+-- the size that was found, where it is one
+sized_is : (y : Code) (most : ℕ) → most ≡ most_of y → most ≢ 0 → (y.event ≡ false) × (y.size ≡ most)
+sized_is y most is some = by_parts y.event (nat_le (2 ^ 32) y.size) refl refl
+  where
+    by_parts : (e b : Bool) → y.event ≡ e → nat_le (2 ^ 32) y.size ≡ b → (y.event ≡ false) × (y.size ≡ most)
+    by_parts true b h g = absurd (some (is ∙ rw h refl))
+    by_parts false true h g = absurd (some (is ∙ rw (h, g) refl))
+    by_parts false false h g = (h, sym (is ∙ rw (h, g) refl))
+
+-- the change of the code whose size was found, at its places
+pub of_sized : (v : HeadView) (h : Header) → IsViewOf v h → (place most : ℕ) → IsSized v.codes.now (record { place = place; most = most }) → most ≢ 0 → (f : Form) (text code bytes : List ℕ) (from to at start : ℕ) → Names v place code → HasPlaces bytes from to at start text code → (x : BodyItem) → IsItem h.codes text (item.Change place f) x
+    → (k : IdCode) × (x ≡ BodyItem.Changes (record { code = k; form = model_form f; text = text })) × (k.text ≡ code) × (length code ≡ to - 1 - start) × (k.size ≡ most) × (k.event ≡ false)
+of_sized v h view place most (y, there, is) some f text code bytes from to at start named places x i =
+    let k = of_shown v h view place y there f text code named x i in
+    let z = sized_is y most is some in
+    let ends = places.ends in
+    (k.0, k.1, k.2, omega (arith, ends), sym k.4 ∙ z.1, sym k.5 ∙ z.0)
 
 -- ---- tokens ahead
 

@@ -9,6 +9,8 @@ ghost use Rattle.vcd_model.specs.Items.{BodyItem};
 ghost use Rattle.vcd_model.specs.ItemText.{item_line};
 ghost use Rattle.vcd_model.specs.Values.{extend, short};
 ghost use Rattle.vcd_head.specs.Views.{IsViewOf};
+ghost use Rattle.vcd_head.specs.declared.view.HeadView.{HeadView};
+ghost use Rattle.vcd_body.specs.Ahead.{IsSizedItem};
 ghost use Rattle.vcd_body.specs.Given.{IsItem};
 ghost use Rattle.vcd_body.specs.Spelled.{HasChange, HasSpelled, bytes_without};
 ghost use Rattle.vcd_body.specs.declared.item.Form.TheVariants as form;
@@ -17,7 +19,6 @@ use crate::ahead::Plain;
 use crate::change::{extension_of, has_capital, shortest};
 use crate::item::{Form, Item};
 use std::simd::prelude::*;
-use vcd_head::HeadView;
 
 /// Bit k is set where byte `at + k` may be a capital letter: of letters and digits just the capital letters have bit 5 clear.
 #[inline(always)]
@@ -167,32 +168,28 @@ fn left_out_of_vector(
 /// it would be written: the first digits of a vector that has more than it needs. The item's tokens are passed from one place of the
 /// bytes up to another. Where it returns none, its bytes may be the line all the same.
 #[inline(always)]
-pub fn left_out(
-    view: HeadView<'_>,
-    plain: Plain<'_>,
-    bytes: &[u8],
-    from: usize,
-    to: usize,
-) -> Option<usize>
-    requires { HasSpelled view bytes.now from to plain.at plain.code_at plain.text.now plain.item }
-    ensures { IfSome result (λ k. (from + 1 + k ≤ to) × ((h : Header) (x : BodyItem)
-        → IsViewOf view.entry h → IsItem h.codes plain.entry.text.now plain.entry.item x
+pub fn left_out(plain: Plain<'_>, bytes: &[u8], from: usize, to: usize) -> Option<usize>
+    requires { (v : HeadView)
+        × HasSpelled v bytes.now from to plain.at plain.code_at plain.text.now plain.item }
+    ensures { IfSome result (λ k. (from + 1 + k ≤ to) × ((v : HeadView) (h : Header) (x : BodyItem)
+        → HasSpelled v bytes.now from to plain.entry.at plain.entry.code_at
+        plain.entry.text.now plain.entry.item
+        → IsSizedItem v.codes.now plain.entry.item plain.entry.most → IsViewOf v h
+        → IsItem h.codes plain.entry.text.now plain.entry.item x
         → bytes_without bytes.now from to k ≡ item_line x)) }
 {
-    let Item::Change { code, form } = plain.item else {
+    let Item::Change { form, .. } = plain.item else {
         return None;
     };
-    let Some(code) = view.code_at(code) else {
-        return None;
-    };
-    if code.event || bytes[to - 1] != b'\n' {
+    if plain.most == 0 || bytes[to - 1] != b'\n' {
         return None;
     }
     let text = plain.text;
+    let len = to - 1 - plain.code_at;
     match form {
-        Form::Scalar if code.size == 1 && is_bit_line(bytes, from, to, code.len) => Some(0),
-        Form::Vector if code.size != 1 => left_out_of_vector(bytes, from, to, text, code.len),
-        Form::RealText if has_one_blank(bytes, from, to, b'r', text, code.len) => Some(0),
+        Form::Scalar if plain.most == 1 && is_bit_line(bytes, from, to, len) => Some(0),
+        Form::Vector if plain.most != 1 => left_out_of_vector(bytes, from, to, text, len),
+        Form::RealText if has_one_blank(bytes, from, to, b'r', text, len) => Some(0),
         _ => None,
     }
 }

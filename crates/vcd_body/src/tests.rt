@@ -236,7 +236,7 @@ fn standing(alloc: Global, body: &[u8]) -> Result<String, Fail> {
     let mut from = ahead.passed();
     while let Some(plain) = item_ahead(&mut ahead, view, &mut regs) {
         let to = ahead.passed();
-        match left_out(view, plain, ahead.bytes(), from, to) {
+        match left_out(plain, ahead.bytes(), from, to) {
             Some(0) => marks.push_str("=")?,
             Some(n) => marks.push_str(&format!(in alloc; "{n}")?)?,
             None => marks.push_str(".")?,

@@ -204,7 +204,7 @@ impl ItemText {
         ensures counts { Counts (W.device out.old) (W.device out.new) result }
         ensures part { IfOk result (λ _. IsPart lying.entry.bytes.now pieces.new) }
     {
-        let Some(n) = lying.left_out(view) else {
+        let Some(n) = lying.left_out() else {
             pieces.flush(lying.bytes, out)?;
             return self.put(view, time, lying.plain.item, lying.plain.text, out);
         };

@@ -5,12 +5,12 @@ ghost use Rattle.vcd_model.specs.Items.{BodyItem};
 ghost use Rattle.vcd_model.specs.ItemText.{item_line};
 ghost use Rattle.vcd_text.specs.Device.{Counts, Puts};
 ghost use Rattle.vcd_head.specs.Views.{IsViewOf};
+ghost use Rattle.vcd_head.specs.declared.view.HeadView.{HeadView};
 ghost use Rattle.vcd_body.specs.Given.{IsItem};
 ghost use Rattle.vcd_body.specs.Spelled.{bytes_without};
 ghost use Rattle.vcd_tools.specs.Pieces.{IsPart, Lies, PutsOn, held_in};
 
 use vcd_body::{Plain, left_out};
-use vcd_head::HeadView;
 use vcd_text::{Sink, WriteFailed, put};
 
 /// An item that lies ahead: its tokens are passed from one place of these bytes up to another.
@@ -25,14 +25,14 @@ pub(crate) struct Lying<'a> {
 impl Lying<'_> {
     /// How many of its bytes behind the first one are left out, so that the others are its line as it would be written.
     #[inline(always)]
-    pub(crate) fn left_out(&self, view: HeadView<'_>) -> Option<usize>
-        requires { Lies view self.now }
+    pub(crate) fn left_out(&self) -> Option<usize>
+        requires { (v : HeadView) × Lies v self.now }
         ensures { IfSome result (λ n. (self.now.from + 1 + n ≤ self.now.to)
-            × ((h : Header) (x : BodyItem) → IsViewOf view.entry h
+            × ((v : HeadView) (h : Header) (x : BodyItem) → Lies v self.now → IsViewOf v h
             → IsItem h.codes self.now.plain.text.now self.now.plain.item x
             → bytes_without self.now.bytes.now self.now.from self.now.to n ≡ item_line x)) }
     {
-        left_out(view, self.plain, self.bytes, self.from, self.to)
+        left_out(self.plain, self.bytes, self.from, self.to)
     }
 }
 

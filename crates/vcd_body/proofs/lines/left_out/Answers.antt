@@ -4,58 +4,62 @@ use Rattle.vcd_model.specs.ItemText.{item_line}
 use Rattle.vcd_model.specs.Values.{extend, short}
 use Rattle.vcd_body.specs.declared.item.Form.TheVariants as form
 use Rattle.vcd_body.specs.declared.item.Item.TheVariants.{Change}
+use Rattle.vcd_body.specs.Ahead.{IsSizedItem}
 use Rattle.vcd_body.specs.Given.{IsItem}
 use Rattle.vcd_body.specs.Spelled.{HasSpelled}
 use Rattle.vcd_body.proofs.LeftOut.{bit_within, if_some_more, text_within, without_none}
-use Rattle.vcd_body.proofs.LineLemmas.{of_shown, bit_item, vector_item, real_item}
+use Rattle.vcd_body.proofs.LineLemmas.{of_sized, bit_item, vector_item, real_item}
 use Rattle.vcd_body.proofs.lines.left_out.Goals as goal
 
 pub is_bit_line-requires : goal.is_bit_line-requires
 is_bit_line-requires c =
-    let s = subst (HasSpelled c.args.view c.args.bytes.now c.args.from c.args.to c.args.plain.at c.args.plain.code_at c.args.plain.text.now) (c.in-Change.is ∙ ap (Change c.in-Change.code) c.in-Scalar.is) c.requires in
+    let s = subst (HasSpelled c.requires.0 c.args.bytes.now c.args.from c.args.to c.args.plain.at c.args.plain.code_at c.args.plain.text.now) (c.in-Change.is ∙ ap (Change c.in-Change.code) c.in-Scalar.is) c.requires.1 in
     (c.args.plain.text.now, s.0, s.1)
 
 pub returns-in-Scalar : goal.returns-in-Scalar
 returns-in-Scalar c =
     let text = c.args.plain.text.now in
     let same = c.in-Change.is ∙ ap (Change c.in-Change.code) c.in-Scalar.is in
-    let s = subst (HasSpelled c.args.view c.args.bytes.now c.args.from c.args.to c.args.plain.at c.args.plain.code_at text) same c.requires in
-    let within = bit_within c.args.bytes.now c.args.from c.args.to text s.0 s.1 in (
+    let there = subst (HasSpelled c.requires.0 c.args.bytes.now c.args.from c.args.to c.args.plain.at c.args.plain.code_at text) same c.requires.1 in
+    let within = bit_within c.args.bytes.now c.args.from c.args.to text there.0 there.1 in (
       omega arith,
-      λ h x v i.
-          let k = of_shown c.args.view h v c.in-Change.code c.in-Some.code (sym c.code_at.ensures ∙ c.in-Some.is) form.Scalar text s.0 s.2 x (subst (λ it. IsItem h.codes text it x) same i) in
+      λ v h x spelled sized views i.
+          let s = subst (HasSpelled v c.args.bytes.now c.args.from c.args.to c.args.plain.at c.args.plain.code_at text) same spelled in
+          let k = of_sized v h views c.in-Change.code c.args.plain.most (subst (λ it. IsSizedItem v.codes.now it c.args.plain.most) same sized) c.if-plain-eq0.false form.Scalar text s.0 c.args.bytes.now c.args.from c.args.to c.args.plain.at c.args.plain.code_at s.2 s.3 x (subst (λ it. IsItem h.codes text it x) same i) in
           without_none c.args.bytes.now c.args.from c.args.to within
           ∙ c.is_bit_line.ensures c.if-is_bit_line.true text s.0 s.1 c.if-bytes-to-ne10.false k.3
           ∙ ap (λ l. str_to_ascii_lowercase text ++ (l ++ 10 ∷ [])) (sym k.2)
-          ∙ sym (bit_item k.0 text (sym k.5 ∙ c.if-code.false) s.1.0 s.1.1 (sym k.4 ∙ c.if-code-eq1.true)) ∙ sym (ap item_line k.1),
+          ∙ sym (bit_item k.0 text k.5 s.1.0 s.1.1 (k.4 ∙ c.if-plain-eq1.true)) ∙ sym (ap item_line k.1),
     )
 
 pub returns-in-Vector : goal.returns-in-Vector
 returns-in-Vector c =
     let text = c.args.plain.text.now in
     let same = c.in-Change.is ∙ ap (Change c.in-Change.code) c.in-Vector.is in
-    let s = subst (HasSpelled c.args.view c.args.bytes.now c.args.from c.args.to c.args.plain.at c.args.plain.code_at text) same c.requires in
-    let within = text_within c.args.bytes.now c.args.from c.args.to text s.0 s.1 in
+    let there = subst (HasSpelled c.requires.0 c.args.bytes.now c.args.from c.args.to c.args.plain.at c.args.plain.code_at text) same c.requires.1 in
+    let within = text_within c.args.bytes.now c.args.from c.args.to text there.0 there.1 in
     if_some_more c.left_out_of_vector.result (λ n p. let few = p.0 in (
       omega arith,
-      λ h x v i.
-          let k = of_shown c.args.view h v c.in-Change.code c.in-Some.code (sym c.code_at.ensures ∙ c.in-Some.is) form.Vector text s.0 s.2 x (subst (λ it. IsItem h.codes text it x) same i) in
+      λ v h x spelled sized views i.
+          let s = subst (HasSpelled v c.args.bytes.now c.args.from c.args.to c.args.plain.at c.args.plain.code_at text) same spelled in
+          let k = of_sized v h views c.in-Change.code c.args.plain.most (subst (λ it. IsSizedItem v.codes.now it c.args.plain.most) same sized) c.if-plain-eq0.false form.Vector text s.0 c.args.bytes.now c.args.from c.args.to c.args.plain.at c.args.plain.code_at s.2 s.3 x (subst (λ it. IsItem h.codes text it x) same i) in
           p.1 s.0 s.1 c.if-bytes-to-ne10.false k.3 k.0.size
           ∙ ap (λ l. 98 ∷ short (extend (str_to_ascii_lowercase text) k.0.size) ++ (32 ∷ l ++ 10 ∷ [])) (sym k.2)
-          ∙ sym (vector_item k.0 text (sym k.5 ∙ c.if-code.false) (λ one. c.if-code-ne1.true (k.4 ∙ one))) ∙ sym (ap item_line k.1),
+          ∙ sym (vector_item k.0 text k.5 (λ one. c.if-plain-ne1.true (sym k.4 ∙ one))) ∙ sym (ap item_line k.1),
     )) c.left_out_of_vector.ensures
 
 pub returns-in-RealText : goal.returns-in-RealText
 returns-in-RealText c =
     let text = c.args.plain.text.now in
     let same = c.in-Change.is ∙ ap (Change c.in-Change.code) c.in-RealText.is in
-    let s = subst (HasSpelled c.args.view c.args.bytes.now c.args.from c.args.to c.args.plain.at c.args.plain.code_at text) same c.requires in
-    let within = text_within c.args.bytes.now c.args.from c.args.to text s.0 s.1 in (
+    let there = subst (HasSpelled c.requires.0 c.args.bytes.now c.args.from c.args.to c.args.plain.at c.args.plain.code_at text) same c.requires.1 in
+    let within = text_within c.args.bytes.now c.args.from c.args.to text there.0 there.1 in (
       omega arith,
-      λ h x v i.
-          let k = of_shown c.args.view h v c.in-Change.code c.in-Some.code (sym c.code_at.ensures ∙ c.in-Some.is) form.RealText text s.0 s.2 x (subst (λ it. IsItem h.codes text it x) same i) in
+      λ v h x spelled sized views i.
+          let s = subst (HasSpelled v c.args.bytes.now c.args.from c.args.to c.args.plain.at c.args.plain.code_at text) same spelled in
+          let k = of_sized v h views c.in-Change.code c.args.plain.most (subst (λ it. IsSizedItem v.codes.now it c.args.plain.most) same sized) c.if-plain-eq0.false form.RealText text s.0 c.args.bytes.now c.args.from c.args.to c.args.plain.at c.args.plain.code_at s.2 s.3 x (subst (λ it. IsItem h.codes text it x) same i) in
           without_none c.args.bytes.now c.args.from c.args.to (omega arith)
           ∙ c.has_one_blank.ensures.line c.if-has_one_blank.true s.0 s.1 c.if-bytes-to-ne10.false k.3
           ∙ ap (λ l. 114 ∷ text ++ (32 ∷ l ++ 10 ∷ [])) (sym k.2)
-          ∙ sym (real_item k.0 text (sym k.5 ∙ c.if-code.false)) ∙ sym (ap item_line k.1),
+          ∙ sym (real_item k.0 text k.5) ∙ sym (ap item_line k.1),
     )

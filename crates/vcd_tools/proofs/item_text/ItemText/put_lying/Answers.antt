@@ -11,7 +11,7 @@ use Rattle.vcd_tools.proofs.item_text.ItemText.put_lying.Goals as goal
 pub returns-clause-text : goal.returns-clause-text
 returns-clause-text g c = λ h before kept e views is at has tells.
     let t = c.args.self.now in
-    let line = c.in-Some.ensures.1 h e.item views is in
+    let line = c.in-Some.ensures.1 c.args.view h e.item c.requires.lies views is in
     let bytes = c.args.lying.bytes.now in
     let puts = subst (λ l. PutsOn (held_in bytes c.args.pieces.now) (held_in bytes c.put_line.new.pieces) (g.W.Sink.device c.args.out.now) (g.W.Sink.device c.put_line.new.out) (time_due t.written c.args.time ++ l) c.put_line.result) line c.put_line.ensures.puts in (
       (time_due t.written c.args.time ++ item_line e.item, text_with before kept e c.args.time t at has tells, puts),
