@@ -3,4 +3,4 @@ use Rattle.vcd_body.proofs.tests.standing.Goals as goal
 pub left_out-requires : goal.left_out-requires
 left_out-requires c =
     let n = c.item_ahead.ensures in
-    rw (c.bytes.ensures, n.same.0, c.passed-to.ensures.passed, c.loop-plain.invariant.0) c.in-Some.ensures.spelled
+    (c.view-view.result, rw (c.bytes.ensures, n.same.0, c.passed-to.ensures.passed, c.loop-plain.invariant.0) c.in-Some.ensures.spelled)
