@@ -6,6 +6,7 @@ ghost use Rattle.vcd_model.specs.Items.{BodyItem};
 ghost use Rattle.vcd_model.specs.Outcome.{Request};
 ghost use Rattle.vcd_text.specs.Device.{Counts, Device, Takes, failures_after};
 ghost use Rattle.vcd_head.specs.Views.{IsViewOf};
+ghost use Rattle.vcd_body.specs.Ahead.{IsSizedItem};
 ghost use Rattle.vcd_body.specs.Given.{HasGoodText};
 ghost use Rattle.vcd_body.specs.Items.{AreRegsAfter, regs_after};
 ghost use Rattle.vcd_tools.specs.Edges.{AreEdges, names_counted, room_in_edges};
@@ -18,7 +19,7 @@ ghost use Rattle.vcd_tools.specs.declared.task.Task.TheVariants as task;
 use crate::answer::Stop;
 use crate::tally::{put_rows, take_mark, take_value};
 use crate::task::Room;
-use vcd_body::{Item, Regs, Table};
+use vcd_body::{Item, Plain, Regs, Table};
 use vcd_head::{HeadView, select};
 use vcd_text::{Sink, WriteFailed};
 
@@ -62,8 +63,30 @@ impl<'n, 'r> Edges<'n, 'r> {
         })
     }
 
-    /// Counts an item with its text. The registers are those after it.
+    /// Counts an item that lies ahead. The registers are those after it.
     #[inline(always)]
+    pub(crate) fn take_plain(&mut self, view: HeadView<'_>, regs: Regs, plain: Plain<'_>)
+        requires sound { HasGoodText view.codes.now plain.text.now plain.item }
+        requires sized { IsSizedItem view.codes.now plain.item plain.most }
+        ensures takes { (h : Header) (items : List BodyItem) (before : Regs) (x : BodyItem)
+            → IsViewOf view.entry h → AreRegsAfter items before
+            → regs ≡ regs_after before plain.entry.item
+            → IsItem h.codes plain.entry.text.now plain.entry.item x → length items < 2 ^ 63
+            → AreEdges self.old h items → AreEdges self.new h (items ++ x ∷ []) }
+        ensures names { names_counted self.new ≡ names_counted self.old }
+        ensures room { room_in_edges self.new ≡ room_in_edges self.old }
+    {
+        let Item::Change { code, form } = plain.item else {
+            return;
+        };
+        if plain.most == 0 {
+            return self.take(view, regs, plain.item, plain.text);
+        }
+        take_value(&mut self.table, code, plain.most, form, plain.text);
+    }
+
+    /// Counts an item with its text. The registers are those after it.
+    #[inline(never)]
     pub(crate) fn take(&mut self, view: HeadView<'_>, regs: Regs, item: Item, text: &[u8])
         requires sound { HasGoodText view.codes.now text.now item }
         ensures takes { (h : Header) (items : List BodyItem) (before : Regs) (x : BodyItem)
