@@ -9,7 +9,7 @@ ghost use Rattle.vcd_text.specs.Ahead.{bytes_of, longest_of, passed_of};
 ghost use Rattle.vcd_text.specs.Passed.{Passed};
 ghost use Rattle.vcd_text.specs.Device.{Counts, Takes, failures_after};
 ghost use Rattle.vcd_head.specs.Views.{IsViewOf};
-ghost use Rattle.vcd_body.specs.Ahead.{IsSizedItem};
+ghost use Rattle.vcd_body.specs.Ahead.{HasBits, IsSizedItem};
 ghost use Rattle.vcd_body.specs.Given.{HasGoodText};
 ghost use Rattle.vcd_body.specs.Items.{AreRegsAfter, regs_after};
 ghost use Rattle.vcd_tools.specs.Ahead.{RunsAhead, StandsAhead};
@@ -87,6 +87,7 @@ trait Taker {
         requires failures { (W.device out.old).failures < 2 ^ 64 - 1 }
         requires sound { HasGoodText view.codes.now plain.text.now plain.item }
         requires sized { IsSizedItem view.codes.now plain.item plain.most }
+        requires bits { HasBits plain.item plain.text.now plain.bits }
         ensures takes { (h : Header) (items : List BodyItem) (before : Regs) (x : BodyItem)
             → IsViewOf view.entry h → AreRegsAfter items before
             → regs ≡ regs_after before plain.entry.item
