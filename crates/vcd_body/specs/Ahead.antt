@@ -1,5 +1,5 @@
 -- Items that are taken ahead of the feed, and what they leave once it has passed them.
-use Rattle.std.specs.Prelude.{◌≡◌, ℕ, ◌≤◌, List, [], ◌∷◌, ◌++◌, length, map, Some, None}
+use Rattle.std.specs.Prelude.{◌≡◌, ℕ, ◌≤◌, List, [], ◌∷◌, ◌++◌, length, map, Option, Some, None, IfSome}
 use Rattle.vcd_model.specs.Input.{Input}
 use Rattle.vcd_model.specs.Tokens.{Token}
 use Rattle.vcd_model.specs.Declarations.{IdCode}
@@ -17,9 +17,12 @@ use Rattle.vcd_text.specs.declared.device.Source.{Ghosts}
 use Rattle.vcd_text.specs.declared.feed.Feed.{Feed}
 use Rattle.vcd_head.specs.declared.view.Code.{Code}
 use Rattle.vcd_head.specs.Finds.{IsSized}
+use Rattle.vcd_body.specs.declared.bits.Bits.{Bits}
+use Rattle.vcd_body.specs.declared.item.Form.TheVariants as form
 use Rattle.vcd_body.specs.declared.item.Item.{Item}
 use Rattle.vcd_body.specs.declared.item.Item.TheVariants.{Time, Change}
 use Rattle.vcd_body.specs.declared.item.Regs.{Regs}
+use Rattle.vcd_body.specs.Binary.{binary_digits}
 use Rattle.vcd_body.specs.Reads.{GaveItems}
 
 -- a time mark, with no text, or a change
@@ -32,6 +35,10 @@ IsPlain text item = ⊥
 abbrev pub IsSizedItem : List Code → Item → ℕ → Type 0
 IsSizedItem codes (Change place form) most = IsSized codes (record { place = place; most = most })
 IsSizedItem codes item most = most ≡ 0
+
+-- where there are bits, the item is a change by a vector, and the text is their digits
+abbrev pub HasBits : Item → List ℕ → Option Bits → Type 0
+HasBits item text bits = IfSome bits (λ b. (code : ℕ) × (item ≡ Change code form.Vector) × (text ≡ binary_digits b.len b.number))
 
 -- it looks over these bytes, for tokens of at most so many
 abbrev pub LooksOver : ℕ → List ℕ → Ahead → Type 0

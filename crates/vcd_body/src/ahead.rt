@@ -19,9 +19,10 @@ ghost use Rattle.vcd_body.specs.Items.{AreRegsAfter, regs_after};
 ghost use Rattle.vcd_body.specs.Words.{Begins};
 ghost use Rattle.vcd_body.specs.Reads.{GaveItems};
 ghost use Rattle.vcd_body.specs.Given.{HasGoodText, IsGoodText, IsItem};
-ghost use Rattle.vcd_body.specs.Ahead.{GaveAhead, GaveLast, IsPlain, IsSizedItem, LooksOver, PassBoth};
+ghost use Rattle.vcd_body.specs.Ahead.{GaveAhead, GaveLast, HasBits, IsPlain, IsSizedItem, LooksOver, PassBoth};
 ghost use Rattle.vcd_body.specs.Spelled.{HasSpelled, Names};
 
+use crate::bits::Bits;
 use crate::item::{Form, Item, Regs};
 use crate::phrases::{scalar_code, takes, time_of};
 use crate::words::{First, are_digits_at, first_byte_of, first_of, rest_of};
@@ -41,6 +42,8 @@ pub struct Plain<'a> {
     pub at: usize,
     /// Where a change's code begins; it ends one byte before the last one that is passed.
     pub code_at: usize,
+    /// The digits of a vector as a number, where they are few, and `0` and `1` alone. None says nothing.
+    pub bits: Option<Bits>,
 }
 
 /// A change of the code that was found.
@@ -52,6 +55,7 @@ fn change_of(found: Found, form: Form, text: &[u8], at: usize, code_at: usize) -
       most = found.most;
       at = at;
       code_at = code_at;
+      bits = None;
     } }
 {
     Plain {
@@ -63,6 +67,7 @@ fn change_of(found: Found, form: Form, text: &[u8], at: usize, code_at: usize) -
         most: found.most,
         at,
         code_at,
+        bits: None,
     }
 }
 
@@ -73,6 +78,7 @@ fn mark_of<'a>(time: u64, at: usize) -> Plain<'a>
     ensures text { result.text.now ≡ [] }
     ensures most { result.most ≡ 0 }
     ensures places { (result.at ≡ at) × (result.code_at ≡ at) }
+    ensures bits { result.bits ≡ None }
 {
     Plain {
         item: Item::Time(time),
@@ -80,6 +86,7 @@ fn mark_of<'a>(time: u64, at: usize) -> Plain<'a>
         most: 0,
         at,
         code_at: at,
+        bits: None,
     }
 }
 
@@ -172,6 +179,9 @@ pub fn item_ahead<'a>(
 
     ensures sized { IfSome result
         (λ plain. IsSizedItem view.entry.codes.now plain.item plain.most) }
+
+    // The text of a vector may be told as a number too.
+    ensures bits { IfSome result (λ plain. HasBits plain.item plain.text.now plain.bits) }
 
     // It is spelled by the bytes that were passed with it: the text of a change and its code, or the digits of a mark.
     ensures spelled { IfSome result (λ plain. HasSpelled view.entry (bytes_of ahead.old)

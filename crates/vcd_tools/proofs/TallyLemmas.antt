@@ -1,5 +1,5 @@
 -- What a table counts of the values of codes, with one item more.
-use Rattle.std.proofs.Common.{◌≡◌, ℕ, ◌+◌, ◌-◌, ◌^◌, ◌<◌, ◌==◌, ◌&&◌, Bool, true, false, not, cond, min, List, [], ◌∷◌, ◌++◌, length, slice_get, Option, Some, None, refl, sym, ap, subst, ◌∙◌, arith}
+use Rattle.std.proofs.Common.{◌≡◌, ◌≢◌, ℕ, ◌+◌, ◌-◌, ◌^◌, ◌<◌, ◌==◌, ◌&&◌, ◌||◌, nat_le, Bool, true, false, not, cond, min, List, [], ◌∷◌, ◌++◌, length, slice_get, Option, Some, None, refl, sym, ap, subst, ◌∙◌, arith}
 use Rattle.std.specs.Prelude.{option_map, unwrap_or}
 use Rattle.std.specs.List.{last_or}
 use Rattle.std.proofs.lemmas.Bool.{eq-eqb, eqb-true, eqb-false}
@@ -12,6 +12,7 @@ use Rattle.vcd_model.specs.Items.{BodyItem, Change, leaves_open}
 use Rattle.vcd_model.specs.Values.{Value, same_value, value_of}
 use Rattle.vcd_model.proofs.EdgesSteps.{are_few, counts_mark, counts_new, counts_other, with_mark, with_value}
 use Rattle.vcd_model.proofs.FinalValues.{final_new, final_other}
+use Rattle.vcd_head.specs.Finds.{IsSized}
 use Rattle.vcd_head.specs.Shown.{parts}
 use Rattle.vcd_head.specs.Views.{IsViewOf}
 use Rattle.vcd_head.specs.declared.view.Code.{Code}
@@ -355,3 +356,15 @@ shown_there v h place d c views shown declared =
     let known = m.1 in
     let same : m.0 ≡ d = cc in
     (sym m.2.size_is ∙ ap (λ (y : Code). y.size) same, sym m.2.event_is ∙ ap (λ (y : Code). y.event) same)
+
+-- where a look-up told a size, the code has it, and is no event
+pub sized_there : (v : HeadView) (h : Header) (place most : ℕ) (c : IdCode) → IsViewOf v h → IsSized v.codes.now (record { place = place; most = most }) → slice_get h.codes place ≡ Some c → most ≢ 0 → (c.size ≡ most) × (c.event ≡ false)
+sized_there v h place most c views (d, there, is) declared some =
+    let shown = shown_there v h place d c views there declared in
+    let told = by_tests d.event (nat_le (2 ^ 32) d.size) refl is in
+    (shown.0 ∙ sym told.1, shown.1 ∙ told.0)
+  where
+    by_tests : (e l : Bool) → d.event ≡ e → most ≡ cond (e || l) 0 d.size → (d.event ≡ false) × (most ≡ d.size)
+    by_tests true l q m = absurd (some m)
+    by_tests false true q m = absurd (some m)
+    by_tests false false q m = (q, m)

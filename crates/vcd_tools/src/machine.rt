@@ -9,6 +9,7 @@ ghost use Rattle.vcd_text.specs.Ahead.{bytes_of, longest_of, passed_of};
 ghost use Rattle.vcd_text.specs.Passed.{Passed};
 ghost use Rattle.vcd_text.specs.Device.{Counts, Takes, failures_after};
 ghost use Rattle.vcd_head.specs.Views.{IsViewOf};
+ghost use Rattle.vcd_body.specs.Ahead.{HasBits, IsSizedItem};
 ghost use Rattle.vcd_body.specs.Given.{HasGoodText};
 ghost use Rattle.vcd_body.specs.Items.{AreRegsAfter, regs_after};
 ghost use Rattle.vcd_tools.specs.Ahead.{RunsAhead, StandsAhead};
@@ -27,7 +28,7 @@ pub(crate) mod sample;
 use crate::answer::Stop;
 use crate::pieces::{Lying, Pieces};
 use crate::task::{Room, Task};
-use vcd_body::{Item, Regs, item_ahead};
+use vcd_body::{Item, Plain, Regs, item_ahead};
 use vcd_head::HeadView;
 use vcd_text::{Ahead, Sink, WriteFailed};
 
@@ -74,21 +75,23 @@ trait Taker {
     // The machine that it is.
     ghost machine: { Self → Machine };
 
-    /// Takes an item with its text, writes what is due after it, and returns whether it ended the run. The text is that of a change,
-    /// and any bytes for other items; the registers are those after the item.
+    /// Takes an item that lies ahead, writes what is due after it, and returns whether it ended the run. The registers are those
+    /// after it.
     fn take_one<W: Sink>(
         &mut self,
         view: HeadView<'_>,
         regs: Regs,
-        item: Item,
-        text: &[u8],
+        plain: Plain<'_>,
         out: &mut W,
     ) -> Result<bool, WriteFailed>
         requires failures { (W.device out.old).failures < 2 ^ 64 - 1 }
-        requires sound { HasGoodText view.codes.now text.now item }
+        requires sound { HasGoodText view.codes.now plain.text.now plain.item }
+        requires sized { IsSizedItem view.codes.now plain.item plain.most }
+        requires bits { HasBits plain.item plain.text.now plain.bits }
         ensures takes { (h : Header) (items : List BodyItem) (before : Regs) (x : BodyItem)
-            → IsViewOf view.entry h → AreRegsAfter items before → regs ≡ regs_after before item
-            → IsItem h.codes text.now item x → length items < 2 ^ 63
+            → IsViewOf view.entry h → AreRegsAfter items before
+            → regs ≡ regs_after before plain.entry.item
+            → IsItem h.codes plain.entry.text.now plain.entry.item x → length items < 2 ^ 63
             → Keeps (machine self.old) h items
             → TakesOne (Keeps (machine self.new) h (items ++ x ∷ []))
             (request_in (machine self.old)) h items x (W.device out.old) (W.device out.new) result }
@@ -109,11 +112,10 @@ impl Taker for check::Check {
         &mut self,
         _view: HeadView<'_>,
         _regs: Regs,
-        item: Item,
-        _text: &[u8],
+        plain: Plain<'_>,
         _out: &mut W,
     ) -> Result<bool, WriteFailed> {
-        self.take(item);
+        self.take(plain.item);
         Ok(false)
     }
 }
@@ -128,11 +130,10 @@ impl<'n, 'r> Taker for sample::Sample<'n, 'r> {
         &mut self,
         view: HeadView<'_>,
         _regs: Regs,
-        item: Item,
-        text: &[u8],
+        plain: Plain<'_>,
         out: &mut W,
     ) -> Result<bool, WriteFailed> {
-        self.take(view, item, text, out)
+        self.take(view, plain.item, plain.text, out)
     }
 }
 
@@ -146,11 +147,10 @@ impl<'n, 'r> Taker for edges::Edges<'n, 'r> {
         &mut self,
         view: HeadView<'_>,
         regs: Regs,
-        item: Item,
-        text: &[u8],
+        plain: Plain<'_>,
         _out: &mut W,
     ) -> Result<bool, WriteFailed> {
-        self.take(view, regs, item, text);
+        self.take_plain(view, regs, plain);
         Ok(false)
     }
 }
@@ -187,7 +187,7 @@ fn take_each<T: Taker, W: Sink>(
         let Some(plain) = item_ahead(&mut ahead, view, &mut regs) else {
             return Taken::until(ahead, regs, Ok(false));
         };
-        match taker.take_one(view, regs, plain.item, plain.text, out) {
+        match taker.take_one(view, regs, plain, out) {
             Ok(false) => {}
             Ok(true) => return Taken::until(ahead, regs, Ok(true)),
             Err(failed) => return Taken::until(ahead, regs, Err(failed)),

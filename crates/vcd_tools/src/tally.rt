@@ -10,13 +10,14 @@ ghost use Rattle.vcd_head.specs.Marks.{marks_of};
 ghost use Rattle.vcd_head.specs.Views.{IsViewOf};
 ghost use Rattle.vcd_head.specs.declared.view.Code.{Code};
 ghost use Rattle.vcd_head.specs.declared.view.HeadView.{HeadView};
+ghost use Rattle.vcd_body.specs.Binary.{binary_digits};
 ghost use Rattle.vcd_body.specs.Contents.{bytes_in, codes_in};
 ghost use Rattle.vcd_body.specs.Given.{IsText};
 ghost use Rattle.vcd_body.specs.Items.{model_form};
 ghost use Rattle.vcd_tools.specs.Edges.{AreTallied};
 
 use crate::selection::is_marked;
-use vcd_body::{Form, Table};
+use vcd_body::{Bits, Form, Table};
 use vcd_head::{HeadView, Kind, put_path};
 use vcd_text::{Sink, WriteFailed, put, put_number};
 
@@ -39,6 +40,28 @@ pub(crate) fn take_value(table: &mut Table<'_>, code: usize, size: usize, form: 
     let step = table.replace(code, size, form, text);
     if step.differs {
         table.count(code, step.rises, step.falls);
+    }
+}
+
+/// The same by binary digits.
+#[inline(always)]
+pub(crate) fn take_bits(table: &mut Table<'_>, code: usize, size: usize, bits: Bits)
+    ensures takes { (view : HeadView) (h : Header) (items : List BodyItem) (c : IdCode)
+        → IsViewOf view h → slice_get h.codes code ≡ Some c → c.event ≡ false → c.size ≡ size
+        → ((d : Code) → slice_get view.codes.now code ≡ Some d
+        → IsText Form.Vector d (binary_digits bits.len bits.number))
+        → length items < 2 ^ 63 → AreTallied table.old h items
+        → AreTallied table.new h (items ++ BodyItem.Changes (record {
+          code = c;
+          form = model_form Form.Vector;
+          text = binary_digits bits.len bits.number;
+        }) ∷ []) }
+    ensures codes { codes_in table.new ≡ codes_in table.old }
+    ensures bytes { bytes_in table.new ≡ bytes_in table.old }
+{
+    let told = table.replace_bits(code, size, bits);
+    if told.differs {
+        table.count(code, told.rises, told.falls);
     }
 }
 
