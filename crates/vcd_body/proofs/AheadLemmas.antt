@@ -29,7 +29,9 @@ use Rattle.vcd_body.specs.declared.item.Regs.{Regs}
 use Rattle.vcd_body.specs.Items.{AreRegsAfter, model_form, regs_after}
 use Rattle.vcd_body.specs.Reads.{GaveItems, Passes, Refuses}
 use Rattle.vcd_body.specs.Given.{IsItem}
-use Rattle.vcd_body.specs.Ahead.{GaveAhead, GaveLast, PassBoth}
+use Rattle.vcd_body.specs.Ahead.{GaveAhead, GaveLast, HasBits, PassBoth}
+use Rattle.vcd_body.specs.Binary.{binary_digits}
+use Rattle.vcd_body.specs.declared.bits.Bits.{Bits}
 use Rattle.vcd_body.proofs.ReadLemmas.{known_change, known_time}
 
 -- a look ahead that was at one place passes one token more, which stands on this line, and is at place n
@@ -219,3 +221,9 @@ gave_last codes limit lines bytes before items x i front n old new first last h 
       last = ap (λ l. h.placed ++ l) s.2 ∙ sym (append_assoc h.placed s.0 (record { phrase = BodyPhrase.Gives x; line = s.1 } ∷ []));
       near = subst (λ (l : List Token). HasReadTo i l new) (append_assoc front h.given a.tokens) near;
     }
+
+-- ---- the digits of a vector as a number
+
+pub has_bits : (place : ℕ) (text : List ℕ) (bits : Option Bits) → IfSome bits (λ b. text ≡ binary_digits b.len b.number) → HasBits (item.Change place form.Vector) text bits
+has_bits place text None h = tt
+has_bits place text (Some b) h = (place, refl, h)

@@ -9,6 +9,7 @@ pub mod Shortest
 pub mod LowerCase
 pub mod ChangeLine
 pub mod RenamedLemmas
+pub mod OnesLemmas
 pub mod PackedLemmas
 pub mod BinaryLemmas
 pub mod StoreLemmas

@@ -18,6 +18,7 @@ use Rattle.vcd_model.proofs.HeaderGrammar.{keyword_is}
 use Rattle.vcd_head.specs.Keywords.{model_keyword}
 use Rattle.vcd_head.specs.declared.keyword.Keyword.{Keyword as HeadKeyword}
 use Rattle.vcd_head.specs.declared.keyword.Keyword.TheVariants as head
+use Rattle.vcd_body.specs.Binary.{bit_of}
 use Rattle.vcd_body.specs.Words.{StandsFor, command_is}
 
 pub filled : (l : List ℕ) → (length l == 0) ≡ false → is_empty l ≡ false
@@ -120,6 +121,14 @@ mask_tells p xs i n f z room few fits e all k less none =
 pub others_tell : (xs : List ℕ) (i n : ℕ) (f : ℕ → ℕ) (z : List ℕ) → i + n ≤ length xs → n ≤ 64 → Each1 (Fits w8) (chunk i n xs) → z ≡ map f (chunk i n xs) → agree_below (λ x. top 7 (f x)) differs 256 ≡ true
     → (k : ℕ) → k < n → bit_at (mask_l (map (top 7) z) % 2 ^ 64) k ≡ 0 → is_value_digit (slice_index xs (i + k)) ≡ true
 others_tell xs i n f z room few fits e all k less none = let t = mask_tells differs xs i n f z room few fits e all k less none in two_alone (slice_index xs (i + k)) t.0 t.1
+
+-- and it is a digit by its bit
+two_bits : (d : ℕ) → d < 256 → differs d ≡ false → d ≡ 48 + bit_of d
+two_bits d fit e = eqb-true d (48 + bit_of d) (or_second (differs d) (d == 48 + bit_of d) e (agree_below_at (λ x. differs x || (x == 48 + bit_of x)) (λ _. true) 256 d refl fit))
+
+pub others_bits : (xs : List ℕ) (i n : ℕ) (f : ℕ → ℕ) (z : List ℕ) → i + n ≤ length xs → n ≤ 64 → Each1 (Fits w8) (chunk i n xs) → z ≡ map f (chunk i n xs) → agree_below (λ x. top 7 (f x)) differs 256 ≡ true
+    → (k : ℕ) → k < n → bit_at (mask_l (map (top 7) z) % 2 ^ 64) k ≡ 0 → slice_index xs (i + k) ≡ 48 + bit_of (slice_index xs (i + k))
+others_bits xs i n f z room few fits e all k less none = let t = mask_tells differs xs i n f z room few fits e all k less none in two_bits (slice_index xs (i + k)) t.0 t.1
 
 -- ---- a mask of the bytes that may be capital letters
 

@@ -1,11 +1,15 @@
 -- Binary digits as a number, the first one in its highest bit; and how many they are beside it, as a slot holds them.
-use Rattle.std.specs.Prelude.{ℕ, zero, suc, ◌+◌, ◌/◌, ◌%◌, ◌^◌, ◌==◌, ◌&&◌, nat_lt, min, Bool, List, [], ◌∷◌}
+use Rattle.std.specs.Prelude.{ℕ, zero, suc, ◌+◌, ◌/◌, ◌%◌, ◌^◌, ◌==◌, ◌&&◌, cond, nat_lt, min, Bool, List, [], ◌∷◌}
 use Rattle.std.specs.Str.{byte}
 
 -- the last digits of a number, so many
 abbrev pub binary_digits : ℕ → ℕ → List ℕ
 binary_digits zero n = []
 binary_digits (suc l) n = (byte "0" + n / 2 ^ l % 2) ∷ binary_digits l n
+
+-- what a digit adds to them
+abbrev pub bit_of : ℕ → ℕ
+bit_of digit = cond (digit == byte "1") 1 0
 
 -- how many digits a slot holds, and their number
 abbrev pub count_in : ℕ → ℕ

@@ -16,6 +16,7 @@ ghost use Rattle.vcd_body.specs.declared.item.Form.TheVariants as form;
 ghost use Rattle.vcd_body.specs.declared.item.Item.TheVariants as item;
 ghost use Rattle.vcd_body.specs.declared.words.First.TheVariants as first;
 ghost use Rattle.vcd_body.specs.Items.{AreRegsAfter, regs_after};
+ghost use Rattle.vcd_body.specs.Binary.{binary_digits};
 ghost use Rattle.vcd_body.specs.Words.{Begins};
 ghost use Rattle.vcd_body.specs.Reads.{GaveItems};
 ghost use Rattle.vcd_body.specs.Given.{HasGoodText, IsGoodText, IsItem};
@@ -25,7 +26,7 @@ ghost use Rattle.vcd_body.specs.Spelled.{HasSpelled, Names};
 use crate::bits::Bits;
 use crate::item::{Form, Item, Regs};
 use crate::phrases::{scalar_code, takes, time_of};
-use crate::words::{First, are_digits_at, first_byte_of, first_of, rest_of};
+use crate::words::{First, are_digits_at, bits_at, first_byte_of, first_of, rest_of};
 use vcd_head::{Found, HeadView, find_sized};
 use vcd_text::{Ahead, Feed, Source};
 
@@ -48,14 +49,21 @@ pub struct Plain<'a> {
 
 /// A change of the code that was found.
 #[inline(always)]
-fn change_of(found: Found, form: Form, text: &[u8], at: usize, code_at: usize) -> Plain<'_>
+fn change_of(
+    found: Found,
+    form: Form,
+    text: &[u8],
+    bits: Option<Bits>,
+    at: usize,
+    code_at: usize,
+) -> Plain<'_>
     ensures { result ≡ record {
       item = item.Change found.place form;
       text = text.entry;
       most = found.most;
       at = at;
       code_at = code_at;
-      bits = None;
+      bits = bits;
     } }
 {
     Plain {
@@ -67,7 +75,7 @@ fn change_of(found: Found, form: Form, text: &[u8], at: usize, code_at: usize) -
         most: found.most,
         at,
         code_at,
-        bits: None,
+        bits,
     }
 }
 
@@ -125,6 +133,17 @@ fn vector_code(
         return Some(found);
     }
     None
+}
+
+/// The digits of a vector as a number, where they are few, and `0` and `1` alone.
+#[inline(always)]
+fn vector_bits(bytes: &[u8], at: usize, token: &[u8]) -> Option<Bits>
+    requires within { at + length token.now ≤ length bytes.now }
+    requires place { token.now ≡ slice_range bytes.now at (at + length token.now) }
+    requires begins { Begins token.now first.Vector }
+    ensures { IfSome result (λ b. drop 1 token.now ≡ binary_digits b.len b.number) }
+{
+    bits_at(bytes, at + 1, rest_of(token))
 }
 
 /// The place of the code that stands after the text of a real number, where the text has 1 to 64 bytes.
@@ -201,13 +220,28 @@ pub fn item_ahead<'a>(
     let plain = match first_of(token) {
         First::Scalar => {
             let found = scalar_code(token, view).ok()?;
-            change_of(found, Form::Scalar, first_byte_of(token), start, start + 1)
+            change_of(
+                found,
+                Form::Scalar,
+                first_byte_of(token),
+                None,
+                start,
+                start + 1,
+            )
         }
         First::Vector => {
             let code = next.next()?;
+            let bits = vector_bits(ahead.bytes(), start, token);
             let found = vector_code(ahead.bytes(), start, token, code, view)?;
             let code_at = next.passed() - 1 - code.len();
-            change_of(found, Form::Vector, rest_of(token), start + 1, code_at)
+            change_of(
+                found,
+                Form::Vector,
+                rest_of(token),
+                bits,
+                start + 1,
+                code_at,
+            )
         }
         First::Mark => {
             let time = time_of(token, *regs).ok()?;
@@ -219,7 +253,14 @@ pub fn item_ahead<'a>(
             let code = next.next()?;
             let found = real_code(token, code, view)?;
             let code_at = next.passed() - 1 - code.len();
-            change_of(found, Form::RealText, rest_of(token), start + 1, code_at)
+            change_of(
+                found,
+                Form::RealText,
+                rest_of(token),
+                None,
+                start + 1,
+                code_at,
+            )
         }
         First::Other => return None,
     };

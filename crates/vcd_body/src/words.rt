@@ -1,12 +1,15 @@
 // What tokens of a body are.
-ghost use Rattle.std.specs.Prelude.{◌≡◌, ℕ, ◌+◌, ◌<◌, ◌≤◌, length, slice_index, slice_range, true, List, drop, take, ◌∷◌, ◌^◌, ◌&&◌, not, nat_lt, cond, Some, None, bytes_eq};
+ghost use Rattle.std.specs.Prelude.{◌≡◌, ℕ, ◌+◌, ◌<◌, ◌≤◌, length, slice_index, slice_range, true, List, drop, take, ◌∷◌, ◌^◌, ◌&&◌, not, nat_lt, cond, Some, None, bytes_eq, ◌-◌, ◌/◌, ◌%◌, IfSome};
 ghost use Rattle.std.specs.List.{list_all};
 ghost use Rattle.std.specs.Int.{bit_at};
 ghost use Rattle.vcd_model.specs.Bytes.{is_decimal, decimal_value, is_empty};
 ghost use Rattle.vcd_model.specs.BodyPhrases.{is_value_digit as is_digit};
 ghost use Rattle.vcd_model.specs.Keywords.{is_end as ends};
+ghost use Rattle.std.specs.Str.{byte};
+ghost use Rattle.vcd_body.specs.Binary.{binary_digits, bit_of};
 ghost use Rattle.vcd_body.specs.Words.{StandsFor, Begins, command_is};
 
+use crate::bits::Bits;
 use crate::item::Section;
 use std::simd::prelude::*;
 use vcd_head::{Keyword, keyword_of};
@@ -137,8 +140,10 @@ fn is_value_digit(byte: u8) -> bool
 #[inline(always)]
 fn other_32(bytes: &[u8], at: usize) -> u64
     requires { at + 32 ≤ length bytes.now }
-    ensures { (k : ℕ) → k < 32 → bit_at result k ≡ 0
+    ensures digits { (k : ℕ) → k < 32 → bit_at result k ≡ 0
         → is_digit (slice_index bytes.now (at + k)) ≡ true }
+    ensures binary { (k : ℕ) → k < 32 → bit_at result k ≡ 0
+        → slice_index bytes.now (at + k) ≡ byte "0" + bit_of (slice_index bytes.now (at + k)) }
 {
     let v = u8x32::from_slice(&bytes[at..]) & u8x32::splat(0xfe);
     v.simd_ne(u8x32::splat(b'0')).to_bitmask()
@@ -149,8 +154,10 @@ fn other_32(bytes: &[u8], at: usize) -> u64
 fn are_binary_at(bytes: &[u8], at: usize, n: usize) -> bool
     requires room { at + 32 ≤ length bytes.now }
     requires few { n ≤ 32 }
-    ensures { result ≡ true → (k : ℕ) → k < n
+    ensures digits { result ≡ true → (k : ℕ) → k < n
         → is_digit (slice_index bytes.now (at + k)) ≡ true }
+    ensures binary { result ≡ true → (k : ℕ) → k < n
+        → slice_index bytes.now (at + k) ≡ byte "0" + bit_of (slice_index bytes.now (at + k)) }
 {
     other_32(bytes, at) & ((1 << n) - 1) == 0
 }
@@ -213,4 +220,43 @@ pub(crate) fn are_digits_at(bytes: &[u8], at: usize, digits: &[u8]) -> bool
         return true;
     }
     are_value_digits(digits)
+}
+
+/// Bit 31 - k is set where byte `at + k` is `1`: the last byte tells the lowest bit.
+#[inline(always)]
+fn ones_32(bytes: &[u8], at: usize) -> u64
+    requires { at + 32 ≤ length bytes.now }
+    ensures few { result < 2 ^ 32 }
+    ensures bits { (k : ℕ) → k < 32
+        → bit_at result (31 - k) ≡ bit_of (slice_index bytes.now (at + k)) }
+{
+    let v = u8x32::from_slice(&bytes[at..]).reverse();
+    v.simd_eq(u8x32::splat(b'1')).to_bitmask()
+}
+
+/// The number of so many binary digits from a place on. Those after them are looked at too.
+#[inline(always)]
+fn number_at(bytes: &[u8], at: usize, n: usize) -> usize
+    requires room { at + 32 ≤ length bytes.now }
+    requires few { n ≤ 32 }
+    ensures fits { result < 2 ^ n }
+    ensures bits { (k : ℕ) → k < n
+        → result / 2 ^ (n - 1 - k) % 2 ≡ bit_of (slice_index bytes.now (at + k)) }
+{
+    (ones_32(bytes, at) >> (32 - n)) as usize
+}
+
+/// Digits that begin at a place of these bytes as a number, where they are few, and `0` and `1` alone.
+#[inline(always)]
+pub(crate) fn bits_at(bytes: &[u8], at: usize, digits: &[u8]) -> Option<Bits>
+    requires within { at ≤ length bytes.now }
+    requires place { digits.now ≡ slice_range bytes.now at (at + length digits.now) }
+    ensures { IfSome result (λ b. digits.now ≡ binary_digits b.len b.number) }
+{
+    let n = digits.len();
+    if 1 <= n && n <= 32 && bytes.len() - at >= 32 && are_binary_at(bytes, at, n) {
+        let number = number_at(bytes, at, n);
+        return Some(Bits { len: n, number });
+    }
+    None
 }

@@ -7,7 +7,7 @@ use Rattle.vcd_body.specs.declared.item.Form.TheVariants as form
 use Rattle.vcd_head.specs.Finds.{IsSized}
 use Rattle.vcd_body.specs.Spelled.{Names}
 use Rattle.vcd_body.specs.Words.{Begins}
-use Rattle.vcd_body.proofs.AheadLemmas.{passes_same, scalar_taken, both_taken, mark_taken}
+use Rattle.vcd_body.proofs.AheadLemmas.{passes_same, scalar_taken, both_taken, mark_taken, has_bits}
 use Rattle.vcd_body.proofs.LineLemmas.{of_found, token_there, scalar_there, scalar_places, both_there, both_places, mark_there}
 use Rattle.vcd_body.proofs.ahead.item_ahead.Goals as goal
 use Rattle.vcd_body.proofs.ahead.item_ahead.Goals.{in-Scalar+in_ok-found-in-Scalar, in-Vector+in_ok-code-in-Vector+in_ok-found-in-Vector, in-Mark+in_ok-time-in-Mark, in-Real+in_ok-code-in-Real+in_ok-found-in-Real}
@@ -94,4 +94,13 @@ returns-clause-sized c =
       | in-Vector+in_ok-code-in-Vector+in_ok-found-in-Vector w ↦ rw (w.plain-is, w.change_of-plain-in-Vector.ensures) w.in_ok-found-in-Vector.ensures.sized
       | in-Mark+in_ok-time-in-Mark w ↦ rw (w.plain-is, w.mark_of-plain.ensures.item, w.mark_of-plain.ensures.most) refl
       | in-Real+in_ok-code-in-Real+in_ok-found-in-Real w ↦ rw (w.plain-is, w.change_of-plain-in-Real.ensures) w.in_ok-found-in-Real.ensures.sized
+    ]
+
+pub returns-clause-bits : goal.returns-clause-bits
+returns-clause-bits c =
+    elim c.match-first_of.branch [
+      | in-Scalar+in_ok-found-in-Scalar w ↦ rw (w.plain-is, w.change_of-plain.ensures) tt
+      | in-Vector+in_ok-code-in-Vector+in_ok-found-in-Vector w ↦ rw (w.plain-is, w.change_of-plain-in-Vector.ensures, w.rest_of.ensures) (has_bits w.in_ok-found-in-Vector.found.place (drop 1 c.in_ok-token.token.now) w.vector_bits-bits.result w.vector_bits-bits.ensures)
+      | in-Mark+in_ok-time-in-Mark w ↦ rw (w.plain-is, w.mark_of-plain.ensures.bits) tt
+      | in-Real+in_ok-code-in-Real+in_ok-found-in-Real w ↦ rw (w.plain-is, w.change_of-plain-in-Real.ensures) tt
     ]
