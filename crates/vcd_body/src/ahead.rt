@@ -220,28 +220,16 @@ pub fn item_ahead<'a>(
     let plain = match first_of(token) {
         First::Scalar => {
             let found = scalar_code(token, view).ok()?;
-            change_of(
-                found,
-                Form::Scalar,
-                first_byte_of(token),
-                None,
-                start,
-                start + 1,
-            )
+            let text = first_byte_of(token);
+            change_of(found, Form::Scalar, text, None, start, start + 1)
         }
         First::Vector => {
             let code = next.next()?;
             let bits = vector_bits(ahead.bytes(), start, token);
             let found = vector_code(ahead.bytes(), start, token, code, view)?;
             let code_at = next.passed() - 1 - code.len();
-            change_of(
-                found,
-                Form::Vector,
-                rest_of(token),
-                bits,
-                start + 1,
-                code_at,
-            )
+            let text = rest_of(token);
+            change_of(found, Form::Vector, text, bits, start + 1, code_at)
         }
         First::Mark => {
             let time = time_of(token, *regs).ok()?;
@@ -253,14 +241,8 @@ pub fn item_ahead<'a>(
             let code = next.next()?;
             let found = real_code(token, code, view)?;
             let code_at = next.passed() - 1 - code.len();
-            change_of(
-                found,
-                Form::RealText,
-                rest_of(token),
-                None,
-                start + 1,
-                code_at,
-            )
+            let text = rest_of(token);
+            change_of(found, Form::RealText, text, None, start + 1, code_at)
         }
         First::Other => return None,
     };

@@ -6,7 +6,7 @@ use crate::change::put_change;
 use crate::item::{Form, Item, Regs};
 use crate::lines::left_out;
 use crate::read::{change_text, next_item};
-use crate::words::are_digits_at;
+use crate::words::{are_digits_at, bits_at};
 use std::alloc::{AllocError, Global};
 use std::test::Fail;
 use vcd_head::read_head;
@@ -369,4 +369,26 @@ fn sink_that_fails(rt: HostRuntime) {
     );
     assert_eq!(rt; page.device.held(), b"r1.5 ".as_slice());
     assert_eq!(rt; Sink::failures(&page), 1);
+}
+
+// So many digits somewhere in 100 bytes, 0 between a first and a last 1, as a number. The bytes around them are 1.
+fn number_told(at: usize, n: usize) -> Option<usize>
+    requires { (0 < n) × (at + n ≤ 100) }
+{
+    let mut bytes = [b'1'; 100];
+    bytes[at..at + n].fill(b'0');
+    bytes[at] = b'1';
+    bytes[at + n - 1] = b'1';
+    let bits = bits_at(&bytes, at, &bytes[at..at + n])?;
+    Some(bits.number)
+}
+
+#[test]
+fn digits_told_as_a_number(rt: HostRuntime) {
+    for n in 1..=32 {
+        assert!(rt; number_told(7, n) == Some((1 << (n - 1)) | 1));
+        assert!(rt; number_told(68, n) == Some((1 << (n - 1)) | 1));
+    }
+    assert!(rt; number_told(7, 33) == None);
+    assert!(rt; number_told(69, 31) == None);
 }
