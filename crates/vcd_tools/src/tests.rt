@@ -1,5 +1,9 @@
 // Headers that are listed, bodies that are counted and of which some variables are picked, and devices that fail.
-ghost use Rattle.std.specs.Prelude.{◌≡◌};
+ghost use Rattle.std.specs.Prelude.{◌≡◌, ◌-◌, ◌^◌, ◌<◌, true};
+ghost use Rattle.vcd_text.specs.Feed.{chunk_len_of, limit_of, source_of};
+ghost use Rattle.vcd_text.specs.Watch.{failed_calls};
+ghost use Rattle.vcd_tools.specs.Engine.{is_going};
+ghost use Rattle.vcd_tools.specs.Room.{AreWithinBound, room_in, view_in};
 
 use crate::answer::{Done, More, Stop};
 use crate::commands::{check, pick};
@@ -8,6 +12,7 @@ use crate::rows::list;
 use crate::task::{Room, Task};
 use std::alloc::Global;
 use std::test::Fail;
+use vcd_body::Slot;
 use vcd_head::{Head, HeadFault, read_head};
 use vcd_text::doubles::{Narrow, Pieces};
 use vcd_text::{Feed, Sink, Source, Watch};
@@ -178,39 +183,84 @@ fn a_report_ends_where_a_write_fails(rt: HostRuntime) -> Result<(), Fail> {
     Ok(())
 }
 
-#[test]
-fn steps_write_at_the_end_alone(rt: HostRuntime) -> Result<(), Fail> {
-    let mut source = Watch::new(
-        b"$timescale 1ns $end $var wire 1 ! clk $end $enddefinitions $end #5 1!".as_slice(),
-    );
+// What is written before the first step of a task, after each step that goes on, and after the last one, and what that one returns.
+#[derive(Clone, Copy)]
+struct Steps<'a> {
+    before: &'a [u8],
+    after_each: &'a [&'a [u8]],
+    last: Result<More, Stop>,
+    after_last: &'a [u8],
+}
+
+// Whether an engine takes these steps, and no more.
+fn takes_steps<S: Source>(
+    engine: &mut Engine<'_, '_, '_>,
+    feed: &mut Feed<'_, '_, '_, '_, S>,
+    out: &mut Watch<Narrow>,
+    steps: &Steps<'_>,
+) -> bool
+    requires feed_failures { S.failures (source_of feed.old) < 2 ^ 64 - 1 }
+    requires out_failures { failed_calls out.old < 2 ^ 64 - 1 }
+    requires going { is_going engine.old ≡ true }
+    requires bound { AreWithinBound (limit_of feed.old) (chunk_len_of feed.old)
+        (view_in engine.old) (room_in engine.old) }
+{
+    for written in steps.after_each {
+        match engine.step(feed, out) {
+            Ok(More::Again) => {}
+            Ok(More::Ended(_)) | Err(_) => return false,
+        }
+        if !engine.going() || out.device.held() != *written {
+            return false;
+        }
+    }
+    let last = engine.step(feed, out);
+    last == steps.last && !engine.going() && out.device.held() == steps.after_last
+}
+
+// Whether a task over a dump takes these steps, and no more, in the room that it needs.
+fn takes_steps_over(
+    alloc: Global,
+    text: &[u8],
+    task: Task<'_>,
+    steps: &Steps<'_>,
+) -> Result<bool, Fail> {
+    let mut source = Watch::new(text);
     let mut chunk = [0u8; 7];
     let mut token = [0u8; 64];
     let mut value = [0u8; 64];
     let mut feed = Feed::new(&mut source, &mut chunk, &mut token, &mut value);
-    let head = read_head(rt.alloc(), &mut feed, 16_777_216)?;
-    let mut out = Watch::new(Narrow::new(256));
-    let mut values = [];
-    let mut marks = [];
+    let head = read_head(alloc, &mut feed, 16_777_216)?;
+    let view = head.view();
+    let need = task.need(view);
+    let mut values = vec![in alloc; 0u8; need.values]?;
+    let mut slots = vec![in alloc; Slot::new(); need.slots]?;
+    let mut marks = vec![in alloc; 0u8; need.marks]?;
     let room = Room {
         values: &mut values,
-        slots: &mut [],
+        slots: &mut slots,
         marks: &mut marks,
     };
-    let view = head.view();
-    let begun = Begun::start(Task::Check, view, room, &mut out)?;
+    let mut out = Watch::new(Narrow::new(256));
+    let begun = Begun::start(task, view, room, &mut out)?;
     let mut engine = Engine::new(begun, view);
-    assert!(rt; engine.going());
-    assert_eq!(rt; out.device.held(), b"".as_slice());
-    assert_eq!(rt; engine.step(&mut feed, &mut out)?, More::Again);
-    assert_eq!(rt; out.device.held(), b"".as_slice());
-    assert_eq!(rt; engine.step(&mut feed, &mut out)?, More::Again);
-    assert_eq!(rt; out.device.held(), b"".as_slice());
-    assert_eq!(rt; engine.step(&mut feed, &mut out)?, More::Ended(Done::Whole));
-    assert!(rt; !engine.going());
-    assert_eq!(rt;
-        out.device.held(),
-        b"scopes 0\nvariables 1\ncodes 1\ntimes 1\nsections 0\nchanges 1\nlast 5\n".as_slice()
-    );
+    Ok(
+        engine.going()
+            && out.device.held() == steps.before
+            && takes_steps(&mut engine, &mut feed, &mut out, steps),
+    )
+}
+
+#[test]
+fn steps_write_at_the_end_alone(rt: HostRuntime) -> Result<(), Fail> {
+    let text = b"$timescale 1ns $end $var wire 1 ! clk $end $enddefinitions $end #5 1!";
+    let steps = Steps {
+        before: b"",
+        after_each: &[b"", b""],
+        last: Ok(More::Ended(Done::Whole)),
+        after_last: b"scopes 0\nvariables 1\ncodes 1\ntimes 1\nsections 0\nchanges 1\nlast 5\n",
+    };
+    assert!(rt; takes_steps_over(rt.alloc(), text, Task::Check, &steps)?);
     Ok(())
 }
 
@@ -308,39 +358,17 @@ const CUT_SHORT_PICKED: &[u8] =
 
 #[test]
 fn steps_of_a_pick_write_what_is_due(rt: HostRuntime) -> Result<(), Fail> {
-    let alloc = rt.alloc();
-    let mut source = Watch::new(CUT_SHORT);
-    let mut chunk = [0u8; 7];
-    let mut token = [0u8; 64];
-    let mut value = [0u8; 64];
-    let mut feed = Feed::new(&mut source, &mut chunk, &mut token, &mut value);
-    let head = read_head(alloc, &mut feed, 16_777_216)?;
-    let view = head.view();
-    let mut marks = vec![in alloc; 0u8; view.rows.len()]?;
-    let mut values = vec![in alloc; 0u8; view.codes.len()]?;
-    let names = [String::from_str(alloc, "tb")?];
-    let room = Room {
-        values: &mut values,
-        slots: &mut [],
-        marks: &mut marks,
+    let names = [String::from_str(rt.alloc(), "tb")?];
+    let steps = Steps {
+        before: CUT_SHORT_HEAD,
+        after_each: &[CUT_SHORT_HEAD, CUT_SHORT_PICKED, CUT_SHORT_PICKED],
+        last: Err(Stop::Dump {
+            input: 0,
+            line: 10,
+            fault: 2,
+        }),
+        after_last: CUT_SHORT_PICKED,
     };
-    let mut out = Watch::new(Narrow::new(256));
-    let begun = Begun::start(Task::Pick(&names), view, room, &mut out)?;
-    let mut engine = Engine::new(begun, view);
-    assert_eq!(rt; out.device.held(), CUT_SHORT_HEAD);
-    assert_eq!(rt; engine.step(&mut feed, &mut out)?, More::Again);
-    assert_eq!(rt; out.device.held(), CUT_SHORT_HEAD);
-    assert_eq!(rt; engine.step(&mut feed, &mut out)?, More::Again);
-    assert_eq!(rt; out.device.held(), CUT_SHORT_PICKED);
-    assert_eq!(rt; engine.step(&mut feed, &mut out)?, More::Again);
-    assert_eq!(rt; out.device.held(), CUT_SHORT_PICKED);
-    let stop = Stop::Dump {
-        input: 0,
-        line: 10,
-        fault: 2,
-    };
-    assert_eq!(rt; engine.step(&mut feed, &mut out), Err(stop));
-    assert!(rt; !engine.going());
-    assert_eq!(rt; out.device.held(), CUT_SHORT_PICKED);
+    assert!(rt; takes_steps_over(rt.alloc(), CUT_SHORT, Task::Pick(&names), &steps)?);
     Ok(())
 }

@@ -18,26 +18,95 @@ fn answer<'a>(alloc: Global, words: &'a [&'a str]) -> Result<Option<(ErrorKind, 
     }
 }
 
+// What the parse of words returns that are taken, that ask for a text, and that are refused.
+const TAKEN: Option<(ErrorKind, u8)> = None;
+
+const HELP: Option<(ErrorKind, u8)> = Some((ErrorKind::DisplayHelp, 0));
+
+const VERSION: Option<(ErrorKind, u8)> = Some((ErrorKind::DisplayVersion, 0));
+
+const NO_COMMAND: Option<(ErrorKind, u8)> = Some((ErrorKind::MissingSubcommand, 2));
+
+const BAD_COMMAND: Option<(ErrorKind, u8)> = Some((ErrorKind::InvalidSubcommand, 2));
+
+const UNKNOWN: Option<(ErrorKind, u8)> = Some((ErrorKind::UnknownArgument, 2));
+
+const MISSING: Option<(ErrorKind, u8)> = Some((ErrorKind::MissingRequiredArgument, 2));
+
+const NO_VALUE: Option<(ErrorKind, u8)> = Some((ErrorKind::InvalidValue, 2));
+
+const TWICE: Option<(ErrorKind, u8)> = Some((ErrorKind::ArgumentConflict, 2));
+
+// Words, the program's name first, and what their parse returns.
+const ANSWERS: [(&[&str], Option<(ErrorKind, u8)>); 44] = [
+    // A command.
+    (&["vcdkit", "check"], TAKEN),
+    (&["vcdkit", "--help"], HELP),
+    (&["vcdkit", "check", "--help"], HELP),
+    (&["vcdkit", "--version"], VERSION),
+    (&["vcdkit", "-V"], VERSION),
+    (&["vcdkit"], NO_COMMAND),
+    (&["vcdkit", "chek"], BAD_COMMAND),
+    (&["vcdkit", "help"], BAD_COMMAND),
+    (&["vcdkit", "check", "more"], UNKNOWN),
+    (&["vcdkit", "--more"], UNKNOWN),
+    // Options of each command.
+    (&["vcdkit", "list"], TAKEN),
+    (&["vcdkit", "list", "--help"], HELP),
+    (&["vcdkit", "list", "-h"], HELP),
+    (&["vcdkit", "check", "-i", "-"], TAKEN),
+    (&["vcdkit", "check", "-i"], NO_VALUE),
+    (&["vcdkit", "check", "--token-limit"], NO_VALUE),
+    (&["vcdkit", "list", "--limit", "64"], UNKNOWN),
+    (&["vcdkit", "list", "--input", "a.vcd"], UNKNOWN),
+    (&["vcdkit", "-i", "a.vcd", "check"], UNKNOWN),
+    (&["vcdkit", "check", "-i", "a.vcd", "-i", "b.vcd"], TWICE),
+    // Names.
+    (&["vcdkit", "pick", "tb"], TAKEN),
+    (&["vcdkit", "pick", "a", "b", "c"], TAKEN),
+    (&["vcdkit", "pick", "--help"], HELP),
+    (&["vcdkit", "pick"], MISSING),
+    (&["vcdkit", "pick", "-i", "f.vcd"], MISSING),
+    (&["vcdkit", "pick", "-a"], UNKNOWN),
+    (&["vcdkit", "list", "tb"], UNKNOWN),
+    // The times of a cut.
+    (&["vcdkit", "cut", "--to", "5", "--from", "x"], TAKEN),
+    (&["vcdkit", "cut", "--help"], HELP),
+    (&["vcdkit", "cut"], MISSING),
+    (&["vcdkit", "cut", "--from", "5"], MISSING),
+    (&["vcdkit", "cut", "--to", "5"], MISSING),
+    (&["vcdkit", "cut", "--to"], NO_VALUE),
+    (&["vcdkit", "list", "--to", "5"], UNKNOWN),
+    (
+        &["vcdkit", "cut", "--from", "1", "--to", "5", "tb"],
+        UNKNOWN,
+    ),
+    (
+        &["vcdkit", "cut", "--from", "1", "--from", "2", "--to", "5"],
+        TWICE,
+    ),
+    // The times of a sample.
+    (&["vcdkit", "sample", "--at", "5"], TAKEN),
+    (&["vcdkit", "sample", "a", "--at=5,x", "b"], TAKEN),
+    (&["vcdkit", "sample", "--help"], HELP),
+    (&["vcdkit", "sample"], MISSING),
+    (&["vcdkit", "sample", "a"], MISSING),
+    (&["vcdkit", "sample", "--at"], NO_VALUE),
+    (&["vcdkit", "edges", "--at", "5"], UNKNOWN),
+    (&["vcdkit", "sample", "--at", "1", "--at", "2"], TWICE),
+];
+
 #[test]
 fn words_are_taken_or_answered(rt: HostRuntime) -> Result<(), Fail> {
-    let alloc = rt.alloc();
-    let help = Some((ErrorKind::DisplayHelp, 0));
-    let version = Some((ErrorKind::DisplayVersion, 0));
-    let missing = Some((ErrorKind::MissingSubcommand, 2));
-    let no_command = Some((ErrorKind::InvalidSubcommand, 2));
-    let no_argument = Some((ErrorKind::UnknownArgument, 2));
-    assert_eq!(rt; answer(alloc, &["vcdkit", "check"])?, None);
-    assert_eq!(rt; answer(alloc, &["vcdkit", "--help"])?, help);
-    assert_eq!(rt; answer(alloc, &["vcdkit", "check", "--help"])?, help);
-    assert_eq!(rt; answer(alloc, &["vcdkit", "--version"])?, version);
-    assert_eq!(rt; answer(alloc, &["vcdkit", "-V"])?, version);
-    assert_eq!(rt; answer(alloc, &["vcdkit"])?, missing);
-    assert_eq!(rt; answer(alloc, &["vcdkit", "chek"])?, no_command);
-    assert_eq!(rt; answer(alloc, &["vcdkit", "help"])?, no_command);
-    assert_eq!(rt; answer(alloc, &["vcdkit", "check", "more"])?, no_argument);
-    assert_eq!(rt; answer(alloc, &["vcdkit", "--more"])?, no_argument);
-    assert_eq!(rt; parse_status(&Error::from(AllocError)), 3);
+    for (words, wanted) in ANSWERS {
+        assert_eq!(rt; answer(rt.alloc(), words)?, wanted, "of {words:?}");
+    }
     Ok(())
+}
+
+#[test]
+fn a_parse_without_memory_has_its_status(rt: HostRuntime) {
+    assert_eq!(rt; parse_status(&Error::from(AllocError)), 3);
 }
 
 #[test]
@@ -51,99 +120,6 @@ fn the_version_is_said(rt: HostRuntime) -> Result<(), Fail> {
         };
         assert_eq!(rt; text.as_str(), "vcdkit 0.1.0\n");
     }
-    Ok(())
-}
-
-#[test]
-fn options_are_taken_or_answered(rt: HostRuntime) -> Result<(), Fail> {
-    let alloc = rt.alloc();
-    let help = Some((ErrorKind::DisplayHelp, 0));
-    let no_value = Some((ErrorKind::InvalidValue, 2));
-    let unknown = Some((ErrorKind::UnknownArgument, 2));
-    let twice = Some((ErrorKind::ArgumentConflict, 2));
-    assert_eq!(rt; answer(alloc, &["vcdkit", "list"])?, None);
-    assert_eq!(rt; answer(alloc, &["vcdkit", "list", "--help"])?, help);
-    assert_eq!(rt; answer(alloc, &["vcdkit", "list", "-h"])?, help);
-    assert_eq!(rt; answer(alloc, &["vcdkit", "check", "-i", "-"])?, None);
-    assert_eq!(rt; answer(alloc, &["vcdkit", "check", "-i"])?, no_value);
-    assert_eq!(rt;
-        answer(alloc, &["vcdkit", "check", "--token-limit"])?,
-        no_value
-    );
-    assert_eq!(rt;
-        answer(alloc, &["vcdkit", "list", "--limit", "64"])?,
-        unknown
-    );
-    assert_eq!(rt;
-        answer(alloc, &["vcdkit", "list", "--input", "a.vcd"])?,
-        unknown
-    );
-    assert_eq!(rt;
-        answer(alloc, &["vcdkit", "-i", "a.vcd", "check"])?,
-        unknown
-    );
-    let words = ["vcdkit", "check", "-i", "a.vcd", "-i", "b.vcd"];
-    assert_eq!(rt; answer(alloc, words.as_slice())?, twice);
-    Ok(())
-}
-
-#[test]
-fn names_are_taken_or_answered(rt: HostRuntime) -> Result<(), Fail> {
-    let alloc = rt.alloc();
-    let help = Some((ErrorKind::DisplayHelp, 0));
-    let missing = Some((ErrorKind::MissingRequiredArgument, 2));
-    let unknown = Some((ErrorKind::UnknownArgument, 2));
-    assert_eq!(rt; answer(alloc, &["vcdkit", "pick", "tb"])?, None);
-    assert_eq!(rt; answer(alloc, &["vcdkit", "pick", "a", "b", "c"])?, None);
-    assert_eq!(rt; answer(alloc, &["vcdkit", "pick", "--help"])?, help);
-    assert_eq!(rt; answer(alloc, &["vcdkit", "pick"])?, missing);
-    assert_eq!(rt; answer(alloc, &["vcdkit", "pick", "-i", "f.vcd"])?, missing);
-    assert_eq!(rt; answer(alloc, &["vcdkit", "pick", "-a"])?, unknown);
-    assert_eq!(rt; answer(alloc, &["vcdkit", "list", "tb"])?, unknown);
-    Ok(())
-}
-
-#[test]
-fn times_are_taken_or_answered(rt: HostRuntime) -> Result<(), Fail> {
-    let alloc = rt.alloc();
-    let help = Some((ErrorKind::DisplayHelp, 0));
-    let missing = Some((ErrorKind::MissingRequiredArgument, 2));
-    let unknown = Some((ErrorKind::UnknownArgument, 2));
-    let no_value = Some((ErrorKind::InvalidValue, 2));
-    let twice = Some((ErrorKind::ArgumentConflict, 2));
-    let both = ["vcdkit", "cut", "--to", "5", "--from", "x"];
-    assert_eq!(rt; answer(alloc, both.as_slice())?, None);
-    assert_eq!(rt; answer(alloc, &["vcdkit", "cut", "--help"])?, help);
-    assert_eq!(rt; answer(alloc, &["vcdkit", "cut"])?, missing);
-    assert_eq!(rt; answer(alloc, &["vcdkit", "cut", "--from", "5"])?, missing);
-    assert_eq!(rt; answer(alloc, &["vcdkit", "cut", "--to", "5"])?, missing);
-    assert_eq!(rt; answer(alloc, &["vcdkit", "cut", "--to"])?, no_value);
-    assert_eq!(rt; answer(alloc, &["vcdkit", "list", "--to", "5"])?, unknown);
-    let words = ["vcdkit", "cut", "--from", "1", "--to", "5", "tb"];
-    assert_eq!(rt; answer(alloc, words.as_slice())?, unknown);
-    let words = ["vcdkit", "cut", "--from", "1", "--from", "2", "--to", "5"];
-    assert_eq!(rt; answer(alloc, words.as_slice())?, twice);
-    Ok(())
-}
-
-#[test]
-fn times_of_a_sample_are_taken_or_answered(rt: HostRuntime) -> Result<(), Fail> {
-    let alloc = rt.alloc();
-    let help = Some((ErrorKind::DisplayHelp, 0));
-    let missing = Some((ErrorKind::MissingRequiredArgument, 2));
-    let unknown = Some((ErrorKind::UnknownArgument, 2));
-    let no_value = Some((ErrorKind::InvalidValue, 2));
-    let twice = Some((ErrorKind::ArgumentConflict, 2));
-    assert_eq!(rt; answer(alloc, &["vcdkit", "sample", "--at", "5"])?, None);
-    let words = ["vcdkit", "sample", "a", "--at=5,x", "b"];
-    assert_eq!(rt; answer(alloc, words.as_slice())?, None);
-    assert_eq!(rt; answer(alloc, &["vcdkit", "sample", "--help"])?, help);
-    assert_eq!(rt; answer(alloc, &["vcdkit", "sample"])?, missing);
-    assert_eq!(rt; answer(alloc, &["vcdkit", "sample", "a"])?, missing);
-    assert_eq!(rt; answer(alloc, &["vcdkit", "sample", "--at"])?, no_value);
-    assert_eq!(rt; answer(alloc, &["vcdkit", "edges", "--at", "5"])?, unknown);
-    let words = ["vcdkit", "sample", "--at", "1", "--at", "2"];
-    assert_eq!(rt; answer(alloc, words.as_slice())?, twice);
     Ok(())
 }
 
