@@ -26,7 +26,7 @@ ghost use Rattle.vcd_body.specs.Spelled.{HasSpelled, Names};
 use crate::bits::Bits;
 use crate::item::{Form, Item, Regs};
 use crate::phrases::{scalar_code, takes, time_of};
-use crate::words::{First, are_digits_at, bits_at, first_byte_of, first_of, rest_of};
+use crate::words::{First, are_digits_or_known, bits_at, first_byte_of, first_of, rest_of};
 use vcd_head::{Found, HeadView, find_sized};
 use vcd_text::{Ahead, Feed, Source};
 
@@ -107,10 +107,12 @@ fn vector_code(
     token: &[u8],
     code: &[u8],
     view: HeadView<'_>,
+    bits: Option<Bits>,
 ) -> Option<Found>
     requires within { at + length token.now ≤ length bytes.now }
     requires place { token.now ≡ slice_range bytes.now at (at + length token.now) }
     requires begins { Begins token.now first.Vector }
+    requires bits { IfSome bits (λ b. drop 1 token.now ≡ binary_digits b.len b.number) }
     ensures code { (h : Header) → IsViewOf view.entry h
         → IfSome result (λ found. (c : IdCode) × (slice_get h.codes found.place ≡ Some c)
         × ((earlier : List BodyPhrase) → PassBoth h.codes earlier token.now code.now
@@ -125,7 +127,7 @@ fn vector_code(
     ensures sized { IfSome result (IsSized view.entry.codes.now) }
 {
     let digits = rest_of(token);
-    if !are_digits_at(bytes, at + 1, digits) {
+    if !are_digits_or_known(bytes, at + 1, digits, bits) {
         return None;
     }
     let found = find_sized(view, code)?;
@@ -226,7 +228,7 @@ pub fn item_ahead<'a>(
         First::Vector => {
             let code = next.next()?;
             let bits = vector_bits(ahead.bytes(), start, token);
-            let found = vector_code(ahead.bytes(), start, token, code, view)?;
+            let found = vector_code(ahead.bytes(), start, token, code, view, bits)?;
             let code_at = next.passed() - 1 - code.len();
             let text = rest_of(token);
             change_of(found, Form::Vector, text, bits, start + 1, code_at)

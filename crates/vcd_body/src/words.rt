@@ -222,6 +222,25 @@ pub(crate) fn are_digits_at(bytes: &[u8], at: usize, digits: &[u8]) -> bool
     are_value_digits(digits)
 }
 
+/// The same, where some digits are known as a number: then they are digits.
+#[inline(always)]
+pub(crate) fn are_digits_or_known(
+    bytes: &[u8],
+    at: usize,
+    digits: &[u8],
+    bits: Option<Bits>,
+) -> bool
+    requires within { at ≤ length bytes.now }
+    requires place { digits.now ≡ slice_range bytes.now at (at + length digits.now) }
+    requires bits { IfSome bits (λ b. digits.now ≡ binary_digits b.len b.number) }
+    ensures { result ≡ (not (is_empty digits.now) && list_all is_digit digits.now) }
+{
+    if bits.is_some() {
+        return true;
+    }
+    are_digits_at(bytes, at, digits)
+}
+
 /// Bit 31 - k is set where byte `at + k` is `1`: the last byte tells the lowest bit.
 #[inline(always)]
 fn ones_32(bytes: &[u8], at: usize) -> u64

@@ -17,7 +17,7 @@ returns-then-takes-clause-code c = λ h v.
     let x = c.in_ok-found.ensures.sized in
     let f = c.in_ok-found.ensures.found h v in
     let text = c.rest_of-digits.ensures in
-    let digits = ap (λ x. not (is_empty x) && list_all is_value_digit x) (sym text) ∙ sym c.are_digits_at.ensures ∙ c.if-not-are_digits_at.false in
+    let digits = ap (λ x. not (is_empty x) && list_all is_value_digit x) (sym text) ∙ sym c.are_digits_or_known.ensures ∙ c.if-not-are_digits_or_known.false in
     let n = ap length (sym text) in
     let room = same_room (parts c.args.view) h v place f.0 x.0 (length (drop 1 t)) true f.1 x.1 (ap (λ m. x.0.event || nat_le m x.0.size) n ∙ sym (c.takes.ensures x.0 x.1) ∙ c.if-takes.true) in (
       f.0,
@@ -35,7 +35,7 @@ returns-then-takes-clause-sound c =
     let x = c.in_ok-found.ensures.sized in
     let text = c.rest_of-digits.ensures in
     let n = ap length (sym text) in
-    let d = and_parts (not (is_empty (drop 1 t))) (list_all is_value_digit (drop 1 t)) (ap (λ x. not (is_empty x) && list_all is_value_digit x) (sym text) ∙ sym c.are_digits_at.ensures ∙ c.if-not-are_digits_at.false) in
+    let d = and_parts (not (is_empty (drop 1 t))) (list_all is_value_digit (drop 1 t)) (ap (λ x. not (is_empty x) && list_all is_value_digit x) (sym text) ∙ sym c.are_digits_or_known.ensures ∙ c.if-not-are_digits_or_known.false) in
     vector_sound c.args.view.codes.now (drop 1 t) place x.0 x.1 (filled_some (drop 1 t) d.0) d.1
     (ap (λ m. x.0.event || nat_le m x.0.size) n ∙ sym (c.takes.ensures x.0 x.1) ∙ c.if-takes.true)
 
