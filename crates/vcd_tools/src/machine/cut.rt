@@ -28,6 +28,7 @@ use crate::machine::last_of;
 use crate::pieces::{Lying, Pieces};
 use crate::span::Span;
 use crate::task::Room;
+use crate::values::set_plain;
 use vcd_body::{Item, Plain, Regs, Table};
 use vcd_head::{HeadView, put_head, select};
 use vcd_text::{Sink, WriteFailed, put};
@@ -362,14 +363,14 @@ impl<'r> Cut<'r> {
         ensures span { span_in self.new ≡ span_in self.old }
         ensures room { lent_to self.new ≡ lent_to self.old }
     {
-        if let Item::Change { code, .. } = plain.item
-            && let Some(bits) = plain.bits
-            && !self.started
-        {
-            self.table.set_bits(code, bits);
-            return Ok(false);
+        if self.started {
+            return self.take(view, regs, plain.item, plain.text, out);
         }
-        self.take(view, regs, plain.item, plain.text, out)
+        if let Item::Time(time) = plain.item {
+            return self.take_time(view, time, out);
+        }
+        set_plain(&mut self.table, plain);
+        Ok(false)
     }
 
     /// Takes an item with its text, writes what is due after it, and returns whether it ended the run. The registers are those after

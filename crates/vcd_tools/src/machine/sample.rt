@@ -20,6 +20,7 @@ use crate::answer::Stop;
 use crate::sample_lines::put_samples;
 use crate::samples::Samples;
 use crate::task::Room;
+use crate::values::set_plain;
 use vcd_body::{Item, Plain, Table};
 use vcd_head::{HeadView, select};
 use vcd_text::{Sink, WriteFailed};
@@ -122,13 +123,11 @@ impl<'n, 'r> Sample<'n, 'r> {
         ensures asked { asked_in self.new ≡ asked_in self.old }
         ensures room { lent_to self.new ≡ lent_to self.old }
     {
-        if let Item::Change { code, .. } = plain.item
-            && let Some(bits) = plain.bits
-        {
-            self.table.set_bits(code, bits);
-            return Ok(false);
+        if let Item::Time(time) = plain.item {
+            return self.take_time(view, time, out);
         }
-        self.take(view, plain.item, plain.text, out)
+        set_plain(&mut self.table, plain);
+        Ok(false)
     }
 
     /// Takes an item with its text: keeps the value of a change, and at a time mark writes the lines of the times below it. Returns whether it ended the run.
