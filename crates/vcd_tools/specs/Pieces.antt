@@ -2,7 +2,6 @@
 use Rattle.std.specs.Prelude.{◌≡◌, ℕ, ◌≤◌, List, ◌++◌, length, slice_range, Result, Ok, Err}
 use Rattle.vcd_text.specs.Device.{Device, Writes, WritesSome}
 use Rattle.vcd_head.specs.declared.view.HeadView.{HeadView}
-use Rattle.vcd_body.specs.Ahead.{HasBits}
 use Rattle.vcd_body.specs.Given.{HasGoodText}
 use Rattle.vcd_body.specs.Spelled.{HasSpelled}
 use Rattle.vcd_tools.specs.declared.pieces.Lying.{Lying}
@@ -12,7 +11,6 @@ use Rattle.vcd_tools.specs.declared.pieces.Pieces.{Pieces}
 pub record Lies (v : HeadView) (l : Lying) : Type 0 where
   pub within : (l.from ≤ l.to) × (l.to ≤ length l.bytes.now)
   pub good : HasGoodText v.codes.now l.plain.text.now l.plain.item
-  pub bits : HasBits l.plain.item l.plain.text.now l.plain.bits
   pub spelled : HasSpelled v l.bytes.now l.from l.to l.plain.at l.plain.code_at l.plain.text.now l.plain.item
 
 -- the piece is a part of these bytes

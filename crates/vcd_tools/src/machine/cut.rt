@@ -8,7 +8,6 @@ ghost use Rattle.vcd_model.specs.ItemText.{last_mark};
 ghost use Rattle.vcd_model.specs.Outcome.{Request};
 ghost use Rattle.vcd_text.specs.Device.{Counts, Takes, failures_after};
 ghost use Rattle.vcd_head.specs.Views.{IsViewOf};
-ghost use Rattle.vcd_body.specs.Ahead.{HasBits};
 ghost use Rattle.vcd_body.specs.Given.{HasGoodText};
 ghost use Rattle.vcd_body.specs.Items.{AreRegsAfter, regs_after};
 ghost use Rattle.vcd_tools.specs.Answer.{writes_failed};
@@ -28,8 +27,7 @@ use crate::machine::last_of;
 use crate::pieces::{Lying, Pieces};
 use crate::span::Span;
 use crate::task::Room;
-use crate::values::set_plain;
-use vcd_body::{Item, Plain, Regs, Table};
+use vcd_body::{Item, Regs, Table};
 use vcd_head::{HeadView, put_head, select};
 use vcd_text::{Sink, WriteFailed, put};
 
@@ -337,40 +335,7 @@ impl<'r> Cut<'r> {
             return Ok(false);
         }
         pieces.flush(lying.bytes, out)?;
-        self.take_plain(view, regs, lying.plain, out)
-    }
-
-    /// Takes an item that lies ahead, as `take` does.
-    #[inline(always)]
-    fn take_plain<W: Sink>(
-        &mut self,
-        view: HeadView<'_>,
-        regs: Regs,
-        plain: Plain<'_>,
-        out: &mut W,
-    ) -> Result<bool, WriteFailed>
-        requires failures { (W.device out.old).failures < 2 ^ 64 - 1 }
-        requires sound { HasGoodText view.codes.now plain.text.now plain.item }
-        requires bits { HasBits plain.item plain.text.now plain.bits }
-        ensures takes { (h : Header) (items : List BodyItem) (before : Regs) (x : BodyItem)
-            → IsViewOf view.entry h → AreRegsAfter items before
-            → regs ≡ regs_after before plain.entry.item
-            → IsItem h.codes plain.entry.text.now plain.entry.item x → AreCut self.old h items
-            → TakesOne (AreCut self.new h (items ++ x ∷ []))
-            (Request.Cut self.old.from self.old.to) h items x
-            (W.device out.old) (W.device out.new) result }
-        ensures counts { Counts (W.device out.old) (W.device out.new) result }
-        ensures span { span_in self.new ≡ span_in self.old }
-        ensures room { lent_to self.new ≡ lent_to self.old }
-    {
-        if self.started {
-            return self.take(view, regs, plain.item, plain.text, out);
-        }
-        if let Item::Time(time) = plain.item {
-            return self.take_time(view, time, out);
-        }
-        set_plain(&mut self.table, plain);
-        Ok(false)
+        self.take(view, regs, lying.plain.item, lying.plain.text, out)
     }
 
     /// Takes an item with its text, writes what is due after it, and returns whether it ended the run. The registers are those after

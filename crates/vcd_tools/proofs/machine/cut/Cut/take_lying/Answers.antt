@@ -22,5 +22,5 @@ returns-in_err-flush-clause-takes g c = λ h items before x views known re read 
 
 pub returns-2-clause-takes : goal.returns-2-clause-takes
 returns-2-clause-takes g c = λ h items before x views known re read is.
-    let t = c.take_plain.ensures.takes h items before x views known re read is in
-    record { due = (t.due.0, t.due.1, put_on _ _ _ _ _ _ c.take_plain.result c.in_ok-flush.ensures.puts c.in_ok-flush.ensures.held.0 (t.due.2, c.take_plain.ensures.counts)); ends = t.ends; keeps = t.keeps }
+    let t = c.take.ensures.takes h items before x views known re read is in
+    record { due = (t.due.0, t.due.1, put_on _ _ _ _ _ _ c.take.result c.in_ok-flush.ensures.puts c.in_ok-flush.ensures.held.0 (t.due.2, c.take.ensures.counts)); ends = t.ends; keeps = t.keeps }
