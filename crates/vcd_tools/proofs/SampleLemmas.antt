@@ -19,7 +19,7 @@ use Rattle.vcd_text.specs.Device.{Device, Takes}
 use Rattle.vcd_text.proofs.Writes.{appends-none}
 use Rattle.vcd_body.specs.Items.{model_section}
 use Rattle.vcd_body.specs.declared.item.Item.{Item}
-use Rattle.vcd_body.specs.declared.item.Item.TheVariants.{Begin, End, Finish}
+use Rattle.vcd_body.specs.declared.item.Item.TheVariants.{Time, Begin, End, Change, Finish}
 use Rattle.vcd_body.specs.declared.item.Section.{Section}
 use Rattle.vcd_body.specs.declared.table.Table.{Table}
 use Rattle.vcd_tools.specs.Device.{TakesDue}
@@ -85,6 +85,14 @@ quiet codes text item x read (inr (inl end)) =
     let is : x ≡ BodyItem.End = subst (λ (i : Item). IsItem codes text i x) end read in
     (ap (λ (y : BodyItem). marks (y ∷ [])) is, λ c. ap (gives_to c) is)
 quiet codes text item x read (inr (inr finish)) = absurd (subst (λ (i : Item). IsItem codes text i x) finish read)
+
+-- it is no time mark
+pub no_marks : (codes : List IdCode) (text : List ℕ) (item : Item) (x : BodyItem) → IsItem codes text item x → ((time : ℕ) → item ≢ Time time) → marks (x ∷ []) ≡ []
+no_marks codes text (Time t) x is none = absurd (none t refl)
+no_marks codes text (Begin s) x is none = rw is refl
+no_marks codes text End x is none = rw is refl
+no_marks codes text (Change place form) x (c, there, is) none = rw is refl
+no_marks codes text Finish x is none = absurd is
 
 module _ (s : Sample) (h : Header) (items : List BodyItem) (x : BodyItem) (is : AreSampled s h items) (other : marks (x ∷ []) ≡ []) where
   -- what is kept, where the table holds the values after it

@@ -16,12 +16,16 @@ use Rattle.vcd_head.specs.declared.view.HeadView.{HeadView}
 use Rattle.vcd_head.proofs.LookUpLemmas.{same_place}
 use Rattle.vcd_head.proofs.RoomLemmas.{same_sum, sum_fits}
 use Rattle.vcd_head.proofs.RowLemmas.{code_at}
+use Rattle.vcd_body.specs.Ahead.{HasBits}
+use Rattle.vcd_body.specs.Binary.{binary_digits}
 use Rattle.vcd_body.specs.Contents.{ChangesCode, IsLaidOut, held_at, kept_at}
 use Rattle.vcd_body.specs.Given.{HasGoodText, IsText}
 use Rattle.vcd_body.specs.Items.{model_form}
 use Rattle.vcd_body.specs.Kept.{Held, Kept, unset, value_at_size, with_text}
 use Rattle.vcd_body.specs.Stored.{room_of, share_of}
+use Rattle.vcd_body.specs.declared.bits.Bits.{Bits}
 use Rattle.vcd_body.specs.declared.item.Form.{Form}
+use Rattle.vcd_body.specs.declared.item.Form.TheVariants.{Vector}
 use Rattle.vcd_body.specs.declared.item.Item.{Item}
 use Rattle.vcd_body.specs.declared.item.Item.TheVariants.{Time, Begin, End, Change, Finish}
 use Rattle.vcd_body.specs.declared.table.Table.{Table}
@@ -148,3 +152,17 @@ other_gives codes text (Begin s) x is none c = rw is refl
 other_gives codes text End x is none c = rw is refl
 other_gives codes text (Change place form) x is none c = absurd (none place form refl)
 other_gives codes text Finish x is none c = absurd is
+
+-- ---- a change whose text is told as a number too
+
+-- the code has the value of its digits
+pub bits_hold : (v : HeadView) (h : Header) (old new : Table) (items : List BodyItem) (i : Item) (text : List ℕ) (b : Bits) (place : ℕ) (form : Form) (x : BodyItem) → IsViewOf v h → AreHeld old h items → i ≡ Change place form → HasBits i text (Some b) → HasGoodText v.codes.now text i → IsItem h.codes text i x
+    → ChangesCode place (with_text Vector (binary_digits b.len b.number)) old new → IsLaidOut new → SetsValue Vector (binary_digits b.len b.number) place old new → AreHeld new h (items ++ x ∷ [])
+bits_hold v h old new items i text b place form x views held is has good read changes laid sets =
+    let digits = binary_digits b.len b.number in
+    let codes = v.codes.now in
+    let same : place ≡ has.0 = let one = sym is ∙ has.1 in cc in
+    let change = subst (λ (j : Item). IsItem h.codes text j x) has.1 read in
+    let sound = subst (λ (j : Item). HasGoodText codes text j) has.1 good in
+    let fits : (d : Code) → slice_get codes place ≡ Some d → IsText Vector d digits = λ d there. subst (IsText Vector d) has.2 (good_text codes text has.0 Vector d sound (ap (slice_get codes) (sym same) ∙ there)) in
+    subst (λ (y : BodyItem). AreHeld new h (items ++ y ∷ [])) (sym (rw (sym has.2) change.2)) (set_holds v h old new items place Vector digits change.0 views (ap (slice_get h.codes) same ∙ change.1) held changes laid fits sets)

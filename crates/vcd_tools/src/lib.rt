@@ -29,6 +29,7 @@
 //! - `pieces`: text that is due and stands in the chunk, which is written at once
 //! - `selection`: the variables that names select, as marks and as chosen codes
 //! - `report`, `rows`, `tally`: the seven lines of `check`; `list`; the counters of `edges`, and its rows
+//! - `values`: the values of codes, with one item more
 //! - `samples`, `sample_lines`: `Samples`, what a sample is asked for; its lines
 //! - `whole_merge`: `merge`
 //! - `beginning`, `merge_steps`, `turns`, `merging`, `seat`, `windows`: what a merge adds to each input where it begins; `Merge`,
@@ -76,6 +77,7 @@ mod task;
 #[cfg(test)]
 mod tests;
 mod turns;
+mod values;
 mod whole_merge;
 mod windows;
 

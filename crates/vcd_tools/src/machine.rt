@@ -133,7 +133,7 @@ impl<'n, 'r> Taker for sample::Sample<'n, 'r> {
         plain: Plain<'_>,
         out: &mut W,
     ) -> Result<bool, WriteFailed> {
-        self.take(view, plain.item, plain.text, out)
+        self.take_plain(view, plain, out)
     }
 }
 

@@ -7,6 +7,7 @@ ghost use Rattle.vcd_model.specs.Outcome.{Request, close_text};
 ghost use Rattle.vcd_model.specs.Selection.{first_unmatched};
 ghost use Rattle.vcd_text.specs.Device.{Counts, Takes, failures_after};
 ghost use Rattle.vcd_head.specs.Views.{IsViewOf};
+ghost use Rattle.vcd_body.specs.Ahead.{HasBits};
 ghost use Rattle.vcd_body.specs.Given.{HasGoodText};
 ghost use Rattle.vcd_tools.specs.Engine.{TakesOne};
 ghost use Rattle.vcd_body.specs.Given.{IsItem};
@@ -19,7 +20,8 @@ use crate::answer::Stop;
 use crate::sample_lines::put_samples;
 use crate::samples::Samples;
 use crate::task::Room;
-use vcd_body::{Item, Table};
+use crate::values::set_plain;
+use vcd_body::{Item, Plain, Table};
 use vcd_head::{HeadView, select};
 use vcd_text::{Sink, WriteFailed};
 
@@ -100,6 +102,32 @@ impl<'n, 'r> Sample<'n, 'r> {
         put_samples(&self.table, view, self.marks, due, out)?;
         self.rest = rest;
         Ok(rest.is_empty())
+    }
+
+    /// Takes an item that lies ahead, as `take` does.
+    #[inline(always)]
+    pub(crate) fn take_plain<W: Sink>(
+        &mut self,
+        view: HeadView<'_>,
+        plain: Plain<'_>,
+        out: &mut W,
+    ) -> Result<bool, WriteFailed>
+        requires failures { (W.device out.old).failures < 2 ^ 64 - 1 }
+        requires sound { HasGoodText view.codes.now plain.text.now plain.item }
+        requires bits { HasBits plain.item plain.text.now plain.bits }
+        ensures takes { (h : Header) (items : List BodyItem) (x : BodyItem) → IsViewOf view.entry h
+            → IsItem h.codes plain.entry.text.now plain.entry.item x → AreSampled self.old h items
+            → TakesOne (AreSampled self.new h (items ++ x ∷ []))
+            (asked_in self.old) h items x (W.device out.old) (W.device out.new) result }
+        ensures counts { Counts (W.device out.old) (W.device out.new) result }
+        ensures asked { asked_in self.new ≡ asked_in self.old }
+        ensures room { lent_to self.new ≡ lent_to self.old }
+    {
+        if let Item::Time(time) = plain.item {
+            return self.take_time(view, time, out);
+        }
+        set_plain(&mut self.table, plain);
+        Ok(false)
     }
 
     /// Takes an item with its text: keeps the value of a change, and at a time mark writes the lines of the times below it. Returns whether it ended the run.
