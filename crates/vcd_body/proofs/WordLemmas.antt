@@ -1,5 +1,5 @@
 -- What the tests of words say.
-use Rattle.std.proofs.Common.{◌≡◌, Some, ◌⊎◌, take, drop, slice_range, ◌&&◌, inl, inr, ◌+◌, ◌-◌, ◌*◌, ◌<◌, ◌≤◌, ◌∙◌, get_or, ℕ, suc, ◌%◌, ◌^◌, map, Bool, true, false, cond, not, ◌||◌, ◌==◌, List, [], ◌∷◌, length, Fits, w8, refl, sym, ap, ap₂, subst, arith}
+use Rattle.std.proofs.Common.{◌≡◌, Some, None, Option, IfSome, is_some, zero, ◌/◌, ◌⊎◌, take, drop, slice_range, ◌&&◌, inl, inr, ◌+◌, ◌-◌, ◌*◌, ◌<◌, ◌≤◌, ◌∙◌, get_or, ℕ, suc, ◌%◌, ◌^◌, map, Bool, true, false, cond, not, ◌||◌, ◌==◌, List, [], ◌∷◌, length, Fits, w8, refl, sym, ap, ap₂, subst, arith, rules}
 use Rattle.std.specs.Prelude.{slice_index, min, bit_and}
 use Rattle.std.specs.Char.{to_ascii_lowercase}
 use Rattle.std.specs.Int.{bit_at}
@@ -18,7 +18,8 @@ use Rattle.vcd_model.proofs.HeaderGrammar.{keyword_is}
 use Rattle.vcd_head.specs.Keywords.{model_keyword}
 use Rattle.vcd_head.specs.declared.keyword.Keyword.{Keyword as HeadKeyword}
 use Rattle.vcd_head.specs.declared.keyword.Keyword.TheVariants as head
-use Rattle.vcd_body.specs.Binary.{bit_of}
+use Rattle.vcd_body.specs.Binary.{binary_digits, bit_of}
+use Rattle.vcd_body.specs.declared.bits.Bits.{Bits}
 use Rattle.vcd_body.specs.Words.{StandsFor, command_is}
 
 pub filled : (l : List ℕ) → (length l == 0) ≡ false → is_empty l ≡ false
@@ -71,6 +72,19 @@ one_of_two d l h = by_order (cases_lt 48 d)
     by_order : (48 < d) ⊎ (d ≤ 48) → (d ≡ 48) ⊎ (d ≡ 49)
     by_order (inl a) = inr (omega arith)
     by_order (inr a) = inl (omega arith)
+
+-- those of a number
+binary_are : (l n : ℕ) → list_all is_value_digit (binary_digits l n) ≡ true
+binary_are zero n = refl
+binary_are (suc l) n = let m : n / 2 ^ l % 2 < 2 = omega arith in rw (binary (48 + n / 2 ^ l % 2) (one_of_two (48 + n / 2 ^ l % 2) (omega arith) (omega (arith, m)))) (binary_are l n)
+
+pub known_digits : (digits : List ℕ) (bits : Option Bits) → IfSome bits (λ b. digits ≡ binary_digits b.len b.number) → is_some bits ≡ true → (not (is_empty digits) && list_all is_value_digit digits) ≡ true
+known_digits digits None h e = absurd (search rules)
+known_digits digits (Some b) h e = rw h (by_length b.len b.number b.some)
+  where
+    by_length : (l n : ℕ) → 1 ≤ l → (not (is_empty (binary_digits l n)) && list_all is_value_digit (binary_digits l n)) ≡ true
+    by_length zero n some = absurd (omega arith)
+    by_length (suc l) n some = binary_are (suc l) n
 
 -- one digit more that is 0 or 1
 pub binary_more : (digits : List ℕ) (at : ℕ) → at < length digits → list_all is_value_digit (take at digits) ≡ true → 48 ≤ get_or digits at 0 → get_or digits at 0 ≤ 49 → list_all is_value_digit (take (at + 1) digits) ≡ true
