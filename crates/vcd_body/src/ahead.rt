@@ -149,7 +149,8 @@ fn vector_bits(bytes: &[u8], at: usize, token: &[u8]) -> Option<Bits>
 }
 
 /// The place of the code that stands after the text of a real number, where the text has 1 to 64 bytes.
-#[inline(always)]
+// Out of line, so that what takes the others stays small enough to be taken in line.
+#[inline(never)]
 fn real_code(token: &[u8], code: &[u8], view: HeadView<'_>) -> Option<Found>
     requires begins { Begins token.now first.Real }
     ensures code { (h : Header) → IsViewOf view.entry h
