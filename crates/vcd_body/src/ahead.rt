@@ -98,7 +98,7 @@ fn mark_of<'a>(time: u64, at: usize) -> Plain<'a>
     }
 }
 
-/// The place of the code that stands after the digits of a vector, where there are digits, and the code has room for them. The
+/// The code that stands after the digits of a vector, where there are digits, and the code has room for them. The
 /// vector is a token at a place of these bytes.
 #[inline(always)]
 fn vector_code(
@@ -148,7 +148,7 @@ fn vector_bits(bytes: &[u8], at: usize, token: &[u8]) -> Option<Bits>
     bits_at(bytes, at + 1, rest_of(token))
 }
 
-/// The place of the code that stands after the text of a real number, where the text has 1 to 64 bytes.
+/// The code that stands after the text of a real number, where the text has 1 to 64 bytes.
 // Out of line, so that what takes the others stays small enough to be taken in line.
 #[inline(never)]
 fn real_code(token: &[u8], code: &[u8], view: HeadView<'_>) -> Option<Found>
