@@ -63,10 +63,6 @@ mod slot;
 mod step;
 mod store;
 mod table;
-#[cfg(test)]
-mod table_tests;
-#[cfg(test)]
-mod tests;
 mod tokens;
 mod words;
 

@@ -68,8 +68,6 @@ mod scale;
 mod scopes;
 mod selection;
 mod table;
-#[cfg(test)]
-mod tests;
 mod texts;
 mod tokens;
 mod variable;

@@ -51,31 +51,21 @@ mod answer;
 mod beginning;
 mod choice;
 mod commands;
-#[cfg(test)]
-mod cut_tests;
-#[cfg(test)]
-mod edges_tests;
 mod engine;
 mod item_text;
 mod machine;
 mod merge_steps;
-#[cfg(test)]
-mod merge_tests;
 mod merging;
 mod pieces;
 mod report;
 mod rows;
 mod sample_lines;
-#[cfg(test)]
-mod sample_tests;
 mod samples;
 mod seat;
 mod selection;
 mod span;
 mod tally;
 mod task;
-#[cfg(test)]
-mod tests;
 mod turns;
 mod values;
 mod whole_merge;

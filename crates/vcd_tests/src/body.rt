@@ -1,0 +1,392 @@
+// Bodies that are read to their end, bodies that are refused, a source that fails, and changes that are written.
+ghost use Rattle.std.specs.Prelude.{◌+◌, ◌<◌, ◌≤◌};
+
+use std::alloc::{AllocError, Global};
+use std::test::Fail;
+use vcd_body::{
+    Bits, Form, Item, Regs, change_text, item_ahead, left_out, next_item, pass_items, put_change,
+};
+use vcd_head::read_head;
+use vcd_text::doubles::{Narrow, Pieces};
+use vcd_text::{Feed, Sink, Watch, WriteFailed};
+
+// Variables of 1 and of 4 bits, in six lines.
+const HEAD: &[u8] =
+    b"$timescale 1ns $end\n$scope module tb $end\n$var wire 1 ! clk $end\n$var reg 4 \" q [3:0] $end\n$upscope $end\n$enddefinitions $end\n";
+
+// An item as it is shown.
+fn shown(alloc: Global, item: Item, text: &[u8]) -> Result<String, AllocError> {
+    match item {
+        Item::Time(time) => format!(in alloc; "#{time} "),
+        Item::Begin(section) => format!(in alloc; "{section:?} "),
+        Item::End => format!(in alloc; "End "),
+        Item::Change { code, form } => {
+            let text = String::from_utf8_lossy(alloc, text)?;
+            format!(in alloc; "{code}:{form:?}:{text} ")
+        }
+        Item::Finish => format!(in alloc; "Finish"),
+    }
+}
+
+// The text of an item, if it is a change.
+fn text_of<'f>(feed: &'f Feed<'_, '_, '_, '_, Watch<Pieces<'_>>>, item: Item) -> &'f [u8] {
+    match item {
+        Item::Change { form, .. } => change_text(feed, form),
+        _ => &[],
+    }
+}
+
+// The items of the body after the header, and then the end, or the fault's number and line. A token has at most 72 bytes.
+fn transcript(alloc: Global, header: &[u8], body: &[u8], fails: bool) -> Result<String, Fail> {
+    let mut text = Vec::new(alloc);
+    text.extend_from_slice(header)?;
+    text.extend_from_slice(body)?;
+    let mut pieces = Pieces::new(&text, 5);
+    pieces.broken = fails;
+    let mut source = Watch::new(pieces);
+    let mut chunk = [0u8; 7];
+    let mut token = [0u8; 72];
+    let mut value = [0u8; 72];
+    let mut feed = Feed::new(&mut source, &mut chunk, &mut token, &mut value);
+    let head = read_head(alloc, &mut feed, 16_777_216)?;
+    let mut items = String::new(alloc);
+    let mut regs = Regs::new();
+    'items: for _ in 0..u64::MAX {
+        match next_item(&mut feed, head.view(), &mut regs) {
+            Ok(item) => {
+                items.push_str(&shown(alloc, item, text_of(&feed, item))?)?;
+                if item == Item::Finish {
+                    return Ok(items);
+                }
+            }
+            Err(fault) => {
+                let number = fault.number();
+                let line = feed.line();
+                items.push_str(&format!(in alloc; "fault {number} at {line}")?)?;
+                return Ok(items);
+            }
+        }
+    }
+    Ok(items)
+}
+
+// These are the items of the body after the header of six lines, and then its end or its fault.
+fn gives(alloc: Global, body: &[u8], items: &str) -> Result<bool, Fail> {
+    Ok(transcript(alloc, HEAD, body, false)?.as_str() == items)
+}
+
+// Bodies and their items.
+const ITEMS: [(&[u8], &str); 4] = [
+    (b"", "Finish"),
+    (
+        b"#0\n$dumpvars\nZ!\nBx \"\n$end\n#05\n1!\nb101 \"\n#5\n",
+        "#0 Vars 0:Scalar:Z 1:Vector:x End #5 0:Scalar:1 1:Vector:101 #5 Finish",
+    ),
+    (
+        b"$dumpoff $end $dumpon rnan ! $end $dumpall $comment #x x$end $dumpvars $end R-1.5e3 \" $end",
+        "Off End On 0:RealText:nan End All 1:RealText:-1.5e3 End Finish",
+    ),
+    (b"#18446744073709551615", "#18446744073709551615 Finish"),
+];
+
+#[test]
+fn items_of_each_form(rt: HostRuntime) -> Result<(), Fail> {
+    for (body, items) in ITEMS {
+        assert!(rt; gives(rt.alloc(), body, items)?, "{items}");
+    }
+    Ok(())
+}
+
+// Bodies with a value or a time that is refused, and their items up to the fault.
+const REFUSED_VALUES: [(&[u8], &str); 11] = [
+    (b"#5\n#5\n1!\n#4\n", "#5 #5 0:Scalar:1 fault 14 at 10"),
+    (b"#5\n$dumpvars\n#4\n", "#5 Vars fault 19 at 9"),
+    (b"#x\n", "fault 13 at 7"),
+    (b"#18446744073709551616\n", "fault 13 at 7"),
+    (b"b101 $end\n", "fault 16 at 7"),
+    (b"b10110 ?\n", "fault 16 at 7"),
+    (b"b10110 \"\n", "fault 17 at 7"),
+    (b"1\n", "fault 15 at 7"),
+    (b"b12 \"\n", "fault 15 at 7"),
+    (b"r \"\n", "fault 15 at 7"),
+    (
+        b"r11111111111111111111111111111111111111111111111111111111111111111 \"\n",
+        "fault 18 at 7",
+    ),
+];
+
+#[test]
+fn values_and_times_that_are_refused(rt: HostRuntime) -> Result<(), Fail> {
+    for (body, items) in REFUSED_VALUES {
+        assert!(rt; gives(rt.alloc(), body, items)?, "{items}");
+    }
+    Ok(())
+}
+
+// Bodies with a command or an end that is refused, and their items up to the fault.
+const REFUSED_COMMANDS: [(&[u8], &str); 9] = [
+    (b"$end\n", "fault 4 at 7"),
+    (b"$var", "fault 4 at 7"),
+    (b"$dumpvars\n$dumpon\n", "Vars fault 4 at 8"),
+    (b"?\n", "fault 3 at 7"),
+    (b"$foo $end\n", "fault 3 at 7"),
+    (b"#0\n0!\n#5\nb10", "#0 0:Scalar:0 #5 fault 2 at 10"),
+    (b"$dumpvars\n", "Vars fault 2 at 8"),
+    (b"$comment x$end", "fault 2 at 7"),
+    (
+        b"#0 1234567890123456789012345678901234567890123456789012345678901234567890123",
+        "#0 fault 1 at 7",
+    ),
+];
+
+#[test]
+fn commands_and_ends_that_are_refused(rt: HostRuntime) -> Result<(), Fail> {
+    for (body, items) in REFUSED_COMMANDS {
+        assert!(rt; gives(rt.alloc(), body, items)?, "{items}");
+    }
+    Ok(())
+}
+
+#[test]
+fn event_wider_than_its_size(rt: HostRuntime) -> Result<(), Fail> {
+    let items = transcript(
+        rt.alloc(),
+        b"$var event 1 % go $end $enddefinitions $end\n",
+        b"b101 % 1%",
+        false,
+    )?;
+    assert_eq!(rt; items.as_str(), "0:Vector:101 0:Scalar:1 Finish");
+    Ok(())
+}
+
+#[test]
+fn source_that_fails(rt: HostRuntime) -> Result<(), Fail> {
+    let items = transcript(rt.alloc(), HEAD, b"#5\n1!\n#4", true)?;
+    assert_eq!(rt; items.as_str(), "#5 0:Scalar:1 fault 31 at 9");
+    Ok(())
+}
+
+// The items that are taken ahead of the body's first, and then the next one. The whole input is in the chunk.
+fn taken_ahead(alloc: Global, body: &[u8]) -> Result<String, Fail> {
+    let mut text = Vec::new(alloc);
+    text.extend_from_slice(HEAD)?;
+    text.extend_from_slice(body)?;
+    let mut source = Watch::new(Pieces::new(&text, 512));
+    let mut chunk = [0u8; 512];
+    let mut token = [0u8; 72];
+    let mut value = [0u8; 72];
+    let mut feed = Feed::new(&mut source, &mut chunk, &mut token, &mut value);
+    let head = read_head(alloc, &mut feed, 16_777_216)?;
+    let mut items = String::new(alloc);
+    let mut regs = Regs::new();
+    let mut ahead = feed.ahead();
+    while let Some(plain) = item_ahead(&mut ahead, head.view(), &mut regs) {
+        items.push_str(&shown(alloc, plain.item, plain.text)?)?;
+    }
+    let passed = ahead.passed();
+    pass_items(&mut feed, passed);
+    let end = match next_item(&mut feed, head.view(), &mut regs) {
+        Ok(item) => shown(alloc, item, text_of(&feed, item))?,
+        Err(fault) => {
+            let number = fault.number();
+            let line = feed.line();
+            format!(in alloc; "fault {number} at {line}")?
+        }
+    };
+    items.push_str("then ")?;
+    items.push_str(&end)?;
+    Ok(items)
+}
+
+#[test]
+fn plain_items_taken_ahead(rt: HostRuntime) -> Result<(), Fail> {
+    let body =
+        b"#0\n1!\nb101 \"\n#05 Z! bx \"\n#4\n$comment of more than sixty-three bytes, for the look ahead to end before it $end\n";
+    assert_eq!(rt;
+        taken_ahead(rt.alloc(), body)?.as_str(),
+        "#0 0:Scalar:1 1:Vector:101 #5 0:Scalar:Z 1:Vector:x then fault 14 at 11"
+    );
+    Ok(())
+}
+
+// Codes of 1, 4 and 40 bits, and an event.
+const CODES: &[u8] =
+    b"$var wire 1 ! clk $end $var reg 4 \" q $end $var reg 40 & w $end $var event 1 % go $end $enddefinitions $end\n";
+
+// Which of the items that are taken ahead of the body's first stand as their lines (`=`), which but for so many digits, and which do
+// not (`.`).
+fn standing(alloc: Global, body: &[u8]) -> Result<String, Fail> {
+    let mut text = Vec::new(alloc);
+    text.extend_from_slice(CODES)?;
+    text.extend_from_slice(body)?;
+    text.extend_from_slice(&[b'\n'; 64])?;
+    let mut source = Watch::new(Pieces::new(&text, 512));
+    let mut chunk = [0u8; 512];
+    let mut token = [0u8; 72];
+    let mut value = [0u8; 72];
+    let mut feed = Feed::new(&mut source, &mut chunk, &mut token, &mut value);
+    let head = read_head(alloc, &mut feed, 16_777_216)?;
+    let view = head.view();
+    let mut marks = String::new(alloc);
+    let mut regs = Regs::new();
+    let mut ahead = feed.ahead();
+    let mut from = ahead.passed();
+    while let Some(plain) = item_ahead(&mut ahead, view, &mut regs) {
+        let to = ahead.passed();
+        match left_out(plain, ahead.bytes(), from, to) {
+            Some(0) => marks.push_str("=")?,
+            Some(n) => marks.push_str(&format!(in alloc; "{n}")?)?,
+            None => marks.push_str(".")?,
+        }
+        from = to;
+    }
+    Ok(marks)
+}
+
+// Changes, and which of them stand as their lines: single digits, vectors of a few digits, vectors with digits that are left out, vectors of more
+// than 30 digits that are left out and that are not, and real numbers.
+const STANDING: [(&[u8], &str); 6] = [
+    (b"1!\nZ!\n 0!\nx! 1!\n1\"\n1%\n#5\n0!\n", "=...=...="),
+    (
+        b"b101 \"\nB101 \"\nb0101 \"\nb00 \"\nb0x \"\nbzz1 \"\nbzx0 \"\nb1X \"\nb10  \"\nb10\t\"\nb1 !\nb0 \"\nb1 % b1 \"\n",
+        "=.11=1=....=.=",
+    ),
+    (
+        b"b0010 \"\nb0001 \"\nb0000 \"\nb000x \"\nbx0 \"\nbxxx1 \"\nbxxxx \"\nbXXx1 \"\nbXX1 \"\nbxX1 \"\nb00  \"\nb1111 \"\nb0 \"\n",
+        "2332=232...==",
+    ),
+    (
+        b"b00000000000000000000000000001010 &\nb0000000000000000000000000000101X &\nb0000000000000000000000000000000000000000 &\nb0101010101010101010101010101010101010x &\n",
+        "28.391",
+    ),
+    (
+        b"b1010101010101010101010101010101x &\nb1010101010101010101010101010101X &\nb1010101010101010101010101010101010x &\nb1010101010101010101010101010101010X &\n",
+        "=.=.",
+    ),
+    (b"r1.5 \"\nR1.5 \"\nr1E3 !\nr1.5  !\nr1 %\n", "=.=.."),
+];
+
+#[test]
+fn changes_that_stand_as_their_lines(rt: HostRuntime) -> Result<(), Fail> {
+    for (body, marks) in STANDING {
+        assert_eq!(rt; standing(rt.alloc(), body)?.as_str(), marks);
+    }
+    Ok(())
+}
+
+#[test]
+fn real_numbers_taken_ahead(rt: HostRuntime) -> Result<(), Fail> {
+    let body =
+        b"#0\nr1.5 \"\n1!\nR-2E3 !\nr1234567890123456789012345678901234567890123456789012345678901234 \"\nr \"\n$comment of more than sixty-three bytes, for the look ahead to end before it $end\n";
+    assert_eq!(rt;
+        taken_ahead(rt.alloc(), body)?.as_str(),
+        "#0 1:RealText:1.5 0:Scalar:1 0:RealText:-2E3 1:RealText:1234567890123456789012345678901234567890123456789012345678901234 then fault 15 at 12"
+    );
+    Ok(())
+}
+
+// A change of digits, of which there is at least one, is written so, where the code is no event.
+fn writes(size: usize, form: Form, text: &[u8], line: &[u8]) -> bool {
+    let mut page = Watch::new(Narrow::new(80));
+    !text.is_empty()
+        && put_change(size, false, form, text, b"!", &mut page).is_ok()
+        && page.device.held() == line
+}
+
+// A size, a change of a code of it, and the line that is written.
+const LINES: [(usize, Form, &[u8], &[u8]); 17] = [
+    (1, Form::Vector, b"1", b"1!\n"),
+    (1, Form::Scalar, b"Z", b"z!\n"),
+    (4, Form::Scalar, b"1", b"b1 !\n"),
+    (4, Form::Vector, b"0010", b"b10 !\n"),
+    (4, Form::Vector, b"xX10", b"bx10 !\n"),
+    (4, Form::Scalar, b"Z", b"bz !\n"),
+    (4, Form::Vector, b"0000", b"b0 !\n"),
+    (4, Form::Vector, b"1111", b"b1111 !\n"),
+    (4, Form::Vector, b"XxXx", b"bx !\n"),
+    (4, Form::Vector, b"00x1", b"b0x1 !\n"),
+    (4, Form::Vector, b"0xxx", b"b0xxx !\n"),
+    (4, Form::Vector, b"Zzx0", b"bzx0 !\n"),
+    (4, Form::Vector, b"xz10", b"bxz10 !\n"),
+    (2, Form::Vector, b"Xx10", b"bx10 !\n"),
+    (2, Form::Vector, b"0X10", b"b0x10 !\n"),
+    (1, Form::Vector, b"0010", b"0010!\n"),
+    (
+        70,
+        Form::Vector,
+        b"XZXZXZXZXZXZXZXZXZXZXZXZXZXZXZXZXZXZXZXZXZXZXZXZXZXZXZXZXZXZXZXZXZ",
+        b"bxzxzxzxzxzxzxzxzxzxzxzxzxzxzxzxzxzxzxzxzxzxzxzxzxzxzxzxzxzxzxzxzxz !\n",
+    ),
+];
+
+#[test]
+fn shortest_digits_are_written(rt: HostRuntime) {
+    for (size, form, text, line) in LINES {
+        assert!(rt; writes(size, form, text, line));
+    }
+}
+
+#[test]
+fn numbers_and_events_are_written(rt: HostRuntime) {
+    let mut page = Watch::new(Narrow::new(80));
+    assert!(rt; put_change(1, false, Form::RealText, b"-1.5E3", b"\"", &mut page).is_ok());
+    assert!(rt; put_change(2, true, Form::Vector, b"b101", b"#", &mut page).is_ok());
+    assert!(rt; put_change(1, true, Form::Scalar, b"x", b"#", &mut page).is_ok());
+    assert_eq!(rt; page.device.held(), b"r-1.5E3 \"\n1#\n1#\n".as_slice());
+}
+
+#[test]
+fn sink_that_fails(rt: HostRuntime) {
+    let mut page = Watch::new(Narrow::new(5));
+    assert_eq!(rt;
+        put_change(1, false, Form::RealText, b"1.5", b"!!", &mut page),
+        Err(WriteFailed)
+    );
+    assert_eq!(rt; page.device.held(), b"r1.5 ".as_slice());
+    assert_eq!(rt; Sink::failures(&page), 1);
+}
+
+// The number that is told of the digits of the body's first change.
+fn bits_told(alloc: Global, body: &[u8]) -> Result<Option<Bits>, Fail> {
+    let mut text = Vec::new(alloc);
+    text.extend_from_slice(CODES)?;
+    text.extend_from_slice(body)?;
+    text.extend_from_slice(&[b'1'; 64])?;
+    let mut source = Watch::new(Pieces::new(&text, 512));
+    let mut chunk = [0u8; 512];
+    let mut token = [0u8; 72];
+    let mut value = [0u8; 72];
+    let mut feed = Feed::new(&mut source, &mut chunk, &mut token, &mut value);
+    let head = read_head(alloc, &mut feed, 16_777_216)?;
+    match item_ahead(&mut feed.ahead(), head.view(), &mut Regs::new()) {
+        Some(plain) => Ok(plain.bits),
+        None => Ok(None),
+    }
+}
+
+// Changes, and how many digits of which number are told: 1 to 32 binary ones, wherever they end.
+const TOLD: [(&[u8], usize, usize); 7] = [
+    (b"b0 & ", 1, 0),
+    (b"b1 & ", 1, 1),
+    (b" b01 & ", 2, 1),
+    (b"b10001 & ", 5, 17),
+    (b"b1000000000000001 & ", 16, 32_769),
+    (b"b1000000000000000000000000000001 & ", 31, 1_073_741_825),
+    (b"b10000000000000000000000000000001 & ", 32, 2_147_483_649),
+];
+
+#[test]
+fn digits_told_as_a_number(rt: HostRuntime) -> Result<(), Fail> {
+    for (body, len, number) in TOLD {
+        let told = bits_told(rt.alloc(), body)?;
+        assert!(rt; told.is_some() && told == Bits::new(len, number));
+    }
+    for body in [
+        b"b100000000000000000000000000000001 & ".as_slice(),
+        b"b1x & ",
+        b"1! ",
+    ] {
+        assert!(rt; bits_told(rt.alloc(), body)?.is_none());
+    }
+    Ok(())
+}

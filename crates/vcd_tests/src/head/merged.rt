@@ -1,0 +1,75 @@
+// What a merge writes in its header.
+use super::{SMALL, read_good};
+use std::test::Fail;
+use vcd_head::{least_exponent, put_code, put_merged_head};
+use vcd_text::{Watch, put};
+
+#[test]
+fn codes_of_numbers(rt: HostRuntime) -> Result<(), Fail> {
+    let mut out = Watch::new(Vec::new(rt.alloc()));
+    put_code(0, &mut out)?;
+    put(&mut out, b" ")?;
+    put_code(1, &mut out)?;
+    put(&mut out, b" ")?;
+    put_code(93, &mut out)?;
+    put(&mut out, b" ")?;
+    put_code(94, &mut out)?;
+    put(&mut out, b" ")?;
+    put_code(95, &mut out)?;
+    put(&mut out, b" ")?;
+    put_code(187, &mut out)?;
+    put(&mut out, b" ")?;
+    put_code(188, &mut out)?;
+    assert_eq!(rt; out.device.as_slice(), b"! \" ~ !\" \"\" ~\" !#".as_slice());
+    Ok(())
+}
+
+const SMALL_TWICE: &[u8] =
+    b"$timescale\n\t1ns\n$end\n$scope module in1 $end\n$scope module tb $end\n$var wire 1 ! clk $end\n$var reg 4 \" q [3:0] $end\n$upscope $end\n$upscope $end\n$scope module in2 $end\n$scope module tb $end\n$var wire 1 # clk $end\n$var reg 4 $ q [3:0] $end\n$upscope $end\n$upscope $end\n$enddefinitions $end\n";
+
+#[test]
+fn the_same_head_twice(rt: HostRuntime) -> Result<(), Fail> {
+    let alloc = rt.alloc();
+    let heads = [read_good(alloc, SMALL)?, read_good(alloc, SMALL)?];
+    let mut marks = [7u8; 9];
+    let mut out = Watch::new(Vec::new(alloc));
+    put_merged_head(&heads, &mut marks, &mut out)?;
+    assert_eq!(rt; out.device.as_slice(), SMALL_TWICE);
+    Ok(())
+}
+
+const FIRST: &[u8] = b"$timescale 1ns $end $var wire 1 ! a $end $enddefinitions $end\n";
+
+// Its second scope has no variable, and its first is left open.
+const SECOND: &[u8] =
+    b"$date x $end $timescale 100 ps $end $scope module t $end $var wire 1 ! b $end $scope task u $end $upscope $end $var wire 1 ! c $end $enddefinitions $end\n";
+
+const UNSCALED: &[u8] = b"$var wire 1 ! a $end $enddefinitions $end\n";
+
+const BOTH: &[u8] =
+    b"$timescale\n\t100ps\n$end\n$scope module in1 $end\n$var wire 1 ! a $end\n$upscope $end\n$scope module in2 $end\n$scope module t $end\n$var wire 1 \" b $end\n$var wire 1 \" c $end\n$upscope $end\n$upscope $end\n$enddefinitions $end\n";
+
+#[test]
+fn two_scales(rt: HostRuntime) -> Result<(), Fail> {
+    let alloc = rt.alloc();
+    let heads = [read_good(alloc, FIRST)?, read_good(alloc, SECOND)?];
+    let mut marks = [1u8; 5];
+    let mut out = Watch::new(Vec::new(alloc));
+    put_merged_head(&heads, &mut marks, &mut out)?;
+    assert_eq!(rt; out.device.as_slice(), BOTH);
+    Ok(())
+}
+
+#[test]
+fn least_exponents(rt: HostRuntime) -> Result<(), Fail> {
+    let alloc = rt.alloc();
+    let heads = [
+        read_good(alloc, UNSCALED)?,
+        read_good(alloc, SECOND)?,
+        read_good(alloc, FIRST)?,
+    ];
+    assert_eq!(rt; least_exponent(&heads), -10);
+    assert_eq!(rt; least_exponent(&heads[..1]), 0);
+    assert_eq!(rt; least_exponent(&[]), 0);
+    Ok(())
+}

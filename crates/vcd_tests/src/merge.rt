@@ -1,0 +1,345 @@
+// Merges of one input and of several, so many bytes at a time.
+ghost use Rattle.std.specs.Prelude.{◌≡◌, ◌-◌, ◌^◌, ◌<◌, ◌≤◌, ℕ, All, IfOk, length};
+ghost use Rattle.vcd_text.specs.Watch.{failed_calls};
+ghost use Rattle.vcd_tools.specs.MergeParts.{AreParts, SameLengths, part_len};
+ghost use Rattle.vcd_tools.specs.MergeRoom.{kept_in};
+ghost use Rattle.vcd_tools.specs.Seat.{IsSeated};
+
+use std::alloc::{AllocError, Global};
+use std::process::Abort;
+use std::test::Fail;
+use vcd_head::{Head, HeadFault, read_head};
+use vcd_text::{Feed, Source, Watch};
+use vcd_tools::{Done, Seat, Stop, Windows, merge};
+
+// An input whose header was read.
+#[derive(Drop)]
+struct Begun {
+    head: Head,
+    seat: Seat,
+}
+
+// Reads the header of an input over windows of its own, and parks its feed.
+fn begin<S: Source>(
+    alloc: Global,
+    source: &mut S,
+    chunk: &mut [u8],
+    token: &mut [u8],
+    value: &mut [u8],
+) -> Result<Begun, HeadFault>
+    requires failures { S.failures source.old ≡ 0 }
+    requires chunk_some { 0 < length chunk.old }
+    requires token_some { 0 < length token.old }
+    requires same_limit { length value.old ≡ length token.old }
+    ensures seated { IfOk result
+        (λ begun. IsSeated (length chunk.old) (length token.old) begun.seat) }
+{
+    let mut feed = Feed::new(source, chunk, token, value);
+    let head = read_head(alloc, &mut feed, 16_777_216)?;
+    let seat = Seat::new(feed.parked());
+    Ok(Begun { head, seat })
+}
+
+// The same over the parts of the windows at a place among so many inputs.
+fn begin_at<S: Source>(
+    alloc: Global,
+    input: usize,
+    inputs: usize,
+    source: &mut S,
+    windows: &mut Windows<'_>,
+) -> Result<Begun, HeadFault>
+    requires failures { S.failures source.old ≡ 0 }
+    requires input { input < inputs }
+    requires parts { AreParts
+        inputs windows.old.chunks.now windows.old.tokens.now windows.old.values.now }
+    ensures lengths { SameLengths windows.old windows.new }
+    ensures seated { IfOk result (λ begun. IsSeated (part_len inputs windows.old.chunks.now)
+        (part_len inputs windows.old.tokens.now) begun.seat) }
+{
+    let chunk = windows.chunks.len() / inputs;
+    let limit = windows.tokens.len() / inputs;
+    let chunk_at = input * chunk;
+    let token_at = input * limit;
+    begin(
+        alloc,
+        source,
+        &mut windows.chunks[chunk_at..chunk_at + chunk],
+        &mut windows.tokens[token_at..token_at + limit],
+        &mut windows.values[token_at..token_at + limit],
+    )
+}
+
+// Inputs whose headers were read, and how many marks each of their heads has enough of.
+#[derive(Drop)]
+struct Inputs<'t> {
+    heads: Vec<Head>,
+    seats: Vec<Seat>,
+    sources: Vec<Watch<&'t [u8]>>,
+    marks: usize,
+}
+
+impl<'t> Inputs<'t> {
+    ghost use Rattle.std.specs.Prelude.{◌++◌, ◌∷◌, [], max};
+    ghost use Rattle.vcd_head.specs.Shown.{shown};
+
+    fn push(&mut self, begun: Begun, source: Watch<&'t [u8]>) -> Result<(), AllocError>
+        ensures { IfOk result
+            (λ _. (self.new.heads.items ≡ self.old.heads.items ++ begun.head ∷ [])
+            × (self.new.seats.items ≡ self.old.seats.items ++ begun.seat ∷ [])
+            × (self.new.sources.items ≡ self.old.sources.items ++ source.entry ∷ [])
+            × (self.new.marks ≡ max self.old.marks (length (shown begun.head).rows))) }
+    {
+        self.marks = self.marks.max(begun.head.view().rows.len());
+        self.heads.push(begun.head)?;
+        self.seats.push(begun.seat)?;
+        self.sources.push(source)?;
+        Ok(())
+    }
+}
+
+// Reads the headers of these texts, each over its own parts of the windows.
+fn begin_all<'t>(
+    alloc: Global,
+    texts: &[&'t [u8]],
+    windows: &mut Windows<'_>,
+) -> Result<Inputs<'t>, HeadFault>
+    requires parts { AreParts (length texts.now)
+        windows.old.chunks.now windows.old.tokens.now windows.old.values.now }
+    ensures lengths { SameLengths windows.old windows.new }
+    ensures many { IfOk result (λ inputs. (length inputs.heads.items ≡ length texts.now)
+        × (length inputs.seats.items ≡ length texts.now)
+        × (length inputs.sources.items ≡ length texts.now)) }
+    ensures seated { IfOk result (λ inputs.
+        All (IsSeated (part_len (length texts.now) windows.old.chunks.now)
+        (part_len (length texts.now) windows.old.tokens.now)) inputs.seats.items) }
+    ensures reads { IfOk result (λ inputs.
+        All (λ s. failed_calls s < 2 ^ 64 - 1) inputs.sources.items) }
+    ensures marks { IfOk result (λ inputs. inputs.marks ≤ (kept_in inputs.heads.items).rows) }
+{
+    let mut inputs = Inputs {
+        heads: Vec::new(alloc),
+        seats: Vec::new(alloc),
+        sources: Vec::new(alloc),
+        marks: 0,
+    };
+    for input in 0..texts.len() {
+        let mut source = Watch::new(texts[input]);
+        let begun = begin_at(alloc, input, texts.len(), &mut source, windows)?;
+        if source.failures() != 0 {
+            return Err(HeadFault::ReadFailed);
+        }
+        inputs.push(begun, source)?;
+    }
+    Ok(inputs)
+}
+
+// How a merge of these texts ends, so many bytes of each at a time, and what it writes.
+fn merge_of(
+    alloc: Global,
+    texts: &[&[u8]],
+    chunk: usize,
+) -> Result<(Result<Done, Stop>, Vec<u8>), HeadFault>
+    requires texts { (0 < length texts.now) × (length texts.now ≤ 64) }
+    requires chunk { (0 < chunk) × (chunk ≤ 65536) }
+{
+    let mut chunks = vec![in alloc; 0u8; texts.len() * chunk]?;
+    let mut tokens = vec![in alloc; 0u8; texts.len() * 64]?;
+    let mut values = vec![in alloc; 0u8; texts.len() * 64]?;
+    let mut windows = Windows {
+        chunks: &mut chunks,
+        tokens: &mut tokens,
+        values: &mut values,
+    };
+    let Inputs {
+        heads,
+        mut seats,
+        mut sources,
+        marks,
+    } = begin_all(alloc, texts, &mut windows)?;
+    let mut marks = vec![in alloc; 0u8; marks]?;
+    let mut out = Watch::new(Vec::with_capacity(alloc, 8192)?);
+    let answer = merge(
+        &heads,
+        &mut seats,
+        &mut marks,
+        &mut sources,
+        &mut windows,
+        &mut out,
+    );
+    Ok((answer, out.device))
+}
+
+// A merge of these texts writes this and has this answer, however many bytes are read at a time.
+fn gives<R: Abort + AllocGlobal>(
+    rt: &R,
+    texts: &[&[u8]],
+    written: &[u8],
+    answer: Result<Done, Stop>,
+) -> Result<(), HeadFault>
+    requires texts { (0 < length texts.now) × (length texts.now ≤ 64) }
+{
+    for chunk in [1, 7, 65_536] {
+        let (given, output) = merge_of(rt.alloc(), texts, chunk)?;
+        assert_eq!(rt; output.as_slice(), written, "by {chunk}");
+        assert_eq!(rt; given, answer, "by {chunk}");
+    }
+    Ok(())
+}
+
+const CLOCK: &[u8] =
+    b"$timescale 1ns $end\n$var wire 1 ! clk $end\n$enddefinitions $end\n#0\n0!\n#5\n1!\n";
+
+const CLOCK_ALONE: &[u8] =
+    b"$timescale\n\t1ns\n$end\n$scope module in1 $end\n$var wire 1 ! clk $end\n$upscope $end\n$enddefinitions $end\n#0\n0!\n#5\n1!\n";
+
+#[test]
+fn one_input(rt: HostRuntime) -> Result<(), Fail> {
+    gives(&rt, &[CLOCK], CLOCK_ALONE, Ok(Done::Whole))?;
+    Ok(())
+}
+
+// Its header has no item behind it.
+const NO_ITEMS: &[u8] = b"$timescale 1ns $end\n$var wire 1 ! clk $end\n$enddefinitions $end\n";
+
+const NO_ITEMS_ALONE: &[u8] =
+    b"$timescale\n\t1ns\n$end\n$scope module in1 $end\n$var wire 1 ! clk $end\n$upscope $end\n$enddefinitions $end\n";
+
+#[test]
+fn no_items(rt: HostRuntime) -> Result<(), Fail> {
+    gives(&rt, &[NO_ITEMS], NO_ITEMS_ALONE, Ok(Done::Whole))?;
+    Ok(())
+}
+
+// Two time scales. Both have changes at 2 ns, and the last mark of the second has none.
+const COARSE: &[u8] =
+    b"$timescale 1ns $end\n$var wire 1 ! clk $end\n$enddefinitions $end\n#0\n0!\n#2\n1!\n#4\n0!\n";
+
+const FINE: &[u8] =
+    b"$timescale 1ps $end\n$scope module bus $end\n$var wire 4 v data [3:0] $end\n$var wire 1 ! ok $end\n$upscope $end\n$enddefinitions $end\n#1500\nb0101 v\n#2000\n1!\nb0000 v\n#3999\n0!\n#5000\n";
+
+const COARSE_AND_FINE: &[u8] =
+    b"$timescale\n\t1ps\n$end\n$scope module in1 $end\n$var wire 1 ! clk $end\n$upscope $end\n$scope module in2 $end\n$scope module bus $end\n$var wire 4 \" data [3:0] $end\n$var wire 1 # ok $end\n$upscope $end\n$upscope $end\n$enddefinitions $end\n#0\n0!\n#1500\nb101 \"\n#2000\n1!\n1#\nb0 \"\n#3999\n0#\n#4000\n0!\n#5000\n";
+
+const FINE_AND_COARSE: &[u8] =
+    b"$timescale\n\t1ps\n$end\n$scope module in1 $end\n$scope module bus $end\n$var wire 4 ! data [3:0] $end\n$var wire 1 \" ok $end\n$upscope $end\n$upscope $end\n$scope module in2 $end\n$var wire 1 # clk $end\n$upscope $end\n$enddefinitions $end\n#0\n0#\n#1500\nb101 !\n#2000\n1\"\nb0 !\n1#\n#3999\n0\"\n#4000\n0#\n#5000\n";
+
+#[test]
+fn two_time_scales(rt: HostRuntime) -> Result<(), Fail> {
+    gives(&rt, &[COARSE, FINE], COARSE_AND_FINE, Ok(Done::Whole))?;
+    gives(&rt, &[FINE, COARSE], FINE_AND_COARSE, Ok(Done::Whole))?;
+    Ok(())
+}
+
+// An event inside a section and outside, and a time that is marked twice.
+const TOP: &[u8] =
+    b"$timescale 10us $end\n$scope module top $end\n$var reg 2 a q [1:0] $end\n$var event 1 b go $end\n$upscope $end\n$enddefinitions $end\n#0\n$dumpvars\nbxx a\n1b\n$end\n#3\nb01 a\n1b\n#3\nb10 a\n";
+
+const TOP_TWICE: &[u8] =
+    b"$timescale\n\t10us\n$end\n$scope module in1 $end\n$scope module top $end\n$var reg 2 ! q [1:0] $end\n$var event 1 \" go $end\n$upscope $end\n$upscope $end\n$scope module in2 $end\n$scope module top $end\n$var reg 2 # q [1:0] $end\n$var event 1 $ go $end\n$upscope $end\n$upscope $end\n$enddefinitions $end\n#0\nbx !\nbx #\n#3\nb1 !\n1\"\nb10 !\nb1 #\n1$\nb10 #\n";
+
+#[test]
+fn the_same_dump_twice(rt: HostRuntime) -> Result<(), Fail> {
+    gives(&rt, &[TOP, TOP], TOP_TWICE, Ok(Done::Whole))?;
+    Ok(())
+}
+
+const ODD: &[u8] = b"$var wire 1 ! a $end\n$enddefinitions $end\n#1\n1!\n#5\n0!\n#9\n1!\n";
+
+// An unknown command between the times 5 and 9.
+const BAD_AT_SIX: &[u8] =
+    b"$var wire 1 ! b $end\n$enddefinitions $end\n#2\n1!\n#5\n0!\n#6\n?\n1!\n#7\n1!\n";
+
+const BEFORE_SIX: &[u8] =
+    b"$timescale\n\t1s\n$end\n$scope module in1 $end\n$var wire 1 ! a $end\n$upscope $end\n$scope module in2 $end\n$var wire 1 \" b $end\n$upscope $end\n$enddefinitions $end\n#1\n1!\n#2\n1\"\n#5\n0!\n0\"\n";
+
+#[test]
+fn a_fault_of_the_second_input(rt: HostRuntime) -> Result<(), Fail> {
+    let stop = Stop::Dump {
+        input: 1,
+        line: 8,
+        fault: 3,
+    };
+    gives(&rt, &[ODD, BAD_AT_SIX], BEFORE_SIX, Err(stop))?;
+    Ok(())
+}
+
+// An unknown command at time 5, between two changes.
+const BAD_AT_FIVE: &[u8] = b"$var wire 1 ! b $end\n$enddefinitions $end\n#2\n1!\n#5\n0!\n?\n1!\n";
+
+const BEFORE_ODD: &[u8] =
+    b"$timescale\n\t1s\n$end\n$scope module in1 $end\n$var wire 1 ! b $end\n$upscope $end\n$scope module in2 $end\n$var wire 1 \" a $end\n$upscope $end\n$enddefinitions $end\n#1\n1\"\n#2\n1!\n#5\n0!\n";
+
+// Of one time, what the inputs before the one with the fault have is written, and no more.
+#[test]
+fn a_fault_at_a_time_of_both(rt: HostRuntime) -> Result<(), Fail> {
+    let first = Stop::Dump {
+        input: 0,
+        line: 7,
+        fault: 3,
+    };
+    gives(&rt, &[BAD_AT_FIVE, ODD], BEFORE_ODD, Err(first))?;
+    let second = Stop::Dump {
+        input: 1,
+        line: 7,
+        fault: 3,
+    };
+    gives(&rt, &[ODD, BAD_AT_FIVE], BEFORE_SIX, Err(second))?;
+    Ok(())
+}
+
+// 18,446 s are the most in femtoseconds.
+const LONG: &[u8] =
+    b"$timescale 1s $end\n$var wire 1 ! a $end\n$enddefinitions $end\n#18446\n1!\n#18447\n0!\n";
+
+const FEMTOSECONDS: &[u8] =
+    b"$timescale 1fs $end\n$var wire 1 ! b $end\n$enddefinitions $end\n#7\n1!\n#18446000000000000000\n0!\n#18446000000000000001\n1!\n";
+
+const BEFORE_TOO_LARGE: &[u8] =
+    b"$timescale\n\t1fs\n$end\n$scope module in1 $end\n$var wire 1 ! b $end\n$upscope $end\n$scope module in2 $end\n$var wire 1 \" a $end\n$upscope $end\n$enddefinitions $end\n#7\n1!\n#18446000000000000000\n0!\n1\"\n";
+
+#[test]
+fn a_time_too_large(rt: HostRuntime) -> Result<(), Fail> {
+    let stop = Stop::Dump {
+        input: 1,
+        line: 6,
+        fault: 20,
+    };
+    gives(&rt, &[FEMTOSECONDS, LONG], BEFORE_TOO_LARGE, Err(stop))?;
+    Ok(())
+}
+
+// It has the finest time scale, and no item.
+const EMPTY: &[u8] =
+    b"$timescale 100ps $end\n$var real 1 r r $end\n$enddefinitions $end\n$comment none $end\n";
+
+const SLOW: &[u8] =
+    b"$timescale 1us $end\n$var wire 1 c c $end\n$enddefinitions $end\n#0\n0c\n#1\n1c\n";
+
+const ABOUT_EMPTY: &[u8] =
+    b"$timescale\n\t100ps\n$end\n$scope module in1 $end\n$var wire 1 ! clk $end\n$upscope $end\n$scope module in2 $end\n$var real 1 \" r $end\n$upscope $end\n$scope module in3 $end\n$var wire 1 # c $end\n$upscope $end\n$enddefinitions $end\n#0\n0!\n0#\n#50\n1!\n#10000\n1#\n";
+
+#[test]
+fn an_input_without_items_between_two(rt: HostRuntime) -> Result<(), Fail> {
+    gives(&rt, &[CLOCK, EMPTY, SLOW], ABOUT_EMPTY, Ok(Done::Whole))?;
+    Ok(())
+}
+
+const SMALL: &[u8] =
+    b"$timescale 1ns $end\n$var wire 1 ! a $end\n$enddefinitions $end\n#0\n0!\n#1\n1!\n";
+
+// Where a merge of 64 of them begins, and where it ends.
+const FIRST_OF_ALL: &[u8] =
+    b"$timescale\n\t1ns\n$end\n$scope module in1 $end\n$var wire 1 ! a $end\n$upscope $end\n$scope module in2 $end\n$var wire 1 \" a $end\n$upscope $end\n";
+
+const LAST_OF_ALL: &[u8] = b"\n1\\\n1]\n1^\n1_\n1`\n";
+
+// 42 bytes are of no input, 57 and the digits of its number of each header; each of two times has a line, and 64 changes.
+#[test]
+fn as_many_inputs_as_there_may_be(rt: HostRuntime) -> Result<(), Fail> {
+    let (answer, output) = merge_of(rt.alloc(), &[SMALL; 64], 7)?;
+    assert_eq!(rt; answer, Ok(Done::Whole));
+    assert_eq!(rt; output.len(), 42 + 64 * 57 + 9 + 55 * 2 + 2 * (3 + 64 * 3));
+    assert!(rt; output.starts_with(FIRST_OF_ALL));
+    assert!(rt; output.ends_with(LAST_OF_ALL));
+    Ok(())
+}

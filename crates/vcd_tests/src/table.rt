@@ -1,0 +1,636 @@
+// Tables with room of exactly `need`: what is held, how it is written, counters, and codes that are chosen.
+ghost use Rattle.std.specs.Prelude.{◌≡◌, ◌<◌};
+
+use std::alloc::{AllocError, Global};
+use std::test::Fail;
+use vcd_body::{Form, Shown, Slot, Step, Table};
+use vcd_head::{Code, HeadView, need};
+use vcd_text::doubles::Narrow;
+use vcd_text::{Sink, Watch, WriteFailed};
+
+// The code `!` of this size.
+fn code_of(size: usize) -> Code {
+    Code {
+        start: 0,
+        len: 1,
+        size,
+        event: false,
+    }
+}
+
+// A header that shows these codes, and nothing else.
+fn view_of(codes: &[Code]) -> HeadView<'_>
+    ensures { result.codes.now ≡ codes.now }
+{
+    HeadView {
+        text: b"!",
+        rows: &[],
+        codes,
+        index: &[],
+        entries: &[],
+        date: &[],
+        version: &[],
+        scale: None,
+    }
+}
+
+// So many of a digit, and then these.
+fn padded(alloc: Global, digit: u8, count: usize, rest: &[u8]) -> Result<Vec<u8>, AllocError> {
+    let mut text = Vec::new(alloc);
+    for _ in 0..count {
+        text.push(digit)?;
+    }
+    text.extend_from_slice(rest)?;
+    Ok(text)
+}
+
+// The digits `z x 0 1`, over and over: no digit of them can be left out.
+fn mixed(alloc: Global, count: usize) -> Result<Vec<u8>, AllocError> {
+    let mut text = Vec::new(alloc);
+    for place in 0..count {
+        text.push(match place % 4 {
+            0 => b'z',
+            1 => b'x',
+            2 => b'0',
+            _ => b'1',
+        })?;
+    }
+    Ok(text)
+}
+
+// `b`, the digits, and the code as a line; at size 1 the digit and the code.
+fn line_of(alloc: Global, size: usize, digits: &[u8]) -> Result<Vec<u8>, AllocError> {
+    let mut line = Vec::new(alloc);
+    if size == 1 {
+        line.extend_from_slice(digits)?;
+        line.extend_from_slice(b"!\n")?;
+    } else {
+        line.extend_from_slice(b"b")?;
+        line.extend_from_slice(digits)?;
+        line.extend_from_slice(b" !\n")?;
+    }
+    Ok(line)
+}
+
+// A code of this size that is set by this text is written so, as a line and in full.
+fn is_shown(
+    alloc: Global,
+    size: usize,
+    form: Form,
+    text: &[u8],
+    line: &[u8],
+    full: &[u8],
+) -> Result<bool, AllocError> {
+    let codes = [code_of(size)];
+    let view = view_of(&codes);
+    let mut values = vec![in alloc; 255u8; need(view).values]?;
+    let mut slots = [Slot::new()];
+    let mut table = Table::new(view, &mut values, &mut slots);
+    table.set(0, form, text);
+    let mut short_page = Watch::new(Narrow::new(1024));
+    let mut full_page = Watch::new(Narrow::new(1024));
+    let is_short = table.put_short(view, 0, &mut short_page).is_ok();
+    let is_full = table.put_full(view, 0, &mut full_page).is_ok();
+    Ok(is_short && is_full && short_page.device.held() == line && full_page.device.held() == full)
+}
+
+// Digits that set a code of this size are written as these, the shortest, and in full.
+fn are_shown(
+    alloc: Global,
+    size: usize,
+    text: &[u8],
+    shortest: &[u8],
+    full: &[u8],
+) -> Result<bool, AllocError> {
+    let line = line_of(alloc, size, shortest)?;
+    is_shown(alloc, size, Form::Vector, text, &line, full)
+}
+
+// Digits of a code of some size: these alone, one for each place, `1` at the last place and `0` before it, and `z x 0 1` over and over.
+#[derive(Clone, Copy)]
+enum Digits {
+    Alone(u8),
+    Each(u8),
+    LastOne,
+    Mixed,
+}
+
+fn text_of(alloc: Global, size: usize, digits: Digits) -> Result<Vec<u8>, AllocError>
+    requires { 0 < size }
+{
+    match digits {
+        Digits::Alone(digit) => padded(alloc, digit, 1, b""),
+        Digits::Each(digit) => padded(alloc, digit, size, b""),
+        Digits::LastOne => padded(alloc, b'0', size - 1, b"1"),
+        Digits::Mixed => mixed(alloc, size),
+    }
+}
+
+// Digits that set a code, the shortest for them, and those in full.
+const VALUES: [(&str, Digits, Digits, Digits); 9] = [
+    (
+        "1",
+        Digits::Alone(b'1'),
+        Digits::Alone(b'1'),
+        Digits::LastOne,
+    ),
+    (
+        "0",
+        Digits::Alone(b'0'),
+        Digits::Alone(b'0'),
+        Digits::Each(b'0'),
+    ),
+    (
+        "X",
+        Digits::Alone(b'X'),
+        Digits::Alone(b'x'),
+        Digits::Each(b'x'),
+    ),
+    (
+        "Z",
+        Digits::Alone(b'Z'),
+        Digits::Alone(b'z'),
+        Digits::Each(b'z'),
+    ),
+    (
+        "1s",
+        Digits::Each(b'1'),
+        Digits::Each(b'1'),
+        Digits::Each(b'1'),
+    ),
+    (
+        "0s",
+        Digits::Each(b'0'),
+        Digits::Alone(b'0'),
+        Digits::Each(b'0'),
+    ),
+    (
+        "xs",
+        Digits::Each(b'x'),
+        Digits::Alone(b'x'),
+        Digits::Each(b'x'),
+    ),
+    (
+        "0s and 1",
+        Digits::LastOne,
+        Digits::Alone(b'1'),
+        Digits::LastOne,
+    ),
+    ("all digits", Digits::Mixed, Digits::Mixed, Digits::Mixed),
+];
+
+#[test]
+fn digits_of_each_form_at_each_size(rt: HostRuntime) -> Result<(), Fail> {
+    let alloc = rt.alloc();
+    for size in [1, 2, 4, 5, 63, 64, 65, 1_000] {
+        for (name, digits, shortest, full) in VALUES {
+            let text = text_of(alloc, size, digits)?;
+            let shortest = text_of(alloc, size, shortest)?;
+            let full = text_of(alloc, size, full)?;
+            assert!(rt;
+                are_shown(alloc, size, &text, &shortest, &full)?,
+                "{name} at {size}"
+            );
+        }
+    }
+    Ok(())
+}
+
+#[test]
+fn real_number_at_each_size(rt: HostRuntime) -> Result<(), Fail> {
+    let line = b"r-1.5E3 !\n".as_slice();
+    let full = b"r-1.5E3".as_slice();
+    for size in [1, 2, 4, 5, 63, 64, 65, 1_000] {
+        assert!(rt;
+            is_shown(rt.alloc(), size, Form::RealText, b"-1.5E3", line, full)?,
+            "at {size}"
+        );
+    }
+    Ok(())
+}
+
+// A share of 75 bytes: of so many digits it holds a byte each, and of 76 a byte for four.
+#[test]
+fn digits_that_have_a_byte_each_and_more(rt: HostRuntime) -> Result<(), Fail> {
+    let alloc = rt.alloc();
+    for count in 64..77 {
+        let text = mixed(alloc, count)?;
+        let full = padded(alloc, b'z', 300 - count, &text)?;
+        let other = padded(alloc, b'x', count - 1, b"0")?;
+        assert!(rt;
+            are_shown(alloc, 300, &text, &text, &full)?,
+            "{count} digits"
+        );
+        assert!(rt;
+            are_one(alloc, 300, &text, &full)?,
+            "{count} digits and 300"
+        );
+        assert!(rt;
+            are_two(alloc, 300, &text, &other)?,
+            "{count} digits and others"
+        );
+    }
+    Ok(())
+}
+
+// A size, digits that set a code of it, the shortest for them, and those in full.
+const SHORT_DIGITS: [(usize, &[u8], &[u8], &[u8]); 10] = [
+    (4, b"10", b"10", b"0010"),
+    (4, b"x10", b"x10", b"xx10"),
+    (4, b"zx0", b"zx0", b"zzx0"),
+    (4, b"0x10", b"0x10", b"0x10"),
+    (4, b"00x1", b"0x1", b"00x1"),
+    (4, b"0xxx", b"0xxx", b"0xxx"),
+    (4, b"ZzX0", b"zx0", b"zzx0"),
+    (4, b"xz10", b"xz10", b"xz10"),
+    (5, b"x10", b"x10", b"xxx10"),
+    (2, b"01", b"1", b"01"),
+];
+
+#[test]
+fn short_digits_are_extended(rt: HostRuntime) -> Result<(), Fail> {
+    for (size, text, shortest, full) in SHORT_DIGITS {
+        assert!(rt; are_shown(rt.alloc(), size, text, shortest, full)?);
+    }
+    Ok(())
+}
+
+#[test]
+fn short_digits_are_extended_past_a_word(rt: HostRuntime) -> Result<(), Fail> {
+    let alloc = rt.alloc();
+    let wide = padded(alloc, b'x', 63, b"10")?;
+    assert!(rt; are_shown(alloc, 65, b"x10", b"x10", &wide)?);
+    assert!(rt; are_shown(alloc, 65, &wide, b"x10", &wide)?);
+    Ok(())
+}
+
+#[test]
+fn unset_codes_and_places_of_none(rt: HostRuntime) -> Result<(), Fail> {
+    let alloc = rt.alloc();
+    let codes = [code_of(4)];
+    let view = view_of(&codes);
+    let mut values = vec![in alloc; 255u8; need(view).values]?;
+    let mut slots = [Slot::new(); 2];
+    let mut table = Table::new(view, &mut values, &mut slots);
+    table.set(1, Form::Vector, b"10");
+    table.bump(1, 0);
+    table.choose(1);
+    for code in 0..2 {
+        assert!(rt; is_short(&table, view, code, b""), "at {code}");
+        assert!(rt; is_full(&table, view, code, b"-"), "at {code}");
+    }
+    assert!(rt; is_nothing(&table, view));
+    Ok(())
+}
+
+// The first code is unset, and the second place has no value, counter or choice.
+fn is_nothing(table: &Table<'_>, view: HeadView<'_>) -> bool {
+    table.get(0) == Shown::Unset
+        && table.get(1) == Shown::Unset
+        && table.digit(view, 0, 0).is_none()
+        && table.real(0).is_empty()
+        && table.tally(1) == [0, 0, 0]
+        && !table.chosen(1)
+}
+
+// A text that sets a code of 6 bits, what is shown then, the digits by their places, and the text of a real number.
+const PLACES: [(Form, &[u8], Shown, [Option<u8>; 7], &[u8]); 3] = [
+    (
+        Form::Vector,
+        b"X0z10",
+        Shown::Bits,
+        [
+            Some(b'x'),
+            Some(b'x'),
+            Some(b'0'),
+            Some(b'z'),
+            Some(b'1'),
+            Some(b'0'),
+            None,
+        ],
+        b"",
+    ),
+    (Form::RealText, b"2", Shown::Real, [None; 7], b"2"),
+    (
+        Form::Scalar,
+        b"1",
+        Shown::Bits,
+        [
+            Some(b'0'),
+            Some(b'0'),
+            Some(b'0'),
+            Some(b'0'),
+            Some(b'0'),
+            Some(b'1'),
+            None,
+        ],
+        b"",
+    ),
+];
+
+#[test]
+fn digits_by_their_places(rt: HostRuntime) -> Result<(), Fail> {
+    let alloc = rt.alloc();
+    let codes = [code_of(6)];
+    let view = view_of(&codes);
+    let mut values = vec![in alloc; 255u8; need(view).values]?;
+    let mut slots = [Slot::new()];
+    let mut table = Table::new(view, &mut values, &mut slots);
+    for (form, text, kind, digits, real) in PLACES {
+        table.set(0, form, text);
+        assert_eq!(rt; table.get(0), kind);
+        for place in 0..7 {
+            assert_eq!(rt; table.digit(view, 0, place), digits[place], "at {place}");
+        }
+        assert_eq!(rt; table.real(0), real);
+    }
+    Ok(())
+}
+
+// Whether a code of this size that is set by one text gets another value by a second one.
+fn is_changed(
+    alloc: Global,
+    size: usize,
+    first: (Form, &[u8]),
+    second: (Form, &[u8]),
+) -> Result<bool, AllocError> {
+    let codes = [code_of(size)];
+    let view = view_of(&codes);
+    let mut values = vec![in alloc; 255u8; need(view).values]?;
+    let mut slots = [Slot::new()];
+    let mut table = Table::new(view, &mut values, &mut slots);
+    table.set(0, first.0, first.1);
+    Ok(table.replace(0, size, second.0, second.1).differs)
+}
+
+// The same of two texts of digits, whichever comes first: they are two values, or one.
+fn are_two(alloc: Global, size: usize, one: &[u8], other: &[u8]) -> Result<bool, AllocError> {
+    let there = is_changed(alloc, size, (Form::Vector, one), (Form::Vector, other))?;
+    let back = is_changed(alloc, size, (Form::Vector, other), (Form::Vector, one))?;
+    Ok(there && back)
+}
+
+fn are_one(alloc: Global, size: usize, one: &[u8], other: &[u8]) -> Result<bool, AllocError> {
+    let there = is_changed(alloc, size, (Form::Vector, one), (Form::Vector, other))?;
+    let back = is_changed(alloc, size, (Form::Vector, other), (Form::Vector, one))?;
+    Ok(!there && !back)
+}
+
+// Digits that are one value of a code.
+const ONE_VALUE: [(&str, Digits, Digits); 5] = [
+    ("0", Digits::Alone(b'0'), Digits::Each(b'0')),
+    ("1", Digits::Alone(b'1'), Digits::LastOne),
+    ("x", Digits::Alone(b'x'), Digits::Each(b'X')),
+    ("Z", Digits::Alone(b'Z'), Digits::Each(b'z')),
+    ("all", Digits::Mixed, Digits::Mixed),
+];
+
+#[test]
+fn digits_of_one_value_at_each_size(rt: HostRuntime) -> Result<(), Fail> {
+    let alloc = rt.alloc();
+    for size in [1, 2, 4, 5, 63, 64, 65] {
+        for (name, one, other) in ONE_VALUE {
+            let one = text_of(alloc, size, one)?;
+            let other = text_of(alloc, size, other)?;
+            assert!(rt; are_one(alloc, size, &one, &other)?, "{name} at {size}");
+        }
+    }
+    Ok(())
+}
+
+// Digits that are two values of a code.
+const TWO_VALUES: [(&str, Digits, Digits); 4] = [
+    ("0 and 1", Digits::Alone(b'0'), Digits::Alone(b'1')),
+    ("x and z", Digits::Alone(b'x'), Digits::Alone(b'z')),
+    ("0s and xs", Digits::Each(b'0'), Digits::Each(b'X')),
+    ("0 and 1s", Digits::Alone(b'0'), Digits::Each(b'1')),
+];
+
+#[test]
+fn digits_of_two_values_at_each_size(rt: HostRuntime) -> Result<(), Fail> {
+    let alloc = rt.alloc();
+    for size in [1, 2, 4, 5, 63, 64, 65] {
+        for (name, one, other) in TWO_VALUES {
+            let one = text_of(alloc, size, one)?;
+            let other = text_of(alloc, size, other)?;
+            assert!(rt; are_two(alloc, size, &one, &other)?, "{name} at {size}");
+        }
+    }
+    Ok(())
+}
+
+#[test]
+fn one_digit_and_each_digit_a_one(rt: HostRuntime) -> Result<(), Fail> {
+    let alloc = rt.alloc();
+    for size in [1, 2, 4, 5, 63, 64, 65] {
+        let ones = padded(alloc, b'1', size, b"")?;
+        assert_eq!(rt;
+            are_one(alloc, size, b"1", &ones)?,
+            size == 1,
+            "1 and 1s at {size}"
+        );
+    }
+    Ok(())
+}
+
+// Digits that are one value of a code of 4 bits, and digits that are two.
+const ONE_OF_FOUR: [(&[u8], &[u8]); 2] = [(b"10", b"010"), (b"x10", b"XX10")];
+
+const TWO_OF_FOUR: [(&[u8], &[u8]); 3] = [(b"10", b"x10"), (b"x10", b"0x10"), (b"110", b"10")];
+
+#[test]
+fn short_digits_that_differ(rt: HostRuntime) -> Result<(), Fail> {
+    for (one, other) in ONE_OF_FOUR {
+        assert!(rt; are_one(rt.alloc(), 4, one, other)?);
+    }
+    for (one, other) in TWO_OF_FOUR {
+        assert!(rt; are_two(rt.alloc(), 4, one, other)?);
+    }
+    Ok(())
+}
+
+#[test]
+fn short_digits_that_differ_past_a_word(rt: HostRuntime) -> Result<(), Fail> {
+    let alloc = rt.alloc();
+    let wide = padded(alloc, b'x', 63, b"10")?;
+    assert!(rt; are_one(alloc, 65, b"x10", &wide)?);
+    assert!(rt; are_two(alloc, 66, b"10", &wide)?);
+    Ok(())
+}
+
+// A size, two texts that set a code of it, and whether they are two values.
+const REAL_NUMBERS: [(usize, (Form, &[u8]), (Form, &[u8]), bool); 4] = [
+    (
+        64,
+        (Form::RealText, b"0.5"),
+        (Form::RealText, b"0.5"),
+        false,
+    ),
+    (
+        64,
+        (Form::RealText, b"0.5"),
+        (Form::RealText, b"0.50"),
+        true,
+    ),
+    (1, (Form::Scalar, b"1"), (Form::RealText, b"1"), true),
+    (1, (Form::RealText, b"1"), (Form::Scalar, b"1"), true),
+];
+
+#[test]
+fn real_numbers_that_differ(rt: HostRuntime) -> Result<(), Fail> {
+    for (size, first, second, differs) in REAL_NUMBERS {
+        assert_eq!(rt; is_changed(rt.alloc(), size, first, second)?, differs);
+    }
+    Ok(())
+}
+
+#[test]
+fn value_of_no_code_never_differs(rt: HostRuntime) {
+    let codes = [code_of(4)];
+    let mut slots = [Slot::new()];
+    let mut table = Table::new(view_of(&codes), &mut [], &mut slots);
+    for (code, text) in [(0, b"1"), (1, b"1"), (1, b"0")] {
+        assert_eq!(rt;
+            table.replace(code, 4, Form::Scalar, text),
+            step_of(false, 0)
+        );
+    }
+}
+
+// A step that differs or not, and goes up, down, or neither.
+fn step_of(differs: bool, way: i8) -> Step {
+    Step {
+        differs,
+        rises: way > 0,
+        falls: way < 0,
+    }
+}
+
+// Texts that set a code of 9 bits one after another, whether its value differs by each, and whether its last digit goes up (1) or down (-1).
+const STEPS: [(Form, &[u8], bool, i8); 12] = [
+    (Form::Scalar, b"Z", false, 0),
+    (Form::Scalar, b"z", false, 0),
+    (Form::Vector, b"01", true, 0),
+    (Form::Scalar, b"1", false, 0),
+    (Form::Scalar, b"0", true, -1),
+    (Form::Scalar, b"1", true, 1),
+    (Form::Vector, b"x00110010", true, -1),
+    (Form::Vector, b"X00110010", false, 0),
+    (Form::Vector, b"100110010", true, 0),
+    (Form::Vector, b"110011", true, 1),
+    (Form::RealText, b"1", true, 0),
+    (Form::RealText, b"1", false, 0),
+];
+
+#[test]
+fn steps_of_values(rt: HostRuntime) -> Result<(), Fail> {
+    let alloc = rt.alloc();
+    let codes = [code_of(9)];
+    let view = view_of(&codes);
+    let mut values = vec![in alloc; 255u8; need(view).values]?;
+    let mut slots = [Slot::new()];
+    let mut table = Table::new(view, &mut values, &mut slots);
+    for (form, text, differs, way) in STEPS {
+        assert_eq!(rt; table.replace(0, 9, form, text), step_of(differs, way));
+    }
+    Ok(())
+}
+
+// The line of a code's value is this.
+fn is_short(table: &Table<'_>, view: HeadView<'_>, code: usize, line: &[u8]) -> bool {
+    let mut page = Watch::new(Narrow::new(1024));
+    table.put_short(view, code, &mut page).is_ok() && page.device.held() == line
+}
+
+// The value of a code in full is this.
+fn is_full(table: &Table<'_>, view: HeadView<'_>, code: usize, full: &[u8]) -> bool {
+    let mut page = Watch::new(Narrow::new(1024));
+    table.put_full(view, code, &mut page).is_ok() && page.device.held() == full
+}
+
+// The values of three codes in full are these.
+fn are_full(table: &Table<'_>, view: HeadView<'_>, full: [&[u8]; 3]) -> bool {
+    is_full(table, view, 0, full[0])
+        && is_full(table, view, 1, full[1])
+        && is_full(table, view, 2, full[2])
+}
+
+#[test]
+fn shares_lie_apart(rt: HostRuntime) -> Result<(), Fail> {
+    let alloc = rt.alloc();
+    let codes = [code_of(256), code_of(257), code_of(1_000)];
+    let view = view_of(&codes);
+    assert_eq!(rt; need(view).values, 379);
+    let mut values = vec![in alloc; 255u8; 379]?;
+    let mut slots = [Slot::new(); 3];
+    let mut table = Table::new(view, &mut values, &mut slots);
+    let first = mixed(alloc, 256)?;
+    let second = padded(alloc, b'x', 256, b"1")?;
+    let third = mixed(alloc, 1_000)?;
+    table.set(2, Form::Vector, &third);
+    table.set(0, Form::Vector, &first);
+    table.set(1, Form::Vector, &second);
+    assert!(rt; are_full(&table, view, [&first, &second, &third]));
+    let real = padded(alloc, b'7', 64, b"")?;
+    let text = padded(alloc, b'r', 1, &real)?;
+    table.set(0, Form::RealText, &real);
+    assert!(rt; are_full(&table, view, [&text, &second, &third]));
+    Ok(())
+}
+
+#[test]
+fn texts_without_room_are_passed_over(rt: HostRuntime) {
+    let codes = [code_of(8)];
+    let view = view_of(&codes);
+    let mut slots = [Slot::new()];
+    let mut table = Table::new(view, &mut [], &mut slots);
+    table.set(0, Form::Vector, b"1");
+    table.set(0, Form::Vector, b"01");
+    table.set(0, Form::RealText, b"1");
+    table.set(0, Form::Vector, b"");
+    assert!(rt; is_full(&table, view, 0, b"00000001"));
+}
+
+#[test]
+fn counters_of_a_code(rt: HostRuntime) {
+    let codes = [code_of(1); 2];
+    let view = view_of(&codes);
+    let mut slots = [Slot::new(); 2];
+    let mut table = Table::new(view, &mut [], &mut slots);
+    table.bump(1, 0);
+    table.bump(1, 2);
+    table.bump(1, 2);
+    table.bump(1, 3);
+    table.count(1, true, false);
+    table.count(1, false, true);
+    table.count(1, false, false);
+    table.set(1, Form::Scalar, b"1");
+    assert_eq!(rt; table.tally(0), [0, 0, 0]);
+    assert_eq!(rt; table.tally(1), [4, 1, 3]);
+}
+
+#[test]
+fn one_of_three_codes_is_chosen(rt: HostRuntime) {
+    let codes = [code_of(1); 3];
+    let mut slots = [Slot::new(); 4];
+    let mut table = Table::new(view_of(&codes), &mut [], &mut slots);
+    table.choose(1);
+    table.set(1, Form::Scalar, b"x");
+    assert!(rt; !table.chosen(0) && table.chosen(1) && !table.chosen(2));
+    let again = Table::new(view_of(&codes), &mut [], &mut slots);
+    assert!(rt; !again.chosen(0) && !again.chosen(1) && !again.chosen(2));
+    assert_eq!(rt; again.get(1), Shown::Unset);
+}
+
+#[test]
+fn sink_that_fails_at_a_value(rt: HostRuntime) {
+    let codes = [code_of(8)];
+    let view = view_of(&codes);
+    let mut slots = [Slot::new()];
+    let mut table = Table::new(view, &mut [], &mut slots);
+    table.set(0, Form::Vector, b"1");
+    let mut page = Watch::new(Narrow::new(3));
+    assert_eq!(rt; table.put_full(view, 0, &mut page), Err(WriteFailed));
+    assert_eq!(rt; page.device.held(), b"000".as_slice());
+    assert_eq!(rt; Sink::failures(&page), 1);
+}
