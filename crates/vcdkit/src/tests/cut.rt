@@ -85,9 +85,13 @@ fn what_a_cut_writes_is_a_dump(rt: HostRuntime) -> Result<(), Fail> {
     for (from, to, text, _) in CUTS {
         give_report(&rt, Words::Cut(from, to), text)?;
     }
-    give_report(&rt, Words::Cut("0", "18446744073709551615"), TENS)?;
-    give_report(&rt, Words::Cut("0s", "1s"), TENS)?;
-    give_report(&rt, Words::Cut("15ns", "20ns"), TENS)?;
+    for (from, to) in [
+        ("0", "18446744073709551615"),
+        ("0s", "1s"),
+        ("15ns", "20ns"),
+    ] {
+        give_report(&rt, Words::Cut(from, to), TENS)?;
+    }
     Ok(())
 }
 
@@ -122,21 +126,33 @@ fn a_cut_reads_nothing_after_the_mark_past_its_end(rt: HostRuntime) -> Result<()
     Ok(())
 }
 
+const ABOVE: (&[u8], u8) = (b"vcdkit: --from is above --to\n", 2);
+
+const NO_SCALE: (&[u8], u8) = (b"vcdkit: (stdin): no timescale\n", 1);
+
+const OUT_OF_RANGE: (&[u8], u8) = (b"vcdkit: time out of range\n", 2);
+
+// Times, a dump and its header, and the message and the status with which they are refused.
+const REFUSALS: [(&str, &str, (&[u8], &[u8]), (&[u8], u8)); 7] = [
+    ("11ns", "14ns", (TENS, TENS_HEAD), ABOVE),
+    ("3", "29ns", (TENS, TENS_HEAD), ABOVE),
+    ("10ns", "20ns", (MIXED, MIXED_HEAD), NO_SCALE),
+    ("20ns", "10", (MIXED, MIXED_HEAD), NO_SCALE),
+    ("20", "10s", (MIXED, MIXED_HEAD), NO_SCALE),
+    ("184467440738s", "0", (TENS, TENS_HEAD), OUT_OF_RANGE),
+    (
+        "0",
+        "18446744073709551615s",
+        (TENS, TENS_HEAD),
+        OUT_OF_RANGE,
+    ),
+];
+
 #[test]
 fn times_are_refused_once_the_header_is_read(rt: HostRuntime) -> Result<(), Fail> {
-    let above = (b"vcdkit: --from is above --to\n".as_slice(), 2);
-    let no_scale = (b"vcdkit: (stdin): no timescale\n".as_slice(), 1);
-    let out_of_range = (b"vcdkit: time out of range\n".as_slice(), 2);
-    let tens = (TENS, TENS_HEAD);
-    let mixed = (MIXED, MIXED_HEAD);
-    let most = "18446744073709551615s";
-    give_refusal(&rt, Words::Cut("11ns", "14ns"), tens, above)?;
-    give_refusal(&rt, Words::Cut("3", "29ns"), tens, above)?;
-    give_refusal(&rt, Words::Cut("10ns", "20ns"), mixed, no_scale)?;
-    give_refusal(&rt, Words::Cut("20ns", "10"), mixed, no_scale)?;
-    give_refusal(&rt, Words::Cut("20", "10s"), mixed, no_scale)?;
-    give_refusal(&rt, Words::Cut("184467440738s", "0"), tens, out_of_range)?;
-    give_refusal(&rt, Words::Cut("0", most), tens, out_of_range)?;
+    for (from, to, dump, refusal) in REFUSALS {
+        give_refusal(&rt, Words::Cut(from, to), dump, refusal)?;
+    }
     Ok(())
 }
 

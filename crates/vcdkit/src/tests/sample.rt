@@ -98,27 +98,34 @@ fn a_name_that_selects_nothing_counts_before_the_body(rt: HostRuntime) -> Result
     Ok(())
 }
 
+const FALLING: (&[u8], u8) = (b"vcdkit: times must rise\n", 2);
+
+const NO_SCALE: (&[u8], u8) = (b"vcdkit: (stdin): no timescale\n", 1);
+
+const OUT_OF_RANGE: (&[u8], u8) = (b"vcdkit: time out of range\n", 2);
+
+// Times and names, a dump and its header, and the message and the status with which they are refused.
+const REFUSALS: [(&str, Option<&[&str]>, (&[u8], &[u8]), (&[u8], u8)); 8] = [
+    ("11ns,12ns", None, (TENS, TENS_HEAD), FALLING),
+    ("3,29ns", None, (TENS, TENS_HEAD), FALLING),
+    ("2,1ns,0", Some(&["zz"]), (TENS, TENS_HEAD), FALLING),
+    (
+        "18446744073709551615s",
+        None,
+        (TENS, TENS_HEAD),
+        OUT_OF_RANGE,
+    ),
+    ("5,184467440738s,0", None, (TENS, TENS_HEAD), OUT_OF_RANGE),
+    ("10ns", None, (MIXED, MIXED_HEAD), NO_SCALE),
+    ("20,10s", None, (MIXED, MIXED_HEAD), NO_SCALE),
+    ("9ns,5", Some(&["zz"]), (MIXED, MIXED_HEAD), NO_SCALE),
+];
+
 #[test]
 fn times_are_refused_once_the_header_is_read(rt: HostRuntime) -> Result<(), Fail> {
-    let falling = (b"vcdkit: times must rise\n".as_slice(), 2);
-    let no_scale = (b"vcdkit: (stdin): no timescale\n".as_slice(), 1);
-    let out_of_range = (b"vcdkit: time out of range\n".as_slice(), 2);
-    let tens = (TENS, TENS_HEAD);
-    let mixed = (MIXED, MIXED_HEAD);
-    let most = "18446744073709551615s";
-    give_refusal(&rt, Words::Sample("11ns,12ns", None), tens, falling)?;
-    give_refusal(&rt, Words::Sample("3,29ns", None), tens, falling)?;
-    give_refusal(&rt, Words::Sample("2,1ns,0", Some(&["zz"])), tens, falling)?;
-    give_refusal(&rt, Words::Sample(most, None), tens, out_of_range)?;
-    give_refusal(
-        &rt,
-        Words::Sample("5,184467440738s,0", None),
-        tens,
-        out_of_range,
-    )?;
-    give_refusal(&rt, Words::Sample("10ns", None), mixed, no_scale)?;
-    give_refusal(&rt, Words::Sample("20,10s", None), mixed, no_scale)?;
-    give_refusal(&rt, Words::Sample("9ns,5", Some(&["zz"])), mixed, no_scale)?;
+    for (at, names, dump, refusal) in REFUSALS {
+        give_refusal(&rt, Words::Sample(at, names), dump, refusal)?;
+    }
     Ok(())
 }
 

@@ -170,15 +170,22 @@ fn a_command_asks_for_its_job(rt: HostRuntime) -> Result<(), Fail> {
 
 #[test]
 fn words_ask_for_a_want_and_a_limit(rt: HostRuntime) -> Result<(), Fail> {
-    let alloc = rt.alloc();
-    let check = Ok(job_under(Want::Check, 1_048_576));
-    let list = Ok(job_under(Want::List, 1_048_576));
-    assert_eq!(rt; asked(alloc, &["vcdkit", "check"])?, check);
-    assert_eq!(rt; asked(alloc, &["vcdkit", "check", "-i", "63"])?, check);
-    assert_eq!(rt; asked(alloc, &["vcdkit", "list", "-i", "f.vcd"])?, list);
-    let words = ["vcdkit", "list", "--token-limit=100", "-if.vcd"];
-    let job = asked(alloc, words.as_slice())?;
-    assert_eq!(rt; job, Ok(job_under(Want::List, 100)));
+    let asks: [(&[&str], Words<'_, '_>, usize); 4] = [
+        (&["vcdkit", "check"], Words::Check, 1_048_576),
+        (&["vcdkit", "check", "-i", "63"], Words::Check, 1_048_576),
+        (&["vcdkit", "list", "-i", "f.vcd"], Words::List, 1_048_576),
+        (
+            &["vcdkit", "list", "--token-limit=100", "-if.vcd"],
+            Words::List,
+            100,
+        ),
+    ];
+    for (words, want, limit) in asks {
+        assert!(rt; 64 <= limit && limit <= 16_777_216);
+        let job = asked(rt.alloc(), words)?;
+        let wanted = job_under(wanted(rt.alloc(), want)?, limit);
+        assert_eq!(rt; job, Ok(wanted), "of {words:?}");
+    }
     Ok(())
 }
 
@@ -224,18 +231,15 @@ fn a_token_limit_is_a_number_in_its_range(rt: HostRuntime) -> Result<(), Fail> {
 #[test]
 fn an_input_is_named_by_its_option(rt: HostRuntime) -> Result<(), Fail> {
     let alloc = rt.alloc();
-    let words = ["vcdkit", "check", "--token-limit", "64"];
-    let matches = command_of(alloc)?.try_get_matches_from(words.as_slice())?;
-    assert_eq!(rt; input_of(&matches), None);
-
-    let words = ["vcdkit", "list", "-i", "f.vcd"];
-    let matches = command_of(alloc)?.try_get_matches_from(words.as_slice())?;
-    assert_eq!(rt; input_of(&matches), Some("f.vcd"));
-
-    let words = ["vcdkit", "check", "-i", ""];
-    let matches = command_of(alloc)?.try_get_matches_from(words.as_slice())?;
-    assert_eq!(rt; input_of(&matches), Some(""));
-
+    let inputs: [(&[&str], Option<&str>); 3] = [
+        (&["vcdkit", "check", "--token-limit", "64"], None),
+        (&["vcdkit", "list", "-i", "f.vcd"], Some("f.vcd")),
+        (&["vcdkit", "check", "-i", ""], Some("")),
+    ];
+    for (words, input) in inputs {
+        let matches = command_of(alloc)?.try_get_matches_from(words)?;
+        assert_eq!(rt; input_of(&matches), input, "of {words:?}");
+    }
     let bare = Command::new(alloc, "vcdkit");
     let matches = bare.try_get_matches_from(["vcdkit"].as_slice())?;
     assert_eq!(rt; input_of(&matches), None);
