@@ -1,10 +1,10 @@
 -- The order of codes by their bytes.
-use Rattle.std.proofs.Common.{◌≡◌, ◌⊎◌, inl, inr, ℕ, zero, suc, ◌+◌, ◌*◌, ◌^◌, ◌<◌, ◌≤◌, Bool, true, false, List, [], ◌∷◌, ◌++◌, length, map, get_or, bytes_eq, slice_get, option_map, unwrap_or, refl, sym, ap, subst, ◌∙◌, arith, zero-add, add-one, pow-suc}
+use Rattle.std.proofs.Common.{◌≡◌, ◌⊎◌, inl, inr, ℕ, zero, suc, ◌+◌, ◌*◌, ◌^◌, ◌<◌, ◌≤◌, Bool, true, false, List, [], ◌∷◌, ◌++◌, length, map, get_or, bytes_eq, option_map, unwrap_or, refl, sym, ap, subst, ◌∙◌, arith, zero-add, add-one, pow-suc}
 use Rattle.std.specs.Prelude.{IsPermutation}
 use Rattle.std.specs.Cmp.{IsTotalOrder, IsStrictWeakOrder, nat_cmp_is}
 use Rattle.std.specs.List.{AllByRecursion, All, IsDistinct, range_with_len}
 use Rattle.std.specs.List.Sorted.{IsSortedBy, IsStrictlySortedBy}
-use Rattle.std.specs.Ordering.{nat_cmp, is_eq, is_lt, ordering_reverse, ordering_then, then_cmp}
+use Rattle.std.specs.Ordering.{nat_cmp, is_eq, is_lt, ordering_reverse, ordering_then}
 use Rattle.std.specs.declared.cmp.Ordering.{Ordering}
 use Rattle.std.specs.declared.cmp.Ordering.TheVariants.{Less, Equal, Greater}
 use Rattle.std.specs.Cmp.Lexicographic.{slice_cmp}
@@ -14,7 +14,7 @@ use Rattle.std.proofs.Math.Nat.{pow-le-pow_right}
 use Rattle.std.proofs.lemmas.List.{get_or-map, length-map, map-append}
 use Rattle.std.proofs.lemmas.List.FromFn.{get_or-range_with_len, length-range_with_len}
 use Rattle.std.proofs.lemmas.List.MinMax.{ranks_by}
-use Rattle.std.proofs.lemmas.List.Sorted.{All-permutation, IsPermutation-map, length_permutation, sorted_far}
+use Rattle.std.proofs.lemmas.List.Sorted.{All-permutation, IsPermutation-map, sorted_far}
 use Rattle.std.proofs.lemmas.Map.Keys.{IsDistinct-IsPermutation, apart_from_distinct}
 use Rattle.std.proofs.lemmas.Map.Text.{is_eq-slice_cmp}
 use Rattle.std.proofs.lemmas.Option.{slice_get-get_or}
@@ -49,7 +49,7 @@ byte_small (b ∷ bs) zero h = h.0
 byte_small (b ∷ bs) (suc i) h = byte_small bs i h.1
 
 -- two texts with the same front have the same first bytes
-same_front : (n : ℕ) (x y : List ℕ) → AreBytes x → AreBytes y → front_in n x ≡ front_in n y → (i : ℕ) → i < n → get_or x i 0 ≡ get_or y i 0
+pub same_front : (n : ℕ) (x y : List ℕ) → AreBytes x → AreBytes y → front_in n x ≡ front_in n y → (i : ℕ) → i < n → get_or x i 0 ≡ get_or y i 0
 same_front zero x y f g e i l = absurd (omega arith)
 same_front (suc n) x y f g e i l =
     let a = byte_small x n f in
@@ -86,7 +86,7 @@ front_less (suc n) x y f g l =
 
 -- ---- the fronts of codes
 
-range_push : (a n : ℕ) → range_with_len a (suc n) ≡ range_with_len a n ++ (a + n) ∷ []
+pub range_push : (a n : ℕ) → range_with_len a (suc n) ≡ range_with_len a n ++ (a + n) ∷ []
 range_push a zero = ap (λ k. k ∷ []) (none_more a)
   where
     none_more : (a : ℕ) → a ≡ a + 0
@@ -145,7 +145,7 @@ rises text codes a b f g x y not_after apart = by_front (cases_lt a.number b.num
 -- ---- the index
 
 -- the bytes of a code are the header's
-bytes_are : (text : List ℕ) (list : List Code) (cs : List IdCode) (p : ℕ) → AreHeld text list cs → p < length cs → bytes_at text list p ≡ code_text cs p
+pub bytes_are : (text : List ℕ) (list : List Code) (cs : List IdCode) (p : ℕ) → AreHeld text list cs → p < length cs → bytes_at text list p ≡ code_text cs p
 bytes_are text list cs p h l =
     let n = codes_len text list cs h.stand in
     let at = slice_get-get_or list p none (omega arith) in
@@ -155,13 +155,13 @@ bytes_are text list cs p h l =
     none : Code
     none = record { start = 0; len = 0; size = 0; event = false }
 
-texts_are : (cs : List IdCode) (p : ℕ) → AllByRecursion (λ (c : IdCode). AreBytes c.text) cs → AreBytes (code_text cs p)
+pub texts_are : (cs : List IdCode) (p : ℕ) → AllByRecursion (λ (c : IdCode). AreBytes c.text) cs → AreBytes (code_text cs p)
 texts_are [] p h = tt
 texts_are (c ∷ cs) zero h = h.0
 texts_are (c ∷ cs) (suc p) h = texts_are cs p h.1
 
 -- texts that rise at each pair of places are in order
-sorted_from : {X : Type 0} (f : X → List ℕ) (xs : List X) → ((i j : ℕ) (d : X) → i < j → j < length xs → slice_cmp nat_cmp (f (get_or xs i d)) (f (get_or xs j d)) ≡ Less) → IsStrictlySortedBy (slice_cmp nat_cmp) (map f xs)
+pub sorted_from : {X : Type 0} (f : X → List ℕ) (xs : List X) → ((i j : ℕ) (d : X) → i < j → j < length xs → slice_cmp nat_cmp (f (get_or xs i d)) (f (get_or xs j d)) ≡ Less) → IsStrictlySortedBy (slice_cmp nat_cmp) (map f xs)
 unfolding IsStrictlySortedBy
 sorted_from f [] h = tt
 sorted_from f (x ∷ xs) h = (above xs (λ j d l. h 0 (suc j) d (omega arith) (omega arith)), sorted_from f xs (λ i j d a b. h (suc i) (suc j) d (omega arith) (omega arith)))
@@ -170,7 +170,7 @@ sorted_from f (x ∷ xs) h = (above xs (λ j d l. h 0 (suc j) d (omega arith) (o
     above [] k = tt
     above (y ∷ ys) k = (k 0 y (omega arith), above ys (λ j d l. k (suc j) d (omega arith)))
 
-map_map : {X Y Z : Type 0} (f : X → Y) (g : Y → Z) (xs : List X) → map g (map f xs) ≡ map (λ x. g (f x)) xs
+pub map_map : {X Y Z : Type 0} (f : X → Y) (g : Y → Z) (xs : List X) → map g (map f xs) ≡ map (λ x. g (f x)) xs
 map_map f g [] = refl
 map_map f g (x ∷ xs) = ap (λ l. g (f x) ∷ l) (map_map f g xs)
 

@@ -19,6 +19,7 @@ pub mod DraftSteps
 pub mod DraftCodes
 pub mod CodesLemmas
 pub mod IndexLemmas
+pub mod RankLemmas
 pub mod CodeChecks
 pub mod ScaleLemmas
 pub mod ScaleChecks

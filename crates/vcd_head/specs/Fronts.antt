@@ -1,5 +1,5 @@
 -- The order of codes by their bytes, and the numbers that decide most of it.
-use Rattle.std.specs.Prelude.{◌≡◌, ℕ, zero, suc, ◌+◌, ◌*◌, List, [], length, get_or, map, slice_get, option_map, unwrap_or}
+use Rattle.std.specs.Prelude.{◌≡◌, ℕ, zero, suc, ◌+◌, ◌*◌, ◌%◌, ◌<◌, ◌≤◌, List, [], length, get_or, map, slice_get, option_map, unwrap_or}
 use Rattle.std.specs.List.{AllByRecursion, range_with_len}
 use Rattle.std.specs.Ordering.{nat_cmp, then_cmp}
 use Rattle.std.specs.declared.cmp.Ordering.{Ordering}
@@ -25,3 +25,19 @@ order_of text codes = then_cmp (λ a b. nat_cmp a.number b.number) (λ a b. slic
 pub record AreFronts (text : List ℕ) (codes : List Code) (fronts : List Front) : Type 0 where
   pub places : map (λ f. f.place) fronts ≡ range_with_len 0 (length codes)
   pub numbers : AllByRecursion (λ f. f.number ≡ front_in 8 (bytes_at text codes f.place)) fronts
+
+-- the codes have at most four bytes
+abbrev pub AreShort : List ℕ → List Code → Type 0
+AreShort text codes = (p : ℕ) → p < length codes → length (bytes_at text codes p) ≤ 4
+
+-- at most four bytes, their number and a place as one number
+abbrev pub rank_of : List ℕ → ℕ → ℕ
+rank_of bs p = (front_in 4 bs * 8 + length bs) * 16777216 + p
+
+-- that of the code at a place
+abbrev pub rank_in : List ℕ → List Code → ℕ → ℕ
+rank_in text codes p = rank_of (bytes_at text codes p) p
+
+-- the place that a rank ends with
+abbrev pub place_in_rank : ℕ → ℕ
+place_in_rank r = r % 16777216

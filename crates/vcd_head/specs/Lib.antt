@@ -23,3 +23,4 @@ pub mod Inside
 pub mod Matched
 pub mod NewCode
 pub mod Merged
+pub mod Rows

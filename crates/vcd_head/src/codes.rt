@@ -59,19 +59,19 @@ impl Codes {
         ensures memory { IfErr result (λ fault. fault ≡ HeadFault.OutOfMemory) }
     {
         let place = self.list.len();
-        self.make_room(alloc, text)?;
+        self.make_room(alloc, text, bytes)?;
         self.table.enter(alloc, bytes, place, code)?;
         self.list.push(code)?;
         Ok(place)
     }
 
-    // Gives the table more entries where they are worth it.
-    fn make_room(&mut self, alloc: Global, text: &[u8]) -> Result<(), AllocError>
+    // Gives the table more entries where they are worth it for a new code with these bytes.
+    fn make_room(&mut self, alloc: Global, text: &[u8], bytes: &[u8]) -> Result<(), AllocError>
         ensures found { (cs : List IdCode) → AreHeld text.now self.old.list.items cs
             → FindsAll cs self.old.table → IfOk result (λ _. FindsAll cs self.new.table) }
         ensures same { self.new.list ≡ self.old.list }
     {
-        if self.table.is_narrow(self.list.len()) {
+        if self.table.is_narrow(bytes, self.list.len()) {
             let entries = self.table.entries.len().saturating_mul(2);
             self.table = table_of(alloc, text, &self.list, entries.max(FEWEST_ENTRIES))?;
         }

@@ -8,7 +8,7 @@ ghost use Rattle.vcd_head.specs.Views.{Views};
 
 use crate::codes::Codes;
 use crate::draft::Draft;
-use crate::entries::entries_of;
+use crate::entries::entries_in;
 use crate::fault::HeadFault;
 use crate::head::Head;
 use crate::index::index_of;
@@ -30,9 +30,9 @@ pub(crate) fn finish(alloc: Global, draft: Draft) -> Result<Head, HeadFault>
         ..
     } = draft;
     let Codes { list: codes, table } = codes;
-    drop(table);
+    let entered = table.into_entries(alloc);
     let index = index_of(alloc, &text, &codes)?;
-    let entries = entries_of(alloc, &text, &codes)?;
+    let entries = entries_in(alloc, entered, &text, &codes)?;
     Ok(Head {
         text,
         rows,

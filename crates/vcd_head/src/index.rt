@@ -1,8 +1,9 @@
 // The order of codes by their bytes.
-ghost use Rattle.std.specs.Prelude.{◌≡◌, ℕ, ◌<◌, List, map, get_or, IfOk};
+ghost use Rattle.std.specs.Prelude.{◌≡◌, ℕ, ◌^◌, ◌<◌, ◌≤◌, List, true, length, map, get_or, IfOk};
+ghost use Rattle.std.specs.List.{range_with_len};
 ghost use Rattle.vcd_model.specs.Declarations.{IdCode};
 ghost use Rattle.vcd_head.specs.Codes.{AreHeld};
-ghost use Rattle.vcd_head.specs.Fronts.{AreFronts, bytes_at, front_in, order_of};
+ghost use Rattle.vcd_head.specs.Fronts.{AreFronts, AreShort, bytes_at, front_in, order_of, place_in_rank, rank_in, rank_of};
 ghost use Rattle.vcd_head.specs.Views.{IsIndex};
 
 use crate::view::{Code, code_in, text_in};
@@ -11,6 +12,12 @@ use std::cmp::Ordering;
 
 // The bytes of a code that a front has.
 const FRONT_BYTES: usize = 8;
+
+// The most bytes of a code that a rank has.
+const RANK_BYTES: usize = 4;
+
+// How many places ranks tell apart.
+const PLACES: usize = 16_777_216;
 
 // The first bytes of a code as a number, which is less where they come before others, and its place.
 #[derive(Clone, Copy)]
@@ -21,6 +28,77 @@ pub(crate) struct Front {
 
 /// The places of the codes in the order of their bytes, which lie in the text.
 pub(crate) fn index_of(alloc: Global, text: &[u8], codes: &[Code]) -> Result<Vec<usize>, AllocError>
+    ensures { (cs : List IdCode) → AreHeld text.now codes.now cs
+        → IfOk result (λ index. IsIndex cs index.items) }
+{
+    if codes.len() <= PLACES && are_short(text, codes) {
+        return index_by_ranks(alloc, text, codes);
+    }
+    index_by_fronts(alloc, text, codes)
+}
+
+// Each code has so few bytes that a rank has all of them.
+fn are_short(text: &[u8], codes: &[Code]) -> bool
+    ensures { result ≡ true → AreShort text.now codes.now }
+{
+    for place in 0..codes.len() {
+        if bytes_at(text, codes, place).len() > RANK_BYTES {
+            return false;
+        }
+    }
+    true
+}
+
+// The same of short codes. Their ranks are sorted, and then left with their places alone: so nothing else is held beside the index.
+fn index_by_ranks(alloc: Global, text: &[u8], codes: &[Code]) -> Result<Vec<usize>, AllocError>
+    requires few { length codes.now ≤ 16777216 }
+    requires short { AreShort text.now codes.now }
+    ensures { (cs : List IdCode) → AreHeld text.now codes.now cs
+        → IfOk result (λ index. IsIndex cs index.items) }
+{
+    let mut index = ranks_of(alloc, text, codes)?;
+    index.sort_unstable();
+    leave_places(&mut index);
+    Ok(index)
+}
+
+// The ranks of short codes, in their order of declaration.
+fn ranks_of(alloc: Global, text: &[u8], codes: &[Code]) -> Result<Vec<usize>, AllocError>
+    requires few { length codes.now ≤ 16777216 }
+    requires short { AreShort text.now codes.now }
+    ensures { IfOk result (λ ranks. ranks.items
+        ≡ map (rank_in text.now codes.now) (range_with_len 0 (length codes.now))) }
+{
+    let mut ranks = Vec::with_capacity(alloc, codes.len())?;
+    for place in 0..codes.len() {
+        let rank = rank_of(bytes_at(text, codes, place), place);
+        ranks.push(rank)?;
+    }
+    Ok(ranks)
+}
+
+// The bytes of a code, their number and its place as one number, which is less where the bytes come before others.
+#[inline(always)]
+fn rank_of(bytes: &[u8], place: usize) -> usize
+    requires short { length bytes.now ≤ 4 }
+    requires place { place < 16777216 }
+    ensures { result ≡ rank_of bytes.now place }
+{
+    let front = front_of(bytes, RANK_BYTES);
+    (front as usize * 8 + bytes.len()) * PLACES + place
+}
+
+// Leaves of each rank the place.
+fn leave_places(ranks: &mut [usize])
+    ensures { ranks.new ≡ map place_in_rank ranks.old }
+{
+    for rank in ranks.iter_mut() {
+        *rank %= PLACES;
+    }
+}
+
+// The same of codes of any length.
+fn index_by_fronts(alloc: Global, text: &[u8], codes: &[Code]) -> Result<Vec<usize>, AllocError>
     ensures { (cs : List IdCode) → AreHeld text.now codes.now cs
         → IfOk result (λ index. IsIndex cs index.items) }
 {
@@ -35,7 +113,7 @@ fn fronts_of(alloc: Global, text: &[u8], codes: &[Code]) -> Result<Vec<Front>, A
 {
     let mut fronts = Vec::with_capacity(alloc, codes.len())?;
     for place in 0..codes.len() {
-        let number = front_of(bytes_at(text, codes, place));
+        let number = front_of(bytes_at(text, codes, place), FRONT_BYTES);
         fronts.push(Front { number, place })?;
     }
     Ok(fronts)
@@ -74,12 +152,15 @@ fn bytes_at<'a>(text: &'a [u8], codes: &[Code], place: usize) -> &'a [u8]
     }
 }
 
-// The first bytes as the digits of a number, the first one highest, with zeros behind them.
-fn front_of(bytes: &[u8]) -> u64
-    ensures { result ≡ front_in 8 bytes.now }
+// So many first bytes as the digits of a number, the first one highest, with zeros behind them.
+#[inline(always)]
+fn front_of(bytes: &[u8], count: usize) -> u64
+    requires { count ≤ 8 }
+    ensures front { result ≡ front_in count bytes.now }
+    ensures small { result < 256 ^ count }
 {
     let mut number = 0;
-    for place in 0..FRONT_BYTES {
+    for place in 0..count {
         number = number * 256 + byte_at(bytes, place);
     }
     number

@@ -246,7 +246,7 @@ impl Open {
     {
         let declared = view.row_at(row)?;
         let inside = self.inside.get(self.depth)?;
-        if inside.scope != declared.parent {
+        if inside.scope != declared.parent as usize {
             return None;
         }
         Some(inside)

@@ -64,6 +64,7 @@ mod phrases;
 mod probes;
 mod read;
 mod room;
+mod rows;
 mod scale;
 mod scopes;
 mod selection;

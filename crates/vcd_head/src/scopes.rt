@@ -10,8 +10,9 @@ ghost use Rattle.vcd_head.specs.Fault.{call_end};
 
 use crate::draft::Draft;
 use crate::fault::HeadFault;
+use crate::rows::{WideRow, push};
 use crate::tokens::{next_ends, next_word};
-use crate::view::{Kind, Row};
+use crate::view::Kind;
 use vcd_text::{Feed, Source};
 
 // How many scopes may be open (profile).
@@ -46,15 +47,18 @@ pub(crate) fn read_scope<S: Source>(
         return Err(HeadFault::BadScope);
     }
     let parent = draft.parent();
-    draft.rows.push(Row {
-        kind: Kind::Scope,
-        parent,
-        start,
-        word,
-        name,
-        all: name,
-        code: 0,
-    })?;
+    push(
+        &mut draft.rows,
+        WideRow {
+            kind: Kind::Scope,
+            parent,
+            start,
+            word,
+            name,
+            all: name,
+            code: 0,
+        },
+    )?;
     draft.scopes.push(draft.rows.len())?;
     Ok(())
 }
@@ -80,14 +84,17 @@ pub(crate) fn read_upscope<S: Source>(
     if !next_ends(feed)? {
         return Err(HeadFault::BadScope);
     }
-    draft.rows.push(Row {
-        kind: Kind::Up,
-        parent: closed,
-        start: 0,
-        word: 0,
-        name: 0,
-        all: 0,
-        code: 0,
-    })?;
+    push(
+        &mut draft.rows,
+        WideRow {
+            kind: Kind::Up,
+            parent: closed,
+            start: 0,
+            word: 0,
+            name: 0,
+            all: 0,
+            code: 0,
+        },
+    )?;
     Ok(())
 }

@@ -134,7 +134,7 @@ fn parent_of(view: HeadView<'_>, row: usize) -> usize
         → result ≡ counted_from_one (parent (take row h.declarations)) }
 {
     match view.row_at(row) {
-        Some(declared) => declared.parent,
+        Some(declared) => declared.parent as usize,
         None => 0,
     }
 }

@@ -62,9 +62,22 @@ impl Table {
         self.others.get(bytes).copied()
     }
 
-    /// Whether more entries are worth their memory for so many codes: there are fewer than two for each, and most codes have one.
-    pub(crate) fn is_narrow(&self, codes: usize) -> bool {
-        self.entries.len() / 2 <= codes && self.others.len() <= codes / 2
+    /// Whether more entries are worth their memory for so many codes and a new one with these bytes: its entry is taken, there are
+    /// at most two for each, and most codes have one. So codes that simulators number one by one leave no entry empty.
+    pub(crate) fn is_narrow(&self, bytes: &[u8], codes: usize) -> bool {
+        let at = entry_of(bytes, self.entries.len());
+        !is_free(&self.entries, at)
+            && self.entries.len() / 2 <= codes
+            && self.others.len() <= codes / 2
+    }
+
+    /// Its entries, if each of its codes has one; else none.
+    pub(crate) fn into_entries(self, alloc: Global) -> Vec<Entry> {
+        let Table { entries, others } = self;
+        if others.is_empty() {
+            return entries;
+        }
+        Vec::new(alloc)
     }
 
     /// Enters a code that is new, with these bytes and this place.

@@ -15,6 +15,7 @@ use crate::words;
 use vcd_text::{Feed, Halt, Next, Source};
 
 /// The next token, or the fault of one that is missing.
+#[inline(always)]
 pub(crate) fn next_token<S: Source>(feed: &mut Feed<'_, '_, '_, '_, S>) -> Result<(), HeadFault>
     requires { S.failures (source_of feed.old) < 2 ^ 64 - 1 }
     ensures reads { (most : ℕ) (i : Input) (placed : List (Placed HeaderPhrase))
@@ -36,6 +37,7 @@ pub(crate) fn next_token<S: Source>(feed: &mut Feed<'_, '_, '_, '_, S>) -> Resul
 }
 
 /// Reads the next token, and tells whether it is `$end`.
+#[inline(always)]
 pub(crate) fn next_ends<S: Source>(feed: &mut Feed<'_, '_, '_, '_, S>) -> Result<bool, HeadFault>
     requires { S.failures (source_of feed.old) < 2 ^ 64 - 1 }
     ensures reads { (most : ℕ) (i : Input) (placed : List (Placed HeaderPhrase))

@@ -15,9 +15,10 @@ ghost use Rattle.vcd_head.specs.Fault.{call_end};
 use crate::codes::Codes;
 use crate::draft::{Draft, Found};
 use crate::fault::HeadFault;
+use crate::rows::{WideRow, push};
 use crate::texts::append_to_end;
 use crate::tokens::{next_token, next_word};
-use crate::view::{Kind, Row};
+use crate::view::Kind;
 use crate::words::{is_code, is_event, size_of};
 use std::alloc::Global;
 use vcd_text::{Feed, Source};
@@ -105,14 +106,17 @@ pub(crate) fn read_variable<S: Source>(
     let all = draft.text.len() - start - word;
     let code = draft.place_of(alloc, found, size, event)?;
     let parent = draft.parent();
-    draft.rows.push(Row {
-        kind: Kind::Var,
-        parent,
-        start,
-        word,
-        name,
-        all,
-        code,
-    })?;
+    push(
+        &mut draft.rows,
+        WideRow {
+            kind: Kind::Var,
+            parent,
+            start,
+            word,
+            name,
+            all,
+            code,
+        },
+    )?;
     Ok(())
 }

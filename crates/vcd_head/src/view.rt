@@ -18,13 +18,13 @@ pub enum Kind {
 pub struct Row {
     pub kind: Kind,
     /// 1 plus the row of the enclosing scope (for `Up` the one that it closes), 0 where there is none.
-    pub parent: usize,
+    pub parent: u32,
+    /// The bytes of the type.
+    pub word: u32,
+    /// The bytes of the reference's first token: a scope's name, or that of a variable.
+    pub name: u32,
     /// Where in the text the type begins; the reference stands right after it.
     pub start: usize,
-    /// The bytes of the type.
-    pub word: usize,
-    /// The bytes of the reference's first token: a scope's name, or that of a variable.
-    pub name: usize,
     /// The bytes of the whole reference, its tokens with a space between.
     pub all: usize,
     /// The place of a variable's code in `codes`.
@@ -121,7 +121,7 @@ impl<'a> HeadView<'a> {
         ensures scope { (h : Header) → IsViewOf self.entry h → row < length h.declarations
             → result ≡ parent (take row h.declarations) }
     {
-        let scope = self.row_at(row)?.parent.checked_sub(1)?;
+        let scope = (self.row_at(row)?.parent as usize).checked_sub(1)?;
         (scope < row).then_some(scope)
     }
 
@@ -132,7 +132,7 @@ impl<'a> HeadView<'a> {
             → slice_get h.declarations row ≡ Some d → result.now ≡ type_of d }
     {
         match self.row_at(row) {
-            Some(row) => self.text_at(row.start, row.word),
+            Some(row) => self.text_at(row.start, row.word as usize),
             None => &[],
         }
     }
@@ -144,7 +144,10 @@ impl<'a> HeadView<'a> {
             → slice_get h.declarations row ≡ Some d → result.now ≡ name_of d }
     {
         match self.row_at(row) {
-            Some(row) => self.text_at(row.start.saturating_add(row.word), row.name),
+            Some(row) => self.text_at(
+                row.start.saturating_add(row.word as usize),
+                row.name as usize,
+            ),
             None => &[],
         }
     }
@@ -156,7 +159,7 @@ impl<'a> HeadView<'a> {
             → slice_get h.declarations row ≡ Some d → result.now ≡ reference_of d }
     {
         match self.row_at(row) {
-            Some(row) => self.text_at(row.start.saturating_add(row.word), row.all),
+            Some(row) => self.text_at(row.start.saturating_add(row.word as usize), row.all),
             None => &[],
         }
     }

@@ -34,10 +34,10 @@ fn read(alloc: Global, text: &[u8], most: u64) -> Result<Head, (HeadFault, u64)>
 
 fn row(
     kind: Kind,
-    parent: usize,
+    parent: u32,
     start: usize,
-    word: usize,
-    name: usize,
+    word: u32,
+    name: u32,
     all: usize,
     code: usize,
 ) -> Row {

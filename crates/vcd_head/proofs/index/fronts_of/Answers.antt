@@ -14,5 +14,5 @@ loop-place-preserved c =
     let f : Front = record { number = c.front_of-number.result; place = place } in
     let P = λ (x : Front). x.number ≡ front_in 8 (bytes_at text codes x.place) in (
       ap (map (λ (x : Front). x.place)) c.in_ok-push.ensures.items ∙ places_more c.loop-place.fronts.items f place c.loop-place.invariant.0 refl,
-      subst (AllByRecursion P) (sym c.in_ok-push.ensures.items) (all_push P c.loop-place.fronts.items f c.loop-place.invariant.1 (c.front_of-number.ensures ∙ ap (front_in 8) c.bytes_at.ensures)),
+      subst (AllByRecursion P) (sym c.in_ok-push.ensures.items) (all_push P c.loop-place.fronts.items f c.loop-place.invariant.1 (c.front_of-number.ensures.front ∙ ap (front_in 8) c.bytes_at.ensures)),
     )

@@ -97,7 +97,7 @@ returns-then-not-branch-clause-reads g c = λ i b.
 pub returns-in_err-push-clause-reads : goal.returns-in_err-push-clause-reads
 returns-in_err-push-clause-reads g c =
     let p = err_from_is_err_and c.from_residual-in_err-push.result c.from_residual-in_err-push.ensures.1 in
-    rw (p.1, p.2) (λ i b.
+    rw (p.1, p.2, c.in_err-push.ensures.memory) (λ i b.
     let n : length c.args.draft.now.rows.items < c.args.most = omega arith in
     let z : length c.args.draft.now.scopes.items < 1000 = omega arith in
     let r0 = begun c.args.most i b.placed Keyword.Scope c.args.feed.now b.keyword (scope_checks_pass c.args.most c.args.draft.now (phrases_of b.placed) b.holds n z) refl b.token_read in

@@ -42,7 +42,7 @@ returns-then-not-branch-clause-reads g c = λ i b.
 pub returns-in_err-push-clause-reads : goal.returns-in_err-push-clause-reads
 returns-in_err-push-clause-reads g c =
     let p = err_from_is_err_and c.from_residual-in_err-push.result c.from_residual-in_err-push.ensures.1 in
-    rw (p.1, p.2) (λ i b.
+    rw (p.1, p.2, c.in_err-push.ensures.memory) (λ i b.
     let n : length c.args.draft.now.rows.items < c.args.most = omega arith in
     let z : 0 < length c.args.draft.now.scopes.items = omega (arith, ap length c.in-Some.ensures.items, length_push c.pop.new.self.items c.in-Some.closed) in
     let e = sym c.in_ok-next_ends.ensures.end ∙ c.if-not-branch.false in

@@ -164,7 +164,7 @@ returns-in_err-code-clause-reads g c =
 pub returns-in_err-push-clause-reads : goal.returns-in_err-push-clause-reads
 returns-in_err-push-clause-reads g c =
     let p = err_from_is_err_and c.from_residual-in_err-push.result c.from_residual-in_err-push.ensures.1 in
-    rw (p.1, p.2) (λ i b.
+    rw (p.1, p.2, c.in_err-push.ensures.memory) (λ i b.
     let n : length c.args.draft.now.rows.items < c.args.most = omega arith in
     let r0 = begun c.args.most i b.placed Keyword.Var c.args.feed.now b.keyword (var_checks_pass c.args.most c.args.draft.now (phrases_of b.placed) b.holds n) refl b.token_read in
     let w1 = c.in_ok-word.ensures.reads c.args.most i b.placed (keyword_text Keyword.Var ∷ []) (var_welcomes_type c.args.most b.placed) r0 in

@@ -4,7 +4,7 @@ use Rattle.std.proofs.lemmas.Result.{IfOk-weaker}
 use Rattle.vcd_head.specs.declared.index.Front.{Front}
 use Rattle.vcd_head.specs.Views.{IsIndex}
 use Rattle.vcd_head.proofs.IndexLemmas.{before, before_weak, index_made}
-use Rattle.vcd_head.proofs.index.index_of.Goals as goal
+use Rattle.vcd_head.proofs.index.index_by_fronts.Goals as goal
 
 pub returns : goal.returns
 returns c = λ cs h.
