@@ -1,7 +1,8 @@
 -- The code that a look-up has found, and its texts.
-use Rattle.std.proofs.Common.{◌≡◌, ℕ, zero, suc, Bool, true, false, cond, ◌&&◌, ◌^◌, nat_lt, List, [], ◌∷◌, Option, Some, None, refl, sym}
+use Rattle.std.proofs.Common.{◌≡◌, ℕ, zero, suc, Bool, true, false, cond, ◌&&◌, ◌^◌, ◌<◌, nat_lt, List, [], ◌∷◌, Option, Some, None, refl, sym, subst}
 use Rattle.std.specs.Prelude.{slice_get}
 use Rattle.std.specs.List.{AllZip}
+use Rattle.std.proofs.lemmas.Bool.{and_parts, ltb-true}
 use Rattle.std.proofs.lemmas.Option.{cond_some}
 use Rattle.vcd_model.specs.Bytes.{is_decimal, decimal_value}
 use Rattle.vcd_model.specs.Declarations.{IdCode}
@@ -28,6 +29,12 @@ spelled ds = cond (is_decimal ds && nat_lt (decimal_value ds) (2 ^ 64)) (Some (d
 -- a number is what the digits spell, and is below 2^64
 pub time_spelled : (digits : List ℕ) (time : ℕ) → spelled digits ≡ Some time → ((is_decimal digits && nat_lt (decimal_value digits) (2 ^ 64)) ≡ true) × (decimal_value digits ≡ time)
 time_spelled digits time h = cond_some (is_decimal digits && nat_lt (decimal_value digits) (2 ^ 64)) (decimal_value digits) time h
+
+-- so they are digits, and the number is below 2^64
+pub time_fits : (digits : List ℕ) (time : ℕ) → (is_decimal digits && nat_lt (decimal_value digits) (2 ^ 64)) ≡ true → decimal_value digits ≡ time → (is_decimal digits ≡ true) × (decimal_value digits ≡ time) × (time < 2 ^ 64)
+time_fits digits time both value =
+    let p = and_parts (is_decimal digits) (nat_lt (decimal_value digits) (2 ^ 64)) both in
+    (p.0, value, subst (λ n. n < 2 ^ 64) value (ltb-true (decimal_value digits) (2 ^ 64) p.1))
 
 none_of : (b : Bool) (v : ℕ) → cond b (Some v) None ≡ None → b ≡ false
 none_of false v h = refl

@@ -26,3 +26,4 @@ pub mod NumberLemmas
 pub mod AheadLemmas
 pub mod LeftOut
 pub mod LineLemmas
+pub mod MarkLine

@@ -7,7 +7,7 @@ use Rattle.std.specs.Result.{result_ok}
 use Rattle.std.proofs.lemmas.Bool.{and_parts, cases_lt, eqb-true, eqb-false, ne_eqb}
 use Rattle.std.proofs.lemmas.List.{drop-drop, drop-take, take-take}
 use Rattle.std.proofs.lemmas.Slice.Eq.{bytes_eq-Decides}
-use Rattle.vcd_model.specs.Bytes.{decimal_value, is_white_space}
+use Rattle.vcd_model.specs.Bytes.{decimal_value, is_decimal, is_white_space}
 use Rattle.vcd_model.specs.Header.{Header}
 use Rattle.vcd_model.specs.Declarations.{IdCode, has_text}
 use Rattle.vcd_model.specs.Items.{BodyItem, ChangeForm}
@@ -159,17 +159,20 @@ both_places bytes bytes' from middle to token text code letter rest e is same t 
     }
 
 -- those of a mark's digits
-pub mark_there : (bytes : List ℕ) (from to : ℕ) (token : List ℕ) (time : ℕ) → 0 < length token → decimal_value (drop 1 token) ≡ time → HasToken bytes from to token → HasMark bytes from to (to - 1 - length token + 1) time
-mark_there bytes from to token time some value t =
+pub mark_there : (bytes : List ℕ) (from to : ℕ) (token : List ℕ) (time : ℕ) → 0 < length token → (is_decimal (drop 1 token) ≡ true) × (decimal_value (drop 1 token) ≡ time) × (time < 2 ^ 64) → HasToken bytes from to token → HasMark bytes from to (to - 1 - length token + 1) time
+mark_there bytes from to token time some told t =
     let ends = t.ends in
     let order = t.before.order in
     let start : t.start ≡ to - 1 - length token = omega arith in
     let place : token ≡ slice_range bytes (to - 1 - length token) (to - 1) = t.token_is ∙ ap (λ a. slice_range bytes a (to - 1)) start in
+    let digits = part_there bytes (to - 1 - length token) (to - 1) 1 token place (omega arith) (omega arith) (omega arith) in
     record {
       after = omega arith;
       before = omega arith;
       within = t.within;
-      value = ap decimal_value (sym (part_there bytes (to - 1 - length token) (to - 1) 1 token place (omega arith) (omega arith) (omega arith))) ∙ value;
+      digits = ap is_decimal (sym digits) ∙ told.0;
+      value = ap decimal_value (sym digits) ∙ told.1;
+      fits = told.2;
     }
 
 -- ---- a line
@@ -181,7 +184,7 @@ flip false e = refl
 pub apart : (a b : ℕ) → not (a == b) ≡ true → a ≡ b → ⊥
 apart a b e = eqb-false a b (flip (a == b) e)
 
-one_byte : (bytes : List ℕ) (p : ℕ) → p < length bytes → slice_range bytes p (p + 1) ≡ slice_index bytes p ∷ []
+pub one_byte : (bytes : List ℕ) (p : ℕ) → p < length bytes → slice_range bytes p (p + 1) ≡ slice_index bytes p ∷ []
 one_byte bytes p inside =
     let one : p + 1 - p ≡ 1 = omega arith in
     ap (λ n. take n (drop p bytes)) one ∙ front bytes p inside

@@ -1,6 +1,6 @@
 -- The bytes that an item was taken from, ahead of the feed.
-use Rattle.std.specs.Prelude.{◌≡◌, ℕ, ◌+◌, ◌-◌, ◌<◌, ◌≤◌, List, [], ◌∷◌, ◌++◌, length, slice_get, slice_range, Some}
-use Rattle.vcd_model.specs.Bytes.{decimal_value}
+use Rattle.std.specs.Prelude.{◌≡◌, ℕ, ◌+◌, ◌-◌, ◌^◌, ◌<◌, ◌≤◌, true, List, [], ◌∷◌, ◌++◌, length, slice_get, slice_range, Some}
+use Rattle.vcd_model.specs.Bytes.{decimal_value, is_decimal}
 use Rattle.vcd_model.specs.Header.{Header}
 use Rattle.vcd_model.specs.Declarations.{IdCode}
 use Rattle.vcd_text.specs.Passed.{AreWhite}
@@ -43,7 +43,9 @@ pub record HasMark (bytes : List ℕ) (from to at time : ℕ) : Type 0 where
   pub after : from < at
   pub before : at < to
   pub within : to ≤ length bytes
+  pub digits : is_decimal (slice_range bytes at (to - 1)) ≡ true
   pub value : decimal_value (slice_range bytes at (to - 1)) ≡ time
+  pub fits : time < 2 ^ 64
 
 -- a change stands there, with this text and with its code, at these places; or the digits of a mark
 abbrev pub HasSpelled : HeadView → List ℕ → ℕ → ℕ → ℕ → ℕ → List ℕ → Item → Type 0

@@ -71,7 +71,7 @@ pub use bits::Bits;
 pub use change::put_change;
 pub use fault::BodyFault;
 pub use item::{Form, Item, Regs, Section};
-pub use lines::left_out;
+pub use lines::{is_mark_line, left_out};
 pub use read::{change_text, next_item};
 pub use renamed::put_renamed_change;
 pub use slot::{Shown, Slot};

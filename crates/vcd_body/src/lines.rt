@@ -6,13 +6,13 @@ ghost use Rattle.std.specs.Str.{str_to_ascii_lowercase};
 ghost use Rattle.vcd_model.specs.Bytes.{is_white_space};
 ghost use Rattle.vcd_model.specs.Header.{Header};
 ghost use Rattle.vcd_model.specs.Items.{BodyItem};
-ghost use Rattle.vcd_model.specs.ItemText.{item_line};
+ghost use Rattle.vcd_model.specs.ItemText.{item_line, time_line};
 ghost use Rattle.vcd_model.specs.Values.{extend, short};
 ghost use Rattle.vcd_head.specs.Views.{IsViewOf};
 ghost use Rattle.vcd_head.specs.declared.view.HeadView.{HeadView};
 ghost use Rattle.vcd_body.specs.Ahead.{IsSizedItem};
 ghost use Rattle.vcd_body.specs.Given.{IsItem};
-ghost use Rattle.vcd_body.specs.Spelled.{HasChange, HasSpelled, bytes_without};
+ghost use Rattle.vcd_body.specs.Spelled.{HasChange, HasMark, HasSpelled, bytes_without};
 ghost use Rattle.vcd_body.specs.declared.item.Form.TheVariants as form;
 
 use crate::ahead::Plain;
@@ -192,4 +192,18 @@ pub fn left_out(plain: Plain<'_>, bytes: &[u8], from: usize, to: usize) -> Optio
         Form::RealText if has_one_blank(bytes, from, to, b'r', text, len) => Some(0),
         _ => None,
     }
+}
+
+/// The bytes of a time mark that was taken ahead are the line of its time: `#`, the digits without zeros that lead, and a line feed.
+/// Its token is passed from one place of the bytes up to another, and its digits begin at a third one.
+#[inline(always)]
+pub fn is_mark_line(bytes: &[u8], from: usize, to: usize, at: usize) -> bool
+    requires { (time : ℕ) × HasMark bytes.now from to at time }
+    ensures { result ≡ true → (time : ℕ) → HasMark bytes.now from to at time
+        → slice_range bytes.now from to ≡ time_line time }
+{
+    (at == from + 1)
+        & (bytes[from] == b'#')
+        & (bytes[to - 1] == b'\n')
+        & ((bytes[at] != b'0') | (to == at + 2))
 }

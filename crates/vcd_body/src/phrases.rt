@@ -1,6 +1,6 @@
 // The phrases of a body, by what they begin with.
 ghost use Rattle.std.specs.Prelude.{◌≡◌, ◌≢◌, ℕ, true, ◌+◌, ◌-◌, ◌^◌, ◌<◌, ◌≤◌, List, [], ◌∷◌, length, take, drop, Some, None, slice_get, OnOk, IfOk, IfErr, MatchResult, ◌||◌, nat_le};
-ghost use Rattle.vcd_model.specs.Bytes.{decimal_value};
+ghost use Rattle.vcd_model.specs.Bytes.{decimal_value, is_decimal};
 ghost use Rattle.vcd_model.specs.Input.{Input};
 ghost use Rattle.vcd_model.specs.Tokens.{Token};
 ghost use Rattle.vcd_model.specs.Keywords.{Keyword as Named, keyword_text};
@@ -41,7 +41,8 @@ pub(crate) fn time_of(token: &[u8], regs: Regs) -> Result<u64, BodyFault>
         (λ time. Passes codes earlier token.now (BodyItem.Time time)
         × (time_after (items_of earlier) ≤ time))
         (Refuses codes earlier token.now) }
-    ensures value { IfOk result (λ time. decimal_value (drop 1 token.now) ≡ time) }
+    ensures value { IfOk result (λ time. (is_decimal (drop 1 token.now) ≡ true)
+        × (decimal_value (drop 1 token.now) ≡ time) × (time < 2 ^ 64)) }
     ensures own { IfErr result (λ fault. fault ≢ BodyFault.ReadFailed) }
 {
     let Some(time) = decimal_of(rest_of(token)) else {

@@ -22,7 +22,7 @@ use Rattle.vcd_text.proofs.Writes.{AppendsSome, appends-first, appends-none, tak
 use Rattle.std.specs.Io.KnownBytes.{Appends}
 use Rattle.vcd_tools.specs.Cut.{AreCut, BeginsBy, HasBegun, HasNone, IsNoMark, kept_from, may_be_kept, values_text}
 use Rattle.vcd_tools.specs.Device.{DueBy, TakesDue}
-use Rattle.vcd_tools.specs.Engine.{TakesOne, last_of}
+use Rattle.vcd_tools.specs.Engine.{TakesOne, TakesOneBy, last_of}
 use Rattle.vcd_model.specs.Outcome.{Request}
 use Rattle.vcd_body.specs.Given.{IsItem}
 use Rattle.vcd_tools.specs.ItemText.{HasWritten, LastTells, times_with}
@@ -344,6 +344,17 @@ mark_goes {E} h items m m' t out out' r e is low same_from same_to (inr none) = 
   ends = rw e (sym (within_is m.to t low));
   keeps = λ _. rw none.same (goes_still h items m is t low none.why);
 }
+
+-- the same where the start section stands: nothing is due
+pub mark_held : {E : Type 0} (h : Header) (items : List BodyItem) (m : Cut) (t : ℕ) (x : BodyItem) (takes : List ℕ → Type 0) (r : Result Bool E) → r ≡ Ok false → AreCut m h items → m.started ≡ true → t ≤ m.to → x ≡ BodyItem.Time t → takes []
+    → TakesOneBy takes (AreCut m h (items ++ x ∷ [])) (Request.Cut m.from m.to) h items x r
+mark_held {E} h items m t x takes r e is begun low mark nothing =
+    let why : (is_started m.from items ≡ true) ⊎ (t < m.from) = inl (sym is.started_is ∙ begun) in
+    rw mark (record {
+      due = ([], mark_passes h m.from m.to items t is.on low why, nothing);
+      ends = rw e (sym (within_is m.to t low));
+      keeps = λ _. goes_still h items m is t low why;
+    })
 
 -- the cut ends
 pub mark_ends : {A E : Type 0} (h : Header) (items : List BodyItem) (m m' : Cut) (t : ℕ) (out mid out' : Device) (r : Result A E) (r' : Result Bool E) → AreCut m h items → m.to < t → HasBegun h items t m m' out mid ⊎ HasNone items t m m' out mid

@@ -23,6 +23,10 @@ held_on held held' due out e = ([], e, writes-none out)
 pub none_on : (held : List ℕ) (out : Device) → PutsAll held held out out []
 none_on held out = held_on held held [] out (append-nil held)
 
+-- nor does what is held change
+pub same_on : (held held' : List ℕ) (out : Device) → held' ≡ held → PutsAll held held' out out []
+same_on held held' out e = held_on held held' [] out (append-nil held ∙ sym e)
+
 -- what was held was written, and then nothing is held; then this was put
 pub put_on : {A E : Type 0} (held held' due : List ℕ) (out mid out' : Device) (r : Result A E) → Writes out mid held → held' ≡ [] → Puts mid out' due r → PutsOn held held' out out' due r
 put_on held held' due out mid out' (Ok v) w e puts = (held ++ due, sym (ap (λ l. (held ++ due) ++ l) e ∙ append-nil (held ++ due)), both-written out mid out' held due w puts)

@@ -74,8 +74,7 @@ fn put_time_behind<W: Sink>(
     if written == Some(time) {
         return Ok(());
     }
-    pieces.flush(bytes, out)?;
-    put_time_unless(written, time, out)
+    pieces.append_time(time, bytes, out)
 }
 
 /// The keyword that begins a section, as its line.

@@ -1,8 +1,8 @@
 //! Text that is due and stands in the chunk: the pieces of it that follow each other are written at once.
-ghost use Rattle.std.specs.Prelude.{◌≡◌, ◌+◌, ◌-◌, ◌^◌, ◌<◌, ◌≤◌, [], length, slice_range, IfErr, IfOk, IfSome};
+ghost use Rattle.std.specs.Prelude.{◌≡◌, ℕ, List, true, ◌+◌, ◌-◌, ◌^◌, ◌<◌, ◌≤◌, [], length, slice_range, IfErr, IfOk, IfSome};
 ghost use Rattle.vcd_model.specs.Header.{Header};
 ghost use Rattle.vcd_model.specs.Items.{BodyItem};
-ghost use Rattle.vcd_model.specs.ItemText.{item_line};
+ghost use Rattle.vcd_model.specs.ItemText.{item_line, time_line};
 ghost use Rattle.vcd_text.specs.Device.{Counts, Puts};
 ghost use Rattle.vcd_head.specs.Views.{IsViewOf};
 ghost use Rattle.vcd_head.specs.declared.view.HeadView.{HeadView};
@@ -10,7 +10,8 @@ ghost use Rattle.vcd_body.specs.Given.{IsItem};
 ghost use Rattle.vcd_body.specs.Spelled.{bytes_without};
 ghost use Rattle.vcd_tools.specs.Pieces.{IsPart, Lies, PutsOn, held_in};
 
-use vcd_body::{Plain, left_out};
+use crate::item_text::put_time;
+use vcd_body::{Item, Plain, is_mark_line, left_out};
 use vcd_text::{Sink, WriteFailed, put};
 
 /// An item that lies ahead: its tokens are passed from one place of these bytes up to another.
@@ -36,11 +37,30 @@ impl Lying<'_> {
     }
 }
 
+/// Where the line of a time stands in the chunk: that of the last time mark, if it stands there; else a place of no bytes.
+#[derive(Clone, Copy)]
+struct MarkLine {
+    from: usize,
+    to: usize,
+    time: u64,
+}
+
+impl MarkLine {
+    /// It is the line of this time, and stands in the chunk.
+    #[inline(always)]
+    fn is_of(self, time: u64) -> bool
+        ensures { result ≡ true → (self.time ≡ time) × (self.from < self.to) }
+    {
+        self.time == time && self.from < self.to
+    }
+}
+
 /// The part of the chunk that is due and not yet written. It holds numbers alone, so that a loop keeps it out of memory.
 #[derive(Clone, Copy)]
 pub(crate) struct Pieces {
     from: usize,
     to: usize,
+    mark: MarkLine,
 }
 
 /// Writes the part of the bytes.
@@ -57,9 +77,39 @@ impl Pieces {
     /// Nothing is held.
     #[inline(always)]
     pub(crate) fn new() -> Pieces
-        ensures { (result.from ≡ 0) × (result.to ≡ 0) }
+        ensures nothing { (result.from ≡ 0) × (result.to ≡ 0) }
+        ensures part { (bytes : List ℕ) → IsPart bytes result }
     {
-        Pieces { from: 0, to: 0 }
+        let mark = MarkLine {
+            from: 0,
+            to: 0,
+            time: 0,
+        };
+        Pieces {
+            from: 0,
+            to: 0,
+            mark,
+        }
+    }
+
+    /// Holds the place of a time mark that lies ahead, so that its line can be taken from there once it is due.
+    #[inline(always)]
+    pub(crate) fn see(&mut self, lying: Lying<'_>)
+        requires lies { (v : HeadView) × Lies v lying }
+        requires part { IsPart lying.bytes.now self.old }
+        ensures held { held_in lying.entry.bytes.now self.new
+            ≡ held_in lying.entry.bytes.now self.old }
+        ensures part { IsPart lying.entry.bytes.now self.new }
+    {
+        if let Item::Time(time) = lying.plain.item
+            && is_mark_line(lying.bytes, lying.from, lying.to, lying.plain.at)
+        {
+            self.mark = MarkLine {
+                from: lying.from,
+                to: lying.to,
+                time,
+            };
+        }
     }
 
     /// Writes what is held.
@@ -120,7 +170,8 @@ impl Pieces {
             return Ok(());
         }
         self.flush(bytes, out)?;
-        *self = Pieces { from, to };
+        self.from = from;
+        self.to = to;
         Ok(())
     }
 
@@ -147,5 +198,28 @@ impl Pieces {
         }
         self.append(bytes, from, from + 1, out)?;
         self.append(bytes, from + 1 + n, to, out)
+    }
+
+    /// Takes the line of a time that is due next: where it stands in the bytes, it is held; else it is written, after what is held.
+    #[inline(always)]
+    pub(crate) fn append_time<W: Sink>(
+        &mut self,
+        time: u64,
+        bytes: &[u8],
+        out: &mut W,
+    ) -> Result<(), WriteFailed>
+        requires failures { (W.device out.old).failures < 2 ^ 64 - 1 }
+        requires part { IsPart bytes.now self.old }
+        ensures puts { PutsOn (held_in bytes.now self.old) (held_in bytes.now self.new)
+            (W.device out.old) (W.device out.new) (time_line time) result }
+        ensures counts { Counts (W.device out.old) (W.device out.new) result }
+        ensures part { IfOk result (λ _. IsPart bytes.now self.new) }
+    {
+        let mark = self.mark;
+        if mark.is_of(time) {
+            return self.append(bytes, mark.from, mark.to, out);
+        }
+        self.flush(bytes, out)?;
+        put_time(time, out)
     }
 }

@@ -334,6 +334,13 @@ impl<'r> Cut<'r> {
             self.put_kept_lying(view, regs, lying, pieces, out)?;
             return Ok(false);
         }
+        if let Item::Time(time) = lying.plain.item
+            && self.started
+            && time <= self.to
+        {
+            pieces.see(lying);
+            return Ok(false);
+        }
         pieces.flush(lying.bytes, out)?;
         self.take(view, regs, lying.plain.item, lying.plain.text, out)
     }

@@ -141,6 +141,7 @@ impl<'n, 'r> Pick<'n, 'r> {
         ensures room { flags_in self.new ≡ flags_in self.old }
     {
         if !self.keeps(view, regs, lying.plain.item) {
+            pieces.see(lying);
             return Ok(());
         }
         self.text.put_lying(view, regs.time, lying, pieces, out)

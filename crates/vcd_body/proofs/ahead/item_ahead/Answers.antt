@@ -1,5 +1,5 @@
-use Rattle.std.proofs.Common.{refl, ◌≡◌, [], ◌∷◌, ◌++◌, ◌<◌, ◌∙◌, append_assoc, drop, subst, arith}
-use Rattle.vcd_model.specs.Bytes.{decimal_value}
+use Rattle.std.proofs.Common.{refl, ◌≡◌, ◌^◌, true, [], ◌∷◌, ◌++◌, ◌<◌, ◌∙◌, append_assoc, drop, subst, arith}
+use Rattle.vcd_model.specs.Bytes.{decimal_value, is_decimal}
 use Rattle.vcd_model.specs.Tokens.{Token}
 use Rattle.vcd_text.specs.Ahead.{bytes_of, longest_of, passed_of, start_of}
 use Rattle.vcd_text.specs.Passed.{Passed, line_ahead}
@@ -78,7 +78,7 @@ returns-clause-spelled c =
           rw (w.plain-is, w.change_of-plain-in-Vector.ensures, w.next-is, c.passed.ensures.passed, w.passed-in-Vector.ensures.passed)
           (_, both_there bytes (bytes_of c.next.new.self) _ _ _ token _ _ b.0 b.1 b.3 w.rest_of-text.ensures n.same.0 first second, w.in_ok-found-in-Vector.ensures.names, both_places bytes (bytes_of c.next.new.self) _ _ _ token _ _ b.0 b.1 b.3 w.rest_of-text.ensures n.same.0 first second)
       | in-Mark+in_ok-time-in-Mark w ↦
-          rw (w.plain-is, w.mark_of-plain.ensures.item, w.mark_of-plain.ensures.places.0, w.next-is, c.passed.ensures.passed) (mark_there bytes _ _ token _ n.some (of_found (λ t. decimal_value (drop 1 token) ≡ t) w.time_of.result _ w.in_ok-time-in-Mark.ensures.value w.time_of.ensures.value) first)
+          rw (w.plain-is, w.mark_of-plain.ensures.item, w.mark_of-plain.ensures.places.0, w.next-is, c.passed.ensures.passed) (mark_there bytes _ _ token _ n.some (of_found (λ t. (is_decimal (drop 1 token) ≡ true) × (decimal_value (drop 1 token) ≡ t) × (t < 2 ^ 64)) w.time_of.result _ w.in_ok-time-in-Mark.ensures.value w.time_of.ensures.value) first)
       | in-Real+in_ok-code-in-Real+in_ok-found-in-Real w ↦
           let m = w.in_ok-code-in-Real.ensures in
           let b = subst (Begins token) w.in-Real.is c.first_of.ensures in

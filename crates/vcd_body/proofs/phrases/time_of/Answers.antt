@@ -2,7 +2,7 @@ use Rattle.std.proofs.Common.{◌≤◌, ℕ, drop, subst, sym, ap, ◌∙◌, a
 use Rattle.vcd_model.specs.Items.{BodyItem, time_after}
 use Rattle.vcd_model.specs.BodyPhrases.{items_of}
 use Rattle.vcd_body.specs.Reads.{Passes}
-use Rattle.vcd_body.proofs.FindLemmas.{none_spelled, spelled, time_spelled}
+use Rattle.vcd_body.proofs.FindLemmas.{none_spelled, spelled, time_fits, time_spelled}
 use Rattle.vcd_body.proofs.PhraseLemmas.{bad_time, time_in_section, time_back, time_passes}
 use Rattle.vcd_body.proofs.phrases.time_of.Goals as goal
 
@@ -28,4 +28,6 @@ returns-clause-time c = λ codes earlier k.
     (time_passes codes earlier c.args.token.now c.requires c.args.regs k t.0 (sym c.is_some.ensures ∙ c.if-is_some.false) (omega arith))
 
 pub returns-clause-value : goal.returns-clause-value
-returns-clause-value c = (time_spelled (drop 1 c.args.token.now) c.in-Some.time (ap spelled (sym c.rest_of.ensures) ∙ sym c.decimal_of.ensures ∙ c.in-Some.is)).1
+returns-clause-value c =
+    let t = time_spelled (drop 1 c.args.token.now) c.in-Some.time (ap spelled (sym c.rest_of.ensures) ∙ sym c.decimal_of.ensures ∙ c.in-Some.is) in
+    time_fits (drop 1 c.args.token.now) c.in-Some.time t.0 t.1
