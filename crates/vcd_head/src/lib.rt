@@ -18,7 +18,7 @@
 //!
 //! - `read`, `phrases`: the whole header; one phrase of it
 //! - `tokens`, `texts`, `words`, `keyword`: the next token; texts up to `$end`; tests of tokens; the keywords
-//! - `scopes`, `variable`, `scale`: what a phrase declares
+//! - `scopes`, `variable`, `scale`, `rows`: what a phrase declares, and its row
 //! - `draft`, `codes`, `table`, `finish`: a header while it is read, its codes, and how they are found by their bytes; the head
 //!   that it becomes
 //! - `head`, `view`, `fault`: `Head`; `HeadView` with its rows and codes, and `Need`; `HeadFault`
@@ -38,7 +38,8 @@
 //!
 //! # Limits
 //!
-//! At most 16,777,216 declarations, 1,000 open scopes, and 16,777,215 bits a variable. Memory is taken by `read_head` alone.
+//! At most 16,777,216 declarations, 1,000 open scopes, 16,777,215 bits a variable, and 4 GiB less a byte a token. Memory is
+//! taken by `read_head` alone.
 //!
 //! Not promised: what a call gives over a view that is of no header, and what `select` leaves in the marks where a name selects
 //! nothing.
