@@ -1,5 +1,5 @@
 -- What is written and what is held, where text is due.
-use Rattle.std.proofs.Common.{◌≡◌, ℕ, ◌+◌, ◌-◌, ◌<◌, ◌≤◌, refl, List, [], ◌++◌, slice_range, Result, Ok, Err, sym, ap, subst, ◌∙◌, append-nil, append_assoc, arith}
+use Rattle.std.proofs.Common.{◌≡◌, ℕ, ◌+◌, ◌-◌, ◌≤◌, refl, List, [], ◌++◌, slice_range, Result, Ok, Err, sym, ap, subst, ◌∙◌, append-nil, append_assoc, arith}
 use Rattle.vcd_text.specs.Device.{Device, Puts, Writes, WritesSome}
 use Rattle.vcd_text.proofs.AheadLemmas.{slice_range-append}
 use Rattle.vcd_text.proofs.Writes.{both-written, some-behind, some-first}
