@@ -1,10 +1,16 @@
 -- What is written and what is held, where text is due.
-use Rattle.std.proofs.Common.{◌≡◌, ℕ, ◌+◌, ◌-◌, ◌≤◌, List, [], ◌++◌, slice_range, Result, Ok, Err, sym, ap, subst, ◌∙◌, append-nil, append_assoc, arith}
+use Rattle.std.proofs.Common.{◌≡◌, ℕ, ◌+◌, ◌-◌, ◌≤◌, refl, List, [], ◌++◌, slice_range, Result, Ok, Err, sym, ap, subst, ◌∙◌, append-nil, append_assoc, arith}
 use Rattle.vcd_text.specs.Device.{Device, Puts, Writes, WritesSome}
 use Rattle.vcd_text.proofs.AheadLemmas.{slice_range-append}
 use Rattle.vcd_text.proofs.Writes.{both-written, some-behind, some-first}
 use Rattle.vcd_tools.specs.Device.{Grows, GrowsSome}
-use Rattle.vcd_tools.specs.Pieces.{GrowsBut, PutsAll, PutsOn}
+use Rattle.vcd_body.specs.Ahead.{IsPlain}
+use Rattle.vcd_body.specs.Items.{regs_after}
+use Rattle.vcd_body.specs.declared.item.Form.{Form}
+use Rattle.vcd_body.specs.declared.item.Item.{Item}
+use Rattle.vcd_body.specs.declared.item.Item.TheVariants.{Time, Begin, End, Change, Finish}
+use Rattle.vcd_body.specs.declared.item.Regs.{Regs}
+use Rattle.vcd_tools.specs.Pieces.{GrowsBut, IsLine, PutsAll, PutsOn}
 use Rattle.vcd_tools.proofs.EngineLemmas.{writes-none}
 
 -- a part that begins where another ends
@@ -22,10 +28,6 @@ held_on held held' due out e = ([], e, writes-none out)
 -- nothing is due
 pub none_on : (held : List ℕ) (out : Device) → PutsAll held held out out []
 none_on held out = held_on held held [] out (append-nil held)
-
--- nor does what is held change
-pub same_on : (held held' : List ℕ) (out : Device) → held' ≡ held → PutsAll held held' out out []
-same_on held held' out e = held_on held held' [] out (append-nil held ∙ sym e)
 
 -- what was held was written, and then nothing is held; then this was put
 pub put_on : {A E : Type 0} (held held' due : List ℕ) (out mid out' : Device) (r : Result A E) → Writes out mid held → held' ≡ [] → Puts mid out' due r → PutsOn held held' out out' due r
@@ -75,3 +77,20 @@ module _ (out mid out' : Device) (held text some : List ℕ) (g : GrowsBut out m
 -- nothing is held
 pub but_none : (out : Device) (held text : List ℕ) → held ≡ [] → GrowsBut out out held text text
 but_none out held text e = ([], sym (ap (λ l. text ++ l) e ∙ append-nil text), writes-none out)
+
+-- ---- the line of a time
+
+-- that of the next item's time, where the bytes are these
+pub next_line_is : (bytes bytes' : List ℕ) (line to to' time time' : ℕ) → bytes ≡ bytes' → to ≡ to' → time ≡ time' → IsLine bytes line to time → IsLine bytes' line to' time'
+next_line_is bytes bytes' line to to' time time' e f g i = subst (λ bs. IsLine bs line to' time') e (subst (λ n. IsLine bytes line n time') f (subst (λ t. IsLine bytes line to t) g i))
+
+-- that of an item's own time: a change has the time before it, and nothing is said to stand before a mark
+pub line_here : (bytes bytes' : List ℕ) (from from' line : ℕ) (before after : Regs) (it : Item) (text : List ℕ) (here : ℕ) → bytes' ≡ bytes → from' ≡ from → IsPlain text it → after ≡ regs_after before it → ((t : ℕ) → it ≡ Time t → here ≡ from')
+    → ((place : ℕ) (f : Form) → it ≡ Change place f → here ≡ line) → IsLine bytes line from before.time → IsLine bytes' here from' after.time
+line_here bytes bytes' from from' line before after (Time t) text here e f plain re mark change i = let h = mark t refl in (omega arith, λ less. absurd (omega arith))
+line_here bytes bytes' from from' line before after (Change place form) text here e f plain re mark change i =
+    let h = change place form refl in
+    subst (λ n. IsLine bytes' n from' after.time) (sym h) (next_line_is bytes bytes' line from from' before.time after.time (sym e) (sym f) (ap (λ (r : Regs). r.time) (sym re)) i)
+line_here bytes bytes' from from' line before after (Begin s) text here e f plain re mark change i = absurd plain
+line_here bytes bytes' from from' line before after End text here e f plain re mark change i = absurd plain
+line_here bytes bytes' from from' line before after Finish text here e f plain re mark change i = absurd plain

@@ -7,7 +7,6 @@ use Rattle.vcd_body.specs.Given.{HasGoodText}
 use Rattle.vcd_body.specs.Ahead.{IsSizedItem}
 use Rattle.vcd_body.specs.Spelled.{HasSpelled}
 use Rattle.vcd_tools.specs.declared.pieces.Lying.{Lying}
-use Rattle.vcd_tools.specs.declared.pieces.MarkLine.{MarkLine}
 use Rattle.vcd_tools.specs.declared.pieces.Pieces.{Pieces}
 
 -- an item lies at a place of these bytes
@@ -17,14 +16,13 @@ pub record Lies (v : HeadView) (l : Lying) : Type 0 where
   pub sized : IsSizedItem v.codes.now l.plain.item l.plain.most
   pub spelled : HasSpelled v l.bytes.now l.from l.to l.plain.at l.plain.code_at l.plain.text.now l.plain.item
 
--- a place of no bytes, or of the line of its time
-pub record HasLine (bytes : List ℕ) (m : MarkLine) : Type 0 where
-  pub within : (m.from ≤ m.to) × (m.to ≤ length bytes)
-  pub line : m.from < m.to → slice_range bytes m.from m.to ≡ time_line m.time
+-- from one place of these bytes up to another the line of this time stands, or nothing
+abbrev pub IsLine : List ℕ → ℕ → ℕ → ℕ → Type 0
+IsLine bytes line from time = (line ≤ from) × (line < from → slice_range bytes line from ≡ time_line time)
 
--- the piece is a part of these bytes, and the last mark's line stands in them where the piece holds its place
+-- the piece is a part of these bytes
 abbrev pub IsPart : List ℕ → Pieces → Type 0
-IsPart bytes p = (p.from ≤ p.to) × (p.to ≤ length bytes) × HasLine bytes p.mark
+IsPart bytes p = (p.from ≤ p.to) × (p.to ≤ length bytes)
 
 -- the text that is held
 abbrev pub held_in : List ℕ → Pieces → List ℕ

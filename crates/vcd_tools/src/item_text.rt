@@ -15,7 +15,7 @@ ghost use Rattle.vcd_tools.specs.Device.{DueBy, TakesDue};
 ghost use Rattle.vcd_body.specs.Given.{IsItem};
 ghost use Rattle.vcd_body.specs.Spelled.{bytes_without};
 ghost use Rattle.vcd_tools.specs.ItemText.{HasWritten, LastTells, times_with};
-ghost use Rattle.vcd_tools.specs.Pieces.{IsPart, Lies, PutsOn, held_in};
+ghost use Rattle.vcd_tools.specs.Pieces.{IsLine, IsPart, Lies, PutsOn, held_in};
 
 use crate::pieces::{Lying, Pieces};
 use vcd_body::{Form, Item, Section, put_change};
@@ -53,28 +53,6 @@ pub(crate) fn put_time_unless<W: Sink>(
         return Ok(());
     }
     put_time(time, out)
-}
-
-/// Writes the line of a time, unless it was written last, behind what is held of the bytes.
-#[inline(always)]
-fn put_time_behind<W: Sink>(
-    written: Option<u64>,
-    time: u64,
-    bytes: &[u8],
-    pieces: &mut Pieces,
-    out: &mut W,
-) -> Result<(), WriteFailed>
-    requires failures { (W.device out.old).failures < 2 ^ 64 - 1 }
-    requires part { IsPart bytes.now pieces.old }
-    ensures puts { PutsOn (held_in bytes.now pieces.old) (held_in bytes.now pieces.new)
-        (W.device out.old) (W.device out.new) (time_due written time) result }
-    ensures counts { Counts (W.device out.old) (W.device out.new) result }
-    ensures part { IfOk result (λ _. IsPart bytes.now pieces.new) }
-{
-    if written == Some(time) {
-        return Ok(());
-    }
-    pieces.append_time(time, bytes, out)
 }
 
 /// The keyword that begins a section, as its line.
@@ -189,6 +167,7 @@ impl ItemText {
     ) -> Result<(), WriteFailed>
         requires failures { (W.device out.old).failures < 2 ^ 64 - 1 }
         requires lies { Lies view lying }
+        requires line { IsLine lying.bytes.now lying.line lying.from time }
         requires part { IsPart lying.bytes.now pieces.old }
         ensures text { (h : Header) (before : List ℕ) (kept : List Entry) (e : Entry)
             → IsViewOf view.entry h
@@ -210,6 +189,33 @@ impl ItemText {
         self.put_line(time, lying, n, pieces, out)
     }
 
+    /// Writes the line of the time of an item that lies ahead, unless it was written last, behind what is held.
+    #[inline(always)]
+    fn put_time_behind<W: Sink>(
+        &mut self,
+        time: u64,
+        lying: Lying<'_>,
+        pieces: &mut Pieces,
+        out: &mut W,
+    ) -> Result<(), WriteFailed>
+        requires failures { (W.device out.old).failures < 2 ^ 64 - 1 }
+        requires within { (lying.from ≤ lying.to) × (lying.to ≤ length lying.bytes.now) }
+        requires line { IsLine lying.bytes.now lying.line lying.from time }
+        requires part { IsPart lying.bytes.now pieces.old }
+        ensures puts { PutsOn (held_in lying.entry.bytes.now pieces.old)
+            (held_in lying.entry.bytes.now pieces.new)
+            (W.device out.old) (W.device out.new) (time_due self.old.written time) result }
+        ensures counts { Counts (W.device out.old) (W.device out.new) result }
+        ensures part { IfOk result (λ _. IsPart lying.entry.bytes.now pieces.new) }
+        ensures written { IfOk result (λ _. self.new.written ≡ Some time) }
+    {
+        if self.written == Some(time) {
+            return Ok(());
+        }
+        self.written = Some(time);
+        pieces.append_time(time, lying, out)
+    }
+
     /// Writes the line of a time, unless it was written last, and then the bytes of an item that lies ahead without so many behind the
     /// first one, behind what is held.
     #[inline(always)]
@@ -223,6 +229,7 @@ impl ItemText {
     ) -> Result<(), WriteFailed>
         requires failures { (W.device out.old).failures < 2 ^ 64 - 1 }
         requires within { (lying.from + 1 + n ≤ lying.to) × (lying.to ≤ length lying.bytes.now) }
+        requires line { IsLine lying.bytes.now lying.line lying.from time }
         requires part { IsPart lying.bytes.now pieces.old }
         ensures puts { PutsOn (held_in lying.entry.bytes.now pieces.old)
             (held_in lying.entry.bytes.now pieces.new)
@@ -232,8 +239,7 @@ impl ItemText {
         ensures part { IfOk result (λ _. IsPart lying.entry.bytes.now pieces.new) }
         ensures written { IfOk result (λ _. self.new.written ≡ Some time) }
     {
-        put_time_behind(self.written, time, lying.bytes, pieces, out)?;
-        self.written = Some(time);
+        self.put_time_behind(time, lying, pieces, out)?;
         pieces.append_without(lying.bytes, lying.from, lying.to, n, out)
     }
 

@@ -16,7 +16,7 @@ ghost use Rattle.vcd_tools.specs.Ahead.{RunsAhead, StandsAhead};
 ghost use Rattle.vcd_tools.specs.Answer.{writes_failed};
 ghost use Rattle.vcd_tools.specs.Engine.{Keeps, Starts, StopsUnread, TakesOne, TakesOneBy, last_of, may_end_early, request_in, request_of};
 ghost use Rattle.vcd_body.specs.Given.{IsItem};
-ghost use Rattle.vcd_tools.specs.Pieces.{IsPart, Lies, PutsOn, held_in};
+ghost use Rattle.vcd_tools.specs.Pieces.{IsLine, IsPart, Lies, PutsOn, held_in};
 ghost use Rattle.vcd_tools.specs.Room.{HasRoomFor, IsWithin, room_of, room_size};
 
 pub(crate) mod check;
@@ -26,7 +26,7 @@ pub(crate) mod pick;
 pub(crate) mod sample;
 
 use crate::answer::Stop;
-use crate::pieces::{Lying, Pieces};
+use crate::pieces::{Lying, Pieces, line_before};
 use crate::task::{Room, Task};
 use vcd_body::{Item, Plain, Regs, item_ahead};
 use vcd_head::HeadView;
@@ -214,6 +214,7 @@ trait Copier {
     ) -> Result<bool, WriteFailed>
         requires failures { (W.device out.old).failures < 2 ^ 64 - 1 }
         requires lies { Lies view lying }
+        requires line { IsLine lying.bytes.now lying.line lying.from regs.time }
         requires part { IsPart lying.bytes.now pieces.old }
         ensures takes { (h : Header) (items : List BodyItem) (before : Regs) (x : BodyItem)
             → IsViewOf view.entry h → AreRegsAfter items before
@@ -299,6 +300,7 @@ fn take_each_lying<T: Copier, W: Sink>(
 {
     let bytes = ahead.bytes();
     let mut pieces = Pieces::new();
+    let mut line = ahead.passed();
     'items: loop {
         let from = ahead.passed();
         let Some(plain) = item_ahead(&mut ahead, view, &mut regs) else {
@@ -310,7 +312,9 @@ fn take_each_lying<T: Copier, W: Sink>(
             bytes,
             from,
             to,
+            line: line_before(plain.item, line, from),
         };
+        line = lying.next_line();
         match copier.take_one_lying(view, regs, lying, &mut pieces, out) {
             Ok(false) => {}
             Ok(true) => return Taken::until(ahead, regs, pieces.finish(bytes, true, out)),

@@ -1,5 +1,5 @@
 //! Text that is due and stands in the chunk: the pieces of it that follow each other are written at once.
-ghost use Rattle.std.specs.Prelude.{◌≡◌, ℕ, List, true, ◌+◌, ◌-◌, ◌^◌, ◌<◌, ◌≤◌, [], length, slice_range, IfErr, IfOk, IfSome};
+ghost use Rattle.std.specs.Prelude.{◌≡◌, ℕ, ◌+◌, ◌-◌, ◌^◌, ◌<◌, ◌≤◌, [], length, slice_range, IfErr, IfOk, IfSome};
 ghost use Rattle.vcd_model.specs.Header.{Header};
 ghost use Rattle.vcd_model.specs.Items.{BodyItem};
 ghost use Rattle.vcd_model.specs.ItemText.{item_line, time_line};
@@ -8,19 +8,35 @@ ghost use Rattle.vcd_head.specs.Views.{IsViewOf};
 ghost use Rattle.vcd_head.specs.declared.view.HeadView.{HeadView};
 ghost use Rattle.vcd_body.specs.Given.{IsItem};
 ghost use Rattle.vcd_body.specs.Spelled.{bytes_without};
-ghost use Rattle.vcd_tools.specs.Pieces.{IsPart, Lies, PutsOn, held_in};
+ghost use Rattle.vcd_body.specs.Items.{regs_after};
+ghost use Rattle.vcd_body.specs.declared.item.Item.TheVariants as kind;
+ghost use Rattle.vcd_tools.specs.Pieces.{IsLine, IsPart, Lies, PutsOn, held_in};
 
 use crate::item_text::put_time;
-use vcd_body::{Item, Plain, is_mark_line, left_out};
+use vcd_body::{Form, Item, Plain, Regs, is_mark_line, left_out};
 use vcd_text::{Sink, WriteFailed, put};
 
-/// An item that lies ahead: its tokens are passed from one place of these bytes up to another.
+/// An item that lies ahead: its tokens are passed from one place of these bytes up to another. Where the line of its time stands just
+/// before it, that begins at a third place; else the third one is the first.
 #[derive(Clone, Copy)]
 pub(crate) struct Lying<'a> {
     pub(crate) plain: Plain<'a>,
     pub(crate) bytes: &'a [u8],
     pub(crate) from: usize,
     pub(crate) to: usize,
+    pub(crate) line: usize,
+}
+
+/// Where the line of an item's time begins, by where that of the time before it does: a mark has none before it.
+#[inline(always)]
+pub(crate) fn line_before(item: Item, line: usize, from: usize) -> usize
+    ensures mark { (time : ℕ) → item ≡ kind.Time time → result ≡ from }
+    ensures change { (place : ℕ) (form : Form) → item ≡ kind.Change place form → result ≡ line }
+{
+    match item {
+        Item::Time(_) => from,
+        Item::Begin(_) | Item::End | Item::Change { .. } | Item::Finish => line,
+    }
 }
 
 impl Lying<'_> {
@@ -35,23 +51,20 @@ impl Lying<'_> {
     {
         left_out(self.plain, self.bytes, self.from, self.to)
     }
-}
 
-/// Where the line of a time stands in the chunk: that of the last time mark, if it stands there; else a place of no bytes.
-#[derive(Clone, Copy)]
-struct MarkLine {
-    from: usize,
-    to: usize,
-    time: u64,
-}
-
-impl MarkLine {
-    /// It is the line of this time, and stands in the chunk.
+    /// Where the line of the time begins that stands just before the next item: at a mark that is spelled as its line, else nowhere.
     #[inline(always)]
-    fn is_of(self, time: u64) -> bool
-        ensures { result ≡ true → (self.time ≡ time) × (self.from < self.to) }
+    pub(crate) fn next_line(&self) -> usize
+        requires { (v : HeadView) × Lies v self.now }
+        ensures { (before : Regs) → IsLine self.now.bytes.now result self.now.to
+            (regs_after before self.now.plain.item).time }
     {
-        self.time == time && self.from < self.to
+        if let Item::Time(_) = self.plain.item
+            && is_mark_line(self.bytes, self.from, self.to, self.plain.at)
+        {
+            return self.from;
+        }
+        self.to
     }
 }
 
@@ -60,7 +73,6 @@ impl MarkLine {
 pub(crate) struct Pieces {
     from: usize,
     to: usize,
-    mark: MarkLine,
 }
 
 /// Writes the part of the bytes.
@@ -77,39 +89,9 @@ impl Pieces {
     /// Nothing is held.
     #[inline(always)]
     pub(crate) fn new() -> Pieces
-        ensures nothing { (result.from ≡ 0) × (result.to ≡ 0) }
-        ensures part { (bytes : List ℕ) → IsPart bytes result }
+        ensures { (result.from ≡ 0) × (result.to ≡ 0) }
     {
-        let mark = MarkLine {
-            from: 0,
-            to: 0,
-            time: 0,
-        };
-        Pieces {
-            from: 0,
-            to: 0,
-            mark,
-        }
-    }
-
-    /// Holds the place of a time mark that lies ahead, so that its line can be taken from there once it is due.
-    #[inline(always)]
-    pub(crate) fn see(&mut self, lying: Lying<'_>)
-        requires lies { (v : HeadView) × Lies v lying }
-        requires part { IsPart lying.bytes.now self.old }
-        ensures held { held_in lying.entry.bytes.now self.new
-            ≡ held_in lying.entry.bytes.now self.old }
-        ensures part { IsPart lying.entry.bytes.now self.new }
-    {
-        if let Item::Time(time) = lying.plain.item
-            && is_mark_line(lying.bytes, lying.from, lying.to, lying.plain.at)
-        {
-            self.mark = MarkLine {
-                from: lying.from,
-                to: lying.to,
-                time,
-            };
-        }
+        Pieces { from: 0, to: 0 }
     }
 
     /// Writes what is held.
@@ -170,8 +152,7 @@ impl Pieces {
             return Ok(());
         }
         self.flush(bytes, out)?;
-        self.from = from;
-        self.to = to;
+        *self = Pieces { from, to };
         Ok(())
     }
 
@@ -200,26 +181,29 @@ impl Pieces {
         self.append(bytes, from + 1 + n, to, out)
     }
 
-    /// Takes the line of a time that is due next: where it stands in the bytes, it is held; else it is written, after what is held.
+    /// Takes the line of an item's time, which is due next: where it stands just before the item, it is held; else it is written,
+    /// after what is held.
     #[inline(always)]
     pub(crate) fn append_time<W: Sink>(
         &mut self,
         time: u64,
-        bytes: &[u8],
+        lying: Lying<'_>,
         out: &mut W,
     ) -> Result<(), WriteFailed>
         requires failures { (W.device out.old).failures < 2 ^ 64 - 1 }
-        requires part { IsPart bytes.now self.old }
-        ensures puts { PutsOn (held_in bytes.now self.old) (held_in bytes.now self.new)
+        requires part { IsPart lying.bytes.now self.old }
+        requires within { (lying.from ≤ lying.to) × (lying.to ≤ length lying.bytes.now) }
+        requires line { IsLine lying.bytes.now lying.line lying.from time }
+        ensures puts { PutsOn (held_in lying.entry.bytes.now self.old)
+            (held_in lying.entry.bytes.now self.new)
             (W.device out.old) (W.device out.new) (time_line time) result }
         ensures counts { Counts (W.device out.old) (W.device out.new) result }
-        ensures part { IfOk result (λ _. IsPart bytes.now self.new) }
+        ensures part { IfOk result (λ _. IsPart lying.entry.bytes.now self.new) }
     {
-        let mark = self.mark;
-        if mark.is_of(time) {
-            return self.append(bytes, mark.from, mark.to, out);
+        if lying.line < lying.from {
+            return self.append(lying.bytes, lying.line, lying.from, out);
         }
-        self.flush(bytes, out)?;
+        self.flush(lying.bytes, out)?;
         put_time(time, out)
     }
 }

@@ -13,7 +13,7 @@ ghost use Rattle.vcd_body.specs.Items.{AreRegsAfter, regs_after};
 ghost use Rattle.vcd_tools.specs.Answer.{writes_failed};
 ghost use Rattle.vcd_tools.specs.Cut.{AreCut, BeginsBy, IsNoMark, lent_to, may_be_kept, span_in, values_text};
 ghost use Rattle.vcd_tools.specs.Device.{DueBy, TakesDue};
-ghost use Rattle.vcd_tools.specs.Pieces.{IsPart, Lies, PutsOn, held_in};
+ghost use Rattle.vcd_tools.specs.Pieces.{IsLine, IsPart, Lies, PutsOn, held_in};
 ghost use Rattle.vcd_tools.specs.Engine.{Starts, StopsUnread, TakesOne, TakesOneBy, last_of};
 ghost use Rattle.vcd_body.specs.Given.{IsItem};
 ghost use Rattle.vcd_tools.specs.ItemText.{HasWritten};
@@ -275,6 +275,7 @@ impl<'r> Cut<'r> {
     ) -> Result<(), WriteFailed>
         requires failures { (W.device out.old).failures < 2 ^ 64 - 1 }
         requires lies { Lies view lying }
+        requires line { IsLine lying.bytes.now lying.line lying.from regs.time }
         requires part { IsPart lying.bytes.now pieces.old }
         ensures takes { (h : Header) (items : List BodyItem) (before : Regs) (x : BodyItem)
             → IsViewOf view.entry h → AreRegsAfter items before
@@ -312,6 +313,7 @@ impl<'r> Cut<'r> {
     ) -> Result<bool, WriteFailed>
         requires failures { (W.device out.old).failures < 2 ^ 64 - 1 }
         requires lies { Lies view lying }
+        requires line { IsLine lying.bytes.now lying.line lying.from regs.time }
         requires part { IsPart lying.bytes.now pieces.old }
         ensures takes { (h : Header) (items : List BodyItem) (before : Regs) (x : BodyItem)
             → IsViewOf view.entry h → AreRegsAfter items before
@@ -338,7 +340,6 @@ impl<'r> Cut<'r> {
             && self.started
             && time <= self.to
         {
-            pieces.see(lying);
             return Ok(false);
         }
         pieces.flush(lying.bytes, out)?;

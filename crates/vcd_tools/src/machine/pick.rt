@@ -13,7 +13,7 @@ ghost use Rattle.vcd_tools.specs.Answer.{writes_failed};
 ghost use Rattle.vcd_tools.specs.Device.{DueBy, TakesDue};
 ghost use Rattle.vcd_tools.specs.Engine.{Starts, StopsUnread, last_of};
 ghost use Rattle.vcd_body.specs.Given.{IsItem};
-ghost use Rattle.vcd_tools.specs.Pieces.{IsPart, Lies, PutsOn, held_in};
+ghost use Rattle.vcd_tools.specs.Pieces.{IsLine, IsPart, Lies, PutsOn, held_in};
 ghost use Rattle.vcd_tools.specs.Pick.{ArePicked, is_event_at, is_kept, names_in, flags_in};
 ghost use Rattle.vcd_tools.specs.Room.{HasRoomFor};
 ghost use Rattle.vcd_tools.specs.declared.task.Task.TheVariants as task;
@@ -123,6 +123,7 @@ impl<'n, 'r> Pick<'n, 'r> {
     ) -> Result<(), WriteFailed>
         requires failures { (W.device out.old).failures < 2 ^ 64 - 1 }
         requires lies { Lies view lying }
+        requires line { IsLine lying.bytes.now lying.line lying.from regs.time }
         requires part { IsPart lying.bytes.now pieces.old }
         ensures takes { (h : Header) (items : List BodyItem) (before : Regs) (x : BodyItem)
             → IsViewOf view.entry h → AreRegsAfter items before
@@ -141,7 +142,6 @@ impl<'n, 'r> Pick<'n, 'r> {
         ensures room { flags_in self.new ≡ flags_in self.old }
     {
         if !self.keeps(view, regs, lying.plain.item) {
-            pieces.see(lying);
             return Ok(());
         }
         self.text.put_lying(view, regs.time, lying, pieces, out)

@@ -1,18 +1,19 @@
-use Rattle.std.proofs.Common.{◌≤◌, ◌++◌, ◌∷◌, [], Ok, Err, length, refl, sym, ap, subst, ◌∙◌, append_assoc}
+use Rattle.std.proofs.Common.{◌≤◌, ◌++◌, ◌∷◌, [], Ok, Err, length, refl, rules, sym, ap, subst, ◌∙◌, append_assoc}
 use Rattle.vcd_model.specs.Outcome.{Request, open_text}
 use Rattle.vcd_text.specs.Ahead.{bytes_of, longest_of, passed_of}
 use Rattle.vcd_text.specs.Device.{Puts, WritesSome}
 use Rattle.vcd_text.specs.declared.device.WriteFailed.{WriteFailed}
+use Rattle.vcd_body.specs.declared.item.Regs.{Regs}
 use Rattle.vcd_tools.specs.Engine.{Keeps, TakesOneBy, request_in}
 use Rattle.vcd_tools.specs.Pieces.{GrowsBut, IsPart, PutsAll, held_in}
 use Rattle.vcd_tools.proofs.AheadLemmas.{ends_before, ends_with, few_ahead, stands_on}
-use Rattle.vcd_tools.proofs.PieceLemmas.{but_failed, but_on}
+use Rattle.vcd_tools.proofs.PieceLemmas.{but_failed, but_on, line_here, next_line_is}
 use Rattle.vcd_tools.proofs.machine.take_each_lying.Goals as goal
 
 pub returns-in_default-clause-gives : goal.returns-in_default-clause-gives
 returns-in_default-clause-gives g c = λ h lines before v few s.
     let inv = c.items.invariant in
-    let all = inv.8 h lines before v few s in
+    let all = inv.9 h lines before v few s in
     let u = c.until.ensures in
     let bytes = bytes_of c.args.ahead in
     let mid = g.W.Sink.device c.items.out in
@@ -26,7 +27,7 @@ pub returns-in-Err-clause-gives : goal.returns-in-Err-clause-gives
 returns-in-Err-clause-gives g c = λ h lines before v few s.
     let inv = c.items.invariant in
     let t' = request_in (g.T.Copier.machine c.args.copier.now) in
-    let all = inv.8 h lines before v few s in
+    let all = inv.9 h lines before v few s in
     let one = c.in-Some.ensures.gives h (longest_of c.args.ahead) lines (bytes_of c.args.ahead) before all.0 v (inv.1, inv.0) all.1.known all.1.gave in
     let within = subst (λ bs. passed_of c.items.ahead ≤ length bs) inv.0 inv.2 in
     let few' = few_ahead t' h _ lines _ before _ all.0 (g.T.Copier.machine c.items.copier) c.items.regs all.1 within few in
@@ -44,7 +45,7 @@ pub returns-in-Ok-true-clause-gives : goal.returns-in-Ok-true-clause-gives
 returns-in-Ok-true-clause-gives g c = λ h lines before v few s.
     let inv = c.items.invariant in
     let t' = request_in (g.T.Copier.machine c.args.copier.now) in
-    let all = inv.8 h lines before v few s in
+    let all = inv.9 h lines before v few s in
     let one = c.in-Some.ensures.gives h (longest_of c.args.ahead) lines (bytes_of c.args.ahead) before all.0 v (inv.1, inv.0) all.1.known all.1.gave in
     let within = subst (λ bs. passed_of c.items.ahead ≤ length bs) inv.0 inv.2 in
     let few' = few_ahead t' h _ lines _ before _ all.0 (g.T.Copier.machine c.items.copier) c.items.regs all.1 within few in
@@ -64,6 +65,14 @@ returns-in-Ok-true-clause-gives g c = λ h lines before v few s.
     rw (u.passed, u.regs, u.ended)
     (ends_with t' h _ lines bytes before p part out new last c.finish-in-Ok-true.result c.finish-in-Ok-true.ensures.some puts _ all.0 one.0 _ _ all.1.on (sym taken.ends ∙ c.in-Ok-true.field-0-test) (record { gave = one.2; known = one.3 }) grown c.finish-in-Ok-true.ensures.ended)
 
+pub next_line-line-requires : goal.next_line-line-requires
+next_line-line-requires g c = (c.args.view, search rules)
+
+pub take_one_lying-requires-clause-line : goal.take_one_lying-requires-clause-line
+take_one_lying-requires-clause-line g c =
+    let inv = c.items.invariant in
+    line_here (bytes_of c.args.ahead) c.bytes-bytes.result.now _ _ c.items.line c.items.regs _ _ _ _ c.bytes-bytes.ensures c.passed-from.ensures.passed c.in-Some.ensures.plain c.in-Some.ensures.regs c.line_before.ensures.mark c.line_before.ensures.change inv.8
+
 pub items-preserved : goal.items-preserved
 items-preserved g c =
     let inv = c.items.invariant in
@@ -81,8 +90,9 @@ items-preserved g c =
           let more = c.in-Some.ensures.passes (longest_of c.args.ahead) lines (bytes_of c.args.ahead) (ts ++ so_far.0) (inv.1, inv.0) so_far.1 in
           (so_far.0 ++ more.0, rw (sym (append_assoc ts so_far.0 more.0)) more.1),
       subst (λ bs. IsPart bs c.take_one_lying.new.pieces) c.bytes-bytes.ensures c.in-Ok-false.ensures.part,
+      next_line_is c.bytes-bytes.result.now (bytes_of c.args.ahead) _ _ _ _ _ c.bytes-bytes.ensures c.passed-to.ensures.passed (ap (λ (r : Regs). r.time) (sym c.in-Some.ensures.regs)) (c.next_line-line.ensures c.items.regs),
       λ h lines before v few s.
-          let all = inv.8 h lines before v few s in
+          let all = inv.9 h lines before v few s in
           let one = c.in-Some.ensures.gives h (longest_of c.args.ahead) lines (bytes_of c.args.ahead) before all.0 v (inv.1, inv.0) all.1.known all.1.gave in
           let few' = few_ahead t' h _ lines _ before _ all.0 (g.T.Copier.machine c.items.copier) c.items.regs all.1 within few in
           let bytes = bytes_of c.args.ahead in

@@ -8,7 +8,7 @@ use Rattle.vcd_text.specs.Passed.{Passed}
 use Rattle.vcd_head.specs.Shown.{parts}
 use Rattle.vcd_head.specs.Views.{Views}
 use Rattle.vcd_tools.specs.Ahead.{StandsAhead}
-use Rattle.vcd_tools.specs.Pieces.{GrowsBut, IsPart, held_in}
+use Rattle.vcd_tools.specs.Pieces.{GrowsBut, IsLine, IsPart, held_in}
 use Rattle.vcd_tools.specs.Engine.{request_in}
 use Rattle.vcd_tools.specs.Room.{room_of}
 use Rattle.vcd_tools.proofs.machine.take_each_lying.Given as goal
@@ -18,6 +18,7 @@ invariant-items g l = (bytes_of l.ahead ≡ bytes_of l.fn.ahead) × (longest_of 
     × (request_in (g.T.Copier.machine l.copier) ≡ request_in (g.T.Copier.machine l.fn.copier)) × (room_of (g.T.Copier.machine l.copier) ≡ room_of (g.T.Copier.machine l.fn.copier))
     × ((lines : ℕ) (ts : List Token) → Passed (longest_of l.fn.ahead) lines (bytes_of l.fn.ahead) (passed_of l.fn.ahead) ts → (more : List Token) × Passed (longest_of l.fn.ahead) lines (bytes_of l.fn.ahead) (passed_of l.ahead) (ts ++ more))
     × IsPart (bytes_of l.fn.ahead) l.pieces
+    × IsLine (bytes_of l.fn.ahead) l.line (passed_of l.ahead) l.regs.time
     × ((h : Header) (lines : ℕ) (before : List BodyItem) → Views (parts l.fn.view) h → length before + length (bytes_of l.fn.ahead) < 2 ^ 63
     → StandsAhead (request_in (g.T.Copier.machine l.fn.copier)) h (longest_of l.fn.ahead) lines (bytes_of l.fn.ahead) before (passed_of l.fn.ahead) [] (g.T.Copier.machine l.fn.copier) l.fn.regs
     → (items : List BodyItem) × StandsAhead (request_in (g.T.Copier.machine l.fn.copier)) h (longest_of l.fn.ahead) lines (bytes_of l.fn.ahead) before (passed_of l.ahead) items (g.T.Copier.machine l.copier) l.regs

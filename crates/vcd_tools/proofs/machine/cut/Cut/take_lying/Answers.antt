@@ -5,7 +5,7 @@ use Rattle.vcd_text.proofs.Writes.{some-first}
 use Rattle.vcd_tools.specs.Cut.{IsNoMark}
 use Rattle.vcd_tools.proofs.CutLemmas.{mark_held, no_end}
 use Rattle.vcd_body.specs.Given.{IsItem}
-use Rattle.vcd_tools.proofs.PieceLemmas.{put_on, same_on}
+use Rattle.vcd_tools.proofs.PieceLemmas.{none_on, put_on}
 use Rattle.vcd_tools.proofs.machine.cut.Cut.take_lying.Goals as goal
 
 pub returns-clause-takes : goal.returns-clause-takes
@@ -18,7 +18,7 @@ pub returns-2-clause-takes : goal.returns-2-clause-takes
 returns-2-clause-takes g c = λ h items before x views known re read is.
     let m = c.args.self.now in
     let mark = subst (λ it. IsItem h.codes c.args.lying.plain.text.now it x) c.in-Time.is read in
-    mark_held h items m c.in-Time.time x _ _ refl is c.if-self-2.true c.if-time-self.true mark (same_on _ _ (g.W.Sink.device c.args.out.now) c.see.ensures.held)
+    mark_held h items m c.in-Time.time x _ _ refl is c.if-self-2.true c.if-time-self.true mark (none_on _ (g.W.Sink.device c.args.out.now))
 
 pub returns-in_err-flush-clause-takes : goal.returns-in_err-flush-clause-takes
 returns-in_err-flush-clause-takes g c = λ h items before x views known re read is.

@@ -5,7 +5,7 @@ use Rattle.vcd_body.specs.Items.{regs_after}
 use Rattle.vcd_body.specs.declared.item.Regs.{Regs}
 use Rattle.vcd_tools.specs.Pick.{is_kept, names_in}
 use Rattle.vcd_tools.proofs.PickLemmas.{kept_is, kept_time, due_one, none_due, last_tells, picks_on, picks_still}
-use Rattle.vcd_tools.proofs.PieceLemmas.{same_on}
+use Rattle.vcd_tools.proofs.PieceLemmas.{none_on}
 use Rattle.vcd_tools.proofs.Results.{if_ok_more}
 use Rattle.vcd_tools.proofs.machine.pick.Pick.take_lying.Goals as goal
 
@@ -14,7 +14,7 @@ returns-then-not-keeps-clause-takes g c = λ h items before x views known re is 
     let p = c.args.self.now in
     let not : is_kept p.choice c.args.view (regs_after before c.args.lying.plain.item) c.args.lying.plain.item ≡ false = ap (λ (r : Regs). is_kept p.choice c.args.view r c.args.lying.plain.item) (sym re) ∙ sym c.keeps.ensures ∙ c.if-not-keeps.true in
     let k = sym (kept_is c.args.view h items before p views known picked c.args.lying.plain.text.now c.args.lying.plain.item x is) ∙ not in
-    (([], none_due h (names_in p) items x k, same_on _ _ (g.W.Sink.device c.args.out.now) c.see.ensures.held), picks_still h items p picked x k)
+    (([], none_due h (names_in p) items x k, none_on _ (g.W.Sink.device c.args.out.now)), picks_still h items p picked x k)
 
 pub returns-clause-takes : goal.returns-clause-takes
 returns-clause-takes g c = λ h items before x views known re is picked.
