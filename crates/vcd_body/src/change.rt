@@ -197,6 +197,19 @@ pub(crate) fn put_real<W: Sink>(w: &mut W, text: &[u8], id: &[u8]) -> Result<(),
     put_end(w, b' ', id)
 }
 
+// Writes a `b` and the shortest digits of the same value.
+#[inline(always)]
+pub(crate) fn put_shortest<W: Sink>(w: &mut W, digits: &[u8]) -> Result<(), WriteFailed>
+    requires failures { (W.device w.old).failures < 2 ^ 64 - 1 }
+    requires digits { 0 < length digits.now }
+    ensures takes { (size : ℕ) → Takes (W.device w.old) (W.device w.new)
+        (98 ∷ short (extend (str_to_ascii_lowercase digits.now) size)) result }
+    ensures counts { Counts (W.device w.old) (W.device w.new) result }
+{
+    put(w, b"b")?;
+    put_lower(w, shortest(digits))
+}
+
 // Writes a change of digits after `b`, the shortest ones.
 #[inline(never)]
 fn put_vector<W: Sink>(w: &mut W, digits: &[u8], id: &[u8]) -> Result<(), WriteFailed>
@@ -207,8 +220,7 @@ fn put_vector<W: Sink>(w: &mut W, digits: &[u8], id: &[u8]) -> Result<(), WriteF
         ++ (32 ∷ id.now ++ 10 ∷ [])) result }
     ensures counts { Counts (W.device w.old) (W.device w.new) result }
 {
-    put(w, b"b")?;
-    put_lower(w, shortest(digits))?;
+    put_shortest(w, digits)?;
     put_end(w, b' ', id)
 }
 
