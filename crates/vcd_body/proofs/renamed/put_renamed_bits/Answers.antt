@@ -2,7 +2,7 @@ use Rattle.std.proofs.Common.{[], ◌∷◌, ◌++◌, sym, ap, ◌∙◌, subst
 use Rattle.vcd_model.specs.HeadText.{new_code}
 use Rattle.vcd_text.specs.Device.{Puts}
 use Rattle.vcd_body.proofs.ChangeLine.{bit_line, vector_line}
-use Rattle.vcd_body.proofs.renamed.put_renamed_change.Goals as goal
+use Rattle.vcd_body.proofs.renamed.put_renamed_bits.Goals as goal
 
 pub returns-in-len1 : goal.returns-in-len1
 returns-in-len1 g c =
