@@ -1,5 +1,5 @@
 -- The line of a change of digits, at size 1 and at others.
-use Rattle.std.proofs.Common.{rules, ◌≡◌, ◌≢◌, ℕ, Bool, false, ◌≤◌, ◌<◌, get_or, List, [], ◌∷◌, ◌++◌, length, refl}
+use Rattle.std.proofs.Common.{rules, ◌≡◌, ◌≢◌, ℕ, Bool, false, ◌≤◌, ◌<◌, get_or, List, [], ◌∷◌, ◌++◌, length, append_assoc, refl}
 use Rattle.std.specs.Char.{to_ascii_lowercase}
 use Rattle.std.specs.Str.{str_to_ascii_lowercase}
 use Rattle.std.proofs.lemmas.Bool.{ne_eqb}
@@ -7,7 +7,7 @@ use Rattle.vcd_model.specs.Values.{change_line, extend, short}
 use Rattle.vcd_body.specs.Changes.{digits_line}
 use Rattle.vcd_body.specs.Items.{model_form}
 use Rattle.vcd_body.specs.declared.item.Form.{Form}
-use Rattle.vcd_body.specs.declared.item.Form.TheVariants.{Scalar}
+use Rattle.vcd_body.specs.declared.item.Form.TheVariants.{Scalar, Vector}
 
 -- digits of a size that is not 1
 pub wide_digits : (text id : List ℕ) (size : ℕ) → size ≢ 1 → digits_line size text id ≡ 98 ∷ short (extend (str_to_ascii_lowercase text) size) ++ (32 ∷ id ++ 10 ∷ [])
@@ -18,3 +18,7 @@ pub bit_line : (text id : List ℕ) (size : ℕ) (event : Bool) (form : Form) �
 bit_line [] id size event form e f g h k = absurd (search rules)
 bit_line (d ∷ []) id size event form e f g h k = rw (e, f, g) refl
 bit_line (d ∷ x ∷ text) id size event form e f g h k = absurd (search rules)
+
+-- digits after `b`
+pub vector_line : (text id : List ℕ) (size : ℕ) (event : Bool) (form : Form) → size ≢ 1 → event ≡ false → form ≡ Vector → change_line (record { code = record { text = id; size = size; event = event }; form = model_form form; text = text }) ≡ 98 ∷ short (extend (str_to_ascii_lowercase text) size) ++ (32 ∷ id ++ 10 ∷ [])
+vector_line text id size event form e f g = rw (f, g, ne_eqb size 1 e) (append_assoc (98 ∷ short (extend (str_to_ascii_lowercase text) size)) (32 ∷ id) (10 ∷ []))

@@ -12,6 +12,7 @@ pub mod RenamedLemmas
 pub mod OnesLemmas
 pub mod PackedLemmas
 pub mod BinaryLemmas
+pub mod BinaryShort
 pub mod StoreLemmas
 pub mod LayoutLemmas
 pub mod HeldLemmas

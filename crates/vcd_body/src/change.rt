@@ -1,12 +1,14 @@
 // Value changes as they are written.
-ghost use Rattle.std.specs.Prelude.{◌≡◌, ◌≢◌, ℕ, ◌-◌, ◌^◌, ◌<◌, ◌≤◌, ◌++◌, ◌∷◌, ◌==◌, [], false, true, take, length, slice_index};
+ghost use Rattle.std.specs.Prelude.{◌≡◌, ◌≢◌, ℕ, ◌-◌, ◌^◌, ◌<◌, ◌≤◌, ◌++◌, ◌∷◌, ◌==◌, [], false, true, take, length, slice_index, IfSome};
 ghost use Rattle.std.specs.Char.{to_ascii_lowercase as lower};
 ghost use Rattle.std.specs.Str.{str_to_ascii_lowercase};
 ghost use Rattle.vcd_model.specs.Values.{extend, extension, short, change_line};
 ghost use Rattle.vcd_text.specs.Device.{Counts, Puts, Takes, failures_after};
 ghost use Rattle.vcd_body.specs.Items.{model_form};
+ghost use Rattle.vcd_body.specs.Binary.{binary_digits};
 ghost use Rattle.vcd_body.specs.Changes.{digits_line};
 
+use crate::bits::Bits;
 use crate::item::Form;
 use crate::words::rest_of;
 use vcd_text::{Sink, WriteFailed, put};
@@ -197,6 +199,37 @@ pub(crate) fn put_real<W: Sink>(w: &mut W, text: &[u8], id: &[u8]) -> Result<(),
     put_end(w, b' ', id)
 }
 
+// The shortest digits that extend to the same value, where the number of all of them is known.
+#[inline(always)]
+fn shortest_known(digits: &[u8], bits: Bits) -> &[u8]
+    requires { digits.now ≡ binary_digits bits.len bits.number }
+    ensures { (size : ℕ) → result.now ≡ short (extend (str_to_ascii_lowercase digits.now) size) }
+{
+    let needed = 64 - bits.number.max(1).leading_zeros() as usize;
+    &digits[digits.len() - needed..]
+}
+
+// Writes a `b` and the shortest digits of the same value. Where the number of the digits is known, none of them is looked at.
+#[inline(always)]
+pub(crate) fn put_shortest<W: Sink>(
+    w: &mut W,
+    digits: &[u8],
+    bits: Option<Bits>,
+) -> Result<(), WriteFailed>
+    requires failures { (W.device w.old).failures < 2 ^ 64 - 1 }
+    requires digits { 0 < length digits.now }
+    requires bits { IfSome bits (λ b. digits.now ≡ binary_digits b.len b.number) }
+    ensures takes { (size : ℕ) → Takes (W.device w.old) (W.device w.new)
+        (98 ∷ short (extend (str_to_ascii_lowercase digits.now) size)) result }
+    ensures counts { Counts (W.device w.old) (W.device w.new) result }
+{
+    put(w, b"b")?;
+    match bits {
+        Some(bits) => put(w, shortest_known(digits, bits)),
+        None => put_lower(w, shortest(digits)),
+    }
+}
+
 // Writes a change of digits after `b`, the shortest ones.
 #[inline(never)]
 fn put_vector<W: Sink>(w: &mut W, digits: &[u8], id: &[u8]) -> Result<(), WriteFailed>
@@ -207,8 +240,7 @@ fn put_vector<W: Sink>(w: &mut W, digits: &[u8], id: &[u8]) -> Result<(), WriteF
         ++ (32 ∷ id.now ++ 10 ∷ [])) result }
     ensures counts { Counts (W.device w.old) (W.device w.new) result }
 {
-    put(w, b"b")?;
-    put_lower(w, shortest(digits))?;
+    put_shortest(w, digits, None)?;
     put_end(w, b' ', id)
 }
 

@@ -30,7 +30,7 @@
 //! - `ahead`: `item_ahead`, `pass_items`, `Plain`
 //! - `phrases`, `tokens`, `words`: phrases by what they begin with; the next token; what a token is, by its first byte
 //! - `item`, `fault`: `Item`, `Form`, `Section`, `Regs`; `BodyFault`
-//! - `change`: `put_change`; `renamed`: `put_renamed_change`; `lines`: `left_out`
+//! - `change`: `put_change`; `renamed`: `put_renamed_change`, `put_renamed_bits`; `lines`: `left_out`
 //! - `table`, `slot`: `Table`, `Shown`; `Slot`; `step`: `Step`, what became of a value that was set
 //! - `store`: slots and shares of the values, and how they are set; `packed`: digits in a share, a byte each or four to a byte
 //! - `bits`: `Bits`, up to 32 binary digits as a number, and how a slot holds them
@@ -73,7 +73,7 @@ pub use fault::BodyFault;
 pub use item::{Form, Item, Regs, Section};
 pub use lines::{is_mark_line, left_out};
 pub use read::{change_text, next_item};
-pub use renamed::put_renamed_change;
+pub use renamed::{put_renamed_bits, put_renamed_change};
 pub use slot::{Shown, Slot};
 pub use step::Step;
 pub use table::Table;

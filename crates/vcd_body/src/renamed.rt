@@ -1,11 +1,14 @@
 // Changes as they are written under new codes.
-ghost use Rattle.std.specs.Prelude.{◌≡◌, ◌≢◌, ℕ, ◌+◌, ◌-◌, ◌%◌, ◌^◌, ◌<◌, ◌++◌, ◌∷◌, [], false, length};
+ghost use Rattle.std.specs.Prelude.{◌≡◌, ◌≢◌, ℕ, ◌+◌, ◌-◌, ◌%◌, ◌^◌, ◌<◌, ◌++◌, ◌∷◌, [], false, true, length, IfSome};
 ghost use Rattle.vcd_model.specs.HeadText.{new_code};
-ghost use Rattle.vcd_model.specs.Values.{change_line};
-ghost use Rattle.vcd_text.specs.Device.{Puts};
+ghost use Rattle.std.specs.Str.{str_to_ascii_lowercase};
+ghost use Rattle.vcd_model.specs.Values.{change_line, extend, short};
+ghost use Rattle.vcd_text.specs.Device.{Counts, Puts, Takes, failures_after};
+ghost use Rattle.vcd_body.specs.Binary.{binary_digits};
 ghost use Rattle.vcd_body.specs.Items.{model_form};
 
-use crate::change::{is_bit, put_change};
+use crate::bits::Bits;
+use crate::change::{is_bit, put_change, put_shortest};
 use crate::item::Form;
 use vcd_head::{NewCode, put_code};
 use vcd_text::{Sink, WriteFailed, put};
@@ -53,6 +56,34 @@ fn put_code_line<W: Sink>(first: u8, number: u64, w: &mut W) -> Result<(), Write
     put_long_line(first, number, w)
 }
 
+/// Writes a change of digits after `b`, the shortest ones, under the new code of this number.
+#[inline(never)]
+fn put_renamed_vector<W: Sink>(
+    digits: &[u8],
+    bits: Option<Bits>,
+    number: u64,
+    w: &mut W,
+) -> Result<(), WriteFailed>
+    requires failures { (W.device w.old).failures < 2 ^ 64 - 1 }
+    requires digits { 0 < length digits.now }
+    requires bits { IfSome bits (λ b. digits.now ≡ binary_digits b.len b.number) }
+    ensures takes { (size : ℕ) → Takes (W.device w.old) (W.device w.new)
+        (98 ∷ short (extend (str_to_ascii_lowercase digits.now) size)
+        ++ (32 ∷ new_code number ++ 10 ∷ [])) result }
+    ensures counts { Counts (W.device w.old) (W.device w.new) result }
+{
+    put_shortest(w, digits, bits)?;
+    put_code_line(b' ', number, w)
+}
+
+/// A change of digits of a code that has several bits, as most that are of no bit are. One branch tells.
+#[inline(always)]
+fn is_vector(size: usize, event: bool, form: Form) -> bool
+    ensures { result ≡ true → (size ≢ 1) × (event ≡ false) × (form ≡ Form.Vector) }
+{
+    (size != 1) & !event & (form == Form::Vector)
+}
+
 /// The same of any change.
 #[inline(never)]
 fn put_any<W: Sink>(
@@ -94,10 +125,35 @@ pub fn put_renamed_change<W: Sink>(
           text = text.now;
         })) result }
 {
+    put_renamed_bits(size, event, form, text, None, number, w)
+}
+
+/// The same, where the number of the text's digits may be known: then none of them is looked at.
+#[inline(always)]
+pub fn put_renamed_bits<W: Sink>(
+    size: usize,
+    event: bool,
+    form: Form,
+    text: &[u8],
+    bits: Option<Bits>,
+    number: u64,
+    w: &mut W,
+) -> Result<(), WriteFailed>
+    requires failures { (W.device w.old).failures < 2 ^ 64 - 1 }
+    requires digits { event ≡ false → form ≢ Form.RealText → 0 < length text.now }
+    requires bits { IfSome bits (λ b. text.now ≡ binary_digits b.len b.number) }
+    ensures { Puts (W.device w.old) (W.device w.new)
+        (change_line (record {
+          code = record { text = new_code number; size = size; event = event };
+          form = model_form form;
+          text = text.now;
+        })) result }
+{
     match text {
         [digit] if is_bit(size, event, form) => {
             put_code_line(digit.to_ascii_lowercase(), number, w)
         }
+        _ if is_vector(size, event, form) => put_renamed_vector(text, bits, number, w),
         _ => put_any(size, event, form, text, number, w),
     }
 }

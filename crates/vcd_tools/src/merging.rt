@@ -14,6 +14,7 @@ ghost use Rattle.vcd_head.specs.Views.{IsViewOf};
 ghost use Rattle.vcd_text.specs.Advances.{Advances, CallEnd, HasNotFailed};
 ghost use Rattle.vcd_text.specs.Ahead.{bytes_of, longest_of, passed_of};
 ghost use Rattle.vcd_text.specs.Passed.{Passed};
+ghost use Rattle.vcd_body.specs.Ahead.{HasBits};
 ghost use Rattle.vcd_body.specs.Given.{HasGoodText, IsItem};
 ghost use Rattle.vcd_body.specs.Items.{AreRegsAfter, regs_after};
 ghost use Rattle.vcd_body.specs.declared.item.Regs.{Regs};
@@ -27,7 +28,9 @@ ghost use Rattle.vcd_tools.specs.MergeAhead.{IsAhead, RunsAhead, seat_with};
 use crate::answer::Stop;
 use crate::item_text::put_time_unless;
 use crate::seat::Seat;
-use vcd_body::{Form, Item, change_text, item_ahead, next_item, pass_items, put_renamed_change};
+use vcd_body::{
+    Bits, Form, Item, change_text, item_ahead, next_item, pass_items, put_renamed_bits,
+};
 use vcd_head::HeadView;
 use vcd_text::{Ahead, Feed, Sink, Source, WriteFailed};
 
@@ -39,19 +42,22 @@ fn is_left_out(event: bool, seat: &Seat) -> bool
     event && seat.regs.section.is_some()
 }
 
-/// Writes a change with this text under its new code, after the line of its time. An event inside a section is left out.
+/// Writes a change with this text, whose digits may be known as a number, under its new code, after the line of its time. An event
+/// inside a section is left out.
 #[inline(always)]
 fn put_change_at<W: Sink>(
     view: HeadView<'_>,
     code: usize,
     form: Form,
     text: &[u8],
+    bits: Option<Bits>,
     seat: &Seat,
     written: &mut Option<u64>,
     out: &mut W,
 ) -> Result<(), WriteFailed>
     requires failures { (W.device out.old).failures < 2 ^ 64 - 1 }
     requires sound { HasGoodText view.codes.now text.now (Item.Change code form) }
+    requires bits { HasBits (Item.Change code form) text.now bits }
     ensures takes { (scale first : ℕ) (h : Header) (items : List BodyItem) (x : BodyItem)
         → IsViewOf view.entry h → AreRegsAfter items seat.now.regs
         → seat.now.time ≡ scale * time_after items → seat.now.first ≡ first
@@ -71,7 +77,7 @@ fn put_change_at<W: Sink>(
     put_time_unless(*written, seat.time, out)?;
     *written = Some(seat.time);
     let number = seat.first.saturating_add(code as u64);
-    put_renamed_change(declared.size, declared.event, form, text, number, out)
+    put_renamed_bits(declared.size, declared.event, form, text, bits, number, out)
 }
 
 /// Writes what is due with an item of this text; a change alone has something.
@@ -80,12 +86,14 @@ fn put_item_at<W: Sink>(
     view: HeadView<'_>,
     item: Item,
     text: &[u8],
+    bits: Option<Bits>,
     seat: &Seat,
     written: &mut Option<u64>,
     out: &mut W,
 ) -> Result<(), WriteFailed>
     requires failures { (W.device out.old).failures < 2 ^ 64 - 1 }
     requires sound { HasGoodText view.codes.now text.now item }
+    requires bits { HasBits item text.now bits }
     ensures takes { (scale first : ℕ) (h : Header) (items : List BodyItem) (x : BodyItem)
         → IsViewOf view.entry h → AreRegsAfter items seat.now.regs
         → seat.now.time ≡ scale * time_after items → seat.now.first ≡ first
@@ -97,7 +105,9 @@ fn put_item_at<W: Sink>(
     ensures counts { Counts (W.device out.old) (W.device out.new) result }
 {
     match item {
-        Item::Change { code, form } => put_change_at(view, code, form, text, seat, written, out),
+        Item::Change { code, form } => {
+            put_change_at(view, code, form, text, bits, seat, written, out)
+        },
         Item::Time(_) | Item::Begin(_) | Item::End | Item::Finish => Ok(()),
     }
 }
@@ -197,7 +207,15 @@ fn items_ahead<W: Sink>(
         let Some(time) = time_with(plain.item, &seat) else {
             return Taken::until(ahead, seat, written, Ok(false));
         };
-        let put = put_item_at(view, plain.item, plain.text, &seat, &mut written, out);
+        let put = put_item_at(
+            view,
+            plain.item,
+            plain.text,
+            plain.bits,
+            &seat,
+            &mut written,
+            out,
+        );
         ahead = next;
         seat.regs = regs;
         seat.time = time;
@@ -289,6 +307,7 @@ fn take_item<S: Source, W: Sink>(
                 code,
                 form,
                 change_text(feed, form),
+                None,
                 seat,
                 written,
                 out,

@@ -1,28 +1,17 @@
-use Rattle.std.proofs.Common.{[], ◌∷◌, ◌++◌, subst}
+use Rattle.std.proofs.Common.{[], ◌∷◌, ◌++◌}
 use Rattle.std.specs.Str.{str_to_ascii_lowercase}
-use Rattle.std.specs.Io.KnownBytes.{Appends}
 use Rattle.std.proofs.lemmas.Result.{err_from_is_err_and}
 use Rattle.vcd_model.specs.Values.{extend, short}
-use Rattle.vcd_text.proofs.Writes.{AppendsSome, appends-some, appends-first, takes-twice}
+use Rattle.vcd_text.proofs.Writes.{appends-first, takes-twice}
 use Rattle.vcd_body.proofs.change.put_vector.Goals as goal
 
-pub returns-in_err-put-clause-takes : goal.returns-in_err-put-clause-takes
-returns-in_err-put-clause-takes g c size =
+pub returns-in_err-put_shortest-clause-takes : goal.returns-in_err-put_shortest-clause-takes
+returns-in_err-put_shortest-clause-takes g c size =
     let p = err_from_is_err_and c.from_residual.result c.from_residual.ensures.1 in
-    rw p.1 (appends-first _ _ (98 ∷ []) (short (extend (str_to_ascii_lowercase c.args.digits.now) size) ++ (32 ∷ c.args.id.now ++ 10 ∷ [])) c.in_err-put.ensures.0)
-
-pub returns-in_err-put_lower-clause-takes : goal.returns-in_err-put_lower-clause-takes
-returns-in_err-put_lower-clause-takes g c size =
-    let p = err_from_is_err_and c.from_residual-in_err-put_lower.result c.from_residual-in_err-put_lower.ensures.1 in
-    let digits = short (extend (str_to_ascii_lowercase c.args.digits.now) size) in
-    let end = 32 ∷ c.args.id.now ++ 10 ∷ [] in
-    let some = subst (AppendsSome (g.W.Sink.device c.put.new.w).held (g.W.Sink.device c.put_lower.new.w).held) (c.shortest.ensures size) c.in_err-put_lower.ensures.0 in
-    rw p.1 (appends-some _ _ _ (98 ∷ []) (digits ++ end) c.in_ok-put.ensures.0 (appends-first _ _ digits end some))
+    let front = 98 ∷ short (extend (str_to_ascii_lowercase c.args.digits.now) size) in
+    rw p.1 (appends-first _ _ front (32 ∷ c.args.id.now ++ 10 ∷ []) (c.in_err-put_shortest.ensures.takes size))
 
 pub returns-clause-takes : goal.returns-clause-takes
 returns-clause-takes g c size =
-    let digits = short (extend (str_to_ascii_lowercase c.args.digits.now) size) in
-    let end = 32 ∷ c.args.id.now ++ 10 ∷ [] in
-    let result = c.put_end.result in
-    let all = subst (Appends (g.W.Sink.device c.put.new.w).held (g.W.Sink.device c.put_lower.new.w).held) (c.shortest.ensures size) c.in_ok-put_lower.ensures.0 in
-    takes-twice _ _ _ (98 ∷ []) (digits ++ end) result c.in_ok-put.ensures.0 (takes-twice _ _ _ digits end result all c.put_end.ensures.0)
+    let front = 98 ∷ short (extend (str_to_ascii_lowercase c.args.digits.now) size) in
+    takes-twice _ _ _ front (32 ∷ c.args.id.now ++ 10 ∷ []) c.put_end.result (c.in_ok-put_shortest.ensures.takes size) c.put_end.ensures.0

@@ -1,6 +1,4 @@
-use Rattle.std.proofs.Common.{[], ◌∷◌, ◌++◌, List, ℕ, sym, ap, arith}
-use Rattle.vcd_model.specs.HeadText.{new_code}
-use Rattle.vcd_text.specs.Device.{Puts}
+use Rattle.std.proofs.Common.{sym, arith}
 use Rattle.vcd_body.proofs.RenamedLemmas.{one_digit, two_digits, three_digits}
 use Rattle.vcd_body.proofs.renamed.put_code_line.Goals as goal
 

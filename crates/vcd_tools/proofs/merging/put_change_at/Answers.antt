@@ -5,10 +5,14 @@ use Rattle.vcd_head.specs.Shown.{parts}
 use Rattle.vcd_body.specs.Items.{model_form}
 use Rattle.vcd_text.proofs.Writes.{appends-none, appends-first, takes-twice}
 use Rattle.vcd_tools.proofs.Results.{if_ok}
-use Rattle.vcd_tools.proofs.MergeItem.{section_is, event_of, line_is, number_fits}
+use Rattle.vcd_tools.proofs.MergeItem.{section_is, event_of, known_digits, line_is, number_fits}
 use Rattle.vcd_model.specs.ItemText.{time_due}
 use Rattle.vcd_model.proofs.MergedText.{left_out, left_time, line_due, time_written}
+use Rattle.vcd_body.specs.declared.item.Item.TheVariants as item
 use Rattle.vcd_tools.proofs.merging.put_change_at.Goals as goal
+
+pub put_renamed_bits-requires-clause-bits : goal.put_renamed_bits-requires-clause-bits
+put_renamed_bits-requires-clause-bits g c = known_digits (item.Change c.args.code c.args.form) c.args.text.now c.args.bits c.requires.bits
 
 pub returns-then-is_left_out-clause-takes : goal.returns-then-is_left_out-clause-takes
 returns-then-is_left_out-clause-takes g c = λ scale first h items x views known time number few is.
@@ -35,8 +39,8 @@ returns-clause-takes g c = λ scale first h items x views known time number few 
     let sum : c.saturating_add-number.result ≡ first + c.args.code = omega (arith, c.saturating_add-number.ensures) in
     let line = line_is first c.args.code c.saturating_add-number.result (parts c.args.view) h is.0 c.in-Some.declared (model_form c.args.form) c.args.text.now (new_code c.saturating_add-number.result) views is.1 shown sum refl in
     let t = rw time at c.in_ok-put_time_unless.ensures.0 in
-    let l = rw line at c.put_renamed_change.ensures.0 in
+    let l = rw line at c.put_renamed_bits.ensures.0 in
     rw (is.2, line_due scale first h items y c.args.written.now out) (
-      takes-twice _ _ _ (time_due c.args.written.now (scale * time_after items)) _ c.put_renamed_change.result t l,
-      if_ok c.put_renamed_change.result _ (ap (λ (n : ℕ). Some n) time ∙ time_written scale first h items y c.args.written.now out),
+      takes-twice _ _ _ (time_due c.args.written.now (scale * time_after items)) _ c.put_renamed_bits.result t l,
+      if_ok c.put_renamed_bits.result _ (ap (λ (n : ℕ). Some n) time ∙ time_written scale first h items y c.args.written.now out),
     )
