@@ -1,9 +1,9 @@
 -- The codes of one variable more.
 use Rattle.std.proofs.Common.{◌≡◌, ◌≢◌, ℕ, ◌+◌, Bool, true, false, cond, not, ◌&&◌, ◌||◌, ◌==◌, List, [], ◌∷◌, ◌++◌, length, find, bytes_eq, slice_get, slice_range, Option, Some, None, is_some, refl, sym, ap, subst, ◌∙◌, arith}
 use Rattle.std.specs.Option.{option_or}
-use Rattle.std.specs.List.{AllByRecursion, AllZip, list_any, list_all}
+use Rattle.std.specs.List.{AllByRecursion, list_any, list_all}
 use Rattle.std.proofs.lemmas.List.{append-nil, length-append}
-use Rattle.std.proofs.lemmas.List.Folds.{find-append, list_any-append}
+use Rattle.std.proofs.lemmas.List.Folds.{list_any-append}
 use Rattle.std.proofs.lemmas.Bool.{or_right, or_parts, eq-eqb, ne_eqb}
 use Rattle.std.proofs.lemmas.Slice.Eq.{bytes_eq-Decides}
 use Rattle.vcd_model.specs.Declarations.{Declaration, Variable, IdCode, code_of, codes_of, variables_of, has_text}
@@ -18,7 +18,7 @@ use Rattle.vcd_head.specs.declared.draft.Draft.{Draft}
 use Rattle.vcd_head.proofs.DraftLemmas.{range_at, held_grow}
 use Rattle.vcd_head.proofs.CodesLemmas.{find_more, held_more}
 use Rattle.vcd_head.proofs.LookUpLemmas.{codes_len}
-use Rattle.vcd_head.proofs.DraftGrows.{all_push, all_zip_push, are_codes_grow, same_bytes, bytes_flip, variables_push, codes-alias, codes-new, all_weaker, slice_get-seam}
+use Rattle.vcd_head.proofs.DraftGrows.{all_push, same_bytes, bytes_flip, variables_push, codes-alias, codes-new, all_weaker, slice_get-seam}
 
 own_bytes : (a : List ℕ) → bytes_eq a a ≡ true
 own_bytes a = (bytes_eq-Decides a a).1 refl

@@ -1,7 +1,7 @@
 -- A draft that holds some declarations holds one more.
 use Rattle.std.proofs.Common.{◌≡◌, ◌≢◌, ℕ, suc, ◌+◌, ◌-◌, ◌<◌, ◌≤◌, cond, List, [], ◌∷◌, ◌++◌, length, map, reverse, take, drop, slice_range, slice_get, find, filter_map, sum_by, bytes_eq, Option, Some, None, IfSome, is_some, option_map, unwrap_or, refl, sym, ap, subst, ◌∙◌, arith}
 use Rattle.std.specs.Global.{Vec}
-use Rattle.std.specs.List.{AllByRecursion, AllZip, list_any, join_with_byte, last_or}
+use Rattle.std.specs.List.{AllByRecursion, list_any, join_with_byte, last_or}
 use Rattle.std.proofs.lemmas.List.{append_assoc, append-nil, length-append, length_push, reverse-append, length-reverse, length-map, map-append}
 use Rattle.std.proofs.lemmas.List.Elements.{filter_map-append}
 use Rattle.std.proofs.lemmas.List.Sums.{sum_by_push}
@@ -15,8 +15,7 @@ use Rattle.vcd_head.specs.declared.codes.Codes.{Codes}
 use Rattle.vcd_head.specs.Codes.{AreHeld, FindsAll}
 use Rattle.vcd_head.specs.declared.view.Code.{Code}
 use Rattle.vcd_head.specs.declared.draft.Draft.{Draft}
-use Rattle.vcd_head.specs.Keys.{AreBytes}
-use Rattle.vcd_head.specs.Views.{HasTexts, IsRow, AreRows, IsCode, IsExponent, IsSize, counted_from_one}
+use Rattle.vcd_head.specs.Views.{HasTexts, IsRow, AreRows, IsExponent, IsSize, counted_from_one}
 use Rattle.vcd_head.specs.Texts.{spaced}
 use Rattle.vcd_head.specs.Draft.{HasCodes, Declares, IsDraftOf}
 use Rattle.vcd_model.proofs.ScopeLemmas.{enclosing-scope, enclosing-up, enclosing-var}

@@ -15,9 +15,10 @@ use Rattle.vcd_head.specs.Reads.{Reads}
 use Rattle.vcd_head.specs.Draft.{IsDraftOf, DraftsUpTo}
 use Rattle.vcd_head.proofs.DraftGrows.{rows_len}
 use Rattle.vcd_head.proofs.DraftLemmas.{open_is}
+use Rattle.vcd_head.proofs.TokenSteps.{append_not_nil}
 
 pub carried : {X : Type 0} {g : Ghosts X} (most : ℕ) (i : Input) (d : Draft) (f : Feed X g) (placed : List (Placed HeaderPhrase)) (p : Placed HeaderPhrase) → Reads most i (placed ++ p ∷ []) [] f → IsDraftOf most d (phrases_of placed ++ p.phrase ∷ []) → DraftsUpTo most i d f
-carried most i d f placed p r h = record { placed = placed ++ p ∷ []; reads = r; holds = subst (IsDraftOf most d) (sym (map-append (λ (q : Placed HeaderPhrase). q.phrase) placed (p ∷ []))) h }
+carried most i d f placed p r h = record { placed = placed ++ p ∷ []; reads = r; holds = subst (IsDraftOf most d) (sym (map-append (λ (q : Placed HeaderPhrase). q.phrase) placed (p ∷ []))) h; some = append_not_nil placed p }
 
 -- ---- the checks of a keyword
 

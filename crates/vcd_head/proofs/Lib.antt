@@ -1,6 +1,7 @@
 pub mod WordLemmas
 pub mod TokenSteps
 pub mod TextSteps
+pub mod AheadLemmas
 pub mod PhraseLemmas
 pub mod EnclosingLemmas
 pub mod DraftGrows

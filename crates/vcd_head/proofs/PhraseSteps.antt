@@ -22,7 +22,7 @@ use Rattle.vcd_head.specs.declared.keyword.Keyword.{Keyword as WordOf}
 use Rattle.vcd_head.specs.declared.codes.Codes.{Codes}
 use Rattle.vcd_head.specs.Codes.{HasNone}
 use Rattle.vcd_head.proofs.CodesLemmas.{none_held}
-use Rattle.vcd_head.specs.Draft.{IsDraftOf, HasCodes, IsNew, AtKeyword, AtFirstToken, AtOther, DraftsUpTo, DraftsAll}
+use Rattle.vcd_head.specs.Draft.{IsDraftOf, HasCodes, IsNew, AtKeyword, AtFirstToken, AtOther, DraftsBehind, DraftsUpTo, DraftsAll}
 use Rattle.vcd_head.specs.Views.{IsExponent, AreRows, Views}
 use Rattle.vcd_head.specs.Shown.{shown}
 use Rattle.vcd_head.specs.declared.head.Head.{Head}
@@ -143,8 +143,8 @@ holds_nothing most d n = record {
   scaled = subst (λ o. IfSome o (λ (x : Scale). IsExponent x.exponent)) (sym n.no_scale) tt;
 }
 
-pub carries_nothing : {X : Type 0} {g : Ghosts X} (most : ℕ) (i : Input) (d : Draft) (f : Feed X g) → IsNew d → HasGiven i [] f → DraftsUpTo most i d f
-carries_nothing most i d f n s = record { placed = []; reads = record { given = []; stands = s; so_far = so_far-nothing (header_grammar most); last = λ n. absurd (n refl) }; holds = holds_nothing most d n }
+pub carries_nothing : {X : Type 0} {g : Ghosts X} (most : ℕ) (i : Input) (d : Draft) (f : Feed X g) → IsNew d → HasGiven i [] f → DraftsBehind most i d f
+carries_nothing most i d f n s = record { given = []; stands = s; drafts = record { placed = []; so_far = so_far-nothing (header_grammar most); holds = holds_nothing most d n } }
 
 pub finished : {X : Type 0} {g : Ghosts X} (most : ℕ) (i : Input) (d : Draft) (f : Feed X g) (r : Result Head HeadFault) → most ≤ 16777216 → DraftsAll most i d f
     → ((m : ℕ) (ps : List HeaderPhrase) → m ≤ 16777216 → IsDraftOf m d ps → IfOk r (λ head. Views (shown head) (header_of ps))) → IfErr r (λ fault. fault ≡ OutOfMemory) → MatchResult r (λ head. GivesHead most i f (shown head)) (λ fault. Fails most i fault f)

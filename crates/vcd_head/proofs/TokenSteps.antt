@@ -1,5 +1,5 @@
 -- One token on in the reading of a header.
-use Rattle.std.proofs.Common.{◌≡◌, ◌≢◌, ℕ, ◌+◌, true, false, List, [], ◌∷◌, ◌++◌, length, Option, Some, None, unwrap_or, refl, sym, ap, subst, ◌∙◌, arith}
+use Rattle.std.proofs.Common.{◌≡◌, ◌≢◌, ℕ, true, false, List, [], ◌∷◌, ◌++◌, length, Option, Some, None, unwrap_or, refl, sym, ap, subst, ◌∙◌}
 use Rattle.std.proofs.lemmas.List.{append_assoc}
 use Rattle.vcd_model.specs.Input.{Input}
 use Rattle.vcd_model.specs.Laws.{IsPrefixOf}
@@ -18,7 +18,6 @@ use Rattle.vcd_text.specs.declared.feed.Feed.{Feed}
 use Rattle.vcd_head.specs.Reads.{Reads, ReadsToken, ReadsWhole, IsFaultless, HasFault, FailsAtEnd, FailsAtToken, IsGoodSoFar}
 use Rattle.vcd_head.specs.Texts.{Welcomes, WordRead, WordTaken}
 use Rattle.vcd_model.specs.Keywords.{is_end}
-use Rattle.vcd_head.specs.declared.fault.HeadFault.{HeadFault}
 
 -- a token is missing: the input's stream has no more
 pub missing_token : (most limit : ℕ) (i : Input) (given : List Token) (placed : List (Placed HeaderPhrase)) (before : List (List ℕ)) (halt : Option ℕ) (line : ℕ) → IsSoFar (header_grammar most) given placed before → Ends limit i given halt line
@@ -76,7 +75,7 @@ nothing_read most given placed before h e =
     let same = sym h ∙ ap (reading_of (header_grammar most)) e ∙ so_far-nothing (header_grammar most) in
     (ap (λ r. r.placed) same, ap (λ r. r.before) same)
 
-append_not_nil : {A : Type 0} (xs : List A) (x : A) → xs ++ x ∷ [] ≡ [] → ⊥
+pub append_not_nil : {A : Type 0} (xs : List A) (x : A) → xs ++ x ∷ [] ≡ [] → ⊥
 append_not_nil [] x e = cc
 append_not_nil (y ∷ ys) x e = cc
 
@@ -87,6 +86,10 @@ faultless most i placed before t f r = good_so_far most i placed (before ++ t �
 -- and behind one
 pub faultless_phrase : {X : Type 0} {g : Ghosts X} (most : ℕ) (i : Input) (placed : List (Placed HeaderPhrase)) (p : Placed HeaderPhrase) (f : Feed X g) → Reads most i (placed ++ p ∷ []) [] f → IsGoodSoFar most i f
 faultless_phrase most i placed p f r = good_so_far most i (placed ++ p ∷ []) [] f r (λ e. append_not_nil placed p (nothing_read most r.given (placed ++ p ∷ []) [] r.so_far e).0)
+
+-- and behind some
+pub faultless_phrases : {X : Type 0} {g : Ghosts X} (most : ℕ) (i : Input) (placed : List (Placed HeaderPhrase)) (f : Feed X g) → placed ≢ [] → Reads most i placed [] f → IsGoodSoFar most i f
+faultless_phrases most i placed f some r = good_so_far most i placed [] f r (λ e. some (nothing_read most r.given placed [] r.so_far e).0)
 
 -- and behind the last
 pub faultless_whole : {X : Type 0} {g : Ghosts X} (most : ℕ) (i : Input) (placed : List (Placed HeaderPhrase)) (f : Feed X g) → ReadsWhole most i placed f → IsGoodSoFar most i f

@@ -15,6 +15,7 @@ pub mod Texts
 pub mod Codes
 pub mod Fronts
 pub mod Draft
+pub mod Ahead
 pub mod Variables
 pub mod Scaled
 pub mod Marks

@@ -4,7 +4,7 @@ ghost use Rattle.vcd_model.specs.Declarations.{IdCode};
 ghost use Rattle.vcd_head.specs.Codes.{AreHeld, FindsAll, HasNone, IsAdded, IsKnown};
 
 use crate::fault::HeadFault;
-use crate::table::{Table, table_of};
+use crate::table::Table;
 use crate::view::{Code, code_in};
 use std::alloc::{AllocError, Global};
 
@@ -73,7 +73,8 @@ impl Codes {
     {
         if self.table.is_narrow(bytes, self.list.len()) {
             let entries = self.table.entries.len().saturating_mul(2);
-            self.table = table_of(alloc, text, &self.list, entries.max(FEWEST_ENTRIES))?;
+            self.table
+                .widen(alloc, text, &self.list, entries.max(FEWEST_ENTRIES))?;
         }
         Ok(())
     }

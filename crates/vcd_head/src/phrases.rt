@@ -4,7 +4,7 @@ ghost use Rattle.vcd_model.specs.Input.{Input};
 ghost use Rattle.vcd_model.specs.Keywords.{Keyword as Named};
 ghost use Rattle.vcd_text.specs.Feed.{source_of, token_of, seen};
 ghost use Rattle.vcd_head.specs.Reads.{Fails};
-ghost use Rattle.vcd_head.specs.Draft.{AtKeyword, AtFirstToken, AtOther, DraftsUpTo, DraftsAll, goes_on as goes_on_after};
+ghost use Rattle.vcd_head.specs.Draft.{AtKeyword, AtFirstToken, AtOther, DraftsBehind, DraftsUpTo, DraftsAll, goes_on as goes_on_after};
 ghost use Rattle.vcd_text.specs.Advances.{Advances};
 ghost use Rattle.vcd_head.specs.Fault.{call_end};
 
@@ -14,7 +14,7 @@ use crate::keyword::{Keyword, keyword_of};
 use crate::scale::read_timescale;
 use crate::scopes::{read_scope, read_upscope};
 use crate::texts::{skip_to_end, text_to_end};
-use crate::tokens::{next_ends, next_token};
+use crate::tokens::{first_token, next_ends};
 use crate::variable::read_variable;
 use crate::words::{begins_change, is_command};
 use std::alloc::Global;
@@ -111,7 +111,7 @@ fn goes_on(keyword: Option<Keyword>) -> bool
     }
 }
 
-/// Reads a phrase, and tells whether more may follow.
+/// Reads a phrase, and tells whether more may follow. The feed need not show the token before it.
 pub(crate) fn read_phrase<S: Source>(
     alloc: Global,
     feed: &mut Feed<'_, '_, '_, '_, S>,
@@ -119,7 +119,7 @@ pub(crate) fn read_phrase<S: Source>(
     draft: &mut Draft,
 ) -> Result<bool, HeadFault>
     requires { S.failures (source_of feed.old) < 2 ^ 64 - 1 }
-    ensures reads { (i : Input) → DraftsUpTo most i draft.old feed.old
+    ensures reads { (i : Input) → DraftsBehind most i draft.old feed.old
         → MatchResult result (λ more.
         MatchBool more (DraftsUpTo most i draft.new feed.new)
         (DraftsAll most i draft.new feed.new))
@@ -127,7 +127,7 @@ pub(crate) fn read_phrase<S: Source>(
     ensures advances { Advances S.failures feed.old feed.new (call_end result) }
     ensures progress { OnOk result (2 ^ 63 - seen feed.new < 2 ^ 63 - seen feed.old) }
 {
-    next_token(feed)?;
+    first_token(feed)?;
     let keyword = keyword_of(feed.token());
     read_rest(alloc, feed, most, keyword, draft)?;
     Ok(goes_on(keyword))

@@ -7,6 +7,7 @@ ghost use Rattle.vcd_head.specs.Shown.{shown};
 ghost use Rattle.vcd_text.specs.Advances.{HasNotFailed, Advances};
 ghost use Rattle.vcd_head.specs.Fault.{call_end};
 
+use crate::ahead::read_ahead;
 use crate::draft::Draft;
 use crate::fault::HeadFault;
 use crate::finish::finish;
@@ -48,5 +49,6 @@ pub fn read_head<S: Source>(
         if !read_phrase(alloc, feed, most, &mut draft)? {
             return finish(alloc, draft);
         }
+        read_ahead(alloc, feed, most, &mut draft)?;
     }
 }

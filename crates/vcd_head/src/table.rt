@@ -31,14 +31,33 @@ impl Table {
         }
     }
 
-    /// A table of no code, with so many entries.
-    fn with_entries(alloc: Global, entries: usize) -> Result<Self, AllocError>
-        ensures { IfOk result (λ table. (t : List ℕ) → place_in table t ≡ None) }
+    /// Leaves no code in the table, and so many entries where others stood.
+    fn empty(&mut self, alloc: Global, entries: usize) -> Result<(), AllocError>
+        ensures { IfOk result (λ _. (t : List ℕ) → place_in self.new t ≡ None) }
     {
-        Ok(Table {
-            entries: vec![in alloc; EMPTY; entries]?,
-            others: BTreeMap::new(alloc),
-        })
+        self.entries.clear();
+        self.entries.resize(entries, EMPTY)?;
+        self.others = BTreeMap::new(alloc);
+        Ok(())
+    }
+
+    /// Gives the table so many entries, a power of two of them, and enters these codes in place of those that it has.
+    pub(crate) fn widen(
+        &mut self,
+        alloc: Global,
+        text: &[u8],
+        codes: &[Code],
+        entries: usize,
+    ) -> Result<(), AllocError>
+        ensures { (cs : List IdCode) → AreHeld text.now codes.now cs
+            → IfOk result (λ _. FindsAll cs self.new) }
+    {
+        self.empty(alloc, entries)?;
+        for (place, code) in codes.iter().enumerate() {
+            let bytes = text_in(text, code.start, code.len);
+            self.enter(alloc, bytes, place, *code)?;
+        }
+        Ok(())
     }
 
     /// The place of the code with these bytes.
@@ -124,21 +143,4 @@ fn is_free(entries: &[Entry], at: usize) -> bool
         Some(entry) => entry.key == 0,
         None => false,
     }
-}
-
-/// A table of these codes with so many entries, a power of two of them.
-pub(crate) fn table_of(
-    alloc: Global,
-    text: &[u8],
-    codes: &[Code],
-    entries: usize,
-) -> Result<Table, AllocError>
-    ensures { (cs : List IdCode) → AreHeld text.now codes.now cs → IfOk result (FindsAll cs) }
-{
-    let mut table = Table::with_entries(alloc, entries)?;
-    for (place, code) in codes.iter().enumerate() {
-        let bytes = text_in(text, code.start, code.len);
-        table.enter(alloc, bytes, place, *code)?;
-    }
-    Ok(table)
 }

@@ -4,7 +4,10 @@ ghost use Rattle.vcd_model.specs.Input.{Input};
 ghost use Rattle.vcd_model.specs.HeaderPhrases.{HeaderPhrase};
 ghost use Rattle.vcd_model.specs.Reading.{Placed};
 ghost use Rattle.vcd_model.specs.Keywords.{is_end};
-ghost use Rattle.vcd_text.specs.Feed.{source_of, seen, token_of};
+ghost use Rattle.vcd_model.specs.HeaderReading.{header_grammar};
+ghost use Rattle.vcd_model.specs.SoFar.{IsSoFar};
+ghost use Rattle.vcd_model.specs.Tokens.{Token};
+ghost use Rattle.vcd_text.specs.Feed.{HasGiven, source_of, seen, token_of};
 ghost use Rattle.vcd_head.specs.Reads.{Reads, ReadsToken, Fails};
 ghost use Rattle.vcd_head.specs.Texts.{Welcomes, WordRead, WordTaken};
 ghost use Rattle.vcd_text.specs.Advances.{Advances};
@@ -13,6 +16,28 @@ ghost use Rattle.vcd_head.specs.Fault.{call_end};
 use crate::fault::HeadFault;
 use crate::words;
 use vcd_text::{Feed, Halt, Next, Source};
+
+/// The next token, or the fault of one that is missing. The feed need not show the one before it.
+#[inline(always)]
+pub(crate) fn first_token<S: Source>(feed: &mut Feed<'_, '_, '_, '_, S>) -> Result<(), HeadFault>
+    requires { S.failures (source_of feed.old) < 2 ^ 64 - 1 }
+    ensures reads { (most : ℕ) (i : Input) (given : List Token) (placed : List (Placed HeaderPhrase))
+        (before : List (List ℕ))
+        → HasGiven i given feed.old → IsSoFar (header_grammar most) given placed before
+        → MatchResult result (λ _. ReadsToken most i placed before feed.new)
+        (λ fault. Fails most i fault feed.new) }
+    ensures advances { Advances S.failures feed.old feed.new (call_end result) }
+    ensures progress { OnOk result (seen feed.old < seen feed.new) }
+    ensures bounded { seen feed.new < 2 ^ 63 }
+{
+    match feed.next() {
+        Ok(Next::Token) => Ok(()),
+        Ok(Next::Finish) => Err(HeadFault::EndOfInput),
+        Err(Halt::TokenTooLong) => Err(HeadFault::TokenTooLong),
+        Err(Halt::InputTooLong) => Err(HeadFault::InputTooLong),
+        Err(Halt::ReadFailed) => Err(HeadFault::ReadFailed),
+    }
+}
 
 /// The next token, or the fault of one that is missing.
 #[inline(always)]
@@ -27,13 +52,7 @@ pub(crate) fn next_token<S: Source>(feed: &mut Feed<'_, '_, '_, '_, S>) -> Resul
     ensures progress { OnOk result (seen feed.old < seen feed.new) }
     ensures bounded { seen feed.new < 2 ^ 63 }
 {
-    match feed.next() {
-        Ok(Next::Token) => Ok(()),
-        Ok(Next::Finish) => Err(HeadFault::EndOfInput),
-        Err(Halt::TokenTooLong) => Err(HeadFault::TokenTooLong),
-        Err(Halt::InputTooLong) => Err(HeadFault::InputTooLong),
-        Err(Halt::ReadFailed) => Err(HeadFault::ReadFailed),
-    }
+    first_token(feed)
 }
 
 /// Reads the next token, and tells whether it is `$end`.

@@ -1,6 +1,7 @@
 use Rattle.vcd_text.specs.Advances.{CallEnd}
 use Rattle.vcd_text.proofs.AdvancesLemmas.{advances_on, advances_nowhere}
 use Rattle.std.proofs.lemmas.Bool.{MatchBool-at_false, MatchBool-at_true}
+use Rattle.std.proofs.lemmas.Result.{err_from_is_err_and}
 use Rattle.std.specs.Prelude.{None}
 use Rattle.vcd_head.proofs.PhraseSteps.{carries_nothing, finished}
 use Rattle.vcd_head.proofs.read.read_head.Goals as goal
@@ -12,8 +13,14 @@ pub returns-then-not-branch-clause-reads : goal.returns-then-not-branch-clause-r
 returns-then-not-branch-clause-reads g c = λ i s.
     finished c.args.most i c.read_phrase.new.draft c.read_phrase.new.feed c.finish.result c.requires.most (MatchBool-at_false _ _ c.if-not-branch.true (c.in_ok-read_phrase.ensures.reads i (c.phrases.invariant.1 i s))) c.finish.ensures.head c.finish.ensures.memory
 
+pub returns-in_err-read_ahead-clause-reads : goal.returns-in_err-read_ahead-clause-reads
+returns-in_err-read_ahead-clause-reads g c =
+    let p = err_from_is_err_and c.from_residual-in_err-read_ahead.result c.from_residual-in_err-read_ahead.ensures.1 in
+    rw (p.1, p.2) (λ i s. c.in_err-read_ahead.ensures.reads i (MatchBool-at_true _ _ c.if-not-branch.false (c.in_ok-read_phrase.ensures.reads i (c.phrases.invariant.1 i s))))
+
 pub phrases-preserved : goal.phrases-preserved
 phrases-preserved g c = (
-  advances_on g.S.Source.failures c.args.feed.now c.phrases.feed c.read_phrase.new.feed CallEnd.GoesOn c.phrases.invariant.0 c.in_ok-read_phrase.ensures.advances,
-  λ i s. MatchBool-at_true _ _ c.if-not-branch.false (c.in_ok-read_phrase.ensures.reads i (c.phrases.invariant.1 i s)),
+  advances_on g.S.Source.failures c.args.feed.now c.read_phrase.new.feed c.read_ahead.new.feed CallEnd.GoesOn
+      (advances_on g.S.Source.failures c.args.feed.now c.phrases.feed c.read_phrase.new.feed CallEnd.GoesOn c.phrases.invariant.0 c.in_ok-read_phrase.ensures.advances) c.in_ok-read_ahead.ensures.advances,
+  λ i s. c.in_ok-read_ahead.ensures.reads i (MatchBool-at_true _ _ c.if-not-branch.false (c.in_ok-read_phrase.ensures.reads i (c.phrases.invariant.1 i s))),
 )

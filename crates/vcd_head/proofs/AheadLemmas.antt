@@ -1,0 +1,128 @@
+-- Variables that lie ahead: their tokens are a phrase more.
+use Rattle.std.proofs.Common.{◌≡◌, ℕ, ◌<◌, ◌==◌, true, false, List, [], ◌∷◌, ◌++◌, length, None, bytes_eq, codes, refl, sym, ap, subst, ◌∙◌, arith}
+use Rattle.std.specs.Global.{Vec}
+use Rattle.std.specs.List.{join_with_byte}
+use Rattle.std.proofs.lemmas.Bool.{eqb-true}
+use Rattle.std.proofs.lemmas.Slice.Eq.{bytes_eq-Decides}
+use Rattle.std.proofs.lemmas.List.{append_assoc, append-nil}
+use Rattle.vcd_model.specs.Bytes.{decimal_value}
+use Rattle.vcd_model.specs.Checks.{first_failed}
+use Rattle.vcd_model.specs.Declarations.{Declaration, Variable}
+use Rattle.vcd_model.specs.HeaderChecks.{header_fault, start_checks, var_checks}
+use Rattle.vcd_model.specs.HeaderPhrases.{HeaderPhrase, declarations_of, header_phrase}
+use Rattle.vcd_model.specs.HeaderReading.{header_grammar}
+use Rattle.vcd_model.specs.Keywords.{Keyword, keyword_text}
+use Rattle.vcd_model.specs.Reading.{Placed, phrases_of}
+use Rattle.vcd_model.specs.SoFar.{IsSoFar}
+use Rattle.vcd_model.specs.Tokens.{Token}
+use Rattle.vcd_model.proofs.SoFarLemmas.{so_far-token, so_far-phrase}
+use Rattle.vcd_head.specs.Ahead.{IsVariable, range_text, texts_of}
+use Rattle.vcd_head.specs.Draft.{DraftsOn}
+use Rattle.vcd_head.specs.Texts.{NoEnds, RunsOn}
+use Rattle.vcd_head.specs.declared.ahead.AheadVariable.{AheadVariable}
+use Rattle.vcd_head.specs.declared.draft.Draft.{Draft}
+use Rattle.vcd_head.proofs.DraftSteps.{passed_test}
+use Rattle.vcd_head.proofs.PhraseLemmas.{start_fault, inner_fault, phrase_is, var_welcomes_type, var_welcomes_reference, var_runs, var_whole}
+use Rattle.vcd_head.proofs.TextSteps.{joined, runs_behind}
+use Rattle.vcd_head.proofs.WordLemmas.{size_found, size_parts}
+
+-- tokens of a phrase that runs on
+runs_so_far : (most : ℕ) (placed : List (Placed HeaderPhrase)) (before : List (List ℕ)) (given inner : List Token) → RunsOn most placed before → NoEnds (texts_of inner) → IsSoFar (header_grammar most) given placed before
+    → IsSoFar (header_grammar most) (given ++ inner) placed (before ++ texts_of inner)
+runs_so_far most placed before given [] runs none s = rw (append-nil given, append-nil before) s
+runs_so_far most placed before given (t ∷ inner) runs none s =
+    let step = runs [] t.bytes tt in
+    let good : header_fault most (phrases_of placed) before t.bytes ≡ None = subst (λ (b : List (List ℕ)). header_fault most (phrases_of placed) b t.bytes ≡ None) (append-nil before) step.0 in
+    let not_whole : header_phrase (before ++ t.bytes ∷ []) ≡ None = subst (λ (b : List (List ℕ)). header_phrase (b ++ t.bytes ∷ []) ≡ None) (append-nil before) (step.1 none.0) in
+    let one = so_far-token (header_grammar most) given placed before t s good not_whole in
+    rw (sym (append_assoc given (t ∷ []) inner), sym (append_assoc before (t.bytes ∷ []) (texts_of inner))) (runs_so_far most placed (before ++ t.bytes ∷ []) (given ++ t ∷ []) inner (runs_behind most placed before t.bytes none.0 runs) none.1 one)
+
+-- one after the other
+all_in_turn : (given : List Token) (a b c d e : Token) (inner : List Token) (end : Token) → ((((((given ++ a ∷ []) ++ b ∷ []) ++ c ∷ []) ++ d ∷ []) ++ e ∷ []) ++ inner) ++ end ∷ [] ≡ given ++ a ∷ b ∷ c ∷ d ∷ e ∷ (inner ++ end ∷ [])
+all_in_turn [] a b c d e inner end = refl
+all_in_turn (x ∷ given) a b c d e inner end = ap (λ l. x ∷ l) (all_in_turn given a b c d e inner end)
+
+-- the variable that these tokens declare
+abbrev pub variable_in : (ts : List Token) (v : AheadVariable) → IsVariable ts v → Variable
+variable_in ts v k = record { type = v.word.now; size = decimal_value k.digits.bytes; code = v.code.now; reference = v.name.now ∷ texts_of k.ends.inner }
+
+-- its phrase goes on behind others
+pub variable_so_far : (most : ℕ) (given ts : List Token) (placed : List (Placed HeaderPhrase)) (v : AheadVariable) (k : IsVariable ts v) → first_failed (start_checks most (declarations_of (phrases_of placed)) Keyword.Var) ≡ None
+    → first_failed (var_checks (declarations_of (phrases_of placed)) (v.word.now ∷ k.digits.bytes ∷ []) v.code.now) ≡ None → IsSoFar (header_grammar most) given placed []
+    → IsSoFar (header_grammar most) (given ++ ts) (placed ++ record { phrase = HeaderPhrase.Declares (Declaration.Var (variable_in ts v k)); line = k.ends.end.line } ∷ []) []
+variable_so_far most given ts placed v k start code s =
+    let G = header_grammar most in
+    let ps = phrases_of placed in
+    let var = keyword_text Keyword.Var in
+    let type = v.word.now in
+    let digits = k.digits.bytes in
+    let name = v.name.now in
+    let inner = k.ends.inner in
+    let texts = texts_of inner in
+    let end = k.ends.end in
+    let t0 : Token = record { bytes = var; line = k.begin_line } in
+    let t1 : Token = record { bytes = type; line = k.type_line } in
+    let t2 : Token = k.digits in
+    let t3 : Token = record { bytes = v.code.now; line = k.code_line } in
+    let t4 : Token = record { bytes = name; line = k.name_line } in
+    let size = size_found digits v.size k.size_is in
+    let w1 = var_welcomes_type most placed type k.type_on in
+    let w4 = var_welcomes_reference most placed type digits v.code.now name k.name_on in
+    let s0 = so_far-token G given placed [] t0 s (start_fault most ps Keyword.Var ∙ start) (phrase_is Keyword.Var []) in
+    let s1 = so_far-token G (given ++ t0 ∷ []) placed (var ∷ []) t1 s0 w1.0 w1.1 in
+    let s2 = so_far-token G ((given ++ t0 ∷ []) ++ t1 ∷ []) placed (var ∷ type ∷ []) t2 s1 (inner_fault most ps Keyword.Var (type ∷ []) digits ∙ passed_test _ 7 size.0) (phrase_is Keyword.Var (type ∷ digits ∷ [])) in
+    let s3 = so_far-token G (((given ++ t0 ∷ []) ++ t1 ∷ []) ++ t2 ∷ []) placed (var ∷ type ∷ digits ∷ []) t3 s2 (inner_fault most ps Keyword.Var (type ∷ digits ∷ []) v.code.now ∙ code) (phrase_is Keyword.Var (type ∷ digits ∷ v.code.now ∷ [])) in
+    let s4 = so_far-token G ((((given ++ t0 ∷ []) ++ t1 ∷ []) ++ t2 ∷ []) ++ t3 ∷ []) placed (var ∷ type ∷ digits ∷ v.code.now ∷ []) t4 s3 w4.0 w4.1 in
+    let s5 = runs_so_far most placed (var ∷ type ∷ digits ∷ v.code.now ∷ name ∷ []) (((((given ++ t0 ∷ []) ++ t1 ∷ []) ++ t2 ∷ []) ++ t3 ∷ []) ++ t4 ∷ []) inner (var_runs most placed type digits v.code.now name k.name_on) k.ends.none s4 in
+    let s6 = so_far-phrase G ((((((given ++ t0 ∷ []) ++ t1 ∷ []) ++ t2 ∷ []) ++ t3 ∷ []) ++ t4 ∷ []) ++ inner) placed (var ∷ type ∷ digits ∷ v.code.now ∷ name ∷ texts) end (HeaderPhrase.Declares (Declaration.Var (variable_in ts v k))) s5
+    (inner_fault most ps Keyword.Var (type ∷ digits ∷ v.code.now ∷ name ∷ texts) end.bytes)
+    (phrase_is Keyword.Var (type ∷ digits ∷ v.code.now ∷ name ∷ (texts ++ end.bytes ∷ [])) ∙ var_whole type digits v.code.now name texts end.bytes k.name_on k.ends.none k.ends.ends (size_parts digits size.0).0) refl in
+    let are : ts ≡ t0 ∷ t1 ∷ t2 ∷ t3 ∷ t4 ∷ (inner ++ end ∷ []) = k.are ∙ ap (λ l. t0 ∷ t1 ∷ t2 ∷ t3 ∷ t4 ∷ l) k.ends.are in
+    subst (λ (l : List Token). IsSoFar G l (placed ++ record { phrase = HeaderPhrase.Declares (Declaration.Var (variable_in ts v k)); line = end.line } ∷ []) [])
+    (all_in_turn given t0 t1 t2 t3 t4 inner end ∙ ap (λ l. given ++ l) (sym are)) s6
+
+-- the texts of its reference
+pub reference_joined : (ts : List Token) (v : AheadVariable) (k : IsVariable ts v) → join_with_byte 32 (v.name.now ∷ texts_of k.ends.inner) ≡ v.name.now ++ range_text v.range.now
+reference_joined ts v k = joined v.name.now (texts_of k.ends.inner) ∙ ap (λ l. v.name.now ++ l) k.ends.spaced_are
+
+-- ---- the tokens that were passed
+
+-- the text of a range
+pub some_range : (t : List ℕ) → 0 < length t → range_text t ≡ 32 ∷ t
+some_range [] e = absurd (omega arith)
+some_range (b ∷ bs) e = refl
+
+pub range_there : (t : List ℕ) → (length t == 0) ≡ false → range_text t ≡ 32 ∷ t
+range_there [] e = let z : (0 == 0) ≡ true = refl in cc
+range_there (b ∷ bs) e = refl
+
+pub no_range : (t : List ℕ) → (length t == 0) ≡ true → range_text t ≡ []
+no_range [] e = refl
+no_range (b ∷ bs) e = absurd (omega (arith, eqb-true _ _ e))
+
+-- five tokens and others, one after the other
+pub five_in_turn : (ts : List Token) (a b c d e : Token) (more : List Token) → (((((ts ++ a ∷ []) ++ b ∷ []) ++ c ∷ []) ++ d ∷ []) ++ e ∷ []) ++ more ≡ ts ++ a ∷ b ∷ c ∷ d ∷ e ∷ more
+five_in_turn [] a b c d e more = refl
+five_in_turn (x ∷ ts) a b c d e more = ap (λ l. x ∷ l) (five_in_turn ts a b c d e more)
+
+-- the keyword of a variable
+pub var_keyword : (t : List ℕ) → bytes_eq (codes "$var") t ≡ true → keyword_text Keyword.Var ≡ t
+var_keyword t e = (bytes_eq-Decides (keyword_text Keyword.Var) t).0 e
+
+-- ---- the draft
+
+-- the bytes of a code that are held tell nothing of it
+pub held_apart : (most : ℕ) (given : List Token) (d : Draft) (x : Vec ℕ) → DraftsOn most given d → DraftsOn most given (record d { held = x })
+held_apart most given d x a =
+    let k = a.holds.declares in
+    record {
+      placed = a.placed;
+      so_far = a.so_far;
+      holds = record {
+        declares = record { codes = k.codes; rows = k.rows; nested = k.nested; balance = k.balance; held = k.held; few = k.few };
+        date = a.holds.date;
+        version = a.holds.version;
+        scale = a.holds.scale;
+        scaled = a.holds.scaled;
+      };
+    }

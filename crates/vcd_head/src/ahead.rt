@@ -1,0 +1,267 @@
+// Variables whose phrases lie whole ahead in the chunk: their tokens cost no change of the feed.
+ghost use Rattle.std.specs.Prelude.{◌≡◌, ℕ, ◌<◌, ◌≤◌, List, [], ◌∷◌, ◌++◌, true, length, codes, bytes_eq, IfSome, IfOk, IfErr, MatchBool, MatchResult};
+ghost use Rattle.std.specs.List.{list_all};
+ghost use Rattle.vcd_model.specs.Bytes.{decimal_value, is_code_byte};
+ghost use Rattle.vcd_model.specs.Checks.{first_failed};
+ghost use Rattle.vcd_model.specs.Declarations.{Declaration};
+ghost use Rattle.vcd_model.specs.HeaderChecks.{var_checks};
+ghost use Rattle.vcd_model.specs.Input.{Input};
+ghost use Rattle.vcd_model.specs.Tokens.{Token};
+ghost use Rattle.vcd_text.specs.Advances.{Advances};
+ghost use Rattle.vcd_text.specs.Ahead.{bytes_of, longest_of, passed_of};
+ghost use Rattle.vcd_text.specs.Passed.{Passed};
+ghost use Rattle.vcd_head.specs.Ahead.{EndsAhead, IsVariable, LooksOver, range_text};
+ghost use Rattle.vcd_head.specs.Draft.{DraftsBehind, DraftsOn, DraftsUpTo, HasCodes, IsFound};
+ghost use Rattle.vcd_head.specs.Fault.{call_end};
+ghost use Rattle.vcd_head.specs.Reads.{Fails};
+
+use crate::codes::Codes;
+use crate::draft::{Draft, Found};
+use crate::fault::HeadFault;
+use crate::keyword::is;
+use crate::rows::{WideRow, push};
+use crate::view::Kind;
+use crate::words::{is_code, is_end, is_event, size_of};
+use std::alloc::{AllocError, Global};
+use vcd_text::{Ahead, Feed, Source};
+
+// A variable whose phrase lies ahead.
+#[derive(Clone, Copy)]
+pub(crate) struct AheadVariable<'a> {
+    // Its type.
+    pub(crate) word: &'a [u8],
+    pub(crate) size: usize,
+    pub(crate) code: &'a [u8],
+    // The first token of its reference.
+    pub(crate) name: &'a [u8],
+    // The second one; empty where there is none.
+    pub(crate) range: &'a [u8],
+}
+
+/// The next token, if it lies whole ahead.
+#[inline(always)]
+fn token_ahead<'a>(ahead: &mut Ahead<'a>) -> Option<&'a [u8]>
+    ensures one { IfSome result (λ token. (limit lines : ℕ) (bytes : List ℕ) (ts : List Token)
+        → LooksOver limit bytes ahead.old → Passed limit lines bytes (passed_of ahead.old) ts
+        → (line : ℕ) × Passed limit lines bytes (passed_of ahead.new) (ts ++ (record {
+          bytes = token.now;
+          line = line;
+        }) ∷ [])) }
+    ensures some { IfSome result (λ token. 0 < length token.now) }
+    ensures further { IfSome result (λ _. passed_of ahead.old < passed_of ahead.new) }
+    ensures within { IfSome result (λ _. passed_of ahead.new ≤ length (bytes_of ahead.old)) }
+    ensures same { (bytes_of ahead.new ≡ bytes_of ahead.old)
+        × (longest_of ahead.new ≡ longest_of ahead.old) }
+{
+    ahead.next()
+}
+
+/// What stands behind the first token of a reference, if that is `$end`, and then nothing is given, or one token more and `$end`.
+#[inline(always)]
+fn range_ahead<'a>(ahead: &mut Ahead<'a>) -> Option<&'a [u8]>
+    ensures ends { IfSome result (λ range. (limit lines : ℕ) (bytes : List ℕ) (ts : List Token)
+        → LooksOver limit bytes ahead.old → Passed limit lines bytes (passed_of ahead.old) ts
+        → (more : List Token) × EndsAhead more (range_text range.now)
+        × Passed limit lines bytes (passed_of ahead.new) (ts ++ more)) }
+    ensures further { IfSome result (λ _. passed_of ahead.old < passed_of ahead.new) }
+    ensures within { IfSome result (λ _. passed_of ahead.new ≤ length (bytes_of ahead.old)) }
+    ensures same { (bytes_of ahead.new ≡ bytes_of ahead.old)
+        × (longest_of ahead.new ≡ longest_of ahead.old) }
+{
+    let range = token_ahead(ahead)?;
+    if is_end(range) {
+        return Some(&[]);
+    }
+    let end = token_ahead(ahead)?;
+    if is_end(end) {
+        return Some(range);
+    }
+    None
+}
+
+/// The variable whose phrase comes next, if it lies whole ahead, and its reference has at most two tokens.
+#[inline(always)]
+fn variable_ahead<'a>(ahead: &mut Ahead<'a>) -> Option<AheadVariable<'a>>
+    ensures gives { IfSome result (λ variable. (limit lines : ℕ) (bytes : List ℕ)
+        (ts : List Token)
+        → LooksOver limit bytes ahead.old → Passed limit lines bytes (passed_of ahead.old) ts
+        → (more : List Token) × IsVariable more variable
+        × Passed limit lines bytes (passed_of ahead.new) (ts ++ more)) }
+    ensures further { IfSome result (λ _. passed_of ahead.old < passed_of ahead.new) }
+    ensures within { IfSome result (λ _. passed_of ahead.new ≤ length (bytes_of ahead.old)) }
+    ensures same { (bytes_of ahead.new ≡ bytes_of ahead.old)
+        × (longest_of ahead.new ≡ longest_of ahead.old) }
+{
+    let keyword = token_ahead(ahead)?;
+    if !is(keyword, b"$var") {
+        return None;
+    }
+    let word = token_ahead(ahead)?;
+    if is_end(word) {
+        return None;
+    }
+    let digits = token_ahead(ahead)?;
+    let size = size_of(digits)?;
+    let code = token_ahead(ahead)?;
+    if !is_code(code) {
+        return None;
+    }
+    let name = token_ahead(ahead)?;
+    if is_end(name) {
+        return None;
+    }
+    let range = range_ahead(ahead)?;
+    Some(AheadVariable {
+        word,
+        size,
+        code,
+        name,
+        range,
+    })
+}
+
+/// How the code of a variable of this size, which is an event or none, was found: none where it was declared with another size or
+/// kind. Its bytes are held where it is new.
+#[inline(always)]
+fn found_in(
+    known: &Codes,
+    held: &mut Vec<u8>,
+    code: &[u8],
+    size: usize,
+    event: bool,
+) -> Result<Option<Found>, AllocError>
+    ensures { (text type digits : List ℕ) (ds : List Declaration)
+        → HasCodes text known.now ds → decimal_value digits ≡ size
+        → bytes_eq (codes "event") type ≡ event → list_all is_code_byte code.now ≡ true
+        → IfOk result (λ o. IfSome o (λ found.
+        (first_failed (var_checks ds (type ∷ digits ∷ []) code.now) ≡ None)
+        × ((reference : List (List ℕ)) → IsFound ds (record {
+          type = type;
+          size = decimal_value digits;
+          code = code.now;
+          reference = reference;
+        }) held.new.items found))) }
+{
+    let Some(coded) = known.find(code) else {
+        held.clear();
+        held.extend_from_slice(code)?;
+        return Ok(Some(Found::New));
+    };
+    if coded.code.size != size {
+        return Ok(None);
+    }
+    if coded.code.event != event {
+        return Ok(None);
+    }
+    Ok(Some(Found::Declared(coded.place)))
+}
+
+/// Puts type and reference of a variable to the text.
+#[inline(always)]
+fn put_texts(text: &mut Vec<u8>, variable: AheadVariable<'_>) -> Result<(), AllocError>
+    ensures { IfOk result (λ _. text.new.items
+        ≡ text.old.items ++ (variable.entry.word.now ++ (variable.entry.name.now ++ range_text variable.entry.range.now))) }
+{
+    text.extend_from_slice(variable.word)?;
+    text.extend_from_slice(variable.name)?;
+    if variable.range.is_empty() {
+        return Ok(());
+    }
+    text.push(b' ')?;
+    text.extend_from_slice(variable.range)?;
+    Ok(())
+}
+
+/// Declares a variable that lies ahead, and tells whether it may stand there: else `read_variable` says why not.
+fn declare(
+    alloc: Global,
+    most: u64,
+    draft: &mut Draft,
+    variable: AheadVariable<'_>,
+) -> Result<bool, HeadFault>
+    ensures declares { (given more : List Token) → DraftsOn most given draft.old
+        → IsVariable more variable.entry → IfOk result (λ taken.
+        MatchBool taken (DraftsOn most (given ++ more) draft.new)
+        (DraftsOn most given draft.new)) }
+    ensures memory { IfErr result (λ fault. fault ≡ HeadFault.OutOfMemory) }
+{
+    if draft.rows.len() as u64 >= most {
+        return Ok(false);
+    }
+    let event = is_event(variable.word);
+    let Some(found) = found_in(
+        &draft.codes,
+        &mut draft.held,
+        variable.code,
+        variable.size,
+        event,
+    )?
+    else {
+        return Ok(false);
+    };
+    let start = draft.text.len();
+    put_texts(&mut draft.text, variable)?;
+    let word = variable.word.len();
+    let all = draft.text.len() - start - word;
+    let code = draft.place_of(alloc, found, variable.size, event)?;
+    let parent = draft.parent();
+    push(
+        &mut draft.rows,
+        WideRow {
+            kind: Kind::Var,
+            parent,
+            start,
+            word,
+            name: variable.name.len(),
+            all,
+            code,
+        },
+    )?;
+    Ok(true)
+}
+
+/// Declares the variables that come next and lie whole ahead, and returns how many bytes were passed.
+fn declare_ahead(
+    alloc: Global,
+    ahead: Ahead<'_>,
+    most: u64,
+    draft: &mut Draft,
+) -> Result<usize, HeadFault>
+    ensures drafts { (limit lines : ℕ) (bytes : List ℕ) (given : List Token)
+        → LooksOver limit bytes ahead.entry → Passed limit lines bytes (passed_of ahead.entry) []
+        → DraftsOn most given draft.old → IfOk result (λ n. (ts : List Token)
+        × Passed limit lines bytes n ts × DraftsOn most (given ++ ts) draft.new) }
+    ensures passes { (limit lines : ℕ) (bytes : List ℕ)
+        → LooksOver limit bytes ahead.entry → Passed limit lines bytes (passed_of ahead.entry) []
+        → IfOk result (λ n. (ts : List Token) × Passed limit lines bytes n ts) }
+    ensures memory { IfErr result (λ fault. fault ≡ HeadFault.OutOfMemory) }
+{
+    let mut passed = ahead;
+    'variables: loop {
+        let mut next = passed;
+        let Some(variable) = variable_ahead(&mut next) else {
+            return Ok(passed.passed());
+        };
+        if !declare(alloc, most, draft, variable)? {
+            return Ok(passed.passed());
+        }
+        passed = next;
+    }
+}
+
+/// Reads the variables that come next and lie whole in the chunk, behind a phrase. The feed then shows no token.
+pub(crate) fn read_ahead<S: Source>(
+    alloc: Global,
+    feed: &mut Feed<'_, '_, '_, '_, S>,
+    most: u64,
+    draft: &mut Draft,
+) -> Result<(), HeadFault>
+    ensures reads { (i : Input) → DraftsUpTo most i draft.old feed.old
+        → MatchResult result (λ _. DraftsBehind most i draft.new feed.new)
+        (λ fault. Fails most i fault feed.new) }
+    ensures advances { Advances S.failures feed.old feed.new (call_end result) }
+{
+    let passed = declare_ahead(alloc, feed.ahead(), most, draft)?;
+    feed.pass(passed);
+    Ok(())
+}
