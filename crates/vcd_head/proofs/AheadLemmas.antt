@@ -1,6 +1,5 @@
 -- Variables that lie ahead: their tokens are a phrase more.
 use Rattle.std.proofs.Common.{◌≡◌, ℕ, ◌<◌, ◌==◌, true, false, List, [], ◌∷◌, ◌++◌, length, None, bytes_eq, codes, refl, sym, ap, subst, ◌∙◌, arith}
-use Rattle.std.specs.Global.{Vec}
 use Rattle.std.specs.List.{join_with_byte}
 use Rattle.std.proofs.lemmas.Bool.{eqb-true}
 use Rattle.std.proofs.lemmas.Slice.Eq.{bytes_eq-Decides}
@@ -17,10 +16,8 @@ use Rattle.vcd_model.specs.SoFar.{IsSoFar}
 use Rattle.vcd_model.specs.Tokens.{Token}
 use Rattle.vcd_model.proofs.SoFarLemmas.{so_far-token, so_far-phrase}
 use Rattle.vcd_head.specs.Ahead.{IsVariable, range_text, texts_of}
-use Rattle.vcd_head.specs.Draft.{DraftsOn}
 use Rattle.vcd_head.specs.Texts.{NoEnds, RunsOn}
 use Rattle.vcd_head.specs.declared.ahead.AheadVariable.{AheadVariable}
-use Rattle.vcd_head.specs.declared.draft.Draft.{Draft}
 use Rattle.vcd_head.proofs.DraftSteps.{passed_test}
 use Rattle.vcd_head.proofs.PhraseLemmas.{start_fault, inner_fault, phrase_is, var_welcomes_type, var_welcomes_reference, var_runs, var_whole}
 use Rattle.vcd_head.proofs.TextSteps.{joined, runs_behind}
@@ -108,21 +105,3 @@ five_in_turn (x ∷ ts) a b c d e more = ap (λ l. x ∷ l) (five_in_turn ts a b
 -- the keyword of a variable
 pub var_keyword : (t : List ℕ) → bytes_eq (codes "$var") t ≡ true → keyword_text Keyword.Var ≡ t
 var_keyword t e = (bytes_eq-Decides (keyword_text Keyword.Var) t).0 e
-
--- ---- the draft
-
--- the bytes of a code that are held tell nothing of it
-pub held_apart : (most : ℕ) (given : List Token) (d : Draft) (x : Vec ℕ) → DraftsOn most given d → DraftsOn most given (record d { held = x })
-held_apart most given d x a =
-    let k = a.holds.declares in
-    record {
-      placed = a.placed;
-      so_far = a.so_far;
-      holds = record {
-        declares = record { codes = k.codes; rows = k.rows; nested = k.nested; balance = k.balance; held = k.held; few = k.few };
-        date = a.holds.date;
-        version = a.holds.version;
-        scale = a.holds.scale;
-        scaled = a.holds.scaled;
-      };
-    }

@@ -14,7 +14,6 @@ use Rattle.vcd_head.specs.Codes.{AreHeld, FindsAll, IsAdded}
 use Rattle.vcd_head.specs.Keys.{AreBytes}
 use Rattle.vcd_head.specs.Views.{IsCode, IsSize}
 use Rattle.vcd_head.specs.Draft.{HasCodes, CodeHeld}
-use Rattle.vcd_head.specs.declared.draft.Draft.{Draft}
 use Rattle.vcd_head.proofs.DraftLemmas.{range_at, held_grow}
 use Rattle.vcd_head.proofs.CodesLemmas.{find_more, held_more}
 use Rattle.vcd_head.proofs.LookUpLemmas.{codes_len}
@@ -143,29 +142,29 @@ event_differs text es ds v k h f s e = some_differ (codes_of ds) (variables_of d
 
 -- ---- a draft with one code more
 
-pub held_alias : (d : Draft) (ds : List Declaration) (v : Variable) (place : ℕ) → HasCodes d.text.items d.codes ds → slice_get (codes_of ds) place ≡ Some (code_of v) → find (has_text v.code) (codes_of ds) ≡ Some (code_of v) → CodeHeld d d ds v place
-held_alias d ds v place h at f = record {
-  held_codes = codes_alias d.text.items d.codes ds v h f;
+pub held_alias : (text : List ℕ) (es : Codes) (ds : List Declaration) (v : Variable) (place : ℕ) → HasCodes text es ds → slice_get (codes_of ds) place ≡ Some (code_of v) → find (has_text v.code) (codes_of ds) ≡ Some (code_of v) → CodeHeld text text es ds v place
+held_alias text es ds v place h at f = record {
+  held_codes = codes_alias text es ds v h f;
   held_at = ap (λ ks. slice_get ks place) (codes-alias ds v (h.seen v.code ∙ ap is_some f)) ∙ at;
   more = [];
-  grown = sym (append-nil d.text.items);
+  grown = sym (append-nil text);
   short = omega arith;
 }
 
-pub held_new : (old new : Draft) (ds : List Declaration) (v : Variable) (k : List ℕ) (code : Code) (place : ℕ) → HasCodes old.text.items old.codes ds → find (has_text v.code) (codes_of ds) ≡ None → k ≡ v.code → IsSize (code_of v).size
-    → code ≡ record { start = length old.text.items; len = length k; size = (code_of v).size; event = (code_of v).event } → new.text.items ≡ old.text.items ++ k → IsAdded (old.text.items ++ k) old.codes new.codes k code place → CodeHeld old new ds v place
-held_new old new ds v k code place h f b size is_code text added =
-    let at : place ≡ length (codes_of ds) = added.last ∙ codes_len old.text.items old.codes.list.items (codes_of ds) h.held.stand in
+pub held_new : (old new : List ℕ) (before after : Codes) (ds : List Declaration) (v : Variable) (k : List ℕ) (code : Code) (place : ℕ) → HasCodes old before ds → find (has_text v.code) (codes_of ds) ≡ None → k ≡ v.code → IsSize (code_of v).size
+    → code ≡ record { start = length old; len = length k; size = (code_of v).size; event = (code_of v).event } → new ≡ old ++ k → IsAdded (old ++ k) before after k code place → CodeHeld old new after ds v place
+held_new old new before after ds v k code place h f b size is_code text added =
+    let at : place ≡ length (codes_of ds) = added.last ∙ codes_len old before.list.items (codes_of ds) h.held.stand in
     let from = ap (λ (c : Code). c.start) is_code in
     let size_of = ap (λ (c : Code). c.len) is_code in
-    let is : IsCode (old.text.items ++ k) code (code_of v) = record {
-      within = omega (arith, length-append old.text.items k);
-      text_is = ap (λ l. slice_range l code.start (code.start + code.len)) (ap (λ l. old.text.items ++ l) (sym (append-nil k))) ∙ range_at old.text.items k [] code.start (code.start + code.len) from (omega arith) ∙ b;
+    let is : IsCode (old ++ k) code (code_of v) = record {
+      within = omega (arith, length-append old k);
+      text_is = ap (λ l. slice_range l code.start (code.start + code.len)) (ap (λ l. old ++ l) (sym (append-nil k))) ∙ range_at old k [] code.start (code.start + code.len) from (omega arith) ∙ b;
       size_is = ap (λ (c : Code). c.size) is_code;
       event_is = ap (λ (c : Code). c.event) is_code;
     } in
     record {
-      held_codes = rw text (codes_new old.text.items k old.codes new.codes ds v k code place h f b added is size);
+      held_codes = rw text (codes_new old k before after ds v k code place h f b added is size);
       held_at = ap (λ ks. slice_get ks place) (codes-new ds v (h.seen v.code ∙ ap is_some f)) ∙ ap (slice_get (codes_of ds ++ code_of v ∷ [])) at ∙ slice_get-seam (codes_of ds) (code_of v) [];
       more = k;
       grown = text;

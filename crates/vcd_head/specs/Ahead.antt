@@ -1,4 +1,4 @@
--- Variables whose phrases lie ahead.
+-- Variables and scopes whose phrases lie ahead.
 use Rattle.std.specs.Prelude.{◌≡◌, ℕ, true, false, List, [], ◌∷◌, ◌++◌, map, Some}
 use Rattle.std.specs.List.{list_all}
 use Rattle.vcd_model.specs.Bytes.{is_code_byte}
@@ -7,6 +7,7 @@ use Rattle.vcd_model.specs.Tokens.{Token}
 use Rattle.vcd_text.specs.Ahead.{bytes_of, longest_of}
 use Rattle.vcd_text.specs.declared.ahead.Ahead.{Ahead}
 use Rattle.vcd_head.specs.declared.ahead.AheadVariable.{AheadVariable}
+use Rattle.vcd_head.specs.declared.ahead_scopes.AheadScope.{AheadScope}
 use Rattle.vcd_head.specs.Texts.{NoEnds, spaced}
 use Rattle.vcd_head.specs.Words.{size_in}
 
@@ -46,3 +47,21 @@ pub record IsVariable (ts : List Token) (v : AheadVariable) : Type 0 where
   pub code_is : list_all is_code_byte v.code.now ≡ true
   pub name_on : is_end v.name.now ≡ false
   pub ends : EndsAhead rest (range_text v.range.now)
+
+-- the tokens are the phrase of this scope
+pub record IsScope (ts : List Token) (s : AheadScope) : Type 0 where
+  pub begin_line : ℕ
+  pub type_line : ℕ
+  pub name_line : ℕ
+  pub end : Token
+  pub are : ts ≡ record { bytes = keyword_text Keyword.Scope; line = begin_line } ∷ record { bytes = s.word.now; line = type_line } ∷ record { bytes = s.name.now; line = name_line } ∷ end ∷ []
+  pub type_on : is_end s.word.now ≡ false
+  pub name_on : is_end s.name.now ≡ false
+  pub ends : is_end end.bytes ≡ true
+
+-- the tokens close a scope
+pub record IsUpscope (ts : List Token) : Type 0 where
+  pub begin_line : ℕ
+  pub end : Token
+  pub are : ts ≡ record { bytes = keyword_text Keyword.Upscope; line = begin_line } ∷ end ∷ []
+  pub ends : is_end end.bytes ≡ true

@@ -33,10 +33,10 @@ pub record HasCodes (text : List ℕ) (c : Codes) (ds : List Declaration) : Type
   pub seen : (t : List ℕ) → list_any (λ u. bytes_eq u.code t) (variables_of ds) ≡ is_some (find (has_text t) (codes_of ds))
   pub sizes : AllByRecursion (λ (c : IdCode). IsSize c.size) (codes_of ds)
 
--- the code of a variable after these declarations was found among theirs, or is new and held
+-- the code of a variable after these declarations was found among theirs, or is new and has these bytes
 abbrev pub IsFound : List Declaration → Variable → List ℕ → Found → Type 0
-IsFound ds v held (found.Declared place) = (slice_get (codes_of ds) place ≡ Some (code_of v)) × (find (has_text v.code) (codes_of ds) ≡ Some (code_of v))
-IsFound ds v held found.New = (held ≡ v.code) × (find (has_text v.code) (codes_of ds) ≡ None)
+IsFound ds v bytes (found.Declared place) = (slice_get (codes_of ds) place ≡ Some (code_of v)) × (find (has_text v.code) (codes_of ds) ≡ Some (code_of v))
+IsFound ds v bytes found.New = (bytes ≡ v.code) × (find (has_text v.code) (codes_of ds) ≡ None)
 
 -- the draft holds these declarations, of which `most` are allowed
 pub record Declares (most : ℕ) (d : Draft) (ds : List Declaration) : Type 0 where
@@ -55,21 +55,13 @@ pub record IsDraftOf (most : ℕ) (d : Draft) (ps : List HeaderPhrase) : Type 0 
   pub scale : option_map (λ (x : Scale). x.exponent) d.scale ≡ last_or None (filter_map timescale_of ps)
   pub scaled : IfSome d.scale (λ (x : Scale). IsExponent x.exponent)
 
--- the code of the variable is held, at this place
-pub record CodeHeld (old new : Draft) (ds : List Declaration) (v : Variable) (place : ℕ) : Type 0 where
-  pub held_codes : HasCodes new.text.items new.codes (ds ++ Declaration.Var v ∷ [])
+-- the code of the variable is held, at this place, in a text that has grown by its bytes or not
+pub record CodeHeld (old new : List ℕ) (codes : Codes) (ds : List Declaration) (v : Variable) (place : ℕ) : Type 0 where
+  pub held_codes : HasCodes new codes (ds ++ Declaration.Var v ∷ [])
   pub held_at : slice_get (codes_of (ds ++ Declaration.Var v ∷ [])) place ≡ Some (code_of v)
   pub more : List ℕ
-  pub grown : new.text.items ≡ old.text.items ++ more
+  pub grown : new ≡ old ++ more
   pub short : length more ≤ length v.code
-
--- nothing but texts and codes has changed
-pub record IsSameBut (old new : Draft) : Type 0 where
-  pub same_rows : new.rows.items ≡ old.rows.items
-  pub same_date : new.date.items ≡ old.date.items
-  pub same_version : new.version.items ≡ old.version.items
-  pub same_scale : new.scale ≡ old.scale
-  pub same_scopes : new.scopes.items ≡ old.scopes.items
 
 -- nothing was read yet
 pub record IsNew (d : Draft) : Type 0 where

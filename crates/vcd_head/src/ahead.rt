@@ -1,4 +1,4 @@
-// Variables whose phrases lie whole ahead in the chunk: their tokens cost no change of the feed.
+// Variables and scopes whose phrases lie whole ahead in the chunk: their tokens cost no change of the feed.
 ghost use Rattle.std.specs.Prelude.{◌≡◌, ℕ, ◌<◌, ◌≤◌, List, [], ◌∷◌, ◌++◌, true, length, codes, bytes_eq, IfSome, IfOk, IfErr, MatchBool, MatchResult};
 ghost use Rattle.std.specs.List.{list_all};
 ghost use Rattle.vcd_model.specs.Bytes.{decimal_value, is_code_byte};
@@ -15,8 +15,9 @@ ghost use Rattle.vcd_head.specs.Draft.{DraftsBehind, DraftsOn, DraftsUpTo, HasCo
 ghost use Rattle.vcd_head.specs.Fault.{call_end};
 ghost use Rattle.vcd_head.specs.Reads.{Fails};
 
+use crate::ahead_scopes::{close_scope, open_scope, scope_ahead, upscope_ahead};
 use crate::codes::Codes;
-use crate::draft::{Draft, Found};
+use crate::draft::{Draft, Found, place_of};
 use crate::fault::HeadFault;
 use crate::keyword::is;
 use crate::rows::{WideRow, push};
@@ -40,7 +41,7 @@ pub(crate) struct AheadVariable<'a> {
 
 /// The next token, if it lies whole ahead.
 #[inline(always)]
-fn token_ahead<'a>(ahead: &mut Ahead<'a>) -> Option<&'a [u8]>
+pub(crate) fn token_ahead<'a>(ahead: &mut Ahead<'a>) -> Option<&'a [u8]>
     ensures one { IfSome result (λ token. (limit lines : ℕ) (bytes : List ℕ) (ts : List Token)
         → LooksOver limit bytes ahead.old → Passed limit lines bytes (passed_of ahead.old) ts
         → (line : ℕ) × Passed limit lines bytes (passed_of ahead.new) (ts ++ (record {
@@ -120,40 +121,31 @@ fn variable_ahead<'a>(ahead: &mut Ahead<'a>) -> Option<AheadVariable<'a>>
     })
 }
 
-/// How the code of a variable of this size, which is an event or none, was found: none where it was declared with another size or
-/// kind. Its bytes are held where it is new.
+/// How the code of a variable of this size, which is an event or none, was found; none where it was declared with another size or
+/// kind.
 #[inline(always)]
-fn found_in(
-    known: &Codes,
-    held: &mut Vec<u8>,
-    code: &[u8],
-    size: usize,
-    event: bool,
-) -> Result<Option<Found>, AllocError>
-    ensures { (text type digits : List ℕ) (ds : List Declaration)
-        → HasCodes text known.now ds → decimal_value digits ≡ size
-        → bytes_eq (codes "event") type ≡ event → list_all is_code_byte code.now ≡ true
-        → IfOk result (λ o. IfSome o (λ found.
+fn found_in(known: &Codes, code: &[u8], size: usize, event: bool) -> Option<Found>
+    ensures { (text type digits : List ℕ) (ds : List Declaration) → HasCodes text known.now ds
+        → decimal_value digits ≡ size → bytes_eq (codes "event") type ≡ event
+        → list_all is_code_byte code.now ≡ true → IfSome result (λ found.
         (first_failed (var_checks ds (type ∷ digits ∷ []) code.now) ≡ None)
         × ((reference : List (List ℕ)) → IsFound ds (record {
           type = type;
           size = decimal_value digits;
           code = code.now;
           reference = reference;
-        }) held.new.items found))) }
+        }) code.now found)) }
 {
     let Some(coded) = known.find(code) else {
-        held.clear();
-        held.extend_from_slice(code)?;
-        return Ok(Some(Found::New));
+        return Some(Found::New);
     };
     if coded.code.size != size {
-        return Ok(None);
+        return None;
     }
     if coded.code.event != event {
-        return Ok(None);
+        return None;
     }
-    Ok(Some(Found::Declared(coded.place)))
+    Some(Found::Declared(coded.place))
 }
 
 /// Puts type and reference of a variable to the text.
@@ -189,21 +181,22 @@ fn declare(
         return Ok(false);
     }
     let event = is_event(variable.word);
-    let Some(found) = found_in(
-        &draft.codes,
-        &mut draft.held,
-        variable.code,
-        variable.size,
-        event,
-    )?
-    else {
+    let Some(found) = found_in(&draft.codes, variable.code, variable.size, event) else {
         return Ok(false);
     };
     let start = draft.text.len();
     put_texts(&mut draft.text, variable)?;
     let word = variable.word.len();
     let all = draft.text.len() - start - word;
-    let code = draft.place_of(alloc, found, variable.size, event)?;
+    let code = place_of(
+        alloc,
+        &mut draft.text,
+        &mut draft.codes,
+        found,
+        variable.code,
+        variable.size,
+        event,
+    )?;
     let parent = draft.parent();
     push(
         &mut draft.rows,
@@ -220,7 +213,50 @@ fn declare(
     Ok(true)
 }
 
-/// Declares the variables that come next and lie whole ahead, and returns how many bytes were passed.
+/// Takes the next phrase, if it lies whole ahead and declares a variable or a scope, or closes one; tells whether it did.
+#[inline(always)]
+fn declare_next(
+    alloc: Global,
+    ahead: &mut Ahead<'_>,
+    most: u64,
+    draft: &mut Draft,
+) -> Result<bool, HeadFault>
+    ensures drafts { (limit lines : ℕ) (bytes : List ℕ) (ts given : List Token)
+        → LooksOver limit bytes ahead.old → Passed limit lines bytes (passed_of ahead.old) ts
+        → DraftsOn most given draft.old → IfOk result (λ taken.
+        MatchBool taken ((more : List Token)
+        × Passed limit lines bytes (passed_of ahead.new) (ts ++ more)
+        × DraftsOn most (given ++ more) draft.new)
+        (DraftsOn most given draft.new)) }
+    ensures passes { (limit lines : ℕ) (bytes : List ℕ) (ts : List Token)
+        → LooksOver limit bytes ahead.old → Passed limit lines bytes (passed_of ahead.old) ts
+        → (more : List Token) × Passed limit lines bytes (passed_of ahead.new) (ts ++ more) }
+    ensures further { IfOk result (λ taken. taken ≡ true
+        → (passed_of ahead.old < passed_of ahead.new)
+        × (passed_of ahead.new ≤ length (bytes_of ahead.old))) }
+    ensures same { (bytes_of ahead.new ≡ bytes_of ahead.old)
+        × (longest_of ahead.new ≡ longest_of ahead.old) }
+    ensures memory { IfErr result (λ fault. fault ≡ HeadFault.OutOfMemory) }
+{
+    let mut next = *ahead;
+    if let Some(variable) = variable_ahead(&mut next) {
+        *ahead = next;
+        return declare(alloc, most, draft, variable);
+    }
+    let mut next = *ahead;
+    if let Some(scope) = scope_ahead(&mut next) {
+        *ahead = next;
+        return open_scope(most, draft, scope);
+    }
+    let mut next = *ahead;
+    if let Some(()) = upscope_ahead(&mut next) {
+        *ahead = next;
+        return close_scope(most, draft);
+    }
+    Ok(false)
+}
+
+/// Declares the variables and scopes that come next and lie whole ahead, and returns how many bytes were passed.
 fn declare_ahead(
     alloc: Global,
     ahead: Ahead<'_>,
@@ -237,19 +273,16 @@ fn declare_ahead(
     ensures memory { IfErr result (λ fault. fault ≡ HeadFault.OutOfMemory) }
 {
     let mut passed = ahead;
-    'variables: loop {
+    'phrases: loop {
         let mut next = passed;
-        let Some(variable) = variable_ahead(&mut next) else {
-            return Ok(passed.passed());
-        };
-        if !declare(alloc, most, draft, variable)? {
+        if !declare_next(alloc, &mut next, most, draft)? {
             return Ok(passed.passed());
         }
         passed = next;
     }
 }
 
-/// Reads the variables that come next and lie whole in the chunk, behind a phrase. The feed then shows no token.
+/// Reads the variables and scopes that come next and lie whole in the chunk, behind a phrase. The feed then shows no token.
 pub(crate) fn read_ahead<S: Source>(
     alloc: Global,
     feed: &mut Feed<'_, '_, '_, '_, S>,

@@ -48,6 +48,7 @@ impl Codes {
     }
 
     /// Adds a code that is new, with its bytes; gives its place. The bytes of those before it lie in the text.
+    #[inline(always)]
     pub(crate) fn push(
         &mut self,
         alloc: Global,
@@ -66,6 +67,7 @@ impl Codes {
     }
 
     // Gives the table more entries where they are worth it for a new code with these bytes.
+    #[inline(always)]
     fn make_room(&mut self, alloc: Global, text: &[u8], bytes: &[u8]) -> Result<(), AllocError>
         ensures found { (cs : List IdCode) → AreHeld text.now self.old.list.items cs
             → FindsAll cs self.old.table → IfOk result (λ _. FindsAll cs self.new.table) }

@@ -2,7 +2,7 @@
 ghost use Rattle.std.specs.Prelude.{◌≡◌, ◌-◌, List, length, unwrap_or, slice_get, IfOk, IfErr};
 ghost use Rattle.vcd_model.specs.Declarations.{Declaration, Variable, code_of};
 ghost use Rattle.vcd_head.specs.Views.{IsSize};
-ghost use Rattle.vcd_head.specs.Draft.{HasCodes, IsFound, CodeHeld, IsSameBut, IsNew};
+ghost use Rattle.vcd_head.specs.Draft.{HasCodes, IsFound, CodeHeld, IsNew};
 
 use crate::codes::Codes;
 use crate::fault::HeadFault;
@@ -47,47 +47,53 @@ impl Draft {
     {
         self.scopes.last().copied().unwrap_or(0)
     }
+}
 
-    /// The place of the code of a variable, which is added where it is new.
-    pub(crate) fn place_of(
-        &mut self,
-        alloc: Global,
-        found: Found,
-        size: usize,
-        event: bool,
-    ) -> Result<usize, HeadFault>
-        ensures codes { (ds : List Declaration) (v : Variable)
-            → HasCodes self.old.text.items self.old.codes ds
-            → IsFound ds v self.old.held.items found → IsSize size → size ≡ (code_of v).size
-            → event ≡ (code_of v).event
-            → IfOk result (CodeHeld self.old self.new ds v) }
-        ensures others { IsSameBut self.old self.new }
-        ensures memory { IfErr result (λ fault. fault ≡ HeadFault.OutOfMemory) }
-    {
-        match found {
-            Found::Declared(place) => Ok(place),
-            Found::New => self.add_code(alloc, size, event),
-        }
+/// The place of the code of a variable with these bytes, which is added where it is new, behind the text.
+#[inline(always)]
+pub(crate) fn place_of(
+    alloc: Global,
+    text: &mut Vec<u8>,
+    codes: &mut Codes,
+    found: Found,
+    bytes: &[u8],
+    size: usize,
+    event: bool,
+) -> Result<usize, HeadFault>
+    ensures codes { (ds : List Declaration) (v : Variable)
+        → HasCodes text.old.items codes.old ds → IsFound ds v bytes.now found → IsSize size
+        → size ≡ (code_of v).size → event ≡ (code_of v).event
+        → IfOk result (CodeHeld text.old.items text.new.items codes.new ds v) }
+    ensures memory { IfErr result (λ fault. fault ≡ HeadFault.OutOfMemory) }
+{
+    match found {
+        Found::Declared(place) => Ok(place),
+        Found::New => add_code(alloc, text, codes, bytes, size, event),
     }
+}
 
-    fn add_code(&mut self, alloc: Global, size: usize, event: bool) -> Result<usize, HeadFault>
-        ensures codes { (ds : List Declaration) (v : Variable)
-            → HasCodes self.old.text.items self.old.codes ds
-            → IsFound ds v self.old.held.items Found.New → IsSize size → size ≡ (code_of v).size
-            → event ≡ (code_of v).event
-            → IfOk result (CodeHeld self.old self.new ds v) }
-        ensures others { IsSameBut self.old self.new }
-        ensures memory { IfErr result (λ fault. fault ≡ HeadFault.OutOfMemory) }
-    {
-        let code = Code {
-            start: self.text.len(),
-            len: self.held.len(),
-            size,
-            event,
-        };
-        self.text.extend_from_slice(&self.held)?;
-        self.codes.push(alloc, &self.text, &self.held, code)
-    }
+fn add_code(
+    alloc: Global,
+    text: &mut Vec<u8>,
+    codes: &mut Codes,
+    bytes: &[u8],
+    size: usize,
+    event: bool,
+) -> Result<usize, HeadFault>
+    ensures codes { (ds : List Declaration) (v : Variable)
+        → HasCodes text.old.items codes.old ds → IsFound ds v bytes.now Found.New → IsSize size
+        → size ≡ (code_of v).size → event ≡ (code_of v).event
+        → IfOk result (CodeHeld text.old.items text.new.items codes.new ds v) }
+    ensures memory { IfErr result (λ fault. fault ≡ HeadFault.OutOfMemory) }
+{
+    let code = Code {
+        start: text.len(),
+        len: bytes.len(),
+        size,
+        event,
+    };
+    text.extend_from_slice(bytes)?;
+    codes.push(alloc, text, bytes, code)
 }
 
 // The code of a variable that is read.
@@ -95,6 +101,6 @@ impl Draft {
 pub(crate) enum Found {
     // An earlier variable has it: its place among the distinct codes.
     Declared(usize),
-    // None has it, and the draft holds its bytes.
+    // None has it.
     New,
 }

@@ -133,6 +133,7 @@ fn fill(entries: &mut [Entry], text: &[u8], codes: &[Code])
 }
 
 /// The entry of a code with these bytes, which is at this place; an empty one where 32 bits do not hold the place.
+#[inline(always)]
 pub(crate) fn entry_at(place: usize, code: Code, bytes: &[u8]) -> Entry
     ensures right { (text : List ℕ) (codes : List Code) → slice_get codes place ≡ Some code
         → bytes.now ≡ text_in text code.start code.len → is_right text codes result ≡ true }
@@ -149,6 +150,7 @@ pub(crate) fn entry_at(place: usize, code: Code, bytes: &[u8]) -> Entry
 }
 
 /// Writes one entry, if there are so many.
+#[inline(always)]
 pub(crate) fn put(entries: &mut [Entry], at: usize, entry: Entry)
     ensures { entries.new ≡ set entries.old at entry }
 {

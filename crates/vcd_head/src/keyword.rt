@@ -22,6 +22,7 @@ pub enum Keyword {
 }
 
 /// The token is this word.
+#[inline(always)]
 pub(crate) fn is(token: &[u8], word: &[u8]) -> bool
     ensures { result ≡ bytes_eq word.now token.now }
 {

@@ -19,7 +19,7 @@
 //! - `read`, `phrases`: the whole header; one phrase of it
 //! - `tokens`, `texts`, `words`, `keyword`: the next token; texts up to `$end`; tests of tokens; the keywords
 //! - `scopes`, `variable`, `scale`, `rows`: what a phrase declares, and its row
-//! - `ahead`: variables whose phrases lie whole in the chunk
+//! - `ahead`, `ahead_scopes`: variables and scopes whose phrases lie whole in the chunk
 //! - `draft`, `codes`, `table`, `finish`: a header while it is read, its codes, and how they are found by their bytes; the head
 //!   that it becomes
 //! - `head`, `view`, `fault`: `Head`; `HeadView` with its rows and codes, and `Need`; `HeadFault`
@@ -47,6 +47,7 @@
 #![tactic(auto)]
 
 mod ahead;
+mod ahead_scopes;
 mod codes;
 mod draft;
 mod enclosing;

@@ -15,8 +15,8 @@ use crate::tokens::{next_ends, next_word};
 use crate::view::Kind;
 use vcd_text::{Feed, Source};
 
-// How many scopes may be open (profile).
-const MOST_OPEN: usize = 1000;
+/// How many scopes may be open (profile).
+pub(crate) const MOST_OPEN: usize = 1000;
 
 /// A scope: type, name and `$end`.
 pub(crate) fn read_scope<S: Source>(

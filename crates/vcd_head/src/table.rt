@@ -42,6 +42,7 @@ impl Table {
     }
 
     /// Gives the table so many entries, a power of two of them, and enters these codes in place of those that it has.
+    #[inline(never)]
     pub(crate) fn widen(
         &mut self,
         alloc: Global,
@@ -83,6 +84,7 @@ impl Table {
 
     /// Whether more entries are worth their memory for so many codes and a new one with these bytes: its entry is taken, there are
     /// at most two for each, and most codes have one. So codes that simulators number one by one leave no entry empty.
+    #[inline(always)]
     pub(crate) fn is_narrow(&self, bytes: &[u8], codes: usize) -> bool {
         let at = entry_of(bytes, self.entries.len());
         !is_free(&self.entries, at)
@@ -100,6 +102,7 @@ impl Table {
     }
 
     /// Enters a code that is new, with these bytes and this place.
+    #[inline(always)]
     pub(crate) fn enter(
         &mut self,
         alloc: Global,
@@ -136,6 +139,7 @@ fn entered(entries: &[Entry], bytes: &[u8]) -> Option<usize>
 }
 
 // Whether there is such an entry, and it is that of no code.
+#[inline(always)]
 fn is_free(entries: &[Entry], at: usize) -> bool
     ensures { result ≡ true → (e : Entry) × (slice_get entries.now at ≡ Some e) × (e.key ≡ 0) }
 {

@@ -13,7 +13,7 @@ ghost use Rattle.vcd_text.specs.Advances.{Advances};
 ghost use Rattle.vcd_head.specs.Fault.{call_end};
 
 use crate::codes::Codes;
-use crate::draft::{Draft, Found};
+use crate::draft::{Draft, Found, place_of};
 use crate::fault::HeadFault;
 use crate::rows::{WideRow, push};
 use crate::texts::append_to_end;
@@ -104,7 +104,15 @@ pub(crate) fn read_variable<S: Source>(
     };
     append_to_end(feed, &mut draft.text)?;
     let all = draft.text.len() - start - word;
-    let code = draft.place_of(alloc, found, size, event)?;
+    let code = place_of(
+        alloc,
+        &mut draft.text,
+        &mut draft.codes,
+        found,
+        &draft.held,
+        size,
+        event,
+    )?;
     let parent = draft.parent();
     push(
         &mut draft.rows,

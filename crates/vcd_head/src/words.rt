@@ -9,6 +9,7 @@ ghost use Rattle.vcd_head.specs.Words.{power_in, unit_in, size_in};
 
 use crate::keyword::is;
 
+#[inline(always)]
 pub(crate) fn is_end(token: &[u8]) -> bool
     ensures { result ≡ ends token.now }
 {

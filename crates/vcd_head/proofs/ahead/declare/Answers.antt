@@ -1,4 +1,4 @@
-use Rattle.std.proofs.Common.{◌≡◌, ◌<◌, ◌-◌, ◌+◌, [], ◌∷◌, ◌++◌, length, IfSome, List, ℕ, None, bytes_eq, codes, refl, sym, ap, subst, ◌∙◌, arith, unwrap_or, slice_get}
+use Rattle.std.proofs.Common.{◌≡◌, ◌<◌, ◌-◌, ◌+◌, [], ◌∷◌, ◌++◌, length, IfSome, List, ℕ, None, bytes_eq, codes, refl, sym, ap, subst, ◌∙◌, arith}
 use Rattle.std.specs.List.{join_with_byte}
 use Rattle.std.proofs.lemmas.List.{append_assoc, length-append, map-append}
 use Rattle.vcd_model.specs.Bytes.{decimal_value}
@@ -13,14 +13,11 @@ use Rattle.vcd_head.specs.Views.{IsSize}
 use Rattle.vcd_head.specs.declared.draft.Found.{Found}
 use Rattle.vcd_head.specs.declared.view.Kind.TheVariants as kind
 use Rattle.vcd_head.specs.declared.view.Row.{Row}
-use Rattle.vcd_head.proofs.AheadLemmas.{held_apart, reference_joined, variable_in, variable_so_far}
+use Rattle.vcd_head.proofs.AheadLemmas.{reference_joined, variable_in, variable_so_far}
 use Rattle.vcd_head.proofs.DraftLemmas.{some_token, var_declared, holds_declared, has_codes_grow}
 use Rattle.vcd_head.proofs.DraftSteps.{few_enough, var_checks_pass}
 use Rattle.vcd_head.proofs.WordLemmas.{size_found, size_parts}
 use Rattle.vcd_head.proofs.ahead.declare.Goals as goal
-
-pub returns-in_default-clause-declares : goal.returns-in_default-clause-declares
-returns-in_default-clause-declares c = λ given more a k. held_apart c.args.most given c.args.draft.now _ a
 
 pub returns-clause-declares : goal.returns-clause-declares
 returns-clause-declares c = λ given more a k.
@@ -37,9 +34,9 @@ returns-clause-declares c = λ given more a k.
     let sf = size_found digits variable.size k.size_is in
     let sp = size_parts digits sf.0 in
     let ev : bytes_eq (codes "event") type ≡ c.is_event-event.result = sym c.is_event-event.ensures in
-    let f : (first_failed (var_checks ds (type ∷ digits ∷ []) variable.code.now) ≡ None) × ((reference : List (List ℕ)) → IsFound ds (record { type = type; size = decimal_value digits; code = variable.code.now; reference = reference }) c.found_in.new.held.items c.in-Some.found) =
-    subst (λ o. IfSome o (λ (found : Found). (first_failed (var_checks ds (type ∷ digits ∷ []) variable.code.now) ≡ None) × ((reference : List (List ℕ)) → IsFound ds (record { type = type; size = decimal_value digits; code = variable.code.now; reference = reference }) c.found_in.new.held.items found)))
-    c.in-Some.is (c.in_ok-found.ensures old type digits ds hc sf.1 ev k.code_is) in
+    let f : (first_failed (var_checks ds (type ∷ digits ∷ []) variable.code.now) ≡ None) × ((reference : List (List ℕ)) → IsFound ds (record { type = type; size = decimal_value digits; code = variable.code.now; reference = reference }) variable.code.now c.in-Some.found) =
+    subst (λ o. IfSome o (λ (found : Found). (first_failed (var_checks ds (type ∷ digits ∷ []) variable.code.now) ≡ None) × ((reference : List (List ℕ)) → IsFound ds (record { type = type; size = decimal_value digits; code = variable.code.now; reference = reference }) variable.code.now found)))
+    c.in-Some.is (c.found_in.ensures old type digits ds hc sf.1 ev k.code_is) in
     let join = join_with_byte 32 v.reference in
     let text : c.put_texts.new.text.items ≡ old ++ (type ++ join) = c.in_ok-put_texts.ensures ∙ ap (λ l. old ++ (type ++ l)) (sym (reference_joined more variable k)) in
     let hc3 : HasCodes c.put_texts.new.text.items d.codes ds = subst (λ t. HasCodes t d.codes ds) (sym text) (has_codes_grow old (type ++ join) d.codes ds hc) in
@@ -48,8 +45,7 @@ returns-clause-declares c = λ given more a k.
     let z3 = sf.1 in
     let is_size : IsSize variable.size = record { some = omega arith; most = omega arith } in
     let ch = c.in_ok-code.ensures.codes ds v hc3 (f.1 v.reference) is_size (sym sf.1) (sym ev) in
-    let same = c.in_ok-code.ensures.others in
-    let grown : c.place_of.new.self.text.items ≡ old ++ (type ++ (join ++ ch.more)) = ch.grown ∙ ap (λ t. t ++ ch.more) text ∙ append_assoc old (type ++ join) ch.more ∙ ap (λ t. old ++ t) (append_assoc type join ch.more) in
+    let grown : c.place_of.new.text.items ≡ old ++ (type ++ (join ++ ch.more)) = ch.grown ∙ ap (λ t. t ++ ch.more) text ∙ append_assoc old (type ++ join) ch.more ∙ ap (λ t. old ++ t) (append_assoc type join ch.more) in
     let start : c.len-start.result ≡ length old = omega arith in
     let len : length c.put_texts.new.text.items ≡ length old + (length type + length join) = ap length text ∙ length-append old (type ++ join) ∙ ap (λ n. length old + n) (length-append type join) in
     let all : (c.len-2.result - c.len-start.result) - length type ≡ length join = omega arith in
@@ -60,7 +56,7 @@ returns-clause-declares c = λ given more a k.
       so_far = variable_so_far c.args.most given more a.placed variable k (var_checks_pass c.args.most d ps a.holds few) f.0 a.so_far;
       holds = subst (IsDraftOf c.args.most _) (sym (map-append (λ (q : Placed HeaderPhrase). q.phrase) a.placed (p ∷ [])))
           (holds_declared c.args.most d _ ps (Declaration.Var v) a.holds
-          (var_declared c.args.most d _ ds v row ch.more a.holds.declares (few_enough c.args.most d ps a.holds few) (some_token variable.name.now (texts_of k.ends.inner)) grown ch.short (c.in_ok-push.ensures.items ∙ ap (λ l. l ++ row ∷ []) same.same_rows) ch.held_codes ch.held_at same.same_scopes
-          refl (c.parent-parent.ensures ∙ ap (λ l. unwrap_or (slice_get l (length l - 1)) 0) same.same_scopes) start refl all refl)
-          same.same_date same.same_version same.same_scale);
+          (var_declared c.args.most d _ ds v row ch.more a.holds.declares (few_enough c.args.most d ps a.holds few) (some_token variable.name.now (texts_of k.ends.inner)) grown ch.short c.in_ok-push.ensures.items ch.held_codes ch.held_at refl
+          refl c.parent-parent.ensures start refl all refl)
+          refl refl refl);
     }

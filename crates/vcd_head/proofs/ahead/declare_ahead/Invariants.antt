@@ -6,11 +6,11 @@ use Rattle.vcd_head.specs.Ahead.{LooksOver}
 use Rattle.vcd_head.specs.Draft.{DraftsOn}
 use Rattle.vcd_head.proofs.ahead.declare_ahead.Given as goal
 
-abbrev pub invariant-variables : goal.invariant-variables
-invariant-variables l = (bytes_of l.passed ≡ bytes_of l.fn.ahead) × (longest_of l.passed ≡ longest_of l.fn.ahead)
+abbrev pub invariant-phrases : goal.invariant-phrases
+invariant-phrases l = (bytes_of l.passed ≡ bytes_of l.fn.ahead) × (longest_of l.passed ≡ longest_of l.fn.ahead)
     × ((limit lines : ℕ) (bytes : List ℕ) → LooksOver limit bytes l.fn.ahead → Passed limit lines bytes (passed_of l.fn.ahead) [] → (ts : List Token) × Passed limit lines bytes (passed_of l.passed) ts)
     × ((limit lines : ℕ) (bytes : List ℕ) (given : List Token) → LooksOver limit bytes l.fn.ahead → Passed limit lines bytes (passed_of l.fn.ahead) [] → DraftsOn l.most given l.fn.draft
     → (ts : List Token) × Passed limit lines bytes (passed_of l.passed) ts × DraftsOn l.most (given ++ ts) l.draft)
 
-abbrev pub decreases-variables : goal.decreases-variables
-decreases-variables l = length (bytes_of l.passed) - passed_of l.passed
+abbrev pub decreases-phrases : goal.decreases-phrases
+decreases-phrases l = length (bytes_of l.passed) - passed_of l.passed

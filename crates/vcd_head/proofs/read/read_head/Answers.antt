@@ -2,7 +2,6 @@ use Rattle.vcd_text.specs.Advances.{CallEnd}
 use Rattle.vcd_text.proofs.AdvancesLemmas.{advances_on, advances_nowhere}
 use Rattle.std.proofs.lemmas.Bool.{MatchBool-at_false, MatchBool-at_true}
 use Rattle.std.proofs.lemmas.Result.{err_from_is_err_and}
-use Rattle.std.specs.Prelude.{None}
 use Rattle.vcd_head.proofs.PhraseSteps.{carries_nothing, finished}
 use Rattle.vcd_head.proofs.read.read_head.Goals as goal
 

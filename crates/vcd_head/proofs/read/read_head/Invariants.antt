@@ -1,4 +1,4 @@
-use Rattle.std.proofs.Common.{◌-◌, ◌^◌, [], None}
+use Rattle.std.proofs.Common.{◌-◌, ◌^◌, []}
 use Rattle.vcd_model.specs.Input.{Input}
 use Rattle.vcd_text.specs.Feed.{HasGiven, seen}
 use Rattle.vcd_head.specs.Draft.{DraftsBehind}

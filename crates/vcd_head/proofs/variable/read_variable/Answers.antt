@@ -1,4 +1,4 @@
-use Rattle.std.proofs.Common.{◌≡◌, ◌≤◌, ◌<◌, ◌+◌, ◌-◌, length, [], ◌∷◌, ◌++◌, bytes_eq, codes, refl, sym, ap, subst, ◌∙◌, arith, unwrap_or, slice_get}
+use Rattle.std.proofs.Common.{◌≡◌, ◌≤◌, ◌<◌, ◌+◌, ◌-◌, length, [], ◌∷◌, ◌++◌, bytes_eq, codes, refl, sym, ap, subst, ◌∙◌, arith}
 use Rattle.std.specs.List.{join_with_byte}
 use Rattle.std.proofs.lemmas.Result.{err_from_is_err_and}
 use Rattle.std.proofs.lemmas.List.{append_assoc, length-append}
@@ -10,7 +10,7 @@ use Rattle.vcd_model.specs.Reading.{phrases_of}
 use Rattle.vcd_text.specs.Feed.{token_of}
 use Rattle.vcd_head.specs.Texts.{spaced}
 use Rattle.vcd_head.specs.Views.{IsSize}
-use Rattle.vcd_head.specs.Draft.{HasCodes}
+use Rattle.vcd_head.specs.Draft.{HasCodes, IsFound}
 use Rattle.vcd_head.proofs.TokenSteps.{faultless_phrase, word_some, word_none, text_taken}
 use Rattle.vcd_head.proofs.TextSteps.{joined}
 use Rattle.vcd_head.proofs.WordLemmas.{size_found, size_parts}
@@ -223,9 +223,8 @@ returns-clause-reads g c = λ i b.
     let z2 = sp.2 in
     let z3 = sf.1 in
     let is_size : IsSize c.in_ok-size.size = record { some = omega arith; most = omega arith } in
-    let ch = c.in_ok-code.ensures.codes (declarations_of (phrases_of b.placed)) v hc3 (k1.found_is (first ∷ inner)) is_size (sym sf.1) (sym ev) in
-    let same = c.in_ok-code.ensures.others in
-    let grown : c.place_of.new.self.text.items ≡ c.args.draft.now.text.items ++ (type ++ (join ++ ch.more)) = ch.grown ∙ ap (λ t. t ++ ch.more) text ∙ append_assoc c.args.draft.now.text.items (type ++ join) ch.more ∙ ap (λ t. c.args.draft.now.text.items ++ t) (append_assoc type join ch.more) in
+    let ch = c.in_ok-code.ensures.codes (declarations_of (phrases_of b.placed)) v hc3 (subst (λ k. IsFound (declarations_of (phrases_of b.placed)) v k c.in_ok-found.found) (sym c.deref.ensures.value) (k1.found_is (first ∷ inner))) is_size (sym sf.1) (sym ev) in
+    let grown : c.place_of.new.text.items ≡ c.args.draft.now.text.items ++ (type ++ (join ++ ch.more)) = ch.grown ∙ ap (λ t. t ++ ch.more) text ∙ append_assoc c.args.draft.now.text.items (type ++ join) ch.more ∙ ap (λ t. c.args.draft.now.text.items ++ t) (append_assoc type join ch.more) in
     let start : c.len-start.result ≡ length c.args.draft.now.text.items = omega arith in
     let len : length c.append_to_end.new.text.items ≡ length c.args.draft.now.text.items + (length type + length join) = ap length text ∙ length-append c.args.draft.now.text.items (type ++ join) ∙ ap (λ k. length c.args.draft.now.text.items + k) (length-append type join) in
     let word = t1.1 in
@@ -233,9 +232,9 @@ returns-clause-reads g c = λ i b.
     let row : Row = record { kind = kind.Var; parent = c.parent-parent.result; start = c.len-start.result; word = c.in-Some.word; name = c.in-Some-2.name; all = (c.len-2.result - c.len-start.result) - c.in-Some.word; code = c.in_ok-code.code } in
     carried c.args.most i _ c.append_to_end.new.feed b.placed (record { phrase = HeaderPhrase.Declares (Declaration.Var v); line = (token_of c.append_to_end.new.feed).line }) r5
     (holds_declared c.args.most c.args.draft.now _ (phrases_of b.placed) (Declaration.Var v) b.holds
-    (var_declared c.args.most c.args.draft.now _ (declarations_of (phrases_of b.placed)) v row ch.more b.holds.declares (few_enough c.args.most c.args.draft.now (phrases_of b.placed) b.holds n) (some_token first inner) grown ch.short (c.in_ok-push.ensures.items ∙ ap (λ l. l ++ row ∷ []) same.same_rows) ch.held_codes ch.held_at same.same_scopes
-    refl (c.parent-parent.ensures ∙ ap (λ l. unwrap_or (slice_get l (length l - 1)) 0) same.same_scopes) start t1.1 all t2.1)
-    same.same_date same.same_version same.same_scale)
+    (var_declared c.args.most c.args.draft.now _ (declarations_of (phrases_of b.placed)) v row ch.more b.holds.declares (few_enough c.args.most c.args.draft.now (phrases_of b.placed) b.holds n) (some_token first inner) grown ch.short c.in_ok-push.ensures.items ch.held_codes ch.held_at refl
+    refl c.parent-parent.ensures start t1.1 all t2.1)
+    refl refl refl)
 
 pub overflow_sub-all : goal.overflow_sub-all
 overflow_sub-all g c =

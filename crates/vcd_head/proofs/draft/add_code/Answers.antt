@@ -1,0 +1,22 @@
+use Rattle.std.proofs.Common.{◌≡◌, length, ◌∙◌, arith, subst}
+use Rattle.std.proofs.lemmas.Result.{IfOk-weaker}
+use Rattle.vcd_head.specs.declared.view.Code.{Code}
+use Rattle.vcd_head.specs.Codes.{IsAdded}
+use Rattle.vcd_head.specs.Draft.{CodeHeld}
+use Rattle.vcd_head.specs.Views.{IsSize}
+use Rattle.vcd_head.proofs.DraftCodes.{held_new}
+use Rattle.vcd_head.proofs.draft.add_code.Goals as goal
+
+pub returns-clause-codes : goal.returns-clause-codes
+returns-clause-codes c = λ ds v h found size same event.
+    let old = c.args.text.now.items in
+    let new = c.extend_from_slice.new.self.items in
+    let before = c.args.codes.now in
+    let after = c.push.new.self in
+    let bytes = c.args.bytes.now in
+    let start : c.len.result ≡ length old = omega arith in
+    let code : Code = record { start = c.len.result; len = length bytes; size = c.args.size; event = c.args.event } in
+    let text = c.in_ok-extend_from_slice.ensures.items in
+    IfOk-weaker c.push.result (IsAdded c.deref.result.now before after bytes code) (CodeHeld old new after ds v) (λ place added.
+    held_new old new before after ds v bytes code place h found.1 found.0 (subst IsSize same size) (λ j. record { start = start j; len = length bytes; size = same j; event = event j }) text
+    (subst (λ t. IsAdded t before after bytes code place) (c.deref.ensures.value ∙ text) added)) c.push.ensures.added
