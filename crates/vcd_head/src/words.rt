@@ -13,7 +13,8 @@ use crate::keyword::is;
 pub(crate) fn is_end(token: &[u8]) -> bool
     ensures { result ≡ ends token.now }
 {
-    is(token, b"$end")
+    // Few tokens begin so: mostly one comparison tells.
+    !token.is_empty() && token[0] == b'$' && is(token, b"$end")
 }
 
 pub(crate) fn is_event(word: &[u8]) -> bool
