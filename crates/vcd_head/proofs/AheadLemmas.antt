@@ -1,9 +1,9 @@
 -- Variables that lie ahead: their tokens are a phrase more.
-use Rattle.std.proofs.Common.{◌≡◌, ℕ, ◌<◌, ◌==◌, true, false, List, [], ◌∷◌, ◌++◌, length, None, bytes_eq, codes, refl, sym, ap, subst, ◌∙◌, arith}
-use Rattle.std.specs.List.{join_with_byte}
-use Rattle.std.proofs.lemmas.Bool.{eqb-true}
+use Rattle.std.proofs.Common.{◌≡◌, ℕ, ◌+◌, ◌-◌, ◌<◌, true, List, [], ◌∷◌, ◌++◌, length, take, drop, get_or, slice_range, None, bytes_eq, codes, refl, sym, ap, subst, ◌∙◌, arith}
 use Rattle.std.proofs.lemmas.Slice.Eq.{bytes_eq-Decides}
-use Rattle.std.proofs.lemmas.List.{append_assoc, append-nil}
+use Rattle.std.proofs.lemmas.List.{append_assoc, append-nil, drop_more, length-append}
+use Rattle.std.proofs.lemmas.List.Folds.{drop_split}
+use Rattle.vcd_head.proofs.DraftLemmas.{take_front}
 use Rattle.vcd_model.specs.Bytes.{decimal_value}
 use Rattle.vcd_model.specs.Checks.{first_failed}
 use Rattle.vcd_model.specs.Declarations.{Declaration, Variable}
@@ -15,12 +15,12 @@ use Rattle.vcd_model.specs.Reading.{Placed, phrases_of}
 use Rattle.vcd_model.specs.SoFar.{IsSoFar}
 use Rattle.vcd_model.specs.Tokens.{Token}
 use Rattle.vcd_model.proofs.SoFarLemmas.{so_far-token, so_far-phrase}
-use Rattle.vcd_head.specs.Ahead.{IsVariable, range_text, texts_of}
+use Rattle.vcd_head.specs.Ahead.{IsVariable, texts_of}
 use Rattle.vcd_head.specs.Texts.{NoEnds, RunsOn}
 use Rattle.vcd_head.specs.declared.ahead.AheadVariable.{AheadVariable}
 use Rattle.vcd_head.proofs.DraftSteps.{passed_test}
 use Rattle.vcd_head.proofs.PhraseLemmas.{start_fault, inner_fault, phrase_is, var_welcomes_type, var_welcomes_reference, var_runs, var_whole}
-use Rattle.vcd_head.proofs.TextSteps.{joined, runs_behind}
+use Rattle.vcd_head.proofs.TextSteps.{runs_behind}
 use Rattle.vcd_head.proofs.WordLemmas.{size_found, size_parts}
 
 -- tokens of a phrase that runs on
@@ -41,67 +41,61 @@ all_in_turn (x ∷ given) a b c d e inner end = ap (λ l. x ∷ l) (all_in_turn 
 
 -- the variable that these tokens declare
 abbrev pub variable_in : (ts : List Token) (v : AheadVariable) → IsVariable ts v → Variable
-variable_in ts v k = record { type = v.word.now; size = decimal_value k.digits.bytes; code = v.code.now; reference = v.name.now ∷ texts_of k.ends.inner }
+variable_in ts v k = record { type = v.word.now; size = decimal_value k.digits.bytes; code = v.code.now; reference = k.reference.name.bytes ∷ texts_of k.reference.inner }
 
 -- its phrase goes on behind others
 pub variable_so_far : (most : ℕ) (given ts : List Token) (placed : List (Placed HeaderPhrase)) (v : AheadVariable) (k : IsVariable ts v) → first_failed (start_checks most (declarations_of (phrases_of placed)) Keyword.Var) ≡ None
     → first_failed (var_checks (declarations_of (phrases_of placed)) (v.word.now ∷ k.digits.bytes ∷ []) v.code.now) ≡ None → IsSoFar (header_grammar most) given placed []
-    → IsSoFar (header_grammar most) (given ++ ts) (placed ++ record { phrase = HeaderPhrase.Declares (Declaration.Var (variable_in ts v k)); line = k.ends.end.line } ∷ []) []
+    → IsSoFar (header_grammar most) (given ++ ts) (placed ++ record { phrase = HeaderPhrase.Declares (Declaration.Var (variable_in ts v k)); line = k.reference.end.line } ∷ []) []
 variable_so_far most given ts placed v k start code s =
     let G = header_grammar most in
     let ps = phrases_of placed in
     let var = keyword_text Keyword.Var in
     let type = v.word.now in
     let digits = k.digits.bytes in
-    let name = v.name.now in
-    let inner = k.ends.inner in
+    let name = k.reference.name.bytes in
+    let inner = k.reference.inner in
     let texts = texts_of inner in
-    let end = k.ends.end in
+    let end = k.reference.end in
     let t0 : Token = record { bytes = var; line = k.begin_line } in
     let t1 : Token = record { bytes = type; line = k.type_line } in
     let t2 : Token = k.digits in
     let t3 : Token = record { bytes = v.code.now; line = k.code_line } in
-    let t4 : Token = record { bytes = name; line = k.name_line } in
+    let t4 : Token = k.reference.name in
     let size = size_found digits v.size k.size_is in
     let w1 = var_welcomes_type most placed type k.type_on in
-    let w4 = var_welcomes_reference most placed type digits v.code.now name k.name_on in
+    let w4 = var_welcomes_reference most placed type digits v.code.now name k.reference.name_on in
     let s0 = so_far-token G given placed [] t0 s (start_fault most ps Keyword.Var ∙ start) (phrase_is Keyword.Var []) in
     let s1 = so_far-token G (given ++ t0 ∷ []) placed (var ∷ []) t1 s0 w1.0 w1.1 in
     let s2 = so_far-token G ((given ++ t0 ∷ []) ++ t1 ∷ []) placed (var ∷ type ∷ []) t2 s1 (inner_fault most ps Keyword.Var (type ∷ []) digits ∙ passed_test _ 7 size.0) (phrase_is Keyword.Var (type ∷ digits ∷ [])) in
     let s3 = so_far-token G (((given ++ t0 ∷ []) ++ t1 ∷ []) ++ t2 ∷ []) placed (var ∷ type ∷ digits ∷ []) t3 s2 (inner_fault most ps Keyword.Var (type ∷ digits ∷ []) v.code.now ∙ code) (phrase_is Keyword.Var (type ∷ digits ∷ v.code.now ∷ [])) in
     let s4 = so_far-token G ((((given ++ t0 ∷ []) ++ t1 ∷ []) ++ t2 ∷ []) ++ t3 ∷ []) placed (var ∷ type ∷ digits ∷ v.code.now ∷ []) t4 s3 w4.0 w4.1 in
-    let s5 = runs_so_far most placed (var ∷ type ∷ digits ∷ v.code.now ∷ name ∷ []) (((((given ++ t0 ∷ []) ++ t1 ∷ []) ++ t2 ∷ []) ++ t3 ∷ []) ++ t4 ∷ []) inner (var_runs most placed type digits v.code.now name k.name_on) k.ends.none s4 in
+    let s5 = runs_so_far most placed (var ∷ type ∷ digits ∷ v.code.now ∷ name ∷ []) (((((given ++ t0 ∷ []) ++ t1 ∷ []) ++ t2 ∷ []) ++ t3 ∷ []) ++ t4 ∷ []) inner (var_runs most placed type digits v.code.now name k.reference.name_on) k.reference.none s4 in
     let s6 = so_far-phrase G ((((((given ++ t0 ∷ []) ++ t1 ∷ []) ++ t2 ∷ []) ++ t3 ∷ []) ++ t4 ∷ []) ++ inner) placed (var ∷ type ∷ digits ∷ v.code.now ∷ name ∷ texts) end (HeaderPhrase.Declares (Declaration.Var (variable_in ts v k))) s5
     (inner_fault most ps Keyword.Var (type ∷ digits ∷ v.code.now ∷ name ∷ texts) end.bytes)
-    (phrase_is Keyword.Var (type ∷ digits ∷ v.code.now ∷ name ∷ (texts ++ end.bytes ∷ [])) ∙ var_whole type digits v.code.now name texts end.bytes k.name_on k.ends.none k.ends.ends (size_parts digits size.0).0) refl in
-    let are : ts ≡ t0 ∷ t1 ∷ t2 ∷ t3 ∷ t4 ∷ (inner ++ end ∷ []) = k.are ∙ ap (λ l. t0 ∷ t1 ∷ t2 ∷ t3 ∷ t4 ∷ l) k.ends.are in
+    (phrase_is Keyword.Var (type ∷ digits ∷ v.code.now ∷ name ∷ (texts ++ end.bytes ∷ [])) ∙ var_whole type digits v.code.now name texts end.bytes k.reference.name_on k.reference.none k.reference.ends (size_parts digits size.0).0) refl in
+    let are : ts ≡ t0 ∷ t1 ∷ t2 ∷ t3 ∷ t4 ∷ (inner ++ end ∷ []) = k.are ∙ ap (λ l. t0 ∷ t1 ∷ t2 ∷ t3 ∷ l) k.reference.are in
     subst (λ (l : List Token). IsSoFar G l (placed ++ record { phrase = HeaderPhrase.Declares (Declaration.Var (variable_in ts v k)); line = end.line } ∷ []) [])
     (all_in_turn given t0 t1 t2 t3 t4 inner end ∙ ap (λ l. given ++ l) (sym are)) s6
 
--- the texts of its reference
-pub reference_joined : (ts : List Token) (v : AheadVariable) (k : IsVariable ts v) → join_with_byte 32 (v.name.now ∷ texts_of k.ends.inner) ≡ v.name.now ++ range_text v.range.now
-reference_joined ts v k = joined v.name.now (texts_of k.ends.inner) ∙ ap (λ l. v.name.now ++ l) k.ends.spaced_are
-
 -- ---- the tokens that were passed
 
--- the text of a range
-pub some_range : (t : List ℕ) → 0 < length t → range_text t ≡ 32 ∷ t
-some_range [] e = absurd (omega arith)
-some_range (b ∷ bs) e = refl
-
-pub range_there : (t : List ℕ) → (length t == 0) ≡ false → range_text t ≡ 32 ∷ t
-range_there [] e = let z : (0 == 0) ≡ true = refl in cc
-range_there (b ∷ bs) e = refl
-
-pub no_range : (t : List ℕ) → (length t == 0) ≡ true → range_text t ≡ []
-no_range [] e = refl
-no_range (b ∷ bs) e = absurd (omega (arith, eqb-true _ _ e))
-
--- five tokens and others, one after the other
-pub five_in_turn : (ts : List Token) (a b c d e : Token) (more : List Token) → (((((ts ++ a ∷ []) ++ b ∷ []) ++ c ∷ []) ++ d ∷ []) ++ e ∷ []) ++ more ≡ ts ++ a ∷ b ∷ c ∷ d ∷ e ∷ more
-five_in_turn [] a b c d e more = refl
-five_in_turn (x ∷ ts) a b c d e more = ap (λ l. x ∷ l) (five_in_turn ts a b c d e more)
+-- four tokens and others, one after the other
+pub four_in_turn : (ts : List Token) (a b c d : Token) (more : List Token) → ((((ts ++ a ∷ []) ++ b ∷ []) ++ c ∷ []) ++ d ∷ []) ++ more ≡ ts ++ a ∷ b ∷ c ∷ d ∷ more
+four_in_turn [] a b c d more = refl
+four_in_turn (x ∷ ts) a b c d more = ap (λ l. x ∷ l) (four_in_turn ts a b c d more)
 
 -- the keyword of a variable
 pub var_keyword : (t : List ℕ) → bytes_eq (codes "$var") t ≡ true → keyword_text Keyword.Var ≡ t
 var_keyword t e = (bytes_eq-Decides (keyword_text Keyword.Var) t).0 e
+
+-- two tokens that stand one after the other, with a space between
+pub two_joined : (bytes first second : List ℕ) (from at to : ℕ) → from + length first ≡ at → at + 1 + length second ≡ to → at < length bytes → first ≡ slice_range bytes from at → second ≡ slice_range bytes (at + 1) to → get_or bytes at 0 ≡ 32
+    → slice_range bytes from to ≡ first ++ 32 ∷ second
+two_joined bytes first second from at to n m inside before behind space =
+    let d1 : drop from bytes ≡ first ++ drop at bytes = drop_split bytes from at (omega arith) ∙ ap (λ l. l ++ drop at bytes) (sym before) in
+    let d2 : drop at bytes ≡ 32 ∷ drop (at + 1) bytes = drop_more bytes at 0 inside ∙ ap (λ x. x ∷ drop (at + 1) bytes) space in
+    let d3 : drop (at + 1) bytes ≡ second ++ drop to bytes = drop_split bytes (at + 1) to (omega arith) ∙ ap (λ l. l ++ drop to bytes) (sym behind) in
+    let all : drop from bytes ≡ (first ++ 32 ∷ second) ++ drop to bytes = d1 ∙ ap (λ l. first ++ l) (d2 ∙ ap (λ l. 32 ∷ l) d3) ∙ sym (append_assoc first (32 ∷ second) (drop to bytes)) in
+    let len : to - from ≡ length (first ++ 32 ∷ second) = omega (arith, length-append first (32 ∷ second)) in
+    ap (take (to - from)) all ∙ ap (λ k. take k ((first ++ 32 ∷ second) ++ drop to bytes)) len ∙ take_front (first ++ 32 ∷ second) (drop to bytes)

@@ -27,6 +27,10 @@ pub three_in_turn : (ts : List Token) (a b c d : Token) → (((ts ++ a ∷ []) +
 three_in_turn [] a b c d = refl
 three_in_turn (x ∷ ts) a b c d = ap (λ l. x ∷ l) (three_in_turn ts a b c d)
 
+pub two_in_turn : (ts : List Token) (a b c : Token) → ((ts ++ a ∷ []) ++ b ∷ []) ++ c ∷ [] ≡ ts ++ a ∷ b ∷ c ∷ []
+two_in_turn [] a b c = refl
+two_in_turn (x ∷ ts) a b c = ap (λ l. x ∷ l) (two_in_turn ts a b c)
+
 pub one_in_turn : (ts : List Token) (a b : Token) → (ts ++ a ∷ []) ++ b ∷ [] ≡ ts ++ a ∷ b ∷ []
 one_in_turn [] a b = refl
 one_in_turn (x ∷ ts) a b = ap (λ l. x ∷ l) (one_in_turn ts a b)

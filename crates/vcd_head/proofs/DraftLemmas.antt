@@ -28,7 +28,7 @@ drop_front : (a b : List ℕ) → drop (length a) (a ++ b) ≡ b
 drop_front [] b = refl
 drop_front (x ∷ a) b = drop_front a b
 
-take_front : (a b : List ℕ) → take (length a) (a ++ b) ≡ a
+pub take_front : (a b : List ℕ) → take (length a) (a ++ b) ≡ a
 take_front [] b = refl
 take_front (x ∷ a) b = ap (λ l. x ∷ l) (take_front a b)
 

@@ -1,5 +1,5 @@
 // Variables and scopes whose phrases lie whole ahead in the chunk: their tokens cost no change of the feed.
-ghost use Rattle.std.specs.Prelude.{◌≡◌, ℕ, ◌<◌, ◌≤◌, List, [], ◌∷◌, ◌++◌, true, length, codes, bytes_eq, IfSome, IfOk, IfErr, MatchBool, MatchResult};
+ghost use Rattle.std.specs.Prelude.{◌≡◌, ℕ, ◌+◌, ◌-◌, ◌<◌, ◌≤◌, List, [], ◌∷◌, ◌++◌, true, length, slice_range, codes, bytes_eq, IfSome, IfOk, IfErr, MatchBool, MatchResult};
 ghost use Rattle.std.specs.List.{list_all};
 ghost use Rattle.vcd_model.specs.Bytes.{decimal_value, is_code_byte};
 ghost use Rattle.vcd_model.specs.Checks.{first_failed};
@@ -8,9 +8,9 @@ ghost use Rattle.vcd_model.specs.HeaderChecks.{var_checks};
 ghost use Rattle.vcd_model.specs.Input.{Input};
 ghost use Rattle.vcd_model.specs.Tokens.{Token};
 ghost use Rattle.vcd_text.specs.Advances.{Advances};
-ghost use Rattle.vcd_text.specs.Ahead.{bytes_of, longest_of, passed_of};
+ghost use Rattle.vcd_text.specs.Ahead.{bytes_of, longest_of, passed_of, start_of};
 ghost use Rattle.vcd_text.specs.Passed.{Passed};
-ghost use Rattle.vcd_head.specs.Ahead.{EndsAhead, IsVariable, LooksOver, range_text};
+ghost use Rattle.vcd_head.specs.Ahead.{IsReference, IsVariable, LooksOver};
 ghost use Rattle.vcd_head.specs.Draft.{DraftsBehind, DraftsOn, DraftsUpTo, HasCodes, IsFound};
 ghost use Rattle.vcd_head.specs.Fault.{call_end};
 ghost use Rattle.vcd_head.specs.Reads.{Fails};
@@ -33,10 +33,16 @@ pub(crate) struct AheadVariable<'a> {
     pub(crate) word: &'a [u8],
     pub(crate) size: usize,
     pub(crate) code: &'a [u8],
-    // The first token of its reference.
-    pub(crate) name: &'a [u8],
-    // The second one; empty where there is none.
-    pub(crate) range: &'a [u8],
+    pub(crate) reference: AheadReference<'a>,
+}
+
+// A reference that lies ahead.
+#[derive(Clone, Copy)]
+pub(crate) struct AheadReference<'a> {
+    // The bytes of its first token.
+    pub(crate) name: usize,
+    // Its tokens, with a space between.
+    pub(crate) text: &'a [u8],
 }
 
 /// The next token, if it lies whole ahead.
@@ -48,7 +54,9 @@ pub(crate) fn token_ahead<'a>(ahead: &mut Ahead<'a>) -> Option<&'a [u8]>
           bytes = token.now;
           line = line;
         }) ∷ [])) }
-    ensures some { IfSome result (λ token. 0 < length token.now) }
+    ensures place { IfSome result (λ token. token.now
+        ≡ slice_range (bytes_of ahead.old) (start_of ahead.new token.now) (passed_of ahead.new - 1)) }
+    ensures longer { IfSome result (λ token. passed_of ahead.old + length token.now + 1 ≤ passed_of ahead.new) }
     ensures further { IfSome result (λ _. passed_of ahead.old < passed_of ahead.new) }
     ensures within { IfSome result (λ _. passed_of ahead.new ≤ length (bytes_of ahead.old)) }
     ensures same { (bytes_of ahead.new ≡ bytes_of ahead.old)
@@ -57,27 +65,66 @@ pub(crate) fn token_ahead<'a>(ahead: &mut Ahead<'a>) -> Option<&'a [u8]>
     ahead.next()
 }
 
-/// What stands behind the first token of a reference, if that is `$end`, and then nothing is given, or one token more and `$end`.
+/// Two tokens as they stand in these bytes, if there is one space between. One white byte was passed behind each.
 #[inline(always)]
-fn range_ahead<'a>(ahead: &mut Ahead<'a>) -> Option<&'a [u8]>
-    ensures ends { IfSome result (λ range. (limit lines : ℕ) (bytes : List ℕ) (ts : List Token)
+fn joined<'a>(
+    bytes: &'a [u8],
+    first: &[u8],
+    behind_first: usize,
+    second: &[u8],
+    behind: usize,
+) -> Option<&'a [u8]>
+    requires first { (length first.now + 1 ≤ behind_first) × (first.now
+        ≡ slice_range bytes.now (behind_first - length first.now - 1) (behind_first - 1)) }
+    requires second { (behind_first + length second.now + 1 ≤ behind) × (second.now
+        ≡ slice_range bytes.now (behind - length second.now - 1) (behind - 1)) }
+    requires within { behind ≤ length bytes.now }
+    ensures { IfSome result (λ text. text.now ≡ first.now ++ 32 ∷ second.now) }
+{
+    if behind - second.len() - 1 != behind_first {
+        return None;
+    }
+    if bytes[behind_first - 1] != b' ' {
+        return None;
+    }
+    let start = behind_first - first.len() - 1;
+    Some(&bytes[start..behind - 1])
+}
+
+/// The reference that comes next, with the `$end` behind it, if it has one token, or two with one space between.
+#[inline(always)]
+fn reference_ahead<'a>(ahead: &mut Ahead<'a>) -> Option<AheadReference<'a>>
+    ensures gives { IfSome result (λ reference. (limit lines : ℕ) (bytes : List ℕ)
+        (ts : List Token)
         → LooksOver limit bytes ahead.old → Passed limit lines bytes (passed_of ahead.old) ts
-        → (more : List Token) × EndsAhead more (range_text range.now)
+        → (more : List Token) × IsReference more reference
         × Passed limit lines bytes (passed_of ahead.new) (ts ++ more)) }
     ensures further { IfSome result (λ _. passed_of ahead.old < passed_of ahead.new) }
     ensures within { IfSome result (λ _. passed_of ahead.new ≤ length (bytes_of ahead.old)) }
     ensures same { (bytes_of ahead.new ≡ bytes_of ahead.old)
         × (longest_of ahead.new ≡ longest_of ahead.old) }
 {
+    let name = token_ahead(ahead)?;
+    if is_end(name) {
+        return None;
+    }
+    let behind_name = ahead.passed();
     let range = token_ahead(ahead)?;
     if is_end(range) {
-        return Some(&[]);
+        return Some(AheadReference {
+            name: name.len(),
+            text: name,
+        });
     }
+    let text = joined(ahead.bytes(), name, behind_name, range, ahead.passed())?;
     let end = token_ahead(ahead)?;
-    if is_end(end) {
-        return Some(range);
+    if !is_end(end) {
+        return None;
     }
-    None
+    Some(AheadReference {
+        name: name.len(),
+        text,
+    })
 }
 
 /// The variable whose phrase comes next, if it lies whole ahead, and its reference has at most two tokens.
@@ -107,17 +154,12 @@ fn variable_ahead<'a>(ahead: &mut Ahead<'a>) -> Option<AheadVariable<'a>>
     if !is_code(code) {
         return None;
     }
-    let name = token_ahead(ahead)?;
-    if is_end(name) {
-        return None;
-    }
-    let range = range_ahead(ahead)?;
+    let reference = reference_ahead(ahead)?;
     Some(AheadVariable {
         word,
         size,
         code,
-        name,
-        range,
+        reference,
     })
 }
 
@@ -152,15 +194,10 @@ fn found_in(known: &Codes, code: &[u8], size: usize, event: bool) -> Option<Foun
 #[inline(always)]
 fn put_texts(text: &mut Vec<u8>, variable: AheadVariable<'_>) -> Result<(), AllocError>
     ensures { IfOk result (λ _. text.new.items
-        ≡ text.old.items ++ (variable.entry.word.now ++ (variable.entry.name.now ++ range_text variable.entry.range.now))) }
+        ≡ text.old.items ++ (variable.entry.word.now ++ variable.entry.reference.text.now)) }
 {
     text.extend_from_slice(variable.word)?;
-    text.extend_from_slice(variable.name)?;
-    if variable.range.is_empty() {
-        return Ok(());
-    }
-    text.push(b' ')?;
-    text.extend_from_slice(variable.range)?;
+    text.extend_from_slice(variable.reference.text)?;
     Ok(())
 }
 
@@ -187,7 +224,7 @@ fn declare(
     let start = draft.text.len();
     put_texts(&mut draft.text, variable)?;
     let word = variable.word.len();
-    let all = draft.text.len() - start - word;
+    let all = variable.reference.text.len();
     let code = place_of(
         alloc,
         &mut draft.text,
@@ -205,7 +242,7 @@ fn declare(
             parent,
             start,
             word,
-            name: variable.name.len(),
+            name: variable.reference.name,
             all,
             code,
         },

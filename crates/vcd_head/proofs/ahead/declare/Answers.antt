@@ -13,7 +13,7 @@ use Rattle.vcd_head.specs.Views.{IsSize}
 use Rattle.vcd_head.specs.declared.draft.Found.{Found}
 use Rattle.vcd_head.specs.declared.view.Kind.TheVariants as kind
 use Rattle.vcd_head.specs.declared.view.Row.{Row}
-use Rattle.vcd_head.proofs.AheadLemmas.{reference_joined, variable_in, variable_so_far}
+use Rattle.vcd_head.proofs.AheadLemmas.{variable_in, variable_so_far}
 use Rattle.vcd_head.proofs.DraftLemmas.{some_token, var_declared, holds_declared, has_codes_grow}
 use Rattle.vcd_head.proofs.DraftSteps.{few_enough, var_checks_pass}
 use Rattle.vcd_head.proofs.WordLemmas.{size_found, size_parts}
@@ -38,7 +38,7 @@ returns-clause-declares c = λ given more a k.
     subst (λ o. IfSome o (λ (found : Found). (first_failed (var_checks ds (type ∷ digits ∷ []) variable.code.now) ≡ None) × ((reference : List (List ℕ)) → IsFound ds (record { type = type; size = decimal_value digits; code = variable.code.now; reference = reference }) variable.code.now found)))
     c.in-Some.is (c.found_in.ensures old type digits ds hc sf.1 ev k.code_is) in
     let join = join_with_byte 32 v.reference in
-    let text : c.put_texts.new.text.items ≡ old ++ (type ++ join) = c.in_ok-put_texts.ensures ∙ ap (λ l. old ++ (type ++ l)) (sym (reference_joined more variable k)) in
+    let text : c.put_texts.new.text.items ≡ old ++ (type ++ join) = c.in_ok-put_texts.ensures ∙ ap (λ l. old ++ (type ++ l)) k.reference.text_is in
     let hc3 : HasCodes c.put_texts.new.text.items d.codes ds = subst (λ t. HasCodes t d.codes ds) (sym text) (has_codes_grow old (type ++ join) d.codes ds hc) in
     let z1 = sp.1 in
     let z2 = sp.2 in
@@ -47,16 +47,15 @@ returns-clause-declares c = λ given more a k.
     let ch = c.in_ok-code.ensures.codes ds v hc3 (f.1 v.reference) is_size (sym sf.1) (sym ev) in
     let grown : c.place_of.new.text.items ≡ old ++ (type ++ (join ++ ch.more)) = ch.grown ∙ ap (λ t. t ++ ch.more) text ∙ append_assoc old (type ++ join) ch.more ∙ ap (λ t. old ++ t) (append_assoc type join ch.more) in
     let start : c.len-start.result ≡ length old = omega arith in
-    let len : length c.put_texts.new.text.items ≡ length old + (length type + length join) = ap length text ∙ length-append old (type ++ join) ∙ ap (λ n. length old + n) (length-append type join) in
-    let all : (c.len-2.result - c.len-start.result) - length type ≡ length join = omega arith in
-    let row : Row = record { kind = kind.Var; parent = c.parent-parent.result; start = c.len-start.result; word = length type; name = length variable.name.now; all = (c.len-2.result - c.len-start.result) - length type; code = c.in_ok-code.code } in
-    let p : Placed HeaderPhrase = record { phrase = HeaderPhrase.Declares (Declaration.Var v); line = k.ends.end.line } in
+    let all : length variable.reference.text.now ≡ length join = ap length k.reference.text_is in
+    let row : Row = record { kind = kind.Var; parent = c.parent-parent.result; start = c.len-start.result; word = length type; name = variable.reference.name; all = length variable.reference.text.now; code = c.in_ok-code.code } in
+    let p : Placed HeaderPhrase = record { phrase = HeaderPhrase.Declares (Declaration.Var v); line = k.reference.end.line } in
     record {
       placed = a.placed ++ p ∷ [];
       so_far = variable_so_far c.args.most given more a.placed variable k (var_checks_pass c.args.most d ps a.holds few) f.0 a.so_far;
       holds = subst (IsDraftOf c.args.most _) (sym (map-append (λ (q : Placed HeaderPhrase). q.phrase) a.placed (p ∷ [])))
           (holds_declared c.args.most d _ ps (Declaration.Var v) a.holds
-          (var_declared c.args.most d _ ds v row ch.more a.holds.declares (few_enough c.args.most d ps a.holds few) (some_token variable.name.now (texts_of k.ends.inner)) grown ch.short c.in_ok-push.ensures.items ch.held_codes ch.held_at refl
-          refl c.parent-parent.ensures start refl all refl)
+          (var_declared c.args.most d _ ds v row ch.more a.holds.declares (few_enough c.args.most d ps a.holds few) (some_token k.reference.name.bytes (texts_of k.reference.inner)) grown ch.short c.in_ok-push.ensures.items ch.held_codes ch.held_at refl
+          refl c.parent-parent.ensures start refl all k.reference.name_len)
           refl refl refl);
     }

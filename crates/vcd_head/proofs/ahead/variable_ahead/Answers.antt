@@ -1,7 +1,7 @@
 use Rattle.std.proofs.Common.{[], ◌∷◌, ◌++◌, sym, ap, subst, ◌∙◌}
 use Rattle.vcd_model.specs.Tokens.{Token}
 use Rattle.vcd_text.specs.Passed.{Passed}
-use Rattle.vcd_head.proofs.AheadLemmas.{five_in_turn, var_keyword}
+use Rattle.vcd_head.proofs.AheadLemmas.{four_in_turn, var_keyword}
 use Rattle.vcd_head.proofs.ahead.variable_ahead.Goals as goal
 
 pub returns-clause-gives : goal.returns-clause-gives
@@ -10,7 +10,6 @@ returns-clause-gives c = λ limit lines bytes ts over p.
     let n2 = c.in_ok-word.ensures in
     let n3 = c.in_ok-digits.ensures in
     let n4 = c.in_ok-code.ensures in
-    let n5 = c.in_ok-name.ensures in
     let l1 = n1.same.1 ∙ over.0 in
     let b1 = n1.same.0 ∙ over.1 in
     let l2 = n2.same.1 ∙ l1 in
@@ -19,8 +18,6 @@ returns-clause-gives c = λ limit lines bytes ts over p.
     let b3 = n3.same.0 ∙ b2 in
     let l4 = n4.same.1 ∙ l3 in
     let b4 = n4.same.0 ∙ b3 in
-    let l5 = n5.same.1 ∙ l4 in
-    let b5 = n5.same.0 ∙ b4 in
     let one = n1.one limit lines bytes ts over p in
     let t1 : Token = record { bytes = c.in_ok-keyword.keyword.now; line = one.0 } in
     let two = n2.one limit lines bytes (ts ++ t1 ∷ []) (l1, b1) one.1 in
@@ -29,23 +26,19 @@ returns-clause-gives c = λ limit lines bytes ts over p.
     let t3 : Token = record { bytes = c.in_ok-digits.digits.now; line = three.0 } in
     let four = n4.one limit lines bytes (((ts ++ t1 ∷ []) ++ t2 ∷ []) ++ t3 ∷ []) (l3, b3) three.1 in
     let t4 : Token = record { bytes = c.in_ok-code.code.now; line = four.0 } in
-    let five = n5.one limit lines bytes ((((ts ++ t1 ∷ []) ++ t2 ∷ []) ++ t3 ∷ []) ++ t4 ∷ []) (l4, b4) four.1 in
-    let t5 : Token = record { bytes = c.in_ok-name.name.now; line = five.0 } in
-    let rest = c.in_ok-range.ensures.ends limit lines bytes (((((ts ++ t1 ∷ []) ++ t2 ∷ []) ++ t3 ∷ []) ++ t4 ∷ []) ++ t5 ∷ []) (l5, b5) five.1 in (
-      t1 ∷ t2 ∷ t3 ∷ t4 ∷ t5 ∷ rest.0,
+    let rest = c.in_ok-reference.ensures.gives limit lines bytes ((((ts ++ t1 ∷ []) ++ t2 ∷ []) ++ t3 ∷ []) ++ t4 ∷ []) (l4, b4) four.1 in (
+      t1 ∷ t2 ∷ t3 ∷ t4 ∷ rest.0,
       record {
         begin_line = one.0;
         type_line = two.0;
         digits = t3;
         code_line = four.0;
-        name_line = five.0;
         rest = rest.0;
-        are = ap (λ b. record { bytes = b; line = one.0 } ∷ t2 ∷ t3 ∷ t4 ∷ t5 ∷ rest.0) (sym (var_keyword t1.bytes (sym c.is.ensures ∙ c.if-not-is.false)));
+        are = ap (λ b. record { bytes = b; line = one.0 } ∷ t2 ∷ t3 ∷ t4 ∷ rest.0) (sym (var_keyword t1.bytes (sym c.is.ensures ∙ c.if-not-is.false)));
         type_on = sym c.is_end.ensures ∙ c.if-is_end.false;
         size_is = sym c.size_of.ensures ∙ c.in_ok-size.was;
         code_is = sym c.is_code.ensures ∙ c.if-not-is_code.false;
-        name_on = sym c.is_end-2.ensures ∙ c.if-is_end-2.false;
-        ends = rest.1;
+        reference = rest.1;
       },
-      subst (Passed limit lines bytes _) (five_in_turn ts t1 t2 t3 t4 t5 rest.0) rest.2,
+      subst (Passed limit lines bytes _) (four_in_turn ts t1 t2 t3 t4 rest.0) rest.2,
     )
