@@ -11,3 +11,4 @@ pub mod Kept
 pub mod Stored
 pub mod Ahead
 pub mod Spelled
+pub mod Taken

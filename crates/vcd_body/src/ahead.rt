@@ -22,6 +22,8 @@ ghost use Rattle.vcd_body.specs.Reads.{GaveItems};
 ghost use Rattle.vcd_body.specs.Given.{HasGoodText, IsGoodText, IsItem};
 ghost use Rattle.vcd_body.specs.Ahead.{GaveAhead, GaveLast, HasBits, IsPlain, IsSizedItem, LooksOver, PassBoth};
 ghost use Rattle.vcd_body.specs.Spelled.{HasSpelled, Names};
+ghost use Rattle.vcd_body.specs.Taken.{Opens, TakesItem};
+ghost use Rattle.vcd_head.specs.declared.view.HeadView.{HeadView};
 
 use crate::bits::Bits;
 use crate::item::{Form, Item, Regs};
@@ -173,6 +175,112 @@ fn real_code(token: &[u8], code: &[u8], view: HeadView<'_>) -> Option<Found>
     find_sized(view, code)
 }
 
+/// A token that was taken ahead, where a phrase begins.
+#[derive(Clone, Copy)]
+pub struct Opening<'a> {
+    /// What it begins.
+    pub first: First,
+    pub(crate) token: &'a [u8],
+}
+
+/// The next token ahead, with what it begins; none where `item_ahead` gives none.
+#[inline(always)]
+pub fn opening_ahead<'a>(ahead: &mut Ahead<'a>) -> Option<Opening<'a>>
+    ensures opens { IfSome result (λ o. Opens ahead.old ahead.new o) }
+    ensures stays { result ≡ None → ahead.new ≡ ahead.old }
+{
+    let token = ahead.next()?;
+    Some(Opening {
+        first: first_of(token),
+        token,
+    })
+}
+
+/// The change that a digit begins, with its code at once. The place is that after the token; none where it is no such change.
+#[inline(always)]
+pub fn scalar_ahead<'a>(
+    opening: Opening<'a>,
+    ahead: Ahead<'a>,
+    view: HeadView<'_>,
+) -> Option<Plain<'a>>
+    requires opens { (a : Ahead) × Opens a ahead opening }
+    requires first { opening.first ≡ first.Scalar }
+    ensures takes { IfSome result (λ plain. (a : Ahead) (r : Regs) → Opens a ahead.entry opening.entry
+        → TakesItem view.entry a ahead.entry r plain) }
+    ensures form { IfSome result (λ plain. (place : ℕ) × (plain.item ≡ item.Change place form.Scalar)) }
+{
+    let token = opening.token;
+    let found = scalar_code(token, view).ok()?;
+    let text = first_byte_of(token);
+    let at = ahead.passed() - 1 - token.len();
+    Some(change_of(found, Form::Scalar, text, None, at, at + 1))
+}
+
+/// The change that a `b` and digits begin, with the code that is the next token. The place is that after the digits, and then that
+/// after the code; none where it is no such change.
+#[inline(always)]
+pub fn vector_ahead<'a>(
+    opening: Opening<'a>,
+    ahead: &mut Ahead<'a>,
+    view: HeadView<'_>,
+) -> Option<Plain<'a>>
+    requires opens { (a : Ahead) × Opens a ahead.old opening }
+    requires first { opening.first ≡ first.Vector }
+    ensures takes { IfSome result (λ plain. (a : Ahead) (r : Regs) → Opens a ahead.old opening.entry
+        → TakesItem view.entry a ahead.new r plain) }
+    ensures form { IfSome result (λ plain. (place : ℕ) × (plain.item ≡ item.Change place form.Vector)) }
+{
+    let token = opening.token;
+    let bytes = ahead.bytes();
+    let at = ahead.passed() - 1 - token.len();
+    let code = ahead.next()?;
+    let bits = vector_bits(bytes, at, token);
+    let found = vector_code(bytes, at, token, code, view, bits)?;
+    let code_at = ahead.passed() - 1 - code.len();
+    Some(change_of(found, Form::Vector, rest_of(token), bits, at + 1, code_at))
+}
+
+/// The change that an `r` and the text of a real number begin, as `vector_ahead` does.
+#[inline(always)]
+pub fn real_ahead<'a>(
+    opening: Opening<'a>,
+    ahead: &mut Ahead<'a>,
+    view: HeadView<'_>,
+) -> Option<Plain<'a>>
+    requires opens { (a : Ahead) × Opens a ahead.old opening }
+    requires first { opening.first ≡ first.Real }
+    ensures takes { IfSome result (λ plain. (a : Ahead) (r : Regs) → Opens a ahead.old opening.entry
+        → TakesItem view.entry a ahead.new r plain) }
+    ensures form { IfSome result (λ plain. (place : ℕ) × (plain.item ≡ item.Change place form.RealText)) }
+{
+    let token = opening.token;
+    let at = ahead.passed() - 1 - token.len();
+    let code = ahead.next()?;
+    let found = real_code(token, code, view)?;
+    let code_at = ahead.passed() - 1 - code.len();
+    Some(change_of(found, Form::RealText, rest_of(token), None, at + 1, code_at))
+}
+
+/// The time mark that a token is, and the registers after it. The place is that after it; none where it is no mark that may stand here,
+/// and then nothing has changed.
+#[inline(always)]
+pub fn mark_ahead<'a>(opening: Opening<'a>, ahead: Ahead<'a>, regs: &mut Regs) -> Option<Plain<'a>>
+    requires opens { (a : Ahead) × Opens a ahead opening }
+    requires first { opening.first ≡ first.Mark }
+    ensures takes { IfSome result (λ plain. (a : Ahead) (v : HeadView)
+        → Opens a ahead.entry opening.entry → TakesItem v a ahead.entry regs.old plain) }
+    ensures time { IfSome result (λ plain. (time : ℕ) × (plain.item ≡ item.Time time)) }
+    ensures regs { MatchOption result (regs.new ≡ regs.old)
+        (λ plain. regs.new ≡ regs_after regs.old plain.item) }
+{
+    let token = opening.token;
+    let time = time_of(token, *regs).ok()?;
+    regs.time = time;
+    regs.marked = true;
+    let at = ahead.passed() - 1 - token.len();
+    Some(mark_of(time, at + 1))
+}
+
 /// The next item, where it is a time mark or a change, and its tokens lie whole ahead. Else none, and then nothing has changed:
 /// `next_item` gives it, or its fault.
 #[inline(always)]
@@ -218,35 +326,12 @@ pub fn item_ahead<'a>(
         × (longest_of ahead.new ≡ longest_of ahead.old) }
 {
     let mut next = *ahead;
-    let token = next.next()?;
-    let start = next.passed() - 1 - token.len();
-    let plain = match first_of(token) {
-        First::Scalar => {
-            let found = scalar_code(token, view).ok()?;
-            let text = first_byte_of(token);
-            change_of(found, Form::Scalar, text, None, start, start + 1)
-        }
-        First::Vector => {
-            let code = next.next()?;
-            let bits = vector_bits(ahead.bytes(), start, token);
-            let found = vector_code(ahead.bytes(), start, token, code, view, bits)?;
-            let code_at = next.passed() - 1 - code.len();
-            let text = rest_of(token);
-            change_of(found, Form::Vector, text, bits, start + 1, code_at)
-        }
-        First::Mark => {
-            let time = time_of(token, *regs).ok()?;
-            regs.time = time;
-            regs.marked = true;
-            mark_of(time, start + 1)
-        }
-        First::Real => {
-            let code = next.next()?;
-            let found = real_code(token, code, view)?;
-            let code_at = next.passed() - 1 - code.len();
-            let text = rest_of(token);
-            change_of(found, Form::RealText, text, None, start + 1, code_at)
-        }
+    let opening = opening_ahead(&mut next)?;
+    let plain = match opening.first {
+        First::Scalar => scalar_ahead(opening, next, view)?,
+        First::Vector => vector_ahead(opening, &mut next, view)?,
+        First::Mark => mark_ahead(opening, next, regs)?,
+        First::Real => real_ahead(opening, &mut next, view)?,
         First::Other => return None,
     };
     *ahead = next;

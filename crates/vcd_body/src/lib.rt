@@ -18,7 +18,9 @@
 //!
 //! `GaveAhead codes limit lines bytes n before items`: the first n bytes ahead are phrases with these items, which go on behind
 //! any with the items before. `item_ahead` takes it to one item more; `pass_items` takes `GaveItems` to all of them, and at the
-//! last of them to `GaveLast`, which tells how much was read. `HasSpelled view bytes from to text item` says by which bytes a change
+//! last of them to `GaveLast`, which tells how much was read. `opening_ahead` takes the token that an item begins with (`Opens`), and
+//! `scalar_ahead`, `vector_ahead`, `real_ahead` and `mark_ahead` the item that it begins (`TakesItem`), so that a loop which does
+//! something else with each asks once what it is; `item_ahead` is those five. `HasSpelled view bytes from to text item` says by which bytes a change
 //! that was taken ahead is spelled; `left_out` asks for it.
 //!
 //! What is kept of a code is told by `kept_at t code`, over each place. A call of a table changes what is kept of the code at
@@ -27,7 +29,7 @@
 //! # The modules
 //!
 //! - `read`: `next_item`, `change_text`
-//! - `ahead`: `item_ahead`, `pass_items`, `Plain`
+//! - `ahead`: `item_ahead`, and its parts, by what an item begins with; `pass_items`, `Plain`, `Opening`
 //! - `phrases`, `tokens`, `words`: phrases by what they begin with; the next token; what a token is, by its first byte
 //! - `item`, `fault`: `Item`, `Form`, `Section`, `Regs`; `BodyFault`
 //! - `change`: `put_change`; `renamed`: `put_renamed_change`, `put_renamed_bits`; `lines`: `left_out`
@@ -36,7 +38,7 @@
 //! - `bits`: `Bits`, up to 32 binary digits as a number, and how a slot holds them
 //! - `held`, `held_text`: the digits of a held value, and how it is written; `compare`: whether a change gives another one
 //!
-//! In `specs/` callers read `Items`, `Reads`, `Given`, `Ahead`, `Spelled` and `Fault`, and for the table `Contents` and `Kept`.
+//! In `specs/` callers read `Items`, `Reads`, `Given`, `Ahead`, `Taken`, `Spelled` and `Fault`, and for the table `Contents` and `Kept`.
 //!
 //! # Limits
 //!
@@ -66,7 +68,10 @@ mod table;
 mod tokens;
 mod words;
 
-pub use ahead::{Plain, item_ahead, pass_items};
+pub use ahead::{
+    Opening, Plain, item_ahead, mark_ahead, opening_ahead, pass_items, real_ahead, scalar_ahead,
+    vector_ahead,
+};
 pub use bits::Bits;
 pub use change::put_change;
 pub use fault::BodyFault;
@@ -77,3 +82,4 @@ pub use renamed::{put_renamed_bits, put_renamed_change};
 pub use slot::{Shown, Slot};
 pub use step::Step;
 pub use table::Table;
+pub use words::First;

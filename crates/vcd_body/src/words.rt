@@ -16,7 +16,7 @@ use vcd_head::{Keyword, keyword_of};
 
 /// What a phrase begins with, by the token's first byte.
 #[derive(Clone, Copy, PartialEq, Eq, Debug)]
-pub(crate) enum First {
+pub enum First {
     /// `#`: a time mark.
     Mark,
     /// A digit of a value, with its code at once.

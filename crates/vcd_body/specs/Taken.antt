@@ -1,0 +1,46 @@
+-- What is taken ahead: a token where a phrase begins, and then the whole item.
+use Rattle.std.specs.Prelude.{◌≡◌, ℕ, ◌+◌, ◌-◌, ◌<◌, ◌≤◌, List, [], ◌∷◌, ◌++◌, length, slice_range}
+use Rattle.vcd_model.specs.Header.{Header}
+use Rattle.vcd_model.specs.Items.{BodyItem}
+use Rattle.vcd_model.specs.Tokens.{Token}
+use Rattle.vcd_text.specs.Ahead.{bytes_of, longest_of, passed_of, start_of}
+use Rattle.vcd_text.specs.Passed.{AreWhite, Passed, line_ahead}
+use Rattle.vcd_text.specs.declared.ahead.Ahead.{Ahead}
+use Rattle.vcd_head.specs.Views.{IsViewOf}
+use Rattle.vcd_head.specs.declared.view.HeadView.{HeadView}
+use Rattle.vcd_body.specs.Ahead.{GaveAhead, HasBits, IsPlain, IsSizedItem, LooksOver}
+use Rattle.vcd_body.specs.Given.{HasGoodText, IsItem}
+use Rattle.vcd_body.specs.Items.{AreRegsAfter, regs_after}
+use Rattle.vcd_body.specs.Spelled.{HasSpelled}
+use Rattle.vcd_body.specs.Words.{Begins}
+use Rattle.vcd_body.specs.declared.ahead.Opening.{Opening}
+use Rattle.vcd_body.specs.declared.ahead.Plain.{Plain}
+use Rattle.vcd_body.specs.declared.item.Regs.{Regs}
+
+-- a token was taken, from one place ahead to another, and this is what it begins
+pub record Opens (a a' : Ahead) (o : Opening) : Type 0 where
+  pub gives : (lines : ℕ) (ts : List Token) → Passed (longest_of a) lines (bytes_of a) (passed_of a) ts → Passed (longest_of a) lines (bytes_of a) (passed_of a') (ts ++ record { bytes = o.token.now; line = line_ahead lines (bytes_of a) (start_of a' o.token.now) } ∷ [])
+  pub begins : Begins o.token.now o.first
+  pub some : 0 < length o.token.now
+  pub place : o.token.now ≡ slice_range (bytes_of a) (start_of a' o.token.now) (passed_of a' - 1)
+  pub before : AreWhite (bytes_of a) (passed_of a) (start_of a' o.token.now)
+  pub further : passed_of a + length o.token.now + 1 ≤ passed_of a'
+  pub within : passed_of a' ≤ length (bytes_of a)
+  pub same : (bytes_of a' ≡ bytes_of a) × (longest_of a' ≡ longest_of a)
+
+-- an item was taken, from one place ahead to another, where the registers before it are these
+pub record TakesItem (v : HeadView) (a a' : Ahead) (r : Regs) (p : Plain) : Type 0 where
+  -- it comes after the items given before and those taken ahead so far
+  pub gives : (h : Header) (limit lines : ℕ) (bytes : List ℕ) (before items : List BodyItem) → IsViewOf v h → LooksOver limit bytes a → AreRegsAfter (before ++ items) r → GaveAhead h.codes limit lines bytes (passed_of a) before items
+      → (x : BodyItem) × IsItem h.codes p.text.now p.item x × GaveAhead h.codes limit lines bytes (passed_of a') before (items ++ x ∷ []) × AreRegsAfter (before ++ (items ++ x ∷ [])) (regs_after r p.item)
+  -- whatever the view is of, whole tokens were passed
+  pub passes : (limit lines : ℕ) (bytes : List ℕ) (ts : List Token) → LooksOver limit bytes a → Passed limit lines bytes (passed_of a) ts → (more : List Token) × Passed limit lines bytes (passed_of a') (ts ++ more)
+  pub sound : HasGoodText v.codes.now p.text.now p.item
+  pub plain : IsPlain p.text.now p.item
+  pub sized : IsSizedItem v.codes.now p.item p.most
+  pub bits : HasBits p.item p.text.now p.bits
+  -- it is spelled by the bytes that were passed with it
+  pub spelled : HasSpelled v (bytes_of a) (passed_of a) (passed_of a') p.at p.code_at p.text.now p.item
+  pub further : passed_of a < passed_of a'
+  pub within : passed_of a' ≤ length (bytes_of a')
+  pub same : (bytes_of a' ≡ bytes_of a) × (longest_of a' ≡ longest_of a)
