@@ -4,7 +4,7 @@ use Rattle.std.specs.Prelude.{IfOk, IsErr, option_and_then, option_map, unwrap_o
 use Rattle.std.proofs.lemmas.List.{take-append-drop}
 use Rattle.std.proofs.lemmas.List.Concat.{flat_map-append}
 use Rattle.std.proofs.lemmas.List.Elements.{filter-append}
-use Rattle.std.proofs.lemmas.Bool.{le-leb, lt-leb, lt-ltb, le-ltb, ltb-false, eq-eqb, ne_eqb}
+use Rattle.std.proofs.lemmas.Bool.{le-leb, leb-false, lt-leb, lt-ltb, le-ltb, ltb-false, eq-eqb, ne_eqb}
 use Rattle.vcd_model.specs.Cut.{cut_close, cut_open, ends_cut, is_mark_above, is_started, line_if_set, start_section, times_of}
 use Rattle.vcd_model.specs.Declarations.{IdCode}
 use Rattle.vcd_model.specs.Header.{Header}
@@ -25,6 +25,7 @@ use Rattle.vcd_tools.specs.Device.{DueBy, TakesDue}
 use Rattle.vcd_tools.specs.Engine.{TakesOne, TakesOneBy, last_of}
 use Rattle.vcd_model.specs.Outcome.{Request}
 use Rattle.vcd_body.specs.Given.{IsItem}
+use Rattle.vcd_tools.specs.Quiet.{TakesQuietly}
 use Rattle.vcd_tools.specs.ItemText.{HasWritten, LastTells, times_with}
 use Rattle.vcd_tools.specs.Values.{AreHeld, HasValues}
 use Rattle.vcd_tools.specs.declared.machine.cut.Cut.{Cut}
@@ -425,3 +426,38 @@ starts_plain h m le none held later = record {
   held = λ _. held;
   written = λ has. let s = none in cc;
 }
+
+-- ---- items before the start section, and with which that is not due
+
+pub quiet_before : (v : HeadView) (h : Header) (items : List BodyItem) (before : Regs) (m : Cut) (text : List ℕ) (item : Item) (x : BodyItem) → Views (parts v) h → AreRegsAfter items before → AreCut m h items → IsItem h.codes text item x → (t : Table) → m.started ≡ false → ((time : ℕ) → item ≡ Time time → nat_le m.from time ≡ false) → AreHeld t h (items ++ x ∷ [])
+    → TakesQuietly (AreCut (record { from = m.from; to = m.to; table = t; text = m.text; started = m.started }) h (items ++ x ∷ [])) (Request.Cut m.from m.to) h items x
+quiet_before v h items before m text item x views known is read t unbegun early held = by_item item read early
+  where
+    Quiet : BodyItem → Type 0
+    Quiet y = TakesQuietly (AreCut (record { from = m.from; to = m.to; table = t; text = m.text; started = m.started }) h (items ++ y ∷ [])) (Request.Cut m.from m.to) h items y
+
+    at_mark : (time : ℕ) → time < m.from → AreHeld t h (items ++ BodyItem.Time time ∷ []) → Quiet (BodyItem.Time time)
+    at_mark time less held =
+        let order = is.ordered in
+        let low : time ≤ m.to = omega (arith, order, less) in
+        let why : (is_started m.from items ≡ true) ⊎ (time < m.from) = inr less in
+        let g = goes_still h items m is time low why in
+        record {
+          due = mark_passes h m.from m.to items time is.on low why;
+          on = within_is m.to time low;
+          keeps = record { ordered = g.ordered; on = g.on; started_is = g.started_is; held = λ _. held; written = g.written };
+        }
+
+    at_other : (i : Item) → IsItem h.codes text i x → IsNoMark i → Quiet x
+    at_other i read none = record {
+      due = none_before v h items before m text i x views known is read none unbegun;
+      on = sym (no_end h.codes text i x m.to read none);
+      keeps = item_held v h items before m text i x views known is read none t unbegun held;
+    }
+
+    by_item : (i : Item) → IsItem h.codes text i x → ((time : ℕ) → i ≡ Time time → nat_le m.from time ≡ false) → Quiet x
+    by_item (Time time) read early = subst Quiet (sym read) (at_mark time (leb-false m.from time (early time refl)) (subst (λ (y : BodyItem). AreHeld t h (items ++ y ∷ [])) read held))
+    by_item (Begin s) read early = at_other (Begin s) read tt
+    by_item End read early = at_other End read tt
+    by_item (Change place form) read early = at_other (Change place form) read tt
+    by_item Finish read early = at_other Finish read tt

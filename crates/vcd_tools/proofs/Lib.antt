@@ -5,6 +5,7 @@ pub mod ListLemmas
 pub mod Lines
 pub mod EngineLemmas
 pub mod AheadLemmas
+pub mod NextLemmas
 pub mod PieceLemmas
 pub mod CheckLemmas
 pub mod AheadTrails

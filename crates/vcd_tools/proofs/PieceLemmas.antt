@@ -1,16 +1,23 @@
 -- What is written and what is held, where text is due.
-use Rattle.std.proofs.Common.{◌≡◌, ℕ, ◌+◌, ◌-◌, ◌≤◌, refl, List, [], ◌++◌, slice_range, Result, Ok, Err, sym, ap, subst, ◌∙◌, append-nil, append_assoc, arith}
+use Rattle.std.proofs.Common.{◌≡◌, ℕ, ◌+◌, ◌-◌, ◌≤◌, length, refl, List, [], ◌++◌, slice_range, Result, Ok, Err, sym, ap, subst, ◌∙◌, append-nil, append_assoc, arith}
 use Rattle.vcd_text.specs.Device.{Device, Puts, Writes, WritesSome}
 use Rattle.vcd_text.proofs.AheadLemmas.{slice_range-append}
 use Rattle.vcd_text.proofs.Writes.{both-written, some-behind, some-first}
 use Rattle.vcd_tools.specs.Device.{Grows, GrowsSome}
+use Rattle.std.specs.Borrow.{Bor}
+use Rattle.vcd_text.specs.Ahead.{bytes_of, passed_of}
+use Rattle.vcd_text.specs.declared.ahead.Ahead.{Ahead}
+use Rattle.vcd_head.specs.declared.view.HeadView.{HeadView}
 use Rattle.vcd_body.specs.Ahead.{IsPlain}
+use Rattle.vcd_body.specs.Spelled.{HasSpelled}
+use Rattle.vcd_body.specs.Taken.{TakesItem}
+use Rattle.vcd_body.specs.declared.ahead.Plain.{Plain}
 use Rattle.vcd_body.specs.Items.{regs_after}
 use Rattle.vcd_body.specs.declared.item.Form.{Form}
 use Rattle.vcd_body.specs.declared.item.Item.{Item}
 use Rattle.vcd_body.specs.declared.item.Item.TheVariants.{Time, Begin, End, Change, Finish}
 use Rattle.vcd_body.specs.declared.item.Regs.{Regs}
-use Rattle.vcd_tools.specs.Pieces.{GrowsBut, IsLine, PutsAll, PutsOn}
+use Rattle.vcd_tools.specs.Pieces.{GrowsBut, IsLine, Lies, PutsAll, PutsOn}
 use Rattle.vcd_tools.proofs.EngineLemmas.{writes-none}
 
 -- a part that begins where another ends
@@ -94,3 +101,19 @@ line_here bytes bytes' from from' line before after (Change place form) text her
 line_here bytes bytes' from from' line before after (Begin s) text here e f plain re mark change i = absurd plain
 line_here bytes bytes' from from' line before after End text here e f plain re mark change i = absurd plain
 line_here bytes bytes' from from' line before after Finish text here e f plain re mark change i = absurd plain
+
+-- ---- an item that was taken ahead
+
+pub lies_there : (v : HeadView) (a a' : Ahead) (r : Regs) (p : Plain) (bytes : Bor (List ℕ)) (from to line : ℕ) → TakesItem v a a' r p → bytes.now ≡ bytes_of a' → from ≡ passed_of a → to ≡ passed_of a' → Lies v (record { plain = p; bytes = bytes; from = from; to = to; line = line })
+lies_there v a a' r p bytes from to line item e f g =
+    let further = item.further in
+    let within = item.within in
+    let here : to ≤ length bytes.now = subst (λ (bs : List ℕ). to ≤ length bs) (sym e) (omega (arith, g, within)) in
+    record {
+      within = (omega (arith, f, g, further), here);
+      good = item.sound;
+      sized = item.sized;
+      spelled =
+          subst (λ (bs : List ℕ). HasSpelled v bs from to p.at p.code_at p.text.now p.item) (sym (e ∙ item.same.0))
+          (subst (λ n. HasSpelled v (bytes_of a) n to p.at p.code_at p.text.now p.item) (sym f) (subst (λ n. HasSpelled v (bytes_of a) (passed_of a) n p.at p.code_at p.text.now p.item) (sym g) item.spelled));
+    }

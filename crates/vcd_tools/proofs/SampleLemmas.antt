@@ -5,7 +5,7 @@ use Rattle.std.specs.List.{AllByRecursion, position_or_len}
 use Rattle.std.specs.List.Sorted.{IsStrictlyIncreasing}
 use Rattle.std.specs.Borrow.{Bor}
 use Rattle.std.proofs.Math.Seq.{drop-append-add}
-use Rattle.std.proofs.lemmas.Bool.{leb-true, leb-false, ltb-false, ne_eqb}
+use Rattle.std.proofs.lemmas.Bool.{le-leb, leb-true, leb-false, ltb-false, ne_eqb}
 use Rattle.std.proofs.lemmas.List.{append_assoc, append-nil, take-append-drop}
 use Rattle.std.proofs.lemmas.List.Sums.{prefix_len-le-length}
 use Rattle.vcd_model.specs.Declarations.{IdCode}
@@ -25,7 +25,8 @@ use Rattle.vcd_body.specs.declared.table.Table.{Table}
 use Rattle.vcd_tools.specs.Device.{TakesDue}
 use Rattle.vcd_tools.specs.Engine.{TakesOne}
 use Rattle.vcd_body.specs.Given.{IsItem}
-use Rattle.vcd_tools.specs.Sample.{AreSampled, asked_in, names_in}
+use Rattle.vcd_tools.specs.Quiet.{TakesQuietly}
+use Rattle.vcd_tools.specs.Sample.{AreSampled, asked_in, is_due, names_in}
 use Rattle.vcd_tools.specs.Values.{AreHeld}
 use Rattle.vcd_tools.specs.declared.machine.sample.Sample.{Sample}
 use Rattle.vcd_tools.proofs.ValuesLemmas.{held_still}
@@ -205,3 +206,53 @@ module _ (s : Sample) (h : Header) (items : List BodyItem) (t : ℕ) (is : AreSa
 pub closes : (s : Sample) (h : Header) (items : List BodyItem) → AreSampled s h items → close_text (asked_in s) h items ≡ lines_of h (names_in s) items s.rest.now
 closes s h items is =
     subst (λ ts. sample_close h ts (names_in s) items ≡ lines_of h (names_in s) items s.rest.now) (sym is.times_are) (close_is h (names_in s) items is.done s.rest.now is.settled is.others)
+
+-- ---- items with which no line is due
+
+-- no time that is left is below the mark
+none_below : (t : ℕ) (us : List ℕ) → is_due us t ≡ false → place t us ≡ 0
+none_below t [] e = cc
+none_below t (u ∷ us) e = rw (le-leb t u (ltb-false u t e)) refl
+
+some_there : (us : List ℕ) (t : ℕ) → is_due us t ≡ false → us ≢ []
+some_there [] t e none = cc
+some_there (u ∷ us) t e none = cc
+
+pub quiet_item : (s : Sample) (h : Header) (items : List BodyItem) (text : List ℕ) (item : Item) (x : BodyItem) → AreSampled s h items → IsItem h.codes text item x → (t : Table) → ((time : ℕ) → item ≡ Time time → is_due s.rest.now time ≡ false) → AreHeld t h (items ++ x ∷ [])
+    → TakesQuietly (AreSampled (record s { table = t }) h (items ++ x ∷ [])) (asked_in s) h items x
+quiet_item s h items text item x is read t early held = by_item item read early
+  where
+    Quiet : BodyItem → Type 0
+    Quiet y = TakesQuietly (AreSampled (record s { table = t }) h (items ++ y ∷ [])) (asked_in s) h items y
+
+    at_mark : (time : ℕ) → is_due s.rest.now time ≡ false → AreHeld t h (items ++ BodyItem.Time time ∷ []) → Quiet (BodyItem.Time time)
+    at_mark time early held =
+        let none = none_below time s.rest.now early in
+        let rest : s.rest.now ≡ later s h items time is = sym (ap (λ n. drop n s.rest.now) none) in
+        let no_lines : due s h items time is ≡ [] = ap (λ n. take n s.rest.now) none in
+        let some : later s h items time is ≢ [] = λ e. some_there s.rest.now time early (rest ∙ e) in
+        let g = samples_behind s h items time is s.rest rest some in
+        record {
+          due = lines_due s h items time is ∙ ap (λ us. open_text (asked_in s) h items ++ lines_of h (names_in s) items us) no_lines;
+          on = goes_behind s h items time is some;
+          keeps = record {
+            held = held;
+            marks_are = g.marks_are;
+            rising = g.rising;
+            done = g.done;
+            times_are = g.times_are;
+            settled = g.settled;
+            others = g.others;
+            left = g.left;
+          };
+        }
+
+    at_other : marks (x ∷ []) ≡ [] → Quiet x
+    at_other other = record { due = none_due s h items x is other; on = goes_on_other (names_in s) s.times.now x other; keeps = samples_on s h items x is other t held }
+
+    by_item : (i : Item) → IsItem h.codes text i x → ((time : ℕ) → i ≡ Time time → is_due s.rest.now time ≡ false) → Quiet x
+    by_item (Time time) read early = subst Quiet (sym read) (at_mark time (early time refl) (subst (λ (y : BodyItem). AreHeld t h (items ++ y ∷ [])) read held))
+    by_item (Begin b) read early = at_other (no_marks h.codes text (Begin b) x read (λ time e. cc))
+    by_item End read early = at_other (no_marks h.codes text End x read (λ time e. cc))
+    by_item (Change place form) read early = at_other (no_marks h.codes text (Change place form) x read (λ time e. cc))
+    by_item Finish read early = at_other (no_marks h.codes text Finish x read (λ time e. cc))

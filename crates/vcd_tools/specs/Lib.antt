@@ -28,3 +28,5 @@ pub mod MergeStep
 pub mod MergeTrail
 pub mod MergeRun
 pub mod MergeStart
+pub mod Next
+pub mod Quiet

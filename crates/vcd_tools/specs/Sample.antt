@@ -1,5 +1,5 @@
 -- What `sample` keeps.
-use Rattle.std.specs.Prelude.{◌≡◌, ◌≢◌, ◌++◌, true, false, List, ℕ, [], length, map, string_bytes}
+use Rattle.std.specs.Prelude.{◌≡◌, ◌≢◌, ◌++◌, ◌∷◌, Bool, true, false, nat_lt, List, ℕ, [], length, map, string_bytes}
 use Rattle.std.specs.List.{AllByRecursion}
 use Rattle.std.specs.List.Sorted.{IsStrictlyIncreasing}
 use Rattle.vcd_model.specs.Bound.{RoomSize}
@@ -34,3 +34,8 @@ pub record AreSampled (s : Sample) (h : Header) (items : List BodyItem) : Type 0
   pub settled : AllByRecursion (λ t. is_settled items t ≡ true) done
   pub others : AllByRecursion (λ t. is_settled items t ≡ false) s.rest.now
   pub left : s.rest.now ≢ []
+
+-- a mark of this time is above the first of the times that are left, or none is
+abbrev pub is_due : List ℕ → ℕ → Bool
+is_due [] time = true
+is_due (u ∷ us) time = nat_lt u time

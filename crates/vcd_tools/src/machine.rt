@@ -1,5 +1,5 @@
 //! What each task keeps between items, and what it does with an item.
-ghost use Rattle.std.specs.Prelude.{◌≡◌, ℕ, ◌-◌, ◌^◌, ◌<◌, ◌≤◌, ◌+◌, ◌∷◌, ◌++◌, [], List, length, true, IfOk, MatchResult};
+ghost use Rattle.std.specs.Prelude.{◌≡◌, ℕ, ◌-◌, ◌^◌, ◌<◌, ◌≤◌, ◌+◌, ◌∷◌, ◌++◌, [], List, length, true, false, Ok, IfOk, IfSome, MatchOption, MatchResult};
 ghost use Rattle.vcd_model.specs.Header.{Header};
 ghost use Rattle.vcd_model.specs.Items.{BodyItem};
 ghost use Rattle.vcd_model.specs.ItemText.{last_mark};
@@ -12,7 +12,10 @@ ghost use Rattle.vcd_head.specs.Views.{IsViewOf};
 ghost use Rattle.vcd_body.specs.Ahead.{HasBits, IsSizedItem};
 ghost use Rattle.vcd_body.specs.Given.{HasGoodText};
 ghost use Rattle.vcd_body.specs.Items.{AreRegsAfter, regs_after};
+ghost use Rattle.vcd_body.specs.declared.item.Item.TheVariants as kind;
 ghost use Rattle.vcd_tools.specs.Ahead.{RunsAhead, StandsAhead};
+ghost use Rattle.vcd_body.specs.Taken.{TakesItem};
+ghost use Rattle.vcd_tools.specs.Next.{TakesNext, copies_each, is_left, takes_each};
 ghost use Rattle.vcd_tools.specs.Answer.{writes_failed};
 ghost use Rattle.vcd_tools.specs.Engine.{Keeps, Starts, StopsUnread, TakesOne, TakesOneBy, last_of, may_end_early, request_in, request_of};
 ghost use Rattle.vcd_body.specs.Given.{IsItem};
@@ -28,7 +31,9 @@ pub(crate) mod sample;
 use crate::answer::Stop;
 use crate::pieces::{Lying, Pieces, line_before};
 use crate::task::{Room, Task};
-use vcd_body::{Item, Plain, Regs, item_ahead};
+use vcd_body::{
+    First, Item, Plain, Regs, mark_ahead, opening_ahead, real_ahead, scalar_ahead, vector_ahead,
+};
 use vcd_head::HeadView;
 use vcd_text::{Ahead, Sink, WriteFailed};
 
@@ -75,6 +80,10 @@ trait Taker {
     // The machine that it is.
     ghost machine: { Self → Machine };
 
+    /// Whether a mark of this time is left to `Machine::take`, since more is due with it than `take_one` does.
+    fn leaves(&self, time: u64) -> bool
+        ensures { result ≡ is_left (machine self.now) time };
+
     /// Takes an item that lies ahead, writes what is due after it, and returns whether it ended the run. The registers are those
     /// after it.
     fn take_one<W: Sink>(
@@ -85,6 +94,9 @@ trait Taker {
         out: &mut W,
     ) -> Result<bool, WriteFailed>
         requires failures { (W.device out.old).failures < 2 ^ 64 - 1 }
+        requires ready { takes_each (machine self.old) ≡ true }
+        requires mark { (time : ℕ) → plain.item ≡ kind.Time time
+            → is_left (machine self.old) time ≡ false }
         requires sound { HasGoodText view.codes.now plain.text.now plain.item }
         requires sized { IsSizedItem view.codes.now plain.item plain.most }
         requires bits { HasBits plain.item plain.text.now plain.bits }
@@ -96,6 +108,7 @@ trait Taker {
             → TakesOne (Keeps (machine self.new) h (items ++ x ∷ []))
             (request_in (machine self.old)) h items x (W.device out.old) (W.device out.new) result }
         ensures counts { Counts (W.device out.old) (W.device out.new) result }
+        ensures ready { takes_each (machine self.new) ≡ true }
         ensures request { request_in (machine self.new) ≡ request_in (machine self.old) }
         ensures room { room_of (machine self.new) ≡ room_of (machine self.old) }
         ensures early { IfOk result
@@ -106,6 +119,11 @@ impl Taker for check::Check {
     ghost use Rattle.vcd_tools.specs.declared.machine.Machine.TheVariants as machine;
 
     ghost machine = { λ taker. machine.Check taker };
+
+    #[inline(always)]
+    fn leaves(&self, _time: u64) -> bool {
+        false
+    }
 
     #[inline(always)]
     fn take_one<W: Sink>(
@@ -120,20 +138,49 @@ impl Taker for check::Check {
     }
 }
 
+impl<'r> Taker for cut::Cut<'r> {
+    ghost use Rattle.vcd_tools.specs.declared.machine.Machine.TheVariants as machine;
+
+    ghost machine = { λ taker. machine.Cut taker };
+
+    #[inline(always)]
+    fn leaves(&self, time: u64) -> bool {
+        self.begins_at(time)
+    }
+
+    #[inline(always)]
+    fn take_one<W: Sink>(
+        &mut self,
+        _view: HeadView<'_>,
+        _regs: Regs,
+        plain: Plain<'_>,
+        _out: &mut W,
+    ) -> Result<bool, WriteFailed> {
+        self.take_before(plain);
+        Ok(false)
+    }
+}
+
 impl<'n, 'r> Taker for sample::Sample<'n, 'r> {
     ghost use Rattle.vcd_tools.specs.declared.machine.Machine.TheVariants as machine;
 
     ghost machine = { λ taker. machine.Sample taker };
 
     #[inline(always)]
+    fn leaves(&self, time: u64) -> bool {
+        self.has_due(time)
+    }
+
+    #[inline(always)]
     fn take_one<W: Sink>(
         &mut self,
-        view: HeadView<'_>,
+        _view: HeadView<'_>,
         _regs: Regs,
         plain: Plain<'_>,
-        out: &mut W,
+        _out: &mut W,
     ) -> Result<bool, WriteFailed> {
-        self.take_plain(view, plain, out)
+        self.take_plain(plain);
+        Ok(false)
     }
 }
 
@@ -141,6 +188,11 @@ impl<'n, 'r> Taker for edges::Edges<'n, 'r> {
     ghost use Rattle.vcd_tools.specs.declared.machine.Machine.TheVariants as machine;
 
     ghost machine = { λ taker. machine.Edges taker };
+
+    #[inline(always)]
+    fn leaves(&self, _time: u64) -> bool {
+        false
+    }
 
     #[inline(always)]
     fn take_one<W: Sink>(
@@ -155,6 +207,58 @@ impl<'n, 'r> Taker for edges::Edges<'n, 'r> {
     }
 }
 
+/// Takes the next item that lies ahead, with what is due after it: returns whether it ended the run. None where it takes none, and then
+/// nothing has changed.
+// What begins the item is asked once: what is done with it follows in each arm.
+#[inline(always)]
+fn take_next<T: Taker, W: Sink>(
+    taker: &mut T,
+    view: HeadView<'_>,
+    regs: &mut Regs,
+    ahead: &mut Ahead<'_>,
+    out: &mut W,
+) -> Option<Result<bool, WriteFailed>>
+    requires failures { (W.device out.old).failures < 2 ^ 64 - 1 }
+    requires ready { takes_each (T.machine taker.old) ≡ true }
+    ensures next { MatchOption result
+        ((taker.new ≡ taker.old) × (regs.new ≡ regs.old) × (ahead.new ≡ ahead.old)
+        × (W.device out.new ≡ W.device out.old))
+        (λ taken. TakesNext (λ due. Takes (W.device out.old) (W.device out.new) due taken)
+        view.entry ahead.old ahead.new regs.old regs.new
+        (T.machine taker.old) (T.machine taker.new) taken) }
+    ensures counts { IfSome result (λ taken. Counts (W.device out.old) (W.device out.new) taken) }
+    ensures ready { takes_each (T.machine taker.new) ≡ true }
+{
+    let mut next = *ahead;
+    let opening = opening_ahead(&mut next)?;
+    let taken = match opening.first {
+        First::Scalar => {
+            let plain = scalar_ahead(opening, next, view)?;
+            taker.take_one(view, *regs, plain, out)
+        }
+        First::Vector => {
+            let plain = vector_ahead(opening, &mut next, view)?;
+            taker.take_one(view, *regs, plain, out)
+        }
+        First::Mark => {
+            let mut after = *regs;
+            let plain = mark_ahead(opening, next, &mut after)?;
+            if taker.leaves(after.time) {
+                return None;
+            }
+            *regs = after;
+            taker.take_one(view, after, plain, out)
+        }
+        First::Real => {
+            let plain = real_ahead(opening, &mut next, view)?;
+            taker.take_one(view, *regs, plain, out)
+        }
+        First::Other => return None,
+    };
+    *ahead = next;
+    Some(taken)
+}
+
 /// Takes the items that lie ahead, one after the other, up to one that ends the run, each with what is due after it.
 // Registers and place come and go by value, so that the loop keeps them out of memory.
 fn take_each<T: Taker, W: Sink>(
@@ -165,6 +269,7 @@ fn take_each<T: Taker, W: Sink>(
     out: &mut W,
 ) -> Taken
     requires failures { (W.device out.old).failures < 2 ^ 64 - 1 }
+    requires ready { takes_each (T.machine taker.old) ≡ true }
     requires within { passed_of ahead ≤ length (bytes_of ahead) }
     ensures gives { (h : Header) (lines : ℕ) (before : List BodyItem) → IsViewOf view.entry h
         → length before + length (bytes_of ahead.entry) < 2 ^ 63
@@ -184,10 +289,10 @@ fn take_each<T: Taker, W: Sink>(
         (λ ended. ended ≡ true → may_end_early (request_in (T.machine taker.old)) ≡ true) }
 {
     'items: loop {
-        let Some(plain) = item_ahead(&mut ahead, view, &mut regs) else {
+        let Some(taken) = take_next(taker, view, &mut regs, &mut ahead, out) else {
             return Taken::until(ahead, regs, Ok(false));
         };
-        match taker.take_one(view, regs, plain, out) {
+        match taken {
             Ok(false) => {}
             Ok(true) => return Taken::until(ahead, regs, Ok(true)),
             Err(failed) => return Taken::until(ahead, regs, Err(failed)),
@@ -213,6 +318,7 @@ trait Copier {
         out: &mut W,
     ) -> Result<bool, WriteFailed>
         requires failures { (W.device out.old).failures < 2 ^ 64 - 1 }
+        requires ready { copies_each (machine self.old) ≡ true }
         requires lies { Lies view lying }
         requires line { IsLine lying.bytes.now lying.line lying.from regs.time }
         requires part { IsPart lying.bytes.now pieces.old }
@@ -228,6 +334,7 @@ trait Copier {
             (request_in (machine self.old)) h items x result }
         ensures counts { Counts (W.device out.old) (W.device out.new) result }
         ensures part { IfOk result (λ _. IsPart lying.entry.bytes.now pieces.new) }
+        ensures ready { result ≡ Ok false → copies_each (machine self.new) ≡ true }
         ensures request { request_in (machine self.new) ≡ request_in (machine self.old) }
         ensures room { room_of (machine self.new) ≡ room_of (machine self.old) }
         ensures early { IfOk result
@@ -271,6 +378,113 @@ impl<'r> Copier for cut::Cut<'r> {
     }
 }
 
+/// Takes an item that was taken ahead from this place on, and what is due after it behind what is held. A line of a time may stand
+/// just before it; then that of the next item's time may stand just before the place after it.
+#[inline(always)]
+fn take_found<T: Copier, W: Sink>(
+    copier: &mut T,
+    view: HeadView<'_>,
+    regs: Regs,
+    plain: Plain<'_>,
+    from: usize,
+    next: Ahead<'_>,
+    line: &mut usize,
+    pieces: &mut Pieces,
+    out: &mut W,
+) -> Result<bool, WriteFailed>
+    requires failures { (W.device out.old).failures < 2 ^ 64 - 1 }
+    requires ready { copies_each (T.machine copier.old) ≡ true }
+    requires found { (a : Ahead) × (r : Regs) × TakesItem view a next r plain
+        × (from ≡ passed_of a) × (regs ≡ regs_after r plain.item)
+        × IsLine (bytes_of a) line.old (passed_of a) r.time }
+    requires part { IsPart (bytes_of next) pieces.old }
+    ensures one { (h : Header) (items : List BodyItem) (before : Regs) (x : BodyItem)
+        → IsViewOf view.entry h → AreRegsAfter items before
+        → regs ≡ regs_after before plain.entry.item
+        → IsItem h.codes plain.entry.text.now plain.entry.item x
+        → length items < 2 ^ 63 → Keeps (T.machine copier.old) h items
+        → TakesOneBy (λ due. PutsOn (held_in (bytes_of next.entry) pieces.old)
+        (held_in (bytes_of next.entry) pieces.new)
+        (W.device out.old) (W.device out.new) due result)
+        (Keeps (T.machine copier.new) h (items ++ x ∷ []))
+        (request_in (T.machine copier.old)) h items x result }
+    ensures counts { Counts (W.device out.old) (W.device out.new) result }
+    ensures part { IfOk result (λ _. IsPart (bytes_of next.entry) pieces.new) }
+    ensures line { IsLine (bytes_of next.entry) line.new (passed_of next.entry) regs.time }
+    ensures ready { result ≡ Ok false → copies_each (T.machine copier.new) ≡ true }
+    ensures request { request_in (T.machine copier.new) ≡ request_in (T.machine copier.old) }
+    ensures room { room_of (T.machine copier.new) ≡ room_of (T.machine copier.old) }
+    ensures early { IfOk result
+        (λ ended. ended ≡ true → may_end_early (request_in (T.machine copier.old)) ≡ true) }
+{
+    let lying = Lying {
+        plain,
+        bytes: next.bytes(),
+        from,
+        to: next.passed(),
+        line: line_before(plain.item, *line, from),
+    };
+    *line = lying.next_line();
+    copier.take_one_lying(view, regs, lying, pieces, out)
+}
+
+/// Takes the next item that lies ahead as `take_next` does, with what is due after it behind what is held.
+#[inline(always)]
+fn take_next_lying<T: Copier, W: Sink>(
+    copier: &mut T,
+    view: HeadView<'_>,
+    regs: &mut Regs,
+    ahead: &mut Ahead<'_>,
+    line: &mut usize,
+    pieces: &mut Pieces,
+    out: &mut W,
+) -> Option<Result<bool, WriteFailed>>
+    requires failures { (W.device out.old).failures < 2 ^ 64 - 1 }
+    requires ready { copies_each (T.machine copier.old) ≡ true }
+    requires line { IsLine (bytes_of ahead.old) line.old (passed_of ahead.old) regs.old.time }
+    requires part { IsPart (bytes_of ahead.old) pieces.old }
+    ensures next { MatchOption result
+        ((copier.new ≡ copier.old) × (regs.new ≡ regs.old) × (ahead.new ≡ ahead.old)
+        × (pieces.new ≡ pieces.old) × (W.device out.new ≡ W.device out.old))
+        (λ taken. TakesNext (λ due. PutsOn (held_in (bytes_of ahead.old) pieces.old)
+        (held_in (bytes_of ahead.old) pieces.new)
+        (W.device out.old) (W.device out.new) due taken)
+        view.entry ahead.old ahead.new regs.old regs.new
+        (T.machine copier.old) (T.machine copier.new) taken) }
+    ensures counts { IfSome result (λ taken. Counts (W.device out.old) (W.device out.new) taken) }
+    ensures part { IfSome result
+        (λ taken. IfOk taken (λ _. IsPart (bytes_of ahead.old) pieces.new)) }
+    ensures line { IfSome result
+        (λ _. IsLine (bytes_of ahead.old) line.new (passed_of ahead.new) regs.new.time) }
+    ensures ready { IfSome result
+        (λ taken. taken ≡ Ok false → copies_each (T.machine copier.new) ≡ true) }
+{
+    let from = ahead.passed();
+    let mut next = *ahead;
+    let opening = opening_ahead(&mut next)?;
+    let taken = match opening.first {
+        First::Scalar => {
+            let plain = scalar_ahead(opening, next, view)?;
+            take_found(copier, view, *regs, plain, from, next, line, pieces, out)
+        }
+        First::Vector => {
+            let plain = vector_ahead(opening, &mut next, view)?;
+            take_found(copier, view, *regs, plain, from, next, line, pieces, out)
+        }
+        First::Mark => {
+            let plain = mark_ahead(opening, next, regs)?;
+            take_found(copier, view, *regs, plain, from, next, line, pieces, out)
+        }
+        First::Real => {
+            let plain = real_ahead(opening, &mut next, view)?;
+            take_found(copier, view, *regs, plain, from, next, line, pieces, out)
+        }
+        First::Other => return None,
+    };
+    *ahead = next;
+    Some(taken)
+}
+
 /// Takes the items that lie ahead as `take_each` does, with pieces of the chunk where what is due stands there.
 fn take_each_lying<T: Copier, W: Sink>(
     copier: &mut T,
@@ -280,6 +494,7 @@ fn take_each_lying<T: Copier, W: Sink>(
     out: &mut W,
 ) -> Taken
     requires failures { (W.device out.old).failures < 2 ^ 64 - 1 }
+    requires ready { copies_each (T.machine copier.old) ≡ true }
     requires within { passed_of ahead ≤ length (bytes_of ahead) }
     ensures gives { (h : Header) (lines : ℕ) (before : List BodyItem) → IsViewOf view.entry h
         → length before + length (bytes_of ahead.entry) < 2 ^ 63
@@ -302,20 +517,18 @@ fn take_each_lying<T: Copier, W: Sink>(
     let mut pieces = Pieces::new();
     let mut line = ahead.passed();
     'items: loop {
-        let from = ahead.passed();
-        let Some(plain) = item_ahead(&mut ahead, view, &mut regs) else {
+        let Some(taken) = take_next_lying(
+            copier,
+            view,
+            &mut regs,
+            &mut ahead,
+            &mut line,
+            &mut pieces,
+            out,
+        ) else {
             return Taken::until(ahead, regs, pieces.finish(bytes, false, out));
         };
-        let to = ahead.passed();
-        let lying = Lying {
-            plain,
-            bytes,
-            from,
-            to,
-            line: line_before(plain.item, line, from),
-        };
-        line = lying.next_line();
-        match copier.take_one_lying(view, regs, lying, &mut pieces, out) {
+        match taken {
             Ok(false) => {}
             Ok(true) => return Taken::until(ahead, regs, pieces.finish(bytes, true, out)),
             Err(failed) => return Taken::until(ahead, regs, Err(failed)),
@@ -429,7 +642,13 @@ impl<'n, 'r> Machine<'n, 'r> {
         match self {
             Machine::Check(check) => take_each(check, view, regs, ahead, out),
             Machine::Pick(pick) => take_each_lying(pick, view, regs, ahead, out),
-            Machine::Cut(cut) => take_each_lying(cut, view, regs, ahead, out),
+            Machine::Cut(cut) => {
+                if cut.has_begun() {
+                    take_each_lying(cut, view, regs, ahead, out)
+                } else {
+                    take_each(cut, view, regs, ahead, out)
+                }
+            }
             Machine::Sample(sample) => take_each(sample, view, regs, ahead, out),
             Machine::Edges(edges) => take_each(edges, view, regs, ahead, out),
         }

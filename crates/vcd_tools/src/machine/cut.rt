@@ -1,5 +1,5 @@
 //! `cut`: the values before a time, and the items from then up to another time.
-ghost use Rattle.std.specs.Prelude.{◌≡◌, ℕ, ◌≤◌, ◌-◌, ◌^◌, ◌<◌, ◌+◌, ◌∷◌, ◌++◌, [], List, true, false, not, ◌&&◌, is_some, IfOk, MatchResult};
+ghost use Rattle.std.specs.Prelude.{◌≡◌, ℕ, ◌≤◌, ◌-◌, ◌^◌, ◌<◌, ◌+◌, ◌∷◌, ◌++◌, [], List, true, false, not, ◌&&◌, is_some, nat_le, Ok, IfOk, MatchResult};
 ghost use Rattle.vcd_model.specs.Cut.{cut_close, cut_open, is_started, start_section};
 ghost use Rattle.vcd_model.specs.Header.{Header};
 ghost use Rattle.vcd_model.specs.History.{value_before};
@@ -8,6 +8,10 @@ ghost use Rattle.vcd_model.specs.ItemText.{last_mark};
 ghost use Rattle.vcd_model.specs.Outcome.{Request};
 ghost use Rattle.vcd_text.specs.Device.{Counts, Takes, failures_after};
 ghost use Rattle.vcd_head.specs.Views.{IsViewOf};
+ghost use Rattle.vcd_head.specs.declared.view.HeadView.{HeadView};
+ghost use Rattle.vcd_body.specs.Ahead.{HasBits};
+ghost use Rattle.vcd_body.specs.declared.item.Item.TheVariants as kind;
+ghost use Rattle.vcd_tools.specs.Quiet.{TakesQuietly};
 ghost use Rattle.vcd_body.specs.Given.{HasGoodText};
 ghost use Rattle.vcd_body.specs.Items.{AreRegsAfter, regs_after};
 ghost use Rattle.vcd_tools.specs.Answer.{writes_failed};
@@ -27,7 +31,8 @@ use crate::machine::last_of;
 use crate::pieces::{Lying, Pieces};
 use crate::span::Span;
 use crate::task::Room;
-use vcd_body::{Item, Regs, Table};
+use crate::values::set_plain;
+use vcd_body::{Item, Plain, Regs, Table};
 use vcd_head::{HeadView, put_head, select};
 use vcd_text::{Sink, WriteFailed, put};
 
@@ -145,6 +150,7 @@ impl<'r> Cut<'r> {
         ensures counts { Counts (W.device out.old) (W.device out.new) result }
         ensures begun { IfOk result (λ _. (self.new.started ≡ true)
             × HasWritten (self.old.from ∷ []) [] self.new.text) }
+        ensures stays { self.old.started ≡ true → self.new.started ≡ true }
         ensures span { span_in self.new ≡ span_in self.old }
         ensures room { lent_to self.new ≡ lent_to self.old }
     {
@@ -166,6 +172,7 @@ impl<'r> Cut<'r> {
             → AreCut self.old h items
             → BeginsBy h items time self.old self.new (W.device out.old) (W.device out.new) result }
         ensures counts { Counts (W.device out.old) (W.device out.new) result }
+        ensures stays { self.old.started ≡ true → self.new.started ≡ true }
         ensures span { span_in self.new ≡ span_in self.old }
         ensures room { lent_to self.new ≡ lent_to self.old }
     {
@@ -173,6 +180,42 @@ impl<'r> Cut<'r> {
             return Ok(());
         }
         self.begin(view, out)
+    }
+
+    /// Whether the start section stands.
+    #[inline(always)]
+    pub(crate) fn has_begun(&self) -> bool
+        ensures { result ≡ self.now.started }
+    {
+        self.started
+    }
+
+    /// Whether the start section is due with a mark of this time, where it does not stand yet.
+    #[inline(always)]
+    pub(crate) fn begins_at(&self, time: u64) -> bool
+        ensures { result ≡ nat_le self.now.from time }
+    {
+        self.from <= time
+    }
+
+    /// Takes an item that lies ahead before the start section, and with which that is not due: keeps the value of a change.
+    #[inline(always)]
+    pub(crate) fn take_before(&mut self, plain: Plain<'_>)
+        requires begun { self.old.started ≡ false }
+        requires mark { (time : ℕ) → plain.item ≡ kind.Time time
+            → nat_le self.old.from time ≡ false }
+        requires bits { HasBits plain.item plain.text.now plain.bits }
+        ensures takes { (view : HeadView) (h : Header) (items : List BodyItem) (before : Regs) (x : BodyItem)
+            → IsViewOf view h → HasGoodText view.codes.now plain.entry.text.now plain.entry.item
+            → AreRegsAfter items before
+            → IsItem h.codes plain.entry.text.now plain.entry.item x → AreCut self.old h items
+            → TakesQuietly (AreCut self.new h (items ++ x ∷ []))
+            (Request.Cut self.old.from self.old.to) h items x }
+        ensures begun { self.new.started ≡ false }
+        ensures span { span_in self.new ≡ span_in self.old }
+        ensures room { lent_to self.new ≡ lent_to self.old }
+    {
+        set_plain(&mut self.table, plain);
     }
 
     /// Takes a time mark: writes the start section where its time has come, and where it is above the span the line of the span's
@@ -190,6 +233,7 @@ impl<'r> Cut<'r> {
             (Request.Cut self.old.from self.old.to) h items (BodyItem.Time time)
             (W.device out.old) (W.device out.new) result }
         ensures counts { Counts (W.device out.old) (W.device out.new) result }
+        ensures stays { self.old.started ≡ true → self.new.started ≡ true }
         ensures span { span_in self.new ≡ span_in self.old }
         ensures room { lent_to self.new ≡ lent_to self.old }
     {
@@ -221,6 +265,7 @@ impl<'r> Cut<'r> {
             (cut_open h self.old.from self.old.to (items ++ x ∷ [])) result
             × IfOk result (λ _. AreCut self.new h (items ++ x ∷ [])) }
         ensures counts { Counts (W.device out.old) (W.device out.new) result }
+        ensures stays { self.old.started ≡ true → self.new.started ≡ true }
         ensures span { span_in self.new ≡ span_in self.old }
         ensures room { lent_to self.new ≡ lent_to self.old }
     {
@@ -254,6 +299,7 @@ impl<'r> Cut<'r> {
             (cut_open h self.old.from self.old.to (items ++ x ∷ [])) result
             × IfOk result (λ _. AreCut self.new h (items ++ x ∷ [])) }
         ensures counts { Counts (W.device out.old) (W.device out.new) result }
+        ensures stays { self.old.started ≡ true → self.new.started ≡ true }
         ensures span { span_in self.new ≡ span_in self.old }
         ensures room { lent_to self.new ≡ lent_to self.old }
     {
@@ -291,6 +337,7 @@ impl<'r> Cut<'r> {
             × IfOk result (λ _. AreCut self.new h (items ++ x ∷ [])) }
         ensures counts { Counts (W.device out.old) (W.device out.new) result }
         ensures part { IfOk result (λ _. IsPart lying.entry.bytes.now pieces.new) }
+        ensures begun { self.new.started ≡ self.old.started }
         ensures span { span_in self.new ≡ span_in self.old }
         ensures room { lent_to self.new ≡ lent_to self.old }
     {
@@ -312,6 +359,7 @@ impl<'r> Cut<'r> {
         out: &mut W,
     ) -> Result<bool, WriteFailed>
         requires failures { (W.device out.old).failures < 2 ^ 64 - 1 }
+        requires begun { self.old.started ≡ true }
         requires lies { Lies view lying }
         requires line { IsLine lying.bytes.now lying.line lying.from regs.time }
         requires part { IsPart lying.bytes.now pieces.old }
@@ -327,17 +375,15 @@ impl<'r> Cut<'r> {
             (Request.Cut self.old.from self.old.to) h items x result }
         ensures counts { Counts (W.device out.old) (W.device out.new) result }
         ensures part { IfOk result (λ _. IsPart lying.entry.bytes.now pieces.new) }
+        ensures begun { result ≡ Ok false → self.new.started ≡ true }
         ensures span { span_in self.new ≡ span_in self.old }
         ensures room { lent_to self.new ≡ lent_to self.old }
     {
-        if let Item::Change { .. } = lying.plain.item
-            && self.started
-        {
+        if let Item::Change { .. } = lying.plain.item {
             self.put_kept_lying(view, regs, lying, pieces, out)?;
             return Ok(false);
         }
         if let Item::Time(time) = lying.plain.item
-            && self.started
             && time <= self.to
         {
             return Ok(false);
@@ -366,6 +412,7 @@ impl<'r> Cut<'r> {
             (Request.Cut self.old.from self.old.to) h items x
             (W.device out.old) (W.device out.new) result }
         ensures counts { Counts (W.device out.old) (W.device out.new) result }
+        ensures stays { self.old.started ≡ true → self.new.started ≡ true }
         ensures span { span_in self.new ≡ span_in self.old }
         ensures room { lent_to self.new ≡ lent_to self.old }
     {

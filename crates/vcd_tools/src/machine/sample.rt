@@ -1,5 +1,5 @@
 //! `sample`: the values of selected variables at some times.
-ghost use Rattle.std.specs.Prelude.{◌≡◌, ◌≤◌, ◌-◌, ◌^◌, ◌<◌, ◌+◌, ◌∷◌, ◌++◌, [], List, ℕ, length, nat_le, None, IfOk, MatchResult, map, string_bytes};
+ghost use Rattle.std.specs.Prelude.{◌≡◌, ◌≤◌, ◌-◌, ◌^◌, ◌<◌, ◌+◌, ◌∷◌, ◌++◌, [], List, ℕ, length, nat_le, None, false, IfOk, MatchResult, map, string_bytes};
 ghost use Rattle.std.specs.List.{position_or_len};
 ghost use Rattle.vcd_model.specs.Header.{Header};
 ghost use Rattle.vcd_model.specs.Items.{BodyItem};
@@ -12,7 +12,10 @@ ghost use Rattle.vcd_body.specs.Given.{HasGoodText};
 ghost use Rattle.vcd_tools.specs.Engine.{TakesOne};
 ghost use Rattle.vcd_body.specs.Given.{IsItem};
 ghost use Rattle.vcd_tools.specs.Room.{HasRoomFor, IsWithin, room_size};
-ghost use Rattle.vcd_tools.specs.Sample.{AreSampled, asked_in, lent_to};
+ghost use Rattle.vcd_head.specs.declared.view.HeadView.{HeadView};
+ghost use Rattle.vcd_body.specs.declared.item.Item.TheVariants as kind;
+ghost use Rattle.vcd_tools.specs.Quiet.{TakesQuietly};
+ghost use Rattle.vcd_tools.specs.Sample.{AreSampled, asked_in, is_due, lent_to};
 ghost use Rattle.vcd_tools.specs.Selection.{IsFirstUnmatched, IsUnmatched};
 ghost use Rattle.vcd_tools.specs.declared.task.Task.TheVariants as task;
 
@@ -104,30 +107,31 @@ impl<'n, 'r> Sample<'n, 'r> {
         Ok(rest.is_empty())
     }
 
-    /// Takes an item that lies ahead, as `take` does.
+    /// Whether a mark of this time is above one of the times that are left.
     #[inline(always)]
-    pub(crate) fn take_plain<W: Sink>(
-        &mut self,
-        view: HeadView<'_>,
-        plain: Plain<'_>,
-        out: &mut W,
-    ) -> Result<bool, WriteFailed>
-        requires failures { (W.device out.old).failures < 2 ^ 64 - 1 }
-        requires sound { HasGoodText view.codes.now plain.text.now plain.item }
+    pub(crate) fn has_due(&self, time: u64) -> bool
+        ensures { result ≡ is_due self.now.rest.now time }
+    {
+        match self.rest {
+            [first, ..] => *first < time,
+            [] => true,
+        }
+    }
+
+    /// Takes an item that lies ahead, and with which no line is due: keeps the value of a change.
+    #[inline(always)]
+    pub(crate) fn take_plain(&mut self, plain: Plain<'_>)
+        requires mark { (time : ℕ) → plain.item ≡ kind.Time time
+            → is_due self.old.rest.now time ≡ false }
         requires bits { HasBits plain.item plain.text.now plain.bits }
-        ensures takes { (h : Header) (items : List BodyItem) (x : BodyItem) → IsViewOf view.entry h
+        ensures takes { (view : HeadView) (h : Header) (items : List BodyItem) (x : BodyItem)
+            → IsViewOf view h → HasGoodText view.codes.now plain.entry.text.now plain.entry.item
             → IsItem h.codes plain.entry.text.now plain.entry.item x → AreSampled self.old h items
-            → TakesOne (AreSampled self.new h (items ++ x ∷ []))
-            (asked_in self.old) h items x (W.device out.old) (W.device out.new) result }
-        ensures counts { Counts (W.device out.old) (W.device out.new) result }
+            → TakesQuietly (AreSampled self.new h (items ++ x ∷ [])) (asked_in self.old) h items x }
         ensures asked { asked_in self.new ≡ asked_in self.old }
         ensures room { lent_to self.new ≡ lent_to self.old }
     {
-        if let Item::Time(time) = plain.item {
-            return self.take_time(view, time, out);
-        }
         set_plain(&mut self.table, plain);
-        Ok(false)
     }
 
     /// Takes an item with its text: keeps the value of a change, and at a time mark writes the lines of the times below it. Returns whether it ended the run.

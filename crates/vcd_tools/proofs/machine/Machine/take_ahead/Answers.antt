@@ -12,5 +12,8 @@ returns-in-Edges-clause-gives g c = rw c.in-Edges.is c.take_each-in-Edges.ensure
 pub returns-in-Pick-clause-gives : goal.returns-in-Pick-clause-gives
 returns-in-Pick-clause-gives g c = rw c.in-Pick.is c.take_each_lying.ensures.gives
 
-pub returns-in-Cut-clause-gives : goal.returns-in-Cut-clause-gives
-returns-in-Cut-clause-gives g c = rw c.in-Cut.is c.take_each_lying-in-Cut.ensures.gives
+pub returns-then-has_begun-clause-gives : goal.returns-then-has_begun-clause-gives
+returns-then-has_begun-clause-gives g c = rw c.in-Cut.is c.take_each_lying-then-has_begun.ensures.gives
+
+pub returns-else-has_begun-clause-gives : goal.returns-else-has_begun-clause-gives
+returns-else-has_begun-clause-gives g c = rw c.in-Cut.is c.take_each-else-has_begun.ensures.gives

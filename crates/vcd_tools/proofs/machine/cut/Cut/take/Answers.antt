@@ -8,6 +8,7 @@ returns g c = record {
       let t = c.in_ok-take_other.ensures.takes h items before x views known re read none is in
       record { due = t.0; ends = no_end h.codes c.args.text.now c.args.item x c.args.self.now.to read none; keeps = λ _. t.1 };
   counts = c.in_ok-take_other.ensures.counts;
+  stays = c.in_ok-take_other.ensures.stays;
   span = c.in_ok-take_other.ensures.span;
   room = c.in_ok-take_other.ensures.room;
 }

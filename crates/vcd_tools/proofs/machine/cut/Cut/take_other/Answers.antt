@@ -38,6 +38,7 @@ returns-in_default g c = record {
         item_held c.args.view h items before m c.args.text.now c.args.item x views known is read none m.table c.if-self.false held,
       );
   counts = refl;
+  stays = λ begun. begun;
   span = refl;
   room = refl;
 }

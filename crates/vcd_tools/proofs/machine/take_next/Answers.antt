@@ -1,0 +1,115 @@
+use Rattle.std.proofs.Common.{refl, ◌≡◌, sym, subst}
+use Rattle.vcd_body.specs.Items.{regs_after}
+use Rattle.vcd_body.specs.declared.item.Item.{Item}
+use Rattle.vcd_tools.proofs.machine.take_next.Goals as goal
+
+pub scalar_ahead-requires-clause-opens : goal.scalar_ahead-requires-clause-opens
+scalar_ahead-requires-clause-opens g c = (c.args.ahead.now, c.in_ok-opening.ensures.opens)
+
+pub vector_ahead-requires-clause-opens : goal.vector_ahead-requires-clause-opens
+vector_ahead-requires-clause-opens g c = (c.args.ahead.now, c.in_ok-opening.ensures.opens)
+
+pub mark_ahead-requires-clause-opens : goal.mark_ahead-requires-clause-opens
+mark_ahead-requires-clause-opens g c = (c.args.ahead.now, c.in_ok-opening.ensures.opens)
+
+pub real_ahead-requires-clause-opens : goal.real_ahead-requires-clause-opens
+real_ahead-requires-clause-opens g c = (c.args.ahead.now, c.in_ok-opening.ensures.opens)
+
+pub take_one-taken-requires-clause-sound : goal.take_one-taken-requires-clause-sound
+take_one-taken-requires-clause-sound g c = (c.in_ok-plain-in-Scalar.ensures.takes c.args.ahead.now c.args.regs.now c.in_ok-opening.ensures.opens).sound
+
+pub take_one-taken-requires-clause-sized : goal.take_one-taken-requires-clause-sized
+take_one-taken-requires-clause-sized g c = (c.in_ok-plain-in-Scalar.ensures.takes c.args.ahead.now c.args.regs.now c.in_ok-opening.ensures.opens).sized
+
+pub take_one-taken-requires-clause-bits : goal.take_one-taken-requires-clause-bits
+take_one-taken-requires-clause-bits g c = (c.in_ok-plain-in-Scalar.ensures.takes c.args.ahead.now c.args.regs.now c.in_ok-opening.ensures.opens).bits
+
+pub take_one-taken-requires-in-Vector-clause-sound : goal.take_one-taken-requires-in-Vector-clause-sound
+take_one-taken-requires-in-Vector-clause-sound g c = (c.in_ok-plain-in-Vector.ensures.takes c.args.ahead.now c.args.regs.now c.in_ok-opening.ensures.opens).sound
+
+pub take_one-taken-requires-in-Vector-clause-sized : goal.take_one-taken-requires-in-Vector-clause-sized
+take_one-taken-requires-in-Vector-clause-sized g c = (c.in_ok-plain-in-Vector.ensures.takes c.args.ahead.now c.args.regs.now c.in_ok-opening.ensures.opens).sized
+
+pub take_one-taken-requires-in-Vector-clause-bits : goal.take_one-taken-requires-in-Vector-clause-bits
+take_one-taken-requires-in-Vector-clause-bits g c = (c.in_ok-plain-in-Vector.ensures.takes c.args.ahead.now c.args.regs.now c.in_ok-opening.ensures.opens).bits
+
+pub take_one-taken-requires-in-Real-clause-sound : goal.take_one-taken-requires-in-Real-clause-sound
+take_one-taken-requires-in-Real-clause-sound g c = (c.in_ok-plain-in-Real.ensures.takes c.args.ahead.now c.args.regs.now c.in_ok-opening.ensures.opens).sound
+
+pub take_one-taken-requires-in-Real-clause-sized : goal.take_one-taken-requires-in-Real-clause-sized
+take_one-taken-requires-in-Real-clause-sized g c = (c.in_ok-plain-in-Real.ensures.takes c.args.ahead.now c.args.regs.now c.in_ok-opening.ensures.opens).sized
+
+pub take_one-taken-requires-in-Real-clause-bits : goal.take_one-taken-requires-in-Real-clause-bits
+take_one-taken-requires-in-Real-clause-bits g c = (c.in_ok-plain-in-Real.ensures.takes c.args.ahead.now c.args.regs.now c.in_ok-opening.ensures.opens).bits
+
+pub take_one-taken-requires-in-Mark-clause-sound : goal.take_one-taken-requires-in-Mark-clause-sound
+take_one-taken-requires-in-Mark-clause-sound g c = (c.in_ok-plain-in-Mark.ensures.takes c.args.ahead.now c.args.view c.in_ok-opening.ensures.opens).sound
+
+pub take_one-taken-requires-in-Mark-clause-sized : goal.take_one-taken-requires-in-Mark-clause-sized
+take_one-taken-requires-in-Mark-clause-sized g c = (c.in_ok-plain-in-Mark.ensures.takes c.args.ahead.now c.args.view c.in_ok-opening.ensures.opens).sized
+
+pub take_one-taken-requires-in-Mark-clause-bits : goal.take_one-taken-requires-in-Mark-clause-bits
+take_one-taken-requires-in-Mark-clause-bits g c = (c.in_ok-plain-in-Mark.ensures.takes c.args.ahead.now c.args.view c.in_ok-opening.ensures.opens).bits
+
+pub returns-in_ok-plain-in-Scalar-clause-next : goal.returns-in_ok-plain-in-Scalar-clause-next
+returns-in_ok-plain-in-Scalar-clause-next g c =
+    let r = c.args.regs.now in
+    let n = c.in_ok-plain-in-Scalar.ensures in
+    let regs = subst (λ (i : Item). r ≡ regs_after r i) (sym n.form.1) refl in
+    let t = c.take_one-taken.ensures in
+    record {
+      plain = c.in_ok-plain-in-Scalar.plain;
+      item = n.takes c.args.ahead.now r c.in_ok-opening.ensures.opens;
+      regs = regs;
+      one = λ h items x views known is few keeps. t.takes h items r x views known regs is few keeps;
+      request = t.request;
+      room = t.room;
+      early = t.early;
+    }
+
+pub returns-in_ok-plain-in-Vector-clause-next : goal.returns-in_ok-plain-in-Vector-clause-next
+returns-in_ok-plain-in-Vector-clause-next g c =
+    let r = c.args.regs.now in
+    let n = c.in_ok-plain-in-Vector.ensures in
+    let regs = subst (λ (i : Item). r ≡ regs_after r i) (sym n.form.1) refl in
+    let t = c.take_one-taken-in-Vector.ensures in
+    record {
+      plain = c.in_ok-plain-in-Vector.plain;
+      item = n.takes c.args.ahead.now r c.in_ok-opening.ensures.opens;
+      regs = regs;
+      one = λ h items x views known is few keeps. t.takes h items r x views known regs is few keeps;
+      request = t.request;
+      room = t.room;
+      early = t.early;
+    }
+
+pub returns-in_ok-plain-in-Real-clause-next : goal.returns-in_ok-plain-in-Real-clause-next
+returns-in_ok-plain-in-Real-clause-next g c =
+    let r = c.args.regs.now in
+    let n = c.in_ok-plain-in-Real.ensures in
+    let regs = subst (λ (i : Item). r ≡ regs_after r i) (sym n.form.1) refl in
+    let t = c.take_one-taken-in-Real.ensures in
+    record {
+      plain = c.in_ok-plain-in-Real.plain;
+      item = n.takes c.args.ahead.now r c.in_ok-opening.ensures.opens;
+      regs = regs;
+      one = λ h items x views known is few keeps. t.takes h items r x views known regs is few keeps;
+      request = t.request;
+      room = t.room;
+      early = t.early;
+    }
+
+pub returns-else-leaves-clause-next : goal.returns-else-leaves-clause-next
+returns-else-leaves-clause-next g c =
+    let r = c.args.regs.now in
+    let n = c.in_ok-plain-in-Mark.ensures in
+    let t = c.take_one-taken-in-Mark.ensures in
+    record {
+      plain = c.in_ok-plain-in-Mark.plain;
+      item = n.takes c.args.ahead.now c.args.view c.in_ok-opening.ensures.opens;
+      regs = n.regs;
+      one = λ h items x views known is few keeps. t.takes h items r x views known n.regs is few keeps;
+      request = t.request;
+      room = t.room;
+      early = t.early;
+    }
