@@ -34,6 +34,7 @@ pub mod MergeTrails
 pub mod MergeRunOn
 pub mod MergeFirst
 pub mod MergeTurns
+pub mod OrderLemmas
 pub mod MergeRuns
 pub mod MergeCloses
 pub mod WholeInputs

@@ -19,7 +19,7 @@ use Rattle.vcd_head.specs.Merged.{ShowHeaders}
 use Rattle.vcd_head.specs.Shown.{shown}
 use Rattle.vcd_head.specs.Views.{IsExponent, Views}
 use Rattle.vcd_head.proofs.MergedLemmas.{few_powers, numbers_fit}
-use Rattle.vcd_tools.specs.declared.merge_steps.Merge.{Merge}
+use Rattle.vcd_tools.specs.declared.merge_state.Merge.{Merge}
 use Rattle.vcd_tools.specs.declared.seat.Seat.{Seat}
 use Rattle.vcd_tools.specs.declared.windows.Windows.{Windows}
 use Rattle.vcd_tools.specs.MergeParts.{AreParts, AreSeated, part, part_len, spot_at, spot_of}

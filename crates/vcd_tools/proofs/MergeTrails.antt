@@ -17,7 +17,7 @@ use Rattle.vcd_tools.specs.MergeOrder.{IsNext}
 use Rattle.vcd_tools.specs.MergeParts.{part_len, spot_at}
 use Rattle.vcd_tools.specs.MergeStep.{AreMarked, Gives, Holds, IsReady, ReadsOne, Standing, last_written}
 use Rattle.vcd_tools.specs.MergeTrail.{RunGives, Stage, TakesOn, Trail, Stands, Further, TurnsAt, spot_in}
-use Rattle.vcd_tools.specs.MergeTurns.{IsFirstBefore}
+use Rattle.vcd_tools.specs.Order.{IsFirstBefore}
 use Rattle.vcd_tools.specs.Seat.{GivesOne, IsSeated, Lane, ReadsNoMore, Spot, Turns}
 use Rattle.vcd_tools.specs.declared.answer.More.{More}
 use Rattle.vcd_tools.specs.declared.answer.More.TheVariants.{Again, Ended}

@@ -1,10 +1,10 @@
 -- Whose turn it is among one input more.
 use Rattle.std.proofs.Common.{◌≡◌, ◌≢◌, ℕ, ◌+◌, ◌<◌, ◌≤◌, ◌⊎◌, true, false, List, length, slice_get, Option, Some, None, refl, sym, ap, ◌∙◌, arith, inl, inr}
-use Rattle.std.specs.Prelude.{All, MatchOption, get_or}
+use Rattle.std.specs.Prelude.{All, get_or}
 use Rattle.std.proofs.lemmas.Bool.{cases_lt}
 use Rattle.std.proofs.lemmas.Option.{slice_get-get_or, slice_get_within}
 use Rattle.vcd_tools.specs.MergeOrder.{IsNext}
-use Rattle.vcd_tools.specs.MergeTurns.{IsFirstBefore, IsFoundAmong, IsTurnAmong}
+use Rattle.vcd_tools.specs.MergeTurns.{IsFoundAmong, IsTurnAmong}
 use Rattle.vcd_tools.specs.declared.seat.Seat.{Seat}
 use Rattle.vcd_tools.specs.declared.turns.Turn.{Turn}
 
@@ -51,18 +51,16 @@ module _ (seats : List Seat) (n : ℕ) (x : Seat) (here : slice_get seats n ≡ 
     unfinished = a.unfinished;
     time_is = a.time_is;
     least = λ j s w at going. a.least j s (going_before done j s w at going) at going;
-    first = λ t h j s w other at going. a.first t h j s (going_before done j s w at going) other at going;
   }
 
-  pub with_only : (before : ℕ) → x.finished ≡ false → ((j : ℕ) (s : Seat) → j < n → slice_get seats j ≡ Some s → s.finished ≡ true) → IsTurnAmong seats (n + 1) (record { input = n; time = x.time; before = before })
-  with_only before going0 none = record {
+  pub with_only : x.finished ≡ false → ((j : ℕ) (s : Seat) → j < n → slice_get seats j ≡ Some s → s.finished ≡ true) → IsTurnAmong seats (n + 1) (record { input = n; time = x.time })
+  with_only going0 none = record {
     within = omega arith;
     seat = x;
     there = here;
     unfinished = going0;
     time_is = refl;
     least = least;
-    first = λ t h j s w other at going. let f : true ≡ false = sym (none j s (other_before j s w other) at) ∙ going in absurd (no_both f);
   }
     where
       no_both : true ≡ false → ⊥
@@ -75,7 +73,7 @@ module _ (seats : List Seat) (n : ℕ) (x : Seat) (here : slice_get seats n ≡ 
           by_place (inl l) = let f : true ≡ false = sym (none j s l at) ∙ going in cc
           by_place (inr e) = let k = e.0 in inr (ap (λ (y : Seat). y.time) e.1, omega (arith, k))
 
-  pub with_less : (turn : Turn) → x.finished ≡ false → x.time < turn.time → IsTurnAmong seats n turn → IsTurnAmong seats (n + 1) (record { input = n; time = x.time; before = turn.time })
+  pub with_less : (turn : Turn) → x.finished ≡ false → x.time < turn.time → IsTurnAmong seats n turn → IsTurnAmong seats (n + 1) (record { input = n; time = x.time })
   with_less turn going0 less a = record {
     within = omega arith;
     seat = x;
@@ -83,7 +81,6 @@ module _ (seats : List Seat) (n : ℕ) (x : Seat) (here : slice_get seats n ≡ 
     unfinished = going0;
     time_is = refl;
     least = least;
-    first = λ t h j s w other at going. inl (not_less t h s (a.least j s (other_before j s w other) at going));
   }
     where
       not_less : {j : ℕ} (t : ℕ) → t < turn.time → (s : Seat) → (a.seat.time < s.time) ⊎ ((a.seat.time ≡ s.time) × (turn.input ≤ j)) → t < s.time
@@ -97,15 +94,14 @@ module _ (seats : List Seat) (n : ℕ) (x : Seat) (here : slice_get seats n ≡ 
           by_place (inl l) = inl (not_less {j = j} x.time less s (a.least j s l at going))
           by_place (inr e) = let k = e.0 in inr (ap (λ (y : Seat). y.time) e.1, omega (arith, k))
 
-  pub with_later : (turn : Turn) (before : ℕ) → turn.time ≤ x.time → ((t : ℕ) → t < before → (t < turn.before) × (t ≤ x.time)) → IsTurnAmong seats n turn → IsTurnAmong seats (n + 1) (record { input = turn.input; time = turn.time; before = before })
-  with_later turn before later low a = let within = a.within in record {
+  pub with_later : (turn : Turn) → turn.time ≤ x.time → IsTurnAmong seats n turn → IsTurnAmong seats (n + 1) turn
+  with_later turn later a = let within = a.within in record {
     within = omega (arith, within);
     seat = a.seat;
     there = a.there;
     unfinished = a.unfinished;
     time_is = a.time_is;
     least = λ j s w at going. own a.seat.time (let e = a.time_is in omega (arith, e, later)) j s (λ l. a.least j s l at going) (at_last j s w at);
-    first = λ t h j s w other at going. own t (low t h).1 j s (λ l. a.first t (low t h).0 j s l other at going) (at_last j s w at);
   }
     where
       own : (t : ℕ) → t ≤ x.time → (j : ℕ) (s : Seat) → (j < n → (t < s.time) ⊎ ((t ≡ s.time) × (turn.input ≤ j))) → (j < n) ⊎ ((j ≡ n) × (x ≡ s)) → (t < s.time) ⊎ ((t ≡ s.time) × (turn.input ≤ j))
@@ -117,13 +113,8 @@ module _ (seats : List Seat) (n : ℕ) (x : Seat) (here : slice_get seats n ≡ 
           by_time (inr l) = let time = ap (λ (y : Seat). y.time) e.1 in let k = e.0 in let w = a.within in inr (omega (arith, l, le, time), omega (arith, k, w))
 
 -- among all of them
-is_next : (seats : List Seat) (n : ℕ) (turn : Turn) → ((j : ℕ) (s : Seat) → slice_get seats j ≡ Some s → j < n) → IsTurnAmong seats n turn → IsNext seats turn.input × IsFirstBefore seats turn.input turn.before
-is_next seats n turn all a = (
-  record { seat = a.seat; there = a.there; unfinished = a.unfinished; least = λ j s at going. a.least j s (all j s at) at going },
-  λ t h j s other at going. a.first t h j s (all j s at) other at going,
-)
+pub next_in_all : (seats : List Seat) (n : ℕ) (turn : Turn) → length seats ≤ n → IsTurnAmong seats n turn → IsNext seats turn.input
+next_in_all seats n turn most a = record { seat = a.seat; there = a.there; unfinished = a.unfinished; least = λ j s at going. a.least j s (let w = slice_get_within seats j s at in omega (arith, w, most)) at going }
 
-pub found_in_all : (seats : List Seat) (n : ℕ) (found : Option Turn) → length seats ≤ n → IsFoundAmong seats n found
-    → MatchOption found (All (λ (s : Seat). s.finished ≡ true) seats) (λ turn. IsNext seats turn.input × IsFirstBefore seats turn.input turn.before)
-found_in_all seats n None most none = λ k d within. none k (get_or seats k d) (omega (arith, within, most)) (slice_get-get_or seats k d within)
-found_in_all seats n (Some turn) most a = is_next seats n turn (λ j s at. let w = slice_get_within seats j s at in omega (arith, w, most)) a
+pub none_in_all : (seats : List Seat) (n : ℕ) → length seats ≤ n → ((j : ℕ) (s : Seat) → j < n → slice_get seats j ≡ Some s → s.finished ≡ true) → All (λ (s : Seat). s.finished ≡ true) seats
+none_in_all seats n most none = λ k d within. none k (get_or seats k d) (omega (arith, within, most)) (slice_get-get_or seats k d within)

@@ -22,6 +22,7 @@ pub mod SeatStep
 pub mod MergeAhead
 pub mod MergeOrder
 pub mod MergeTurns
+pub mod Order
 pub mod MergeParts
 pub mod MergeRoom
 pub mod MergeStep

@@ -6,7 +6,7 @@ use Rattle.vcd_model.specs.Merge.{Dump, factor}
 use Rattle.vcd_head.specs.declared.head.Head.{Head}
 use Rattle.vcd_tools.specs.MergeParts.{spot_at}
 use Rattle.vcd_tools.specs.Seat.{GaveParked, Lane, Spot}
-use Rattle.vcd_tools.specs.declared.merge_steps.Merge.{Merge}
+use Rattle.vcd_tools.specs.declared.merge_state.Merge.{Merge}
 use Rattle.vcd_tools.specs.declared.seat.Seat.{Seat}
 
 -- a seat where the merge begins: where its feed stands, and what is known of its items, is left alone

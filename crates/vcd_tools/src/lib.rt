@@ -32,9 +32,9 @@
 //! - `values`: the values of codes, with one item more
 //! - `samples`, `sample_lines`: `Samples`, what a sample is asked for; its lines
 //! - `whole_merge`: `merge`
-//! - `beginning`, `merge_steps`, `turns`, `merging`, `seat`, `windows`: what a merge adds to each input where it begins; `Merge`,
-//!   its begin, a step of it over all inputs, and the loop over its steps; whose turn it is; a step of one input; where an input
-//!   stands; the windows of all inputs
+//! - `beginning`, `merge_state`, `merge_steps`, `turns`, `order`, `merging`, `seat`, `windows`: what a merge adds to each input where
+//!   it begins; `Merge`; its begin, a step of it over all inputs, and the loop over its steps; whose turn it is, and in which order
+//!   the others wait; a step of one input; where an input stands; the windows of all inputs
 //!
 //! In `specs/` callers read `Run` (`Follows`), `Engine`, `Step`, `Room` and `Answer`; of a merge `MergeRun` (its
 //! `Follows`), `MergeStart`, `MergeStep`, `MergeParts`, `MergeRoom`, `MergeOrder` and `Seat`.
@@ -54,8 +54,10 @@ mod commands;
 mod engine;
 mod item_text;
 mod machine;
+mod merge_state;
 mod merge_steps;
 mod merging;
+mod order;
 mod pieces;
 mod report;
 mod rows;
@@ -74,7 +76,8 @@ mod windows;
 pub use answer::{Done, More, Stop};
 pub use commands::{check, cut, edges, pick, sample};
 pub use engine::{Begun, Engine, run_task};
-pub use merge_steps::{Merge, merge_step};
+pub use merge_state::Merge;
+pub use merge_steps::merge_step;
 pub use rows::list;
 pub use samples::Samples;
 pub use seat::Seat;

@@ -1,5 +1,5 @@
 //! `merge`: the changes of several dumps in one order of time.
-ghost use Rattle.std.specs.Prelude.{◌≡◌, ◌≢◌, ℕ, ◌+◌, ◌-◌, ◌*◌, ◌^◌, ◌<◌, ◌≤◌, true, false, ◌⊎◌, take, slice_get, List, length, All, MatchOption, MatchBool, IfErr, IfOk, Some, Option, Ok, map};
+ghost use Rattle.std.specs.Prelude.{◌≡◌, ◌≢◌, ℕ, ◌+◌, ◌-◌, ◌*◌, ◌^◌, ◌<◌, ◌≤◌, Bool, true, false, ◌⊎◌, take, slice_get, List, length, All, MatchOption, MatchBool, IfErr, IfOk, Some, Option, Ok, map};
 ghost use Rattle.vcd_model.specs.Merge.{Dump, merge_close, merge_open, merged_items};
 ghost use Rattle.vcd_text.specs.Device.{Counts, Device, Takes, Writes, failures_after, supply};
 ghost use Rattle.vcd_tools.specs.Answer.{NamesInput, writes_failed};
@@ -9,6 +9,7 @@ ghost use Rattle.vcd_head.specs.Views.{Views};
 ghost use Rattle.vcd_tools.specs.Seat.{AtSeat, Lane, Spot, Turns};
 ghost use Rattle.vcd_tools.specs.MergeParts.{AreParts, AreSeated, SameLengths, part, part_len, spot_at};
 ghost use Rattle.vcd_tools.specs.MergeOrder.{IsNext, greatest_time};
+ghost use Rattle.vcd_tools.specs.Order.{IsFirstBefore, IsOrder};
 ghost use Rattle.vcd_tools.specs.MergeTrail.{RunGives, TurnsAt};
 ghost use Rattle.vcd_tools.specs.MergeRun.{Follows};
 ghost use Rattle.vcd_model.specs.Header.{Header};
@@ -22,22 +23,14 @@ ghost use Rattle.vcd_tools.specs.MergeStep.{AreMarked, Gives, Holds, IsReady, fa
 use crate::answer::{Done, More, Stop};
 use crate::beginning::set_seats;
 use crate::item_text::put_time_unless;
+use crate::merge_state::Merge;
 use crate::merging::run_of;
+use crate::order::Order;
 use crate::seat::Seat;
 use crate::turns::next_turn;
 use crate::windows::Windows;
 use vcd_head::{Head, put_merged_head};
 use vcd_text::{Sink, Source, WriteFailed};
-
-/// A merge that goes on.
-#[derive(Drop)]
-pub struct Merge<'h, 's> {
-    heads: &'h [Head],
-    seats: &'s mut [Seat],
-    // The time whose line was written last.
-    written: Option<u64>,
-    going: bool,
-}
 
 /// Some input has not finished: this one, or another.
 #[inline(always)]
@@ -104,6 +97,7 @@ fn turn<S: Source, W: Sink>(
         → (slice_get sources.new j ≡ slice_get sources.old j)
         × (part (part_len (length seats.old) windows.old.tokens.now) j windows.new.values.now
         ≡ part (part_len (length seats.old) windows.old.tokens.now) j windows.old.values.now) }
+    ensures kept { (j : ℕ) → j ≢ input → slice_get seats.new j ≡ slice_get seats.old j }
     ensures lengths { SameLengths windows.old windows.new }
     ensures seats { length seats.new ≡ length seats.old }
     ensures sources { length sources.new ≡ length sources.old }
@@ -195,11 +189,103 @@ fn close<W: Sink>(seats: &[Seat], written: Option<u64>, out: &mut W) -> Result<(
     }
 }
 
-/// The steps of the input whose turn it is, over what a merge works on: one alone, or as many as come before those of the others.
+/// The steps of the input whose turn it is, over what a merge works on: one, and those that follow while its time is before this
+/// one, at which it comes before all others.
 #[inline(always)]
 fn step<S: Source, W: Sink>(
     heads: &[Head],
-    alone: bool,
+    input: usize,
+    before: u64,
+    seats: &mut [Seat],
+    sources: &mut [S],
+    windows: &mut Windows<'_>,
+    written: &mut Option<u64>,
+    out: &mut W,
+) -> Result<More, Stop>
+    requires reads { All (λ s. S.failures s < 2 ^ 64 - 1) sources.old }
+    requires out_failures { (W.device out.old).failures < 2 ^ 64 - 1 }
+    requires ready { IsReady
+        (record {
+          heads = heads.now;
+          seats = seats.old;
+          written = written.old;
+          sources = sources.old;
+          chunks = windows.old.chunks.now;
+          tokens = windows.old.tokens.now;
+          values = windows.old.values.now;
+        }) }
+    requires next { IsNext seats.old input }
+    requires first { IsFirstBefore seats.old input before }
+    ensures runs { (alone : Bool) (hs : List Header) (lanes : List Lane) (ds : List Dump)
+        → (alone ≡ true → before ≡ 0)
+        → Holds S.rest hs lanes ds
+        (record {
+          heads = heads.now;
+          seats = seats.old;
+          written = written.old;
+          sources = sources.old;
+          chunks = windows.old.chunks.now;
+          tokens = windows.old.tokens.now;
+          values = windows.old.values.now;
+        })
+        → RunGives S.rest S.failures hs lanes alone ds
+        (record {
+          heads = heads.now;
+          seats = seats.old;
+          written = written.old;
+          sources = sources.old;
+          chunks = windows.old.chunks.now;
+          tokens = windows.old.tokens.now;
+          values = windows.old.values.now;
+        })
+        (record {
+          heads = heads.now;
+          seats = seats.new;
+          written = written.new;
+          sources = sources.new;
+          chunks = windows.new.chunks.now;
+          tokens = windows.new.tokens.now;
+          values = windows.new.values.now;
+        })
+        (W.device out.old) (W.device out.new) result }
+    ensures ready { result ≡ Ok More.Again
+        → IsReady (record {
+          heads = heads.now;
+          seats = seats.new;
+          written = written.new;
+          sources = sources.new;
+          chunks = windows.new.chunks.now;
+          tokens = windows.new.tokens.now;
+          values = windows.new.values.now;
+        }) }
+    ensures lengths { (length seats.new ≡ length seats.old) × SameLengths windows.old windows.new }
+    ensures kept { (j : ℕ) → j ≢ input → slice_get seats.new j ≡ slice_get seats.old j }
+    ensures reads { map S.failures sources.new
+        ≡ failures_with (map S.failures sources.old) input result }
+    ensures named { NamesInput input result }
+    ensures left { result ≡ Ok More.Again → left_of seats.new < left_of seats.old }
+    ensures others { (j : ℕ) → j ≢ input
+        → spot_at S.rest seats.new sources.new windows.new.chunks.now windows.new.tokens.now j
+        ≡ spot_at S.rest seats.old sources.old windows.old.chunks.now windows.old.tokens.now j }
+    ensures untouched { (j : ℕ) → j ≢ input
+        → (slice_get sources.new j ≡ slice_get sources.old j)
+        × (part (part_len (length seats.old) windows.old.tokens.now) j windows.new.values.now
+        ≡ part (part_len (length seats.old) windows.old.tokens.now) j windows.old.values.now) }
+    ensures writes { (W.device out.new).failures
+        ≡ (W.device out.old).failures + writes_failed result }
+{
+    turn(heads, input, before, seats, sources, windows, written, out)?;
+    if some_left(seats, input) {
+        return Ok(More::Again);
+    }
+    close(seats, *written, out)?;
+    Ok(More::Ended(Done::Whole))
+}
+
+/// The next item of the input whose turn it is, over what a merge works on.
+#[inline(always)]
+fn step_alone<S: Source, W: Sink>(
+    heads: &[Head],
     seats: &mut [Seat],
     sources: &mut [S],
     windows: &mut Windows<'_>,
@@ -229,7 +315,7 @@ fn step<S: Source, W: Sink>(
           tokens = windows.old.tokens.now;
           values = windows.old.values.now;
         })
-        → RunGives S.rest S.failures hs lanes alone ds
+        → RunGives S.rest S.failures hs lanes true ds
         (record {
           heads = heads.now;
           seats = seats.old;
@@ -274,17 +360,105 @@ fn step<S: Source, W: Sink>(
     ensures writes { (W.device out.new).failures
         ≡ (W.device out.old).failures + writes_failed result }
 {
-    let Some(next) = next_turn(seats) else {
+    let Some(input) = next_turn(seats) else {
         return Ok(More::Ended(Done::Whole));
     };
-    let input = next.input;
-    let before = next.end(alone);
-    turn(heads, input, before, seats, sources, windows, written, out)?;
-    if some_left(seats, input) {
-        return Ok(More::Again);
-    }
-    close(seats, *written, out)?;
-    Ok(More::Ended(Done::Whole))
+    step(heads, input, 0, seats, sources, windows, written, out)
+}
+
+/// The run of the input whose turn it is, over what a merge works on: the order tells the input and how long it goes on, and then
+/// takes it in again.
+#[inline(always)]
+fn run_next<S: Source, W: Sink>(
+    heads: &[Head],
+    order: &mut Order,
+    seats: &mut [Seat],
+    sources: &mut [S],
+    windows: &mut Windows<'_>,
+    written: &mut Option<u64>,
+    out: &mut W,
+) -> Result<More, Stop>
+    requires reads { All (λ s. S.failures s < 2 ^ 64 - 1) sources.old }
+    requires out_failures { (W.device out.old).failures < 2 ^ 64 - 1 }
+    requires ready { IsReady
+        (record {
+          heads = heads.now;
+          seats = seats.old;
+          written = written.old;
+          sources = sources.old;
+          chunks = windows.old.chunks.now;
+          tokens = windows.old.tokens.now;
+          values = windows.old.values.now;
+        }) }
+    requires few { length seats.old ≤ 64 }
+    requires order { IsOrder seats.old (length seats.old) (length seats.old)
+        order.old.inputs order.old.len }
+    ensures runs { (hs : List Header) (lanes : List Lane) (ds : List Dump)
+        → Holds S.rest hs lanes ds
+        (record {
+          heads = heads.now;
+          seats = seats.old;
+          written = written.old;
+          sources = sources.old;
+          chunks = windows.old.chunks.now;
+          tokens = windows.old.tokens.now;
+          values = windows.old.values.now;
+        })
+        → RunGives S.rest S.failures hs lanes false ds
+        (record {
+          heads = heads.now;
+          seats = seats.old;
+          written = written.old;
+          sources = sources.old;
+          chunks = windows.old.chunks.now;
+          tokens = windows.old.tokens.now;
+          values = windows.old.values.now;
+        })
+        (record {
+          heads = heads.now;
+          seats = seats.new;
+          written = written.new;
+          sources = sources.new;
+          chunks = windows.new.chunks.now;
+          tokens = windows.new.tokens.now;
+          values = windows.new.values.now;
+        })
+        (W.device out.old) (W.device out.new) result }
+    ensures ready { result ≡ Ok More.Again
+        → IsReady (record {
+          heads = heads.now;
+          seats = seats.new;
+          written = written.new;
+          sources = sources.new;
+          chunks = windows.new.chunks.now;
+          tokens = windows.new.tokens.now;
+          values = windows.new.values.now;
+        }) }
+    ensures order { IsOrder seats.new (length seats.new) (length seats.new)
+        order.new.inputs order.new.len }
+    ensures lengths { (length seats.new ≡ length seats.old) × SameLengths windows.old windows.new }
+    ensures reads { (k : ℕ) × IsNext seats.old k
+        × (map S.failures sources.new ≡ failures_with (map S.failures sources.old) k result)
+        × NamesInput k result }
+    ensures left { result ≡ Ok More.Again → left_of seats.new < left_of seats.old }
+    ensures writes { (W.device out.new).failures
+        ≡ (W.device out.old).failures + writes_failed result }
+{
+    let Some(next) = order.take_next(seats) else {
+        return Ok(More::Ended(Done::Whole));
+    };
+    let answer = step(
+        heads,
+        next.input,
+        next.before,
+        seats,
+        sources,
+        windows,
+        written,
+        out,
+    );
+    order.put(next.input, seats);
+    answer
 }
 
 /// Takes the next item of the input whose turn it is, and writes what is due after it; at the end of all inputs, what is due
@@ -329,9 +503,8 @@ pub fn merge_step<S: Source, W: Sink>(
         ≡ (W.device out.old).failures + writes_failed result }
     ensures going { is_going merge.new ≡ goes_on result }
 {
-    let answer = step(
+    let answer = step_alone(
         merge.heads,
-        true,
         merge.seats,
         sources,
         windows,
@@ -346,6 +519,7 @@ pub fn merge_step<S: Source, W: Sink>(
 #[inline(always)]
 fn run_step<S: Source, W: Sink>(
     merge: &mut Merge<'_, '_>,
+    order: &mut Order,
     sources: &mut [S],
     windows: &mut Windows<'_>,
     out: &mut W,
@@ -354,6 +528,8 @@ fn run_step<S: Source, W: Sink>(
     requires out_failures { (W.device out.old).failures < 2 ^ 64 - 1 }
     requires going { is_going merge.old ≡ true }
     requires ready { IsReady (standing_of merge.old sources.old windows.old) }
+    requires order { IsOrder merge.old.seats.now (length merge.old.seats.now)
+        (length merge.old.seats.now) order.old.inputs order.old.len }
     requires bound { MergeIsWithinBound
         (part_len (length merge.old.seats.now) windows.old.tokens.now) merge.old.heads.now
         (windows_size windows.old) 0 }
@@ -365,6 +541,8 @@ fn run_step<S: Source, W: Sink>(
         (W.device out.old) (W.device out.new) result }
     ensures ready { result ≡ Ok More.Again
         → IsReady (standing_of merge.new sources.new windows.new) }
+    ensures order { IsOrder merge.new.seats.now (length merge.new.seats.now)
+        (length merge.new.seats.now) order.new.inputs order.new.len }
     ensures lengths { (length merge.new.seats.now ≡ length merge.old.seats.now)
         × SameLengths windows.old windows.new }
     ensures heads { merge.new.heads.now ≡ merge.old.heads.now }
@@ -377,9 +555,9 @@ fn run_step<S: Source, W: Sink>(
         ≡ (W.device out.old).failures + writes_failed result }
     ensures going { is_going merge.new ≡ goes_on result }
 {
-    let answer = step(
+    let answer = run_next(
         merge.heads,
-        false,
+        order,
         merge.seats,
         sources,
         windows,
@@ -388,6 +566,17 @@ fn run_step<S: Source, W: Sink>(
     );
     merge.going = matches!(answer, Ok(More::Again));
     answer
+}
+
+/// The order of these inputs, whose seats stay as they are.
+// They come as a `&mut`: of what a shared borrow of a field reads a proof learns nothing.
+fn order_of(seats: &mut [Seat]) -> Order
+    requires { length seats.old ≤ 64 }
+    ensures order { IsOrder seats.old (length seats.old) (length seats.old)
+        result.inputs result.len }
+    ensures stay { seats.new ≡ seats.old }
+{
+    Order::of(seats)
 }
 
 impl<'h, 's> Merge<'h, 's> {
@@ -425,8 +614,9 @@ impl<'h, 's> Merge<'h, 's> {
             ≡ (W.device out.old).failures + writes_failed result }
         ensures over { is_going self.new ≡ false }
     {
+        let mut order = order_of(self.seats);
         'items: loop {
-            match run_step(self, sources, windows, out)? {
+            match run_step(self, &mut order, sources, windows, out)? {
                 More::Again => {}
                 More::Ended(done) => return Ok(done),
             }

@@ -12,7 +12,7 @@ ghost use Rattle.vcd_tools.specs.MergeStep.{failures_with};
 ghost use Rattle.vcd_tools.specs.Seat.{Lane};
 
 use crate::answer::{Done, Stop};
-use crate::merge_steps::Merge;
+use crate::merge_state::Merge;
 use crate::seat::Seat;
 use crate::windows::Windows;
 use vcd_head::Head;

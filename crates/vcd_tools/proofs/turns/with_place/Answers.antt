@@ -1,4 +1,4 @@
-use Rattle.std.proofs.Common.{subst, arith}
+use Rattle.std.proofs.Common.{subst}
 use Rattle.std.proofs.lemmas.Option.{slice_get-get_or}
 use Rattle.vcd_tools.specs.MergeTurns.{IsFoundAmong}
 use Rattle.vcd_tools.proofs.MergeTurns.{with_finished, with_later, with_less, with_only}
@@ -11,7 +11,7 @@ pub returns-then-time-turn : goal.returns-then-time-turn
 returns-then-time-turn c = with_less c.args.seats.now c.args.place _ (slice_get-get_or c.args.seats.now c.args.place _ c.requires.place) c.in-Some.turn c.if-seat.false c.if-time-turn.true (subst (IsFoundAmong c.args.seats.now c.args.place) c.in-Some.is c.requires.found)
 
 pub returns : goal.returns
-returns c = with_later c.args.seats.now c.args.place _ (slice_get-get_or c.args.seats.now c.args.place _ c.requires.place) c.in-Some.turn c.min.result c.if-time-turn.false (λ t h. (omega (arith, h, c.min.ensures), omega (arith, h, c.min.ensures, c.saturating_add.ensures))) (subst (IsFoundAmong c.args.seats.now c.args.place) c.in-Some.is c.requires.found)
+returns c = with_later c.args.seats.now c.args.place _ (slice_get-get_or c.args.seats.now c.args.place _ c.requires.place) c.in-Some.turn c.if-time-turn.false (subst (IsFoundAmong c.args.seats.now c.args.place) c.in-Some.is c.requires.found)
 
 pub returns-in_default : goal.returns-in_default
-returns-in_default c = with_only c.args.seats.now c.args.place _ (slice_get-get_or c.args.seats.now c.args.place _ c.requires.place) _ c.if-seat.false (subst (IsFoundAmong c.args.seats.now c.args.place) c.in_default.is c.requires.found)
+returns-in_default c = with_only c.args.seats.now c.args.place _ (slice_get-get_or c.args.seats.now c.args.place _ c.requires.place) c.if-seat.false (subst (IsFoundAmong c.args.seats.now c.args.place) c.in_default.is c.requires.found)

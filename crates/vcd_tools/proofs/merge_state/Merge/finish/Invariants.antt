@@ -4,14 +4,16 @@ use Rattle.vcd_model.specs.Merge.{Dump, merge_open, merged_items}
 use Rattle.vcd_text.specs.Device.{Device, Writes, supply}
 use Rattle.vcd_tools.specs.MergeParts.{SameLengths, part_len}
 use Rattle.vcd_tools.specs.MergeStep.{Holds, IsReady, is_going, standing_of, left_of}
+use Rattle.vcd_tools.specs.Order.{IsOrder}
 use Rattle.vcd_tools.specs.Seat.{Lane}
 use Rattle.vcd_tools.proofs.MergeReads.{AreReadSoFar}
-use Rattle.vcd_tools.proofs.merge_steps.Merge.finish.Given as goal
+use Rattle.vcd_tools.proofs.merge_state.Merge.finish.Given as goal
 
 abbrev pub invariant-items : goal.invariant-items
 invariant-items g l = record {
   going : is_going l.self ≡ true;
   ready : IsReady (standing_of l.self l.sources l.windows);
+  order : IsOrder l.self.seats.now (length l.self.seats.now) (length l.self.seats.now) l.order.inputs l.order.len;
   reads : map g.S.Source.failures l.sources ≡ map g.S.Source.failures l.fn.sources;
   writes : (g.W.Sink.device l.out).failures ≡ (g.W.Sink.device l.fn.out).failures;
   seats : length l.self.seats.now ≡ length l.fn.self.seats.now;

@@ -14,7 +14,7 @@ use Rattle.vcd_tools.specs.declared.windows.Windows.{Windows}
 use Rattle.vcd_tools.proofs.MergeRuns.{advances_on, ended_merge, keeps_limit, long, reads_on, same_failures, still_low, stopped_merge}
 use Rattle.vcd_tools.proofs.MergeRoomLemmas.{still_within}
 use Rattle.vcd_tools.proofs.MergeRunOn.{mid_chunk, mid_counts, mid_limit, mid_next, mid_read, mid_writes}
-use Rattle.vcd_tools.proofs.merge_steps.Merge.finish.Goals as goal
+use Rattle.vcd_tools.proofs.merge_state.Merge.finish.Goals as goal
 
 same_twice : (a b c : Windows) → SameLengths a b → SameLengths b c → SameLengths a c
 same_twice a b c p q = record { chunks = q.chunks ∙ p.chunks; tokens = q.tokens ∙ p.tokens; values = q.values ∙ p.values }
@@ -50,6 +50,7 @@ items-preserved g c =
     let counts = st.reads.2 ∙ ap (λ (r : Result More Stop). failures_with (map g.S.Source.failures c.items.sources) st.reads.0 r) again in record {
       going = st.going ∙ ap goes_on again;
       ready = st.ready again;
+      order = st.order;
       reads = same_failures (map g.S.Source.failures c.items.sources) _ st.reads.0 (Ok c.in_ok-run_step.field-0) again st.reads.2 ∙ v.reads;
       writes = st.writes ∙ ap (λ (r : Result More Stop). (g.W.Sink.device c.items.out).failures + writes_failed r) again ∙ add-zero _ ∙ v.writes;
       seats = st.lengths.0 ∙ v.seats;

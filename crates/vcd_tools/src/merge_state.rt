@@ -1,0 +1,16 @@
+//! A merge that goes on.
+ghost use Rattle.std.specs.Prelude.{◌≤◌, length};
+
+use crate::seat::Seat;
+use vcd_head::Head;
+
+/// A merge that goes on.
+#[derive(Drop)]
+pub struct Merge<'h, 's> {
+    pub(crate) heads: &'h [Head],
+    pub(crate) seats: &'s mut [Seat],
+    /// The time whose line was written last.
+    pub(crate) written: Option<u64>,
+    pub(crate) going: bool,
+    pub(crate) ghost few: { length seats.now ≤ 64 },
+}
