@@ -1,5 +1,6 @@
 -- What a merge writes of one item.
-use Rattle.std.proofs.Common.{◌≡◌, ℕ, ◌+◌, ◌^◌, ◌<◌, List, length, slice_get, Option, None, Some, IfSome, is_some, refl, sym, ap, ◌∙◌, arith}
+use Rattle.std.proofs.Common.{◌≡◌, ◌≢◌, ℕ, ◌+◌, ◌^◌, ◌<◌, Bool, true, false, List, length, slice_get, Option, None, Some, IfSome, is_some, refl, sym, ap, ◌∙◌, arith}
+use Rattle.std.specs.Prelude.{nat_le}
 use Rattle.std.proofs.lemmas.Option.{slice_get_within}
 use Rattle.vcd_model.specs.Declarations.{IdCode}
 use Rattle.vcd_model.specs.Header.{Header}
@@ -7,6 +8,7 @@ use Rattle.vcd_model.specs.HeadText.{new_code, code_place}
 use Rattle.vcd_model.specs.Items.{BodyItem, ChangeForm, leaves_open, time_after}
 use Rattle.vcd_model.specs.Values.{change_line}
 use Rattle.vcd_model.proofs.ItemStates.{leaves_open_is}
+use Rattle.vcd_head.specs.Entries.{most_of}
 use Rattle.vcd_head.specs.Shown.{HeadShown}
 use Rattle.vcd_head.specs.declared.view.Code.{Code}
 use Rattle.vcd_head.proofs.RowLemmas.{code_at}
@@ -52,3 +54,12 @@ number_fits h place c at first few = let w = slice_get_within h.codes place c at
 pub known_digits : (i : Item) (text : List ℕ) (bits : Option Bits) → HasBits i text bits → IfSome bits (λ b. text ≡ binary_digits b.len b.number)
 known_digits i text None h = tt
 known_digits i text (Some b) h = h.2
+
+-- the size that a look-up told, where it is one
+pub sized_is : (y : Code) (most : ℕ) → most ≡ most_of y → most ≢ 0 → (y.event ≡ false) × (y.size ≡ most)
+sized_is y most is some = by_parts y.event (nat_le (2 ^ 32) y.size) refl refl
+  where
+    by_parts : (e b : Bool) → y.event ≡ e → nat_le (2 ^ 32) y.size ≡ b → (y.event ≡ false) × (y.size ≡ most)
+    by_parts true b h g = absurd (some (is ∙ rw h refl))
+    by_parts false true h g = absurd (some (is ∙ rw (h, g) refl))
+    by_parts false false h g = (h, sym (is ∙ rw (h, g) refl))

@@ -1,5 +1,5 @@
 //! The steps of one input of a merge, over its source and its windows alone.
-ghost use Rattle.std.specs.Prelude.{◌≡◌, ◌≢◌, ℕ, ◌+◌, ◌-◌, ◌*◌, ◌^◌, ◌<◌, ◌≤◌, ◌++◌, ◌∷◌, [], List, Some, length, IfOk, IfSome, IfNone, MatchBool, MatchResult, Ok, true, false, is_some, ◌&&◌};
+ghost use Rattle.std.specs.Prelude.{◌≡◌, ◌≢◌, ℕ, ◌+◌, ◌-◌, ◌*◌, ◌^◌, ◌<◌, ◌≤◌, ◌++◌, ◌∷◌, [], List, Some, length, option_map, slice_get, IfOk, IfSome, IfNone, MatchBool, MatchResult, Ok, true, false, is_some, ◌&&◌};
 ghost use Rattle.vcd_model.specs.Header.{Header};
 ghost use Rattle.vcd_model.specs.Items.{BodyItem, time_after};
 ghost use Rattle.vcd_model.specs.Declarations.{IdCode};
@@ -9,12 +9,14 @@ ghost use Rattle.vcd_model.specs.MergeByInput.{due_with, entry_for, written_with
 ghost use Rattle.vcd_text.specs.Device.{Counts, Takes, failures_after};
 ghost use Rattle.vcd_text.specs.Feed.{SameLoans, source_of, parked_of, seen, limit_of, chunk_len_of, parked_seen};
 ghost use Rattle.vcd_text.specs.Registers.{Fits};
+ghost use Rattle.vcd_head.specs.Finds.{IsSized};
 ghost use Rattle.vcd_head.specs.Shown.{parts};
 ghost use Rattle.vcd_head.specs.Views.{IsViewOf};
+ghost use Rattle.vcd_head.specs.declared.view.Code.{Code};
 ghost use Rattle.vcd_text.specs.Advances.{Advances, CallEnd, HasNotFailed};
 ghost use Rattle.vcd_text.specs.Ahead.{bytes_of, longest_of, passed_of};
 ghost use Rattle.vcd_text.specs.Passed.{Passed};
-ghost use Rattle.vcd_body.specs.Ahead.{HasBits};
+ghost use Rattle.vcd_body.specs.Ahead.{HasBits, IsSizedItem};
 ghost use Rattle.vcd_body.specs.Given.{HasGoodText, IsItem};
 ghost use Rattle.vcd_body.specs.Items.{AreRegsAfter, regs_after};
 ghost use Rattle.vcd_body.specs.declared.item.Regs.{Regs};
@@ -34,6 +36,33 @@ use vcd_body::{
 use vcd_head::HeadView;
 use vcd_text::{Ahead, Feed, Sink, Source, WriteFailed};
 
+/// What a code is of, as a change is written.
+#[derive(Clone, Copy)]
+struct Kind {
+    size: usize,
+    event: bool,
+}
+
+/// What the code at a place is of. Where its size is known, the codes are not looked at: then it is no event.
+#[inline(always)]
+fn kind_at(view: HeadView<'_>, place: usize, most: usize) -> Option<Kind>
+    requires { most ≢ 0 → IsSized view.codes.now (record { place = place; most = most }) }
+    ensures { result ≡ option_map (λ (c : Code). record { size = c.size; event = c.event })
+        (slice_get view.entry.codes.now place) }
+{
+    if most != 0 {
+        return Some(Kind {
+            size: most,
+            event: false,
+        });
+    }
+    let code = view.code_at(place)?;
+    Some(Kind {
+        size: code.size,
+        event: code.event,
+    })
+}
+
 /// An event inside a section is not written.
 #[inline(always)]
 fn is_left_out(event: bool, seat: &Seat) -> bool
@@ -42,12 +71,13 @@ fn is_left_out(event: bool, seat: &Seat) -> bool
     event && seat.regs.section.is_some()
 }
 
-/// Writes a change with this text, whose digits may be known as a number, under its new code, after the line of its time. An event
-/// inside a section is left out.
+/// Writes a change with this text, whose digits may be known as a number, under its new code, after the line of its time. The
+/// code's size may be known; 0 says nothing. An event inside a section is left out.
 #[inline(always)]
 fn put_change_at<W: Sink>(
     view: HeadView<'_>,
     code: usize,
+    most: usize,
     form: Form,
     text: &[u8],
     bits: Option<Bits>,
@@ -57,6 +87,7 @@ fn put_change_at<W: Sink>(
 ) -> Result<(), WriteFailed>
     requires failures { (W.device out.old).failures < 2 ^ 64 - 1 }
     requires sound { HasGoodText view.codes.now text.now (Item.Change code form) }
+    requires sized { most ≢ 0 → IsSized view.codes.now (record { place = code; most = most }) }
     requires bits { HasBits (Item.Change code form) text.now bits }
     ensures takes { (scale first : ℕ) (h : Header) (items : List BodyItem) (x : BodyItem)
         → IsViewOf view.entry h → AreRegsAfter items seat.now.regs
@@ -68,23 +99,24 @@ fn put_change_at<W: Sink>(
         ≡ written_with written.old (entry_for scale first h items x)) }
     ensures counts { Counts (W.device out.old) (W.device out.new) result }
 {
-    let Some(declared) = view.code_at(code) else {
+    let Some(kind) = kind_at(view, code, most) else {
         return Ok(());
     };
-    if is_left_out(declared.event, seat) {
+    if is_left_out(kind.event, seat) {
         return Ok(());
     }
     put_time_unless(*written, seat.time, out)?;
     *written = Some(seat.time);
     let number = seat.first.saturating_add(code as u64);
-    put_renamed_bits(declared.size, declared.event, form, text, bits, number, out)
+    put_renamed_bits(kind.size, kind.event, form, text, bits, number, out)
 }
 
-/// Writes what is due with an item of this text; a change alone has something.
+/// Writes what is due with an item that lies ahead; a change alone has something.
 #[inline(always)]
 fn put_item_at<W: Sink>(
     view: HeadView<'_>,
     item: Item,
+    most: usize,
     text: &[u8],
     bits: Option<Bits>,
     seat: &Seat,
@@ -93,6 +125,7 @@ fn put_item_at<W: Sink>(
 ) -> Result<(), WriteFailed>
     requires failures { (W.device out.old).failures < 2 ^ 64 - 1 }
     requires sound { HasGoodText view.codes.now text.now item }
+    requires sized { IsSizedItem view.codes.now item most }
     requires bits { HasBits item text.now bits }
     ensures takes { (scale first : ℕ) (h : Header) (items : List BodyItem) (x : BodyItem)
         → IsViewOf view.entry h → AreRegsAfter items seat.now.regs
@@ -106,7 +139,7 @@ fn put_item_at<W: Sink>(
 {
     match item {
         Item::Change { code, form } => {
-            put_change_at(view, code, form, text, bits, seat, written, out)
+            put_change_at(view, code, most, form, text, bits, seat, written, out)
         },
         Item::Time(_) | Item::Begin(_) | Item::End | Item::Finish => Ok(()),
     }
@@ -210,6 +243,7 @@ fn items_ahead<W: Sink>(
         let put = put_item_at(
             view,
             plain.item,
+            plain.most,
             plain.text,
             plain.bits,
             &seat,
@@ -305,6 +339,7 @@ fn take_item<S: Source, W: Sink>(
             put_change_at(
                 view,
                 code,
+                0,
                 form,
                 change_text(feed, form),
                 None,
