@@ -201,7 +201,7 @@ pub(crate) fn put_real<W: Sink>(w: &mut W, text: &[u8], id: &[u8]) -> Result<(),
 
 // The shortest digits that extend to the same value, where the number of all of them is known.
 #[inline(always)]
-fn shortest_known(digits: &[u8], bits: Bits) -> &[u8]
+pub(crate) fn shortest_known(digits: &[u8], bits: Bits) -> &[u8]
     requires { digits.now ≡ binary_digits bits.len bits.number }
     ensures { (size : ℕ) → result.now ≡ short (extend (str_to_ascii_lowercase digits.now) size) }
 {
@@ -209,25 +209,17 @@ fn shortest_known(digits: &[u8], bits: Bits) -> &[u8]
     &digits[digits.len() - needed..]
 }
 
-// Writes a `b` and the shortest digits of the same value. Where the number of the digits is known, none of them is looked at.
+// Writes a `b` and the shortest digits of the same value.
 #[inline(always)]
-pub(crate) fn put_shortest<W: Sink>(
-    w: &mut W,
-    digits: &[u8],
-    bits: Option<Bits>,
-) -> Result<(), WriteFailed>
+pub(crate) fn put_shortest<W: Sink>(w: &mut W, digits: &[u8]) -> Result<(), WriteFailed>
     requires failures { (W.device w.old).failures < 2 ^ 64 - 1 }
     requires digits { 0 < length digits.now }
-    requires bits { IfSome bits (λ b. digits.now ≡ binary_digits b.len b.number) }
     ensures takes { (size : ℕ) → Takes (W.device w.old) (W.device w.new)
         (98 ∷ short (extend (str_to_ascii_lowercase digits.now) size)) result }
     ensures counts { Counts (W.device w.old) (W.device w.new) result }
 {
     put(w, b"b")?;
-    match bits {
-        Some(bits) => put(w, shortest_known(digits, bits)),
-        None => put_lower(w, shortest(digits)),
-    }
+    put_lower(w, shortest(digits))
 }
 
 // Writes a change of digits after `b`, the shortest ones.
@@ -240,7 +232,7 @@ fn put_vector<W: Sink>(w: &mut W, digits: &[u8], id: &[u8]) -> Result<(), WriteF
         ++ (32 ∷ id.now ++ 10 ∷ [])) result }
     ensures counts { Counts (W.device w.old) (W.device w.new) result }
 {
-    put_shortest(w, digits, None)?;
+    put_shortest(w, digits)?;
     put_end(w, b' ', id)
 }
 

@@ -8,7 +8,7 @@ ghost use Rattle.vcd_body.specs.Binary.{binary_digits};
 ghost use Rattle.vcd_body.specs.Items.{model_form};
 
 use crate::bits::Bits;
-use crate::change::{is_bit, put_change, put_shortest};
+use crate::change::{is_bit, put_change, put_shortest, shortest_known};
 use crate::item::Form;
 use vcd_head::{NewCode, put_code};
 use vcd_text::{Sink, WriteFailed, put};
@@ -33,6 +33,41 @@ fn put_long_line<W: Sink>(first: u8, number: u64, w: &mut W) -> Result<(), Write
     put(w, b"\n")
 }
 
+/// Writes a byte, a code of one byte and a line feed.
+// One function for each length: so no line is made ready that is not written.
+#[inline(always)]
+fn put_one<W: Sink>(first: u8, low: u8, w: &mut W) -> Result<(), WriteFailed>
+    requires { (W.device w.old).failures < 2 ^ 64 - 1 }
+    ensures { Puts (W.device w.old) (W.device w.new) (first ∷ low ∷ 10 ∷ []) result }
+{
+    put(w, &[first, low, b'\n'])
+}
+
+/// The same of a code of two bytes.
+#[inline(always)]
+fn put_two<W: Sink>(first: u8, low: u8, high: u8, w: &mut W) -> Result<(), WriteFailed>
+    requires { (W.device w.old).failures < 2 ^ 64 - 1 }
+    ensures { Puts (W.device w.old) (W.device w.new) (first ∷ low ∷ high ∷ 10 ∷ []) result }
+{
+    put(w, &[first, low, high, b'\n'])
+}
+
+/// The same of a code of three bytes.
+#[inline(always)]
+fn put_three<W: Sink>(
+    first: u8,
+    low: u8,
+    middle: u8,
+    high: u8,
+    w: &mut W,
+) -> Result<(), WriteFailed>
+    requires { (W.device w.old).failures < 2 ^ 64 - 1 }
+    ensures { Puts (W.device w.old) (W.device w.new)
+        (first ∷ low ∷ middle ∷ high ∷ 10 ∷ []) result }
+{
+    put(w, &[first, low, middle, high, b'\n'])
+}
+
 /// Writes a byte, the code of a number and a line feed. A code of up to three bytes, as most are, is written by one write of a
 /// known length.
 #[inline(always)]
@@ -40,25 +75,52 @@ fn put_code_line<W: Sink>(first: u8, number: u64, w: &mut W) -> Result<(), Write
     requires { (W.device w.old).failures < 2 ^ 64 - 1 }
     ensures { Puts (W.device w.old) (W.device w.new) (first ∷ new_code number ++ 10 ∷ []) result }
 {
-    let low = digit_of(number);
     if number < 94 {
-        return put(w, &[first, low, b'\n']);
+        return put_one(first, number as u8 + 33, w);
     }
+    let low = digit_of(number);
     let rest = number / 94;
     let middle = digit_of(rest);
     if rest < 94 {
-        return put(w, &[first, low, middle, b'\n']);
+        return put_two(first, low, middle, w);
     }
     let high = rest / 94;
     if high < 94 {
-        return put(w, &[first, low, middle, digit_of(high), b'\n']);
+        return put_three(first, low, middle, digit_of(high), w);
     }
     put_long_line(first, number, w)
 }
 
 /// Writes a change of digits after `b`, the shortest ones, under the new code of this number.
 #[inline(never)]
-fn put_renamed_vector<W: Sink>(
+fn put_renamed_vector<W: Sink>(digits: &[u8], number: u64, w: &mut W) -> Result<(), WriteFailed>
+    requires failures { (W.device w.old).failures < 2 ^ 64 - 1 }
+    requires digits { 0 < length digits.now }
+    ensures takes { (size : ℕ) → Takes (W.device w.old) (W.device w.new)
+        (98 ∷ short (extend (str_to_ascii_lowercase digits.now) size)
+        ++ (32 ∷ new_code number ++ 10 ∷ [])) result }
+    ensures counts { Counts (W.device w.old) (W.device w.new) result }
+{
+    put_shortest(w, digits)?;
+    put_code_line(b' ', number, w)
+}
+
+/// Writes a change of these digits after `b`, as they are, under the new code of this number.
+#[inline(never)]
+fn put_short_vector<W: Sink>(digits: &[u8], number: u64, w: &mut W) -> Result<(), WriteFailed>
+    requires { (W.device w.old).failures < 2 ^ 64 - 1 }
+    ensures { Puts (W.device w.old) (W.device w.new)
+        (98 ∷ digits.now ++ (32 ∷ new_code number ++ 10 ∷ [])) result }
+{
+    put(w, b"b")?;
+    put(w, digits)?;
+    put_code_line(b' ', number, w)
+}
+
+/// Writes a change of digits after `b`, the shortest ones. Where their number is known, none of them is looked at.
+// What is called is given no bits, so that these stay out of memory.
+#[inline(always)]
+fn put_vector_bits<W: Sink>(
     digits: &[u8],
     bits: Option<Bits>,
     number: u64,
@@ -72,8 +134,10 @@ fn put_renamed_vector<W: Sink>(
         ++ (32 ∷ new_code number ++ 10 ∷ [])) result }
     ensures counts { Counts (W.device w.old) (W.device w.new) result }
 {
-    put_shortest(w, digits, bits)?;
-    put_code_line(b' ', number, w)
+    match bits {
+        Some(bits) => put_short_vector(shortest_known(digits, bits), number, w),
+        None => put_renamed_vector(digits, number, w),
+    }
 }
 
 /// A change of digits of a code that has several bits, as most that are of no bit are. One branch tells.
@@ -153,7 +217,7 @@ pub fn put_renamed_bits<W: Sink>(
         [digit] if is_bit(size, event, form) => {
             put_code_line(digit.to_ascii_lowercase(), number, w)
         }
-        _ if is_vector(size, event, form) => put_renamed_vector(text, bits, number, w),
+        _ if is_vector(size, event, form) => put_vector_bits(text, bits, number, w),
         _ => put_any(size, event, form, text, number, w),
     }
 }

@@ -11,15 +11,8 @@ returns-in_err-put-clause-takes g c size =
     let p = err_from_is_err_and c.from_residual.result c.from_residual.ensures.1 in
     rw p.1 (appends-first _ _ (98 ∷ []) (short (extend (str_to_ascii_lowercase c.args.digits.now) size)) c.in_err-put.ensures.0)
 
-pub returns-in-Some-clause-takes : goal.returns-in-Some-clause-takes
-returns-in-Some-clause-takes g c size =
-    let digits = short (extend (str_to_ascii_lowercase c.args.digits.now) size) in
-    let result = c.put-in-Some.result in
-    let rest = subst (λ l. Takes (g.W.Sink.device c.put.new.w) (g.W.Sink.device c.put-in-Some.new.w) l result) (c.shortest_known.ensures size) c.put-in-Some.ensures.0 in
-    takes-twice _ _ _ (98 ∷ []) digits result c.in_ok-put.ensures.0 rest
-
-pub returns-in-None-clause-takes : goal.returns-in-None-clause-takes
-returns-in-None-clause-takes g c size =
+pub returns-clause-takes : goal.returns-clause-takes
+returns-clause-takes g c size =
     let digits = short (extend (str_to_ascii_lowercase c.args.digits.now) size) in
     let result = c.put_lower.result in
     let rest = subst (λ l. Takes (g.W.Sink.device c.put.new.w) (g.W.Sink.device c.put_lower.new.w) l result) (c.shortest.ensures size) c.put_lower.ensures.0 in

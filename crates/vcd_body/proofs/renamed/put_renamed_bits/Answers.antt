@@ -16,4 +16,4 @@ pub returns-in_default : goal.returns-in_default
 returns-in_default g c =
     let (size, event, form) = c.is_vector.ensures c.if-is_vector.true in
     let line = vector_line c.args.text.now (new_code c.args.number) c.args.size c.args.event c.args.form size event form in
-    subst (λ l. Puts (g.W.Sink.device c.args.w.now) (g.W.Sink.device c.put_renamed_vector.new.w) l c.put_renamed_vector.result) (sym line) (c.put_renamed_vector.ensures.takes c.args.size, c.put_renamed_vector.ensures.counts)
+    subst (λ l. Puts (g.W.Sink.device c.args.w.now) (g.W.Sink.device c.put_vector_bits.new.w) l c.put_vector_bits.result) (sym line) (c.put_vector_bits.ensures.takes c.args.size, c.put_vector_bits.ensures.counts)
