@@ -1,13 +1,13 @@
 -- Inputs in the order of their turns.
-use Rattle.std.proofs.Common.{◌≡◌, ◌≢◌, ℕ, ◌+◌, ◌-◌, ◌<◌, ◌≤◌, ◌⊎◌, Bool, true, false, List, length, slice_get, Some, refl, sym, ap, ◌∙◌, subst, arith, inl, inr}
+use Rattle.std.proofs.Common.{◌≡◌, ◌≢◌, ℕ, ◌+◌, ◌-◌, ◌<◌, ◌≤◌, ◌⊎◌, Bool, true, false, List, length, slice_get, Some, take, drop, length-append, length-drop, refl, sym, ap, ◌∙◌, subst, arith, inl, inr}
 use Rattle.std.specs.Prelude.{All, get_or, slice_set}
-use Rattle.std.specs.List.{CopiedTo, SameBelow, SameFrom}
 use Rattle.std.proofs.lemmas.Bool.{cases_lt}
-use Rattle.std.proofs.lemmas.List.{get_or-map, get_or-set_other, get_or-set_same}
+use Rattle.std.proofs.lemmas.List.{get_or-append-add, get_or-drop, get_or-map, get_or-take, get_or_append_left, length-take-le, get_or-set_other, get_or-set_same}
 use Rattle.std.proofs.lemmas.Option.{get_or_from_slice_get, slice_get-get_or, slice_get_within}
 use Rattle.vcd_tools.specs.MergeOrder.{IsNext}
 use Rattle.vcd_tools.specs.Order.{AreInOrder, ComesBefore, IsFirstBefore, IsOrder, Waits, time_of}
 use Rattle.vcd_tools.specs.declared.seat.Seat.{Seat}
+use borrow.Rule.Slice.PartMut.{put_mid}
 
 pub before_both : (a i b j c k : ℕ) → ComesBefore a i b j → ComesBefore b j c k → ComesBefore a i c k
 before_both a i b j c k (inl l) (inl m) = inl (omega arith)
@@ -191,12 +191,45 @@ pub record MovesUp (xs ys : List ℕ) (at len k : ℕ) : Type 0 where
   pub here : get_or ys at 0 ≡ k
   pub above : (p : ℕ) → at ≤ p → p < len → get_or ys (p + 1) 0 ≡ get_or xs p 0
 
-pub moved_up : (xs ys : List ℕ) (at len k : ℕ) → at ≤ len → length ys ≡ length xs → len < length xs → CopiedTo xs ys at (at + 1) (len - at) × SameBelow xs ys (at + 1) × SameFrom xs ys (at + 1 + (len - at)) → MovesUp xs (slice_set ys at k) at len k
-moved_up xs ys at len k most long room (copied, below, from) = record {
-  below = λ p l. get_or-set_other ys at p k 0 (λ e. omega (arith, l, e)) ∙ below p 0 (omega (arith, l));
-  here = get_or-set_same ys at k 0 (omega (arith, most, long, room));
-  above = λ p l w. get_or-set_other ys at (p + 1) k 0 (λ e. omega (arith, l, e)) ∙ copied (p + 1) 0 (omega (arith, l)) (omega (arith, w, most)) ∙ ap (λ (q : ℕ). get_or xs q 0) (omega (arith, l));
-}
+module _ (xs zs : List ℕ) (at len : ℕ) (most : at ≤ len) (room : len < length xs) (is : zs ≡ take (len - at) (drop at xs)) where
+  moved : List ℕ
+  moved = put_mid (at + 1) (len + 1 - (at + 1)) xs zs
+
+  front : length (take (at + 1) xs) ≡ at + 1
+  front = length-take-le (at + 1) xs (omega arith)
+
+  many : length zs ≡ len - at
+  many = ap (λ (l : List ℕ). length l) is ∙ length-take-le (len - at) (drop at xs) (let e = length-drop at xs in omega (arith, e, room))
+
+  moved_below : (p : ℕ) → p < at + 1 → get_or moved p 0 ≡ get_or xs p 0
+  unfolding moved
+  moved_below p l = get_or_append_left (take (at + 1) xs) _ 0 p (omega (arith, l, front)) ∙ get_or-take (at + 1) xs p 0 l
+
+  moved_above : (p : ℕ) → at ≤ p → p < len → get_or moved (p + 1) 0 ≡ get_or xs p 0
+  unfolding moved
+  moved_above p l w =
+      let place : p + 1 ≡ length (take (at + 1) xs) + (p - at) = omega (arith, front, l) in
+      let old : at + (p - at) ≡ p = omega (arith, l) in
+      let less : p - at < len - at = omega (arith, l, w) in
+      ap (λ (n : ℕ). get_or moved n 0) place
+      ∙ get_or-append-add (take (at + 1) xs) _ (p - at) 0
+      ∙ get_or_append_left zs _ 0 (p - at) (omega (arith, less, many))
+      ∙ ap (λ (l : List ℕ). get_or l (p - at) 0) is
+      ∙ get_or-take (len - at) (drop at xs) (p - at) 0 less
+      ∙ get_or-drop at xs (p - at) 0
+      ∙ ap (λ (n : ℕ). get_or xs n 0) old
+
+  moved_long : length moved ≡ length xs
+  unfolding moved
+  moved_long = let rest = length-drop (len + 1 - (at + 1)) (drop (at + 1) xs) in let first = length-drop (at + 1) xs in length-append (take (at + 1) xs) _ ∙ ap (λ (n : ℕ). length (take (at + 1) xs) + n) (length-append zs _) ∙ omega (arith, front, many, rest, first, room, most)
+
+  pub moved_behind : (k : ℕ) → MovesUp xs (slice_set (put_mid (at + 1) (len + 1 - (at + 1)) xs zs) at k) at len k
+  unfolding moved
+  moved_behind k = record {
+    below = λ p l. get_or-set_other moved at p k 0 (λ e. omega (arith, l, e)) ∙ moved_below p (omega (arith, l));
+    here = get_or-set_same moved at k 0 (omega (arith, moved_long, most, room));
+    above = λ p l w. get_or-set_other moved at (p + 1) k 0 (λ e. omega (arith, l, e)) ∙ moved_above p l w;
+  }
 
 -- the time of a seat
 pub time_is : (seats : List Seat) (j : ℕ) (s : Seat) → slice_get seats j ≡ Some s → time_of seats j ≡ s.time

@@ -97,7 +97,8 @@ impl Order {
         ensures one { self.new.len ≡ self.old.len + 1 }
     {
         let place = self.place_for(input, seats);
-        self.inputs.copy_within(place..self.len, place + 1);
+        let old = self.inputs;
+        self.inputs[place + 1..self.len + 1].copy_from_slice(&old[place..self.len]);
         self.inputs[place] = input as u8;
         self.len += 1;
     }
