@@ -1,9 +1,8 @@
 -- The shortest digits of a number that is known.
-use Rattle.std.proofs.Common.{◌≡◌, ℕ, zero, suc, ◌+◌, ◌-◌, ◌/◌, ◌%◌, ◌^◌, ◌<◌, ◌≤◌, max, List, length, drop, take, inl, inr, refl, sym, ap, subst, ◌∙◌, arith}
+use Rattle.std.proofs.Common.{◌≡◌, ℕ, zero, suc, ◌+◌, ◌-◌, ◌/◌, ◌%◌, ◌^◌, ◌<◌, ◌≤◌, max, List, length, drop, inl, inr, refl, sym, ap, subst, ◌∙◌, arith}
 use Rattle.std.proofs.Math.Nat.{div-eq_of_lt-le, pow-le-pow_right, two-pow-succ}
 use Rattle.std.proofs.lemmas.Bool.{cases_lt}
 use Rattle.std.proofs.lemmas.Nat.{leading_top}
-use Rattle.std.proofs.Math.Seq.{take-length}
 use Rattle.std.specs.Int.Count.{count_leading_zeros}
 use Rattle.std.specs.Str.{str_to_ascii_lowercase}
 use Rattle.vcd_model.specs.Values.{extend, short}
@@ -67,16 +66,12 @@ needed_within l n a some few fits e =
           omega (arith, e, two, low_i),
     )
 
--- the end of these digits, as a slice of them tells it
-pub known_short : (l n m size : ℕ) (ds : List ℕ) → ds ≡ binary_digits l n → 1 ≤ m → m ≤ l → n < 2 ^ m → ((j : ℕ) → m ≡ suc (suc j) → 2 ^ suc j ≤ n)
-    → take (length ds - (length ds - m)) (drop (length ds - m) ds) ≡ short (extend (str_to_ascii_lowercase ds) size)
-known_short l n m size ds e some fits few most =
+-- so many at the end of these digits are the shortest of them
+pub needed_short : (l n m size : ℕ) (ds : List ℕ) → ds ≡ binary_digits l n → 1 ≤ m → m ≤ l → n < 2 ^ m → ((j : ℕ) → m ≡ suc (suc j) → 2 ^ suc j ≤ n) → drop (length ds - m) ds ≡ short (extend (str_to_ascii_lowercase ds) size)
+needed_short l n m size ds e some fits few most =
     let c : length ds ≡ l = ap length e ∙ length_binary l n in
     let split : l ≡ (length ds - m) + m = omega (arith, c, fits) in
     let rest : drop (length ds - m) ds ≡ binary_digits m n = ap (drop (length ds - m)) e ∙ drop_binary (length ds - m) l m n split in
-    let count : length ds - (length ds - m) ≡ length (binary_digits m n) = let d = length_binary m n in omega (arith, c, d, fits) in
-    ap (take (length ds - (length ds - m))) rest
-    ∙ ap (λ k. take k (binary_digits m n)) count
-    ∙ take-length (binary_digits m n)
+    rest
     ∙ binary_short l m n size some fits few most
     ∙ ap (λ d. short (extend (str_to_ascii_lowercase d) size)) (sym e)

@@ -244,18 +244,18 @@ text_of bytes from middle letter text t start =
     let rest : from + 1 + n - (from + 1) ≡ n = omega arith in
     ap (drop 1) (t.token_is ∙ ap (λ a. take (middle - 1 - a) (drop a bytes)) start ∙ ap (λ k. take k (drop from bytes)) long) ∙ drop-take 1 n (drop from bytes) ∙ ap (take n) (drop-drop 1 from bytes) ∙ ap (λ k. take k (drop (from + 1) bytes)) (sym rest)
 
-module _ (bytes : List ℕ) (from to first len : ℕ) (text : List ℕ) (e : (((to - (from + 1 + length text) - 2 == len) && (slice_index bytes from == first)) && (slice_index bytes (from + 1 + length text) == 32)) ≡ true) where
+module _ (bytes : List ℕ) (from to first code_at : ℕ) (text : List ℕ) (e : (((from + 1 + length text + 1 == code_at) && (slice_index bytes from == first)) && (slice_index bytes (from + 1 + length text) == 32)) ≡ true) where
   pub text_there : (code : List ℕ) → HasChange bytes from to form.Vector text code → is_white_space first ≡ false → text ≡ slice_range bytes (from + 1) (from + 1 + length text)
   text_there code (letter, middle, t, u) other =
-      let p = and_parts ((to - (from + 1 + length text) - 2 == len) && (slice_index bytes from == first)) (slice_index bytes (from + 1 + length text) == 32) e in
-      let q = and_parts (to - (from + 1 + length text) - 2 == len) (slice_index bytes from == first) p.0 in
+      let p = and_parts ((from + 1 + length text + 1 == code_at) && (slice_index bytes from == first)) (slice_index bytes (from + 1 + length text) == 32) e in
+      let q = and_parts (from + 1 + length text + 1 == code_at) (slice_index bytes from == first) p.0 in
       text_of bytes from middle letter text t (begins_there bytes from t.start first t.before (eqb-true (slice_index bytes from) first q.1) other)
 
-  pub both_line_there : (code : List ℕ) → HasChange bytes from to form.Vector text code → slice_index bytes (to - 1) ≡ 10 → length code ≡ len → slice_range bytes from to ≡ first ∷ text ++ (32 ∷ code ++ 10 ∷ [])
+  pub both_line_there : (code : List ℕ) → HasChange bytes from to form.Vector text code → slice_index bytes (to - 1) ≡ 10 → to ≡ code_at + length code + 1 → slice_range bytes from to ≡ first ∷ text ++ (32 ∷ code ++ 10 ∷ [])
   both_line_there code (letter, middle, t, u) last long =
-      let p = and_parts ((to - (from + 1 + length text) - 2 == len) && (slice_index bytes from == first)) (slice_index bytes (from + 1 + length text) == 32) e in
-      let q = and_parts (to - (from + 1 + length text) - 2 == len) (slice_index bytes from == first) p.0 in
-      let room = eqb-true (to - (from + 1 + length text) - 2) len q.0 in
+      let p = and_parts ((from + 1 + length text + 1 == code_at) && (slice_index bytes from == first)) (slice_index bytes (from + 1 + length text) == 32) e in
+      let q = and_parts (from + 1 + length text + 1 == code_at) (slice_index bytes from == first) p.0 in
+      let room = eqb-true (from + 1 + length text + 1) code_at q.0 in
       let one = t.before.order in
       let two = u.before.order in
       let ends = t.ends in
@@ -263,11 +263,11 @@ module _ (bytes : List ℕ) (from to first len : ℕ) (text : List ℕ) (e : (((
       both_line bytes from middle to letter first text code t u (omega arith) (eqb-true (slice_index bytes from) first q.1) (eqb-true (slice_index bytes (from + 1 + length text)) 32 p.1) last
 
 -- a digit in lower case, its code and a line feed
-pub bit_line_there : (bytes : List ℕ) (from to len : ℕ) (text code : List ℕ) → ((to - from - 2 == len) && not (bit_and (slice_index bytes from) 32 == 0)) ≡ true → HasChange bytes from to form.Scalar text code → slice_index bytes (to - 1) ≡ 10 → length code ≡ len → slice_index bytes from < 256
+pub bit_line_there : (bytes : List ℕ) (from to code_at : ℕ) (text code : List ℕ) → ((from + 1 == code_at) && not (bit_and (slice_index bytes from) 32 == 0)) ≡ true → HasChange bytes from to form.Scalar text code → slice_index bytes (to - 1) ≡ 10 → to ≡ code_at + length code + 1 → slice_index bytes from < 256
     → slice_range bytes from to ≡ str_to_ascii_lowercase text ++ (code ++ 10 ∷ [])
-bit_line_there bytes from to len text code e (digit, is, t) last long fits =
-    let p = and_parts (to - from - 2 == len) (not (bit_and (slice_index bytes from) 32 == 0)) e in
-    let room = eqb-true (to - from - 2) len p.0 in
+bit_line_there bytes from to code_at text code e (digit, is, t) last long fits =
+    let p = and_parts (from + 1 == code_at) (not (bit_and (slice_index bytes from) 32 == 0)) e in
+    let room = eqb-true (from + 1) code_at p.0 in
     let ends = t.ends in
     let order = t.before.order in
     let start : t.start ≡ from = omega arith in

@@ -1,5 +1,5 @@
 // Value changes as they are written.
-ghost use Rattle.std.specs.Prelude.{◌≡◌, ◌≢◌, ℕ, ◌-◌, ◌^◌, ◌<◌, ◌≤◌, ◌++◌, ◌∷◌, ◌==◌, [], false, true, take, length, slice_index, IfSome};
+ghost use Rattle.std.specs.Prelude.{◌≡◌, ◌≢◌, ℕ, ◌-◌, ◌^◌, ◌<◌, ◌≤◌, ◌++◌, ◌∷◌, ◌==◌, List, [], false, true, take, drop, length, slice_index, IfSome};
 ghost use Rattle.std.specs.Char.{to_ascii_lowercase as lower};
 ghost use Rattle.std.specs.Str.{str_to_ascii_lowercase};
 ghost use Rattle.vcd_model.specs.Values.{extend, extension, short, change_line};
@@ -37,6 +37,24 @@ fn has_other(digits: &[u8]) -> bool
         found |= *digit != b'0';
     }
     found
+}
+
+// The digits without zeros that stand before other zeros, 32 at a time.
+#[inline(always)]
+pub(crate) fn cut_long_blocks(digits: &[u8]) -> &[u8]
+    requires { 0 < length digits.now }
+    ensures some { 0 < length result.now }
+    ensures fewer { length result.now ≤ length digits.now }
+    ensures end { result.now ≡ drop (length digits.now - length result.now) digits.now }
+    ensures value { (size : ℕ) → length digits.now ≤ size
+        → extend (str_to_ascii_lowercase result.now) size
+        ≡ extend (str_to_ascii_lowercase digits.now) size }
+{
+    let mut rest = digits;
+    'long: while rest.len() > 32 && rest[32] == b'0' && !has_other(&rest[..32]) {
+        rest = &rest[32..];
+    }
+    rest
 }
 
 // The digits without zeros that stand before other zeros, eight at a time.
@@ -199,14 +217,25 @@ pub(crate) fn put_real<W: Sink>(w: &mut W, text: &[u8], id: &[u8]) -> Result<(),
     put_end(w, b' ', id)
 }
 
+// How many digits the shortest ones of a number are.
+#[inline(always)]
+pub(crate) fn needed(bits: Bits) -> usize
+    ensures some { 1 ≤ result }
+    ensures few { result ≤ bits.len }
+    ensures shortest { (digits : List ℕ) → digits ≡ binary_digits bits.len bits.number
+        → (size : ℕ) → drop (length digits - result) digits
+        ≡ short (extend (str_to_ascii_lowercase digits) size) }
+{
+    64 - bits.number.max(1).leading_zeros() as usize
+}
+
 // The shortest digits that extend to the same value, where the number of all of them is known.
 #[inline(always)]
 pub(crate) fn shortest_known(digits: &[u8], bits: Bits) -> &[u8]
     requires { digits.now ≡ binary_digits bits.len bits.number }
     ensures { (size : ℕ) → result.now ≡ short (extend (str_to_ascii_lowercase digits.now) size) }
 {
-    let needed = 64 - bits.number.max(1).leading_zeros() as usize;
-    &digits[digits.len() - needed..]
+    &digits[digits.len() - needed(bits)..]
 }
 
 // Writes a `b` and the shortest digits of the same value.

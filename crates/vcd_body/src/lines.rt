@@ -10,14 +10,17 @@ ghost use Rattle.vcd_model.specs.ItemText.{item_line, time_line};
 ghost use Rattle.vcd_model.specs.Values.{extend, short};
 ghost use Rattle.vcd_head.specs.Views.{IsViewOf};
 ghost use Rattle.vcd_head.specs.declared.view.HeadView.{HeadView};
-ghost use Rattle.vcd_body.specs.Ahead.{IsSizedItem};
+ghost use Rattle.vcd_body.specs.Ahead.{HasBits, IsSizedItem};
+ghost use Rattle.vcd_body.specs.Binary.{binary_digits};
 ghost use Rattle.vcd_body.specs.Given.{IsItem};
 ghost use Rattle.vcd_body.specs.Spelled.{HasChange, HasMark, HasSpelled, bytes_without};
 ghost use Rattle.vcd_body.specs.declared.item.Form.TheVariants as form;
 
 use crate::ahead::Plain;
-use crate::change::{extension_of, has_capital, shortest};
+use crate::bits::Bits;
+use crate::change::{cut_long_blocks, extension_of, has_capital, needed, shortest};
 use crate::item::{Form, Item};
+use crate::words::bits_at;
 use std::simd::prelude::*;
 
 /// Bit k is set where byte `at + k` may be a capital letter: of letters and digits just the capital letters have bit 5 clear.
@@ -76,35 +79,53 @@ fn are_shortest(digits: &[u8]) -> bool
     }
 }
 
-/// A digit and a code of this length stand there alone, and the digit is in lower case.
+/// A digit and a code that begins at this place stand there alone, and the digit is in lower case.
 #[inline(always)]
-fn is_bit_line(bytes: &[u8], from: usize, to: usize, len: usize) -> bool
+fn is_bit_line(bytes: &[u8], from: usize, to: usize, code_at: usize) -> bool
     requires { (text code : List ℕ) × HasChange bytes.now from to form.Scalar text code }
     ensures { result ≡ true → (text code : List ℕ)
         → HasChange bytes.now from to form.Scalar text code
-        → slice_index bytes.now (to - 1) ≡ 10 → length code ≡ len
+        → slice_index bytes.now (to - 1) ≡ 10 → to ≡ code_at + length code + 1
         → slice_range bytes.now from to ≡ str_to_ascii_lowercase text ++ (code ++ 10 ∷ []) }
 {
-    (to - from - 2 == len) & (bytes[from] & 0x20 != 0)
+    (from + 1 == code_at) & (bytes[from] & 0x20 != 0)
 }
 
-/// A value with this first byte and a code of this length stand there with just a blank between them.
+/// A value with this first byte and a code that begins at this place stand there with just a blank between them.
 #[inline(always)]
-fn has_one_blank(bytes: &[u8], from: usize, to: usize, first: u8, text: &[u8], len: usize) -> bool
+fn has_one_blank(
+    bytes: &[u8],
+    from: usize,
+    to: usize,
+    first: u8,
+    text: &[u8],
+    code_at: usize,
+) -> bool
     requires spelled { (code : List ℕ) × HasChange bytes.now from to form.Vector text.now code }
     requires letter { is_white_space first ≡ false }
     ensures place { result ≡ true
         → text.now ≡ slice_range bytes.now (from + 1) (from + 1 + length text.now) }
     ensures line { result ≡ true → (code : List ℕ)
         → HasChange bytes.now from to form.Vector text.now code
-        → slice_index bytes.now (to - 1) ≡ 10 → length code ≡ len
+        → slice_index bytes.now (to - 1) ≡ 10 → to ≡ code_at + length code + 1
         → slice_range bytes.now from to ≡ first ∷ text.now ++ (32 ∷ code ++ 10 ∷ []) }
 {
     let behind = from + 1 + text.len();
-    (to - behind - 2 == len) & (bytes[from] == first) & (bytes[behind] == b' ')
+    (behind + 1 == code_at) & (bytes[from] == first) & (bytes[behind] == b' ')
+}
+
+/// How many digits on the left the shortest ones leave out, where the number of all of them is known: none of them is looked at.
+#[inline(always)]
+fn left_out_known(digits: &[u8], bits: Bits) -> Option<usize>
+    ensures { IfSome result (λ k. (k ≤ length digits.now)
+        × (digits.now ≡ binary_digits bits.len bits.number → (size : ℕ)
+        → drop k digits.now ≡ short (extend (str_to_ascii_lowercase digits.now) size))) }
+{
+    digits.len().checked_sub(needed(bits))
 }
 
 /// How many digits on the left the shortest ones leave out, where these are in lower case. The digits begin at a place of these bytes.
+/// Of many digits those that lead are mostly zeros, and then the others are few.
 #[inline(never)]
 fn needless(bytes: &[u8], at: usize, digits: &[u8]) -> Option<usize>
     requires within { at ≤ length bytes.now }
@@ -116,22 +137,29 @@ fn needless(bytes: &[u8], at: usize, digits: &[u8]) -> Option<usize>
     if digits.is_empty() {
         return None;
     }
-    let k = digits.len() - shortest(digits).len();
+    let rest = cut_long_blocks(digits);
+    if let Some(bits) = bits_at(bytes, at + (digits.len() - rest.len()), rest) {
+        return Some(digits.len() - needed(bits));
+    }
+    let k = digits.len() - shortest(rest).len();
     if !are_lower(bytes, at + k, &digits[k..]) {
         return None;
     }
     Some(k)
 }
 
-/// The same, where most need all of their digits.
+/// The same, where most need all of their digits, and the number of these may be known.
 #[inline(always)]
-fn left_out_of(bytes: &[u8], at: usize, digits: &[u8]) -> Option<usize>
+fn left_out_of(bytes: &[u8], at: usize, digits: &[u8], bits: Option<Bits>) -> Option<usize>
     requires within { at ≤ length bytes.now }
     requires place { digits.now ≡ slice_range bytes.now at (at + length digits.now) }
     ensures { IfSome result (λ k. (k ≤ length digits.now)
-        × ((size : ℕ) → drop k digits.now
-        ≡ short (extend (str_to_ascii_lowercase digits.now) size))) }
+        × (IfSome bits (λ b. digits.now ≡ binary_digits b.len b.number) → (size : ℕ)
+        → drop k digits.now ≡ short (extend (str_to_ascii_lowercase digits.now) size))) }
 {
+    if let Some(bits) = bits {
+        return left_out_known(digits, bits);
+    }
     if !are_shortest(digits) {
         return needless(bytes, at, digits);
     }
@@ -141,27 +169,29 @@ fn left_out_of(bytes: &[u8], at: usize, digits: &[u8]) -> Option<usize>
     Some(0)
 }
 
-/// How many digits after a `b` are left out, where the rest is the line with a code of this length.
+/// How many digits after a `b` are left out, where the rest is the line with the code that begins at this place.
 #[inline(always)]
 fn left_out_of_vector(
     bytes: &[u8],
     from: usize,
     to: usize,
     digits: &[u8],
-    len: usize,
+    bits: Option<Bits>,
+    code_at: usize,
 ) -> Option<usize>
     requires { (code : List ℕ) × HasChange bytes.now from to form.Vector digits.now code }
     ensures { IfSome result (λ k. (k ≤ length digits.now) × ((code : List ℕ)
         → HasChange bytes.now from to form.Vector digits.now code
-        → slice_index bytes.now (to - 1) ≡ 10 → length code ≡ len → (size : ℕ)
+        → slice_index bytes.now (to - 1) ≡ 10 → to ≡ code_at + length code + 1
+        → IfSome bits (λ b. digits.now ≡ binary_digits b.len b.number) → (size : ℕ)
         → bytes_without bytes.now from to k
         ≡ 98 ∷ short (extend (str_to_ascii_lowercase digits.now) size)
         ++ (32 ∷ code ++ 10 ∷ []))) }
 {
-    if !has_one_blank(bytes, from, to, b'b', digits, len) {
+    if !has_one_blank(bytes, from, to, b'b', digits, code_at) {
         return None;
     }
-    left_out_of(bytes, from + 1, digits)
+    left_out_of(bytes, from + 1, digits, bits)
 }
 
 /// How many bytes behind the first one are left out of the bytes of an item that was taken ahead, so that the others are its line as
@@ -174,6 +204,7 @@ pub fn left_out(plain: Plain<'_>, bytes: &[u8], from: usize, to: usize) -> Optio
     ensures { IfSome result (λ k. (from + 1 + k ≤ to) × ((v : HeadView) (h : Header) (x : BodyItem)
         → HasSpelled v bytes.now from to plain.entry.at plain.entry.code_at
         plain.entry.text.now plain.entry.item
+        → HasBits plain.entry.item plain.entry.text.now plain.entry.bits
         → IsSizedItem v.codes.now plain.entry.item plain.entry.most → IsViewOf v h
         → IsItem h.codes plain.entry.text.now plain.entry.item x
         → bytes_without bytes.now from to k ≡ item_line x)) }
@@ -181,15 +212,19 @@ pub fn left_out(plain: Plain<'_>, bytes: &[u8], from: usize, to: usize) -> Optio
     let Item::Change { form, .. } = plain.item else {
         return None;
     };
-    if plain.most == 0 || bytes[to - 1] != b'\n' {
+    if bytes[to - 1] != b'\n' {
         return None;
     }
     let text = plain.text;
-    let len = to - 1 - plain.code_at;
+    let code_at = plain.code_at;
     match form {
-        Form::Scalar if plain.most == 1 && is_bit_line(bytes, from, to, len) => Some(0),
-        Form::Vector if plain.most != 1 => left_out_of_vector(bytes, from, to, text, len),
-        Form::RealText if has_one_blank(bytes, from, to, b'r', text, len) => Some(0),
+        Form::Scalar if plain.most == 1 && is_bit_line(bytes, from, to, code_at) => Some(0),
+        Form::Vector if plain.most > 1 => {
+            left_out_of_vector(bytes, from, to, text, plain.bits, code_at)
+        }
+        Form::RealText if plain.most > 0 && has_one_blank(bytes, from, to, b'r', text, code_at) => {
+            Some(0)
+        }
         _ => None,
     }
 }

@@ -27,12 +27,11 @@ use Rattle.vcd_tools.specs.Engine.{CanRun, Keeps, Runs, last_of, request_of_engi
 use Rattle.vcd_tools.specs.declared.engine.Engine.{Engine}
 use Rattle.vcd_tools.specs.declared.machine.Machine.{Machine}
 use Rattle.vcd_tools.specs.Ahead.{GaveOneAhead, RunsAhead}
-use Rattle.vcd_tools.specs.Pieces.{GrowsBut, IsPart, held_in}
+use Rattle.vcd_tools.specs.Pieces.{GrowsBut, held_in}
 use Rattle.vcd_tools.specs.declared.pieces.Pieces.{Pieces}
 use Rattle.vcd_tools.proofs.AskedLemmas.{split_last}
 use Rattle.vcd_tools.proofs.PieceLemmas.{but_some, but_written}
 use Rattle.vcd_text.specs.Device.{Puts, WritesSome}
-use Rattle.vcd_text.proofs.AheadLemmas.{length-ahead}
 use Rattle.std.specs.Prelude.{IfErr, IfOk}
 use Rattle.vcd_tools.proofs.EngineLemmas.{last_more, none_at, writes-none}
 
@@ -86,7 +85,7 @@ none_first test (y ∷ p) q h = by_first (test y) (none_first test p q) h
 none_behind : (text due : List ℕ) → text ≡ text ++ due → length due ≡ 0
 none_behind text due e = omega (arith, length-append text due, ap length e)
 
-module _ (t : Request) (h : Header) (limit lines : ℕ) (bytes : List ℕ) (before : List BodyItem) (p : Pieces) (part : IsPart bytes p) (out mid out' : Device) {E : Type 0} (result : Result Bool E) (some : IfErr result (λ _. p.from < p.to)) (puts : Puts mid out' (held_in bytes p) result) where
+module _ (t : Request) (h : Header) (limit lines : ℕ) (bytes : List ℕ) (before : List BodyItem) (p : Pieces) (out mid out' : Device) {E : Type 0} (result : Result Bool E) (some : IfErr result (λ _. 0 < length (held_in bytes p))) (puts : Puts mid out' (held_in bytes p) result) where
   abbrev Stands : ℕ → Regs → List BodyItem → Type 0
   Stands n r l = GaveAhead h.codes limit lines bytes n before l × AreRegsAfter (before ++ l) r × (list_any (ends_early t) (before ++ l) ≡ false) × GrowsBut out mid (held_in bytes p) (open_text t h before) (open_text t h (before ++ l))
 
@@ -95,12 +94,12 @@ module _ (t : Request) (h : Header) (limit lines : ℕ) (bytes : List ℕ) (befo
       → RunsAhead t h limit lines bytes before n m r out out' result
   ends_before n items m r s g ok = by_result result some puts ok
     where
-      by_last : (e : E) → WritesSome mid out' (held_in bytes p) → p.from < p.to → (items ≡ []) ⊎ ((front : List BodyItem) × (x : BodyItem) × (items ≡ front ++ x ∷ [])) → RunsAhead t h limit lines bytes before n m r out out' (Err e)
+      by_last : (e : E) → WritesSome mid out' (held_in bytes p) → 0 < length (held_in bytes p) → (items ≡ []) ⊎ ((front : List BodyItem) × (x : BodyItem) × (items ≡ front ++ x ∷ [])) → RunsAhead t h limit lines bytes before n m r out out' (Err e)
       by_last e w more (inl none) =
           let none_is = subst (Stands n r) none (s.gave, s.known, s.on, g) in
           let grown = none_is.3 in
           let long : length (grown.0 ++ held_in bytes p) ≡ 0 = none_behind (open_text t h before) (grown.0 ++ held_in bytes p) (ap (open_text t h) (sym (append-nil before)) ∙ grown.1) in
-          absurd (omega (arith, long, length-append grown.0 (held_in bytes p), length-ahead bytes p.from p.to part.1, more))
+          absurd (omega (arith, long, length-append grown.0 (held_in bytes p), more))
       by_last e w more (inr l) =
           let front = l.0 in
           let x = l.1 in
@@ -110,7 +109,7 @@ module _ (t : Request) (h : Header) (limit lines : ℕ) (bytes : List ℕ) (befo
           let due = but_some out mid out' (held_in bytes p) (open_text t h before) (open_text t h (before ++ (front ++ x ∷ []))) all.3 w in
           record { more = front; on = on; last = (x, record { gave = all.0; known = all.1 }, subst (λ l. GrowsSome out out' (open_text t h before) (open_text t h l)) (sym assoc) due) }
 
-      by_result : (q : Result Bool E) → IfErr q (λ _. p.from < p.to) → Puts mid out' (held_in bytes p) q → IfOk q (λ e. e ≡ false) → RunsAhead t h limit lines bytes before n m r out out' q
+      by_result : (q : Result Bool E) → IfErr q (λ _. 0 < length (held_in bytes p)) → Puts mid out' (held_in bytes p) q → IfOk q (λ e. e ≡ false) → RunsAhead t h limit lines bytes before n m r out out' q
       by_result (Ok false) some puts ok = record { more = items; on = s.on; last = (s, but_written out mid out' (held_in bytes p) (open_text t h before) (open_text t h (before ++ items)) g puts) }
       by_result (Ok true) some puts ok = cc
       by_result (Err e) some puts ok = by_last e puts some (split_last items)

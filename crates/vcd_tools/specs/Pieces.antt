@@ -1,10 +1,10 @@
--- Text that is due, and of which the last piece is not yet written.
-use Rattle.std.specs.Prelude.{◌≡◌, ℕ, ◌<◌, ◌≤◌, List, ◌++◌, length, slice_range, Result, Ok, Err}
+-- Text that is due, and of which the last pieces are not yet written.
+use Rattle.std.specs.Prelude.{◌≡◌, ℕ, ◌<◌, ◌≤◌, List, ◌++◌, length, take, slice_range, Result, Ok, Err}
 use Rattle.vcd_model.specs.ItemText.{time_line}
 use Rattle.vcd_text.specs.Device.{Device, Writes, WritesSome}
 use Rattle.vcd_head.specs.declared.view.HeadView.{HeadView}
 use Rattle.vcd_body.specs.Given.{HasGoodText}
-use Rattle.vcd_body.specs.Ahead.{IsSizedItem}
+use Rattle.vcd_body.specs.Ahead.{HasBits, IsSizedItem}
 use Rattle.vcd_body.specs.Spelled.{HasSpelled}
 use Rattle.vcd_tools.specs.declared.pieces.Lying.{Lying}
 use Rattle.vcd_tools.specs.declared.pieces.Pieces.{Pieces}
@@ -14,19 +14,20 @@ pub record Lies (v : HeadView) (l : Lying) : Type 0 where
   pub within : (l.from ≤ l.to) × (l.to ≤ length l.bytes.now)
   pub good : HasGoodText v.codes.now l.plain.text.now l.plain.item
   pub sized : IsSizedItem v.codes.now l.plain.item l.plain.most
+  pub bits : HasBits l.plain.item l.plain.text.now l.plain.bits
   pub spelled : HasSpelled v l.bytes.now l.from l.to l.plain.at l.plain.code_at l.plain.text.now l.plain.item
 
 -- from one place of these bytes up to another the line of this time stands, or nothing
 abbrev pub IsLine : List ℕ → ℕ → ℕ → ℕ → Type 0
 IsLine bytes line from time = (line ≤ from) × (line < from → slice_range bytes line from ≡ time_line time)
 
--- the piece is a part of these bytes
+-- the last piece is a part of these bytes, and there is room for those that were gathered
 abbrev pub IsPart : List ℕ → Pieces → Type 0
-IsPart bytes p = (p.from ≤ p.to) × (p.to ≤ length bytes)
+IsPart bytes p = (p.from ≤ p.to) × (p.to ≤ length bytes) × (p.gathered.now.len ≤ 2048) × (2048 ≤ length p.gathered.now.bytes)
 
--- the text that is held
+-- the text that is held: what was gathered, and the last piece
 abbrev pub held_in : List ℕ → Pieces → List ℕ
-held_in bytes p = slice_range bytes p.from p.to
+held_in bytes p = take p.gathered.now.len p.gathered.now.bytes ++ slice_range bytes p.from p.to
 
 -- what was written and what is held make the text that was held and then what is due
 abbrev pub PutsAll : List ℕ → List ℕ → Device → Device → List ℕ → Type 0

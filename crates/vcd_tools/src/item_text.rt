@@ -29,6 +29,7 @@ pub(crate) struct ItemText {
 }
 
 /// Writes the line of a time.
+#[cold]
 #[inline(never)]
 pub(crate) fn put_time<W: Sink>(time: u64, out: &mut W) -> Result<(), WriteFailed>
     requires { (W.device out.old).failures < 2 ^ 64 - 1 }
@@ -162,7 +163,7 @@ impl ItemText {
         view: HeadView<'_>,
         time: u64,
         lying: Lying<'_>,
-        pieces: &mut Pieces,
+        pieces: &mut Pieces<'_>,
         out: &mut W,
     ) -> Result<(), WriteFailed>
         requires failures { (W.device out.old).failures < 2 ^ 64 - 1 }
@@ -195,7 +196,7 @@ impl ItemText {
         &mut self,
         time: u64,
         lying: Lying<'_>,
-        pieces: &mut Pieces,
+        pieces: &mut Pieces<'_>,
         out: &mut W,
     ) -> Result<(), WriteFailed>
         requires failures { (W.device out.old).failures < 2 ^ 64 - 1 }
@@ -224,7 +225,7 @@ impl ItemText {
         time: u64,
         lying: Lying<'_>,
         n: usize,
-        pieces: &mut Pieces,
+        pieces: &mut Pieces<'_>,
         out: &mut W,
     ) -> Result<(), WriteFailed>
         requires failures { (W.device out.old).failures < 2 ^ 64 - 1 }

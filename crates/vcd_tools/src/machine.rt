@@ -29,7 +29,7 @@ pub(crate) mod pick;
 pub(crate) mod sample;
 
 use crate::answer::Stop;
-use crate::pieces::{Lying, Pieces, line_before};
+use crate::pieces::{Gathered, Lying, Pieces, line_before};
 use crate::task::{Room, Task};
 use vcd_body::{
     First, Item, Plain, Regs, mark_ahead, opening_ahead, real_ahead, scalar_ahead, vector_ahead,
@@ -314,7 +314,7 @@ trait Copier {
         view: HeadView<'_>,
         regs: Regs,
         lying: Lying<'_>,
-        pieces: &mut Pieces,
+        pieces: &mut Pieces<'_>,
         out: &mut W,
     ) -> Result<bool, WriteFailed>
         requires failures { (W.device out.old).failures < 2 ^ 64 - 1 }
@@ -352,7 +352,7 @@ impl<'n, 'r> Copier for pick::Pick<'n, 'r> {
         view: HeadView<'_>,
         regs: Regs,
         lying: Lying<'_>,
-        pieces: &mut Pieces,
+        pieces: &mut Pieces<'_>,
         out: &mut W,
     ) -> Result<bool, WriteFailed> {
         self.take_lying(view, regs, lying, pieces, out)?;
@@ -371,7 +371,7 @@ impl<'r> Copier for cut::Cut<'r> {
         view: HeadView<'_>,
         regs: Regs,
         lying: Lying<'_>,
-        pieces: &mut Pieces,
+        pieces: &mut Pieces<'_>,
         out: &mut W,
     ) -> Result<bool, WriteFailed> {
         self.take_lying(view, regs, lying, pieces, out)
@@ -389,7 +389,7 @@ fn take_found<T: Copier, W: Sink>(
     from: usize,
     next: Ahead<'_>,
     line: &mut usize,
-    pieces: &mut Pieces,
+    pieces: &mut Pieces<'_>,
     out: &mut W,
 ) -> Result<bool, WriteFailed>
     requires failures { (W.device out.old).failures < 2 ^ 64 - 1 }
@@ -436,7 +436,7 @@ fn take_next_lying<T: Copier, W: Sink>(
     regs: &mut Regs,
     ahead: &mut Ahead<'_>,
     line: &mut usize,
-    pieces: &mut Pieces,
+    pieces: &mut Pieces<'_>,
     out: &mut W,
 ) -> Option<Result<bool, WriteFailed>>
     requires failures { (W.device out.old).failures < 2 ^ 64 - 1 }
@@ -514,7 +514,8 @@ fn take_each_lying<T: Copier, W: Sink>(
         (λ ended. ended ≡ true → may_end_early (request_in (T.machine copier.old)) ≡ true) }
 {
     let bytes = ahead.bytes();
-    let mut pieces = Pieces::new();
+    let mut gathered = Gathered::new();
+    let mut pieces = Pieces::new(&mut gathered);
     let mut line = ahead.passed();
     'items: loop {
         let Some(taken) = take_next_lying(

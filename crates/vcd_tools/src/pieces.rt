@@ -1,5 +1,5 @@
-//! Text that is due and stands in the chunk: the pieces of it that follow each other are written at once.
-ghost use Rattle.std.specs.Prelude.{◌≡◌, ℕ, ◌+◌, ◌-◌, ◌^◌, ◌<◌, ◌≤◌, [], length, slice_range, IfErr, IfOk, IfSome};
+//! Text that is due and stands in the chunk: pieces of it that follow each other are one, and short ones are written together.
+ghost use Rattle.std.specs.Prelude.{◌≡◌, ℕ, ◌+◌, ◌-◌, ◌^◌, ◌<◌, ◌≤◌, List, [], ◌++◌, true, false, length, take, slice_range, IfErr, IfOk, IfSome};
 ghost use Rattle.vcd_model.specs.Header.{Header};
 ghost use Rattle.vcd_model.specs.Items.{BodyItem};
 ghost use Rattle.vcd_model.specs.ItemText.{item_line, time_line};
@@ -68,30 +68,115 @@ impl Lying<'_> {
     }
 }
 
-/// The part of the chunk that is due and not yet written. It holds numbers alone, so that a loop keeps it out of memory.
-#[derive(Clone, Copy)]
-pub(crate) struct Pieces {
+/// So many bytes of short pieces are gathered.
+const GATHERED: usize = 2048;
+
+/// A piece of at most so many bytes is short: it is copied by a copy of so many, whatever its length.
+const SHORT: usize = 64;
+
+/// Short pieces that are due, one after the other.
+#[derive(Drop)]
+pub(crate) struct Gathered {
+    bytes: [u8; GATHERED],
+    len: usize,
+}
+
+/// Copies so many bytes, from a place on, to a place.
+#[inline(always)]
+fn copy_short(to: &mut [u8], place: usize, bytes: &[u8], from: usize)
+    requires room { place + 64 ≤ length to.old }
+    requires there { from + 64 ≤ length bytes.now }
+    ensures long { length to.new ≡ length to.old }
+    ensures copied { take (place + 64) to.new
+        ≡ take place to.old ++ slice_range bytes.now from (from + 64) }
+{
+    to[place..place + SHORT].copy_from_slice(&bytes[from..from + SHORT]);
+}
+
+impl Gathered {
+    /// None are there.
+    #[inline(always)]
+    pub(crate) fn new() -> Gathered
+        ensures none { result.len ≡ 0 }
+        ensures size { 2048 ≤ length result.bytes }
+    {
+        Gathered {
+            bytes: [0; GATHERED],
+            len: 0,
+        }
+    }
+
+    /// Whether a part of the bytes is short, and there is room for it.
+    #[inline(always)]
+    fn has_room(&self, bytes: &[u8], from: usize, to: usize) -> bool
+        requires within { (from ≤ to) × (to ≤ length bytes.now) }
+        requires room { self.now.len ≤ 2048 }
+        ensures short { result ≡ true → to ≤ from + 64 }
+        ensures there { result ≡ true → from + 64 ≤ length bytes.now }
+        ensures room { result ≡ true → self.now.len + 64 ≤ 2048 }
+    {
+        to - from <= SHORT && bytes.len() - from >= SHORT && GATHERED - self.len >= SHORT
+    }
+
+    /// Takes a short part of the bytes behind the others.
+    #[inline(always)]
+    fn push(&mut self, bytes: &[u8], from: usize, to: usize)
+        requires short { (from ≤ to) × (to ≤ from + 64) }
+        requires there { from + 64 ≤ length bytes.now }
+        requires room { self.old.len + 64 ≤ 2048 }
+        requires size { 2048 ≤ length self.old.bytes }
+        ensures pushed { take self.new.len self.new.bytes
+            ≡ take self.old.len self.old.bytes ++ slice_range bytes.now from to }
+        ensures room { self.new.len ≤ 2048 }
+        ensures size { 2048 ≤ length self.new.bytes }
+    {
+        copy_short(&mut self.bytes, self.len, bytes, from);
+        self.len += to - from;
+    }
+}
+
+/// The text that is due and not yet written: short pieces of it, which were gathered, and then a part of the chunk. Beside the loan it
+/// holds numbers alone, so that a loop keeps it out of memory.
+#[derive(Drop)]
+pub(crate) struct Pieces<'a> {
+    gathered: &'a mut Gathered,
     from: usize,
     to: usize,
 }
 
-/// Writes the part of the bytes.
+/// Writes these bytes, and then the part of others.
+#[cold]
 #[inline(never)]
-fn put_part<W: Sink>(bytes: &[u8], from: usize, to: usize, out: &mut W) -> Result<(), WriteFailed>
+fn put_both<W: Sink>(
+    gathered: &[u8],
+    bytes: &[u8],
+    from: usize,
+    to: usize,
+    out: &mut W,
+) -> Result<(), WriteFailed>
     requires failures { (W.device out.old).failures < 2 ^ 64 - 1 }
     requires within { (from ≤ to) × (to ≤ length bytes.now) }
-    ensures { Puts (W.device out.old) (W.device out.new) (slice_range bytes.now from to) result }
+    ensures { Puts (W.device out.old) (W.device out.new)
+        (gathered.now ++ slice_range bytes.now from to) result }
 {
+    put(out, gathered)?;
     put(out, &bytes[from..to])
 }
 
-impl Pieces {
-    /// Nothing is held.
+impl<'a> Pieces<'a> {
+    /// Nothing is held. Short pieces are gathered here, where none are yet.
     #[inline(always)]
-    pub(crate) fn new() -> Pieces
-        ensures { (result.from ≡ 0) × (result.to ≡ 0) }
+    pub(crate) fn new(gathered: &'a mut Gathered) -> Pieces<'a>
+        requires none { gathered.old.len ≡ 0 }
+        requires size { 2048 ≤ length gathered.old.bytes }
+        ensures part { (bytes : List ℕ) → IsPart bytes result }
+        ensures held { (bytes : List ℕ) → held_in bytes result ≡ [] }
     {
-        Pieces { from: 0, to: 0 }
+        Pieces {
+            gathered,
+            from: 0,
+            to: 0,
+        }
     }
 
     /// Writes what is held.
@@ -102,10 +187,13 @@ impl Pieces {
         ensures puts { Puts (W.device out.old) (W.device out.new) (held_in bytes.now self.old) result }
         ensures held { IfOk result
             (λ _. (held_in bytes.now self.new ≡ []) × IsPart bytes.now self.new) }
-        ensures some { IfErr result (λ _. self.old.from < self.old.to) }
+        ensures empty { IfOk result (λ _. self.new.from ≡ self.new.to) }
+        ensures some { IfErr result (λ _. 0 < length (held_in bytes.now self.old)) }
     {
-        if self.from < self.to {
-            put_part(bytes, self.from, self.to, out)?;
+        let len = self.gathered.len;
+        if len > 0 || self.from < self.to {
+            put_both(&self.gathered.bytes[..len], bytes, self.from, self.to, out)?;
+            self.gathered.len = 0;
             self.from = self.to;
         }
         Ok(())
@@ -114,20 +202,39 @@ impl Pieces {
     /// Writes what is held, and returns this.
     #[inline(always)]
     pub(crate) fn finish<W: Sink>(
-        mut self,
+        &mut self,
         bytes: &[u8],
         ended: bool,
         out: &mut W,
     ) -> Result<bool, WriteFailed>
         requires failures { (W.device out.old).failures < 2 ^ 64 - 1 }
-        requires part { IsPart bytes.now self }
+        requires part { IsPart bytes.now self.old }
         ensures puts { Puts (W.device out.old) (W.device out.new)
-            (held_in bytes.now self) result }
+            (held_in bytes.now self.old) result }
         ensures ended { IfOk result (λ e. e ≡ ended) }
-        ensures some { IfErr result (λ _. self.from < self.to) }
+        ensures some { IfErr result (λ _. 0 < length (held_in bytes.now self.old)) }
     {
         self.flush(bytes, out)?;
         Ok(ended)
+    }
+
+    /// Gathers the last piece, where it is short and there is room; else all that is held is written.
+    #[inline(always)]
+    fn gather<W: Sink>(&mut self, bytes: &[u8], out: &mut W) -> Result<(), WriteFailed>
+        requires failures { (W.device out.old).failures < 2 ^ 64 - 1 }
+        requires part { IsPart bytes.now self.old }
+        ensures puts { PutsOn (held_in bytes.now self.old) (held_in bytes.now self.new)
+            (W.device out.old) (W.device out.new) [] result }
+        ensures counts { Counts (W.device out.old) (W.device out.new) result }
+        ensures part { IfOk result (λ _. IsPart bytes.now self.new) }
+        ensures empty { IfOk result (λ _. self.new.from ≡ self.new.to) }
+    {
+        if self.gathered.has_room(bytes, self.from, self.to) {
+            self.gathered.push(bytes, self.from, self.to);
+            self.from = self.to;
+            return Ok(());
+        }
+        self.flush(bytes, out)
     }
 
     /// Takes the part of the bytes that is due next: where it follows what is held, that grows, and nothing is written.
@@ -151,8 +258,9 @@ impl Pieces {
             self.to = to;
             return Ok(());
         }
-        self.flush(bytes, out)?;
-        *self = Pieces { from, to };
+        self.gather(bytes, out)?;
+        self.from = from;
+        self.to = to;
         Ok(())
     }
 

@@ -316,7 +316,7 @@ impl<'r> Cut<'r> {
         view: HeadView<'_>,
         regs: Regs,
         lying: Lying<'_>,
-        pieces: &mut Pieces,
+        pieces: &mut Pieces<'_>,
         out: &mut W,
     ) -> Result<(), WriteFailed>
         requires failures { (W.device out.old).failures < 2 ^ 64 - 1 }
@@ -355,7 +355,7 @@ impl<'r> Cut<'r> {
         view: HeadView<'_>,
         regs: Regs,
         lying: Lying<'_>,
-        pieces: &mut Pieces,
+        pieces: &mut Pieces<'_>,
         out: &mut W,
     ) -> Result<bool, WriteFailed>
         requires failures { (W.device out.old).failures < 2 ^ 64 - 1 }

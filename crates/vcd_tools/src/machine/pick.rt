@@ -118,7 +118,7 @@ impl<'n, 'r> Pick<'n, 'r> {
         view: HeadView<'_>,
         regs: Regs,
         lying: Lying<'_>,
-        pieces: &mut Pieces,
+        pieces: &mut Pieces<'_>,
         out: &mut W,
     ) -> Result<(), WriteFailed>
         requires failures { (W.device out.old).failures < 2 ^ 64 - 1 }

@@ -7,7 +7,7 @@ use Rattle.vcd_body.specs.declared.item.Item.TheVariants.{Change}
 use Rattle.vcd_body.specs.Ahead.{IsSizedItem}
 use Rattle.vcd_body.specs.Given.{IsItem}
 use Rattle.vcd_body.specs.Spelled.{HasSpelled}
-use Rattle.vcd_body.proofs.LeftOut.{bit_within, if_some_more, text_within, without_none}
+use Rattle.vcd_body.proofs.LeftOut.{bit_within, if_some_more, text_known, text_within, without_none}
 use Rattle.vcd_body.proofs.LineLemmas.{of_sized, bit_item, vector_item, real_item}
 use Rattle.vcd_body.proofs.lines.left_out.Goals as goal
 
@@ -19,47 +19,50 @@ is_bit_line-requires c =
 pub returns-in-Scalar : goal.returns-in-Scalar
 returns-in-Scalar c =
     let text = c.args.plain.text.now in
+    let size = c.if-plain-eq1.true in
     let same = c.in-Change.is ∙ ap (Change c.in-Change.code) c.in-Scalar.is in
     let there = subst (HasSpelled c.requires.0 c.args.bytes.now c.args.from c.args.to c.args.plain.at c.args.plain.code_at text) same c.requires.1 in
     let within = bit_within c.args.bytes.now c.args.from c.args.to text there.0 there.1 in (
       omega arith,
-      λ v h x spelled sized views i.
+      λ v h x spelled known sized views i.
           let s = subst (HasSpelled v c.args.bytes.now c.args.from c.args.to c.args.plain.at c.args.plain.code_at text) same spelled in
-          let k = of_sized v h views c.in-Change.code c.args.plain.most (subst (λ it. IsSizedItem v.codes.now it c.args.plain.most) same sized) c.if-plain-eq0.false form.Scalar text s.0 c.args.bytes.now c.args.from c.args.to c.args.plain.at c.args.plain.code_at s.2 s.3 x (subst (λ it. IsItem h.codes text it x) same i) in
+          let k = of_sized v h views c.in-Change.code c.args.plain.most (subst (λ it. IsSizedItem v.codes.now it c.args.plain.most) same sized) (λ z. absurd (omega (arith, size, z))) form.Scalar text s.0 c.args.bytes.now c.args.from c.args.to c.args.plain.at c.args.plain.code_at s.2 s.3 x (subst (λ it. IsItem h.codes text it x) same i) in
           without_none c.args.bytes.now c.args.from c.args.to within
-          ∙ c.is_bit_line.ensures c.if-is_bit_line.true text s.0 s.1 c.if-bytes-to-ne10.false k.3
+          ∙ c.is_bit_line.ensures c.if-is_bit_line.true text s.0 s.1 c.if-bytes-to-ne10.false s.3.ends
           ∙ ap (λ l. str_to_ascii_lowercase text ++ (l ++ 10 ∷ [])) (sym k.2)
-          ∙ sym (bit_item k.0 text k.5 s.1.0 s.1.1 (k.4 ∙ c.if-plain-eq1.true)) ∙ sym (ap item_line k.1),
+          ∙ sym (bit_item k.0 text k.5 s.1.0 s.1.1 (k.4 ∙ size)) ∙ sym (ap item_line k.1),
     )
 
 pub returns-in-Vector : goal.returns-in-Vector
 returns-in-Vector c =
     let text = c.args.plain.text.now in
+    let size = c.if-plain-gt1.true in
     let same = c.in-Change.is ∙ ap (Change c.in-Change.code) c.in-Vector.is in
     let there = subst (HasSpelled c.requires.0 c.args.bytes.now c.args.from c.args.to c.args.plain.at c.args.plain.code_at text) same c.requires.1 in
     let within = text_within c.args.bytes.now c.args.from c.args.to text there.0 there.1 in
     if_some_more c.left_out_of_vector.result (λ n p. let few = p.0 in (
       omega arith,
-      λ v h x spelled sized views i.
+      λ v h x spelled known sized views i.
           let s = subst (HasSpelled v c.args.bytes.now c.args.from c.args.to c.args.plain.at c.args.plain.code_at text) same spelled in
-          let k = of_sized v h views c.in-Change.code c.args.plain.most (subst (λ it. IsSizedItem v.codes.now it c.args.plain.most) same sized) c.if-plain-eq0.false form.Vector text s.0 c.args.bytes.now c.args.from c.args.to c.args.plain.at c.args.plain.code_at s.2 s.3 x (subst (λ it. IsItem h.codes text it x) same i) in
-          p.1 s.0 s.1 c.if-bytes-to-ne10.false k.3 k.0.size
+          let k = of_sized v h views c.in-Change.code c.args.plain.most (subst (λ it. IsSizedItem v.codes.now it c.args.plain.most) same sized) (λ z. absurd (omega (arith, size, z))) form.Vector text s.0 c.args.bytes.now c.args.from c.args.to c.args.plain.at c.args.plain.code_at s.2 s.3 x (subst (λ it. IsItem h.codes text it x) same i) in
+          p.1 s.0 s.1 c.if-bytes-to-ne10.false s.3.ends (text_known c.args.plain.item text c.args.plain.bits known) k.0.size
           ∙ ap (λ l. 98 ∷ short (extend (str_to_ascii_lowercase text) k.0.size) ++ (32 ∷ l ++ 10 ∷ [])) (sym k.2)
-          ∙ sym (vector_item k.0 text k.5 (λ one. c.if-plain-ne1.true (sym k.4 ∙ one))) ∙ sym (ap item_line k.1),
+          ∙ sym (vector_item k.0 text k.5 (λ one. let same = k.4 in absurd (omega (arith, size, same, one)))) ∙ sym (ap item_line k.1),
     )) c.left_out_of_vector.ensures
 
 pub returns-in-RealText : goal.returns-in-RealText
 returns-in-RealText c =
     let text = c.args.plain.text.now in
+    let size = c.if-plain-gt0.true in
     let same = c.in-Change.is ∙ ap (Change c.in-Change.code) c.in-RealText.is in
     let there = subst (HasSpelled c.requires.0 c.args.bytes.now c.args.from c.args.to c.args.plain.at c.args.plain.code_at text) same c.requires.1 in
     let within = text_within c.args.bytes.now c.args.from c.args.to text there.0 there.1 in (
       omega arith,
-      λ v h x spelled sized views i.
+      λ v h x spelled known sized views i.
           let s = subst (HasSpelled v c.args.bytes.now c.args.from c.args.to c.args.plain.at c.args.plain.code_at text) same spelled in
-          let k = of_sized v h views c.in-Change.code c.args.plain.most (subst (λ it. IsSizedItem v.codes.now it c.args.plain.most) same sized) c.if-plain-eq0.false form.RealText text s.0 c.args.bytes.now c.args.from c.args.to c.args.plain.at c.args.plain.code_at s.2 s.3 x (subst (λ it. IsItem h.codes text it x) same i) in
+          let k = of_sized v h views c.in-Change.code c.args.plain.most (subst (λ it. IsSizedItem v.codes.now it c.args.plain.most) same sized) (λ z. absurd (omega (arith, size, z))) form.RealText text s.0 c.args.bytes.now c.args.from c.args.to c.args.plain.at c.args.plain.code_at s.2 s.3 x (subst (λ it. IsItem h.codes text it x) same i) in
           without_none c.args.bytes.now c.args.from c.args.to (omega arith)
-          ∙ c.has_one_blank.ensures.line c.if-has_one_blank.true s.0 s.1 c.if-bytes-to-ne10.false k.3
+          ∙ c.has_one_blank.ensures.line c.if-has_one_blank.true s.0 s.1 c.if-bytes-to-ne10.false s.3.ends
           ∙ ap (λ l. 114 ∷ text ++ (32 ∷ l ++ 10 ∷ [])) (sym k.2)
           ∙ sym (real_item k.0 text k.5) ∙ sym (ap item_line k.1),
     )

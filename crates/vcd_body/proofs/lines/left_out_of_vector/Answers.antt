@@ -10,7 +10,7 @@ returns c =
     let text = c.args.digits.now in
     if_some_more c.left_out_of.result (λ k p. (
       p.0,
-      λ code t last long size.
-          shortest_line bytes c.args.from c.args.to k 98 text (32 ∷ code ++ 10 ∷ []) (short (extend (str_to_ascii_lowercase text) size)) (text_within bytes c.args.from c.args.to text code t) p.0 (p.1 size) (c.has_one_blank.ensures.line c.if-not-has_one_blank.false code t last long),
+      λ code t last long known size.
+          shortest_line bytes c.args.from c.args.to k 98 text (32 ∷ code ++ 10 ∷ []) (short (extend (str_to_ascii_lowercase text) size)) (text_within bytes c.args.from c.args.to text code t) p.0 (p.1 known size) (c.has_one_blank.ensures.line c.if-not-has_one_blank.false code t last long),
     ))
     c.left_out_of.ensures

@@ -1,6 +1,6 @@
-use Rattle.std.proofs.Common.{◌≤◌, ◌++◌, ◌∷◌, [], Bool, Result, Ok, Err, true, false, length, refl, sym, ap, subst, ◌∙◌, append_assoc}
+use Rattle.std.proofs.Common.{◌≤◌, ◌++◌, ◌∷◌, [], Bool, Result, Ok, Err, true, false, length, refl, sym, ap, subst, ◌∙◌, append_assoc, ◌<◌, IfErr, rules}
 use Rattle.std.specs.Prelude.{IfOk}
-use Rattle.vcd_model.specs.Outcome.{open_text}
+use Rattle.vcd_model.specs.Outcome.{open_text, Request}
 use Rattle.vcd_text.specs.Ahead.{bytes_of, longest_of, passed_of}
 use Rattle.vcd_text.specs.Device.{Counts, Puts}
 use Rattle.vcd_text.specs.declared.device.WriteFailed.{WriteFailed}
@@ -35,10 +35,10 @@ returns-in_default-clause-gives g c = λ h lines before v few s.
     let out = g.W.Sink.device c.args.out.now in
     let mid = g.W.Sink.device c.take_next_lying.new.out in
     let new = g.W.Sink.device c.finish.new.out in
-    let part : IsPart bytes p = rw same.3 (subst (λ bs. IsPart bs c.items.pieces) inv.0 inv.8) in
     let puts = subst (λ bs. Puts mid new (held_in bs p) c.finish.result) c.bytes-bytes.ensures c.finish.ensures.puts in
+    let some = subst (λ bs. IfErr c.finish.result (λ _. 0 < length (held_in bs p))) c.bytes-bytes.ensures c.finish.ensures.some in
     rw (u.passed, u.regs, u.ended)
-    (ends_before t h _ lines bytes before p part out mid new c.finish.result c.finish.ensures.some puts _ all.0 (g.T.Copier.machine c.take_next_lying.new.copier) _ (rw (same.0, same.1, same.2) all.1) (rw (same.3, same.4) all.2) c.finish.ensures.ended)
+    (ends_before t h _ lines bytes before p out mid new c.finish.result some puts _ all.0 (g.T.Copier.machine c.take_next_lying.new.copier) _ (rw (same.0, same.1, same.2) all.1) (rw (same.3, same.4) all.2) c.finish.ensures.ended)
 
 pub returns-in-Err-clause-gives : goal.returns-in-Err-clause-gives
 returns-in-Err-clause-gives g c = λ h lines before v few s.
@@ -85,10 +85,10 @@ returns-in-Ok-true-clause-gives g c = λ h lines before v few s.
     let put' = subst (λ bs. PutsOn {A = Bool} {E = WriteFailed} (held_in bs c.items.pieces) (held_in bs p) mid new due.0 (Ok true)) inv.0 put in
     let grown = but_on out mid new (held_in bytes c.items.pieces) (open_text t h before) (open_text t h (before ++ all.0)) all.2 (held_in bytes p) due.0 _ due.1 put' in
     let puts = subst (λ bs. Puts new last (held_in bs p) c.finish-in-Ok-true.result) c.bytes-bytes.ensures c.finish-in-Ok-true.ensures.puts in
-    let part : IsPart (bytes_of c.items.ahead) p = subst (λ (r : Result Bool WriteFailed). IfOk r (λ _. IsPart (bytes_of c.items.ahead) p)) is c.in-Some.ensures.part in
+    let some = subst (λ bs. IfErr c.finish-in-Ok-true.result (λ _. 0 < length (held_in bs p))) c.bytes-bytes.ensures c.finish-in-Ok-true.ensures.some in
     let u = c.until-in-Ok-true.ensures in
     rw (u.passed, u.regs, u.ended)
-    (ends_with t h _ lines bytes before p (subst (λ bs. IsPart bs p) inv.0 part) out new last c.finish-in-Ok-true.result c.finish-in-Ok-true.ensures.some puts _ all.0 x _ _ all.1.on ends given grown c.finish-in-Ok-true.ensures.ended)
+    (ends_with t h _ lines bytes before p out new last c.finish-in-Ok-true.result some puts _ all.0 x _ _ all.1.on ends given grown c.finish-in-Ok-true.ensures.ended)
 
 pub items-preserved : goal.items-preserved
 items-preserved g c =
