@@ -2,7 +2,8 @@
 use Rattle.std.specs.Prelude.{◌≡◌, ℕ, ◌+◌, ◌-◌, ◌^◌, ◌==◌, ◌&&◌, nat_lt, nat_le, min, Bool, true, false, not, cond, List, [], ◌∷◌, length, map, get_or, slice_get, slice_set, Option, Some, None}
 use Rattle.std.specs.List.{last_or}
 use Rattle.std.specs.Str.{byte}
-use Rattle.vcd_model.specs.Values.{Value, extend, same_value}
+use Rattle.vcd_model.specs.Values.{Value, extend, same_value, value_with}
+use Rattle.vcd_body.specs.Items.{model_form}
 use Rattle.vcd_body.specs.Packed.{held_digit, quarter_of}
 use Rattle.vcd_body.specs.declared.item.Form.{Form}
 use Rattle.vcd_body.specs.declared.item.Form.TheVariants as form
@@ -116,6 +117,14 @@ counts_if false counts which = counts
 -- one more in the first counter, and in the others where the tests hold
 abbrev pub with_step : Bool → Bool → Kept → Kept
 with_step rises falls k = record { held = k.held; counts = counts_if falls (counts_if rises (counts_with k.counts 0) 1) 2; chosen = k.chosen; room = k.room }
+
+-- a value was this, and is to be that: where they differ, the step is counted
+abbrev pub with_counted : Option Value → Value → Kept → Kept
+with_counted old new k = cond (differs old new) (with_step (goes_from (byte "0") (byte "1") (last_digit_in old) (last_digit_in (Some new))) (goes_from (byte "1") (byte "0") (last_digit_in old) (last_digit_in (Some new))) k) k
+
+-- the value is that of the text, where it is held, and its step at this size is counted; an empty text is passed over
+abbrev pub with_change : ℕ → Form → List ℕ → Kept → Kept
+with_change size f text k = cond (nat_lt 0 (length text)) (with_counted (value_at_size size k.held) (value_with size (model_form f) text) (with_text f text k)) k
 
 abbrev pub as_chosen : Kept → Kept
 as_chosen k = record { held = k.held; counts = k.counts; chosen = true; room = k.room }

@@ -1,5 +1,5 @@
 //! What is kept of a code.
-ghost use Rattle.std.specs.Prelude.{◌≡◌};
+ghost use Rattle.std.specs.Prelude.{◌≡◌, cond};
 ghost use Rattle.vcd_body.specs.Packed.{held_digit};
 ghost use Rattle.vcd_body.specs.Stored.{IsUnset, one_digit, unset_at};
 
@@ -87,6 +87,14 @@ pub(crate) fn state_of(digit: u8) -> State
     } else {
         all_but_0
     }
+}
+
+/// The state that holds the digit 1 or 0.
+#[inline(always)]
+pub(crate) fn bit_state(one: bool) -> State
+    ensures { result ≡ cond one State.One State.Zero }
+{
+    if one { State::One } else { State::Zero }
 }
 
 /// The digit of a state that holds one.

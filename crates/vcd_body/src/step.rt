@@ -1,5 +1,5 @@
 //! What a change of a value is, by its last digit.
-ghost use Rattle.std.specs.Prelude.{◌≡◌, ◌≢◌, ◌<◌, ◌+◌, ◌%◌, ℕ, ◌==◌, length, true, not, Some};
+ghost use Rattle.std.specs.Prelude.{◌≡◌, ◌≢◌, ◌⊎◌, ◌<◌, ◌+◌, ◌%◌, ℕ, ◌==◌, length, true, not, Some};
 ghost use Rattle.std.specs.Char.{to_ascii_lowercase as lower};
 ghost use Rattle.vcd_model.specs.Values.{value_with};
 ghost use Rattle.vcd_body.specs.Items.{model_form};
@@ -81,6 +81,15 @@ fn holds_one(state: State) -> bool
         State::Zero | State::One | State::Unknown | State::High => true,
         State::Unset | State::Plain | State::Digits | State::Bits | State::Real => false,
     }
+}
+
+/// Whether a state holds 0 or 1, and a digit is one of them.
+#[inline(always)]
+pub(crate) fn is_bit_step(state: State, digit: u8) -> bool
+    ensures state { result ≡ true → (state ≡ State.Zero) ⊎ (state ≡ State.One) }
+    ensures digit { result ≡ true → (digit ≡ 48) ⊎ (digit ≡ 49) }
+{
+    ((state == State::Zero) | (state == State::One)) && ((digit == b'0') | (digit == b'1'))
 }
 
 /// The digit of a state that holds one. It takes no branches.

@@ -1,15 +1,16 @@
 // What is kept of each code, in lent slices: slots, and a share of the values for each.
-ghost use Rattle.std.specs.Prelude.{◌≡◌, ◌≢◌, ℕ, ◌+◌, ◌-◌, ◌*◌, ◌<◌, ◌≤◌, ◌∷◌, [], List, true, false, length, take, drop, map, sum_by, IfSome, None, Some, slice_get, slice_index};
+ghost use Rattle.std.specs.Prelude.{◌≡◌, ◌≢◌, ◌⊎◌, ℕ, cond, max, not, ◌+◌, ◌-◌, ◌*◌, ◌<◌, ◌≤◌, ◌∷◌, [], List, true, false, length, take, drop, map, sum_by, IfSome, None, Some, slice_get, slice_index};
 ghost use Rattle.vcd_head.specs.declared.view.Code.{Code};
-ghost use Rattle.vcd_body.specs.Binary.{binary_digits};
-ghost use Rattle.vcd_body.specs.Kept.{Held, as_chosen, one_more, counts_if, counts_with, with_held, with_step, with_text};
+ghost use Rattle.vcd_body.specs.Binary.{binary_digits, count_in, is_proper};
+ghost use Rattle.vcd_body.specs.Kept.{Held, as_chosen, one_more, counts_if, counts_with, with_change, with_held, with_step, with_text};
 ghost use Rattle.vcd_body.specs.Packed.{held_digit};
-ghost use Rattle.vcd_body.specs.Stored.{AreLaidOut, ChangesAt, end_at, held_by, share_of, some_by, start_of, unset_at, used, used_by};
+ghost use Rattle.vcd_body.specs.Stored.{AreLaidOut, ChangesAt, end_at, held_by, kept_with, share_of, some_by, start_of, unset_at, used, used_by};
 
-use crate::bits::{Bits, is_proper, packed, put_digits};
+use crate::bits::{Bits, is_number_step, is_proper, number_in, packed, put_digits};
 use crate::item::Form;
 use crate::packed::pack;
-use crate::slot::{Slot, State, state_of};
+use crate::slot::{Slot, State, bit_state, state_of};
+use crate::step::{is_bit_step, step_by_number};
 use vcd_head::Code;
 
 /// The slot of the code at a place.
@@ -300,6 +301,90 @@ fn counts_after(counts: [u64; 3], rises: bool, falls: bool) -> [u64; 3]
             downs
         },
     ]
+}
+
+/// Counters, with one more in the first, and in that of rises or of falls. It takes no branches, and adds to two of them.
+#[inline(always)]
+fn count_turn(counts: &mut [u64; 3], rises: bool)
+    ensures { counts.new
+        ≡ counts_if (not rises) (counts_if rises (counts_with counts.old 0) 1) 2 }
+{
+    counts[0] = counts[0].saturating_add(1);
+    let turned = if rises { 1 } else { 2 };
+    counts[turned] = counts[turned].saturating_add(1);
+}
+
+/// Sets a slot to the digit 1 or 0 over such a digit, and counts the step.
+#[inline(always)]
+fn turn_slot(slot: &mut Slot, one: bool)
+    requires { (slot.old.state ≡ State.Zero) ⊎ (slot.old.state ≡ State.One) }
+    ensures kept { (form : Form) → form ≢ Form.RealText → (size end : ℕ) (values : List ℕ)
+        → kept_with values end slot.new
+        ≡ with_change size form (cond one 49 48 ∷ []) (kept_with values end slot.old) }
+    ensures start { slot.new.start ≡ slot.old.start }
+    ensures used { used slot.new ≡ 0 }
+    ensures some { some_by slot.new.state slot.new.len ≡ 1 }
+{
+    let before = slot.state;
+    let after = bit_state(one);
+    slot.state = after;
+    if before != after {
+        count_turn(&mut slot.counts, one);
+    }
+}
+
+/// Sets the value of a code to the digit 0 or 1 over such a digit, and counts the step. Returns whether it was one; else nothing
+/// changes. Most changes are of this kind, and touch one slot alone.
+#[inline(always)]
+pub(crate) fn turn_at(slots: &mut [Slot], code: usize, digit: u8) -> bool
+    ensures changes { result ≡ true → (form : Form) → form ≢ Form.RealText → (size : ℕ)
+        (values : List ℕ) → ChangesAt code (with_change size form (digit ∷ [])) values slots.old
+        values slots.new }
+    ensures same { result ≡ false → slots.new ≡ slots.old }
+    ensures laid { (n : ℕ) → AreLaidOut slots.old n → AreLaidOut slots.new n }
+{
+    if code >= slots.len() || !is_bit_step(slots[code].state, digit) {
+        return false;
+    }
+    turn_slot(&mut slots[code], digit == b'1');
+    true
+}
+
+/// Sets a slot of binary digits to others that make a value of as many at this size, and counts the step.
+#[inline(always)]
+fn step_slot(slot: &mut Slot, size: usize, bits: Bits)
+    requires state { slot.old.state ≡ State.Bits }
+    requires long { max size (count_in slot.old.len) ≡ max size bits.len }
+    ensures kept { (end : ℕ) (values : List ℕ) → is_proper slot.old.len ≡ true
+        → slot.old.start + 8 ≤ end → kept_with values end slot.new
+        ≡ with_change size Form.Vector (binary_digits bits.len bits.number)
+        (kept_with values end slot.old) }
+    ensures start { slot.new.start ≡ slot.old.start }
+    ensures used { used slot.new ≡ 8 }
+    ensures some { 1 ≤ some_by slot.new.state slot.new.len }
+{
+    let step = step_by_number(number_in(slot.len), bits.number);
+    slot.len = packed(bits);
+    if step.differs {
+        slot.counts = counts_after(slot.counts, step.rises, step.falls);
+    }
+}
+
+/// Sets the value of a code to binary digits over such digits, where they make values of as many at this size, and counts the
+/// step. Returns whether it did; else nothing changes.
+#[inline(always)]
+pub(crate) fn step_at(slots: &mut [Slot], code: usize, size: usize, bits: Bits) -> bool
+    ensures changes { result ≡ true → (values : List ℕ) → AreLaidOut slots.old (length values)
+        → ChangesAt code (with_change size Form.Vector (binary_digits bits.len bits.number))
+        values slots.old values slots.new }
+    ensures same { result ≡ false → slots.new ≡ slots.old }
+    ensures laid { (n : ℕ) → AreLaidOut slots.old n → AreLaidOut slots.new n }
+{
+    if code >= slots.len() || !is_number_step(slots[code], size, bits) {
+        return false;
+    }
+    step_slot(&mut slots[code], size, bits);
+    true
 }
 
 /// Chooses a code.

@@ -3,7 +3,7 @@ ghost use Rattle.std.specs.Prelude.{◌≡◌, ℕ, ◌+◌, ◌-◌, ◌^◌, �
 ghost use Rattle.vcd_model.specs.Sample.{shown};
 ghost use Rattle.vcd_text.specs.Device.{Counts, Takes, failures_after};
 ghost use Rattle.vcd_body.specs.Binary.{binary_digits};
-ghost use Rattle.vcd_body.specs.Kept.{Held, as_chosen, differs, digit_in, IsStep, one_more, real_text, with_step, with_text};
+ghost use Rattle.vcd_body.specs.Kept.{Held, as_chosen, differs, digit_in, IsStep, one_more, real_text, with_change, with_step, with_text};
 ghost use Rattle.vcd_body.specs.Stored.{room_of};
 
 use crate::bits::{Bits, is_number_step, number_in, put_digits};
@@ -13,7 +13,9 @@ use crate::held_text::{put_value, put_value_line};
 use crate::item::Form;
 use crate::slot::{Shown, Slot, State};
 use crate::step::{Step, is_digit_step, step_by_digit, step_by_number, step_to_text};
-use crate::store::{bump_at, choose_at, count_at, lay_out, set_at, set_bits, share_in, slot_at};
+use crate::store::{
+    bump_at, choose_at, count_at, lay_out, set_at, set_bits, share_in, slot_at, step_at, turn_at,
+};
 use vcd_head::HeadView;
 use vcd_text::{Sink, WriteFailed, put};
 
@@ -168,6 +170,84 @@ impl<'a> Table<'a> {
         let step = self.step_to(code, size, Form::Vector, text);
         self.set_bits(code, bits);
         step
+    }
+
+    /// Sets the value of the code at a place by the text of a change as `set` does, and counts its step at this size as `replace`
+    /// and `count` do, where it differs. A text that is empty is passed over. One of the digits 0 and 1 over another touches the
+    /// code's slot alone.
+    #[inline(always)]
+    pub fn follow(&mut self, code: usize, size: usize, form: Form, text: &[u8])
+        ensures laid { IsLaidOut self.old → IsLaidOut self.new }
+        ensures changes { IsLaidOut self.old
+            → ChangesCode code (with_change size form text.now) self.old self.new }
+        ensures value { IsLaidOut self.old → (c : Code) (k : Kept) → IsText form c text.now
+            → c.event ≡ false → kept_at self.old code ≡ Some k → share_of c.size ≤ k.room
+            → value_at_size c.size (held_at self.new code)
+            ≡ Some (value_with c.size (model_form form) text.now) }
+        ensures codes { codes_in self.new ≡ codes_in self.old }
+        ensures bytes { bytes_in self.new ≡ bytes_in self.old }
+    {
+        match text {
+            [digit] if form != Form::RealText => {
+                if !turn_at(self.slots, code, *digit) {
+                    self.follow_any(code, size, form, text);
+                }
+            }
+            _ => self.follow_any(code, size, form, text),
+        }
+    }
+
+    /// Sets the value of the code at a place by binary digits, and counts its step at this size, as `follow` does by their text.
+    /// Over others that were set so it touches the code's slot alone.
+    #[inline(always)]
+    pub fn follow_bits(&mut self, code: usize, size: usize, bits: Bits)
+        ensures laid { IsLaidOut self.old → IsLaidOut self.new }
+        ensures changes { IsLaidOut self.old → ChangesCode code
+            (with_change size Form.Vector (binary_digits bits.len bits.number)) self.old self.new }
+        ensures value { IsLaidOut self.old → (c : Code) (k : Kept)
+            → IsText Form.Vector c (binary_digits bits.len bits.number)
+            → c.event ≡ false → kept_at self.old code ≡ Some k → share_of c.size ≤ k.room
+            → value_at_size c.size (held_at self.new code) ≡ Some (value_with c.size
+            (model_form Form.Vector) (binary_digits bits.len bits.number)) }
+        ensures codes { codes_in self.new ≡ codes_in self.old }
+        ensures bytes { bytes_in self.new ≡ bytes_in self.old }
+    {
+        if !step_at(self.slots, code, size, bits) {
+            self.follow_bits_any(code, size, bits);
+        }
+    }
+
+    /// As `follow`, over any value.
+    #[inline(never)]
+    fn follow_any(&mut self, code: usize, size: usize, form: Form, text: &[u8])
+        ensures laid { IsLaidOut self.old → IsLaidOut self.new }
+        ensures changes { IsLaidOut self.old
+            → ChangesCode code (with_change size form text.now) self.old self.new }
+        ensures codes { codes_in self.new ≡ codes_in self.old }
+        ensures bytes { bytes_in self.new ≡ bytes_in self.old }
+    {
+        if text.is_empty() {
+            return;
+        }
+        let step = self.replace(code, size, form, text);
+        if step.differs {
+            self.count(code, step.rises, step.falls);
+        }
+    }
+
+    /// As `follow_bits`, over any value.
+    #[inline(never)]
+    fn follow_bits_any(&mut self, code: usize, size: usize, bits: Bits)
+        ensures laid { IsLaidOut self.old → IsLaidOut self.new }
+        ensures changes { IsLaidOut self.old → ChangesCode code
+            (with_change size Form.Vector (binary_digits bits.len bits.number)) self.old self.new }
+        ensures codes { codes_in self.new ≡ codes_in self.old }
+        ensures bytes { bytes_in self.new ≡ bytes_in self.old }
+    {
+        let told = self.replace_bits_any(code, size, bits);
+        if told.differs {
+            self.count(code, told.rises, told.falls);
+        }
     }
 
     /// The slot of the code at a place.

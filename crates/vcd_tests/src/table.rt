@@ -3,7 +3,7 @@ ghost use Rattle.std.specs.Prelude.{◌≡◌, ◌<◌};
 
 use std::alloc::{AllocError, Global};
 use std::test::Fail;
-use vcd_body::{Form, Shown, Slot, Step, Table};
+use vcd_body::{Bits, Form, Shown, Slot, Step, Table};
 use vcd_head::{Code, HeadView, need};
 use vcd_text::doubles::Narrow;
 use vcd_text::{Sink, Watch, WriteFailed};
@@ -533,6 +533,39 @@ fn steps_of_values(rt: HostRuntime) -> Result<(), Fail> {
     for (form, text, differs, way) in STEPS {
         assert_eq!(rt; table.replace(0, 9, form, text), step_of(differs, way));
     }
+    Ok(())
+}
+
+#[test]
+fn steps_that_are_counted(rt: HostRuntime) -> Result<(), Fail> {
+    let alloc = rt.alloc();
+    let codes = [code_of(9)];
+    let view = view_of(&codes);
+    let mut values = vec![in alloc; 255u8; need(view).values]?;
+    let mut slots = [Slot::new()];
+    let mut table = Table::new(view, &mut values, &mut slots);
+    for (form, text, _, _) in STEPS {
+        table.follow(0, 9, form, text);
+    }
+    assert_eq!(rt; table.tally(0), [7, 2, 2]);
+    Ok(())
+}
+
+#[test]
+fn steps_of_numbers_that_are_counted(rt: HostRuntime) -> Result<(), Fail> {
+    let alloc = rt.alloc();
+    let codes = [code_of(9)];
+    let view = view_of(&codes);
+    let mut values = vec![in alloc; 255u8; need(view).values]?;
+    let mut slots = [Slot::new()];
+    let mut table = Table::new(view, &mut values, &mut slots);
+    for (len, number) in [(1, 1), (4, 0b0001), (3, 0b110), (3, 0b111), (3, 0b101)] {
+        if let Some(bits) = Bits::new(len, number) {
+            table.follow_bits(0, 9, bits);
+        }
+    }
+    assert_eq!(rt; table.tally(0), [3, 1, 1]);
+    assert!(rt; is_full(&table, view, 0, b"000000101"));
     Ok(())
 }
 

@@ -1,17 +1,17 @@
 -- What a table counts of the values of codes, with one item more.
-use Rattle.std.proofs.Common.{◌≡◌, ◌≢◌, ℕ, ◌+◌, ◌-◌, ◌^◌, ◌<◌, ◌==◌, ◌&&◌, ◌||◌, nat_le, Bool, true, false, not, cond, min, List, [], ◌∷◌, ◌++◌, length, slice_get, Option, Some, None, refl, sym, ap, subst, ◌∙◌, arith}
+use Rattle.std.proofs.Common.{◌≡◌, ◌≢◌, ℕ, ◌+◌, ◌-◌, ◌^◌, ◌<◌, ◌==◌, ◌&&◌, ◌||◌, nat_le, nat_lt, Bool, true, false, not, cond, min, List, [], ◌∷◌, ◌++◌, length, slice_get, Option, Some, None, refl, sym, ap, ◌∙◌, arith}
 use Rattle.std.specs.Prelude.{option_map, unwrap_or}
 use Rattle.std.specs.List.{last_or}
-use Rattle.std.proofs.lemmas.Bool.{eq-eqb, eqb-true, eqb-false}
+use Rattle.std.proofs.lemmas.Bool.{eq-eqb, eqb-true, eqb-false, lt-ltb}
 use Rattle.std.proofs.lemmas.Slice.Eq.{bytes_eq-Decides}
 use Rattle.vcd_model.specs.Declarations.{IdCode, same_code}
 use Rattle.vcd_model.specs.Edges.{Counts, counts_for, goes, has_last}
 use Rattle.vcd_model.specs.Header.{Header}
 use Rattle.vcd_model.specs.History.{final_value, gives_to}
 use Rattle.vcd_model.specs.Items.{BodyItem, Change, leaves_open}
-use Rattle.vcd_model.specs.Values.{Value, same_value, value_of}
+use Rattle.vcd_model.specs.Values.{Value, same_value, value_of, value_with}
 use Rattle.vcd_model.proofs.EdgesSteps.{are_few, counts_mark, counts_new, counts_other, with_mark, with_value}
-use Rattle.vcd_model.proofs.FinalValues.{final_new, final_other}
+use Rattle.vcd_model.proofs.FinalValues.{final_other}
 use Rattle.vcd_head.specs.Finds.{IsSized}
 use Rattle.vcd_head.specs.Shown.{parts}
 use Rattle.vcd_head.specs.Views.{IsViewOf}
@@ -22,14 +22,14 @@ use Rattle.vcd_head.proofs.RowLemmas.{code_at}
 use Rattle.vcd_body.specs.Contents.{ChangesCode, IsLaidOut, counts_at, held_at, kept_at}
 use Rattle.vcd_body.specs.Given.{IsText}
 use Rattle.vcd_body.specs.Items.{model_form}
-use Rattle.vcd_body.specs.Kept.{Held, IsStep, Kept, differs, goes_from, is_digit, last_digit_in, one_more, value_at_size, with_step, with_text}
+use Rattle.vcd_body.specs.Kept.{Held, IsStep, Kept, differs, goes_from, is_digit, last_digit_in, one_more, value_at_size, with_change, with_counted, with_step, with_text}
 use Rattle.vcd_body.specs.declared.item.Form.{Form}
 use Rattle.vcd_body.specs.declared.item.Form.TheVariants as written
 use Rattle.vcd_body.specs.declared.step.Step.{Step}
 use Rattle.vcd_body.specs.declared.table.Table.{Table}
 use Rattle.vcd_tools.specs.Edges.{AreTallied, numbers}
 use Rattle.vcd_tools.specs.Values.{AreHeld}
-use Rattle.vcd_tools.proofs.ValuesLemmas.{IsNew, SetsValue, held_still, new_holds, set_holds}
+use Rattle.vcd_tools.proofs.ValuesLemmas.{IsNew, SetsValue, change_holds, held_still, new_holds}
 
 -- ---- a table whose counters alone change
 
@@ -42,9 +42,6 @@ counts_in o = unwrap_or (option_map (λ (k : Kept). k.counts) o) (0 ∷ 0 ∷ 0 
 -- the value and its room stay
 abbrev Retains : (Kept → Kept) → Type 0
 Retains f = (k : Kept) → ((f k).held ≡ k.held) × ((f k).room ≡ k.room)
-
-step_retains : (rises falls : Bool) → Retains (with_step rises falls)
-step_retains rises falls k = (refl, refl)
 
 module _ (old new : Table) (place : ℕ) (f : Kept → Kept) (changes : ChangesCode place f old new) where
   counts_there : (k : Kept) → kept_at old place ≡ Some k → counts_at new place ≡ (f k).counts
@@ -268,12 +265,9 @@ module _ (v : HeadView) (h : Header) (items : List BodyItem) (place : ℕ) (c : 
     text_there : 0 < length text
     text_there = let d = code_at v.text.now v.codes.now h.codes place c views.codes declared in some_text form d.0 text (good d.0 d.1)
 
-    -- what the table held, and holds
+    -- what the table held
     value_before : (old : Table) → AreHeld old h items → value_at_size c.size (held_at old place) ≡ final_value items c
     value_before old held = held.values.each place c declared event
-
-    value_after : (mid : Table) → AreHeld mid h (items ++ BodyItem.Changes change ∷ []) → value_at_size c.size (held_at mid place) ≡ Some (value_of change)
-    value_after mid held = held.values.each place c declared event ∙ final_new c items change self_code
 
     more_counts : counts_for (items ++ BodyItem.Changes change ∷ []) c ≡ with_value (counts_for items c) (final_value items c) (value_of change)
     more_counts = counts_new c items change self_code event
@@ -290,40 +284,48 @@ module _ (v : HeadView) (h : Header) (items : List BodyItem) (place : ℕ) (c : 
             ap (counts_at t) at ∙ one ∙ ap numbers (sym more_counts) ∙ ap (λ (y : IdCode). numbers (counts_for (items ++ BodyItem.Changes change ∷ []) y)) (sym same)
         by_test false e = apart p e ∙ tallied.counted p x there ∙ ap numbers (sym (counts_other x items (BodyItem.Changes change) (other_code p x there e)))
 
-    module _ (old mid : Table) (laid : IsLaidOut mid) (sets : ChangesCode place (with_text form text) old mid) (value : SetsValue form text place old mid) (tallied : AreTallied old h items) where
-      mid_held : AreHeld mid h (items ++ BodyItem.Changes change ∷ [])
-      mid_held = set_holds v h old mid items place form text c views declared tallied.held sets laid good value
+    -- the counters of the code itself
+    now_counted : (o : Option Value) (n : Counts) (k : Kept) → AreSmall n → k.counts ≡ numbers n → (with_counted o (value_of change) k).counts ≡ numbers (with_value n o (value_of change))
+    now_counted o n k small is = by_case (differs o (value_of change)) refl
+      where
+        step : Step
+        step = record { differs = differs o (value_of change); rises = goes_from 48 49 (last_digit_in o) (last_digit_in (Some (value_of change))); falls = goes_from 49 48 (last_digit_in o) (last_digit_in (Some (value_of change))) }
 
-      -- the step that the table told
-      step_is : (s : Step) → (0 < length text → IsStep s (value_at_size c.size (held_at old place)) (value_of change)) → IsStep s (final_value items c) (value_of change)
-      step_is s is = subst (λ o. IsStep s o (value_of change)) (value_before old tallied.held) (is text_there)
+        by_case : (b : Bool) → differs o (value_of change) ≡ b → (with_counted o (value_of change) k).counts ≡ numbers (with_value n o (value_of change))
+        by_case true e = ap (λ (b : Bool). (cond b (with_step step.rises step.falls k) k).counts) e ∙ counted_value n k small is step o (value_of change) (refl, refl, refl) e
+        by_case false e = ap (λ (b : Bool). (cond b (with_step step.rises step.falls k) k).counts) e ∙ is ∙ not_counted n o (value_of change) e
 
-      -- a value that is the one before it
-      pub same_tallied : (s : Step) → (0 < length text → IsStep s (value_at_size c.size (held_at old place)) (value_of change)) → s.differs ≡ false → AreTallied mid h (items ++ BodyItem.Changes change ∷ [])
-      same_tallied s is same =
-          let k = tallied.held.shares place c declared in
-          let d = sym (step_is s is).0 ∙ same in
-          record {
-            held = mid_held;
-            counted = value_counted mid old (counts_apart old mid place (with_text form text) sets)
-                (counts_there old mid place (with_text form text) sets k.0 k.1 ∙ ap counts_in (sym k.1) ∙ tallied.counted place c declared ∙ not_counted (counts_for items c) (final_value items c) (value_of change) d) tallied;
-          }
+    -- a value that the table set and counted
+    pub follow_tallied : (old new : Table) (size : ℕ) → c.size ≡ size → IsLaidOut new → ChangesCode place (with_change size form text) old new → SetsValue form text place old new → length items < 2 ^ 63 → AreTallied old h items → AreTallied new h (items ++ BodyItem.Changes change ∷ [])
+    follow_tallied old new size is laid changes value few tallied =
+        let k = tallied.held.shares place c declared in
+        let was = ap counts_in (sym k.1) ∙ tallied.counted place c declared in
+        let before : value_at_size size k.0.held ≡ final_value items c =
+        ap (λ (n : ℕ). value_at_size n k.0.held) (sym is) ∙ ap (λ (o : Option Kept). value_at_size c.size (held_in o)) (sym k.1) ∙ value_before old tallied.held
+        in
+        record {
+          held = change_holds v h old new items place form text c views declared tallied.held (with_change size form text) (change_room size) changes laid good value;
+          counted = value_counted new old (counts_apart old new place (with_change size form text) changes)
+              (counts_there old new place (with_change size form text) changes k.0 k.1
+              ∙ ap (λ (b : Bool). (cond b (with_counted (value_at_size size k.0.held) (value_with size (model_form form) text) (with_text form text k.0)) k.0).counts) (lt-ltb 0 (length text) text_there)
+              ∙ ap (λ (n : ℕ). (with_counted (value_at_size size k.0.held) (value_with n (model_form form) text) (with_text form text k.0)).counts) (sym is)
+              ∙ ap (λ (o : Option Value). (with_counted o (value_of change) (with_text form text k.0)).counts) before
+              ∙ now_counted (final_value items c) (counts_for items c) (with_text form text k.0) (small_counts c items few) was) tallied;
+        }
+      where
+        counted_room : (o : Option Value) (u : Value) (k : Kept) → (with_counted o u k).room ≡ k.room
+        counted_room o u k = by_case (differs o u)
+          where
+            by_case : (b : Bool) → (cond b (with_step (goes_from 48 49 (last_digit_in o) (last_digit_in (Some u))) (goes_from 49 48 (last_digit_in o) (last_digit_in (Some u))) k) k).room ≡ k.room
+            by_case true = refl
+            by_case false = refl
 
-      -- one that differs
-      pub change_tallied : (s : Step) → (0 < length text → IsStep s (value_at_size c.size (held_at old place)) (value_of change)) → s.differs ≡ true → (new : Table) → IsLaidOut new → ChangesCode place (with_step s.rises s.falls) mid new → length items < 2 ^ 63 → AreTallied new h (items ++ BodyItem.Changes change ∷ [])
-      change_tallied s is other new settled counts few =
-          let k = tallied.held.shares place c declared in
-          let k' = with_text form text k.0 in
-          let at : kept_at mid place ≡ Some k' = set_at k.0 k.1 in
-          let was = ap counts_in (sym k.1) ∙ tallied.counted place c declared in
-          record {
-            held = counted_held mid new place (with_step s.rises s.falls) counts settled (step_retains s.rises s.falls) h _ mid_held;
-            counted = value_counted new old (λ p e. counts_apart mid new place (with_step s.rises s.falls) counts p e ∙ counts_apart old mid place (with_text form text) sets p e)
-                (counts_there mid new place (with_step s.rises s.falls) counts k' at ∙ counted_value (counts_for items c) k' (small_counts c items few) was s (final_value items c) (value_of change) (step_is s is) other) tallied;
-          }
-        where
-          set_at : (k : Kept) → kept_at old place ≡ Some k → kept_at mid place ≡ Some (with_text form text k)
-          set_at k is = let same = eq-eqb place place refl in sets place ∙ rw (same, is) refl
+        change_room : (size : ℕ) (k : Kept) → (with_change size form text k).room ≡ k.room
+        change_room size k = by_case (nat_lt 0 (length text))
+          where
+            by_case : (b : Bool) → (cond b (with_counted (value_at_size size k.held) (value_with size (model_form form) text) (with_text form text k)) k).room ≡ k.room
+            by_case true = counted_room (value_at_size size k.held) (value_with size (model_form form) text) (with_text form text k)
+            by_case false = refl
 
 -- ---- a new table, and an item that changes no value
 

@@ -78,13 +78,13 @@ same_Some : {A : Type 0} (x y : A) → Some x ≡ Some y → x ≡ y
 same_Some x y e = cc
 
 module _ (v : HeadView) (h : Header) (old new : Table) (items : List BodyItem) (place : ℕ) (form : Form) (text : List ℕ) (c : IdCode) (views : IsViewOf v h) (declared : slice_get h.codes place ≡ Some c) (held : AreHeld old h items)
-    (changes : ChangesCode place (with_text form text) old new) where
+    (f : Kept → Kept) (room : (k : Kept) → (f k).room ≡ k.room) (changes : ChangesCode place f old new) where
   -- the room of all codes stays
   room_stays : (other : ℕ) (k : Kept) → kept_at old other ≡ Some k → (k' : Kept) × (kept_at new other ≡ Some k') × (k'.room ≡ k.room)
   room_stays other k was = by_test (other == place) refl
     where
       by_test : (b : Bool) → (other == place) ≡ b → (k' : Kept) × (kept_at new other ≡ Some k') × (k'.room ≡ k.room)
-      by_test true e = (with_text form text k, changes other ∙ rw (e, was) refl, refl)
+      by_test true e = (f k, changes other ∙ rw (e, was) refl, room k)
       by_test false e = (k, changes other ∙ rw e was, refl)
 
   shares_stay : HasShares new h
@@ -122,8 +122,8 @@ module _ (v : HeadView) (h : Header) (old new : Table) (items : List BodyItem) (
       absurd (eqb-false other place apart one)
   gives_none other d there apart false same = refl
 
-  pub set_holds : IsLaidOut new → ((d : Code) → slice_get v.codes.now place ≡ Some d → IsText form d text) → SetsValue form text place old new → AreHeld new h (items ++ setting ∷ [])
-  set_holds laid good sets = record {
+  pub change_holds : IsLaidOut new → ((d : Code) → slice_get v.codes.now place ≡ Some d → IsText form d text) → SetsValue form text place old new → AreHeld new h (items ++ setting ∷ [])
+  change_holds laid good sets = record {
     values = record { laid = laid; each = λ other d there event. by_test other d there event (other == place) refl };
     shares = shares_stay;
   }
@@ -136,6 +136,11 @@ module _ (v : HeadView) (h : Header) (old new : Table) (items : List BodyItem) (
       by_test other d there event false e =
           ap (value_at_size d.size) (others_stay other e) ∙ held.values.each other d there event
           ∙ sym (final_other d items setting (gives_none other d there e (same_code d c) refl))
+
+-- so it is where the text alone was set
+pub set_holds : (v : HeadView) (h : Header) (old new : Table) (items : List BodyItem) (place : ℕ) (form : Form) (text : List ℕ) (c : IdCode) → IsViewOf v h → slice_get h.codes place ≡ Some c → AreHeld old h items → ChangesCode place (with_text form text) old new → IsLaidOut new
+    → ((d : Code) → slice_get v.codes.now place ≡ Some d → IsText form d text) → SetsValue form text place old new → AreHeld new h (items ++ BodyItem.Changes (record { code = c; form = model_form form; text = text }) ∷ [])
+set_holds v h old new items place form text c views declared held changes = change_holds v h old new items place form text c views declared held (with_text form text) (λ k. refl) changes
 
 -- ---- the item that was read last
 

@@ -37,10 +37,7 @@ pub(crate) fn take_value(table: &mut Table<'_>, code: usize, size: usize, form: 
     ensures codes { codes_in table.new ≡ codes_in table.old }
     ensures bytes { bytes_in table.new ≡ bytes_in table.old }
 {
-    let step = table.replace(code, size, form, text);
-    if step.differs {
-        table.count(code, step.rises, step.falls);
-    }
+    table.follow(code, size, form, text);
 }
 
 /// The same by binary digits.
@@ -59,10 +56,7 @@ pub(crate) fn take_bits(table: &mut Table<'_>, code: usize, size: usize, bits: B
     ensures codes { codes_in table.new ≡ codes_in table.old }
     ensures bytes { bytes_in table.new ≡ bytes_in table.old }
 {
-    let told = table.replace_bits(code, size, bits);
-    if told.differs {
-        table.count(code, told.rises, told.falls);
-    }
+    table.follow_bits(code, size, bits);
 }
 
 /// Counts a mark of the event at a place.

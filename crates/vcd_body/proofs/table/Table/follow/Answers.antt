@@ -1,0 +1,34 @@
+use Rattle.std.proofs.Common.{List, length, subst, ℕ}
+use Rattle.vcd_body.specs.Kept.{with_change}
+use Rattle.vcd_body.specs.Stored.{ChangesAt}
+use Rattle.vcd_body.specs.declared.slot.Slot.{Slot}
+use Rattle.vcd_body.proofs.FollowLemmas.{change_sets, no_real}
+use Rattle.vcd_body.proofs.StoreLemmas.{alone}
+use Rattle.vcd_body.proofs.table.Table.follow.Goals as goal
+
+pub returns-then-not-turn_at-clause-value : goal.returns-then-not-turn_at-clause-value
+returns-then-not-turn_at-clause-value c = λ laid code k good event is most.
+    let values = c.args.self.now.values.now in
+    let text = c.args.text.now in
+    let new = c.follow_any.new.self in
+    let same = c.turn_at.ensures.same c.if-not-turn_at.true in
+    let changes = subst (λ (s : List Slot). ChangesAt c.args.code (with_change c.args.size c.args.form text) values s new.values.now new.slots.now) same (c.follow_any.ensures.changes (c.turn_at.ensures.laid (length values) laid)) in
+    change_sets values new.values.now c.args.self.now.slots.now new.slots.now c.args.code c.args.size c.args.form text code k changes good event is most
+
+pub returns-else-not-turn_at-clause-laid : goal.returns-else-not-turn_at-clause-laid
+returns-else-not-turn_at-clause-laid c = c.turn_at.ensures.laid (length c.args.self.now.values.now)
+
+pub returns-else-not-turn_at-clause-value : goal.returns-else-not-turn_at-clause-value
+returns-else-not-turn_at-clause-value c = λ laid code k good event is most.
+    let values = c.args.self.now.values.now in
+    let slots = c.args.self.now.slots.now in
+    let text = c.args.text.now in
+    let turned = c.turn_at.ensures.changes c.if-not-turn_at.false c.args.form (no_real c.args.form c.if-ne.ensures) c.args.size values in
+    let changes = subst (λ (t : List ℕ). ChangesAt c.args.code (with_change c.args.size c.args.form t) values slots values c.turn_at.new.slots) (alone text c.in-len1.len_at_least c.in-len1.len_below) turned in
+    change_sets values values slots c.turn_at.new.slots c.args.code c.args.size c.args.form text code k changes good event is most
+
+pub returns-in_default-clause-value : goal.returns-in_default-clause-value
+returns-in_default-clause-value c = λ laid code k good event is most.
+    let old = c.args.self.now in
+    let new = c.follow_any-in_default.new.self in
+    change_sets old.values.now new.values.now old.slots.now new.slots.now c.args.code c.args.size c.args.form c.args.text.now code k (c.follow_any-in_default.ensures.changes laid) good event is most

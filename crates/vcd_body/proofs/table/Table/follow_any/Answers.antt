@@ -1,0 +1,10 @@
+use Rattle.std.proofs.Common.{sym, ◌∙◌}
+use Rattle.vcd_body.proofs.FollowLemmas.{set_and_counted}
+use Rattle.vcd_body.proofs.StoreLemmas.{some_text}
+use Rattle.vcd_body.proofs.table.Table.follow_any.Goals as goal
+
+pub returns-then-step-clause-changes : goal.returns-then-step-clause-changes
+returns-then-step-clause-changes c = λ laid.
+    let is = c.replace-step.ensures in
+    let some = some_text c.args.text.now (sym c.is_empty.ensures ∙ c.if-is_empty.false) in
+    set_and_counted c.args.self.now c.replace-step.new.self c.count.new.self c.args.code c.args.size c.args.form c.args.text.now c.replace-step.result (is.changes laid) some (is.step laid some) c.if-step.true c.count.ensures.changes
