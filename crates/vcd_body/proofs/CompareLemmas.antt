@@ -128,6 +128,16 @@ differ_where share text back few less other size e =
     let same : Some (held_digit (get_or share (length share - 1 - back) 0)) ≡ Some (to_ascii_lowercase (get_or text (length text - 1 - back) 0)) = sym x ∙ s ∙ y in
     other (cc same)
 
+-- the same of digits that are held
+pub differ_held : (xs text : List ℕ) (back d : ℕ) → back < length xs → back < length text → Some d ≡ slice_get xs (length xs - 1 - back) → d ≢ to_ascii_lowercase (get_or text (length text - 1 - back) 0) → (size : ℕ) → extend xs size ≢ extend (str_to_ascii_lowercase text) size
+differ_held xs text back d few less at other size e =
+    let m = length-map text to_ascii_lowercase in
+    let s = same_from_last xs (str_to_ascii_lowercase text) size back few (omega (arith, m, less)) e in
+    let j : length (str_to_ascii_lowercase text) - 1 - back ≡ length text - 1 - back = omega (arith, m) in
+    let y = ap (slice_get (str_to_ascii_lowercase text)) j ∙ slice_get-map to_ascii_lowercase text (length text - 1 - back) ∙ ap (option_map to_ascii_lowercase) (slice_get-get_or text (length text - 1 - back) 0 (omega (arith, less))) in
+    let same : Some d ≡ Some (to_ascii_lowercase (get_or text (length text - 1 - back) 0)) = at ∙ s ∙ y in
+    other (cc same)
+
 -- one digit each
 pub differ_in_digit : (x y size : ℕ) (r : Bool) → Decides r (x ≡ y) → not r ≡ not (bytes_eq (extend (x ∷ []) size) (extend (y ∷ []) size))
 differ_in_digit x y size r d = differ_at_longest (x ∷ []) (y ∷ []) size 1 (omega arith) refl r ((λ yes. ap (λ z. z ∷ []) (d.0 yes)), λ same. d.1 (first same))

@@ -110,11 +110,11 @@ pub(crate) fn put_digits(bits: Bits, to: &mut [u8])
     }
 }
 
-/// Whether a slot holds binary digits, and these make a value of as many digits at this size.
+/// Whether a slot holds binary digits, and neither these nor those are more than the size: so both make values of as many digits.
 #[inline(always)]
 pub(crate) fn is_number_step(slot: Slot, size: usize, bits: Bits) -> bool
     ensures state { result ≡ true → slot.state ≡ State.Bits }
     ensures long { result ≡ true → max size (count_in slot.len) ≡ max size bits.len }
 {
-    slot.state == State::Bits && size.max(count_in(slot.len)) == size.max(bits.len)
+    slot.state == State::Bits && slot.len / 4_294_967_296 <= size && bits.len <= size
 }

@@ -9,7 +9,7 @@ ghost use Rattle.vcd_body.specs.Packed.{held_digit};
 ghost use Rattle.vcd_body.specs.Stored.{digits_with, held_with, some_by, used};
 
 use crate::change::extended_by;
-use crate::held::{count_of, digit_shown};
+use crate::held::{count_of, digit_held, digit_shown};
 use crate::item::Form;
 use crate::packed::held_digit;
 use crate::slot::{Slot, State, digit_of_state};
@@ -115,6 +115,54 @@ fn ends_differ(share: &[u8], text: &[u8]) -> bool
     last | others
 }
 
+// Whether a digit of those that are held and one of a text differ, each so many places before the last; false where either has
+// fewer.
+#[inline(always)]
+fn held_differs_at(slot: Slot, share: &[u8], text: &[u8], back: usize) -> bool
+    requires used { used slot ≤ length share.now }
+    ensures { result ≡ true → (size : ℕ) → extend (digits_with slot share.now) size
+        ≢ extend (str_to_ascii_lowercase text.now) size }
+{
+    let held = count_of(slot, share);
+    if back >= held || back >= text.len() {
+        return false;
+    }
+    match digit_held(slot, share, held - 1 - back) {
+        Some(digit) => digit != text[text.len() - 1 - back].to_ascii_lowercase(),
+        None => false,
+    }
+}
+
+// Whether one of the last eight digits of those that are held and of a text differs, where both have it. It looks from the right,
+// where they mostly differ.
+#[inline(always)]
+fn lasts_differ(slot: Slot, share: &[u8], text: &[u8]) -> bool
+    requires used { used slot ≤ length share.now }
+    ensures { result ≡ true → (size : ℕ) → extend (digits_with slot share.now) size
+        ≢ extend (str_to_ascii_lowercase text.now) size }
+{
+    for back in 0..8 {
+        if held_differs_at(slot, share, text, back) {
+            return true;
+        }
+    }
+    false
+}
+
+// Whether the last digits of several that are held and of a text tell that the values differ.
+#[inline(always)]
+fn ends_tell(slot: Slot, share: &[u8], text: &[u8]) -> bool
+    requires used { used slot ≤ length share.now }
+    ensures { result ≡ true → (size : ℕ) → extend (digits_with slot share.now) size
+        ≢ extend (str_to_ascii_lowercase text.now) size }
+{
+    match slot.state {
+        State::Plain => ends_differ(share, text),
+        State::Digits => lasts_differ(slot, share, text),
+        _ => false,
+    }
+}
+
 // Whether a text gives a code of this size other digits than several that are held, or is itself of several. It takes as long
 // as these digits and the text are, whatever the size is.
 fn several_differ(slot: Slot, share: &[u8], size: usize, text: &[u8]) -> bool
@@ -124,7 +172,7 @@ fn several_differ(slot: Slot, share: &[u8], size: usize, text: &[u8]) -> bool
     ensures { result ≡ not (bytes_eq (extend (digits_with slot share.now) size)
         (extend (str_to_ascii_lowercase text.now) size)) }
 {
-    if slot.state == State::Plain && ends_differ(share, text) {
+    if ends_tell(slot, share, text) {
         return true;
     }
     let held = count_of(slot, share);
