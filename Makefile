@@ -1,6 +1,5 @@
 # make         proves the program and the crates that it uses, builds it as ./vcdkit and shows it on a sample dump
 # make test    the merge gate: every proof from nothing, must-fail edits, tests, the program as two compilers build it
-# make memory  lets each request for memory of the reader of headers fail in turn: some minutes
 # make hostile runs the program where memory, reads and writes fail, and on dumps that are cut off or made at random: some minutes
 # make docs-check runs the commands that README, manual and recipes show over ./vcdkit, and compares what they print: seconds
 # make clean   drops what was built, and what the proofs kept
@@ -11,7 +10,7 @@
 
 sample := samples/counter.vcd
 
-.PHONY: all test memory hostile docs-check clean vcdkit toolchain install uninstall completions-check extras-check
+.PHONY: all test hostile docs-check clean vcdkit toolchain install uninstall completions-check extras-check
 
 PREFIX ?= /usr/local
 DESTDIR ?=
@@ -31,9 +30,6 @@ vcdkit: toolchain
 
 test: toolchain
 	rt ci
-
-memory: toolchain
-	bench/refuse_memory.sh
 
 hostile: vcdkit
 	devices=$$(mktemp --suffix=.so) && cc -O1 -shared -fPIC -o $$devices hostile/devices.c -ldl && \

@@ -84,31 +84,9 @@ fn too_many(rt: HostRuntime) {
     assert!(rt; read(rt.alloc(), TWO, 2).is_ok());
 }
 
-// The header that the memory of a reading is counted on, and one with scopes and variables of each kind.
+// A header with a scope and two variables.
 const SMALL: &[u8] =
     b"$timescale 1ns $end\n$scope module tb $end\n$var wire 1 ! clk $end\n$var reg 4 \" q [3:0] $end\n$upscope $end\n$enddefinitions $end\n";
-
-const KINDS: &[u8] =
-    b"$var event 1 % go $end\n$scope module tb $end\n$var wire 1 ! clk $end\n$scope module u $end\n$var reg 4 \" q [3:0] $end\n$upscope $end\n$var real 1 # r $end\n$enddefinitions $end\n";
-
-// The number of the fault, 0 where there is none.
-fn fault_in(alloc: Global, text: &[u8]) -> u8 {
-    match read(alloc, text, 16_777_216) {
-        Ok(_) => 0,
-        Err((fault, _)) => fault.number(),
-    }
-}
-
-// bench/refuse_memory.sh lets each request for memory of these two tests fail in turn: then it wants fault 32 here.
-#[test]
-fn memory_for_a_small_header(rt: HostRuntime) {
-    assert_eq!(rt; fault_in(rt.alloc(), SMALL), 0);
-}
-
-#[test]
-fn memory_for_scopes_and_kinds(rt: HostRuntime) {
-    assert_eq!(rt; fault_in(rt.alloc(), KINDS), 0);
-}
 
 #[test]
 fn faults_and_lines(rt: HostRuntime) {

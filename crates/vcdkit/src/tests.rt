@@ -6,7 +6,6 @@ mod edges;
 mod failures;
 mod headers;
 mod list;
-mod memory;
 mod merge;
 mod messages;
 mod pick;
