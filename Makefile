@@ -1,6 +1,6 @@
 # make         proves the program and the crates that it uses, builds it as ./vcdkit and shows it on a sample dump
 # make test    the merge gate: every proof from nothing, must-fail edits, tests, the program as two compilers build it
-# make hostile runs the program where memory, reads and writes fail, and on dumps that are cut off or made at random: some minutes
+# make hostile runs the program where memory, reads and writes fail, and on dumps that are cut off, crafted or made at random: some minutes
 # make docs-check runs the commands that README, manual and recipes show over ./vcdkit, and compares what they print: seconds
 # make clean   drops what was built, and what the proofs kept
 # make install [PREFIX=/usr/local] [DESTDIR=]    puts ./vcdkit, as it was built, its man page, completions and documents in place
@@ -33,7 +33,7 @@ test: toolchain
 
 hostile: vcdkit
 	devices=$$(mktemp --suffix=.so) && cc -O1 -shared -fPIC -o $$devices hostile/devices.c -ldl && \
-	hostile/hostile.py ./vcdkit $$devices memory devices cut_off && hostile/random_runs.py ./vcdkit --runs 50000; \
+	hostile/hostile.py ./vcdkit $$devices memory devices cut_off && hostile/random_runs.py ./vcdkit --runs 50000 && hostile/crafted.py ./vcdkit; \
 	status=$$?; rm -f $$devices; exit $$status
 
 # It takes the ./vcdkit that is there, and builds none.
