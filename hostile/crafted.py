@@ -1,8 +1,8 @@
 #!/usr/bin/env python3
-"""crafted.py PROGRAM [PART..]     PART is limits, edges, garbage or declarations; the first three where none is named
+"""crafted.py PROGRAM [PART..]     PART is limits, edges, garbage or declarations; all where none is named
 
 Runs the program on crafted dumps and command lines. What it writes has to be what the evaluator says; over command lines at random it
-has to end with a status of 0 to 3. `declarations` takes some minutes, 1 GB of memory and a pipe of 250 MB."""
+has to end with a status of 0 to 3. `declarations` takes 1 GB of memory."""
 import os, random, subprocess, sys, tempfile
 from concurrent.futures import ProcessPoolExecutor
 
@@ -147,7 +147,7 @@ def declarations(program):
             pass
         out, message = p.stdout.read(), p.stderr.read()
         got = (out[:15], message, p.wait())
-        want = (b"", b"vcdkit: (stdin):%d: too many declarations\n" % (half + 1), 1) if more else (b"scopes %d" % half, b"", 0)
+        want = (b"", b"vcdkit: (stdin):%d: too many declarations\n" % (half + 1), 1) if more else (b"scopes %d\n" % half, b"", 0)
         yield None if got == want else "%d declarations: %r, not %r" % (2 * half + more, got, want)
 
 
@@ -163,7 +163,7 @@ def tried(program, name, share):
 def main():
     program, bad = os.path.abspath(sys.argv[1]), 0
     with ProcessPoolExecutor(os.cpu_count()) as pool:
-        for name in sys.argv[2:] or ["limits", "edges", "garbage"]:
+        for name in sys.argv[2:] or list(PARTS):
             shares = range(SHARES if name == "edges" else 1)
             runs, wrong = 0, []
             for n, found in pool.map(tried, [program] * len(shares), [name] * len(shares), shares):
