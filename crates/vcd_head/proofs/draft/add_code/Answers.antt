@@ -13,7 +13,7 @@ returns-clause-codes c = λ ds v h found size same event.
     let new = c.extend_from_slice.new.self.items in
     let before = c.args.codes.now in
     let after = c.push.new.self in
-    let bytes = c.args.bytes.now in
+    let bytes = c.args.sought.bytes.now in
     let start : c.len.result ≡ length old = omega arith in
     let code : Code = record { start = c.len.result; len = length bytes; size = c.args.size; event = c.args.event } in
     let text = c.in_ok-extend_from_slice.ensures.items in
