@@ -87,9 +87,12 @@ fn add_code(
         → IfOk result (CodeHeld text.old.items text.new.items codes.new ds v) }
     ensures memory { IfErr result (λ fault. fault ≡ HeadFault.OutOfMemory) }
 {
+    let Ok(len) = u32::try_from(sought.bytes.len()) else {
+        return Err(HeadFault::OutOfMemory);
+    };
     let code = Code {
         start: text.len(),
-        len: sought.bytes.len(),
+        len,
         size,
         event,
     };

@@ -141,7 +141,7 @@ fn fill(entries: &mut [Entry], text: &[u8], codes: &[Code])
     ensures len { length entries.new ≡ length entries.old }
 {
     for (place, code) in codes.iter().enumerate() {
-        let bytes = text_in(text, code.start, code.len);
+        let bytes = text_in(text, code.start, code.len as usize);
         let at = entry_of(bytes, entries.len());
         put(entries, at, entry_at(place, *code, bytes));
     }

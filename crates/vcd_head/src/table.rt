@@ -55,7 +55,7 @@ impl Table {
     {
         self.empty(alloc, entries)?;
         for (place, code) in codes.iter().enumerate() {
-            let bytes = text_in(text, code.start, code.len);
+            let bytes = text_in(text, code.start, code.len as usize);
             self.enter(alloc, Sought::new(bytes), place, *code)?;
         }
         Ok(())
