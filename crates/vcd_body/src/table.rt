@@ -366,7 +366,7 @@ impl<'a> Table<'a> {
         let Some(share) = share_in(self.values, slot) else {
             return Ok(());
         };
-        let id = view.text_at(declared.start, declared.len);
+        let id = view.text_at(declared.start, declared.len as usize);
         put_value_line(slot, share, declared.size, id, w)
     }
 

@@ -19,10 +19,10 @@ use crate::ahead_scopes::{close_scope, open_scope, scope_ahead, upscope_ahead};
 use crate::codes::Codes;
 use crate::draft::{Draft, Found, place_of};
 use crate::fault::HeadFault;
-use crate::keyword::is;
 use crate::rows::{WideRow, push};
+use crate::sought::Sought;
 use crate::view::Kind;
-use crate::words::{is_code, is_end, is_event, size_of};
+use crate::words::{is_code, is_end, is_event, is_var, size_of};
 use std::alloc::{AllocError, Global};
 use vcd_text::{Ahead, Feed, Source};
 
@@ -141,7 +141,7 @@ fn variable_ahead<'a>(ahead: &mut Ahead<'a>) -> Option<AheadVariable<'a>>
         × (longest_of ahead.new ≡ longest_of ahead.old) }
 {
     let keyword = token_ahead(ahead)?;
-    if !is(keyword, b"$var") {
+    if !is_var(keyword) {
         return None;
     }
     let word = token_ahead(ahead)?;
@@ -166,17 +166,17 @@ fn variable_ahead<'a>(ahead: &mut Ahead<'a>) -> Option<AheadVariable<'a>>
 /// How the code of a variable of this size, which is an event or none, was found; none where it was declared with another size or
 /// kind.
 #[inline(always)]
-fn found_in(known: &Codes, code: &[u8], size: usize, event: bool) -> Option<Found>
+fn found_in(known: &Codes, code: Sought<'_>, size: usize, event: bool) -> Option<Found>
     ensures { (text type digits : List ℕ) (ds : List Declaration) → HasCodes text known.now ds
         → decimal_value digits ≡ size → bytes_eq (codes "event") type ≡ event
-        → list_all is_code_byte code.now ≡ true → IfSome result (λ found.
-        (first_failed (var_checks ds (type ∷ digits ∷ []) code.now) ≡ None)
+        → list_all is_code_byte code.entry.bytes.now ≡ true → IfSome result (λ found.
+        (first_failed (var_checks ds (type ∷ digits ∷ []) code.entry.bytes.now) ≡ None)
         × ((reference : List (List ℕ)) → IsFound ds (record {
           type = type;
           size = decimal_value digits;
-          code = code.now;
+          code = code.entry.bytes.now;
           reference = reference;
-        }) code.now found)) }
+        }) code.entry.bytes.now found)) }
 {
     let Some(coded) = known.find(code) else {
         return Some(Found::New);
@@ -218,19 +218,20 @@ fn declare(
         return Ok(false);
     }
     let event = is_event(variable.word);
-    let Some(found) = found_in(&draft.codes, variable.code, variable.size, event) else {
+    let code = Sought::new(variable.code);
+    let Some(found) = found_in(&draft.codes, code, variable.size, event) else {
         return Ok(false);
     };
     let start = draft.text.len();
     put_texts(&mut draft.text, variable)?;
     let word = variable.word.len();
     let all = variable.reference.text.len();
-    let code = place_of(
+    let place = place_of(
         alloc,
         &mut draft.text,
         &mut draft.codes,
         found,
-        variable.code,
+        code,
         variable.size,
         event,
     )?;
@@ -244,7 +245,7 @@ fn declare(
             word,
             name: variable.reference.name,
             all,
-            code,
+            code: place,
         },
     )?;
     Ok(true)

@@ -4,6 +4,7 @@ ghost use Rattle.vcd_model.specs.Declarations.{IdCode};
 ghost use Rattle.vcd_head.specs.Codes.{AreHeld, FindsAll, HasNone, IsAdded, IsKnown};
 
 use crate::fault::HeadFault;
+use crate::sought::Sought;
 use crate::table::Table;
 use crate::view::{Code, code_in};
 use std::alloc::{AllocError, Global};
@@ -36,44 +37,44 @@ impl Codes {
         }
     }
 
-    /// The code with these bytes.
+    /// The code that is sought.
     #[inline(always)]
-    pub(crate) fn find(&self, bytes: &[u8]) -> Option<Coded>
+    pub(crate) fn find(&self, sought: Sought<'_>) -> Option<Coded>
         ensures { (text : List ℕ) (cs : List IdCode) → AreHeld text self.now.list.items cs
-            → FindsAll cs self.now.table → IsKnown cs bytes.now result }
+            → FindsAll cs self.now.table → IsKnown cs sought.entry.bytes.now result }
     {
-        let place = self.table.place_of(bytes)?;
+        let place = self.table.place_of(sought)?;
         let code = code_in(&self.list, place)?;
         Some(Coded { place, code })
     }
 
-    /// Adds a code that is new, with its bytes; gives its place. The bytes of those before it lie in the text.
+    /// Adds a code that is new; gives its place. The bytes of those before it lie in the text.
     #[inline(always)]
     pub(crate) fn push(
         &mut self,
         alloc: Global,
         text: &[u8],
-        bytes: &[u8],
+        sought: Sought<'_>,
         code: Code,
     ) -> Result<usize, HeadFault>
-        ensures added { IfOk result (IsAdded text.now self.old self.new bytes.now code) }
+        ensures added { IfOk result (IsAdded text.now self.old self.new sought.entry.bytes.now code) }
         ensures memory { IfErr result (λ fault. fault ≡ HeadFault.OutOfMemory) }
     {
         let place = self.list.len();
-        self.make_room(alloc, text, bytes)?;
-        self.table.enter(alloc, bytes, place, code)?;
+        self.make_room(alloc, text, sought)?;
+        self.table.enter(alloc, sought, place, code)?;
         self.list.push(code)?;
         Ok(place)
     }
 
-    // Gives the table more entries where they are worth it for a new code with these bytes.
+    // Gives the table more entries where they are worth it for a new code.
     #[inline(always)]
-    fn make_room(&mut self, alloc: Global, text: &[u8], bytes: &[u8]) -> Result<(), AllocError>
+    fn make_room(&mut self, alloc: Global, text: &[u8], code: Sought<'_>) -> Result<(), AllocError>
         ensures found { (cs : List IdCode) → AreHeld text.now self.old.list.items cs
             → FindsAll cs self.old.table → IfOk result (λ _. FindsAll cs self.new.table) }
         ensures same { self.new.list ≡ self.old.list }
     {
-        if self.table.is_narrow(bytes, self.list.len()) {
+        if self.table.is_narrow(code, self.list.len()) {
             let entries = self.table.entries.len().saturating_mul(2);
             self.table
                 .widen(alloc, text, &self.list, entries.max(FEWEST_ENTRIES))?;

@@ -6,6 +6,7 @@ ghost use Rattle.vcd_head.specs.Draft.{HasCodes, IsFound, CodeHeld, IsNew};
 
 use crate::codes::Codes;
 use crate::fault::HeadFault;
+use crate::sought::Sought;
 use crate::view::{Code, Row, Scale};
 use std::alloc::Global;
 
@@ -49,26 +50,26 @@ impl Draft {
     }
 }
 
-/// The place of the code of a variable with these bytes, which is added where it is new, behind the text.
+/// The place of the code of a variable, which is added where it is new, behind the text.
 #[inline(always)]
 pub(crate) fn place_of(
     alloc: Global,
     text: &mut Vec<u8>,
     codes: &mut Codes,
     found: Found,
-    bytes: &[u8],
+    sought: Sought<'_>,
     size: usize,
     event: bool,
 ) -> Result<usize, HeadFault>
     ensures codes { (ds : List Declaration) (v : Variable)
-        → HasCodes text.old.items codes.old ds → IsFound ds v bytes.now found → IsSize size
+        → HasCodes text.old.items codes.old ds → IsFound ds v sought.entry.bytes.now found → IsSize size
         → size ≡ (code_of v).size → event ≡ (code_of v).event
         → IfOk result (CodeHeld text.old.items text.new.items codes.new ds v) }
     ensures memory { IfErr result (λ fault. fault ≡ HeadFault.OutOfMemory) }
 {
     match found {
         Found::Declared(place) => Ok(place),
-        Found::New => add_code(alloc, text, codes, bytes, size, event),
+        Found::New => add_code(alloc, text, codes, sought, size, event),
     }
 }
 
@@ -76,24 +77,27 @@ fn add_code(
     alloc: Global,
     text: &mut Vec<u8>,
     codes: &mut Codes,
-    bytes: &[u8],
+    sought: Sought<'_>,
     size: usize,
     event: bool,
 ) -> Result<usize, HeadFault>
     ensures codes { (ds : List Declaration) (v : Variable)
-        → HasCodes text.old.items codes.old ds → IsFound ds v bytes.now Found.New → IsSize size
+        → HasCodes text.old.items codes.old ds → IsFound ds v sought.entry.bytes.now Found.New → IsSize size
         → size ≡ (code_of v).size → event ≡ (code_of v).event
         → IfOk result (CodeHeld text.old.items text.new.items codes.new ds v) }
     ensures memory { IfErr result (λ fault. fault ≡ HeadFault.OutOfMemory) }
 {
+    let Ok(len) = u32::try_from(sought.bytes.len()) else {
+        return Err(HeadFault::OutOfMemory);
+    };
     let code = Code {
         start: text.len(),
-        len: bytes.len(),
+        len,
         size,
         event,
     };
-    text.extend_from_slice(bytes)?;
-    codes.push(alloc, text, bytes, code)
+    text.extend_from_slice(sought.bytes)?;
+    codes.push(alloc, text, sought, code)
 }
 
 // The code of a variable that is read.

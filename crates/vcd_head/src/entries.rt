@@ -1,6 +1,6 @@
 // The entries by which codes are looked up: where a code's entry is, and how they are filled. Any code may have any place among
 // them, and two the same: where an entry is decides only how fast a look-up is.
-ghost use Rattle.std.specs.Prelude.{◌≡◌, ◌≢◌, ◌+◌, ◌*◌, ◌^◌, ◌≤◌, ◌<◌, ℕ, List, true, length, set, slice_get, Some, IfOk};
+ghost use Rattle.std.specs.Prelude.{◌≡◌, ◌≢◌, ◌+◌, ◌-◌, ◌*◌, ◌%◌, ◌^◌, ◌≤◌, ◌<◌, ℕ, List, true, bit_and, length, set, slice_get, Some, IfOk};
 ghost use Rattle.vcd_head.specs.Entries.{above, are_right, entry_in, is_right, most_of, number_in, text_in};
 ghost use Rattle.vcd_head.specs.Keys.{key_in};
 ghost use Rattle.vcd_head.specs.declared.view.Code.{Code};
@@ -24,7 +24,23 @@ pub(crate) const EMPTY: Entry = Entry {
 pub(crate) fn entry_of(code: &[u8], entries: usize) -> usize
     ensures { result ≡ entry_in code.now entries }
 {
-    let number = match code {
+    entry_for(code_number(code), entries)
+}
+
+/// Where the entry of a code with this number is among so many, a power of two.
+#[inline(always)]
+pub(crate) fn entry_for(number: usize, entries: usize) -> usize
+    ensures { result ≡ bit_and number ((entries + (2 ^ 64 - 1)) % 2 ^ 64) }
+{
+    number & entries.wrapping_sub(1)
+}
+
+/// The number whose digits are the bytes of a code, the first one lowest.
+#[inline(always)]
+pub(crate) fn code_number(code: &[u8]) -> usize
+    ensures { result ≡ number_in code.now }
+{
+    match code {
         [first] => above(0, *first),
         [first, second] => above(above(0, *second), *first),
         [first, second, third] => above(above(above(0, *third), *second), *first),
@@ -33,8 +49,7 @@ pub(crate) fn entry_of(code: &[u8], entries: usize) -> usize
             *first,
         ),
         _ => number_of(code),
-    };
-    number & entries.wrapping_sub(1)
+    }
 }
 
 // The number with a lower digit after it.
@@ -126,7 +141,7 @@ fn fill(entries: &mut [Entry], text: &[u8], codes: &[Code])
     ensures len { length entries.new ≡ length entries.old }
 {
     for (place, code) in codes.iter().enumerate() {
-        let bytes = text_in(text, code.start, code.len);
+        let bytes = text_in(text, code.start, code.len as usize);
         let at = entry_of(bytes, entries.len());
         put(entries, at, entry_at(place, *code, bytes));
     }
@@ -137,13 +152,23 @@ fn fill(entries: &mut [Entry], text: &[u8], codes: &[Code])
 pub(crate) fn entry_at(place: usize, code: Code, bytes: &[u8]) -> Entry
     ensures right { (text : List ℕ) (codes : List Code) → slice_get codes place ≡ Some code
         → bytes.now ≡ text_in text code.start code.len → is_right text codes result ≡ true }
-    ensures own { result.key ≢ 0 → (result.key ≡ key_in bytes.now) × (result.place ≡ place) }
+{
+    entry_with(place, code, key_of(bytes))
+}
+
+/// The same of a code with this key.
+#[inline(always)]
+pub(crate) fn entry_with(place: usize, code: Code, key: u64) -> Entry
+    ensures right { (text bytes : List ℕ) (codes : List Code) → slice_get codes place ≡ Some code
+        → key ≡ key_in bytes → bytes ≡ text_in text code.start code.len
+        → is_right text codes result ≡ true }
+    ensures own { result.key ≢ 0 → (result.key ≡ key) × (result.place ≡ place) }
 {
     let Ok(place) = u32::try_from(place) else {
         return EMPTY;
     };
     Entry {
-        key: key_of(bytes),
+        key,
         place,
         most: most_of(code),
     }

@@ -147,7 +147,7 @@ fn bytes_at<'a>(text: &'a [u8], codes: &[Code], place: usize) -> &'a [u8]
     ensures { result.now ≡ bytes_at text.now codes.now place }
 {
     match code_in(codes, place) {
-        Some(code) => text_in(text, code.start, code.len),
+        Some(code) => text_in(text, code.start, code.len as usize),
         None => &[],
     }
 }

@@ -131,7 +131,7 @@ fn text_of<'a>(text: &'a [u8], codes: &[Code], place: usize) -> &'a [u8]
         → result.now ≡ code_text ks place }
 {
     match code_in(codes, place) {
-        Some(code) => text_in(text, code.start, code.len),
+        Some(code) => text_in(text, code.start, code.len as usize),
         None => &[],
     }
 }

@@ -18,8 +18,8 @@ use vcd_text::{Feed, Source};
 
 /// Reads a header up to the `$end` of `$enddefinitions`, with at most `most` declarations (at most 16,777,216). The feed then
 /// stands after that token. After a fault nothing of the head is left, and the feed's token is the last one given: empty where
-/// the input or its source ended the reading, else the one at which the fault stands. A type or a name of 2^32 bytes or more is
-/// out of memory.
+/// the input or its source ended the reading, else the one at which the fault stands. A type or a reference of 2^32 bytes or
+/// more is out of memory.
 pub fn read_head<S: Source>(
     alloc: Global,
     feed: &mut Feed<'_, '_, '_, '_, S>,

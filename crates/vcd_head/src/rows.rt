@@ -17,7 +17,7 @@ pub(crate) struct WideRow {
     pub(crate) code: usize,
 }
 
-/// Puts a row after the others. Numbers that 32 bits do not hold, as those of a type or a name of 4 GiB, are out of memory.
+/// Puts a row after the others. Numbers that 32 bits do not hold, as those of a type or a reference of 4 GiB, are out of memory.
 pub(crate) fn push(rows: &mut Vec<Row>, row: WideRow) -> Result<(), HeadFault>
     ensures items { IfOk result (λ _. rows.new.items ≡ rows.old.items ++ row_of row ∷ []) }
     ensures len { IfOk result (λ _. vec_len rows.new ≡ vec_len rows.old + 1) }
@@ -32,14 +32,20 @@ pub(crate) fn push(rows: &mut Vec<Row>, row: WideRow) -> Result<(), HeadFault>
     let Ok(name) = u32::try_from(row.name) else {
         return Err(HeadFault::OutOfMemory);
     };
+    let Ok(all) = u32::try_from(row.all) else {
+        return Err(HeadFault::OutOfMemory);
+    };
+    let Ok(code) = u32::try_from(row.code) else {
+        return Err(HeadFault::OutOfMemory);
+    };
     rows.push(Row {
         kind: row.kind,
         parent,
         word,
         name,
+        all,
+        code,
         start: row.start,
-        all: row.all,
-        code: row.code,
     })?;
     Ok(())
 }

@@ -4,8 +4,8 @@ ghost use Rattle.vcd_model.specs.Declarations.{IdCode};
 ghost use Rattle.vcd_head.specs.Codes.{AreHeld, FindsAll, IsEntered, entered, in_tree, place_in};
 ghost use Rattle.vcd_head.specs.declared.view.Entry.{Entry};
 
-use crate::entries::{EMPTY, entry_at, entry_of, put};
-use crate::key::key_of;
+use crate::entries::{EMPTY, entry_with, put};
+use crate::sought::Sought;
 use crate::view::{Code, Entry, text_in};
 use std::alloc::{AllocError, Global};
 use std::collections::BTreeMap;
@@ -55,20 +55,20 @@ impl Table {
     {
         self.empty(alloc, entries)?;
         for (place, code) in codes.iter().enumerate() {
-            let bytes = text_in(text, code.start, code.len);
-            self.enter(alloc, bytes, place, *code)?;
+            let bytes = text_in(text, code.start, code.len as usize);
+            self.enter(alloc, Sought::new(bytes), place, *code)?;
         }
         Ok(())
     }
 
-    /// The place of the code with these bytes.
+    /// The place of a code.
     #[inline(always)]
-    pub(crate) fn place_of(&self, bytes: &[u8]) -> Option<usize>
-        ensures { result ≡ place_in self.now bytes.now }
+    pub(crate) fn place_of(&self, code: Sought<'_>) -> Option<usize>
+        ensures { result ≡ place_in self.now code.entry.bytes.now }
     {
-        match entered(&self.entries, bytes) {
+        match entered(&self.entries, code) {
             Some(place) => Some(place),
-            None => self.other_place(bytes),
+            None => self.other_place(code.bytes),
         }
     }
 
@@ -82,11 +82,11 @@ impl Table {
         self.others.get(bytes).copied()
     }
 
-    /// Whether more entries are worth their memory for so many codes and a new one with these bytes: its entry is taken, there are
-    /// at most two for each, and most codes have one. So codes that simulators number one by one leave no entry empty.
+    /// Whether more entries are worth their memory for so many codes and this new one: its entry is taken, there are at most
+    /// two for each, and most codes have one. So codes that simulators number one by one leave no entry empty.
     #[inline(always)]
-    pub(crate) fn is_narrow(&self, bytes: &[u8], codes: usize) -> bool {
-        let at = entry_of(bytes, self.entries.len());
+    pub(crate) fn is_narrow(&self, code: Sought<'_>, codes: usize) -> bool {
+        let at = code.entry_among(self.entries.len());
         !is_free(&self.entries, at)
             && self.entries.len() / 2 <= codes
             && self.others.len() <= codes / 2
@@ -101,37 +101,37 @@ impl Table {
         Vec::new(alloc)
     }
 
-    /// Enters a code that is new, with these bytes and this place.
+    /// Enters a code that is new and has this place.
     #[inline(always)]
     pub(crate) fn enter(
         &mut self,
         alloc: Global,
-        bytes: &[u8],
+        sought: Sought<'_>,
         place: usize,
         code: Code,
     ) -> Result<(), AllocError>
-        ensures { place_in self.old bytes.now ≡ None
-            → IfOk result (λ _. IsEntered self.old self.new bytes.now place) }
+        ensures { place_in self.old sought.entry.bytes.now ≡ None
+            → IfOk result (λ _. IsEntered self.old self.new sought.entry.bytes.now place) }
     {
-        let entry = entry_at(place, code, bytes);
-        let at = entry_of(bytes, self.entries.len());
+        let entry = entry_with(place, code, sought.key);
+        let at = sought.entry_among(self.entries.len());
         if entry.key != 0 && is_free(&self.entries, at) {
             put(&mut self.entries, at, entry);
             return Ok(());
         }
-        self.others.insert(Vec::from_slice(alloc, bytes)?, place)?;
+        self.others
+            .insert(Vec::from_slice(alloc, sought.bytes)?, place)?;
         Ok(())
     }
 }
 
-// The place that the entry of these bytes gives, if it is theirs.
+// The place that the entry of a code gives, if it is its own.
 #[inline(always)]
-fn entered(entries: &[Entry], bytes: &[u8]) -> Option<usize>
-    ensures { result ≡ entered entries.now bytes.now }
+fn entered(entries: &[Entry], code: Sought<'_>) -> Option<usize>
+    ensures { result ≡ entered entries.now code.entry.bytes.now }
 {
-    let key = key_of(bytes);
-    let entry = entries.get(entry_of(bytes, entries.len()))?;
-    if key != 0 && entry.key == key {
+    let entry = entries.get(code.entry_among(entries.len()))?;
+    if code.key != 0 && entry.key == code.key {
         Some(entry.place as usize)
     } else {
         None

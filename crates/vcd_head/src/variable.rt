@@ -16,6 +16,7 @@ use crate::codes::Codes;
 use crate::draft::{Draft, Found, place_of};
 use crate::fault::HeadFault;
 use crate::rows::{WideRow, push};
+use crate::sought::Sought;
 use crate::texts::append_to_end;
 use crate::tokens::{next_token, next_word};
 use crate::view::Kind;
@@ -62,7 +63,7 @@ fn read_code<S: Source>(
     if !is_code(token) {
         return Err(HeadFault::BadVariable);
     }
-    let Some(coded) = known.find(token) else {
+    let Some(coded) = known.find(Sought::new(token)) else {
         held.clear();
         held.extend_from_slice(token)?;
         return Ok(Found::New);
@@ -109,7 +110,7 @@ pub(crate) fn read_variable<S: Source>(
         &mut draft.text,
         &mut draft.codes,
         found,
-        &draft.held,
+        Sought::new(&draft.held),
         size,
         event,
     )?;

@@ -23,12 +23,12 @@ pub struct Row {
     pub word: u32,
     /// The bytes of the reference's first token: a scope's name, or that of a variable.
     pub name: u32,
+    /// The bytes of the whole reference, its tokens with a space between.
+    pub all: u32,
+    /// The place of a variable's code in `codes`.
+    pub code: u32,
     /// Where in the text the type begins; the reference stands right after it.
     pub start: usize,
-    /// The bytes of the whole reference, its tokens with a space between.
-    pub all: usize,
-    /// The place of a variable's code in `codes`.
-    pub code: usize,
 }
 
 /// An identifier code (clause 18, $var).
@@ -36,10 +36,10 @@ pub struct Row {
 pub struct Code {
     /// Where in the text it begins.
     pub start: usize,
-    /// Its bytes.
-    pub len: usize,
     /// The size of its variables, 1 to 16,777,215 bits (profile).
     pub size: usize,
+    /// Its bytes.
+    pub len: u32,
     /// Its variables are events.
     pub event: bool,
 }
@@ -159,7 +159,10 @@ impl<'a> HeadView<'a> {
             → slice_get h.declarations row ≡ Some d → result.now ≡ reference_of d }
     {
         match self.row_at(row) {
-            Some(row) => self.text_at(row.start.saturating_add(row.word as usize), row.all),
+            Some(row) => self.text_at(
+                row.start.saturating_add(row.word as usize),
+                row.all as usize,
+            ),
             None => &[],
         }
     }
@@ -170,7 +173,7 @@ impl<'a> HeadView<'a> {
         ensures { (h : Header) → IsViewOf self.entry h → result.now ≡ code_text h.codes code }
     {
         match self.code_at(code) {
-            Some(code) => self.text_at(code.start, code.len),
+            Some(code) => self.text_at(code.start, code.len as usize),
             None => &[],
         }
     }

@@ -13,8 +13,15 @@ use crate::keyword::is;
 pub(crate) fn is_end(token: &[u8]) -> bool
     ensures { result ≡ ends token.now }
 {
-    // Few tokens begin so: mostly one comparison tells.
-    !token.is_empty() && token[0] == b'$' && is(token, b"$end")
+    matches!(token, [b'$', b'e', b'n', b'd'])
+}
+
+/// The keyword of a variable.
+#[inline(always)]
+pub(crate) fn is_var(token: &[u8]) -> bool
+    ensures { result ≡ bytes_eq (codes "$var") token.now }
+{
+    matches!(token, [b'$', b'v', b'a', b'r'])
 }
 
 pub(crate) fn is_event(word: &[u8]) -> bool

@@ -141,8 +141,8 @@ fn put_own<W: Sink>(view: HeadView<'_>, row: usize, w: &mut W) -> Result<(), Wri
     let Some(declared) = view.row_at(row) else {
         return Ok(());
     };
-    match view.code_at(declared.code) {
-        Some(code) => put_variable(view, row, code.size, view.text_at(code.start, code.len), w),
+    match view.code_at(declared.code as usize) {
+        Some(code) => put_variable(view, row, code.size, view.text_at(code.start, code.len as usize), w),
         None => Ok(()),
     }
 }
@@ -164,7 +164,7 @@ fn put_renamed<W: Sink>(
     let Some(declared) = view.row_at(row) else {
         return Ok(());
     };
-    match view.code_at(declared.code) {
+    match view.code_at(declared.code as usize) {
         Some(code) => {
             let id = NewCode::of(first.saturating_add(declared.code as u64));
             put_variable(view, row, code.size, id.text(), w)

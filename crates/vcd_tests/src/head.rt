@@ -38,8 +38,8 @@ fn row(
     start: usize,
     word: u32,
     name: u32,
-    all: usize,
-    code: usize,
+    all: u32,
+    code: u32,
 ) -> Row {
     Row {
         kind,

@@ -87,7 +87,7 @@ fn put_change_line<W: Sink>(
     let Some(code) = view.code_at(code) else {
         return Ok(());
     };
-    let id = view.text_at(code.start, code.len);
+    let id = view.text_at(code.start, code.len as usize);
     put_change(code.size, code.event, form, text, id, out)
 }
 

@@ -36,11 +36,11 @@ fn put_variable<W: Sink>(view: HeadView<'_>, row: usize, out: &mut W) -> Result<
     let Some(variable) = view.row_at(row) else {
         return Ok(());
     };
-    let Some(code) = view.code_at(variable.code) else {
+    let Some(code) = view.code_at(variable.code as usize) else {
         return Ok(());
     };
     let kind = view.type_of(row);
-    let bytes = view.code_text(variable.code);
+    let bytes = view.code_text(variable.code as usize);
     put_path(view, row, out)?;
     put_word(out, kind)?;
     put(out, b" ")?;

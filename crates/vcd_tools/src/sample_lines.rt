@@ -39,14 +39,14 @@ fn put_line<W: Sink>(
     let Some(variable) = view.row_at(row) else {
         return Ok(());
     };
-    if view.is_event(variable.code) {
+    if view.is_event(variable.code as usize) {
         return Ok(());
     }
     put_number(out, time)?;
     put(out, b" ")?;
     put_path(view, row, out)?;
     put(out, b" ")?;
-    table.put_full(view, variable.code, out)?;
+    table.put_full(view, variable.code as usize, out)?;
     put(out, b"\n")
 }
 

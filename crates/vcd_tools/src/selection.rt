@@ -30,8 +30,9 @@ fn choose_marked(view: HeadView<'_>, marks: &[u8], choice: &mut Choice<'_>)
         ≡ (is_chosen choice.old place || selects_code (selected names h.declarations) c) }
 {
     for (row, mark) in view.rows.iter().zip(marks) {
-        if row.kind == Kind::Var && *mark == 1 && row.code < view.codes.len() {
-            choice.choose(row.code);
+        let code = row.code as usize;
+        if row.kind == Kind::Var && *mark == 1 && code < view.codes.len() {
+            choice.choose(code);
         }
     }
 }

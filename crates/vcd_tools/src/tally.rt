@@ -103,7 +103,7 @@ fn put_row<W: Sink>(
     let Some(variable) = view.row_at(row) else {
         return Ok(());
     };
-    let [changes, rises, falls] = table.tally(variable.code);
+    let [changes, rises, falls] = table.tally(variable.code as usize);
     put_path(view, row, out)?;
     put_counter(changes, out)?;
     put_counter(rises, out)?;

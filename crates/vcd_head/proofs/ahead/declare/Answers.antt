@@ -1,7 +1,7 @@
-use Rattle.std.proofs.Common.{◌≡◌, ◌<◌, [], ◌∷◌, ◌++◌, length, IfSome, List, ℕ, None, bytes_eq, codes, refl, sym, ap, subst, ◌∙◌, arith}
-use Rattle.std.specs.List.{join_with_byte}
+use Rattle.std.proofs.Common.{◌≡◌, ◌<◌, true, [], ◌∷◌, ◌++◌, length, IfSome, List, ℕ, None, bytes_eq, codes, refl, sym, ap, subst, ◌∙◌, arith}
+use Rattle.std.specs.List.{join_with_byte, list_all}
 use Rattle.std.proofs.lemmas.List.{append_assoc, map-append}
-use Rattle.vcd_model.specs.Bytes.{decimal_value}
+use Rattle.vcd_model.specs.Bytes.{decimal_value, is_code_byte}
 use Rattle.vcd_model.specs.Checks.{first_failed}
 use Rattle.vcd_model.specs.Declarations.{Declaration}
 use Rattle.vcd_model.specs.HeaderChecks.{var_checks}
@@ -34,9 +34,13 @@ returns-clause-declares c = λ given more a k.
     let sf = size_found digits variable.size k.size_is in
     let sp = size_parts digits sf.0 in
     let ev : bytes_eq (codes "event") type ≡ c.is_event-event.result = sym c.is_event-event.ensures in
+    let sought = c.new-code.result.bytes.now in
+    let same : sought ≡ variable.code.now = c.new-code.ensures in
     let f : (first_failed (var_checks ds (type ∷ digits ∷ []) variable.code.now) ≡ None) × ((reference : List (List ℕ)) → IsFound ds (record { type = type; size = decimal_value digits; code = variable.code.now; reference = reference }) variable.code.now c.in-Some.found) =
     subst (λ o. IfSome o (λ (found : Found). (first_failed (var_checks ds (type ∷ digits ∷ []) variable.code.now) ≡ None) × ((reference : List (List ℕ)) → IsFound ds (record { type = type; size = decimal_value digits; code = variable.code.now; reference = reference }) variable.code.now found)))
-    c.in-Some.is (c.found_in.ensures old type digits ds hc sf.1 ev k.code_is) in
+    c.in-Some.is
+    (subst (λ b. list_all is_code_byte b ≡ true → IfSome c.found_in.result (λ (found : Found). (first_failed (var_checks ds (type ∷ digits ∷ []) b) ≡ None) × ((reference : List (List ℕ)) → IsFound ds (record { type = type; size = decimal_value digits; code = b; reference = reference }) b found)))
+    same (c.found_in.ensures old type digits ds hc sf.1 ev) k.code_is) in
     let join = join_with_byte 32 v.reference in
     let text : c.put_texts.new.text.items ≡ old ++ (type ++ join) = c.in_ok-put_texts.ensures ∙ ap (λ l. old ++ (type ++ l)) k.reference.text_is in
     let hc3 : HasCodes c.put_texts.new.text.items d.codes ds = subst (λ t. HasCodes t d.codes ds) (sym text) (has_codes_grow old (type ++ join) d.codes ds hc) in
@@ -44,11 +48,11 @@ returns-clause-declares c = λ given more a k.
     let z2 = sp.2 in
     let z3 = sf.1 in
     let is_size : IsSize variable.size = record { some = omega arith; most = omega arith } in
-    let ch = c.in_ok-code.ensures.codes ds v hc3 (f.1 v.reference) is_size (sym sf.1) (sym ev) in
+    let ch = c.in_ok-place.ensures.codes ds v hc3 (subst (λ b. IsFound ds v b c.in-Some.found) (sym same) (f.1 v.reference)) is_size (sym sf.1) (sym ev) in
     let grown : c.place_of.new.text.items ≡ old ++ (type ++ (join ++ ch.more)) = ch.grown ∙ ap (λ t. t ++ ch.more) text ∙ append_assoc old (type ++ join) ch.more ∙ ap (λ t. old ++ t) (append_assoc type join ch.more) in
     let start : c.len-start.result ≡ length old = omega arith in
     let all : length variable.reference.text.now ≡ length join = ap length k.reference.text_is in
-    let row : Row = record { kind = kind.Var; parent = c.parent-parent.result; start = c.len-start.result; word = length type; name = variable.reference.name; all = length variable.reference.text.now; code = c.in_ok-code.code } in
+    let row : Row = record { kind = kind.Var; parent = c.parent-parent.result; start = c.len-start.result; word = length type; name = variable.reference.name; all = length variable.reference.text.now; code = c.in_ok-place.place } in
     let p : Placed HeaderPhrase = record { phrase = HeaderPhrase.Declares (Declaration.Var v); line = k.reference.end.line } in
     record {
       placed = a.placed ++ p ∷ [];

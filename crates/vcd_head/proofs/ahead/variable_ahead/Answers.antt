@@ -34,7 +34,7 @@ returns-clause-gives c = λ limit lines bytes ts over p.
         digits = t3;
         code_line = four.0;
         rest = rest.0;
-        are = ap (λ b. record { bytes = b; line = one.0 } ∷ t2 ∷ t3 ∷ t4 ∷ rest.0) (sym (var_keyword t1.bytes (sym c.is.ensures ∙ c.if-not-is.false)));
+        are = ap (λ b. record { bytes = b; line = one.0 } ∷ t2 ∷ t3 ∷ t4 ∷ rest.0) (sym (var_keyword t1.bytes (sym c.is_var.ensures ∙ c.if-not-is_var.false)));
         type_on = sym c.is_end.ensures ∙ c.if-is_end.false;
         size_is = sym c.size_of.ensures ∙ c.in_ok-size.was;
         code_is = sym c.is_code.ensures ∙ c.if-not-is_code.false;

@@ -1,4 +1,4 @@
-use Rattle.std.proofs.Common.{◌≡◌, length, ◌∙◌, arith, subst}
+use Rattle.std.proofs.Common.{◌≡◌, length, ◌∙◌, arith, rules, subst}
 use Rattle.std.proofs.lemmas.Result.{IfOk-weaker}
 use Rattle.vcd_head.specs.declared.view.Code.{Code}
 use Rattle.vcd_head.specs.Codes.{IsAdded}
@@ -13,10 +13,11 @@ returns-clause-codes c = λ ds v h found size same event.
     let new = c.extend_from_slice.new.self.items in
     let before = c.args.codes.now in
     let after = c.push.new.self in
-    let bytes = c.args.bytes.now in
+    let bytes = c.args.sought.bytes.now in
     let start : c.len.result ≡ length old = omega arith in
-    let code : Code = record { start = c.len.result; len = length bytes; size = c.args.size; event = c.args.event } in
+    let code : Code = record { start = c.len.result; len = c.in-Ok.len; size = c.args.size; event = c.args.event } in
+    let len : c.in-Ok.len ≡ length bytes = search rules in
     let text = c.in_ok-extend_from_slice.ensures.items in
     IfOk-weaker c.push.result (IsAdded c.deref.result.now before after bytes code) (CodeHeld old new after ds v) (λ place added.
-    held_new old new before after ds v bytes code place h found.1 found.0 (subst IsSize same size) (λ j. record { start = start j; len = length bytes; size = same j; event = event j }) text
+    held_new old new before after ds v bytes code place h found.1 found.0 (subst IsSize same size) (λ j. record { start = start j; len = len j; size = same j; event = event j }) text
     (subst (λ t. IsAdded t before after bytes code place) (c.deref.ensures.value ∙ text) added)) c.push.ensures.added

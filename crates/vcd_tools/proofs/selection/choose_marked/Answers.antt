@@ -7,13 +7,13 @@ use Rattle.vcd_head.specs.Shown.{parts}
 use Rattle.vcd_tools.specs.Choice.{is_chosen}
 use Rattle.vcd_tools.proofs.SelectionLemmas.{HaveChosen, are_at, none_chosen, next_chosen, next_other, next_unmarked, next_outside, all_chosen}
 use Rattle.vcd_tools.proofs.selection.choose_marked.Goals as goal
-use Rattle.vcd_tools.proofs.selection.choose_marked.Goals.{else-eq-via-then-eq+then-mark-eq1+else-row-view, else-eq-via-then-eq+else-mark-eq1, else-eq-via-else-eq}
+use Rattle.vcd_tools.proofs.selection.choose_marked.Goals.{else-eq-via-then-eq+then-mark-eq1+else-code-view, else-eq-via-then-eq+else-mark-eq1, else-eq-via-else-eq}
 
 pub loop-row-init : goal.loop-row-init
 loop-row-init c = (refl, none_chosen (parts c.args.view) c.args.marks.now (is_chosen c.args.choice.now))
 
-pub loop-row-preserved-then-row-view : goal.loop-row-preserved-then-row-view
-loop-row-preserved-then-row-view c =
+pub loop-row-preserved-then-code-view : goal.loop-row-preserved-then-code-view
+loop-row-preserved-then-code-view c =
     let s = parts c.args.view in
     let old = is_chosen c.args.choice.now in
     let i = length c.loop-row.yielded in
@@ -39,7 +39,7 @@ loop-row-preserved c =
     let there = are_at c.args.view.rows.now marks i r m turn in
     let so_far = c.loop-row.invariant.1 in
     let more : HaveChosen s marks old now (i + 1) = elim c.else-eq.branch [
-      | else-eq-via-then-eq+then-mark-eq1+else-row-view w ↦ next_outside s marks old now i r m so_far there (sym c.eq.ensures ∙ w.if-eq.true) w.if-row-view.false
+      | else-eq-via-then-eq+then-mark-eq1+else-code-view w ↦ next_outside s marks old now i r m so_far there (sym c.eq.ensures ∙ w.if-eq.true) w.if-code-view.false
       | else-eq-via-then-eq+else-mark-eq1 w ↦ next_unmarked s marks old now i r m so_far there w.if-mark-eq1.false
       | else-eq-via-else-eq w ↦ next_other s marks old now i r m so_far there (sym c.eq.ensures ∙ w.if-eq.false)
     ] in

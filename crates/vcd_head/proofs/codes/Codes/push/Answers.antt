@@ -1,18 +1,16 @@
 use Rattle.std.proofs.Common.{◌≡◌, ◌++◌, [], ◌∷◌, length, ap, ◌∙◌, arith}
-use Rattle.std.proofs.lemmas.Grind.{get_or_default_zero}
 use Rattle.vcd_head.specs.Keys.{AreBytes}
 use Rattle.vcd_head.proofs.CodesLemmas.{finds_more, not_found}
-use Rattle.vcd_head.proofs.KeyLemmas.{are_bytes}
 use Rattle.vcd_head.proofs.LookUpLemmas.{codes_len}
 use Rattle.vcd_head.proofs.codes.Codes.push.Goals as goal
 
 pub returns-clause-added : goal.returns-clause-added
 returns-clause-added c =
     let text = c.args.text.now in
-    let bytes = c.args.bytes.now in
+    let bytes = c.args.sought.bytes.now in
     let old = c.args.self.now in
     let place = c.len-place.result in
-    let own : AreBytes bytes = are_bytes bytes (λ i d l. rw (get_or_default_zero bytes i d l) (let fit = c.type_inv.bytes i in omega (arith, fit))) in
+    let own : AreBytes bytes = c.args.sought.own in
     let last : place ≡ length old.list.items = omega arith in
     record {
       own = own;

@@ -1,4 +1,4 @@
-use Rattle.std.proofs.Common.{subst, arith}
+use Rattle.std.proofs.Common.{subst, ◌∙◌, arith}
 use Rattle.std.proofs.lemmas.List.{take_all}
 use Rattle.std.proofs.lemmas.Option.{slice_get-get_or}
 use Rattle.vcd_head.specs.Codes.{FindsAll}
@@ -13,7 +13,7 @@ pub loop-place-preserved : goal.loop-place-preserved
 loop-place-preserved c = λ cs h.
     let codes = c.args.codes.now in
     let there = slice_get-get_or codes c.loop-place.place _ (omega arith) in
-    finds_next c.args.text.now codes cs c.loop-place.self c.enter.new.self c.text_in-bytes.result.now c.loop-place.place _ h (c.loop-place.invariant cs h) there c.text_in-bytes.ensures c.in_ok-enter.ensures
+    finds_next c.args.text.now codes cs c.loop-place.self c.enter.new.self c.new.result.bytes.now c.loop-place.place _ h (c.loop-place.invariant cs h) there (c.new.ensures ∙ c.text_in-bytes.ensures) c.in_ok-enter.ensures
 
 pub returns : goal.returns
 returns c = λ cs h.
