@@ -79,6 +79,11 @@ held_gathered g g' bytes n n' a b e =
 
 -- ---- one call
 
+-- the last piece was gathered behind what was held before it
+pub gathered_on : (g g' bytes : List ℕ) (n n' a b : ℕ) (out out' : Device) → PutsAll (take n g) (take n' g') out out' (slice_range bytes a b) → PutsAll (take n g ++ slice_range bytes a b) (take n' g' ++ slice_range bytes b b) out out' []
+gathered_on g g' bytes n n' a b out out' (written, e, w) =
+    (written, append-nil (take n g ++ slice_range bytes a b) ∙ e ∙ ap (λ l. written ++ l) (sym (append-nil (take n' g')) ∙ ap (λ l. take n' g' ++ l) (sym (none_between bytes b b (omega arith)))), w)
+
 -- nothing is written, and what is held grows
 pub held_on : (held held' due : List ℕ) (out : Device) → held ++ due ≡ held' → PutsAll held held' out out due
 held_on held held' due out e = ([], e, writes-none out)

@@ -23,7 +23,7 @@ IsLine bytes line from time = (line ≤ from) × (line < from → slice_range by
 
 -- the last piece is a part of these bytes, and there is room for those that were gathered
 abbrev pub IsPart : List ℕ → Pieces → Type 0
-IsPart bytes p = (p.from ≤ p.to) × (p.to ≤ length bytes) × (p.gathered.now.len ≤ 2048) × (2048 ≤ length p.gathered.now.bytes)
+IsPart bytes p = (p.from ≤ p.to) × (p.to ≤ length bytes) × (p.gathered.now.len ≤ 16384) × (16384 ≤ length p.gathered.now.bytes)
 
 -- the text that is held: what was gathered, and the last piece
 abbrev pub held_in : List ℕ → Pieces → List ℕ

@@ -13,6 +13,7 @@ ghost use Rattle.vcd_body.specs.declared.item.Item.TheVariants as kind;
 ghost use Rattle.vcd_tools.specs.Pieces.{IsLine, IsPart, Lies, PutsOn, held_in};
 
 use crate::item_text::put_time;
+use std::simd::prelude::*;
 use vcd_body::{Form, Item, Plain, Regs, is_mark_line, left_out};
 use vcd_text::{Sink, WriteFailed, put};
 
@@ -69,10 +70,13 @@ impl Lying<'_> {
 }
 
 /// So many bytes of short pieces are gathered.
-const GATHERED: usize = 2048;
+const GATHERED: usize = 16_384;
 
 /// A piece of at most so many bytes is short: it is copied by a copy of so many, whatever its length.
 const SHORT: usize = 64;
+
+/// A piece of at most so many bytes is gathered too; a longer one is written from the chunk.
+const LONG: usize = 1024;
 
 /// Short pieces that are due, one after the other.
 #[derive(Drop)]
@@ -90,7 +94,7 @@ fn copy_short(to: &mut [u8], place: usize, bytes: &[u8], from: usize)
     ensures copied { take (place + 64) to.new
         ≡ take place to.old ++ slice_range bytes.now from (from + 64) }
 {
-    to[place..place + SHORT].copy_from_slice(&bytes[from..from + SHORT]);
+    u8x64::from_slice(&bytes[from..]).copy_to_slice(&mut to[place..]);
 }
 
 impl Gathered {
@@ -98,7 +102,7 @@ impl Gathered {
     #[inline(always)]
     pub(crate) fn new() -> Gathered
         ensures none { result.len ≡ 0 }
-        ensures size { 2048 ≤ length result.bytes }
+        ensures size { 16384 ≤ length result.bytes }
     {
         Gathered {
             bytes: [0; GATHERED],
@@ -110,12 +114,12 @@ impl Gathered {
     #[inline(always)]
     fn has_room(&self, bytes: &[u8], from: usize, to: usize) -> bool
         requires within { (from ≤ to) × (to ≤ length bytes.now) }
-        requires room { self.now.len ≤ 2048 }
+        requires room { self.now.len ≤ 16384 }
         ensures short { result ≡ true → to ≤ from + 64 }
         ensures there { result ≡ true → from + 64 ≤ length bytes.now }
-        ensures room { result ≡ true → self.now.len + 64 ≤ 2048 }
+        ensures room { result ≡ true → self.now.len + 64 ≤ 16384 }
     {
-        to - from <= SHORT && bytes.len() - from >= SHORT && GATHERED - self.len >= SHORT
+        to - from <= SHORT && from + SHORT <= bytes.len() && self.len <= GATHERED - SHORT
     }
 
     /// Takes a short part of the bytes behind the others.
@@ -123,16 +127,78 @@ impl Gathered {
     fn push(&mut self, bytes: &[u8], from: usize, to: usize)
         requires short { (from ≤ to) × (to ≤ from + 64) }
         requires there { from + 64 ≤ length bytes.now }
-        requires room { self.old.len + 64 ≤ 2048 }
-        requires size { 2048 ≤ length self.old.bytes }
+        requires room { self.old.len + 64 ≤ 16384 }
+        requires size { 16384 ≤ length self.old.bytes }
         ensures pushed { take self.new.len self.new.bytes
             ≡ take self.old.len self.old.bytes ++ slice_range bytes.now from to }
-        ensures room { self.new.len ≤ 2048 }
-        ensures size { 2048 ≤ length self.new.bytes }
+        ensures room { self.new.len ≤ 16384 }
+        ensures size { 16384 ≤ length self.new.bytes }
     {
         copy_short(&mut self.bytes, self.len, bytes, from);
         self.len += to - from;
     }
+
+    /// Takes a part of any length behind the others, where it has room.
+    fn push_long(&mut self, bytes: &[u8], from: usize, to: usize)
+        requires within { (from ≤ to) × (to ≤ length bytes.now) }
+        requires room { self.old.len + (to - from) ≤ 16384 }
+        requires size { 16384 ≤ length self.old.bytes }
+        ensures pushed { take self.new.len self.new.bytes
+            ≡ take self.old.len self.old.bytes ++ slice_range bytes.now from to }
+        ensures room { self.new.len ≤ 16384 }
+        ensures size { 16384 ≤ length self.new.bytes }
+    {
+        let end = self.len + (to - from);
+        self.bytes[self.len..end].copy_from_slice(&bytes[from..to]);
+        self.len = end;
+    }
+
+    /// Writes the gathered bytes, of which none are left then.
+    fn empty<W: Sink>(&mut self, out: &mut W) -> Result<(), WriteFailed>
+        requires failures { (W.device out.old).failures < 2 ^ 64 - 1 }
+        requires room { self.old.len ≤ 16384 }
+        requires size { 16384 ≤ length self.old.bytes }
+        ensures puts { Puts (W.device out.old) (W.device out.new)
+            (take self.old.len self.old.bytes) result }
+        ensures empty { IfOk result (λ _. self.new.len ≡ 0) }
+        ensures size { 16384 ≤ length self.new.bytes }
+    {
+        put(out, &self.bytes[..self.len])?;
+        self.len = 0;
+        Ok(())
+    }
+}
+
+/// Gathers a part of the bytes behind the others, which are written where it has no room beside them; a long part is written too.
+#[cold]
+#[inline(never)]
+fn gather_slowly<W: Sink>(
+    gathered: &mut Gathered,
+    bytes: &[u8],
+    from: usize,
+    to: usize,
+    out: &mut W,
+) -> Result<(), WriteFailed>
+    requires failures { (W.device out.old).failures < 2 ^ 64 - 1 }
+    requires within { (from ≤ to) × (to ≤ length bytes.now) }
+    requires room { gathered.old.len ≤ 16384 }
+    requires size { 16384 ≤ length gathered.old.bytes }
+    ensures puts { PutsOn (take gathered.old.len gathered.old.bytes)
+        (take gathered.new.len gathered.new.bytes)
+        (W.device out.old) (W.device out.new) (slice_range bytes.now from to) result }
+    ensures counts { Counts (W.device out.old) (W.device out.new) result }
+    ensures room { IfOk result (λ _. gathered.new.len ≤ 16384) }
+    ensures size { 16384 ≤ length gathered.new.bytes }
+{
+    if to - from > LONG {
+        gathered.empty(out)?;
+        return put(out, &bytes[from..to]);
+    }
+    if GATHERED - gathered.len < to - from {
+        gathered.empty(out)?;
+    }
+    gathered.push_long(bytes, from, to);
+    Ok(())
 }
 
 /// The text that is due and not yet written: short pieces of it, which were gathered, and then a part of the chunk. Beside the loan it
@@ -168,7 +234,7 @@ impl<'a> Pieces<'a> {
     #[inline(always)]
     pub(crate) fn new(gathered: &'a mut Gathered) -> Pieces<'a>
         requires none { gathered.old.len ≡ 0 }
-        requires size { 2048 ≤ length gathered.old.bytes }
+        requires size { 16384 ≤ length gathered.old.bytes }
         ensures part { (bytes : List ℕ) → IsPart bytes result }
         ensures held { (bytes : List ℕ) → held_in bytes result ≡ [] }
     {
@@ -218,7 +284,7 @@ impl<'a> Pieces<'a> {
         Ok(ended)
     }
 
-    /// Gathers the last piece, where it is short and there is room; else all that is held is written.
+    /// Gathers the last piece, and writes what has to be written for it.
     #[inline(always)]
     fn gather<W: Sink>(&mut self, bytes: &[u8], out: &mut W) -> Result<(), WriteFailed>
         requires failures { (W.device out.old).failures < 2 ^ 64 - 1 }
@@ -234,7 +300,9 @@ impl<'a> Pieces<'a> {
             self.from = self.to;
             return Ok(());
         }
-        self.flush(bytes, out)
+        gather_slowly(self.gathered, bytes, self.from, self.to, out)?;
+        self.from = self.to;
+        Ok(())
     }
 
     /// Takes the part of the bytes that is due next: where it follows what is held, that grows, and nothing is written.

@@ -1,6 +1,6 @@
-use Rattle.std.proofs.Common.{◌≤◌, ◌++◌, ◌∷◌, [], Bool, Result, Ok, Err, true, false, length, refl, sym, ap, subst, ◌∙◌, append_assoc, ◌<◌, IfErr, rules}
+use Rattle.std.proofs.Common.{◌≤◌, ◌++◌, ◌∷◌, [], Bool, Result, Ok, Err, true, false, length, refl, sym, ap, subst, ◌∙◌, append_assoc, ◌<◌, IfErr}
 use Rattle.std.specs.Prelude.{IfOk}
-use Rattle.vcd_model.specs.Outcome.{open_text, Request}
+use Rattle.vcd_model.specs.Outcome.{open_text}
 use Rattle.vcd_text.specs.Ahead.{bytes_of, longest_of, passed_of}
 use Rattle.vcd_text.specs.Device.{Counts, Puts}
 use Rattle.vcd_text.specs.declared.device.WriteFailed.{WriteFailed}
