@@ -12,6 +12,7 @@ pub mod ChangeLine
 pub mod RenamedLemmas
 pub mod OnesLemmas
 pub mod PackedLemmas
+pub mod CodeLanes
 pub mod BinaryLemmas
 pub mod BinaryShort
 pub mod StoreLemmas
