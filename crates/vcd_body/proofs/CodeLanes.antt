@@ -1,10 +1,10 @@
 -- Codes of digits as lanes of a vector.
-use Rattle.std.proofs.Common.{◌≡◌, ℕ, ◌+◌, ◌*◌, ◌%◌, ◌<◌, ◌≤◌, ◌==◌, Bool, true, cond, List, [], ◌∷◌, length, map, get_or, replicate, Fits, w8, refl, sym, ap, ap₂, ◌∙◌, arith}
-use Rattle.std.proofs.lemmas.Bool.{agree_below, agree_below_at, eqb-true}
+use Rattle.std.proofs.Common.{◌≡◌, ◌≢◌, ℕ, ◌+◌, ◌*◌, ◌/◌, ◌%◌, ◌^◌, ◌<◌, ◌≤◌, ◌==◌, Bool, true, cond, not, List, [], ◌∷◌, length, map, get_or, replicate, Fits, w8, refl, sym, ap, ap₂, ◌∙◌, arith}
+use Rattle.std.proofs.lemmas.Bool.{agree_below, agree_below_at, eq-eqb, eqb-true}
 use Rattle.std.proofs.lemmas.List.{get_or-map, length-map}
-use Rattle.std.proofs.lemmas.Simd.{get_or-chunk, get_or-zip2, length-chunk, length-zip2, map-map, splat_is_map, zip2_of_maps, zip2_splat}
+use Rattle.std.proofs.lemmas.Simd.{get_or-chunk, get_or-zip2, length-chunk, length-zip2, map-map, splat_is_map, tops_compared, zip2_of_maps, zip2_splat}
 use Rattle.std.specs.Prelude.{bit_and, bit_xor, nat_lt}
-use lib.Lanes.{chunk, sel_l, top, zip2, Each1}
+use lib.Lanes.{chunk, mask_l, sel_l, top, zip2, Each1}
 use Rattle.vcd_body.specs.Packed.{code_of, code_or}
 use Rattle.vcd_body.proofs.PackedLemmas.{in_text}
 
@@ -74,3 +74,23 @@ lane_4_times low high a b k less fits =
     let e = get_or-zip2 added high high k 0 0 0 (omega arith) (omega arith) in
     let g = get_or-zip2 added (zip2 added high high) (zip2 added high high) k 0 0 0 (omega (arith, t)) (omega (arith, t)) in
     get_or-zip2 added low (zip2 added (zip2 added high high) (zip2 added high high)) k 0 0 0 (omega arith) (omega (arith, t, f)) ∙ omega (arith, e, g)
+
+-- ---- rows of codes that are compared
+
+none_set : (xs : List ℕ) → mask_l (zip2 (λ a b. not (a == b)) xs xs) ≡ 0
+none_set [] = refl
+none_set (x ∷ xs) = let e : (x == x) ≡ true = eq-eqb x x refl in rw (e, none_set xs) refl
+
+pub no_mask : (xs : List ℕ) → mask_l (map (top 7) (zip2 (λ a b. cond (not (a == b)) 255 0) xs xs)) % 2 ^ 64 ≡ 0
+no_mask xs = ap (λ ms. mask_l ms % 2 ^ 64) (tops_compared w8 (λ a b. not (a == b)) xs xs) ∙ ap (λ n. n % 2 ^ 64) (none_set xs)
+
+-- so rows with a mask differ
+pub mask_differs : (xs ys : List ℕ) → not (mask_l (map (top 7) (zip2 (λ a b. cond (not (a == b)) 255 0) xs ys)) % 2 ^ 64 == 0) ≡ true → xs ≢ ys
+mask_differs xs ys some e =
+    let z = ap (λ l. mask_l (map (top 7) (zip2 (λ a b. cond (not (a == b)) 255 0) xs l)) % 2 ^ 64) (sym e) ∙ no_mask xs in
+    let t : not (0 == 0) ≡ true = ap (λ n. not (n == 0)) (sym z) ∙ some in
+    cc t
+
+-- the codes of the last digits of bytes
+pub last_codes : (v : List ℕ) → length v ≡ 16 → Each1 (Fits w8) v → zip2 (λ a b. a / 2 ^ b) v (replicate 16 6) ≡ map (λ y. y / 64) v
+last_codes v long fits = zip2_splat (λ a b. a / 2 ^ b) v 16 6 long

@@ -24,6 +24,7 @@ pub mod HeldShort
 pub mod HeldLines
 pub mod SetLemmas
 pub mod CompareLemmas
+pub mod EndLemmas
 pub mod StepLemmas
 pub mod NumberLemmas
 pub mod AheadLemmas

@@ -1,6 +1,8 @@
 // Digits in a share: a byte each, or four to a byte, one of each quarter of them.
-ghost use Rattle.std.specs.Prelude.{◌≡◌, ◌≤◌, ◌<◌, ◌+◌, ◌*◌, ℕ, get_or, length, map, slice_get};
+ghost use Rattle.std.specs.Prelude.{◌≡◌, ◌≢◌, ◌≤◌, ◌<◌, ◌+◌, ◌*◌, ◌/◌, ℕ, get_or, length, map, slice_get, true};
 ghost use Rattle.std.specs.Simd.Lanes.{chunk};
+ghost use Rattle.std.specs.Str.{str_to_ascii_lowercase};
+ghost use Rattle.vcd_model.specs.Values.{extend};
 ghost use Rattle.vcd_body.specs.Packed.{code_among, code_of, code_or, digit_of, digits_in, four_codes, held_digit};
 
 use std::simd::prelude::*;
@@ -106,6 +108,55 @@ fn codes_16(bytes: &[u8], at: usize) -> u8x16
     let is_x = (v & u8x16::splat(0xdf)).simd_eq(u8x16::splat(b'X'));
     let at_most_2 = (v ^ u8x16::splat(b'0')).simd_min(u8x16::splat(2));
     at_most_2 + is_x.select(u8x16::splat(1), u8x16::splat(0))
+}
+
+/// Whether two rows of 16 codes differ.
+#[inline(always)]
+fn codes_differ(first: u8x16, second: u8x16) -> bool
+    ensures { result ≡ true → first ≢ second }
+{
+    first.simd_ne(second).to_bitmask() != 0
+}
+
+/// Whether the last 16 digits of a share that holds a byte a digit and those of a text tell that the values differ; false where
+/// either has fewer.
+#[inline(always)]
+pub(crate) fn plain_ends_differ(share: &[u8], text: &[u8]) -> bool
+    ensures { result ≡ true → (size : ℕ) → extend (map held_digit share.now) size
+        ≢ extend (str_to_ascii_lowercase text.now) size }
+{
+    if share.len() < 16 || text.len() < 16 {
+        return false;
+    }
+    codes_differ(
+        codes_16(share, share.len() - 16),
+        codes_16(text, text.len() - 16),
+    )
+}
+
+/// The codes of the last digits of the 16 bytes from a place on.
+#[inline(always)]
+fn last_codes_16(bytes: &[u8], at: usize) -> u8x16
+    requires { at + 16 ≤ length bytes.now }
+    ensures { result ≡ map (λ y. y / 64) (chunk at 16 bytes.now) }
+{
+    u8x16::from_slice(&bytes[at..]) >> u8x16::splat(6)
+}
+
+/// The same of `len` packed digits: the last 16 are in the bytes of the last places.
+#[inline(always)]
+pub(crate) fn packed_ends_differ(share: &[u8], len: usize, text: &[u8]) -> bool
+    ensures { result ≡ true → (size : ℕ) → extend (digits_in len share.now) size
+        ≢ extend (str_to_ascii_lowercase text.now) size }
+{
+    let quarter = len.div_ceil(4);
+    if quarter < 16 || share.len() < quarter || text.len() < 16 {
+        return false;
+    }
+    codes_differ(
+        last_codes_16(share, quarter - 16),
+        codes_16(text, text.len() - 16),
+    )
 }
 
 /// The one plus four times the other.
