@@ -1,17 +1,16 @@
 -- The value that a slot holds, digit by digit.
 use Rattle.std.proofs.Common.{◌≡◌, ℕ, zero, suc, ◌-◌, ◌<◌, ◌≤◌, List, [], ◌∷◌, ◌++◌, length, take, map, replicate, slice_get, Some, None, refl, sym, ap, ◌∙◌, arith}
 use Rattle.std.proofs.lemmas.List.{length-map, length-take}
-use Rattle.std.proofs.lemmas.Grind.{div_ceil_times}
 use Rattle.std.proofs.lemmas.Option.{slice_get_past}
 use Rattle.vcd_model.specs.Values.{extend, extension}
 use Rattle.vcd_body.specs.Kept.{Held, bytes_for, digit_in, value_at_size}
 use Rattle.vcd_body.specs.Binary.{binary_digits, count_in, number_in}
-use Rattle.vcd_body.specs.Packed.{digits_in, held_digit, quarter_of, unpacked}
+use Rattle.vcd_body.specs.Packed.{digits_in, held_digit}
 use Rattle.vcd_body.specs.Stored.{digits_held, held_by, some_by, used_by}
 use Rattle.vcd_body.specs.declared.slot.State.{State}
 use Rattle.vcd_body.specs.declared.slot.State.TheVariants as state
 use Rattle.vcd_body.proofs.BinaryLemmas.{some_binary}
-use Rattle.vcd_body.proofs.PackedLemmas.{length_unpacked}
+use Rattle.vcd_body.proofs.PackedLemmas.{length_digits}
 
 -- ---- held digits
 
@@ -26,13 +25,7 @@ none_taken xs n i h = slice_get_past (take n xs) i (let l = length-take n xs in 
 
 -- so many packed digits are held
 pub length_held : (len : ℕ) (bytes : List ℕ) → bytes_for len ≤ length bytes → length (digits_in len bytes) ≡ len
-length_held len bytes h =
-    let d = div_ceil_times len 4 (omega arith) in
-    let first = take (quarter_of len) bytes in
-    let f = length-take (quarter_of len) bytes in
-    let u = length_unpacked first in
-    let l = length-take len (unpacked first) in
-    omega arith
+length_held len bytes h = length_digits len bytes
 
 pub count_held : (st : State) (len : ℕ) (bytes : List ℕ) → st ≡ state.Digits → used_by st len ≤ length bytes → len ≡ length (digits_held (held_by st len bytes))
 count_held st len bytes is h = rw is (sym (length_held len bytes (let u = ap (λ (x : State). used_by x len) is in omega (arith, u, h))))

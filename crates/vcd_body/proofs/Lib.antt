@@ -12,6 +12,7 @@ pub mod ChangeLine
 pub mod RenamedLemmas
 pub mod OnesLemmas
 pub mod PackedLemmas
+pub mod CodeLanes
 pub mod BinaryLemmas
 pub mod BinaryShort
 pub mod StoreLemmas
@@ -23,6 +24,7 @@ pub mod HeldShort
 pub mod HeldLines
 pub mod SetLemmas
 pub mod CompareLemmas
+pub mod EndLemmas
 pub mod StepLemmas
 pub mod NumberLemmas
 pub mod AheadLemmas

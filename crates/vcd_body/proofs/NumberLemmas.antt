@@ -1,5 +1,5 @@
 -- Binary digits tell their number, at each size.
-use Rattle.std.proofs.Common.{◌≡◌, ℕ, zero, suc, ◌+◌, ◌-◌, ◌*◌, ◌/◌, ◌%◌, ◌^◌, ◌<◌, ◌≤◌, ◌==◌, ◌&&◌, max, nat_lt, get_or, Bool, true, false, not, cond, List, ◌∷◌, ◌++◌, length, map, replicate, take, Option, Some, None, refl, sym, ap, ◌∙◌, arith}
+use Rattle.std.proofs.Common.{◌≡◌, ℕ, zero, suc, ◌+◌, ◌-◌, ◌*◌, ◌/◌, ◌%◌, ◌^◌, ◌<◌, ◌≤◌, ◌==◌, ◌&&◌, max, nat_lt, get_or, Bool, true, false, not, cond, List, ◌∷◌, ◌++◌, length, map, replicate, Option, Some, None, refl, sym, ap, ◌∙◌, arith}
 use Rattle.std.specs.Bool.{Decides}
 use Rattle.std.specs.Char.{to_ascii_lowercase}
 use Rattle.std.specs.List.{last_or}
@@ -8,14 +8,14 @@ use Rattle.std.proofs.Math.Nat.{div-eq_of_lt, div-one, lt-div-mul-add, mod-eq_of
 use Rattle.std.proofs.lemmas.Bool.{eq-eqb, eqb-true, lt-ltb}
 use Rattle.std.proofs.lemmas.Bool.Decides.{Decides-eqb, same_from_decides}
 use Rattle.std.proofs.lemmas.Grind.{div_ceil_times}
-use Rattle.std.proofs.lemmas.List.{length-map, length-take}
+use Rattle.std.proofs.lemmas.List.{length-map}
 use Rattle.std.proofs.lemmas.Nat.{mod-pow-add, mod_below, pow_pos}
 use Rattle.std.proofs.lemmas.Slice.Eq.{bytes_eq-Decides}
 use Rattle.vcd_model.specs.Values.{extend, extension, value_with}
 use Rattle.vcd_body.specs.Binary.{binary_digits, count_in, is_proper, number_in}
 use Rattle.vcd_body.specs.Items.{model_form}
 use Rattle.vcd_body.specs.Kept.{Held, IsStep, Kept, bytes_for, goes_from, room_for, value_at_size, with_held, with_text}
-use Rattle.vcd_body.specs.Packed.{held_digit, quarter_of, unpacked}
+use Rattle.vcd_body.specs.Packed.{held_digit}
 use Rattle.vcd_body.specs.Stored.{digits_held, held_by, held_of, kept_with, some_by}
 use Rattle.vcd_body.specs.declared.item.Form.TheVariants as form
 use Rattle.vcd_body.specs.declared.slot.Slot.{Slot}
@@ -25,6 +25,7 @@ use Rattle.vcd_body.specs.declared.step.Step.{Step}
 use Rattle.vcd_body.proofs.BinaryLemmas.{binary_at, length_binary}
 use Rattle.vcd_body.proofs.CompareLemmas.{last_at, last_extended}
 use Rattle.vcd_body.proofs.StoreLemmas.{set_slot, text_fits}
+use Rattle.vcd_body.proofs.PackedLemmas.{length_digits}
 
 -- digits that are left out in front are 0
 pub padded : (k l m n : ℕ) → m ≡ k + l → n < 2 ^ l → replicate k 48 ++ binary_digits l n ≡ binary_digits m n
@@ -211,7 +212,7 @@ held_few state.One len most bytes a b m = omega arith
 held_few state.Unknown len most bytes a b m = omega arith
 held_few state.High len most bytes a b m = omega arith
 held_few state.Plain len most bytes a b m = let l = length-map bytes held_digit in omega arith
-held_few state.Digits len most bytes a b m = let l = length-take len (unpacked (take (quarter_of len) bytes)) in omega arith
+held_few state.Digits len most bytes a b m = let l = length_digits len bytes in omega arith
 held_few state.Bits len most bytes a b m = let l = length_binary (count_in len) (number_in len) in omega arith
 held_few state.Real len most bytes a b m = omega arith
 

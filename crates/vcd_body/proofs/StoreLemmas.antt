@@ -2,20 +2,21 @@
 use Rattle.std.proofs.Common.{◌≡◌, ◌≢◌, ℕ, zero, suc, ◌+◌, ◌-◌, ◌<◌, ◌≤◌, ◌==◌, nat_lt, nat_le, Bool, true, false, cond, List, [], ◌∷◌, length, take, drop, map, slice_get, slice_set, Option, Some, None, refl, sym, ap, ◌∙◌, arith, ◌⊎◌, inl, inr}
 use Rattle.std.specs.Prelude.{get_or, option_map}
 use Rattle.std.proofs.lemmas.Bool.{and_right, cases_lt, eq-eqb, eqb-false, ne_eqb, le-leb, lt-leb, lt-ltb}
-use Rattle.std.proofs.lemmas.List.{drop-take, length-append, length-drop, length-take}
+use Rattle.std.proofs.lemmas.List.{drop-take, get_or-take, length-append, length-drop, length-take}
 use Rattle.std.specs.Str.{byte}
 use Rattle.std.proofs.lemmas.Option.{slice_get_within}
 use Rattle.std.proofs.lemmas.Slice.{take-put_mid_below, drop-put_mid, between-put_mid}
 use Rattle.std.proofs.Math.Seq.{take-take}
 use borrow.Rule.Slice.PartMut.{put_mid}
 use Rattle.vcd_body.specs.Kept.{Held, Kept, bytes_for, counts_if, counts_with, fits, held_as, one_more, room_for, with_held, with_step, with_text}
-use Rattle.vcd_body.specs.Packed.{digits_in, held_digit, quarter_of, unpacked}
+use Rattle.vcd_body.specs.Packed.{digits_in, held_digit, quarter_of}
 use Rattle.vcd_body.specs.Stored.{AreLaidOut, ChangesAt, end_at, held_by, held_of, kept_in, kept_with, one_digit, some_by, start_or, used, used_by}
 use Rattle.vcd_body.specs.declared.item.Form.{Form}
 use Rattle.vcd_body.specs.declared.item.Form.TheVariants as form
 use Rattle.vcd_body.specs.declared.slot.Slot.{Slot}
 use Rattle.vcd_body.specs.declared.slot.State.{State}
 use Rattle.vcd_body.specs.declared.slot.State.TheVariants as state
+use Rattle.vcd_body.proofs.PackedLemmas.{digits_of_first}
 
 -- ---- elements
 
@@ -61,12 +62,7 @@ reads_same a u s k xs ys within same (inr behind) = ap (take u) (drop-put_mid s 
 
 -- the digits lie in the first bytes
 digits_first : (n : ℕ) (ys : List ℕ) → digits_in n (take (quarter_of n) ys) ≡ digits_in n ys
-digits_first n ys = ap (λ (bytes : List ℕ). take n (unpacked bytes)) (take_twice (quarter_of n) ys)
-  where
-    take_twice : (n : ℕ) (ys : List ℕ) → take n (take n ys) ≡ take n ys
-    take_twice zero ys = refl
-    take_twice (suc n) [] = refl
-    take_twice (suc n) (y ∷ ys) = ap (λ (l : List ℕ). y ∷ l) (take_twice n ys)
+digits_first n ys = digits_of_first n (take (quarter_of n) ys) ys (λ j h. get_or-take (quarter_of n) ys j 0 h)
 
 -- ---- shares
 

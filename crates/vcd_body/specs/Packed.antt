@@ -1,5 +1,7 @@
--- Digits, four to a byte: one of each quarter of the text, that of the first quarter in the lowest bits.
-use Rattle.std.specs.Prelude.{ℕ, ◌/◌, ◌%◌, ◌+◌, ◌*◌, ◌==◌, ◌||◌, nat_lt, min, cond, List, [], ◌∷◌, ◌++◌, length, map, take, get_or}
+-- Digits, four to a byte: one of each quarter of the text, that of the first quarter in the lowest bits. The last quarter ends
+-- where the text does: it may begin with digits of the third one.
+use Rattle.std.specs.Prelude.{ℕ, ◌/◌, ◌%◌, ◌+◌, ◌-◌, ◌*◌, ◌==◌, ◌||◌, nat_lt, min, cond, List, length, map, get_or}
+use Rattle.std.specs.List.{range_with_len}
 use Rattle.std.specs.Str.{byte}
 
 -- a digit as it is held: in lower case; any byte that is no digit counts as z
@@ -8,32 +10,32 @@ held_digit d = cond (d == byte "0") (byte "0") (cond (d == byte "1") (byte "1") 
 
 -- a digit as a number below 4
 abbrev pub code_of : ℕ → ℕ
-code_of d = cond (d == byte "0") 0 (cond (d == byte "1") 1 (cond ((d == byte "x") || (d == byte "X")) 2 3))
+code_of d = cond (d == byte "0") 0 (cond (d == byte "1") 1 (cond ((d == byte "x") || (d == byte "X")) 3 2))
 
 -- and back, in lower case
 abbrev pub digit_of : ℕ → ℕ
-digit_of c = cond (c == 0) (byte "0") (cond (c == 1) (byte "1") (cond (c == 2) (byte "x") (byte "z")))
+digit_of c = cond (c == 0) (byte "0") (cond (c == 1) (byte "1") (cond (c == 3) (byte "x") (byte "z")))
 
 -- the code of the digit at a place, 0 after the last
 abbrev pub code_or : List ℕ → ℕ → ℕ
 code_or text place = cond (nat_lt place (length text)) (code_of (get_or text place 0)) 0
 
--- how long a quarter of n digits is; the last one may be shorter
+-- how long a quarter of n digits is
 abbrev pub quarter_of : ℕ → ℕ
 quarter_of n = n / 4 + min 1 (n % 4)
 
 -- the byte at a place: the digits that stand at it in each quarter
 abbrev pub four_codes : List ℕ → ℕ → ℕ → ℕ
-four_codes text quarter place = code_or text place + 4 * code_or text (place + quarter) + 16 * code_or text (place + 2 * quarter) + 64 * code_or text (place + 3 * quarter)
+four_codes text quarter place = code_or text place + 4 * code_or text (place + quarter) + 16 * code_or text (place + 2 * quarter) + 64 * code_or text (place + (length text - quarter))
 
--- the four digits of a byte
-abbrev pub fours : ℕ → List ℕ
-fours b = digit_of (b % 4) ∷ digit_of (b / 4 % 4) ∷ digit_of (b / 16 % 4) ∷ digit_of (b / 64 % 4) ∷ []
+-- the code at a place before the last quarter, of quarters of this length
+abbrev pub code_before : ℕ → List ℕ → ℕ → ℕ
+code_before quarter bytes place = cond (nat_lt place quarter) (get_or bytes place 0 % 4) (cond (nat_lt place (2 * quarter)) (get_or bytes (place - quarter) 0 / 4 % 4) (get_or bytes (place - 2 * quarter) 0 / 16 % 4))
 
--- the first digits of all bytes, then their second ones, and so on
-abbrev pub unpacked : List ℕ → List ℕ
-unpacked bytes = map (λ b. digit_of (b % 4)) bytes ++ (map (λ b. digit_of (b / 4 % 4)) bytes ++ (map (λ b. digit_of (b / 16 % 4)) bytes ++ map (λ b. digit_of (b / 64 % 4)) bytes))
+-- the code at a place of n digits
+abbrev pub code_among : ℕ → List ℕ → ℕ → ℕ
+code_among n bytes place = cond (nat_lt place (n - quarter_of n)) (code_before (quarter_of n) bytes place) (get_or bytes (place - (n - quarter_of n)) 0 / 64)
 
 -- the n digits that the first bytes hold
 abbrev pub digits_in : ℕ → List ℕ → List ℕ
-digits_in n bytes = take n (unpacked (take (quarter_of n) bytes))
+digits_in n bytes = map (λ place. digit_of (code_among n bytes place)) (range_with_len 0 n)

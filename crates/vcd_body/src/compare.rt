@@ -11,7 +11,7 @@ ghost use Rattle.vcd_body.specs.Stored.{digits_with, held_with, some_by, used};
 use crate::change::extended_by;
 use crate::held::{count_of, digit_held, digit_shown};
 use crate::item::Form;
-use crate::packed::held_digit;
+use crate::packed::{held_digit, packed_ends_differ, plain_ends_differ};
 use crate::slot::{Slot, State, digit_of_state};
 
 // What a text is extended by.
@@ -149,9 +149,24 @@ fn lasts_differ(slot: Slot, share: &[u8], text: &[u8]) -> bool
     false
 }
 
-// Whether the last digits of several that are held and of a text tell that the values differ.
+// Whether the last 16 digits of several that are held and of a text tell that the values differ, where both have as many. Most
+// values that differ do so there.
 #[inline(always)]
 fn ends_tell(slot: Slot, share: &[u8], text: &[u8]) -> bool
+    requires used { used slot ≤ length share.now }
+    ensures { result ≡ true → (size : ℕ) → extend (digits_with slot share.now) size
+        ≢ extend (str_to_ascii_lowercase text.now) size }
+{
+    match slot.state {
+        State::Plain => plain_ends_differ(share, text),
+        State::Digits => packed_ends_differ(share, slot.len, text),
+        _ => false,
+    }
+}
+
+// The same of some last digits, where there are fewer.
+#[inline(always)]
+fn few_tell(slot: Slot, share: &[u8], text: &[u8]) -> bool
     requires used { used slot ≤ length share.now }
     ensures { result ≡ true → (size : ℕ) → extend (digits_with slot share.now) size
         ≢ extend (str_to_ascii_lowercase text.now) size }
@@ -165,14 +180,15 @@ fn ends_tell(slot: Slot, share: &[u8], text: &[u8]) -> bool
 
 // Whether a text gives a code of this size other digits than several that are held, or is itself of several. It takes as long
 // as these digits and the text are, whatever the size is.
-fn several_differ(slot: Slot, share: &[u8], size: usize, text: &[u8]) -> bool
+#[inline(never)]
+fn all_differ(slot: Slot, share: &[u8], size: usize, text: &[u8]) -> bool
     requires used { used slot ≤ length share.now }
     requires some { 1 ≤ some_by slot.state slot.len }
     requires digits { held_with slot share.now ≡ Held.Digits (digits_with slot share.now) }
     ensures { result ≡ not (bytes_eq (extend (digits_with slot share.now) size)
         (extend (str_to_ascii_lowercase text.now) size)) }
 {
-    if ends_tell(slot, share, text) {
+    if few_tell(slot, share, text) {
         return true;
     }
     let held = count_of(slot, share);
@@ -183,6 +199,18 @@ fn several_differ(slot: Slot, share: &[u8], size: usize, text: &[u8]) -> bool
         State::Plain if held == text.len() => !are_same_plain(share, text),
         _ => !are_same(slot, share, text, held.max(text.len())),
     }
+}
+
+// The same, after a look at the last digits.
+#[inline(always)]
+fn several_differ(slot: Slot, share: &[u8], size: usize, text: &[u8]) -> bool
+    requires used { used slot ≤ length share.now }
+    requires some { 1 ≤ some_by slot.state slot.len }
+    requires digits { held_with slot share.now ≡ Held.Digits (digits_with slot share.now) }
+    ensures { result ≡ not (bytes_eq (extend (digits_with slot share.now) size)
+        (extend (str_to_ascii_lowercase text.now) size)) }
+{
+    ends_tell(slot, share, text) || all_differ(slot, share, size, text)
 }
 
 // Whether a text gives a code of this size other digits than those that are held. Most are one digit.

@@ -1,6 +1,11 @@
 // Digits in a share: a byte each, or four to a byte, one of each quarter of them.
-ghost use Rattle.std.specs.Prelude.{◌≡◌, ◌≤◌, ◌<◌, ◌+◌, ◌-◌, ◌*◌, ◌^◌, ℕ, Some, get_or, length, map, slice_get};
-ghost use Rattle.vcd_body.specs.Packed.{code_of, code_or, digit_of, digits_in, four_codes, fours, held_digit};
+ghost use Rattle.std.specs.Prelude.{◌≡◌, ◌≢◌, ◌≤◌, ◌<◌, ◌+◌, ◌*◌, ◌/◌, ℕ, get_or, length, map, slice_get, true};
+ghost use Rattle.std.specs.Simd.Lanes.{chunk};
+ghost use Rattle.std.specs.Str.{str_to_ascii_lowercase};
+ghost use Rattle.vcd_model.specs.Values.{extend};
+ghost use Rattle.vcd_body.specs.Packed.{code_among, code_of, code_or, digit_of, digits_in, four_codes, held_digit};
+
+use std::simd::prelude::*;
 
 /// A digit as two bits. It is written so that it takes no branches.
 #[inline(always)]
@@ -9,9 +14,9 @@ fn code_of(digit: u8) -> u8
     ensures small { result < 4 }
 {
     let x_or_z = if (digit == b'x') | (digit == b'X') {
-        2
-    } else {
         3
+    } else {
+        2
     };
     let all_but_0 = if digit == b'1' { 1 } else { x_or_z };
     if digit == b'0' { 0 } else { all_but_0 }
@@ -25,7 +30,7 @@ fn digit_of(code: u8) -> u8
     match code {
         0 => b'0',
         1 => b'1',
-        2 => b'x',
+        3 => b'x',
         _ => b'z',
     }
 }
@@ -69,37 +74,134 @@ fn code_at(text: &[u8], place: usize) -> u8
 /// The digits at a place of each quarter as a byte.
 #[inline(always)]
 fn four_at(text: &[u8], quarter: usize, place: usize) -> u8
-    requires { place + 3 * quarter < 2 ^ 64 }
+    requires few { quarter < 16 }
+    requires quarter { quarter ≤ length text.now }
+    requires place { place < quarter }
     ensures { result ≡ four_codes text.now quarter place }
 {
     code_at(text, place)
         + 4 * code_at(text, place + quarter)
-        + 16 * code_at(text, place + 2 * quarter)
-        + 64 * code_at(text, place + 3 * quarter)
+        + 16 * code_at(text, place + quarter + quarter)
+        + 64 * code_at(text, place + (text.len() - quarter))
 }
 
-/// The same where all four are digits of the text.
-#[inline(always)]
-fn whole_four_at(text: &[u8], quarter: usize, place: usize) -> u8
-    requires { place + 3 * quarter < length text.now }
-    ensures { result ≡ four_codes text.now quarter place }
-{
-    code_of(text[place])
-        + 4 * code_of(text[place + quarter])
-        + 16 * code_of(text[place + 2 * quarter])
-        + 64 * code_of(text[place + 3 * quarter])
-}
-
-/// Packs the digits of the places that each quarter has. The reads of each quarter are in a row, so that many are packed at once.
-fn pack_whole(share: &mut [u8], text: &[u8], quarter: usize, whole: usize)
-    requires room { whole ≤ length share.old }
-    requires whole { whole ≤ length text.now - 3 * quarter }
-    ensures { (place : ℕ) → place < whole
+/// Packs the digits of each quarter.
+fn pack_few(share: &mut [u8], text: &[u8], quarter: usize)
+    requires few { quarter < 16 }
+    requires room { quarter ≤ length share.old }
+    requires quarter { quarter ≤ length text.now }
+    ensures { (place : ℕ) → place < quarter
         → get_or share.new place 0 ≡ four_codes text.now quarter place }
 {
-    for place in 0..whole {
-        share[place] = whole_four_at(text, quarter, place);
+    for place in 0..quarter {
+        share[place] = four_at(text, quarter, place);
     }
+}
+
+/// The codes of 16 digits. Of a byte that is neither `0` nor `1` it is 2, and one more where it is an x.
+#[inline(always)]
+fn codes_16(bytes: &[u8], at: usize) -> u8x16
+    requires { at + 16 ≤ length bytes.now }
+    ensures { result ≡ map code_of (chunk at 16 bytes.now) }
+{
+    let v = u8x16::from_slice(&bytes[at..]);
+    let is_x = (v & u8x16::splat(0xdf)).simd_eq(u8x16::splat(b'X'));
+    let at_most_2 = (v ^ u8x16::splat(b'0')).simd_min(u8x16::splat(2));
+    at_most_2 + is_x.select(u8x16::splat(1), u8x16::splat(0))
+}
+
+/// Whether two rows of 16 codes differ.
+#[inline(always)]
+fn codes_differ(first: u8x16, second: u8x16) -> bool
+    ensures { result ≡ true → first ≢ second }
+{
+    first.simd_ne(second).to_bitmask() != 0
+}
+
+/// Whether the last 16 digits of a share that holds a byte a digit and those of a text tell that the values differ; false where
+/// either has fewer.
+#[inline(always)]
+pub(crate) fn plain_ends_differ(share: &[u8], text: &[u8]) -> bool
+    ensures { result ≡ true → (size : ℕ) → extend (map held_digit share.now) size
+        ≢ extend (str_to_ascii_lowercase text.now) size }
+{
+    if share.len() < 16 || text.len() < 16 {
+        return false;
+    }
+    codes_differ(
+        codes_16(share, share.len() - 16),
+        codes_16(text, text.len() - 16),
+    )
+}
+
+/// The codes of the last digits of the 16 bytes from a place on.
+#[inline(always)]
+fn last_codes_16(bytes: &[u8], at: usize) -> u8x16
+    requires { at + 16 ≤ length bytes.now }
+    ensures { result ≡ map (λ y. y / 64) (chunk at 16 bytes.now) }
+{
+    u8x16::from_slice(&bytes[at..]) >> u8x16::splat(6)
+}
+
+/// The same of `len` packed digits: the last 16 are in the bytes of the last places.
+#[inline(always)]
+pub(crate) fn packed_ends_differ(share: &[u8], len: usize, text: &[u8]) -> bool
+    ensures { result ≡ true → (size : ℕ) → extend (digits_in len share.now) size
+        ≢ extend (str_to_ascii_lowercase text.now) size }
+{
+    let quarter = len.div_ceil(4);
+    if quarter < 16 || share.len() < quarter || text.len() < 16 {
+        return false;
+    }
+    codes_differ(
+        last_codes_16(share, quarter - 16),
+        codes_16(text, text.len() - 16),
+    )
+}
+
+/// The one plus four times the other.
+#[inline(always)]
+fn with_4_times(low: u8x16, high: u8x16) -> u8x16
+    requires { (length low ≡ 16) × (length high ≡ 16) }
+    ensures long { length result ≡ 16 }
+    ensures each { (k : ℕ) → k < 16 → get_or low k 0 + 4 * get_or high k 0 < 256
+        → get_or result k 0 ≡ get_or low k 0 + 4 * get_or high k 0 }
+{
+    let twice = high + high;
+    low + (twice + twice)
+}
+
+/// Packs the digits of 16 places of each quarter.
+#[inline(always)]
+fn pack_16(share: &mut [u8], text: &[u8], quarter: usize, at: usize)
+    requires within { at + 16 ≤ quarter }
+    requires room { quarter ≤ length share.old }
+    requires quarter { 3 * quarter ≤ length text.now }
+    ensures packed { (k : ℕ) → k < 16
+        → get_or share.new (at + k) 0 ≡ four_codes text.now quarter (at + k) }
+    ensures before { (place : ℕ) → place < at → get_or share.new place 0 ≡ get_or share.old place 0 }
+{
+    let third = codes_16(text, at + 2 * quarter);
+    let last = codes_16(text, at + (text.len() - quarter));
+    let both = with_4_times(codes_16(text, at + quarter), with_4_times(third, last));
+    with_4_times(codes_16(text, at), both).copy_to_slice(&mut share[at..]);
+}
+
+/// The same as `pack_few`, of 16 places at a time. Of the last 16 some may have been packed before.
+fn pack_many(share: &mut [u8], text: &[u8], quarter: usize)
+    requires room { quarter ≤ length share.old }
+    requires many { 16 ≤ quarter }
+    requires quarter { 3 * quarter ≤ length text.now }
+    ensures { (place : ℕ) → place < quarter
+        → get_or share.new place 0 ≡ four_codes text.now quarter place }
+{
+    let last = quarter - 16;
+    let mut at = 0;
+    while at < last {
+        pack_16(share, text, quarter, at);
+        at += 16;
+    }
+    pack_16(share, text, quarter, last);
 }
 
 /// Packs digits into the first bytes of a share: a byte for each place of a quarter of them.
@@ -108,26 +210,11 @@ pub(crate) fn pack(share: &mut [u8], text: &[u8])
     ensures { digits_in (length text.now) share.new ≡ map held_digit text.now }
 {
     let quarter = text.len().div_ceil(4);
-    let whole = text.len().saturating_sub(3 * quarter);
-    pack_whole(share, text, quarter, whole);
-    for place in whole..quarter {
-        share[place] = four_at(text, quarter, place);
+    if quarter < 16 {
+        pack_few(share, text, quarter);
+    } else {
+        pack_many(share, text, quarter);
     }
-}
-
-/// The digit at a place of a byte, from its lowest bits.
-#[inline(always)]
-fn digit_in_byte(byte: u8, place: usize) -> u8
-    requires { place < 4 }
-    ensures { Some result ≡ slice_get (fours byte) place }
-{
-    let code = match place {
-        0 => byte % 4,
-        1 => byte / 4 % 4,
-        2 => byte / 16 % 4,
-        _ => byte / 64 % 4,
-    };
-    digit_of(code)
 }
 
 /// The byte at a place.
@@ -138,6 +225,17 @@ fn byte_at(share: &[u8], place: usize) -> Option<u8>
     share.get(place).copied()
 }
 
+/// The byte at a place, 0 where there is none.
+#[inline(always)]
+fn byte_or(share: &[u8], place: usize) -> u8
+    ensures { result ≡ get_or share.now place 0 }
+{
+    match byte_at(share, place) {
+        Some(byte) => byte,
+        None => 0,
+    }
+}
+
 /// The digit at a place of `len` digits in a share; none after the last.
 #[inline(always)]
 pub(crate) fn digit_at(share: &[u8], len: usize, place: usize) -> Option<u8>
@@ -146,21 +244,25 @@ pub(crate) fn digit_at(share: &[u8], len: usize, place: usize) -> Option<u8>
     if place >= len {
         return None;
     }
-    let quarter = len.div_ceil(4).min(share.len());
+    Some(digit_of(code_among(share, len, place)))
+}
+
+/// Its code. The last quarter ends where the digits do, and may hold some of the third one again.
+#[inline(always)]
+fn code_among(share: &[u8], len: usize, place: usize) -> u8
+    requires { place < len }
+    ensures { result ≡ code_among len share.now place }
+{
+    let quarter = len.div_ceil(4);
+    let last = len - quarter;
+    if place >= last {
+        return byte_or(share, place - last) / 64;
+    }
     if place < quarter {
-        return Some(digit_in_byte(share[place], 0));
+        return byte_or(share, place) % 4;
     }
-    let second = place - quarter;
-    if second < quarter {
-        return Some(digit_in_byte(share[second], 1));
+    if place - quarter < quarter {
+        return byte_or(share, place - quarter) / 4 % 4;
     }
-    let third = second - quarter;
-    if third < quarter {
-        return Some(digit_in_byte(share[third], 2));
-    }
-    let fourth = third - quarter;
-    if fourth < quarter {
-        return Some(digit_in_byte(share[fourth], 3));
-    }
-    None
+    byte_or(share, place - quarter - quarter) / 16 % 4
 }

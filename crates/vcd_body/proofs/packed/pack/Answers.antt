@@ -1,9 +1,9 @@
 use Rattle.std.proofs.Common.{arith}
-use Rattle.vcd_body.proofs.PackedLemmas.{packs_again, packs_more}
+use Rattle.vcd_body.proofs.PackedLemmas.{packs_by}
 use Rattle.vcd_body.proofs.packed.pack.Goals as goal
 
-pub loop-place-preserved : goal.loop-place-preserved
-loop-place-preserved c = packs_more c.args.text.now c.loop-place.share c.div_ceil-quarter.result c.loop-place.place c.four_at.result (omega arith) (omega arith) c.loop-place.invariant c.four_at.ensures
+pub returns-then-quarter-lt16 : goal.returns-then-quarter-lt16
+returns-then-quarter-lt16 c = packs_by c.args.text.now c.pack_few.new.share c.div_ceil-quarter.result (omega (arith, c.div_ceil-quarter.ensures)) c.pack_few.ensures
 
-pub returns : goal.returns
-returns c = let e = c.loop-place-test.false in packs_again c.args.text.now c.loop-place.share (omega arith) (λ j h. c.loop-place.invariant j (omega (arith, e, h)))
+pub returns-else-quarter-lt16 : goal.returns-else-quarter-lt16
+returns-else-quarter-lt16 c = packs_by c.args.text.now c.pack_many.new.share c.div_ceil-quarter.result (omega (arith, c.div_ceil-quarter.ensures)) c.pack_many.ensures

@@ -7,7 +7,7 @@ use Rattle.vcd_body.specs.Packed.{held_digit}
 use Rattle.vcd_body.specs.Stored.{digits_held, digits_with, held_by}
 use Rattle.vcd_body.specs.declared.slot.State.{State}
 use Rattle.vcd_body.proofs.CompareLemmas.{differ_at_longest, differ_where_as_many}
-use Rattle.vcd_body.proofs.compare.several_differ.Goals as goal
+use Rattle.vcd_body.proofs.compare.all_differ.Goals as goal
 
 pub returns-in_default : goal.returns-in_default
 returns-in_default c =
