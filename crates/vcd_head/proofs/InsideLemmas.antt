@@ -1,16 +1,15 @@
 -- What is left of names inside open scopes.
-use Rattle.std.proofs.Common.{◌≡◌, ◌≢◌, ℕ, zero, suc, ◌+◌, ◌-◌, ◌<◌, ◌≤◌, Bool, true, false, ◌&&◌, ◌==◌, List, [], ◌∷◌, ◌++◌, length, map, take, drop, slice_range, reverse, replicate, set, slice_get, Option, Some, None, option_map, inl, inr, refl, sym, ap, subst, ◌∙◌, arith, add-one}
-use mathlib.Core.Logic.{◌⊎◌}
+use Rattle.std.proofs.Common.{◌≡◌, ℕ, zero, suc, ◌+◌, ◌-◌, ◌<◌, ◌≤◌, Bool, true, false, ◌&&◌, ◌==◌, List, [], ◌∷◌, ◌++◌, length, map, take, drop, slice_range, reverse, replicate, slice_get, Bor, Option, Some, None, option_map, refl, sym, ap, subst, ◌∙◌, arith}
 use Rattle.std.specs.List.{AllByRecursion, list_any}
 use Rattle.std.proofs.lemmas.Bool.{ne_eqb}
 use Rattle.std.proofs.lemmas.Grind.{flat_map-append}
-use Rattle.std.proofs.lemmas.List.{append_assoc, append-nil, reverse-append, length-drop, length-take, length-take-le, take-append-drop}
+use Rattle.std.proofs.lemmas.List.{append-nil, reverse-append, length-drop, length-take, length-take-le, take-append-drop}
 use Rattle.std.proofs.Math.Seq.{take-append-add}
 use Rattle.std.proofs.lemmas.List.Elements.{filter_map-append}
 use Rattle.std.proofs.lemmas.Option.{none-some, same_Some}
 use Rattle.vcd_model.specs.Bytes.{is_empty}
-use Rattle.vcd_model.specs.Declarations.{Declaration, IdCode, Variable, enclosing, name_of, names_at, parent, path_of}
-use Rattle.vcd_model.specs.Selection.{is_selected, is_variable, selects_path}
+use Rattle.vcd_model.specs.Declarations.{Declaration, IdCode, Variable, enclosing, name_of, names_at, parent}
+use Rattle.vcd_model.specs.Selection.{is_selected, is_variable}
 use Rattle.vcd_model.proofs.ScopeLemmas.{enclosing_below, slice_get-take}
 use Rattle.std.specs.Option.{IfSome}
 use Rattle.vcd_head.specs.declared.inside.Inside.{Inside}
@@ -102,6 +101,11 @@ is_empty-map f (x ∷ xs) = sym (ne_eqb (length (x ∷ xs)) 0 (λ e. omega (arit
 pub both_some : (r : Option Inside) (names : List (List ℕ)) (ds : List Declaration) (scope : ℕ) → IfSome r (λ s. s.scope ≡ scope) → IfSome r (AreLeft names (front ds scope)) → IfSome r (λ s. AreLeft names (front ds s.scope) s)
 both_some None names ds scope a b = b
 both_some (Some s) names ds scope a b = subst (λ n. AreLeft names (front ds n) s) (sym a) b
+
+pub left_around : (r : Option (Bor Inside)) (names : List (List ℕ)) (ds : List Declaration) (row : ℕ) → IfSome r (λ s. scopes_text (take row ds) ≡ front ds s.now.scope) → IfSome r (λ s. AreLeft names (front ds s.now.scope) s.now)
+    → IfSome r (λ s. AreLeft names (scopes_text (take row ds)) s.now)
+left_around None names ds row a b = b
+left_around (Some s) names ds row a b = subst (λ f. AreLeft names f s.now) (sym a) b
 
 -- ---- what is left of a name
 

@@ -15,6 +15,7 @@ pub mod MarkedHead
 pub mod MarkLemmas
 pub mod NamePaths
 pub mod InsideLemmas
+pub mod SieveLemmas
 pub mod SelectionLemmas
 pub mod MatchLemmas
 pub mod DraftSteps

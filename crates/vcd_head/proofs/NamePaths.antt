@@ -20,7 +20,7 @@ selects-byte x y path name =
     elim (cases_eq x y) [ inl e ↦ rw (eq-eqb x y e, eq-eqb y x (sym e)) refl | inr n ↦ rw (ne_eqb x y n, ne_eqb y x (λ e. n (sym e))) refl ]
 
 -- the byte and what is behind it
-selects_behind_byte : (x y : ℕ) (path name : List ℕ) → selects_path (x ∷ path) (y ∷ name) ≡ true → (x ≡ y) × (selects_path path name ≡ true)
+pub selects_behind_byte : (x y : ℕ) (path name : List ℕ) → selects_path (x ∷ path) (y ∷ name) ≡ true → (x ≡ y) × (selects_path path name ≡ true)
 selects_behind_byte x y path name h =
     let both = and_parts (nat_eq x y) (selects_path path name) (sym (selects-byte x y path name) ∙ h) in
     (eqb-true x y both.0, both.1)

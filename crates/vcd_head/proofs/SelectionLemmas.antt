@@ -1,16 +1,12 @@
 -- Which declarations names select.
-use Rattle.std.proofs.Common.{◌≡◌, ℕ, zero, suc, ◌+◌, ◌<◌, Bool, true, false, cond, ◌&&◌, ◌||◌, ◌==◌, not, MatchBool, List, [], ◌∷◌, ◌++◌, length, map, take, get_or, filter_map, flat_map, slice_get, Option, Some, None, option_map, ltb, refl, sym, ap, subst, ◌∙◌, add-one, arith}
-use Rattle.std.specs.List.{AllWithin, HoldsAt, list_any, position_from, position_or_len, range_with_len}
+use Rattle.std.proofs.Common.{◌≡◌, ℕ, zero, suc, ◌+◌, ◌<◌, true, false, cond, List, [], ◌∷◌, ◌++◌, length, take, flat_map, slice_get, Some, None, refl, ap, ◌∙◌, add-one, arith}
 use Rattle.std.proofs.lemmas.Bool.{cond-true, cond-false}
 use Rattle.std.proofs.lemmas.Grind.{flat_map-append}
-use Rattle.std.proofs.lemmas.Iterator.Adapters.{position_from-zero}
-use Rattle.std.proofs.lemmas.List.{append_assoc, append-nil, length-take-le}
-use Rattle.std.proofs.lemmas.List.FromFn.{get_or-range_with_len, length-range_with_len}
+use Rattle.std.proofs.lemmas.List.{append-nil, length-take-le}
 use Rattle.std.proofs.lemmas.Option.{slice_get_within}
 use Rattle.vcd_model.specs.Backward.{each_after}
-use Rattle.vcd_model.specs.Bytes.{is_empty}
-use Rattle.vcd_model.specs.Declarations.{Declaration, Variable, enclosing, path_of}
-use Rattle.vcd_model.specs.Selection.{Selected, first_unmatched, is_selected, marked_places, selected, selects_path, with_path}
+use Rattle.vcd_model.specs.Declarations.{Declaration, enclosing, path_of}
+use Rattle.vcd_model.specs.Selection.{Selected, is_selected, marked_places, with_path}
 use Rattle.vcd_model.proofs.Growing.{each_after-append}
 
 -- ---- whether a name selects some variable

@@ -1,5 +1,5 @@
 -- What is left of names inside a scope.
-use Rattle.std.specs.Prelude.{◌≡◌, ℕ, zero, suc, Bool, true, false, ◌&&◌, get_or, List, [], ◌∷◌, ◌++◌, length, drop, take, reverse, slice_get, Some}
+use Rattle.std.specs.Prelude.{◌≡◌, ℕ, zero, suc, Bool, true, false, ◌&&◌, get_or, List, [], ◌∷◌, ◌++◌, drop, take, reverse, slice_get, Some}
 use Rattle.vcd_model.specs.Declarations.{Declaration, enclosing}
 use Rattle.vcd_model.specs.Header.{Header}
 use Rattle.vcd_model.specs.Selection.{selects_path}
@@ -8,6 +8,7 @@ use Rattle.vcd_head.specs.declared.inside.Left.TheVariants.{Rest, Selected, Diff
 use Rattle.vcd_head.specs.declared.inside.Inside.{Inside}
 use Rattle.vcd_head.specs.declared.inside.Open.{Open}
 use Rattle.vcd_head.specs.Paths.{names_text}
+use Rattle.vcd_head.specs.Sieves.{IsSieve}
 
 -- the name of which this is left selects a path that goes on with this text
 abbrev pub left_selects : Left → List ℕ → List ℕ → Bool
@@ -31,5 +32,10 @@ abbrev pub AreLeft : List (List ℕ) → List ℕ → Inside → Type 0
 AreLeft names front s = (i : ℕ) (name : List ℕ) → slice_get names i ≡ Some name → (text : List ℕ) → selects_path (front ++ text) name ≡ (s.live && left_selects (get_or s.left i Rest) (drop s.passed name) text)
 
 -- what is held of each scope is right
-abbrev pub AreOpen : Header → List (List ℕ) → Open → Type 0
-AreOpen h names o = (k : ℕ) (s : Inside) → slice_get o.inside k ≡ Some s → AreLeft names (front h.declarations s.scope) s
+abbrev pub AreHeld : Header → List (List ℕ) → List Inside → Type 0
+AreHeld h names held = (k : ℕ) (s : Inside) → slice_get held k ≡ Some s → AreLeft names (front h.declarations s.scope) s
+
+-- so, and the flags are right
+pub record AreOpen (h : Header) (names : List (List ℕ)) (o : Open) : Type 0 where
+  pub held : AreHeld h names o.inside
+  pub flags : IsSieve names (front h.declarations) o.sieve

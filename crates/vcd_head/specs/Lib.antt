@@ -20,6 +20,7 @@ pub mod Variables
 pub mod Scaled
 pub mod Marks
 pub mod Selects
+pub mod Sieves
 pub mod Inside
 pub mod Matched
 pub mod NewCode

@@ -3,12 +3,14 @@ ghost use Rattle.std.specs.Prelude.{◌≡◌, ◌+◌, ◌<◌, ◌≤◌, [], 
 ghost use Rattle.vcd_model.specs.Declarations.{Declaration, name_of as name_of_declaration, path_of};
 ghost use Rattle.vcd_model.specs.Header.{Header};
 ghost use Rattle.vcd_model.specs.Selection.{is_selected as is_selected_by, is_variable, selects_path};
-ghost use Rattle.vcd_head.specs.Inside.{AreLeft, AreOpen, front, left_selects, may_select};
+ghost use Rattle.vcd_head.specs.Inside.{AreHeld, AreLeft, AreOpen, front, left_selects, may_select};
 ghost use Rattle.vcd_head.specs.Matched.{Matches, Matched};
 ghost use Rattle.vcd_head.specs.Paths.{scopes_text};
+ghost use Rattle.vcd_head.specs.Sieves.{RulesOut};
 ghost use Rattle.vcd_head.specs.Views.{IsViewOf};
 
 use crate::selection::{Match, after_component, is_or_goes_on, selects};
+use crate::sieve::Sieve;
 use crate::view::{HeadView, Kind};
 
 // So many names are followed together.
@@ -32,13 +34,13 @@ pub(crate) enum Left {
 #[derive(Clone, Copy)]
 pub(crate) struct Inside {
     // 1 plus the row of the scope, 0 outside of all.
-    scope: usize,
+    pub(crate) scope: usize,
     // Some name may select what is inside. Where none does, what follows says nothing.
     live: bool,
     // The bytes of the scope's path and the point behind it.
-    passed: usize,
+    pub(crate) passed: usize,
     // Of each name.
-    left: [Left; TOGETHER],
+    pub(crate) left: [Left; TOGETHER],
 }
 
 impl Left {
@@ -127,6 +129,7 @@ pub(crate) struct Open {
     inside: [Inside; MOST_HELD],
     // The place of the innermost.
     depth: usize,
+    sieve: Sieve,
 }
 
 impl Open {
@@ -136,11 +139,13 @@ impl Open {
         Open {
             inside: [Inside::outermost(); MOST_HELD],
             depth: 0,
+            sieve: Sieve::new(0),
         }
     }
 
     // Takes the next row; tells whether it is a variable's that some name selects, any variable's where there are no names, and
     // which names select it, beside those that had matched before.
+    #[inline(always)]
     pub(crate) fn take(
         &mut self,
         view: HeadView<'_>,
@@ -195,20 +200,71 @@ impl Open {
     }
 
     // What is left inside the scope of a row, where it is known of the scope around.
-    fn inner(&self, view: HeadView<'_>, row: usize, names: &[String]) -> Option<Inside>
+    fn inner(&mut self, view: HeadView<'_>, row: usize, names: &[String]) -> Option<Inside>
         requires { length names.now ≤ 64 }
-        ensures { (h : Header) → IsViewOf view.entry h
-            → AreOpen h (map string_bytes names.now) self.now
+        ensures open { (h : Header) → IsViewOf view.entry h
+            → AreOpen h (map string_bytes names.now) self.old
+            → AreOpen h (map string_bytes names.now) self.new }
+        ensures left { (h : Header) → IsViewOf view.entry h
+            → AreOpen h (map string_bytes names.now) self.old
             → IfSome result
             (λ s. AreLeft (map string_bytes names.now) (front h.declarations s.scope) s) }
     {
-        let outer = self.around(view, row)?;
         let scope = row.checked_add(1)?;
-        outer.enter(names, scope, view.name_of(row))
+        if self.rules_out(view, row, names) {
+            return Some(Inside::unselected(scope));
+        }
+        self.around(view, row)?
+            .enter(names, scope, view.name_of(row))
+    }
+
+    // No name selects what a row declares, nor what is inside it, as far as is known.
+    #[inline(always)]
+    fn rules_out(&mut self, view: HeadView<'_>, row: usize, names: &[String]) -> bool
+        requires { length names.now ≤ 64 }
+        ensures row { result ≡ true → row < length view.entry.rows.now }
+        ensures open { (h : Header) → IsViewOf view.entry h
+            → AreOpen h (map string_bytes names.now) self.old
+            → AreOpen h (map string_bytes names.now) self.new }
+        ensures out { (h : Header) (d : Declaration) → IsViewOf view.entry h
+            → slice_get h.declarations row ≡ Some d
+            → AreOpen h (map string_bytes names.now) self.old → result ≡ true
+            → RulesOut (map string_bytes names.now) (scopes_text (take row h.declarations))
+            (name_of_declaration d) }
+    {
+        let Some(inside) = around(&self.inside, self.depth, view, row) else {
+            return false;
+        };
+        !inside.live || self.sieve.rules_out(inside, names, view.name_of(row))
     }
 
     // Some name selects the variable of a row; tells which ones.
+    #[inline(always)]
     fn selects(
+        &mut self,
+        view: HeadView<'_>,
+        row: usize,
+        names: &[String],
+        matched: &mut [bool; TOGETHER],
+    ) -> bool
+        requires { length names.now ≤ 64 }
+        ensures open { (h : Header) → IsViewOf view.entry h
+            → AreOpen h (map string_bytes names.now) self.old
+            → AreOpen h (map string_bytes names.now) self.new }
+        ensures matches { (h : Header) (d : Declaration) → IsViewOf view.entry h
+            → slice_get h.declarations row ≡ Some d → is_variable d ≡ true
+            → AreOpen h (map string_bytes names.now) self.old
+            → Matches (selects_path (path_of (take row h.declarations) d))
+            (map string_bytes names.now) matched.old matched.new result }
+    {
+        if self.rules_out(view, row, names) {
+            return false;
+        }
+        self.compare(view, row, names, matched)
+    }
+
+    // The same, of a row that may be selected.
+    fn compare(
         &self,
         view: HeadView<'_>,
         row: usize,
@@ -223,9 +279,6 @@ impl Open {
             (map string_bytes names.now) matched.old matched.new result }
     {
         let inside = self.around(view, row);
-        if selects_nothing(inside) {
-            return false;
-        }
         let own = view.name_of(row);
         let mut some = false;
         for place in 0..names.len() {
@@ -238,32 +291,38 @@ impl Open {
     }
 
     // What is left inside the scope around a row, where it is the innermost that is held.
+    #[inline(always)]
     fn around(&self, view: HeadView<'_>, row: usize) -> Option<&Inside>
         ensures row { IfSome result (λ _. row < length view.entry.rows.now) }
         ensures left { (h : Header) (names : List (List ℕ)) → IsViewOf view.entry h
             → AreOpen h names self.now
             → IfSome result (λ s. AreLeft names (scopes_text (take row h.declarations)) s.now) }
     {
-        let declared = view.row_at(row)?;
-        let inside = self.inside.get(self.depth)?;
-        if inside.scope != declared.parent as usize {
-            return None;
-        }
-        Some(inside)
+        around(&self.inside, self.depth, view, row)
     }
 }
 
-// No name selects what is inside.
-fn selects_nothing(inside: Option<&Inside>) -> bool
-    ensures { result ≡ true → (f : List ℕ) (names : List (List ℕ))
-        → IfSome inside.entry (λ s. AreLeft names f s.now) → (name : List ℕ) (place : ℕ)
-        → slice_get names place ≡ Some name → (text : List ℕ)
-        → selects_path (f ++ text) name ≡ false }
+// The same, of the scopes that are open and the place of the innermost.
+#[inline(always)]
+fn around<'a>(
+    held: &'a [Inside; MOST_HELD],
+    depth: usize,
+    view: HeadView<'_>,
+    row: usize,
+) -> Option<&'a Inside>
+    ensures row { IfSome result (λ _. row < length view.entry.rows.now) }
+    ensures scope { (h : Header) → IsViewOf view.entry h
+        → IfSome result (λ s. scopes_text (take row h.declarations) ≡ front h.declarations s.now.scope) }
+    ensures left { (h : Header) (names : List (List ℕ)) → IsViewOf view.entry h
+        → AreHeld h names held.now
+        → IfSome result (λ s. AreLeft names (front h.declarations s.now.scope) s.now) }
 {
-    match inside {
-        Some(inside) => !inside.live,
-        None => false,
+    let declared = view.row_at(row)?;
+    let inside = held.get(depth)?;
+    if inside.scope != declared.parent as usize {
+        return None;
     }
+    Some(inside)
 }
 
 // The name at a place selects the variable of a row that has this name of its own.
@@ -316,7 +375,7 @@ fn selects_own(left: Left, rest: &[u8], own: &[u8]) -> bool
 }
 
 // The bytes behind these first ones.
-fn behind(name: &str, passed: usize) -> &[u8]
+pub(crate) fn behind(name: &str, passed: usize) -> &[u8]
     ensures { result.now ≡ drop passed name.now }
 {
     match name.as_bytes().get(passed..) {

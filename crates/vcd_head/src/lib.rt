@@ -27,7 +27,8 @@
 //!   counted
 //! - `index`: the order of the codes by their bytes
 //! - `enclosing`, `path`: the scopes around a declaration, outermost first; paths
-//! - `selection`, `inside`: which variables names select; what is left of names inside open scopes
+//! - `selection`, `inside`, `sieve`: which variables names select; what is left of names inside open scopes; the rows of a scope
+//!   that no name selects, told by a flag
 //! - `write`: headers as they are written
 //! - `room`: `need`, the room that an engine over a header needs
 //! - `moment`: `ticks`, a time with a unit in ticks of the header's scale
@@ -72,6 +73,7 @@ mod rows;
 mod scale;
 mod scopes;
 mod selection;
+mod sieve;
 mod sought;
 mod table;
 mod texts;

@@ -1,4 +1,4 @@
-use Rattle.std.proofs.Common.{◌≡◌, ◌∷◌, ◌++◌, List, ℕ, sym, ap, ◌∙◌}
+use Rattle.std.proofs.Common.{◌∷◌, ◌++◌, sym, ap, ◌∙◌}
 use Rattle.vcd_model.specs.Selection.{selects_path}
 use Rattle.vcd_head.specs.Inside.{left_selects}
 use Rattle.vcd_head.proofs.inside.left_inside.Goals as goal

@@ -1,4 +1,4 @@
-use Rattle.std.proofs.Common.{[], ◌∷◌, map, take, length, string_bytes, refl, sym, subst, ◌∙◌, arith}
+use Rattle.std.proofs.Common.{[], ◌∷◌, map, take, length, string_bytes, sym, subst, ◌∙◌, arith}
 use Rattle.std.proofs.lemmas.List.{length-map, take_all}
 use Rattle.vcd_model.specs.Declarations.{enclosing}
 use Rattle.vcd_model.specs.Selection.{marked_places}

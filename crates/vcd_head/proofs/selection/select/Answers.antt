@@ -1,4 +1,4 @@
-use Rattle.std.proofs.Common.{◌≡◌, None, Some, [], ◌++◌, option_map, map, take, drop, length, slice_range, string_bytes, refl, sym, ap, subst, ◌∙◌, ◌-◌, ◌+◌, List, ℕ, arith}
+use Rattle.std.proofs.Common.{◌≡◌, None, Some, [], ◌++◌, map, take, drop, length, slice_range, string_bytes, refl, sym, ap, subst, ◌∙◌, ◌+◌, List, ℕ, arith}
 use Rattle.std.proofs.lemmas.List.{length-map, length-take-le, map-append, take-append-drop, take_all}
 use Rattle.vcd_model.specs.Selection.{first_unmatched, marked_places}
 use Rattle.vcd_head.specs.Marks.{Marked, marks_of}

@@ -1,4 +1,4 @@
-use Rattle.std.proofs.Common.{◌≡◌, ℕ, ◌-◌, ◌^◌, List, ◌++◌, ◌≤◌, length, None}
+use Rattle.std.proofs.Common.{◌≡◌, ℕ, ◌-◌, ◌^◌, List, ◌++◌, ◌≤◌, length}
 use Rattle.vcd_model.specs.Input.{Input}
 use Rattle.vcd_model.specs.HeaderPhrases.{HeaderPhrase}
 use Rattle.vcd_model.specs.Reading.{Placed}

@@ -1,4 +1,4 @@
-use Rattle.std.proofs.Common.{◌≡◌, ◌||◌, Some, None, true, false, map, take, slice_get, string_bytes, sym, ap, ◌∙◌, rules}
+use Rattle.std.proofs.Common.{◌≡◌, Some, None, true, false, map, take, slice_get, string_bytes, sym, ◌∙◌, rules}
 use Rattle.std.proofs.lemmas.Option.{slice_get_within}
 use Rattle.vcd_model.specs.Bytes.{is_empty}
 use Rattle.vcd_model.specs.Declarations.{Declaration}
@@ -59,22 +59,22 @@ a_variable c h d v at =
 pub returns-then-selects-clause-matched : goal.returns-then-selects-clause-matched
 returns-then-selects-clause-matched c = λ h d v at held.
     let var = a_variable c.before h d v at in
-    matched_row (map string_bytes c.args.names.now) (take c.args.row h.declarations) d c.args.matched.now c.selects.new.matched c.selects.result var (c.selects.ensures h d v at var held)
+    matched_row (map string_bytes c.args.names.now) (take c.args.row h.declarations) d c.args.matched.now c.selects.new.matched c.selects.result var (c.selects.ensures.matches h d v at var held)
 
 pub returns-then-selects-clause-selected : goal.returns-then-selects-clause-selected
 returns-then-selects-clause-selected c = λ h d v at held.
     let names = map string_bytes c.args.names.now in
     let var = a_variable c.before h d v at in
-    c.if-selects.true ∙ sym (selected_row names (take c.args.row h.declarations) d c.args.matched.now c.selects.new.matched c.selects.result var (c.selects.ensures h d v at var held) ∙ or_true (is_empty names) c.selects.result c.if-selects.true)
+    c.if-selects.true ∙ sym (selected_row names (take c.args.row h.declarations) d c.args.matched.now c.selects.new.matched c.selects.result var (c.selects.ensures.matches h d v at var held) ∙ or_true (is_empty names) c.selects.result c.if-selects.true)
 
 pub returns-else-selects-clause-matched : goal.returns-else-selects-clause-matched
 returns-else-selects-clause-matched c = λ h d v at held.
     let var = a_variable c.before.before h d v at in
-    matched_row (map string_bytes c.args.names.now) (take c.args.row h.declarations) d c.args.matched.now c.selects.new.matched c.selects.result var (c.selects.ensures h d v at var held)
+    matched_row (map string_bytes c.args.names.now) (take c.args.row h.declarations) d c.args.matched.now c.selects.new.matched c.selects.result var (c.selects.ensures.matches h d v at var held)
 
 pub returns-else-selects-clause-selected : goal.returns-else-selects-clause-selected
 returns-else-selects-clause-selected c = λ h d v at held.
     let names = map string_bytes c.args.names.now in
     let var = a_variable c.before.before h d v at in
     c.is_empty.ensures ∙ sym (is_empty-map string_bytes c.args.names.now)
-    ∙ sym (selected_row names (take c.args.row h.declarations) d c.args.matched.now c.selects.new.matched c.selects.result var (c.selects.ensures h d v at var held) ∙ or_false (is_empty names) c.selects.result c.if-selects.false)
+    ∙ sym (selected_row names (take c.args.row h.declarations) d c.args.matched.now c.selects.new.matched c.selects.result var (c.selects.ensures.matches h d v at var held) ∙ or_false (is_empty names) c.selects.result c.if-selects.false)

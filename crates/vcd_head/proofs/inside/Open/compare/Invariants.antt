@@ -6,7 +6,7 @@ use Rattle.vcd_head.specs.Inside.{AreOpen}
 use Rattle.vcd_head.specs.Shown.{parts}
 use Rattle.vcd_head.specs.Views.{Views}
 use Rattle.vcd_head.proofs.MatchLemmas.{Matching}
-use Rattle.vcd_head.proofs.inside.Open.selects.Given as goal
+use Rattle.vcd_head.proofs.inside.Open.compare.Given as goal
 
 abbrev pub invariant-loop-place : goal.invariant-loop-place
 invariant-loop-place l = record {
