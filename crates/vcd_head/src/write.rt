@@ -142,7 +142,13 @@ fn put_own<W: Sink>(view: HeadView<'_>, row: usize, w: &mut W) -> Result<(), Wri
         return Ok(());
     };
     match view.code_at(declared.code as usize) {
-        Some(code) => put_variable(view, row, code.size, view.text_at(code.start, code.len as usize), w),
+        Some(code) => put_variable(
+            view,
+            row,
+            code.size,
+            view.text_at(code.start, code.len as usize),
+            w,
+        ),
         None => Ok(()),
     }
 }

@@ -32,15 +32,7 @@ fn read(alloc: Global, text: &[u8], most: u64) -> Result<Head, (HeadFault, u64)>
     }
 }
 
-fn row(
-    kind: Kind,
-    parent: u32,
-    start: usize,
-    word: u32,
-    name: u32,
-    all: u32,
-    code: u32,
-) -> Row {
+fn row(kind: Kind, parent: u32, start: usize, word: u32, name: u32, all: u32, code: u32) -> Row {
     Row {
         kind,
         parent,
