@@ -1,10 +1,12 @@
 -- The shortest digits of a value are those from which no digit can be left out on the left.
-use Rattle.std.proofs.Common.{◌≡◌, ◌≢◌, ℕ, zero, suc, ◌+◌, ◌-◌, max, ◌≤◌, ◌<◌, Bool, true, false, cond, ◌==◌, List, [], ◌∷◌, ◌++◌, length, replicate, take, drop, get_or, refl, sym, ap, subst, ◌∙◌, arith}
+use Rattle.std.proofs.Common.{◌≡◌, ◌≢◌, ◌⊎◌, inl, inr, ℕ, zero, suc, ◌+◌, ◌-◌, max, ◌≤◌, ◌<◌, Bool, true, false, cond, ◌==◌, List, [], ◌∷◌, ◌++◌, length, replicate, take, drop, get_or, refl, sym, ap, subst, ◌∙◌, arith}
 use Rattle.std.specs.Char.{to_ascii_lowercase}
 use Rattle.std.specs.Str.{str_to_ascii_lowercase}
+use Rattle.std.proofs.lemmas.Bool.{cases_lt, eqb-true}
 use Rattle.std.proofs.lemmas.List.{get_or-take, length-append, length-drop, length-map, length-replicate, length-take-le}
 use Rattle.std.proofs.Math.Seq.{take-length}
 use Rattle.vcd_model.specs.Values.{extend, extension, short}
+use Rattle.vcd_body.specs.Binary.{bit_of}
 use Rattle.vcd_model.proofs.ShortLemmas.{short_is_shortest}
 
 -- one digit, or more of which the first is not what the others are extended by
@@ -142,3 +144,60 @@ zeros_cut n l digits more last zeros s =
     let at : (k : ℕ) → k < n → get_or l k 0 ≡ 48 = λ k few. sym (get_or-take n l k 0 few) ∙ zeros k (omega arith) in
     let all : take (length l - n) (drop n l) ≡ drop n l = ap (λ m. take m (drop n l)) (sym (length-drop n l)) ∙ take-length (drop n l) in
     subst (λ r. Suffices r digits) (sym all) (zeros_out n l digits more last at s)
+
+-- ---- digits that are 0 and 1 alone
+
+abbrev pub AreTwo : List ℕ → Type 0
+AreTwo l = (k : ℕ) → k < length l → get_or l k 0 ≡ 48 + bit_of (get_or l k 0)
+
+one_of_two : (d : ℕ) → d ≡ 48 + bit_of d → (d ≡ 48) ⊎ (d ≡ 49)
+one_of_two d e = by_one (d == 49) refl
+  where
+    by_one : (b : Bool) → (d == 49) ≡ b → (d ≡ 48) ⊎ (d ≡ 49)
+    by_one true h = inr (eqb-true d 49 h)
+    by_one false h = inl (e ∙ ap (λ b. 48 + cond b 1 0) h)
+
+-- both are extended by 0
+two_extended : (d : ℕ) → d ≡ 48 + bit_of d → extension (to_ascii_lowercase d ∷ []) ≡ 48
+two_extended d e = elim (one_of_two d e) [
+  | inl h ↦ ap (λ x. extension (to_ascii_lowercase x ∷ [])) h
+  | inr h ↦ ap (λ x. extension (to_ascii_lowercase x ∷ [])) h
+]
+
+two_lower : (d : ℕ) → d ≡ 48 + bit_of d → to_ascii_lowercase d ≡ d
+two_lower d e = elim (one_of_two d e) [
+  | inl h ↦ ap to_ascii_lowercase h ∙ sym h
+  | inr h ↦ ap to_ascii_lowercase h ∙ sym h
+]
+
+lower_two : (l : List ℕ) → AreTwo l → str_to_ascii_lowercase l ≡ l
+lower_two [] two = refl
+lower_two (d ∷ l) two = rw (two_lower d (two 0 (omega arith)), lower_two l (λ k less. two (suc k) (omega arith))) refl
+
+-- some first zeros are left out
+zeros_lead : (k : ℕ) (l digits : List ℕ) → k < length l → ((j : ℕ) → j < k → get_or l j 0 ≡ 48) → AreTwo l → Suffices l digits → Suffices (drop k l) digits
+zeros_lead zero l digits less zeros two s = s
+zeros_lead (suc k) [] digits less zeros two s = absurd (omega arith)
+zeros_lead (suc k) (d ∷ l) digits less zeros two s =
+    let same = ap to_ascii_lowercase (zeros 0 (omega arith)) ∙ sym (two_extended (get_or l 0 0) (two 1 (omega arith))) in
+    zeros_lead k l digits (omega arith) (λ j few. zeros (suc j) (omega arith)) (λ j few. two (suc j) (omega arith)) (one_out (d ∷ l) l digits refl (omega arith) same s)
+
+-- what a 1 begins, or one digit, is bare
+bare_from : (k : ℕ) (l : List ℕ) → k < length l → (k + 1 < length l → get_or l k 0 ≢ 48) → AreTwo l → IsBare (str_to_ascii_lowercase (drop k l))
+bare_from zero l less first two = elim (cases_lt 1 (length l)) [
+  | inl more ↦ more_bare l more (λ e. first (omega (arith, more)) (sym (two_lower (get_or l 0 0) (two 0 less)) ∙ e ∙ two_extended (get_or l 1 0) (two 1 more)))
+  | inr few ↦ one_bare l less few
+]
+bare_from (suc k) [] less first two = absurd (omega arith)
+bare_from (suc k) (d ∷ l) less first two = bare_from k l (omega arith) (λ more. first (omega arith)) (λ j few. two (suc j) (omega arith))
+
+two_from : (k : ℕ) (l : List ℕ) → AreTwo l → AreTwo (drop k l)
+two_from zero l two = two
+two_from (suc k) [] two = λ j less. absurd (omega arith)
+two_from (suc k) (d ∷ l) two = two_from k l (λ j less. two (suc j) (omega arith))
+
+-- so the digits behind the zeros that lead are the shortest
+pub short_behind_zeros : (k : ℕ) (l : List ℕ) → k < length l → ((j : ℕ) → j < k → get_or l j 0 ≡ 48) → (k + 1 < length l → get_or l k 0 ≢ 48) → AreTwo l → (size : ℕ) → drop k l ≡ short (extend (str_to_ascii_lowercase l) size)
+short_behind_zeros k l less zeros first two size =
+    let s = zeros_lead k l l less zeros two (omega arith, omega arith, λ n fits. refl) in
+    sym (lower_two (drop k l) (two_from k l two)) ∙ shortest_of (drop k l) l (bare_from k l less first two) s.1 s.2 size

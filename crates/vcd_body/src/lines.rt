@@ -1,8 +1,8 @@
 // Changes that stand in the chunk as they are written.
-ghost use Rattle.std.specs.Prelude.{◌≡◌, ℕ, ◌+◌, ◌-◌, ◌<◌, ◌≤◌, List, [], ◌∷◌, ◌++◌, true, false, drop, length, slice_index, slice_range, Some, IfSome};
+ghost use Rattle.std.specs.Prelude.{◌≡◌, ◌≢◌, ℕ, ◌+◌, ◌-◌, ◌^◌, ◌<◌, ◌≤◌, List, [], ◌∷◌, ◌++◌, true, false, drop, length, slice_index, slice_range, Some, IfSome};
 ghost use Rattle.std.specs.Int.{bit_at};
 ghost use Rattle.std.specs.Char.{to_ascii_lowercase as lower};
-ghost use Rattle.std.specs.Str.{str_to_ascii_lowercase};
+ghost use Rattle.std.specs.Str.{byte, str_to_ascii_lowercase};
 ghost use Rattle.vcd_model.specs.Bytes.{is_white_space};
 ghost use Rattle.vcd_model.specs.Header.{Header};
 ghost use Rattle.vcd_model.specs.Items.{BodyItem};
@@ -11,7 +11,7 @@ ghost use Rattle.vcd_model.specs.Values.{extend, short};
 ghost use Rattle.vcd_head.specs.Views.{IsViewOf};
 ghost use Rattle.vcd_head.specs.declared.view.HeadView.{HeadView};
 ghost use Rattle.vcd_body.specs.Ahead.{HasBits, IsSizedItem};
-ghost use Rattle.vcd_body.specs.Binary.{binary_digits};
+ghost use Rattle.vcd_body.specs.Binary.{binary_digits, bit_of};
 ghost use Rattle.vcd_body.specs.Given.{IsItem};
 ghost use Rattle.vcd_body.specs.Spelled.{HasChange, HasMark, HasSpelled, bytes_without};
 ghost use Rattle.vcd_body.specs.declared.item.Form.TheVariants as form;
@@ -20,7 +20,7 @@ use crate::ahead::Plain;
 use crate::bits::Bits;
 use crate::change::{cut_long_blocks, extension_of, has_capital, needed, shortest};
 use crate::item::{Form, Item};
-use crate::words::bits_at;
+use crate::words::{are_binary_at, bits_at, other_32};
 use std::simd::prelude::*;
 
 /// Bit k is set where byte `at + k` may be a capital letter: of letters and digits just the capital letters have bit 5 clear.
@@ -124,10 +124,67 @@ fn left_out_known(digits: &[u8], bits: Bits) -> Option<usize>
     digits.len().checked_sub(needed(bits))
 }
 
+/// Bit k is set where byte `at + k` is not `0`.
+#[inline(always)]
+fn others_64(bytes: &[u8], at: usize) -> u64
+    requires { at + 64 ≤ length bytes.now }
+    ensures fits { result < 2 ^ 64 }
+    ensures zero { (k : ℕ) → k < 64 → bit_at result k ≡ 0 → slice_index bytes.now (at + k) ≡ 48 }
+    ensures other { (k : ℕ) → k < 64 → bit_at result k ≡ 1 → slice_index bytes.now (at + k) ≢ 48 }
+{
+    let v = u8x64::from_slice(&bytes[at..]);
+    v.simd_ne(u8x64::splat(b'0')).to_bitmask()
+}
+
+/// How many zeros lead so many bytes from a place on, without the last of these. Those after them are looked at too.
+#[inline(always)]
+fn zeros_at(bytes: &[u8], at: usize, n: usize) -> usize
+    requires room { at + 64 ≤ length bytes.now }
+    requires some { 1 ≤ n }
+    requires few { n ≤ 64 }
+    ensures less { result < n }
+    ensures zeros { (k : ℕ) → k < result → slice_index bytes.now (at + k) ≡ 48 }
+    ensures first { result + 1 < n → slice_index bytes.now (at + result) ≢ 48 }
+{
+    let others = others_64(bytes, at);
+    if others == 0 {
+        return n - 1;
+    }
+    (others.trailing_zeros() as usize).min(n - 1)
+}
+
+/// So many bytes from a place on are `0` and `1` alone. Those after them are looked at too.
+#[inline(always)]
+fn are_many_binary_at(bytes: &[u8], at: usize, n: usize) -> bool
+    requires room { at + 64 ≤ length bytes.now }
+    requires many { 32 ≤ n }
+    requires few { n ≤ 64 }
+    ensures { result ≡ true → (k : ℕ) → k < n
+        → slice_index bytes.now (at + k) ≡ byte "0" + bit_of (slice_index bytes.now (at + k)) }
+{
+    other_32(bytes, at) == 0 && are_binary_at(bytes, at + 32, n - 32)
+}
+
 /// How many digits on the left the shortest ones leave out, where these are in lower case. The digits begin at a place of these bytes.
-/// Of many digits those that lead are mostly zeros, and then the others are few.
-#[inline(never)]
+/// Most that come here are 33 to 64, and `0` and `1`: they are looked at at once, without a branch on how many zeros lead.
+#[inline(always)]
 fn needless(bytes: &[u8], at: usize, digits: &[u8]) -> Option<usize>
+    requires within { at ≤ length bytes.now }
+    requires place { digits.now ≡ slice_range bytes.now at (at + length digits.now) }
+    ensures { IfSome result (λ k. (k ≤ length digits.now)
+        × ((size : ℕ) → drop k digits.now
+        ≡ short (extend (str_to_ascii_lowercase digits.now) size))) }
+{
+    let n = digits.len();
+    if 32 < n && n <= 64 && bytes.len() - at >= 64 && are_many_binary_at(bytes, at, n) {
+        return Some(zeros_at(bytes, at, n));
+    }
+    needless_slowly(bytes, at, digits)
+}
+
+/// The same of any digits. Of many those that lead are mostly zeros, and then the others are few.
+#[inline(never)]
+fn needless_slowly(bytes: &[u8], at: usize, digits: &[u8]) -> Option<usize>
     requires within { at ≤ length bytes.now }
     requires place { digits.now ≡ slice_range bytes.now at (at + length digits.now) }
     ensures { IfSome result (λ k. (k ≤ length digits.now)

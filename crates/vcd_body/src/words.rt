@@ -138,7 +138,7 @@ fn is_value_digit(byte: u8) -> bool
 
 /// Bit k is set where byte `at + k` is neither `0` nor `1`.
 #[inline(always)]
-fn other_32(bytes: &[u8], at: usize) -> u64
+pub(crate) fn other_32(bytes: &[u8], at: usize) -> u64
     requires { at + 32 ≤ length bytes.now }
     ensures digits { (k : ℕ) → k < 32 → bit_at result k ≡ 0
         → is_digit (slice_index bytes.now (at + k)) ≡ true }
@@ -151,7 +151,7 @@ fn other_32(bytes: &[u8], at: usize) -> u64
 
 /// So many bytes from a place on are `0` and `1` alone. Those after them are looked at too.
 #[inline(always)]
-fn are_binary_at(bytes: &[u8], at: usize, n: usize) -> bool
+pub(crate) fn are_binary_at(bytes: &[u8], at: usize, n: usize) -> bool
     requires room { at + 32 ≤ length bytes.now }
     requires few { n ≤ 32 }
     ensures digits { result ≡ true → (k : ℕ) → k < n

@@ -1,43 +1,20 @@
-use Rattle.std.proofs.Common.{◌≡◌, ◌-◌, length, drop, ap, arith, sym, subst, ◌∙◌}
-use Rattle.std.specs.Str.{str_to_ascii_lowercase}
-use Rattle.vcd_body.proofs.BinaryLemmas.{length_binary}
-use Rattle.vcd_body.proofs.LeftOut.{shortest_end, shortest_on, end_is, end_of_end, end_place, rest_place}
+use Rattle.std.proofs.Common.{◌≡◌, ◌<◌, ◌+◌, ◌∙◌, ℕ, length, arith, ap, sym}
+use Rattle.std.specs.Prelude.{slice_index}
+use Rattle.vcd_body.specs.Binary.{bit_of}
+use Rattle.vcd_body.proofs.Shortest.{short_behind_zeros}
+use Rattle.vcd_body.proofs.WordLemmas.{byte_there}
 use Rattle.vcd_body.proofs.lines.needless.Goals as goal
 
-pub bits_at-requires-clause-place : goal.bits_at-requires-clause-place
-bits_at-requires-clause-place c = rest_place c.args.bytes.now c.cut_long_blocks-rest.result.now c.args.digits.now c.args.at c.cut_long_blocks-rest.ensures.fewer c.cut_long_blocks-rest.ensures.end c.requires.place
-
-pub overflow_sub-result : goal.overflow_sub-result
-overflow_sub-result c =
-    let n = ap length c.in-Some.ensures ∙ length_binary c.in-Some.bits.len c.in-Some.bits.number in
-    let few = c.needed.ensures.few in
-    let fewer = c.cut_long_blocks-rest.ensures.fewer in
-    omega (arith, n, few, fewer)
-
-pub returns-in-Some : goal.returns-in-Some
-returns-in-Some c =
+pub returns-then-are_many_binary_at : goal.returns-then-are_many_binary_at
+returns-then-are_many_binary_at c =
     let l = c.args.digits.now in
-    let rest = c.cut_long_blocks-rest.result.now in
-    let r = c.cut_long_blocks-rest.ensures in
-    let n = ap length c.in-Some.ensures ∙ length_binary c.in-Some.bits.len c.in-Some.bits.number in
-    let few = c.needed.ensures.few in (
-      omega arith,
-      shortest_on rest l (drop (length l - c.needed.result) l) (r.some, r.fewer, r.value) (λ size.
-          sym (end_of_end c.needed.result rest l (omega (arith, n, few)) r.fewer r.end) ∙ c.needed.ensures.shortest rest c.in-Some.ensures size),
+    let k = c.zeros_at.result in
+    let z = c.zeros_at.ensures in
+    let less = z.less in
+    let there : (j : ℕ) → j < length l → slice_index l j ≡ slice_index c.args.bytes.now (c.args.at + j) = λ j few. byte_there l c.args.bytes.now c.args.at (length l) j few c.requires.place in (
+      omega (arith, less),
+      short_behind_zeros k l less
+          (λ j few. there j (omega (arith, few, less)) ∙ z.zeros j few)
+          (λ more e. z.first more (sym (there k less) ∙ e))
+          (λ j few. there j few ∙ c.are_many_binary_at.ensures c.if-are_many_binary_at.true j few ∙ ap (λ d. 48 + bit_of d) (sym (there j few))),
     )
-
-pub overflow_sub-k : goal.overflow_sub-k
-overflow_sub-k c =
-    let r = c.cut_long_blocks-rest.ensures in
-    (shortest_end c.args.digits.now c.shortest.result.now (shortest_on c.cut_long_blocks-rest.result.now c.args.digits.now (str_to_ascii_lowercase c.shortest.result.now) (r.some, r.fewer, r.value) c.shortest.ensures) (sym c.is_empty.ensures ∙ c.if-is_empty.false)).0
-
-pub are_lower-requires-clause-place : goal.are_lower-requires-clause-place
-are_lower-requires-clause-place c = end_place c.args.bytes.now c.args.digits.now c.args.at (length c.args.digits.now - length c.shortest.result.now) (omega arith) c.requires.place
-
-pub returns : goal.returns
-returns c =
-    let l = c.args.digits.now in
-    let k = length l - length c.shortest.result.now in
-    let r = c.cut_long_blocks-rest.ensures in
-    let p = shortest_end l c.shortest.result.now (shortest_on c.cut_long_blocks-rest.result.now l (str_to_ascii_lowercase c.shortest.result.now) (r.some, r.fewer, r.value) c.shortest.ensures) (sym c.is_empty.ensures ∙ c.if-is_empty.false) in
-    (omega arith, λ size. sym (subst (λ r. str_to_ascii_lowercase r ≡ r) (end_is l k) (c.are_lower.ensures c.if-not-are_lower.false)) ∙ p.1 size)
