@@ -39,8 +39,8 @@ none_between bytes from to e = let none : to - from ≡ 0 = omega arith in ap (�
 pub held_long : (bytes : List ℕ) (p : Pieces) → IsPart bytes p → length (held_in bytes p) ≡ p.gathered.now.len + (p.to - p.from)
 held_long bytes p part =
     let g = p.gathered.now in
-    let room = part.2 in
-    let size = part.3 in
+    let room = g.room in
+    let size = g.size in
     let front = length-take-le g.len g.bytes (omega (arith, room, size)) in
     let last = length-ahead bytes p.from p.to part.1 in
     omega (arith, length-append (take g.len g.bytes) (slice_range bytes p.from p.to), front, last)
@@ -76,6 +76,13 @@ held_gathered g g' bytes n n' a b e =
     ∙ sym e
     ∙ sym (append-nil (take n' g'))
     ∙ ap (λ l. take n' g' ++ l) (sym (none_between bytes b b (omega arith)))
+
+-- the last piece was gathered with the byte behind it, and another one begins
+pub held_apart : (g g' bytes : List ℕ) (n n' a b from k to : ℕ) → a ≤ b → from ≡ b → take n' g' ≡ take n g ++ slice_range bytes a (from + 1)
+    → (take n g ++ slice_range bytes a b) ++ (slice_range bytes from (from + 1) ++ slice_range bytes k to) ≡ take n' g' ++ slice_range bytes k to
+held_apart g g' bytes n n' a b from k to le e pushed =
+    sym (append_assoc (take n g ++ slice_range bytes a b) (slice_range bytes from (from + 1)) (slice_range bytes k to))
+    ∙ ap (λ l. l ++ slice_range bytes k to) (held_grown g bytes n a b from (from + 1) le e (omega arith) ∙ sym pushed)
 
 -- ---- one call
 

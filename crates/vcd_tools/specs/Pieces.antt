@@ -21,9 +21,9 @@ pub record Lies (v : HeadView) (l : Lying) : Type 0 where
 abbrev pub IsLine : List ℕ → ℕ → ℕ → ℕ → Type 0
 IsLine bytes line from time = (line ≤ from) × (line < from → slice_range bytes line from ≡ time_line time)
 
--- the last piece is a part of these bytes, and there is room for those that were gathered
+-- the last piece is a part of these bytes
 abbrev pub IsPart : List ℕ → Pieces → Type 0
-IsPart bytes p = (p.from ≤ p.to) × (p.to ≤ length bytes) × (p.gathered.now.len ≤ 16384) × (16384 ≤ length p.gathered.now.bytes)
+IsPart bytes p = (p.from ≤ p.to) × (p.to ≤ length bytes)
 
 -- the text that is held: what was gathered, and the last piece
 abbrev pub held_in : List ℕ → Pieces → List ℕ

@@ -22,6 +22,7 @@ ghost use Rattle.vcd_tools.specs.declared.answer.More.TheVariants.{Again, Ended}
 ghost use Rattle.vcd_tools.specs.declared.answer.Stop.TheVariants.{Write};
 
 use crate::answer::{Done, More, Stop};
+use crate::gathered::Gathered;
 use crate::machine::Machine;
 use crate::task::{Room, Task};
 use vcd_body::{Item, Regs, change_text, next_item, pass_items};
@@ -213,6 +214,7 @@ impl<'v, 'n, 'r> Engine<'v, 'n, 'r> {
         &mut self,
         view: HeadView<'_>,
         feed: &mut Feed<'_, '_, '_, '_, S>,
+        gathered: &mut Gathered,
         out: &mut W,
     ) -> Result<More, Stop>
         requires out_failures { (W.device out.old).failures < 2 ^ 64 - 1 }
@@ -235,7 +237,9 @@ impl<'v, 'n, 'r> Engine<'v, 'n, 'r> {
             (λ more. more ≡ Ended Early → may_end_early (request_of_engine self.old) ≡ true) }
         ensures stops { IfErr result (λ stop. stop ≡ Write) }
     {
-        let taken = self.machine.take_ahead(view, self.regs, feed.ahead(), out);
+        let taken = self
+            .machine
+            .take_ahead(view, self.regs, feed.ahead(), gathered, out);
         self.regs = taken.regs;
         pass_items(feed, taken.passed);
         match taken.ended {
@@ -257,6 +261,7 @@ impl<'v, 'n, 'r> Engine<'v, 'n, 'r> {
         &mut self,
         view: HeadView<'_>,
         feed: &mut Feed<'_, '_, '_, '_, S>,
+        gathered: &mut Gathered,
         out: &mut W,
     ) -> Result<More, Stop>
         requires feed_failures { S.failures (source_of feed.old) < 2 ^ 64 - 1 }
@@ -281,7 +286,7 @@ impl<'v, 'n, 'r> Engine<'v, 'n, 'r> {
         ensures answer { IfOk result
             (λ more. more ≡ Ended Early → may_end_early (request_of_engine self.old) ≡ true) }
     {
-        match self.take_ahead(view, feed, out)? {
+        match self.take_ahead(view, feed, gathered, out)? {
             More::Again => self.step_over(view, feed, out),
             More::Ended(done) => Ok(More::Ended(done)),
         }
@@ -328,8 +333,9 @@ impl<'v, 'n, 'r> Engine<'v, 'n, 'r> {
             × (chunk_len_of feed.new ≡ chunk_len_of feed.old) × SameLoans feed.old feed.new }
     {
         let view = self.view;
+        let mut gathered = Gathered::new();
         'items: loop {
-            match self.advance(view, feed, out)? {
+            match self.advance(view, feed, &mut gathered, out)? {
                 More::Again => {}
                 More::Ended(done) => return Ok(done),
             }

@@ -241,7 +241,15 @@ impl ItemText {
         ensures written { IfOk result (λ _. self.new.written ≡ Some time) }
     {
         self.put_time_behind(time, lying, pieces, out)?;
-        pieces.append_without(lying.bytes, lying.from, lying.to, n, out)
+        // A vector alone may leave digits out.
+        if let Item::Change {
+            form: Form::Vector,
+            ..
+        } = lying.plain.item
+        {
+            return pieces.append_without(lying.bytes, lying.from, lying.to, n, out);
+        }
+        pieces.append_parts(lying.bytes, lying.from, lying.to, n, out)
     }
 
     /// Writes what closes the text where this is the last time mark: its line, where it does not stand yet.

@@ -52,6 +52,7 @@ mod beginning;
 mod choice;
 mod commands;
 mod engine;
+mod gathered;
 mod item_text;
 mod machine;
 mod merge_state;

@@ -29,7 +29,8 @@ pub(crate) mod pick;
 pub(crate) mod sample;
 
 use crate::answer::Stop;
-use crate::pieces::{Gathered, Lying, Pieces, line_before};
+use crate::gathered::Gathered;
+use crate::pieces::{Lying, Pieces, line_before};
 use crate::task::{Room, Task};
 use vcd_body::{
     First, Item, Plain, Regs, mark_ahead, opening_ahead, real_ahead, scalar_ahead, vector_ahead,
@@ -260,7 +261,9 @@ fn take_next<T: Taker, W: Sink>(
 }
 
 /// Takes the items that lie ahead, one after the other, up to one that ends the run, each with what is due after it.
-// Registers and place come and go by value, so that the loop keeps them out of memory.
+// Registers and place come and go by value, so that the loop keeps them out of memory; and the loop of each task is a function, so that
+// none has less registers for what another one does.
+#[inline(never)]
 fn take_each<T: Taker, W: Sink>(
     taker: &mut T,
     view: HeadView<'_>,
@@ -485,12 +488,15 @@ fn take_next_lying<T: Copier, W: Sink>(
     Some(taken)
 }
 
-/// Takes the items that lie ahead as `take_each` does, with pieces of the chunk where what is due stands there.
+/// Takes the items that lie ahead as `take_each` does, with pieces of the chunk where what is due stands there. Short pieces are gathered in
+/// memory that is lent.
+#[inline(never)]
 fn take_each_lying<T: Copier, W: Sink>(
     copier: &mut T,
     view: HeadView<'_>,
     mut regs: Regs,
     mut ahead: Ahead<'_>,
+    gathered: &mut Gathered,
     out: &mut W,
 ) -> Taken
     requires failures { (W.device out.old).failures < 2 ^ 64 - 1 }
@@ -514,8 +520,7 @@ fn take_each_lying<T: Copier, W: Sink>(
         (λ ended. ended ≡ true → may_end_early (request_in (T.machine copier.old)) ≡ true) }
 {
     let bytes = ahead.bytes();
-    let mut gathered = Gathered::new();
-    let mut pieces = Pieces::new(&mut gathered);
+    let mut pieces = Pieces::new(gathered);
     let mut line = ahead.passed();
     'items: loop {
         let Some(taken) = take_next_lying(
@@ -612,13 +617,15 @@ impl<'n, 'r> Machine<'n, 'r> {
         Ok(false)
     }
 
-    /// Takes the items that lie ahead, one after the other, up to one that ends the run, and writes what is due after each.
+    /// Takes the items that lie ahead, one after the other, up to one that ends the run, and writes what is due after each. Short pieces
+    /// of that are gathered in memory that is lent.
     // A loop for each task, so that none asks for each item what the task is; and what copies nothing holds no pieces.
     pub(crate) fn take_ahead<W: Sink>(
         &mut self,
         view: HeadView<'_>,
         regs: Regs,
         ahead: Ahead<'_>,
+        gathered: &mut Gathered,
         out: &mut W,
     ) -> Taken
         requires failures { (W.device out.old).failures < 2 ^ 64 - 1 }
@@ -642,10 +649,10 @@ impl<'n, 'r> Machine<'n, 'r> {
     {
         match self {
             Machine::Check(check) => take_each(check, view, regs, ahead, out),
-            Machine::Pick(pick) => take_each_lying(pick, view, regs, ahead, out),
+            Machine::Pick(pick) => take_each_lying(pick, view, regs, ahead, gathered, out),
             Machine::Cut(cut) => {
                 if cut.has_begun() {
-                    take_each_lying(cut, view, regs, ahead, out)
+                    take_each_lying(cut, view, regs, ahead, gathered, out)
                 } else {
                     take_each(cut, view, regs, ahead, out)
                 }

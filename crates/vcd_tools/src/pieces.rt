@@ -12,8 +12,8 @@ ghost use Rattle.vcd_body.specs.Items.{regs_after};
 ghost use Rattle.vcd_body.specs.declared.item.Item.TheVariants as kind;
 ghost use Rattle.vcd_tools.specs.Pieces.{IsLine, IsPart, Lies, PutsOn, held_in};
 
+use crate::gathered::{GATHERED, Gathered};
 use crate::item_text::put_time;
-use std::simd::prelude::*;
 use vcd_body::{Form, Item, Plain, Regs, is_mark_line, left_out};
 use vcd_text::{Sink, WriteFailed, put};
 
@@ -69,105 +69,8 @@ impl Lying<'_> {
     }
 }
 
-/// So many bytes of short pieces are gathered.
-const GATHERED: usize = 16_384;
-
-/// A piece of at most so many bytes is short: it is copied by a copy of so many, whatever its length.
-const SHORT: usize = 64;
-
 /// A piece of at most so many bytes is gathered too; a longer one is written from the chunk.
 const LONG: usize = 1024;
-
-/// Short pieces that are due, one after the other.
-#[derive(Drop)]
-pub(crate) struct Gathered {
-    bytes: [u8; GATHERED],
-    len: usize,
-}
-
-/// Copies so many bytes, from a place on, to a place.
-#[inline(always)]
-fn copy_short(to: &mut [u8], place: usize, bytes: &[u8], from: usize)
-    requires room { place + 64 ≤ length to.old }
-    requires there { from + 64 ≤ length bytes.now }
-    ensures long { length to.new ≡ length to.old }
-    ensures copied { take (place + 64) to.new
-        ≡ take place to.old ++ slice_range bytes.now from (from + 64) }
-{
-    u8x64::from_slice(&bytes[from..]).copy_to_slice(&mut to[place..]);
-}
-
-impl Gathered {
-    /// None are there.
-    #[inline(always)]
-    pub(crate) fn new() -> Gathered
-        ensures none { result.len ≡ 0 }
-        ensures size { 16384 ≤ length result.bytes }
-    {
-        Gathered {
-            bytes: [0; GATHERED],
-            len: 0,
-        }
-    }
-
-    /// Whether a part of the bytes is short, and there is room for it.
-    #[inline(always)]
-    fn has_room(&self, bytes: &[u8], from: usize, to: usize) -> bool
-        requires within { (from ≤ to) × (to ≤ length bytes.now) }
-        requires room { self.now.len ≤ 16384 }
-        ensures short { result ≡ true → to ≤ from + 64 }
-        ensures there { result ≡ true → from + 64 ≤ length bytes.now }
-        ensures room { result ≡ true → self.now.len + 64 ≤ 16384 }
-    {
-        to - from <= SHORT && from + SHORT <= bytes.len() && self.len <= GATHERED - SHORT
-    }
-
-    /// Takes a short part of the bytes behind the others.
-    #[inline(always)]
-    fn push(&mut self, bytes: &[u8], from: usize, to: usize)
-        requires short { (from ≤ to) × (to ≤ from + 64) }
-        requires there { from + 64 ≤ length bytes.now }
-        requires room { self.old.len + 64 ≤ 16384 }
-        requires size { 16384 ≤ length self.old.bytes }
-        ensures pushed { take self.new.len self.new.bytes
-            ≡ take self.old.len self.old.bytes ++ slice_range bytes.now from to }
-        ensures room { self.new.len ≤ 16384 }
-        ensures size { 16384 ≤ length self.new.bytes }
-    {
-        copy_short(&mut self.bytes, self.len, bytes, from);
-        self.len += to - from;
-    }
-
-    /// Takes a part of any length behind the others, where it has room.
-    fn push_long(&mut self, bytes: &[u8], from: usize, to: usize)
-        requires within { (from ≤ to) × (to ≤ length bytes.now) }
-        requires room { self.old.len + (to - from) ≤ 16384 }
-        requires size { 16384 ≤ length self.old.bytes }
-        ensures pushed { take self.new.len self.new.bytes
-            ≡ take self.old.len self.old.bytes ++ slice_range bytes.now from to }
-        ensures room { self.new.len ≤ 16384 }
-        ensures size { 16384 ≤ length self.new.bytes }
-    {
-        let end = self.len + (to - from);
-        self.bytes[self.len..end].copy_from_slice(&bytes[from..to]);
-        self.len = end;
-    }
-
-    /// Writes the gathered bytes, of which none are left then.
-    fn empty<W: Sink>(&mut self, out: &mut W) -> Result<(), WriteFailed>
-        requires failures { (W.device out.old).failures < 2 ^ 64 - 1 }
-        requires room { self.old.len ≤ 16384 }
-        requires size { 16384 ≤ length self.old.bytes }
-        ensures puts { Puts (W.device out.old) (W.device out.new)
-            (take self.old.len self.old.bytes) result }
-        ensures empty { IfOk result (λ _. self.new.len ≡ 0) }
-        ensures size { 16384 ≤ length self.new.bytes }
-    {
-        put(out, &self.bytes[..self.len])?;
-        self.len = 0;
-        Ok(())
-    }
-}
 
 /// Gathers a part of the bytes behind the others, which are written where it has no room beside them; a long part is written too.
 #[cold]
@@ -181,14 +84,10 @@ fn gather_slowly<W: Sink>(
 ) -> Result<(), WriteFailed>
     requires failures { (W.device out.old).failures < 2 ^ 64 - 1 }
     requires within { (from ≤ to) × (to ≤ length bytes.now) }
-    requires room { gathered.old.len ≤ 16384 }
-    requires size { 16384 ≤ length gathered.old.bytes }
     ensures puts { PutsOn (take gathered.old.len gathered.old.bytes)
         (take gathered.new.len gathered.new.bytes)
         (W.device out.old) (W.device out.new) (slice_range bytes.now from to) result }
     ensures counts { Counts (W.device out.old) (W.device out.new) result }
-    ensures room { IfOk result (λ _. gathered.new.len ≤ 16384) }
-    ensures size { 16384 ≤ length gathered.new.bytes }
 {
     if to - from > LONG {
         gathered.empty(out)?;
@@ -210,11 +109,11 @@ pub(crate) struct Pieces<'a> {
     to: usize,
 }
 
-/// Writes these bytes, and then the part of others.
+/// Writes the gathered bytes, of which none are left then, and then the part of others.
 #[cold]
 #[inline(never)]
 fn put_both<W: Sink>(
-    gathered: &[u8],
+    gathered: &mut Gathered,
     bytes: &[u8],
     from: usize,
     to: usize,
@@ -222,22 +121,22 @@ fn put_both<W: Sink>(
 ) -> Result<(), WriteFailed>
     requires failures { (W.device out.old).failures < 2 ^ 64 - 1 }
     requires within { (from ≤ to) × (to ≤ length bytes.now) }
-    ensures { Puts (W.device out.old) (W.device out.new)
-        (gathered.now ++ slice_range bytes.now from to) result }
+    ensures puts { Puts (W.device out.old) (W.device out.new)
+        (take gathered.old.len gathered.old.bytes ++ slice_range bytes.now from to) result }
+    ensures empty { IfOk result (λ _. gathered.new.len ≡ 0) }
 {
-    put(out, gathered)?;
+    gathered.empty(out)?;
     put(out, &bytes[from..to])
 }
 
 impl<'a> Pieces<'a> {
-    /// Nothing is held. Short pieces are gathered here, where none are yet.
+    /// Nothing is held. Short pieces are gathered here; those that are there are dropped.
     #[inline(always)]
     pub(crate) fn new(gathered: &'a mut Gathered) -> Pieces<'a>
-        requires none { gathered.old.len ≡ 0 }
-        requires size { 16384 ≤ length gathered.old.bytes }
         ensures part { (bytes : List ℕ) → IsPart bytes result }
         ensures held { (bytes : List ℕ) → held_in bytes result ≡ [] }
     {
+        gathered.len = 0;
         Pieces {
             gathered,
             from: 0,
@@ -256,10 +155,8 @@ impl<'a> Pieces<'a> {
         ensures empty { IfOk result (λ _. self.new.from ≡ self.new.to) }
         ensures some { IfErr result (λ _. 0 < length (held_in bytes.now self.old)) }
     {
-        let len = self.gathered.len;
-        if len > 0 || self.from < self.to {
-            put_both(&self.gathered.bytes[..len], bytes, self.from, self.to, out)?;
-            self.gathered.len = 0;
+        if self.gathered.len > 0 || self.from < self.to {
+            put_both(self.gathered, bytes, self.from, self.to, out)?;
             self.from = self.to;
         }
         Ok(())
@@ -335,6 +232,37 @@ impl<'a> Pieces<'a> {
     /// Takes the part of the bytes that is due next, but for so many bytes behind its first one.
     #[inline(always)]
     pub(crate) fn append_without<W: Sink>(
+        &mut self,
+        bytes: &[u8],
+        from: usize,
+        to: usize,
+        n: usize,
+        out: &mut W,
+    ) -> Result<(), WriteFailed>
+        requires failures { (W.device out.old).failures < 2 ^ 64 - 1 }
+        requires part { IsPart bytes.now self.old }
+        requires within { (from + 1 + n ≤ to) × (to ≤ length bytes.now) }
+        ensures puts { PutsOn (held_in bytes.now self.old) (held_in bytes.now self.new)
+            (W.device out.old) (W.device out.new) (bytes_without bytes.now from to n) result }
+        ensures counts { Counts (W.device out.old) (W.device out.new) result }
+        ensures part { IfOk result (λ _. IsPart bytes.now self.new) }
+    {
+        // Where pieces were gathered, most such parts leave bytes out: then no branch asks whether this one does.
+        if n + self.gathered.len == 0 {
+            return self.append(bytes, from, to, out);
+        }
+        if from == self.to && self.gathered.has_room(bytes, self.from, from + 1) {
+            self.gathered.push(bytes, self.from, from + 1);
+            self.from = from + 1 + n;
+            self.to = to;
+            return Ok(());
+        }
+        self.append_parts(bytes, from, to, n, out)
+    }
+
+    /// The same, whatever is held: where nothing is left out, the last piece grows.
+    #[inline(always)]
+    pub(crate) fn append_parts<W: Sink>(
         &mut self,
         bytes: &[u8],
         from: usize,

@@ -11,5 +11,8 @@ returns-in_err-put_time_behind-clause-puts g c =
     let l = c.args.lying in
     rw e (first_on (held_in l.bytes.now c.args.pieces.now) (time_due c.args.self.now.written c.args.time) (bytes_without l.bytes.now l.from l.to c.args.n) _ _ c.in_err-put_time_behind.ensures.puts)
 
+pub returns-in-Change-default-Vector-clause-puts : goal.returns-in-Change-default-Vector-clause-puts
+returns-in-Change-default-Vector-clause-puts g c = twice_on _ _ _ _ _ _ _ _ c.append_without.result c.in_ok-put_time_behind.ensures.puts c.append_without.ensures.puts
+
 pub returns-clause-puts : goal.returns-clause-puts
-returns-clause-puts g c = twice_on _ _ _ _ _ _ _ _ c.append_without.result c.in_ok-put_time_behind.ensures.puts c.append_without.ensures.puts
+returns-clause-puts g c = twice_on _ _ _ _ _ _ _ _ c.append_parts.result c.in_ok-put_time_behind.ensures.puts c.append_parts.ensures.puts

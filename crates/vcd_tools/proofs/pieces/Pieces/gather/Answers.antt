@@ -7,7 +7,7 @@ use Rattle.vcd_tools.proofs.pieces.Pieces.gather.Goals as goal
 pub returns-then-has_room-clause-puts : goal.returns-then-has_room-clause-puts
 returns-then-has_room-clause-puts g c =
     let p = c.args.self.now in
-    held_on (held_in c.args.bytes.now p) _ [] (g.W.Sink.device c.args.out.now) (held_gathered p.gathered.now.bytes c.push.new.self.bytes c.args.bytes.now p.gathered.now.len c.push.new.self.len p.from p.to c.push.ensures.pushed)
+    held_on (held_in c.args.bytes.now p) _ [] (g.W.Sink.device c.args.out.now) (held_gathered p.gathered.now.bytes c.push.new.self.bytes c.args.bytes.now p.gathered.now.len c.push.new.self.len p.from p.to c.push.ensures)
 
 pub returns-in_err-gather_slowly-clause-puts : goal.returns-in_err-gather_slowly-clause-puts
 returns-in_err-gather_slowly-clause-puts g c =

@@ -1,7 +1,7 @@
 use Rattle.std.proofs.Common.{◌≡◌, ◌+◌, ◌-◌, ◌∙◌, ◌++◌, ap, length, take, drop, arith, length-drop}
 use Rattle.std.proofs.lemmas.List.{length-take-le}
 use Rattle.std.proofs.lemmas.Simd.{take_more_put_chunk}
-use Rattle.vcd_tools.proofs.pieces.copy_short.Goals as goal
+use Rattle.vcd_tools.proofs.gathered.copy_short.Goals as goal
 
 pub returns-clause-copied : goal.returns-clause-copied
 returns-clause-copied c =
