@@ -9,11 +9,10 @@ ghost use Rattle.vcd_head.specs.Draft.{DraftsOn};
 use crate::ahead::token_ahead;
 use crate::draft::Draft;
 use crate::fault::HeadFault;
-use crate::keyword::is;
 use crate::rows::{WideRow, push};
 use crate::scopes::MOST_OPEN;
 use crate::view::Kind;
-use crate::words::is_end;
+use crate::words::{is_end, is_scope, is_upscope};
 use vcd_text::Ahead;
 
 // A scope whose phrase lies ahead.
@@ -37,7 +36,7 @@ pub(crate) fn scope_ahead<'a>(ahead: &mut Ahead<'a>) -> Option<AheadScope<'a>>
         × (longest_of ahead.new ≡ longest_of ahead.old) }
 {
     let keyword = token_ahead(ahead)?;
-    if !is(keyword, b"$scope") {
+    if !is_scope(keyword) {
         return None;
     }
     let word = token_ahead(ahead)?;
@@ -68,7 +67,7 @@ pub(crate) fn upscope_ahead(ahead: &mut Ahead<'_>) -> Option<()>
         × (longest_of ahead.new ≡ longest_of ahead.old) }
 {
     let keyword = token_ahead(ahead)?;
-    if !is(keyword, b"$upscope") {
+    if !is_upscope(keyword) {
         return None;
     }
     let end = token_ahead(ahead)?;

@@ -42,6 +42,7 @@ impl Draft {
     }
 
     /// 1 plus the row of the innermost open scope, 0 where none is open.
+    #[inline(always)]
     pub(crate) fn parent(&self) -> usize
         ensures { result ≡ unwrap_or
             (slice_get self.now.scopes.items (length self.now.scopes.items - 1)) 0 }

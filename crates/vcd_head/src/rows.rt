@@ -18,6 +18,7 @@ pub(crate) struct WideRow {
 }
 
 /// Puts a row after the others. Numbers that 32 bits do not hold, as those of a type or a reference of 4 GiB, are out of memory.
+#[inline(always)]
 pub(crate) fn push(rows: &mut Vec<Row>, row: WideRow) -> Result<(), HeadFault>
     ensures items { IfOk result (λ _. rows.new.items ≡ rows.old.items ++ row_of row ∷ []) }
     ensures len { IfOk result (λ _. vec_len rows.new ≡ vec_len rows.old + 1) }

@@ -24,10 +24,27 @@ pub(crate) fn is_var(token: &[u8]) -> bool
     matches!(token, [b'$', b'v', b'a', b'r'])
 }
 
+#[inline(always)]
 pub(crate) fn is_event(word: &[u8]) -> bool
     ensures { result ≡ bytes_eq (codes "event") word.now }
 {
-    is(word, b"event")
+    matches!(word, [b'e', b'v', b'e', b'n', b't'])
+}
+
+/// The keyword of a scope.
+#[inline(always)]
+pub(crate) fn is_scope(token: &[u8]) -> bool
+    ensures { result ≡ bytes_eq (codes "$scope") token.now }
+{
+    matches!(token, [b'$', b's', b'c', b'o', b'p', b'e'])
+}
+
+/// The keyword that closes a scope.
+#[inline(always)]
+pub(crate) fn is_upscope(token: &[u8]) -> bool
+    ensures { result ≡ bytes_eq (codes "$upscope") token.now }
+{
+    matches!(token, [b'$', b'u', b'p', b's', b'c', b'o', b'p', b'e'])
 }
 
 /// It could begin a time mark or a value change.
@@ -112,6 +129,7 @@ fn raised(unit: &[u8], power: i8) -> Option<i8>
 }
 
 /// The size that the digits spell, 1 to 16,777,215.
+#[inline(always)]
 pub(crate) fn size_of(token: &[u8]) -> Option<usize>
     ensures { result ≡ size_in token.now }
 {
@@ -132,6 +150,7 @@ pub(crate) fn size_of(token: &[u8]) -> Option<usize>
 const TOO_WIDE: usize = 16_777_216;
 
 /// All bytes may stand in a code: 33 to 126 (clause 18.2.1).
+#[inline(always)]
 pub(crate) fn is_code(token: &[u8]) -> bool
     ensures { result ≡ list_all is_code_byte token.now }
 {

@@ -28,7 +28,7 @@ returns-clause-gives c = λ limit lines bytes ts over p.
         type_line = two.0;
         name_line = three.0;
         end = t4;
-        are = ap (λ b. record { bytes = b; line = one.0 } ∷ t2 ∷ t3 ∷ t4 ∷ []) (sym (scope_keyword t1.bytes (sym c.is.ensures ∙ c.if-not-is.false)));
+        are = ap (λ b. record { bytes = b; line = one.0 } ∷ t2 ∷ t3 ∷ t4 ∷ []) (sym (scope_keyword t1.bytes (sym c.is_scope.ensures ∙ c.if-not-is_scope.false)));
         type_on = sym c.is_end.ensures ∙ c.if-is_end.false;
         name_on = sym c.is_end-2.ensures ∙ c.if-is_end-2.false;
         ends = sym c.is_end-3.ensures ∙ c.if-not-is_end.false;

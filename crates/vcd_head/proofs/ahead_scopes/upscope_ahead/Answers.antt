@@ -15,7 +15,7 @@ returns-clause-gives c = λ limit lines bytes ts over p.
       record {
         begin_line = one.0;
         end = t2;
-        are = ap (λ b. record { bytes = b; line = one.0 } ∷ t2 ∷ []) (sym (upscope_keyword t1.bytes (sym c.is.ensures ∙ c.if-not-is.false)));
+        are = ap (λ b. record { bytes = b; line = one.0 } ∷ t2 ∷ []) (sym (upscope_keyword t1.bytes (sym c.is_upscope.ensures ∙ c.if-not-is_upscope.false)));
         ends = sym c.is_end.ensures ∙ c.if-not-is_end.false;
       },
       subst (Passed limit lines bytes _) (one_in_turn ts t1 t2) two.1,
