@@ -26,7 +26,7 @@
 //! - `answer`: `Done`, `More`, `Stop`: how a run ends, and whether it goes on
 //! - `choice`: which codes are chosen, a byte a code
 //! - `item_text`: kept items as lines, each after the line of its time
-//! - `pieces`: text that is due and stands in the chunk, which is written at once
+//! - `pieces`: text that is due and stands in the chunk, which is written at once; `gathered`: short pieces of it, copied together
 //! - `selection`: the variables that names select, as marks and as chosen codes
 //! - `report`, `rows`, `tally`: the seven lines of `check`; `list`; the counters of `edges`, and its rows
 //! - `values`: the values of codes, with one item more
