@@ -116,12 +116,12 @@ fn has_one_blank(
 
 /// How many digits on the left the shortest ones leave out, where the number of all of them is known: none of them is looked at.
 #[inline(always)]
-fn left_out_known(digits: &[u8], bits: Bits) -> Option<usize>
-    ensures { IfSome result (λ k. (k ≤ length digits.now)
-        × (digits.now ≡ binary_digits bits.len bits.number → (size : ℕ)
-        → drop k digits.now ≡ short (extend (str_to_ascii_lowercase digits.now) size))) }
+fn left_out_known(digits: &[u8], bits: Bits) -> usize
+    ensures few { result ≤ length digits.now }
+    ensures shortest { digits.now ≡ binary_digits bits.len bits.number → (size : ℕ)
+        → drop result digits.now ≡ short (extend (str_to_ascii_lowercase digits.now) size) }
 {
-    digits.len().checked_sub(needed(bits))
+    digits.len().saturating_sub(needed(bits))
 }
 
 /// Bit k is set where byte `at + k` is not `0`.
@@ -153,6 +153,17 @@ fn zeros_at(bytes: &[u8], at: usize, n: usize) -> usize
     (others.trailing_zeros() as usize).min(n - 1)
 }
 
+/// Bit k is set where byte `at + k` is neither `0` nor `1`.
+#[inline(always)]
+fn others_than_bits_64(bytes: &[u8], at: usize) -> u64
+    requires { at + 64 ≤ length bytes.now }
+    ensures { (k : ℕ) → k < 64 → bit_at result k ≡ 0
+        → slice_index bytes.now (at + k) ≡ byte "0" + bit_of (slice_index bytes.now (at + k)) }
+{
+    let v = u8x64::from_slice(&bytes[at..]) & u8x64::splat(0xfe);
+    v.simd_ne(u8x64::splat(b'0')).to_bitmask()
+}
+
 /// So many bytes from a place on are `0` and `1` alone. Those after them are looked at too.
 #[inline(always)]
 fn are_many_binary_at(bytes: &[u8], at: usize, n: usize) -> bool
@@ -167,7 +178,7 @@ fn are_many_binary_at(bytes: &[u8], at: usize, n: usize) -> bool
 
 /// How many digits on the left the shortest ones leave out, where these are in lower case. The digits begin at a place of these bytes.
 /// Most that come here are 33 to 64, and `0` and `1`: they are looked at at once, without a branch on how many zeros lead.
-#[inline(always)]
+#[inline(never)]
 fn needless(bytes: &[u8], at: usize, digits: &[u8]) -> Option<usize>
     requires within { at ≤ length bytes.now }
     requires place { digits.now ≡ slice_range bytes.now at (at + length digits.now) }
@@ -205,6 +216,22 @@ fn needless_slowly(bytes: &[u8], at: usize, digits: &[u8]) -> Option<usize>
     Some(k)
 }
 
+/// How many of 64 digits that are `0` and `1` alone the shortest ones leave out: the zeros that lead, without a branch on how many these are.
+/// None says nothing.
+#[inline(always)]
+fn left_out_of_64(bytes: &[u8], at: usize, digits: &[u8]) -> Option<usize>
+    requires within { at ≤ length bytes.now }
+    requires place { digits.now ≡ slice_range bytes.now at (at + length digits.now) }
+    ensures { IfSome result (λ k. (k ≤ length digits.now)
+        × ((size : ℕ) → drop k digits.now
+        ≡ short (extend (str_to_ascii_lowercase digits.now) size))) }
+{
+    if digits.len() == 64 && others_than_bits_64(bytes, at) == 0 {
+        return Some(zeros_at(bytes, at, 64));
+    }
+    None
+}
+
 /// The same, where most need all of their digits, and the number of these may be known.
 #[inline(always)]
 fn left_out_of(bytes: &[u8], at: usize, digits: &[u8], bits: Option<Bits>) -> Option<usize>
@@ -215,7 +242,10 @@ fn left_out_of(bytes: &[u8], at: usize, digits: &[u8], bits: Option<Bits>) -> Op
         → drop k digits.now ≡ short (extend (str_to_ascii_lowercase digits.now) size))) }
 {
     if let Some(bits) = bits {
-        return left_out_known(digits, bits);
+        return Some(left_out_known(digits, bits));
+    }
+    if let Some(zeros) = left_out_of_64(bytes, at, digits) {
+        return Some(zeros);
     }
     if !are_shortest(digits) {
         return needless(bytes, at, digits);

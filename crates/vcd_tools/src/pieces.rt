@@ -248,10 +248,10 @@ impl<'a> Pieces<'a> {
         ensures part { IfOk result (λ _. IsPart bytes.now self.new) }
     {
         // Where pieces were gathered, most such parts leave bytes out: then no branch asks whether this one does.
-        if n + self.gathered.len == 0 {
-            return self.append(bytes, from, to, out);
-        }
-        if from == self.to && self.gathered.has_room(bytes, self.from, from + 1) {
+        if self.gathered.len > 0
+            && from == self.to
+            && self.gathered.has_room(bytes, self.from, from + 1)
+        {
             self.gathered.push(bytes, self.from, from + 1);
             self.from = from + 1 + n;
             self.to = to;

@@ -1,0 +1,21 @@
+use Rattle.std.proofs.Common.{◌≡◌, ◌<◌, ◌+◌, ◌∙◌, ℕ, length, arith, ap, sym}
+use Rattle.std.specs.Prelude.{slice_index}
+use Rattle.vcd_body.specs.Binary.{bit_of}
+use Rattle.vcd_body.proofs.Shortest.{short_behind_zeros}
+use Rattle.vcd_body.proofs.WordLemmas.{byte_there, no_bits}
+use Rattle.vcd_body.proofs.lines.left_out_of_64.Goals as goal
+
+pub returns-then-others_than_bits_64-eq0 : goal.returns-then-others_than_bits_64-eq0
+returns-then-others_than_bits_64-eq0 c =
+    let l = c.args.digits.now in
+    let k = c.zeros_at.result in
+    let z = c.zeros_at.ensures in
+    let less = z.less in
+    let all = c.if-digits-eq64.true in
+    let there : (j : ℕ) → j < length l → slice_index l j ≡ slice_index c.args.bytes.now (c.args.at + j) = λ j few. byte_there l c.args.bytes.now c.args.at (length l) j few c.requires.place in (
+      omega (arith, less, all),
+      short_behind_zeros k l (omega (arith, less, all))
+          (λ j few. there j (omega (arith, few, less, all)) ∙ z.zeros j few)
+          (λ more e. z.first (omega (arith, more, all)) (sym (there k (omega (arith, less, all))) ∙ e))
+          (λ j few. there j few ∙ c.others_than_bits_64.ensures j (omega (arith, few, all)) (no_bits _ j c.if-others_than_bits_64-eq0.true) ∙ ap (λ d. 48 + bit_of d) (sym (there j few))),
+    )
