@@ -17,4 +17,6 @@ mod sample;
 #[cfg(test)]
 mod table;
 #[cfg(test)]
+mod text;
+#[cfg(test)]
 mod tools;

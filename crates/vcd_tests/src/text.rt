@@ -1,0 +1,600 @@
+// Reads that come in pieces, halts, devices that fail, and the texts of the faults.
+ghost use Rattle.std.specs.Prelude.{◌≡◌, ◌<◌, ◌≤◌, ◌+◌, ◌-◌, ◌^◌, length, true};
+ghost use Rattle.vcd_text.specs.Watch.{failed_calls};
+ghost use Rattle.vcd_text.specs.Feed.{SameLoans, chunk_len_of, limit_of, source_of};
+
+use itoa::Buffer;
+use std::io;
+use vcd_text::doubles::{Narrow, Pieces};
+use vcd_text::{
+    Ahead, Feed, Halt, Next, Sink, Source, Watch, WriteFailed, decimal_of, put, put_number, text_of,
+};
+
+// The most bytes that are told.
+const MOST_TOLD: usize = 1024;
+
+// What was told, one thing after the other. What has no room is left out.
+#[derive(Drop)]
+struct Told {
+    bytes: [u8; MOST_TOLD],
+    len: usize,
+    ghost size: { length bytes ≡ 1024 },
+    ghost room: { len ≤ 1024 },
+}
+
+impl Told {
+    fn new() -> Told {
+        Told {
+            bytes: [0; MOST_TOLD],
+            len: 0,
+        }
+    }
+
+    fn push(&mut self, bytes: &[u8]) {
+        let n = bytes.len().min(MOST_TOLD - self.len);
+        self.bytes[self.len..self.len + n].copy_from_slice(&bytes[..n]);
+        self.len += n;
+    }
+
+    fn push_number(&mut self, number: u64) {
+        self.push(Buffer::new().format(number).as_bytes());
+        self.push(b" ");
+    }
+
+    fn push_line(&mut self, line: u64) {
+        self.push(b"@");
+        self.push_number(line);
+    }
+
+    fn text(&self) -> &[u8] {
+        &self.bytes[..self.len]
+    }
+}
+
+// Gives at most `most` bytes a call, and fails at the call number `fails_at`, counted from 1.
+fn failing(bytes: &[u8], most: usize, fails_at: u64) -> Watch<Pieces<'_>>
+    ensures { failed_calls result ≡ 0 }
+{
+    let mut pieces = Pieces::new(bytes, most);
+    pieces.fails_at = fails_at;
+    Watch::new(pieces)
+}
+
+// Tells an answer that is no token, with its line.
+fn tell_end(answer: Result<Next, Halt>, line: u64, told: &mut Told) {
+    match answer {
+        Ok(_) => told.push(b"end"),
+        Err(halt) => {
+            told.push(b"halt ");
+            told.push(Buffer::new().format(halt.number()).as_bytes());
+        }
+    }
+    told.push_line(line);
+}
+
+// Tells the next token, or the end or the number of the halt, with its line, and returns whether it was a token.
+fn tell_next(feed: &mut Feed<'_, '_, '_, '_, Watch<Pieces<'_>>>, told: &mut Told) -> bool
+    requires { failed_calls (source_of feed.old) < 2 ^ 64 - 1 }
+    ensures token { result ≡ true
+        → failed_calls (source_of feed.new) ≡ failed_calls (source_of feed.old) }
+    ensures one { failed_calls (source_of feed.new) ≤ failed_calls (source_of feed.old) + 1 }
+    ensures lengths { (limit_of feed.new ≡ limit_of feed.old)
+        × (chunk_len_of feed.new ≡ chunk_len_of feed.old) }
+    ensures loans { SameLoans feed.old feed.new }
+{
+    let answer = feed.next();
+    if answer != Ok(Next::Token) {
+        tell_end(answer, feed.line(), told);
+        return false;
+    }
+    told.push(feed.token());
+    told.push_line(feed.line());
+    true
+}
+
+// Tells each token that is left, and the end or the halt.
+fn tell_all(feed: &mut Feed<'_, '_, '_, '_, Watch<Pieces<'_>>>, told: &mut Told)
+    requires { failed_calls (source_of feed.old) < 2 ^ 64 - 1 }
+{
+    'answers: for _ in 0..u64::MAX {
+        if !tell_next(feed, told) {
+            return;
+        }
+    }
+}
+
+// Tells the tokens of a source.
+fn tell(source: &mut Watch<Pieces<'_>>, chunk_len: usize, limit: usize, told: &mut Told)
+    requires source { failed_calls source.old ≡ 0 }
+    requires chunk_len { (0 < chunk_len) × (chunk_len ≤ 1300) }
+    requires limit { (0 < limit) × (limit ≤ 300) }
+{
+    let mut chunk = [0; 1300];
+    let mut token = [0; 300];
+    let mut value = [0; 300];
+    let mut feed = Feed::new(
+        source,
+        &mut chunk[..chunk_len],
+        &mut token[..limit],
+        &mut value[..limit],
+    );
+    tell_all(&mut feed, told);
+}
+
+// Whether the tokens of a source are told so.
+fn is_told(mut source: Watch<Pieces<'_>>, chunk_len: usize, limit: usize, want: &[u8]) -> bool
+    requires source { failed_calls source ≡ 0 }
+    requires chunk_len { (0 < chunk_len) × (chunk_len ≤ 1300) }
+    requires limit { (0 < limit) × (limit ≤ 300) }
+{
+    let mut told = Told::new();
+    tell(&mut source, chunk_len, limit, &mut told);
+    told.text() == want
+}
+
+// Tells the next token ahead and how many bytes were passed with it, and returns whether there was one.
+fn tell_one_ahead(ahead: &mut Ahead<'_>, told: &mut Told) -> bool {
+    let Some(token) = ahead.next() else {
+        told.push(b"- ");
+        return false;
+    };
+    told.push(token);
+    told.push(b" ");
+    told.push_number(ahead.passed() as u64);
+    true
+}
+
+// Tells the tokens ahead, and goes on with the feed after them.
+fn tell_ahead(feed: &mut Feed<'_, '_, '_, '_, Watch<Pieces<'_>>>, told: &mut Told)
+    ensures { source_of feed.new ≡ source_of feed.old }
+{
+    let mut ahead = feed.ahead();
+    'tokens: for _ in 0..u64::MAX {
+        let Some(token) = ahead.next() else {
+            break;
+        };
+        told.push(token);
+        told.push(b" ");
+    }
+    let passed = ahead.passed();
+    feed.pass(passed);
+}
+
+// Whether the same tokens, most of them taken ahead, are told so.
+fn is_told_ahead(bytes: &[u8], most: usize, chunk_len: usize, want: &[u8]) -> bool
+    requires chunk_len { (0 < chunk_len) × (chunk_len ≤ 1300) }
+{
+    let mut source = Watch::new(Pieces::new(bytes, most));
+    let mut chunk = [0; 1300];
+    let mut token = [0; 2];
+    let mut value = [0; 2];
+    let mut feed = Feed::new(&mut source, &mut chunk[..chunk_len], &mut token, &mut value);
+    let mut told = Told::new();
+    'answers: for _ in 0..u64::MAX {
+        tell_ahead(&mut feed, &mut told);
+        let answer = feed.next();
+        if answer != Ok(Next::Token) {
+            tell_end(answer, feed.line(), &mut told);
+            break;
+        }
+        told.push(feed.token());
+        told.push(b" ");
+    }
+    told.text() == want
+}
+
+// Reads of any length, and chunks that end at any place of a token.
+#[test]
+fn tokens_are_whole_over_any_reads(rt: HostRuntime) {
+    for (bytes, want) in [
+        (b"".as_slice(), b"end@1 ".as_slice()),
+        (b"ab\n\r\ncd\x0b$end\t\n\n", b"ab@1 cd@3 $end@3 end@5 "),
+        (b" \n last", b"last@2 end@2 "),
+    ] {
+        for chunk_len in 1..12 {
+            for most in 1..8 {
+                let source = Watch::new(Pieces::new(bytes, most));
+                assert!(rt;
+                    is_told(source, chunk_len, 4, want),
+                    "of {chunk_len} by {most}"
+                );
+            }
+        }
+    }
+}
+
+// Tokens and white space over the places 0, 63, 64 and 65 of the blocks of 64 bytes that are looked over at once.
+#[test]
+fn tokens_end_at_any_place_of_a_block(rt: HostRuntime) {
+    for end in 60..140 {
+        for white in 1..4 {
+            let mut bytes = [b'x'; 300];
+            bytes[end..end + white].fill(b'\n');
+            let mut want = Told::new();
+            want.push(&bytes[..end]);
+            want.push_line(1);
+            want.push(&bytes[end + white..]);
+            want.push_line(white as u64 + 1);
+            want.push(b"end");
+            want.push_line(white as u64 + 1);
+            let source = Watch::new(Pieces::new(&bytes, 300));
+            assert!(rt; is_told(source, 300, 300, want.text()), "at {end}");
+        }
+    }
+}
+
+#[test]
+fn a_long_token_halts_on_its_line(rt: HostRuntime) {
+    for chunk_len in 1..7 {
+        let source = Watch::new(Pieces::new(b"ab\nabc\n", 2));
+        assert!(rt; is_told(source, chunk_len, 2, b"ab@1 halt 1@2 "));
+    }
+}
+
+#[test]
+fn a_failed_read_halts_after_what_was_read(rt: HostRuntime) {
+    for (fails_at, want) in [
+        (1, b"halt 31@1 ".as_slice()),
+        (3, b"halt 31@1 "),
+        (4, b"ab@1 halt 31@2 "),
+        (6, b"ab@1 halt 31@2 "),
+        (7, b"ab@1 cd@2 end@2 "),
+    ] {
+        assert!(rt;
+            is_told(failing(b"ab\ncd", 1, fails_at), 3, 2, want),
+            "at {fails_at}"
+        );
+    }
+}
+
+#[test]
+fn a_halt_is_returned_again_without_a_read(rt: HostRuntime) {
+    let mut source = failing(b"ab", 1, 2);
+    let mut chunk = [0; 1];
+    let mut token = [0; 1];
+    let mut value = [0; 1];
+    let mut feed = Feed::new(&mut source, &mut chunk, &mut token, &mut value);
+    let mut told = Told::new();
+    tell_next(&mut feed, &mut told);
+    tell_next(&mut feed, &mut told);
+    told.push(feed.token());
+    told.push_number(Source::failures(&source));
+    told.push_number(source.device.calls);
+    assert_eq!(rt; told.text(), b"halt 31@1 halt 31@1 1 2 ".as_slice());
+}
+
+#[test]
+fn a_feed_begins_with_nothing_and_ends_for_good(rt: HostRuntime) {
+    let mut source = Watch::new(Pieces::new(b"\n\nlast\n", 9));
+    let mut chunk = [0; 3];
+    let mut token = [0; 4];
+    let mut value = [0; 4];
+    let mut feed = Feed::new(&mut source, &mut chunk, &mut token, &mut value);
+    let mut told = Told::new();
+    told.push(feed.token());
+    told.push(feed.value());
+    told.push_line(feed.line());
+    let parked = feed.parked();
+    let mut feed = Feed::resume(&mut source, &mut chunk, &mut token, &mut value, parked);
+    tell_next(&mut feed, &mut told);
+    feed.keep();
+    tell_next(&mut feed, &mut told);
+    told.push(feed.token());
+    tell_next(&mut feed, &mut told);
+    told.push(feed.value());
+    assert_eq!(rt; told.text(), b"@1 last@3 end@4 end@4 last".as_slice());
+}
+
+#[test]
+fn a_feed_goes_on_where_it_was_parked(rt: HostRuntime) {
+    let mut source = Watch::new(Pieces::new(b"ab\ncd e", 8));
+    let mut chunk = [0; 8];
+    let mut token = [0; 4];
+    let mut value = [0; 4];
+    let mut told = Told::new();
+    let mut feed = Feed::new(&mut source, &mut chunk, &mut token, &mut value);
+    tell_next(&mut feed, &mut told);
+    feed.keep();
+    tell_next(&mut feed, &mut told);
+    let parked = feed.parked();
+    let mut feed = Feed::resume(&mut source, &mut chunk, &mut token, &mut value, parked);
+    told.push(feed.token());
+    told.push(feed.value());
+    tell_all(&mut feed, &mut told);
+    assert_eq!(rt; told.text(), b"ab@1 cd@2 cdabe@2 end@2 ".as_slice());
+}
+
+#[test]
+fn tokens_ahead_are_those_of_the_feed(rt: HostRuntime) {
+    let mut bytes = [b' '; 300];
+    for at in 0..100 {
+        bytes[3 * at] = b'a';
+        bytes[3 * at + 1] = b'b';
+    }
+    let mut want = Told::new();
+    want.push(&bytes);
+    want.push(b"end@1 ");
+    for chunk_len in 60..140 {
+        for most in [chunk_len, 97] {
+            assert!(rt;
+                is_told_ahead(&bytes, most, chunk_len, want.text()),
+                "of {chunk_len}"
+            );
+        }
+    }
+}
+
+// White space of any length between them, over the 64 bytes that are looked over at once too.
+#[test]
+fn white_space_ahead_is_passed(rt: HostRuntime) {
+    for gap in 1..140 {
+        let mut bytes = [b'\n'; 1300];
+        for at in 1..10 {
+            bytes[at * (gap + 2) - 2..at * (gap + 2)].copy_from_slice(b"ab");
+        }
+        let mut want = Told::new();
+        for _ in 0..9 {
+            want.push(b"ab ");
+        }
+        want.push(b"end");
+        want.push_line(9 * gap as u64 + 1);
+        for chunk_len in [64, 97, 300, 1300] {
+            let bytes = &bytes[..9 * (gap + 2)];
+            assert!(rt;
+                is_told_ahead(bytes, chunk_len, chunk_len, want.text()),
+                "at {gap}"
+            );
+        }
+    }
+}
+
+// Indented lines that end with a carriage return and a line feed, two spaces, and a run of white bytes longer than 64. None is
+// given where a token is too long; then the white bytes before it stay too.
+#[test]
+fn white_bytes_before_a_token_are_passed_with_it(rt: HostRuntime) {
+    let mut bytes = [b' '; 300];
+    bytes[..26].copy_from_slice(b"q\n \tab\r\ncd  ef\r\n\r\n    gh\r\n");
+    bytes[126..129].copy_from_slice(b"ij\n");
+    bytes[130..135].copy_from_slice(b"xxxxx");
+    let mut source = Watch::new(Pieces::new(&bytes, 300));
+    let mut chunk = [0; 300];
+    let mut token = [0; 4];
+    let mut value = [0; 4];
+    let mut feed = Feed::new(&mut source, &mut chunk, &mut token, &mut value);
+    let mut told = Told::new();
+    tell_next(&mut feed, &mut told);
+    let mut ahead = feed.ahead();
+    for _ in 0..6 {
+        tell_one_ahead(&mut ahead, &mut told);
+    }
+    told.push_number(ahead.passed() as u64);
+    assert_eq!(rt;
+        told.text(),
+        b"q@1 ab 5 cd 9 ef 13 gh 23 ij 127 - 127 ".as_slice()
+    );
+}
+
+// None is given where a token is too long, and where fewer than 64 bytes are left.
+#[test]
+fn the_feed_goes_on_after_tokens_ahead(rt: HostRuntime) {
+    let mut bytes = [b'x'; 160];
+    bytes[..12].copy_from_slice(b"ab\ncd  ef\ng\n");
+    bytes[20..70].copy_from_slice(&[b'\n'; 50]);
+    let mut source = Watch::new(Pieces::new(&bytes, 160));
+    let mut chunk = [0; 160];
+    let mut token = [0; 10];
+    let mut value = [0; 10];
+    let mut feed = Feed::new(&mut source, &mut chunk, &mut token, &mut value);
+    let mut told = Told::new();
+    tell_ahead(&mut feed, &mut told);
+    tell_next(&mut feed, &mut told);
+    feed.keep();
+    tell_ahead(&mut feed, &mut told);
+    told.push(feed.token());
+    told.push(feed.value());
+    told.push(b" ");
+    tell_ahead(&mut feed, &mut told);
+    tell_next(&mut feed, &mut told);
+    tell_ahead(&mut feed, &mut told);
+    tell_next(&mut feed, &mut told);
+    assert_eq!(rt;
+        told.text(),
+        b"ab@1 cd ef g xxxxxxxx ab halt 1@54 halt 1@54 ".as_slice()
+    );
+}
+
+#[test]
+fn a_look_ahead_goes_back(rt: HostRuntime) {
+    let mut bytes = [b'x'; 80];
+    bytes[..9].copy_from_slice(b"a bc def ");
+    let mut source = Watch::new(Pieces::new(&bytes, 80));
+    let mut chunk = [0; 80];
+    let mut token = [0; 4];
+    let mut value = [0; 4];
+    let mut feed = Feed::new(&mut source, &mut chunk, &mut token, &mut value);
+    let mut told = Told::new();
+    tell_next(&mut feed, &mut told);
+    let mut ahead = feed.ahead();
+    tell_one_ahead(&mut ahead, &mut told);
+    let mut before = ahead;
+    tell_one_ahead(&mut ahead, &mut told);
+    told.push_number(before.passed() as u64);
+    tell_one_ahead(&mut before, &mut told);
+    tell_one_ahead(&mut before, &mut told);
+    assert_eq!(rt; told.text(), b"a@1 bc 3 def 7 3 def 7 - ".as_slice());
+}
+
+// A device that works at every other call alone: a signal interrupts its reads, and its writes take nothing.
+#[derive(Drop)]
+struct Stutter {
+    bytes: [u8; 8],
+    calls: u64,
+}
+
+impl Stutter {
+    fn new() -> Self {
+        Stutter {
+            bytes: [b'x'; 8],
+            calls: 0,
+        }
+    }
+}
+
+impl io::Read for Stutter {
+    fn read(&mut self, buf: &mut [u8]) -> io::Result<usize> {
+        self.calls = self.calls.saturating_add(1);
+        if self.calls % 2 == 0 {
+            return Err(io::Error::from(io::ErrorKind::Interrupted));
+        }
+        let n = buf.len().min(8);
+        buf[..n].copy_from_slice(&self.bytes[..n]);
+        Ok(n)
+    }
+}
+
+impl io::Write for Stutter {
+    fn write(&mut self, buf: &[u8]) -> io::Result<usize> {
+        self.calls = self.calls.saturating_add(1);
+        if self.calls % 2 == 0 {
+            return Ok(0);
+        }
+        let n = buf.len().min(8);
+        self.bytes[..n].copy_from_slice(&buf[..n]);
+        Ok(n)
+    }
+
+    fn flush(&mut self) -> io::Result<()> {
+        Ok(())
+    }
+}
+
+// Tells what a read gives, and how many have failed.
+fn tell_read(source: &mut Watch<Stutter>, told: &mut Told)
+    requires { failed_calls source.old < 2 ^ 64 - 1 }
+    ensures { failed_calls source.new ≤ failed_calls source.old + 1 }
+{
+    let mut into = [b'-'; 3];
+    let given = source.read(&mut into).unwrap_or(0);
+    told.push_number(given as u64);
+    told.push(&into);
+    told.push_line(Source::failures(source));
+}
+
+#[test]
+fn a_watch_counts_each_failed_read(rt: HostRuntime) {
+    let mut source = Watch::new(Stutter::new());
+    let mut told = Told::new();
+    tell_read(&mut source, &mut told);
+    tell_read(&mut source, &mut told);
+    tell_read(&mut source, &mut told);
+    tell_read(&mut source, &mut told);
+    assert_eq!(rt; told.text(), b"3 xxx@0 0 ---@1 3 xxx@1 0 ---@2 ".as_slice());
+}
+
+// Tells how many of these bytes a write takes, and how many have failed.
+fn tell_write(sink: &mut Watch<Stutter>, bytes: &[u8], told: &mut Told)
+    requires { failed_calls sink.old < 2 ^ 64 - 1 }
+    ensures { failed_calls sink.new ≤ failed_calls sink.old + 1 }
+{
+    match sink.write(bytes) {
+        Ok(taken) => told.push_number(taken as u64),
+        Err(WriteFailed) => told.push(b"failed "),
+    }
+    told.push_line(Sink::failures(sink));
+}
+
+// Nothing of nothing is no failure.
+#[test]
+fn a_watch_counts_a_write_that_takes_nothing(rt: HostRuntime) {
+    let mut sink = Watch::new(Stutter::new());
+    let mut told = Told::new();
+    tell_write(&mut sink, b"abc", &mut told);
+    tell_write(&mut sink, b"d", &mut told);
+    tell_write(&mut sink, b"ef", &mut told);
+    tell_write(&mut sink, b"", &mut told);
+    told.push(&sink.device.bytes);
+    assert_eq!(rt;
+        told.text(),
+        b"3 @0 failed @1 2 @1 0 @1 efcxxxxx".as_slice()
+    );
+}
+
+#[test]
+fn writes_stop_where_the_sink_fails(rt: HostRuntime) {
+    let bytes = b"#1234".as_slice();
+    for taken in 0..6 {
+        let mut sink = Watch::new(Narrow::new(taken));
+        let failed = taken < 5;
+        assert_eq!(rt; put(&mut sink, bytes).is_err(), failed);
+        assert_eq!(rt; sink.device.held(), &bytes[..taken]);
+        assert_eq!(rt; Sink::failures(&sink), failed as u64);
+    }
+}
+
+#[test]
+fn numbers_are_written_as_digits(rt: HostRuntime) {
+    for (number, want) in [(0, b"0".as_slice()), (u64::MAX, b"18446744073709551615")] {
+        let mut sink = Watch::new(Narrow::new(20));
+        assert_eq!(rt; put_number(&mut sink, number), Ok(()));
+        assert_eq!(rt; sink.device.held(), want);
+    }
+}
+
+#[test]
+fn digits_spell_numbers(rt: HostRuntime) {
+    for (digits, number) in [
+        ("0", Some(0)),
+        ("007", Some(7)),
+        ("18446744073709551615", Some(u64::MAX)),
+        ("18446744073709551616", None),
+        ("20000000000000000000", None),
+        ("", None),
+        ("+1", None),
+        ("1 ", None),
+        ("1x", None),
+    ] {
+        assert_eq!(rt; decimal_of(digits.as_bytes()), number);
+    }
+}
+
+// The faults and their texts; those between them, and those after the last one, have none.
+const TEXTS: [(u8, &str); 24] = [
+    (1, "token too long"),
+    (2, "unexpected end of input"),
+    (3, "unknown command"),
+    (4, "command out of place"),
+    (5, "bad timescale"),
+    (6, "bad scope"),
+    (7, "bad variable"),
+    (8, "code declared with another size or kind"),
+    (9, "upscope without scope"),
+    (10, "scopes too deep"),
+    (11, "too many declarations"),
+    (12, "no timescale"),
+    (13, "bad time"),
+    (14, "time goes back"),
+    (15, "bad value"),
+    (16, "unknown code"),
+    (17, "value too wide"),
+    (18, "real text too long"),
+    (19, "time inside a section"),
+    (20, "time too large"),
+    (21, "input too long"),
+    (22, "time out of range"),
+    (31, "read failed"),
+    (32, "out of memory"),
+];
+
+#[test]
+fn faults_have_their_texts(rt: HostRuntime) {
+    for (fault, text) in TEXTS {
+        assert_eq!(rt; text_of(fault), text);
+    }
+}
+
+#[test]
+fn other_numbers_have_no_text(rt: HostRuntime) {
+    for fault in (0..1).chain(23..31).chain(33..=u8::MAX) {
+        assert_eq!(rt; text_of(fault), "", "at {fault}");
+    }
+}
