@@ -74,6 +74,7 @@ pub(crate) fn place_of(
     }
 }
 
+#[inline(always)]
 fn add_code(
     alloc: Global,
     text: &mut Vec<u8>,

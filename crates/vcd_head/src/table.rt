@@ -73,12 +73,21 @@ impl Table {
     }
 
     // The place of a code that has no entry.
+    #[inline(always)]
     fn other_place(&self, bytes: &[u8]) -> Option<usize>
         ensures { result ≡ in_tree self.now.others.entries bytes.now }
     {
         if self.others.is_empty() {
             return None;
         }
+        self.place_in_tree(bytes)
+    }
+
+    // The place that the tree has for a code.
+    #[inline(never)]
+    fn place_in_tree(&self, bytes: &[u8]) -> Option<usize>
+        ensures { result ≡ in_tree self.now.others.entries bytes.now }
+    {
         self.others.get(bytes).copied()
     }
 
