@@ -31,6 +31,7 @@ pub mod PhraseSteps
 pub mod LookUpLemmas
 pub mod RoomLemmas
 pub mod KeyLemmas
+pub mod EnteredLemmas
 pub mod EntryLemmas
 pub mod MomentLemmas
 pub mod NewCodeLemmas

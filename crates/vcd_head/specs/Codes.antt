@@ -12,7 +12,7 @@ use Rattle.vcd_head.specs.declared.view.Entry.{Entry}
 use Rattle.vcd_head.specs.declared.codes.Coded.{Coded}
 use Rattle.vcd_head.specs.declared.codes.Codes.{Codes}
 use Rattle.vcd_head.specs.declared.table.Table.{Table}
-use Rattle.vcd_head.specs.Entries.{entry_in}
+use Rattle.vcd_head.specs.Entries.{AreEntered, entry_in}
 use Rattle.vcd_head.specs.Finds.{Finds}
 use Rattle.vcd_head.specs.Keys.{AreBytes, key_in}
 use Rattle.vcd_head.specs.Views.{IsCode}
@@ -53,6 +53,10 @@ pub record AreHeld (text : List ℕ) (list : List Code) (cs : List IdCode) : Typ
   pub distinct : IsDistinct bytes_eq (map (λ (c : IdCode). c.text) cs)
   pub texts : AllByRecursion (λ (c : IdCode). AreBytes c.text) cs
 
+-- the codes lie in the text, and the entries of their table are theirs
+abbrev pub EntersIn : List ℕ → Codes → Type 0
+EntersIn text c = AreEntered text c.list.items c.table.entries.items
+
 -- the code with these bytes among these, and its place
 abbrev pub IsKnown : List IdCode → List ℕ → Option Coded → Type 0
 IsKnown cs t (Some c) = (k : IdCode) × (slice_get cs c.place ≡ Some k) × (find (has_text t) cs ≡ Some k) × IsOfKind c.code k
@@ -62,6 +66,7 @@ IsKnown cs t None = find (has_text t) cs ≡ None
 pub record HasNone (c : Codes) : Type 0 where
   pub no_codes : c.list.items ≡ []
   pub finds_none : FindsAll [] c.table
+  pub no_entries : c.table.entries.items ≡ []
 
 -- a code was added at this place, the last one
 pub record IsAdded (text : List ℕ) (old new : Codes) (bytes : List ℕ) (code : Code) (place : ℕ) : Type 0 where

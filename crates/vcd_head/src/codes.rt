@@ -1,7 +1,8 @@
 // The distinct codes of a header that is read.
-ghost use Rattle.std.specs.Prelude.{◌≡◌, ℕ, List, IfOk, IfErr};
+ghost use Rattle.std.specs.Prelude.{◌≡◌, ◌+◌, ◌≤◌, ℕ, List, length, IfOk, IfErr};
 ghost use Rattle.vcd_model.specs.Declarations.{IdCode};
-ghost use Rattle.vcd_head.specs.Codes.{AreHeld, FindsAll, HasNone, IsAdded, IsKnown};
+ghost use Rattle.vcd_head.specs.Codes.{AreHeld, EntersIn, FindsAll, HasNone, IsAdded, IsKnown};
+ghost use Rattle.vcd_head.specs.Entries.{text_in};
 
 use crate::fault::HeadFault;
 use crate::sought::Sought;
@@ -58,12 +59,15 @@ impl Codes {
         code: Code,
     ) -> Result<usize, HeadFault>
         ensures added { IfOk result (IsAdded text.now self.old self.new sought.entry.bytes.now code) }
+        ensures entered { code.start + code.len ≤ length text.now
+            → sought.entry.bytes.now ≡ text_in text.now code.start code.len
+            → EntersIn text.now self.old → EntersIn text.now self.new }
         ensures memory { IfErr result (λ fault. fault ≡ HeadFault.OutOfMemory) }
     {
         let place = self.list.len();
         self.make_room(alloc, text, sought)?;
-        self.table.enter(alloc, sought, place, code)?;
         self.list.push(code)?;
+        self.table.enter(alloc, sought, place, code)?;
         Ok(place)
     }
 
@@ -72,6 +76,7 @@ impl Codes {
     fn make_room(&mut self, alloc: Global, text: &[u8], code: Sought<'_>) -> Result<(), AllocError>
         ensures found { (cs : List IdCode) → AreHeld text.now self.old.list.items cs
             → FindsAll cs self.old.table → IfOk result (λ _. FindsAll cs self.new.table) }
+        ensures entered { EntersIn text.now self.old → EntersIn text.now self.new }
         ensures same { self.new.list ≡ self.old.list }
     {
         if self.table.is_narrow(code, self.list.len()) {

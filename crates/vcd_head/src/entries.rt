@@ -92,14 +92,14 @@ pub(crate) fn entries_of(
     Ok(entries)
 }
 
-/// The entries of these codes, as `entries_of` makes them. They take the place of those that are given, if there are enough
-/// and not too many of these.
+/// The entries of these codes: those that are given, if there are enough and not too many of them.
 pub(crate) fn entries_in(
     alloc: Global,
     given: Vec<Entry>,
     text: &[u8],
     codes: &[Code],
 ) -> Result<Vec<Entry>, AllocError>
+    requires right { are_right text.now codes.now given.items ≡ true }
     ensures right { IfOk result (λ entries. are_right text.now codes.now entries.items ≡ true) }
     ensures few { IfOk result (λ entries. length entries.items ≤ 3 * length codes.now) }
 {
@@ -107,18 +107,7 @@ pub(crate) fn entries_in(
         drop(given);
         return entries_of(alloc, text, codes);
     }
-    Ok(filled(given, text, codes))
-}
-
-// The entries of these codes in place of others.
-fn filled(given: Vec<Entry>, text: &[u8], codes: &[Code]) -> Vec<Entry>
-    ensures right { are_right text.now codes.now result.items ≡ true }
-    ensures len { length result.items ≡ length given.items }
-{
-    let mut entries = given;
-    entries.fill(EMPTY);
-    fill(&mut entries, text, codes);
-    entries
+    Ok(given)
 }
 
 // How many entries so many codes have: the greatest power of two that is at most three times as many.

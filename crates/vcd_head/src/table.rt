@@ -1,7 +1,9 @@
 // The table that finds codes by their bytes while a header is read.
-ghost use Rattle.std.specs.Prelude.{◌≡◌, ℕ, List, true, slice_get, Some, None, IfOk};
+ghost use Rattle.std.specs.Prelude.{◌≡◌, ℕ, List, [], true, slice_get, Some, None, IfOk};
 ghost use Rattle.vcd_model.specs.Declarations.{IdCode};
 ghost use Rattle.vcd_head.specs.Codes.{AreHeld, FindsAll, IsEntered, entered, in_tree, place_in};
+ghost use Rattle.vcd_head.specs.Entries.{AreEntered, are_right, text_in};
+ghost use Rattle.vcd_head.specs.declared.view.Code.{Code};
 ghost use Rattle.vcd_head.specs.declared.view.Entry.{Entry};
 
 use crate::entries::{EMPTY, entry_with, put};
@@ -23,7 +25,8 @@ pub(crate) struct Table {
 impl Table {
     /// A table of no code, with no entries.
     pub(crate) fn new(alloc: Global) -> Self
-        ensures { (t : List ℕ) → place_in result t ≡ None }
+        ensures found { (t : List ℕ) → place_in result t ≡ None }
+        ensures entries { result.entries.items ≡ [] }
     {
         Table {
             entries: Vec::new(alloc),
@@ -33,7 +36,10 @@ impl Table {
 
     /// Leaves no code in the table, and so many entries where others stood.
     fn empty(&mut self, alloc: Global, entries: usize) -> Result<(), AllocError>
-        ensures { IfOk result (λ _. (t : List ℕ) → place_in self.new t ≡ None) }
+        ensures found { IfOk result (λ _. (t : List ℕ) → place_in self.new t ≡ None) }
+        ensures entered { (text : List ℕ) (codes : List Code)
+            → AreEntered text codes self.old.entries.items
+            → AreEntered text codes self.new.entries.items }
     {
         self.entries.clear();
         self.entries.resize(entries, EMPTY)?;
@@ -50,8 +56,10 @@ impl Table {
         codes: &[Code],
         entries: usize,
     ) -> Result<(), AllocError>
-        ensures { (cs : List IdCode) → AreHeld text.now codes.now cs
+        ensures found { (cs : List IdCode) → AreHeld text.now codes.now cs
             → IfOk result (λ _. FindsAll cs self.new) }
+        ensures entered { AreEntered text.now codes.now self.old.entries.items
+            → AreEntered text.now codes.now self.new.entries.items }
     {
         self.empty(alloc, entries)?;
         for (place, code) in codes.iter().enumerate() {
@@ -102,7 +110,11 @@ impl Table {
     }
 
     /// Its entries, if each of its codes has one; else none.
-    pub(crate) fn into_entries(self, alloc: Global) -> Vec<Entry> {
+    pub(crate) fn into_entries(self, alloc: Global) -> Vec<Entry>
+        ensures { (text : List ℕ) (codes : List Code)
+            → are_right text codes self.entries.items ≡ true
+            → are_right text codes result.items ≡ true }
+    {
         let Table { entries, others } = self;
         if others.is_empty() {
             return entries;
@@ -119,8 +131,13 @@ impl Table {
         place: usize,
         code: Code,
     ) -> Result<(), AllocError>
-        ensures { place_in self.old sought.entry.bytes.now ≡ None
+        ensures found { place_in self.old sought.entry.bytes.now ≡ None
             → IfOk result (λ _. IsEntered self.old self.new sought.entry.bytes.now place) }
+        ensures entered { (text : List ℕ) (codes : List Code)
+            → slice_get codes place ≡ Some code
+            → sought.entry.bytes.now ≡ text_in text code.start code.len
+            → AreEntered text codes self.old.entries.items
+            → AreEntered text codes self.new.entries.items }
     {
         let entry = entry_with(place, code, sought.key);
         let at = sought.entry_among(self.entries.len());

@@ -42,7 +42,7 @@ returns-clause-declares c = λ given more a k.
     (subst (λ b. list_all is_code_byte b ≡ true → IfSome c.found_in.result (λ (found : Found). (first_failed (var_checks ds (type ∷ digits ∷ []) b) ≡ None) × ((reference : List (List ℕ)) → IsFound ds (record { type = type; size = decimal_value digits; code = b; reference = reference }) b found)))
     same (c.found_in.ensures old type digits ds hc sf.1 ev) k.code_is) in
     let join = join_with_byte 32 v.reference in
-    let text : c.put_texts.new.text.items ≡ old ++ (type ++ join) = c.in_ok-put_texts.ensures ∙ ap (λ l. old ++ (type ++ l)) k.reference.text_is in
+    let text : c.put_texts.new.text.items ≡ old ++ (type ++ join) = c.in_ok-put_texts.ensures.text ∙ ap (λ l. old ++ (type ++ l)) k.reference.text_is in
     let hc3 : HasCodes c.put_texts.new.text.items d.codes ds = subst (λ t. HasCodes t d.codes ds) (sym text) (has_codes_grow old (type ++ join) d.codes ds hc) in
     let z1 = sp.1 in
     let z2 = sp.2 in

@@ -1,7 +1,7 @@
 use Rattle.std.proofs.Common.{subst}
 use Rattle.vcd_head.specs.Draft.{IsFound}
 use Rattle.vcd_head.proofs.DraftCodes.{held_alias}
-use Rattle.vcd_head.proofs.draft.place_of.Goals as goal
+use Rattle.vcd_head.proofs.code_place.place_of.Goals as goal
 
 pub returns-in-Declared-clause-codes : goal.returns-in-Declared-clause-codes
 returns-in-Declared-clause-codes c = λ ds v h found size same event.
