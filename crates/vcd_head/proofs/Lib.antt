@@ -33,6 +33,7 @@ pub mod RoomLemmas
 pub mod KeyLemmas
 pub mod EnteredLemmas
 pub mod EntryLemmas
+pub mod SplitLemmas
 pub mod MomentLemmas
 pub mod NewCodeLemmas
 pub mod RenamedLemmas

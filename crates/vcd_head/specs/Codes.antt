@@ -1,5 +1,5 @@
 -- What is kept of the distinct codes while a header is read.
-use Rattle.std.specs.Prelude.{◌≡◌, ℕ, ◌==◌, ◌&&◌, not, cond, List, [], ◌∷◌, ◌++◌, length, map, find, bytes_eq, slice_get, Option, Some, None}
+use Rattle.std.specs.Prelude.{◌≡◌, ◌≢◌, ℕ, ◌==◌, ◌&&◌, not, cond, List, [], ◌∷◌, ◌++◌, length, map, find, bytes_eq, slice_get, Option, Some, None}
 use Rattle.std.specs.Global.{Vec}
 use Rattle.std.specs.List.{AllByRecursion, AllZip, IsDistinct}
 use Rattle.std.specs.Map.{lookup}
@@ -47,6 +47,11 @@ FindsAll cs d = (t : List ℕ) → AreBytes t → Finds cs t (place_in d t)
 abbrev pub IsEntered : Table → Table → List ℕ → ℕ → Type 0
 IsEntered old new bytes place = (t : List ℕ) → AreBytes t → place_in new t ≡ cond (bytes_eq t bytes) (Some place) (place_in old t)
 
+-- the entry of a code that stood here is at its own place now, and others stand where they stood
+pub record Moves (old new : List Entry) (at : ℕ) : Type 0 where
+  pub others : (k : ℕ) (e : Entry) → e.key ≢ 0 → k ≢ at → slice_get old k ≡ Some e → slice_get new k ≡ Some e
+  pub own : (t : List ℕ) (e : Entry) → AreBytes t → e.key ≡ key_in t → e.key ≢ 0 → slice_get old at ≡ Some e → slice_get new (entry_in t (length old)) ≡ Some e
+
 -- the codes stand in the text, and no two have the same bytes
 pub record AreHeld (text : List ℕ) (list : List Code) (cs : List IdCode) : Type 0 where
   pub stand : AllZip (IsCode text) list cs
@@ -73,4 +78,4 @@ pub record IsAdded (text : List ℕ) (old new : Codes) (bytes : List ℕ) (code 
   pub own : AreBytes bytes
   pub last : place ≡ length old.list.items
   pub listed : new.list.items ≡ old.list.items ++ code ∷ []
-  pub found : (cs : List IdCode) (k : IdCode) → AreHeld text old.list.items cs → FindsAll cs old.table → find (has_text bytes) cs ≡ None → k.text ≡ bytes → FindsAll (cs ++ k ∷ []) new.table
+  pub found : (cs : List IdCode) (k : IdCode) → AreHeld text old.list.items cs → EntersIn text old → FindsAll cs old.table → find (has_text bytes) cs ≡ None → k.text ≡ bytes → FindsAll (cs ++ k ∷ []) new.table

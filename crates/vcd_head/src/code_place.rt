@@ -24,8 +24,8 @@ pub(crate) fn place_of(
     event: bool,
 ) -> Result<usize, HeadFault>
     ensures codes { (ds : List Declaration) (v : Variable)
-        → HasCodes text.old.items codes.old ds → IsFound ds v sought.entry.bytes.now found → IsSize size
-        → size ≡ (code_of v).size → event ≡ (code_of v).event
+        → HasCodes text.old.items codes.old ds → EntersIn text.old.items codes.old
+        → IsFound ds v sought.entry.bytes.now found → IsSize size → size ≡ (code_of v).size → event ≡ (code_of v).event
         → IfOk result (CodeHeld text.old.items text.new.items codes.new ds v) }
     ensures entered { EntersIn text.old.items codes.old → EntersIn text.new.items codes.new }
     ensures memory { IfErr result (λ fault. fault ≡ HeadFault.OutOfMemory) }
@@ -47,8 +47,8 @@ fn add_code(
     event: bool,
 ) -> Result<usize, HeadFault>
     ensures codes { (ds : List Declaration) (v : Variable)
-        → HasCodes text.old.items codes.old ds → IsFound ds v sought.entry.bytes.now Found.New → IsSize size
-        → size ≡ (code_of v).size → event ≡ (code_of v).event
+        → HasCodes text.old.items codes.old ds → EntersIn text.old.items codes.old
+        → IsFound ds v sought.entry.bytes.now Found.New → IsSize size → size ≡ (code_of v).size → event ≡ (code_of v).event
         → IfOk result (CodeHeld text.old.items text.new.items codes.new ds v) }
     ensures entered { EntersIn text.old.items codes.old → EntersIn text.new.items codes.new }
     ensures memory { IfErr result (λ fault. fault ≡ HeadFault.OutOfMemory) }

@@ -10,9 +10,6 @@ use crate::table::Table;
 use crate::view::{Code, code_in};
 use std::alloc::{AllocError, Global};
 
-// The fewest entries of a table that has codes.
-const FEWEST_ENTRIES: usize = 64;
-
 // A code with its place among the distinct codes.
 #[derive(Clone, Copy)]
 pub(crate) struct Coded {
@@ -75,14 +72,13 @@ impl Codes {
     #[inline(always)]
     fn make_room(&mut self, alloc: Global, text: &[u8], code: Sought<'_>) -> Result<(), AllocError>
         ensures found { (cs : List IdCode) → AreHeld text.now self.old.list.items cs
-            → FindsAll cs self.old.table → IfOk result (λ _. FindsAll cs self.new.table) }
+            → EntersIn text.now self.old → FindsAll cs self.old.table
+            → IfOk result (λ _. FindsAll cs self.new.table) }
         ensures entered { EntersIn text.now self.old → EntersIn text.now self.new }
         ensures same { self.new.list ≡ self.old.list }
     {
         if self.table.is_narrow(code, self.list.len()) {
-            let entries = self.table.entries.len().saturating_mul(2);
-            self.table
-                .widen(alloc, text, &self.list, entries.max(FEWEST_ENTRIES))?;
+            self.table.grow(alloc, text, &self.list)?;
         }
         Ok(())
     }

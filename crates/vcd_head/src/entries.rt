@@ -1,8 +1,8 @@
 // The entries by which codes are looked up: where a code's entry is, and how they are filled. Any code may have any place among
 // them, and two the same: where an entry is decides only how fast a look-up is.
-ghost use Rattle.std.specs.Prelude.{◌≡◌, ◌≢◌, ◌+◌, ◌-◌, ◌*◌, ◌%◌, ◌^◌, ◌≤◌, ◌<◌, ℕ, List, true, bit_and, length, set, slice_get, Some, IfOk};
+ghost use Rattle.std.specs.Prelude.{◌≡◌, ◌≢◌, ◌+◌, ◌-◌, ◌*◌, ◌%◌, ◌^◌, ◌≤◌, ◌<◌, ℕ, List, true, bit_and, length, set, slice_get, Some, IfOk, IfSome};
 ghost use Rattle.vcd_head.specs.Entries.{above, are_right, entry_in, is_right, most_of, number_in, text_in};
-ghost use Rattle.vcd_head.specs.Keys.{key_in};
+ghost use Rattle.vcd_head.specs.Keys.{AreBytes, key_in};
 ghost use Rattle.vcd_head.specs.declared.view.Code.{Code};
 
 use crate::key::key_of;
@@ -73,6 +73,27 @@ fn number_of(code: &[u8]) -> usize
         number = above(number, code[place]);
     }
     number
+}
+
+/// The number of the code of at most three bytes that has this key; none for the key of a longer one.
+#[inline(always)]
+pub(crate) fn number_of_key(key: u64) -> Option<usize>
+    ensures { IfSome result (λ number. (code : List ℕ) → AreBytes code → key ≡ key_in code
+        → key ≢ 0 → number ≡ number_in code) }
+{
+    let first = (key % 256) as u8;
+    if key < 256 * 256 {
+        return Some(above(0, first));
+    }
+    let second = (key / 256 % 256) as u8;
+    if key < 256 * 256 * 256 {
+        return Some(above(above(0, second), first));
+    }
+    let third = (key / (256 * 256) % 256) as u8;
+    if key < 256 * 256 * 256 * 256 {
+        return Some(above(above(above(0, third), second), first));
+    }
+    None
 }
 
 /// The entries of these codes, whose bytes lie in the text: a power of two of them, as many as three for each code allow.

@@ -48,7 +48,7 @@ returns-clause-declares c = λ given more a k.
     let z2 = sp.2 in
     let z3 = sf.1 in
     let is_size : IsSize variable.size = record { some = omega arith; most = omega arith } in
-    let ch = c.in_ok-place.ensures.codes ds v hc3 (subst (λ b. IsFound ds v b c.in-Some.found) (sym same) (f.1 v.reference)) is_size (sym sf.1) (sym ev) in
+    let ch = c.in_ok-place.ensures.codes ds v hc3 (c.in_ok-put_texts.ensures.entered d.codes.list.items d.codes.table.entries.items d.entered) (subst (λ b. IsFound ds v b c.in-Some.found) (sym same) (f.1 v.reference)) is_size (sym sf.1) (sym ev) in
     let grown : c.place_of.new.text.items ≡ old ++ (type ++ (join ++ ch.more)) = ch.grown ∙ ap (λ t. t ++ ch.more) text ∙ append_assoc old (type ++ join) ch.more ∙ ap (λ t. old ++ t) (append_assoc type join ch.more) in
     let start : c.len-start.result ≡ length old = omega arith in
     let all : length variable.reference.text.now ≡ length join = ap length k.reference.text_is in

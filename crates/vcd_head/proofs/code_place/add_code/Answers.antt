@@ -10,7 +10,7 @@ use Rattle.vcd_head.proofs.EnteredLemmas.{entered_grow, put_behind}
 use Rattle.vcd_head.proofs.code_place.add_code.Goals as goal
 
 pub returns-clause-codes : goal.returns-clause-codes
-returns-clause-codes c = λ ds v h found size same event.
+returns-clause-codes c = λ ds v h e found size same event.
     let old = c.args.text.now.items in
     let new = c.extend_from_slice.new.self.items in
     let before = c.args.codes.now in
@@ -21,7 +21,7 @@ returns-clause-codes c = λ ds v h found size same event.
     let len : c.in-Ok.len ≡ length bytes = search rules in
     let text = c.in_ok-extend_from_slice.ensures.items in
     IfOk-weaker c.push.result (IsAdded c.deref.result.now before after bytes code) (CodeHeld old new after ds v) (λ place added.
-    held_new old new before after ds v bytes code place h found.1 found.0 (subst IsSize same size) (λ j. record { start = start j; len = len j; size = same j; event = event j }) text
+    held_new old new before after ds v bytes code place h (entered_grow old bytes before.list.items before.table.entries.items e) found.1 found.0 (subst IsSize same size) (λ j. record { start = start j; len = len j; size = same j; event = event j }) text
     (subst (λ t. IsAdded t before after bytes code place) (c.deref.ensures.value ∙ text) added)) c.push.ensures.added
 
 pub returns-clause-entered : goal.returns-clause-entered

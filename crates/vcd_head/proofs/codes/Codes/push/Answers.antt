@@ -17,8 +17,8 @@ returns-clause-added c =
       own = own;
       last = last;
       listed = c.in_ok-push.ensures.items ∙ ap (λ l. l.items ++ c.args.code ∷ []) c.make_room.ensures.same;
-      found = λ cs k h f none same.
-          let wide = c.in_ok-make_room.ensures.found cs h f in
+      found = λ cs k h e f none same.
+          let wide = c.in_ok-make_room.ensures.found cs h e f in
           finds_more cs k c.make_room.new.self.table c.enter.new.self bytes place wide none same (last ∙ codes_len text old.list.items cs h.stand) (c.in_ok-enter.ensures.found (not_found cs c.make_room.new.self.table bytes wide own none));
     }
 
