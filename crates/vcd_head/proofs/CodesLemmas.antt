@@ -79,12 +79,12 @@ tree_entered old new bytes place n same more = λ t a.
         ap (λ o. option_or o (Some place)) own
     by_text t false q = refl
 
-set_same : {X : Type 0} (xs : List X) (i : ℕ) (x y : X) → slice_get xs i ≡ Some x → slice_get (set xs i y) i ≡ Some y
+pub set_same : {X : Type 0} (xs : List X) (i : ℕ) (x y : X) → slice_get xs i ≡ Some x → slice_get (set xs i y) i ≡ Some y
 set_same [] i x y e = absurd (none-some x e)
 set_same (z ∷ xs) zero x y e = refl
 set_same (z ∷ xs) (suc i) x y e = set_same xs i x y e
 
-set_other : {X : Type 0} (xs : List X) (i j : ℕ) (y : X) → (i ≡ j → ⊥) → slice_get (set xs i y) j ≡ slice_get xs j
+pub set_other : {X : Type 0} (xs : List X) (i j : ℕ) (y : X) → (i ≡ j → ⊥) → slice_get (set xs i y) j ≡ slice_get xs j
 set_other [] i j y n = refl
 set_other (z ∷ xs) zero zero y n = absurd (n refl)
 set_other (z ∷ xs) zero (suc j) y n = refl

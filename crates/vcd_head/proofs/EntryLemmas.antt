@@ -13,7 +13,7 @@ use Rattle.vcd_head.specs.Entries.{are_right, is_right, is_entry_of, most_of, te
 
 -- ---- tests of all elements
 
-both : (p q : Bool) → p ≡ true → q ≡ true → (p && q) ≡ true
+pub both : (p q : Bool) → p ≡ true → q ≡ true → (p && q) ≡ true
 both p q e f = rw (e, f) refl
 
 -- one that is written passes, and so do all

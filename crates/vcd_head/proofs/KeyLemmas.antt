@@ -17,7 +17,7 @@ fits key n b l f s =
     let most : 256 ^ n ≤ 256 ^ 6 = pow-le-pow_right (omega arith) f in
     omega (arith, l, s, most)
 
-packed_above : (bs : List ℕ) → 0 < packed bs
+pub packed_above : (bs : List ℕ) → 0 < packed bs
 packed_above [] = omega arith
 packed_above (b ∷ bs) = omega (arith, packed_above bs)
 

@@ -31,7 +31,9 @@ pub mod PhraseSteps
 pub mod LookUpLemmas
 pub mod RoomLemmas
 pub mod KeyLemmas
+pub mod EnteredLemmas
 pub mod EntryLemmas
+pub mod SplitLemmas
 pub mod MomentLemmas
 pub mod NewCodeLemmas
 pub mod RenamedLemmas

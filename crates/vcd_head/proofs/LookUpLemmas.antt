@@ -74,7 +74,7 @@ apart_at t [] p k h e = absurd (none-some k e)
 apart_at t (x ∷ ks) zero k h e = subst (λ (y : IdCode). bytes_eq t y.text ≡ false) (same_Some x k e) h.0
 apart_at t (x ∷ ks) (suc p) k h e = apart_at t ks p k h.1 e
 
-first_with : (ks : List IdCode) (t : List ℕ) (p : ℕ) (k : IdCode) → IsDistinct bytes_eq (map (λ (x : IdCode). x.text) ks) → slice_get ks p ≡ Some k → t ≡ k.text → find (has_text t) ks ≡ Some k
+pub first_with : (ks : List IdCode) (t : List ℕ) (p : ℕ) (k : IdCode) → IsDistinct bytes_eq (map (λ (x : IdCode). x.text) ks) → slice_get ks p ≡ Some k → t ≡ k.text → find (has_text t) ks ≡ Some k
 unfolding IsDistinct
 first_with [] t p k d e s = absurd (none-some k e)
 first_with (x ∷ ks) t zero k d e s = rw (ap (bytes_eq t) (ap (λ (y : IdCode). y.text) (same_Some x k e) ∙ sym s) ∙ (bytes_eq-Decides t t).1 refl) e

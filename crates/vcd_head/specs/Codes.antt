@@ -1,5 +1,5 @@
 -- What is kept of the distinct codes while a header is read.
-use Rattle.std.specs.Prelude.{◌≡◌, ℕ, ◌==◌, ◌&&◌, not, cond, List, [], ◌∷◌, ◌++◌, length, map, find, bytes_eq, slice_get, Option, Some, None}
+use Rattle.std.specs.Prelude.{◌≡◌, ◌≢◌, ℕ, ◌==◌, ◌&&◌, not, cond, List, [], ◌∷◌, ◌++◌, length, map, find, bytes_eq, slice_get, Option, Some, None}
 use Rattle.std.specs.Global.{Vec}
 use Rattle.std.specs.List.{AllByRecursion, AllZip, IsDistinct}
 use Rattle.std.specs.Map.{lookup}
@@ -12,7 +12,7 @@ use Rattle.vcd_head.specs.declared.view.Entry.{Entry}
 use Rattle.vcd_head.specs.declared.codes.Coded.{Coded}
 use Rattle.vcd_head.specs.declared.codes.Codes.{Codes}
 use Rattle.vcd_head.specs.declared.table.Table.{Table}
-use Rattle.vcd_head.specs.Entries.{entry_in}
+use Rattle.vcd_head.specs.Entries.{AreEntered, entry_in}
 use Rattle.vcd_head.specs.Finds.{Finds}
 use Rattle.vcd_head.specs.Keys.{AreBytes, key_in}
 use Rattle.vcd_head.specs.Views.{IsCode}
@@ -47,11 +47,20 @@ FindsAll cs d = (t : List ℕ) → AreBytes t → Finds cs t (place_in d t)
 abbrev pub IsEntered : Table → Table → List ℕ → ℕ → Type 0
 IsEntered old new bytes place = (t : List ℕ) → AreBytes t → place_in new t ≡ cond (bytes_eq t bytes) (Some place) (place_in old t)
 
+-- the entry of a code that stood here is at its own place now, and others stand where they stood
+pub record Moves (old new : List Entry) (at : ℕ) : Type 0 where
+  pub others : (k : ℕ) (e : Entry) → e.key ≢ 0 → k ≢ at → slice_get old k ≡ Some e → slice_get new k ≡ Some e
+  pub own : (t : List ℕ) (e : Entry) → AreBytes t → e.key ≡ key_in t → e.key ≢ 0 → slice_get old at ≡ Some e → slice_get new (entry_in t (length old)) ≡ Some e
+
 -- the codes stand in the text, and no two have the same bytes
 pub record AreHeld (text : List ℕ) (list : List Code) (cs : List IdCode) : Type 0 where
   pub stand : AllZip (IsCode text) list cs
   pub distinct : IsDistinct bytes_eq (map (λ (c : IdCode). c.text) cs)
   pub texts : AllByRecursion (λ (c : IdCode). AreBytes c.text) cs
+
+-- the codes lie in the text, and the entries of their table are theirs
+abbrev pub EntersIn : List ℕ → Codes → Type 0
+EntersIn text c = AreEntered text c.list.items c.table.entries.items
 
 -- the code with these bytes among these, and its place
 abbrev pub IsKnown : List IdCode → List ℕ → Option Coded → Type 0
@@ -62,10 +71,11 @@ IsKnown cs t None = find (has_text t) cs ≡ None
 pub record HasNone (c : Codes) : Type 0 where
   pub no_codes : c.list.items ≡ []
   pub finds_none : FindsAll [] c.table
+  pub no_entries : c.table.entries.items ≡ []
 
 -- a code was added at this place, the last one
 pub record IsAdded (text : List ℕ) (old new : Codes) (bytes : List ℕ) (code : Code) (place : ℕ) : Type 0 where
   pub own : AreBytes bytes
   pub last : place ≡ length old.list.items
   pub listed : new.list.items ≡ old.list.items ++ code ∷ []
-  pub found : (cs : List IdCode) (k : IdCode) → AreHeld text old.list.items cs → FindsAll cs old.table → find (has_text bytes) cs ≡ None → k.text ≡ bytes → FindsAll (cs ++ k ∷ []) new.table
+  pub found : (cs : List IdCode) (k : IdCode) → AreHeld text old.list.items cs → EntersIn text old → FindsAll cs old.table → find (has_text bytes) cs ≡ None → k.text ≡ bytes → FindsAll (cs ++ k ∷ []) new.table

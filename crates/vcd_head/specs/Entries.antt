@@ -1,5 +1,5 @@
 -- The entries by which codes are looked up.
-use Rattle.std.specs.Prelude.{ℕ, ◌+◌, ◌-◌, ◌*◌, ◌%◌, ◌^◌, ◌==◌, ◌&&◌, ◌||◌, nat_le, bit_and, cond, Bool, false, List, [], ◌∷◌, length, slice_get, slice_range, option_map, unwrap_or}
+use Rattle.std.specs.Prelude.{◌≡◌, ℕ, ◌+◌, ◌-◌, ◌*◌, ◌%◌, ◌^◌, ◌==◌, ◌&&◌, ◌||◌, nat_le, bit_and, cond, Bool, true, false, List, [], ◌∷◌, length, slice_get, slice_range, option_map, unwrap_or}
 use Rattle.std.specs.List.{list_all}
 use Rattle.vcd_head.specs.declared.view.Code.{Code}
 use Rattle.vcd_head.specs.declared.view.Entry.{Entry}
@@ -24,6 +24,15 @@ is_right text codes e = (e.key == 0) || unwrap_or (option_map (is_entry_of text 
 -- each entry is
 abbrev pub are_right : List ℕ → List Code → List Entry → Bool
 are_right text codes es = list_all (is_right text codes) es
+
+-- the codes lie in the text
+abbrev pub are_within : List ℕ → List Code → Bool
+are_within text codes = list_all (λ (c : Code). nat_le (c.start + c.len) (length text)) codes
+
+-- the codes lie in the text, and each entry is empty or that of one of them
+pub record AreEntered (text : List ℕ) (codes : List Code) (es : List Entry) : Type 0 where
+  pub within : are_within text codes ≡ true
+  pub right : are_right text codes es ≡ true
 
 -- the number with a lower digit after it, in 64 bits
 abbrev pub above : ℕ → ℕ → ℕ

@@ -38,6 +38,12 @@ rank_of bs p = (front_in 4 bs * 8 + length bs) * 16777216 + p
 abbrev pub rank_in : List ℕ → List Code → ℕ → ℕ
 rank_in text codes p = rank_of (bytes_at text codes p) p
 
+-- a rank for each code, in order, which has all of its bytes and its place
+pub record AreRanks (text : List ℕ) (codes : List Code) (ranks : List ℕ) : Type 0 where
+  pub few : length codes ≤ 16777216
+  pub short : AreShort text codes
+  pub numbers : ranks ≡ map (rank_in text codes) (range_with_len 0 (length codes))
+
 -- the place that a rank ends with
 abbrev pub place_in_rank : ℕ → ℕ
 place_in_rank r = r % 16777216

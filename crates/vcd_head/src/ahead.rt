@@ -12,12 +12,16 @@ ghost use Rattle.vcd_text.specs.Ahead.{bytes_of, longest_of, passed_of, start_of
 ghost use Rattle.vcd_text.specs.Passed.{Passed};
 ghost use Rattle.vcd_head.specs.Ahead.{IsReference, IsVariable, LooksOver};
 ghost use Rattle.vcd_head.specs.Draft.{DraftsBehind, DraftsOn, DraftsUpTo, HasCodes, IsFound};
+ghost use Rattle.vcd_head.specs.Entries.{AreEntered};
 ghost use Rattle.vcd_head.specs.Fault.{call_end};
 ghost use Rattle.vcd_head.specs.Reads.{Fails};
+ghost use Rattle.vcd_head.specs.declared.view.Code.{Code};
+ghost use Rattle.vcd_head.specs.declared.view.Entry.{Entry};
 
 use crate::ahead_scopes::{close_scope, open_scope, scope_ahead, upscope_ahead};
+use crate::code_place::place_of;
 use crate::codes::Codes;
-use crate::draft::{Draft, Found, place_of};
+use crate::draft::{Draft, Found};
 use crate::fault::HeadFault;
 use crate::rows::{WideRow, push};
 use crate::sought::Sought;
@@ -193,8 +197,10 @@ fn found_in(known: &Codes, code: Sought<'_>, size: usize, event: bool) -> Option
 /// Puts type and reference of a variable to the text.
 #[inline(always)]
 fn put_texts(text: &mut Vec<u8>, variable: AheadVariable<'_>) -> Result<(), AllocError>
-    ensures { IfOk result (λ _. text.new.items
+    ensures text { IfOk result (λ _. text.new.items
         ≡ text.old.items ++ (variable.entry.word.now ++ variable.entry.reference.text.now)) }
+    ensures entered { (codes : List Code) (es : List Entry)
+        → AreEntered text.old.items codes es → AreEntered text.new.items codes es }
 {
     text.extend_from_slice(variable.word)?;
     text.extend_from_slice(variable.reference.text)?;

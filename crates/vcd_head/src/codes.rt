@@ -1,16 +1,14 @@
 // The distinct codes of a header that is read.
-ghost use Rattle.std.specs.Prelude.{◌≡◌, ℕ, List, IfOk, IfErr};
+ghost use Rattle.std.specs.Prelude.{◌≡◌, ◌+◌, ◌≤◌, ℕ, List, length, IfOk, IfErr};
 ghost use Rattle.vcd_model.specs.Declarations.{IdCode};
-ghost use Rattle.vcd_head.specs.Codes.{AreHeld, FindsAll, HasNone, IsAdded, IsKnown};
+ghost use Rattle.vcd_head.specs.Codes.{AreHeld, EntersIn, FindsAll, HasNone, IsAdded, IsKnown};
+ghost use Rattle.vcd_head.specs.Entries.{text_in};
 
 use crate::fault::HeadFault;
 use crate::sought::Sought;
 use crate::table::Table;
 use crate::view::{Code, code_in};
 use std::alloc::{AllocError, Global};
-
-// The fewest entries of a table that has codes.
-const FEWEST_ENTRIES: usize = 64;
 
 // A code with its place among the distinct codes.
 #[derive(Clone, Copy)]
@@ -58,12 +56,15 @@ impl Codes {
         code: Code,
     ) -> Result<usize, HeadFault>
         ensures added { IfOk result (IsAdded text.now self.old self.new sought.entry.bytes.now code) }
+        ensures entered { code.start + code.len ≤ length text.now
+            → sought.entry.bytes.now ≡ text_in text.now code.start code.len
+            → EntersIn text.now self.old → EntersIn text.now self.new }
         ensures memory { IfErr result (λ fault. fault ≡ HeadFault.OutOfMemory) }
     {
         let place = self.list.len();
         self.make_room(alloc, text, sought)?;
-        self.table.enter(alloc, sought, place, code)?;
         self.list.push(code)?;
+        self.table.enter(alloc, sought, place, code)?;
         Ok(place)
     }
 
@@ -71,13 +72,13 @@ impl Codes {
     #[inline(always)]
     fn make_room(&mut self, alloc: Global, text: &[u8], code: Sought<'_>) -> Result<(), AllocError>
         ensures found { (cs : List IdCode) → AreHeld text.now self.old.list.items cs
-            → FindsAll cs self.old.table → IfOk result (λ _. FindsAll cs self.new.table) }
+            → EntersIn text.now self.old → FindsAll cs self.old.table
+            → IfOk result (λ _. FindsAll cs self.new.table) }
+        ensures entered { EntersIn text.now self.old → EntersIn text.now self.new }
         ensures same { self.new.list ≡ self.old.list }
     {
         if self.table.is_narrow(code, self.list.len()) {
-            let entries = self.table.entries.len().saturating_mul(2);
-            self.table
-                .widen(alloc, text, &self.list, entries.max(FEWEST_ENTRIES))?;
+            self.table.grow(alloc, text, &self.list)?;
         }
         Ok(())
     }

@@ -1,8 +1,8 @@
 // The entries by which codes are looked up: where a code's entry is, and how they are filled. Any code may have any place among
 // them, and two the same: where an entry is decides only how fast a look-up is.
-ghost use Rattle.std.specs.Prelude.{◌≡◌, ◌≢◌, ◌+◌, ◌-◌, ◌*◌, ◌%◌, ◌^◌, ◌≤◌, ◌<◌, ℕ, List, true, bit_and, length, set, slice_get, Some, IfOk};
+ghost use Rattle.std.specs.Prelude.{◌≡◌, ◌≢◌, ◌+◌, ◌-◌, ◌*◌, ◌%◌, ◌^◌, ◌≤◌, ◌<◌, ℕ, List, true, bit_and, length, set, slice_get, Some, IfOk, IfSome};
 ghost use Rattle.vcd_head.specs.Entries.{above, are_right, entry_in, is_right, most_of, number_in, text_in};
-ghost use Rattle.vcd_head.specs.Keys.{key_in};
+ghost use Rattle.vcd_head.specs.Keys.{AreBytes, key_in};
 ghost use Rattle.vcd_head.specs.declared.view.Code.{Code};
 
 use crate::key::key_of;
@@ -75,6 +75,27 @@ fn number_of(code: &[u8]) -> usize
     number
 }
 
+/// The number of the code of at most three bytes that has this key; none for the key of a longer one.
+#[inline(always)]
+pub(crate) fn number_of_key(key: u64) -> Option<usize>
+    ensures { IfSome result (λ number. (code : List ℕ) → AreBytes code → key ≡ key_in code
+        → key ≢ 0 → number ≡ number_in code) }
+{
+    let first = (key % 256) as u8;
+    if key < 256 * 256 {
+        return Some(above(0, first));
+    }
+    let second = (key / 256 % 256) as u8;
+    if key < 256 * 256 * 256 {
+        return Some(above(above(0, second), first));
+    }
+    let third = (key / (256 * 256) % 256) as u8;
+    if key < 256 * 256 * 256 * 256 {
+        return Some(above(above(above(0, third), second), first));
+    }
+    None
+}
+
 /// The entries of these codes, whose bytes lie in the text: a power of two of them, as many as three for each code allow.
 pub(crate) fn entries_of(
     alloc: Global,
@@ -92,14 +113,14 @@ pub(crate) fn entries_of(
     Ok(entries)
 }
 
-/// The entries of these codes, as `entries_of` makes them. They take the place of those that are given, if there are enough
-/// and not too many of these.
+/// The entries of these codes: those that are given, if there are enough and not too many of them.
 pub(crate) fn entries_in(
     alloc: Global,
     given: Vec<Entry>,
     text: &[u8],
     codes: &[Code],
 ) -> Result<Vec<Entry>, AllocError>
+    requires right { are_right text.now codes.now given.items ≡ true }
     ensures right { IfOk result (λ entries. are_right text.now codes.now entries.items ≡ true) }
     ensures few { IfOk result (λ entries. length entries.items ≤ 3 * length codes.now) }
 {
@@ -107,18 +128,7 @@ pub(crate) fn entries_in(
         drop(given);
         return entries_of(alloc, text, codes);
     }
-    Ok(filled(given, text, codes))
-}
-
-// The entries of these codes in place of others.
-fn filled(given: Vec<Entry>, text: &[u8], codes: &[Code]) -> Vec<Entry>
-    ensures right { are_right text.now codes.now result.items ≡ true }
-    ensures len { length result.items ≡ length given.items }
-{
-    let mut entries = given;
-    entries.fill(EMPTY);
-    fill(&mut entries, text, codes);
-    entries
+    Ok(given)
 }
 
 // How many entries so many codes have: the greatest power of two that is at most three times as many.

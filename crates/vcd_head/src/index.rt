@@ -1,9 +1,8 @@
 // The order of codes by their bytes.
-ghost use Rattle.std.specs.Prelude.{◌≡◌, ℕ, ◌^◌, ◌<◌, ◌≤◌, List, true, length, map, get_or, IfOk};
-ghost use Rattle.std.specs.List.{range_with_len};
+ghost use Rattle.std.specs.Prelude.{◌≡◌, ℕ, ◌^◌, ◌<◌, ◌≤◌, List, length, map, get_or, IfOk, IfSome};
 ghost use Rattle.vcd_model.specs.Declarations.{IdCode};
 ghost use Rattle.vcd_head.specs.Codes.{AreHeld};
-ghost use Rattle.vcd_head.specs.Fronts.{AreFronts, AreShort, bytes_at, front_in, order_of, place_in_rank, rank_in, rank_of};
+ghost use Rattle.vcd_head.specs.Fronts.{AreFronts, AreRanks, bytes_at, front_in, order_of, place_in_rank, rank_of};
 ghost use Rattle.vcd_head.specs.Views.{IsIndex};
 
 use crate::view::{Code, code_in, text_in};
@@ -31,50 +30,48 @@ pub(crate) fn index_of(alloc: Global, text: &[u8], codes: &[Code]) -> Result<Vec
     ensures { (cs : List IdCode) → AreHeld text.now codes.now cs
         → IfOk result (λ index. IsIndex cs index.items) }
 {
-    if codes.len() <= PLACES && are_short(text, codes) {
-        return index_by_ranks(alloc, text, codes);
+    match index_by_ranks(alloc, text, codes)? {
+        Some(index) => Ok(index),
+        None => index_by_fronts(alloc, text, codes),
     }
-    index_by_fronts(alloc, text, codes)
 }
 
-// Each code has so few bytes that a rank has all of them.
-fn are_short(text: &[u8], codes: &[Code]) -> bool
-    ensures { result ≡ true → AreShort text.now codes.now }
-{
-    for place in 0..codes.len() {
-        if bytes_at(text, codes, place).len() > RANK_BYTES {
-            return false;
-        }
-    }
-    true
-}
-
-// The same of short codes. Their ranks are sorted, and then left with their places alone: so nothing else is held beside the index.
-fn index_by_ranks(alloc: Global, text: &[u8], codes: &[Code]) -> Result<Vec<usize>, AllocError>
-    requires few { length codes.now ≤ 16777216 }
-    requires short { AreShort text.now codes.now }
+// The same of short codes, none where some are long. Their ranks are sorted, and then left with their places alone: so nothing
+// else is held beside the index.
+fn index_by_ranks(
+    alloc: Global,
+    text: &[u8],
+    codes: &[Code],
+) -> Result<Option<Vec<usize>>, AllocError>
     ensures { (cs : List IdCode) → AreHeld text.now codes.now cs
-        → IfOk result (λ index. IsIndex cs index.items) }
+        → IfOk result (λ found. IfSome found (λ index. IsIndex cs index.items)) }
 {
-    let mut index = ranks_of(alloc, text, codes)?;
+    let Some(ranks) = ranks_of(alloc, text, codes)? else {
+        return Ok(None);
+    };
+    let mut index = ranks;
     index.sort_unstable();
     leave_places(&mut index);
-    Ok(index)
+    Ok(Some(index))
 }
 
-// The ranks of short codes, in their order of declaration.
-fn ranks_of(alloc: Global, text: &[u8], codes: &[Code]) -> Result<Vec<usize>, AllocError>
-    requires few { length codes.now ≤ 16777216 }
-    requires short { AreShort text.now codes.now }
-    ensures { IfOk result (λ ranks. ranks.items
-        ≡ map (rank_in text.now codes.now) (range_with_len 0 (length codes.now))) }
+// The ranks of the codes, in their order of declaration, if a rank has all of the bytes and the place of each.
+fn ranks_of(alloc: Global, text: &[u8], codes: &[Code]) -> Result<Option<Vec<usize>>, AllocError>
+    ensures { IfOk result (λ found. IfSome found (λ ranks.
+        AreRanks text.now codes.now ranks.items)) }
 {
+    if codes.len() > PLACES {
+        return Ok(None);
+    }
     let mut ranks = Vec::with_capacity(alloc, codes.len())?;
     for place in 0..codes.len() {
-        let rank = rank_of(bytes_at(text, codes, place), place);
-        ranks.push(rank)?;
+        let bytes = bytes_at(text, codes, place);
+        if bytes.len() > RANK_BYTES {
+            return Ok(None);
+        }
+        ranks.push(rank_of(bytes, place))?;
     }
-    Ok(ranks)
+    Ok(Some(ranks))
 }
 
 // The bytes of a code, their number and its place as one number, which is less where the bytes come before others.

@@ -20,8 +20,8 @@
 //! - `tokens`, `texts`, `words`, `keyword`: the next token; texts up to `$end`; tests of tokens; the keywords
 //! - `scopes`, `variable`, `scale`, `rows`: what a phrase declares, and its row
 //! - `ahead`, `ahead_scopes`: variables and scopes whose phrases lie whole in the chunk
-//! - `draft`, `codes`, `table`, `sought`, `finish`: a header while it is read, its codes, and how they are found by their bytes;
-//!   the head that it becomes
+//! - `draft`, `codes`, `code_place`, `table`, `sought`, `finish`: a header while it is read, its codes, and how they are found
+//!   by their bytes; the head that it becomes
 //! - `head`, `view`, `fault`: `Head`; `HeadView` with its rows and codes, and `Need`; `HeadFault`
 //! - `look_up`, `entries`, `key`, `probes`: a look at one entry, then a binary search; the entries; codes as numbers; comparisons,
 //!   counted
@@ -49,6 +49,7 @@
 
 mod ahead;
 mod ahead_scopes;
+mod code_place;
 mod codes;
 mod draft;
 mod enclosing;

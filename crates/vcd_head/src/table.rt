@@ -1,14 +1,19 @@
 // The table that finds codes by their bytes while a header is read.
-ghost use Rattle.std.specs.Prelude.{◌≡◌, ℕ, List, true, slice_get, Some, None, IfOk};
+ghost use Rattle.std.specs.Prelude.{◌≡◌, ℕ, List, [], true, length, slice_get, Some, None, IfOk};
 ghost use Rattle.vcd_model.specs.Declarations.{IdCode};
-ghost use Rattle.vcd_head.specs.Codes.{AreHeld, FindsAll, IsEntered, entered, in_tree, place_in};
+ghost use Rattle.vcd_head.specs.Codes.{AreHeld, FindsAll, IsEntered, Moves, entered, in_tree, place_in};
+ghost use Rattle.vcd_head.specs.Entries.{AreEntered, are_right, text_in};
+ghost use Rattle.vcd_head.specs.declared.view.Code.{Code};
 ghost use Rattle.vcd_head.specs.declared.view.Entry.{Entry};
 
-use crate::entries::{EMPTY, entry_with, put};
+use crate::entries::{EMPTY, entry_for, entry_with, number_of_key, put};
 use crate::sought::Sought;
 use crate::view::{Code, Entry, text_in};
 use std::alloc::{AllocError, Global};
 use std::collections::BTreeMap;
+
+// The fewest entries of a table that has codes.
+const FEWEST_ENTRIES: usize = 64;
 
 // The places of codes by their bytes.
 //
@@ -23,7 +28,8 @@ pub(crate) struct Table {
 impl Table {
     /// A table of no code, with no entries.
     pub(crate) fn new(alloc: Global) -> Self
-        ensures { (t : List ℕ) → place_in result t ≡ None }
+        ensures found { (t : List ℕ) → place_in result t ≡ None }
+        ensures entries { result.entries.items ≡ [] }
     {
         Table {
             entries: Vec::new(alloc),
@@ -33,7 +39,10 @@ impl Table {
 
     /// Leaves no code in the table, and so many entries where others stood.
     fn empty(&mut self, alloc: Global, entries: usize) -> Result<(), AllocError>
-        ensures { IfOk result (λ _. (t : List ℕ) → place_in self.new t ≡ None) }
+        ensures found { IfOk result (λ _. (t : List ℕ) → place_in self.new t ≡ None) }
+        ensures entered { (text : List ℕ) (codes : List Code)
+            → AreEntered text codes self.old.entries.items
+            → AreEntered text codes self.new.entries.items }
     {
         self.entries.clear();
         self.entries.resize(entries, EMPTY)?;
@@ -41,17 +50,42 @@ impl Table {
         Ok(())
     }
 
-    /// Gives the table so many entries, a power of two of them, and enters these codes in place of those that it has.
+    /// Gives the table more entries, a power of two of them. These are its codes.
     #[inline(never)]
-    pub(crate) fn widen(
+    pub(crate) fn grow(
+        &mut self,
+        alloc: Global,
+        text: &[u8],
+        codes: &[Code],
+    ) -> Result<(), AllocError>
+        ensures found { (cs : List IdCode) → AreHeld text.now codes.now cs
+            → AreEntered text.now codes.now self.old.entries.items → FindsAll cs self.old
+            → IfOk result (λ _. FindsAll cs self.new) }
+        ensures entered { AreEntered text.now codes.now self.old.entries.items
+            → AreEntered text.now codes.now self.new.entries.items }
+    {
+        let entries = self.entries.len();
+        if entries == 0 {
+            return self.widen(alloc, text, codes, FEWEST_ENTRIES);
+        }
+        if self.others.is_empty() && self.split()? {
+            return Ok(());
+        }
+        self.widen(alloc, text, codes, entries.saturating_mul(2))
+    }
+
+    /// Gives the table so many entries, a power of two of them, and enters these codes in place of those that it has.
+    fn widen(
         &mut self,
         alloc: Global,
         text: &[u8],
         codes: &[Code],
         entries: usize,
     ) -> Result<(), AllocError>
-        ensures { (cs : List IdCode) → AreHeld text.now codes.now cs
+        ensures found { (cs : List IdCode) → AreHeld text.now codes.now cs
             → IfOk result (λ _. FindsAll cs self.new) }
+        ensures entered { AreEntered text.now codes.now self.old.entries.items
+            → AreEntered text.now codes.now self.new.entries.items }
     {
         self.empty(alloc, entries)?;
         for (place, code) in codes.iter().enumerate() {
@@ -59,6 +93,26 @@ impl Table {
             self.enter(alloc, Sought::new(bytes), place, *code)?;
         }
         Ok(())
+    }
+
+    /// Gives the table twice as many entries, and moves those of its codes to where they are among so many, which their keys
+    /// tell: so no code is looked at. Tells whether each is there; else they have to be entered anew.
+    fn split(&mut self) -> Result<bool, AllocError>
+        ensures found { (text : List ℕ) (codes : List Code) (cs : List IdCode) → AreHeld text codes cs
+            → AreEntered text codes self.old.entries.items → FindsAll cs self.old
+            → IfOk result (λ done. done ≡ true → FindsAll cs self.new) }
+        ensures entered { (text : List ℕ) (codes : List Code)
+            → AreEntered text codes self.old.entries.items
+            → AreEntered text codes self.new.entries.items }
+    {
+        let few = self.entries.len();
+        self.entries.resize(few.saturating_mul(2), EMPTY)?;
+        for at in 0..few {
+            if !move_entry(&mut self.entries, at) {
+                return Ok(false);
+            }
+        }
+        Ok(true)
     }
 
     /// The place of a code.
@@ -73,12 +127,21 @@ impl Table {
     }
 
     // The place of a code that has no entry.
+    #[inline(always)]
     fn other_place(&self, bytes: &[u8]) -> Option<usize>
         ensures { result ≡ in_tree self.now.others.entries bytes.now }
     {
         if self.others.is_empty() {
             return None;
         }
+        self.place_in_tree(bytes)
+    }
+
+    // The place that the tree has for a code.
+    #[inline(never)]
+    fn place_in_tree(&self, bytes: &[u8]) -> Option<usize>
+        ensures { result ≡ in_tree self.now.others.entries bytes.now }
+    {
         self.others.get(bytes).copied()
     }
 
@@ -93,7 +156,11 @@ impl Table {
     }
 
     /// Its entries, if each of its codes has one; else none.
-    pub(crate) fn into_entries(self, alloc: Global) -> Vec<Entry> {
+    pub(crate) fn into_entries(self, alloc: Global) -> Vec<Entry>
+        ensures { (text : List ℕ) (codes : List Code)
+            → are_right text codes self.entries.items ≡ true
+            → are_right text codes result.items ≡ true }
+    {
         let Table { entries, others } = self;
         if others.is_empty() {
             return entries;
@@ -110,8 +177,13 @@ impl Table {
         place: usize,
         code: Code,
     ) -> Result<(), AllocError>
-        ensures { place_in self.old sought.entry.bytes.now ≡ None
+        ensures found { place_in self.old sought.entry.bytes.now ≡ None
             → IfOk result (λ _. IsEntered self.old self.new sought.entry.bytes.now place) }
+        ensures entered { (text : List ℕ) (codes : List Code)
+            → slice_get codes place ≡ Some code
+            → sought.entry.bytes.now ≡ text_in text code.start code.len
+            → AreEntered text codes self.old.entries.items
+            → AreEntered text codes self.new.entries.items }
     {
         let entry = entry_with(place, code, sought.key);
         let at = sought.entry_among(self.entries.len());
@@ -147,4 +219,41 @@ fn is_free(entries: &[Entry], at: usize) -> bool
         Some(entry) => entry.key == 0,
         None => false,
     }
+}
+
+// Moves the entry of a code that stands here to its own place, and tells whether it is there.
+#[inline(always)]
+fn move_entry(entries: &mut [Entry], at: usize) -> bool
+    ensures len { length entries.new ≡ length entries.old }
+    ensures right { (text : List ℕ) (codes : List Code)
+        → are_right text codes entries.old ≡ true → are_right text codes entries.new ≡ true }
+    ensures moves { result ≡ true → Moves entries.old entries.new at }
+{
+    let Some(entry) = entry_here(entries, at) else {
+        return false;
+    };
+    if entry.key == 0 {
+        return true;
+    }
+    let Some(number) = number_of_key(entry.key) else {
+        return false;
+    };
+    let own = entry_for(number, entries.len());
+    if own == at {
+        return true;
+    }
+    if !is_free(entries, own) {
+        return false;
+    }
+    put(entries, at, EMPTY);
+    put(entries, own, entry);
+    true
+}
+
+// The entry that stands here.
+#[inline(always)]
+fn entry_here(entries: &[Entry], at: usize) -> Option<Entry>
+    ensures { result ≡ slice_get entries.now at }
+{
+    entries.get(at).copied()
 }

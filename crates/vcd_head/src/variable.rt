@@ -12,8 +12,9 @@ ghost use Rattle.vcd_head.specs.Variables.{SizeRead, CodeRead};
 ghost use Rattle.vcd_text.specs.Advances.{Advances};
 ghost use Rattle.vcd_head.specs.Fault.{call_end};
 
+use crate::code_place::place_of;
 use crate::codes::Codes;
-use crate::draft::{Draft, Found, place_of};
+use crate::draft::{Draft, Found};
 use crate::fault::HeadFault;
 use crate::rows::{WideRow, push};
 use crate::sought::Sought;

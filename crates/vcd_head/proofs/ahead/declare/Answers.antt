@@ -42,13 +42,13 @@ returns-clause-declares c = λ given more a k.
     (subst (λ b. list_all is_code_byte b ≡ true → IfSome c.found_in.result (λ (found : Found). (first_failed (var_checks ds (type ∷ digits ∷ []) b) ≡ None) × ((reference : List (List ℕ)) → IsFound ds (record { type = type; size = decimal_value digits; code = b; reference = reference }) b found)))
     same (c.found_in.ensures old type digits ds hc sf.1 ev) k.code_is) in
     let join = join_with_byte 32 v.reference in
-    let text : c.put_texts.new.text.items ≡ old ++ (type ++ join) = c.in_ok-put_texts.ensures ∙ ap (λ l. old ++ (type ++ l)) k.reference.text_is in
+    let text : c.put_texts.new.text.items ≡ old ++ (type ++ join) = c.in_ok-put_texts.ensures.text ∙ ap (λ l. old ++ (type ++ l)) k.reference.text_is in
     let hc3 : HasCodes c.put_texts.new.text.items d.codes ds = subst (λ t. HasCodes t d.codes ds) (sym text) (has_codes_grow old (type ++ join) d.codes ds hc) in
     let z1 = sp.1 in
     let z2 = sp.2 in
     let z3 = sf.1 in
     let is_size : IsSize variable.size = record { some = omega arith; most = omega arith } in
-    let ch = c.in_ok-place.ensures.codes ds v hc3 (subst (λ b. IsFound ds v b c.in-Some.found) (sym same) (f.1 v.reference)) is_size (sym sf.1) (sym ev) in
+    let ch = c.in_ok-place.ensures.codes ds v hc3 (c.in_ok-put_texts.ensures.entered d.codes.list.items d.codes.table.entries.items d.entered) (subst (λ b. IsFound ds v b c.in-Some.found) (sym same) (f.1 v.reference)) is_size (sym sf.1) (sym ev) in
     let grown : c.place_of.new.text.items ≡ old ++ (type ++ (join ++ ch.more)) = ch.grown ∙ ap (λ t. t ++ ch.more) text ∙ append_assoc old (type ++ join) ch.more ∙ ap (λ t. old ++ t) (append_assoc type join ch.more) in
     let start : c.len-start.result ≡ length old = omega arith in
     let all : length variable.reference.text.now ≡ length join = ap length k.reference.text_is in

@@ -223,7 +223,10 @@ returns-clause-reads g c = λ i b.
     let z2 = sp.2 in
     let z3 = sf.1 in
     let is_size : IsSize c.in_ok-size.size = record { some = omega arith; most = omega arith } in
-    let ch = c.in_ok-code.ensures.codes (declarations_of (phrases_of b.placed)) v hc3 (subst (λ k. IsFound (declarations_of (phrases_of b.placed)) v k c.in_ok-found.found) (sym (c.new.ensures ∙ c.deref.ensures.value)) (k1.found_is (first ∷ inner))) is_size (sym sf.1) (sym ev) in
+    let list = c.args.draft.now.codes.list.items in
+    let es = c.args.draft.now.codes.table.entries.items in
+    let entered = c.append_to_end.ensures.entered list es (c.next_word-2.ensures.entered list es (c.next_word.ensures.entered list es c.args.draft.now.entered)) in
+    let ch = c.in_ok-code.ensures.codes (declarations_of (phrases_of b.placed)) v hc3 entered (subst (λ k. IsFound (declarations_of (phrases_of b.placed)) v k c.in_ok-found.found) (sym (c.new.ensures ∙ c.deref.ensures.value)) (k1.found_is (first ∷ inner))) is_size (sym sf.1) (sym ev) in
     let grown : c.place_of.new.text.items ≡ c.args.draft.now.text.items ++ (type ++ (join ++ ch.more)) = ch.grown ∙ ap (λ t. t ++ ch.more) text ∙ append_assoc c.args.draft.now.text.items (type ++ join) ch.more ∙ ap (λ t. c.args.draft.now.text.items ++ t) (append_assoc type join ch.more) in
     let start : c.len-start.result ≡ length c.args.draft.now.text.items = omega arith in
     let len : length c.append_to_end.new.text.items ≡ length c.args.draft.now.text.items + (length type + length join) = ap length text ∙ length-append c.args.draft.now.text.items (type ++ join) ∙ ap (λ k. length c.args.draft.now.text.items + k) (length-append type join) in

@@ -3,13 +3,14 @@ use Rattle.std.specs.Vec.{with_items}
 use Rattle.std.proofs.lemmas.List.{length-set, take_at}
 use Rattle.vcd_head.specs.declared.table.Table.{Table}
 use Rattle.vcd_head.specs.Codes.{IsEntered, place_in}
-use Rattle.vcd_head.specs.Entries.{entry_in}
+use Rattle.vcd_head.specs.Entries.{AreEntered, entry_in}
 use Rattle.vcd_head.specs.Keys.{AreBytes}
 use Rattle.vcd_head.proofs.CodesLemmas.{entry_entered, tree_entered}
+use Rattle.vcd_head.proofs.EnteredLemmas.{entered_put}
 use Rattle.vcd_head.proofs.table.Table.enter.Goals as goal
 
-pub returns-then-is_free : goal.returns-then-is_free
-returns-then-is_free c = λ n.
+pub returns-then-is_free-clause-found : goal.returns-then-is_free-clause-found
+returns-then-is_free-clause-found c = λ n.
     let bytes = c.args.sought.bytes.now in
     let es = c.args.self.now.entries.items in
     let at : c.entry_among-at.result ≡ entry_in bytes (length es) = (let n : c.len.result ≡ length es = omega arith in c.entry_among-at.ensures ∙ ap (entry_in bytes) n) in
@@ -24,8 +25,19 @@ returns-then-is_free c = λ n.
     let new : Table = record c.args.self.now { entries = with_items c.args.self.now.entries c.put.new.entries } in
     subst (IsEntered c.args.self.now new bytes) told.1 (entry_entered c.args.self.now new bytes free.0 e there free.2 own c.if-entry-ne0.true (told.0 ∙ c.args.sought.key_is) written refl)
 
-pub returns : goal.returns
-returns c = λ n.
+pub returns-then-is_free-clause-entered : goal.returns-then-is_free-clause-entered
+returns-then-is_free-clause-entered c = λ text codes there same h.
+    let es = c.args.self.now.entries.items in
+    let at = c.entry_among-at.result in
+    let e = c.entry_with-entry.result in
+    let right = c.entry_with-entry.ensures.right text c.args.sought.bytes.now codes there c.args.sought.key_is same in
+    let put = c.put.ensures ∙ ap (λ l. set l at e) c.deref_mut.ensures.value in
+    let len = ap length c.put.ensures ∙ length-set _ _ _ ∙ c.deref_mut.ensures.len in
+    let written = take_at c.put.new.entries (drop (length c.put.new.entries) es) c.args.self.now.entries.len len ∙ put in
+    subst (AreEntered text codes) (sym written) (entered_put text codes es at e right h)
+
+pub returns-clause-found : goal.returns-clause-found
+returns-clause-found c = λ n.
     let bytes = c.args.sought.bytes.now in
     let key = c.in_ok-from_slice.field-0 in
     let same : key.items ≡ bytes = c.in_ok-from_slice.ensures.items in

@@ -1,0 +1,179 @@
+-- Entries are moved where a table has twice as many.
+use Rattle.std.proofs.Common.{◌≡◌, ◌≢◌, ◌⊎◌, inl, inr, ℕ, ◌+◌, ◌%◌, ◌/◌, ◌<◌, ◌≤◌, ◌==◌, ◌&&◌, nat_le, not, Bool, true, false, cond, List, [], ◌∷◌, ◌++◌, length, set, take, replicate, slice_get, Option, Some, None, refl, sym, ap, subst, ◌∙◌, arith}
+use Rattle.std.specs.Option.{option_or}
+use Rattle.std.proofs.lemmas.Bool.{and_parts, cases_lt, eqb-true, eq-eqb}
+use Rattle.std.proofs.lemmas.List.{take_all}
+use Rattle.std.proofs.lemmas.List.Folds.{list_all-append}
+use Rattle.std.proofs.lemmas.Option.{slice_get_within, same_Some}
+use Rattle.vcd_model.specs.Declarations.{IdCode}
+use Rattle.vcd_head.specs.declared.view.Code.{Code}
+use Rattle.vcd_head.specs.declared.view.Entry.{Entry}
+use Rattle.vcd_head.specs.declared.table.Table.{Table}
+use Rattle.vcd_head.specs.Codes.{AreHeld, FindsAll, Moves, in_tree, place_told}
+use Rattle.vcd_head.specs.Entries.{above, are_right, entry_in, is_right, number_in}
+use Rattle.vcd_head.specs.Finds.{Finds}
+use Rattle.vcd_head.specs.Keys.{AreBytes, key_in, packed}
+use Rattle.vcd_head.proofs.CodesLemmas.{set_other, set_same}
+use Rattle.vcd_head.proofs.DraftGrows.{slice_get-front}
+use Rattle.vcd_head.proofs.EntryLemmas.{all_replicated, both, code_found, entry_tells, one_of_all}
+use Rattle.vcd_head.proofs.KeyLemmas.{bytes_at_place, packed_above, same_key}
+use Rattle.vcd_head.proofs.LookUpLemmas.{first_with}
+use Rattle.vcd_head.proofs.RowLemmas.{text_within}
+
+-- ---- the number of a short code by its key
+
+-- four bytes or more have a greater key
+long_key : (a b c d : ℕ) (bs : List ℕ) (k : ℕ) → k ≡ key_in (a ∷ b ∷ c ∷ d ∷ bs) → k ≢ 0 → 4294967296 ≤ k
+long_key a b c d bs k e n = by_length (nat_le (length (a ∷ b ∷ c ∷ d ∷ bs)) 7) e
+  where
+    by_length : (q : Bool) → k ≡ cond q (packed (a ∷ b ∷ c ∷ d ∷ bs)) 0 → 4294967296 ≤ k
+    by_length true e = omega (arith, e, packed_above bs)
+    by_length false e = absurd (n e)
+
+pub number_of_one : (code : List ℕ) (k : ℕ) → AreBytes code → k ≡ key_in code → k ≢ 0 → k < 65536 → above 0 (k % 256) ≡ number_in code
+number_of_one [] k a e n l = ap (λ x. above 0 (x % 256)) e
+number_of_one (x ∷ []) k a e n l = let byte : k % 256 ≡ x = omega (arith, e, a.0) in ap (above 0) byte
+number_of_one (x ∷ y ∷ []) k a e n l = absurd (omega (arith, e, l))
+number_of_one (x ∷ y ∷ z ∷ []) k a e n l = absurd (omega (arith, e, l))
+number_of_one (x ∷ y ∷ z ∷ w ∷ bs) k a e n l = absurd (omega (arith, long_key x y z w bs k e n, l))
+
+pub number_of_two : (code : List ℕ) (k : ℕ) → AreBytes code → k ≡ key_in code → k ≢ 0 → 65536 ≤ k → k < 16777216 → above (above 0 (k / 256 % 256)) (k % 256) ≡ number_in code
+number_of_two [] k a e n g l = absurd (omega (arith, e, g))
+number_of_two (x ∷ []) k a e n g l = absurd (omega (arith, e, g, a.0))
+number_of_two (x ∷ y ∷ []) k a e n g l =
+    let first : k % 256 ≡ x = omega (arith, e, a.0) in
+    let second : k / 256 % 256 ≡ y = omega (arith, e, a.0, a.1.0) in
+    ap (λ b. above (above 0 b) (k % 256)) second ∙ ap (above (above 0 y)) first
+number_of_two (x ∷ y ∷ z ∷ []) k a e n g l = absurd (omega (arith, e, l))
+number_of_two (x ∷ y ∷ z ∷ w ∷ bs) k a e n g l = absurd (omega (arith, long_key x y z w bs k e n, l))
+
+pub number_of_three : (code : List ℕ) (k : ℕ) → AreBytes code → k ≡ key_in code → k ≢ 0 → 16777216 ≤ k → k < 4294967296 → above (above (above 0 (k / 65536 % 256)) (k / 256 % 256)) (k % 256) ≡ number_in code
+number_of_three [] k a e n g l = absurd (omega (arith, e, g))
+number_of_three (x ∷ []) k a e n g l = absurd (omega (arith, e, g, a.0))
+number_of_three (x ∷ y ∷ []) k a e n g l = absurd (omega (arith, e, g, a.0, a.1.0))
+number_of_three (x ∷ y ∷ z ∷ []) k a e n g l =
+    let first : k % 256 ≡ x = omega (arith, e, a.0) in
+    let second : k / 256 % 256 ≡ y = omega (arith, e, a.0, a.1.0) in
+    let third : k / 65536 % 256 ≡ z = omega (arith, e, a.0, a.1.0, a.1.1.0) in
+    ap (λ b. above (above (above 0 b) (k / 256 % 256)) (k % 256)) third ∙ ap (λ b. above (above (above 0 z) b) (k % 256)) second ∙ ap (above (above (above 0 z) y)) first
+number_of_three (x ∷ y ∷ z ∷ w ∷ bs) k a e n g l = absurd (omega (arith, long_key x y z w bs k e n, l))
+
+-- ---- one entry
+
+-- an entry is moved to one that is free
+pub moves : (es : List Entry) (at own : ℕ) (x free empty : Entry) → slice_get es at ≡ Some x → slice_get es own ≡ Some free → free.key ≡ 0 → own ≢ at → ((t : List ℕ) → AreBytes t → x.key ≡ key_in t → entry_in t (length es) ≡ own) → Moves es (set (set es at empty) own x) at
+moves es at own x free empty there room z apart tells = record {
+  others = λ k e n d s.
+      let other : own ≡ k → ⊥ = λ q. n (ap (λ (y : Entry). y.key) (same_Some e free (sym s ∙ ap (slice_get es) (sym q) ∙ room)) ∙ z) in
+      set_other (set es at empty) own k x other ∙ set_other es at k empty (λ q. d (sym q)) ∙ s;
+  own = λ t e a q n s.
+      let same : x ≡ e = same_Some x e (sym there ∙ s) in
+      ap (slice_get (set (set es at empty) own x)) (tells t a (ap (λ (y : Entry). y.key) same ∙ q))
+      ∙ set_same (set es at empty) own free x (set_other es at own empty (λ q. apart (sym q)) ∙ room) ∙ ap Some same;
+}
+
+-- ---- all entries
+
+-- each entry of a code stands where it stood, from a place on, or at its own place
+abbrev pub ArePartlyMoved : List Entry → List Entry → ℕ → Type 0
+ArePartlyMoved old es at = (t : List ℕ) (k : ℕ) (e : Entry) → AreBytes t → e.key ≡ key_in t → e.key ≢ 0 → slice_get old k ≡ Some e
+    → ((at ≤ k) × (slice_get es k ≡ Some e)) ⊎ (slice_get es (entry_in t (length es)) ≡ Some e)
+
+pub none_moved : (old es : List Entry) (n m : ℕ) (empty : Entry) → length old ≤ n → es ≡ take n old ++ replicate m empty → ArePartlyMoved old es 0
+none_moved old es n m empty wide is = λ t k e a q s there.
+    inl (omega arith, ap (λ l. slice_get l k) is ∙ slice_get-front (take n old) (replicate m empty) k e (ap (λ l. slice_get l k) (take_all n old wide) ∙ there))
+
+pub wide_right : (text : List ℕ) (codes : List Code) (old : List Entry) (n m : ℕ) → length old ≤ n → are_right text codes old ≡ true → are_right text codes (take n old ++ replicate m (record { key = 0; place = 0; most = 0 })) ≡ true
+wide_right text codes old n m wide right =
+    ap (λ l. are_right text codes (l ++ replicate m empty)) (take_all n old wide) ∙ list_all-append (is_right text codes) old (replicate m empty)
+    ∙ both (are_right text codes old) (are_right text codes (replicate m empty)) right (all_replicated (is_right text codes) m empty refl)
+  where
+    empty : Entry
+    empty = record { key = 0; place = 0; most = 0 }
+
+pub one_moved : (old es new : List Entry) (at : ℕ) → ArePartlyMoved old es at → Moves es new at → length new ≡ length es → ArePartlyMoved old new (at + 1)
+one_moved old es new at h m len = λ t k e a q s there. by_side t k e a q s (h t k e a q s there)
+  where
+    at_own : (t : List ℕ) (e : Entry) → slice_get new (entry_in t (length es)) ≡ Some e → slice_get new (entry_in t (length new)) ≡ Some e
+    at_own t e s = ap (λ n. slice_get new (entry_in t n)) len ∙ s
+
+    by_order : (t : List ℕ) (k : ℕ) (e : Entry) → AreBytes t → e.key ≡ key_in t → e.key ≢ 0 → at ≤ k → slice_get es k ≡ Some e → (at < k) ⊎ (k ≤ at) → ((at + 1 ≤ k) × (slice_get new k ≡ Some e)) ⊎ (slice_get new (entry_in t (length new)) ≡ Some e)
+    by_order t k e a q s l there (inl after) = inl (omega (arith, after), m.others k e s (λ same. omega (arith, same, after)) there)
+    by_order t k e a q s l there (inr before) =
+        let same : k ≡ at = omega (arith, l, before) in
+        inr (at_own t e (m.own t e a q s (ap (slice_get es) (sym same) ∙ there)))
+
+    by_place : (t : List ℕ) (e : Entry) → AreBytes t → e.key ≡ key_in t → e.key ≢ 0 → slice_get es (entry_in t (length es)) ≡ Some e → (b : Bool) → (entry_in t (length es) == at) ≡ b → slice_get new (entry_in t (length es)) ≡ Some e
+    by_place t e a q s there true d = m.own t e a q s (ap (slice_get es) (sym (eqb-true _ _ d)) ∙ there)
+    by_place t e a q s there false d = m.others (entry_in t (length es)) e s (λ same. let z : (entry_in t (length es) == at) ≡ true = eq-eqb _ _ same in cc) there
+
+    by_side : (t : List ℕ) (k : ℕ) (e : Entry) → AreBytes t → e.key ≡ key_in t → e.key ≢ 0 → ((at ≤ k) × (slice_get es k ≡ Some e)) ⊎ (slice_get es (entry_in t (length es)) ≡ Some e) → ((at + 1 ≤ k) × (slice_get new k ≡ Some e)) ⊎ (slice_get new (entry_in t (length new)) ≡ Some e)
+    by_side t k e a q s (inl p) = by_order t k e a q s p.0 p.1 (cases_lt at k)
+    by_side t k e a q s (inr p) = inr (at_own t e (by_place t e a q s p (entry_in t (length es) == at) refl))
+
+-- ---- what a table finds whose entries were moved
+
+-- the key of an entry that gives a place
+told_key : (t : List ℕ) (e : Entry) → (not (key_in t == 0) && (e.key == key_in t)) ≡ true → (e.key ≡ key_in t) × (e.key ≢ 0)
+told_key t e h =
+    let b = and_parts (not (key_in t == 0)) (e.key == key_in t) h in
+    let k = eqb-true e.key (key_in t) b.1 in
+    (k, λ z. never (key_in t == 0) b.0 (eq-eqb (key_in t) 0 (sym k ∙ z)))
+  where
+    never : (x : Bool) → not x ≡ true → x ≡ true → ⊥
+    never true h e = cc
+    never false h e = cc
+
+-- and of one that gives none
+told_no : (t : List ℕ) (e : Entry) → (not (key_in t == 0) && (e.key == key_in t)) ≡ false → e.key ≡ key_in t → e.key ≢ 0 → ⊥
+told_no t e q k n = by_zero (key_in t == 0) refl (e.key == key_in t) (eq-eqb _ _ k) q
+  where
+    by_zero : (x : Bool) → (key_in t == 0) ≡ x → (y : Bool) → y ≡ true → (not x && y) ≡ false → ⊥
+    by_zero true d y w z = n (k ∙ eqb-true _ _ d)
+    by_zero false d true w z = cc
+    by_zero false d false w z = cc
+
+-- an entry that is right gives the place of its code
+gives : (text : List ℕ) (codes : List Code) (cs : List IdCode) (es : List Entry) (i : ℕ) (e : Entry) (t : List ℕ) → AreHeld text codes cs → are_right text codes es ≡ true → slice_get es i ≡ Some e → AreBytes t → e.key ≡ key_in t → e.key ≢ 0 → Finds cs t (Some e.place)
+gives text codes cs es i e t h right there a q n =
+    let told = entry_tells text codes e (one_of_all (is_right text codes) es i e right there) n in
+    let k = code_found text codes cs e.place told.0 h.stand told.1 in
+    let read = text_within text told.0.start told.0.len k.2.within ∙ k.2.text_is in
+    let equal : key_in t ≡ key_in k.0.text = sym q ∙ told.2 ∙ ap key_in read in
+    let own : AreBytes k.0.text = bytes_at_place cs e.place k.0 h.texts k.1 in
+    let some : 0 < key_in t = omega (arith, n, q) in
+    (k.0, k.1, first_with cs t e.place k.0 h.distinct k.1 (same_key t k.0.text a own equal some))
+
+pub split_finds : (text : List ℕ) (codes : List Code) (cs : List IdCode) (old new : Table) (at : ℕ) → AreHeld text codes cs → are_right text codes new.entries.items ≡ true → ArePartlyMoved old.entries.items new.entries.items at → length old.entries.items ≤ at → new.others.entries ≡ old.others.entries → FindsAll cs old → FindsAll cs new
+split_finds text codes cs old new at h right moved all same f = λ t a. by_entry t a (slice_get new.entries.items (entry_in t (length new.entries.items))) refl
+  where
+    -- where no entry of the new table has it, none of the old one has
+    by_old : (t : List ℕ) → AreBytes t → ((e : Entry) → e.key ≡ key_in t → e.key ≢ 0 → slice_get new.entries.items (entry_in t (length new.entries.items)) ≡ Some e → ⊥) → (o : Option Entry) → slice_get old.entries.items (entry_in t (length old.entries.items)) ≡ o
+        → option_or (place_told t o) (in_tree old.others.entries t) ≡ in_tree old.others.entries t
+    by_old t a none None s = refl
+    by_old t a none (Some e) s = by_test (not (key_in t == 0) && (e.key == key_in t)) refl
+      where
+        by_side : e.key ≡ key_in t → e.key ≢ 0 → ((at ≤ entry_in t (length old.entries.items)) × (slice_get new.entries.items (entry_in t (length old.entries.items)) ≡ Some e)) ⊎ (slice_get new.entries.items (entry_in t (length new.entries.items)) ≡ Some e) → ⊥
+        by_side q n (inl p) = omega (arith, p.0, all, slice_get_within old.entries.items (entry_in t (length old.entries.items)) e s)
+        by_side q n (inr p) = none e q n p
+
+        by_test : (b : Bool) → (not (key_in t == 0) && (e.key == key_in t)) ≡ b → option_or (cond b (Some e.place) None) (in_tree old.others.entries t) ≡ in_tree old.others.entries t
+        by_test true q = let k = told_key t e q in absurd (by_side k.0 k.1 (moved t (entry_in t (length old.entries.items)) e a k.0 k.1 s))
+        by_test false q = refl
+
+    by_tree : (t : List ℕ) → AreBytes t → ((e : Entry) → e.key ≡ key_in t → e.key ≢ 0 → slice_get new.entries.items (entry_in t (length new.entries.items)) ≡ Some e → ⊥) → Finds cs t (in_tree new.others.entries t)
+    by_tree t a none = subst (Finds cs t) (by_old t a none (slice_get old.entries.items (entry_in t (length old.entries.items))) refl ∙ ap (λ es. in_tree es t) (sym same)) (f t a)
+
+    by_entry : (t : List ℕ) → AreBytes t → (o : Option Entry) → slice_get new.entries.items (entry_in t (length new.entries.items)) ≡ o → Finds cs t (option_or (place_told t o) (in_tree new.others.entries t))
+    by_entry t a None s = by_tree t a (λ e q n there. nothing e (sym there ∙ s))
+      where
+        nothing : (e : Entry) → Some e ≡ None → ⊥
+        nothing e z = cc
+    by_entry t a (Some e) s = by_test (not (key_in t == 0) && (e.key == key_in t)) refl
+      where
+        by_test : (b : Bool) → (not (key_in t == 0) && (e.key == key_in t)) ≡ b → Finds cs t (option_or (cond b (Some e.place) None) (in_tree new.others.entries t))
+        by_test true q = let k = told_key t e q in gives text codes cs new.entries.items (entry_in t (length new.entries.items)) e t h right s a k.0 k.1
+        by_test false q = by_tree t a (λ x p n there.
+            let z : x ≡ e = same_Some x e (sym there ∙ s) in
+            let yes : e.key ≡ key_in t = ap (λ (y : Entry). y.key) (sym z) ∙ p in
+            told_no t e q yes (λ w. n (p ∙ sym yes ∙ w)))
