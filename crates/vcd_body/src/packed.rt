@@ -1,9 +1,9 @@
 // Digits in a share: a byte each, or four to a byte, one of each quarter of them.
-ghost use Rattle.std.specs.Prelude.{◌≡◌, ◌≢◌, ◌≤◌, ◌<◌, ◌+◌, ◌*◌, ◌/◌, ℕ, get_or, length, map, slice_get, true};
+ghost use Rattle.std.specs.Prelude.{◌≡◌, ◌≢◌, ◌≤◌, ◌<◌, ◌+◌, ◌-◌, ◌*◌, ◌/◌, ◌==◌, ℕ, Some, get_or, length, map, slice_get, true};
 ghost use Rattle.std.specs.Simd.Lanes.{chunk};
 ghost use Rattle.std.specs.Str.{str_to_ascii_lowercase};
 ghost use Rattle.vcd_model.specs.Values.{extend};
-ghost use Rattle.vcd_body.specs.Packed.{code_among, code_of, code_or, digit_of, digits_in, four_codes, held_digit};
+ghost use Rattle.vcd_body.specs.Packed.{code_among, code_of, code_or, digit_of, digits_in, four_codes, held_digit, quarter_of};
 
 use std::simd::prelude::*;
 
@@ -122,8 +122,9 @@ fn codes_differ(first: u8x16, second: u8x16) -> bool
 /// either has fewer.
 #[inline(always)]
 pub(crate) fn plain_ends_differ(share: &[u8], text: &[u8]) -> bool
-    ensures { result ≡ true → (size : ℕ) → extend (map held_digit share.now) size
+    ensures differ { result ≡ true → (size : ℕ) → extend (map held_digit share.now) size
         ≢ extend (str_to_ascii_lowercase text.now) size }
+    ensures many { result ≡ true → (16 ≤ length share.now) × (16 ≤ length text.now) }
 {
     if share.len() < 16 || text.len() < 16 {
         return false;
@@ -146,8 +147,9 @@ fn last_codes_16(bytes: &[u8], at: usize) -> u8x16
 /// The same of `len` packed digits: the last 16 are in the bytes of the last places.
 #[inline(always)]
 pub(crate) fn packed_ends_differ(share: &[u8], len: usize, text: &[u8]) -> bool
-    ensures { result ≡ true → (size : ℕ) → extend (digits_in len share.now) size
+    ensures differ { result ≡ true → (size : ℕ) → extend (digits_in len share.now) size
         ≢ extend (str_to_ascii_lowercase text.now) size }
+    ensures many { result ≡ true → (16 ≤ length share.now) × (16 ≤ length text.now) }
 {
     let quarter = len.div_ceil(4);
     if quarter < 16 || share.len() < quarter || text.len() < 16 {
@@ -331,7 +333,18 @@ pub(crate) fn digit_at(share: &[u8], len: usize, place: usize) -> Option<u8>
     Some(digit_of(code_among(share, len, place)))
 }
 
-/// Its code. The last quarter ends where the digits do, and may hold some of the third one again.
+/// The last one, as a byte that is 0 where it is, and 1 where it is.
+#[inline(always)]
+pub(crate) fn last_packed(share: &[u8], len: usize) -> u8
+    requires some { 1 ≤ len }
+    requires room { quarter_of len ≤ length share.now }
+    ensures { (d : ℕ) → slice_get (digits_in len share.now) (len - 1) ≡ Some d
+        → ((48 == result) ≡ (48 == d)) × ((49 == result) ≡ (49 == d)) }
+{
+    b'0' + share[len.div_ceil(4) - 1] / 64
+}
+
+/// The code of one. The last quarter ends where the digits do, and may hold some of the third one again.
 #[inline(always)]
 fn code_among(share: &[u8], len: usize, place: usize) -> u8
     requires { place < len }

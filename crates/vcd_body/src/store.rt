@@ -113,7 +113,8 @@ fn hold(share: &mut [u8], text: &[u8]) -> State
 }
 
 /// Sets the value of a code to digits, where they fit its share.
-fn set_digits(slots: &mut [Slot], values: &mut [u8], code: usize, text: &[u8])
+#[inline(always)]
+pub(crate) fn set_digits(slots: &mut [Slot], values: &mut [u8], code: usize, text: &[u8])
     requires several { length text.now ≢ 1 }
     ensures changes { AreLaidOut slots.old (length values.old)
         → ChangesAt code (with_text Form.Vector text.now) values.old slots.old
@@ -135,6 +136,19 @@ fn set_digits(slots: &mut [Slot], values: &mut [u8], code: usize, text: &[u8])
     let slot = &mut slots[code];
     slot.state = state;
     slot.len = text.len();
+}
+
+/// The same, out of line.
+#[inline(never)]
+fn set_several(slots: &mut [Slot], values: &mut [u8], code: usize, text: &[u8])
+    requires several { length text.now ≢ 1 }
+    ensures changes { AreLaidOut slots.old (length values.old)
+        → ChangesAt code (with_text Form.Vector text.now) values.old slots.old
+        values.new slots.new }
+    ensures laid { AreLaidOut slots.old (length values.old)
+        → AreLaidOut slots.new (length values.old) }
+{
+    set_digits(slots, values, code, text);
 }
 
 /// Sets the value of a code to the text of a real number, where it fits its share.
@@ -180,7 +194,7 @@ fn set_text(slots: &mut [Slot], values: &mut [u8], code: usize, text: &[u8])
 {
     match text {
         [digit] => set_digit(slots, code, *digit),
-        _ => set_digits(slots, values, code, text),
+        _ => set_several(slots, values, code, text),
     }
 }
 
