@@ -1,17 +1,25 @@
 -- A step that the last digits tell.
-use Rattle.std.proofs.Common.{◌≡◌, ◌≢◌, ◌⊎◌, inl, inr, ℕ, suc, zero, ◌+◌, ◌-◌, ◌/◌, ◌<◌, ◌≤◌, ◌==◌, ◌&&◌, ◌||◌, Bool, true, false, cond, List, length, map, slice_get, get_or, Option, Some, None, refl, sym, ap, ◌∙◌, arith}
-use Rattle.std.specs.Prelude.{option_map}
+use Rattle.std.proofs.Common.{Fits, w8, subst, take, drop, ◌≡◌, ◌≢◌, ◌⊎◌, inl, inr, ℕ, suc, zero, ◌+◌, ◌-◌, ◌/◌, ◌<◌, ◌≤◌, ◌==◌, ◌&&◌, ◌||◌, Bool, true, false, cond, List, length, map, slice_get, get_or, Option, Some, None, refl, sym, ap, ◌∙◌, arith}
+use Rattle.std.specs.Prelude.{IfSome, option_map}
 use Rattle.std.specs.Str.{byte, str_to_ascii_lowercase}
-use Rattle.std.proofs.lemmas.Bool.{ne_eqb}
-use Rattle.std.proofs.lemmas.List.{length-map}
+use Rattle.std.specs.Char.{to_ascii_lowercase}
+use Rattle.std.proofs.lemmas.Bool.{agree_below_at, ne_eqb}
+use Rattle.std.proofs.lemmas.List.{length-map, length-take}
+use Rattle.std.proofs.Math.Seq.{take-take}
 use Rattle.std.proofs.lemmas.Option.{slice_get-get_or, slice_get-map}
 use Rattle.vcd_model.specs.Values.{Value, extend}
-use Rattle.vcd_body.specs.Kept.{IsStep, goes_from, is_digit, last_digit_in}
+use Rattle.vcd_body.specs.Kept.{Held, IsStep, Kept, goes_from, last_digit_in}
 use Rattle.vcd_body.specs.Packed.{code_among, digit_of, digits_in, held_digit, quarter_of}
+use Rattle.vcd_body.specs.Stored.{end_at, held_by, held_of, kept_in, kept_with, used_by}
+use Rattle.vcd_body.specs.declared.slot.Slot.{Slot}
+use Rattle.vcd_body.specs.declared.slot.State.{State}
+use Rattle.vcd_body.specs.declared.slot.State.TheVariants as state
 use Rattle.vcd_body.specs.declared.step.Step.{Step}
 use Rattle.vcd_body.proofs.CompareLemmas.{differ_for, last_at, last_extended}
 use Rattle.vcd_body.proofs.PackedLemmas.{digit_among, in_last, length_digits}
-use Rattle.vcd_body.proofs.StoreLemmas.{same_or_not}
+use Rattle.vcd_body.proofs.StepLemmas.{last_is}
+use Rattle.vcd_body.proofs.StoreLemmas.{digits_first, same_or_not}
+use Rattle.vcd_body.specs.declared.item.Form.TheVariants as form
 
 -- a digit is 0, or 1, where the byte that it is held for is
 same_zero : (d : ℕ) → (48 == d) ≡ (48 == held_digit d)
@@ -61,48 +69,74 @@ last_code len d bytes some fit at =
     let s = same_code c (omega (arith, fit)) in
     (s.0 ∙ ap (λ n. 48 == n) is, s.1 ∙ ap (λ n. 49 == n) is)
 
--- a step from digits, whose last one is told by a byte, to others
-told_step : (s : Step) (ds : List ℕ) (d raw size : ℕ) (text : List ℕ) → 0 < length ds → slice_get ds (length ds - 1) ≡ Some d → (48 == raw) ≡ (48 == d) → (49 == raw) ≡ (49 == d)
-    → extend ds size ≢ extend (str_to_ascii_lowercase text) size → s.differs ≡ true
-    → s.rises ≡ goes_from 48 49 (Some raw) (last_digit_in (Some (Value.Bits (extend (str_to_ascii_lowercase text) size))))
-    → s.falls ≡ goes_from 49 48 (Some raw) (last_digit_in (Some (Value.Bits (extend (str_to_ascii_lowercase text) size))))
-    → IsStep s (Some (Value.Bits (extend ds size))) (Value.Bits (extend (str_to_ascii_lowercase text) size))
-told_step s ds d raw size text some at zeros ones other differ rise fall = (
-  differ ∙ differ_for ds (str_to_ascii_lowercase text) size other,
-  rise ∙ ap (λ (b : Bool). b && is_digit after 49) zeros ∙ ap (λ (o : Option ℕ). goes_from 48 49 o after) (sym last),
-  fall ∙ ap (λ (b : Bool). b && is_digit after 48) ones ∙ ap (λ (o : Option ℕ). goes_from 49 48 o after) (sym last),
-)
-  where
-    after : Option ℕ
-    after = last_digit_in (Some (Value.Bits (extend (str_to_ascii_lowercase text) size)))
+-- a step from digits, whose last one is told by a byte, to those of a text
+module _ (s : Step) (text : List ℕ) (size : ℕ) (many : 16 ≤ length text) (fits : (i : ℕ) → Fits w8 (get_or text i 0)) (differ : s.differs ≡ true) where
+  abbrev pub after : ℕ
+  after = get_or text (length text - 1) 0
 
-    last : last_digit_in (Some (Value.Bits (extend ds size))) ≡ Some d
-    last = last_extended ds size some ∙ last_at ds None (length ds - 1) (omega (arith, some)) ∙ at
+  told_step : (ds : List ℕ) (d raw : ℕ) → 0 < length ds → slice_get ds (length ds - 1) ≡ Some d → (48 == raw) ≡ (48 == d) → (49 == raw) ≡ (49 == d) → extend ds size ≢ extend (str_to_ascii_lowercase text) size
+      → s.rises ≡ goes_from 48 49 (Some raw) (Some after) → s.falls ≡ goes_from 49 48 (Some raw) (Some after) → IsStep s (Some (Value.Bits (extend ds size))) (Value.Bits (extend (str_to_ascii_lowercase text) size))
+  told_step ds d raw some at zeros ones other rise fall = (
+    differ ∙ differ_for ds (str_to_ascii_lowercase text) size other,
+    rise ∙ ap (λ (b : Bool). b && (49 == after)) zeros ∙ ap (λ (b : Bool). (48 == d) && b) (agree_below_at (λ x. 49 == x) (λ x. 49 == to_ascii_lowercase x) 256 after refl fit)
+        ∙ ap (λ (o : Option ℕ). goes_from 48 49 o (Some (to_ascii_lowercase after))) (sym last) ∙ ap (goes_from 48 49 (last_digit_in (Some (Value.Bits (extend ds size))))) new,
+    fall ∙ ap (λ (b : Bool). b && (48 == after)) ones ∙ ap (λ (b : Bool). (49 == d) && b) (agree_below_at (λ x. 48 == x) (λ x. 48 == to_ascii_lowercase x) 256 after refl fit)
+        ∙ ap (λ (o : Option ℕ). goes_from 49 48 o (Some (to_ascii_lowercase after))) (sym last) ∙ ap (goes_from 49 48 (last_digit_in (Some (Value.Bits (extend ds size))))) new,
+  )
+    where
+      fit : after < 256
+      fit = (fits (length text - 1)).fits
 
-pub plain_told : (s : Step) (share text : List ℕ) (size : ℕ) → 0 < length share
-    → extend (map held_digit share) size ≢ extend (str_to_ascii_lowercase text) size → s.differs ≡ true
-    → s.rises ≡ goes_from 48 49 (Some (get_or share (length share - 1) 0)) (last_digit_in (Some (Value.Bits (extend (str_to_ascii_lowercase text) size))))
-    → s.falls ≡ goes_from 49 48 (Some (get_or share (length share - 1) 0)) (last_digit_in (Some (Value.Bits (extend (str_to_ascii_lowercase text) size))))
-    → IsStep s (Some (Value.Bits (extend (map held_digit share) size))) (Value.Bits (extend (str_to_ascii_lowercase text) size))
-plain_told s share text size some other differ rise fall =
-    let p = length share - 1 in
-    let raw = get_or share p 0 in
-    let l = length-map share held_digit in
-    let here : length (map held_digit share) - 1 ≡ p = omega (arith, l) in
-    let at : slice_get (map held_digit share) (length (map held_digit share) - 1) ≡ Some (held_digit raw) =
-    ap (slice_get (map held_digit share)) here ∙ slice_get-map held_digit share p ∙ ap (option_map held_digit) (slice_get-get_or share p 0 (omega (arith, some))) in
-    told_step s (map held_digit share) (held_digit raw) raw size text (omega (arith, l, some)) at (same_zero raw) (same_one raw) other differ rise fall
+      last : last_digit_in (Some (Value.Bits (extend ds size))) ≡ Some d
+      last = last_extended ds size some ∙ last_at ds None (length ds - 1) (omega (arith, some)) ∙ at
 
-pub packed_told : (s : Step) (len raw : ℕ) (share text : List ℕ) (size : ℕ) → 1 ≤ len
-    → ((d : ℕ) → slice_get (digits_in len share) (len - 1) ≡ Some d → ((48 == raw) ≡ (48 == d)) × ((49 == raw) ≡ (49 == d)))
-    → extend (digits_in len share) size ≢ extend (str_to_ascii_lowercase text) size → s.differs ≡ true
-    → s.rises ≡ goes_from 48 49 (Some raw) (last_digit_in (Some (Value.Bits (extend (str_to_ascii_lowercase text) size))))
-    → s.falls ≡ goes_from 49 48 (Some raw) (last_digit_in (Some (Value.Bits (extend (str_to_ascii_lowercase text) size))))
-    → IsStep s (Some (Value.Bits (extend (digits_in len share) size))) (Value.Bits (extend (str_to_ascii_lowercase text) size))
-packed_told s len raw share text size some tells other differ rise fall =
-    let l = length_digits len share in
-    let d = digit_of (code_among len share (len - 1)) in
-    let there : slice_get (digits_in len share) (len - 1) ≡ Some d = digit_among len share (len - 1) (omega (arith, some)) in
-    let here : length (digits_in len share) - 1 ≡ len - 1 = omega (arith, l) in
-    let is = tells d there in
-    told_step s (digits_in len share) d raw size text (omega (arith, l, some)) (ap (slice_get (digits_in len share)) here ∙ there) is.0 is.1 other differ rise fall
+      new : Some (to_ascii_lowercase after) ≡ last_digit_in (Some (Value.Bits (extend (str_to_ascii_lowercase text) size)))
+      new = last_is form.Vector text after size (inr refl) (omega (arith, many)) (sym (slice_get-get_or text (length text - 1) 0 (omega (arith, many))))
+
+  pub plain_told : (share : List ℕ) → 0 < length share → extend (map held_digit share) size ≢ extend (str_to_ascii_lowercase text) size
+      → s.rises ≡ goes_from 48 49 (Some (get_or share (length share - 1) 0)) (Some after) → s.falls ≡ goes_from 49 48 (Some (get_or share (length share - 1) 0)) (Some after)
+      → IsStep s (Some (Value.Bits (extend (map held_digit share) size))) (Value.Bits (extend (str_to_ascii_lowercase text) size))
+  plain_told share some other rise fall =
+      let p = length share - 1 in
+      let raw = get_or share p 0 in
+      let l = length-map share held_digit in
+      let here : length (map held_digit share) - 1 ≡ p = omega (arith, l) in
+      let at : slice_get (map held_digit share) (length (map held_digit share) - 1) ≡ Some (held_digit raw) =
+      ap (slice_get (map held_digit share)) here ∙ slice_get-map held_digit share p ∙ ap (option_map held_digit) (slice_get-get_or share p 0 (omega (arith, some))) in
+      told_step (map held_digit share) (held_digit raw) raw (omega (arith, l, some)) at (same_zero raw) (same_one raw) other rise fall
+
+  pub packed_told : (len raw : ℕ) (share : List ℕ) → 1 ≤ len → ((d : ℕ) → slice_get (digits_in len share) (len - 1) ≡ Some d → ((48 == raw) ≡ (48 == d)) × ((49 == raw) ≡ (49 == d)))
+      → extend (digits_in len share) size ≢ extend (str_to_ascii_lowercase text) size → s.rises ≡ goes_from 48 49 (Some raw) (Some after) → s.falls ≡ goes_from 49 48 (Some raw) (Some after)
+      → IsStep s (Some (Value.Bits (extend (digits_in len share) size))) (Value.Bits (extend (str_to_ascii_lowercase text) size))
+  packed_told len raw share some tells other rise fall =
+      let l = length_digits len share in
+      let d = digit_of (code_among len share (len - 1)) in
+      let there : slice_get (digits_in len share) (len - 1) ≡ Some d = digit_among len share (len - 1) (omega (arith, some)) in
+      let here : length (digits_in len share) - 1 ≡ len - 1 = omega (arith, l) in
+      let is = tells d there in
+      told_step (digits_in len share) d raw (omega (arith, l, some)) (ap (slice_get (digits_in len share)) here ∙ there) is.0 is.1 other rise fall
+
+-- ---- in a table
+
+digits_there : (len m start : ℕ) (values : List ℕ) → quarter_of len ≤ length (take m (drop start values)) → digits_in len (take (quarter_of len) (drop start values)) ≡ digits_in len (take m (drop start values))
+digits_there len m start values enough =
+    ap (digits_in len) (sym (take-take (quarter_of len) m (drop start values) (let l = length-take m (drop start values) in omega arith))) ∙ digits_first len (take m (drop start values))
+
+-- what is kept of a code that has this slot
+pub kept_there : (values : List ℕ) (slots : List Slot) (code : ℕ) (slot : Slot) (k : Kept) → slice_get slots code ≡ Some slot → kept_in values slots code ≡ Some k → held_of values slot ≡ k.held
+kept_there values slots code slot k there at =
+    let end = end_at slots (length values) code in
+    let same : Some (kept_with values end slot) ≡ Some k = sym (ap (option_map (kept_with values end)) there) ∙ at in
+    let kept : kept_with values end slot ≡ k = cc same in
+    ap (λ (x : Kept). x.held) kept
+
+-- the digits that are packed in the first bytes of a share are those of its slot
+pub packed_there : (values : List ℕ) (m : ℕ) (slot : Slot) (share : List ℕ) → slot.state ≡ state.Digits → share ≡ take m (drop slot.start values) → quarter_of slot.len ≤ length share → held_of values slot ≡ Held.Digits (digits_in slot.len share)
+packed_there values m slot share packed is room =
+    ap (λ (st : State). held_by st slot.len (take (used_by st slot.len) (drop slot.start values))) packed
+    ∙ ap (λ (l : List ℕ). Held.Digits l) (digits_there slot.len m slot.start values (subst (λ (l : List ℕ). quarter_of slot.len ≤ length l) is room) ∙ ap (digits_in slot.len) (sym is))
+
+-- a fact of what there may be, by two others
+pub by_both : (o : Option Step) (A : Type 0) (P R : Step → Type 0) → IfSome o (λ _. A) → IfSome o P → ((s : Step) → A → P s → R s) → IfSome o R
+by_both None A P R a p f = a
+by_both (Some s) A P R a p f = f s a p

@@ -149,7 +149,8 @@ fn last_codes_16(bytes: &[u8], at: usize) -> u8x16
 pub(crate) fn packed_ends_differ(share: &[u8], len: usize, text: &[u8]) -> bool
     ensures differ { result ≡ true → (size : ℕ) → extend (digits_in len share.now) size
         ≢ extend (str_to_ascii_lowercase text.now) size }
-    ensures many { result ≡ true → (16 ≤ length share.now) × (16 ≤ length text.now) }
+    ensures many { result ≡ true → (16 ≤ quarter_of len) × (16 ≤ length text.now) }
+    ensures room { result ≡ true → quarter_of len ≤ length share.now }
 {
     let quarter = len.div_ceil(4);
     if quarter < 16 || share.len() < quarter || text.len() < 16 {
@@ -291,6 +292,7 @@ fn pack_many(share: &mut [u8], text: &[u8], quarter: usize)
 }
 
 /// Packs digits into the first bytes of a share: a byte for each place of a quarter of them.
+#[inline(always)]
 pub(crate) fn pack(share: &mut [u8], text: &[u8])
     requires room { length text.now ≤ 4 * length share.old }
     ensures { digits_in (length text.now) share.new ≡ map held_digit text.now }
