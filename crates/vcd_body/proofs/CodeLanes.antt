@@ -1,9 +1,11 @@
 -- Codes of digits as lanes of a vector.
-use Rattle.std.proofs.Common.{◌≡◌, ◌≢◌, ℕ, ◌+◌, ◌*◌, ◌/◌, ◌%◌, ◌^◌, ◌<◌, ◌≤◌, ◌==◌, Bool, true, cond, not, List, [], ◌∷◌, length, map, get_or, replicate, Fits, w8, refl, sym, ap, ap₂, ◌∙◌, arith}
-use Rattle.std.proofs.lemmas.Bool.{agree_below, agree_below_at, eq-eqb, eqb-true}
+use Rattle.std.proofs.Common.{◌≡◌, ◌≢◌, ℕ, ◌+◌, ◌*◌, ◌/◌, ◌%◌, ◌^◌, ◌<◌, ◌≤◌, ◌==◌, ◌⊎◌, inl, inr, Bool, true, false, cond, not, List, [], ◌∷◌, length, map, get_or, replicate, Fits, w8, refl, sym, ap, ap₂, ◌∙◌, arith}
+use Rattle.std.proofs.lemmas.Bool.{agree_below, agree_below_at, cases_lt, eq-eqb, eqb-true, lt-ltb}
+use Rattle.std.proofs.lemmas.Nat.{le_or_l, le_or_r}
+use Rattle.std.proofs.Math.Nat.{zero-div}
 use Rattle.std.proofs.lemmas.List.{get_or-map, length-map}
-use Rattle.std.proofs.lemmas.Simd.{get_or-chunk, get_or-zip2, length-chunk, length-zip2, map-map, splat_is_map, tops_compared, zip2_of_maps, zip2_splat}
-use Rattle.std.specs.Prelude.{bit_and, bit_xor, nat_lt}
+use Rattle.std.proofs.lemmas.Simd.{bit_mask_l, get_or-chunk, get_or-zip2, length-chunk, length-zip2, map-map, mask_l-mod, splat_is_map, tops_compared, zip2_of_maps, zip2_splat, zip2_splat_left}
+use Rattle.std.specs.Prelude.{bit_and, bit_or, bit_xor, nat_lt}
 use lib.Lanes.{chunk, mask_l, sel_l, top, zip2, Each1}
 use Rattle.vcd_body.specs.Packed.{code_of, code_or}
 use Rattle.vcd_body.proofs.PackedLemmas.{in_text}
@@ -74,6 +76,66 @@ lane_4_times low high a b k less fits =
     let e = get_or-zip2 added high high k 0 0 0 (omega arith) (omega arith) in
     let g = get_or-zip2 added (zip2 added high high) (zip2 added high high) k 0 0 0 (omega (arith, t)) (omega (arith, t)) in
     get_or-zip2 added low (zip2 added (zip2 added high high) (zip2 added high high)) k 0 0 0 (omega arith) (omega (arith, t, f)) ∙ omega (arith, e, g)
+
+-- ---- digits as if they were 0 and 1
+
+-- where no more than the lowest bit is left, that is the code
+bit_code : (d : ℕ) → d < 256 → bit_xor d 48 < 2 → bit_xor d 48 ≡ code_of d
+bit_code d fit few = eqb-true (bit_xor d 48) (code_of d) (by_test (lt-ltb (bit_xor d 48) 2 few) (agree_below_at (λ x. cond (nat_lt (bit_xor x 48) 2) (bit_xor x 48 == code_of x) true) (λ _. true) 256 d refl fit))
+  where
+    by_test : nat_lt (bit_xor d 48) 2 ≡ true → cond (nat_lt (bit_xor d 48) 2) (bit_xor d 48 == code_of d) true ≡ true → (bit_xor d 48 == code_of d) ≡ true
+    by_test t h = sym (ap (λ b. cond b (bit_xor d 48 == code_of d) true) t) ∙ h
+
+pub long_bits : (text : List ℕ) (at : ℕ) → at + 16 ≤ length text → length (zip2 bit_xor (chunk at 16 text) (replicate 16 48)) ≡ 16
+long_bits text at room =
+    let long = length-chunk at 16 text room in
+    ap length (zip2_splat bit_xor (chunk at 16 text) 16 48 long) ∙ length-map (chunk at 16 text) (λ d. bit_xor d 48) ∙ long
+
+pub bit_lane : (text : List ℕ) (at k : ℕ) → at + 16 ≤ length text → ((i : ℕ) → Fits w8 (get_or text i 0)) → k < 16 → get_or (zip2 bit_xor (chunk at 16 text) (replicate 16 48)) k 0 < 2
+    → get_or (zip2 bit_xor (chunk at 16 text) (replicate 16 48)) k 0 ≡ code_of (get_or text (at + k) 0)
+bit_lane text at k room fits less few =
+    let long = length-chunk at 16 text room in
+    let lane : get_or (zip2 bit_xor (chunk at 16 text) (replicate 16 48)) k 0 ≡ bit_xor (get_or text (at + k) 0) 48 =
+    ap (λ l. get_or l k 0) (zip2_splat bit_xor (chunk at 16 text) 16 48 long)
+    ∙ get_or-map (λ d. bit_xor d 48) (chunk at 16 text) k 0 0 (omega (arith, long, less))
+    ∙ ap (λ d. bit_xor d 48) (get_or-chunk at 16 text k 0 less) in
+    lane ∙ bit_code (get_or text (at + k) 0) (fits (at + k)).fits (omega (arith, lane, few))
+
+pub either_lane : (xs ys : List ℕ) (k : ℕ) → length xs ≡ 16 → length ys ≡ 16 → k < 16 → get_or (zip2 bit_or xs ys) k 0 < 2 → (get_or xs k 0 < 2) × (get_or ys k 0 < 2)
+either_lane xs ys k a b less few =
+    let e = get_or-zip2 bit_or xs ys k 0 0 0 (omega (arith, a, less)) (omega (arith, b, less)) in
+    let l = le_or_l (get_or xs k 0) (get_or ys k 0) in
+    let r = le_or_r (get_or xs k 0) (get_or ys k 0) in
+    (omega (arith, e, l, few), omega (arith, e, r, few))
+
+-- where no lane is more than 1, all are less than 2
+pub no_others : (v : List ℕ) → length v ≡ 16 → (mask_l (map (top 7) (zip2 less_mask (replicate 16 1) v)) % 2 ^ 64 == 0) ≡ true → (k : ℕ) → k < 16 → get_or v k 0 < 2
+no_others v long none k less = by_order (cases_lt 1 (get_or v k 0))
+  where
+    tests : List Bool
+    tests = map (λ y. nat_lt 1 y) v
+
+    whole : mask_l (map (top 7) (zip2 less_mask (replicate 16 1) v)) ≡ mask_l tests
+    whole = ap mask_l (tops_compared w8 nat_lt (replicate 16 1) v ∙ zip2_splat_left nat_lt 1 16 v long)
+
+    zero_mask : mask_l tests ≡ 0
+    zero_mask = sym (ap (λ n. n % 2 ^ 64) whole ∙ mask_l-mod tests 64 (let m = length-map v (λ y. nat_lt 1 y) in omega (arith, m, long))) ∙ eqb-true (mask_l (map (top 7) (zip2 less_mask (replicate 16 1) v)) % 2 ^ 64) 0 none
+
+    bit : Bool → ℕ
+    bit b = cond b 1 0
+
+    unset : bit (get_or tests k false) ≡ 0
+    unset = sym (bit_mask_l tests k) ∙ ap (λ n. n / 2 ^ k % 2) zero_mask ∙ ap (λ n. n % 2) (zero-div (2 ^ k))
+
+    by_order : (1 < get_or v k 0) ⊎ (get_or v k 0 ≤ 1) → get_or v k 0 < 2
+    by_order (inr h) = omega arith
+    by_order (inl h) =
+        let set : get_or tests k false ≡ true = get_or-map (λ y. nat_lt 1 y) v k 0 false (omega (arith, long, less)) ∙ lt-ltb 1 (get_or v k 0) h in
+        let one : bit true ≡ 0 = ap bit (sym set) ∙ unset in
+        cc one
+
+pub code_here : (text : List ℕ) (n p : ℕ) → n ≡ p → p < length text → code_of (get_or text n 0) ≡ code_or text p
+code_here text n p is less = ap (λ j. code_of (get_or text j 0)) is ∙ sym (in_text text p less)
 
 -- ---- rows of codes that are compared
 

@@ -120,6 +120,12 @@ no_real form.Scalar h e = cc
 no_real form.Vector h e = cc
 no_real form.RealText h e = cc
 
+-- one that was compared with that of digits after `b`
+pub is_vector : (f : Form) → not (sameb the_form f form.Vector) ≡ false → f ≡ form.Vector
+is_vector form.Scalar h = cc
+is_vector form.Vector h = refl
+is_vector form.RealText h = cc
+
 -- what is counted leaves the value
 counted_held : (old : Option Value) (new : Value) (k : Kept) → (with_counted old new k).held ≡ k.held
 counted_held old new k = by_case (differs old new)

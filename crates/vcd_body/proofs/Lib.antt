@@ -23,6 +23,7 @@ pub mod Pieces
 pub mod HeldShort
 pub mod HeldLines
 pub mod SetLemmas
+mod SeveralLemmas
 pub mod CompareLemmas
 pub mod EndLemmas
 pub mod StepLemmas

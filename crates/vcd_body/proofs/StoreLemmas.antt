@@ -61,7 +61,7 @@ reads_same a u s k xs ys within same (inl before) = sym (drop-take a u (put_mid 
 reads_same a u s k xs ys within same (inr behind) = ap (take u) (drop-put_mid s k xs ys a behind (omega arith) same)
 
 -- the digits lie in the first bytes
-digits_first : (n : ℕ) (ys : List ℕ) → digits_in n (take (quarter_of n) ys) ≡ digits_in n ys
+pub digits_first : (n : ℕ) (ys : List ℕ) → digits_in n (take (quarter_of n) ys) ≡ digits_in n ys
 digits_first n ys = digits_of_first n (take (quarter_of n) ys) ys (λ j h. get_or-take (quarter_of n) ys j 0 h)
 
 -- ---- shares

@@ -61,6 +61,7 @@ mod packed;
 mod phrases;
 mod read;
 mod renamed;
+mod several;
 mod slot;
 mod step;
 mod store;

@@ -1,9 +1,9 @@
 // Digits in a share: a byte each, or four to a byte, one of each quarter of them.
-ghost use Rattle.std.specs.Prelude.{◌≡◌, ◌≢◌, ◌≤◌, ◌<◌, ◌+◌, ◌*◌, ◌/◌, ℕ, get_or, length, map, slice_get, true};
+ghost use Rattle.std.specs.Prelude.{◌≡◌, ◌≢◌, ◌≤◌, ◌<◌, ◌+◌, ◌-◌, ◌*◌, ◌/◌, ◌==◌, ℕ, Some, get_or, length, map, slice_get, true};
 ghost use Rattle.std.specs.Simd.Lanes.{chunk};
 ghost use Rattle.std.specs.Str.{str_to_ascii_lowercase};
 ghost use Rattle.vcd_model.specs.Values.{extend};
-ghost use Rattle.vcd_body.specs.Packed.{code_among, code_of, code_or, digit_of, digits_in, four_codes, held_digit};
+ghost use Rattle.vcd_body.specs.Packed.{code_among, code_of, code_or, digit_of, digits_in, four_codes, held_digit, quarter_of};
 
 use std::simd::prelude::*;
 
@@ -122,8 +122,9 @@ fn codes_differ(first: u8x16, second: u8x16) -> bool
 /// either has fewer.
 #[inline(always)]
 pub(crate) fn plain_ends_differ(share: &[u8], text: &[u8]) -> bool
-    ensures { result ≡ true → (size : ℕ) → extend (map held_digit share.now) size
+    ensures differ { result ≡ true → (size : ℕ) → extend (map held_digit share.now) size
         ≢ extend (str_to_ascii_lowercase text.now) size }
+    ensures many { result ≡ true → (16 ≤ length share.now) × (16 ≤ length text.now) }
 {
     if share.len() < 16 || text.len() < 16 {
         return false;
@@ -146,8 +147,10 @@ fn last_codes_16(bytes: &[u8], at: usize) -> u8x16
 /// The same of `len` packed digits: the last 16 are in the bytes of the last places.
 #[inline(always)]
 pub(crate) fn packed_ends_differ(share: &[u8], len: usize, text: &[u8]) -> bool
-    ensures { result ≡ true → (size : ℕ) → extend (digits_in len share.now) size
+    ensures differ { result ≡ true → (size : ℕ) → extend (digits_in len share.now) size
         ≢ extend (str_to_ascii_lowercase text.now) size }
+    ensures many { result ≡ true → (16 ≤ quarter_of len) × (16 ≤ length text.now) }
+    ensures room { result ≡ true → quarter_of len ≤ length share.now }
 {
     let quarter = len.div_ceil(4);
     if quarter < 16 || share.len() < quarter || text.len() < 16 {
@@ -187,8 +190,79 @@ fn pack_16(share: &mut [u8], text: &[u8], quarter: usize, at: usize)
     with_4_times(codes_16(text, at), both).copy_to_slice(&mut share[at..]);
 }
 
-/// The same as `pack_few`, of 16 places at a time. Of the last 16 some may have been packed before.
-fn pack_many(share: &mut [u8], text: &[u8], quarter: usize)
+/// 16 digits without what `0` and `1` share: of these it is their code, and more than 1 of all others.
+#[inline(always)]
+fn bits_16(bytes: &[u8], at: usize) -> u8x16
+    requires { at + 16 ≤ length bytes.now }
+    ensures long { length result ≡ 16 }
+    ensures codes { (k : ℕ) → k < 16 → get_or result k 0 < 2
+        → get_or result k 0 ≡ code_of (get_or bytes.now (at + k) 0) }
+{
+    u8x16::from_slice(&bytes[at..]) ^ u8x16::splat(b'0')
+}
+
+/// The bits that are set in one or the other.
+#[inline(always)]
+fn either(first: u8x16, second: u8x16) -> u8x16
+    requires { (length first ≡ 16) × (length second ≡ 16) }
+    ensures long { length result ≡ 16 }
+    ensures each { (k : ℕ) → k < 16 → get_or result k 0 < 2
+        → (get_or first k 0 < 2) × (get_or second k 0 < 2) }
+{
+    first | second
+}
+
+/// Whether all are 0 and 1.
+#[inline(always)]
+fn are_bits(seen: u8x16) -> bool
+    requires { length seen ≡ 16 }
+    ensures { result ≡ true → (k : ℕ) → k < 16 → get_or seen k 0 < 2 }
+{
+    seen.simd_gt(u8x16::splat(1)).to_bitmask() == 0
+}
+
+/// Packs the digits of 16 places of each quarter as if they were 0 and 1. Returns what tells by `are_bits` that they were.
+#[inline(always)]
+fn pack_bits_16(share: &mut [u8], text: &[u8], quarter: usize, at: usize) -> u8x16
+    requires within { at + 16 ≤ quarter }
+    requires room { quarter ≤ length share.old }
+    requires quarter { 3 * quarter ≤ length text.now }
+    ensures long { length result ≡ 16 }
+    ensures packed { (k : ℕ) → k < 16 → get_or result k 0 < 2
+        → get_or share.new (at + k) 0 ≡ four_codes text.now quarter (at + k) }
+    ensures before { (place : ℕ) → place < at → get_or share.new place 0 ≡ get_or share.old place 0 }
+{
+    let first = bits_16(text, at);
+    let second = bits_16(text, at + quarter);
+    let third = bits_16(text, at + 2 * quarter);
+    let last = bits_16(text, at + (text.len() - quarter));
+    let both = with_4_times(second, with_4_times(third, last));
+    with_4_times(first, both).copy_to_slice(&mut share[at..]);
+    either(either(first, second), either(third, last))
+}
+
+/// The same as `pack_few`, of 16 places at a time, where the digits are 0 and 1 alone. Returns whether they are. Of the last 16
+/// places some may have been packed before.
+fn pack_bits(share: &mut [u8], text: &[u8], quarter: usize) -> bool
+    requires room { quarter ≤ length share.old }
+    requires many { 16 ≤ quarter }
+    requires quarter { 3 * quarter ≤ length text.now }
+    ensures { result ≡ true → (place : ℕ) → place < quarter
+        → get_or share.new place 0 ≡ four_codes text.now quarter place }
+{
+    let last = quarter - 16;
+    let mut seen = u8x16::splat(0);
+    let mut at = 0;
+    while at < last {
+        seen = either(seen, pack_bits_16(share, text, quarter, at));
+        at += 16;
+    }
+    are_bits(either(seen, pack_bits_16(share, text, quarter, last)))
+}
+
+/// The same of any digits.
+#[inline(never)]
+fn pack_any(share: &mut [u8], text: &[u8], quarter: usize)
     requires room { quarter ≤ length share.old }
     requires many { 16 ≤ quarter }
     requires quarter { 3 * quarter ≤ length text.now }
@@ -204,7 +278,21 @@ fn pack_many(share: &mut [u8], text: &[u8], quarter: usize)
     pack_16(share, text, quarter, last);
 }
 
+/// The same as `pack_few`, where the digits are many. Most are 0 and 1 alone.
+fn pack_many(share: &mut [u8], text: &[u8], quarter: usize)
+    requires room { quarter ≤ length share.old }
+    requires many { 16 ≤ quarter }
+    requires quarter { 3 * quarter ≤ length text.now }
+    ensures { (place : ℕ) → place < quarter
+        → get_or share.new place 0 ≡ four_codes text.now quarter place }
+{
+    if !pack_bits(share, text, quarter) {
+        pack_any(share, text, quarter);
+    }
+}
+
 /// Packs digits into the first bytes of a share: a byte for each place of a quarter of them.
+#[inline(always)]
 pub(crate) fn pack(share: &mut [u8], text: &[u8])
     requires room { length text.now ≤ 4 * length share.old }
     ensures { digits_in (length text.now) share.new ≡ map held_digit text.now }
@@ -247,7 +335,18 @@ pub(crate) fn digit_at(share: &[u8], len: usize, place: usize) -> Option<u8>
     Some(digit_of(code_among(share, len, place)))
 }
 
-/// Its code. The last quarter ends where the digits do, and may hold some of the third one again.
+/// The last one, as a byte that is 0 where it is, and 1 where it is.
+#[inline(always)]
+pub(crate) fn last_packed(share: &[u8], len: usize) -> u8
+    requires some { 1 ≤ len }
+    requires room { quarter_of len ≤ length share.now }
+    ensures { (d : ℕ) → slice_get (digits_in len share.now) (len - 1) ≡ Some d
+        → ((48 == result) ≡ (48 == d)) × ((49 == result) ≡ (49 == d)) }
+{
+    b'0' + share[len.div_ceil(4) - 1] / 64
+}
+
+/// The code of one. The last quarter ends where the digits do, and may hold some of the third one again.
 #[inline(always)]
 fn code_among(share: &[u8], len: usize, place: usize) -> u8
     requires { place < len }

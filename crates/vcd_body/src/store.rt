@@ -23,7 +23,7 @@ pub(crate) fn slot_at(slots: &[Slot], code: usize) -> Option<Slot>
 
 /// Where the share of the code at a place ends.
 #[inline(always)]
-fn end_of(slots: &[Slot], values: usize, code: usize) -> usize
+pub(crate) fn end_of(slots: &[Slot], values: usize, code: usize) -> usize
     requires { code < length slots.now }
     ensures { result ≡ end_at slots.now values code }
 {
@@ -112,7 +112,39 @@ fn hold(share: &mut [u8], text: &[u8]) -> State
     }
 }
 
-/// Sets the value of a code to digits, where they fit its share.
+/// Sets the value of a code to digits, where they fit its share, which ends here.
+#[inline(always)]
+pub(crate) fn set_digits_in(
+    slots: &mut [Slot],
+    values: &mut [u8],
+    code: usize,
+    end: usize,
+    text: &[u8],
+)
+    requires several { length text.now ≢ 1 }
+    requires within { code < length slots.old }
+    requires end { end ≡ end_at slots.old (length values.old) code }
+    ensures changes { AreLaidOut slots.old (length values.old)
+        → ChangesAt code (with_text Form.Vector text.now) values.old slots.old
+        values.new slots.new }
+    ensures laid { AreLaidOut slots.old (length values.old)
+        → AreLaidOut slots.new (length values.old) }
+{
+    let start = slots[code].start;
+    if end < start || values.len() < end {
+        return;
+    }
+    if text.is_empty() || text.len().div_ceil(4) > end - start {
+        return;
+    }
+    let state = hold(&mut values[start..end], text);
+    let slot = &mut slots[code];
+    slot.state = state;
+    slot.len = text.len();
+}
+
+/// The same, wherever its share ends.
+#[inline(never)]
 fn set_digits(slots: &mut [Slot], values: &mut [u8], code: usize, text: &[u8])
     requires several { length text.now ≢ 1 }
     ensures changes { AreLaidOut slots.old (length values.old)
@@ -121,20 +153,10 @@ fn set_digits(slots: &mut [Slot], values: &mut [u8], code: usize, text: &[u8])
     ensures laid { AreLaidOut slots.old (length values.old)
         → AreLaidOut slots.new (length values.old) }
 {
-    let Some(slot) = slot_at(slots, code) else {
-        return;
-    };
-    let end = end_of(slots, values.len(), code);
-    if end < slot.start || values.len() < end {
-        return;
+    if code < slots.len() {
+        let end = end_of(slots, values.len(), code);
+        set_digits_in(slots, values, code, end, text);
     }
-    if text.is_empty() || text.len().div_ceil(4) > end - slot.start {
-        return;
-    }
-    let state = hold(&mut values[slot.start..end], text);
-    let slot = &mut slots[code];
-    slot.state = state;
-    slot.len = text.len();
 }
 
 /// Sets the value of a code to the text of a real number, where it fits its share.

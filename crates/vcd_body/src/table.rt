@@ -11,6 +11,7 @@ use crate::compare::value_differs;
 use crate::held::{digit_shown, last_held};
 use crate::held_text::{put_value, put_value_line};
 use crate::item::Form;
+use crate::several::change_at;
 use crate::slot::{Shown, Slot, State};
 use crate::step::{Step, is_digit_step, step_by_digit, step_by_number, step_to_text};
 use crate::store::{
@@ -193,7 +194,12 @@ impl<'a> Table<'a> {
                     self.follow_any(code, size, form, text);
                 }
             }
-            _ => self.follow_any(code, size, form, text),
+            _ if form != Form::Vector => self.follow_any(code, size, form, text),
+            _ => {
+                if !change_at(self.slots, self.values, code, text) {
+                    self.follow_any(code, size, form, text);
+                }
+            }
         }
     }
 

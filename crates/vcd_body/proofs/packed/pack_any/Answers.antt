@@ -1,7 +1,7 @@
 use Rattle.std.proofs.Common.{◌≡◌, ◌+◌, ◌-◌, inl, inr, get_or, subst, ◌∙◌, arith}
 use Rattle.std.proofs.lemmas.Bool.{cases_lt}
 use Rattle.vcd_body.specs.Packed.{four_codes}
-use Rattle.vcd_body.proofs.packed.pack_many.Goals as goal
+use Rattle.vcd_body.proofs.packed.pack_any.Goals as goal
 
 pub loop-at-preserved : goal.loop-at-preserved
 loop-at-preserved c = λ j less. elim (cases_lt j c.loop-at.at) [
