@@ -20,30 +20,29 @@ pub(crate) struct Report {
     pub(crate) last: Option<u64>,
 }
 
-/// How many scopes are opened.
-pub(crate) fn scopes_in(rows: &[Row]) -> usize
-    ensures { result ≡ count_by (λ r. opens_scope r.kind) rows.now }
+// How many scopes and variables a header declares.
+#[derive(Clone, Copy)]
+pub(crate) struct Declared {
+    pub(crate) scopes: usize,
+    pub(crate) variables: usize,
+}
+
+/// How many scopes are opened, and how many variables are declared, in one pass: the rows are memory that no cache holds.
+pub(crate) fn declared_in(rows: &[Row]) -> Declared
+    ensures scopes { result.scopes ≡ count_by (λ r. opens_scope r.kind) rows.now }
+    ensures variables { result.variables ≡ count_by (λ r. declares_variable r.kind) rows.now }
 {
     let mut scopes = 0;
+    let mut variables = 0;
     for row in rows {
         if matches!(row.kind, Kind::Scope) {
             scopes += 1;
         }
-    }
-    scopes
-}
-
-/// How many variables are declared.
-pub(crate) fn variables_in(rows: &[Row]) -> usize
-    ensures { result ≡ count_by (λ r. declares_variable r.kind) rows.now }
-{
-    let mut variables = 0;
-    for row in rows {
         if matches!(row.kind, Kind::Var) {
             variables += 1;
         }
     }
-    variables
+    Declared { scopes, variables }
 }
 
 /// Writes a name and a number as a line.

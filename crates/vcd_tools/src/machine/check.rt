@@ -10,7 +10,7 @@ ghost use Rattle.vcd_tools.specs.Check.{AreCounted, IsOfKind};
 ghost use Rattle.vcd_tools.specs.Engine.{last_of};
 
 use crate::machine::last_of;
-use crate::report::{Report, put_report, scopes_in, variables_in};
+use crate::report::{Report, declared_in, put_report};
 use vcd_body::{Item, Regs};
 use vcd_head::HeadView;
 use vcd_text::{Sink, WriteFailed};
@@ -63,9 +63,10 @@ impl Check {
             → Takes (W.device out.old) (W.device out.new) (check_close h items) result }
         ensures counts { Counts (W.device out.old) (W.device out.new) result }
     {
+        let declared = declared_in(view.rows);
         let report = Report {
-            scopes: scopes_in(view.rows) as u64,
-            variables: variables_in(view.rows) as u64,
+            scopes: declared.scopes as u64,
+            variables: declared.variables as u64,
             codes: view.codes.len() as u64,
             times: self.times,
             sections: self.sections,

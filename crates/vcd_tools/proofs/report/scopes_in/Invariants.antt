@@ -1,6 +1,0 @@
-use Rattle.std.proofs.Common.{◌≡◌, take, count_by}
-use Rattle.vcd_tools.specs.Report.{opens_scope}
-use Rattle.vcd_tools.proofs.report.scopes_in.Given as goal
-
-abbrev pub invariant-loop-row : goal.invariant-loop-row
-invariant-loop-row l = l.scopes ≡ count_by (λ r. opens_scope r.kind) (take l.row-index l.rows)
