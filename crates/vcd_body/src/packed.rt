@@ -86,7 +86,6 @@ fn four_at(text: &[u8], quarter: usize, place: usize) -> u8
 }
 
 /// Packs the digits of each quarter.
-#[inline(never)]
 fn pack_few(share: &mut [u8], text: &[u8], quarter: usize)
     requires few { quarter < 16 }
     requires room { quarter ≤ length share.old }
@@ -244,7 +243,6 @@ fn pack_bits_16(share: &mut [u8], text: &[u8], quarter: usize, at: usize) -> u8x
 
 /// The same as `pack_few`, of 16 places at a time, where the digits are 0 and 1 alone. Returns whether they are. Of the last 16
 /// places some may have been packed before.
-#[inline(always)]
 fn pack_bits(share: &mut [u8], text: &[u8], quarter: usize) -> bool
     requires room { quarter ≤ length share.old }
     requires many { 16 ≤ quarter }
@@ -281,7 +279,6 @@ fn pack_any(share: &mut [u8], text: &[u8], quarter: usize)
 }
 
 /// The same as `pack_few`, where the digits are many. Most are 0 and 1 alone.
-#[inline(always)]
 fn pack_many(share: &mut [u8], text: &[u8], quarter: usize)
     requires room { quarter ≤ length share.old }
     requires many { 16 ≤ quarter }
