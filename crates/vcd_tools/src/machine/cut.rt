@@ -394,7 +394,8 @@ impl<'r> Cut<'r> {
 
     /// Takes an item with its text, writes what is due after it, and returns whether it ended the run. The registers are those after
     /// it.
-    #[inline(always)]
+    // Out of line, so that the loop over items that lie ahead stays small enough to have all else in line.
+    #[inline(never)]
     pub(crate) fn take<W: Sink>(
         &mut self,
         view: HeadView<'_>,
