@@ -1,5 +1,5 @@
 //! What is kept of a code.
-ghost use Rattle.std.specs.Prelude.{◌≡◌, ◌≢◌, cond};
+ghost use Rattle.std.specs.Prelude.{◌≡◌, cond};
 ghost use Rattle.vcd_body.specs.Packed.{held_digit};
 ghost use Rattle.vcd_body.specs.Stored.{IsUnset, one_digit, unset_at};
 
@@ -71,29 +71,21 @@ impl Slot {
     }
 }
 
-/// The state that holds one digit. Most are 0 and 1: one branch tells.
+/// The state that holds one digit. It is written so that it takes no branches.
 #[inline(always)]
 pub(crate) fn state_of(digit: u8) -> State
     ensures { one_digit result ≡ Some (held_digit digit) }
 {
-    match digit {
-        b'0' => State::Zero,
-        b'1' => State::One,
-        _ => x_or_z(digit),
-    }
-}
-
-// The same of one that is neither.
-#[cold]
-#[inline(never)]
-fn x_or_z(digit: u8) -> State
-    requires { (digit ≢ 48) × (digit ≢ 49) }
-    ensures { one_digit result ≡ Some (held_digit digit) }
-{
-    if digit == b'x' || digit == b'X' {
+    let x_or_z = if (digit == b'x') | (digit == b'X') {
         State::Unknown
     } else {
         State::High
+    };
+    let all_but_0 = if digit == b'1' { State::One } else { x_or_z };
+    if digit == b'0' {
+        State::Zero
+    } else {
+        all_but_0
     }
 }
 
