@@ -1,5 +1,5 @@
 -- The table that finds codes while a header is read.
-use Rattle.std.proofs.Common.{◌≡◌, ◌≢◌, ℕ, zero, suc, ◌+◌, ◌<◌, ◌==◌, ◌&&◌, not, Bool, true, false, cond, List, [], ◌∷◌, ◌++◌, length, map, take, set, find, bytes_eq, slice_get, Option, Some, None, refl, sym, ap, subst, ◌∙◌, arith, add-one}
+use Rattle.std.proofs.Common.{◌≡◌, ◌≢◌, ◌⊎◌, inl, inr, ℕ, zero, suc, ◌+◌, ◌<◌, ◌==◌, ◌&&◌, not, Bool, true, false, cond, List, [], ◌∷◌, ◌++◌, length, map, take, replicate, set, find, bytes_eq, slice_get, Option, Some, None, refl, sym, ap, subst, ◌∙◌, arith, add-one}
 use Rattle.std.specs.Global.{Vec}
 use Rattle.std.specs.List.{AllByRecursion, AllZip, IsDistinct}
 use Rattle.std.specs.BTreeMap.{insert_entry}
@@ -12,21 +12,21 @@ use Rattle.std.proofs.lemmas.Bool.{eqb-true, eq-eqb, ne_eqb, and_parts}
 use Rattle.std.proofs.lemmas.List.{length-set}
 use Rattle.std.proofs.lemmas.List.Folds.{find-append}
 use Rattle.std.proofs.lemmas.Map.Text.{is_eq-slice_cmp}
-use Rattle.std.proofs.lemmas.Option.{none-some, same_Some}
+use Rattle.std.proofs.lemmas.Option.{none-some, same_Some, slice_get_within}
 use Rattle.std.proofs.lemmas.Slice.Eq.{bytes_eq-Decides}
 use Rattle.vcd_model.specs.Declarations.{IdCode, has_text}
 use Rattle.vcd_head.specs.declared.view.Code.{Code}
 use Rattle.vcd_head.specs.declared.view.Entry.{Entry}
 use Rattle.vcd_head.specs.declared.table.Table.{Table}
-use Rattle.vcd_head.specs.Codes.{AreHeld, FindsAll, IsEntered, IsKnown, IsOfKind, entered, in_tree, place_in, place_told}
-use Rattle.vcd_head.specs.Entries.{entry_in, text_in}
+use Rattle.vcd_head.specs.Codes.{AreHeld, FindsAll, IsEntered, IsKnown, IsOfKind, IsOneOf, beside, entered, in_tree, place_in, place_told, told_by}
+use Rattle.vcd_head.specs.Entries.{are_right, entry_in, is_right, text_in}
 use Rattle.vcd_head.specs.Finds.{Finds}
 use Rattle.vcd_head.specs.Keys.{AreBytes, key_in}
 use Rattle.vcd_head.specs.Views.{IsCode}
 use Rattle.vcd_head.proofs.DraftGrows.{all_push, all_zip_push, bytes_flip, same_bytes, slice_get-front, slice_get-seam}
-use Rattle.vcd_head.proofs.EntryLemmas.{code_found}
+use Rattle.vcd_head.proofs.EntryLemmas.{code_found, entry_tells, one_of_all}
 use Rattle.vcd_head.proofs.KeyLemmas.{bytes_at_place, same_key}
-use Rattle.vcd_head.proofs.LookUpLemmas.{apart_at}
+use Rattle.vcd_head.proofs.LookUpLemmas.{apart_at, first_with}
 use Rattle.vcd_head.proofs.RowLemmas.{text_within}
 
 -- ---- the tree
@@ -103,6 +103,26 @@ empty_told t e z = ap (λ k. cond (not (key_in t == 0) && (k == key_in t)) (Some
         and_false true = refl
         and_false false = refl
 
+-- and so do many
+pub none_told : (t : List ℕ) (n : ℕ) (is : List ℕ) → told_by (replicate n (record { key = 0; place = 0; most = 0 })) t is ≡ None
+none_told t n [] = refl
+none_told t n (i ∷ is) = ap (λ o. option_or o (told_by (replicate n empty) t is)) (by_place n i) ∙ none_told t n is
+  where
+    empty : Entry
+    empty = record { key = 0; place = 0; most = 0 }
+
+    by_place : (m j : ℕ) → place_told t (slice_get (replicate m empty) j) ≡ None
+    by_place zero j = refl
+    by_place (suc m) zero = empty_told t empty refl
+    by_place (suc m) (suc j) = by_place m j
+
+pub none_told_anew : (t : List ℕ) (es : List Entry) (n m : ℕ) (is : List ℕ) → es ≡ [] → told_by (take n es ++ replicate m (record { key = 0; place = 0; most = 0 })) t is ≡ None
+none_told_anew t es n m is none = ap (λ l. told_by (take n l ++ replicate m (record { key = 0; place = 0; most = 0 })) t is) none ∙ by_count n
+  where
+    by_count : (k : ℕ) → told_by (take k [] ++ replicate m (record { key = 0; place = 0; most = 0 })) t is ≡ None
+    by_count zero = none_told t m is
+    by_count (suc k) = none_told t m is
+
 -- the entry of a code gives its place for its bytes alone
 own_told : (t bytes : List ℕ) (e : Entry) → AreBytes t → AreBytes bytes → e.key ≢ 0 → e.key ≡ key_in bytes → place_told t (Some e) ≡ cond (bytes_eq t bytes) (Some e.place) None
 own_told t bytes e a b n k = by_text (bytes_eq t bytes) refl
@@ -122,37 +142,120 @@ own_told t bytes e a b n k = by_text (bytes_eq t bytes) refl
             cc
         by_key false s = refl
 
-entry_written : (es : List Entry) (bytes : List ℕ) (free e : Entry) (t : List ℕ) → slice_get es (entry_in bytes (length es)) ≡ Some free → free.key ≡ 0 → AreBytes bytes → e.key ≢ 0 → e.key ≡ key_in bytes → AreBytes t
-    → entered (set es (entry_in bytes (length es)) e) t ≡ cond (bytes_eq t bytes) (Some e.place) (entered es t)
-entry_written es bytes free e t there empty b n k a =
-    let at = entry_in bytes (length es) in
-    ap (λ m. place_told t (slice_get (set es at e) (entry_in t m))) (length-set es at e) ∙ by_place (at == entry_in t (length es)) refl
+-- where a free entry is written, other bytes get what they got
+told_other : (es : List Entry) (s : ℕ) (bytes : List ℕ) (free e : Entry) (t : List ℕ) → slice_get es s ≡ Some free → free.key ≡ 0 → AreBytes bytes → e.key ≢ 0 → e.key ≡ key_in bytes → AreBytes t → bytes_eq t bytes ≡ false
+    → (is : List ℕ) → told_by (set es s e) t is ≡ told_by es t is
+told_other es s bytes free e t there empty b n k a apart [] = refl
+told_other es s bytes free e t there empty b n k a apart (i ∷ is) =
+    ap (λ o. option_or o (told_by (set es s e) t is)) (by_place (s == i) refl) ∙ ap (option_or (place_told t (slice_get es i))) (told_other es s bytes free e t there empty b n k a apart is)
   where
-    by_place : (q : Bool) → (entry_in bytes (length es) == entry_in t (length es)) ≡ q → place_told t (slice_get (set es (entry_in bytes (length es)) e) (entry_in t (length es))) ≡ cond (bytes_eq t bytes) (Some e.place) (entered es t)
+    by_place : (q : Bool) → (s == i) ≡ q → place_told t (slice_get (set es s e) i) ≡ place_told t (slice_get es i)
     by_place true q =
-        let at = entry_in bytes (length es) in
-        let same : at ≡ entry_in t (length es) = eqb-true _ _ q in
-        let old : entered es t ≡ None = ap (λ i. place_told t (slice_get es i)) (sym same) ∙ ap (place_told t) there ∙ empty_told t free empty in
-        ap (λ i. place_told t (slice_get (set es at e) i)) (sym same) ∙ ap (place_told t) (set_same es at free e there) ∙ own_told t bytes e a b n k ∙ ap (cond (bytes_eq t bytes) (Some e.place)) (sym old)
-    by_place false q =
-        let at = entry_in bytes (length es) in
-        let differ : at ≡ entry_in t (length es) → ⊥ = λ s. let z : (at == entry_in t (length es)) ≡ true = eq-eqb _ _ s in cc in
-        ap (place_told t) (set_other es at (entry_in t (length es)) e differ) ∙ by_text (bytes_eq t bytes) refl differ
-      where
-        by_text : (r : Bool) → bytes_eq t bytes ≡ r → (entry_in bytes (length es) ≡ entry_in t (length es) → ⊥) → entered es t ≡ cond r (Some e.place) (entered es t)
-        by_text true s differ = absurd (differ (ap (λ x. entry_in x (length es)) (sym (same_bytes t bytes s))))
-        by_text false s differ = refl
+        let same : s ≡ i = eqb-true _ _ q in
+        let old : place_told t (slice_get es i) ≡ None = ap (λ j. place_told t (slice_get es j)) (sym same) ∙ ap (place_told t) there ∙ empty_told t free empty in
+        ap (λ j. place_told t (slice_get (set es s e) j)) (sym same) ∙ ap (place_told t) (set_same es s free e there) ∙ own_told t bytes e a b n k ∙ ap (λ r. cond r (Some e.place) None) apart ∙ sym old
+    by_place false q = ap (place_told t) (set_other es s i e (λ same. let z : (s == i) ≡ true = eq-eqb _ _ same in cc))
+
+-- and the bytes that it is written for get its place, if they got none
+told_own : (es : List Entry) (s : ℕ) (bytes : List ℕ) (free e : Entry) → slice_get es s ≡ Some free → AreBytes bytes → e.key ≢ 0 → e.key ≡ key_in bytes
+    → (is : List ℕ) → IsOneOf s is → told_by es bytes is ≡ None → told_by (set es s e) bytes is ≡ Some e.place
+told_own es s bytes free e there b n k [] h none = absurd h
+told_own es s bytes free e there b n k (i ∷ is) h none = by_place (s == i) refl h (told_own es s bytes free e there b n k is)
+  where
+    both_none : (o p : Option ℕ) → option_or o p ≡ None → (o ≡ None) × (p ≡ None)
+    both_none None p z = (refl, z)
+    both_none (Some x) p z = absurd (none-some x (sym z))
+
+    own : place_told bytes (Some e) ≡ Some e.place
+    own = own_told bytes bytes e b b n k ∙ ap (λ r. cond r (Some e.place) None) ((bytes_eq-Decides bytes bytes).1 refl)
+
+    by_place : (q : Bool) → (s == i) ≡ q → (s ≡ i) ⊎ IsOneOf s is → (IsOneOf s is → told_by es bytes is ≡ None → told_by (set es s e) bytes is ≡ Some e.place) → told_by (set es s e) bytes (i ∷ is) ≡ Some e.place
+    by_place true q h rest =
+        let same : s ≡ i = eqb-true _ _ q in
+        ap (λ o. option_or o (told_by (set es s e) bytes is)) (ap (λ j. place_told bytes (slice_get (set es s e) j)) (sym same) ∙ ap (place_told bytes) (set_same es s free e there) ∙ own)
+    by_place false q (inl same) rest = let z : (s == i) ≡ true = eq-eqb _ _ same in cc
+    by_place false q (inr more) rest =
+        let z = both_none (place_told bytes (slice_get es i)) (told_by es bytes is) none in
+        let other : slice_get (set es s e) i ≡ slice_get es i = set_other es s i e (λ same. let z : (s == i) ≡ true = eq-eqb _ _ same in cc) in
+        ap (λ o. option_or o (told_by (set es s e) bytes is)) (ap (place_told bytes) other ∙ z.0) ∙ rest more z.1
+
+entry_written : (es : List Entry) (s : ℕ) (bytes : List ℕ) (free e : Entry) (t : List ℕ) → IsOneOf s (entry_in bytes (length es) ∷ beside (entry_in bytes (length es))) → slice_get es s ≡ Some free → free.key ≡ 0 → AreBytes bytes → e.key ≢ 0 → e.key ≡ key_in bytes → AreBytes t
+    → entered es bytes ≡ None → entered (set es s e) t ≡ cond (bytes_eq t bytes) (Some e.place) (entered es t)
+entry_written es s bytes free e t near there empty b n k a none = ap (λ m. told_by (set es s e) t (entry_in t m ∷ beside (entry_in t m))) (length-set es s e) ∙ by_text (bytes_eq t bytes) refl
+  where
+    by_text : (q : Bool) → bytes_eq t bytes ≡ q → told_by (set es s e) t (entry_in t (length es) ∷ beside (entry_in t (length es))) ≡ cond q (Some e.place) (entered es t)
+    by_text true q =
+        ap (λ x. told_by (set es s e) x (entry_in x (length es) ∷ beside (entry_in x (length es)))) (same_bytes t bytes q)
+        ∙ told_own es s bytes free e there b n k (entry_in bytes (length es) ∷ beside (entry_in bytes (length es))) near none
+    by_text false q = told_other es s bytes free e t there empty b n k a q (entry_in t (length es) ∷ beside (entry_in t (length es)))
 
 -- a code that an entry takes
-pub entry_entered : (old new : Table) (bytes : List ℕ) (free e : Entry) → slice_get old.entries.items (entry_in bytes (length old.entries.items)) ≡ Some free → free.key ≡ 0 → AreBytes bytes → e.key ≢ 0 → e.key ≡ key_in bytes
-    → new.entries.items ≡ set old.entries.items (entry_in bytes (length old.entries.items)) e → new.others.entries ≡ old.others.entries → IsEntered old new bytes e.place
-entry_entered old new bytes free e there empty b n k written same = λ t a.
-    ap (λ es. option_or (entered es t) (in_tree new.others.entries t)) written ∙ ap (λ es. option_or (entered (set old.entries.items (entry_in bytes (length old.entries.items)) e) t) (in_tree es t)) same
-    ∙ ap (λ o. option_or o (in_tree old.others.entries t)) (entry_written old.entries.items bytes free e t there empty b n k a) ∙ moved t (bytes_eq t bytes)
+pub entry_entered : (old new : Table) (s : ℕ) (bytes : List ℕ) (free e : Entry) → place_in old bytes ≡ None → IsOneOf s (entry_in bytes (length old.entries.items) ∷ beside (entry_in bytes (length old.entries.items)))
+    → slice_get old.entries.items s ≡ Some free → free.key ≡ 0 → AreBytes bytes → e.key ≢ 0 → e.key ≡ key_in bytes
+    → new.entries.items ≡ set old.entries.items s e → new.others.entries ≡ old.others.entries → IsEntered old new bytes e.place
+entry_entered old new s bytes free e absent near there empty b n k written same = λ t a.
+    ap (λ es. option_or (entered es t) (in_tree new.others.entries t)) written ∙ ap (λ es. option_or (entered (set old.entries.items s e) t) (in_tree es t)) same
+    ∙ ap (λ o. option_or o (in_tree old.others.entries t)) (entry_written old.entries.items s bytes free e t near there empty b n k a (first_none _ _ absent)) ∙ moved t (bytes_eq t bytes)
   where
+    first_none : (o p : Option ℕ) → option_or o p ≡ None → o ≡ None
+    first_none None p z = refl
+    first_none (Some x) p z = z
+
     moved : (t : List ℕ) (q : Bool) → option_or (cond q (Some e.place) (entered old.entries.items t)) (in_tree old.others.entries t) ≡ cond q (Some e.place) (place_in old t)
     moved t true = refl
     moved t false = refl
+
+-- ---- what entries give that are right
+
+-- the key of an entry that gives a place
+pub told_key : (t : List ℕ) (e : Entry) → (not (key_in t == 0) && (e.key == key_in t)) ≡ true → (e.key ≡ key_in t) × (e.key ≢ 0)
+told_key t e h =
+    let b = and_parts (not (key_in t == 0)) (e.key == key_in t) h in
+    let k = eqb-true e.key (key_in t) b.1 in
+    (k, λ z. never (key_in t == 0) b.0 (eq-eqb (key_in t) 0 (sym k ∙ z)))
+  where
+    never : (x : Bool) → not x ≡ true → x ≡ true → ⊥
+    never true h e = cc
+    never false h e = cc
+
+-- an entry that is right gives the place of its code
+gives : (text : List ℕ) (codes : List Code) (cs : List IdCode) (es : List Entry) (i : ℕ) (e : Entry) (t : List ℕ) → AreHeld text codes cs → are_right text codes es ≡ true → slice_get es i ≡ Some e → AreBytes t → e.key ≡ key_in t → e.key ≢ 0 → Finds cs t (Some e.place)
+gives text codes cs es i e t h right there a q n =
+    let told = entry_tells text codes e (one_of_all (is_right text codes) es i e right there) n in
+    let k = code_found text codes cs e.place told.0 h.stand told.1 in
+    let read = text_within text told.0.start told.0.len k.2.within ∙ k.2.text_is in
+    let equal : key_in t ≡ key_in k.0.text = sym q ∙ told.2 ∙ ap key_in read in
+    let own : AreBytes k.0.text = bytes_at_place cs e.place k.0 h.texts k.1 in
+    let some : 0 < key_in t = omega (arith, n, q) in
+    (k.0, k.1, first_with cs t e.place k.0 h.distinct k.1 (same_key t k.0.text a own equal some))
+
+-- and so do some of them
+pub told_finds : (text : List ℕ) (codes : List Code) (cs : List IdCode) (es : List Entry) (t : List ℕ) (p : ℕ) → AreHeld text codes cs → are_right text codes es ≡ true → AreBytes t → (is : List ℕ) → told_by es t is ≡ Some p → Finds cs t (Some p)
+told_finds text codes cs es t p h right a [] z = absurd (none-some p z)
+told_finds text codes cs es t p h right a (i ∷ is) z = by_entry (told_finds text codes cs es t p h right a is) (slice_get es i) refl
+  where
+    by_entry : (told_by es t is ≡ Some p → Finds cs t (Some p)) → (o : Option Entry) → slice_get es i ≡ o → Finds cs t (Some p)
+    by_entry rest None s = rest (sym (ap (λ o. option_or (place_told t o) (told_by es t is)) s) ∙ z)
+    by_entry rest (Some e) s = by_test (not (key_in t == 0) && (e.key == key_in t)) refl (sym (ap (λ o. option_or (place_told t o) (told_by es t is)) s) ∙ z)
+      where
+        by_test : (b : Bool) → (not (key_in t == 0) && (e.key == key_in t)) ≡ b → option_or (cond b (Some e.place) None) (told_by es t is) ≡ Some p → Finds cs t (Some p)
+        by_test true q w = let k = told_key t e q in subst (λ x. Finds cs t (Some x)) (same_Some e.place p w) (gives text codes cs es i e t h right s a k.0 k.1)
+        by_test false q w = rest w
+
+-- what they give is the place of a code
+pub told_within : (text : List ℕ) (codes : List Code) (es : List Entry) (t : List ℕ) (p : ℕ) → are_right text codes es ≡ true → (is : List ℕ) → told_by es t is ≡ Some p → p < length codes
+told_within text codes es t p right [] z = absurd (none-some p z)
+told_within text codes es t p right (i ∷ is) z = by_entry (told_within text codes es t p right is) (slice_get es i) refl
+  where
+    by_entry : (told_by es t is ≡ Some p → p < length codes) → (o : Option Entry) → slice_get es i ≡ o → p < length codes
+    by_entry rest None s = rest (sym (ap (λ o. option_or (place_told t o) (told_by es t is)) s) ∙ z)
+    by_entry rest (Some e) s = by_test (not (key_in t == 0) && (e.key == key_in t)) refl (sym (ap (λ o. option_or (place_told t o) (told_by es t is)) s) ∙ z)
+      where
+        by_test : (b : Bool) → (not (key_in t == 0) && (e.key == key_in t)) ≡ b → option_or (cond b (Some e.place) None) (told_by es t is) ≡ Some p → p < length codes
+        by_test true q w =
+            let told = entry_tells text codes e (one_of_all (is_right text codes) es i e right s) (told_key t e q).1 in
+            subst (λ x. x < length codes) (same_Some e.place p w) (slice_get_within codes e.place told.0 told.1)
+        by_test false q w = rest w
 
 -- ---- what a table finds
 

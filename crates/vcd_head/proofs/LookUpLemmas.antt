@@ -61,7 +61,7 @@ texts_range front (k ∷ back) =
     length_more [] x = refl
     length_more (y ∷ xs) x = omega (arith, length_more xs x)
 
-distinct : (ks : List IdCode) (index : List ℕ) → IsIndex ks index → IsDistinct bytes_eq (map (λ (k : IdCode). k.text) ks)
+pub distinct : (ks : List IdCode) (index : List ℕ) → IsIndex ks index → IsDistinct bytes_eq (map (λ (k : IdCode). k.text) ks)
 distinct ks index h =
     let texts = map (λ (k : IdCode). k.text) ks in
     let moved : IsPermutation texts (map (code_text ks) index) = subst (λ l. IsPermutation l (map (code_text ks) index)) (texts_range [] ks) (IsPermutation-map (code_text ks) (range_with_len 0 (length ks)) index h.places) in

@@ -4,16 +4,16 @@ use Rattle.std.specs.Option.{option_or}
 use Rattle.std.proofs.lemmas.Bool.{and_parts, cases_lt, eqb-true, eq-eqb}
 use Rattle.std.proofs.lemmas.List.{take_all}
 use Rattle.std.proofs.lemmas.List.Folds.{list_all-append}
-use Rattle.std.proofs.lemmas.Option.{slice_get_within, same_Some}
+use Rattle.std.proofs.lemmas.Option.{none-some, slice_get_within, same_Some}
 use Rattle.vcd_model.specs.Declarations.{IdCode}
 use Rattle.vcd_head.specs.declared.view.Code.{Code}
 use Rattle.vcd_head.specs.declared.view.Entry.{Entry}
 use Rattle.vcd_head.specs.declared.table.Table.{Table}
-use Rattle.vcd_head.specs.Codes.{AreHeld, FindsAll, Moves, in_tree, place_told}
+use Rattle.vcd_head.specs.Codes.{AreHeld, FindsAll, Moves, beside, entered, in_tree, place_in, place_told, told_by}
 use Rattle.vcd_head.specs.Entries.{above, are_right, entry_in, is_right, number_in}
 use Rattle.vcd_head.specs.Finds.{Finds}
 use Rattle.vcd_head.specs.Keys.{AreBytes, key_in, packed}
-use Rattle.vcd_head.proofs.CodesLemmas.{set_other, set_same}
+use Rattle.vcd_head.proofs.CodesLemmas.{set_other, set_same, told_finds, told_key}
 use Rattle.vcd_head.proofs.DraftGrows.{slice_get-front}
 use Rattle.vcd_head.proofs.EntryLemmas.{all_replicated, both, code_found, entry_tells, one_of_all}
 use Rattle.vcd_head.proofs.KeyLemmas.{bytes_at_place, packed_above, same_key}
@@ -113,67 +113,32 @@ one_moved old es new at h m len = λ t k e a q s there. by_side t k e a q s (h t
 
 -- ---- what a table finds whose entries were moved
 
--- the key of an entry that gives a place
-told_key : (t : List ℕ) (e : Entry) → (not (key_in t == 0) && (e.key == key_in t)) ≡ true → (e.key ≡ key_in t) × (e.key ≢ 0)
-told_key t e h =
-    let b = and_parts (not (key_in t == 0)) (e.key == key_in t) h in
-    let k = eqb-true e.key (key_in t) b.1 in
-    (k, λ z. never (key_in t == 0) b.0 (eq-eqb (key_in t) 0 (sym k ∙ z)))
-  where
-    never : (x : Bool) → not x ≡ true → x ≡ true → ⊥
-    never true h e = cc
-    never false h e = cc
-
--- and of one that gives none
-told_no : (t : List ℕ) (e : Entry) → (not (key_in t == 0) && (e.key == key_in t)) ≡ false → e.key ≡ key_in t → e.key ≢ 0 → ⊥
-told_no t e q k n = by_zero (key_in t == 0) refl (e.key == key_in t) (eq-eqb _ _ k) q
-  where
-    by_zero : (x : Bool) → (key_in t == 0) ≡ x → (y : Bool) → y ≡ true → (not x && y) ≡ false → ⊥
-    by_zero true d y w z = n (k ∙ eqb-true _ _ d)
-    by_zero false d true w z = cc
-    by_zero false d false w z = cc
-
--- an entry that is right gives the place of its code
-gives : (text : List ℕ) (codes : List Code) (cs : List IdCode) (es : List Entry) (i : ℕ) (e : Entry) (t : List ℕ) → AreHeld text codes cs → are_right text codes es ≡ true → slice_get es i ≡ Some e → AreBytes t → e.key ≡ key_in t → e.key ≢ 0 → Finds cs t (Some e.place)
-gives text codes cs es i e t h right there a q n =
-    let told = entry_tells text codes e (one_of_all (is_right text codes) es i e right there) n in
-    let k = code_found text codes cs e.place told.0 h.stand told.1 in
-    let read = text_within text told.0.start told.0.len k.2.within ∙ k.2.text_is in
-    let equal : key_in t ≡ key_in k.0.text = sym q ∙ told.2 ∙ ap key_in read in
-    let own : AreBytes k.0.text = bytes_at_place cs e.place k.0 h.texts k.1 in
-    let some : 0 < key_in t = omega (arith, n, q) in
-    (k.0, k.1, first_with cs t e.place k.0 h.distinct k.1 (same_key t k.0.text a own equal some))
-
 pub split_finds : (text : List ℕ) (codes : List Code) (cs : List IdCode) (old new : Table) (at : ℕ) → AreHeld text codes cs → are_right text codes new.entries.items ≡ true → ArePartlyMoved old.entries.items new.entries.items at → length old.entries.items ≤ at → new.others.entries ≡ old.others.entries → FindsAll cs old → FindsAll cs new
-split_finds text codes cs old new at h right moved all same f = λ t a. by_entry t a (slice_get new.entries.items (entry_in t (length new.entries.items))) refl
+split_finds text codes cs old new at h right moved all same f = λ t a. by_entries t a (entered new.entries.items t) refl
   where
-    -- where no entry of the new table has it, none of the old one has
-    by_old : (t : List ℕ) → AreBytes t → ((e : Entry) → e.key ≡ key_in t → e.key ≢ 0 → slice_get new.entries.items (entry_in t (length new.entries.items)) ≡ Some e → ⊥) → (o : Option Entry) → slice_get old.entries.items (entry_in t (length old.entries.items)) ≡ o
-        → option_or (place_told t o) (in_tree old.others.entries t) ≡ in_tree old.others.entries t
-    by_old t a none None s = refl
-    by_old t a none (Some e) s = by_test (not (key_in t == 0) && (e.key == key_in t)) refl
+    -- where the code's own entry of the new table has it not, none of the old one has
+    none_told : (t : List ℕ) → AreBytes t → entered new.entries.items t ≡ None → (is : List ℕ) → told_by old.entries.items t is ≡ None
+    none_told t a none [] = refl
+    none_told t a none (i ∷ is) = ap (λ o. option_or o (told_by old.entries.items t is)) (by_entry (slice_get old.entries.items i) refl) ∙ none_told t a none is
       where
-        by_side : e.key ≡ key_in t → e.key ≢ 0 → ((at ≤ entry_in t (length old.entries.items)) × (slice_get new.entries.items (entry_in t (length old.entries.items)) ≡ Some e)) ⊎ (slice_get new.entries.items (entry_in t (length new.entries.items)) ≡ Some e) → ⊥
-        by_side q n (inl p) = omega (arith, p.0, all, slice_get_within old.entries.items (entry_in t (length old.entries.items)) e s)
-        by_side q n (inr p) = none e q n p
+        by_entry : (o : Option Entry) → slice_get old.entries.items i ≡ o → place_told t (slice_get old.entries.items i) ≡ None
+        by_entry None s = ap (place_told t) s
+        by_entry (Some e) s = ap (place_told t) s ∙ by_test (not (key_in t == 0) && (e.key == key_in t)) refl
+          where
+            by_side : (not (key_in t == 0) && (e.key == key_in t)) ≡ true → ((at ≤ i) × (slice_get new.entries.items i ≡ Some e)) ⊎ (slice_get new.entries.items (entry_in t (length new.entries.items)) ≡ Some e) → ⊥
+            by_side q (inl p) = omega (arith, p.0, all, slice_get_within old.entries.items i e s)
+            by_side q (inr p) =
+                let rest = told_by new.entries.items t (beside (entry_in t (length new.entries.items))) in
+                none-some e.place (sym none ∙ ap (λ o. option_or (place_told t o) rest) p ∙ ap (λ b. option_or (cond b (Some e.place) None) rest) q)
 
-        by_test : (b : Bool) → (not (key_in t == 0) && (e.key == key_in t)) ≡ b → option_or (cond b (Some e.place) None) (in_tree old.others.entries t) ≡ in_tree old.others.entries t
-        by_test true q = let k = told_key t e q in absurd (by_side k.0 k.1 (moved t (entry_in t (length old.entries.items)) e a k.0 k.1 s))
-        by_test false q = refl
+            by_test : (b : Bool) → (not (key_in t == 0) && (e.key == key_in t)) ≡ b → cond b (Some e.place) None ≡ None
+            by_test true q = let k = told_key t e q in absurd (by_side q (moved t i e a k.0 k.1 s))
+            by_test false q = refl
 
-    by_tree : (t : List ℕ) → AreBytes t → ((e : Entry) → e.key ≡ key_in t → e.key ≢ 0 → slice_get new.entries.items (entry_in t (length new.entries.items)) ≡ Some e → ⊥) → Finds cs t (in_tree new.others.entries t)
-    by_tree t a none = subst (Finds cs t) (by_old t a none (slice_get old.entries.items (entry_in t (length old.entries.items))) refl ∙ ap (λ es. in_tree es t) (sym same)) (f t a)
-
-    by_entry : (t : List ℕ) → AreBytes t → (o : Option Entry) → slice_get new.entries.items (entry_in t (length new.entries.items)) ≡ o → Finds cs t (option_or (place_told t o) (in_tree new.others.entries t))
-    by_entry t a None s = by_tree t a (λ e q n there. nothing e (sym there ∙ s))
-      where
-        nothing : (e : Entry) → Some e ≡ None → ⊥
-        nothing e z = cc
-    by_entry t a (Some e) s = by_test (not (key_in t == 0) && (e.key == key_in t)) refl
-      where
-        by_test : (b : Bool) → (not (key_in t == 0) && (e.key == key_in t)) ≡ b → Finds cs t (option_or (cond b (Some e.place) None) (in_tree new.others.entries t))
-        by_test true q = let k = told_key t e q in gives text codes cs new.entries.items (entry_in t (length new.entries.items)) e t h right s a k.0 k.1
-        by_test false q = by_tree t a (λ x p n there.
-            let z : x ≡ e = same_Some x e (sym there ∙ s) in
-            let yes : e.key ≡ key_in t = ap (λ (y : Entry). y.key) (sym z) ∙ p in
-            told_no t e q yes (λ w. n (p ∙ sym yes ∙ w)))
+    by_entries : (t : List ℕ) → AreBytes t → (o : Option ℕ) → entered new.entries.items t ≡ o → Finds cs t (place_in new t)
+    by_entries t a (Some p) s =
+        subst (Finds cs t) (sym (ap (λ o. option_or o (in_tree new.others.entries t)) s))
+        (told_finds text codes cs new.entries.items t p h right a (entry_in t (length new.entries.items) ∷ beside (entry_in t (length new.entries.items))) s)
+    by_entries t a None s =
+        let before = ap (λ o. option_or o (in_tree old.others.entries t)) (none_told t a s (entry_in t (length old.entries.items) ∷ beside (entry_in t (length old.entries.items)))) in
+        subst (Finds cs t) (before ∙ ap (λ es. in_tree es t) (sym same) ∙ sym (ap (λ o. option_or o (in_tree new.others.entries t)) s)) (f t a)

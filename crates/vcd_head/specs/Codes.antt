@@ -1,5 +1,5 @@
 -- What is kept of the distinct codes while a header is read.
-use Rattle.std.specs.Prelude.{◌≡◌, ◌≢◌, ℕ, ◌==◌, ◌&&◌, not, cond, List, [], ◌∷◌, ◌++◌, length, map, find, bytes_eq, slice_get, Option, Some, None}
+use Rattle.std.specs.Prelude.{◌≡◌, ◌≢◌, ℕ, ◌==◌, ◌&&◌, not, cond, List, [], ◌∷◌, ◌++◌, length, map, find, bytes_eq, slice_get, bit_xor, ◌⊎◌, Option, Some, None}
 use Rattle.std.specs.Global.{Vec}
 use Rattle.std.specs.List.{AllByRecursion, AllZip, IsDistinct}
 use Rattle.std.specs.Map.{lookup}
@@ -27,9 +27,23 @@ abbrev pub place_told : List ℕ → Option Entry → Option ℕ
 place_told t None = None
 place_told t (Some e) = cond (not (key_in t == 0) && (e.key == key_in t)) (Some e.place) None
 
--- the place that the entries give for these bytes
+-- the place that the first of these entries gives which is that of these bytes
+abbrev pub told_by : List Entry → List ℕ → List ℕ → Option ℕ
+told_by es t [] = None
+told_by es t (i ∷ is) = option_or (place_told t (slice_get es i)) (told_by es t is)
+
+-- the entries beside one
+abbrev pub beside : ℕ → List ℕ
+beside at = bit_xor at 1 ∷ bit_xor at 2 ∷ bit_xor at 3 ∷ []
+
+-- it is one of these
+abbrev pub IsOneOf : ℕ → List ℕ → Type 0
+IsOneOf i [] = ⊥
+IsOneOf i (x ∷ xs) = (i ≡ x) ⊎ IsOneOf i xs
+
+-- the place that the entries give for these bytes: their own, or one beside it
 abbrev pub entered : List Entry → List ℕ → Option ℕ
-entered es t = place_told t (slice_get es (entry_in t (length es)))
+entered es t = told_by es t (entry_in t (length es) ∷ beside (entry_in t (length es)))
 
 -- the place that a tree gives for these bytes
 abbrev pub in_tree : List (Vec ℕ × ℕ) → List ℕ → Option ℕ

@@ -1,6 +1,7 @@
 // The entries by which codes are looked up: where a code's entry is, and how they are filled. Any code may have any place among
 // them, and two the same: where an entry is decides only how fast a look-up is.
 ghost use Rattle.std.specs.Prelude.{◌≡◌, ◌≢◌, ◌+◌, ◌-◌, ◌*◌, ◌%◌, ◌^◌, ◌≤◌, ◌<◌, ℕ, List, true, bit_and, length, set, slice_get, Some, IfOk, IfSome};
+ghost use Rattle.vcd_head.specs.Codes.{beside, place_told, told_by};
 ghost use Rattle.vcd_head.specs.Entries.{above, are_right, entry_in, is_right, most_of, number_in, text_in};
 ghost use Rattle.vcd_head.specs.Keys.{AreBytes, key_in};
 ghost use Rattle.vcd_head.specs.declared.view.Code.{Code};
@@ -182,6 +183,34 @@ pub(crate) fn entry_with(place: usize, code: Code, key: u64) -> Entry
         place,
         most: most_of(code),
     }
+}
+
+/// The place that an entry gives for the code with this key, if it is that of the code.
+#[inline(always)]
+pub(crate) fn place_told(entries: &[Entry], at: usize, key: u64) -> Option<usize>
+    ensures { (code : List ℕ) → key ≡ key_in code → result ≡ place_told code (slice_get entries.now at) }
+{
+    let entry = entries.get(at)?;
+    if key != 0 && entry.key == key {
+        Some(entry.place as usize)
+    } else {
+        None
+    }
+}
+
+/// The place that one of the three entries beside the code's own gives. They lie in the same 64 bytes as that, so a look at them
+/// reads nothing new from memory.
+#[inline(always)]
+pub(crate) fn place_beside(entries: &[Entry], own: usize, key: u64) -> Option<usize>
+    ensures { (code : List ℕ) → key ≡ key_in code → result ≡ told_by entries.now code (beside own) }
+{
+    if let Some(place) = place_told(entries, own ^ 1, key) {
+        return Some(place);
+    }
+    if let Some(place) = place_told(entries, own ^ 2, key) {
+        return Some(place);
+    }
+    place_told(entries, own ^ 3, key)
 }
 
 /// Writes one entry, if there are so many.

@@ -30,7 +30,7 @@ pub(crate) fn finish(alloc: Global, draft: Draft) -> Result<Head, HeadFault>
         ..
     } = draft;
     let Codes { list: codes, table } = codes;
-    let entered = table.into_entries(alloc);
+    let entered = table.into_entries();
     let index = index_of(alloc, &text, &codes)?;
     let entries = entries_in(alloc, entered, &text, &codes)?;
     Ok(Head {

@@ -1,16 +1,18 @@
 // Codes that are looked up.
-ghost use Rattle.std.specs.Prelude.{List, ◌≡◌, ◌+◌, ◌≤◌, ◌<◌, length, option_map, IfSome, Some};
+ghost use Rattle.std.specs.Prelude.{List, true, ◌≡◌, ◌+◌, ◌≤◌, ◌<◌, length, option_map, IfSome, Some};
 ghost use Rattle.std.specs.Int.Digits.{digits_of};
-ghost use Rattle.std.specs.List.{AllZip};
+ghost use Rattle.std.specs.List.{AllByRecursion, AllZip};
 ghost use Rattle.vcd_model.specs.Declarations.{IdCode};
 ghost use Rattle.vcd_model.specs.Header.{Header};
+ghost use Rattle.vcd_head.specs.Entries.{are_right};
+ghost use Rattle.vcd_head.specs.Keys.{AreBytes};
 ghost use Rattle.vcd_head.specs.Views.{IsCode, IsIndex, code_text, IsViewOf};
 ghost use Rattle.vcd_head.specs.Finds.{Finds, IsSized};
 
-use crate::entries::{entry_of, most_of};
+use crate::entries::{entry_of, most_of, place_beside};
 use crate::key::key_of;
 use crate::probes::Probes;
-use crate::view::{Code, HeadView, code_in, text_in};
+use crate::view::{Code, Entry, HeadView, code_in, text_in};
 use std::cmp::Ordering;
 
 /// A code that was looked up.
@@ -45,7 +47,7 @@ pub fn find_sized(view: HeadView<'_>, code: &[u8]) -> Option<Found>
     match find_at_once(view, code) {
         Some(found) => Some(found),
         None => {
-            let place = find_slowly(view.text, view.codes, view.index, code)?;
+            let place = find_slowly(view.text, view.codes, view.index, view.entries, code)?;
             let code = code_in(view.codes, place)?;
             Some(Found {
                 place,
@@ -74,15 +76,26 @@ fn find_at_once(view: HeadView<'_>, code: &[u8]) -> Option<Found>
     }
 }
 
-// The place of a code by a binary search. It takes no view, so that a look-up that is done at once need not make one ready, and
-// returns a number alone, which needs no memory.
+// The place of a code by a look at the entries beside its own, or else by a binary search. It takes no view, so that a look-up that
+// is done at once need not make one ready, and returns a number alone, which needs no memory.
 #[inline(never)]
-fn find_slowly(text: &[u8], codes: &[Code], index: &[usize], code: &[u8]) -> Option<usize>
+fn find_slowly(
+    text: &[u8],
+    codes: &[Code],
+    index: &[usize],
+    entries: &[Entry],
+    code: &[u8],
+) -> Option<usize>
+    requires right { are_right text.now codes.now entries.now ≡ true }
     ensures found { (ks : List IdCode) → AllZip (IsCode text.now) codes.now ks
+        → AllByRecursion (λ (k : IdCode). AreBytes k.text) ks
         → IsIndex ks index.now → Finds ks code.now result }
     ensures within { IfSome result (λ place. place < length codes.now) }
 {
-    search(text, codes, index, code, &mut Probes::new())
+    match place_beside(entries, entry_of(code, entries.len()), key_of(code)) {
+        Some(place) => Some(place),
+        None => search(text, codes, index, code, &mut Probes::new()),
+    }
 }
 
 /// The same by a binary search alone, which counts its probes.

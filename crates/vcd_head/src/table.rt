@@ -1,12 +1,12 @@
 // The table that finds codes by their bytes while a header is read.
-ghost use Rattle.std.specs.Prelude.{◌≡◌, ℕ, List, [], true, length, slice_get, Some, None, IfOk};
+ghost use Rattle.std.specs.Prelude.{◌≡◌, ℕ, List, [], true, ◌∷◌, length, slice_get, Some, None, IfOk, IfSome};
 ghost use Rattle.vcd_model.specs.Declarations.{IdCode};
-ghost use Rattle.vcd_head.specs.Codes.{AreHeld, FindsAll, IsEntered, Moves, entered, in_tree, place_in};
+ghost use Rattle.vcd_head.specs.Codes.{AreHeld, FindsAll, IsEntered, IsOneOf, Moves, beside, entered, in_tree, place_in};
 ghost use Rattle.vcd_head.specs.Entries.{AreEntered, are_right, text_in};
 ghost use Rattle.vcd_head.specs.declared.view.Code.{Code};
 ghost use Rattle.vcd_head.specs.declared.view.Entry.{Entry};
 
-use crate::entries::{EMPTY, entry_for, entry_with, number_of_key, put};
+use crate::entries::{EMPTY, entry_for, entry_with, number_of_key, place_beside, place_told, put};
 use crate::sought::Sought;
 use crate::view::{Code, Entry, text_in};
 use std::alloc::{AllocError, Global};
@@ -17,8 +17,9 @@ const FEWEST_ENTRIES: usize = 64;
 
 // The places of codes by their bytes.
 //
-// Each code that can has an entry of its own, so that a look at one entry finds it. A tree has the others: those whose entry was
-// taken, and those that are too long for a key. So no choice of codes makes a look-up slower than a tree is.
+// Each code that can has an entry of its own, so that a look at one entry finds it. Where that was taken it has one of the three
+// beside it, which lie near in memory. A tree has the others: those whose entries were all taken, and those that are too long for a
+// key. So no choice of codes makes a look-up slower than a tree is.
 #[derive(Drop)]
 pub(crate) struct Table {
     pub(crate) entries: Vec<Entry>,
@@ -155,17 +156,11 @@ impl Table {
             && self.others.len() <= codes / 2
     }
 
-    /// Its entries, if each of its codes has one; else none.
-    pub(crate) fn into_entries(self, alloc: Global) -> Vec<Entry>
-        ensures { (text : List ℕ) (codes : List Code)
-            → are_right text codes self.entries.items ≡ true
-            → are_right text codes result.items ≡ true }
+    /// Its entries. The codes that the tree has are in none of them.
+    pub(crate) fn into_entries(self) -> Vec<Entry>
+        ensures { result ≡ self.entries }
     {
-        let Table { entries, others } = self;
-        if others.is_empty() {
-            return entries;
-        }
-        Vec::new(alloc)
+        self.entries
     }
 
     /// Enters a code that is new and has this place.
@@ -186,10 +181,12 @@ impl Table {
             → AreEntered text codes self.new.entries.items }
     {
         let entry = entry_with(place, code, sought.key);
-        let at = sought.entry_among(self.entries.len());
-        if entry.key != 0 && is_free(&self.entries, at) {
-            put(&mut self.entries, at, entry);
-            return Ok(());
+        let own = sought.entry_among(self.entries.len());
+        if entry.key != 0 {
+            if let Some(at) = free_near(&self.entries, own) {
+                put(&mut self.entries, at, entry);
+                return Ok(());
+            }
         }
         self.others
             .insert(Vec::from_slice(alloc, sought.bytes)?, place)?;
@@ -197,17 +194,43 @@ impl Table {
     }
 }
 
-// The place that the entry of a code gives, if it is its own.
+// The place that the entries give for a code.
 #[inline(always)]
 fn entered(entries: &[Entry], code: Sought<'_>) -> Option<usize>
     ensures { result ≡ entered entries.now code.entry.bytes.now }
 {
-    let entry = entries.get(code.entry_among(entries.len()))?;
-    if code.key != 0 && entry.key == code.key {
-        Some(entry.place as usize)
-    } else {
-        None
+    let own = code.entry_among(entries.len());
+    match place_told(entries, own, code.key) {
+        Some(place) => Some(place),
+        None => place_beside(entries, own, code.key),
     }
+}
+
+// The first of the entries that a code may have which is that of no code.
+#[inline(always)]
+fn free_near(entries: &[Entry], own: usize) -> Option<usize>
+    ensures { IfSome result (λ at. IsOneOf at (own ∷ beside own)
+        × (e : Entry) × (slice_get entries.now at ≡ Some e) × (e.key ≡ 0)) }
+{
+    if is_free(entries, own) {
+        return Some(own);
+    }
+    free_beside(entries, own)
+}
+
+// The same of those beside its own.
+#[inline(never)]
+fn free_beside(entries: &[Entry], own: usize) -> Option<usize>
+    ensures { IfSome result (λ at. IsOneOf at (beside own)
+        × (e : Entry) × (slice_get entries.now at ≡ Some e) × (e.key ≡ 0)) }
+{
+    if is_free(entries, own ^ 1) {
+        return Some(own ^ 1);
+    }
+    if is_free(entries, own ^ 2) {
+        return Some(own ^ 2);
+    }
+    is_free(entries, own ^ 3).then_some(own ^ 3)
 }
 
 // Whether there is such an entry, and it is that of no code.
