@@ -1,11 +1,14 @@
 // Devices of which every other call is interrupted.
+ghost use Rattle.std.specs.Prelude.{◌-◌, ◌^◌, ◌<◌};
+ghost use Rattle.vcd_text.specs.Watch.{failed_calls};
+
 use super::runs::{DUMP, REPORT};
 use crate::again::Again;
 use crate::job::{Job, Want};
 use crate::run::run;
+use std::alloc::{AllocError, Global};
 use std::io;
 use std::io::{ErrorKind, Read, Write};
-use std::test::Fail;
 use vcd_text::Watch;
 use vcd_text::doubles::{Narrow, Pieces};
 
@@ -55,9 +58,14 @@ impl<D: Write> Write for Stutter<D> {
     }
 }
 
-#[test]
-fn interrupted_calls_are_made_again(rt: HostRuntime) -> Result<(), Fail> {
-    let alloc = rt.alloc();
+// A writer of which every other call is interrupted, each of which is made again.
+type Sink = Watch<Again<Stutter<Narrow>>>;
+
+// Checks a dump whose reads are interrupted, and returns the status.
+fn check(alloc: Global, out: &mut Sink, err: &mut Sink) -> Result<u8, AllocError>
+    requires out_failures { failed_calls out.old < 2 ^ 64 - 1 }
+    requires err_failures { failed_calls err.old < 2 ^ 64 - 1 }
+{
     let names = [String::from_str(alloc, "a.vcd")?];
     let job = Job {
         want: Want::Check,
@@ -65,19 +73,26 @@ fn interrupted_calls_are_made_again(rt: HostRuntime) -> Result<(), Fail> {
         chunk: 16,
     };
     let mut readers = [Watch::new(Again::new(Stutter::new(Pieces::new(DUMP, 7))))];
-    let mut out = Watch::new(Again::new(Stutter::new(Narrow::new(1024))));
-    let mut err = Watch::new(Again::new(Stutter::new(Narrow::new(80))));
-    let status = run(
+    Ok(run(
         alloc,
         job,
         names.as_slice(),
         readers.as_mut_slice(),
-        &mut out,
-        &mut err,
+        out,
+        err,
+    ))
+}
+
+#[test]
+fn interrupted_calls_are_made_again(rt: HostRuntime) {
+    let mut out = Watch::new(Again::new(Stutter::new(Narrow::new(1024))));
+    let mut err = Watch::new(Again::new(Stutter::new(Narrow::new(80))));
+    let status = check(rt.alloc(), &mut out, &mut err);
+    let is_flushed = out.device.flush().is_ok();
+    let output = out.device.device.device.held();
+    let message = err.device.device.device.held();
+    assert_eq!(rt;
+        (output, message, status, is_flushed),
+        (REPORT, b"".as_slice(), Ok(0), true)
     );
-    assert_eq!(rt; out.device.device.device.held(), REPORT);
-    assert_eq!(rt; err.device.device.device.held(), b"".as_slice());
-    assert_eq!(rt; status, 0);
-    assert!(rt; out.device.flush().is_ok());
-    Ok(())
 }

@@ -9,7 +9,6 @@ use std::alloc::{AllocError, Global};
 use std::io;
 use std::io::{ErrorKind, Write};
 use std::process::Abort;
-use std::test::Fail;
 use vcd_text::Watch;
 use vcd_text::doubles::{MOST_HELD, Narrow, Pieces};
 
@@ -91,16 +90,31 @@ struct Left {
     ahead: usize,
 }
 
-// No call of any device fails.
-fn plan_of(most: usize, chunk: usize) -> Plan
+// What fails once in each run: a read, a write of the output, a write of the message, or one of the message of a failed read.
+#[derive(Clone, Copy, Debug)]
+enum Failing {
+    Read,
+    Output,
+    Message,
+    ReadLine,
+}
+
+// The call of this number fails.
+fn plan_of(failing: Failing, most: usize, chunk: usize, call: u64) -> Plan
     ensures { result.chunk ≡ chunk }
 {
+    let (read, out, err) = match failing {
+        Failing::Read => (call, 0, 0),
+        Failing::Output => (0, call, 0),
+        Failing::Message => (0, 0, call),
+        Failing::ReadLine => (1, 0, call),
+    };
     Plan {
         most,
         chunk,
-        read: 0,
-        out: 0,
-        err: 0,
+        read,
+        out,
+        err,
     }
 }
 
@@ -216,7 +230,14 @@ fn read_line(readers: Readers<'_>) -> &'static [u8] {
 }
 
 // The whole dump of a row, and its whole output.
-fn joined(row: &Row<'_>) -> Result<(Narrow, Narrow), Fail> {
+#[derive(Drop)]
+struct Whole {
+    dump: Narrow,
+    output: Narrow,
+}
+
+// Both of a row.
+fn whole_of(row: &Row<'_>) -> io::Result<Whole> {
     let mut dump = Narrow::new(MOST_HELD);
     let mut output = Narrow::new(MOST_HELD);
     for (part, text) in row.parts {
@@ -224,7 +245,7 @@ fn joined(row: &Row<'_>) -> Result<(Narrow, Narrow), Fail> {
         output.write_all(text)?;
     }
     output.write_all(row.closing)?;
-    Ok((dump, output))
+    Ok(Whole { dump, output })
 }
 
 // How many bytes of the output are due once so many bytes of the dump were read.
@@ -240,122 +261,110 @@ fn due(parts: &[(&[u8], &[u8])], read: usize) -> usize {
     length
 }
 
-// Nothing failed.
-fn give_whole<R: Abort>(rt: &R, row: &Row<'_>, output: &[u8], left: &Left) {
-    assert_eq!(rt; left.out.taken.held(), output);
-    assert_eq!(rt; left.err.taken.held(), row.message);
-    assert_eq!(rt; left.status, row.status);
+// Whether a run left this.
+fn is_left(left: &Left, output: &[u8], message: &[u8], status: u8) -> bool {
+    left.out.taken.held() == output && left.err.taken.held() == message && left.status == status
 }
 
-// Read 1, 2, 3, .. fails, until a run ends without it: what is due of the bytes that were read stands, with the read line.
-fn fail_reads<R: Abort + AllocGlobal>(rt: &R, row: &Row<'_>, plan: Plan) -> Result<(), Fail>
-    requires { (1 ≤ plan.chunk) × (plan.chunk ≤ 65536) }
-{
-    let (dump, output) = joined(row)?;
-    for call in 1..MOST_CALLS {
-        let left = run_row(rt.alloc(), row, dump.held(), Plan { read: call, ..plan })?;
-        if left.reads < call {
-            give_whole(rt, row, output.held(), &left);
-            return Ok(());
-        }
-        let read = dump.held().len().saturating_sub(left.ahead);
-        let written = left.out.taken.held();
-        assert!(rt; output.held().starts_with(written), "at read {call}");
-        assert_eq!(rt; written.len(), due(row.parts, read), "at read {call}");
-        assert_eq!(rt;
-            left.err.taken.held(),
-            read_line(row.readers),
-            "at read {call}"
-        );
-        assert_eq!(rt; left.status, 3, "at read {call}");
+// How many calls there were of what fails.
+fn calls_of(failing: Failing, left: &Left) -> u64 {
+    match failing {
+        Failing::Read => left.reads,
+        Failing::Output => left.out.calls,
+        Failing::Message | Failing::ReadLine => left.err.calls,
     }
-    assert!(rt; false, "each run has a failed read");
-    Ok(())
 }
 
-// Write 1, 2, 3, .. on standard output fails, until a run ends without it: a prefix of the output stands, with the write line.
-fn fail_writes<R: Abort + AllocGlobal>(rt: &R, row: &Row<'_>, plan: Plan) -> Result<(), Fail>
-    requires { (1 ≤ plan.chunk) × (plan.chunk ≤ 65536) }
-{
-    let (dump, output) = joined(row)?;
-    for call in 1..MOST_CALLS {
-        let left = run_row(rt.alloc(), row, dump.held(), Plan { out: call, ..plan })?;
-        if left.out.calls < call {
-            give_whole(rt, row, output.held(), &left);
-            return Ok(());
-        }
-        let line = b"vcdkit: write failed\n".as_slice();
-        assert!(rt;
-            output.held().starts_with(left.out.taken.held()),
-            "at write {call}"
-        );
-        assert_eq!(rt; left.err.taken.held(), line, "at write {call}");
-        assert_eq!(rt; left.status, 3, "at write {call}");
-    }
-    assert!(rt; false, "each run has a failed write");
-    Ok(())
-}
-
-// Write 1, 2, 3, .. on the error stream fails, until a run ends without it: a prefix of the message stands, with the same output and
-// status.
-fn fail_messages<R: Abort + AllocGlobal>(rt: &R, row: &Row<'_>, plan: Plan) -> Result<(), Fail>
-    requires { (1 ≤ plan.chunk) × (plan.chunk ≤ 65536) }
-{
-    let (dump, output) = joined(row)?;
-    for call in 1..MOST_CALLS {
-        let left = run_row(rt.alloc(), row, dump.held(), Plan { err: call, ..plan })?;
-        if left.err.calls < call {
-            give_whole(rt, row, output.held(), &left);
-            return Ok(());
-        }
-        assert_eq!(rt; left.out.taken.held(), output.held(), "at write {call}");
-        assert!(rt;
-            row.message.starts_with(left.err.taken.held()),
-            "at write {call}"
-        );
-        assert_eq!(rt; left.status, row.status, "at write {call}");
-    }
-    assert!(rt; false, "each run has a failed write");
-    Ok(())
-}
-
-// The same where the message is that of a failed read.
-fn fail_read_lines<R: Abort + AllocGlobal>(rt: &R, row: &Row<'_>, plan: Plan) -> Result<(), Fail>
-    requires { (1 ≤ plan.chunk) × (plan.chunk ≤ 65536) }
-{
-    let (dump, _) = joined(row)?;
-    let line = read_line(row.readers);
-    for call in 1..MOST_CALLS {
-        let plan = Plan {
-            read: 1,
-            err: call,
-            ..plan
-        };
-        let left = run_row(rt.alloc(), row, dump.held(), plan)?;
-        assert_eq!(rt; left.out.taken.held(), b"".as_slice(), "at write {call}");
-        assert!(rt; line.starts_with(left.err.taken.held()), "at write {call}");
-        assert_eq!(rt; left.status, 3, "at write {call}");
-        if left.err.calls < call {
-            assert_eq!(rt; left.err.taken.held(), line);
-            return Ok(());
+// Whether a run without the failed call left the whole.
+fn is_whole(failing: Failing, row: &Row<'_>, whole: &Whole, left: &Left) -> bool {
+    match failing {
+        Failing::ReadLine => is_left(left, b"", read_line(row.readers), 3),
+        Failing::Read | Failing::Output | Failing::Message => {
+            is_left(left, whole.output.held(), row.message, row.status)
         }
     }
-    assert!(rt; false, "each run has a failed write");
-    Ok(())
 }
 
-// Each call of each device fails in turn, for all numbers of bytes.
-fn fail_in_turn<R: Abort + AllocGlobal>(rt: &R, row: &Row<'_>) -> Result<(), Fail> {
+// Whether a run with a failed read left what is due of the bytes that were read, with the read line.
+fn is_due(row: &Row<'_>, whole: &Whole, left: &Left) -> bool {
+    let read = whole.dump.held().len().saturating_sub(left.ahead);
+    let length = due(row.parts, read);
+    let written = left.out.taken.held();
+    whole.output.held().starts_with(written)
+        && written.len() == length
+        && is_left(left, written, read_line(row.readers), 3)
+}
+
+// Whether a run with a failed call left what stands then: after a failed write of the output a prefix of it, with the write line;
+// after one of a message a prefix of that, with the same output and status.
+fn is_right(failing: Failing, row: &Row<'_>, whole: &Whole, left: &Left) -> bool {
+    let output = left.out.taken.held();
+    let message = left.err.taken.held();
+    match failing {
+        Failing::Read => is_due(row, whole, left),
+        Failing::Output => {
+            whole.output.held().starts_with(output)
+                && is_left(left, output, b"vcdkit: write failed\n", 3)
+        }
+        Failing::Message => {
+            row.message.starts_with(message)
+                && is_left(left, whole.output.held(), message, row.status)
+        }
+        Failing::ReadLine => {
+            read_line(row.readers).starts_with(message) && is_left(left, b"", message, 3)
+        }
+    }
+}
+
+// Call 1, 2, 3, .. fails, until a run ends without it: the first one whose run left something else than it is to, if any did.
+fn wrong_call(
+    alloc: Global,
+    row: &Row<'_>,
+    whole: &Whole,
+    failing: Failing,
+    most: usize,
+    chunk: usize,
+) -> Result<Option<u64>, AllocError>
+    requires { (1 ≤ chunk) × (chunk ≤ 65536) }
+{
+    for call in 1..MOST_CALLS {
+        let plan = plan_of(failing, most, chunk, call);
+        let left = run_row(alloc, row, whole.dump.held(), plan)?;
+        if calls_of(failing, &left) < call {
+            let is = is_whole(failing, row, whole, &left);
+            return Ok(if is { None } else { Some(call) });
+        }
+        if !is_right(failing, row, whole, &left) {
+            return Ok(Some(call));
+        }
+    }
+    Ok(Some(MOST_CALLS))
+}
+
+// Each call of what fails does so in turn, for all numbers of bytes.
+fn fail_each<R: Abort + AllocGlobal>(rt: &R, row: &Row<'_>, whole: &Whole, failing: Failing) {
     for most in 1..8 {
         for chunk in 1..8 {
-            let plan = plan_of(most, chunk);
-            fail_reads(rt, row, plan)?;
-            fail_writes(rt, row, plan)?;
-            fail_messages(rt, row, plan)?;
-            fail_read_lines(rt, row, plan)?;
+            let wrong = wrong_call(rt.alloc(), row, whole, failing, most, chunk);
+            assert_eq!(rt; wrong, Ok(None), "{failing:?} by {most} in {chunk}");
         }
     }
-    Ok(())
+}
+
+// Each call of each device fails in turn.
+fn fail_in_turn<R: Abort + AllocGlobal>(rt: &R, row: &Row<'_>) {
+    let Ok(whole) = whole_of(row) else {
+        assert!(rt; false, "a dump or an output is too long");
+        return;
+    };
+    for failing in [
+        Failing::Read,
+        Failing::Output,
+        Failing::Message,
+        Failing::ReadLine,
+    ] {
+        fail_each(rt, row, &whole, failing);
+    }
 }
 
 const CHECK_OF_A_FULL_DUMP: [(&[u8], &[u8]); 1] = [(
@@ -544,266 +553,240 @@ const MERGE_OF_TWO_SCALES_UNTIL_A_TIME_IS_TOO_LARGE_SECOND: [(&[u8], &[u8]); 4] 
     (b"0!\n", b""),
 ];
 
-#[test]
-fn checks_with_failing_devices(rt: HostRuntime) -> Result<(), Fail> {
-    fail_in_turn(
-        &rt,
-        &Row {
-            words: Words::Check,
-            readers: Readers::Alone,
-            parts: &CHECK_OF_A_FULL_DUMP,
-            closing: b"scopes 1\nvariables 2\ncodes 2\ntimes 3\nsections 1\nchanges 4\nlast 10\n",
-            message: b"",
-            status: 0,
-        },
-    )?;
-    fail_in_turn(
-        &rt,
-        &Row {
-            words: Words::Check,
-            readers: Readers::Alone,
-            parts: &CHECK_TIME_GOES_BACK,
-            closing: b"",
-            message: b"vcdkit: (stdin):10: time goes back\n",
-            status: 1,
-        },
-    )?;
-    Ok(())
-}
+const CHECKS: [Row<'static>; 2] = [
+    Row {
+        words: Words::Check,
+        readers: Readers::Alone,
+        parts: &CHECK_OF_A_FULL_DUMP,
+        closing: b"scopes 1\nvariables 2\ncodes 2\ntimes 3\nsections 1\nchanges 4\nlast 10\n",
+        message: b"",
+        status: 0,
+    },
+    Row {
+        words: Words::Check,
+        readers: Readers::Alone,
+        parts: &CHECK_TIME_GOES_BACK,
+        closing: b"",
+        message: b"vcdkit: (stdin):10: time goes back\n",
+        status: 1,
+    },
+];
 
 #[test]
-fn lists_with_failing_devices(rt: HostRuntime) -> Result<(), Fail> {
-    fail_in_turn(
-        &rt,
-        &Row {
-            words: Words::List,
-            readers: Readers::Alone,
-            parts: &LIST_OF_NESTED_SCOPES_AND_KINDS,
-            closing: b"",
-            message: b"",
-            status: 0,
-        },
-    )?;
-    Ok(())
+fn checks_with_failing_devices(rt: HostRuntime) {
+    for row in &CHECKS {
+        fail_in_turn(&rt, row);
+    }
 }
 
-#[test]
-fn picks_with_failing_devices(rt: HostRuntime) -> Result<(), Fail> {
-    fail_in_turn(
-        &rt,
-        &Row {
-            words: Words::Pick(&["tb"]),
-            readers: Readers::Alone,
-            parts: &PICK_WRITES_SHORTEST_DIGITS,
-            closing: b"",
-            message: b"",
-            status: 0,
-        },
-    )?;
-    fail_in_turn(
-        &rt,
-        &Row {
-            words: Words::Pick(&["tb.u.b"]),
-            readers: Readers::Alone,
-            parts: &PICK_BY_THE_SECOND_NAME_OF_A_CODE,
-            closing: b"#7\n",
-            message: b"",
-            status: 0,
-        },
-    )?;
-    fail_in_turn(
-        &rt,
-        &Row {
-            words: Words::Pick(&["tb"]),
-            readers: Readers::Alone,
-            parts: &PICK_OF_A_DUMP_THAT_ENDS_IN_A_VECTOR,
-            closing: b"",
-            message: b"vcdkit: (stdin):10: unexpected end of input\n",
-            status: 1,
-        },
-    )?;
-    fail_in_turn(
-        &rt,
-        &Row {
-            words: Words::Pick(&["tc"]),
-            readers: Readers::Alone,
-            parts: &PICK_OF_A_NAME_THAT_SELECTS_NOTHING,
-            closing: b"",
-            message: b"vcdkit: tc: selects nothing\n",
-            status: 1,
-        },
-    )?;
-    Ok(())
-}
+const LISTS: [Row<'static>; 1] = [Row {
+    words: Words::List,
+    readers: Readers::Alone,
+    parts: &LIST_OF_NESTED_SCOPES_AND_KINDS,
+    closing: b"",
+    message: b"",
+    status: 0,
+}];
 
 #[test]
-fn cuts_with_failing_devices(rt: HostRuntime) -> Result<(), Fail> {
-    fail_in_turn(
-        &rt,
-        &Row {
-            words: Words::Cut("10", "20"),
-            readers: Readers::Alone,
-            parts: &CUT_ENDS_AT_A_CHANGE_OF_TIME_TO,
-            closing: b"",
-            message: b"",
-            status: 0,
-        },
-    )?;
-    fail_in_turn(
-        &rt,
-        &Row {
-            words: Words::Cut("10", "15"),
-            readers: Readers::Alone,
-            parts: &CUT_WRITES_THE_END_TIME,
-            closing: b"",
-            message: b"",
-            status: 0,
-        },
-    )?;
-    fail_in_turn(
-        &rt,
-        &Row {
-            words: Words::Cut("30", "40"),
-            readers: Readers::Alone,
-            parts: &CUT_FAULTS_BEFORE_ITS_START_SECTION,
-            closing: b"",
-            message: b"vcdkit: (stdin):8: unknown command\n",
-            status: 1,
-        },
-    )?;
-    Ok(())
+fn lists_with_failing_devices(rt: HostRuntime) {
+    for row in &LISTS {
+        fail_in_turn(&rt, row);
+    }
 }
 
-#[test]
-fn samples_with_failing_devices(rt: HostRuntime) -> Result<(), Fail> {
-    fail_in_turn(
-        &rt,
-        &Row {
-            words: Words::Sample("0,1,2,3,4", None),
-            readers: Readers::Alone,
-            parts: &SAMPLE_EXTENDS_VALUES_TO_THE_LEFT,
-            closing: b"4 v 0x10\n4 w 00000001\n",
-            message: b"",
-            status: 0,
-        },
-    )?;
-    fail_in_turn(
-        &rt,
-        &Row {
-            words: Words::Sample("1", None),
-            readers: Readers::Alone,
-            parts: &SAMPLE_ENDS_BEFORE_A_LATER_FAULT,
-            closing: b"",
-            message: b"",
-            status: 0,
-        },
-    )?;
-    fail_in_turn(
-        &rt,
-        &Row {
-            words: Words::Sample("1,2", None),
-            readers: Readers::Alone,
-            parts: &SAMPLE_WRITES_WHAT_STANDS_AT_A_FAULT,
-            closing: b"",
-            message: b"vcdkit: (stdin):7: unknown command\n",
-            status: 1,
-        },
-    )?;
-    Ok(())
-}
+const PICKS: [Row<'static>; 4] = [
+    Row {
+        words: Words::Pick(&["tb"]),
+        readers: Readers::Alone,
+        parts: &PICK_WRITES_SHORTEST_DIGITS,
+        closing: b"",
+        message: b"",
+        status: 0,
+    },
+    Row {
+        words: Words::Pick(&["tb.u.b"]),
+        readers: Readers::Alone,
+        parts: &PICK_BY_THE_SECOND_NAME_OF_A_CODE,
+        closing: b"#7\n",
+        message: b"",
+        status: 0,
+    },
+    Row {
+        words: Words::Pick(&["tb"]),
+        readers: Readers::Alone,
+        parts: &PICK_OF_A_DUMP_THAT_ENDS_IN_A_VECTOR,
+        closing: b"",
+        message: b"vcdkit: (stdin):10: unexpected end of input\n",
+        status: 1,
+    },
+    Row {
+        words: Words::Pick(&["tc"]),
+        readers: Readers::Alone,
+        parts: &PICK_OF_A_NAME_THAT_SELECTS_NOTHING,
+        closing: b"",
+        message: b"vcdkit: tc: selects nothing\n",
+        status: 1,
+    },
+];
 
 #[test]
-fn edges_with_failing_devices(rt: HostRuntime) -> Result<(), Fail> {
-    fail_in_turn(
-        &rt,
-        &Row {
-            words: Words::Edges(None),
-            readers: Readers::Alone,
-            parts: &EDGES_WITH_SECTIONS_AND_X,
-            closing: b"tb.clk 5 1 1\ntb.q 2 1 0\n",
-            message: b"",
-            status: 0,
-        },
-    )?;
-    fail_in_turn(
-        &rt,
-        &Row {
-            words: Words::Edges(None),
-            readers: Readers::Alone,
-            parts: &EDGES_OF_REAL_AND_EVENT,
-            closing: b"a 2 1 1\nr 1 0 0\ne 2 0 0\nu 0 0 0\n",
-            message: b"",
-            status: 0,
-        },
-    )?;
-    fail_in_turn(
-        &rt,
-        &Row {
-            words: Words::Edges(None),
-            readers: Readers::Alone,
-            parts: &EDGES_WRITES_NOTHING_AT_A_FAULT,
-            closing: b"",
-            message: b"vcdkit: (stdin):9: unknown command\n",
-            status: 1,
-        },
-    )?;
-    Ok(())
+fn picks_with_failing_devices(rt: HostRuntime) {
+    for row in &PICKS {
+        fail_in_turn(&rt, row);
+    }
 }
 
-#[test]
-fn merges_with_a_first_input_that_fails(rt: HostRuntime) -> Result<(), Fail> {
-    fail_in_turn(
-        &rt,
-        &Row {
-            words: Words::Merge(&[]),
-            readers: Readers::WithSecond(OTHER_OF_MERGE_OF_ONE_FILE_TWICE_FIRST),
-            parts: &MERGE_OF_ONE_FILE_TWICE_FIRST,
-            closing: b"1#\n",
-            message: b"",
-            status: 0,
-        },
-    )?;
-    fail_in_turn(
-        &rt,
-        &Row {
-            words: Words::Merge(&[]),
-            readers: Readers::WithSecond(
-                OTHER_OF_MERGE_OF_TWO_SCALES_UNTIL_A_TIME_IS_TOO_LARGE_FIRST,
-            ),
-            parts: &MERGE_OF_TWO_SCALES_UNTIL_A_TIME_IS_TOO_LARGE_FIRST,
-            closing: b"",
-            message: b"vcdkit: a.vcd:6: time too large\n",
-            status: 1,
-        },
-    )?;
-    Ok(())
-}
+const CUTS: [Row<'static>; 3] = [
+    Row {
+        words: Words::Cut("10", "20"),
+        readers: Readers::Alone,
+        parts: &CUT_ENDS_AT_A_CHANGE_OF_TIME_TO,
+        closing: b"",
+        message: b"",
+        status: 0,
+    },
+    Row {
+        words: Words::Cut("10", "15"),
+        readers: Readers::Alone,
+        parts: &CUT_WRITES_THE_END_TIME,
+        closing: b"",
+        message: b"",
+        status: 0,
+    },
+    Row {
+        words: Words::Cut("30", "40"),
+        readers: Readers::Alone,
+        parts: &CUT_FAULTS_BEFORE_ITS_START_SECTION,
+        closing: b"",
+        message: b"vcdkit: (stdin):8: unknown command\n",
+        status: 1,
+    },
+];
 
 #[test]
-fn merges_with_a_second_input_that_fails(rt: HostRuntime) -> Result<(), Fail> {
-    fail_in_turn(
-        &rt,
-        &Row {
-            words: Words::Merge(&[]),
-            readers: Readers::WithFirst(OTHER_OF_MERGE_OF_ONE_FILE_TWICE_SECOND),
-            parts: &MERGE_OF_ONE_FILE_TWICE_SECOND,
-            closing: b"",
-            message: b"",
-            status: 0,
-        },
-    )?;
-    fail_in_turn(
-        &rt,
-        &Row {
-            words: Words::Merge(&[]),
-            readers: Readers::WithFirst(
-                OTHER_OF_MERGE_OF_TWO_SCALES_UNTIL_A_TIME_IS_TOO_LARGE_SECOND,
-            ),
-            parts: &MERGE_OF_TWO_SCALES_UNTIL_A_TIME_IS_TOO_LARGE_SECOND,
-            closing: b"",
-            message: b"vcdkit: a.vcd:6: time too large\n",
-            status: 1,
-        },
-    )?;
-    Ok(())
+fn cuts_with_failing_devices(rt: HostRuntime) {
+    for row in &CUTS {
+        fail_in_turn(&rt, row);
+    }
+}
+
+const SAMPLES: [Row<'static>; 3] = [
+    Row {
+        words: Words::Sample("0,1,2,3,4", None),
+        readers: Readers::Alone,
+        parts: &SAMPLE_EXTENDS_VALUES_TO_THE_LEFT,
+        closing: b"4 v 0x10\n4 w 00000001\n",
+        message: b"",
+        status: 0,
+    },
+    Row {
+        words: Words::Sample("1", None),
+        readers: Readers::Alone,
+        parts: &SAMPLE_ENDS_BEFORE_A_LATER_FAULT,
+        closing: b"",
+        message: b"",
+        status: 0,
+    },
+    Row {
+        words: Words::Sample("1,2", None),
+        readers: Readers::Alone,
+        parts: &SAMPLE_WRITES_WHAT_STANDS_AT_A_FAULT,
+        closing: b"",
+        message: b"vcdkit: (stdin):7: unknown command\n",
+        status: 1,
+    },
+];
+
+#[test]
+fn samples_with_failing_devices(rt: HostRuntime) {
+    for row in &SAMPLES {
+        fail_in_turn(&rt, row);
+    }
+}
+
+const EDGES: [Row<'static>; 3] = [
+    Row {
+        words: Words::Edges(None),
+        readers: Readers::Alone,
+        parts: &EDGES_WITH_SECTIONS_AND_X,
+        closing: b"tb.clk 5 1 1\ntb.q 2 1 0\n",
+        message: b"",
+        status: 0,
+    },
+    Row {
+        words: Words::Edges(None),
+        readers: Readers::Alone,
+        parts: &EDGES_OF_REAL_AND_EVENT,
+        closing: b"a 2 1 1\nr 1 0 0\ne 2 0 0\nu 0 0 0\n",
+        message: b"",
+        status: 0,
+    },
+    Row {
+        words: Words::Edges(None),
+        readers: Readers::Alone,
+        parts: &EDGES_WRITES_NOTHING_AT_A_FAULT,
+        closing: b"",
+        message: b"vcdkit: (stdin):9: unknown command\n",
+        status: 1,
+    },
+];
+
+#[test]
+fn edges_with_failing_devices(rt: HostRuntime) {
+    for row in &EDGES {
+        fail_in_turn(&rt, row);
+    }
+}
+
+const FIRST_MERGES: [Row<'static>; 2] = [
+    Row {
+        words: Words::Merge(&[]),
+        readers: Readers::WithSecond(OTHER_OF_MERGE_OF_ONE_FILE_TWICE_FIRST),
+        parts: &MERGE_OF_ONE_FILE_TWICE_FIRST,
+        closing: b"1#\n",
+        message: b"",
+        status: 0,
+    },
+    Row {
+        words: Words::Merge(&[]),
+        readers: Readers::WithSecond(OTHER_OF_MERGE_OF_TWO_SCALES_UNTIL_A_TIME_IS_TOO_LARGE_FIRST),
+        parts: &MERGE_OF_TWO_SCALES_UNTIL_A_TIME_IS_TOO_LARGE_FIRST,
+        closing: b"",
+        message: b"vcdkit: a.vcd:6: time too large\n",
+        status: 1,
+    },
+];
+
+#[test]
+fn merges_with_a_first_input_that_fails(rt: HostRuntime) {
+    for row in &FIRST_MERGES {
+        fail_in_turn(&rt, row);
+    }
+}
+
+const SECOND_MERGES: [Row<'static>; 2] = [
+    Row {
+        words: Words::Merge(&[]),
+        readers: Readers::WithFirst(OTHER_OF_MERGE_OF_ONE_FILE_TWICE_SECOND),
+        parts: &MERGE_OF_ONE_FILE_TWICE_SECOND,
+        closing: b"",
+        message: b"",
+        status: 0,
+    },
+    Row {
+        words: Words::Merge(&[]),
+        readers: Readers::WithFirst(OTHER_OF_MERGE_OF_TWO_SCALES_UNTIL_A_TIME_IS_TOO_LARGE_SECOND),
+        parts: &MERGE_OF_TWO_SCALES_UNTIL_A_TIME_IS_TOO_LARGE_SECOND,
+        closing: b"",
+        message: b"vcdkit: a.vcd:6: time too large\n",
+        status: 1,
+    },
+];
+
+#[test]
+fn merges_with_a_second_input_that_fails(rt: HostRuntime) {
+    for row in &SECOND_MERGES {
+        fail_in_turn(&rt, row);
+    }
 }

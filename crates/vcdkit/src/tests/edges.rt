@@ -1,7 +1,6 @@
 // Names, dumps, and how often the variables that they select change.
-use super::runs::{READ_FAILED, give_all};
+use super::runs::{READ_FAILED, give_all, give_message, give_output};
 use crate::words::Words;
-use std::test::Fail;
 
 // Names, a dump, and its counts.
 const EDGES: [(&[&str], &[u8], &[u8]); 3] = [
@@ -23,38 +22,36 @@ const EDGES: [(&[&str], &[u8], &[u8]); 3] = [
 ];
 
 #[test]
-fn edges_are_counted(rt: HostRuntime) -> Result<(), Fail> {
-    let none = b"".as_slice();
-    for (names, text, output) in EDGES {
-        give_all(
-            &rt,
-            Words::Edges(Some(names)),
-            (text, false),
-            (output, none, 0),
-        )?;
-        give_all(
-            &rt,
-            Words::Edges(Some(names)),
-            (text, true),
-            (none, READ_FAILED, 3),
-        )?;
+fn edges_are_counted(rt: HostRuntime) {
+    for (names, text, output) in &EDGES {
+        give_output(&rt, Words::Edges(Some(*names)), text, output);
     }
-    Ok(())
 }
 
 #[test]
-fn edges_write_nothing_at_a_fault(rt: HostRuntime) -> Result<(), Fail> {
-    let none = b"".as_slice();
-    let text =
-        b"$timescale 1ns $end\n$scope module tb $end\n$var wire 1 ! clk $end\n$var reg 4 \" q [3:0] $end\n$upscope $end\n$enddefinitions $end\n#0\n0!\n?\n".as_slice();
-    let line = b"vcdkit: (stdin):9: unknown command\n".as_slice();
-    give_all(&rt, Words::Edges(None), (text, false), (none, line, 1))?;
-    let line = b"vcdkit: zz: selects nothing\n".as_slice();
-    give_all(
+fn edges_write_nothing_where_a_read_fails(rt: HostRuntime) {
+    for (names, text, _) in &EDGES {
+        let left = (b"".as_slice(), READ_FAILED, 3);
+        give_all(&rt, Words::Edges(Some(*names)), (*text, true), left);
+    }
+}
+
+// A dump with a fault in its body.
+const FAULTY: &[u8] =
+    b"$timescale 1ns $end\n$scope module tb $end\n$var wire 1 ! clk $end\n$var reg 4 \" q [3:0] $end\n$upscope $end\n$enddefinitions $end\n#0\n0!\n?\n";
+
+#[test]
+fn edges_write_nothing_at_a_fault(rt: HostRuntime) {
+    give_message(
+        &rt,
+        Words::Edges(None),
+        FAULTY,
+        b"vcdkit: (stdin):9: unknown command\n",
+    );
+    give_message(
         &rt,
         Words::Edges(Some(&["zz"])),
-        (text, false),
-        (none, line, 1),
-    )?;
-    Ok(())
+        FAULTY,
+        b"vcdkit: zz: selects nothing\n",
+    );
 }

@@ -1,93 +1,94 @@
 // Devices that fail.
+ghost use Rattle.std.specs.Prelude.{◌≤◌};
+
 use super::runs::{
-    DUMP, NESTED, NESTED_LIST, PICKED, READ_FAILED, REPORT, SAMPLED, failing, run_into, run_on,
-    wanted, whole,
+    DUMP, NESTED, NESTED_LIST, PICKED, READ_FAILED, REPORT, SAMPLED, leave_under, run_into, wanted,
+    whole,
 };
 use crate::job::{Job, Want};
 use crate::run_job;
 use crate::words::Words;
-use std::test::Fail;
+use std::alloc::{AllocError, Global};
 use vcd_text::Watch;
 use vcd_text::doubles::Narrow;
 
+// The commands over one input.
+const COMMANDS: [Words<'static, 'static>; 6] = [
+    Words::Check,
+    Words::List,
+    Words::Pick(&["tb"]),
+    Words::Cut("1", "2"),
+    Words::Sample("1,2", None),
+    Words::Edges(None),
+];
+
 #[test]
-fn a_failed_read_is_said(rt: HostRuntime) -> Result<(), Fail> {
-    for words in [
-        Words::Check,
-        Words::List,
-        Words::Pick(&["tb"]),
-        Words::Cut("1", "2"),
-        Words::Sample("1,2", None),
-        Words::Edges(None),
-    ] {
+fn a_failed_read_of_a_header_is_said(rt: HostRuntime) {
+    for words in &COMMANDS {
         for len in 0..NESTED.len() {
-            for chunk in [1, 65_536] {
-                let (out, err, status) = run_on(
-                    rt.alloc(),
-                    words,
-                    64,
-                    failing(&NESTED[..len]),
-                    chunk,
-                )?;
-                assert_eq!(rt; out.held(), b"".as_slice(), "in {len}");
-                assert_eq!(rt; err.held(), READ_FAILED, "in {len}");
-                assert_eq!(rt; status, 3, "in {len}");
-            }
+            let left = (b"".as_slice(), READ_FAILED, 3);
+            leave_under(&rt, *words, 64, &NESTED[..len], true, left);
         }
     }
-    for chunk in [1, 65_536] {
-        let (out, err, status) = run_on(rt.alloc(), Words::Check, 64, failing(DUMP), chunk)?;
-        assert_eq!(rt; out.held(), b"".as_slice());
-        assert_eq!(rt; err.held(), READ_FAILED);
-        assert_eq!(rt; status, 3);
-    }
-    Ok(())
 }
 
 #[test]
-fn a_failed_write_leaves_a_prefix(rt: HostRuntime) -> Result<(), Fail> {
-    for (words, dump, output) in [
-        (Words::Check, DUMP, REPORT),
-        (Words::List, NESTED, NESTED_LIST),
-        (Words::Pick(&["clk"]), DUMP, PICKED),
-        (Words::Sample("0,5", None), DUMP, SAMPLED),
-        (Words::Edges(None), DUMP, b"clk 1 1 0\n".as_slice()),
-    ] {
-        for room in 0..output.len().min(1024) {
-            let mut out = Watch::new(Narrow::new(room));
-            let mut err = Watch::new(Narrow::new(80));
-            let job = Job {
-                want: wanted(rt.alloc(), words)?,
-                limit: 64,
-                chunk: 64,
-            };
-            let status = run_into(rt.alloc(), job, whole(dump), &mut out, &mut err)?;
-            assert_eq!(rt; out.device.held(), &output[..room]);
-            assert_eq!(rt; err.device.held(), b"vcdkit: write failed\n".as_slice());
-            assert_eq!(rt; status, 3);
-        }
-    }
-    Ok(())
+fn a_failed_read_of_a_body_is_said(rt: HostRuntime) {
+    let left = (b"".as_slice(), READ_FAILED, 3);
+    leave_under(&rt, Words::Check, 64, DUMP, true, left);
 }
 
-#[test]
-fn a_message_that_fails_leaves_the_status(rt: HostRuntime) -> Result<(), Fail> {
-    let mut out = Watch::new(Narrow::new(80));
-    let mut err = Watch::new(Narrow::new(9));
+// Whether a run over a text, with so much room on both streams, leaves this output, this message and this status.
+fn is_left_in(
+    alloc: Global,
+    words: Words<'_, '_>,
+    text: &[u8],
+    room: usize,
+    error_room: usize,
+    left: (&[u8], &[u8], u8),
+) -> Result<bool, AllocError>
+    requires { (room ≤ 1024) × (error_room ≤ 1024) }
+{
+    let mut out = Watch::new(Narrow::new(room));
+    let mut err = Watch::new(Narrow::new(error_room));
     let job = Job {
-        want: Want::List,
+        want: wanted(alloc, words)?,
         limit: 64,
         chunk: 64,
     };
-    let status = run_into(rt.alloc(), job, whole(b""), &mut out, &mut err)?;
-    assert_eq!(rt; err.device.held(), b"vcdkit: (".as_slice());
-    assert_eq!(rt; status, 1);
-    Ok(())
+    let status = run_into(alloc, job, whole(text), &mut out, &mut err)?;
+    Ok((out.device.held(), err.device.held(), status) == left)
+}
+
+// Words, a dump, and the output of a run.
+const OUTPUTS: [(Words<'static, 'static>, &[u8], &[u8]); 5] = [
+    (Words::Check, DUMP, REPORT),
+    (Words::List, NESTED, NESTED_LIST),
+    (Words::Pick(&["clk"]), DUMP, PICKED),
+    (Words::Sample("0,5", None), DUMP, SAMPLED),
+    (Words::Edges(None), DUMP, b"clk 1 1 0\n"),
+];
+
+#[test]
+fn a_failed_write_leaves_a_prefix(rt: HostRuntime) {
+    for (words, dump, output) in &OUTPUTS {
+        for room in 0..output.len().min(1024) {
+            let left = (&output[..room], b"vcdkit: write failed\n".as_slice(), 3);
+            let is = is_left_in(rt.alloc(), *words, dump, room, 80, left);
+            assert_eq!(rt; is, Ok(true), "of {words:?} in {room}");
+        }
+    }
 }
 
 #[test]
-fn a_flush_that_fails_is_a_failed_write(rt: HostRuntime) -> Result<(), Fail> {
-    let alloc = rt.alloc();
+fn a_message_that_fails_leaves_the_status(rt: HostRuntime) {
+    let left = (b"".as_slice(), b"vcdkit: (".as_slice(), 1);
+    let is = is_left_in(rt.alloc(), Words::List, b"", 80, 9, left);
+    assert_eq!(rt; is, Ok(true));
+}
+
+// Whether a job whose output cannot be flushed is said to have a failed write.
+fn is_flush_said(alloc: Global) -> Result<bool, AllocError> {
     let job = Job {
         want: Want::Check,
         limit: 64,
@@ -95,7 +96,6 @@ fn a_flush_that_fails_is_a_failed_write(rt: HostRuntime) -> Result<(), Fail> {
     };
     let dump = b"$timescale 1ns $end $var wire 1 ! a $end $enddefinitions $end\n#5\n1!\n";
     let names = [String::from_str(alloc, "a.vcd")?];
-
     let mut readers = [Watch::new(dump.as_slice())];
     let mut err = Watch::new(Narrow::new(80));
     let status = run_job(
@@ -106,7 +106,10 @@ fn a_flush_that_fails_is_a_failed_write(rt: HostRuntime) -> Result<(), Fail> {
         Narrow::new(0),
         &mut err,
     )?;
-    assert_eq!(rt; status, 3);
-    assert_eq!(rt; err.device.held(), b"vcdkit: write failed\n".as_slice());
-    Ok(())
+    Ok(status == 3 && err.device.held() == b"vcdkit: write failed\n".as_slice())
+}
+
+#[test]
+fn a_flush_that_fails_is_a_failed_write(rt: HostRuntime) {
+    assert_eq!(rt; is_flush_said(rt.alloc()), Ok(true));
 }

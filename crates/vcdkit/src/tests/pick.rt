@@ -1,12 +1,13 @@
 // Names, dumps, and the dumps of the variables that they select.
+ghost use Rattle.std.specs.Prelude.{◌≤◌};
+
 use super::runs::{
-    ALIASES, DUMP, NESTED, PICKED, READ_FAILED, TB, TB_WRITTEN, give_all, give_outputs, run_on,
-    whole,
+    ALIASES, DUMP, NESTED, PICKED, READ_FAILED, TB, TB_WRITTEN, give_all, give_message,
+    give_output, give_report, run_on, whole,
 };
 use crate::words::Words;
-use std::alloc::AllocError;
+use std::alloc::{AllocError, Global};
 use std::process::Abort;
-use std::test::Fail;
 
 // Names, a dump, and what a pick writes.
 const PICKS: [(&[&str], &[u8], &[u8]); 7] = [
@@ -44,16 +45,10 @@ const PICKS: [(&[&str], &[u8], &[u8]); 7] = [
 ];
 
 #[test]
-fn a_pick_has_its_dump(rt: HostRuntime) -> Result<(), Fail> {
-    for (names, text, output) in PICKS {
-        give_outputs(
-            &rt,
-            Words::Pick(names),
-            1_048_576,
-            [(text, output)].as_slice(),
-        )?;
+fn a_pick_has_its_dump(rt: HostRuntime) {
+    for (names, text, output) in &PICKS {
+        give_output(&rt, Words::Pick(*names), text, output);
     }
-    Ok(())
 }
 
 // Names, and a dump of which they select a part.
@@ -89,96 +84,100 @@ const DUMPS: [(&[&str], &[u8]); 8] = [
     ),
 ];
 
-// What a pick of these names writes has a report, and is no less when it is picked again.
-fn give_dump<R: Abort + AllocGlobal>(
-    rt: &R,
+// Whether what a pick of these names writes is no less when it is picked again.
+fn is_same_again(
+    alloc: Global,
     names: &[&str],
     text: &[u8],
-) -> Result<(), AllocError> {
+    chunk: usize,
+) -> Result<bool, AllocError>
+    requires { (1 ≤ chunk) × (chunk ≤ 65536) }
+{
+    let (out, _, _) = run_on(alloc, Words::Pick(names), 64, whole(text), chunk)?;
+    let (again, _, _) = run_on(alloc, Words::Pick(names), 64, whole(out.held()), chunk)?;
+    Ok(again.held() == out.held())
+}
+
+// What a pick of these names writes has a report, and is no less when it is picked again.
+fn give_dump<R: Abort + AllocGlobal>(rt: &R, names: &[&str], text: &[u8]) {
     for chunk in [1, 65_536] {
-        let (out, err, status) = run_on(rt.alloc(), Words::Pick(names), 64, whole(text), chunk)?;
-        assert_eq!(rt; err.held(), b"".as_slice(), "of {names:?}");
-        assert_eq!(rt; status, 0, "of {names:?}");
-
-        let (report, err, status) = run_on(rt.alloc(), Words::Check, 64, whole(out.held()), chunk)?;
-        assert_eq!(rt; err.held(), b"".as_slice(), "of {names:?}");
-        assert!(rt; report.held().starts_with(b"scopes "), "of {names:?}");
-        assert_eq!(rt; status, 0, "of {names:?}");
-
-        let (again, _, _) = run_on(rt.alloc(), Words::Pick(names), 64, whole(out.held()), chunk)?;
-        assert_eq!(rt; again.held(), out.held(), "of {names:?}");
+        give_report(rt, Words::Pick(names), text, chunk);
+        let is = is_same_again(rt.alloc(), names, text, chunk);
+        assert_eq!(rt; is, Ok(true), "of {names:?}");
     }
-    Ok(())
 }
 
 #[test]
-fn what_a_pick_writes_is_a_dump(rt: HostRuntime) -> Result<(), Fail> {
-    for (names, text, _) in PICKS {
-        give_dump(&rt, names, text)?;
+fn what_a_pick_writes_is_a_dump(rt: HostRuntime) {
+    for (names, text, _) in &PICKS {
+        give_dump(&rt, names, text);
     }
-    for (names, text) in DUMPS {
-        give_dump(&rt, names, text)?;
-    }
-    Ok(())
 }
 
 #[test]
-fn a_name_that_selects_nothing_is_said(rt: HostRuntime) -> Result<(), Fail> {
-    let none = b"".as_slice();
-    let line = b"vcdkit: tc: selects nothing\n".as_slice();
-    give_all(&rt, Words::Pick(&["tc"]), (ALIASES, false), (none, line, 1))?;
+fn what_a_pick_of_other_dumps_writes_is_a_dump(rt: HostRuntime) {
+    for (names, text) in &DUMPS {
+        give_dump(&rt, names, text);
+    }
+}
+
+// Names of which one selects nothing, a dump, and what is said of that name.
+const MISSES: [(&[&str], &[u8], &[u8]); 4] = [
+    (&["tc"], ALIASES, b"vcdkit: tc: selects nothing\n"),
+    (
+        &["tb.clk", "tb.zz"],
+        TB,
+        b"vcdkit: tb.zz: selects nothing\n",
+    ),
+    (&["tb.zz", "tb.yy"], TB, b"vcdkit: tb.zz: selects nothing\n"),
+    (
+        &["tb.zz"],
+        b"$foo $end\n",
+        b"vcdkit: (stdin):2: unexpected end of input\n",
+    ),
+];
+
+// The header is read first.
+#[test]
+fn a_name_that_selects_nothing_is_said(rt: HostRuntime) {
+    for (names, text, message) in &MISSES {
+        give_message(&rt, Words::Pick(*names), text, message);
+    }
+}
+
+#[test]
+fn a_name_that_selects_nothing_is_said_before_the_body_is_read(rt: HostRuntime) {
     let line = b"vcdkit: tb.zz: selects nothing\n".as_slice();
-    give_all(
-        &rt,
-        Words::Pick(&["tb.clk", "tb.zz"]),
-        (TB, false),
-        (none, line, 1),
-    )?;
-    give_all(
-        &rt,
-        Words::Pick(&["tb.zz", "tb.yy"]),
-        (TB, false),
-        (none, line, 1),
-    )?;
+    give_all(&rt, Words::Pick(&["tb.zz"]), (TB, true), (b"", line, 1));
+}
 
-    // The body is not read, and the header is.
-    give_all(&rt, Words::Pick(&["tb.zz"]), (TB, true), (none, line, 1))?;
-    let line = b"vcdkit: (stdin):2: unexpected end of input\n".as_slice();
-    give_all(
-        &rt,
-        Words::Pick(&["tb.zz"]),
-        (b"$foo $end\n", false),
-        (none, line, 1),
-    )?;
-    Ok(())
+// A dump that ends in a vector, one that ends after a change, and what is written of both.
+const OPEN: &[u8] =
+    b"$timescale 1ns $end\n$scope module tb $end\n$var wire 1 ! clk $end\n$var reg 4 \" q [3:0] $end\n$upscope $end\n$enddefinitions $end\n#0\n0!\n#5\nb10";
+
+const CHANGED: &[u8] =
+    b"$timescale 1ns $end\n$scope module tb $end\n$var wire 1 ! clk $end\n$var reg 4 \" q [3:0] $end\n$upscope $end\n$enddefinitions $end\n#0\n0!\n";
+
+const CHANGED_WRITTEN: &[u8] =
+    b"$timescale\n\t1ns\n$end\n$scope module tb $end\n$var wire 1 ! clk $end\n$var reg 4 \" q [3:0] $end\n$upscope $end\n$enddefinitions $end\n#0\n0!\n";
+
+#[test]
+fn a_pick_writes_what_stands_before_a_fault(rt: HostRuntime) {
+    let line = b"vcdkit: (stdin):10: unexpected end of input\n".as_slice();
+    let left = (CHANGED_WRITTEN, line, 1);
+    give_all(&rt, Words::Pick(&["tb"]), (OPEN, false), left);
 }
 
 #[test]
-fn a_pick_writes_what_stands_before_a_fault(rt: HostRuntime) -> Result<(), Fail> {
-    let text =
-        b"$timescale 1ns $end\n$scope module tb $end\n$var wire 1 ! clk $end\n$var reg 4 \" q [3:0] $end\n$upscope $end\n$enddefinitions $end\n#0\n0!\n#5\nb10".as_slice();
-    let output =
-        b"$timescale\n\t1ns\n$end\n$scope module tb $end\n$var wire 1 ! clk $end\n$var reg 4 \" q [3:0] $end\n$upscope $end\n$enddefinitions $end\n#0\n0!\n".as_slice();
-    let line = b"vcdkit: (stdin):10: unexpected end of input\n".as_slice();
-    give_all(&rt, Words::Pick(&["tb"]), (text, false), (output, line, 1))?;
+fn a_pick_writes_what_stands_before_a_failed_read(rt: HostRuntime) {
+    let left = (CHANGED_WRITTEN, READ_FAILED, 3);
+    give_all(&rt, Words::Pick(&["tb"]), (CHANGED, true), left);
+}
 
-    let text =
-        b"$timescale 1ns $end\n$scope module tb $end\n$var wire 1 ! clk $end\n$var reg 4 \" q [3:0] $end\n$upscope $end\n$enddefinitions $end\n#0\n0!\n".as_slice();
-    let output =
-        b"$timescale\n\t1ns\n$end\n$scope module tb $end\n$var wire 1 ! clk $end\n$var reg 4 \" q [3:0] $end\n$upscope $end\n$enddefinitions $end\n#0\n0!\n".as_slice();
-    give_all(
-        &rt,
-        Words::Pick(&["tb"]),
-        (text, true),
-        (output, READ_FAILED, 3),
-    )?;
+#[test]
+fn a_pick_writes_nothing_of_a_change_whose_read_fails(rt: HostRuntime) {
     let text =
         b"$timescale 1ns $end\n$scope module tb $end\n$var wire 1 ! clk $end\n$var reg 4 \" q [3:0] $end\n$upscope $end\n$enddefinitions $end\n#0\n0!".as_slice();
-    give_all(
-        &rt,
-        Words::Pick(&["tb"]),
-        (text, true),
-        (TB_WRITTEN, READ_FAILED, 3),
-    )?;
-    Ok(())
+    let left = (TB_WRITTEN, READ_FAILED, 3);
+    give_all(&rt, Words::Pick(&["tb"]), (text, true), left);
 }

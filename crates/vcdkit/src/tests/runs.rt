@@ -116,21 +116,70 @@ pub fn run_into(
     ))
 }
 
+// A run over what a reader gives, so many bytes at a time, leaves this output, this message and this status.
+pub fn leave<R: Abort + AllocGlobal>(
+    rt: &R,
+    words: Words<'_, '_>,
+    limit: usize,
+    input: Pieces<'_>,
+    chunk: usize,
+    left: (&[u8], &[u8], u8),
+)
+    requires limit { (64 ≤ limit) × (limit ≤ 16777216) }
+    requires chunk { (1 ≤ chunk) × (chunk ≤ 65536) }
+{
+    let Ok((out, err, status)) = run_on(rt.alloc(), words, limit, input, chunk) else {
+        assert!(rt; false, "out of memory");
+        return;
+    };
+    assert_eq!(rt; (out.held(), err.held(), status), left, "of {words:?}");
+}
+
+// The same under this token limit of a run over what a text gives, and a failed read after it where that is said.
+pub fn leave_under<R: Abort + AllocGlobal>(
+    rt: &R,
+    words: Words<'_, '_>,
+    limit: usize,
+    text: &[u8],
+    fails: bool,
+    left: (&[u8], &[u8], u8),
+)
+    requires limit { (64 ≤ limit) × (limit ≤ 16777216) }
+{
+    for chunk in [1, 65_536] {
+        let input = if fails { failing(text) } else { whole(text) };
+        leave(rt, words, limit, input, chunk, left);
+    }
+}
+
 // A run over what a text gives, and a failed read after it where that is said, leaves this output, this message and this status.
 pub fn give_all<R: Abort + AllocGlobal>(
     rt: &R,
     words: Words<'_, '_>,
     (text, fails): (&[u8], bool),
-    (output, message, status): (&[u8], &[u8], u8),
-) -> Result<(), AllocError> {
-    for chunk in [1, 65_536] {
-        let input = if fails { failing(text) } else { whole(text) };
-        let (out, err, answer) = run_on(rt.alloc(), words, 1_048_576, input, chunk)?;
-        assert_eq!(rt; err.held(), message, "of {words:?}");
-        assert_eq!(rt; out.held(), output, "of {words:?}");
-        assert_eq!(rt; answer, status, "of {words:?}");
-    }
-    Ok(())
+    left: (&[u8], &[u8], u8),
+) {
+    leave_under(rt, words, 1_048_576, text, fails, left);
+}
+
+// A run over a text leaves this output alone.
+pub fn give_output<R: Abort + AllocGlobal>(
+    rt: &R,
+    words: Words<'_, '_>,
+    text: &[u8],
+    output: &[u8],
+) {
+    give_all(rt, words, (text, false), (output, b"", 0));
+}
+
+// A run over a text leaves this message alone, as of a fault.
+pub fn give_message<R: Abort + AllocGlobal>(
+    rt: &R,
+    words: Words<'_, '_>,
+    text: &[u8],
+    message: &[u8],
+) {
+    give_all(rt, words, (text, false), (b"", message, 1));
 }
 
 // Words are refused once the header is read: a run leaves this message and this status, over the dump, and where each read after the
@@ -138,50 +187,41 @@ pub fn give_all<R: Abort + AllocGlobal>(
 pub fn give_refusal<R: Abort + AllocGlobal>(
     rt: &R,
     words: Words<'_, '_>,
-    (dump, head): (&[u8], &[u8]),
-    (message, status): (&[u8], u8),
-) -> Result<(), AllocError> {
-    let none = b"".as_slice();
-    give_all(rt, words, (dump, false), (none, message, status))?;
-    give_all(rt, words, (head, true), (none, message, status))
+    dump: &[u8],
+    head: &[u8],
+    message: &[u8],
+    status: u8,
+) {
+    give_all(rt, words, (dump, false), (b"", message, status));
+    give_all(rt, words, (head, true), (b"", message, status));
 }
 
-// A run over each text leaves this output alone.
-pub fn give_outputs<R: Abort + AllocGlobal>(
-    rt: &R,
-    words: Words<'_, '_>,
-    limit: usize,
-    rows: &[(&[u8], &[u8])],
-) -> Result<(), AllocError>
-    requires limit { (64 ≤ limit) × (limit ≤ 16777216) }
+// Whether a check of a text is done without a message, and writes a report.
+fn has_report(alloc: Global, text: &[u8], chunk: usize) -> Result<bool, AllocError>
+    requires { (1 ≤ chunk) × (chunk ≤ 65536) }
 {
-    for (row, (text, output)) in rows.iter().enumerate() {
-        for chunk in [1, 65_536] {
-            let (out, err, status) = run_on(rt.alloc(), words, limit, whole(text), chunk)?;
-            assert_eq!(rt; err.held(), b"".as_slice(), "in row {row}");
-            assert_eq!(rt; out.held(), *output, "in row {row}");
-            assert_eq!(rt; status, 0, "in row {row}");
-        }
-    }
-    Ok(())
+    let (report, err, status) = run_on(alloc, Words::Check, 64, whole(text), chunk)?;
+    Ok(status == 0 && err.held().is_empty() && report.held().starts_with(b"scopes "))
 }
 
-// A run over each text leaves this message alone.
-pub fn give_messages<R: Abort + AllocGlobal>(
-    rt: &R,
+// Whether a run over a text is done without a message, and what it writes has a report.
+fn is_reported(
+    alloc: Global,
     words: Words<'_, '_>,
-    limit: usize,
-    rows: &[(&[u8], &[u8])],
-) -> Result<(), AllocError>
-    requires limit { (64 ≤ limit) × (limit ≤ 16777216) }
+    text: &[u8],
+    chunk: usize,
+) -> Result<bool, AllocError>
+    requires { (1 ≤ chunk) × (chunk ≤ 65536) }
 {
-    for (row, (text, message)) in rows.iter().enumerate() {
-        for chunk in [1, 65_536] {
-            let (out, err, status) = run_on(rt.alloc(), words, limit, whole(text), chunk)?;
-            assert_eq!(rt; err.held(), *message, "in row {row}");
-            assert_eq!(rt; out.held(), b"".as_slice(), "in row {row}");
-            assert_eq!(rt; status, 1, "in row {row}");
-        }
-    }
-    Ok(())
+    let (out, err, status) = run_on(alloc, words, 64, whole(text), chunk)?;
+    let is_report = has_report(alloc, out.held(), chunk)?;
+    Ok(status == 0 && err.held().is_empty() && is_report)
+}
+
+// What a run over a text writes has a report.
+pub fn give_report<R: Abort + AllocGlobal>(rt: &R, words: Words<'_, '_>, text: &[u8], chunk: usize)
+    requires { (1 ≤ chunk) × (chunk ≤ 65536) }
+{
+    let is = is_reported(rt.alloc(), words, text, chunk);
+    assert_eq!(rt; is, Ok(true), "of {words:?}");
 }

@@ -1,9 +1,9 @@
 // Times, dumps, and the values at these times.
 use super::runs::{
-    MIXED, MIXED_HEAD, READ_FAILED, TENS, TENS_HEAD, failing, give_all, give_refusal, run_on,
+    MIXED, MIXED_HEAD, READ_FAILED, TENS, TENS_HEAD, failing, give_all, give_message, give_output,
+    give_refusal, leave,
 };
 use crate::words::Words;
-use std::test::Fail;
 
 // A dump with a fault after its second time mark.
 const FAULTY: &[u8] =
@@ -47,98 +47,78 @@ const SAMPLES: [(&str, &[&str], &[u8], &[u8]); 10] = [
 ];
 
 #[test]
-fn a_sample_has_its_values(rt: HostRuntime) -> Result<(), Fail> {
-    let none = b"".as_slice();
-    for (at, names, text, output) in SAMPLES {
-        give_all(
-            &rt,
-            Words::Sample(at, Some(names)),
-            (text, false),
-            (output, none, 0),
-        )?;
+fn a_sample_has_its_values(rt: HostRuntime) {
+    for (at, names, text, output) in &SAMPLES {
+        give_output(&rt, Words::Sample(*at, Some(*names)), text, output);
     }
-    Ok(())
 }
 
 #[test]
-fn a_sample_writes_what_stands_before_a_fault(rt: HostRuntime) -> Result<(), Fail> {
+fn a_sample_writes_what_stands_before_a_fault(rt: HostRuntime) {
     let line = b"vcdkit: (stdin):7: unknown command\n".as_slice();
-    give_all(
-        &rt,
-        Words::Sample("1,2", None),
-        (FAULTY, false),
-        (FAULTY_SAMPLE, line, 1),
-    )?;
+    let words = Words::Sample("1,2", None);
+    give_all(&rt, words, (FAULTY, false), (FAULTY_SAMPLE, line, 1));
+}
+
+#[test]
+fn a_sample_writes_what_stands_before_a_failed_read(rt: HostRuntime) {
     let output = b"9 a 0\n9 r r1.5\n9 u -\n".as_slice();
-    give_all(
-        &rt,
-        Words::Sample("9,30", None),
-        (MIXED, true),
-        (output, READ_FAILED, 3),
-    )?;
-    Ok(())
+    let words = Words::Sample("9,30", None);
+    give_all(&rt, words, (MIXED, true), (output, READ_FAILED, 3));
 }
 
 #[test]
-fn a_sample_reads_nothing_after_the_mark_past_its_last_time(rt: HostRuntime) -> Result<(), Fail> {
+fn a_sample_reads_nothing_after_the_mark_past_its_last_time(rt: HostRuntime) {
     let words = Words::Sample("0,25ns", None);
-    let (out, err, status) = run_on(rt.alloc(), words, 64, failing(TENS), 1)?;
-    assert_eq!(rt; err.held(), b"".as_slice());
-    assert_eq!(rt; out.held(), b"0 a 0\n2 a 0\n".as_slice());
-    assert_eq!(rt; status, 0);
-    Ok(())
+    let left = (b"0 a 0\n2 a 0\n".as_slice(), b"".as_slice(), 0);
+    leave(&rt, words, 64, failing(TENS), 1, left);
 }
 
 #[test]
-fn a_name_that_selects_nothing_counts_before_the_body(rt: HostRuntime) -> Result<(), Fail> {
-    let none = b"".as_slice();
-    let line = b"vcdkit: zz: selects nothing\n".as_slice();
+fn a_name_that_selects_nothing_counts_before_the_body(rt: HostRuntime) {
     let words = Words::Sample("1", Some(&["v", "zz"]));
-    give_all(&rt, words, (FAULTY, false), (none, line, 1))?;
-    Ok(())
+    give_message(&rt, words, FAULTY, b"vcdkit: zz: selects nothing\n");
 }
 
-const FALLING: (&[u8], u8) = (b"vcdkit: times must rise\n", 2);
+const FALLING: &[u8] = b"vcdkit: times must rise\n";
 
-const NO_SCALE: (&[u8], u8) = (b"vcdkit: (stdin): no timescale\n", 1);
+const NO_SCALE: &[u8] = b"vcdkit: (stdin): no timescale\n";
 
-const OUT_OF_RANGE: (&[u8], u8) = (b"vcdkit: time out of range\n", 2);
+const OUT_OF_RANGE: &[u8] = b"vcdkit: time out of range\n";
 
 // Times and names, a dump and its header, and the message and the status with which they are refused.
-const REFUSALS: [(&str, Option<&[&str]>, (&[u8], &[u8]), (&[u8], u8)); 8] = [
-    ("11ns,12ns", None, (TENS, TENS_HEAD), FALLING),
-    ("3,29ns", None, (TENS, TENS_HEAD), FALLING),
-    ("2,1ns,0", Some(&["zz"]), (TENS, TENS_HEAD), FALLING),
+const REFUSALS: [(&str, Option<&[&str]>, &[u8], &[u8], &[u8], u8); 8] = [
+    ("11ns,12ns", None, TENS, TENS_HEAD, FALLING, 2),
+    ("3,29ns", None, TENS, TENS_HEAD, FALLING, 2),
+    ("2,1ns,0", Some(&["zz"]), TENS, TENS_HEAD, FALLING, 2),
     (
         "18446744073709551615s",
         None,
-        (TENS, TENS_HEAD),
+        TENS,
+        TENS_HEAD,
         OUT_OF_RANGE,
+        2,
     ),
-    ("5,184467440738s,0", None, (TENS, TENS_HEAD), OUT_OF_RANGE),
-    ("10ns", None, (MIXED, MIXED_HEAD), NO_SCALE),
-    ("20,10s", None, (MIXED, MIXED_HEAD), NO_SCALE),
-    ("9ns,5", Some(&["zz"]), (MIXED, MIXED_HEAD), NO_SCALE),
+    ("5,184467440738s,0", None, TENS, TENS_HEAD, OUT_OF_RANGE, 2),
+    ("10ns", None, MIXED, MIXED_HEAD, NO_SCALE, 1),
+    ("20,10s", None, MIXED, MIXED_HEAD, NO_SCALE, 1),
+    ("9ns,5", Some(&["zz"]), MIXED, MIXED_HEAD, NO_SCALE, 1),
 ];
 
 #[test]
-fn times_are_refused_once_the_header_is_read(rt: HostRuntime) -> Result<(), Fail> {
-    for (at, names, dump, refusal) in REFUSALS {
-        give_refusal(&rt, Words::Sample(at, names), dump, refusal)?;
+fn times_are_refused_once_the_header_is_read(rt: HostRuntime) {
+    for (at, names, dump, head, message, status) in &REFUSALS {
+        let words = Words::Sample(*at, *names);
+        give_refusal(&rt, words, dump, head, message, *status);
     }
-    Ok(())
 }
 
 #[test]
-fn a_fault_of_the_header_counts_before_its_times(rt: HostRuntime) -> Result<(), Fail> {
-    let none = b"".as_slice();
-    let line = b"vcdkit: (stdin):1: bad variable\n".as_slice();
-    let text = b"$var wire 0 ! a $end\n".as_slice();
-    give_all(
+fn a_fault_of_the_header_counts_before_its_times(rt: HostRuntime) {
+    give_message(
         &rt,
         Words::Sample("20ns,10ns", None),
-        (text, false),
-        (none, line, 1),
-    )?;
-    Ok(())
+        b"$var wire 0 ! a $end\n",
+        b"vcdkit: (stdin):1: bad variable\n",
+    );
 }

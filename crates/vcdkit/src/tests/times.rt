@@ -2,113 +2,140 @@
 use crate::job::UseFault;
 use crate::moment_word::{cut_of, moment_of, sample_times};
 use std::alloc::Global;
-use std::test::Fail;
 use vcd_head::Moment;
 
-fn moment(number: u64, unit: Option<i8>) -> Moment {
-    Moment { number, unit }
-}
+// Words, and the number and the unit of the time that they are.
+const GOOD: [(&str, u64, Option<i8>); 9] = [
+    ("15ns", 15, Some(-9)),
+    ("20", 20, None),
+    ("007ms", 7, Some(-3)),
+    ("1s", 1, Some(0)),
+    ("3us", 3, Some(-6)),
+    ("4ps", 4, Some(-12)),
+    (
+        "18446744073709551615fs",
+        18_446_744_073_709_551_615,
+        Some(-15),
+    ),
+    ("18446744073709551615", 18_446_744_073_709_551_615, None),
+    ("00000000000000000001", 1, None),
+];
 
 #[test]
 fn a_time_is_a_number_and_perhaps_a_unit(rt: HostRuntime) {
-    let good = [
-        ("15ns", moment(15, Some(-9))),
-        ("20", moment(20, None)),
-        ("007ms", moment(7, Some(-3))),
-        ("1s", moment(1, Some(0))),
-        ("3us", moment(3, Some(-6))),
-        ("4ps", moment(4, Some(-12))),
-        (
-            "18446744073709551615fs",
-            moment(18_446_744_073_709_551_615, Some(-15)),
-        ),
-        (
-            "18446744073709551615",
-            moment(18_446_744_073_709_551_615, None),
-        ),
-        ("00000000000000000001", moment(1, None)),
-    ];
-    for (word, time) in good {
+    for (word, number, unit) in &GOOD {
+        let time = Moment {
+            number: *number,
+            unit: *unit,
+        };
         assert_eq!(rt; moment_of(word), Some(time), "{word}");
     }
-    let bad = [
-        "",
-        "ns",
-        "15NS",
-        "15Ns",
-        "1 ns",
-        "1ns ",
-        "1.5ns",
-        "-1",
-        "+1",
-        "0x1",
-        "1nss",
-        "1n",
-        "１",
-        "18446744073709551616",
-        "18446744073709551616s",
-        "000000000000000000001",
-    ];
-    for word in bad {
+}
+
+const BAD: [&str; 16] = [
+    "",
+    "ns",
+    "15NS",
+    "15Ns",
+    "1 ns",
+    "1ns ",
+    "1.5ns",
+    "-1",
+    "+1",
+    "0x1",
+    "1nss",
+    "1n",
+    "１",
+    "18446744073709551616",
+    "18446744073709551616s",
+    "000000000000000000001",
+];
+
+#[test]
+fn other_words_are_no_times(rt: HostRuntime) {
+    for word in &BAD {
         assert_eq!(rt; moment_of(word), None, "{word}");
     }
 }
 
+// The numbers and units of two times, or the fault of their words.
+type Told<'a> = Result<(u64, Option<i8>, u64, Option<i8>), UseFault<'a>>;
+
+// What the words of a cut tell.
+fn told<'a>(from: &'a str, to: &'a str) -> Told<'a> {
+    let period = cut_of(from, to)?;
+    Ok((
+        period.from.number,
+        period.from.unit,
+        period.to.number,
+        period.to.unit,
+    ))
+}
+
+const CUTS: [(&str, &str, Told<'static>); 7] = [
+    ("4", "5", Ok((4, None, 5, None))),
+    ("5", "5", Ok((5, None, 5, None))),
+    ("9ns", "4", Ok((9, Some(-9), 4, None))),
+    ("9", "4ns", Ok((9, None, 4, Some(-9)))),
+    ("5", "4", Err(UseFault::FromAboveTo)),
+    ("x", "y", Err(UseFault::BadTime("x"))),
+    ("5", "4NS", Err(UseFault::BadTime("4NS"))),
+];
+
 #[test]
 fn a_cut_ends_no_earlier_than_it_begins(rt: HostRuntime) {
-    let good = [
-        ("4", moment(4, None), "5", moment(5, None)),
-        ("5", moment(5, None), "5", moment(5, None)),
-        ("9ns", moment(9, Some(-9)), "4", moment(4, None)),
-        ("9", moment(9, None), "4ns", moment(4, Some(-9))),
-    ];
-    for (from, first, to, last) in good {
-        let cut = cut_of(from, to).map(|period| (period.from, period.to));
-        assert_eq!(rt; cut, Ok((first, last)), "from {from} to {to}");
+    for (from, to, wanted) in &CUTS {
+        assert_eq!(rt; told(from, to), *wanted, "from {from} to {to}");
     }
-    assert_eq!(rt; cut_of("5", "4"), Err(UseFault::FromAboveTo));
-    assert_eq!(rt; cut_of("x", "y"), Err(UseFault::BadTime("x")));
-    assert_eq!(rt; cut_of("5", "4NS"), Err(UseFault::BadTime("4NS")));
 }
 
-// The numbers of a sample's times, and their units.
-type Told = (Vec<u64>, Vec<Option<i8>>);
-
-// What the word behind `--at` tells.
-fn told<'a>(alloc: Global, at: &'a str) -> Result<Told, UseFault<'a>> {
-    let times = sample_times(alloc, at)?;
-    Ok((times.numbers, times.units))
+// Whether the word behind `--at` has these numbers and units.
+fn has_times(alloc: Global, at: &str, numbers: &[u64], units: &[Option<i8>]) -> bool {
+    match sample_times(alloc, at) {
+        Ok(times) => times.numbers.as_slice() == numbers && times.units.as_slice() == units,
+        Err(_) => false,
+    }
 }
+
+const SAMPLES: [(&str, &[u64], &[Option<i8>]); 4] = [
+    ("7", &[7], &[None]),
+    ("0,1,20", &[0, 1, 20], &[None, None, None]),
+    ("5ns,15ns", &[5, 15], &[Some(-9), Some(-9)]),
+    ("3,2ns,1", &[3, 2, 1], &[None, Some(-9), None]),
+];
 
 #[test]
-fn the_times_of_a_sample_stand_between_commas(rt: HostRuntime) -> Result<(), Fail> {
-    let alloc = rt.alloc();
-    let one = (vec![in alloc; 7]?, vec![in alloc; None]?);
-    assert_eq!(rt; told(alloc, "7"), Ok(one));
-    let plain = (vec![in alloc; 0, 1, 20]?, vec![in alloc; None, None, None]?);
-    assert_eq!(rt; told(alloc, "0,1,20"), Ok(plain));
-    let nano = (vec![in alloc; 5, 15]?, vec![in alloc; Some(-9), Some(-9)]?);
-    assert_eq!(rt; told(alloc, "5ns,15ns"), Ok(nano));
-    let mixed = (
-        vec![in alloc; 3, 2, 1]?,
-        vec![in alloc; None, Some(-9), None]?,
-    );
-    assert_eq!(rt; told(alloc, "3,2ns,1"), Ok(mixed));
-    let falling = ["5,5", "2,1", "1,2,3,3", "1,3,2,4"];
-    for at in falling {
-        assert_eq!(rt; told(alloc, at), Err(UseFault::NotRising), "{at}");
+fn the_times_of_a_sample_stand_between_commas(rt: HostRuntime) {
+    for (at, numbers, units) in &SAMPLES {
+        assert!(rt; has_times(rt.alloc(), at, numbers, units), "{at}");
     }
-    let bad = [
-        ("", ""),
-        ("5,", ""),
-        (",5", ""),
-        ("1,,2", ""),
-        ("15NS", "15NS"),
-        ("1, 2", " 2"),
-        ("2,1,x,y", "x"),
-    ];
-    for (at, word) in bad {
-        assert_eq!(rt; told(alloc, at), Err(UseFault::BadTime(word)), "{at}");
+}
+
+// Why the word behind `--at` is refused.
+fn fault_of<'a>(alloc: Global, at: &'a str) -> Option<UseFault<'a>> {
+    match sample_times(alloc, at) {
+        Ok(_) => None,
+        Err(fault) => Some(fault),
     }
-    Ok(())
+}
+
+const BAD_SAMPLES: [(&str, UseFault<'static>); 11] = [
+    ("5,5", UseFault::NotRising),
+    ("2,1", UseFault::NotRising),
+    ("1,2,3,3", UseFault::NotRising),
+    ("1,3,2,4", UseFault::NotRising),
+    ("", UseFault::BadTime("")),
+    ("5,", UseFault::BadTime("")),
+    (",5", UseFault::BadTime("")),
+    ("1,,2", UseFault::BadTime("")),
+    ("15NS", UseFault::BadTime("15NS")),
+    ("1, 2", UseFault::BadTime(" 2")),
+    ("2,1,x,y", UseFault::BadTime("x")),
+];
+
+#[test]
+fn other_times_of_a_sample_are_refused(rt: HostRuntime) {
+    for (at, fault) in &BAD_SAMPLES {
+        assert_eq!(rt; fault_of(rt.alloc(), at), Some(*fault), "{at}");
+    }
 }

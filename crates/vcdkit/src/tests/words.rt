@@ -8,10 +8,13 @@ use crate::words::{Words, input_of};
 use clap::error::ErrorKind;
 use clap::{Arg, Command, Error};
 use std::alloc::{AllocError, Global};
-use std::test::Fail;
+use std::process::Abort;
+
+// The token limit where none is asked for.
+const LIMIT: usize = 1_048_576;
 
 // What the parse of these words returns: nothing where they are taken, else its kind and the exit status.
-fn answer<'a>(alloc: Global, words: &'a [&'a str]) -> Result<Option<(ErrorKind, u8)>, AllocError> {
+fn answer(alloc: Global, words: &[&str]) -> Result<Option<(ErrorKind, u8)>, AllocError> {
     match command_of(alloc)?.try_get_matches_from(words) {
         Ok(_) => Ok(None),
         Err(error) => Ok(Some((error.kind(), parse_status(&error)))),
@@ -97,11 +100,10 @@ const ANSWERS: [(&[&str], Option<(ErrorKind, u8)>); 44] = [
 ];
 
 #[test]
-fn words_are_taken_or_answered(rt: HostRuntime) -> Result<(), Fail> {
-    for (words, wanted) in ANSWERS {
-        assert_eq!(rt; answer(rt.alloc(), words)?, wanted, "of {words:?}");
+fn words_are_taken_or_answered(rt: HostRuntime) {
+    for (words, wanted) in &ANSWERS {
+        assert_eq!(rt; answer(rt.alloc(), words), Ok(*wanted), "of {words:?}");
     }
-    Ok(())
 }
 
 #[test]
@@ -109,287 +111,354 @@ fn a_parse_without_memory_has_its_status(rt: HostRuntime) {
     assert_eq!(rt; parse_status(&Error::from(AllocError)), 3);
 }
 
+// What is said of these words.
+fn said(alloc: Global, words: &[&str]) -> Result<String, AllocError> {
+    match command_of(alloc)?.try_get_matches_from(words) {
+        Ok(_) => String::from_str(alloc, "matches"),
+        Err(error) => format!(in alloc; "{error}"),
+    }
+}
+
 #[test]
-fn the_version_is_said(rt: HostRuntime) -> Result<(), Fail> {
-    let alloc = rt.alloc();
+fn the_version_is_said(rt: HostRuntime) {
     for word in ["--version", "-V"] {
-        let words = ["vcdkit", word];
-        let text = match command_of(alloc)?.try_get_matches_from(words.as_slice()) {
-            Ok(_) => String::from_str(alloc, "matches")?,
-            Err(error) => format!(in alloc; "{error}")?,
-        };
+        let text = said(rt.alloc(), &["vcdkit", word]).unwrap_or(String::new(rt.alloc()));
         assert_eq!(rt; text.as_str(), "vcdkit 0.1.0\n");
     }
-    Ok(())
 }
 
-// What these words ask for.
-fn asked<'a>(alloc: Global, words: &'a [&'a str]) -> Result<Result<Job, UseFault<'a>>, Fail> {
-    let matches = command_of(alloc)?.try_get_matches_from(words)?;
-    Ok(job_of(alloc, &matches))
+// Whether these words of a command line ask for this job, or are refused for this fault.
+fn is_asked<'a>(
+    alloc: Global,
+    command: Command<'a>,
+    words: &'a [&'a str],
+    wanted: Result<Job, UseFault<'_>>,
+) -> bool {
+    match command.try_get_matches_from(words) {
+        Ok(matches) => job_of(alloc, &matches) == wanted,
+        Err(_) => false,
+    }
 }
 
-// A job under this token limit.
-fn job_under(want: Want, limit: usize) -> Job
+// Whether these words ask for this under this token limit.
+fn is_job<'a>(
+    alloc: Global,
+    words: &'a [&'a str],
+    want: Words<'_, '_>,
+    limit: usize,
+) -> Result<bool, AllocError>
     requires { (64 ≤ limit) × (limit ≤ 16777216) }
 {
-    Job {
-        want,
+    let job = Job {
+        want: wanted(alloc, want)?,
         limit,
         chunk: 65_536,
-    }
+    };
+    Ok(is_asked(alloc, command_of(alloc)?, words, Ok(job)))
 }
 
-// A job that picks these names under this token limit.
-fn pick_under(alloc: Global, names: &[&str], limit: usize) -> Result<Job, AllocError>
-    requires { (64 ≤ limit) × (limit ≤ 16777216) }
-{
-    Ok(job_under(wanted(alloc, Words::Pick(names))?, limit))
+// Whether these words are refused for this fault.
+fn is_refused<'a>(
+    alloc: Global,
+    words: &'a [&'a str],
+    fault: UseFault<'_>,
+) -> Result<bool, AllocError> {
+    Ok(is_asked(alloc, command_of(alloc)?, words, Err(fault)))
+}
+
+// These words ask for this under this token limit.
+fn ask<R: Abort + AllocGlobal>(rt: &R, words: &[&str], want: Words<'_, '_>, limit: usize) {
+    assert!(rt; 64 <= limit && limit <= 16_777_216);
+    assert_eq!(rt;
+        is_job(rt.alloc(), words, want, limit),
+        Ok(true),
+        "of {words:?}"
+    );
+}
+
+// These words are refused for this fault.
+fn refuse<'a, R: Abort + AllocGlobal>(rt: &R, words: &'a [&'a str], fault: UseFault<'a>) {
+    assert_eq!(rt;
+        is_refused(rt.alloc(), words, fault),
+        Ok(true),
+        "of {words:?}"
+    );
 }
 
 #[test]
-fn a_command_asks_for_its_job(rt: HostRuntime) -> Result<(), Fail> {
-    let alloc = rt.alloc();
+fn a_command_asks_for_its_job(rt: HostRuntime) {
     let job = Job {
         want: Want::Check,
-        limit: 1_048_576,
+        limit: LIMIT,
         chunk: 65_536,
     };
-    let matches = command_of(alloc)?.try_get_matches_from(["vcdkit", "check"].as_slice())?;
-    assert_eq!(rt; job_of(alloc, &matches), Ok(job));
-
-    let bare = Command::new(alloc, "vcdkit");
-    let matches = bare.try_get_matches_from(["vcdkit"].as_slice())?;
-    assert_eq!(rt; job_of(alloc, &matches), Err(UseFault::BadWords));
-
-    let other = Command::new(alloc, "vcdkit").subcommand(Command::new(alloc, "checks"))?;
-    let matches = other.try_get_matches_from(["vcdkit", "checks"].as_slice())?;
-    assert_eq!(rt; job_of(alloc, &matches), Err(UseFault::BadWords));
-    Ok(())
+    let command = command_of(rt.alloc()).unwrap_or(Command::new(rt.alloc(), "vcdkit"));
+    assert!(rt; is_asked(rt.alloc(), command, &["vcdkit", "check"], Ok(job)));
 }
 
 #[test]
-fn words_ask_for_a_want_and_a_limit(rt: HostRuntime) -> Result<(), Fail> {
-    let asks: [(&[&str], Words<'_, '_>, usize); 4] = [
-        (&["vcdkit", "check"], Words::Check, 1_048_576),
-        (&["vcdkit", "check", "-i", "63"], Words::Check, 1_048_576),
-        (&["vcdkit", "list", "-i", "f.vcd"], Words::List, 1_048_576),
-        (
-            &["vcdkit", "list", "--token-limit=100", "-if.vcd"],
-            Words::List,
-            100,
-        ),
-    ];
-    for (words, want, limit) in asks {
-        assert!(rt; 64 <= limit && limit <= 16_777_216);
-        let job = asked(rt.alloc(), words)?;
-        let wanted = job_under(wanted(rt.alloc(), want)?, limit);
-        assert_eq!(rt; job, Ok(wanted), "of {words:?}");
+fn words_without_a_command_are_bad(rt: HostRuntime) {
+    let bare = Command::new(rt.alloc(), "vcdkit");
+    assert!(rt; is_asked(rt.alloc(), bare, &["vcdkit"], Err(UseFault::BadWords)));
+}
+
+// Whether the words of a command of this name that takes no arguments are bad.
+fn is_bad_alone<'a>(alloc: Global, name: &'a str) -> Result<bool, AllocError> {
+    let program = Command::new(alloc, "vcdkit").subcommand(Command::new(alloc, name))?;
+    let words = ["vcdkit", name];
+    Ok(is_asked(alloc, program, &words, Err(UseFault::BadWords)))
+}
+
+// One of another name, and two that want names or times.
+#[test]
+fn commands_without_their_arguments_are_bad(rt: HostRuntime) {
+    for name in ["checks", "pick", "sample"] {
+        assert_eq!(rt; is_bad_alone(rt.alloc(), name), Ok(true), "of {name}");
     }
-    Ok(())
 }
 
+// Words, what they ask for, and the token limit.
+const ASKS: [(&[&str], Words<'static, 'static>, usize); 4] = [
+    (&["vcdkit", "check"], Words::Check, LIMIT),
+    (&["vcdkit", "check", "-i", "63"], Words::Check, LIMIT),
+    (&["vcdkit", "list", "-i", "f.vcd"], Words::List, LIMIT),
+    (
+        &["vcdkit", "list", "--token-limit=100", "-if.vcd"],
+        Words::List,
+        100,
+    ),
+];
+
 #[test]
-fn a_token_limit_is_a_number_in_its_range(rt: HostRuntime) -> Result<(), Fail> {
-    let alloc = rt.alloc();
-    let good = [
-        ("64", 64),
-        ("065", 65),
-        ("16777216", 16_777_216),
-        ("00000000000000000064", 64),
-    ];
-    for (word, limit) in good {
-        assert!(rt; 64 <= limit && limit <= 16_777_216);
-        let words = ["vcdkit", "check", "--token-limit", word];
-        let job = asked(alloc, words.as_slice())?;
-        assert_eq!(rt; job, Ok(job_under(Want::Check, limit)));
+fn words_ask_for_a_want_and_a_limit(rt: HostRuntime) {
+    for (words, want, limit) in &ASKS {
+        ask(&rt, words, *want, *limit);
     }
-    let bad = [
-        "",
-        "0",
-        "63",
-        "16777217",
-        "000000000000000000064",
-        "18446744073709551680",
-        "99999999999999999999",
-        "+64",
-        "6 4",
-        "64 ",
-        "0x64",
-        "1e3",
-        "1_000",
-        "６４",
-    ];
-    for word in bad {
-        let words = ["vcdkit", "check", "--token-limit", word];
-        let job = asked(alloc, words.as_slice())?;
-        assert_eq!(rt; job, Err(UseFault::BadLimit(word)));
+}
+
+// Words that are token limits, and words that are none.
+const GOOD_LIMITS: [(&str, usize); 4] = [
+    ("64", 64),
+    ("065", 65),
+    ("16777216", 16_777_216),
+    ("00000000000000000064", 64),
+];
+
+const BAD_LIMITS: [&str; 14] = [
+    "",
+    "0",
+    "63",
+    "16777217",
+    "000000000000000000064",
+    "18446744073709551680",
+    "99999999999999999999",
+    "+64",
+    "6 4",
+    "64 ",
+    "0x64",
+    "1e3",
+    "1_000",
+    "６４",
+];
+
+#[test]
+fn a_token_limit_is_a_number_in_its_range(rt: HostRuntime) {
+    for (word, limit) in &GOOD_LIMITS {
+        let words = ["vcdkit", "check", "--token-limit", *word];
+        ask(&rt, &words, Words::Check, *limit);
     }
-    Ok(())
 }
 
 #[test]
-fn an_input_is_named_by_its_option(rt: HostRuntime) -> Result<(), Fail> {
-    let alloc = rt.alloc();
-    let inputs: [(&[&str], Option<&str>); 3] = [
-        (&["vcdkit", "check", "--token-limit", "64"], None),
-        (&["vcdkit", "list", "-i", "f.vcd"], Some("f.vcd")),
-        (&["vcdkit", "check", "-i", ""], Some("")),
-    ];
-    for (words, input) in inputs {
-        let matches = command_of(alloc)?.try_get_matches_from(words)?;
-        assert_eq!(rt; input_of(&matches), input, "of {words:?}");
+fn a_word_that_is_no_token_limit_is_refused(rt: HostRuntime) {
+    for word in &BAD_LIMITS {
+        let words = ["vcdkit", "check", "--token-limit", *word];
+        refuse(&rt, &words, UseFault::BadLimit(*word));
     }
-    let bare = Command::new(alloc, "vcdkit");
-    let matches = bare.try_get_matches_from(["vcdkit"].as_slice())?;
-    assert_eq!(rt; input_of(&matches), None);
-    Ok(())
 }
 
-#[test]
-fn a_pick_has_its_names(rt: HostRuntime) -> Result<(), Fail> {
-    let alloc = rt.alloc();
-    let job = asked(alloc, &["vcdkit", "pick", "tb.clk", "u"])?;
-    let wanted = pick_under(alloc, &["tb.clk", "u"], 1_048_576)?;
-    assert_eq!(rt; job, Ok(wanted));
-
-    let words = [
-        "vcdkit",
-        "pick",
-        "-i",
-        "f.vcd",
-        "b",
-        "--token-limit",
-        "64",
-        "a",
-        "b",
-    ];
-    let job = asked(alloc, words.as_slice())?;
-    assert_eq!(rt; job, Ok(pick_under(alloc, &["b", "a", "b"], 64)?));
-
-    Ok(())
-}
-
-#[test]
-fn a_name_may_be_any_text_after_two_dashes(rt: HostRuntime) -> Result<(), Fail> {
-    let alloc = rt.alloc();
-    let job = asked(alloc, &["vcdkit", "pick", "--", "-i", ""])?;
-    let wanted = pick_under(alloc, &["-i", ""], 1_048_576)?;
-    assert_eq!(rt; job, Ok(wanted));
-    Ok(())
-}
-
-#[test]
-fn a_pick_wants_a_good_limit_and_a_name(rt: HostRuntime) -> Result<(), Fail> {
-    let alloc = rt.alloc();
-    let job = asked(alloc, &["vcdkit", "pick", "a", "--token-limit", "63"])?;
-    assert_eq!(rt; job, Err(UseFault::BadLimit("63")));
-
-    let other = Command::new(alloc, "vcdkit").subcommand(Command::new(alloc, "pick"))?;
-    let matches = other.try_get_matches_from(["vcdkit", "pick"].as_slice())?;
-    assert_eq!(rt; job_of(alloc, &matches), Err(UseFault::BadWords));
-    Ok(())
-}
-
-#[test]
-fn a_cut_has_its_times(rt: HostRuntime) -> Result<(), Fail> {
-    let alloc = rt.alloc();
-    let good = [
-        ("4", "5"),
-        ("5", "5"),
-        ("9ns", "4"),
-        ("9", "4ns"),
-        ("0s", "1fs"),
-    ];
-    for (from, to) in good {
-        let words = ["vcdkit", "cut", "--from", from, "--to", to];
-        let job = asked(alloc, words.as_slice())?;
-        let cut = job_under(wanted(alloc, Words::Cut(from, to))?, 1_048_576);
-        assert_eq!(rt; job, Ok(cut), "from {from} to {to}");
+// Whether these words of a command line name this input.
+fn is_input<'a>(command: Command<'a>, words: &'a [&'a str], input: Option<&str>) -> bool {
+    match command.try_get_matches_from(words) {
+        Ok(matches) => input_of(&matches) == input,
+        Err(_) => false,
     }
-    let bad = [
-        ("5", "4", UseFault::FromAboveTo),
-        ("x", "y", UseFault::BadTime("x")),
-        ("5", "15NS", UseFault::BadTime("15NS")),
-        ("", "5", UseFault::BadTime("")),
-    ];
-    for (from, to, fault) in bad {
-        let words = ["vcdkit", "cut", "--from", from, "--to", to];
-        let job = asked(alloc, words.as_slice())?;
-        assert_eq!(rt; job, Err(fault), "from {from} to {to}");
+}
+
+// Whether these words name this input.
+fn is_input_named<'a>(
+    alloc: Global,
+    words: &'a [&'a str],
+    input: Option<&str>,
+) -> Result<bool, AllocError> {
+    Ok(is_input(command_of(alloc)?, words, input))
+}
+
+// Words, and the input that they name.
+const INPUTS: [(&[&str], Option<&str>); 3] = [
+    (&["vcdkit", "check", "--token-limit", "64"], None),
+    (&["vcdkit", "list", "-i", "f.vcd"], Some("f.vcd")),
+    (&["vcdkit", "check", "-i", ""], Some("")),
+];
+
+#[test]
+fn an_input_is_named_by_its_option(rt: HostRuntime) {
+    for (words, input) in &INPUTS {
+        let is = is_input_named(rt.alloc(), words, *input);
+        assert_eq!(rt; is, Ok(true), "of {words:?}");
     }
-    Ok(())
 }
 
 #[test]
-fn a_bad_limit_counts_before_bad_times(rt: HostRuntime) -> Result<(), Fail> {
-    let alloc = rt.alloc();
-    let words = [
-        "vcdkit",
-        "cut",
-        "--from",
-        "x",
-        "--to",
-        "5",
-        "--token-limit",
-        "63",
-    ];
-    let job = asked(alloc, words.as_slice())?;
-    assert_eq!(rt; job, Err(UseFault::BadLimit("63")));
-    Ok(())
+fn words_without_a_command_name_no_input(rt: HostRuntime) {
+    let bare = Command::new(rt.alloc(), "vcdkit");
+    assert!(rt; is_input(bare, &["vcdkit"], None));
 }
 
 #[test]
-fn a_cut_wants_both_times(rt: HostRuntime) -> Result<(), Fail> {
-    let alloc = rt.alloc();
+fn a_pick_has_its_names(rt: HostRuntime) {
+    ask(
+        &rt,
+        &["vcdkit", "pick", "tb.clk", "u"],
+        Words::Pick(&["tb.clk", "u"]),
+        LIMIT,
+    );
+    ask(
+        &rt,
+        &[
+            "vcdkit",
+            "pick",
+            "-i",
+            "f.vcd",
+            "b",
+            "--token-limit",
+            "64",
+            "a",
+            "b",
+        ],
+        Words::Pick(&["b", "a", "b"]),
+        64,
+    );
+}
+
+#[test]
+fn a_name_may_be_any_text_after_two_dashes(rt: HostRuntime) {
+    ask(
+        &rt,
+        &["vcdkit", "pick", "--", "-i", ""],
+        Words::Pick(&["-i", ""]),
+        LIMIT,
+    );
+}
+
+// A bad limit counts before bad times.
+#[test]
+fn a_bad_limit_is_refused_in_each_command(rt: HostRuntime) {
+    let fault = UseFault::BadLimit("63");
+    refuse(&rt, &["vcdkit", "pick", "a", "--token-limit", "63"], fault);
+    refuse(
+        &rt,
+        &[
+            "vcdkit",
+            "cut",
+            "--from",
+            "x",
+            "--to",
+            "5",
+            "--token-limit",
+            "63",
+        ],
+        fault,
+    );
+    refuse(
+        &rt,
+        &["vcdkit", "sample", "--at", "x", "--token-limit", "63"],
+        fault,
+    );
+}
+
+// Two times of a cut, and two that are refused with their fault.
+const GOOD_CUTS: [(&str, &str); 5] = [
+    ("4", "5"),
+    ("5", "5"),
+    ("9ns", "4"),
+    ("9", "4ns"),
+    ("0s", "1fs"),
+];
+
+const BAD_CUTS: [(&str, &str, UseFault<'static>); 4] = [
+    ("5", "4", UseFault::FromAboveTo),
+    ("x", "y", UseFault::BadTime("x")),
+    ("5", "15NS", UseFault::BadTime("15NS")),
+    ("", "5", UseFault::BadTime("")),
+];
+
+#[test]
+fn a_cut_has_its_times(rt: HostRuntime) {
+    for (from, to) in &GOOD_CUTS {
+        let words = ["vcdkit", "cut", "--from", *from, "--to", *to];
+        ask(&rt, &words, Words::Cut(*from, *to), LIMIT);
+    }
+}
+
+#[test]
+fn bad_times_of_a_cut_are_refused(rt: HostRuntime) {
+    for (from, to, fault) in &BAD_CUTS {
+        let words = ["vcdkit", "cut", "--from", *from, "--to", *to];
+        refuse(&rt, &words, *fault);
+    }
+}
+
+// A cut that may be without times.
+fn free_cut<'a>(alloc: Global) -> Result<Command<'a>, AllocError> {
     let from = Arg::new(alloc, "from").long("from");
     let to = Arg::new(alloc, "to").long("to");
-    let cut = Command::new(alloc, "cut").arg(from)?.arg(to)?;
-    let other = Command::new(alloc, "vcdkit").subcommand(cut)?;
-    let matches = other.try_get_matches_from(["vcdkit", "cut", "--to", "5"].as_slice())?;
-    assert_eq!(rt; job_of(alloc, &matches), Err(UseFault::BadWords));
-    Ok(())
+    Command::new(alloc, "cut").arg(from)?.arg(to)
+}
+
+// Whether such a cut is bad without the time that it begins at.
+fn is_bad_without_from(alloc: Global) -> Result<bool, AllocError> {
+    let program = Command::new(alloc, "vcdkit").subcommand(free_cut(alloc)?)?;
+    let words = ["vcdkit", "cut", "--to", "5"];
+    Ok(is_asked(alloc, program, &words, Err(UseFault::BadWords)))
 }
 
 #[test]
-fn a_sample_has_its_times_and_names(rt: HostRuntime) -> Result<(), Fail> {
-    let alloc = rt.alloc();
-    for at in ["5", "0,1,20", "9ns,4", "4,9ns", "5ns,5ns"] {
-        let words = ["vcdkit", "sample", "--at", at];
-        let job = asked(alloc, words.as_slice())?;
-        let all = job_under(wanted(alloc, Words::Sample(at, None))?, 1_048_576);
-        assert_eq!(rt; job, Ok(all), "at {at}");
+fn a_cut_wants_both_times(rt: HostRuntime) {
+    assert_eq!(rt; is_bad_without_from(rt.alloc()), Ok(true));
+}
 
-        let words = ["vcdkit", "sample", "b", "--at", at, "a"];
-        let job = asked(alloc, words.as_slice())?;
-        let some = wanted(alloc, Words::Sample(at, Some(&["b", "a"])))?;
-        assert_eq!(rt; job, Ok(job_under(some, 1_048_576)), "at {at}");
+// Times of a sample, and some that are refused with their fault.
+const GOOD_SAMPLES: [&str; 5] = ["5", "0,1,20", "9ns,4", "4,9ns", "5ns,5ns"];
+
+const BAD_SAMPLES: [(&str, UseFault<'static>); 6] = [
+    ("5,5", UseFault::NotRising),
+    ("1,3,2,4", UseFault::NotRising),
+    ("5,", UseFault::BadTime("")),
+    ("", UseFault::BadTime("")),
+    ("15NS", UseFault::BadTime("15NS")),
+    ("2,1,x,y", UseFault::BadTime("x")),
+];
+
+#[test]
+fn a_sample_has_its_times(rt: HostRuntime) {
+    for at in &GOOD_SAMPLES {
+        let words = ["vcdkit", "sample", "--at", *at];
+        ask(&rt, &words, Words::Sample(*at, None), LIMIT);
     }
-    let bad = [
-        ("5,5", UseFault::NotRising),
-        ("1,3,2,4", UseFault::NotRising),
-        ("5,", UseFault::BadTime("")),
-        ("", UseFault::BadTime("")),
-        ("15NS", UseFault::BadTime("15NS")),
-        ("2,1,x,y", UseFault::BadTime("x")),
-    ];
-    for (at, fault) in bad {
-        let words = ["vcdkit", "sample", "--at", at, "a"];
-        let job = asked(alloc, words.as_slice())?;
-        assert_eq!(rt; job, Err(fault), "at {at}");
-    }
-    Ok(())
 }
 
 #[test]
-fn a_sample_wants_a_good_limit_and_its_times(rt: HostRuntime) -> Result<(), Fail> {
-    let alloc = rt.alloc();
-    let words = ["vcdkit", "sample", "--at", "x", "--token-limit", "63"];
-    let job = asked(alloc, words.as_slice())?;
-    assert_eq!(rt; job, Err(UseFault::BadLimit("63")));
+fn a_sample_has_its_names(rt: HostRuntime) {
+    for at in &GOOD_SAMPLES {
+        let words = ["vcdkit", "sample", "b", "--at", *at, "a"];
+        ask(&rt, &words, Words::Sample(*at, Some(&["b", "a"])), LIMIT);
+    }
+}
 
-    let other = Command::new(alloc, "vcdkit").subcommand(Command::new(alloc, "sample"))?;
-    let matches = other.try_get_matches_from(["vcdkit", "sample"].as_slice())?;
-    assert_eq!(rt; job_of(alloc, &matches), Err(UseFault::BadWords));
-    Ok(())
+#[test]
+fn bad_times_of_a_sample_are_refused(rt: HostRuntime) {
+    for (at, fault) in &BAD_SAMPLES {
+        refuse(&rt, &["vcdkit", "sample", "--at", *at, "a"], *fault);
+    }
 }
