@@ -29,7 +29,7 @@ vcdkit: toolchain
 	cp crates/vcdkit/out/vcdkit $@
 
 test: toolchain
-	rt ci
+	.ci/run
 
 hostile: vcdkit
 	devices=$$(mktemp --suffix=.so) && cc -O1 -shared -fPIC -o $$devices hostile/devices.c -ldl && \
