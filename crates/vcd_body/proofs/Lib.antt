@@ -32,3 +32,5 @@ pub mod AheadLemmas
 pub mod LeftOut
 pub mod LineLemmas
 pub mod MarkLine
+pub mod AskedLemmas
+pub mod Results

@@ -12,3 +12,5 @@ pub mod Stored
 pub mod Ahead
 pub mod Spelled
 pub mod Taken
+pub mod Answer
+pub mod Device

@@ -6,7 +6,8 @@
 //! `item_ahead`, which leaves the feed where it is, and then takes the feed past all of them with `pass_items`. Where a change
 //! that it took stands in the chunk as the line that `put_change` would write, but for digits that it does not need (`left_out`
 //! counts them), it may be copied from there, and many such lines in a row at once. A `Table` keeps of each code its current
-//! value, three counters, and whether it is chosen. None of them takes memory.
+//! value, three counters, and whether it is chosen. What is done with all items ends with a `Done` or a `Stop`; `put_time` writes
+//! the line of a time. None of them takes memory.
 //!
 //! # The relation
 //!
@@ -32,13 +33,15 @@
 //! - `ahead`: `item_ahead`, and its parts, by what an item begins with; `pass_items`, `Plain`, `Opening`
 //! - `phrases`, `tokens`, `words`: phrases by what they begin with; the next token; what a token is, by its first byte
 //! - `item`, `fault`: `Item`, `Form`, `Section`, `Regs`; `BodyFault`
-//! - `change`: `put_change`; `renamed`: `put_renamed_change`, `put_renamed_bits`; `lines`: `left_out`
+//! - `answer`: `Done`, `More`, `Stop`: how a run over a body or several ends, and whether it goes on
+//! - `change`: `put_change`; `renamed`: `put_renamed_change`, `put_renamed_bits`; `lines`: `left_out`; `time_line`: `put_time`
 //! - `table`, `slot`: `Table`, `Shown`; `Slot`; `step`: `Step`, what became of a value that was set
 //! - `store`: slots and shares of the values, and how they are set; `packed`: digits in a share, a byte each or four to a byte
 //! - `bits`: `Bits`, up to 32 binary digits as a number, and how a slot holds them
 //! - `held`, `held_text`: the digits of a held value, and how it is written; `compare`: whether a change gives another one
 //!
-//! In `specs/` callers read `Items`, `Reads`, `Given`, `Ahead`, `Taken`, `Spelled` and `Fault`, and for the table `Contents` and `Kept`.
+//! In `specs/` callers read `Items`, `Reads`, `Given`, `Ahead`, `Taken`, `Spelled` and `Fault`; of a run's
+//! end `Answer`, and of what was written `Device`; for the table `Contents` and `Kept`.
 //!
 //! # Limits
 //!
@@ -49,6 +52,7 @@
 #![tactic(auto)]
 
 mod ahead;
+mod answer;
 mod bits;
 mod change;
 mod compare;
@@ -66,6 +70,7 @@ mod slot;
 mod step;
 mod store;
 mod table;
+mod time_line;
 mod tokens;
 mod words;
 
@@ -73,6 +78,7 @@ pub use ahead::{
     Opening, Plain, item_ahead, mark_ahead, opening_ahead, pass_items, real_ahead, scalar_ahead,
     vector_ahead,
 };
+pub use answer::{Done, More, Stop};
 pub use bits::Bits;
 pub use change::put_change;
 pub use fault::BodyFault;
@@ -83,4 +89,5 @@ pub use renamed::{put_renamed_bits, put_renamed_change};
 pub use slot::{Shown, Slot};
 pub use step::Step;
 pub use table::Table;
+pub use time_line::{put_time, put_time_unless};
 pub use words::First;

@@ -3,11 +3,11 @@ ghost use Rattle.std.specs.Prelude.{◌≡◌};
 
 use std::alloc::Global;
 use std::test::Fail;
-use vcd_body::Slot;
+use vcd_body::{Done, Slot, Stop};
 use vcd_head::{HeadFault, read_head};
 use vcd_text::doubles::Narrow;
 use vcd_text::{Feed, Sink, Source, Watch};
-use vcd_tools::{Done, Room, Span, Stop, Task, cut};
+use vcd_tools::{Room, Span, Task, cut};
 
 // A value of each kind, and one that is never set.
 const KINDS: &[u8] =

@@ -3,11 +3,11 @@ ghost use Rattle.std.specs.Prelude.{◌≡◌};
 
 use std::alloc::Global;
 use std::test::Fail;
-use vcd_body::Slot;
+use vcd_body::{Done, Slot, Stop};
 use vcd_head::{HeadFault, read_head};
 use vcd_text::doubles::Narrow;
 use vcd_text::{Feed, Sink, Source, Watch};
-use vcd_tools::{Done, Room, Stop, Task, edges};
+use vcd_tools::{Room, Task, edges};
 
 // A clock and four bits, with unknown digits, a change to the same value, and a section at the end.
 const CLOCKED: &[u8] =

@@ -4,11 +4,11 @@ ghost use Rattle.vcd_model.specs.Job.{do_rise};
 
 use std::alloc::Global;
 use std::test::Fail;
-use vcd_body::Slot;
+use vcd_body::{Done, Slot, Stop};
 use vcd_head::{HeadFault, read_head};
 use vcd_text::doubles::Narrow;
 use vcd_text::{Feed, Sink, Source, Watch};
-use vcd_tools::{Done, Room, Samples, Stop, Task, sample};
+use vcd_tools::{Room, Samples, Task, sample};
 
 // Vectors that are shorter than their variables.
 const SHORT: &[u8] =

@@ -7,11 +7,11 @@ ghost use Rattle.vcd_tools.specs.Room.{AreWithinBound, room_in, view_in};
 
 use std::alloc::Global;
 use std::test::Fail;
-use vcd_body::Slot;
+use vcd_body::{Done, More, Slot, Stop};
 use vcd_head::{Head, HeadFault, read_head};
 use vcd_text::doubles::{Narrow, Pieces};
 use vcd_text::{Feed, Sink, Source, Watch};
-use vcd_tools::{Begun, Done, Engine, More, Room, Stop, Task, check, list, pick};
+use vcd_tools::{Begun, Engine, Room, Task, check, list, pick};
 
 const NESTED: &[u8] =
     b"$var event 1 % go $end\n$scope module tb $end\n$var wire 1 ! clk $end\n$scope module u $end\n$var reg 4 \" q [3:0] $end\n$upscope $end\n$var real 1 # r $end\n$enddefinitions $end\n";

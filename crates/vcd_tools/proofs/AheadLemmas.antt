@@ -22,18 +22,19 @@ use Rattle.vcd_body.specs.Reads.{GaveItems}
 use Rattle.vcd_body.specs.declared.item.Item.{Item}
 use Rattle.vcd_body.specs.declared.item.Regs.{Regs}
 use Rattle.vcd_tools.specs.Ahead.{StandsAhead}
-use Rattle.vcd_tools.specs.Device.{Grows, GrowsSome}
+use Rattle.vcd_body.specs.Device.{Grows, GrowsSome}
 use Rattle.vcd_tools.specs.Engine.{CanRun, Keeps, Runs, last_of, request_of_engine}
 use Rattle.vcd_tools.specs.declared.engine.Engine.{Engine}
 use Rattle.vcd_tools.specs.declared.machine.Machine.{Machine}
 use Rattle.vcd_tools.specs.Ahead.{GaveOneAhead, RunsAhead}
 use Rattle.vcd_tools.specs.Pieces.{GrowsBut, held_in}
 use Rattle.vcd_tools.specs.declared.pieces.Pieces.{Pieces}
-use Rattle.vcd_tools.proofs.AskedLemmas.{split_last}
+use Rattle.vcd_body.proofs.AskedLemmas.{split_last}
 use Rattle.vcd_tools.proofs.PieceLemmas.{but_some, but_written}
 use Rattle.vcd_text.specs.Device.{Puts, WritesSome}
 use Rattle.std.specs.Prelude.{IfErr, IfOk}
-use Rattle.vcd_tools.proofs.EngineLemmas.{last_more, none_at, writes-none}
+use Rattle.vcd_tools.proofs.EngineLemmas.{last_more, none_at}
+use Rattle.vcd_body.proofs.Results.{writes-none}
 
 -- nothing is due with no item
 pub grows-none : (out : Device) (text : List ℕ) → Grows out out text text

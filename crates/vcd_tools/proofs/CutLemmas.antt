@@ -21,7 +21,7 @@ use Rattle.vcd_text.specs.Device.{Counts, Device, Takes}
 use Rattle.vcd_text.proofs.Writes.{AppendsSome, appends-first, appends-none, takes-failed, takes-first, takes-twice}
 use Rattle.std.specs.Io.KnownBytes.{Appends}
 use Rattle.vcd_tools.specs.Cut.{AreCut, BeginsBy, HasBegun, HasNone, IsNoMark, kept_from, may_be_kept, values_text}
-use Rattle.vcd_tools.specs.Device.{DueBy, TakesDue}
+use Rattle.vcd_body.specs.Device.{DueBy, TakesDue}
 use Rattle.vcd_tools.specs.Engine.{TakesOne, TakesOneBy, last_of}
 use Rattle.vcd_model.specs.Outcome.{Request}
 use Rattle.vcd_body.specs.Given.{IsItem}

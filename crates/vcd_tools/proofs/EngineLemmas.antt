@@ -13,7 +13,7 @@ use Rattle.vcd_model.specs.Tokens.{Token}
 use Rattle.vcd_text.specs.Feed.{token_of, seen}
 use Rattle.vcd_text.specs.declared.device.Source.{Ghosts}
 use Rattle.vcd_text.specs.declared.feed.Feed.{Feed}
-use Rattle.vcd_text.proofs.Writes.{appends-none}
+use Rattle.vcd_body.proofs.Results.{writes-none}
 use Rattle.vcd_body.specs.Given.{GivesItem, item_text, text_of}
 use Rattle.vcd_body.specs.Items.{regs_after, model_section, model_form}
 use Rattle.vcd_body.specs.Reads.{Fails, GaveAll, GaveItem, GaveItems}
@@ -22,21 +22,17 @@ use Rattle.vcd_body.specs.declared.fault.BodyFault.TheVariants.{ReadFailed}
 use Rattle.vcd_body.specs.declared.item.Item.{Item}
 use Rattle.vcd_body.specs.declared.item.Item.TheVariants.{Time, Begin, End, Change, Finish}
 use Rattle.vcd_body.specs.declared.item.Regs.{Regs}
-use Rattle.vcd_tools.specs.Answer.{stop_of_body}
-use Rattle.vcd_text.specs.Device.{Device, Writes}
+use Rattle.vcd_body.specs.Answer.{stop_of_body}
+use Rattle.vcd_text.specs.Device.{Device}
 use Rattle.vcd_tools.specs.Engine.{CanRun, Holds, Keeps, Runs, StopsAtStart, last_of, request_of_engine}
 use Rattle.vcd_body.specs.Given.{IsItem}
 use Rattle.vcd_tools.specs.ItemText.{AsItem}
 use Rattle.vcd_tools.specs.Selection.{IsFirstUnmatched}
 use Rattle.vcd_tools.specs.Step.{StepGives}
-use Rattle.vcd_tools.specs.declared.answer.Stop.{Stop}
-use Rattle.vcd_tools.specs.declared.answer.Stop.TheVariants.{Dump, Read, Write, Unmatched}
+use Rattle.vcd_body.specs.declared.answer.Stop.{Stop}
+use Rattle.vcd_body.specs.declared.answer.Stop.TheVariants.{Dump, Read, Write, Unmatched}
 use Rattle.vcd_tools.specs.declared.engine.Engine.{Engine}
 use Rattle.vcd_model.proofs.KeptLines.{last_or-snoc}
-
--- nothing is written
-pub writes-none : (out : Device) → Writes out out []
-writes-none out = (appends-none out.held, refl)
 
 -- ---- the begin
 

@@ -19,7 +19,7 @@ use Rattle.vcd_body.specs.Taken.{TakesItem}
 use Rattle.vcd_body.specs.declared.ahead.Plain.{Plain}
 use Rattle.vcd_body.specs.declared.item.Regs.{Regs}
 use Rattle.vcd_tools.specs.Ahead.{GaveOneAhead, StandsAhead}
-use Rattle.vcd_tools.specs.Device.{DueBy}
+use Rattle.vcd_body.specs.Device.{DueBy}
 use Rattle.vcd_tools.specs.Engine.{Keeps, TakesOne, TakesOneBy, request_in}
 use Rattle.vcd_tools.specs.Next.{TakesNext}
 use Rattle.vcd_tools.specs.Quiet.{TakesQuietly}

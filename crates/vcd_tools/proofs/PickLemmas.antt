@@ -16,7 +16,7 @@ use Rattle.vcd_body.specs.Items.{AreRegsAfter, regs_after}
 use Rattle.vcd_body.specs.declared.item.Item.{Item}
 use Rattle.vcd_body.specs.declared.item.Item.TheVariants.{Time, Begin, End, Change, Finish}
 use Rattle.vcd_body.specs.declared.item.Regs.{Regs}
-use Rattle.vcd_tools.specs.Device.{DueBy}
+use Rattle.vcd_body.specs.Device.{DueBy}
 use Rattle.vcd_tools.specs.Engine.{last_of}
 use Rattle.vcd_body.specs.Given.{IsItem}
 use Rattle.vcd_tools.specs.ItemText.{HasWritten, LastTells, times_with}

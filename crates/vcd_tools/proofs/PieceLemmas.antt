@@ -5,7 +5,7 @@ use Rattle.std.proofs.Math.Seq.{take-append-add}
 use Rattle.vcd_text.specs.Device.{Device, Puts, Writes, WritesSome}
 use Rattle.vcd_text.proofs.AheadLemmas.{length-ahead, slice_range-append}
 use Rattle.vcd_text.proofs.Writes.{both-written, some-behind, some-first}
-use Rattle.vcd_tools.specs.Device.{Grows, GrowsSome}
+use Rattle.vcd_body.specs.Device.{Grows, GrowsSome}
 use Rattle.std.specs.Borrow.{Bor}
 use Rattle.vcd_text.specs.Ahead.{bytes_of, passed_of}
 use Rattle.vcd_text.specs.declared.ahead.Ahead.{Ahead}
@@ -21,7 +21,7 @@ use Rattle.vcd_body.specs.declared.item.Item.TheVariants.{Time, Begin, End, Chan
 use Rattle.vcd_body.specs.declared.item.Regs.{Regs}
 use Rattle.vcd_tools.specs.Pieces.{GrowsBut, IsLine, Lies, PutsAll, PutsOn, IsPart, held_in}
 use Rattle.vcd_tools.specs.declared.pieces.Pieces.{Pieces}
-use Rattle.vcd_tools.proofs.EngineLemmas.{writes-none}
+use Rattle.vcd_body.proofs.Results.{writes-none}
 
 -- a part that begins where another ends
 pub joined : (bytes : List ℕ) (a b from to : ℕ) → a ≤ b → from ≡ b → from ≤ to → slice_range bytes a b ++ slice_range bytes from to ≡ slice_range bytes a to

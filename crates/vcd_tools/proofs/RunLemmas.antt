@@ -1,5 +1,5 @@
 -- What steps leave when the run has ended.
-use Rattle.std.proofs.Common.{◌≡◌, ℕ, ◌+◌, ◌||◌, inl, inr, Bool, true, false, List, [], ◌∷◌, ◌++◌, Option, Some, None, Result, Ok, Err, refl, sym, ap, subst, ◌∙◌, append-nil, append_assoc, arith}
+use Rattle.std.proofs.Common.{◌≡◌, ℕ, ◌+◌, ◌||◌, inl, inr, Bool, true, false, List, [], ◌∷◌, ◌++◌, Option, Some, None, Result, Ok, Err, is_some, refl, sym, ap, subst, ◌∙◌, append-nil, append_assoc, arith}
 use Rattle.std.specs.Prelude.{IfErr, IfOk}
 use Rattle.std.specs.List.{list_any}
 use Rattle.vcd_model.specs.Backward.{up_to_first}
@@ -14,7 +14,7 @@ use Rattle.vcd_model.specs.Selection.{first_unmatched}
 use Rattle.vcd_model.specs.Reading.{Fault}
 use Rattle.vcd_model.proofs.CutGrows.{goes_on}
 use Rattle.vcd_model.proofs.Revised.{nothing_revised}
-use Rattle.vcd_model.specs.Settled.{is_settled_behind}
+use Rattle.vcd_model.specs.Settled.{header_settles, is_settled_behind}
 use Rattle.vcd_model.proofs.SoFarLemmas.{so_far-nothing}
 use Rattle.vcd_text.specs.Answer.{failed_after}
 use Rattle.vcd_text.specs.Feed.{HasGiven, chunk_len_of, limit_of, seen, source_of, supply_of, token_of}
@@ -26,23 +26,23 @@ use Rattle.vcd_text.proofs.Writes.{AppendsSome, appends-first, both-written, som
 use Rattle.vcd_body.specs.Ahead.{GaveLast}
 use Rattle.vcd_body.specs.Reads.{BodyHas, GaveAll}
 use Rattle.vcd_body.specs.declared.item.Regs.{Regs}
-use Rattle.vcd_tools.specs.Answer.{reads_failed}
+use Rattle.vcd_body.specs.Answer.{IsLeft, reads_failed}
 use Rattle.vcd_text.specs.Device.{Device, Supply, Writes, WritesSome}
-use Rattle.vcd_tools.specs.Device.{Grows, GrowsSome}
+use Rattle.vcd_body.specs.Device.{Grows, GrowsSome}
 use Rattle.vcd_model.proofs.MergeSoFar.{fault_output}
 use Rattle.vcd_tools.specs.Engine.{CanRun, Holds, Runs, StopsAtStart, reads_body, request_of_engine}
-use Rattle.vcd_tools.specs.Run.{Belongs, Follows, IsLeft, IsRefused, is_early}
+use Rattle.vcd_tools.specs.Run.{Belongs, Follows, IsRefused, is_early}
 use Rattle.vcd_body.proofs.CallerLemmas.{last_given}
 use Rattle.vcd_tools.proofs.AheadLemmas.{grows_on, some_on}
-use Rattle.vcd_tools.proofs.AskedLemmas.{read_to_end, read_to_item, read_to_stop}
+use Rattle.vcd_body.proofs.AskedLemmas.{read_to_end, read_to_item, read_to_stop}
 use Rattle.vcd_tools.specs.Step.{LastGives, StepGives, StepsGive, TakesAhead, step_end}
 use Rattle.vcd_text.specs.Advances.{Advances, HasNotFailed}
-use Rattle.vcd_tools.specs.declared.answer.Done.{Done}
-use Rattle.vcd_tools.specs.declared.answer.Done.TheVariants.{Whole, Early}
-use Rattle.vcd_tools.specs.declared.answer.More.{More}
-use Rattle.vcd_tools.specs.declared.answer.More.TheVariants.{Again, Ended}
-use Rattle.vcd_tools.specs.declared.answer.Stop.{Stop}
-use Rattle.vcd_tools.specs.declared.answer.Stop.TheVariants.{Dump, Read, Write, Unmatched}
+use Rattle.vcd_body.specs.declared.answer.Done.{Done}
+use Rattle.vcd_body.specs.declared.answer.Done.TheVariants.{Whole, Early}
+use Rattle.vcd_body.specs.declared.answer.More.{More}
+use Rattle.vcd_body.specs.declared.answer.More.TheVariants.{Again, Ended}
+use Rattle.vcd_body.specs.declared.answer.Stop.{Stop}
+use Rattle.vcd_body.specs.declared.answer.Stop.TheVariants.{Dump, Read, Write, Unmatched}
 use Rattle.vcd_tools.specs.declared.engine.Engine.{Engine}
 use Rattle.vcd_tools.proofs.EngineLemmas.{none_at}
 use Rattle.vcd_model.proofs.BodyPrefix.{items_begin}
@@ -57,6 +57,18 @@ runs_first e h i front f s st = record {
   on = refl;
   few = omega arith;
 }
+
+-- ---- what settles it
+
+-- a header under which a request can be run does not settle it
+goes_behind : (t : Request) (h : Header) → CanRun t h → header_settles t h ≡ false
+goes_behind Request.Check h can = ap is_some can.matched
+goes_behind Request.Listing h can = let body = can.body in cc
+goes_behind (Request.Pick names) h can = ap is_some can.matched
+goes_behind (Request.Cut from to) h can = ap is_some can.matched
+goes_behind (Request.Sample times names) h can = ap is_some can.matched
+goes_behind (Request.Edges names) h can = ap is_some can.matched
+goes_behind Request.Merge h can = ap is_some can.matched
 
 -- ---- the outcome of a body
 
@@ -117,7 +129,7 @@ module _ {X : Type 0} {g : Ghosts X} (t : Request) (h : Header) (i : Input) (fro
 
   -- a write of what is due behind the items and at the end of the body failed
   pub stopped_close : (r : Regs) → (supply_of f).failures ≡ before.failures → GaveAll h.codes i front items f r → WritesSome out new (open_text t h items ++ close_text t h items) → Follows t limit chunk i front h name before (supply_of f) out new (Err Write)
-  stopped_close r q has some = follows i None (Err Write) (inl (q, refl)) has.has (read_to_end t h i front items f limit chunk before same size can on r has) tt tt some
+  stopped_close r q has some = follows i None (Err Write) (inl (q, refl)) has.has (read_to_end t h i front items f limit chunk before same size (goes_behind t h can) on r has) tt tt some
 
 -- `mid` holds what is due behind these items; a step took the run from there to `new`
 module _ {X : Type 0} {g : Ghosts X} (t : Request) (h : Header) (i : Input) (front : List Token) (items : List BodyItem) (name : List ℕ) (limit chunk : ℕ) (before : Supply) (out mid new : Device) (can : CanRun t h) (on : list_any (ends_early t) items ≡ false) (open_is : Writes out mid (open_text t h items)) (f : Feed X g) (same : limit_of f ≡ limit) (size : chunk_len_of f ≡ chunk) where
@@ -135,14 +147,14 @@ module _ {X : Type 0} {g : Ghosts X} (t : Request) (h : Header) (i : Input) (fro
   module _ (e : Engine) where
     -- the run has ended, with the body
     pub ended_whole : (supply_of f).failures ≡ before.failures → StepGives t h i front items e f mid new (Ok (Ended Whole)) → Follows t limit chunk i front h name before (supply_of f) out new (Ok Whole)
-    ended_whole q s = follows_step i None (Ok Whole) (inl (q, refl)) s.0.has (read_to_end t h i front items f limit chunk before same size can on e.regs s.0) refl tt (refl, both-written out mid new (open_text t h items) (close_text t h items) open_is s.1)
+    ended_whole q s = follows_step i None (Ok Whole) (inl (q, refl)) s.0.has (read_to_end t h i front items f limit chunk before same size (goes_behind t h can) on e.regs s.0) refl tt (refl, both-written out mid new (open_text t h items) (close_text t h items) open_is s.1)
 
     -- the run has stopped at a fault
     pub stopped_dump : (input line fault : ℕ) → (supply_of f).failures ≡ before.failures → StepGives t h i front items e f mid new (Err (Dump input line fault)) → Follows t limit chunk i front h name before (supply_of f) out new (Err (Dump input line fault))
     stopped_dump input line fault q s =
         let b = faulty fault line s.4 in
         let has = subst (λ (n : ℕ). BodyHas h.codes i front (limit_of f) items (Some (record { number = fault; line = n }))) (sym s.2) s.3.0 in
-        follows_step i (Some (record { number = fault; line = line })) (Err (Dump input line fault)) (inl (q, refl)) has (read_to_stop t h i front items f limit chunk before same size can on s.3.1) tt tt (s.0, b.0, s.1, b.1)
+        follows_step i (Some (record { number = fault; line = line })) (Err (Dump input line fault)) (inl (q, refl)) has (read_to_stop t h i front items f limit chunk before same size (goes_behind t h can) on s.3.1) tt tt (s.0, b.0, s.1, b.1)
 
     -- a read failed
     pub stopped_read : (input : ℕ) → (supply_of f).failures ≡ before.failures + 1 → StepGives t h i front items e f mid new (Err (Read input)) → Follows t limit chunk i front h name before (supply_of f) out new (Err (Read input))
@@ -150,7 +162,7 @@ module _ {X : Type 0} {g : Ghosts X} (t : Request) (h : Header) (i : Input) (fro
         let left = failed_after (seen f) i in
         let line = (token_of f).line in
         let b = faulty 31 line s.3 in
-        follows_step left (Some (record { number = 31; line = line })) (Err (Read input)) (inr (q, seen f, refl, s.2)) s.1.0 (read_to_stop t h left front items f limit chunk before same size can on s.1.1) tt tt (s.0, (line, b.0), b.1)
+        follows_step left (Some (record { number = 31; line = line })) (Err (Read input)) (inr (q, seen f, refl, s.2)) s.1.0 (read_to_stop t h left front items f limit chunk before same size (goes_behind t h can) on s.1.1) tt tt (s.0, (line, b.0), b.1)
 
 -- ---- runs that end before their body
 
@@ -216,7 +228,7 @@ module _ {X : Type 0} {g : Ghosts X} (t : Request) (h : Header) (i : Input) (fro
         rest = rest;
         tokens = ap (λ n. (stream_of n i).tokens) (sym same) ∙ first.1 ∙ append_assoc front gave.given first.0;
         belongs = subst (λ (o : Outcome). Belongs t o name out new a) (sym is) (belongs b.0 fault);
-        read = read_to_item t h i front items f limit chunk before same size can on x r m;
+        read = read_to_item t h i front items f limit chunk before same size (goes_behind t h can) on x r m;
         early = subst (λ l. IfOk a (λ done. is_early done ≡ list_any (ends_early t) l)) (sym items_are) (early b.0);
         refused = refused;
       }

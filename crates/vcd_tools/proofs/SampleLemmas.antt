@@ -22,7 +22,7 @@ use Rattle.vcd_body.specs.declared.item.Item.{Item}
 use Rattle.vcd_body.specs.declared.item.Item.TheVariants.{Time, Begin, End, Change, Finish}
 use Rattle.vcd_body.specs.declared.item.Section.{Section}
 use Rattle.vcd_body.specs.declared.table.Table.{Table}
-use Rattle.vcd_tools.specs.Device.{TakesDue}
+use Rattle.vcd_body.specs.Device.{TakesDue}
 use Rattle.vcd_tools.specs.Engine.{TakesOne}
 use Rattle.vcd_body.specs.Given.{IsItem}
 use Rattle.vcd_tools.specs.Quiet.{TakesQuietly}

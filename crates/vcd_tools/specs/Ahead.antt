@@ -9,7 +9,7 @@ use Rattle.vcd_text.specs.Device.{Device}
 use Rattle.vcd_body.specs.Ahead.{GaveAhead}
 use Rattle.vcd_body.specs.Items.{AreRegsAfter}
 use Rattle.vcd_body.specs.declared.item.Regs.{Regs}
-use Rattle.vcd_tools.specs.Device.{Grows, GrowsSome}
+use Rattle.vcd_body.specs.Device.{Grows, GrowsSome}
 use Rattle.vcd_tools.specs.Engine.{Keeps, last_of}
 use Rattle.vcd_tools.specs.Several.{TakesSeveral}
 use Rattle.vcd_tools.specs.declared.machine.Machine.{Machine}

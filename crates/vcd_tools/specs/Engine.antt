@@ -18,13 +18,13 @@ use Rattle.vcd_body.specs.Reads.{GaveItems}
 use Rattle.vcd_body.specs.declared.item.Regs.{Regs}
 use Rattle.vcd_tools.specs.Check.{AreCounted}
 use Rattle.vcd_text.specs.Device.{Device, Takes, Writes, WritesSome}
-use Rattle.vcd_tools.specs.Device.{DueBy}
+use Rattle.vcd_body.specs.Device.{DueBy}
 use Rattle.vcd_tools.specs.Cut.{AreCut, span_in}
 use Rattle.vcd_tools.specs.Edges.{AreEdges, names_counted}
 use Rattle.vcd_tools.specs.Pick.{ArePicked, names_in}
 use Rattle.vcd_tools.specs.Sample.{AreSampled, asked_in}
-use Rattle.vcd_tools.specs.declared.answer.Stop.{Stop}
-use Rattle.vcd_tools.specs.declared.answer.Stop.TheVariants.{Write, Unmatched}
+use Rattle.vcd_body.specs.declared.answer.Stop.{Stop}
+use Rattle.vcd_body.specs.declared.answer.Stop.TheVariants.{Write, Unmatched}
 use Rattle.vcd_tools.specs.declared.engine.Begun.{Begun}
 use Rattle.vcd_tools.specs.declared.engine.Engine.{Engine}
 use Rattle.vcd_tools.specs.declared.machine.Machine.{Machine}

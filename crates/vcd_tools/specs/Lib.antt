@@ -1,5 +1,3 @@
-pub mod Device
-pub mod Answer
 pub mod Choice
 pub mod Room
 pub mod Run
@@ -17,17 +15,5 @@ pub mod Several
 pub mod Pieces
 pub mod Ahead
 pub mod Step
-pub mod Seat
-pub mod SeatStep
-pub mod MergeAhead
-pub mod MergeOrder
-pub mod MergeTurns
-pub mod Order
-pub mod MergeParts
-pub mod MergeRoom
-pub mod MergeStep
-pub mod MergeTrail
-pub mod MergeRun
-pub mod MergeStart
 pub mod Next
 pub mod Quiet

@@ -1,24 +1,20 @@
 -- What a run over a body leaves: what is left of the input, how much of it was read, and what stands on the output.
-use Rattle.std.specs.Prelude.{◌≡◌, ℕ, List, ◌++◌, Result, IfOk, IfErr, ◌+◌, ◌==◌, ◌⊎◌, Bool, true, false, Some, Ok, Err}
+use Rattle.std.specs.Prelude.{◌≡◌, ℕ, List, ◌++◌, Result, IfOk, IfErr, ◌==◌, Bool, true, false, Some, Ok, Err}
 use Rattle.std.specs.List.{list_any}
 use Rattle.vcd_model.specs.BodyReading.{read_body, body_items}
-use Rattle.vcd_model.specs.Input.{Clean, Input}
+use Rattle.vcd_model.specs.Input.{Input}
 use Rattle.vcd_model.specs.Tokens.{Token, stream_of}
 use Rattle.vcd_model.specs.Header.{Header}
 use Rattle.vcd_model.specs.Outcome.{Request, names_of, Outcome, clean_outcome, ends_early, fault_outcome, name_at, over_dump, unmatched_outcome}
 use Rattle.vcd_model.specs.Selection.{first_unmatched}
 use Rattle.vcd_model.specs.Settled.{is_settled_behind}
-use Rattle.vcd_text.specs.Answer.{failed_after}
 use Rattle.vcd_text.specs.Device.{Device, Supply, Writes, WritesSome}
-use Rattle.vcd_text.specs.ReadAhead.{HasRest, ReadsAsNeeded}
-use Rattle.vcd_tools.specs.declared.answer.Stop.{Stop}
-use Rattle.vcd_tools.specs.declared.answer.Stop.TheVariants.{Dump, Read, Write, Unmatched}
-use Rattle.vcd_tools.specs.declared.answer.Done.{Done}
-use Rattle.vcd_tools.specs.declared.answer.Done.TheVariants.{Whole, Early}
-
--- what is left of an input: all of it; or, where a read failed, what its source gave until then, which has the others still
-abbrev pub IsLeft : Input → (old new : Supply) → Input → Type 0
-IsLeft i old new left = ((new.failures ≡ old.failures) × (left ≡ i)) ⊎ ((new.failures ≡ old.failures + 1) × (n : ℕ) × (left ≡ failed_after n i) × (i.mark ≡ Clean → HasRest new.rest n i))
+use Rattle.vcd_text.specs.ReadAhead.{ReadsAsNeeded}
+use Rattle.vcd_body.specs.Answer.{IsLeft}
+use Rattle.vcd_body.specs.declared.answer.Stop.{Stop}
+use Rattle.vcd_body.specs.declared.answer.Stop.TheVariants.{Dump, Read, Write, Unmatched}
+use Rattle.vcd_body.specs.declared.answer.Done.{Done}
+use Rattle.vcd_body.specs.declared.answer.Done.TheVariants.{Whole, Early}
 
 -- the answer and the output of a run of this task over the one input, which has this name and this outcome; a failed write leaves a prefix of the output
 abbrev pub Belongs : Request → Outcome → List ℕ → Device → Device → Result Done Stop → Type 0

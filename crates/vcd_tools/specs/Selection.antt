@@ -6,8 +6,8 @@ use Rattle.vcd_model.specs.Selection.{first_unmatched, selected, selects_code}
 use Rattle.vcd_head.specs.Marks.{marks_of}
 use Rattle.vcd_tools.specs.Choice.{is_chosen}
 use Rattle.vcd_tools.specs.declared.choice.Choice.{Choice}
-use Rattle.vcd_tools.specs.declared.answer.Stop.{Stop}
-use Rattle.vcd_tools.specs.declared.answer.Stop.TheVariants.{Unmatched}
+use Rattle.vcd_body.specs.declared.answer.Stop.{Stop}
+use Rattle.vcd_body.specs.declared.answer.Stop.TheVariants.{Unmatched}
 
 -- of the codes those of the variables that these names select are chosen, and no others
 abbrev pub AreChosen : List (List ℕ) → Header → Choice → Type 0

@@ -1,5 +1,5 @@
 -- What a step of an engine leaves.
-use Rattle.std.specs.Prelude.{◌≡◌, List, ◌++◌, Result, ◌==◌, ◌⊎◌, Bool, true, false, [], ◌∷◌, Ok, Err}
+use Rattle.std.specs.Prelude.{◌≡◌, List, ◌++◌, Result, ◌==◌, ◌⊎◌, true, false, [], ◌∷◌, Ok, Err}
 use Rattle.vcd_model.specs.Items.{BodyItem}
 use Rattle.vcd_model.specs.Input.{Input}
 use Rattle.vcd_model.specs.Tokens.{Token}
@@ -12,13 +12,13 @@ use Rattle.vcd_text.specs.Feed.{GaveOnlySeen, seen, token_of}
 use Rattle.vcd_text.specs.Advances.{CallEnd}
 use Rattle.vcd_body.specs.Ahead.{GaveLast}
 use Rattle.vcd_body.specs.Reads.{FailsOver, GaveAll, GaveItem}
-use Rattle.vcd_tools.specs.declared.answer.Stop.{Stop}
-use Rattle.vcd_tools.specs.declared.answer.Stop.TheVariants.{Dump, Read, Write, Unmatched}
+use Rattle.vcd_body.specs.declared.answer.Stop.{Stop}
+use Rattle.vcd_body.specs.declared.answer.Stop.TheVariants.{Dump, Read, Write, Unmatched}
 use Rattle.vcd_text.specs.Device.{Device, Writes}
-use Rattle.vcd_tools.specs.Device.{Grows, GrowsSome}
-use Rattle.vcd_tools.specs.declared.answer.Done.TheVariants.{Whole, Early}
-use Rattle.vcd_tools.specs.declared.answer.More.{More}
-use Rattle.vcd_tools.specs.declared.answer.More.TheVariants.{Again, Ended}
+use Rattle.vcd_body.specs.Device.{Grows, GrowsSome}
+use Rattle.vcd_body.specs.declared.answer.Done.TheVariants.{Whole, Early}
+use Rattle.vcd_body.specs.declared.answer.More.{More}
+use Rattle.vcd_body.specs.declared.answer.More.TheVariants.{Again, Ended}
 use Rattle.vcd_tools.specs.declared.engine.Engine.{Engine}
 use Rattle.vcd_tools.specs.Engine.{Runs}
 use Rattle.vcd_tools.specs.Several.{TakesSeveral}
@@ -60,11 +60,6 @@ AheadGives task h i front items e f out out' result more = LastGives task h i fr
 -- some items were taken, and then this
 abbrev pub TakesAhead : {X : Type 0} {g : Ghosts X} → Request → Header → Input → List Token → List BodyItem → Engine → Feed X g → Device → Device → Result More Stop → Type 0
 TakesAhead task h i front items e f out out' result = TakesSeveral task items (AheadGives task h i front items e f out out' result)
-
--- the answer is that the run goes on
-abbrev pub goes_on : Result More Stop → Bool
-goes_on (Ok Again) = true
-goes_on result = false
 
 -- how a step ends for the feed that it reads
 abbrev pub step_end : Result More Stop → CallEnd

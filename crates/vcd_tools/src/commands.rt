@@ -8,16 +8,16 @@ ghost use Rattle.vcd_text.specs.Feed.{HasGiven, SameLoans, source_of, supply_of,
 ghost use Rattle.vcd_head.specs.Views.{IsViewOf};
 ghost use Rattle.vcd_text.specs.Advances.{HasNotFailed};
 ghost use Rattle.vcd_tools.specs.Run.{Follows};
-ghost use Rattle.vcd_tools.specs.Answer.{reads_failed, writes_failed};
+ghost use Rattle.vcd_body.specs.Answer.{reads_failed, writes_failed};
 ghost use Rattle.vcd_model.specs.Bound.{no_room};
 ghost use Rattle.vcd_tools.specs.Room.{AreWithinBound, HasRoomFor, room_size};
-ghost use Rattle.vcd_tools.specs.declared.answer.Done.TheVariants.{Whole};
+ghost use Rattle.vcd_body.specs.declared.answer.Done.TheVariants.{Whole};
 
-use crate::answer::{Done, Stop};
 use crate::engine::run_task;
 use crate::samples::Samples;
 use crate::span::Span;
 use crate::task::{Room, Task};
+use vcd_body::{Done, Stop};
 use vcd_head::HeadView;
 use vcd_text::{Feed, Sink, Source};
 

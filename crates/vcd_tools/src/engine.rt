@@ -11,21 +11,20 @@ ghost use Rattle.vcd_head.specs.Views.{IsViewOf};
 ghost use Rattle.vcd_text.specs.Advances.{Advances, CallEnd, HasNotFailed};
 ghost use Rattle.vcd_body.specs.Given.{item_text};
 ghost use Rattle.vcd_body.specs.declared.item.Item.TheVariants.{Finish};
-ghost use Rattle.vcd_tools.specs.Answer.{reads_failed, writes_failed};
+ghost use Rattle.vcd_body.specs.Answer.{goes_on, reads_failed, writes_failed};
 ghost use Rattle.vcd_text.specs.Device.{Counts, Device, Takes, Writes, failures_after};
 ghost use Rattle.vcd_tools.specs.Engine.{CanRun, HasBegun, Holds, Runs, Starts, StopsUnread, is_going, may_end_early, request_of, request_of_begun, request_of_engine};
 ghost use Rattle.vcd_tools.specs.Room.{AreWithinBound, HasRoomFor, IsWithin, room_in, room_of_begun, room_size, view_in};
 ghost use Rattle.vcd_tools.specs.Run.{Follows};
-ghost use Rattle.vcd_tools.specs.Step.{StepGives, StepsGive, TakesAhead, goes_on, step_end};
-ghost use Rattle.vcd_tools.specs.declared.answer.Done.TheVariants.{Early};
-ghost use Rattle.vcd_tools.specs.declared.answer.More.TheVariants.{Again, Ended};
-ghost use Rattle.vcd_tools.specs.declared.answer.Stop.TheVariants.{Write};
+ghost use Rattle.vcd_tools.specs.Step.{StepGives, StepsGive, TakesAhead, step_end};
+ghost use Rattle.vcd_body.specs.declared.answer.Done.TheVariants.{Early};
+ghost use Rattle.vcd_body.specs.declared.answer.More.TheVariants.{Again, Ended};
+ghost use Rattle.vcd_body.specs.declared.answer.Stop.TheVariants.{Write};
 
-use crate::answer::{Done, More, Stop};
 use crate::gathered::Gathered;
 use crate::machine::Machine;
 use crate::task::{Room, Task};
-use vcd_body::{Item, Regs, change_text, next_item, pass_items};
+use vcd_body::{Done, Item, More, Regs, Stop, change_text, next_item, pass_items};
 use vcd_head::HeadView;
 use vcd_text::{Feed, Sink, Source, WriteFailed};
 

@@ -4,56 +4,28 @@ ghost use Rattle.vcd_model.specs.Bytes.{as_line};
 ghost use Rattle.vcd_model.specs.BodyPhrases.{section_keyword};
 ghost use Rattle.vcd_model.specs.Header.{Header};
 ghost use Rattle.vcd_model.specs.Items.{BodyItem, Entry};
-ghost use Rattle.vcd_model.specs.ItemText.{closing, item_line, text_after, time_line};
+ghost use Rattle.vcd_model.specs.ItemText.{closing, item_line, text_after};
 ghost use Rattle.vcd_model.specs.ItemText.{time_due};
 ghost use Rattle.vcd_model.specs.Keywords.{keyword_text};
-ghost use Rattle.vcd_text.specs.Device.{Counts, Puts, Takes, failures_after};
+ghost use Rattle.vcd_text.specs.Device.{Counts, Takes, failures_after};
 ghost use Rattle.vcd_head.specs.Views.{IsViewOf};
 ghost use Rattle.vcd_body.specs.Given.{HasGoodText};
 ghost use Rattle.vcd_body.specs.Items.{model_section};
-ghost use Rattle.vcd_tools.specs.Device.{DueBy, TakesDue};
+ghost use Rattle.vcd_body.specs.Device.{DueBy, TakesDue};
 ghost use Rattle.vcd_body.specs.Given.{IsItem};
 ghost use Rattle.vcd_body.specs.Spelled.{bytes_without};
 ghost use Rattle.vcd_tools.specs.ItemText.{HasWritten, LastTells, times_with};
 ghost use Rattle.vcd_tools.specs.Pieces.{IsLine, IsPart, Lies, PutsOn, held_in};
 
 use crate::pieces::{Lying, Pieces};
-use vcd_body::{Form, Item, Section, put_change};
+use vcd_body::{Form, Item, Section, put_change, put_time_unless};
 use vcd_head::HeadView;
-use vcd_text::{Sink, WriteFailed, put, put_number};
+use vcd_text::{Sink, WriteFailed, put};
 
 /// The text of kept items, as far as it goes on from here: the time whose line was written last.
 #[derive(Clone, Copy)]
 pub(crate) struct ItemText {
     written: Option<u64>,
-}
-
-/// Writes the line of a time.
-#[cold]
-#[inline(never)]
-pub(crate) fn put_time<W: Sink>(time: u64, out: &mut W) -> Result<(), WriteFailed>
-    requires { (W.device out.old).failures < 2 ^ 64 - 1 }
-    ensures { Puts (W.device out.old) (W.device out.new) (time_line time) result }
-{
-    put(out, b"#")?;
-    put_number(out, time)?;
-    put(out, b"\n")
-}
-
-/// Writes the line of a time, unless it was written last.
-#[inline(always)]
-pub(crate) fn put_time_unless<W: Sink>(
-    written: Option<u64>,
-    time: u64,
-    out: &mut W,
-) -> Result<(), WriteFailed>
-    requires { (W.device out.old).failures < 2 ^ 64 - 1 }
-    ensures { Puts (W.device out.old) (W.device out.new) (time_due written time) result }
-{
-    if written == Some(time) {
-        return Ok(());
-    }
-    put_time(time, out)
 }
 
 /// The keyword that begins a section, as its line.

@@ -23,7 +23,6 @@
 //! - `machine`, and under it `check`, `pick`, `cut`, `sample`, `edges`: what each task keeps between items, and what it does at the
 //!   begin, with an item and at the end
 //! - `commands`: `check`, `pick`, `cut`, `sample`, `edges`
-//! - `answer`: `Done`, `More`, `Stop`: how a run ends, and whether it goes on
 //! - `choice`: which codes are chosen, a byte a code
 //! - `item_text`: kept items as lines, each after the line of its time
 //! - `pieces`: text that is due and stands in the chunk, which is written at once; `gathered`: short pieces of it, copied together
@@ -31,13 +30,9 @@
 //! - `report`, `rows`, `tally`: the seven lines of `check`; `list`; the counters of `edges`, and its rows
 //! - `values`: the values of codes, with one item more
 //! - `samples`, `sample_lines`: `Samples`, what a sample is asked for; its lines
-//! - `whole_merge`: `merge`
-//! - `beginning`, `merge_state`, `merge_steps`, `turns`, `order`, `merging`, `seat`, `windows`: what a merge adds to each input where
-//!   it begins; `Merge`; its begin, a step of it over all inputs, and the loop over its steps; whose turn it is, and in which order
-//!   the others wait; a step of one input; where an input stands; the windows of all inputs
 //!
-//! In `specs/` callers read `Run` (`Follows`), `Engine`, `Step`, `Room` and `Answer`; of a merge `MergeRun` (its
-//! `Follows`), `MergeStart`, `MergeStep`, `MergeParts`, `MergeRoom`, `MergeOrder` and `Seat`.
+//! In `specs/` callers read `Run` (`Follows`), `Engine`, `Step` and `Room`. How a run ends, `Done`, `More` and `Stop`, is of
+//! `vcd_body`.
 //!
 //! # Limits
 //!
@@ -47,42 +42,26 @@
 //! Not promised: how many bytes of the output were written where a write failed, and what room holds after a run.
 #![tactic(auto)]
 
-mod answer;
-mod beginning;
 mod choice;
 mod commands;
 mod engine;
 mod gathered;
 mod item_text;
 mod machine;
-mod merge_state;
-mod merge_steps;
-mod merging;
-mod order;
 mod pieces;
 mod report;
 mod rows;
 mod sample_lines;
 mod samples;
-mod seat;
 mod selection;
 mod span;
 mod tally;
 mod task;
-mod turns;
 mod values;
-mod whole_merge;
-mod windows;
 
-pub use answer::{Done, More, Stop};
 pub use commands::{check, cut, edges, pick, sample};
 pub use engine::{Begun, Engine, run_task};
-pub use merge_state::Merge;
-pub use merge_steps::merge_step;
 pub use rows::list;
 pub use samples::Samples;
-pub use seat::Seat;
 pub use span::Span;
 pub use task::{Room, Task};
-pub use whole_merge::merge;
-pub use windows::Windows;

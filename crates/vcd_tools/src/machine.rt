@@ -16,7 +16,7 @@ ghost use Rattle.vcd_body.specs.declared.item.Item.TheVariants as kind;
 ghost use Rattle.vcd_tools.specs.Ahead.{RunsAhead, StandsAhead};
 ghost use Rattle.vcd_body.specs.Taken.{TakesItem};
 ghost use Rattle.vcd_tools.specs.Next.{TakesNext, copies_each, is_left, takes_each};
-ghost use Rattle.vcd_tools.specs.Answer.{writes_failed};
+ghost use Rattle.vcd_body.specs.Answer.{writes_failed};
 ghost use Rattle.vcd_tools.specs.Engine.{Keeps, Starts, StopsUnread, TakesOne, TakesOneBy, last_of, may_end_early, request_in, request_of};
 ghost use Rattle.vcd_body.specs.Given.{IsItem};
 ghost use Rattle.vcd_tools.specs.Pieces.{IsLine, IsPart, Lies, PutsOn, held_in};
@@ -28,12 +28,12 @@ pub(crate) mod edges;
 pub(crate) mod pick;
 pub(crate) mod sample;
 
-use crate::answer::Stop;
 use crate::gathered::Gathered;
 use crate::pieces::{Lying, Pieces, line_before};
 use crate::task::{Room, Task};
 use vcd_body::{
-    First, Item, Plain, Regs, mark_ahead, opening_ahead, real_ahead, scalar_ahead, vector_ahead,
+    First, Item, Plain, Regs, Stop, mark_ahead, opening_ahead, real_ahead, scalar_ahead,
+    vector_ahead,
 };
 use vcd_head::HeadView;
 use vcd_text::{Ahead, Sink, WriteFailed};

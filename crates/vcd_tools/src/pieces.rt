@@ -13,8 +13,7 @@ ghost use Rattle.vcd_body.specs.declared.item.Item.TheVariants as kind;
 ghost use Rattle.vcd_tools.specs.Pieces.{IsLine, IsPart, Lies, PutsOn, held_in};
 
 use crate::gathered::{GATHERED, Gathered};
-use crate::item_text::put_time;
-use vcd_body::{Form, Item, Plain, Regs, is_mark_line, left_out};
+use vcd_body::{Form, Item, Plain, Regs, is_mark_line, left_out, put_time};
 use vcd_text::{Sink, WriteFailed, put};
 
 /// An item that lies ahead: its tokens are passed from one place of these bytes up to another. Where the line of its time stands just

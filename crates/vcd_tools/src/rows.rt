@@ -5,10 +5,10 @@ ghost use Rattle.vcd_model.specs.Declarations.{Declaration, Variable, path_of};
 ghost use Rattle.vcd_model.specs.Header.{Header};
 ghost use Rattle.vcd_text.specs.Device.{Counts, Puts, Takes, failures_after};
 ghost use Rattle.vcd_head.specs.Views.{IsViewOf};
-ghost use Rattle.vcd_tools.specs.declared.answer.Done.TheVariants.{Whole};
-ghost use Rattle.vcd_tools.specs.declared.answer.Stop.TheVariants.{Write};
+ghost use Rattle.vcd_body.specs.declared.answer.Done.TheVariants.{Whole};
+ghost use Rattle.vcd_body.specs.declared.answer.Stop.TheVariants.{Write};
 
-use crate::answer::{Done, Stop};
+use vcd_body::{Done, Stop};
 use vcd_head::{HeadView, Kind, put_path};
 use vcd_text::{Sink, WriteFailed, put, put_number};
 

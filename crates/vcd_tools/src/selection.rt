@@ -8,8 +8,8 @@ ghost use Rattle.vcd_head.specs.Views.{IsViewOf};
 ghost use Rattle.vcd_tools.specs.Choice.{codes_in, is_chosen};
 ghost use Rattle.vcd_tools.specs.Selection.{AreSelected, IsUnmatched, IsFirstUnmatched};
 
-use crate::answer::Stop;
 use crate::choice::Choice;
+use vcd_body::Stop;
 use vcd_head::{HeadView, Kind, select};
 
 /// Whether a row is marked.

@@ -9,8 +9,8 @@ use Rattle.vcd_model.specs.Header.{Header}
 use Rattle.vcd_head.specs.Shown.{shown}
 use Rattle.vcd_head.specs.Views.{Views}
 use Rattle.vcd_head.specs.declared.head.Head.{Head}
-use Rattle.vcd_tools.specs.MergeParts.{AreParts, part_len}
-use Rattle.vcd_tools.specs.declared.seat.Seat.{Seat}
+use Rattle.vcd_merge.specs.MergeParts.{AreParts, part_len}
+use Rattle.vcd_merge.specs.declared.seat.Seat.{Seat}
 use Rattle.vcd_model.specs.Input.{Input}
 use Rattle.vcd_model.specs.Job.{Want, outcome, refusal_outcome, request_of}
 use Rattle.vcd_model.specs.Settled.{is_header_over, is_settled}
@@ -19,17 +19,17 @@ use Rattle.vcd_model.specs.Reading.{Fault}
 use Rattle.vcd_text.specs.Answer.{whole}
 use Rattle.vcd_text.specs.Device.{Device, Supply, Writes, supply}
 use Rattle.vcd_text.proofs.Writes.{appends-none}
-use Rattle.vcd_tools.specs.Answer.{NamesInput}
-use Rattle.vcd_tools.specs.MergeRoom.{MergeIsWithinBound, kept_in, windows_size}
-use Rattle.vcd_tools.specs.MergeRun.{Belongs, Follows}
-use Rattle.vcd_tools.specs.MergeStep.{failures_with}
-use Rattle.vcd_tools.specs.Seat.{Lane}
-use Rattle.vcd_tools.specs.declared.answer.Done.{Done}
-use Rattle.vcd_tools.specs.declared.answer.Done.TheVariants as done
-use Rattle.vcd_tools.specs.declared.answer.Stop.{Stop}
-use Rattle.vcd_tools.specs.declared.answer.Stop.TheVariants.{Dump, Read, Write, Unmatched}
-use Rattle.vcd_tools.specs.declared.windows.Windows.{Windows}
-use Rattle.vcd_tools.proofs.MergeRoomLemmas.{merge_within}
+use Rattle.vcd_body.specs.Answer.{NamesInput}
+use Rattle.vcd_merge.specs.MergeRoom.{MergeIsWithinBound, kept_in, windows_size}
+use Rattle.vcd_merge.specs.MergeRun.{Belongs, Follows}
+use Rattle.vcd_merge.specs.MergeStep.{failures_with}
+use Rattle.vcd_merge.specs.Seat.{Lane}
+use Rattle.vcd_body.specs.declared.answer.Done.{Done}
+use Rattle.vcd_body.specs.declared.answer.Done.TheVariants as done
+use Rattle.vcd_body.specs.declared.answer.Stop.{Stop}
+use Rattle.vcd_body.specs.declared.answer.Stop.TheVariants.{Dump, Read, Write, Unmatched}
+use Rattle.vcd_merge.specs.declared.windows.Windows.{Windows}
+use Rattle.vcd_merge.proofs.MergeRoomLemmas.{merge_within}
 use Rattle.vcdkit.specs.declared.failure.Failure.{Failure}
 use Rattle.vcdkit.specs.declared.failure.Failure.TheVariants.{Stopped, Refused, OutOfMemory}
 use Rattle.vcdkit.specs.declared.failure.Refusal.{Refusal}

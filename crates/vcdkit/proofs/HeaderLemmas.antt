@@ -23,19 +23,19 @@ use Rattle.vcd_text.specs.Feed.{HasGiven, HasGivenParked, chunk_len_of, limit_of
 use Rattle.vcd_text.specs.declared.registers.Parked.{Parked}
 use Rattle.vcd_body.specs.Items.{AreRegsAfter}
 use Rattle.vcd_head.specs.declared.head.Head.{Head}
-use Rattle.vcd_tools.specs.declared.seat.Seat.{Seat}
+use Rattle.vcd_merge.specs.declared.seat.Seat.{Seat}
 use Rattle.vcd_text.specs.declared.device.Source.{Ghosts}
 use Rattle.vcd_text.specs.declared.feed.Feed.{Feed}
 use Rattle.vcd_head.specs.Reads.{Fails, FailsAtEnd, FailsAtToken, GivesHead, HasFault, HasReadToShown, IsGoing}
 use Rattle.vcd_head.specs.Shown.{HeadShown, shown}
 use Rattle.vcd_head.specs.declared.fault.HeadFault.{HeadFault}
 use Rattle.vcd_head.specs.declared.fault.HeadFault.TheVariants.{TokenTooLong, EndOfInput, UnknownCommand, OutOfPlace, BadTimescale, BadScope, BadVariable, CodeDiffers, NoScope, TooDeep, TooMany, InputTooLong, ReadFailed, OutOfMemory}
-use Rattle.vcd_tools.specs.Run.{IsLeft}
+use Rattle.vcd_body.specs.Answer.{IsLeft}
 use Rattle.vcd_text.specs.Registers.{Fits}
 use Rattle.vcd_text.specs.Advances.{HasNotFailed}
 use Rattle.vcd_text.specs.declared.answer.Halt.TheVariants as halt
-use Rattle.vcd_tools.specs.Seat.{IsSeated, Lane}
-use Rattle.vcd_tools.specs.declared.answer.Stop.TheVariants.{Dump}
+use Rattle.vcd_merge.specs.Seat.{IsSeated, Lane}
+use Rattle.vcd_body.specs.declared.answer.Stop.TheVariants.{Dump}
 use Rattle.vcdkit.specs.declared.failure.Failure.{Failure}
 use Rattle.vcdkit.specs.declared.failure.Failure.TheVariants as failure
 use Rattle.vcdkit.specs.Failure.{head_failure, CountsRead}

@@ -12,10 +12,10 @@ use Rattle.vcd_model.specs.Tokens.{Token, stream_of}
 use Rattle.vcd_text.specs.Answer.{whole}
 use Rattle.vcd_text.specs.Device.{Supply}
 use Rattle.vcd_text.specs.ReadAhead.ReadsAsNeeded.{Nothing}
-use Rattle.vcd_tools.specs.MergeRun.{AreLeft, AreOpened}
-use Rattle.vcd_tools.specs.Run.{IsLeft}
-use Rattle.vcd_tools.specs.Seat.{Lane}
-use Rattle.vcd_tools.specs.declared.answer.Stop.TheVariants.{Dump, Read, Write, Unmatched}
+use Rattle.vcd_merge.specs.MergeRun.{AreLeft, AreOpened}
+use Rattle.vcd_body.specs.Answer.{IsLeft}
+use Rattle.vcd_merge.specs.Seat.{Lane}
+use Rattle.vcd_body.specs.declared.answer.Stop.TheVariants.{Dump, Read, Write, Unmatched}
 use Rattle.vcdkit.specs.declared.failure.Failure.{Failure}
 use Rattle.vcdkit.specs.declared.failure.Failure.TheVariants.{Stopped, Refused, OutOfMemory}
 use Rattle.vcdkit.specs.Inputs.{AreBegun, HasFailed, IsBegun, IsWhy, Stops, headers_in}

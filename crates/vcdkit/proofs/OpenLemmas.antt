@@ -15,13 +15,13 @@ use Rattle.vcd_head.specs.Shown.{shown}
 use Rattle.vcd_head.specs.Views.{Views}
 use Rattle.vcd_head.specs.declared.head.Head.{Head}
 use Rattle.vcd_head.proofs.DraftGrows.{all_zip_push, rows_len}
-use Rattle.vcd_tools.specs.MergeParts.{part, part_len, SameLengths}
-use Rattle.vcd_tools.specs.Seat.{GaveParked, IsSeated, Lane, Spot}
-use Rattle.vcd_tools.specs.declared.windows.Windows.{Windows}
-use Rattle.vcd_tools.specs.declared.answer.Stop.TheVariants.{Dump, Read, Write, Unmatched}
-use Rattle.vcd_tools.specs.declared.seat.Seat.{Seat}
-use Rattle.vcd_tools.proofs.MergeCounts.{map_set}
-use Rattle.vcd_tools.proofs.PartLemmas.{get_other, get_set}
+use Rattle.vcd_merge.specs.MergeParts.{part, part_len, SameLengths}
+use Rattle.vcd_merge.specs.Seat.{GaveParked, IsSeated, Lane, Spot}
+use Rattle.vcd_merge.specs.declared.windows.Windows.{Windows}
+use Rattle.vcd_body.specs.declared.answer.Stop.TheVariants.{Dump, Read, Write, Unmatched}
+use Rattle.vcd_merge.specs.declared.seat.Seat.{Seat}
+use Rattle.vcd_merge.proofs.MergeCounts.{map_set}
+use Rattle.vcd_merge.proofs.PartLemmas.{get_other, get_set}
 use Rattle.vcdkit.specs.declared.failure.Failure.{Failure}
 use Rattle.vcdkit.specs.declared.failure.Failure.TheVariants.{Stopped, Refused, OutOfMemory}
 use Rattle.vcdkit.specs.Failure.{failure_of, CountsRead, CountsReads}

@@ -6,9 +6,9 @@ use Rattle.vcd_head.specs.declared.fault.HeadFault.TheVariants as head_fault
 use Rattle.vcd_head.specs.declared.moment.TickFault.{TickFault}
 use Rattle.vcd_head.specs.declared.moment.TickFault.TheVariants as tick
 use Rattle.vcd_model.specs.Job as model
-use Rattle.vcd_tools.specs.declared.answer.Done.{Done}
-use Rattle.vcd_tools.specs.declared.answer.Stop.{Stop}
-use Rattle.vcd_tools.specs.declared.answer.Stop.TheVariants.{Dump, Read, Write}
+use Rattle.vcd_body.specs.declared.answer.Done.{Done}
+use Rattle.vcd_body.specs.declared.answer.Stop.{Stop}
+use Rattle.vcd_body.specs.declared.answer.Stop.TheVariants.{Dump, Read, Write}
 use Rattle.vcdkit.specs.declared.failure.Failure.{Failure}
 use Rattle.vcdkit.specs.declared.failure.Failure.TheVariants.{Stopped, OutOfMemory}
 use Rattle.vcdkit.specs.declared.failure.Refusal.{Refusal}

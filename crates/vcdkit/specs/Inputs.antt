@@ -18,12 +18,12 @@ use Rattle.vcd_head.specs.Reads.{HasFault, IsGoing}
 use Rattle.vcd_head.specs.Shown.{shown}
 use Rattle.vcd_head.specs.Views.{Views}
 use Rattle.vcd_head.specs.declared.head.Head.{Head}
-use Rattle.vcd_tools.specs.MergeParts.{part, part_len, spot_of}
-use Rattle.vcd_tools.specs.Run.{IsLeft}
-use Rattle.vcd_tools.specs.Seat.{GaveParked, Lane, Spot}
-use Rattle.vcd_tools.specs.declared.answer.Stop.TheVariants.{Dump, Read}
-use Rattle.vcd_tools.specs.declared.seat.Seat.{Seat}
-use Rattle.vcd_tools.specs.declared.windows.Windows.{Windows}
+use Rattle.vcd_merge.specs.MergeParts.{part, part_len, spot_of}
+use Rattle.vcd_body.specs.Answer.{IsLeft}
+use Rattle.vcd_merge.specs.Seat.{GaveParked, Lane, Spot}
+use Rattle.vcd_body.specs.declared.answer.Stop.TheVariants.{Dump, Read}
+use Rattle.vcd_merge.specs.declared.seat.Seat.{Seat}
+use Rattle.vcd_merge.specs.declared.windows.Windows.{Windows}
 use Rattle.vcdkit.specs.Failure.{failure_of, CountsRead}
 use Rattle.vcdkit.specs.declared.inputs.Begun.{Begun}
 use Rattle.vcdkit.specs.declared.failure.Failure.{Failure}

@@ -4,8 +4,8 @@ use Rattle.vcd_model.specs.Outcome.{Outcome, name_at, program_line, fault_text}
 use Rattle.vcd_model.specs.Job.{refusal_outcome}
 use Rattle.vcd_model.specs.Words as model
 use Rattle.vcd_text.specs.Device.{Device, Writes, WritesSome}
-use Rattle.vcd_tools.specs.declared.answer.Stop.{Stop}
-use Rattle.vcd_tools.specs.declared.answer.Stop.TheVariants.{Dump, Read, Write, Unmatched}
+use Rattle.vcd_body.specs.declared.answer.Stop.{Stop}
+use Rattle.vcd_body.specs.declared.answer.Stop.TheVariants.{Dump, Read, Write, Unmatched}
 use Rattle.vcdkit.specs.declared.failure.Failure.{Failure}
 use Rattle.vcdkit.specs.declared.failure.Failure.TheVariants.{Stopped, Refused, OutOfMemory}
 use Rattle.vcdkit.specs.declared.failure.Refusal.{Refusal}

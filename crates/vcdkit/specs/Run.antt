@@ -11,9 +11,10 @@ use Rattle.vcd_model.specs.Tokens.{Token, stream_of}
 use Rattle.vcd_text.specs.Answer.{whole}
 use Rattle.vcd_text.specs.Device.{Device, Supply, Writes, WritesSome}
 use Rattle.vcd_text.specs.ReadAhead.{ReadsAsNeeded}
-use Rattle.vcd_tools.specs.Run.{Belongs, IsLeft}
-use Rattle.vcd_tools.specs.declared.answer.Done.{Done}
-use Rattle.vcd_tools.specs.declared.answer.Stop.TheVariants.{Dump, Read, Write, Unmatched}
+use Rattle.vcd_tools.specs.Run.{Belongs}
+use Rattle.vcd_body.specs.Answer.{IsLeft}
+use Rattle.vcd_body.specs.declared.answer.Done.{Done}
+use Rattle.vcd_body.specs.declared.answer.Stop.TheVariants.{Dump, Read, Write, Unmatched}
 use Rattle.vcdkit.specs.declared.failure.Failure.{Failure}
 use Rattle.vcdkit.specs.declared.failure.Failure.TheVariants.{Stopped, Refused, OutOfMemory}
 use Rattle.vcdkit.specs.Failure.{model_refusal}

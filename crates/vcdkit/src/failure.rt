@@ -1,7 +1,7 @@
 // Why a run ends before it is done.
 use std::alloc::AllocError;
+use vcd_body::Stop;
 use vcd_head::{HeadFault, TickFault};
-use vcd_tools::Stop;
 
 /// Why times are refused, once the header is read.
 #[derive(Clone, Copy, PartialEq, Eq, Debug)]

@@ -11,9 +11,9 @@ ghost use Rattle.vcd_head.specs.Shown.{shown};
 ghost use Rattle.vcd_head.specs.Views.{Views};
 ghost use Rattle.vcd_text.specs.Advances.{HasNotFailed};
 ghost use Rattle.vcd_head.specs.declared.fault.HeadFault.{HeadFault};
-ghost use Rattle.vcd_tools.specs.MergeParts.{AreParts, SameLengths, part, part_len};
-ghost use Rattle.vcd_tools.specs.MergeRoom.{kept_in};
-ghost use Rattle.vcd_tools.specs.Seat.{IsSeated};
+ghost use Rattle.vcd_merge.specs.MergeParts.{AreParts, SameLengths, part, part_len};
+ghost use Rattle.vcd_merge.specs.MergeRoom.{kept_in};
+ghost use Rattle.vcd_merge.specs.Seat.{IsSeated};
 ghost use Rattle.vcdkit.specs.Failure.{failure_of, head_failure, writes_failed, CountsRead, CountsReads};
 ghost use Rattle.vcdkit.specs.Inputs.{Begins, BeginsAt, HasFailed, HaveBegun, IsNew, SameParts, Stops};
 
@@ -21,8 +21,8 @@ use crate::failure::Failure;
 use crate::job::Job;
 use std::alloc::{AllocError, Global};
 use vcd_head::{Head, read_head};
+use vcd_merge::{Seat, Windows};
 use vcd_text::{Feed, Source};
-use vcd_tools::{Seat, Windows};
 
 /// How many declarations all inputs of a run may have.
 pub(crate) const MOST_DECLARATIONS: u64 = 16_777_216;

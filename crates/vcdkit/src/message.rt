@@ -3,14 +3,14 @@
 ghost use Rattle.std.specs.Prelude.{◌≡◌, ◌-◌, ◌^◌, ◌<◌, ◌++◌, [], codes, decimal, map, string_bytes};
 ghost use Rattle.vcd_model.specs.Outcome.{name_at, program_line};
 ghost use Rattle.vcd_text.specs.Device.{Puts, Takes, failures_after};
-ghost use Rattle.vcd_tools.specs.declared.answer.Stop.TheVariants.{Write};
+ghost use Rattle.vcd_body.specs.declared.answer.Stop.TheVariants.{Write};
 ghost use Rattle.vcdkit.specs.Message.{failure_message, failure_status, refusal_message, refusal_status, stop_message, stop_status, unopened_outcome, use_outcome, Shows};
 ghost use Rattle.vcdkit.specs.declared.failure.Failure.TheVariants.{OutOfMemory};
 
 use crate::failure::{Failure, Refusal};
 use crate::job::UseFault;
+use vcd_body::Stop;
 use vcd_text::{Sink, WriteFailed, put, put_number, text_of};
-use vcd_tools::Stop;
 
 /// Writes `vcdkit: TEXT`.
 pub fn put_line<E: Sink>(err: &mut E, text: &str) -> Result<(), WriteFailed>

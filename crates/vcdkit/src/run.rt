@@ -22,10 +22,11 @@ use crate::inputs::{MOST_DECLARATIONS, marks_for, open_input, open_inputs, windo
 use crate::job::{Job, Want};
 use crate::message::report;
 use std::alloc::Global;
-use vcd_body::Slot;
+use vcd_body::{Done, Slot, Stop};
 use vcd_head::HeadView;
+use vcd_merge::{Windows, merge};
 use vcd_text::{Feed, Sink, Source};
-use vcd_tools::{Done, Room, Stop, Windows, list, merge, run_task};
+use vcd_tools::{Room, list, run_task};
 
 /// The answer of a task over the input at this place, as that of its run.
 fn ended(answer: Result<Done, Stop>, input: usize) -> Result<Done, Failure>

@@ -14,9 +14,9 @@ ghost use Rattle.vcd_body.specs.declared.item.Item.TheVariants as kind;
 ghost use Rattle.vcd_tools.specs.Quiet.{TakesQuietly};
 ghost use Rattle.vcd_body.specs.Given.{HasGoodText};
 ghost use Rattle.vcd_body.specs.Items.{AreRegsAfter, regs_after};
-ghost use Rattle.vcd_tools.specs.Answer.{writes_failed};
+ghost use Rattle.vcd_body.specs.Answer.{writes_failed};
 ghost use Rattle.vcd_tools.specs.Cut.{AreCut, BeginsBy, IsNoMark, lent_to, may_be_kept, span_in, values_text};
-ghost use Rattle.vcd_tools.specs.Device.{DueBy, TakesDue};
+ghost use Rattle.vcd_body.specs.Device.{DueBy, TakesDue};
 ghost use Rattle.vcd_tools.specs.Pieces.{IsLine, IsPart, Lies, PutsOn, held_in};
 ghost use Rattle.vcd_tools.specs.Engine.{Starts, StopsUnread, TakesOne, TakesOneBy, last_of};
 ghost use Rattle.vcd_body.specs.Given.{IsItem};
@@ -25,14 +25,13 @@ ghost use Rattle.vcd_tools.specs.Room.{HasRoomFor, IsWithin, room_size};
 ghost use Rattle.vcd_tools.specs.Values.{AreHeld, HasValues};
 ghost use Rattle.vcd_tools.specs.declared.task.Task.TheVariants as task;
 
-use crate::answer::Stop;
-use crate::item_text::{ItemText, put_time};
+use crate::item_text::ItemText;
 use crate::machine::last_of;
 use crate::pieces::{Lying, Pieces};
 use crate::span::Span;
 use crate::task::Room;
 use crate::values::set_plain;
-use vcd_body::{Item, Plain, Regs, Table};
+use vcd_body::{Item, Plain, Regs, Stop, Table, put_time};
 use vcd_head::{HeadView, put_head, select};
 use vcd_text::{Sink, WriteFailed, put};
 

@@ -17,10 +17,9 @@ ghost use Rattle.vcd_tools.specs.Room.{HasRoomFor, IsWithin, room_size};
 ghost use Rattle.vcd_tools.specs.Selection.{IsUnmatched};
 ghost use Rattle.vcd_tools.specs.declared.task.Task.TheVariants as task;
 
-use crate::answer::Stop;
 use crate::tally::{put_rows, take_bits, take_mark, take_value};
 use crate::task::Room;
-use vcd_body::{Form, Item, Plain, Regs, Table};
+use vcd_body::{Form, Item, Plain, Regs, Stop, Table};
 use vcd_head::{HeadView, select};
 use vcd_text::{Sink, WriteFailed};
 

@@ -9,8 +9,8 @@ ghost use Rattle.vcd_text.specs.Device.{Counts, Takes, failures_after};
 ghost use Rattle.vcd_head.specs.Views.{IsViewOf};
 ghost use Rattle.vcd_body.specs.Given.{HasGoodText};
 ghost use Rattle.vcd_body.specs.Items.{AreRegsAfter, regs_after};
-ghost use Rattle.vcd_tools.specs.Answer.{writes_failed};
-ghost use Rattle.vcd_tools.specs.Device.{DueBy, TakesDue};
+ghost use Rattle.vcd_body.specs.Answer.{writes_failed};
+ghost use Rattle.vcd_body.specs.Device.{DueBy, TakesDue};
 ghost use Rattle.vcd_tools.specs.Engine.{Starts, StopsUnread, last_of};
 ghost use Rattle.vcd_body.specs.Given.{IsItem};
 ghost use Rattle.vcd_tools.specs.Pieces.{IsLine, IsPart, Lies, PutsOn, held_in};
@@ -18,14 +18,13 @@ ghost use Rattle.vcd_tools.specs.Pick.{ArePicked, is_event_at, is_kept, names_in
 ghost use Rattle.vcd_tools.specs.Room.{HasRoomFor};
 ghost use Rattle.vcd_tools.specs.declared.task.Task.TheVariants as task;
 
-use crate::answer::Stop;
 use crate::choice::Choice;
 use crate::item_text::ItemText;
 use crate::machine::last_of;
 use crate::pieces::{Lying, Pieces};
 use crate::selection::select_codes;
 use crate::task::Room;
-use vcd_body::{Item, Regs};
+use vcd_body::{Item, Regs, Stop};
 use vcd_head::{HeadView, put_head};
 use vcd_text::{Sink, WriteFailed};
 

@@ -19,12 +19,11 @@ ghost use Rattle.vcd_tools.specs.Sample.{AreSampled, asked_in, is_due, lent_to};
 ghost use Rattle.vcd_tools.specs.Selection.{IsFirstUnmatched, IsUnmatched};
 ghost use Rattle.vcd_tools.specs.declared.task.Task.TheVariants as task;
 
-use crate::answer::Stop;
 use crate::sample_lines::put_samples;
 use crate::samples::Samples;
 use crate::task::Room;
 use crate::values::set_plain;
-use vcd_body::{Item, Plain, Table};
+use vcd_body::{Item, Plain, Stop, Table};
 use vcd_head::{HeadView, select};
 use vcd_text::{Sink, WriteFailed};
 

@@ -4,9 +4,9 @@ use Rattle.std.proofs.lemmas.List.Elements.{All-push}
 use Rattle.std.proofs.lemmas.List.Sums.{sum_by-append}
 use Rattle.vcd_head.specs.declared.head.Head.{Head}
 use Rattle.vcd_text.specs.Watch.{failed_calls}
-use Rattle.vcd_tools.specs.MergeParts.{part_len}
-use Rattle.vcd_tools.specs.MergeRoom.{kept_of}
-use Rattle.vcd_tools.specs.Seat.{IsSeated}
+use Rattle.vcd_merge.specs.MergeParts.{part_len}
+use Rattle.vcd_merge.specs.MergeRoom.{kept_of}
+use Rattle.vcd_merge.specs.Seat.{IsSeated}
 use Rattle.vcd_tests.proofs.merge.begin_all.Goals as goal
 
 pub loop-input-preserved : goal.loop-input-preserved

@@ -1,9 +1,9 @@
 use Rattle.std.proofs.Common.{◌≡◌, ◌-◌, ◌^◌, ◌<◌, ◌≤◌, length}
 use Rattle.std.specs.Prelude.{All}
 use Rattle.vcd_text.specs.Watch.{failed_calls}
-use Rattle.vcd_tools.specs.MergeParts.{SameLengths, part_len}
-use Rattle.vcd_tools.specs.MergeRoom.{kept_in}
-use Rattle.vcd_tools.specs.Seat.{IsSeated}
+use Rattle.vcd_merge.specs.MergeParts.{SameLengths, part_len}
+use Rattle.vcd_merge.specs.MergeRoom.{kept_in}
+use Rattle.vcd_merge.specs.Seat.{IsSeated}
 use Rattle.vcd_tests.proofs.merge.begin_all.Given as goal
 
 abbrev pub invariant-loop-input : goal.invariant-loop-input

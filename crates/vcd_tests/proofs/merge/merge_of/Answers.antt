@@ -1,10 +1,10 @@
 use Rattle.std.proofs.Common.{◌≡◌, ◌∙◌, ℕ, ◌*◌, ◌/◌, ◌<◌, ◌≤◌, List, length, ap, sym, arith, rules}
 use Rattle.std.proofs.lemmas.Nat.{mul-le}
 use Rattle.std.proofs.Math.Nat.{mul-div_cancel_left}
-use Rattle.vcd_tools.specs.MergeParts.{AreParts, part_len}
-use Rattle.vcd_tools.specs.MergeRoom.{kept_in}
-use Rattle.vcd_tools.proofs.MergeRoomLemmas.{merge_within}
-use Rattle.vcd_tools.proofs.PartLemmas.{parts_same}
+use Rattle.vcd_merge.specs.MergeParts.{AreParts, part_len}
+use Rattle.vcd_merge.specs.MergeRoom.{kept_in}
+use Rattle.vcd_merge.proofs.MergeRoomLemmas.{merge_within}
+use Rattle.vcd_merge.proofs.PartLemmas.{parts_same}
 use Rattle.vcd_tests.proofs.merge.merge_of.Goals as goal
 
 part_is : (n size : ℕ) (xs : List ℕ) → 0 < n → length xs ≡ n * size → part_len n xs ≡ size

@@ -8,7 +8,7 @@ use Rattle.vcd_text.specs.Passed.{Passed}
 use Rattle.vcd_head.specs.Shown.{parts}
 use Rattle.vcd_head.specs.Views.{Views}
 use Rattle.vcd_tools.specs.Ahead.{StandsAhead}
-use Rattle.vcd_tools.specs.Device.{Grows}
+use Rattle.vcd_body.specs.Device.{Grows}
 use Rattle.vcd_tools.specs.Engine.{request_in}
 use Rattle.vcd_tools.specs.Next.{takes_each}
 use Rattle.vcd_tools.specs.Room.{room_of}

@@ -4,7 +4,7 @@ use Rattle.vcd_text.proofs.Writes.{appends-twice}
 use Rattle.vcd_head.specs.Shown.{parts}
 use Rattle.vcd_tools.proofs.Variables.{read_variable, read_other, is_declared}
 use Rattle.vcd_tools.proofs.ListLemmas.{line_after, lines-variable, lines-pass, listed-some, listed-all}
-use Rattle.vcd_tools.specs.declared.answer.Stop.TheVariants.{Write}
+use Rattle.vcd_body.specs.declared.answer.Stop.TheVariants.{Write}
 use Rattle.vcd_tools.proofs.rows.list.Goals as goal
 use Rattle.vcd_tools.proofs.rows.list.Goals.{then-eq+in_ok-put_variable, else-eq}
 

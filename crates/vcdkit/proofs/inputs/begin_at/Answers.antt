@@ -1,7 +1,7 @@
 use Rattle.std.proofs.Common.{◌∙◌, ap, length, refl}
 use Rattle.std.proofs.lemmas.Option.{get_or_from_slice_get}
-use Rattle.vcd_tools.specs.MergeParts.{part_len}
-use Rattle.vcd_tools.proofs.PartLemmas.{lent_len, part_other, part_put}
+use Rattle.vcd_merge.specs.MergeParts.{part_len}
+use Rattle.vcd_merge.proofs.PartLemmas.{lent_len, part_other, part_put}
 use Rattle.vcdkit.proofs.inputs.begin_at.Goals as goal
 
 pub returns-clause-begins : goal.returns-clause-begins

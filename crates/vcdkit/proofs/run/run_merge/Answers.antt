@@ -2,9 +2,9 @@ use Rattle.std.proofs.Common.{◌≡◌, ◌∙◌, ◌*◌, ◌/◌, ◌≤◌,
 use Rattle.std.proofs.lemmas.List.{length-map}
 use Rattle.vcd_model.specs.Job.{Want}
 use Rattle.vcd_head.specs.declared.head.Head.{Head}
-use Rattle.vcd_tools.specs.MergeRoom.{kept_in}
-use Rattle.vcd_tools.specs.declared.seat.Seat.{Seat}
-use Rattle.vcd_tools.proofs.PartLemmas.{parts_same}
+use Rattle.vcd_merge.specs.MergeRoom.{kept_in}
+use Rattle.vcd_merge.specs.declared.seat.Seat.{Seat}
+use Rattle.vcd_merge.proofs.PartLemmas.{parts_same}
 use Rattle.vcdkit.specs.declared.failure.Failure.TheVariants.{OutOfMemory}
 use Rattle.vcdkit.specs.Inputs.{AreParked, headers_in}
 use Rattle.vcdkit.proofs.OpenLemmas.{nothing_stops, still_low}

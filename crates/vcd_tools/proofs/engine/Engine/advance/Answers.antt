@@ -2,7 +2,7 @@ use Rattle.std.proofs.Common.{◌≡◌, ◌++◌, Ok, Err, rules, subst}
 use Rattle.vcd_model.specs.Outcome.{Request}
 use Rattle.vcd_tools.specs.Engine.{request_of_engine}
 use Rattle.vcd_tools.specs.Step.{StepGives, TakesAhead}
-use Rattle.vcd_tools.specs.declared.answer.More.{More}
+use Rattle.vcd_body.specs.declared.answer.More.{More}
 use Rattle.vcd_tools.proofs.RunLemmas.{steps_behind}
 use Rattle.vcd_tools.proofs.engine.Engine.advance.Goals as goal
 

@@ -1,13 +1,13 @@
 use Rattle.std.proofs.Common.{◌≡◌, ◌+◌, ◌∙◌, Ok, Err, [], add-zero, refl, ap, rules, subst}
-use Rattle.vcd_tools.specs.Answer.{reads_failed}
+use Rattle.vcd_body.specs.Answer.{goes_on, reads_failed}
 use Rattle.vcd_text.specs.Device.{Device}
 use Rattle.vcd_tools.specs.Engine.{request_of_engine}
-use Rattle.vcd_tools.specs.Step.{goes_on, step_end}
+use Rattle.vcd_tools.specs.Step.{step_end}
 use Rattle.vcd_text.specs.Advances.{Advances, CallEnd}
 use Rattle.vcd_text.proofs.AdvancesLemmas.{advances_nowhere, advances_on}
-use Rattle.vcd_tools.specs.declared.answer.More.{More}
-use Rattle.vcd_tools.specs.declared.answer.Done.{Done}
-use Rattle.vcd_tools.specs.declared.answer.More.TheVariants.{Again, Ended}
+use Rattle.vcd_body.specs.declared.answer.More.{More}
+use Rattle.vcd_body.specs.declared.answer.Done.{Done}
+use Rattle.vcd_body.specs.declared.answer.More.TheVariants.{Again, Ended}
 use Rattle.vcd_tools.proofs.RunLemmas.{runs_first, steps_end, steps_stop, steps_go_on, asked, can_run, step_reads}
 use Rattle.vcd_tools.proofs.engine.Engine.finish.Goals as goal
 

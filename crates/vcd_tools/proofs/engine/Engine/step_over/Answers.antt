@@ -6,7 +6,7 @@ use Rattle.vcd_body.specs.Reads.{GaveItems}
 use Rattle.vcd_body.specs.declared.item.Regs.{Regs}
 use Rattle.vcd_tools.specs.Engine.{request_of_engine}
 use Rattle.vcd_body.specs.Given.{IsItem}
-use Rattle.vcd_tools.specs.declared.answer.Stop.TheVariants.{Write}
+use Rattle.vcd_body.specs.declared.answer.Stop.TheVariants.{Write}
 use Rattle.vcd_tools.proofs.EngineLemmas.{stopped, all_given, ended_with, holds_still, few_items, item_given, runs_on}
 use Rattle.vcd_tools.proofs.engine.Engine.step_over.Goals as goal
 

@@ -6,7 +6,7 @@ use Rattle.vcd_head.specs.Shown.{parts}
 use Rattle.vcd_head.specs.Views.{Views}
 use Rattle.vcd_tools.specs.Ahead.{RunsAhead, StandsAhead}
 use Rattle.vcd_tools.specs.Engine.{request_of_engine}
-use Rattle.vcd_tools.specs.declared.answer.Stop.TheVariants.{Write}
+use Rattle.vcd_body.specs.declared.answer.Stop.TheVariants.{Write}
 use Rattle.vcd_tools.specs.declared.engine.Engine.{Engine}
 use Rattle.vcd_tools.proofs.AheadLemmas.{gave_over, runs_behind, stands_first}
 use Rattle.vcd_tools.proofs.engine.Engine.take_ahead.Goals as goal

@@ -3,7 +3,7 @@ use Rattle.vcd_model.specs.ItemText.{item_line}
 use Rattle.vcd_text.proofs.Writes.{appends-first, takes-twice}
 use Rattle.vcd_model.specs.ItemText.{time_due}
 use Rattle.vcd_tools.proofs.ItemTextLemmas.{text_with, written_with}
-use Rattle.vcd_tools.proofs.Results.{if_ok}
+use Rattle.vcd_body.proofs.Results.{if_ok}
 use Rattle.vcd_tools.proofs.item_text.ItemText.put.Goals as goal
 
 pub returns-in_err-put_time_unless-clause-text : goal.returns-in_err-put_time_unless-clause-text

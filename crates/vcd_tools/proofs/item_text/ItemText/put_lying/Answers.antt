@@ -5,7 +5,7 @@ use Rattle.vcd_tools.specs.ItemText.{HasWritten}
 use Rattle.vcd_tools.specs.Pieces.{PutsOn, held_in}
 use Rattle.vcd_tools.proofs.ItemTextLemmas.{text_with, written_with}
 use Rattle.vcd_tools.proofs.PieceLemmas.{put_on}
-use Rattle.vcd_tools.proofs.Results.{if_ok_more}
+use Rattle.vcd_body.proofs.Results.{if_ok_more}
 use Rattle.vcd_tools.proofs.item_text.ItemText.put_lying.Goals as goal
 
 pub returns-clause-text : goal.returns-clause-text

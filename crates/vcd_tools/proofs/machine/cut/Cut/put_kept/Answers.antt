@@ -6,7 +6,7 @@ use Rattle.vcd_text.proofs.Writes.{appends-none}
 use Rattle.vcd_tools.specs.ItemText.{LastTells, times_with}
 use Rattle.vcd_tools.specs.Cut.{kept_from, may_be_kept}
 use Rattle.vcd_tools.proofs.CutLemmas.{due_item, none_due, item_kept, item_passed, item_tells, item_time, kept_is}
-use Rattle.vcd_tools.proofs.Results.{if_ok_more}
+use Rattle.vcd_body.proofs.Results.{if_ok_more}
 use Rattle.vcd_tools.proofs.machine.cut.Cut.put_kept.Goals as goal
 
 pub returns-then-not-may_keep-clause-takes : goal.returns-then-not-may_keep-clause-takes

@@ -4,7 +4,7 @@ use Rattle.vcd_model.specs.Cut.{start_section}
 use Rattle.vcd_text.proofs.Writes.{appends-some, appends-twice}
 use Rattle.vcd_model.specs.Outcome.{Request}
 use Rattle.vcd_tools.specs.Engine.{CanRun}
-use Rattle.vcd_tools.specs.declared.answer.Stop.TheVariants.{Write}
+use Rattle.vcd_body.specs.declared.answer.Stop.TheVariants.{Write}
 use Rattle.vcd_tools.proofs.CutLemmas.{begun_at, open_begun, open_plain, open_some, plain_at, starts_begun, starts_plain, values_none}
 use Rattle.vcd_tools.proofs.ValuesLemmas.{new_holds, room_enough}
 use Rattle.vcd_tools.proofs.machine.cut.Cut.start.Goals as goal

@@ -3,7 +3,7 @@ use Rattle.std.specs.Io.KnownBytes.{Appends}
 use Rattle.vcd_model.specs.Outcome.{Request}
 use Rattle.vcd_model.proofs.KeptLines.{pick_open_none}
 use Rattle.vcd_text.proofs.Writes.{AppendsSome}
-use Rattle.vcd_tools.specs.declared.answer.Stop.TheVariants.{Write}
+use Rattle.vcd_body.specs.declared.answer.Stop.TheVariants.{Write}
 use Rattle.vcd_tools.proofs.EngineLemmas.{stops_unmatched}
 use Rattle.vcd_tools.proofs.machine.pick.Pick.start.Goals as goal
 

@@ -6,7 +6,7 @@ use Rattle.vcd_body.specs.Items.{regs_after}
 use Rattle.vcd_body.specs.declared.item.Regs.{Regs}
 use Rattle.vcd_tools.specs.Pick.{is_kept, names_in}
 use Rattle.vcd_tools.proofs.PickLemmas.{kept_is, kept_time, due_one, none_due, last_tells, picks_on, picks_still}
-use Rattle.vcd_tools.proofs.Results.{if_ok_more}
+use Rattle.vcd_body.proofs.Results.{if_ok_more}
 use Rattle.vcd_tools.proofs.machine.pick.Pick.take.Goals as goal
 
 pub returns-then-not-keeps-clause-takes : goal.returns-then-not-keeps-clause-takes

@@ -1,0 +1,62 @@
+//! How a run ends.
+ghost use Rattle.std.specs.Prelude.{◌≡◌};
+ghost use Rattle.vcd_body.specs.Answer.{stop_of_body};
+ghost use Rattle.vcd_body.specs.declared.answer.Stop.TheVariants.{Write};
+
+use crate::fault::BodyFault;
+use vcd_text::WriteFailed;
+
+/// What was written stands for the whole dump, or for its first part.
+#[derive(Clone, Copy, PartialEq, Eq, Debug)]
+pub enum Done {
+    /// All of it was read that had to be.
+    Whole,
+    /// A time mark ended the run; what follows it is not checked.
+    Early,
+}
+
+/// Whether a run goes on.
+#[derive(Clone, Copy, PartialEq, Eq, Debug)]
+pub enum More {
+    /// It does: there is more to read.
+    Again,
+    /// It has ended.
+    Ended(Done),
+}
+
+/// Why a run stopped before its end.
+#[derive(Clone, Copy, PartialEq, Eq, Debug)]
+pub enum Stop {
+    /// The input at this place among all, counted from 0, has a fault: its number and its line.
+    Dump { input: usize, line: u64, fault: u8 },
+    /// A read of the input at this place failed.
+    Read { input: usize },
+    /// A write failed. A prefix of the output was written.
+    Write,
+    /// The name at this place among those of the task, the first such, selects nothing.
+    Unmatched { name: usize },
+}
+
+impl Stop {
+    /// The answer to a fault of the body of the input at a place.
+    pub fn of_body(fault: BodyFault, input: usize, line: u64) -> Stop
+        ensures { result ≡ stop_of_body fault input line }
+    {
+        match fault {
+            BodyFault::ReadFailed => Stop::Read { input },
+            _ => Stop::Dump {
+                input,
+                line,
+                fault: fault.number(),
+            },
+        }
+    }
+}
+
+impl From<WriteFailed> for Stop {
+    ghost from_gives = { λ _ e. e ≡ Write };
+
+    fn from(_failed: WriteFailed) -> Stop {
+        Stop::Write
+    }
+}

@@ -1,0 +1,34 @@
+//! The line of a time.
+ghost use Rattle.std.specs.Prelude.{◌≡◌, ◌-◌, ◌^◌, ◌<◌};
+ghost use Rattle.vcd_model.specs.ItemText.{time_due, time_line};
+ghost use Rattle.vcd_text.specs.Device.{Puts, failures_after};
+
+use vcd_text::{Sink, WriteFailed, put, put_number};
+
+/// Writes the line of a time. Where a write fails, a prefix was written.
+#[cold]
+#[inline(never)]
+pub fn put_time<W: Sink>(time: u64, out: &mut W) -> Result<(), WriteFailed>
+    requires { (W.device out.old).failures < 2 ^ 64 - 1 }
+    ensures { Puts (W.device out.old) (W.device out.new) (time_line time) result }
+{
+    put(out, b"#")?;
+    put_number(out, time)?;
+    put(out, b"\n")
+}
+
+/// Writes the line of a time, unless it was written last.
+#[inline(always)]
+pub fn put_time_unless<W: Sink>(
+    written: Option<u64>,
+    time: u64,
+    out: &mut W,
+) -> Result<(), WriteFailed>
+    requires { (W.device out.old).failures < 2 ^ 64 - 1 }
+    ensures { Puts (W.device out.old) (W.device out.new) (time_due written time) result }
+{
+    if written == Some(time) {
+        return Ok(());
+    }
+    put_time(time, out)
+}

@@ -1,0 +1,242 @@
+-- What a step of a merge answers, by what the step of its input gave.
+use Rattle.std.proofs.Common.{◌≡◌, ◌≢◌, ℕ, ◌*◌, ◌/◌, ◌<◌, ◌≤◌, ◌⊎◌, true, false, List, [], ◌∷◌, ◌++◌, length, take, slice_get, Option, Some, None, Ok, Err, refl, sym, ap, subst, ◌∙◌, arith, inl, inr}
+use Rattle.std.specs.Prelude.{option_map, All, IfSome, MatchOption, is_some}
+use Rattle.std.specs.List.{AllByRecursion}
+use Rattle.std.proofs.lemmas.Option.{get_or_from_slice_get, slice_get_within}
+use Rattle.vcd_model.specs.Header.{Header}
+use Rattle.vcd_model.specs.HeadText.{first_number}
+use Rattle.vcd_model.specs.Input.{Clean}
+use Rattle.vcd_model.specs.Items.{BodyItem, Entry}
+use Rattle.vcd_model.specs.Merge.{Dump, key_lt, factor, key_after, merge_open, merged_items}
+use Rattle.vcd_model.specs.MergeByInput.{due_with, entry_for, keyed_rest, with_item, written_with}
+use Rattle.vcd_model.proofs.MergeOrder.{IsSorted, sorted_by_key, all_by_key}
+use Rattle.vcd_model.proofs.MergedLists.{merged_by, merged_more}
+use Rattle.vcd_model.proofs.MergedText.{IsTimed, text_more, timed_rest, written_more}
+use Rattle.vcd_text.specs.Answer.{failed_after}
+use Rattle.vcd_text.specs.ReadAhead.{HasRest}
+use Rattle.vcd_head.specs.Shown.{shown}
+use Rattle.vcd_head.specs.Views.{Views}
+use Rattle.vcd_head.specs.declared.head.Head.{Head}
+use Rattle.vcd_text.specs.Device.{Device, Writes}
+use Rattle.vcd_merge.specs.MergeStep.{AreGiven, AreMarked, Gives, HasFault, Holds, IsReady, ReadsOne, Standing, Takes, cut_at, last_written, next_item}
+use Rattle.vcd_merge.specs.MergeOrder.{IsNext}
+use Rattle.vcd_merge.specs.MergeParts.{part, part_len, spot_at, spot_of}
+use Rattle.vcd_merge.specs.Seat.{AtSeat, GivesOne, HasDump, HasReadNoMore, Lane, ReadsNoMore, Spot, Turns}
+use Rattle.vcd_body.specs.declared.answer.More.TheVariants.{Again}
+use Rattle.vcd_body.specs.declared.answer.Stop.{Stop}
+use Rattle.vcd_body.specs.declared.answer.Stop.TheVariants.{Dump as Faulty, Read, Write, Unmatched}
+use Rattle.vcd_merge.specs.declared.seat.Seat.{Seat}
+use Rattle.vcd_merge.proofs.PartLemmas.{part_long}
+use Rattle.vcd_merge.proofs.MergeSteps.{all_before, given_more, given_still, dump_at, len_map, lane_at, same_header, some_at, seat_spot, spot_seat, time_at}
+
+-- all that belongs to the input whose turn it is
+pub record Found {X : Type 0} (rest : X → Option (List ℕ)) (hs : List Header) (lanes : List Lane) (ds : List Dump) (s : Standing X) (k : ℕ) : Type 0 where
+  pub lane : Lane
+  pub dump : Dump
+  pub head : Head
+  pub spot : Spot
+  pub lane_there : slice_get lanes k ≡ Some lane
+  pub dump_there : slice_get ds k ≡ Some dump
+  pub head_there : slice_get s.heads k ≡ Some head
+  pub spot_there : spot_at rest s.seats s.sources s.chunks s.tokens k ≡ Some spot
+  pub views : Views (shown head) lane.header
+  pub is : AtSeat (factor hs lane.header) (first_number (take k hs)) lane dump.items spot
+
+pub found : {X : Type 0} (rest : X → Option (List ℕ)) (hs : List Header) (lanes : List Lane) (ds : List Dump) (s : Standing X) (k : ℕ) → AreGiven rest hs lanes ds s → IsReady s → IsNext s.seats k → Found rest hs lanes ds s k
+found rest hs lanes ds s k g ready next =
+    let w = slice_get_within s.seats k next.seat next.there in
+    let l = lane_at rest hs lanes ds s g k w in
+    let d = dump_at rest hs lanes ds s g k w in
+    let h = some_at s.heads k (let e = ready.heads in omega arith) in
+    let p = seat_spot rest s k next.seat ready.sources next.there in
+    record {
+      lane = l.0;
+      dump = d.0;
+      head = h.0;
+      spot = p.0;
+      lane_there = l.1;
+      dump_there = d.1;
+      head_there = h.1;
+      spot_there = p.1;
+      views = g.views k h.0 l.0 h.1 l.1;
+      is = g.at k l.0 d.0 p.0 l.1 d.1 p.1;
+    }
+
+token_in : (o : Option Seat) (r : Option (Option (List ℕ))) (c t : List ℕ) (p : Spot) → spot_of o r c t ≡ Some p → t ≡ p.token
+token_in (Some s) (Some rest) c t p e = let same : record { seat = s; rest = rest; chunk = c; token = t } ≡ p = cc in ap (λ (q : Spot). q.token) same
+token_in (Some s) None c t p e = cc
+token_in None r c t p e = cc
+
+-- how long its part of the tokens' window is
+pub token_len : {X : Type 0} (rest : X → Option (List ℕ)) (s s' : Standing X) (k : ℕ) (p : Spot) → IsReady s → k < length s.seats → length s'.seats ≡ length s.seats → length s'.tokens ≡ length s.tokens → spot_at rest s'.seats s'.sources s'.chunks s'.tokens k ≡ Some p
+    → length p.token ≡ part_len (length s.seats) s.tokens
+token_len rest s s' k p ready w seats tokens at =
+    let n = length s'.seats in
+    let same : part_len n s'.tokens ≡ part_len (length s.seats) s.tokens = ap (λ m. m / n) tokens ∙ ap (λ m. length s.tokens / m) seats in
+    let t = token_in (slice_get s'.seats k) (option_map rest (slice_get s'.sources k)) (part (part_len n s'.chunks) k s'.chunks) (part (part_len n s'.tokens) k s'.tokens) p at in
+    let all : n * part_len n s'.tokens ≡ length s'.tokens = rw (same, seats, tokens) ready.parts.tokens_are in
+    ap length (sym t) ∙ part_long (part_len n s'.tokens) n k s'.tokens all (omega arith) ∙ same
+
+chunk_in : (o : Option Seat) (r : Option (Option (List ℕ))) (c t : List ℕ) (p : Spot) → spot_of o r c t ≡ Some p → c ≡ p.chunk
+chunk_in (Some s) (Some rest) c t p e = let same : record { seat = s; rest = rest; chunk = c; token = t } ≡ p = cc in ap (λ (q : Spot). q.chunk) same
+chunk_in (Some s) None c t p e = cc
+chunk_in None r c t p e = cc
+
+-- and of the chunks' window
+pub chunk_len : {X : Type 0} (rest : X → Option (List ℕ)) (s s' : Standing X) (k : ℕ) (p : Spot) → IsReady s → k < length s.seats → length s'.seats ≡ length s.seats → length s'.chunks ≡ length s.chunks → spot_at rest s'.seats s'.sources s'.chunks s'.tokens k ≡ Some p
+    → length p.chunk ≡ part_len (length s.seats) s.chunks
+chunk_len rest s s' k p ready w seats chunks at =
+    let n = length s'.seats in
+    let same : part_len n s'.chunks ≡ part_len (length s.seats) s.chunks = ap (λ m. m / n) chunks ∙ ap (λ m. length s.chunks / m) seats in
+    let c = chunk_in (slice_get s'.seats k) (option_map rest (slice_get s'.sources k)) (part (part_len n s'.chunks) k s'.chunks) (part (part_len n s'.tokens) k s'.tokens) p at in
+    let all : n * part_len n s'.chunks ≡ length s'.chunks = rw (same, seats, chunks) ready.parts.chunks_are in
+    ap length (sym c) ∙ part_long (part_len n s'.chunks) n k s'.chunks all (omega arith) ∙ same
+
+rest_in : {X : Type 0} (rest : X → Option (List ℕ)) (o : Option Seat) (x : Option X) (c t : List ℕ) (p : Spot) → spot_of o (option_map rest x) c t ≡ Some p → (y : X) × (x ≡ Some y) × (p.rest ≡ rest y)
+rest_in rest (Some s) (Some y) c t p e = let same : record { seat = s; rest = rest y; chunk = c; token = t } ≡ p = cc in (y, refl, sym (ap (λ (q : Spot). q.rest) same))
+rest_in rest (Some s) None c t p e = cc
+rest_in rest None x c t p e = cc
+
+-- the source of a spot
+pub spot_source : {X : Type 0} (rest : X → Option (List ℕ)) (s : Standing X) (k : ℕ) (p : Spot) → spot_at rest s.seats s.sources s.chunks s.tokens k ≡ Some p → (y : X) × (slice_get s.sources k ≡ Some y) × (p.rest ≡ rest y)
+spot_source rest s k p at = rest_in rest (slice_get s.seats k) (slice_get s.sources k) (part (part_len (length s.seats) s.chunks) k s.chunks) (part (part_len (length s.seats) s.tokens) k s.tokens) p at
+
+-- it is the turn of one input
+pub same_next : (seats : List Seat) (j k : ℕ) → IsNext seats j → IsNext seats k → j ≡ k
+same_next seats j k a b = by_least (a.least k b.seat b.there b.unfinished) (b.least j a.seat a.there a.unfinished)
+  where
+    by_least : (a.seat.time < b.seat.time) ⊎ ((a.seat.time ≡ b.seat.time) × (j ≤ k)) → (b.seat.time < a.seat.time) ⊎ ((b.seat.time ≡ a.seat.time) × (k ≤ j)) → j ≡ k
+    by_least (inl x) (inl y) = absurd (omega (arith, x, y))
+    by_least (inl x) (inr y) = let e = y.0 in absurd (omega (arith, x, e))
+    by_least (inr x) (inl y) = let e = x.0 in absurd (omega (arith, e, y))
+    by_least (inr x) (inr y) = let e = x.1 in let f = y.1 in omega (arith, e, f)
+
+-- what a step has read, by the spot of the input that it leaves
+pub reads_one : {X : Type 0} (rest : X → Option (List ℕ)) (lanes : List Lane) (s s' : Standing X) (k : ℕ) (l : Lane) (p : Spot) (cut : Option ℕ) → IsNext s.seats k → slice_get lanes k ≡ Some l → spot_at rest s'.seats s'.sources s'.chunks s'.tokens k ≡ Some p
+    → length p.token ≡ part_len (length s.seats) s.tokens → length p.chunk ≡ part_len (length s.seats) s.chunks → ((j : ℕ) → j ≢ k → slice_get s'.sources j ≡ slice_get s.sources j)
+    → HasReadNoMore l (cut_at cut l.input) p → IfSome cut (λ n. l.input.mark ≡ Clean → HasRest p.rest n l.input) → ReadsOne rest lanes s s' k cut
+reads_one rest lanes s s' k l p cut next at_l at_p limit chunk others more has =
+    let y = spot_source rest s' k p at_p in
+    let left = cut_at cut l.input in
+    record {
+      next = next;
+      lane = l;
+      source = y.0;
+      lane_at = at_l;
+      source_at = y.1;
+      no_more = subst (λ (r : Option (List ℕ)). ReadsNoMore (part_len (length s.seats) s.tokens) (part_len (length s.seats) s.chunks) l left r) y.2
+          (subst (λ (n : ℕ). ReadsNoMore n (part_len (length s.seats) s.chunks) l left p.rest) limit (subst (λ (n : ℕ). ReadsNoMore (length p.token) n l left p.rest) chunk more));
+      has_rest = subst (λ (r : Option (List ℕ)). IfSome cut (λ n. l.input.mark ≡ Clean → HasRest r n l.input)) y.2 has;
+      others = others;
+    }
+
+module _ {X : Type 0} (rest : X → Option (List ℕ)) (hs : List Header) (lanes : List Lane) (ds : List Dump) (s : Standing X) (holds : Holds rest hs lanes ds s) (k : ℕ) (d : Dump) (l : Lane) (next : IsNext s.seats k) (same : length s.sources ≡ length s.seats)
+    (at_d : slice_get ds k ≡ Some d) (at_l : slice_get lanes k ≡ Some l) (s' : Standing X) (p : Spot) (heads : s'.heads ≡ s.heads) (many : length s'.seats ≡ length s.seats) (sources : length s'.sources ≡ length s'.seats)
+    (at_p : spot_at rest s'.seats s'.sources s'.chunks s'.tokens k ≡ Some p) (others : (j : ℕ) → j ≢ k → spot_at rest s'.seats s'.sources s'.chunks s'.tokens j ≡ spot_at rest s.seats s.sources s.chunks s.tokens j)
+    (len_t : length p.token ≡ part_len (length s.seats) s.tokens) (len_c : length p.chunk ≡ part_len (length s.seats) s.chunks) (stay : (j : ℕ) → j ≢ k → slice_get s'.sources j ≡ slice_get s.sources j) where
+  g : AreGiven rest hs lanes ds s
+  g = holds.given
+
+  abbrev scale : ℕ
+  scale = factor hs l.header
+
+  abbrev first : ℕ
+  first = first_number (take k hs)
+
+  -- the item as it is written, in the definitions of one input and of the merge
+  entry_is : (x : BodyItem) → entry_for scale first l.header d.items x ≡ (next_item rest hs lanes k d x).entry
+  entry_is x = ap (λ (h : Header). entry_for (factor hs h) first h d.items x) (same_header rest hs lanes ds s holds.given k l d at_l at_d)
+
+  before : AllByRecursion (λ y. key_lt y.key (key_after (factor hs d.header) k d.items) ≡ true) (keyed_rest hs 0 [] ds)
+  before = all_before rest hs lanes ds s holds.given k d l next same at_d at_l
+
+  pub taken : (x : BodyItem) → AtSeat scale first l (d.items ++ x ∷ []) p → Takes rest hs lanes ds s' k d x
+  taken x a = record {
+    dump_at = at_d;
+    merged = merged_more hs ds k d x holds.given.dumps_are at_d (all_before rest hs lanes ds s holds.given k d l next same at_d at_l);
+    given = given_more rest hs lanes ds s holds.given k d l next same at_d at_l s' p heads many sources at_p others x a;
+  }
+
+  -- the text with it
+  pub open_with : (x : BodyItem) → merge_open hs (merged_items (with_item ds k d x)) ≡ merge_open hs (merged_items ds) ++ due_with s.written (entry_for scale first l.header d.items x)
+  open_with x =
+      let b = merged_by hs ds holds.given.dumps_are in
+      let all = all_before rest hs lanes ds s holds.given k d l next same at_d at_l in
+      let y = next_item rest hs lanes k d x in
+      let sorted : IsSorted (merged_items ds) = subst IsSorted (sym b) (sorted_by_key (keyed_rest hs 0 [] ds)) in
+      let timed : AllByRecursion IsTimed (merged_items ds) = subst (AllByRecursion IsTimed) (sym b) (all_by_key IsTimed (keyed_rest hs 0 [] ds) (timed_rest hs 0 [] ds)) in
+      let less : AllByRecursion (λ z. key_lt z.key y.key ≡ true) (merged_items ds) = subst (AllByRecursion (λ z. key_lt z.key y.key ≡ true)) (sym b) (all_by_key (λ z. key_lt z.key y.key ≡ true) (keyed_rest hs 0 [] ds) all) in
+      ap (merge_open hs) (merged_more hs ds k d x holds.given.dumps_are at_d all)
+      ∙ text_more hs (merged_items ds) y s.written holds.written sorted timed refl less
+      ∙ ap (λ (e : Entry). merge_open hs (merged_items ds) ++ due_with s.written e) (sym (entry_is x))
+
+  pub written_with_it : (x : BodyItem) → s'.written ≡ written_with s.written (entry_for scale first l.header d.items x) → s'.written ≡ last_written (merged_items (with_item ds k d x))
+  written_with_it x e =
+      let all = all_before rest hs lanes ds s holds.given k d l next same at_d at_l in
+      e ∙ ap (written_with s.written) (entry_is x) ∙ written_more (merged_items ds) (next_item rest hs lanes k d x) s.written holds.written ∙ ap last_written (sym (merged_more hs ds k d x holds.given.dumps_are at_d all))
+
+  -- what was read, where no read failed
+  all_read : HasReadNoMore l l.input p → ReadsOne rest lanes s s' k None
+  all_read more = reads_one rest lanes s s' k l p None next at_l at_p len_t len_c stay more tt
+
+  module _ (A : Type 0) (out out' : Device) where
+    -- an item was taken, and others may follow
+    pub again_item : (x : BodyItem) → GivesOne scale first l d.items s.written s'.written p x → Writes out out' (due_with s.written (entry_for scale first l.header d.items x)) → Gives rest hs lanes ds s s' out out' (Ok Again)
+    again_item x one w = inl (k, d, x, taken x one.1, written_with_it x one.2, (due_with s.written (entry_for scale first l.header d.items x), open_with x, w), all_read one.3)
+
+    still : p.seat.finished ≡ true → AtSeat scale first l d.items p → AreGiven rest hs lanes ds s'
+    still done a = given_still rest hs lanes ds s holds.given k d l next same at_d at_l s' p heads many sources at_p others done a
+
+    pub again : (u : A) → Turns {A = A} k scale first l d.items s.written s'.written p out out' (Ok u) → Gives rest hs lanes ds s s' out out' (Ok Again)
+    again u (inl t) = again_item t.0 t.1 t.2
+    again u (inr t) = inr (record { given = still t.0 t.1; written = t.2 ∙ holds.written }, t.3, k, all_read t.4)
+
+    -- none is left: then it has finished
+    pub ended : (u : A) → All (λ (x : Seat). x.finished ≡ true) s'.seats → Turns {A = A} k scale first l d.items s.written s'.written p out out' (Ok u) → Holds rest hs lanes ds s' × Writes out out' [] × ReadsOne rest lanes s s' k None
+    ended u all (inr t) = (record { given = still t.0 t.1; written = t.2 ∙ holds.written }, t.3, all_read t.4)
+    ended u all (inl t) =
+        let seat = spot_seat rest s' k p at_p in
+        let w = slice_get_within s'.seats k p.seat seat in
+        let done = all k p.seat w in
+        let e = ap (λ (x : Seat). x.finished) (get_or_from_slice_get s'.seats k p.seat p.seat seat) in
+        let f : false ≡ true = sym t.1.0 ∙ sym e ∙ done in
+        cc
+
+    -- it stops
+    pub stopped : (stop : Stop) → Turns {A = A} k scale first l d.items s.written s'.written p out out' (Err stop) → Gives rest hs lanes ds s s' out out' (Err stop)
+    stopped (Faulty input line fault) t =
+        (subst (λ (i : ℕ). HasFault rest hs lanes ds s i line fault None) (sym t.0) (record { next = next; lane = l; dump = d; lane_at = at_l; dump_at = at_d; has = subst (λ (n : ℕ). HasDump scale n l.header l.front l.input d.items (Some (record { number = fault; line = line }))) len_t t.2 }), t.1, t.3, subst (λ (i : ℕ). ReadsOne rest lanes s s' i None) (sym t.0) (all_read t.4))
+    stopped (Read input) t =
+        let n = t.1.0 in let line = t.1.1 in (
+          (
+            n,
+            line,
+            subst (λ (i : ℕ). HasFault rest hs lanes ds s i line 31 (Some n)) (sym t.0) (record { next = next; lane = l; dump = d; lane_at = at_l; dump_at = at_d; has = subst (λ (m : ℕ). HasDump scale m l.header l.front (failed_after n l.input) d.items (Some (record { number = 31; line = line }))) len_t t.1.2 }),
+            subst (λ (i : ℕ). ReadsOne rest lanes s s' i (Some n)) (sym t.0) (reads_one rest lanes s s' k l p (Some n) next at_l at_p len_t len_c stay t.1.3 t.1.4),
+          ),
+          t.2,
+        )
+    stopped Write t = inl (k, d, t.0, taken t.0 t.1, (due_with s.written (entry_for scale first l.header d.items t.0), open_with t.0, t.2), all_read t.3)
+    stopped (Unmatched name) t = t
+
+-- the marks, by the seats
+pub are_marked : {X : Type 0} (rest : X → Option (List ℕ)) (hs : List Header) (lanes : List Lane) (ds : List Dump) (s : Standing X) → AreGiven rest hs lanes ds s → length s.sources ≡ length s.seats → AreMarked hs ds s.seats
+are_marked rest hs lanes ds s g same = record {
+  dumps_are = g.dumps_are;
+  many = let m = g.many in let e = ap (λ (h : List Header). length h) g.dumps_are in let n = len_map (λ (d : Dump). d.header) ds in omega arith;
+  time = λ k d x a b. time_at rest hs lanes ds s g k d x same a b;
+  marked = λ k d x a b.
+      let w = slice_get_within s.seats k x b in
+      let l = lane_at rest hs lanes ds s g k w in
+      let p = seat_spot rest s k x same b in
+      ap (λ (y : Seat). y.regs.marked) (sym p.2) ∙ (g.at k l.0 d p.0 l.1 a p.1).gave.known.marked_is;
+}
+
+-- whether there is a next input
+pub some_next : {A : Type 0} (o : Option A) (P : Type 0) (Q : A → Type 0) → is_some o ≡ true → MatchOption o P Q → (x : A) × Q x
+some_next None P Q e m = cc
+some_next (Some x) P Q e m = (x, m)
+
+pub none_next : {A : Type 0} (o : Option A) (P : Type 0) (Q : A → Type 0) → is_some o ≡ false → MatchOption o P Q → P
+none_next None P Q e m = m
+none_next (Some x) P Q e m = cc

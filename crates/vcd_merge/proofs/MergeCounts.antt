@@ -1,0 +1,57 @@
+-- What a step of one input counts: failed reads, and how much is left.
+use Rattle.std.proofs.Common.{◌≡◌, ℕ, zero, suc, ◌+◌, ◌-◌, ◌^◌, ◌<◌, Bool, true, false, cond, List, [], ◌∷◌, length, map, slice_get, slice_set, Some, refl, sym, ap, ◌∙◌, arith}
+use Rattle.std.specs.Prelude.{All, get_or, sum_by}
+use Rattle.std.proofs.lemmas.Option.{slice_get-get_or}
+use Rattle.vcd_merge.specs.Seat.{IsSeated}
+use Rattle.std.proofs.lemmas.List.Sums.{sum_by-append}
+use Rattle.vcd_text.specs.Feed.{parked_seen}
+use Rattle.vcd_merge.specs.MergeStep.{left_of}
+use Rattle.vcd_merge.specs.declared.seat.Seat.{Seat}
+
+pub map_set : {X Y : Type 0} (f : X → Y) (xs : List X) (k : ℕ) (x : X) → map f (slice_set xs k x) ≡ slice_set (map f xs) k (f x)
+map_set f [] k x = refl
+map_set f (y ∷ xs) zero x = refl
+map_set f (y ∷ xs) (suc k) x = ap (λ l. f y ∷ l) (map_set f xs k x)
+
+pub get_map_or : {X : Type 0} (f : X → ℕ) (xs : List X) (k : ℕ) (x : X) → x ≡ get_or xs k x → k < length xs → get_or (map f xs) k 0 ≡ f x
+get_map_or f [] k x e h = absurd (omega arith)
+get_map_or f (y ∷ xs) zero x e h = ap f (sym e)
+get_map_or f (y ∷ xs) (suc k) x e h = get_map_or f xs k x e (omega arith)
+
+-- what is left of an input
+abbrev pub left_in : Seat → ℕ
+left_in s = cond s.finished 0 (2 ^ 63 - parked_seen s.parked)
+
+one_and : (x : Seat) (xs : List Seat) → sum_by left_in (x ∷ xs) ≡ left_in x + sum_by left_in xs
+one_and x xs = sum_by-append left_in (x ∷ []) xs ∙ omega arith
+
+pub left_falls : (seats : List Seat) (k : ℕ) (s s' : Seat) → slice_get seats k ≡ Some s → left_in s' < left_in s → left_of (slice_set seats k s') < left_of seats
+left_falls [] k s s' at less = cc
+left_falls (x ∷ seats) zero s s' at less =
+    let same : x ≡ s = cc in
+    let e = ap left_in same in
+    let a = one_and x seats in
+    let b = one_and s' seats in
+    omega (arith, e, a, b, less)
+left_falls (x ∷ seats) (suc k) s s' at less =
+    let a = one_and x seats in
+    let b = one_and x (slice_set seats k s') in
+    let more = left_falls seats k s s' at less in
+    omega (arith, a, b, more)
+
+-- an input that has moved on has less left
+pub less_left : (s s' : Seat) → s.finished ≡ false → parked_seen s.parked < 2 ^ 63 → parked_seen s'.parked < 2 ^ 63 → (s'.finished ≡ false → parked_seen s.parked < parked_seen s'.parked) → left_in s' < left_in s
+less_left s s' on below below' moved = by_end s'.finished refl
+  where
+    by_end : (b : Bool) → s'.finished ≡ b → cond b 0 (2 ^ 63 - parked_seen s'.parked) < cond s.finished 0 (2 ^ 63 - parked_seen s.parked)
+    by_end true e = rw on (omega arith)
+    by_end false e = let m = moved e in rw on (omega (arith, m))
+
+-- a step of one input leaves less
+pub left_moved : (seats : List Seat) (k : ℕ) (d s' : Seat) (c t : ℕ) → k < length seats → All (IsSeated c t) seats → ((s : Seat) → slice_get seats k ≡ Some s → s.finished ≡ false) → parked_seen s'.parked < 2 ^ 63
+    → (s'.finished ≡ false → parked_seen (get_or seats k d).parked < parked_seen s'.parked) → left_of (slice_set seats k s') < left_of seats
+left_moved seats k d s' c t within seated on below moved =
+    let at = slice_get-get_or seats k d within in
+    let fits = (seated k d within).fits in
+    let a = fits.at in let b = fits.counted in
+    left_falls seats k (get_or seats k d) s' at (less_left (get_or seats k d) s' (on (get_or seats k d) at) (omega (arith, a, b)) below moved)

@@ -1,0 +1,44 @@
+-- Where a run of steps of one input has gone on to, before its last step.
+use Rattle.std.proofs.Common.{◌≡◌, ℕ, ◌⊎◌, Bool, List, length, map, Option, Result, sym, ap, subst, ◌∙◌, inl, inr}
+use Rattle.vcd_model.specs.Header.{Header}
+use Rattle.vcd_model.specs.Merge.{Dump, merge_open, merged_items}
+use Rattle.vcd_text.specs.Device.{Device, Supply, Writes}
+use Rattle.vcd_text.proofs.Writes.{both-written}
+use Rattle.vcd_merge.specs.MergeOrder.{IsNext}
+use Rattle.vcd_merge.specs.MergeParts.{part_len}
+use Rattle.vcd_merge.specs.MergeStep.{Standing, failures_with}
+use Rattle.vcd_merge.specs.MergeTrail.{RunGives}
+use Rattle.vcd_merge.specs.Seat.{Lane, ReadsNoMore}
+use Rattle.vcd_body.specs.declared.answer.More.{More}
+use Rattle.vcd_body.specs.declared.answer.Stop.{Stop}
+use Rattle.vcd_merge.proofs.MergeAnswers.{same_next}
+use Rattle.vcd_merge.proofs.MergeReads.{AreReadSoFar, read_along}
+use Rattle.vcd_merge.proofs.MergeRuns.{keeps_limit}
+
+module _ {X : Type 0} (rest : X → Option (List ℕ)) (failures : X → ℕ) (hs : List Header) (lanes : List Lane) (alone : Bool) (ds : List Dump) (s s' : Standing X) (out new : Device) (result : Result More Stop) (r : RunGives rest failures hs lanes alone ds s s' out new result) where
+  -- what is due after it stands on the output
+  pub mid_writes : (begin : Device) → Writes begin out (merge_open hs (merged_items ds)) → Writes begin r.between (merge_open hs (merged_items r.dumps))
+  mid_writes begin w = subst (Writes begin r.between) (sym r.grows.1) (both-written begin out r.between (merge_open hs (merged_items ds)) r.grows.0 w r.grows.2)
+
+  -- no read has failed in it
+  pub mid_counts : (k : ℕ) (more : Result More Stop) → map failures s'.sources ≡ failures_with (map failures s.sources) k more → map failures s'.sources ≡ failures_with (map failures r.mid.sources) k more
+  mid_counts k more e = e ∙ ap (λ (ns : List ℕ). failures_with ns k more) (sym r.failures_are)
+
+  -- it is still the turn of its input
+  pub mid_next : (k : ℕ) → IsNext s.seats k → IsNext r.mid.seats k
+  mid_next k next = subst (IsNext r.mid.seats) (same_next s.seats r.input k r.turn next) r.next
+
+  module _ (limit chunk : ℕ) (is_limit : part_len (length s.seats) s.tokens ≡ limit) (is_chunk : part_len (length s.seats) s.chunks ≡ chunk) where
+    pub mid_limit : part_len (length r.mid.seats) r.mid.tokens ≡ limit
+    mid_limit = keeps_limit (length s.seats) (length r.mid.seats) s.tokens r.mid.tokens r.seats r.tokens ∙ is_limit
+
+    pub mid_chunk : part_len (length r.mid.seats) r.mid.chunks ≡ chunk
+    mid_chunk = keeps_limit (length s.seats) (length r.mid.seats) s.chunks r.mid.chunks r.seats r.chunks ∙ is_chunk
+
+    -- no more was read than what settles the inputs
+    pub mid_read : (olds : List Supply) → AreReadSoFar rest failures limit chunk lanes olds s.sources → AreReadSoFar rest failures limit chunk lanes olds r.mid.sources
+    mid_read olds so_far = read_along rest failures limit chunk lanes olds s.sources r.mid.sources r.failures_are (λ j l x at_l at_x. by_source l x (r.reads j l x at_l at_x)) so_far
+      where
+        by_source : {P : Type 0} (l : Lane) (x : X) → P ⊎ ReadsNoMore (part_len (length s.seats) s.tokens) (part_len (length s.seats) s.chunks) l l.input (rest x) → P ⊎ ReadsNoMore limit chunk l l.input (rest x)
+        by_source l x (inl p) = inl p
+        by_source l x (inr more) = inr (subst (λ (n : ℕ). ReadsNoMore limit n l l.input (rest x)) is_chunk (subst (λ (n : ℕ). ReadsNoMore n (part_len (length s.seats) s.chunks) l l.input (rest x)) is_limit more))

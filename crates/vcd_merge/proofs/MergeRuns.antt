@@ -1,0 +1,262 @@
+-- A merge as a loop over steps.
+use Rattle.std.proofs.Common.{◌≡◌, ◌≢◌, ◌∙◌, ℕ, zero, suc, ◌+◌, ◌-◌, ◌^◌, ◌/◌, ◌<◌, ◌++◌, List, [], ◌∷◌, length, map, slice_get, slice_set, Some, None, ap, sym, subst, refl, Result, Ok, Err, arith, ◌⊎◌, inl, inr, append-nil}
+use Rattle.std.specs.Prelude.{All, get_or}
+use Rattle.std.proofs.lemmas.List.{set-get_or}
+use Rattle.vcd_model.specs.Header.{Header}
+use Rattle.vcd_model.specs.BodyReading.{body_fault_of, read_body}
+use Rattle.vcd_model.specs.Merge.{Dump, dump_of, factor, headers_of, merge_close, merge_open, merged_items}
+use Rattle.vcd_model.specs.MergeByInput.{with_item}
+use Rattle.vcd_model.specs.Outcome.{Outcome, fault_outcome, merge_outcome, name_at}
+use Rattle.vcd_model.specs.Reading.{Fault}
+use Rattle.vcd_model.specs.Tokens.{Token, stream_of}
+use Rattle.vcd_text.specs.ReadAhead.ReadsAsNeeded.{Nothing}
+use Rattle.vcd_text.specs.Device.{Device, Supply, Writes, WritesSome, supply}
+use Rattle.vcd_text.proofs.Writes.{both-written, some-behind, some-first}
+use Rattle.vcd_body.specs.Answer.{reads_failed}
+use Rattle.vcd_merge.specs.MergeOrder.{IsNext}
+use Rattle.vcd_merge.specs.MergeParts.{part_len}
+use Rattle.vcd_merge.specs.MergeRun.{Belongs, Follows}
+use Rattle.vcd_merge.specs.MergeStep.{AreGiven, Gives, HasFault, Holds, IsReady, ReadsOne, Standing, failures_with}
+use Rattle.vcd_merge.specs.Seat.{Lane}
+use Rattle.vcd_body.specs.declared.answer.Done.{Done}
+use Rattle.vcd_body.specs.declared.answer.Done.TheVariants.{Whole, Early}
+use Rattle.vcd_body.specs.declared.answer.More.{More}
+use Rattle.vcd_body.specs.declared.answer.More.TheVariants.{Again, Ended}
+use Rattle.vcd_body.specs.declared.answer.Stop.{Stop}
+use Rattle.vcd_body.specs.declared.answer.Stop.TheVariants.{Dump as Faulty, Read, Write, Unmatched}
+use Rattle.vcd_model.proofs.MergeSoFar.{fault_output, head_first}
+use Rattle.vcd_merge.proofs.MergeReads as reads
+use Rattle.vcd_merge.proofs.MergeReads.{AreReadSoFar, cut_left, left_whole, other_left, read_more}
+use Rattle.vcd_merge.proofs.MergeSteps.{get_map, len_map, same_or_not}
+use Rattle.vcd_merge.proofs.MergeStops.{EndFits, StopFits, WriteFits, clean_is, ends, fault_merged, one_next, stops, writes, written_some}
+use Rattle.vcd_merge.proofs.MergeWholes as whole
+use Rattle.vcd_merge.proofs.MergeWholes.{Wholes, choose_all, entire_headers, entire_of, follows, left_all}
+
+-- ---- what is counted
+
+-- where no read failed, whichever input's turn it was
+plain : {A : Type 0} (ns : List ℕ) (k : ℕ) (r : Result A Stop) → reads_failed r ≡ 0 → failures_with ns k r ≡ ns
+plain ns k r e = let z : get_or ns k 0 + reads_failed r ≡ get_or ns k 0 = omega (arith, e) in ap (slice_set ns k) z ∙ set-get_or ns k 0
+
+at_any : {A : Type 0} (ns ms : List ℕ) (k j : ℕ) (r : Result A Stop) → reads_failed r ≡ 0 → ms ≡ failures_with ns k r → ms ≡ failures_with ns j r
+at_any ns ms k j r none e = e ∙ plain ns k r none ∙ sym (plain ns j r none)
+
+-- a step that goes on leaves the failures
+pub same_failures : (ns ms : List ℕ) (k : ℕ) (r : Result More Stop) → r ≡ Ok Again → ms ≡ failures_with ns k r → ms ≡ ns
+same_failures ns ms k r again e = e ∙ plain ns k r (ap (λ (x : Result More Stop). reads_failed x) again)
+
+-- so that they are as low as they were
+pub still_low : {X : Type 0} (f : X → ℕ) (xs ys : List X) → map f ys ≡ map f xs → All (λ s. f s < 2 ^ 64 - 1) xs → All (λ s. f s < 2 ^ 64 - 1) ys
+still_low f xs [] e h = λ k d l. absurd (omega arith)
+still_low f [] (y ∷ ys) e h = cc
+still_low f (x ∷ xs) (y ∷ ys) e h =
+    let a : f y ≡ f x = cc in
+    let b : map f ys ≡ map f xs = cc in
+    let more = still_low f xs ys b (λ k d l. h (suc k) d (omega arith)) in
+    λ k d l. by_place k d l more
+  where
+    by_place : (k : ℕ) (d : _) → k < length (y ∷ ys) → All (λ s. f s < 2 ^ 64 - 1) ys → f (get_or (y ∷ ys) k d) < 2 ^ 64 - 1
+    by_place zero d l more = let a : f y ≡ f x = cc in let b = h 0 d (omega arith) in omega (arith, a, b)
+    by_place (suc k) d l more = more k d (omega arith)
+
+pub keeps_limit : (n n' : ℕ) (t t' : List ℕ) → n' ≡ n → length t' ≡ length t → part_len n' t' ≡ part_len n t
+keeps_limit n n' t t' e l = ap (λ m. m / n') l ∙ ap (λ m. length t / m) e
+
+module _ {X : Type 0} (rest : X → _) (failures : X → ℕ) (hs : List Header) (lanes : List Lane) where
+  -- there are as many sources as lanes
+  pub long : (ds : List Dump) (s : Standing X) (xs : List X) → IsReady s → map failures s.sources ≡ map failures xs → AreGiven rest hs lanes ds s → length (map (supply rest failures) xs) ≡ length lanes
+  long ds s xs ready e g =
+      let a = ap length e in
+      let b = len_map failures s.sources in
+      let i = len_map failures xs in
+      let j = len_map (supply rest failures) xs in
+      let c = ready.sources in
+      let d = g.many in
+      let l = ap (λ (x : List Header). length x) g.lanes_are in
+      let m = len_map (λ (x : Lane). x.header) lanes in
+      omega (arith, a, b, c, d, l, m, i, j)
+
+  -- the merge goes on: it holds an item more, or the same, and the output has what is due
+  pub advances_on : (ds : List Dump) (s s' : Standing X) (begin out new : Device) → Writes begin out (merge_open hs (merged_items ds)) → Gives rest hs lanes ds s s' out new (Ok Again)
+      → (es : List Dump) × Holds rest hs lanes es s' × Writes begin new (merge_open hs (merged_items es))
+  advances_on ds s s' begin out new w (inl t) =
+      let due = t.5 in (
+        with_item ds t.0 t.1 t.2,
+        record { given = t.3.given; written = t.4 },
+        subst (Writes begin new) (sym due.1) (both-written begin out new (merge_open hs (merged_items ds)) due.0 w due.2),
+      )
+  advances_on ds s s' begin out new w (inr t) = (ds, t.0, subst (Writes begin new) (append-nil (merge_open hs (merged_items ds))) (both-written begin out new (merge_open hs (merged_items ds)) [] w t.1))
+
+  module _ (limit chunk : ℕ) (olds : List Supply) (s s' : Standing X) (is_limit : part_len (length s.seats) s.tokens ≡ limit) (is_chunk : part_len (length s.seats) s.chunks ≡ chunk) (so_far : AreReadSoFar rest failures limit chunk lanes olds s.sources) where
+    -- no read failed in a step
+    read_on : {A : Type 0} (k j : ℕ) (r : Result A Stop) → reads_failed r ≡ 0 → map failures s'.sources ≡ failures_with (map failures s.sources) k r → ReadsOne rest lanes s s' j None → AreReadSoFar rest failures limit chunk lanes olds s'.sources
+    read_on k j r none counts one = read_more rest failures limit chunk lanes olds s s' j r so_far one (at_any (map failures s.sources) (map failures s'.sources) k j r none counts) (sym is_limit) (sym is_chunk) none
+
+    -- .. after which the merge goes on
+    pub reads_on : (ds : List Dump) (out new : Device) (k : ℕ) → map failures s'.sources ≡ failures_with {A = More} (map failures s.sources) k (Ok Again) → Gives rest hs lanes ds s s' out new (Ok Again) → AreReadSoFar rest failures limit chunk lanes olds s'.sources
+    reads_on ds out new k counts (inl t) = read_on k t.0 (Ok Again) refl counts t.6
+    reads_on ds out new k counts (inr t) = read_on k t.2 (Ok Again) refl counts t.3
+
+    -- ---- the exits: what a last step takes the run to
+
+    module _ (es : List Dump) (names : List (List ℕ)) (begin out new : Device) (ready : IsReady s) (holds : Holds rest hs lanes es s) (many : length olds ≡ length lanes) (w : Writes begin out (merge_open hs (merged_items es))) (seats : length s'.seats ≡ length s.seats)
+        (tokens : length s'.tokens ≡ length s.tokens) where
+      abbrev news : List Supply
+      news = map (supply rest failures) s'.sources
+
+      abbrev IsFollowed : Result Done Stop → Type 0
+      IsFollowed r = Follows limit chunk lanes names olds news begin new r
+
+      new_many : {A : Type 0} (k : ℕ) (r : Result A Stop) → map failures s'.sources ≡ failures_with (map failures s.sources) k r → length news ≡ length lanes
+      new_many k r counts =
+          let a = reads.as_many failures s.sources s'.sources k r counts in
+          let b = len_map (supply rest failures) s'.sources in
+          let c = ready.sources in
+          let d = holds.given.many in
+          let l = ap (λ (x : List Header). length x) holds.given.lanes_are in
+          let m = len_map (λ (x : Lane). x.header) lanes in
+          omega (arith, a, b, c, d, l, m)
+
+      -- by what is left of each input
+      all_follow : (P : ℕ → whole.Whole hs limit → Type 0) (ds : List Dump) (ws : Wholes hs limit P 0 lanes ds) (r : Result Done Stop) → length news ≡ length lanes
+          → ((k : ℕ) (x : whole.Whole hs limit) (old new : Supply) → P (0 + k) x → slice_get lanes k ≡ Some x.lane → slice_get olds k ≡ Some old → slice_get news k ≡ Some new → reads.IsRead rest failures limit chunk lanes olds x.lane old new x.left)
+          → Belongs (merge_outcome names (entire_of hs limit ws.list)) names begin new r → IsFollowed r
+      all_follow P ds ws r as_many each belongs =
+          let len = len_map (λ (x : whole.Whole hs limit). x.lane) ws.list in
+          let same = ap (λ (ls : List Lane). length ls) ws.lanes_are in
+          let left = left_all hs limit P chunk 0 ws.list olds news (omega (arith, len, same, many)) (omega (arith, len, same, as_many)) ws.fit
+          (λ k x old new p at at_old at_new. each k x old new p (ap (λ (ls : List Lane). slice_get ls k) (sym ws.lanes_are) ∙ get_map (λ (y : whole.Whole hs limit). y.lane) ws.list k x at) at_old at_new) in
+          follows hs limit chunk ws.list lanes names olds news begin new r ws.lanes_are holds.given.lanes_are left belongs
+
+      -- where each input is left whole
+      all_whole : (P : ℕ → whole.Whole hs limit → Type 0) (ds : List Dump) (ws : Wholes hs limit P 0 lanes ds) (r : Result Done Stop) → length news ≡ length lanes → AreReadSoFar rest failures limit chunk lanes olds s'.sources
+          → ((k : ℕ) (x : whole.Whole hs limit) → P k x → x.left ≡ x.lane.input) → Belongs (merge_outcome names (entire_of hs limit ws.list)) names begin new r → IsFollowed r
+      all_whole P ds ws r as_many more left belongs =
+          all_follow P ds ws r as_many
+          (λ k x old new p at at_old at_new. subst (reads.IsRead rest failures limit chunk lanes olds x.lane old new) (sym (left (0 + k) x p)) (left_whole rest failures limit chunk lanes olds s'.sources more k x.lane old new at at_old at_new))
+          belongs
+
+      -- all inputs have ended
+      pub ended_merge : (done : Done) (k : ℕ) → map failures s'.sources ≡ failures_with {A = More} (map failures s.sources) k (Ok (Ended done)) → Gives rest hs lanes es s s' out new (Ok (Ended done)) → IsFollowed (Ok done)
+      ended_merge Early k counts gives = absurd gives
+      ended_merge Whole k counts gives =
+          let ws = ends rest hs lanes es s s' limit is_limit ready seats tokens gives.given gives.finished in
+          let outcome = clean_is rest hs lanes es s s' limit is_limit ready seats tokens gives.given gives.finished names in
+          let written = both-written begin out new (merge_open hs (merged_items es)) (merge_close (merged_items es)) w gives.closes in
+          all_whole (EndFits rest hs lanes es s s' limit is_limit ready seats tokens gives.given) es ws (Ok Whole) (new_many k (Ok (Ended Whole)) counts) (read_on k gives.input (Ok (Ended Whole)) refl counts gives.reads) (λ j x p. p.left)
+          (subst (λ (o : Outcome). Belongs o names begin new (Ok Whole)) (sym outcome) (refl, written))
+
+      -- nothing was written with the fault
+      nothing_more : Writes out new [] → Writes begin new (merge_open hs (merged_items es))
+      nothing_more none = subst (Writes begin new) (append-nil (merge_open hs (merged_items es))) (both-written begin out new (merge_open hs (merged_items es)) [] w none)
+
+      -- what stands on the output before this fault is that of its outcome
+      output_is : (input : ℕ) (f : Fault) → Writes out new [] → let o = fault_outcome (merge_open hs (merged_items es)) (name_at names input) f in (o ≡ fault_outcome o.output (name_at names input) f) × Writes begin new o.output
+      output_is input f none =
+          let e = fault_output (merge_open hs (merged_items es)) (name_at names input) f in
+          (ap (λ l. fault_outcome l (name_at names input) f) (sym e), subst (Writes begin new) (sym e) (nothing_more none))
+
+      -- the input whose turn it was has a fault
+      faulty_merge : (input line fault k : ℕ) → map failures s'.sources ≡ failures_with {A = More} (map failures s.sources) k (Err (Faulty input line fault)) → Gives rest hs lanes es s s' out new (Err (Faulty input line fault)) → IsFollowed (Err (Faulty input line fault))
+      faulty_merge input line fault k counts gives =
+          let stop : Stop = Faulty input line fault in
+          let ws = stops rest hs lanes es s limit is_limit ready holds.given input line fault None gives.0 in
+          let outcome = fault_merged rest hs lanes es s limit is_limit ready holds.given input line fault None gives.0 names in
+          let o = output_is input (record { number = fault; line = line }) gives.2 in
+          all_whole (StopFits rest hs lanes es s limit is_limit ready holds.given input line fault None gives.0) es ws (Err stop) (new_many {A = More} k (Err stop) counts) (read_on {A = More} k input (Err stop) refl counts gives.3) (λ j x p. by_place j x p (same_or_not j input))
+          (subst (λ (o : Outcome). Belongs o names begin new (Err stop)) (sym outcome) (o.0, gives.1, o.1))
+        where
+          by_place : (j : ℕ) (x : whole.Whole hs limit) → StopFits rest hs lanes es s limit is_limit ready holds.given input line fault None gives.0 j x → (j ≡ input) ⊎ (j ≢ input) → x.left ≡ x.lane.input
+          by_place j x p (inl e) = p.cut_is e
+          by_place j x p (inr other) = p.left other
+
+      -- a read of it failed
+      cut_merge : (input k : ℕ) → IsNext s.seats k → map failures s'.sources ≡ failures_with {A = More} (map failures s.sources) k (Err (Read input)) → Gives rest hs lanes es s s' out new (Err (Read input)) → IsFollowed (Err (Read input))
+      cut_merge input k next counts gives =
+          let stop : Stop = Read input in
+          let ws = stops rest hs lanes es s limit is_limit ready holds.given input line 31 (Some n) has in
+          let outcome = fault_merged rest hs lanes es s limit is_limit ready holds.given input line 31 (Some n) has names in
+          let o = output_is input (record { number = 31; line = line }) gives.1 in
+          all_follow (StopFits rest hs lanes es s limit is_limit ready holds.given input line 31 (Some n) has) es ws (Err stop) (new_many {A = More} k (Err stop) counts)
+          (λ j x old new p at at_old at_new. by_place j x old new p (same_or_not j input) at at_old at_new)
+          (subst (λ (o : Outcome). Belongs o names begin new (Err stop)) (sym outcome) ((line, o.0), o.1))
+        where
+          n : ℕ
+          n = gives.0.0
+
+          line : ℕ
+          line = gives.0.1
+
+          has : HasFault rest hs lanes es s input line 31 (Some n)
+          has = gives.0.2
+
+          counted : map failures s'.sources ≡ failures_with {A = More} (map failures s.sources) input (Err (Read input))
+          counted = counts ∙ ap (λ i. failures_with {A = More} (map failures s.sources) i (Err (Read input))) (one_next s.seats k input next has.next)
+
+          by_place : (j : ℕ) (x : whole.Whole hs limit) (old new : Supply) → StopFits rest hs lanes es s limit is_limit ready holds.given input line 31 (Some n) has (0 + j) x → (j ≡ input) ⊎ (j ≢ input) → slice_get lanes j ≡ Some x.lane → slice_get olds j ≡ Some old
+              → slice_get news j ≡ Some new → reads.IsRead rest failures limit chunk lanes olds x.lane old new x.left
+          by_place j x old new p (inl e) at at_old at_new =
+              let i : 0 + j ≡ input = omega arith in
+              subst (reads.IsRead rest failures limit chunk lanes olds x.lane old new) (sym (p.cut_is i))
+              (cut_left rest failures limit chunk lanes olds {A = More} s s' input (Err (Read input)) n so_far gives.0.3 counted (sym is_limit) (sym is_chunk) refl x.lane old new (ap (slice_get lanes) (sym e) ∙ at) (ap (slice_get olds) (sym e) ∙ at_old) (ap (slice_get news) (sym e) ∙ at_new))
+          by_place j x old new p (inr other) at at_old at_new =
+              let i : 0 + j ≢ input = λ e. other (omega arith) in
+              subst (reads.IsRead rest failures limit chunk lanes olds x.lane old new) (sym (p.left i))
+              (other_left rest failures limit chunk lanes olds {A = More} s s' input (Err (Read input)) (Some n) so_far gives.0.3 counted (sym is_limit) (sym is_chunk) j x.lane old new other at at_old at_new)
+
+      -- a write failed
+      cut_short : (k : ℕ) → map failures s'.sources ≡ failures_with {A = More} (map failures s.sources) k (Err Write) → Gives rest hs lanes es s s' out new (Err Write) → IsFollowed (Err Write)
+      cut_short k counts (inl t) =
+          let ws = writes rest hs lanes es s s' limit is_limit ready seats tokens t.0 t.1 t.2 t.3 in
+          let some = written_some rest hs lanes es s s' limit is_limit ready seats tokens t.0 t.1 t.2 t.3 names begin out new w t.4 in
+          all_whole (WriteFits rest hs lanes es s s' limit is_limit ready seats tokens t.0 t.1 t.2 t.3) (with_item es t.0 t.1 t.2) ws (Err Write) (new_many {A = More} k (Err Write) counts) (read_on {A = More} k t.0 (Err Write) refl counts t.5) (λ j x p. p.left) some
+      cut_short k counts (inr t) =
+          let ws = ends rest hs lanes es s s' limit is_limit ready seats tokens t.given t.finished in
+          let outcome = clean_is rest hs lanes es s s' limit is_limit ready seats tokens t.given t.finished names in
+          let due = t.closes in
+          let some : WritesSome begin new (merge_open hs (merged_items es) ++ merge_close (merged_items es)) = some-behind begin out new (merge_open hs (merged_items es)) (merge_close (merged_items es)) w (subst (WritesSome out new) (sym due.1) due.2) in
+          all_whole (EndFits rest hs lanes es s s' limit is_limit ready seats tokens t.given) es ws (Err Write) (new_many {A = More} k (Err Write) counts) (read_on {A = More} k t.input (Err Write) refl counts t.reads) (λ j x p. p.left)
+          (subst (λ (o : Outcome). WritesSome begin new o.output) (sym outcome) some)
+
+      -- it has stopped: the fault is the first of the merged inputs, and what stands is what comes before it; or a write failed
+      pub stopped_merge : (stop : Stop) (k : ℕ) → IsNext s.seats k → map failures s'.sources ≡ failures_with {A = More} (map failures s.sources) k (Err stop) → Gives rest hs lanes es s s' out new (Err stop) → IsFollowed (Err stop)
+      stopped_merge (Faulty input line fault) k next counts gives = faulty_merge input line fault k counts gives
+      stopped_merge (Read input) k next counts gives = cut_merge input k next counts gives
+      stopped_merge Write k next counts gives = cut_short k counts gives
+      stopped_merge (Unmatched place) k next counts gives = absurd gives
+
+-- ---- a write failed in the head, before any step
+
+module _ (hs : List Header) (lanes : List Lane) (limit chunk : ℕ) (headers : map (λ (l : Lane). l.header) lanes ≡ hs) (begun : (k : ℕ) (l : Lane) → slice_get lanes k ≡ Some l → (more : List Token) × ((stream_of limit l.input).tokens ≡ l.front ++ more)) where
+  abbrev none_yet : List Dump
+  none_yet = map (λ (l : Lane). record { header = l.header; items = []; fault = None }) lanes
+
+  -- whatever its body is, an input is some dump
+  any_at : (k : ℕ) (l : Lane) (d : Dump) → slice_get lanes k ≡ Some l → slice_get none_yet k ≡ Some d → (x : whole.Whole hs limit) × (x.lane ≡ l) × (x.dump ≡ d) × (x.left ≡ x.lane.input)
+  unfolding dump_of
+  any_at k l d at_l at_d =
+      let more = begun k l at_l in
+      let r = read_body l.header.codes more.0 in
+      let dump = dump_of (factor hs l.header) l.header (body_fault_of (stream_of limit l.input) r) r in
+      let e : Some (record { header = l.header; items = []; fault = None }) ≡ Some d = sym (get_map (λ (m : Lane). record { header = m.header; items = []; fault = None }) lanes k l at_l) ∙ at_d in
+      let is : record { header = l.header; items = []; fault = None } ≡ d = cc in (
+        record { lane = l; dump = d; same = ap (λ (x : Dump). x.header) is; left = l.input; items = dump.items; fault = dump.fault; has = record { rest = more.0; tokens = more.1; is = refl } },
+        refl,
+        refl,
+        refl,
+      )
+
+  pub unwritten_head : (names : List (List ℕ)) (olds : List Supply) (begin new : Device) → length olds ≡ length lanes → WritesSome begin new (merge_open hs []) → Follows limit chunk lanes names olds olds begin new (Err Write)
+  unwritten_head names olds begin new many some =
+      let ws = choose_all hs limit (λ k x. x.left ≡ x.lane.input) lanes none_yet (len_map (λ (l : Lane). record { header = l.header; items = []; fault = None }) lanes) any_at in
+      let len = len_map (λ (x : whole.Whole hs limit). x.lane) ws.list in
+      let same = ap (λ (ls : List Lane). length ls) ws.lanes_are in
+      let left = left_all hs limit (λ k x. x.left ≡ x.lane.input) chunk 0 ws.list olds olds (omega (arith, len, same, many)) (omega (arith, len, same, many)) ws.fit
+      (λ k x old new p at at_old at_new. let e : new ≡ old = cc (sym at_new ∙ at_old) in (inl (ap (λ (z : Supply). z.failures) e, p), Nothing e)) in
+      let under : headers_of (entire_of hs limit ws.list) ≡ hs = entire_headers hs limit ws.list ∙ ap headers_of ws.dumps_are ∙ headers_none lanes ∙ headers in
+      let first = head_first names hs (entire_of hs limit ws.list) under in
+      follows hs limit chunk ws.list lanes names olds olds begin new (Err Write) ws.lanes_are headers left (subst (WritesSome begin new) (sym first.1) (some-first begin new (merge_open hs []) first.0 some))
+    where
+      headers_none : (ls : List Lane) → headers_of (map (λ (l : Lane). record { header = l.header; items = []; fault = None }) ls) ≡ map (λ (l : Lane). l.header) ls
+      headers_none [] = refl
+      headers_none (l ∷ ls) = ap (λ (h : List Header). l.header ∷ h) (headers_none ls)

@@ -1,0 +1,201 @@
+-- What a merge holds behind one item more of the input whose turn it is, and where that input has finished.
+use Rattle.std.proofs.Common.{◌≡◌, ◌≢◌, ℕ, zero, suc, ◌*◌, ◌<◌, ◌≤◌, true, false, List, [], ◌∷◌, ◌++◌, length, take, map, slice_get, Option, Some, None, refl, sym, ap, subst, ◌∙◌, arith, ◌⊎◌, inl, inr}
+use Rattle.std.specs.Prelude.{option_map}
+use Rattle.std.specs.List.{AllByRecursion}
+use Rattle.std.proofs.lemmas.Bool.{cases_lt}
+use Rattle.std.proofs.lemmas.Option.{slice_get_within}
+use Rattle.vcd_model.specs.Header.{Header}
+use Rattle.vcd_model.specs.HeadText.{first_number}
+use Rattle.vcd_model.specs.Items.{BodyItem, time_after}
+use Rattle.vcd_model.specs.Merge.{Dump, key_lt, factor, key_after}
+use Rattle.vcd_model.proofs.MergeOrder.{IsSorted, Before, before_key, sorted_by_key, all_by_key}
+use Rattle.vcd_model.proofs.MergeOrder as order
+use Rattle.vcd_merge.specs.MergeStep.{AreGiven, Standing}
+use Rattle.vcd_merge.specs.MergeOrder.{IsNext}
+use Rattle.vcd_merge.specs.MergeParts.{part, part_len, spot_at, spot_of}
+use Rattle.vcd_merge.specs.Seat.{AtSeat, Lane, Spot}
+use Rattle.vcd_merge.specs.declared.seat.Seat.{Seat}
+use Rattle.vcd_model.specs.MergeByInput.{keyed_rest, with_item}
+use Rattle.vcd_model.proofs.MergeChanges.{later_key}
+use Rattle.vcd_model.proofs.MergeOrder.{key_chain}
+use Rattle.vcd_model.proofs.MergedLists.{all_with_item, headers_stay}
+use Rattle.vcd_merge.proofs.PartLemmas.{get_other, get_set}
+
+-- ---- places
+
+pub some_at : {X : Type 0} (xs : List X) (k : ℕ) → k < length xs → (x : X) × (slice_get xs k ≡ Some x)
+some_at [] k h = absurd (omega arith)
+some_at (x ∷ xs) zero h = (x, refl)
+some_at (x ∷ xs) (suc k) h = some_at xs k (omega arith)
+
+pub get_map : {X Y : Type 0} (f : X → Y) (xs : List X) (k : ℕ) (x : X) → slice_get xs k ≡ Some x → slice_get (map f xs) k ≡ Some (f x)
+get_map f [] k x h = cc
+get_map f (y ∷ xs) zero x h = let e : y ≡ x = cc in ap (λ z. Some (f z)) e
+get_map f (y ∷ xs) (suc k) x h = get_map f xs k x h
+
+pub len_map : {X Y : Type 0} (f : X → Y) (xs : List X) → length (map f xs) ≡ length xs
+len_map f [] = refl
+len_map f (x ∷ xs) = ap suc (len_map f xs)
+
+pub same_or_not : (j k : ℕ) → (j ≡ k) ⊎ (j ≢ k)
+same_or_not j k = by_order (cases_lt j k) (cases_lt k j)
+  where
+    by_order : (j < k) ⊎ (k ≤ j) → (k < j) ⊎ (j ≤ k) → (j ≡ k) ⊎ (j ≢ k)
+    by_order (inl l) m = inr (λ e. omega arith)
+    by_order (inr l) (inl m) = inr (λ e. omega arith)
+    by_order (inr l) (inr m) = inl (omega arith)
+
+apart : (k j : ℕ) → j ≢ k → k ≤ j → k < j
+apart k j other h = by_order (cases_lt k j)
+  where
+    by_order : (k < j) ⊎ (j ≤ k) → k < j
+    by_order (inl n) = n
+    by_order (inr n) = absurd (other (omega arith))
+
+seat_in : (o : Option Seat) (r : Option (Option (List ℕ))) (c t : List ℕ) (p : Spot) → spot_of o r c t ≡ Some p → o ≡ Some p.seat
+seat_in (Some s) (Some rest) c t p e = let same : record { seat = s; rest = rest; chunk = c; token = t } ≡ p = cc in ap (λ (q : Spot). Some q.seat) same
+seat_in (Some s) None c t p e = cc
+seat_in None r c t p e = cc
+
+module _ {X : Type 0} (rest : X → Option (List ℕ)) (s : Standing X) where
+  -- the seat of a spot
+  pub spot_seat : (k : ℕ) (p : Spot) → spot_at rest s.seats s.sources s.chunks s.tokens k ≡ Some p → slice_get s.seats k ≡ Some p.seat
+  spot_seat k p e = seat_in (slice_get s.seats k) (option_map rest (slice_get s.sources k)) (part (part_len (length s.seats) s.chunks) k s.chunks) (part (part_len (length s.seats) s.tokens) k s.tokens) p e
+
+  -- a seat that there is has a spot
+  pub seat_spot : (k : ℕ) (x : Seat) → length s.sources ≡ length s.seats → slice_get s.seats k ≡ Some x → (p : Spot) × (spot_at rest s.seats s.sources s.chunks s.tokens k ≡ Some p) × (p.seat ≡ x)
+  seat_spot k x same at =
+      let w = slice_get_within s.seats k x at in
+      let y = some_at s.sources k (omega arith) in (
+        record { seat = x; rest = rest y.0; chunk = part (part_len (length s.seats) s.chunks) k s.chunks; token = part (part_len (length s.seats) s.tokens) k s.tokens },
+        rw (at, y.1) refl,
+        refl,
+      )
+
+module _ {X : Type 0} (rest : X → Option (List ℕ)) (hs : List Header) (lanes : List Lane) (ds : List Dump) (s : Standing X) (g : AreGiven rest hs lanes ds s) where
+  -- lane and dump of a seat, under one header
+  pub lane_at : (k : ℕ) → k < length s.seats → (l : Lane) × (slice_get lanes k ≡ Some l)
+  lane_at k h = let e = ap (λ (x : List Header). length x) g.lanes_are in let m = g.many in let n = len_map (λ (l : Lane). l.header) lanes in some_at lanes k (omega arith)
+
+  pub dump_at : (k : ℕ) → k < length s.seats → (d : Dump) × (slice_get ds k ≡ Some d)
+  dump_at k h = let e = ap (λ (x : List Header). length x) g.dumps_are in let m = g.many in let n = len_map (λ (d : Dump). d.header) ds in some_at ds k (omega arith)
+
+  pub same_header : (k : ℕ) (l : Lane) (d : Dump) → slice_get lanes k ≡ Some l → slice_get ds k ≡ Some d → l.header ≡ d.header
+  same_header k l d a b =
+      let x = get_map (λ (y : Lane). y.header) lanes k l a in
+      let y = get_map (λ (z : Dump). z.header) ds k d b in
+      let u = ap (λ (h : List Header). slice_get h k) g.lanes_are in
+      let v = ap (λ (h : List Header). slice_get h k) g.dumps_are in
+      let e : Some l.header ≡ Some d.header = sym x ∙ u ∙ sym v ∙ y in
+      cc
+
+  -- the scaled time of an input
+  pub time_at : (k : ℕ) (d : Dump) (x : Seat) → length s.sources ≡ length s.seats → slice_get ds k ≡ Some d → slice_get s.seats k ≡ Some x → x.time ≡ factor hs d.header * time_after d.items
+  time_at k d x same b c =
+      let w = slice_get_within s.seats k x c in
+      let l = lane_at k w in
+      let p = seat_spot rest s k x same c in
+      let a = g.at k l.0 d p.0 l.1 b p.1 in
+      ap (λ (y : Seat). y.time) (sym p.2) ∙ a.time_is ∙ ap (λ (h : Header). factor hs h * time_after d.items) (same_header k l.0 d l.1 b)
+
+  module _ (k : ℕ) (d : Dump) (l : Lane) (next : IsNext s.seats k) (same : length s.sources ≡ length s.seats) (at_d : slice_get ds k ≡ Some d) (at_l : slice_get lanes k ≡ Some l) where
+    -- all items stand before the place where the next one comes
+    pub all_before : AllByRecursion (λ y. key_lt y.key (key_after (factor hs d.header) k d.items) ≡ true) (keyed_rest hs 0 [] ds)
+    all_before = g.before k d next.seat at_d next.there next.unfinished
+
+    -- the place of the next item goes before those of the other inputs
+    pub next_first : (j : ℕ) (c : Dump) (y : Seat) → j ≢ k → slice_get ds j ≡ Some c → slice_get s.seats j ≡ Some y → y.finished ≡ false → key_lt (key_after (factor hs d.header) k d.items) (key_after (factor hs c.header) j c.items) ≡ true
+    next_first j c y other a b on =
+        let t = time_at k d next.seat same at_d next.there in
+        let u = time_at j c y same a b in
+        before_key (key_after (factor hs d.header) k d.items) (key_after (factor hs c.header) j c.items) (by_least (next.least j y b on) t u)
+      where
+        by_least : (next.seat.time < y.time) ⊎ ((next.seat.time ≡ y.time) × (k ≤ j)) → next.seat.time ≡ factor hs d.header * time_after d.items → y.time ≡ factor hs c.header * time_after c.items → Before (key_after (factor hs d.header) k d.items) (key_after (factor hs c.header) j c.items)
+        by_least (inl m) t u = inl (omega arith)
+        by_least (inr m) t u = let e = m.0 in inr (omega arith, inl (apart k j other m.1))
+
+    -- what is left: the same but for the input, which stands at p
+    module _ (s' : Standing X) (p : Spot) (heads : s'.heads ≡ s.heads) (many : length s'.seats ≡ length s.seats) (sources : length s'.sources ≡ length s'.seats) (at_p : spot_at rest s'.seats s'.sources s'.chunks s'.tokens k ≡ Some p)
+        (others : (j : ℕ) → j ≢ k → spot_at rest s'.seats s'.sources s'.chunks s'.tokens j ≡ spot_at rest s.seats s.sources s.chunks s.tokens j) where
+      other_seat : (j : ℕ) (y : Seat) → j ≢ k → slice_get s'.seats j ≡ Some y → slice_get s.seats j ≡ Some y
+      other_seat j y other b =
+          let q = seat_spot rest s' j y sources b in
+          spot_seat rest s j q.0 (sym (others j other) ∙ q.1) ∙ ap (λ (z : Seat). Some z) q.2
+
+      own_seat : (y : Seat) → slice_get s'.seats k ≡ Some y → p.seat ≡ y
+      own_seat y b = let e = spot_seat rest s' k p at_p in cc (sym e ∙ b)
+
+      pub given_more : (x : BodyItem) → AtSeat (factor hs l.header) (first_number (take k hs)) l (d.items ++ x ∷ []) p → AreGiven rest hs lanes (with_item ds k d x) s'
+      given_more x a = record {
+        lanes_are = g.lanes_are;
+        dumps_are = headers_stay ds k d x at_d ∙ g.dumps_are;
+        many = g.many ∙ sym many;
+        sources_are = sources;
+        views = λ j h m b c. g.views j h m (ap (λ z. slice_get z j) (sym heads) ∙ b) c;
+        at = λ j m c q at_m at_c at_q. at_place j m c q (same_or_not j k) at_m at_c at_q;
+        before = λ j c y at_c at_y on. before_place j c y (same_or_not j k) at_c at_y on;
+      }
+        where
+          more : Dump
+          more = record { header = d.header; items = d.items ++ x ∷ []; fault = d.fault }
+
+          own : slice_get (with_item ds k d x) k ≡ Some more
+          own = get_set ds k more (slice_get_within ds k d at_d)
+
+          at_place : (j : ℕ) (m : Lane) (c : Dump) (q : Spot) → (j ≡ k) ⊎ (j ≢ k) → slice_get lanes j ≡ Some m → slice_get (with_item ds k d x) j ≡ Some c → spot_at rest s'.seats s'.sources s'.chunks s'.tokens j ≡ Some q
+              → AtSeat (factor hs m.header) (first_number (take j hs)) m c.items q
+          at_place j m c q (inl e) at_m at_c at_q =
+              let el : l ≡ m = cc (sym at_l ∙ ap (λ i. slice_get lanes i) (sym e) ∙ at_m) in
+              let ec : more ≡ c = cc (sym own ∙ ap (λ i. slice_get (with_item ds k d x) i) (sym e) ∙ at_c) in
+              let eq : p ≡ q = cc (sym at_p ∙ ap (λ i. spot_at rest s'.seats s'.sources s'.chunks s'.tokens i) (sym e) ∙ at_q) in
+              subst (λ (y : Lane). AtSeat (factor hs y.header) (first_number (take j hs)) y c.items q) el
+              (subst (λ (y : Dump). AtSeat (factor hs l.header) (first_number (take j hs)) l y.items q) ec
+              (subst (λ (y : Spot). AtSeat (factor hs l.header) (first_number (take j hs)) l more.items y) eq
+              (subst (λ (i : ℕ). AtSeat (factor hs l.header) (first_number (take i hs)) l more.items p) (sym e) a)))
+          at_place j m c q (inr other) at_m at_c at_q = g.at j m c q at_m (sym (get_other ds k j more other) ∙ at_c) (sym (others j other) ∙ at_q)
+
+          before_place : (j : ℕ) (c : Dump) (y : Seat) → (j ≡ k) ⊎ (j ≢ k) → slice_get (with_item ds k d x) j ≡ Some c → slice_get s'.seats j ≡ Some y → y.finished ≡ false
+              → AllByRecursion (λ z. key_lt z.key (key_after (factor hs c.header) j c.items) ≡ true) (keyed_rest hs 0 [] (with_item ds k d x))
+          before_place j c y (inl e) at_c at_y on =
+              let ec : more ≡ c = cc (sym own ∙ ap (λ i. slice_get (with_item ds k d x) i) (sym e) ∙ at_c) in
+              let later = later_key (factor hs d.header) k d.items x [] in
+              let all = order.all_more (λ z. key_lt z.key (key_after (factor hs d.header) k d.items) ≡ true) (λ z. key_lt z.key (key_after (factor hs d.header) k (d.items ++ x ∷ [])) ≡ true) (keyed_rest hs 0 [] ds)
+              (λ z h. key_chain z.key (key_after (factor hs d.header) k d.items) (key_after (factor hs d.header) k (d.items ++ x ∷ [])) h later) all_before in
+              subst (λ (i : ℕ). AllByRecursion (λ z. key_lt z.key (key_after (factor hs c.header) i c.items) ≡ true) (keyed_rest hs 0 [] (with_item ds k d x))) (sym e)
+              (subst (λ (w : Dump). AllByRecursion (λ z. key_lt z.key (key_after (factor hs w.header) k w.items) ≡ true) (keyed_rest hs 0 [] (with_item ds k d x))) ec
+              (all_with_item hs ds k d x g.dumps_are at_d (λ z. key_lt z.key (key_after (factor hs d.header) k (d.items ++ x ∷ [])) ≡ true) all later))
+          before_place j c y (inr other) at_c at_y on =
+              let ac = sym (get_other ds k j more other) ∙ at_c in
+              let ay = other_seat j y other at_y in
+              all_with_item hs ds k d x g.dumps_are at_d (λ z. key_lt z.key (key_after (factor hs c.header) j c.items) ≡ true) (g.before j c y ac ay on) (next_first j c y other ac ay on)
+
+      pub given_still : p.seat.finished ≡ true → AtSeat (factor hs l.header) (first_number (take k hs)) l d.items p → AreGiven rest hs lanes ds s'
+      given_still done a = record {
+        lanes_are = g.lanes_are;
+        dumps_are = g.dumps_are;
+        many = g.many ∙ sym many;
+        sources_are = sources;
+        views = λ j h m b c. g.views j h m (ap (λ z. slice_get z j) (sym heads) ∙ b) c;
+        at = λ j m c q at_m at_c at_q. at_place j m c q (same_or_not j k) at_m at_c at_q;
+        before = λ j c y at_c at_y on. before_place j c y (same_or_not j k) at_c at_y on;
+      }
+        where
+          at_place : (j : ℕ) (m : Lane) (c : Dump) (q : Spot) → (j ≡ k) ⊎ (j ≢ k) → slice_get lanes j ≡ Some m → slice_get ds j ≡ Some c → spot_at rest s'.seats s'.sources s'.chunks s'.tokens j ≡ Some q
+              → AtSeat (factor hs m.header) (first_number (take j hs)) m c.items q
+          at_place j m c q (inl e) at_m at_c at_q =
+              let el : l ≡ m = cc (sym at_l ∙ ap (λ i. slice_get lanes i) (sym e) ∙ at_m) in
+              let ec : d ≡ c = cc (sym at_d ∙ ap (λ i. slice_get ds i) (sym e) ∙ at_c) in
+              let eq : p ≡ q = cc (sym at_p ∙ ap (λ i. spot_at rest s'.seats s'.sources s'.chunks s'.tokens i) (sym e) ∙ at_q) in
+              subst (λ (y : Lane). AtSeat (factor hs y.header) (first_number (take j hs)) y c.items q) el
+              (subst (λ (y : Dump). AtSeat (factor hs l.header) (first_number (take j hs)) l y.items q) ec
+              (subst (λ (y : Spot). AtSeat (factor hs l.header) (first_number (take j hs)) l d.items y) eq
+              (subst (λ (i : ℕ). AtSeat (factor hs l.header) (first_number (take i hs)) l d.items p) (sym e) a)))
+          at_place j m c q (inr other) at_m at_c at_q = g.at j m c q at_m at_c (sym (others j other) ∙ at_q)
+
+          before_place : (j : ℕ) (c : Dump) (y : Seat) → (j ≡ k) ⊎ (j ≢ k) → slice_get ds j ≡ Some c → slice_get s'.seats j ≡ Some y → y.finished ≡ false
+              → AllByRecursion (λ z. key_lt z.key (key_after (factor hs c.header) j c.items) ≡ true) (keyed_rest hs 0 [] ds)
+          before_place j c y (inl e) at_c at_y on =
+              let same_seat = own_seat y (ap (λ i. slice_get s'.seats i) (sym e) ∙ at_y) in
+              let f : true ≡ false = sym done ∙ ap (λ (z : Seat). z.finished) same_seat ∙ on in
+              cc
+          before_place j c y (inr other) at_c at_y on = g.before j c y at_c (other_seat j y other at_y) on

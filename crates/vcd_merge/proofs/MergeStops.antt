@@ -1,0 +1,304 @@
+-- How a merge ends: all inputs have ended, the input whose turn it is has a fault or a failed read, or a write fails.
+use Rattle.std.proofs.Common.{◌≡◌, ◌≢◌, ℕ, ◌+◌, ◌<◌, ◌≤◌, Bool, true, false, List, [], ◌∷◌, ◌++◌, length, take, map, slice_get, Option, Some, None, All, refl, sym, ap, subst, ◌∙◌, arith, ◌⊎◌, inl, inr, append-nil}
+use Rattle.std.specs.List.{AllByRecursion}
+use Rattle.std.proofs.lemmas.Option.{get_or_from_slice_get, slice_get_within}
+use Rattle.vcd_model.specs.Header.{Header}
+use Rattle.vcd_model.specs.HeadText.{first_number}
+use Rattle.vcd_model.specs.Items.{BodyItem}
+use Rattle.vcd_model.specs.Reading.{Fault}
+use Rattle.vcd_model.specs.Merge.{Dump, Key, Keyed, key_lt, factor, first_fault, headers_of, key_after, merge_close, merge_open, merged_items}
+use Rattle.vcd_model.specs.MergeByInput.{keyed_rest, with_item}
+use Rattle.vcd_model.specs.Outcome.{clean_outcome, fault_outcome, merge_outcome, name_at}
+use Rattle.vcd_model.proofs.BodyFacts.{all_back}
+use Rattle.vcd_model.proofs.MergedLists.{merged_by}
+use Rattle.vcd_model.proofs.MergedPrefix.{AreGrown, GrownOne, first_is}
+use Rattle.vcd_model.proofs.MergeOrder.{IsSorted, all_by_key, key_never, sorted_by_key}
+use Rattle.vcd_model.proofs.MergeOutcome.{clean, clear}
+use Rattle.vcd_text.specs.Device.{Device, Writes, WritesSome}
+use Rattle.vcd_text.proofs.Writes.{some-behind, some-first}
+use Rattle.vcd_body.specs.Device.{GrowsSome}
+use Rattle.vcd_merge.specs.MergeOrder.{IsNext}
+use Rattle.vcd_merge.specs.MergeParts.{part_len}
+use Rattle.vcd_merge.specs.MergeStep.{AreGiven, HasFault, IsReady, Standing, Takes, cut_at, next_item}
+use Rattle.vcd_merge.specs.Seat.{AtSeat, HasDump, Lane, Spot}
+use Rattle.vcd_merge.specs.declared.seat.Seat.{Seat}
+use Rattle.vcd_merge.proofs.MergeAnswers.{token_len}
+use Rattle.vcd_model.proofs.MergeSoFar.{after_key, all_keyed, fault_outcome_is, none_between, outcome_begins, still_late, still_later, up_to_last}
+use Rattle.vcd_merge.proofs.MergeSteps.{all_before, get_map, len_map, next_first, same_header, same_or_not, seat_spot, some_at}
+use Rattle.vcd_merge.proofs.MergeWholes.{AllFit, Whole, Wholes, choose_all, entire, entire_headers, entire_of, fit_at, grown_all, late_all, others_all, so_far}
+use Rattle.vcd_merge.proofs.WholeInputs.{finished, goes_on}
+
+-- one input alone is next
+pub one_next : (seats : List Seat) (k j : ℕ) → IsNext seats k → IsNext seats j → k ≡ j
+one_next seats k j a b = by_times (a.least j b.seat b.there b.unfinished) (b.least k a.seat a.there a.unfinished)
+  where
+    by_times : (a.seat.time < b.seat.time) ⊎ ((a.seat.time ≡ b.seat.time) × (k ≤ j)) → (b.seat.time < a.seat.time) ⊎ ((b.seat.time ≡ a.seat.time) × (j ≤ k)) → k ≡ j
+    by_times (inl l) (inl m) = omega arith
+    by_times (inl l) (inr m) = let e = m.0 in omega arith
+    by_times (inr l) (inl m) = let e = l.0 in omega arith
+    by_times (inr l) (inr m) = let e = l.1 in let f = m.1 in omega arith
+
+-- what is left after a step of it
+module _ {X : Type 0} (rest : X → _) (hs : List Header) (lanes : List Lane) (ds : List Dump) (s s' : Standing X) (limit : ℕ) (is_limit : part_len (length s.seats) s.tokens ≡ limit) (ready : IsReady s) (seats : length s'.seats ≡ length s.seats)
+    (tokens : length s'.tokens ≡ length s.tokens) (g : AreGiven rest hs lanes ds s') where
+  -- what is known of the input at a place
+  record Known (k : ℕ) (l : Lane) (d : Dump) : Type 0 where
+    spot : Spot
+    there : slice_get s'.seats k ≡ Some spot.seat
+    at : AtSeat (factor hs l.header) (first_number (take k hs)) l d.items spot
+    long : length spot.token ≡ limit
+    same : l.header ≡ d.header
+
+  known : (k : ℕ) (l : Lane) (d : Dump) → slice_get lanes k ≡ Some l → slice_get ds k ≡ Some d → Known k l d
+  known k l d at_l at_d =
+      let many = g.many in
+      let a = ap (λ (x : List Header). length x) g.dumps_are in
+      let b = len_map (λ (x : Dump). x.header) ds in
+      let c = slice_get_within ds k d at_d in
+      let h : k < length s'.seats = omega (arith, many, a, b, c) in
+      let seat = some_at s'.seats k h in
+      let p = seat_spot rest s' k seat.0 g.sources_are seat.1 in
+      record {
+        spot = p.0;
+        there = seat.1 ∙ ap (λ (x : Seat). Some x) (sym p.2);
+        at = g.at k l d p.0 at_l at_d p.1;
+        long = token_len rest s s' k p.0 ready (omega (arith, h, seats)) seats tokens p.1 ∙ is_limit;
+        same = same_header rest hs lanes ds s' g k l d at_l at_d;
+      }
+
+  pub as_many : length ds ≡ length lanes
+  as_many =
+      let a = ap (λ (x : List Header). length x) g.dumps_are in
+      let b = len_map (λ (x : Dump). x.header) ds in
+      let c = ap (λ (x : List Header). length x) g.lanes_are in
+      let d = len_map (λ (x : Lane). x.header) lanes in
+      omega (arith, a, b, c, d)
+
+  -- the input at a place has more items, or it has finished
+  pub record MayGo (k : ℕ) (w : Whole hs limit) : Type 0 where
+    pub seat : Seat
+    pub there : slice_get s'.seats k ≡ Some seat
+    pub more : List BodyItem
+    pub items : w.items ≡ w.dump.items ++ more
+    pub ended : seat.finished ≡ true → (more ≡ []) × (w.fault ≡ None)
+    pub left : w.left ≡ w.lane.input
+
+  pub may_go : (k : ℕ) (l : Lane) (d : Dump) → slice_get lanes k ≡ Some l → slice_get ds k ≡ Some d → (w : Whole hs limit) × (w.lane ≡ l) × (w.dump ≡ d) × MayGo k w
+  may_go k l d at_l at_d = by_end p.spot.seat.finished refl
+    where
+      p : Known k l d
+      p = known k l d at_l at_d
+
+      by_end : (b : Bool) → p.spot.seat.finished ≡ b → (w : Whole hs limit) × (w.lane ≡ l) × (w.dump ≡ d) × MayGo k w
+      by_end true e = (
+        record { lane = l; dump = d; same = p.same; left = l.input; items = d.items ++ []; fault = None; has = finished (factor hs l.header) (first_number (take k hs)) limit l d.items p.spot p.at p.long e },
+        refl,
+        refl,
+        record { seat = p.spot.seat; there = p.there; more = []; items = refl; ended = λ f. (refl, refl); left = refl },
+      )
+      by_end false e =
+          let o = goes_on (factor hs l.header) (first_number (take k hs)) limit l d.items p.spot p.at p.long in (
+            record { lane = l; dump = d; same = p.same; left = l.input; items = d.items ++ o.more; fault = o.fault; has = o.has },
+            refl,
+            refl,
+            record { seat = p.spot.seat; there = p.there; more = o.more; items = refl; ended = λ f. cc; left = refl },
+          )
+
+  module _ (b : Key) (k : ℕ) (w : Whole hs limit) (m : MayGo k w) where
+    abbrev pub here : Key
+    here = key_after (factor hs w.dump.header) k w.dump.items
+
+    -- it has no more items before a key that is not after its place
+    pub grown_of : (m.seat.finished ≡ false → key_lt here b ≡ false) → GrownOne b hs k w.dump (entire hs limit w)
+    grown_of late = record { header = refl; more = m.more; items = m.items; late = by_end m.seat.finished refl }
+      where
+        by_end : (c : Bool) → m.seat.finished ≡ c → (m.more ≡ []) ⊎ (key_lt here b ≡ false)
+        by_end true e = inl (m.ended e).0
+        by_end false e = inr (late e)
+
+    -- where it has a fault it has not finished
+    unfinished : (f : Fault) → w.fault ≡ Some f → m.seat.finished ≡ false
+    unfinished f e = by_end m.seat.finished refl
+      where
+        by_end : (c : Bool) → m.seat.finished ≡ c → m.seat.finished ≡ false
+        by_end false h = h
+        by_end true h = let n = (m.ended h).1 in cc
+
+    pub fault_later : (m.seat.finished ≡ false → key_lt b here ≡ true) → (f : Fault) → w.fault ≡ Some f → key_lt b (key_after (factor hs w.dump.header) k w.items) ≡ true
+    fault_later later f e = subst (λ (l : List BodyItem). key_lt b (key_after (factor hs w.dump.header) k l) ≡ true) (sym m.items) (still_later b (factor hs w.dump.header) k w.dump.items m.more (later (unfinished f e)))
+
+    pub fault_late : (m.seat.finished ≡ false → key_lt here b ≡ false) → (f : Fault) → w.fault ≡ Some f → key_lt (key_after (factor hs w.dump.header) k w.items) b ≡ false
+    fault_late late f e = subst (λ (l : List BodyItem). key_lt (key_after (factor hs w.dump.header) k l) b ≡ false) (sym m.items) (still_late b (factor hs w.dump.header) k w.dump.items m.more (late (unfinished f e)))
+
+  -- ---- all inputs have finished
+
+  pub record EndFits (k : ℕ) (w : Whole hs limit) : Type 0 where
+    pub all : entire hs limit w ≡ clear w.dump
+    pub left : w.left ≡ w.lane.input
+
+  module _ (finish : All (λ (x : Seat). x.finished ≡ true) s'.seats) where
+    end_at : (k : ℕ) (l : Lane) (d : Dump) → slice_get lanes k ≡ Some l → slice_get ds k ≡ Some d → (w : Whole hs limit) × (w.lane ≡ l) × (w.dump ≡ d) × EndFits k w
+    end_at k l d at_l at_d =
+        let p = known k l d at_l at_d in
+        let done = finish k p.spot.seat (slice_get_within s'.seats k p.spot.seat p.there) in
+        let e : p.spot.seat.finished ≡ true = ap (λ (x : Seat). x.finished) (sym (get_or_from_slice_get s'.seats k p.spot.seat p.spot.seat p.there)) ∙ done in (
+          record { lane = l; dump = d; same = p.same; left = l.input; items = d.items; fault = None; has = subst (λ (n : ℕ). HasDump (factor hs l.header) n l.header l.front l.input d.items None) p.long (p.at.finished e) },
+          refl,
+          refl,
+          record { all = refl; left = refl },
+        )
+
+    pub ends : Wholes hs limit EndFits 0 lanes ds
+    ends = choose_all hs limit EndFits lanes ds as_many end_at
+
+    clear_all : (n : ℕ) (ws : List (Whole hs limit)) → AllFit hs limit EndFits n ws → entire_of hs limit ws ≡ map clear (so_far hs limit ws)
+    clear_all n [] fit = refl
+    clear_all n (w ∷ ws) fit = ap (λ (x : Dump). x ∷ entire_of hs limit ws) fit.0.all ∙ ap (λ (l : List Dump). clear w.dump ∷ l) (clear_all (n + 1) ws fit.1)
+
+    pub clean_is : (names : List (List ℕ)) → merge_outcome names (entire_of hs limit ends.list) ≡ clean_outcome (merge_open hs (merged_items ds) ++ merge_close (merged_items ds))
+    clean_is names =
+        ap (merge_outcome names) (clear_all 0 ends.list ends.fit ∙ ap (map clear) ends.dumps_are)
+        ∙ clean names ds
+        ∙ ap (λ (h : List Header). clean_outcome (merge_open h (merged_items ds) ++ merge_close (merged_items ds))) g.dumps_are
+
+-- ---- a write failed with an item: what stands goes on
+
+module _ {X : Type 0} (rest : X → _) (hs : List Header) (lanes : List Lane) (ds : List Dump) (s s' : Standing X) (limit : ℕ) (is_limit : part_len (length s.seats) s.tokens ≡ limit) (ready : IsReady s) (seats : length s'.seats ≡ length s.seats)
+    (tokens : length s'.tokens ≡ length s.tokens) (k : ℕ) (d : Dump) (x : BodyItem) (t : Takes rest hs lanes ds s' k d x) where
+  abbrev es : List Dump
+  es = with_item ds k d x
+
+  abbrev item : Keyed
+  item = next_item rest hs lanes k d x
+
+  abbrev behind : Key
+  behind = after_key item.key
+
+  pub record WriteFits (n : ℕ) (w : Whole hs limit) : Type 0 where
+    pub grown : GrownOne behind hs n w.dump (entire hs limit w)
+    pub late : (f : Fault) → w.fault ≡ Some f → key_lt (key_after (factor hs w.dump.header) n w.items) behind ≡ false
+    pub left : w.left ≡ w.lane.input
+
+  -- the place of any other item is behind this one
+  late_at : (j : ℕ) (c : Dump) (y : Seat) → slice_get es j ≡ Some c → slice_get s'.seats j ≡ Some y → y.finished ≡ false → key_lt (key_after (factor hs c.header) j c.items) behind ≡ false
+  late_at j c y at_c at_y on =
+      let b = key_after (factor hs c.header) j c.items in
+      let all = all_by_key (λ z. key_lt z.key b ≡ true) (keyed_rest hs 0 [] es) (t.given.before j c y at_c at_y on) in
+      let merged : AllByRecursion (λ z. key_lt z.key b ≡ true) (merged_items ds ++ item ∷ []) = subst (AllByRecursion (λ z. key_lt z.key b ≡ true)) (sym (merged_by hs es t.given.dumps_are) ∙ t.merged) all in
+      none_between item.key b (all_back (λ z. key_lt z.key b ≡ true) (merged_items ds) (item ∷ []) merged).0
+
+  write_at : (j : ℕ) (l : Lane) (c : Dump) → slice_get lanes j ≡ Some l → slice_get es j ≡ Some c → (w : Whole hs limit) × (w.lane ≡ l) × (w.dump ≡ c) × WriteFits j w
+  write_at j l c at_l at_c =
+      let o = may_go rest hs lanes es s s' limit is_limit ready seats tokens t.given j l c at_l at_c in
+      let late = λ (on : o.3.seat.finished ≡ false). late_at j o.0.dump o.3.seat (at_c ∙ ap (λ (z : Dump). Some z) (sym o.2)) o.3.there on in (
+        o.0,
+        o.1,
+        o.2,
+        record {
+          grown = grown_of rest hs lanes es s s' limit is_limit ready seats tokens t.given behind j o.0 o.3 late;
+          late = fault_late rest hs lanes es s s' limit is_limit ready seats tokens t.given behind j o.0 o.3 late;
+          left = o.3.left;
+        },
+      )
+
+  pub writes : Wholes hs limit WriteFits 0 lanes es
+  writes = choose_all hs limit WriteFits lanes es (as_many rest hs lanes es s s' limit is_limit ready seats tokens t.given) write_at
+
+  all_up_to : AllByRecursion (λ y. key_lt y.key behind ≡ true) (keyed_rest hs 0 [] es)
+  all_up_to =
+      let b = merged_by hs es t.given.dumps_are in
+      let sorted : IsSorted (merged_items ds ++ item ∷ []) = subst IsSorted (sym b ∙ t.merged) (sorted_by_key (keyed_rest hs 0 [] es)) in
+      all_keyed (λ y. key_lt y.key behind ≡ true) (keyed_rest hs 0 [] es) (subst (AllByRecursion (λ y. key_lt y.key behind ≡ true)) (sym t.merged ∙ b) (up_to_last (merged_items ds) item sorted))
+
+  pub written_some : (names : List (List ℕ)) (begin out new : Device) → Writes begin out (merge_open hs (merged_items ds)) → GrowsSome out new (merge_open hs (merged_items ds)) (merge_open hs (merged_items es))
+      → WritesSome begin new (merge_outcome names (entire_of hs limit writes.list)).output
+  written_some names begin out new w due =
+      let headers = ap headers_of writes.dumps_are ∙ t.given.dumps_are in
+      let grown = subst (λ (l : List Dump). AreGrown behind hs 0 l (entire_of hs limit writes.list)) writes.dumps_are (grown_all hs limit WriteFits behind (λ n v fit. fit.grown) 0 writes.list writes.fit) in
+      let late = late_all hs limit WriteFits behind (λ n v fit. fit.late) 0 writes.list writes.fit in
+      let begins = outcome_begins names hs es (entire_of hs limit writes.list) behind t.given.dumps_are (entire_headers hs limit writes.list ∙ headers) grown all_up_to late in
+      let some : WritesSome begin new (merge_open hs (merged_items es)) = subst (WritesSome begin new) (sym due.1) (some-behind begin out new (merge_open hs (merged_items ds)) due.0 w due.2) in
+      subst (WritesSome begin new) (sym begins.1) (some-first begin new (merge_open hs (merged_items es)) begins.0 some)
+
+-- ---- a fault of the input whose turn it is
+
+module _ {X : Type 0} (rest : X → _) (hs : List Header) (lanes : List Lane) (ds : List Dump) (s : Standing X) (limit : ℕ) (is_limit : part_len (length s.seats) s.tokens ≡ limit) (ready : IsReady s) (g : AreGiven rest hs lanes ds s) (input line fault : ℕ) (cut : Option ℕ)
+    (has : HasFault rest hs lanes ds s input line fault cut) where
+  abbrev fault_is : Fault
+  fault_is = record { number = fault; line = line }
+
+  abbrev place : Key
+  place = key_after (factor hs has.dump.header) input has.dump.items
+
+  abbrev own_dump : Dump
+  own_dump = record { header = has.dump.header; items = has.dump.items; fault = Some fault_is }
+
+  pub record StopFits (n : ℕ) (w : Whole hs limit) : Type 0 where
+    pub grown : GrownOne place hs n w.dump (entire hs limit w)
+    pub later : n ≢ input → (f : Fault) → w.fault ≡ Some f → key_lt place (key_after (factor hs w.dump.header) n w.items) ≡ true
+    pub own : n ≡ input → entire hs limit w ≡ own_dump
+    pub cut_is : n ≡ input → w.left ≡ cut_at cut w.lane.input
+    pub left : n ≢ input → w.left ≡ w.lane.input
+
+  stop_at : (k : ℕ) (l : Lane) (d : Dump) → slice_get lanes k ≡ Some l → slice_get ds k ≡ Some d → (k ≡ input) ⊎ (k ≢ input) → (w : Whole hs limit) × (w.lane ≡ l) × (w.dump ≡ d) × StopFits k w
+  stop_at k l d at_l at_d (inl e) =
+      let el : has.lane ≡ l = cc (sym has.lane_at ∙ ap (λ i. slice_get lanes i) (sym e) ∙ at_l) in
+      let ed : has.dump ≡ d = cc (sym has.dump_at ∙ ap (λ i. slice_get ds i) (sym e) ∙ at_d) in (
+        record {
+          lane = has.lane;
+          dump = has.dump;
+          same = same_header rest hs lanes ds s g input has.lane has.dump has.lane_at has.dump_at;
+          left = cut_at cut has.lane.input;
+          items = has.dump.items;
+          fault = Some fault_is;
+          has = subst (λ (n : ℕ). HasDump (factor hs has.lane.header) n has.lane.header has.lane.front (cut_at cut has.lane.input) has.dump.items (Some fault_is)) is_limit has.has;
+        },
+        el,
+        ed,
+        record {
+          grown = record { header = refl; more = []; items = sym (append-nil has.dump.items); late = inl refl };
+          later = λ other. absurd (other e);
+          own = λ same. refl;
+          cut_is = λ same. refl;
+          left = λ other. absurd (other e);
+        },
+      )
+  stop_at k l d at_l at_d (inr other) =
+      let o = may_go rest hs lanes ds s s limit is_limit ready refl refl g k l d at_l at_d in
+      let later : o.3.seat.finished ≡ false → key_lt place (key_after (factor hs o.0.dump.header) k o.0.dump.items) ≡ true = λ on.
+      next_first rest hs lanes ds s g input has.dump has.lane has.next ready.sources has.dump_at has.lane_at k o.0.dump o.3.seat other (at_d ∙ ap (λ (z : Dump). Some z) (sym o.2)) o.3.there on in (
+        o.0,
+        o.1,
+        o.2,
+        record {
+          grown = grown_of rest hs lanes ds s s limit is_limit ready refl refl g place k o.0 o.3 (λ on. key_never place (key_after (factor hs o.0.dump.header) k o.0.dump.items) (later on));
+          later = λ n. fault_later rest hs lanes ds s s limit is_limit ready refl refl g place k o.0 o.3 later;
+          own = λ e. absurd (other e);
+          cut_is = λ e. absurd (other e);
+          left = λ n. o.3.left;
+        },
+      )
+
+  pub stops : Wholes hs limit StopFits 0 lanes ds
+  stops = choose_all hs limit StopFits lanes ds (as_many rest hs lanes ds s s limit is_limit ready refl refl g) (λ k l d a b. stop_at k l d a b (same_or_not k input))
+
+  own_at : slice_get (entire_of hs limit stops.list) input ≡ Some own_dump
+  own_at =
+      let a = ap (λ (x : List Lane). length x) stops.lanes_are in
+      let b = len_map (λ (w : Whole hs limit). w.lane) stops.list in
+      let c = slice_get_within lanes input has.lane has.lane_at in
+      let w = some_at stops.list input (omega (arith, a, b, c)) in
+      let fit = fit_at hs limit StopFits 0 input stops.list w.0 w.1 stops.fit in
+      let i : 0 + input ≡ input = omega arith in
+      get_map (entire hs limit) stops.list input w.0 w.1 ∙ ap (λ (x : Dump). Some x) (fit.own i)
+
+  pub fault_merged : (names : List (List ℕ)) → merge_outcome names (entire_of hs limit stops.list) ≡ fault_outcome (merge_open hs (merged_items ds)) (name_at names input) fault_is
+  fault_merged names =
+      let all = entire_of hs limit stops.list in
+      let headers = entire_headers hs limit stops.list ∙ ap headers_of stops.dumps_are ∙ g.dumps_are in
+      let grown = subst (λ (l : List Dump). AreGrown place hs 0 l all) stops.dumps_are (grown_all hs limit StopFits place (λ n v fit. fit.grown) 0 stops.list stops.fit) in
+      let before = all_before rest hs lanes ds s g input has.dump has.lane has.next ready.sources has.dump_at has.lane_at in
+      let i : input ≡ 0 + input = omega arith in
+      let later = others_all hs limit StopFits place input (λ n v fit. fit.later) 0 input stops.list i stops.fit in
+      let first : first_fault all ≡ Some (record { key = place; fault = fault_is }) = first_is hs all input own_dump fault_is headers own_at refl later in
+      fault_outcome_is names hs ds all place g.dumps_are headers grown before fault_is first

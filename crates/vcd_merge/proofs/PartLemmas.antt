@@ -1,0 +1,154 @@
+-- The parts of the windows, where one of them was written.
+use Rattle.std.proofs.Common.{◌≡◌, ◌≢◌, ℕ, zero, suc, ◌+◌, ◌-◌, ◌*◌, ◌/◌, ◌<◌, ◌≤◌, List, [], ◌∷◌, length, take, drop, slice_get, slice_set, Option, Some, refl, sym, ap, subst, ◌∙◌, arith, ◌⊎◌, inl, inr, length-take, length-drop}
+use Rattle.std.specs.Prelude.{get_or, All}
+use Rattle.std.proofs.lemmas.Option.{slice_get-get_or}
+use Rattle.std.proofs.Math.Nat.{mul-le-mul_left}
+use Rattle.std.proofs.Math.ListN.{length-set}
+use Rattle.std.proofs.lemmas.List.{drop-take}
+use Rattle.std.proofs.lemmas.Slice.{take-put_mid_below, drop-put_mid, between-put_mid}
+use Rattle.std.proofs.lemmas.Bool.{cases_lt}
+use borrow.Rule.Slice.PartMut.{put_mid, same_len_mid}
+use Rattle.vcd_merge.specs.MergeParts.{AreParts, AreSeated, part, part_len, spot_at}
+use Rattle.std.proofs.lemmas.List.Elements.{All-set}
+use Rattle.vcd_merge.specs.Seat.{Spot, IsSeated}
+use Rattle.vcd_merge.specs.declared.seat.Seat.{Seat}
+
+-- a part ends where the next begins
+pub part_ends : (len n place : ℕ) → place < n → place * len + len ≤ n * len
+part_ends len n place h = let m = mul-le-mul_left {m = suc place} {n = n} len h in omega arith
+
+pub part_before : (len j place : ℕ) → j < place → j * len + len ≤ place * len
+part_before len j place h = part_ends len place j h
+
+-- the written part, and the others
+module _ (len n place : ℕ) (xs ys : List ℕ) (all : n * len ≡ length xs) (within : place < n) (same : length ys ≡ len) where
+  put : List ℕ
+  put = put_mid (place * len) (place * len + len - place * len) xs ys
+
+  pub part_put : part len place (put_mid (place * len) (place * len + len - place * len) xs ys) ≡ ys
+  part_put =
+      let e = part_ends len n place within in
+      let k : len ≡ place * len + len - place * len = omega arith in
+      ap (λ m. take m (drop (place * len) (put_mid (place * len) (place * len + len - place * len) xs ys))) k ∙ between-put_mid (place * len) (place * len + len - place * len) xs ys (place * len + len) (omega arith) (omega arith)
+
+  pub part_other : (j : ℕ) → j ≢ place → part len j (put_mid (place * len) (place * len + len - place * len) xs ys) ≡ part len j xs
+  part_other j other = by_place (cases_lt j place)
+    where
+      whole : List ℕ
+      whole = put_mid (place * len) (place * len + len - place * len) xs ys
+
+      by_place : (j < place) ⊎ (place ≤ j) → part len j (put_mid (place * len) (place * len + len - place * len) xs ys) ≡ part len j xs
+      by_place (inl below) =
+          let e = part_ends len n place within in
+          let b = part_before len j place below in
+          sym (drop-take (j * len) len (put_mid (place * len) (place * len + len - place * len) xs ys))
+          ∙ ap (drop (j * len)) (take-put_mid_below (place * len) (place * len + len - place * len) xs ys (j * len + len) b (omega arith))
+          ∙ drop-take (j * len) len xs
+      by_place (inr above) =
+          let e = part_ends len n place within in
+          let b = part_before len place j (omega arith) in
+          ap (take len) (drop-put_mid (place * len) (place * len + len - place * len) xs ys (j * len) (omega arith) (omega arith) (omega arith))
+
+  pub len_put : length (put_mid (place * len) (place * len + len - place * len) xs ys) ≡ length xs
+  len_put =
+      let e = part_ends len n place within in
+      same_len_mid (place * len) (place * len + len - place * len) xs ys (omega (arith, length-take (place * len + len - place * len) (drop (place * len) xs), length-drop (place * len) xs))
+
+-- the length of a part that is lent
+pub lent_len : (len n place : ℕ) (xs : List ℕ) → n * len ≡ length xs → place < n → length (take (place * len + len - place * len) (drop (place * len) xs)) ≡ len
+lent_len len n place xs all within = let e = part_ends len n place within in omega (arith, length-take (place * len + len - place * len) (drop (place * len) xs), length-drop (place * len) xs)
+
+pub part_long : (len n place : ℕ) (xs : List ℕ) → n * len ≡ length xs → place < n → length (part len place xs) ≡ len
+part_long len n place xs all within = let e = part_ends len n place within in omega (arith, length-take len (drop (place * len) xs), length-drop (place * len) xs)
+
+-- an element that was set, and the others
+pub get_set : {X : Type 0} (xs : List X) (k : ℕ) (x : X) → k < length xs → slice_get (slice_set xs k x) k ≡ Some x
+get_set [] k x h = absurd (omega arith)
+get_set (y ∷ xs) zero x h = refl
+get_set (y ∷ xs) (suc k) x h = get_set xs k x (omega arith)
+
+pub get_other : {X : Type 0} (xs : List X) (k j : ℕ) (x : X) → j ≢ k → slice_get (slice_set xs k x) j ≡ slice_get xs j
+get_other [] k j x h = refl
+get_other (y ∷ xs) zero zero x h = absurd (h refl)
+get_other (y ∷ xs) zero (suc j) x h = refl
+get_other (y ∷ xs) (suc k) zero x h = refl
+get_other (y ∷ xs) (suc k) (suc j) x h = get_other xs k j x (λ e. h (ap suc e))
+
+-- windows of the same lengths are parted alike
+pub parts_same : (n m : ℕ) (c c' t t' v v' : List ℕ) → AreParts n c t v → m ≡ n → length c' ≡ length c → length t' ≡ length t → length v' ≡ length v → AreParts m c' t' v'
+parts_same n m c c' t t' v v' p same lc lt lv = record {
+  chunks_are = rw (same, lc) p.chunks_are;
+  tokens_are = rw (same, lt) p.tokens_are;
+  values_are = lv ∙ p.values_are ∙ sym lt;
+  chunk_some = rw (same, lc) p.chunk_some;
+  token_some = rw (same, lt) p.token_some;
+}
+
+-- ---- spots
+
+part_of_some : (len place : ℕ) (xs : List ℕ) → take (place * len + len - place * len) (drop (place * len) xs) ≡ part len place xs
+part_of_some len place xs = let k : place * len + len - place * len ≡ len = omega arith in ap (λ m. take m (drop (place * len) xs)) k
+
+module _ {X : Type 0} (rest : X → Option (List ℕ)) (seats : List Seat) (sources : List X) (chunks tokens : List ℕ) (k : ℕ) where
+  -- what the spot of an input is made of, as its parts are lent
+  pub spot_lent : (s : Spot) (x : X) (d : Seat) → spot_at rest seats sources chunks tokens k ≡ Some s → k < length seats → k < length sources → x ≡ get_or sources k x
+      → s ≡ record {
+        seat = get_or seats k d;
+        rest = rest (get_or sources k x);
+        chunk = take (k * part_len (length seats) chunks + part_len (length seats) chunks - k * part_len (length seats) chunks) (drop (k * part_len (length seats) chunks) chunks);
+        token = take (k * part_len (length seats) tokens + part_len (length seats) tokens - k * part_len (length seats) tokens) (drop (k * part_len (length seats) tokens) tokens);
+      }
+  spot_lent s x d at h1 h2 is =
+      let a = slice_get-get_or seats k d h1 in
+      let b = slice_get-get_or sources k x h2 in
+      let e : spot_at rest seats sources chunks tokens k ≡ Some (record { seat = get_or seats k d; rest = rest x; chunk = part (part_len (length seats) chunks) k chunks; token = part (part_len (length seats) tokens) k tokens }) = rw (a, b, sym is) refl in
+      let same : s ≡ record { seat = get_or seats k d; rest = rest x; chunk = part (part_len (length seats) chunks) k chunks; token = part (part_len (length seats) tokens) k tokens } = cc (sym at ∙ e) in
+      rw (part_of_some (part_len (length seats) chunks) k chunks, part_of_some (part_len (length seats) tokens) k tokens, sym is) same
+
+  module _ (s' : Seat) (x' : X) (cs ts : List ℕ) (h1 : k < length seats) (h2 : k < length sources) (pc : length seats * part_len (length seats) chunks ≡ length chunks) (pt : length seats * part_len (length seats) tokens ≡ length tokens)
+      (lc : length cs ≡ part_len (length seats) chunks) (lt : length ts ≡ part_len (length seats) tokens) where
+    -- the spot of the input whose parts were written
+    pub spot_put : spot_at rest (slice_set seats k s') (slice_set sources k x')
+        (put_mid (k * part_len (length seats) chunks) (k * part_len (length seats) chunks + part_len (length seats) chunks - k * part_len (length seats) chunks) chunks cs)
+        (put_mid (k * part_len (length seats) tokens) (k * part_len (length seats) tokens + part_len (length seats) tokens - k * part_len (length seats) tokens) tokens ts) k
+        ≡ Some (record { seat = s'; rest = rest x'; chunk = cs; token = ts })
+    spot_put =
+        let a = get_set seats k s' h1 in
+        let b = get_set sources k x' h2 in
+        let n = length-set seats k s' in
+        let c = len_put (part_len (length seats) chunks) (length seats) k chunks cs pc h1 lc in
+        let t = len_put (part_len (length seats) tokens) (length seats) k tokens ts pt h1 lt in
+        let c2 = part_put (part_len (length seats) chunks) (length seats) k chunks cs pc h1 lc in
+        let t2 = part_put (part_len (length seats) tokens) (length seats) k tokens ts pt h1 lt in
+        rw (a, b, n, c, t, c2, t2) refl
+
+    -- and those of the others
+    pub spot_other : (j : ℕ) → j ≢ k → spot_at rest (slice_set seats k s') (slice_set sources k x')
+        (put_mid (k * part_len (length seats) chunks) (k * part_len (length seats) chunks + part_len (length seats) chunks - k * part_len (length seats) chunks) chunks cs)
+        (put_mid (k * part_len (length seats) tokens) (k * part_len (length seats) tokens + part_len (length seats) tokens - k * part_len (length seats) tokens) tokens ts) j
+        ≡ spot_at rest seats sources chunks tokens j
+    spot_other j other =
+        let a = get_other seats k j s' other in
+        let b = get_other sources k j x' other in
+        let n = length-set seats k s' in
+        let c = len_put (part_len (length seats) chunks) (length seats) k chunks cs pc h1 lc in
+        let t = len_put (part_len (length seats) tokens) (length seats) k tokens ts pt h1 lt in
+        let c2 = part_other (part_len (length seats) chunks) (length seats) k chunks cs pc h1 lc j other in
+        let t2 = part_other (part_len (length seats) tokens) (length seats) k tokens ts pt h1 lt j other in
+        rw (a, b, n, c, t, c2, t2) refl
+
+    -- what holds of all seats holds once one was set
+    pub seated_put : IsSeated (part_len (length seats) chunks) (part_len (length seats) tokens) s' → AreSeated chunks tokens seats
+        → AreSeated (put_mid (k * part_len (length seats) chunks) (k * part_len (length seats) chunks + part_len (length seats) chunks - k * part_len (length seats) chunks) chunks cs)
+        (put_mid (k * part_len (length seats) tokens) (k * part_len (length seats) tokens + part_len (length seats) tokens - k * part_len (length seats) tokens) tokens ts) (slice_set seats k s')
+    seated_put own all =
+        let n = length-set seats k s' in
+        let c = len_put (part_len (length seats) chunks) (length seats) k chunks cs pc h1 lc in
+        let t = len_put (part_len (length seats) tokens) (length seats) k tokens ts pt h1 lt in
+        let ec : part_len (length (slice_set seats k s')) (put_mid (k * part_len (length seats) chunks) (k * part_len (length seats) chunks + part_len (length seats) chunks - k * part_len (length seats) chunks) chunks cs) ≡ part_len (length seats) chunks =
+        ap (λ m. m / length (slice_set seats k s')) c ∙ ap (λ m. length chunks / m) n in
+        let et : part_len (length (slice_set seats k s')) (put_mid (k * part_len (length seats) tokens) (k * part_len (length seats) tokens + part_len (length seats) tokens - k * part_len (length seats) tokens) tokens ts) ≡ part_len (length seats) tokens =
+        ap (λ m. m / length (slice_set seats k s')) t ∙ ap (λ m. length tokens / m) n in
+        let set = All-set (IsSeated (part_len (length seats) chunks) (part_len (length seats) tokens)) seats k s' own all in
+        subst (λ (a : ℕ). All (IsSeated a (part_len (length (slice_set seats k s')) (put_mid (k * part_len (length seats) tokens) (k * part_len (length seats) tokens + part_len (length seats) tokens - k * part_len (length seats) tokens) tokens ts))) (slice_set seats k s')) (sym ec)
+        (subst (λ (b : ℕ). All (IsSeated (part_len (length seats) chunks) b) (slice_set seats k s')) (sym et) set)

@@ -1,0 +1,116 @@
+-- Items of one input of a merge, taken one after another over its feed.
+use Rattle.std.proofs.Common.{◌≡◌, ℕ, ◌<◌, Bool, true, false, List, [], ◌∷◌, ◌++◌, Option, Result, Ok, Err, refl, sym, ap, subst, ◌∙◌, inl, inr}
+use Rattle.vcd_model.specs.Items.{BodyItem}
+use Rattle.vcd_text.specs.Advances.{HasNotFailed}
+use Rattle.vcd_model.specs.MergeByInput.{due_with, entry_for}
+use Rattle.vcd_text.specs.Device.{Device, Writes}
+use Rattle.vcd_text.specs.Feed.{chunk_len_of, limit_of, source_of}
+use Rattle.vcd_text.specs.declared.device.Source.{Ghosts}
+use Rattle.vcd_text.specs.declared.device.WriteFailed.{WriteFailed}
+use Rattle.vcd_text.specs.declared.feed.Feed.{Feed}
+use Rattle.vcd_merge.specs.MergeTrail.{AheadTurns, Reaches, RunTurns, Stage, TakesOn, Trail, Further, Stands, spot_in, stage_with}
+use Rattle.vcd_merge.specs.Seat.{AtSeat, GivesOne, Lane, Spot, Turns, spot_with}
+use Rattle.vcd_body.specs.declared.answer.Stop.{Stop}
+use Rattle.vcd_body.specs.declared.answer.Stop.TheVariants.{Write}
+use Rattle.vcd_merge.specs.declared.seat.Seat.{Seat}
+
+-- ---- trails
+
+module _ {X : Type 0} (rest : X → Option (List ℕ)) (failures : X → ℕ) (scale first : ℕ) (l : Lane) (before : ℕ) (a b : Stage X) (r : Reaches rest failures scale first l before a b) where
+  -- from a stage like another the same items follow
+  on_like : (c : Stage X) → TakesOn rest failures scale first l before b c → TakesOn rest failures scale first l before r.mid c
+  on_like c on = record {
+    item = on.item;
+    items_are = on.items_are ∙ ap (λ (xs : List BodyItem). xs ++ on.item ∷ []) (sym r.items_are);
+    one = subst (λ (w : Option ℕ). GivesOne scale first l r.mid.items w c.written (spot_in rest c) on.item) (sym r.written_is) (subst (λ (xs : List BodyItem). GivesOne scale first l xs b.written c.written (spot_in rest c) on.item) (sym r.items_are) on.one);
+    writes = subst (λ (o : Device). Writes o c.out (due_with r.mid.written (entry_for scale first l.header r.mid.items on.item))) (sym r.out_is)
+        (subst (λ (w : Option ℕ). Writes b.out c.out (due_with w (entry_for scale first l.header r.mid.items on.item))) (sym r.written_is) (subst (λ (xs : List BodyItem). Writes b.out c.out (due_with b.written (entry_for scale first l.header xs on.item))) (sym r.items_are) on.writes));
+    early = on.early;
+    failures_are = on.failures_are ∙ sym r.failures_are;
+    seated = on.seated;
+    chunk = on.chunk ∙ sym r.chunk;
+    token = on.token ∙ sym r.token;
+  }
+
+  pub reaches_on : (c : Stage X) → TakesOn rest failures scale first l before b c → Reaches rest failures scale first l before a c
+  reaches_on c on = record { mid = c; trail = Further r.mid c r.trail (on_like c on); items_are = refl; written_is = refl; out_is = refl; failures_are = refl; chunk = refl; token = refl }
+
+pub at_once : {X : Type 0} (rest : X → Option (List ℕ)) (failures : X → ℕ) (scale first : ℕ) (l : Lane) (before : ℕ) (a : Stage X) → Reaches rest failures scale first l before a a
+at_once rest failures scale first l before a = record { mid = a; trail = Stands; items_are = refl; written_is = refl; out_is = refl; failures_are = refl; chunk = refl; token = refl }
+
+-- and a trail
+module _ {X : Type 0} (rest : X → Option (List ℕ)) (failures : X → ℕ) (scale first : ℕ) (l : Lane) (before : ℕ) (a b : Stage X) (r : Reaches rest failures scale first l before a b) where
+  along : (c : Stage X) → Trail rest failures scale first l before b c → Reaches rest failures scale first l before a c
+  along c Stands = r
+  along _ (Further d c so_far on) = reaches_on rest failures scale first l before a d (along d so_far) c on
+
+  pub reaches_to : (c : Stage X) → Reaches rest failures scale first l before b c → Reaches rest failures scale first l before a c
+  reaches_to c s =
+      let q = along s.mid s.trail in
+      record { mid = q.mid; trail = q.trail; items_are = q.items_are ∙ s.items_are; written_is = q.written_is ∙ s.written_is; out_is = q.out_is ∙ s.out_is; failures_are = q.failures_are ∙ s.failures_are; chunk = q.chunk ∙ s.chunk; token = q.token ∙ s.token }
+
+  -- and the step that ends them
+  pub turns_at : {A : Type 0} (k : ℕ) (written : Option ℕ) (s : Spot) (out : Device) (result : Result A Stop) → Turns k scale first l b.items b.written written s b.out out result → RunTurns rest failures k scale first l before a written s out result
+  turns_at k written s out result t = record {
+    mid = r.mid;
+    trail = r.trail;
+    last = subst (λ (o : Device). Turns k scale first l r.mid.items r.mid.written written s o out result) (sym r.out_is)
+        (subst (λ (w : Option ℕ). Turns k scale first l r.mid.items w written s b.out out result) (sym r.written_is) (subst (λ (xs : List BodyItem). Turns k scale first l xs b.written written s b.out out result) (sym r.items_are) t));
+  }
+
+module _ {X : Type 0} (rest : X → Option (List ℕ)) (failures : X → ℕ) (scale first : ℕ) (l : Lane) (before : ℕ) (a b : Stage X) (r : Reaches rest failures scale first l before a b) where
+  pub run_on : {A : Type 0} (k : ℕ) (written : Option ℕ) (s : Spot) (out : Device) (result : Result A Stop) → RunTurns rest failures k scale first l before b written s out result → RunTurns rest failures k scale first l before a written s out result
+  run_on k written s out result t = turns_at rest failures scale first l before a t.mid (along rest failures scale first l before a b r t.mid t.trail) k written s out result t.last
+
+-- ---- over a feed
+
+module _ {X A : Type 0} {g : Ghosts X} (failures : X → ℕ) (k scale first : ℕ) (l : Lane) (before : ℕ) (a : Stage X) (xs : List BodyItem) (written written' : Option ℕ) (seat seat' : Seat) (feed feed' : Feed X g) (out out' : Device) (u : A) where
+  -- an input that has not finished and is still early goes on by an item
+  pub goes_on : seat'.finished ≡ false → seat'.time < before → failures (source_of feed') ≡ failures (source_of feed) → HasNotFailed feed' → chunk_len_of feed' ≡ chunk_len_of feed → limit_of feed' ≡ limit_of feed
+      → Reaches g.rest failures scale first l before a (stage_with xs written seat feed out) → Turns k scale first l xs written written' (spot_with seat' feed') out out' (Ok u)
+      → (ys : List BodyItem) × AtSeat scale first l ys (spot_with seat' feed') × Reaches g.rest failures scale first l before a (stage_with ys written' seat' feed' out')
+  goes_on on early same open_still chunk limit so_far (inl t) =
+      let on_by : TakesOn g.rest failures scale first l before (stage_with xs written seat feed out) (stage_with (xs ++ t.0 ∷ []) written' seat' feed' out') = record {
+        item = t.0;
+        items_are = refl;
+        one = t.1;
+        writes = t.2;
+        early = early;
+        failures_are = same;
+        seated = record { fits = feed'.fits; on = open_still };
+        chunk = chunk;
+        token = limit;
+      } in
+      (xs ++ t.0 ∷ [], t.1.1, reaches_on g.rest failures scale first l before a (stage_with xs written seat feed out) so_far (stage_with (xs ++ t.0 ∷ []) written' seat' feed' out') on_by)
+  goes_on on early same open_still chunk limit so_far (inr t) = let e : true ≡ false = sym t.0 ∙ on in cc
+
+-- items that lie ahead, and then more
+module _ {X : Type 0} {g : Ghosts X} (failures : X → ℕ) (k scale first : ℕ) (l : Lane) (before : ℕ) (a : Stage X) (xs : List BodyItem) (written written' : Option ℕ) (seat seat' : Seat) (feed feed' : Feed X g) (out out' : Device) (so_far : Reaches g.rest failures scale first l before a (stage_with xs written seat feed out)) where
+  abbrev Leaves : Result Bool WriteFailed → Type 0
+  Leaves result = AheadTurns g.rest failures k scale first l before (stage_with xs written seat feed out) written' seat' feed' out' result
+
+  -- all of them were taken
+  pub past_ahead : (b : Bool) → b ≡ false → Leaves (Ok b) → (ys : List BodyItem) × AtSeat scale first l ys (spot_with seat' feed') × Reaches g.rest failures scale first l before a (stage_with ys written' seat' feed' out')
+  past_ahead false e t = (t.0, t.1, reaches_to g.rest failures scale first l before a (stage_with xs written seat feed out) so_far (stage_with t.0 written' seat' feed' out') t.2)
+  past_ahead true e t = cc
+
+  -- the last of them has ended the run
+  pub late_ahead : {A : Type 0} (u : A) (b : Bool) → b ≡ true → Leaves (Ok b) → RunTurns g.rest failures k scale first l before a written' (spot_with seat' feed') out' (Ok u)
+  late_ahead u true e t =
+      let r = run_on g.rest failures scale first l before a (stage_with xs written seat feed out) so_far k written' (spot_with seat' feed') out' (Ok true) t in
+      record { mid = r.mid; trail = r.trail; last = r.last }
+  late_ahead u false e t = cc
+
+  -- a write failed
+  pub cut_ahead : {A : Type 0} (e : WriteFailed) → Leaves (Err e) → RunTurns {A = A} g.rest failures k scale first l before a written' (spot_with seat' feed') out' (Err Write)
+  cut_ahead e t =
+      let r = run_on g.rest failures scale first l before a (stage_with xs written seat feed out) so_far k written' (spot_with seat' feed') out' (Err Write) t in
+      record { mid = r.mid; trail = r.trail; last = r.last }
+
+-- the run from where the feed was resumed is the run from the seat
+pub run_from : {X A : Type 0} {g : Ghosts X} (failures : X → ℕ) (k scale first : ℕ) (l : Lane) (before : ℕ) (items : List BodyItem) (written written' : Option ℕ) (seat : Seat) (f : Feed X g) (source : X) (chunk token : List ℕ) (s : Spot) (out out' : Device) (r : Result A Stop)
+    → f.source.now ≡ source → f.chunk.now ≡ chunk → f.token.now ≡ token → f.parked ≡ seat.parked → RunTurns g.rest failures k scale first l before (stage_with items written seat f out) written' s out' r
+    → RunTurns g.rest failures k scale first l before (record { items = items; written = written; seat = seat; source = source; chunk = chunk; token = token; out = out }) written' s out' r
+run_from {X} {A} {g} failures k scale first l before items written written' seat f source chunk token s out out' r a b c d t =
+    let e : stage_with items written seat f out ≡ record { items = items; written = written; seat = seat; source = source; chunk = chunk; token = token; out = out } = rw (a, b, c, d) refl in
+    subst (λ (z : Stage X). RunTurns g.rest failures k scale first l before z written' s out' r) e t

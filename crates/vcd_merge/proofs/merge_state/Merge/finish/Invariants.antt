@@ -1,0 +1,28 @@
+use Rattle.std.proofs.Common.{◌≡◌, List, true, map, length}
+use Rattle.vcd_model.specs.Header.{Header}
+use Rattle.vcd_model.specs.Merge.{Dump, merge_open, merged_items}
+use Rattle.vcd_text.specs.Device.{Device, Writes, supply}
+use Rattle.vcd_merge.specs.MergeParts.{SameLengths, part_len}
+use Rattle.vcd_merge.specs.MergeStep.{Holds, IsReady, is_going, standing_of, left_of}
+use Rattle.vcd_merge.specs.Order.{IsOrder}
+use Rattle.vcd_merge.specs.Seat.{Lane}
+use Rattle.vcd_merge.proofs.MergeReads.{AreReadSoFar}
+use Rattle.vcd_merge.proofs.merge_state.Merge.finish.Given as goal
+
+abbrev pub invariant-items : goal.invariant-items
+invariant-items g l = record {
+  going : is_going l.self ≡ true;
+  ready : IsReady (standing_of l.self l.sources l.windows);
+  order : IsOrder l.self.seats.now (length l.self.seats.now) (length l.self.seats.now) l.order.inputs l.order.len;
+  reads : map g.S.Source.failures l.sources ≡ map g.S.Source.failures l.fn.sources;
+  writes : (g.W.Sink.device l.out).failures ≡ (g.W.Sink.device l.fn.out).failures;
+  seats : length l.self.seats.now ≡ length l.fn.self.seats.now;
+  windows : SameLengths l.fn.windows l.windows;
+  heads : l.self.heads.now ≡ l.fn.self.heads.now;
+  holds : (hs : List Header) (lanes : List Lane) (ds : List Dump) (begin : Device) → Holds g.S.Source.rest hs lanes ds (standing_of l.fn.self l.fn.sources l.fn.windows) → Writes begin (g.W.Sink.device l.fn.out) (merge_open hs (merged_items ds))
+      → (es : List Dump) × Holds g.S.Source.rest hs lanes es (standing_of l.self l.sources l.windows) × Writes begin (g.W.Sink.device l.out) (merge_open hs (merged_items es))
+      × AreReadSoFar g.S.Source.rest g.S.Source.failures (part_len (length l.fn.self.seats.now) l.fn.windows.tokens.now) (part_len (length l.fn.self.seats.now) l.fn.windows.chunks.now) lanes (map (supply g.S.Source.rest g.S.Source.failures) l.fn.sources) l.sources;
+}
+
+abbrev pub decreases-items : goal.decreases-items
+decreases-items g l = left_of l.self.seats.now

@@ -1,0 +1,29 @@
+use Rattle.std.proofs.Common.{◌≡◌, ◌+◌, ◌-◌, ◌^◌, ◌<◌, ◌≤◌, ℕ, List, [], ◌++◌, length}
+use Rattle.vcd_model.specs.Header.{Header}
+use Rattle.vcd_model.specs.Items.{BodyItem}
+use Rattle.vcd_model.specs.Tokens.{Token}
+use Rattle.vcd_text.specs.Ahead.{bytes_of, longest_of, passed_of}
+use Rattle.vcd_text.specs.Passed.{Passed}
+use Rattle.vcd_head.specs.Views.{IsViewOf}
+use Rattle.vcd_merge.specs.MergeAhead.{IsAhead, TrailAhead, seat_with}
+use Rattle.vcd_merge.proofs.merging.items_ahead.Given as goal
+
+abbrev pub invariant-items : goal.invariant-items
+invariant-items g l = record {
+  bytes : bytes_of l.ahead ≡ bytes_of l.fn.ahead;
+  longest : longest_of l.ahead ≡ longest_of l.fn.ahead;
+  within : passed_of l.ahead ≤ length (bytes_of l.ahead);
+  further : passed_of l.fn.ahead ≤ passed_of l.ahead;
+  counts : (g.W.Sink.device l.out).failures ≡ (g.W.Sink.device l.fn.out).failures;
+  same : l.seat ≡ seat_with l.fn.seat l.seat.regs l.seat.time;
+  passes : (lines : ℕ) (ts : List Token) → Passed (longest_of l.fn.ahead) lines (bytes_of l.fn.ahead) (passed_of l.fn.ahead) ts → (more : List Token) × Passed (longest_of l.fn.ahead) lines (bytes_of l.fn.ahead) (passed_of l.ahead) (ts ++ more);
+  trail : (scale first lines : ℕ) (h : Header) (behind : List BodyItem) → IsViewOf l.fn.view h → l.fn.seat.factor ≡ scale → l.fn.seat.first ≡ first → first + length h.codes < 2 ^ 64
+      → IsAhead scale h (longest_of l.fn.ahead) lines (bytes_of l.fn.ahead) behind (passed_of l.fn.ahead) [] l.fn.seat.regs l.fn.seat.time
+      → (items : List BodyItem) × IsAhead scale h (longest_of l.fn.ahead) lines (bytes_of l.fn.ahead) behind (passed_of l.ahead) items l.seat.regs l.seat.time
+      × TrailAhead scale first h (longest_of l.fn.ahead) lines (bytes_of l.fn.ahead) behind l.fn.before
+      (record { at = passed_of l.fn.ahead; items = []; regs = l.fn.seat.regs; time = l.fn.seat.time; written = l.fn.written; out = g.W.Sink.device l.fn.out })
+      (record { at = passed_of l.ahead; items = items; regs = l.seat.regs; time = l.seat.time; written = l.written; out = g.W.Sink.device l.out });
+}
+
+abbrev pub decreases-items : goal.decreases-items
+decreases-items g l = length (bytes_of l.ahead) - passed_of l.ahead

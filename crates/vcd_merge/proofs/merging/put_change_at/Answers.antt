@@ -1,0 +1,59 @@
+use Rattle.std.proofs.Common.{◌≡◌, ◌&&◌, true, false, ap, sym, ◌∙◌, Err, rules, ℕ, ◌+◌, ◌*◌, Some, arith, refl}
+use Rattle.vcd_model.specs.HeadText.{new_code}
+use Rattle.vcd_model.specs.Items.{Change, leaves_open, time_after}
+use Rattle.vcd_head.specs.Shown.{parts}
+use Rattle.vcd_body.specs.Items.{model_form}
+use Rattle.vcd_text.proofs.Writes.{appends-none, appends-first, takes-twice}
+use Rattle.vcd_body.proofs.Results.{if_ok}
+use Rattle.vcd_merge.proofs.MergeItem.{section_is, event_of, known_digits, line_is, number_fits}
+use Rattle.vcd_model.specs.ItemText.{time_due}
+use Rattle.vcd_model.proofs.MergedText.{left_out, left_time, line_due, time_written}
+use Rattle.vcd_body.specs.declared.item.Item.TheVariants as item
+use Rattle.std.specs.Prelude.{option_map}
+use Rattle.vcd_model.specs.Values.{change_line}
+use Rattle.vcd_head.specs.declared.view.Code.{Code}
+use Rattle.vcd_merge.specs.declared.merging.Kind.{Kind}
+use Rattle.vcd_merge.proofs.merging.put_change_at.Goals as goal
+
+abbrev kind_of : Code → Kind
+kind_of c = record { size = c.size; event = c.event }
+
+some_is : {A : Type 0} {a b : A} → Some a ≡ Some b → a ≡ b
+some_is e = cc
+
+pub put_renamed_bits-requires-clause-bits : goal.put_renamed_bits-requires-clause-bits
+put_renamed_bits-requires-clause-bits g c = known_digits (item.Change c.args.code c.args.form) c.args.text.now c.args.bits c.requires.bits
+
+pub returns-then-is_left_out-clause-takes : goal.returns-then-is_left_out-clause-takes
+returns-then-is_left_out-clause-takes g c = λ scale first h items x views known time number few is.
+    let y : Change = record { code = is.0; form = model_form c.args.form; text = c.args.text.now } in
+    let (d, shown, good) = c.requires.sound in
+    let kind : c.in-Some.kind ≡ record { size = d.size; event = d.event } = some_is (sym c.in-Some.is ∙ c.kind_at.ensures ∙ ap (option_map kind_of) shown) in
+    let out : (is.0.event && leaves_open items) ≡ true = rw (sym (event_of (parts c.args.view) h c.args.code is.0 d views is.1 shown), sym (ap (λ (k : Kind). k.event) kind), sym (section_is items c.args.seat.now.regs known)) (sym c.is_left_out.ensures ∙ c.if-is_left_out.true) in
+    rw (is.2, left_out scale first h items y c.args.written.now out) (appends-none (g.W.Sink.device c.args.out.now).held, left_time scale first h items y c.args.written.now out)
+
+pub returns-in_err-put_time_unless-clause-takes : goal.returns-in_err-put_time_unless-clause-takes
+returns-in_err-put_time_unless-clause-takes g c = λ scale first h items x views known time number few is.
+    let y : Change = record { code = is.0; form = model_form c.args.form; text = c.args.text.now } in
+    let (d, shown, good) = c.requires.sound in
+    let kind : c.in-Some.kind ≡ record { size = d.size; event = d.event } = some_is (sym c.in-Some.is ∙ c.kind_at.ensures ∙ ap (option_map kind_of) shown) in
+    let out : (is.0.event && leaves_open items) ≡ false = rw (sym (event_of (parts c.args.view) h c.args.code is.0 d views is.1 shown), sym (ap (λ (k : Kind). k.event) kind), sym (section_is items c.args.seat.now.regs known)) (sym c.is_left_out.ensures ∙ c.if-is_left_out.false) in
+    let e : c.from_residual.result ≡ Err c.in_err-put_time_unless.field-0.0 = search rules in
+    let t = rw time at c.in_err-put_time_unless.ensures.0 in
+    rw (is.2, e, line_due scale first h items y c.args.written.now out) (appends-first _ _ (time_due c.args.written.now (scale * time_after items)) _ t, tt)
+
+pub returns-clause-takes : goal.returns-clause-takes
+returns-clause-takes g c = λ scale first h items x views known time number few is.
+    let y : Change = record { code = is.0; form = model_form c.args.form; text = c.args.text.now } in
+    let (d, shown, good) = c.requires.sound in
+    let kind : c.in-Some.kind ≡ record { size = d.size; event = d.event } = some_is (sym c.in-Some.is ∙ c.kind_at.ensures ∙ ap (option_map kind_of) shown) in
+    let out : (is.0.event && leaves_open items) ≡ false = rw (sym (event_of (parts c.args.view) h c.args.code is.0 d views is.1 shown), sym (ap (λ (k : Kind). k.event) kind), sym (section_is items c.args.seat.now.regs known)) (sym c.is_left_out.ensures ∙ c.if-is_left_out.false) in
+    let fits = number_fits h c.args.code is.0 is.1 first few in
+    let sum : c.saturating_add-number.result ≡ first + c.args.code = omega (arith, c.saturating_add-number.ensures) in
+    let line = ap (λ (k : Kind). change_line (record { code = record { text = new_code c.saturating_add-number.result; size = k.size; event = k.event }; form = model_form c.args.form; text = c.args.text.now })) kind ∙ line_is first c.args.code c.saturating_add-number.result (parts c.args.view) h is.0 d (model_form c.args.form) c.args.text.now (new_code c.saturating_add-number.result) views is.1 shown sum refl in
+    let t = rw time at c.in_ok-put_time_unless.ensures.0 in
+    let l = rw line at c.put_renamed_bits.ensures.0 in
+    rw (is.2, line_due scale first h items y c.args.written.now out) (
+      takes-twice _ _ _ (time_due c.args.written.now (scale * time_after items)) _ c.put_renamed_bits.result t l,
+      if_ok c.put_renamed_bits.result _ (ap (λ (n : ℕ). Some n) time ∙ time_written scale first h items y c.args.written.now out),
+    )

@@ -1,0 +1,12 @@
+pub mod Seat
+pub mod SeatStep
+pub mod MergeAhead
+pub mod MergeOrder
+pub mod MergeTurns
+pub mod Order
+pub mod MergeParts
+pub mod MergeRoom
+pub mod MergeStep
+pub mod MergeTrail
+pub mod MergeRun
+pub mod MergeStart

@@ -1,0 +1,57 @@
+-- Items of one input of a merge that lie ahead in its feed's chunk, taken one after the other.
+use Rattle.std.specs.Prelude.{◌≡◌, ℕ, ◌*◌, ◌<◌, Bool, true, false, List, [], ◌∷◌, ◌++◌, Option, Result, Ok, Err}
+use Rattle.std.specs.List.{AllByRecursion}
+use Rattle.vcd_model.specs.Header.{Header}
+use Rattle.vcd_model.specs.Items.{BodyItem}
+use Rattle.vcd_model.specs.Merge.{is_too_large}
+use Rattle.vcd_model.specs.MergeByInput.{due_with, entry_for, written_with}
+use Rattle.vcd_text.specs.Device.{Device, Writes, WritesSome}
+use Rattle.vcd_body.specs.Ahead.{GaveAhead}
+use Rattle.vcd_body.specs.Items.{AreRegsAfter}
+use Rattle.vcd_body.specs.declared.item.Regs.{Regs}
+use Rattle.vcd_merge.specs.declared.seat.Seat.{Seat}
+
+-- the seat with these registers and this time
+abbrev pub seat_with : Seat → Regs → ℕ → Seat
+seat_with s r time = record { parked = s.parked; regs = r; factor = s.factor; time = time; first = s.first; finished = s.finished }
+
+-- behind some of the items ahead: the bytes in which they lie, what is known after them, the time of the input, and the output
+pub record StageAhead : Type 0 where
+  pub at : ℕ
+  pub items : List BodyItem
+  pub regs : Regs
+  pub time : ℕ
+  pub written : Option ℕ
+  pub out : Device
+
+-- behind the items before, these lie in the first n bytes ahead; this is known after them, and no time is too large
+pub record IsAhead (scale : ℕ) (h : Header) (limit lines : ℕ) (bytes : List ℕ) (behind : List BodyItem) (n : ℕ) (items : List BodyItem) (r : Regs) (time : ℕ) : Type 0 where
+  pub gave : GaveAhead h.codes limit lines bytes n behind items
+  pub known : AreRegsAfter (behind ++ items) r
+  pub small : AllByRecursion (λ x. is_too_large scale x ≡ false) items
+  pub time_is : time ≡ scale * r.time
+
+module _ (scale first : ℕ) (h : Header) (limit lines : ℕ) (bytes : List ℕ) (behind : List BodyItem) where
+  -- one item more, and what is due with it was written
+  pub record OneAhead (b : StageAhead) (x : BodyItem) (n : ℕ) (r : Regs) (time : ℕ) (written : Option ℕ) (out : Device) : Type 0 where
+    pub ahead : IsAhead scale h limit lines bytes behind n (b.items ++ x ∷ []) r time
+    pub written_is : written ≡ written_with b.written (entry_for scale first h (behind ++ b.items) x)
+    pub writes : Writes b.out out (due_with b.written (entry_for scale first h (behind ++ b.items) x))
+
+  -- any number of items, after each of which the time of the input is before this one
+  pub data TrailAhead (before : ℕ) (a : StageAhead) : StageAhead → Type 0 where
+    Stands : TrailAhead before a a
+    Further : (b c : StageAhead) (x : BodyItem) (so_far : TrailAhead before a b) (items_are : c.items ≡ b.items ++ x ∷ []) (one : OneAhead b x c.at c.regs c.time c.written c.out) (early : c.time < before) → TrailAhead before a c
+
+  -- how that ends: no other was taken; after one more the time is no longer early; or a write of what is due with one more failed
+  abbrev pub EndsAhead : {E : Type 0} → StageAhead → ℕ → Regs → ℕ → Option ℕ → Device → Result Bool E → Type 0
+  EndsAhead m n r time written out (Ok false) = IsAhead scale h limit lines bytes behind n m.items r time × (written ≡ m.written) × (out ≡ m.out)
+  EndsAhead m n r time written out (Ok true) = (x : BodyItem) × OneAhead m x n r time written out
+  EndsAhead m n r time written out (Err e) =
+      (x : BodyItem) × IsAhead scale h limit lines bytes behind n (m.items ++ x ∷ []) r time × WritesSome m.out out (due_with m.written (entry_for scale first h (behind ++ m.items) x))
+
+  -- the trail, and how it ends
+  pub record RunsAhead {E : Type 0} (before : ℕ) (a : StageAhead) (n : ℕ) (r : Regs) (time : ℕ) (written : Option ℕ) (out : Device) (result : Result Bool E) : Type 0 where
+    pub mid : StageAhead
+    pub trail : TrailAhead before a mid
+    pub ends : EndsAhead mid n r time written out result

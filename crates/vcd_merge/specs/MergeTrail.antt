@@ -1,0 +1,104 @@
+-- Several items of one input of a merge, taken one after another.
+use Rattle.std.specs.Prelude.{◌≡◌, ℕ, ◌<◌, ◌⊎◌, Bool, true, false, List, [], ◌∷◌, ◌++◌, length, map, slice_get, Option, Some, Result, Ok, Err}
+use Rattle.vcd_model.specs.Header.{Header}
+use Rattle.vcd_model.specs.Items.{BodyItem}
+use Rattle.vcd_model.specs.Merge.{Dump, merge_open, merged_items}
+use Rattle.vcd_model.specs.MergeByInput.{due_with, entry_for}
+use Rattle.vcd_text.specs.Device.{Device, Writes}
+use Rattle.vcd_text.specs.declared.device.Source.{Ghosts}
+use Rattle.vcd_text.specs.declared.feed.Feed.{Feed}
+use Rattle.vcd_body.specs.Device.{Grows}
+use Rattle.vcd_merge.specs.MergeOrder.{IsNext}
+use Rattle.vcd_merge.specs.MergeParts.{part_len}
+use Rattle.vcd_merge.specs.MergeStep.{Gives, Holds, IsReady, Standing}
+use Rattle.vcd_merge.specs.Seat.{AtSeat, GivesOne, IsSeated, Lane, ReadsNoMore, Spot, Turns, spot_with}
+use Rattle.vcd_body.specs.declared.answer.More.{More}
+use Rattle.vcd_body.specs.declared.answer.Stop.{Stop}
+use Rattle.vcd_body.specs.declared.answer.Stop.TheVariants.{Write}
+use Rattle.vcd_merge.specs.declared.seat.Seat.{Seat}
+
+-- where an input stands after some of its items, and the output with it
+pub record Stage (X : Type 0) : Type 0 where
+  pub items : List BodyItem
+  pub written : Option ℕ
+  pub seat : Seat
+  pub source : X
+  pub chunk : List ℕ
+  pub token : List ℕ
+  pub out : Device
+
+abbrev pub spot_in : {X : Type 0} → (X → Option (List ℕ)) → Stage X → Spot
+spot_in rest a = record { seat = a.seat; rest = rest a.source; chunk = a.chunk; token = a.token }
+
+-- while its feed is out
+abbrev pub stage_with : {X : Type 0} {g : Ghosts X} → List BodyItem → Option ℕ → Seat → Feed X g → Device → Stage X
+stage_with items written s f out = record { items = items; written = written; seat = record s { parked = f.parked }; source = f.source.now; chunk = f.chunk.now; token = f.token.now; out = out }
+
+-- one item more, after which the time of the input is before this one
+pub record TakesOn {X : Type 0} (rest : X → Option (List ℕ)) (failures : X → ℕ) (scale first : ℕ) (l : Lane) (before : ℕ) (a b : Stage X) : Type 0 where
+  pub item : BodyItem
+  pub items_are : b.items ≡ a.items ++ item ∷ []
+  pub one : GivesOne scale first l a.items a.written b.written (spot_in rest b) item
+  pub writes : Writes a.out b.out (due_with a.written (entry_for scale first l.header a.items item))
+  pub early : b.seat.time < before
+  pub failures_are : failures b.source ≡ failures a.source
+  pub seated : IsSeated (length b.chunk) (length b.token) b.seat
+  pub chunk : length b.chunk ≡ length a.chunk
+  pub token : length b.token ≡ length a.token
+
+-- any number of such items
+pub data Trail {X : Type 0} (rest : X → Option (List ℕ)) (failures : X → ℕ) (scale first : ℕ) (l : Lane) (before : ℕ) (a : Stage X) : Stage X → Type 0 where
+  Stands : Trail rest failures scale first l before a a
+  Further : (b c : Stage X) (so_far : Trail rest failures scale first l before a b) (on : TakesOn rest failures scale first l before b c) → Trail rest failures scale first l before a c
+
+-- such items lead to a stage like this one: behind the same items, with the same output, source and windows
+pub record Reaches {X : Type 0} (rest : X → Option (List ℕ)) (failures : X → ℕ) (scale first : ℕ) (l : Lane) (before : ℕ) (a b : Stage X) : Type 0 where
+  pub mid : Stage X
+  pub trail : Trail rest failures scale first l before a mid
+  pub items_are : mid.items ≡ b.items
+  pub written_is : mid.written ≡ b.written
+  pub out_is : mid.out ≡ b.out
+  pub failures_are : failures mid.source ≡ failures b.source
+  pub chunk : length mid.chunk ≡ length b.chunk
+  pub token : length mid.token ≡ length b.token
+
+-- and then the step that ends them
+pub record RunTurns {X A : Type 0} (rest : X → Option (List ℕ)) (failures : X → ℕ) (k scale first : ℕ) (l : Lane) (before : ℕ) (a : Stage X) (written : Option ℕ) (s : Spot) (out : Device) (result : Result A Stop) : Type 0 where
+  pub mid : Stage X
+  pub trail : Trail rest failures scale first l before a mid
+  pub last : Turns k scale first l mid.items mid.written written s mid.out out result
+
+-- what the items that lie ahead leave: all of them were taken; or, with the last of them, the run has ended, or a write failed
+abbrev pub AheadTurns : {X E : Type 0} {g : Ghosts X} → (X → Option (List ℕ)) → (X → ℕ) → (k scale first : ℕ) → Lane → ℕ → Stage X → Option ℕ → Seat → Feed X g → Device → Result Bool E → Type 0
+AheadTurns rest failures k scale first l before a written s f out (Ok false) = (xs : List BodyItem) × AtSeat scale first l xs (spot_with s f) × Reaches rest failures scale first l before a (stage_with xs written s f out)
+AheadTurns rest failures k scale first l before a written s f out (Ok true) = RunTurns {A = Bool} rest failures k scale first l before a written (spot_with s f) out (Ok true)
+AheadTurns rest failures k scale first l before a written s f out (Err e) = RunTurns {A = Bool} rest failures k scale first l before a written (spot_with s f) out (Err Write)
+
+-- the same from what the input has in a merge
+pub record TurnsAt {X A : Type 0} (rest : X → Option (List ℕ)) (failures : X → ℕ) (sources : List X) (k scale first : ℕ) (l : Lane) (before : ℕ) (items : List BodyItem) (written written' : Option ℕ) (s s' : Spot) (out out' : Device) (result : Result A Stop) : Type 0 where
+  pub seat : Seat
+  pub source : X
+  pub chunk : List ℕ
+  pub token : List ℕ
+  pub spot_is : s ≡ record { seat = seat; rest = rest source; chunk = chunk; token = token }
+  pub source_at : slice_get sources k ≡ Some source
+  pub turns : RunTurns rest failures k scale first l before (record { items = items; written = written; seat = seat; source = source; chunk = chunk; token = token; out = out }) written' s' out' result
+
+-- What a run of steps of one input leaves: it has gone on for some items, to `mid`, and the last step gives this. With one item alone there is that step and no other.
+pub record RunGives {X : Type 0} (rest : X → Option (List ℕ)) (failures : X → ℕ) (hs : List Header) (lanes : List Lane) (alone : Bool) (ds : List Dump) (s s' : Standing X) (out out' : Device) (result : Result More Stop) : Type 0 where
+  pub dumps : List Dump
+  pub mid : Standing X
+  pub between : Device
+  pub input : ℕ
+  pub holds : Holds rest hs lanes dumps mid
+  pub ready : IsReady mid
+  pub next : IsNext mid.seats input
+  pub turn : IsNext s.seats input
+  pub seats : length mid.seats ≡ length s.seats
+  pub chunks : length mid.chunks ≡ length s.chunks
+  pub tokens : length mid.tokens ≡ length s.tokens
+  pub failures_are : map failures mid.sources ≡ map failures s.sources
+  pub grows : Grows out between (merge_open hs (merged_items ds)) (merge_open hs (merged_items dumps))
+  pub reads : (j : ℕ) (l : Lane) (x : X) → slice_get lanes j ≡ Some l → slice_get mid.sources j ≡ Some x → (slice_get s.sources j ≡ Some x) ⊎ ReadsNoMore (part_len (length s.seats) s.tokens) (part_len (length s.seats) s.chunks) l l.input (rest x)
+  pub last : Gives rest hs lanes dumps mid s' between out' result
+  pub by_one : alone ≡ true → (dumps ≡ ds) × (mid ≡ s) × (between ≡ out)

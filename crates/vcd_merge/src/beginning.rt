@@ -1,0 +1,46 @@
+//! Where a merge begins: what it adds to each input.
+ghost use Rattle.std.specs.Prelude.{◌≡◌, ℕ, ◌≤◌, List, length};
+ghost use Rattle.vcd_model.specs.Header.{Header};
+ghost use Rattle.vcd_model.specs.HeadText.{least_exponent as least_of};
+ghost use Rattle.vcd_model.specs.Merge.{factor};
+ghost use Rattle.vcd_head.specs.Merged.{ShowHeaders};
+ghost use Rattle.vcd_head.specs.Views.{IsExponent, IsViewOf};
+ghost use Rattle.vcd_merge.specs.MergeStart.{AreBegun, AreOpen};
+
+use crate::seat::Seat;
+use vcd_head::{Head, HeadView, least_exponent};
+
+/// By how much the times of an input are scaled where this is the least power of ten of all time scales.
+fn factor_of(view: HeadView<'_>, least: i8) -> u64
+    ensures { (hs : List Header) (h : Header) → IsViewOf view.entry h → IsExponent least
+        → least ≡ least_of hs → result ≡ factor hs h }
+{
+    let power = view.exponent().abs_diff(least);
+    10u64.checked_pow(u32::from(power)).unwrap_or(u64::MAX)
+}
+
+/// Sets factor, time and first number of each seat, and that it has not finished. Where the feeds stand, and what is known of
+/// their items, is left alone.
+pub(crate) fn set_seats(heads: &[Head], seats: &mut [Seat])
+    requires many { length heads.now ≤ 64 }
+    requires heads { length heads.now ≡ length seats.old }
+    ensures seats { (hs : List Header) → ShowHeaders heads.now hs
+        → AreBegun hs seats.old seats.new }
+    ensures kept { AreOpen seats.old seats.new }
+    ensures len { length seats.new ≡ length seats.old }
+{
+    let least = least_exponent(heads);
+    let mut first: u64 = 0;
+    for input in 0..seats.len() {
+        let view = heads[input].view();
+        let seat = seats[input];
+        seats[input] = Seat {
+            factor: factor_of(view, least),
+            time: 0,
+            first,
+            finished: false,
+            ..seat
+        };
+        first = first.saturating_add(view.codes.len() as u64);
+    }
+}

@@ -1,0 +1,623 @@
+//! `merge`: the changes of several dumps in one order of time.
+ghost use Rattle.std.specs.Prelude.{◌≡◌, ◌≢◌, ℕ, ◌+◌, ◌-◌, ◌*◌, ◌^◌, ◌<◌, ◌≤◌, Bool, true, false, ◌⊎◌, take, slice_get, List, length, All, MatchOption, MatchBool, IfErr, IfOk, Some, Option, Ok, map};
+ghost use Rattle.vcd_model.specs.Merge.{Dump, merge_close, merge_open, merged_items};
+ghost use Rattle.vcd_text.specs.Device.{Counts, Device, Takes, Writes, failures_after, supply};
+ghost use Rattle.vcd_body.specs.Answer.{NamesInput, goes_on, writes_failed};
+ghost use Rattle.vcd_model.specs.Items.{BodyItem};
+ghost use Rattle.vcd_head.specs.Shown.{shown};
+ghost use Rattle.vcd_head.specs.Views.{Views};
+ghost use Rattle.vcd_merge.specs.Seat.{AtSeat, Lane, Spot, Turns};
+ghost use Rattle.vcd_merge.specs.MergeParts.{AreParts, AreSeated, SameLengths, part, part_len, spot_at};
+ghost use Rattle.vcd_merge.specs.MergeOrder.{IsNext, greatest_time};
+ghost use Rattle.vcd_merge.specs.Order.{IsFirstBefore, IsOrder};
+ghost use Rattle.vcd_merge.specs.MergeTrail.{RunGives, TurnsAt};
+ghost use Rattle.vcd_merge.specs.MergeRun.{Follows};
+ghost use Rattle.vcd_model.specs.Header.{Header};
+ghost use Rattle.vcd_model.specs.HeadText.{merged_head};
+ghost use Rattle.vcd_head.specs.Merged.{HaveRoom, ShowHeaders};
+ghost use Rattle.vcd_merge.specs.MergeRoom.{MergeIsWithinBound, no_windows, windows_size};
+ghost use Rattle.vcd_merge.specs.MergeStart.{AreBegun, HasBegun};
+ghost use Rattle.vcd_merge.specs.MergeStep.{AreMarked, Gives, Holds, IsReady, failures_with, is_going, last_written, left_of, standing_of};
+
+use crate::beginning::set_seats;
+use crate::merge_state::Merge;
+use crate::merging::run_of;
+use crate::order::Order;
+use crate::seat::Seat;
+use crate::turns::next_turn;
+use crate::windows::Windows;
+use vcd_body::{Done, More, Stop, put_time_unless};
+use vcd_head::{Head, put_merged_head};
+use vcd_text::{Sink, Source, WriteFailed};
+
+/// Some input has not finished: this one, or another.
+#[inline(always)]
+fn some_left(seats: &[Seat], input: usize) -> bool
+    requires input { input < length seats.now }
+    ensures some { result ≡ true → (k : ℕ) × IsNext seats.now k }
+    ensures none { result ≡ false → All (λ (s : Seat). s.finished ≡ true) seats.now }
+{
+    if !seats[input].finished {
+        return true;
+    }
+    next_turn(seats).is_some()
+}
+
+/// The greatest time mark of all inputs.
+fn greatest_time(seats: &[Seat]) -> Option<u64>
+    ensures { result ≡ greatest_time seats.now }
+{
+    let mut greatest: Option<u64> = None;
+    for seat in seats {
+        if seat.regs.marked {
+            greatest = match greatest {
+                Some(time) => Some(time.max(seat.time)),
+                None => Some(seat.time),
+            };
+        }
+    }
+    greatest
+}
+
+/// The run of the input at a place: an item, and those that follow while its time is before this one. The parts of the windows are
+/// those at its place, and no other input's are touched.
+#[inline(always)]
+fn turn<S: Source, W: Sink>(
+    heads: &[Head],
+    input: usize,
+    before: u64,
+    seats: &mut [Seat],
+    sources: &mut [S],
+    windows: &mut Windows<'_>,
+    written: &mut Option<u64>,
+    out: &mut W,
+) -> Result<(), Stop>
+    requires input { input < length seats.old }
+    requires heads { length heads.now ≡ length seats.old }
+    requires sources { length sources.old ≡ length seats.old }
+    requires parts { AreParts
+        (length seats.old) windows.old.chunks.now windows.old.tokens.now windows.old.values.now }
+    requires reads { All (λ s. S.failures s < 2 ^ 64 - 1) sources.old }
+    requires out_failures { (W.device out.old).failures < 2 ^ 64 - 1 }
+    requires seated { AreSeated windows.old.chunks.now windows.old.tokens.now seats.old }
+    requires unfinished { (s : Seat) → slice_get seats.old input ≡ Some s → s.finished ≡ false }
+    ensures turns { (scale first : ℕ) (l : Lane) (items : List BodyItem) (h : Head) (s : Spot)
+        → slice_get heads.now input ≡ Some h → Views (shown h) l.header
+        → spot_at S.rest seats.old sources.old windows.old.chunks.now windows.old.tokens.now input
+        ≡ Some s → AtSeat scale first l items s
+        → (s' : Spot) × (spot_at S.rest seats.new sources.new windows.new.chunks.now windows.new.tokens.now input ≡ Some s')
+        × TurnsAt S.rest S.failures sources.old input scale first l before items written.old written.new s s'
+        (W.device out.old) (W.device out.new) result }
+    ensures others { (j : ℕ) → j ≢ input
+        → spot_at S.rest seats.new sources.new windows.new.chunks.now windows.new.tokens.now j
+        ≡ spot_at S.rest seats.old sources.old windows.old.chunks.now windows.old.tokens.now j }
+    ensures untouched { (j : ℕ) → j ≢ input
+        → (slice_get sources.new j ≡ slice_get sources.old j)
+        × (part (part_len (length seats.old) windows.old.tokens.now) j windows.new.values.now
+        ≡ part (part_len (length seats.old) windows.old.tokens.now) j windows.old.values.now) }
+    ensures kept { (j : ℕ) → j ≢ input → slice_get seats.new j ≡ slice_get seats.old j }
+    ensures lengths { SameLengths windows.old windows.new }
+    ensures seats { length seats.new ≡ length seats.old }
+    ensures sources { length sources.new ≡ length sources.old }
+    ensures seated { IfOk result
+        (λ _. AreSeated windows.new.chunks.now windows.new.tokens.now seats.new) }
+    ensures reads { map S.failures sources.new
+        ≡ failures_with (map S.failures sources.old) input result }
+    ensures named { NamesInput input result }
+    ensures left { IfOk result (λ _. left_of seats.new < left_of seats.old) }
+    ensures writes { (W.device out.new).failures
+        ≡ (W.device out.old).failures + writes_failed result }
+{
+    let chunk = windows.chunks.len() / seats.len();
+    let limit = windows.tokens.len() / seats.len();
+    let chunk_at = input * chunk;
+    let token_at = input * limit;
+    run_of(
+        heads[input].view(),
+        input,
+        before,
+        &mut sources[input],
+        &mut windows.chunks[chunk_at..chunk_at + chunk],
+        &mut windows.tokens[token_at..token_at + limit],
+        &mut windows.values[token_at..token_at + limit],
+        &mut seats[input],
+        written,
+        out,
+    )
+}
+
+impl<'h, 's> Merge<'h, 's> {
+    /// Begins a merge of at most 64 inputs with these heads, and writes its header. Each seat's feed stands after its header;
+    /// where it stands is left alone. In the marks, of which each head needs one a row, anything may stand before and after.
+    ///
+    /// # Errors
+    ///
+    /// `Stop::Write` where a write failed; a prefix of the header was written.
+    pub fn start<W: Sink>(
+        heads: &'h [Head],
+        seats: &'s mut [Seat],
+        marks: &mut [u8],
+        out: &mut W,
+    ) -> Result<Merge<'h, 's>, Stop>
+        requires many { length heads.now ≤ 64 }
+        requires heads { length heads.now ≡ length seats.old }
+        requires failures { (W.device out.old).failures < 2 ^ 64 - 1 }
+        requires bound { (limit : ℕ) → MergeIsWithinBound limit heads.now no_windows
+            (length marks.old) }
+        ensures takes { (hs : List Header) → ShowHeaders heads.now hs
+            → HaveRoom (length marks.old) hs
+            → Takes (W.device out.old) (W.device out.new) (merged_head hs) result }
+        ensures counts { Counts (W.device out.old) (W.device out.new) result }
+        ensures begun { IfOk result (HasBegun heads.now seats.old) }
+        ensures seats { (hs : List Header) → ShowHeaders heads.now hs
+            → IfOk result (λ merge. AreBegun hs seats.old merge.seats.now) }
+        ensures stops { IfErr result (λ stop. stop ≡ Stop.Write) }
+        ensures marks { length marks.new ≡ length marks.old }
+    {
+        put_merged_head(heads, marks, out)?;
+        set_seats(heads, seats);
+        Ok(Merge {
+            heads,
+            seats,
+            written: None,
+            going: true,
+        })
+    }
+
+    /// Neither a step nor the end of all inputs has ended the merge.
+    #[inline]
+    pub fn going(&self) -> bool
+        ensures { result ≡ is_going self.now }
+    {
+        self.going
+    }
+}
+
+/// Writes what stands at the clean end of all inputs.
+fn close<W: Sink>(seats: &[Seat], written: Option<u64>, out: &mut W) -> Result<(), WriteFailed>
+    requires { (W.device out.old).failures < 2 ^ 64 - 1 }
+    ensures takes { (hs : List Header) (ds : List Dump) → AreMarked hs ds seats.now
+        → written ≡ last_written (merged_items ds)
+        → Takes (W.device out.old) (W.device out.new) (merge_close (merged_items ds)) result }
+    ensures counts { Counts (W.device out.old) (W.device out.new) result }
+{
+    match greatest_time(seats) {
+        Some(time) => put_time_unless(written, time, out),
+        None => Ok(()),
+    }
+}
+
+/// The steps of the input whose turn it is, over what a merge works on: one, and those that follow while its time is before this
+/// one, at which it comes before all others.
+#[inline(always)]
+fn step<S: Source, W: Sink>(
+    heads: &[Head],
+    input: usize,
+    before: u64,
+    seats: &mut [Seat],
+    sources: &mut [S],
+    windows: &mut Windows<'_>,
+    written: &mut Option<u64>,
+    out: &mut W,
+) -> Result<More, Stop>
+    requires reads { All (λ s. S.failures s < 2 ^ 64 - 1) sources.old }
+    requires out_failures { (W.device out.old).failures < 2 ^ 64 - 1 }
+    requires ready { IsReady
+        (record {
+          heads = heads.now;
+          seats = seats.old;
+          written = written.old;
+          sources = sources.old;
+          chunks = windows.old.chunks.now;
+          tokens = windows.old.tokens.now;
+          values = windows.old.values.now;
+        }) }
+    requires next { IsNext seats.old input }
+    requires first { IsFirstBefore seats.old input before }
+    ensures runs { (alone : Bool) (hs : List Header) (lanes : List Lane) (ds : List Dump)
+        → (alone ≡ true → before ≡ 0)
+        → Holds S.rest hs lanes ds
+        (record {
+          heads = heads.now;
+          seats = seats.old;
+          written = written.old;
+          sources = sources.old;
+          chunks = windows.old.chunks.now;
+          tokens = windows.old.tokens.now;
+          values = windows.old.values.now;
+        })
+        → RunGives S.rest S.failures hs lanes alone ds
+        (record {
+          heads = heads.now;
+          seats = seats.old;
+          written = written.old;
+          sources = sources.old;
+          chunks = windows.old.chunks.now;
+          tokens = windows.old.tokens.now;
+          values = windows.old.values.now;
+        })
+        (record {
+          heads = heads.now;
+          seats = seats.new;
+          written = written.new;
+          sources = sources.new;
+          chunks = windows.new.chunks.now;
+          tokens = windows.new.tokens.now;
+          values = windows.new.values.now;
+        })
+        (W.device out.old) (W.device out.new) result }
+    ensures ready { result ≡ Ok More.Again
+        → IsReady (record {
+          heads = heads.now;
+          seats = seats.new;
+          written = written.new;
+          sources = sources.new;
+          chunks = windows.new.chunks.now;
+          tokens = windows.new.tokens.now;
+          values = windows.new.values.now;
+        }) }
+    ensures lengths { (length seats.new ≡ length seats.old) × SameLengths windows.old windows.new }
+    ensures kept { (j : ℕ) → j ≢ input → slice_get seats.new j ≡ slice_get seats.old j }
+    ensures reads { map S.failures sources.new
+        ≡ failures_with (map S.failures sources.old) input result }
+    ensures named { NamesInput input result }
+    ensures left { result ≡ Ok More.Again → left_of seats.new < left_of seats.old }
+    ensures others { (j : ℕ) → j ≢ input
+        → spot_at S.rest seats.new sources.new windows.new.chunks.now windows.new.tokens.now j
+        ≡ spot_at S.rest seats.old sources.old windows.old.chunks.now windows.old.tokens.now j }
+    ensures untouched { (j : ℕ) → j ≢ input
+        → (slice_get sources.new j ≡ slice_get sources.old j)
+        × (part (part_len (length seats.old) windows.old.tokens.now) j windows.new.values.now
+        ≡ part (part_len (length seats.old) windows.old.tokens.now) j windows.old.values.now) }
+    ensures writes { (W.device out.new).failures
+        ≡ (W.device out.old).failures + writes_failed result }
+{
+    turn(heads, input, before, seats, sources, windows, written, out)?;
+    if some_left(seats, input) {
+        return Ok(More::Again);
+    }
+    close(seats, *written, out)?;
+    Ok(More::Ended(Done::Whole))
+}
+
+/// The next item of the input whose turn it is, over what a merge works on.
+#[inline(always)]
+fn step_alone<S: Source, W: Sink>(
+    heads: &[Head],
+    seats: &mut [Seat],
+    sources: &mut [S],
+    windows: &mut Windows<'_>,
+    written: &mut Option<u64>,
+    out: &mut W,
+) -> Result<More, Stop>
+    requires reads { All (λ s. S.failures s < 2 ^ 64 - 1) sources.old }
+    requires out_failures { (W.device out.old).failures < 2 ^ 64 - 1 }
+    requires ready { IsReady
+        (record {
+          heads = heads.now;
+          seats = seats.old;
+          written = written.old;
+          sources = sources.old;
+          chunks = windows.old.chunks.now;
+          tokens = windows.old.tokens.now;
+          values = windows.old.values.now;
+        }) }
+    ensures runs { (hs : List Header) (lanes : List Lane) (ds : List Dump)
+        → Holds S.rest hs lanes ds
+        (record {
+          heads = heads.now;
+          seats = seats.old;
+          written = written.old;
+          sources = sources.old;
+          chunks = windows.old.chunks.now;
+          tokens = windows.old.tokens.now;
+          values = windows.old.values.now;
+        })
+        → RunGives S.rest S.failures hs lanes true ds
+        (record {
+          heads = heads.now;
+          seats = seats.old;
+          written = written.old;
+          sources = sources.old;
+          chunks = windows.old.chunks.now;
+          tokens = windows.old.tokens.now;
+          values = windows.old.values.now;
+        })
+        (record {
+          heads = heads.now;
+          seats = seats.new;
+          written = written.new;
+          sources = sources.new;
+          chunks = windows.new.chunks.now;
+          tokens = windows.new.tokens.now;
+          values = windows.new.values.now;
+        })
+        (W.device out.old) (W.device out.new) result }
+    ensures ready { result ≡ Ok More.Again
+        → IsReady (record {
+          heads = heads.now;
+          seats = seats.new;
+          written = written.new;
+          sources = sources.new;
+          chunks = windows.new.chunks.now;
+          tokens = windows.new.tokens.now;
+          values = windows.new.values.now;
+        }) }
+    ensures lengths { (length seats.new ≡ length seats.old) × SameLengths windows.old windows.new }
+    ensures reads { (k : ℕ) × IsNext seats.old k
+        × (map S.failures sources.new ≡ failures_with (map S.failures sources.old) k result)
+        × NamesInput k result }
+    ensures left { result ≡ Ok More.Again → left_of seats.new < left_of seats.old }
+    ensures one { (k : ℕ) × ((j : ℕ) → j ≢ k
+        → spot_at S.rest seats.new sources.new windows.new.chunks.now windows.new.tokens.now j
+        ≡ spot_at S.rest seats.old sources.old windows.old.chunks.now windows.old.tokens.now j)
+        × ((j : ℕ) → j ≢ k
+        → (slice_get sources.new j ≡ slice_get sources.old j)
+        × (part (part_len (length seats.old) windows.old.tokens.now) j windows.new.values.now
+        ≡ part (part_len (length seats.old) windows.old.tokens.now) j windows.old.values.now)) }
+    ensures writes { (W.device out.new).failures
+        ≡ (W.device out.old).failures + writes_failed result }
+{
+    let Some(input) = next_turn(seats) else {
+        return Ok(More::Ended(Done::Whole));
+    };
+    step(heads, input, 0, seats, sources, windows, written, out)
+}
+
+/// The run of the input whose turn it is, over what a merge works on: the order tells the input and how long it goes on, and then
+/// takes it in again.
+#[inline(always)]
+fn run_next<S: Source, W: Sink>(
+    heads: &[Head],
+    order: &mut Order,
+    seats: &mut [Seat],
+    sources: &mut [S],
+    windows: &mut Windows<'_>,
+    written: &mut Option<u64>,
+    out: &mut W,
+) -> Result<More, Stop>
+    requires reads { All (λ s. S.failures s < 2 ^ 64 - 1) sources.old }
+    requires out_failures { (W.device out.old).failures < 2 ^ 64 - 1 }
+    requires ready { IsReady
+        (record {
+          heads = heads.now;
+          seats = seats.old;
+          written = written.old;
+          sources = sources.old;
+          chunks = windows.old.chunks.now;
+          tokens = windows.old.tokens.now;
+          values = windows.old.values.now;
+        }) }
+    requires few { length seats.old ≤ 64 }
+    requires order { IsOrder seats.old (length seats.old) (length seats.old)
+        order.old.inputs order.old.len }
+    ensures runs { (hs : List Header) (lanes : List Lane) (ds : List Dump)
+        → Holds S.rest hs lanes ds
+        (record {
+          heads = heads.now;
+          seats = seats.old;
+          written = written.old;
+          sources = sources.old;
+          chunks = windows.old.chunks.now;
+          tokens = windows.old.tokens.now;
+          values = windows.old.values.now;
+        })
+        → RunGives S.rest S.failures hs lanes false ds
+        (record {
+          heads = heads.now;
+          seats = seats.old;
+          written = written.old;
+          sources = sources.old;
+          chunks = windows.old.chunks.now;
+          tokens = windows.old.tokens.now;
+          values = windows.old.values.now;
+        })
+        (record {
+          heads = heads.now;
+          seats = seats.new;
+          written = written.new;
+          sources = sources.new;
+          chunks = windows.new.chunks.now;
+          tokens = windows.new.tokens.now;
+          values = windows.new.values.now;
+        })
+        (W.device out.old) (W.device out.new) result }
+    ensures ready { result ≡ Ok More.Again
+        → IsReady (record {
+          heads = heads.now;
+          seats = seats.new;
+          written = written.new;
+          sources = sources.new;
+          chunks = windows.new.chunks.now;
+          tokens = windows.new.tokens.now;
+          values = windows.new.values.now;
+        }) }
+    ensures order { IsOrder seats.new (length seats.new) (length seats.new)
+        order.new.inputs order.new.len }
+    ensures lengths { (length seats.new ≡ length seats.old) × SameLengths windows.old windows.new }
+    ensures reads { (k : ℕ) × IsNext seats.old k
+        × (map S.failures sources.new ≡ failures_with (map S.failures sources.old) k result)
+        × NamesInput k result }
+    ensures left { result ≡ Ok More.Again → left_of seats.new < left_of seats.old }
+    ensures writes { (W.device out.new).failures
+        ≡ (W.device out.old).failures + writes_failed result }
+{
+    let Some(next) = order.take_next(seats) else {
+        return Ok(More::Ended(Done::Whole));
+    };
+    let answer = step(
+        heads,
+        next.input,
+        next.before,
+        seats,
+        sources,
+        windows,
+        written,
+        out,
+    );
+    order.put(next.input, seats);
+    answer
+}
+
+/// Takes the next item of the input whose turn it is, and writes what is due after it; at the end of all inputs, what is due
+/// there. Nothing is written where an input has a fault, nor at the end of one input while others go on. After any answer but
+/// `Again` the merge is over.
+pub fn merge_step<S: Source, W: Sink>(
+    merge: &mut Merge<'_, '_>,
+    sources: &mut [S],
+    windows: &mut Windows<'_>,
+    out: &mut W,
+) -> Result<More, Stop>
+    requires reads { All (λ s. S.failures s < 2 ^ 64 - 1) sources.old }
+    requires out_failures { (W.device out.old).failures < 2 ^ 64 - 1 }
+    requires going { is_going merge.old ≡ true }
+    requires ready { IsReady (standing_of merge.old sources.old windows.old) }
+    requires bound { MergeIsWithinBound
+        (part_len (length merge.old.seats.now) windows.old.tokens.now) merge.old.heads.now
+        (windows_size windows.old) 0 }
+    ensures gives { (hs : List Header) (lanes : List Lane) (ds : List Dump)
+        → Holds S.rest hs lanes ds (standing_of merge.old sources.old windows.old)
+        → Gives S.rest hs lanes ds (standing_of merge.old sources.old windows.old)
+        (standing_of merge.new sources.new windows.new)
+        (W.device out.old) (W.device out.new) result }
+    ensures ready { result ≡ Ok More.Again
+        → IsReady (standing_of merge.new sources.new windows.new) }
+    ensures lengths { (length merge.new.seats.now ≡ length merge.old.seats.now)
+        × SameLengths windows.old windows.new }
+    ensures heads { merge.new.heads.now ≡ merge.old.heads.now }
+    ensures reads { (k : ℕ) × IsNext merge.old.seats.now k
+        × (map S.failures sources.new ≡ failures_with (map S.failures sources.old) k result)
+        × NamesInput k result }
+    ensures left { result ≡ Ok More.Again
+        → left_of merge.new.seats.now < left_of merge.old.seats.now }
+    ensures one { (k : ℕ) × ((j : ℕ) → j ≢ k
+        → spot_at S.rest merge.new.seats.now sources.new windows.new.chunks.now windows.new.tokens.now j
+        ≡ spot_at S.rest merge.old.seats.now sources.old windows.old.chunks.now windows.old.tokens.now j)
+        × ((j : ℕ) → j ≢ k
+        → (slice_get sources.new j ≡ slice_get sources.old j)
+        × (part (part_len (length merge.old.seats.now) windows.old.tokens.now) j windows.new.values.now
+        ≡ part (part_len (length merge.old.seats.now) windows.old.tokens.now) j windows.old.values.now)) }
+    ensures writes { (W.device out.new).failures
+        ≡ (W.device out.old).failures + writes_failed result }
+    ensures going { is_going merge.new ≡ goes_on result }
+{
+    let answer = step_alone(
+        merge.heads,
+        merge.seats,
+        sources,
+        windows,
+        &mut merge.written,
+        out,
+    );
+    merge.going = matches!(answer, Ok(More::Again));
+    answer
+}
+
+/// Takes the items of the input whose turn it is, as many as come before those of the others.
+#[inline(always)]
+fn run_step<S: Source, W: Sink>(
+    merge: &mut Merge<'_, '_>,
+    order: &mut Order,
+    sources: &mut [S],
+    windows: &mut Windows<'_>,
+    out: &mut W,
+) -> Result<More, Stop>
+    requires reads { All (λ s. S.failures s < 2 ^ 64 - 1) sources.old }
+    requires out_failures { (W.device out.old).failures < 2 ^ 64 - 1 }
+    requires going { is_going merge.old ≡ true }
+    requires ready { IsReady (standing_of merge.old sources.old windows.old) }
+    requires order { IsOrder merge.old.seats.now (length merge.old.seats.now)
+        (length merge.old.seats.now) order.old.inputs order.old.len }
+    requires bound { MergeIsWithinBound
+        (part_len (length merge.old.seats.now) windows.old.tokens.now) merge.old.heads.now
+        (windows_size windows.old) 0 }
+    ensures runs { (hs : List Header) (lanes : List Lane) (ds : List Dump)
+        → Holds S.rest hs lanes ds (standing_of merge.old sources.old windows.old)
+        → RunGives S.rest S.failures hs lanes false ds
+        (standing_of merge.old sources.old windows.old)
+        (standing_of merge.new sources.new windows.new)
+        (W.device out.old) (W.device out.new) result }
+    ensures ready { result ≡ Ok More.Again
+        → IsReady (standing_of merge.new sources.new windows.new) }
+    ensures order { IsOrder merge.new.seats.now (length merge.new.seats.now)
+        (length merge.new.seats.now) order.new.inputs order.new.len }
+    ensures lengths { (length merge.new.seats.now ≡ length merge.old.seats.now)
+        × SameLengths windows.old windows.new }
+    ensures heads { merge.new.heads.now ≡ merge.old.heads.now }
+    ensures reads { (k : ℕ) × IsNext merge.old.seats.now k
+        × (map S.failures sources.new ≡ failures_with (map S.failures sources.old) k result)
+        × NamesInput k result }
+    ensures left { result ≡ Ok More.Again
+        → left_of merge.new.seats.now < left_of merge.old.seats.now }
+    ensures writes { (W.device out.new).failures
+        ≡ (W.device out.old).failures + writes_failed result }
+    ensures going { is_going merge.new ≡ goes_on result }
+{
+    let answer = run_next(
+        merge.heads,
+        order,
+        merge.seats,
+        sources,
+        windows,
+        &mut merge.written,
+        out,
+    );
+    merge.going = matches!(answer, Ok(More::Again));
+    answer
+}
+
+/// The order of these inputs, whose seats stay as they are.
+// They come as a `&mut`: of what a shared borrow of a field reads a proof learns nothing.
+fn order_of(seats: &mut [Seat]) -> Order
+    requires { length seats.old ≤ 64 }
+    ensures order { IsOrder seats.old (length seats.old) (length seats.old)
+        result.inputs result.len }
+    ensures stay { seats.new ≡ seats.old }
+{
+    Order::of(seats)
+}
+
+impl<'h, 's> Merge<'h, 's> {
+    /// Takes all steps that are left, to the end of the merge.
+    pub fn finish<S: Source, W: Sink>(
+        &mut self,
+        sources: &mut [S],
+        windows: &mut Windows<'_>,
+        out: &mut W,
+    ) -> Result<Done, Stop>
+        requires reads { All (λ s. S.failures s < 2 ^ 64 - 1) sources.old }
+        requires out_failures { (W.device out.old).failures < 2 ^ 64 - 1 }
+        requires going { is_going self.old ≡ true }
+        requires ready { IsReady (standing_of self.old sources.old windows.old) }
+        requires bound { MergeIsWithinBound
+            (part_len (length self.old.seats.now) windows.old.tokens.now) self.old.heads.now
+            (windows_size windows.old) 0 }
+
+        // Where the merge holds these items, and the output has what is due with them, it is the merge of its inputs.
+        ensures gives { (hs : List Header) (lanes : List Lane) (ds : List Dump)
+            (names : List (List ℕ)) (begin : Device)
+            → Holds S.rest hs lanes ds (standing_of self.old sources.old windows.old)
+            → Writes begin (W.device out.old) (merge_open hs (merged_items ds))
+            → Follows (part_len (length self.old.seats.now) windows.old.tokens.now)
+            (part_len (length self.old.seats.now) windows.old.chunks.now) lanes names
+            (map (supply S.rest S.failures) sources.old)
+            (map (supply S.rest S.failures) sources.new)
+            begin (W.device out.new) result }
+        ensures lengths { (length self.new.seats.now ≡ length self.old.seats.now)
+            × SameLengths windows.old windows.new }
+        ensures reads { (k : ℕ) × (k < length sources.old)
+            × (map S.failures sources.new ≡ failures_with (map S.failures sources.old) k result)
+            × NamesInput k result }
+        ensures writes { (W.device out.new).failures
+            ≡ (W.device out.old).failures + writes_failed result }
+        ensures over { is_going self.new ≡ false }
+    {
+        let mut order = order_of(self.seats);
+        'items: loop {
+            match run_step(self, &mut order, sources, windows, out)? {
+                More::Again => {}
+                More::Ended(done) => return Ok(done),
+            }
+        }
+    }
+}

@@ -1,0 +1,171 @@
+//! The order in which the inputs of a merge have their turns.
+ghost use Rattle.std.specs.Prelude.{◌≡◌, ◌≢◌, ℕ, ◌+◌, ◌<◌, ◌≤◌, ◌⊎◌, true, false, get_or, slice_get, length, All, MatchOption, IfSome, Some};
+ghost use Rattle.vcd_merge.specs.MergeOrder.{IsNext};
+ghost use Rattle.vcd_merge.specs.Order.{ComesBefore, IsFirstBefore, IsOrder, time_of};
+
+use crate::seat::Seat;
+
+/// The run of an input whose turn it is.
+#[derive(Clone, Copy)]
+pub(crate) struct Run {
+    pub(crate) input: usize,
+    /// It goes on while its time is before this one: so long it comes before all others.
+    pub(crate) before: u64,
+}
+
+/// The first one of two inputs comes before the other: by their times, and of equal times by their numbers.
+#[inline(always)]
+fn comes_before(seats: &[Seat], input: usize, other: usize) -> bool
+    requires input { input < length seats.now }
+    requires other { other < length seats.now }
+    ensures yes { result ≡ true
+        → ComesBefore (time_of seats.now input) input (time_of seats.now other) other }
+    ensures no { result ≡ false → input ≢ other
+        → ComesBefore (time_of seats.now other) other (time_of seats.now input) input }
+{
+    let time = seats[input].time;
+    let other_time = seats[other].time;
+    time < other_time || (time == other_time && input < other)
+}
+
+/// The time before which an input comes before the other.
+#[inline(always)]
+fn end_before(seats: &[Seat], input: usize, other: usize) -> u64
+    requires { other < length seats.now }
+    ensures { (t : ℕ) → t < result → (t < time_of seats.now other)
+        ⊎ ((t ≡ time_of seats.now other) × (input < other)) }
+{
+    let time = seats[other].time;
+    if input < other {
+        time.saturating_add(1)
+    } else {
+        time
+    }
+}
+
+/// Inputs that have not finished, in the order of their turns, the next one last.
+#[derive(Clone, Copy)]
+pub(crate) struct Order {
+    inputs: [u8; 64],
+    len: usize,
+    ghost within: { len ≤ 64 },
+}
+
+impl Order {
+    ghost use Rattle.std.specs.Prelude.{◌≤◌};
+
+    /// Where an input that is not in it goes: from this place on all come before it, and below it none.
+    #[inline(always)]
+    fn place_for(&self, input: usize, seats: &[Seat]) -> usize
+        requires input { input < length seats.now }
+        requires order { (n : ℕ) × (out : ℕ) × (n ≤ length seats.now)
+            × IsOrder seats.now n out self.now.inputs self.now.len × ((n ≤ input) ⊎ (input ≡ out)) }
+        ensures within { result ≤ self.now.len }
+        ensures before { (p : ℕ) → result ≤ p → p < self.now.len
+            → ComesBefore (time_of seats.now (get_or self.now.inputs p 0))
+            (get_or self.now.inputs p 0) (time_of seats.now input) input }
+        ensures after { (p : ℕ) → p < result → ComesBefore (time_of seats.now input) input
+            (time_of seats.now (get_or self.now.inputs p 0)) (get_or self.now.inputs p 0) }
+    {
+        let mut low = 0;
+        let mut high = self.len;
+        while low < high {
+            let middle = low + (high - low) / 2;
+            if comes_before(seats, self.inputs[middle] as usize, input) {
+                high = middle;
+            } else {
+                low = middle + 1;
+            }
+        }
+        low
+    }
+
+    /// Takes in an input that is not in it, and has not finished.
+    #[inline(always)]
+    fn insert(&mut self, input: usize, seats: &[Seat])
+        requires input { input < length seats.now }
+        requires unfinished { (s : Seat) × (slice_get seats.now input ≡ Some s)
+            × (s.finished ≡ false) }
+        requires few { length seats.now ≤ 64 }
+        requires room { self.old.len < 64 }
+        requires order { (n : ℕ) × (out : ℕ) × (n ≤ length seats.now)
+            × IsOrder seats.now n out self.old.inputs self.old.len × ((n ≤ input) ⊎ (input ≡ out)) }
+        ensures back { (n : ℕ) → IsOrder seats.now n input self.old.inputs self.old.len → input < n
+            → IsOrder seats.now n n self.new.inputs self.new.len }
+        ensures last { IsOrder seats.now input input self.old.inputs self.old.len
+            → IsOrder seats.now (input + 1) (input + 1) self.new.inputs self.new.len }
+        ensures one { self.new.len ≡ self.old.len + 1 }
+    {
+        let place = self.place_for(input, seats);
+        let old = self.inputs;
+        self.inputs[place + 1..self.len + 1].copy_from_slice(&old[place..self.len]);
+        self.inputs[place] = input as u8;
+        self.len += 1;
+    }
+
+    /// Takes in an input that is not in it, unless it has finished.
+    #[inline(always)]
+    pub(crate) fn put(&mut self, input: usize, seats: &[Seat])
+        requires input { input < length seats.now }
+        requires few { length seats.now ≤ 64 }
+        requires room { self.old.len < 64 }
+        requires order { (n : ℕ) × (out : ℕ) × (n ≤ length seats.now)
+            × IsOrder seats.now n out self.old.inputs self.old.len × ((n ≤ input) ⊎ (input ≡ out)) }
+        ensures back { (n : ℕ) → IsOrder seats.now n input self.old.inputs self.old.len → input < n
+            → IsOrder seats.now n n self.new.inputs self.new.len }
+        ensures last { IsOrder seats.now input input self.old.inputs self.old.len
+            → IsOrder seats.now (input + 1) (input + 1) self.new.inputs self.new.len }
+        ensures few { self.new.len ≤ self.old.len + 1 }
+    {
+        if !seats[input].finished {
+            self.insert(input, seats);
+        }
+    }
+
+    /// All inputs that have not finished.
+    pub(crate) fn of(seats: &[Seat]) -> Order
+        requires { length seats.now ≤ 64 }
+        ensures { IsOrder seats.now (length seats.now) (length seats.now) result.inputs result.len }
+    {
+        let mut order = Order {
+            inputs: [0; 64],
+            len: 0,
+        };
+        for input in 0..seats.len() {
+            order.put(input, seats);
+        }
+        order
+    }
+
+    /// The time before which an input goes before those in so many places.
+    #[inline(always)]
+    fn end_of(&self, input: usize, places: usize, seats: &[Seat]) -> u64
+        requires places { places ≤ self.now.len }
+        requires order { IsOrder seats.now (length seats.now) input self.now.inputs places }
+        ensures { IsFirstBefore seats.now input result }
+    {
+        if places == 0 {
+            return u64::MAX;
+        }
+        end_before(seats, input, self.inputs[places - 1] as usize)
+    }
+
+    /// Takes out the next input: it is its turn. None where all have finished.
+    #[inline(always)]
+    pub(crate) fn take_next(&mut self, seats: &[Seat]) -> Option<Run>
+        requires { IsOrder seats.now (length seats.now) (length seats.now)
+            self.old.inputs self.old.len }
+        ensures run { MatchOption result (All (λ (s : Seat). s.finished ≡ true) seats.now)
+            (λ run. IsNext seats.now run.input × IsFirstBefore seats.now run.input run.before
+            × IsOrder seats.now (length seats.now) run.input self.new.inputs self.new.len) }
+        ensures room { IfSome result (λ _. self.new.len < 64) }
+    {
+        if self.len == 0 {
+            return None;
+        }
+        self.len -= 1;
+        let input = self.inputs[self.len] as usize;
+        let before = self.end_of(input, self.len, seats);
+        Some(Run { input, before })
+    }
+}

@@ -1,0 +1,67 @@
+//! `merge` over whole inputs.
+ghost use Rattle.std.specs.Prelude.{◌≡◌, ℕ, ◌+◌, ◌-◌, ◌^◌, ◌<◌, ◌≤◌, List, length, map, All};
+ghost use Rattle.vcd_model.specs.Header.{Header};
+ghost use Rattle.vcd_text.specs.Device.{supply};
+ghost use Rattle.vcd_head.specs.Merged.{HaveRoom, ShowHeaders};
+ghost use Rattle.vcd_body.specs.Answer.{NamesInput, writes_failed};
+ghost use Rattle.vcd_merge.specs.MergeParts.{AreParts, AreSeated, SameLengths, part_len};
+ghost use Rattle.vcd_merge.specs.MergeRoom.{MergeIsWithinBound, windows_size};
+ghost use Rattle.vcd_merge.specs.MergeRun.{Follows};
+ghost use Rattle.vcd_merge.specs.MergeStart.{HaveNoItems};
+ghost use Rattle.vcd_merge.specs.MergeStep.{failures_with};
+ghost use Rattle.vcd_merge.specs.Seat.{Lane};
+
+use crate::merge_state::Merge;
+use crate::seat::Seat;
+use crate::windows::Windows;
+use vcd_body::{Done, Stop};
+use vcd_head::Head;
+use vcd_text::{Sink, Source};
+
+/// Merges 1 to 64 inputs, whose headers were read: their changes in one order of time, under one header. Each seat is as
+/// `Seat::new` makes it from its input's feed after its header. In the marks, of which each head needs one a row, anything may
+/// stand before and after.
+///
+/// # Errors
+///
+/// The first fault of the inputs in the order of time, or a failed read, after what comes before it; `Stop::Write` where a write
+/// failed, after a prefix.
+pub fn merge<S: Source, W: Sink>(
+    heads: &[Head],
+    seats: &mut [Seat],
+    marks: &mut [u8],
+    sources: &mut [S],
+    windows: &mut Windows<'_>,
+    out: &mut W,
+) -> Result<Done, Stop>
+    requires some { 0 < length heads.now }
+    requires many { length heads.now ≤ 64 }
+    requires heads { length heads.now ≡ length seats.old }
+    requires sources { length sources.old ≡ length seats.old }
+    requires parts { AreParts
+        (length seats.old) windows.old.chunks.now windows.old.tokens.now windows.old.values.now }
+    requires seated { AreSeated windows.old.chunks.now windows.old.tokens.now seats.old }
+    requires reads { All (λ s. S.failures s < 2 ^ 64 - 1) sources.old }
+    requires out_failures { (W.device out.old).failures < 2 ^ 64 - 1 }
+    requires bound { MergeIsWithinBound (part_len (length seats.old) windows.old.tokens.now)
+        heads.now (windows_size windows.old) (length marks.old) }
+    ensures follows { (hs : List Header) (lanes : List Lane) (names : List (List ℕ))
+        → ShowHeaders heads.now hs → map (λ (l : Lane). l.header) lanes ≡ hs
+        → HaveRoom (length marks.old) hs
+        → HaveNoItems S.rest lanes seats.old sources.old windows.old.chunks.now windows.old.tokens.now
+        → Follows (part_len (length seats.old) windows.old.tokens.now)
+        (part_len (length seats.old) windows.old.chunks.now) lanes names
+        (map (supply S.rest S.failures) sources.old)
+        (map (supply S.rest S.failures) sources.new)
+        (W.device out.old) (W.device out.new) result }
+    ensures lengths { SameLengths windows.old windows.new }
+    ensures reads { (k : ℕ) × (k < length sources.old)
+        × (map S.failures sources.new ≡ failures_with (map S.failures sources.old) k result)
+        × NamesInput k result }
+    ensures writes { (W.device out.new).failures
+        ≡ (W.device out.old).failures + writes_failed result }
+    ensures marks { length marks.new ≡ length marks.old }
+{
+    let mut merge = Merge::start(heads, seats, marks, out)?;
+    merge.finish(sources, windows, out)
+}

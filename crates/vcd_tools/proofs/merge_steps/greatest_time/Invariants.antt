@@ -1,6 +1,0 @@
-use Rattle.std.proofs.Common.{◌≡◌, drop, None}
-use Rattle.vcd_tools.specs.MergeOrder.{greatest_from}
-use Rattle.vcd_tools.proofs.merge_steps.greatest_time.Given as goal
-
-abbrev pub invariant-loop-seat : goal.invariant-loop-seat
-invariant-loop-seat l = greatest_from l.greatest (drop l.seat-index l.seats) ≡ greatest_from None l.seats
