@@ -25,8 +25,8 @@ all: vcdkit
 
 # `rt run` proves the crates below the program and the program, builds it and runs it. With no change it only runs it.
 vcdkit: toolchain
-	cd crates/vcdkit && rt run -- check < ../../$(sample) > /dev/null
-	cp crates/vcdkit/out/vcdkit $@
+	cd crates/vcdkit_main && rt run -- check < ../../$(sample) > /dev/null
+	cp crates/vcdkit_main/out/vcdkit_main $@
 
 test: toolchain
 	.ci/run

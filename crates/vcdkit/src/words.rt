@@ -14,7 +14,7 @@ pub const MOST_FILES: usize = 64;
 
 /// A command with its words.
 #[derive(Clone, Copy, PartialEq, Eq, Debug)]
-pub(crate) enum Words<'m, 'a> {
+pub enum Words<'m, 'a> {
     Check,
     List,
     Pick(&'m [&'a str]),
@@ -131,7 +131,7 @@ fn merge_of<'a>(files: &[&str]) -> Result<Want, UseFault<'a>>
 }
 
 /// What these words ask for, or the first fault of them. Their names are copied.
-pub(crate) fn want_of<'a>(alloc: Global, words: Words<'_, 'a>) -> Result<Want, UseFault<'a>>
+pub fn want_of<'a>(alloc: Global, words: Words<'_, 'a>) -> Result<Want, UseFault<'a>>
     ensures want { IfOk result (λ want. want_of (words_command words.entry) ≡ Ok (model_want want)) }
     ensures fault { IfErr result (λ fault. IsFaultOf fault (want_of (words_command words.entry))) }
 {

@@ -1,0 +1,34 @@
+//! The tests of `vcdkit`, over its public functions alone: what words ask for, and what jobs leave. They stand apart so that the
+//! library is proved once: a crate with tests of its own is proved again with them.
+#![tactic(auto)]
+
+#[cfg(test)]
+mod again;
+#[cfg(test)]
+mod check;
+#[cfg(test)]
+mod cut;
+#[cfg(test)]
+mod devices;
+#[cfg(test)]
+mod edges;
+#[cfg(test)]
+mod failures;
+#[cfg(test)]
+mod headers;
+#[cfg(test)]
+mod list;
+#[cfg(test)]
+mod merge;
+#[cfg(test)]
+mod messages;
+#[cfg(test)]
+mod pick;
+#[cfg(test)]
+mod runs;
+#[cfg(test)]
+mod sample;
+#[cfg(test)]
+mod times;
+#[cfg(test)]
+mod words;

@@ -1,0 +1,240 @@
+// Runs over texts, and dumps that several tests have.
+ghost use Rattle.std.specs.Prelude.{◌-◌, ◌^◌, ◌<◌, ◌≤◌};
+ghost use Rattle.vcd_text.specs.Watch.{failed_calls};
+
+use std::alloc::{AllocError, Global};
+use std::process::Abort;
+use vcd_text::Watch;
+use vcd_text::doubles::{Narrow, Pieces};
+use vcdkit::{Job, Want, Words, run, want_of};
+
+// A dump with two times and two changes, and its report.
+pub const DUMP: &[u8] =
+    b"$timescale 1ns $end\n$var wire 1 ! clk $end\n$enddefinitions $end\n#0\n0!\n#5\n1!\n";
+
+pub const REPORT: &[u8] =
+    b"scopes 0\nvariables 1\ncodes 1\ntimes 2\nsections 0\nchanges 2\nlast 5\n";
+
+// What a pick of its only variable writes.
+pub const PICKED: &[u8] =
+    b"$timescale\n\t1ns\n$end\n$var wire 1 ! clk $end\n$enddefinitions $end\n#0\n0!\n#5\n1!\n";
+
+// What a sample of it at 0 and 5 writes.
+pub const SAMPLED: &[u8] = b"0 clk 0\n5 clk 1\n";
+
+// A header with an event, two vectors and a real, and its list.
+pub const NESTED: &[u8] =
+    b"$var event 1 % go $end\n$scope module tb $end\n$var wire 1 ! clk $end\n$scope module u $end\n$var reg 4 \" q [3:0] $end\n$upscope $end\n$var real 1 # r $end\n$enddefinitions $end\n";
+
+pub const NESTED_LIST: &[u8] = b"go event 1 %\ntb.clk wire 1 !\ntb.u.q reg 4 \"\ntb.r real 1 #\n";
+
+// A header with a scope, and how it is written.
+pub const TB: &[u8] =
+    b"$timescale 1ns $end\n$scope module tb $end\n$var wire 1 ! clk $end\n$var reg 4 \" q [3:0] $end\n$upscope $end\n$enddefinitions $end\n";
+
+pub const TB_WRITTEN: &[u8] =
+    b"$timescale\n\t1ns\n$end\n$scope module tb $end\n$var wire 1 ! clk $end\n$var reg 4 \" q [3:0] $end\n$upscope $end\n$enddefinitions $end\n";
+
+// Two names of one code.
+pub const ALIASES: &[u8] =
+    b"$scope module tb $end\n$var wire 1 ! a $end\n$scope module u $end\n$var wire 1 ! b $end\n$upscope $end\n$upscope $end\n$enddefinitions $end\n#0\n0!\n#5\n1!\n#5\n1!\n#7\n";
+
+// A dump of all kinds of variables, without a time scale, and its header.
+pub const MIXED: &[u8] =
+    b"$var wire 1 ! a $end\n$var real 1 \" r $end\n$var event 1 # e $end\n$var wire 2 % u $end\n$enddefinitions $end\n#9\n0!\nr1.5 \"\n1#\n#10\n1!\n1#\n#20\nr2 \"\n#21\n0!\n";
+
+pub const MIXED_HEAD: &[u8] =
+    b"$var wire 1 ! a $end\n$var real 1 \" r $end\n$var event 1 # e $end\n$var wire 2 % u $end\n$enddefinitions $end\n";
+
+// A dump whose ticks are ten nanoseconds, and its header.
+pub const TENS: &[u8] =
+    b"$timescale 10ns $end\n$var wire 1 ! a $end\n$enddefinitions $end\n#0\n0!\n#1\n1!\n#2\n0!\n#3\n1!\n";
+
+pub const TENS_HEAD: &[u8] = b"$timescale 10ns $end\n$var wire 1 ! a $end\n$enddefinitions $end\n";
+
+pub const READ_FAILED: &[u8] = b"vcdkit: (stdin): read failed\n";
+
+// A reader that gives the text, as much at once as is asked for.
+pub fn whole(bytes: &[u8]) -> Pieces<'_> {
+    Pieces::new(bytes, usize::MAX)
+}
+
+// A reader that gives the text, and fails at every read after it.
+pub fn failing(bytes: &[u8]) -> Pieces<'_> {
+    Pieces {
+        broken: true,
+        ..whole(bytes)
+    }
+}
+
+// What good words ask for.
+pub fn wanted(alloc: Global, words: Words<'_, '_>) -> Result<Want, AllocError> {
+    want_of(alloc, words).map_err(|_| AllocError)
+}
+
+// What both streams hold, and the status, of a run over what a reader gives, so many bytes at a time.
+pub fn run_on(
+    alloc: Global,
+    words: Words<'_, '_>,
+    limit: usize,
+    input: Pieces<'_>,
+    chunk: usize,
+) -> Result<(Narrow, Narrow, u8), AllocError>
+    requires limit { (64 ≤ limit) × (limit ≤ 16777216) }
+    requires chunk { (1 ≤ chunk) × (chunk ≤ 65536) }
+{
+    let mut out = Watch::new(Narrow::new(1024));
+    let mut err = Watch::new(Narrow::new(80));
+    let want = wanted(alloc, words)?;
+    let job = Job { want, limit, chunk };
+    let status = run_into(alloc, job, input, &mut out, &mut err)?;
+    Ok((out.device, err.device, status))
+}
+
+// Runs a job over what a reader gives, and returns the status.
+pub fn run_into(
+    alloc: Global,
+    job: Job,
+    input: Pieces<'_>,
+    out: &mut Watch<Narrow>,
+    err: &mut Watch<Narrow>,
+) -> Result<u8, AllocError>
+    requires out_failures { failed_calls out.old < 2 ^ 64 - 1 }
+    requires err_failures { failed_calls err.old < 2 ^ 64 - 1 }
+{
+    run_named(alloc, "(stdin)", job, input, out, err)
+}
+
+// The same of a reader with this name.
+pub fn run_named(
+    alloc: Global,
+    name: &str,
+    job: Job,
+    input: Pieces<'_>,
+    out: &mut Watch<Narrow>,
+    err: &mut Watch<Narrow>,
+) -> Result<u8, AllocError>
+    requires out_failures { failed_calls out.old < 2 ^ 64 - 1 }
+    requires err_failures { failed_calls err.old < 2 ^ 64 - 1 }
+{
+    let names = [String::from_str(alloc, name)?];
+    let mut readers = [Watch::new(input)];
+    Ok(run(
+        alloc,
+        job,
+        names.as_slice(),
+        readers.as_mut_slice(),
+        out,
+        err,
+    ))
+}
+
+// A run over what a reader gives, so many bytes at a time, leaves this output, this message and this status.
+pub fn leave<R: Abort + AllocGlobal>(
+    rt: &R,
+    words: Words<'_, '_>,
+    limit: usize,
+    input: Pieces<'_>,
+    chunk: usize,
+    left: (&[u8], &[u8], u8),
+)
+    requires limit { (64 ≤ limit) × (limit ≤ 16777216) }
+    requires chunk { (1 ≤ chunk) × (chunk ≤ 65536) }
+{
+    let Ok((out, err, status)) = run_on(rt.alloc(), words, limit, input, chunk) else {
+        assert!(rt; false, "out of memory");
+        return;
+    };
+    assert_eq!(rt; (out.held(), err.held(), status), left, "of {words:?}");
+}
+
+// The same under this token limit of a run over what a text gives, and a failed read after it where that is said.
+pub fn leave_under<R: Abort + AllocGlobal>(
+    rt: &R,
+    words: Words<'_, '_>,
+    limit: usize,
+    text: &[u8],
+    fails: bool,
+    left: (&[u8], &[u8], u8),
+)
+    requires limit { (64 ≤ limit) × (limit ≤ 16777216) }
+{
+    for chunk in [1, 65_536] {
+        let input = if fails { failing(text) } else { whole(text) };
+        leave(rt, words, limit, input, chunk, left);
+    }
+}
+
+// A run over what a text gives, and a failed read after it where that is said, leaves this output, this message and this status.
+pub fn give_all<R: Abort + AllocGlobal>(
+    rt: &R,
+    words: Words<'_, '_>,
+    (text, fails): (&[u8], bool),
+    left: (&[u8], &[u8], u8),
+) {
+    leave_under(rt, words, 1_048_576, text, fails, left);
+}
+
+// A run over a text leaves this output alone.
+pub fn give_output<R: Abort + AllocGlobal>(
+    rt: &R,
+    words: Words<'_, '_>,
+    text: &[u8],
+    output: &[u8],
+) {
+    give_all(rt, words, (text, false), (output, b"", 0));
+}
+
+// A run over a text leaves this message alone, as of a fault.
+pub fn give_message<R: Abort + AllocGlobal>(
+    rt: &R,
+    words: Words<'_, '_>,
+    text: &[u8],
+    message: &[u8],
+) {
+    give_all(rt, words, (text, false), (b"", message, 1));
+}
+
+// Words are refused once the header is read: a run leaves this message and this status, over the dump, and where each read after the
+// header fails.
+pub fn give_refusal<R: Abort + AllocGlobal>(
+    rt: &R,
+    words: Words<'_, '_>,
+    dump: &[u8],
+    head: &[u8],
+    message: &[u8],
+    status: u8,
+) {
+    give_all(rt, words, (dump, false), (b"", message, status));
+    give_all(rt, words, (head, true), (b"", message, status));
+}
+
+// Whether a check of a text is done without a message, and writes a report.
+fn has_report(alloc: Global, text: &[u8], chunk: usize) -> Result<bool, AllocError>
+    requires { (1 ≤ chunk) × (chunk ≤ 65536) }
+{
+    let (report, err, status) = run_on(alloc, Words::Check, 64, whole(text), chunk)?;
+    Ok(status == 0 && err.held().is_empty() && report.held().starts_with(b"scopes "))
+}
+
+// Whether a run over a text is done without a message, and what it writes has a report.
+fn is_reported(
+    alloc: Global,
+    words: Words<'_, '_>,
+    text: &[u8],
+    chunk: usize,
+) -> Result<bool, AllocError>
+    requires { (1 ≤ chunk) × (chunk ≤ 65536) }
+{
+    let (out, err, status) = run_on(alloc, words, 64, whole(text), chunk)?;
+    let is_report = has_report(alloc, out.held(), chunk)?;
+    Ok(status == 0 && err.held().is_empty() && is_report)
+}
+
+// What a run over a text writes has a report.
+pub fn give_report<R: Abort + AllocGlobal>(rt: &R, words: Words<'_, '_>, text: &[u8], chunk: usize)
+    requires { (1 ≤ chunk) × (chunk ≤ 65536) }
+{
+    let is = is_reported(rt.alloc(), words, text, chunk);
+    assert_eq!(rt; is, Ok(true), "of {words:?}");
+}
