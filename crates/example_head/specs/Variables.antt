@@ -9,8 +9,8 @@ use Rattle.vcd_model.specs.Reading.{Placed, phrases_of}
 use Rattle.vcd_model.specs.SoFar.{IsWhole}
 use Rattle.vcd_model.specs.Tokens.{Token, stream_of}
 use Rattle.vcd_text.specs.Answer.{whole}
-use Rattle.vcd_head.specs.declared.view.Kind.{Kind}
-use Rattle.vcd_head.specs.declared.view.Kind.TheVariants.{Scope, Up, Var}
+use Rattle.vcd_view.specs.declared.view.Kind.{Kind}
+use Rattle.vcd_view.specs.declared.view.Kind.TheVariants.{Scope, Up, Var}
 
 -- a variable is declared
 abbrev pub is_variable : Kind → Bool

@@ -17,9 +17,9 @@ use Rattle.vcd_text.specs.Passed.{Passed, line_ahead}
 use Rattle.vcd_text.specs.Feed.{HasGiven, HasReadTo}
 use Rattle.vcd_text.specs.declared.device.Source.{Ghosts}
 use Rattle.vcd_text.specs.declared.feed.Feed.{Feed}
-use Rattle.vcd_head.specs.Finds.{Finds, IsSized}
-use Rattle.vcd_head.specs.declared.look_up.Found.{Found}
-use Rattle.vcd_head.specs.declared.view.Code.{Code}
+use Rattle.vcd_view.specs.Finds.{Finds, IsSized}
+use Rattle.vcd_view.specs.declared.look_up.Found.{Found}
+use Rattle.vcd_view.specs.declared.view.Code.{Code}
 use Rattle.vcd_body.specs.declared.fault.BodyFault.{BodyFault}
 use Rattle.vcd_body.specs.declared.item.Form.{Form}
 use Rattle.vcd_body.specs.declared.item.Form.TheVariants as form

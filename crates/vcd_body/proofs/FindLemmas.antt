@@ -7,9 +7,9 @@ use Rattle.std.proofs.lemmas.Option.{cond_some}
 use Rattle.vcd_model.specs.Bytes.{is_decimal, decimal_value}
 use Rattle.vcd_model.specs.Declarations.{IdCode}
 use Rattle.vcd_model.specs.Header.{Header}
-use Rattle.vcd_head.specs.declared.view.Code.{Code}
-use Rattle.vcd_head.specs.Shown.{HeadShown}
-use Rattle.vcd_head.specs.Views.{Views, IsCode}
+use Rattle.vcd_view.specs.declared.view.Code.{Code}
+use Rattle.vcd_view.specs.Shown.{HeadShown}
+use Rattle.vcd_view.specs.Views.{Views, IsCode}
 
 zip_at : (text : List ℕ) (xs : List Code) (ys : List IdCode) (k : ℕ) (c : IdCode) → AllZip (IsCode text) xs ys → slice_get ys k ≡ Some c → (code : Code) × (slice_get xs k ≡ Some code) × IsCode text code c
 zip_at text [] [] k c a e = cc

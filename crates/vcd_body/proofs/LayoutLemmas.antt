@@ -5,7 +5,7 @@ use Rattle.std.proofs.Math.Seq.{take-length}
 use Rattle.std.proofs.lemmas.Bool.{cases_lt}
 use Rattle.std.proofs.lemmas.List.Sums.{sum_by_more, sum_by_more_le}
 use Rattle.std.proofs.lemmas.Option.{slice_get_past, slice_get_within, get_or_from_slice_get}
-use Rattle.vcd_head.specs.declared.view.Code.{Code}
+use Rattle.vcd_view.specs.declared.view.Code.{Code}
 use Rattle.vcd_body.specs.Kept.{unset}
 use Rattle.vcd_body.specs.Contents.{new_at}
 use Rattle.vcd_body.specs.Stored.{AreLaidOut, end_at, kept_in, kept_with, room_of, share_of, some_by, start_of, start_or, unset_at, used}

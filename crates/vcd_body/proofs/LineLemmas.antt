@@ -16,15 +16,14 @@ use Rattle.vcd_model.specs.ItemText.{item_line}
 use Rattle.vcd_model.proofs.HeaderGrammar.{find_passes}
 use Rattle.vcd_text.specs.Passed.{AreWhite}
 use Rattle.vcd_text.proofs.AheadLemmas.{slice_range-append}
-use Rattle.vcd_head.specs.declared.view.HeadView.{HeadView}
-use Rattle.vcd_head.specs.Views.{IsViewOf}
-use Rattle.vcd_head.specs.Entries.{most_of}
-use Rattle.vcd_head.specs.Finds.{Finds, IsSized}
-use Rattle.vcd_head.specs.declared.look_up.Found.{Found}
+use Rattle.vcd_view.specs.declared.view.HeadView.{HeadView}
+use Rattle.vcd_view.specs.Views.{IsViewOf, IsCode}
+use Rattle.vcd_view.specs.Entries.{most_of}
+use Rattle.vcd_view.specs.Finds.{Finds, IsSized}
+use Rattle.vcd_view.specs.declared.look_up.Found.{Found}
 use Rattle.vcd_text.proofs.Places.{length-slice_range}
-use Rattle.vcd_head.specs.declared.view.Code.{Code}
-use Rattle.vcd_head.specs.Shown.{parts}
-use Rattle.vcd_head.specs.Views.{IsCode}
+use Rattle.vcd_view.specs.declared.view.Code.{Code}
+use Rattle.vcd_view.specs.Shown.{parts}
 use Rattle.vcd_body.specs.declared.item.Form.{Form}
 use Rattle.vcd_body.specs.declared.item.Form.TheVariants as form
 use Rattle.vcd_body.specs.declared.item.Item.TheVariants as item

@@ -11,8 +11,8 @@ use Rattle.vcd_model.specs.BodyPhrases.Start.{Command, Mark, Digit, Digits, Numb
 use Rattle.vcd_model.specs.BodyChecks.{body_fault, start_checks, inner_checks, command_checks}
 use Rattle.vcd_model.specs.Checks.{first_failed}
 use Rattle.vcd_model.proofs.BodyGrammar.{start_of-keyword, start_of-mark, start_of-digit, start_of-digits, start_of-number}
-use Rattle.vcd_head.specs.Texts.{NoEnds}
-use Rattle.vcd_head.proofs.PhraseLemmas.{until, not_until}
+use Rattle.vcd_view.specs.Keywords.{NoEnds}
+use Rattle.vcd_view.proofs.KeywordLemmas.{until, not_until}
 use Rattle.vcd_body.specs.declared.item.Regs.{Regs}
 use Rattle.vcd_body.specs.declared.words.First.TheVariants as first
 use Rattle.vcd_body.specs.Items.{AreRegsAfter}

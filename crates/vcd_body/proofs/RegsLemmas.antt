@@ -13,9 +13,9 @@ use Rattle.vcd_model.specs.Reading.{Placed, phrases_of}
 use Rattle.vcd_text.specs.Feed.{token_of, value_of}
 use Rattle.vcd_text.specs.declared.device.Source.{Ghosts}
 use Rattle.vcd_text.specs.declared.feed.Feed.{Feed}
-use Rattle.vcd_head.specs.declared.view.Code.{Code}
-use Rattle.vcd_head.specs.Shown.{HeadShown}
-use Rattle.vcd_head.specs.Views.{Views}
+use Rattle.vcd_view.specs.declared.view.Code.{Code}
+use Rattle.vcd_view.specs.Shown.{HeadShown}
+use Rattle.vcd_view.specs.Views.{Views}
 use Rattle.vcd_model.specs.Header.{Header}
 use Rattle.vcd_body.specs.declared.item.Form.TheVariants as form
 use Rattle.vcd_body.specs.declared.words.First.TheVariants as first

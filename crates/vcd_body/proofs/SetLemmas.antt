@@ -5,7 +5,7 @@ use Rattle.std.proofs.lemmas.Bool.{and_from, eq-eqb}
 use Rattle.std.proofs.lemmas.Grind.{div_ceil_times}
 use Rattle.vcd_model.specs.BodyPhrases.{is_value_digit}
 use Rattle.vcd_model.specs.Values.{Value, extend, value_with}
-use Rattle.vcd_head.specs.declared.view.Code.{Code}
+use Rattle.vcd_view.specs.declared.view.Code.{Code}
 use Rattle.vcd_body.specs.Given.{IsText}
 use Rattle.vcd_body.specs.Items.{model_form}
 use Rattle.vcd_body.specs.Kept.{Held, Kept, bytes_for, fits, held_as, room_for, value_at_size, with_text}

@@ -8,10 +8,10 @@ use Rattle.vcd_model.specs.Bound.{value_room}
 use Rattle.vcd_model.specs.Cut.{line_if_set}
 use Rattle.vcd_model.specs.Declarations.{IdCode}
 use Rattle.vcd_model.specs.Header.{Header}
-use Rattle.vcd_head.specs.Shown.{text_in}
-use Rattle.vcd_head.specs.Views.{IsCode, IsViewOf}
-use Rattle.vcd_head.specs.declared.view.Code.{Code}
-use Rattle.vcd_head.specs.declared.view.HeadView.{HeadView}
+use Rattle.vcd_view.specs.Shown.{text_in}
+use Rattle.vcd_view.specs.Views.{IsCode, IsViewOf}
+use Rattle.vcd_view.specs.declared.view.Code.{Code}
+use Rattle.vcd_view.specs.declared.view.HeadView.{HeadView}
 use Rattle.vcd_body.specs.Contents.{ChangesCode, codes_in, codes_shown, held_at, is_chosen, kept_at, line_of, shown_code, value_in}
 use Rattle.vcd_body.specs.Kept.{Held, Kept, as_chosen, value_at_size}
 use Rattle.vcd_body.specs.Stored.{end_at, held_of, kept_with, room_of, share_of}

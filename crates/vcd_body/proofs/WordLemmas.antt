@@ -15,9 +15,9 @@ use Rattle.vcd_model.specs.Bytes.{is_empty}
 use Rattle.vcd_model.specs.BodyPhrases.{is_value_digit}
 use Rattle.vcd_model.specs.Keywords.{Keyword, keyword_of, keyword_text}
 use Rattle.vcd_model.proofs.HeaderGrammar.{keyword_is}
-use Rattle.vcd_head.specs.Keywords.{model_keyword}
-use Rattle.vcd_head.specs.declared.keyword.Keyword.{Keyword as HeadKeyword}
-use Rattle.vcd_head.specs.declared.keyword.Keyword.TheVariants as head
+use Rattle.vcd_view.specs.Keywords.{model_keyword}
+use Rattle.vcd_view.specs.declared.keyword.Keyword.{Keyword as HeadKeyword}
+use Rattle.vcd_view.specs.declared.keyword.Keyword.TheVariants as head
 use Rattle.vcd_body.specs.Binary.{binary_digits, bit_of}
 use Rattle.vcd_body.specs.declared.bits.Bits.{Bits}
 use Rattle.vcd_body.specs.Words.{StandsFor, command_is}

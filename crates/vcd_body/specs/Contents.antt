@@ -3,9 +3,9 @@ use Rattle.std.specs.Prelude.{ℕ, ◌+◌, ◌-◌, Bool, false, List, [], ◌�
 use Rattle.vcd_model.specs.Cut.{line_if_set}
 use Rattle.vcd_model.specs.Declarations.{IdCode}
 use Rattle.vcd_model.specs.Values.{Value}
-use Rattle.vcd_head.specs.Shown.{text_in}
-use Rattle.vcd_head.specs.declared.view.Code.{Code}
-use Rattle.vcd_head.specs.declared.view.HeadView.{HeadView}
+use Rattle.vcd_view.specs.Shown.{text_in}
+use Rattle.vcd_view.specs.declared.view.Code.{Code}
+use Rattle.vcd_view.specs.declared.view.HeadView.{HeadView}
 use Rattle.vcd_body.specs.Kept.{Held, Kept, unset, value_at_size}
 use Rattle.vcd_body.specs.Stored.{AreLaidOut, ChangesAt, kept_in, start_of}
 use Rattle.vcd_body.specs.declared.slot.Shown.{Shown}

@@ -9,7 +9,7 @@ use Rattle.vcd_model.specs.BodyPhrases.{is_value_digit}
 use Rattle.vcd_text.specs.Feed.{token_of, value_of}
 use Rattle.vcd_text.specs.declared.device.Source.{Ghosts}
 use Rattle.vcd_text.specs.declared.feed.Feed.{Feed}
-use Rattle.vcd_head.specs.declared.view.Code.{Code}
+use Rattle.vcd_view.specs.declared.view.Code.{Code}
 use Rattle.vcd_body.specs.declared.item.Form.{Form}
 use Rattle.vcd_body.specs.declared.item.Form.TheVariants.{Scalar, Vector, RealText}
 use Rattle.vcd_body.specs.declared.item.Item.{Item}

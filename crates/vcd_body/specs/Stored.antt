@@ -1,7 +1,7 @@
 -- How a table keeps it: a slot for each code, and a share of the bytes of values.
 use Rattle.std.specs.Prelude.{◌≡◌, ℕ, ◌+◌, ◌-◌, ◌≤◌, ◌==◌, min, max, cond, List, [], ◌∷◌, ◌++◌, length, take, drop, map, sum_by, false, slice_get, Option, Some, None, option_map}
 use Rattle.std.specs.Str.{byte}
-use Rattle.vcd_head.specs.declared.view.Code.{Code}
+use Rattle.vcd_view.specs.declared.view.Code.{Code}
 use Rattle.vcd_body.specs.Kept.{Held, Kept, bytes_for}
 use Rattle.vcd_model.specs.Values.{extend, short}
 use Rattle.vcd_body.specs.Binary.{binary_digits, count_in, is_proper, number_in}

@@ -6,8 +6,8 @@ use Rattle.vcd_model.specs.Tokens.{Token}
 use Rattle.vcd_text.specs.Ahead.{bytes_of, longest_of, passed_of, start_of}
 use Rattle.vcd_text.specs.Passed.{AreWhite, Passed, line_ahead}
 use Rattle.vcd_text.specs.declared.ahead.Ahead.{Ahead}
-use Rattle.vcd_head.specs.Views.{IsViewOf}
-use Rattle.vcd_head.specs.declared.view.HeadView.{HeadView}
+use Rattle.vcd_view.specs.Views.{IsViewOf}
+use Rattle.vcd_view.specs.declared.view.HeadView.{HeadView}
 use Rattle.vcd_body.specs.Ahead.{GaveAhead, HasBits, IsPlain, IsSizedItem, LooksOver}
 use Rattle.vcd_body.specs.Given.{HasGoodText, IsItem}
 use Rattle.vcd_body.specs.Items.{AreRegsAfter, regs_after}

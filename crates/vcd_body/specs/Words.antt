@@ -4,8 +4,8 @@ use Rattle.std.specs.List.{list_any}
 use Rattle.std.specs.Str.{byte}
 use Rattle.vcd_model.specs.Keywords.{Keyword, keyword_of, keyword_text}
 use Rattle.vcd_model.specs.BodyPhrases.{section_keyword, is_value_digit}
-use Rattle.vcd_head.specs.declared.keyword.Keyword.{Keyword as HeadKeyword}
-use Rattle.vcd_head.specs.declared.keyword.Keyword.TheVariants as head
+use Rattle.vcd_view.specs.declared.keyword.Keyword.{Keyword as HeadKeyword}
+use Rattle.vcd_view.specs.declared.keyword.Keyword.TheVariants as head
 use Rattle.vcd_body.specs.declared.item.Section.TheVariants as section
 use Rattle.vcd_body.specs.Items.{model_section}
 use Rattle.vcd_body.specs.declared.words.Command.{Command}

@@ -6,12 +6,12 @@ ghost use Rattle.vcd_model.specs.Header.{Header};
 ghost use Rattle.vcd_model.specs.Declarations.{IdCode};
 ghost use Rattle.vcd_model.specs.Items.{BodyItem, ChangeForm};
 ghost use Rattle.vcd_model.specs.BodyPhrases.{BodyPhrase};
-ghost use Rattle.vcd_head.specs.Views.{IsViewOf};
+ghost use Rattle.vcd_view.specs.Views.{IsViewOf};
 ghost use Rattle.vcd_text.specs.Ahead.{ahead_of, bytes_of, lines_of, longest_of, passed_of};
 ghost use Rattle.vcd_text.specs.Passed.{Passed};
 ghost use Rattle.vcd_text.specs.Feed.{limit_of, seen, source_of};
 ghost use Rattle.vcd_text.specs.Advances.{Advances, CallEnd};
-ghost use Rattle.vcd_head.specs.Finds.{IsSized};
+ghost use Rattle.vcd_view.specs.Finds.{IsSized};
 ghost use Rattle.vcd_body.specs.declared.item.Form.TheVariants as form;
 ghost use Rattle.vcd_body.specs.declared.item.Item.TheVariants as item;
 ghost use Rattle.vcd_body.specs.declared.words.First.TheVariants as first;
@@ -23,14 +23,14 @@ ghost use Rattle.vcd_body.specs.Given.{HasGoodText, IsGoodText, IsItem};
 ghost use Rattle.vcd_body.specs.Ahead.{GaveAhead, GaveLast, HasBits, IsPlain, IsSizedItem, LooksOver, PassBoth};
 ghost use Rattle.vcd_body.specs.Spelled.{HasSpelled, Names};
 ghost use Rattle.vcd_body.specs.Taken.{Opens, TakesItem};
-ghost use Rattle.vcd_head.specs.declared.view.HeadView.{HeadView};
+ghost use Rattle.vcd_view.specs.declared.view.HeadView.{HeadView};
 
 use crate::bits::Bits;
 use crate::item::{Form, Item, Regs};
 use crate::phrases::{scalar_code, takes, time_of};
 use crate::words::{First, are_digits_or_known, bits_at, first_byte_of, first_of, rest_of};
-use vcd_head::{Found, HeadView, find_sized};
 use vcd_text::{Ahead, Feed, Source};
+use vcd_view::{Found, HeadView, find_sized};
 
 /// An item that was taken ahead.
 #[derive(Clone, Copy)]

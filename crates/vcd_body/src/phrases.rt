@@ -10,9 +10,9 @@ ghost use Rattle.vcd_model.specs.Items.{BodyItem, ChangeForm, time_after, leaves
 ghost use Rattle.vcd_model.specs.BodyPhrases.{BodyPhrase, declared_code, items_of};
 ghost use Rattle.vcd_model.specs.Reading.{Placed, phrases_of};
 ghost use Rattle.vcd_text.specs.Feed.{source_of, seen, token_of, value_of};
-ghost use Rattle.vcd_head.specs.Views.{IsViewOf};
-ghost use Rattle.vcd_head.specs.Finds.{IsSized};
-ghost use Rattle.vcd_head.specs.declared.view.Code.{Code};
+ghost use Rattle.vcd_view.specs.Views.{IsViewOf};
+ghost use Rattle.vcd_view.specs.Finds.{IsSized};
+ghost use Rattle.vcd_view.specs.declared.view.Code.{Code};
 ghost use Rattle.vcd_body.specs.declared.words.First.TheVariants as first;
 ghost use Rattle.vcd_body.specs.Items.{AreRegsAfter};
 ghost use Rattle.vcd_body.specs.Words.{Begins};
@@ -28,8 +28,8 @@ use crate::fault::BodyFault;
 use crate::item::Regs;
 use crate::tokens::next_inner;
 use crate::words::{are_value_digits, is_end, rest_of};
-use vcd_head::{Code, Found, HeadView, find_sized};
 use vcd_text::{Feed, Source, decimal_of};
+use vcd_view::{Code, Found, HeadView, find_sized};
 
 /// The time of a time mark.
 #[inline(always)]

@@ -6,8 +6,8 @@ ghost use Rattle.vcd_model.specs.Header.{Header};
 ghost use Rattle.vcd_model.specs.Declarations.{IdCode};
 ghost use Rattle.vcd_model.specs.Items.{BodyItem};
 ghost use Rattle.vcd_text.specs.Feed.{source_of, seen, token_of};
-ghost use Rattle.vcd_head.specs.declared.view.Code.{Code};
-ghost use Rattle.vcd_head.specs.Views.{IsViewOf};
+ghost use Rattle.vcd_view.specs.declared.view.Code.{Code};
+ghost use Rattle.vcd_view.specs.Views.{IsViewOf};
 ghost use Rattle.vcd_body.specs.declared.words.First.TheVariants as first;
 ghost use Rattle.vcd_body.specs.Items.{regs_after};
 ghost use Rattle.vcd_body.specs.Words.{Begins};
@@ -21,8 +21,8 @@ use crate::item::{Form, Item, Regs};
 use crate::phrases::{read_real, read_vector, scalar_code, skip_comment, time_of};
 use crate::tokens::next_token;
 use crate::words::{Command, First, command_of, first_byte_of, first_of, rest_of};
-use vcd_head::HeadView;
 use vcd_text::{Feed, Source};
+use vcd_view::HeadView;
 
 /// Reads a phrase that begins with a command: a comment gives no item.
 #[inline(always)]

@@ -10,8 +10,8 @@ ghost use Rattle.vcd_body.specs.Items.{model_form};
 use crate::bits::Bits;
 use crate::change::{is_bit, put_change, put_shortest, shortest_known};
 use crate::item::Form;
-use vcd_head::{NewCode, put_code};
 use vcd_text::{Sink, WriteFailed, put};
+use vcd_view::{NewCode, put_code};
 
 /// The first byte of the code of a number.
 #[inline(always)]

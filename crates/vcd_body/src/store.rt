@@ -1,6 +1,6 @@
 // What is kept of each code, in lent slices: slots, and a share of the values for each.
 ghost use Rattle.std.specs.Prelude.{◌≡◌, ◌≢◌, ◌⊎◌, ℕ, cond, max, not, ◌+◌, ◌-◌, ◌*◌, ◌<◌, ◌≤◌, ◌∷◌, [], List, true, false, length, take, drop, map, sum_by, IfSome, None, Some, slice_get, slice_index};
-ghost use Rattle.vcd_head.specs.declared.view.Code.{Code};
+ghost use Rattle.vcd_view.specs.declared.view.Code.{Code};
 ghost use Rattle.vcd_body.specs.Binary.{binary_digits, count_in, is_proper};
 ghost use Rattle.vcd_body.specs.Kept.{Held, as_chosen, one_more, counts_if, counts_with, with_change, with_held, with_step, with_text};
 ghost use Rattle.vcd_body.specs.Packed.{held_digit};
@@ -11,7 +11,7 @@ use crate::item::Form;
 use crate::packed::pack;
 use crate::slot::{Slot, State, bit_state, state_of};
 use crate::step::{is_bit_step, step_by_number};
-use vcd_head::Code;
+use vcd_view::Code;
 
 /// The slot of the code at a place.
 #[inline(always)]

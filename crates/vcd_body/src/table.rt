@@ -17,8 +17,8 @@ use crate::step::{Step, is_digit_step, step_by_digit, step_by_number, step_to_te
 use crate::store::{
     bump_at, choose_at, count_at, lay_out, set_at, set_bits, share_in, slot_at, step_at, turn_at,
 };
-use vcd_head::HeadView;
 use vcd_text::{Sink, WriteFailed, put};
+use vcd_view::HeadView;
 
 /// What is kept of the codes of a header, by their places: the value of each, as it was last written, three counters, and
 /// whether it is chosen. A call changes what it names and nothing else. It is total: of a place that is no code's nothing is
@@ -31,7 +31,7 @@ pub struct Table<'a> {
 
 impl<'a> Table<'a> {
     ghost use Rattle.std.specs.Prelude.{Some, false, option_map, slice_get};
-    ghost use Rattle.vcd_head.specs.declared.view.Code.{Code};
+    ghost use Rattle.vcd_view.specs.declared.view.Code.{Code};
     ghost use Rattle.vcd_model.specs.Values.{value_with};
     ghost use Rattle.vcd_body.specs.Given.{IsText};
     ghost use Rattle.vcd_body.specs.Items.{model_form};

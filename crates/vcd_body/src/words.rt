@@ -12,7 +12,7 @@ ghost use Rattle.vcd_body.specs.Words.{StandsFor, Begins, command_is};
 use crate::bits::Bits;
 use crate::item::Section;
 use std::simd::prelude::*;
-use vcd_head::{Keyword, keyword_of};
+use vcd_view::{Keyword, keyword_of};
 
 /// What a phrase begins with, by the token's first byte.
 #[derive(Clone, Copy, PartialEq, Eq, Debug)]

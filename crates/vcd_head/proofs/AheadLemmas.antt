@@ -16,7 +16,8 @@ use Rattle.vcd_model.specs.SoFar.{IsSoFar}
 use Rattle.vcd_model.specs.Tokens.{Token}
 use Rattle.vcd_model.proofs.SoFarLemmas.{so_far-token, so_far-phrase}
 use Rattle.vcd_head.specs.Ahead.{IsVariable, texts_of}
-use Rattle.vcd_head.specs.Texts.{NoEnds, RunsOn}
+use Rattle.vcd_view.specs.Keywords.{NoEnds}
+use Rattle.vcd_head.specs.Texts.{RunsOn}
 use Rattle.vcd_head.specs.declared.ahead.AheadVariable.{AheadVariable}
 use Rattle.vcd_head.proofs.DraftSteps.{passed_test}
 use Rattle.vcd_head.proofs.PhraseLemmas.{start_fault, inner_fault, phrase_is, var_welcomes_type, var_welcomes_reference, var_runs, var_whole}

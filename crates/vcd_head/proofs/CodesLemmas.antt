@@ -12,22 +12,22 @@ use Rattle.std.proofs.lemmas.Bool.{eqb-true, eq-eqb, ne_eqb, and_parts}
 use Rattle.std.proofs.lemmas.List.{length-set}
 use Rattle.std.proofs.lemmas.List.Folds.{find-append}
 use Rattle.std.proofs.lemmas.Map.Text.{is_eq-slice_cmp}
-use Rattle.std.proofs.lemmas.Option.{none-some, same_Some, slice_get_within}
+use Rattle.std.proofs.lemmas.Option.{none-some, same_Some}
 use Rattle.std.proofs.lemmas.Slice.Eq.{bytes_eq-Decides}
 use Rattle.vcd_model.specs.Declarations.{IdCode, has_text}
-use Rattle.vcd_head.specs.declared.view.Code.{Code}
-use Rattle.vcd_head.specs.declared.view.Entry.{Entry}
+use Rattle.vcd_view.specs.declared.view.Code.{Code}
+use Rattle.vcd_view.specs.declared.view.Entry.{Entry}
 use Rattle.vcd_head.specs.declared.table.Table.{Table}
-use Rattle.vcd_head.specs.Codes.{AreHeld, FindsAll, IsEntered, IsKnown, IsOfKind, IsOneOf, beside, entered, in_tree, place_in, place_told, told_by}
-use Rattle.vcd_head.specs.Entries.{are_right, entry_in, is_right, text_in}
-use Rattle.vcd_head.specs.Finds.{Finds}
-use Rattle.vcd_head.specs.Keys.{AreBytes, key_in}
-use Rattle.vcd_head.specs.Views.{IsCode}
-use Rattle.vcd_head.proofs.DraftGrows.{all_push, all_zip_push, bytes_flip, same_bytes, slice_get-front, slice_get-seam}
-use Rattle.vcd_head.proofs.EntryLemmas.{code_found, entry_tells, one_of_all}
-use Rattle.vcd_head.proofs.KeyLemmas.{bytes_at_place, same_key}
-use Rattle.vcd_head.proofs.LookUpLemmas.{apart_at, first_with}
-use Rattle.vcd_head.proofs.RowLemmas.{text_within}
+use Rattle.vcd_view.specs.Views.{AreHeld, IsCode}
+use Rattle.vcd_head.specs.Codes.{FindsAll, IsEntered, IsKnown, IsOfKind, IsOneOf, entered, in_tree, place_in}
+use Rattle.vcd_view.specs.Entries.{beside, place_told, told_by, entry_in, text_in}
+use Rattle.vcd_view.specs.Finds.{Finds}
+use Rattle.vcd_view.specs.Keys.{AreBytes, key_in}
+use Rattle.vcd_view.proofs.ListLemmas.{all_push, all_zip_push, bytes_flip, same_bytes, slice_get-front, slice_get-seam}
+use Rattle.vcd_view.proofs.EntryLemmas.{code_found}
+use Rattle.vcd_view.proofs.KeyLemmas.{bytes_at_place, same_key}
+use Rattle.vcd_view.proofs.LookUpLemmas.{apart_at}
+use Rattle.vcd_view.proofs.RowLemmas.{text_within}
 
 -- ---- the tree
 
@@ -204,58 +204,6 @@ entry_entered old new s bytes free e absent near there empty b n k written same 
     moved : (t : List ℕ) (q : Bool) → option_or (cond q (Some e.place) (entered old.entries.items t)) (in_tree old.others.entries t) ≡ cond q (Some e.place) (place_in old t)
     moved t true = refl
     moved t false = refl
-
--- ---- what entries give that are right
-
--- the key of an entry that gives a place
-pub told_key : (t : List ℕ) (e : Entry) → (not (key_in t == 0) && (e.key == key_in t)) ≡ true → (e.key ≡ key_in t) × (e.key ≢ 0)
-told_key t e h =
-    let b = and_parts (not (key_in t == 0)) (e.key == key_in t) h in
-    let k = eqb-true e.key (key_in t) b.1 in
-    (k, λ z. never (key_in t == 0) b.0 (eq-eqb (key_in t) 0 (sym k ∙ z)))
-  where
-    never : (x : Bool) → not x ≡ true → x ≡ true → ⊥
-    never true h e = cc
-    never false h e = cc
-
--- an entry that is right gives the place of its code
-gives : (text : List ℕ) (codes : List Code) (cs : List IdCode) (es : List Entry) (i : ℕ) (e : Entry) (t : List ℕ) → AreHeld text codes cs → are_right text codes es ≡ true → slice_get es i ≡ Some e → AreBytes t → e.key ≡ key_in t → e.key ≢ 0 → Finds cs t (Some e.place)
-gives text codes cs es i e t h right there a q n =
-    let told = entry_tells text codes e (one_of_all (is_right text codes) es i e right there) n in
-    let k = code_found text codes cs e.place told.0 h.stand told.1 in
-    let read = text_within text told.0.start told.0.len k.2.within ∙ k.2.text_is in
-    let equal : key_in t ≡ key_in k.0.text = sym q ∙ told.2 ∙ ap key_in read in
-    let own : AreBytes k.0.text = bytes_at_place cs e.place k.0 h.texts k.1 in
-    let some : 0 < key_in t = omega (arith, n, q) in
-    (k.0, k.1, first_with cs t e.place k.0 h.distinct k.1 (same_key t k.0.text a own equal some))
-
--- and so do some of them
-pub told_finds : (text : List ℕ) (codes : List Code) (cs : List IdCode) (es : List Entry) (t : List ℕ) (p : ℕ) → AreHeld text codes cs → are_right text codes es ≡ true → AreBytes t → (is : List ℕ) → told_by es t is ≡ Some p → Finds cs t (Some p)
-told_finds text codes cs es t p h right a [] z = absurd (none-some p z)
-told_finds text codes cs es t p h right a (i ∷ is) z = by_entry (told_finds text codes cs es t p h right a is) (slice_get es i) refl
-  where
-    by_entry : (told_by es t is ≡ Some p → Finds cs t (Some p)) → (o : Option Entry) → slice_get es i ≡ o → Finds cs t (Some p)
-    by_entry rest None s = rest (sym (ap (λ o. option_or (place_told t o) (told_by es t is)) s) ∙ z)
-    by_entry rest (Some e) s = by_test (not (key_in t == 0) && (e.key == key_in t)) refl (sym (ap (λ o. option_or (place_told t o) (told_by es t is)) s) ∙ z)
-      where
-        by_test : (b : Bool) → (not (key_in t == 0) && (e.key == key_in t)) ≡ b → option_or (cond b (Some e.place) None) (told_by es t is) ≡ Some p → Finds cs t (Some p)
-        by_test true q w = let k = told_key t e q in subst (λ x. Finds cs t (Some x)) (same_Some e.place p w) (gives text codes cs es i e t h right s a k.0 k.1)
-        by_test false q w = rest w
-
--- what they give is the place of a code
-pub told_within : (text : List ℕ) (codes : List Code) (es : List Entry) (t : List ℕ) (p : ℕ) → are_right text codes es ≡ true → (is : List ℕ) → told_by es t is ≡ Some p → p < length codes
-told_within text codes es t p right [] z = absurd (none-some p z)
-told_within text codes es t p right (i ∷ is) z = by_entry (told_within text codes es t p right is) (slice_get es i) refl
-  where
-    by_entry : (told_by es t is ≡ Some p → p < length codes) → (o : Option Entry) → slice_get es i ≡ o → p < length codes
-    by_entry rest None s = rest (sym (ap (λ o. option_or (place_told t o) (told_by es t is)) s) ∙ z)
-    by_entry rest (Some e) s = by_test (not (key_in t == 0) && (e.key == key_in t)) refl (sym (ap (λ o. option_or (place_told t o) (told_by es t is)) s) ∙ z)
-      where
-        by_test : (b : Bool) → (not (key_in t == 0) && (e.key == key_in t)) ≡ b → option_or (cond b (Some e.place) None) (told_by es t is) ≡ Some p → p < length codes
-        by_test true q w =
-            let told = entry_tells text codes e (one_of_all (is_right text codes) es i e right s) (told_key t e q).1 in
-            subst (λ x. x < length codes) (same_Some e.place p w) (slice_get_within codes e.place told.0 told.1)
-        by_test false q w = rest w
 
 -- ---- what a table finds
 

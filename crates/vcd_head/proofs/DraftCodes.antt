@@ -8,16 +8,17 @@ use Rattle.std.proofs.lemmas.Bool.{or_right, or_parts, eq-eqb, ne_eqb}
 use Rattle.std.proofs.lemmas.Slice.Eq.{bytes_eq-Decides}
 use Rattle.vcd_model.specs.Declarations.{Declaration, Variable, IdCode, code_of, codes_of, variables_of, has_text}
 use Rattle.vcd_model.specs.HeaderChecks.{agrees, same_flag}
-use Rattle.vcd_head.specs.declared.view.Code.{Code}
+use Rattle.vcd_view.specs.declared.view.Code.{Code}
 use Rattle.vcd_head.specs.declared.codes.Codes.{Codes}
-use Rattle.vcd_head.specs.Codes.{AreHeld, EntersIn, FindsAll, IsAdded}
-use Rattle.vcd_head.specs.Keys.{AreBytes}
-use Rattle.vcd_head.specs.Views.{IsCode, IsSize}
+use Rattle.vcd_view.specs.Views.{AreHeld, IsCode, IsSize}
+use Rattle.vcd_head.specs.Codes.{EntersIn, FindsAll, IsAdded}
+use Rattle.vcd_view.specs.Keys.{AreBytes}
 use Rattle.vcd_head.specs.Draft.{HasCodes, CodeHeld}
 use Rattle.vcd_head.proofs.DraftLemmas.{range_at, held_grow}
 use Rattle.vcd_head.proofs.CodesLemmas.{find_more, held_more}
-use Rattle.vcd_head.proofs.LookUpLemmas.{codes_len}
-use Rattle.vcd_head.proofs.DraftGrows.{all_push, same_bytes, bytes_flip, variables_push, codes-alias, codes-new, all_weaker, slice_get-seam}
+use Rattle.vcd_view.proofs.LookUpLemmas.{codes_len}
+use Rattle.vcd_view.proofs.ListLemmas.{all_push, same_bytes, bytes_flip, all_weaker, slice_get-seam}
+use Rattle.vcd_head.proofs.DraftGrows.{variables_push, codes-alias, codes-new}
 
 own_bytes : (a : List ℕ) → bytes_eq a a ≡ true
 own_bytes a = (bytes_eq-Decides a a).1 refl

@@ -1,14 +1,14 @@
 -- What is held stays held where texts, codes and rows grow.
-use Rattle.std.proofs.Common.{◌≡◌, ℕ, zero, suc, ◌+◌, ◌-◌, ◌≤◌, Bool, true, false, cond, List, [], ◌∷◌, ◌++◌, length, take, drop, slice_range, slice_get, filter_map, bytes_eq, Option, Some, None, refl, sym, ap, subst, ◌∙◌, arith}
-use Rattle.std.specs.List.{All, AllByRecursion, AllZip, list_any}
+use Rattle.std.proofs.Common.{◌≡◌, ℕ, zero, suc, ◌+◌, ◌-◌, ◌≤◌, true, false, cond, List, [], ◌∷◌, ◌++◌, length, take, drop, slice_range, slice_get, filter_map, bytes_eq, Option, Some, None, refl, sym, ap, subst, ◌∙◌, arith}
+use Rattle.std.specs.List.{AllZip, list_any}
 use Rattle.std.proofs.lemmas.List.{append_assoc, append-nil, take-append-le, length-append, length-drop}
 use Rattle.std.proofs.lemmas.List.Elements.{filter_map-append}
-use Rattle.std.proofs.lemmas.Slice.Eq.{bytes_eq-Decides}
 use Rattle.vcd_model.specs.Backward.{each_after}
 use Rattle.vcd_model.specs.Declarations.{Declaration, Variable, IdCode, code_of, codes_of, variables_of, variable_of}
-use Rattle.vcd_head.specs.declared.view.Row.{Row}
-use Rattle.vcd_head.specs.declared.view.Code.{Code}
-use Rattle.vcd_head.specs.Views.{HasTexts, IsRow, IsRowOf, AreRows, IsCode}
+use Rattle.vcd_view.specs.declared.view.Row.{Row}
+use Rattle.vcd_view.specs.declared.view.Code.{Code}
+use Rattle.vcd_view.specs.Views.{HasTexts, IsRow, IsRowOf, AreRows, IsCode}
+use Rattle.vcd_view.proofs.ListLemmas.{slice_get-front}
 
 -- ---- texts
 
@@ -49,56 +49,6 @@ has_texts_grow t more r type reference h =
       name_is = range_grow t more (r.start + r.word) (r.start + r.word + r.name) (omega arith) (omega arith) ∙ h.name_is;
     }
 
--- ---- lists
-
-pub slice_get-front : {X : Type 0} (xs ys : List X) (i : ℕ) (x : X) → slice_get xs i ≡ Some x → slice_get (xs ++ ys) i ≡ Some x
-slice_get-front [] ys i x h = cc
-slice_get-front (y ∷ xs) ys zero x h = h
-slice_get-front (y ∷ xs) ys (suc i) x h = slice_get-front xs ys i x h
-
-pub slice_get-seam : {X : Type 0} (xs : List X) (x : X) (ys : List X) → slice_get (xs ++ x ∷ ys) (length xs) ≡ Some x
-slice_get-seam [] x ys = refl
-slice_get-seam (y ∷ xs) x ys = slice_get-seam xs x ys
-
-pub all_zip_push : {X Y : Type 0} (R : X → Y → Type 0) (xs : List X) (ys : List Y) (x : X) (y : Y) → AllZip R xs ys → R x y → AllZip R (xs ++ x ∷ []) (ys ++ y ∷ [])
-all_zip_push R [] [] x y h r = (r, tt)
-all_zip_push R [] (b ∷ ys) x y h r = absurd h
-all_zip_push R (a ∷ xs) [] x y h r = absurd h
-all_zip_push R (a ∷ xs) (b ∷ ys) x y h r = (h.0, all_zip_push R xs ys x y h.1 r)
-
-pub all_push : {X : Type 0} (P : X → Type 0) (xs : List X) (x : X) → AllByRecursion P xs → P x → AllByRecursion P (xs ++ x ∷ [])
-all_push P [] x h p = (p, tt)
-all_push P (y ∷ xs) x h p = (h.0, all_push P xs x h.1 p)
-
-pub all_weaker : {X : Type 0} (P Q : X → Type 0) (xs : List X) → ((x : X) → P x → Q x) → AllByRecursion P xs → AllByRecursion Q xs
-all_weaker P Q [] f h = tt
-all_weaker P Q (x ∷ xs) f h = (f x h.0, all_weaker P Q xs f h.1)
-
-pub to_all : {X : Type 0} (P : X → Type 0) (xs : List X) → AllByRecursion P xs → All P xs
-to_all P [] h k d l = absurd (omega arith)
-to_all P (x ∷ xs) h zero d l = h.0
-to_all P (x ∷ xs) h (suc k) d l = to_all P xs h.1 k d (omega arith)
-
-pub from_all : {X : Type 0} (P : X → Type 0) (xs : List X) → All P xs → AllByRecursion P xs
-from_all P [] h = tt
-from_all P (x ∷ xs) h = (h 0 x (omega arith), from_all P xs (λ k d l. h (suc k) d (omega arith)))
-
--- ---- bytes
-
-pub same_bytes : (a b : List ℕ) → bytes_eq a b ≡ true → a ≡ b
-same_bytes a b e = (bytes_eq-Decides a b).0 e
-
-pub bytes_flip : (a b : List ℕ) → bytes_eq a b ≡ bytes_eq b a
-bytes_flip a b = by_case (bytes_eq a b) refl
-  where
-    by_case : (r : Bool) → bytes_eq a b ≡ r → r ≡ bytes_eq b a
-    by_case true e = sym ((bytes_eq-Decides b a).1 (sym (same_bytes a b e)))
-    by_case false e = by_other (bytes_eq b a) refl
-      where
-        by_other : (q : Bool) → bytes_eq b a ≡ q → false ≡ q
-        by_other false f = refl
-        by_other true f = let g : bytes_eq a b ≡ true = (bytes_eq-Decides a b).1 (sym (same_bytes b a f)) in cc
-
 -- ---- rows
 
 row_of_grow : (t more : List ℕ) (cs ks : List IdCode) (r : Row) (d : Declaration) → IsRowOf t cs r d → IsRowOf (t ++ more) (cs ++ ks) r d
@@ -117,13 +67,6 @@ are_rows_push t cs e [] [] r d h k = (subst (λ x. IsRow t cs x r d) (append-nil
 are_rows_push t cs e [] (x ∷ ds) r d h k = absurd h
 are_rows_push t cs e (s ∷ rs) [] r d h k = absurd h
 are_rows_push t cs e (s ∷ rs) (x ∷ ds) r d h k = (h.0, are_rows_push t cs (e ++ x ∷ []) rs ds r d h.1 (subst (λ y. IsRow t cs y r d) (sym (append_assoc e (x ∷ []) ds)) k))
-
--- there are as many rows as declarations
-pub rows_len : (t : List ℕ) (cs : List IdCode) (e : List Declaration) (rs : List Row) (ds : List Declaration) → AreRows t cs e rs ds → length rs ≡ length ds
-rows_len t cs e [] [] h = refl
-rows_len t cs e [] (d ∷ ds) h = absurd h
-rows_len t cs e (r ∷ rs) [] h = absurd h
-rows_len t cs e (r ∷ rs) (d ∷ ds) h = ap suc (rows_len t cs (e ++ d ∷ []) rs ds h.1)
 
 -- the row of a declaration
 pub row_at : (t : List ℕ) (cs : List IdCode) (e : List Declaration) (rs : List Row) (front back : List Declaration) (d : Declaration) → AreRows t cs e rs (front ++ d ∷ back) → (r : Row) × (slice_get rs (length front) ≡ Some r) × IsRow t cs (e ++ front) r d

@@ -8,19 +8,21 @@ use Rattle.std.proofs.lemmas.List.Sums.{sum_by_push}
 use Rattle.vcd_model.specs.Bound.{kept_bytes}
 use Rattle.vcd_model.specs.Declarations.{Declaration, Variable, IdCode, code_of, codes_of, variables_of, variable_of, has_text, is_scope, is_up, first_token, parent, enclosing, open_scopes}
 use Rattle.vcd_model.specs.HeaderPhrases.{HeaderPhrase, declarations_of, declaration_of, date_of, version_of, timescale_of}
-use Rattle.vcd_head.specs.declared.view.Kind.TheVariants as kind
-use Rattle.vcd_head.specs.declared.view.Row.{Row}
-use Rattle.vcd_head.specs.declared.view.Scale.{Scale}
+use Rattle.vcd_view.specs.declared.view.Kind.TheVariants as kind
+use Rattle.vcd_view.specs.declared.view.Row.{Row}
+use Rattle.vcd_view.specs.declared.view.Scale.{Scale}
 use Rattle.vcd_head.specs.declared.codes.Codes.{Codes}
-use Rattle.vcd_head.specs.Codes.{AreHeld, FindsAll}
+use Rattle.vcd_view.specs.Views.{AreHeld, HasTexts, IsRow, AreRows, IsExponent, IsSize, counted_from_one}
+use Rattle.vcd_head.specs.Codes.{FindsAll}
 use Rattle.vcd_head.specs.Entries.{AreEntered}
-use Rattle.vcd_head.specs.declared.view.Code.{Code}
+use Rattle.vcd_view.specs.declared.view.Code.{Code}
 use Rattle.vcd_head.specs.declared.draft.Draft.{Draft}
-use Rattle.vcd_head.specs.Views.{HasTexts, IsRow, AreRows, IsExponent, IsSize, counted_from_one}
 use Rattle.vcd_head.specs.Texts.{spaced}
 use Rattle.vcd_head.specs.Draft.{HasCodes, Declares, IsDraftOf}
 use Rattle.vcd_model.proofs.ScopeLemmas.{enclosing-scope, enclosing-up, enclosing-var}
-use Rattle.vcd_head.proofs.DraftGrows.{are_codes_grow, are_rows_grow, are_rows_push, rows_len, codes-other, codes_grown, variables_push, slice_get-seam}
+use Rattle.vcd_head.proofs.DraftGrows.{are_codes_grow, are_rows_grow, are_rows_push, codes-other, codes_grown, variables_push}
+use Rattle.vcd_view.proofs.RowLemmas.{rows_len}
+use Rattle.vcd_view.proofs.ListLemmas.{slice_get-seam}
 use Rattle.vcd_head.proofs.TextSteps.{joined}
 
 -- ---- texts

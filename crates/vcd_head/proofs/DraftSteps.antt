@@ -13,7 +13,7 @@ use Rattle.vcd_text.specs.declared.feed.Feed.{Feed}
 use Rattle.vcd_head.specs.declared.draft.Draft.{Draft}
 use Rattle.vcd_head.specs.Reads.{Reads}
 use Rattle.vcd_head.specs.Draft.{IsDraftOf, DraftsUpTo}
-use Rattle.vcd_head.proofs.DraftGrows.{rows_len}
+use Rattle.vcd_view.proofs.RowLemmas.{rows_len}
 use Rattle.vcd_head.proofs.DraftLemmas.{open_is}
 use Rattle.vcd_head.proofs.TokenSteps.{append_not_nil}
 

@@ -4,13 +4,15 @@ use Rattle.std.specs.Prelude.{slice_get, nat_le}
 use Rattle.std.specs.List.{list_all}
 use Rattle.std.proofs.lemmas.Bool.{and_parts, le-leb, leb-true}
 use Rattle.std.proofs.lemmas.List.{append-nil, length-append}
-use Rattle.vcd_head.specs.declared.view.Code.{Code}
-use Rattle.vcd_head.specs.declared.view.Entry.{Entry}
-use Rattle.vcd_head.specs.Entries.{AreEntered, are_right, are_within, is_entry_of, is_right, text_in}
-use Rattle.vcd_head.proofs.DraftGrows.{range_grow, slice_get-front, slice_get-seam}
+use Rattle.vcd_view.specs.declared.view.Code.{Code}
+use Rattle.vcd_view.specs.declared.view.Entry.{Entry}
+use Rattle.vcd_head.specs.Entries.{AreEntered, are_within}
+use Rattle.vcd_view.specs.Entries.{are_right, is_entry_of, is_right, text_in}
+use Rattle.vcd_head.proofs.DraftGrows.{range_grow}
+use Rattle.vcd_view.proofs.ListLemmas.{slice_get-front, slice_get-seam}
 use Rattle.vcd_head.proofs.DraftLemmas.{range_at}
-use Rattle.vcd_head.proofs.EntryLemmas.{all_replicated, all_written, both, one_of_all}
-use Rattle.vcd_head.proofs.RowLemmas.{text_within}
+use Rattle.vcd_view.proofs.EntryLemmas.{all_replicated, all_written, both, one_of_all}
+use Rattle.vcd_view.proofs.RowLemmas.{text_within}
 
 -- ---- tests of all elements
 

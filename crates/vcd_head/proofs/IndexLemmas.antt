@@ -19,17 +19,16 @@ use Rattle.std.proofs.lemmas.Map.Keys.{IsDistinct-IsPermutation, apart_from_dist
 use Rattle.std.proofs.lemmas.Map.Text.{is_eq-slice_cmp}
 use Rattle.std.proofs.lemmas.Option.{slice_get-get_or}
 use Rattle.vcd_model.specs.Declarations.{IdCode}
-use Rattle.vcd_head.specs.declared.view.Code.{Code}
+use Rattle.vcd_view.specs.declared.view.Code.{Code}
 use Rattle.vcd_head.specs.declared.index.Front.{Front}
-use Rattle.vcd_head.specs.Codes.{AreHeld}
-use Rattle.vcd_head.specs.Entries.{text_in}
+use Rattle.vcd_view.specs.Views.{AreHeld, IsIndex, code_text}
+use Rattle.vcd_view.specs.Entries.{text_in}
 use Rattle.vcd_head.specs.Fronts.{AreFronts, bytes_at, front_in, order_of}
-use Rattle.vcd_head.specs.Keys.{AreBytes}
-use Rattle.vcd_head.specs.Views.{IsIndex, code_text}
-use Rattle.vcd_head.proofs.DraftGrows.{bytes_flip, to_all}
-use Rattle.vcd_head.proofs.EntryLemmas.{code_found}
-use Rattle.vcd_head.proofs.LookUpLemmas.{codes_len, text_at, texts_range}
-use Rattle.vcd_head.proofs.RowLemmas.{text_within}
+use Rattle.vcd_view.specs.Keys.{AreBytes}
+use Rattle.vcd_view.proofs.ListLemmas.{bytes_flip, to_all}
+use Rattle.vcd_view.proofs.EntryLemmas.{code_found}
+use Rattle.vcd_view.proofs.LookUpLemmas.{codes_len, text_at, texts_range}
+use Rattle.vcd_view.proofs.RowLemmas.{text_within}
 
 -- ---- fronts
 

@@ -17,11 +17,11 @@ use Rattle.vcd_head.specs.Inside.{AreLeft, front, left_selects, may_select}
 use Rattle.vcd_head.specs.declared.inside.Left.{Left}
 use Rattle.vcd_head.specs.declared.inside.Left.TheVariants.{Rest, Selected, Differs}
 use Rattle.vcd_head.specs.Paths.{names_text, scopes_text}
-use Rattle.vcd_head.specs.declared.view.Kind.TheVariants as kind
-use Rattle.vcd_head.specs.declared.view.Row.{Row}
-use Rattle.vcd_head.specs.Views.{IsRow, counted_from_one}
-use Rattle.vcd_head.proofs.DraftGrows.{all_weaker}
-use Rattle.vcd_head.proofs.EnclosingLemmas.{around_none, around_some}
+use Rattle.vcd_view.specs.declared.view.Kind.TheVariants as kind
+use Rattle.vcd_view.specs.declared.view.Row.{Row}
+use Rattle.vcd_view.specs.Views.{IsRow, counted_from_one}
+use Rattle.vcd_view.proofs.ListLemmas.{all_weaker}
+use Rattle.vcd_view.proofs.ParentLemmas.{around_none, around_some}
 
 -- ---- lists
 

@@ -7,7 +7,6 @@ pub mod PhraseLemmas
 pub mod EnclosingLemmas
 pub mod DraftGrows
 pub mod DraftLemmas
-pub mod RowLemmas
 pub mod PathLemmas
 pub mod OpenScopes
 pub mod WriteLemmas
@@ -28,13 +27,8 @@ pub mod ScaleLemmas
 pub mod ScaleChecks
 pub mod ScaleTexts
 pub mod PhraseSteps
-pub mod LookUpLemmas
-pub mod RoomLemmas
-pub mod KeyLemmas
 pub mod EnteredLemmas
-pub mod EntryLemmas
 pub mod SplitLemmas
 pub mod MomentLemmas
-pub mod NewCodeLemmas
 pub mod RenamedLemmas
 pub mod MergedLemmas

@@ -11,8 +11,8 @@ use Rattle.vcd_model.specs.Backward.{each_after}
 use Rattle.vcd_model.specs.Bytes.{is_empty}
 use Rattle.vcd_model.specs.Selection.{is_among, is_selected, is_variable, marked_places, selects_path}
 use Rattle.vcd_head.specs.Marks.{AllMarked, Marked, scopes_at}
-use Rattle.vcd_head.specs.Views.{counted_from_one}
-use Rattle.vcd_head.proofs.EnclosingLemmas.{with_scopes, scopes_around}
+use Rattle.vcd_view.specs.Views.{counted_from_one}
+use Rattle.vcd_view.proofs.ParentLemmas.{with_scopes, scopes_around}
 
 -- ---- places in a row
 

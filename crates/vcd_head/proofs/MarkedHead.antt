@@ -12,10 +12,10 @@ use Rattle.vcd_model.specs.Keywords.{Keyword}
 use Rattle.vcd_model.specs.Scales.{scale_text}
 use Rattle.vcd_model.specs.Selection.{is_among, is_selected, marked_places}
 use Rattle.vcd_model.proofs.ScopeLemmas.{enclosing_below}
-use Rattle.vcd_head.specs.declared.view.Scale.{Scale}
+use Rattle.vcd_view.specs.declared.view.Scale.{Scale}
 use Rattle.vcd_head.specs.Marks.{is_marked, marks_of}
-use Rattle.vcd_head.specs.Shown.{HeadShown}
-use Rattle.vcd_head.specs.Views.{Views}
+use Rattle.vcd_view.specs.Shown.{HeadShown}
+use Rattle.vcd_view.specs.Views.{Views}
 
 all_append : (P : ℕ → Type 0) (xs ys : List ℕ) → AllByRecursion P xs → AllByRecursion P ys → AllByRecursion P (xs ++ ys)
 all_append P [] ys h k = k

@@ -13,9 +13,10 @@ use Rattle.vcd_model.specs.HeadText.{exponent, least_exponent, first_number, inp
 use Rattle.vcd_head.specs.declared.head.Head.{Head}
 use Rattle.vcd_head.specs.Marks.{is_marked, marks_of}
 use Rattle.vcd_head.specs.Merged.{HaveRoom, ShowHeaders, given}
-use Rattle.vcd_head.specs.declared.view.Scale.{Scale}
-use Rattle.vcd_head.specs.Shown.{HeadShown, shown}
-use Rattle.vcd_head.specs.Views.{IsExponent, Views}
+use Rattle.vcd_view.specs.declared.view.Scale.{Scale}
+use Rattle.vcd_view.specs.Shown.{HeadShown}
+use Rattle.vcd_head.specs.Shown.{shown}
+use Rattle.vcd_view.specs.Views.{IsExponent, Views}
 use Rattle.vcd_head.proofs.MarkedHead.{marks_are}
 use Rattle.vcd_head.proofs.WriteLemmas.{take-next}
 

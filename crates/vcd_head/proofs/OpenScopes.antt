@@ -9,13 +9,12 @@ use Rattle.vcd_model.specs.Header.{Header}
 use Rattle.vcd_model.specs.HeadText.{up_line, up_lines_at}
 use Rattle.vcd_model.proofs.ScopeLemmas.{enclosing-scope, enclosing-up, enclosing-var}
 use Rattle.vcd_text.proofs.Writes.{AppendsSome, appends-none, appends-twice, appends-first, appends-some}
-use Rattle.vcd_head.specs.declared.view.Kind.TheVariants as kind
-use Rattle.vcd_head.specs.declared.view.Row.{Row}
-use Rattle.vcd_head.specs.Shown.{HeadShown}
-use Rattle.vcd_head.specs.Views.{IsRow, Views}
-use Rattle.vcd_head.proofs.EnclosingLemmas.{around_none, around_some, parent_before, scopes_around, with_scopes}
-use Rattle.vcd_head.proofs.DraftGrows.{rows_len}
-use Rattle.vcd_head.proofs.RowLemmas.{row_at}
+use Rattle.vcd_view.specs.declared.view.Kind.TheVariants as kind
+use Rattle.vcd_view.specs.declared.view.Row.{Row}
+use Rattle.vcd_view.specs.Shown.{HeadShown}
+use Rattle.vcd_view.specs.Views.{IsRow, Views}
+use Rattle.vcd_view.proofs.ParentLemmas.{around_none, around_some, parent_before, scopes_around, with_scopes}
+use Rattle.vcd_view.proofs.RowLemmas.{rows_len, row_at}
 
 -- ---- the innermost scope after the last row
 

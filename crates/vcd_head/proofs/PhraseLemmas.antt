@@ -13,8 +13,9 @@ use Rattle.vcd_text.specs.Feed.{token_of}
 use Rattle.vcd_text.specs.declared.device.Source.{Ghosts}
 use Rattle.vcd_text.specs.declared.feed.Feed.{Feed}
 use Rattle.vcd_head.specs.Reads.{Reads, ReadsToken, ReadsWhole, FailsAtToken}
-use Rattle.vcd_head.specs.Texts.{NoEnds, RunsOn, Welcomes}
-use Rattle.vcd_head.proofs.WordLemmas.{keyword_at}
+use Rattle.vcd_view.specs.Keywords.{NoEnds}
+use Rattle.vcd_head.specs.Texts.{RunsOn, Welcomes}
+use Rattle.vcd_view.proofs.KeywordLemmas.{keyword_at, until, not_until}
 use Rattle.vcd_head.proofs.TokenSteps.{taken, taken_phrase, taken_last, refused}
 
 pub start_fault : (most : ℕ) (ps : List HeaderPhrase) (k : Keyword) → header_fault most ps [] (keyword_text k) ≡ first_failed (start_checks most (declarations_of ps) k)
@@ -59,16 +60,6 @@ module _ {X : Type 0} {g : Ghosts X} (most : ℕ) (i : Input) (placed : List (Pl
     -- a check of a later token fails
     pub refused_inside : (n : ℕ) → first_failed (inner_checks (declarations_of (phrases_of placed)) k before (token_of f).bytes) ≡ Some n → ReadsToken most i placed (keyword_text k ∷ before) f → FailsAtToken most i n f
     refused_inside n c l = refused most i placed (keyword_text k ∷ before) f n (inner_fault most (phrases_of placed) k before (token_of f).bytes ∙ c) l
-
--- ---- up to `$end`
-
-pub not_until : (ts : List (List ℕ)) (t : List ℕ) → NoEnds ts → is_end t ≡ false → until_end (ts ++ t ∷ []) ≡ None
-not_until [] t h e = rw e refl
-not_until (u ∷ ts) t h e = rw (h.0, not_until ts t h.1 e) refl
-
-pub until : (ts : List (List ℕ)) (t : List ℕ) → NoEnds ts → is_end t ≡ true → until_end (ts ++ t ∷ []) ≡ Some ts
-until [] t h e = rw e refl
-until (u ∷ ts) t h e = rw (h.0, until ts t h.1 e) refl
 
 -- a phrase without checks that is whole at the first `$end`
 pub runs_freely : (most : ℕ) (placed : List (Placed HeaderPhrase)) (k : Keyword) (before : List (List ℕ)) → ((inner : List (List ℕ)) (t : List ℕ) → inner_checks (declarations_of (phrases_of placed)) k (before ++ inner) t ≡ [])

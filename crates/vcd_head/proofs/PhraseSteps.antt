@@ -17,17 +17,17 @@ use Rattle.vcd_head.specs.Entries.{AreEntered}
 use Rattle.vcd_head.specs.declared.draft.Draft.{Draft}
 use Rattle.vcd_head.specs.declared.fault.HeadFault.{HeadFault}
 use Rattle.vcd_head.specs.Reads.{Reads, ReadsToken, FailsAtToken, Fails, GivesHead}
-use Rattle.vcd_head.specs.Texts.{NoEnds, RunsOn, EndsThere}
-use Rattle.vcd_head.specs.Keywords.{model_keyword}
-use Rattle.vcd_head.specs.declared.keyword.Keyword.{Keyword as WordOf}
+use Rattle.vcd_view.specs.Keywords.{NoEnds, model_keyword}
+use Rattle.vcd_head.specs.Texts.{RunsOn, EndsThere}
+use Rattle.vcd_view.specs.declared.keyword.Keyword.{Keyword as WordOf}
 use Rattle.vcd_head.specs.declared.codes.Codes.{Codes}
 use Rattle.vcd_head.specs.Codes.{HasNone}
 use Rattle.vcd_head.proofs.CodesLemmas.{none_held}
 use Rattle.vcd_head.specs.Draft.{IsDraftOf, HasCodes, IsNew, AtKeyword, AtFirstToken, AtOther, DraftsBehind, DraftsUpTo, DraftsAll}
-use Rattle.vcd_head.specs.Views.{IsExponent, AreRows, Views}
+use Rattle.vcd_view.specs.Views.{IsExponent, AreRows, Views}
 use Rattle.vcd_head.specs.Shown.{shown}
 use Rattle.vcd_head.specs.declared.head.Head.{Head}
-use Rattle.vcd_head.specs.declared.view.Scale.{Scale}
+use Rattle.vcd_view.specs.declared.view.Scale.{Scale}
 use Rattle.vcd_head.specs.declared.fault.HeadFault.TheVariants.{OutOfMemory}
 use Rattle.vcd_model.specs.Declarations.{codes_of, enclosing}
 use Rattle.vcd_model.specs.Header.{header_of}
@@ -35,8 +35,9 @@ use Rattle.vcd_model.specs.HeaderReading.{header_grammar}
 use Rattle.vcd_model.proofs.SoFarLemmas.{so_far-nothing}
 use Rattle.vcd_text.specs.Feed.{HasGiven}
 use Rattle.vcd_head.proofs.TokenSteps.{taken, taken_phrase, faultless_whole}
-use Rattle.vcd_head.proofs.PhraseLemmas.{begun, ended, ended_all, refused_inside, runs_freely, not_until, until, unknown_runs, unknown_is, unknown_free}
-use Rattle.vcd_head.proofs.WordLemmas.{fault_of_command, is_keyword, unknown_command}
+use Rattle.vcd_head.proofs.PhraseLemmas.{begun, ended, ended_all, refused_inside, runs_freely, unknown_runs, unknown_is, unknown_free}
+use Rattle.vcd_view.proofs.KeywordLemmas.{not_until, until, is_keyword}
+use Rattle.vcd_head.proofs.WordLemmas.{fault_of_command, unknown_command}
 use Rattle.vcd_head.proofs.DraftLemmas.{holds_plain, holds_date, holds_version}
 use Rattle.vcd_head.proofs.DraftSteps.{carried, passed_test, failed_test, whole_test}
 

@@ -16,14 +16,13 @@ use Rattle.std.proofs.lemmas.List.Sorted.{All-permutation, IsPermutation-map, so
 use Rattle.std.proofs.lemmas.Map.Keys.{IsDistinct-IsPermutation, apart_from_distinct}
 use Rattle.std.proofs.lemmas.Slice.Eq.{bytes_eq-Decides}
 use Rattle.vcd_model.specs.Declarations.{IdCode}
-use Rattle.vcd_head.specs.declared.view.Code.{Code}
-use Rattle.vcd_head.specs.Codes.{AreHeld}
+use Rattle.vcd_view.specs.declared.view.Code.{Code}
+use Rattle.vcd_view.specs.Views.{AreHeld, IsIndex, code_text}
 use Rattle.vcd_head.specs.Fronts.{AreShort, bytes_at, front_in, place_in_rank, rank_in, rank_of}
-use Rattle.vcd_head.specs.Keys.{AreBytes}
-use Rattle.vcd_head.specs.Views.{IsIndex, code_text}
-use Rattle.vcd_head.proofs.DraftGrows.{bytes_flip, to_all}
+use Rattle.vcd_view.specs.Keys.{AreBytes}
+use Rattle.vcd_view.proofs.ListLemmas.{bytes_flip, to_all}
 use Rattle.vcd_head.proofs.IndexLemmas.{bytes_are, front_less, map_map, range_push, same_front, sorted_from, texts_are}
-use Rattle.vcd_head.proofs.LookUpLemmas.{codes_len, texts_range}
+use Rattle.vcd_view.proofs.LookUpLemmas.{codes_len, texts_range}
 
 -- ---- ranks
 

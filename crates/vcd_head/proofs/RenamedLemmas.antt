@@ -4,11 +4,11 @@ use Rattle.std.proofs.lemmas.Option.{slice_get_within}
 use Rattle.vcd_model.specs.Declarations.{Declaration, Variable, code_of}
 use Rattle.vcd_model.specs.Header.{Header}
 use Rattle.vcd_model.specs.HeadText.{code_place}
-use Rattle.vcd_head.specs.declared.view.Row.{Row}
-use Rattle.vcd_head.specs.Shown.{HeadShown}
-use Rattle.vcd_head.specs.Views.{Views}
-use Rattle.vcd_head.proofs.LookUpLemmas.{place_is}
-use Rattle.vcd_head.proofs.RowLemmas.{row_of}
+use Rattle.vcd_view.specs.declared.view.Row.{Row}
+use Rattle.vcd_view.specs.Shown.{HeadShown}
+use Rattle.vcd_view.specs.Views.{Views}
+use Rattle.vcd_view.proofs.LookUpLemmas.{place_is}
+use Rattle.vcd_view.proofs.RowLemmas.{row_of}
 
 -- the place of a variable's code, as its row says it
 pub record PlaceRead (h : Header) (r : Row) (v : Variable) : Type 0 where

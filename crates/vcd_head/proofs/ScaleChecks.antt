@@ -13,7 +13,8 @@ use Rattle.vcd_text.specs.declared.feed.Feed.{Feed}
 use Rattle.vcd_head.specs.Words.{power_in, unit_in}
 use Rattle.vcd_head.specs.Reads.{Reads, ReadsToken, FailsAtToken}
 use Rattle.vcd_head.specs.Scaled.{ScaleRead}
-use Rattle.vcd_head.proofs.PhraseLemmas.{inside, refused_inside, not_until}
+use Rattle.vcd_head.proofs.PhraseLemmas.{inside, refused_inside}
+use Rattle.vcd_view.proofs.KeywordLemmas.{not_until}
 use Rattle.vcd_head.proofs.ScaleLemmas.{exponent_sum, number_test, number_test_none, number_no_end, unit_test, unit_test_none, unit_no_end, exponent_no_end, exponent_fits, sum_fits, unit_fits, number_fits}
 
 module _ {X : Type 0} {g : Ghosts X} (most : ℕ) (i : Input) (placed : List (Placed HeaderPhrase)) (f : Feed X g) where

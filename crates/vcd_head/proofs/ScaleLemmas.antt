@@ -9,7 +9,7 @@ use Rattle.std.specs.List.{AllByRecursion}
 use Rattle.vcd_model.specs.Scales.{scales, exponent_of, is_scale_number, is_scale_unit}
 use Rattle.vcd_model.specs.Job.{unit_exponent}
 use Rattle.vcd_head.specs.Words.{power_in, unit_in}
-use Rattle.vcd_head.proofs.DraftGrows.{bytes_flip}
+use Rattle.vcd_view.proofs.ListLemmas.{bytes_flip}
 
 pub number_cases : (t : List ℕ) (x : ℤ) (Q : List ℕ → ℤ → Type 0) → power_in t ≡ Some x → Q (codes "1") (pos 0) → Q (codes "10") (pos 1) → Q (codes "100") (pos 2) → Q t x
 number_cases t x Q h q0 q1 q2 = by_tests (bytes_eq (codes "1") t) (bytes_eq (codes "10") t) (bytes_eq (codes "100") t) refl refl refl h

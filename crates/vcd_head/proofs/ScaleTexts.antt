@@ -6,7 +6,7 @@ use Rattle.std.specs.List.{AllByRecursion}
 use Rattle.std.specs.Prelude.{option_map, unwrap_or}
 use Rattle.vcd_model.specs.HeaderPhrases.{scale_of}
 use Rattle.vcd_model.specs.Scales.{exponent_of, is_scale_number, is_scale_unit, scales, scale_text}
-use Rattle.vcd_head.specs.Views.{IsExponent}
+use Rattle.vcd_view.specs.Views.{IsExponent}
 
 none_found : (e : ℤ) (xs : List (List ℕ × ℤ)) → AllByRecursion (λ (s : List ℕ × ℤ). e ≢ s.1) xs → find (λ (s : List ℕ × ℤ). int_eq s.1 e) xs ≡ None
 none_found e [] h = refl

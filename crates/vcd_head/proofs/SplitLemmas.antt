@@ -1,62 +1,22 @@
 -- Entries are moved where a table has twice as many.
-use Rattle.std.proofs.Common.{◌≡◌, ◌≢◌, ◌⊎◌, inl, inr, ℕ, ◌+◌, ◌%◌, ◌/◌, ◌<◌, ◌≤◌, ◌==◌, ◌&&◌, nat_le, not, Bool, true, false, cond, List, [], ◌∷◌, ◌++◌, length, set, take, replicate, slice_get, Option, Some, None, refl, sym, ap, subst, ◌∙◌, arith}
+use Rattle.std.proofs.Common.{◌≡◌, ◌≢◌, ◌⊎◌, inl, inr, ℕ, ◌+◌, ◌<◌, ◌≤◌, ◌==◌, ◌&&◌, not, Bool, true, false, cond, List, [], ◌∷◌, ◌++◌, length, set, take, replicate, slice_get, Option, Some, None, refl, sym, ap, subst, ◌∙◌, arith}
 use Rattle.std.specs.Option.{option_or}
-use Rattle.std.proofs.lemmas.Bool.{and_parts, cases_lt, eqb-true, eq-eqb}
+use Rattle.std.proofs.lemmas.Bool.{cases_lt, eqb-true, eq-eqb}
 use Rattle.std.proofs.lemmas.List.{take_all}
 use Rattle.std.proofs.lemmas.List.Folds.{list_all-append}
 use Rattle.std.proofs.lemmas.Option.{none-some, slice_get_within, same_Some}
 use Rattle.vcd_model.specs.Declarations.{IdCode}
-use Rattle.vcd_head.specs.declared.view.Code.{Code}
-use Rattle.vcd_head.specs.declared.view.Entry.{Entry}
+use Rattle.vcd_view.specs.declared.view.Code.{Code}
+use Rattle.vcd_view.specs.declared.view.Entry.{Entry}
 use Rattle.vcd_head.specs.declared.table.Table.{Table}
-use Rattle.vcd_head.specs.Codes.{AreHeld, FindsAll, Moves, beside, entered, in_tree, place_in, place_told, told_by}
-use Rattle.vcd_head.specs.Entries.{above, are_right, entry_in, is_right, number_in}
-use Rattle.vcd_head.specs.Finds.{Finds}
-use Rattle.vcd_head.specs.Keys.{AreBytes, key_in, packed}
-use Rattle.vcd_head.proofs.CodesLemmas.{set_other, set_same, told_finds, told_key}
-use Rattle.vcd_head.proofs.DraftGrows.{slice_get-front}
-use Rattle.vcd_head.proofs.EntryLemmas.{all_replicated, both, code_found, entry_tells, one_of_all}
-use Rattle.vcd_head.proofs.KeyLemmas.{bytes_at_place, packed_above, same_key}
-use Rattle.vcd_head.proofs.LookUpLemmas.{first_with}
-use Rattle.vcd_head.proofs.RowLemmas.{text_within}
-
--- ---- the number of a short code by its key
-
--- four bytes or more have a greater key
-long_key : (a b c d : ℕ) (bs : List ℕ) (k : ℕ) → k ≡ key_in (a ∷ b ∷ c ∷ d ∷ bs) → k ≢ 0 → 4294967296 ≤ k
-long_key a b c d bs k e n = by_length (nat_le (length (a ∷ b ∷ c ∷ d ∷ bs)) 7) e
-  where
-    by_length : (q : Bool) → k ≡ cond q (packed (a ∷ b ∷ c ∷ d ∷ bs)) 0 → 4294967296 ≤ k
-    by_length true e = omega (arith, e, packed_above bs)
-    by_length false e = absurd (n e)
-
-pub number_of_one : (code : List ℕ) (k : ℕ) → AreBytes code → k ≡ key_in code → k ≢ 0 → k < 65536 → above 0 (k % 256) ≡ number_in code
-number_of_one [] k a e n l = ap (λ x. above 0 (x % 256)) e
-number_of_one (x ∷ []) k a e n l = let byte : k % 256 ≡ x = omega (arith, e, a.0) in ap (above 0) byte
-number_of_one (x ∷ y ∷ []) k a e n l = absurd (omega (arith, e, l))
-number_of_one (x ∷ y ∷ z ∷ []) k a e n l = absurd (omega (arith, e, l))
-number_of_one (x ∷ y ∷ z ∷ w ∷ bs) k a e n l = absurd (omega (arith, long_key x y z w bs k e n, l))
-
-pub number_of_two : (code : List ℕ) (k : ℕ) → AreBytes code → k ≡ key_in code → k ≢ 0 → 65536 ≤ k → k < 16777216 → above (above 0 (k / 256 % 256)) (k % 256) ≡ number_in code
-number_of_two [] k a e n g l = absurd (omega (arith, e, g))
-number_of_two (x ∷ []) k a e n g l = absurd (omega (arith, e, g, a.0))
-number_of_two (x ∷ y ∷ []) k a e n g l =
-    let first : k % 256 ≡ x = omega (arith, e, a.0) in
-    let second : k / 256 % 256 ≡ y = omega (arith, e, a.0, a.1.0) in
-    ap (λ b. above (above 0 b) (k % 256)) second ∙ ap (above (above 0 y)) first
-number_of_two (x ∷ y ∷ z ∷ []) k a e n g l = absurd (omega (arith, e, l))
-number_of_two (x ∷ y ∷ z ∷ w ∷ bs) k a e n g l = absurd (omega (arith, long_key x y z w bs k e n, l))
-
-pub number_of_three : (code : List ℕ) (k : ℕ) → AreBytes code → k ≡ key_in code → k ≢ 0 → 16777216 ≤ k → k < 4294967296 → above (above (above 0 (k / 65536 % 256)) (k / 256 % 256)) (k % 256) ≡ number_in code
-number_of_three [] k a e n g l = absurd (omega (arith, e, g))
-number_of_three (x ∷ []) k a e n g l = absurd (omega (arith, e, g, a.0))
-number_of_three (x ∷ y ∷ []) k a e n g l = absurd (omega (arith, e, g, a.0, a.1.0))
-number_of_three (x ∷ y ∷ z ∷ []) k a e n g l =
-    let first : k % 256 ≡ x = omega (arith, e, a.0) in
-    let second : k / 256 % 256 ≡ y = omega (arith, e, a.0, a.1.0) in
-    let third : k / 65536 % 256 ≡ z = omega (arith, e, a.0, a.1.0, a.1.1.0) in
-    ap (λ b. above (above (above 0 b) (k / 256 % 256)) (k % 256)) third ∙ ap (λ b. above (above (above 0 z) b) (k % 256)) second ∙ ap (above (above (above 0 z) y)) first
-number_of_three (x ∷ y ∷ z ∷ w ∷ bs) k a e n g l = absurd (omega (arith, long_key x y z w bs k e n, l))
+use Rattle.vcd_view.specs.Views.{AreHeld}
+use Rattle.vcd_head.specs.Codes.{FindsAll, Moves, entered, in_tree, place_in}
+use Rattle.vcd_view.specs.Entries.{beside, place_told, told_by, are_right, entry_in, is_right}
+use Rattle.vcd_view.specs.Finds.{Finds}
+use Rattle.vcd_view.specs.Keys.{AreBytes, key_in}
+use Rattle.vcd_head.proofs.CodesLemmas.{set_other, set_same}
+use Rattle.vcd_view.proofs.EntryLemmas.{told_finds, told_key, all_replicated, both}
+use Rattle.vcd_view.proofs.ListLemmas.{slice_get-front}
 
 -- ---- one entry
 

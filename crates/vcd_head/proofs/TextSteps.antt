@@ -11,12 +11,10 @@ use Rattle.vcd_text.specs.Feed.{token_of}
 use Rattle.vcd_text.specs.declared.device.Source.{Ghosts}
 use Rattle.vcd_text.specs.declared.feed.Feed.{Feed}
 use Rattle.vcd_head.specs.Reads.{Reads, ReadsToken, IsGoodSoFar}
-use Rattle.vcd_head.specs.Texts.{NoEnds, RunsOn, spaced, ReadsOn, EndsThere}
+use Rattle.vcd_view.specs.Keywords.{NoEnds}
+use Rattle.vcd_head.specs.Texts.{RunsOn, spaced, ReadsOn, EndsThere}
 use Rattle.vcd_head.proofs.TokenSteps.{taken, faultless}
-
-pub no_ends_more : (ts : List (List ℕ)) (t : List ℕ) → NoEnds ts → is_end t ≡ false → NoEnds (ts ++ t ∷ [])
-no_ends_more [] t h e = (e, tt)
-no_ends_more (u ∷ ts) t h e = (h.0, no_ends_more ts t h.1 e)
+use Rattle.vcd_view.proofs.KeywordLemmas.{no_ends_more}
 
 pub spaced_more : (ts : List (List ℕ)) (t : List ℕ) → spaced (ts ++ t ∷ []) ≡ spaced ts ++ 32 ∷ t
 spaced_more [] t = append-nil (32 ∷ t)

@@ -1,26 +1,16 @@
 -- What the tests of words say.
-use Rattle.std.proofs.Common.{◌≡◌, ℕ, ◌+◌, ◌-◌, ◌*◌, ◌<◌, ◌≤◌, Bool, true, false, cond, not, ◌&&◌, nat_lt, List, [], ◌∷◌, ◌++◌, length, take, get_or, find, bytes_eq, Some, None, is_none, refl, sym, ap, ◌∙◌, arith, add-one, pow-suc}
+use Rattle.std.proofs.Common.{◌≡◌, ℕ, ◌+◌, ◌-◌, ◌*◌, ◌<◌, ◌≤◌, Bool, true, false, cond, not, ◌&&◌, nat_lt, List, [], ◌∷◌, ◌++◌, length, take, get_or, Some, None, is_none, refl, ap, ◌∙◌, arith, add-one, pow-suc}
 use Rattle.std.specs.List.{list_all}
 use Rattle.std.specs.Char.{is_ascii_digit}
 use Rattle.std.proofs.lemmas.List.{length_push, take_more}
 use Rattle.std.proofs.lemmas.List.Folds.{list_all_at}
 use Rattle.std.proofs.lemmas.Option.{cond_some}
-use Rattle.std.proofs.lemmas.Slice.Eq.{bytes_eq-Decides}
 use Rattle.std.proofs.lemmas.Bool.{ltb-true, and_parts, and_right, lt-ltb, le-ltb}
 use Rattle.vcd_model.specs.Bytes.{decimal_value, is_decimal, is_empty}
-use Rattle.vcd_model.specs.Keywords.{Keyword, keywords, keyword_of, keyword_text, is_unknown_command, is_command}
+use Rattle.vcd_model.specs.Keywords.{keyword_of, is_unknown_command, is_command}
 use Rattle.vcd_model.specs.HeaderChecks.{is_size, begins_change, header_fault}
 use Rattle.vcd_head.specs.Words.{size_in}
 use Rattle.vcd_model.specs.HeaderPhrases.{HeaderPhrase}
-
--- what a search finds passes its test
-found : {X : Type 0} (p : X → Bool) (xs : List X) (x : X) → find p xs ≡ Some x → p x ≡ true
-found p [] x e = cc
-found p (y ∷ xs) x e = by_test (p y) refl e (found p xs x)
-  where
-    by_test : (b : Bool) → p y ≡ b → cond b (Some y) (find p xs) ≡ Some x → (find p xs ≡ Some x → p x ≡ true) → p x ≡ true
-    by_test true t f more = let same : y ≡ x = cc in ap p (sym same) ∙ t
-    by_test false t f more = more f
 
 -- ---- sizes
 
@@ -59,30 +49,6 @@ pub size_of_digits : (token : List ℕ) → list_all is_ascii_digit token ≡ tr
 size_of_digits token a h k = rw (filled token h, a, lt-ltb 0 (decimal_value token) h, lt-ltb (decimal_value token) 16777216 k) refl
 
 -- ---- a first token that is no keyword
-
-pub keyword_at : (k : Keyword) → keyword_of (keyword_text k) ≡ Some k
-unfolding keyword_of
-keyword_at Keyword.Comment = refl
-keyword_at Keyword.Date = refl
-keyword_at Keyword.EndDefinitions = refl
-keyword_at Keyword.Scope = refl
-keyword_at Keyword.Timescale = refl
-keyword_at Keyword.Upscope = refl
-keyword_at Keyword.Var = refl
-keyword_at Keyword.Version = refl
-keyword_at Keyword.DumpAll = refl
-keyword_at Keyword.DumpOff = refl
-keyword_at Keyword.DumpOn = refl
-keyword_at Keyword.DumpVars = refl
-keyword_at Keyword.End = refl
-
--- a token of a keyword is its text
-pub is_keyword : (token : List ℕ) (k : Keyword) → keyword_of token ≡ Some k → token ≡ keyword_text k
-unfolding keyword_of
-is_keyword token k e = sym ((bytes_eq-Decides (keyword_text k) token).0 (found (λ k. bytes_eq (keyword_text k) token) keywords k e))
-
-pub keyword_found : (k : Keyword) (token : List ℕ) → bytes_eq (keyword_text k) token ≡ true → Some k ≡ keyword_of token
-keyword_found k token e = sym (ap keyword_of (sym ((bytes_eq-Decides (keyword_text k) token).0 e)) ∙ keyword_at k)
 
 unknown_is : (token : List ℕ) → keyword_of token ≡ None → is_unknown_command token ≡ is_command token
 unfolding is_unknown_command

@@ -13,14 +13,13 @@ use Rattle.vcd_model.specs.Header.{Header}
 use Rattle.vcd_model.specs.HeadText.{row_line, scope_line, var_line, up_lines_at, first_place}
 use Rattle.vcd_model.proofs.Growing.{each_after-append}
 use Rattle.vcd_text.proofs.Writes.{AppendsSome, appends-first, appends-some}
-use Rattle.vcd_head.specs.declared.view.Kind.TheVariants as kind
-use Rattle.vcd_head.specs.declared.view.Code.{Code}
-use Rattle.vcd_head.specs.declared.view.Row.{Row}
-use Rattle.vcd_head.specs.Shown.{HeadShown, text_in}
-use Rattle.vcd_head.specs.Views.{IsCode, IsRow, Views}
-use Rattle.vcd_head.proofs.DraftGrows.{rows_len}
-use Rattle.vcd_head.proofs.EnclosingLemmas.{around_some, around_none}
-use Rattle.vcd_head.proofs.RowLemmas.{there, row_at, row_of, row_of_variable, text_within}
+use Rattle.vcd_view.specs.declared.view.Kind.TheVariants as kind
+use Rattle.vcd_view.specs.declared.view.Code.{Code}
+use Rattle.vcd_view.specs.declared.view.Row.{Row}
+use Rattle.vcd_view.specs.Shown.{HeadShown, text_in}
+use Rattle.vcd_view.specs.Views.{IsCode, IsRow, Views}
+use Rattle.vcd_view.proofs.RowLemmas.{rows_len, there, row_at, row_of, row_of_variable, text_within}
+use Rattle.vcd_view.proofs.ParentLemmas.{around_some, around_none}
 
 -- ---- a line
 

@@ -9,7 +9,7 @@ use Rattle.vcd_text.specs.declared.ahead.Ahead.{Ahead}
 use Rattle.vcd_head.specs.declared.ahead.AheadReference.{AheadReference}
 use Rattle.vcd_head.specs.declared.ahead.AheadVariable.{AheadVariable}
 use Rattle.vcd_head.specs.declared.ahead_scopes.AheadScope.{AheadScope}
-use Rattle.vcd_head.specs.Texts.{NoEnds}
+use Rattle.vcd_view.specs.Keywords.{NoEnds}
 use Rattle.vcd_head.specs.Words.{size_in}
 
 -- it looks over these bytes, for tokens of at most so many

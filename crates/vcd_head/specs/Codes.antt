@@ -1,40 +1,26 @@
 -- What is kept of the distinct codes while a header is read.
-use Rattle.std.specs.Prelude.{◌≡◌, ◌≢◌, ℕ, ◌==◌, ◌&&◌, not, cond, List, [], ◌∷◌, ◌++◌, length, map, find, bytes_eq, slice_get, bit_xor, ◌⊎◌, Option, Some, None}
+use Rattle.std.specs.Prelude.{◌≡◌, ◌≢◌, ℕ, cond, List, [], ◌∷◌, ◌++◌, length, find, bytes_eq, slice_get, ◌⊎◌, Option, Some, None}
 use Rattle.std.specs.Global.{Vec}
-use Rattle.std.specs.List.{AllByRecursion, AllZip, IsDistinct}
 use Rattle.std.specs.Map.{lookup}
 use Rattle.std.specs.Option.{option_or}
 use Rattle.std.specs.Ordering.{nat_cmp, is_eq}
 use Rattle.std.specs.Cmp.Lexicographic.{slice_cmp}
 use Rattle.vcd_model.specs.Declarations.{IdCode, has_text}
-use Rattle.vcd_head.specs.declared.view.Code.{Code}
-use Rattle.vcd_head.specs.declared.view.Entry.{Entry}
+use Rattle.vcd_view.specs.declared.view.Code.{Code}
+use Rattle.vcd_view.specs.declared.view.Entry.{Entry}
 use Rattle.vcd_head.specs.declared.codes.Coded.{Coded}
 use Rattle.vcd_head.specs.declared.codes.Codes.{Codes}
 use Rattle.vcd_head.specs.declared.table.Table.{Table}
-use Rattle.vcd_head.specs.Entries.{AreEntered, entry_in}
-use Rattle.vcd_head.specs.Finds.{Finds}
-use Rattle.vcd_head.specs.Keys.{AreBytes, key_in}
-use Rattle.vcd_head.specs.Views.{IsCode}
+use Rattle.vcd_head.specs.Entries.{AreEntered}
+use Rattle.vcd_view.specs.Entries.{entry_in, told_by, beside}
+use Rattle.vcd_view.specs.Finds.{Finds}
+use Rattle.vcd_view.specs.Keys.{AreBytes, key_in}
+use Rattle.vcd_view.specs.Views.{AreHeld}
 
 -- the code has this size, and is an event or none
 pub record IsOfKind (c : Code) (k : IdCode) : Type 0 where
   pub same_size : c.size ≡ k.size
   pub same_event : c.event ≡ k.event
-
--- the place that an entry gives for these bytes: its own, if its key is theirs
-abbrev pub place_told : List ℕ → Option Entry → Option ℕ
-place_told t None = None
-place_told t (Some e) = cond (not (key_in t == 0) && (e.key == key_in t)) (Some e.place) None
-
--- the place that the first of these entries gives which is that of these bytes
-abbrev pub told_by : List Entry → List ℕ → List ℕ → Option ℕ
-told_by es t [] = None
-told_by es t (i ∷ is) = option_or (place_told t (slice_get es i)) (told_by es t is)
-
--- the entries beside one
-abbrev pub beside : ℕ → List ℕ
-beside at = bit_xor at 1 ∷ bit_xor at 2 ∷ bit_xor at 3 ∷ []
 
 -- it is one of these
 abbrev pub IsOneOf : ℕ → List ℕ → Type 0
@@ -65,12 +51,6 @@ IsEntered old new bytes place = (t : List ℕ) → AreBytes t → place_in new t
 pub record Moves (old new : List Entry) (at : ℕ) : Type 0 where
   pub others : (k : ℕ) (e : Entry) → e.key ≢ 0 → k ≢ at → slice_get old k ≡ Some e → slice_get new k ≡ Some e
   pub own : (t : List ℕ) (e : Entry) → AreBytes t → e.key ≡ key_in t → e.key ≢ 0 → slice_get old at ≡ Some e → slice_get new (entry_in t (length old)) ≡ Some e
-
--- the codes stand in the text, and no two have the same bytes
-pub record AreHeld (text : List ℕ) (list : List Code) (cs : List IdCode) : Type 0 where
-  pub stand : AllZip (IsCode text) list cs
-  pub distinct : IsDistinct bytes_eq (map (λ (c : IdCode). c.text) cs)
-  pub texts : AllByRecursion (λ (c : IdCode). AreBytes c.text) cs
 
 -- the codes lie in the text, and the entries of their table are theirs
 abbrev pub EntersIn : List ℕ → Codes → Type 0

@@ -4,13 +4,13 @@ use Rattle.std.specs.List.{AllByRecursion, list_any, last_or}
 use Rattle.vcd_model.specs.Declarations.{Declaration, Variable, IdCode, code_of, codes_of, variables_of, has_text, is_scope, is_up, enclosing}
 use Rattle.vcd_model.specs.HeaderPhrases.{HeaderPhrase, declarations_of, date_of, version_of, timescale_of}
 use Rattle.vcd_model.specs.Bound.{kept_bytes}
-use Rattle.vcd_head.specs.declared.view.Scale.{Scale}
+use Rattle.vcd_view.specs.declared.view.Scale.{Scale}
 use Rattle.vcd_head.specs.declared.codes.Codes.{Codes}
-use Rattle.vcd_head.specs.Codes.{AreHeld, FindsAll, HasNone}
+use Rattle.vcd_view.specs.Views.{AreHeld, IsExponent, IsSize, AreRows}
+use Rattle.vcd_head.specs.Codes.{FindsAll, HasNone}
 use Rattle.vcd_head.specs.declared.draft.Draft.{Draft}
 use Rattle.vcd_head.specs.declared.draft.Found.{Found}
 use Rattle.vcd_head.specs.declared.draft.Found.TheVariants as found
-use Rattle.vcd_head.specs.Views.{IsExponent, IsSize, AreRows}
 use Rattle.vcd_model.specs.Input.{Input}
 use Rattle.vcd_model.specs.Keywords.{Keyword, keyword_of, keyword_text}
 use Rattle.vcd_model.specs.Reading.{Placed, phrases_of}
@@ -21,9 +21,9 @@ use Rattle.vcd_text.specs.Feed.{HasGiven, token_of}
 use Rattle.vcd_text.specs.declared.device.Source.{Ghosts}
 use Rattle.vcd_text.specs.declared.feed.Feed.{Feed}
 use Rattle.vcd_head.specs.Reads.{Reads, ReadsToken, ReadsWhole}
-use Rattle.vcd_head.specs.Keywords.{model_keyword}
-use Rattle.vcd_head.specs.declared.keyword.Keyword.{Keyword as WordOf}
-use Rattle.vcd_head.specs.declared.keyword.Keyword.TheVariants as word
+use Rattle.vcd_view.specs.Keywords.{model_keyword}
+use Rattle.vcd_view.specs.declared.keyword.Keyword.{Keyword as WordOf}
+use Rattle.vcd_view.specs.declared.keyword.Keyword.TheVariants as word
 
 -- the codes of these declarations are held
 pub record HasCodes (text : List ℕ) (c : Codes) (ds : List Declaration) : Type 0 where

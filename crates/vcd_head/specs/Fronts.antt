@@ -4,9 +4,9 @@ use Rattle.std.specs.List.{AllByRecursion, range_with_len}
 use Rattle.std.specs.Ordering.{nat_cmp, then_cmp}
 use Rattle.std.specs.declared.cmp.Ordering.{Ordering}
 use Rattle.std.specs.Cmp.Lexicographic.{slice_cmp}
-use Rattle.vcd_head.specs.declared.view.Code.{Code}
+use Rattle.vcd_view.specs.declared.view.Code.{Code}
 use Rattle.vcd_head.specs.declared.index.Front.{Front}
-use Rattle.vcd_head.specs.Entries.{text_in}
+use Rattle.vcd_view.specs.Entries.{text_in}
 
 -- the bytes of the code at a place
 abbrev pub bytes_at : List ℕ → List Code → ℕ → List ℕ

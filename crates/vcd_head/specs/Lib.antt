@@ -1,16 +1,11 @@
 pub mod Fault
 pub mod Shown
-pub mod Views
-pub mod Finds
-pub mod Keys
 pub mod Entries
 pub mod Moments
-pub mod Needs
 pub mod Paths
 pub mod ScopesLeft
 pub mod Reads
 pub mod Words
-pub mod Keywords
 pub mod Texts
 pub mod Codes
 pub mod Fronts
@@ -23,6 +18,5 @@ pub mod Selects
 pub mod Sieves
 pub mod Inside
 pub mod Matched
-pub mod NewCode
 pub mod Merged
 pub mod Rows

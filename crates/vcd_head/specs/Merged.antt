@@ -5,7 +5,7 @@ use Rattle.vcd_model.specs.Header.{Header}
 use Rattle.vcd_model.specs.HeadText.{code_place, new_code}
 use Rattle.vcd_head.specs.declared.head.Head.{Head}
 use Rattle.vcd_head.specs.Shown.{shown}
-use Rattle.vcd_head.specs.Views.{Views}
+use Rattle.vcd_view.specs.Views.{Views}
 
 -- the code that a variable is given for its own: the same, or where the codes of its header are numbered from `first` on, the new code of its number
 abbrev pub given : Option ℕ → Header → List ℕ → List ℕ

@@ -14,8 +14,8 @@ use Rattle.vcd_text.specs.declared.feed.Feed.{Feed}
 use Rattle.vcd_head.specs.declared.fault.HeadFault.{HeadFault}
 use Rattle.vcd_head.specs.declared.fault.HeadFault.TheVariants.{TokenTooLong, EndOfInput, InputTooLong, ReadFailed, OutOfMemory}
 use Rattle.vcd_head.specs.Fault.{fault_number}
-use Rattle.vcd_head.specs.Shown.{HeadShown}
-use Rattle.vcd_head.specs.Views.{Views}
+use Rattle.vcd_view.specs.Shown.{HeadShown}
+use Rattle.vcd_view.specs.Views.{Views}
 use Rattle.vcd_model.specs.Header.{header_of}
 
 -- the tokens given so far have no fault, and the header goes on behind them

@@ -1,6 +1,6 @@
 -- Rows as they are read.
 use Rattle.vcd_head.specs.declared.rows.WideRow.{WideRow}
-use Rattle.vcd_head.specs.declared.view.Row.{Row}
+use Rattle.vcd_view.specs.declared.view.Row.{Row}
 
 -- the row as it is held
 abbrev pub row_of : WideRow → Row

@@ -11,7 +11,7 @@ use Rattle.vcd_model.specs.Reading.{Placed}
 use Rattle.vcd_text.specs.declared.device.Source.{Ghosts}
 use Rattle.vcd_text.specs.declared.feed.Feed.{Feed}
 use Rattle.vcd_head.specs.Reads.{Reads}
-use Rattle.vcd_head.specs.Texts.{NoEnds}
+use Rattle.vcd_view.specs.Keywords.{NoEnds}
 
 -- number and unit are read, and this is the power of ten
 pub record ScaleRead {X : Type 0} {g : Ghosts X} (most : ℕ) (i : Input) (placed : List (Placed HeaderPhrase)) (f : Feed X g) (exponent : ℤ) : Type 0 where

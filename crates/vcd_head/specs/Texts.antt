@@ -1,6 +1,5 @@
 -- Phrases that run to the first `$end`.
 use Rattle.std.specs.Prelude.{◌≡◌, ℕ, true, false, List, [], ◌∷◌, ◌++◌, flat_map, length, Option, Some, None}
-use Rattle.std.specs.List.{AllByRecursion}
 use Rattle.vcd_model.specs.Input.{Input}
 use Rattle.vcd_model.specs.Keywords.{is_end}
 use Rattle.vcd_model.specs.HeaderPhrases.{HeaderPhrase, header_phrase}
@@ -10,10 +9,7 @@ use Rattle.vcd_text.specs.Feed.{token_of}
 use Rattle.vcd_text.specs.declared.device.Source.{Ghosts}
 use Rattle.vcd_text.specs.declared.feed.Feed.{Feed}
 use Rattle.vcd_head.specs.Reads.{Reads, ReadsToken}
-
--- tokens of which none is `$end`
-abbrev pub NoEnds : List (List ℕ) → Type 0
-NoEnds ts = AllByRecursion (λ t. is_end t ≡ false) ts
+use Rattle.vcd_view.specs.Keywords.{NoEnds}
 
 -- after these tokens any others may stand, up to the first `$end`
 abbrev pub RunsOn : ℕ → List (Placed HeaderPhrase) → List (List ℕ) → Type 0

@@ -15,8 +15,8 @@ ghost use Rattle.vcd_head.specs.Draft.{DraftsBehind, DraftsOn, DraftsUpTo, HasCo
 ghost use Rattle.vcd_head.specs.Entries.{AreEntered};
 ghost use Rattle.vcd_head.specs.Fault.{call_end};
 ghost use Rattle.vcd_head.specs.Reads.{Fails};
-ghost use Rattle.vcd_head.specs.declared.view.Code.{Code};
-ghost use Rattle.vcd_head.specs.declared.view.Entry.{Entry};
+ghost use Rattle.vcd_view.specs.declared.view.Code.{Code};
+ghost use Rattle.vcd_view.specs.declared.view.Entry.{Entry};
 
 use crate::ahead_scopes::{close_scope, open_scope, scope_ahead, upscope_ahead};
 use crate::code_place::place_of;
@@ -25,10 +25,10 @@ use crate::draft::{Draft, Found};
 use crate::fault::HeadFault;
 use crate::rows::{WideRow, push};
 use crate::sought::Sought;
-use crate::view::Kind;
 use crate::words::{is_code, is_end, is_event, is_var, size_of};
 use std::alloc::{AllocError, Global};
 use vcd_text::{Ahead, Feed, Source};
+use vcd_view::Kind;
 
 // A variable whose phrase lies ahead.
 #[derive(Clone, Copy)]

@@ -11,9 +11,9 @@ use crate::draft::Draft;
 use crate::fault::HeadFault;
 use crate::rows::{WideRow, push};
 use crate::scopes::MOST_OPEN;
-use crate::view::Kind;
 use crate::words::{is_end, is_scope, is_upscope};
 use vcd_text::Ahead;
+use vcd_view::Kind;
 
 // A scope whose phrase lies ahead.
 #[derive(Clone, Copy)]

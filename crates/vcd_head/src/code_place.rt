@@ -2,15 +2,15 @@
 ghost use Rattle.std.specs.Prelude.{◌≡◌, List, IfOk, IfErr};
 ghost use Rattle.vcd_model.specs.Declarations.{Declaration, Variable, code_of};
 ghost use Rattle.vcd_head.specs.Codes.{EntersIn};
-ghost use Rattle.vcd_head.specs.Views.{IsSize};
+ghost use Rattle.vcd_view.specs.Views.{IsSize};
 ghost use Rattle.vcd_head.specs.Draft.{HasCodes, IsFound, CodeHeld};
 
 use crate::codes::Codes;
 use crate::draft::Found;
 use crate::fault::HeadFault;
 use crate::sought::Sought;
-use crate::view::Code;
 use std::alloc::Global;
+use vcd_view::Code;
 
 /// The place of the code of a variable, which is added where it is new, behind the text.
 #[inline(always)]

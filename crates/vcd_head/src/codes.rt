@@ -1,14 +1,15 @@
 // The distinct codes of a header that is read.
 ghost use Rattle.std.specs.Prelude.{◌≡◌, ◌+◌, ◌≤◌, ℕ, List, length, IfOk, IfErr};
 ghost use Rattle.vcd_model.specs.Declarations.{IdCode};
-ghost use Rattle.vcd_head.specs.Codes.{AreHeld, EntersIn, FindsAll, HasNone, IsAdded, IsKnown};
-ghost use Rattle.vcd_head.specs.Entries.{text_in};
+ghost use Rattle.vcd_view.specs.Views.{AreHeld};
+ghost use Rattle.vcd_head.specs.Codes.{EntersIn, FindsAll, HasNone, IsAdded, IsKnown};
+ghost use Rattle.vcd_view.specs.Entries.{text_in};
 
 use crate::fault::HeadFault;
 use crate::sought::Sought;
 use crate::table::Table;
-use crate::view::{Code, code_in};
 use std::alloc::{AllocError, Global};
+use vcd_view::{Code, code_in};
 
 // A code with its place among the distinct codes.
 #[derive(Clone, Copy)]

@@ -4,8 +4,8 @@ ghost use Rattle.std.proofs.Props.{props};
 ghost use Rattle.vcd_head.specs.Entries.{AreEntered};
 
 use crate::codes::Codes;
-use crate::view::{Row, Scale};
 use std::alloc::Global;
+use vcd_view::{Row, Scale};
 
 // What the phrases read so far declare.
 #[derive(Drop)]

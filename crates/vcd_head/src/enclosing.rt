@@ -3,9 +3,9 @@ ghost use Rattle.std.specs.Prelude.{◌≡◌, ℕ, ◌<◌, ◌≤◌, List, ta
 ghost use Rattle.vcd_model.specs.Declarations.{enclosing};
 ghost use Rattle.vcd_model.specs.Header.{Header};
 ghost use Rattle.vcd_head.specs.ScopesLeft.{GivesNext, LeavesScopes, Walks};
-ghost use Rattle.vcd_head.specs.Views.{IsViewOf};
+ghost use Rattle.vcd_view.specs.Views.{IsViewOf};
 
-use crate::view::HeadView;
+use vcd_view::HeadView;
 
 // How many rows are held at a time.
 const HELD: usize = 128;

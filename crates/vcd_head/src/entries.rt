@@ -1,14 +1,12 @@
-// The entries by which codes are looked up: where a code's entry is, and how they are filled. Any code may have any place among
-// them, and two the same: where an entry is decides only how fast a look-up is.
-ghost use Rattle.std.specs.Prelude.{◌≡◌, ◌≢◌, ◌+◌, ◌-◌, ◌*◌, ◌%◌, ◌^◌, ◌≤◌, ◌<◌, ℕ, List, true, bit_and, length, set, slice_get, Some, IfOk, IfSome};
-ghost use Rattle.vcd_head.specs.Codes.{beside, place_told, told_by};
-ghost use Rattle.vcd_head.specs.Entries.{above, are_right, entry_in, is_right, most_of, number_in, text_in};
-ghost use Rattle.vcd_head.specs.Keys.{AreBytes, key_in};
-ghost use Rattle.vcd_head.specs.declared.view.Code.{Code};
+// The entries by which codes are looked up: how they are filled. Any code may have any place among them, and two the same: where
+// an entry is decides only how fast a look-up is.
+ghost use Rattle.std.specs.Prelude.{◌≡◌, ◌≢◌, ◌*◌, ◌^◌, ◌≤◌, ◌<◌, ℕ, List, true, length, set, slice_get, Some, IfOk};
+ghost use Rattle.vcd_view.specs.Entries.{are_right, is_right, text_in};
+ghost use Rattle.vcd_view.specs.Keys.{key_in};
+ghost use Rattle.vcd_view.specs.declared.view.Code.{Code};
 
-use crate::key::key_of;
-use crate::view::{Code, Entry, text_in};
 use std::alloc::{AllocError, Global};
+use vcd_view::{Code, Entry, entry_of, key_of, most_of, text_in};
 
 /// The entry of no code.
 pub(crate) const EMPTY: Entry = Entry {
@@ -16,86 +14,6 @@ pub(crate) const EMPTY: Entry = Entry {
     place: 0,
     most: 0,
 };
-
-/// Where the entry of a code is among so many, a power of two.
-///
-/// Simulators number codes from `!` on in base 94, the lowest digit first, in the order of
-/// declaration. Read back as such a number, neighbours have entries of their own.
-#[inline(always)]
-pub(crate) fn entry_of(code: &[u8], entries: usize) -> usize
-    ensures { result ≡ entry_in code.now entries }
-{
-    entry_for(code_number(code), entries)
-}
-
-/// Where the entry of a code with this number is among so many, a power of two.
-#[inline(always)]
-pub(crate) fn entry_for(number: usize, entries: usize) -> usize
-    ensures { result ≡ bit_and number ((entries + (2 ^ 64 - 1)) % 2 ^ 64) }
-{
-    number & entries.wrapping_sub(1)
-}
-
-/// The number whose digits are the bytes of a code, the first one lowest.
-#[inline(always)]
-pub(crate) fn code_number(code: &[u8]) -> usize
-    ensures { result ≡ number_in code.now }
-{
-    match code {
-        [first] => above(0, *first),
-        [first, second] => above(above(0, *second), *first),
-        [first, second, third] => above(above(above(0, *third), *second), *first),
-        [first, second, third, fourth] => above(
-            above(above(above(0, *fourth), *third), *second),
-            *first,
-        ),
-        _ => number_of(code),
-    }
-}
-
-// The number with a lower digit after it.
-#[inline(always)]
-fn above(number: usize, byte: u8) -> usize
-    ensures { result ≡ above number byte }
-{
-    number
-        .wrapping_mul(94)
-        .wrapping_add(usize::from(byte).wrapping_sub(32))
-}
-
-// The number of a code of any length.
-fn number_of(code: &[u8]) -> usize
-    ensures { result ≡ number_in code.now }
-{
-    let mut number: usize = 0;
-    let mut place = code.len();
-    while place > 0 {
-        place -= 1;
-        number = above(number, code[place]);
-    }
-    number
-}
-
-/// The number of the code of at most three bytes that has this key; none for the key of a longer one.
-#[inline(always)]
-pub(crate) fn number_of_key(key: u64) -> Option<usize>
-    ensures { IfSome result (λ number. (code : List ℕ) → AreBytes code → key ≡ key_in code
-        → key ≢ 0 → number ≡ number_in code) }
-{
-    let first = (key % 256) as u8;
-    if key < 256 * 256 {
-        return Some(above(0, first));
-    }
-    let second = (key / 256 % 256) as u8;
-    if key < 256 * 256 * 256 {
-        return Some(above(above(0, second), first));
-    }
-    let third = (key / (256 * 256) % 256) as u8;
-    if key < 256 * 256 * 256 * 256 {
-        return Some(above(above(above(0, third), second), first));
-    }
-    None
-}
 
 /// The entries of these codes, whose bytes lie in the text: a power of two of them, as many as three for each code allow.
 pub(crate) fn entries_of(
@@ -185,34 +103,6 @@ pub(crate) fn entry_with(place: usize, code: Code, key: u64) -> Entry
     }
 }
 
-/// The place that an entry gives for the code with this key, if it is that of the code.
-#[inline(always)]
-pub(crate) fn place_told(entries: &[Entry], at: usize, key: u64) -> Option<usize>
-    ensures { (code : List ℕ) → key ≡ key_in code → result ≡ place_told code (slice_get entries.now at) }
-{
-    let entry = entries.get(at)?;
-    if key != 0 && entry.key == key {
-        Some(entry.place as usize)
-    } else {
-        None
-    }
-}
-
-/// The place that one of the three entries beside the code's own gives. They lie in the same 64 bytes as that, so a look at them
-/// reads nothing new from memory.
-#[inline(always)]
-pub(crate) fn place_beside(entries: &[Entry], own: usize, key: u64) -> Option<usize>
-    ensures { (code : List ℕ) → key ≡ key_in code → result ≡ told_by entries.now code (beside own) }
-{
-    if let Some(place) = place_told(entries, own ^ 1, key) {
-        return Some(place);
-    }
-    if let Some(place) = place_told(entries, own ^ 2, key) {
-        return Some(place);
-    }
-    place_told(entries, own ^ 3, key)
-}
-
 /// Writes one entry, if there are so many.
 #[inline(always)]
 pub(crate) fn put(entries: &mut [Entry], at: usize, entry: Entry)
@@ -221,15 +111,4 @@ pub(crate) fn put(entries: &mut [Entry], at: usize, entry: Entry)
     if at < entries.len() {
         entries[at] = entry;
     }
-}
-
-/// The most digits that a change of the code may have: its size. It is 0 where any number is allowed, and where 32 bits do not
-/// hold the size.
-pub(crate) fn most_of(code: Code) -> u32
-    ensures { result ≡ most_of code }
-{
-    if code.event {
-        return 0;
-    }
-    u32::try_from(code.size).unwrap_or(0)
 }

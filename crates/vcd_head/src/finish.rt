@@ -4,7 +4,7 @@ ghost use Rattle.vcd_model.specs.HeaderPhrases.{HeaderPhrase};
 ghost use Rattle.vcd_model.specs.Header.{header_of};
 ghost use Rattle.vcd_head.specs.Draft.{IsDraftOf};
 ghost use Rattle.vcd_head.specs.Shown.{shown};
-ghost use Rattle.vcd_head.specs.Views.{Views};
+ghost use Rattle.vcd_view.specs.Views.{Views};
 
 use crate::codes::Codes;
 use crate::draft::Draft;

@@ -1,8 +1,8 @@
 // A header that was read.
 ghost use Rattle.std.specs.Prelude.{◌≡◌, true};
-ghost use Rattle.vcd_head.specs.Entries.{are_right};
+ghost use Rattle.vcd_view.specs.Entries.{are_right};
 
-use crate::view::{Code, Entry, HeadView, Row, Scale};
+use vcd_view::{Code, Entry, HeadView, Row, Scale};
 
 /// A header in memory of its own.
 #[derive(Drop)]
@@ -19,7 +19,8 @@ pub struct Head {
 }
 
 impl Head {
-    ghost use Rattle.vcd_head.specs.Shown.{shown, parts};
+    ghost use Rattle.vcd_head.specs.Shown.{shown};
+    ghost use Rattle.vcd_view.specs.Shown.{parts};
 
     /// The header as slices and numbers.
     pub fn view(&self) -> HeadView<'_>

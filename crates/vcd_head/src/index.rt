@@ -1,13 +1,12 @@
 // The order of codes by their bytes.
 ghost use Rattle.std.specs.Prelude.{◌≡◌, ℕ, ◌^◌, ◌<◌, ◌≤◌, List, length, map, get_or, IfOk, IfSome};
 ghost use Rattle.vcd_model.specs.Declarations.{IdCode};
-ghost use Rattle.vcd_head.specs.Codes.{AreHeld};
+ghost use Rattle.vcd_view.specs.Views.{AreHeld, IsIndex};
 ghost use Rattle.vcd_head.specs.Fronts.{AreFronts, AreRanks, bytes_at, front_in, order_of, place_in_rank, rank_of};
-ghost use Rattle.vcd_head.specs.Views.{IsIndex};
 
-use crate::view::{Code, code_in, text_in};
 use std::alloc::{AllocError, Global};
 use std::cmp::Ordering;
+use vcd_view::{Code, code_in, text_in};
 
 // The bytes of a code that a front has.
 const FRONT_BYTES: usize = 8;

@@ -7,11 +7,11 @@ ghost use Rattle.vcd_head.specs.Inside.{AreHeld, AreLeft, AreOpen, front, left_s
 ghost use Rattle.vcd_head.specs.Matched.{Matches, Matched};
 ghost use Rattle.vcd_head.specs.Paths.{scopes_text};
 ghost use Rattle.vcd_head.specs.Sieves.{RulesOut};
-ghost use Rattle.vcd_head.specs.Views.{IsViewOf};
+ghost use Rattle.vcd_view.specs.Views.{IsViewOf};
 
 use crate::selection::{Match, after_component, is_or_goes_on, selects};
 use crate::sieve::Sieve;
-use crate::view::{HeadView, Kind};
+use vcd_view::{HeadView, Kind};
 
 // So many names are followed together.
 pub(crate) const TOGETHER: usize = 64;

@@ -6,13 +6,13 @@ ghost use Rattle.vcd_model.specs.Header.{Header};
 ghost use Rattle.vcd_model.specs.HeadText.{first_number, input_head, least_exponent as least_of, merged_head};
 ghost use Rattle.vcd_text.specs.Device.{Counts, Takes};
 ghost use Rattle.vcd_head.specs.Merged.{FitNumbers, HaveRoom, ShowHeaders};
-ghost use Rattle.vcd_head.specs.Views.{IsViewOf};
+ghost use Rattle.vcd_view.specs.Views.{IsViewOf};
 
 use crate::head::Head;
 use crate::selection::select;
-use crate::view::HeadView;
 use crate::write::{put_declarations, put_lines, text_of_exponent};
 use vcd_text::{Sink, WriteFailed, put, put_number};
+use vcd_view::HeadView;
 
 /// The least power of ten of the heads' time scales, in seconds; a missing one counts as 1s, and 0 where there is no head.
 pub fn least_exponent(heads: &[Head]) -> i8

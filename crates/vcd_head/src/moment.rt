@@ -4,12 +4,12 @@ ghost use Rattle.std.specs.Int.{div_ceil};
 ghost use Rattle.std.specs.Option.{SomeIff};
 ghost use Rattle.vcd_model.specs.Header.{Header};
 ghost use Rattle.vcd_model.specs.Ticks.{moment_ticks, ticks as ticks_of};
-ghost use Rattle.vcd_head.specs.declared.view.Scale.{Scale};
+ghost use Rattle.vcd_view.specs.declared.view.Scale.{Scale};
 ghost use Rattle.vcd_head.specs.Moments.{asked, told};
-ghost use Rattle.vcd_head.specs.Views.{IsViewOf};
+ghost use Rattle.vcd_view.specs.Views.{IsViewOf};
 
-use crate::view::HeadView;
 use crate::words::unit_of;
+use vcd_view::HeadView;
 
 /// A time as it is asked for.
 #[derive(Clone, Copy, PartialEq, Eq, Debug)]

@@ -4,11 +4,11 @@ ghost use Rattle.vcd_model.specs.Declarations.{Declaration, path_of};
 ghost use Rattle.vcd_model.specs.Header.{Header};
 ghost use Rattle.vcd_text.specs.Device.{Counts, Takes, failures_after};
 ghost use Rattle.vcd_head.specs.Paths.{scopes_text};
-ghost use Rattle.vcd_head.specs.Views.{IsViewOf};
+ghost use Rattle.vcd_view.specs.Views.{IsViewOf};
 
 use crate::enclosing::Enclosing;
-use crate::view::HeadView;
 use vcd_text::{Sink, WriteFailed, put};
+use vcd_view::HeadView;
 
 /// Writes the names of the scopes around a declaration, outermost first, each with a point after it.
 fn put_scopes<W: Sink>(view: HeadView<'_>, row: usize, w: &mut W) -> Result<(), WriteFailed>

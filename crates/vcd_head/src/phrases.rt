@@ -10,7 +10,6 @@ ghost use Rattle.vcd_head.specs.Fault.{call_end};
 
 use crate::draft::Draft;
 use crate::fault::HeadFault;
-use crate::keyword::{Keyword, keyword_of};
 use crate::scale::read_timescale;
 use crate::scopes::{read_scope, read_upscope};
 use crate::texts::{skip_to_end, text_to_end};
@@ -19,6 +18,7 @@ use crate::variable::read_variable;
 use crate::words::{begins_change, is_command};
 use std::alloc::Global;
 use vcd_text::{Feed, Source};
+use vcd_view::{Keyword, keyword_of};
 
 fn read_comment<S: Source>(
     feed: &mut Feed<'_, '_, '_, '_, S>,

@@ -3,7 +3,7 @@ ghost use Rattle.std.specs.Prelude.{◌≡◌, ◌+◌, [], ◌∷◌, ◌++◌,
 ghost use Rattle.vcd_head.specs.Rows.{row_of};
 
 use crate::fault::HeadFault;
-use crate::view::{Kind, Row};
+use vcd_view::{Kind, Row};
 
 // A row before some of its numbers are held in 32 bits.
 #[derive(Clone, Copy)]

@@ -14,9 +14,9 @@ ghost use Rattle.vcd_head.specs.Fault.{call_end};
 use crate::draft::Draft;
 use crate::fault::HeadFault;
 use crate::tokens::{next_ends, next_token};
-use crate::view::Scale;
 use crate::words::{exponent_of, power_of, unit_of};
 use vcd_text::{Feed, Source};
+use vcd_view::Scale;
 
 /// A number and a unit, in one token or two: the power of ten in seconds.
 fn read_exponent<S: Source>(feed: &mut Feed<'_, '_, '_, '_, S>) -> Result<i8, HeadFault>

@@ -12,8 +12,8 @@ use crate::draft::Draft;
 use crate::fault::HeadFault;
 use crate::rows::{WideRow, push};
 use crate::tokens::{next_ends, next_word};
-use crate::view::Kind;
 use vcd_text::{Feed, Source};
+use vcd_view::Kind;
 
 /// How many scopes may be open (profile).
 pub(crate) const MOST_OPEN: usize = 1000;

@@ -6,11 +6,11 @@ ghost use Rattle.vcd_model.specs.Selection.{first_unmatched, marked_places, sele
 ghost use Rattle.vcd_head.specs.Marks.{AllMarked, Marked, marks_of, scopes_at};
 ghost use Rattle.vcd_head.specs.Matched.{IsFirstFalse};
 ghost use Rattle.vcd_head.specs.Selects.{IsBehind, selects_after};
-ghost use Rattle.vcd_head.specs.Views.{IsViewOf, counted_from_one};
+ghost use Rattle.vcd_view.specs.Views.{IsViewOf, counted_from_one};
 
 use crate::enclosing::Enclosing;
 use crate::inside::{Open, TOGETHER};
-use crate::view::HeadView;
+use vcd_view::HeadView;
 
 // What a name says of a path whose prefix it was compared with.
 pub(crate) enum Match<'n> {

@@ -1,11 +1,10 @@
 // A code that is looked for while a header is read.
 ghost use Rattle.std.specs.Prelude.{◌≡◌};
 ghost use Rattle.std.proofs.Props.{props};
-ghost use Rattle.vcd_head.specs.Entries.{entry_in, number_in};
-ghost use Rattle.vcd_head.specs.Keys.{AreBytes, key_in};
+ghost use Rattle.vcd_view.specs.Entries.{entry_in, number_in};
+ghost use Rattle.vcd_view.specs.Keys.{AreBytes, key_in};
 
-use crate::entries::{code_number, entry_for};
-use crate::key::key_of;
+use vcd_view::{code_number, entry_for, key_of};
 
 // The bytes of a code, with the numbers that lead to its entry and tell it from others.
 #[derive(Clone, Copy)]

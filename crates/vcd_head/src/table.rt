@@ -1,16 +1,18 @@
 // The table that finds codes by their bytes while a header is read.
 ghost use Rattle.std.specs.Prelude.{◌≡◌, ℕ, List, [], true, ◌∷◌, length, slice_get, Some, None, IfOk, IfSome};
 ghost use Rattle.vcd_model.specs.Declarations.{IdCode};
-ghost use Rattle.vcd_head.specs.Codes.{AreHeld, FindsAll, IsEntered, IsOneOf, Moves, beside, entered, in_tree, place_in};
-ghost use Rattle.vcd_head.specs.Entries.{AreEntered, are_right, text_in};
-ghost use Rattle.vcd_head.specs.declared.view.Code.{Code};
-ghost use Rattle.vcd_head.specs.declared.view.Entry.{Entry};
+ghost use Rattle.vcd_view.specs.Views.{AreHeld};
+ghost use Rattle.vcd_head.specs.Codes.{FindsAll, IsEntered, IsOneOf, Moves, entered, in_tree, place_in};
+ghost use Rattle.vcd_view.specs.Entries.{beside, are_right, text_in};
+ghost use Rattle.vcd_head.specs.Entries.{AreEntered};
+ghost use Rattle.vcd_view.specs.declared.view.Code.{Code};
+ghost use Rattle.vcd_view.specs.declared.view.Entry.{Entry};
 
-use crate::entries::{EMPTY, entry_for, entry_with, number_of_key, place_beside, place_told, put};
+use crate::entries::{EMPTY, entry_with, put};
 use crate::sought::Sought;
-use crate::view::{Code, Entry, text_in};
 use std::alloc::{AllocError, Global};
 use std::collections::BTreeMap;
+use vcd_view::{Code, Entry, entry_for, number_of_key, place_beside, place_told, text_in};
 
 // The fewest entries of a table that has codes.
 const FEWEST_ENTRIES: usize = 64;

@@ -10,8 +10,8 @@ ghost use Rattle.vcd_head.specs.Reads.{Reads, Fails};
 ghost use Rattle.vcd_head.specs.Texts.{RunsOn, EndsThere, spaced};
 ghost use Rattle.vcd_text.specs.Advances.{Advances};
 ghost use Rattle.vcd_head.specs.Fault.{call_end};
-ghost use Rattle.vcd_head.specs.declared.view.Code.{Code};
-ghost use Rattle.vcd_head.specs.declared.view.Entry.{Entry};
+ghost use Rattle.vcd_view.specs.declared.view.Code.{Code};
+ghost use Rattle.vcd_view.specs.declared.view.Entry.{Entry};
 
 use crate::fault::HeadFault;
 use crate::tokens::next_ends;

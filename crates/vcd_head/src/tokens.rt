@@ -13,8 +13,8 @@ ghost use Rattle.vcd_head.specs.Reads.{Reads, ReadsToken, Fails};
 ghost use Rattle.vcd_head.specs.Texts.{Welcomes, WordRead, WordTaken};
 ghost use Rattle.vcd_text.specs.Advances.{Advances};
 ghost use Rattle.vcd_head.specs.Fault.{call_end};
-ghost use Rattle.vcd_head.specs.declared.view.Code.{Code};
-ghost use Rattle.vcd_head.specs.declared.view.Entry.{Entry};
+ghost use Rattle.vcd_view.specs.declared.view.Code.{Code};
+ghost use Rattle.vcd_view.specs.declared.view.Entry.{Entry};
 
 use crate::fault::HeadFault;
 use crate::words;

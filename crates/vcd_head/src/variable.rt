@@ -20,10 +20,10 @@ use crate::rows::{WideRow, push};
 use crate::sought::Sought;
 use crate::texts::append_to_end;
 use crate::tokens::{next_token, next_word};
-use crate::view::Kind;
 use crate::words::{is_code, is_event, size_of};
 use std::alloc::Global;
 use vcd_text::{Feed, Source};
+use vcd_view::Kind;
 
 /// The size of a variable, in bits.
 fn read_size<S: Source>(feed: &mut Feed<'_, '_, '_, '_, S>) -> Result<usize, HeadFault>

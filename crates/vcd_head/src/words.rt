@@ -7,7 +7,7 @@ ghost use Rattle.vcd_model.specs.Scales.{exponent_of as exponent_is};
 ghost use Rattle.vcd_model.specs.HeaderChecks.{begins_change as changes};
 ghost use Rattle.vcd_head.specs.Words.{power_in, unit_in, size_in};
 
-use crate::keyword::is;
+use vcd_view::is;
 
 #[inline(always)]
 pub(crate) fn is_end(token: &[u8]) -> bool

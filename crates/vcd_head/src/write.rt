@@ -10,11 +10,10 @@ ghost use Rattle.vcd_model.specs.Scales.{scale_text};
 ghost use Rattle.vcd_text.specs.Device.{Counts, Puts, Takes, failures_after};
 ghost use Rattle.vcd_head.specs.Marks.{is_marked, marks_of};
 ghost use Rattle.vcd_head.specs.Merged.{FitNumbers, given};
-ghost use Rattle.vcd_head.specs.Views.{IsViewOf};
+ghost use Rattle.vcd_view.specs.Views.{IsViewOf};
 
-use crate::new_code::NewCode;
-use crate::view::{HeadView, Kind, Scale};
 use vcd_text::{Sink, WriteFailed, put, put_number};
+use vcd_view::{HeadView, Kind, NewCode, Scale};
 
 /// Writes texts one after the other.
 fn put_texts<W: Sink>(w: &mut W, texts: &[&[u8]]) -> Result<(), WriteFailed>

@@ -15,7 +15,7 @@ use Rattle.vcd_model.proofs.MergedText.{IsTimed, text_more, timed_rest, written_
 use Rattle.vcd_text.specs.Answer.{failed_after}
 use Rattle.vcd_text.specs.ReadAhead.{HasRest}
 use Rattle.vcd_head.specs.Shown.{shown}
-use Rattle.vcd_head.specs.Views.{Views}
+use Rattle.vcd_view.specs.Views.{Views}
 use Rattle.vcd_head.specs.declared.head.Head.{Head}
 use Rattle.vcd_text.specs.Device.{Device, Writes}
 use Rattle.vcd_merge.specs.MergeStep.{AreGiven, AreMarked, Gives, HasFault, Holds, IsReady, ReadsOne, Standing, Takes, cut_at, last_written, next_item}

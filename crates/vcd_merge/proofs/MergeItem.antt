@@ -8,12 +8,12 @@ use Rattle.vcd_model.specs.HeadText.{new_code, code_place}
 use Rattle.vcd_model.specs.Items.{BodyItem, ChangeForm, leaves_open, time_after}
 use Rattle.vcd_model.specs.Values.{change_line}
 use Rattle.vcd_model.proofs.ItemStates.{leaves_open_is}
-use Rattle.vcd_head.specs.Entries.{most_of}
-use Rattle.vcd_head.specs.Shown.{HeadShown}
-use Rattle.vcd_head.specs.declared.view.Code.{Code}
-use Rattle.vcd_head.proofs.RowLemmas.{code_at}
-use Rattle.vcd_head.proofs.LookUpLemmas.{place_is as place_of}
-use Rattle.vcd_head.specs.Views.{Views}
+use Rattle.vcd_view.specs.Entries.{most_of}
+use Rattle.vcd_view.specs.Shown.{HeadShown}
+use Rattle.vcd_view.specs.declared.view.Code.{Code}
+use Rattle.vcd_view.proofs.RowLemmas.{code_at}
+use Rattle.vcd_view.proofs.LookUpLemmas.{place_is as place_of}
+use Rattle.vcd_view.specs.Views.{Views}
 use Rattle.vcd_body.specs.Ahead.{HasBits}
 use Rattle.vcd_body.specs.Binary.{binary_digits}
 use Rattle.vcd_body.specs.Items.{AreRegsAfter}

@@ -5,7 +5,7 @@ use Rattle.std.proofs.lemmas.Slice.Zip.{AllZip-long}
 use Rattle.vcd_model.specs.Bound.{AreAllWindows, AreViews, WindowSize, text_bytes}
 use Rattle.vcd_model.specs.Header.{Header}
 use Rattle.vcd_model.proofs.BoundLemmas.{bound_of_limit, merge_fits}
-use Rattle.vcd_head.proofs.RoomLemmas.{is_view}
+use Rattle.vcd_view.proofs.RoomLemmas.{is_view}
 use Rattle.vcd_head.specs.Merged.{ShowHeaders}
 use Rattle.vcd_head.specs.Shown.{shown}
 use Rattle.vcd_head.specs.declared.head.Head.{Head}

@@ -17,7 +17,7 @@ use Rattle.vcd_text.specs.Feed.{parked_answer}
 use Rattle.vcd_head.specs.declared.head.Head.{Head}
 use Rattle.vcd_head.specs.Merged.{ShowHeaders}
 use Rattle.vcd_head.specs.Shown.{shown}
-use Rattle.vcd_head.specs.Views.{IsExponent, Views}
+use Rattle.vcd_view.specs.Views.{IsExponent, Views}
 use Rattle.vcd_head.proofs.MergedLemmas.{few_powers, numbers_fit}
 use Rattle.vcd_merge.specs.declared.merge_state.Merge.{Merge}
 use Rattle.vcd_merge.specs.declared.seat.Seat.{Seat}

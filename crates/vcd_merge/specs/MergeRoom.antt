@@ -3,7 +3,7 @@ use Rattle.std.specs.Prelude.{ℕ, List, length, sum_by}
 use Rattle.vcd_model.specs.Bound.{FitsBound, ViewSize, WindowSize, marks_alone}
 use Rattle.vcd_model.specs.Header.{Header}
 use Rattle.vcd_head.specs.Merged.{ShowHeaders}
-use Rattle.vcd_head.specs.Needs.{view_size}
+use Rattle.vcd_view.specs.Needs.{view_size}
 use Rattle.vcd_head.specs.Shown.{shown}
 use Rattle.vcd_head.specs.declared.head.Head.{Head}
 use Rattle.vcd_merge.specs.declared.windows.Windows.{Windows}

@@ -12,7 +12,7 @@ use Rattle.vcd_text.specs.Answer.{failed_after}
 use Rattle.vcd_text.specs.Feed.{parked_seen}
 use Rattle.vcd_text.specs.ReadAhead.{HasRest}
 use Rattle.vcd_head.specs.Shown.{shown}
-use Rattle.vcd_head.specs.Views.{Views}
+use Rattle.vcd_view.specs.Views.{Views}
 use Rattle.vcd_head.specs.declared.head.Head.{Head}
 use Rattle.vcd_text.specs.Device.{Device, Writes}
 use Rattle.vcd_body.specs.Device.{Grows, GrowsSome}

@@ -4,11 +4,12 @@ ghost use Rattle.vcd_model.specs.Header.{Header};
 ghost use Rattle.vcd_model.specs.HeadText.{least_exponent as least_of};
 ghost use Rattle.vcd_model.specs.Merge.{factor};
 ghost use Rattle.vcd_head.specs.Merged.{ShowHeaders};
-ghost use Rattle.vcd_head.specs.Views.{IsExponent, IsViewOf};
+ghost use Rattle.vcd_view.specs.Views.{IsExponent, IsViewOf};
 ghost use Rattle.vcd_merge.specs.MergeStart.{AreBegun, AreOpen};
 
 use crate::seat::Seat;
-use vcd_head::{Head, HeadView, least_exponent};
+use vcd_head::{Head, least_exponent};
+use vcd_view::HeadView;
 
 /// By how much the times of an input are scaled where this is the least power of ten of all time scales.
 fn factor_of(view: HeadView<'_>, least: i8) -> u64

@@ -5,7 +5,7 @@ ghost use Rattle.vcd_text.specs.Device.{Counts, Device, Takes, Writes, failures_
 ghost use Rattle.vcd_body.specs.Answer.{NamesInput, goes_on, writes_failed};
 ghost use Rattle.vcd_model.specs.Items.{BodyItem};
 ghost use Rattle.vcd_head.specs.Shown.{shown};
-ghost use Rattle.vcd_head.specs.Views.{Views};
+ghost use Rattle.vcd_view.specs.Views.{Views};
 ghost use Rattle.vcd_merge.specs.Seat.{AtSeat, Lane, Spot, Turns};
 ghost use Rattle.vcd_merge.specs.MergeParts.{AreParts, AreSeated, SameLengths, part, part_len, spot_at};
 ghost use Rattle.vcd_merge.specs.MergeOrder.{IsNext, greatest_time};

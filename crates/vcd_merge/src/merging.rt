@@ -9,10 +9,10 @@ ghost use Rattle.vcd_model.specs.MergeByInput.{due_with, entry_for, written_with
 ghost use Rattle.vcd_text.specs.Device.{Counts, Takes, failures_after};
 ghost use Rattle.vcd_text.specs.Feed.{SameLoans, source_of, parked_of, seen, limit_of, chunk_len_of, parked_seen};
 ghost use Rattle.vcd_text.specs.Registers.{Fits};
-ghost use Rattle.vcd_head.specs.Finds.{IsSized};
-ghost use Rattle.vcd_head.specs.Shown.{parts};
-ghost use Rattle.vcd_head.specs.Views.{IsViewOf};
-ghost use Rattle.vcd_head.specs.declared.view.Code.{Code};
+ghost use Rattle.vcd_view.specs.Finds.{IsSized};
+ghost use Rattle.vcd_view.specs.Shown.{parts};
+ghost use Rattle.vcd_view.specs.Views.{IsViewOf};
+ghost use Rattle.vcd_view.specs.declared.view.Code.{Code};
 ghost use Rattle.vcd_text.specs.Advances.{Advances, CallEnd, HasNotFailed};
 ghost use Rattle.vcd_text.specs.Ahead.{bytes_of, longest_of, passed_of};
 ghost use Rattle.vcd_text.specs.Passed.{Passed};
@@ -31,8 +31,8 @@ use vcd_body::{
     Bits, Form, Item, Stop, change_text, item_ahead, next_item, pass_items, put_renamed_bits,
     put_time_unless,
 };
-use vcd_head::HeadView;
 use vcd_text::{Ahead, Feed, Sink, Source, WriteFailed};
+use vcd_view::HeadView;
 
 /// What a code is of, as a change is written.
 #[derive(Clone, Copy)]

@@ -3,11 +3,9 @@ ghost use Rattle.std.specs.Prelude.{◌≤◌};
 
 use std::alloc::{AllocError, Global};
 use std::test::Fail;
-use vcd_head::{
-    Code, Head, HeadFault, Kind, Need, Probes, Row, Scale, find, find_counted, need, put_head,
-    put_path, read_head, select, selects,
-};
+use vcd_head::{Head, HeadFault, put_head, put_path, read_head, select, selects};
 use vcd_text::{Feed, Watch};
+use vcd_view::{Code, Kind, Need, Probes, Row, Scale, find, find_counted, need};
 
 mod merged;
 mod moments;

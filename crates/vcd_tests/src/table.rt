@@ -4,9 +4,9 @@ ghost use Rattle.std.specs.Prelude.{◌≡◌, ◌<◌};
 use std::alloc::{AllocError, Global};
 use std::test::Fail;
 use vcd_body::{Bits, Form, Shown, Slot, Step, Table};
-use vcd_head::{Code, HeadView, need};
 use vcd_text::doubles::Narrow;
 use vcd_text::{Sink, Watch, WriteFailed};
+use vcd_view::{Code, HeadView, need};
 
 // The code `!` of this size.
 fn code_of(size: usize) -> Code {

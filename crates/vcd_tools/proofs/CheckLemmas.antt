@@ -10,10 +10,10 @@ use Rattle.vcd_model.specs.Declarations.{Declaration, IdCode, is_scope, variable
 use Rattle.vcd_model.specs.Header.{Header}
 use Rattle.vcd_model.specs.Items.{BodyItem, Change as Changed, marks, time_mark, is_begin, change_of}
 use Rattle.vcd_model.specs.ItemText.{last_mark}
-use Rattle.vcd_head.specs.Shown.{parts}
-use Rattle.vcd_head.specs.Views.{AreRows, IsCode, Views}
-use Rattle.vcd_head.specs.declared.view.HeadView.{HeadView}
-use Rattle.vcd_head.specs.declared.view.Row.{Row}
+use Rattle.vcd_view.specs.Shown.{parts}
+use Rattle.vcd_view.specs.Views.{AreRows, IsCode, Views}
+use Rattle.vcd_view.specs.declared.view.HeadView.{HeadView}
+use Rattle.vcd_view.specs.declared.view.Row.{Row}
 use Rattle.vcd_body.specs.Items.{model_section}
 use Rattle.vcd_body.specs.declared.item.Item.{Item}
 use Rattle.vcd_body.specs.declared.item.Item.TheVariants.{Time, Begin, End, Change, Finish}

@@ -30,12 +30,12 @@ use Rattle.vcd_tools.specs.ItemText.{HasWritten, LastTells, times_with}
 use Rattle.vcd_tools.specs.Values.{AreHeld, HasValues}
 use Rattle.vcd_tools.specs.declared.machine.cut.Cut.{Cut}
 use Rattle.vcd_tools.specs.declared.item_text.ItemText.{ItemText}
-use Rattle.vcd_head.specs.Shown.{parts}
-use Rattle.vcd_head.specs.Views.{IsViewOf, Views}
-use Rattle.vcd_head.specs.declared.view.Code.{Code}
-use Rattle.vcd_head.specs.declared.view.HeadView.{HeadView}
-use Rattle.vcd_head.proofs.LookUpLemmas.{codes_len}
-use Rattle.vcd_head.proofs.RowLemmas.{code_at}
+use Rattle.vcd_view.specs.Shown.{parts}
+use Rattle.vcd_view.specs.Views.{IsViewOf, Views}
+use Rattle.vcd_view.specs.declared.view.Code.{Code}
+use Rattle.vcd_view.specs.declared.view.HeadView.{HeadView}
+use Rattle.vcd_view.proofs.LookUpLemmas.{codes_len}
+use Rattle.vcd_view.proofs.RowLemmas.{code_at}
 use Rattle.vcd_body.proofs.StoreLemmas.{some_at}
 use Rattle.std.proofs.lemmas.Option.{slice_get-get_or}
 use Rattle.vcd_body.specs.Contents.{codes_shown, held_at, line_of}

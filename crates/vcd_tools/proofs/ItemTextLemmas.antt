@@ -9,11 +9,10 @@ use Rattle.vcd_model.specs.ItemText.{item_line, text_after, time_unless}
 use Rattle.vcd_model.proofs.Growing.{text_after-append}
 use Rattle.vcd_model.proofs.ItemStates.{leaves_open_is}
 use Rattle.vcd_model.specs.Values.{change_line}
-use Rattle.vcd_head.specs.Shown.{HeadShown, text_in}
-use Rattle.vcd_head.specs.Views.{IsCode, Views}
-use Rattle.vcd_head.specs.declared.view.Code.{Code}
-use Rattle.vcd_head.proofs.RowLemmas.{code_at}
-use Rattle.vcd_head.proofs.RowLemmas.{text_within}
+use Rattle.vcd_view.specs.Shown.{HeadShown, text_in}
+use Rattle.vcd_view.specs.Views.{IsCode, Views}
+use Rattle.vcd_view.specs.declared.view.Code.{Code}
+use Rattle.vcd_view.proofs.RowLemmas.{code_at, text_within}
 use Rattle.vcd_body.specs.Given.{IsText}
 use Rattle.vcd_body.specs.Items.{AreRegsAfter, model_form}
 use Rattle.vcd_body.specs.declared.item.Regs.{Regs}

@@ -13,13 +13,12 @@ use Rattle.vcd_model.specs.Header.{Header}
 use Rattle.vcd_model.specs.Selection.{selected, with_path}
 use Rattle.vcd_model.proofs.Growing.{each_after-append}
 use Rattle.vcd_text.proofs.Writes.{AppendsSome, appends-first, appends-some}
-use Rattle.vcd_head.specs.declared.view.Code.{Code}
-use Rattle.vcd_head.specs.declared.view.Kind.TheVariants as kind
-use Rattle.vcd_head.specs.declared.view.Row.{Row}
-use Rattle.vcd_head.specs.Shown.{HeadShown}
-use Rattle.vcd_head.specs.Views.{IsCode, IsRow, Views, code_text}
-use Rattle.vcd_head.proofs.DraftGrows.{rows_len}
-use Rattle.vcd_head.proofs.RowLemmas.{row_at, row_of, row_of_variable, there}
+use Rattle.vcd_view.specs.declared.view.Code.{Code}
+use Rattle.vcd_view.specs.declared.view.Kind.TheVariants as kind
+use Rattle.vcd_view.specs.declared.view.Row.{Row}
+use Rattle.vcd_view.specs.Shown.{HeadShown}
+use Rattle.vcd_view.specs.Views.{IsCode, IsRow, Views, code_text}
+use Rattle.vcd_view.proofs.RowLemmas.{rows_len, row_at, row_of, row_of_variable, there}
 
 -- the line of a variable that has these declarations before it
 abbrev pub line_after : List Declaration → Variable → List ℕ

@@ -8,10 +8,10 @@ use Rattle.vcd_model.specs.ItemText.{closing, kept_by, last_mark, text_after}
 use Rattle.vcd_model.specs.Pick.{pick_kept, pick_open, pick_close}
 use Rattle.vcd_model.proofs.Growing.{entries-append, kept_by-append}
 use Rattle.vcd_model.proofs.KeptLines.{keeps, picked_by, time_unless_last}
-use Rattle.vcd_head.specs.Shown.{parts}
-use Rattle.vcd_head.specs.Views.{Views}
-use Rattle.vcd_head.specs.declared.view.HeadView.{HeadView}
-use Rattle.vcd_head.proofs.RowLemmas.{code_at}
+use Rattle.vcd_view.specs.Shown.{parts}
+use Rattle.vcd_view.specs.Views.{Views}
+use Rattle.vcd_view.specs.declared.view.HeadView.{HeadView}
+use Rattle.vcd_view.proofs.RowLemmas.{code_at}
 use Rattle.vcd_body.specs.Items.{AreRegsAfter, regs_after}
 use Rattle.vcd_body.specs.declared.item.Item.{Item}
 use Rattle.vcd_body.specs.declared.item.Item.TheVariants.{Time, Begin, End, Change, Finish}

@@ -9,7 +9,7 @@ use Rattle.vcd_body.specs.Device.{Grows, GrowsSome}
 use Rattle.std.specs.Borrow.{Bor}
 use Rattle.vcd_text.specs.Ahead.{bytes_of, passed_of}
 use Rattle.vcd_text.specs.declared.ahead.Ahead.{Ahead}
-use Rattle.vcd_head.specs.declared.view.HeadView.{HeadView}
+use Rattle.vcd_view.specs.declared.view.HeadView.{HeadView}
 use Rattle.vcd_body.specs.Ahead.{IsPlain}
 use Rattle.vcd_body.specs.Spelled.{HasSpelled}
 use Rattle.vcd_body.specs.Taken.{TakesItem}

@@ -4,12 +4,12 @@ use Rattle.std.proofs.lemmas.List.Sums.{sum_by-append}
 use Rattle.vcd_model.specs.Bound.{AreWindows, FitsInput, RoomSize, ViewSize, WindowSize, no_room, value_room}
 use Rattle.vcd_model.specs.Declarations.{IdCode}
 use Rattle.vcd_model.proofs.BoundLemmas.{room_fits}
-use Rattle.vcd_head.proofs.RoomLemmas.{is_view}
-use Rattle.vcd_head.specs.Needs.{view_size}
-use Rattle.vcd_head.specs.Shown.{parts}
-use Rattle.vcd_head.specs.Views.{IsViewOf}
+use Rattle.vcd_view.proofs.RoomLemmas.{is_view}
+use Rattle.vcd_view.specs.Needs.{view_size}
+use Rattle.vcd_view.specs.Shown.{parts}
+use Rattle.vcd_view.specs.Views.{IsViewOf}
 use Rattle.vcd_model.specs.Header.{Header}
-use Rattle.vcd_head.specs.declared.view.HeadView.{HeadView}
+use Rattle.vcd_view.specs.declared.view.HeadView.{HeadView}
 use Rattle.vcd_tools.specs.Room.{AreWithinBound, IsWithin}
 
 pub less_room : (limit : ℕ) (h : Header) (w : WindowSize) (v : ViewSize) (r most : RoomSize) → IsWithin r most → FitsInput limit h w v most → FitsInput limit h w v r

@@ -10,11 +10,11 @@ use Rattle.vcd_model.specs.Items.{BodyItem}
 use Rattle.vcd_model.specs.Sample.{is_settled, sample_lines, shown}
 use Rattle.vcd_model.specs.Selection.{Selected}
 use Rattle.vcd_model.proofs.SampleSteps.{value_now}
-use Rattle.vcd_head.specs.Shown.{parts}
-use Rattle.vcd_head.specs.Views.{IsViewOf}
-use Rattle.vcd_head.specs.declared.view.HeadView.{HeadView}
-use Rattle.vcd_head.specs.declared.view.Row.{Row}
-use Rattle.vcd_head.proofs.RowLemmas.{row_of}
+use Rattle.vcd_view.specs.Shown.{parts}
+use Rattle.vcd_view.specs.Views.{IsViewOf}
+use Rattle.vcd_view.specs.declared.view.HeadView.{HeadView}
+use Rattle.vcd_view.specs.declared.view.Row.{Row}
+use Rattle.vcd_view.proofs.RowLemmas.{row_of}
 use Rattle.vcd_body.specs.Contents.{codes_shown, held_at, value_in}
 use Rattle.vcd_body.specs.Kept.{value_at_size}
 use Rattle.vcd_body.specs.declared.table.Table.{Table}

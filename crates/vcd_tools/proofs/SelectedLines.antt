@@ -12,13 +12,12 @@ use Rattle.vcd_model.specs.Selection.{Selected, is_selected, selected, with_path
 use Rattle.vcd_model.proofs.Growing.{each_after-append}
 use Rattle.vcd_text.proofs.Writes.{AppendsSome, appends-first, appends-some}
 use Rattle.vcd_head.specs.Marks.{is_marked, marks_of}
-use Rattle.vcd_head.specs.Shown.{HeadShown}
-use Rattle.vcd_head.specs.Views.{IsRow, Views}
-use Rattle.vcd_head.specs.declared.view.Kind.TheVariants as kind
-use Rattle.vcd_head.specs.declared.view.Row.{Row}
-use Rattle.vcd_head.proofs.DraftGrows.{rows_len}
+use Rattle.vcd_view.specs.Shown.{HeadShown}
+use Rattle.vcd_view.specs.Views.{IsRow, Views}
+use Rattle.vcd_view.specs.declared.view.Kind.TheVariants as kind
+use Rattle.vcd_view.specs.declared.view.Row.{Row}
+use Rattle.vcd_view.proofs.RowLemmas.{rows_len, row_at}
 use Rattle.vcd_head.proofs.MarkedHead.{marks_are}
-use Rattle.vcd_head.proofs.RowLemmas.{row_at}
 use Rattle.vcd_tools.proofs.SelectionLemmas.{marked_is, selected_next}
 
 -- a variable that is declared at a place, with its path

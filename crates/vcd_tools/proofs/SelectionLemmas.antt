@@ -25,13 +25,12 @@ use Rattle.vcd_model.specs.Selection.{Selected, is_among, is_selected, marked_pl
 use Rattle.vcd_model.proofs.Growing.{each_after-append}
 use Rattle.vcd_model.proofs.ScopeLemmas.{enclosing-scope, enclosing-up, enclosing-var, enclosing_below}
 use Rattle.vcd_head.specs.Marks.{marks_of}
-use Rattle.vcd_head.specs.Shown.{HeadShown}
-use Rattle.vcd_head.specs.Views.{IsCode, IsIndex, IsRow, Views, code_text}
-use Rattle.vcd_head.specs.contracts.view.Kind.{the_type}
-use Rattle.vcd_head.specs.declared.view.Kind.TheVariants as kind
-use Rattle.vcd_head.specs.declared.view.Row.{Row}
-use Rattle.vcd_head.proofs.RowLemmas.{row_at}
-use Rattle.vcd_head.proofs.DraftGrows.{rows_len}
+use Rattle.vcd_view.specs.Shown.{HeadShown}
+use Rattle.vcd_view.specs.Views.{IsCode, IsIndex, IsRow, Views, code_text}
+use Rattle.vcd_view.specs.contracts.view.Kind.{the_type}
+use Rattle.vcd_view.specs.declared.view.Kind.TheVariants as kind
+use Rattle.vcd_view.specs.declared.view.Row.{Row}
+use Rattle.vcd_view.proofs.RowLemmas.{row_at, rows_len}
 
 -- ---- codes of equal text have one place
 

@@ -12,13 +12,13 @@ use Rattle.vcd_model.specs.Items.{BodyItem, Change, leaves_open}
 use Rattle.vcd_model.specs.Values.{Value, same_value, value_of, value_with}
 use Rattle.vcd_model.proofs.EdgesSteps.{are_few, counts_mark, counts_new, counts_other, with_mark, with_value}
 use Rattle.vcd_model.proofs.FinalValues.{final_other}
-use Rattle.vcd_head.specs.Finds.{IsSized}
-use Rattle.vcd_head.specs.Shown.{parts}
-use Rattle.vcd_head.specs.Views.{IsViewOf}
-use Rattle.vcd_head.specs.declared.view.Code.{Code}
-use Rattle.vcd_head.specs.declared.view.HeadView.{HeadView}
-use Rattle.vcd_head.proofs.LookUpLemmas.{same_place}
-use Rattle.vcd_head.proofs.RowLemmas.{code_at}
+use Rattle.vcd_view.specs.Finds.{IsSized}
+use Rattle.vcd_view.specs.Shown.{parts}
+use Rattle.vcd_view.specs.Views.{IsViewOf}
+use Rattle.vcd_view.specs.declared.view.Code.{Code}
+use Rattle.vcd_view.specs.declared.view.HeadView.{HeadView}
+use Rattle.vcd_view.proofs.LookUpLemmas.{same_place}
+use Rattle.vcd_view.proofs.RowLemmas.{code_at}
 use Rattle.vcd_body.specs.Contents.{ChangesCode, IsLaidOut, counts_at, held_at, kept_at}
 use Rattle.vcd_body.specs.Given.{IsText}
 use Rattle.vcd_body.specs.Items.{model_form}

@@ -6,11 +6,11 @@ use Rattle.vcd_model.specs.HeadText.{words}
 use Rattle.vcd_model.specs.Header.{Header}
 use Rattle.vcd_model.specs.Items.{BodyItem}
 use Rattle.vcd_model.specs.Selection.{selected}
-use Rattle.vcd_head.specs.Shown.{parts}
-use Rattle.vcd_head.specs.Views.{IsViewOf}
-use Rattle.vcd_head.specs.declared.view.HeadView.{HeadView}
-use Rattle.vcd_head.specs.declared.view.Row.{Row}
-use Rattle.vcd_head.proofs.RowLemmas.{row_of}
+use Rattle.vcd_view.specs.Shown.{parts}
+use Rattle.vcd_view.specs.Views.{IsViewOf}
+use Rattle.vcd_view.specs.declared.view.HeadView.{HeadView}
+use Rattle.vcd_view.specs.declared.view.Row.{Row}
+use Rattle.vcd_view.proofs.RowLemmas.{row_of}
 use Rattle.vcd_body.specs.Contents.{counts_at}
 use Rattle.vcd_body.specs.declared.table.Table.{Table}
 use Rattle.vcd_tools.specs.Edges.{AreTallied}

@@ -9,13 +9,13 @@ use Rattle.vcd_model.specs.History.{final_value, gives_to}
 use Rattle.vcd_model.specs.Items.{BodyItem}
 use Rattle.vcd_model.specs.Values.{value_with}
 use Rattle.vcd_model.proofs.FinalValues.{final_new, final_other}
-use Rattle.vcd_head.specs.Shown.{parts}
-use Rattle.vcd_head.specs.Views.{IsViewOf}
-use Rattle.vcd_head.specs.declared.view.Code.{Code}
-use Rattle.vcd_head.specs.declared.view.HeadView.{HeadView}
-use Rattle.vcd_head.proofs.LookUpLemmas.{same_place}
-use Rattle.vcd_head.proofs.RoomLemmas.{same_sum, sum_fits}
-use Rattle.vcd_head.proofs.RowLemmas.{code_at}
+use Rattle.vcd_view.specs.Shown.{parts}
+use Rattle.vcd_view.specs.Views.{IsViewOf}
+use Rattle.vcd_view.specs.declared.view.Code.{Code}
+use Rattle.vcd_view.specs.declared.view.HeadView.{HeadView}
+use Rattle.vcd_view.proofs.LookUpLemmas.{same_place}
+use Rattle.vcd_view.proofs.RoomLemmas.{same_sum, sum_fits}
+use Rattle.vcd_view.proofs.RowLemmas.{code_at}
 use Rattle.vcd_body.specs.Ahead.{HasBits}
 use Rattle.vcd_body.specs.Binary.{binary_digits}
 use Rattle.vcd_body.specs.Contents.{ChangesCode, IsLaidOut, held_at, kept_at}

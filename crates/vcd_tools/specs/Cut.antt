@@ -11,7 +11,7 @@ use Rattle.vcd_model.specs.ItemText.{kept_by}
 use Rattle.vcd_model.specs.Outcome.{Request}
 use Rattle.vcd_body.specs.Contents.{bytes_in, codes_in}
 use Rattle.vcd_text.specs.Device.{Device, WritesSome}
-use Rattle.vcd_head.specs.declared.view.HeadView.{HeadView}
+use Rattle.vcd_view.specs.declared.view.HeadView.{HeadView}
 use Rattle.vcd_body.specs.declared.item.Item.{Item}
 use Rattle.vcd_body.specs.declared.item.Item.TheVariants.{Time, Begin, End, Change, Finish}
 use Rattle.vcd_body.specs.declared.item.Regs.{Regs}

@@ -12,7 +12,7 @@ use Rattle.vcd_model.specs.Tokens.{Token}
 use Rattle.vcd_text.specs.Feed.{seen}
 use Rattle.vcd_text.specs.declared.device.Source.{Ghosts}
 use Rattle.vcd_text.specs.declared.feed.Feed.{Feed}
-use Rattle.vcd_head.specs.Views.{IsViewOf}
+use Rattle.vcd_view.specs.Views.{IsViewOf}
 use Rattle.vcd_body.specs.Items.{AreRegsAfter}
 use Rattle.vcd_body.specs.Reads.{GaveItems}
 use Rattle.vcd_body.specs.declared.item.Regs.{Regs}

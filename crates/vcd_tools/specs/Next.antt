@@ -3,8 +3,8 @@ use Rattle.std.specs.Prelude.{◌≡◌, ℕ, ◌<◌, ◌^◌, Bool, true, fals
 use Rattle.vcd_model.specs.Header.{Header}
 use Rattle.vcd_model.specs.Items.{BodyItem}
 use Rattle.vcd_text.specs.declared.ahead.Ahead.{Ahead}
-use Rattle.vcd_head.specs.Views.{IsViewOf}
-use Rattle.vcd_head.specs.declared.view.HeadView.{HeadView}
+use Rattle.vcd_view.specs.Views.{IsViewOf}
+use Rattle.vcd_view.specs.declared.view.HeadView.{HeadView}
 use Rattle.vcd_body.specs.Given.{IsItem}
 use Rattle.vcd_body.specs.Items.{AreRegsAfter, regs_after}
 use Rattle.vcd_body.specs.Taken.{TakesItem}

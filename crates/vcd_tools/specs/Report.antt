@@ -2,8 +2,8 @@
 use Rattle.std.specs.Prelude.{ℕ, Bool, true, false, List, ◌++◌, decimal, codes}
 use Rattle.std.specs.Borrow.{Bor}
 use Rattle.vcd_model.specs.CheckAndList.{count_line, number_or_dash}
-use Rattle.vcd_head.specs.declared.view.Kind.{Kind}
-use Rattle.vcd_head.specs.declared.view.Kind.TheVariants.{Scope, Up, Var}
+use Rattle.vcd_view.specs.declared.view.Kind.{Kind}
+use Rattle.vcd_view.specs.declared.view.Kind.TheVariants.{Scope, Up, Var}
 use Rattle.vcd_tools.specs.declared.report.Report.{Report}
 
 -- a scope is opened

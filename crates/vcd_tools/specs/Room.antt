@@ -2,15 +2,15 @@
 use Rattle.std.specs.Prelude.{ℕ, ◌≤◌, length}
 use Rattle.vcd_model.specs.Bound.{FitsInput, RoomSize, no_room}
 use Rattle.vcd_model.specs.Header.{Header}
-use Rattle.vcd_head.specs.Needs.{view_size}
-use Rattle.vcd_head.specs.Shown.{parts}
-use Rattle.vcd_head.specs.Views.{IsViewOf}
+use Rattle.vcd_view.specs.Needs.{view_size}
+use Rattle.vcd_view.specs.Shown.{parts}
+use Rattle.vcd_view.specs.Views.{IsViewOf}
 use Rattle.vcd_tools.specs.Pick.{flags_in}
 use Rattle.vcd_tools.specs.declared.engine.Begun.{Begun}
 use Rattle.vcd_tools.specs.declared.engine.Engine.{Engine}
 use Rattle.vcd_tools.specs.declared.machine.Machine.{Machine}
 use Rattle.vcd_tools.specs.declared.machine.Machine.TheVariants as machine
-use Rattle.vcd_head.specs.declared.view.HeadView.{HeadView}
+use Rattle.vcd_view.specs.declared.view.HeadView.{HeadView}
 use Rattle.vcd_tools.specs.declared.task.Room.{Room}
 use Rattle.vcd_tools.specs.declared.task.Task.{Task}
 use Rattle.vcd_tools.specs.Cut.{lent_to}

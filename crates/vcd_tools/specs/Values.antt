@@ -5,8 +5,8 @@ use Rattle.vcd_model.specs.Header.{Header}
 use Rattle.vcd_model.specs.History.{final_value}
 use Rattle.vcd_model.specs.Items.{BodyItem}
 use Rattle.vcd_model.specs.Values.{Value}
-use Rattle.vcd_head.specs.Needs.{value_bytes}
-use Rattle.vcd_head.specs.declared.view.HeadView.{HeadView}
+use Rattle.vcd_view.specs.Needs.{value_bytes}
+use Rattle.vcd_view.specs.declared.view.HeadView.{HeadView}
 use Rattle.vcd_body.specs.Contents.{IsLaidOut, held_at, kept_at}
 use Rattle.vcd_body.specs.Kept.{Kept, value_at_size}
 use Rattle.vcd_body.specs.Stored.{share_of}

@@ -2,7 +2,7 @@
 ghost use Rattle.std.specs.Prelude.{◌≡◌, ℕ, ◌<◌, ◌≤◌, ◌==◌, ◌||◌, false, length};
 ghost use Rattle.vcd_tools.specs.Choice.{codes_in, is_chosen};
 
-use vcd_head::HeadView;
+use vcd_view::HeadView;
 
 /// The chosen codes of a header, by their places.
 #[derive(Drop)]

@@ -5,7 +5,7 @@ ghost use Rattle.vcd_model.specs.Input.{Input};
 ghost use Rattle.vcd_model.specs.Outcome.{Request};
 ghost use Rattle.vcd_model.specs.Tokens.{Token};
 ghost use Rattle.vcd_text.specs.Feed.{HasGiven, SameLoans, source_of, supply_of, limit_of, chunk_len_of};
-ghost use Rattle.vcd_head.specs.Views.{IsViewOf};
+ghost use Rattle.vcd_view.specs.Views.{IsViewOf};
 ghost use Rattle.vcd_text.specs.Advances.{HasNotFailed};
 ghost use Rattle.vcd_tools.specs.Run.{Follows};
 ghost use Rattle.vcd_body.specs.Answer.{reads_failed, writes_failed};
@@ -18,8 +18,8 @@ use crate::samples::Samples;
 use crate::span::Span;
 use crate::task::{Room, Task};
 use vcd_body::{Done, Stop};
-use vcd_head::HeadView;
 use vcd_text::{Feed, Sink, Source};
+use vcd_view::HeadView;
 
 /// Reads the body after the header that is shown, and writes the seven lines.
 pub fn check<S: Source, W: Sink>(

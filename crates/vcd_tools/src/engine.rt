@@ -6,8 +6,8 @@ ghost use Rattle.vcd_model.specs.Items.{BodyItem};
 ghost use Rattle.vcd_model.specs.Outcome.{close_text, open_text};
 ghost use Rattle.vcd_model.specs.Tokens.{Token};
 ghost use Rattle.vcd_text.specs.Feed.{HasGiven, SameLoans, source_of, supply_of, seen, limit_of, chunk_len_of};
-ghost use Rattle.vcd_head.specs.Shown.{parts};
-ghost use Rattle.vcd_head.specs.Views.{IsViewOf};
+ghost use Rattle.vcd_view.specs.Shown.{parts};
+ghost use Rattle.vcd_view.specs.Views.{IsViewOf};
 ghost use Rattle.vcd_text.specs.Advances.{Advances, CallEnd, HasNotFailed};
 ghost use Rattle.vcd_body.specs.Given.{item_text};
 ghost use Rattle.vcd_body.specs.declared.item.Item.TheVariants.{Finish};
@@ -25,8 +25,8 @@ use crate::gathered::Gathered;
 use crate::machine::Machine;
 use crate::task::{Room, Task};
 use vcd_body::{Done, Item, More, Regs, Stop, change_text, next_item, pass_items};
-use vcd_head::HeadView;
 use vcd_text::{Feed, Sink, Source, WriteFailed};
+use vcd_view::HeadView;
 
 /// A task that goes on over a body.
 #[derive(Drop)]

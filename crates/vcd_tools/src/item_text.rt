@@ -8,7 +8,7 @@ ghost use Rattle.vcd_model.specs.ItemText.{closing, item_line, text_after};
 ghost use Rattle.vcd_model.specs.ItemText.{time_due};
 ghost use Rattle.vcd_model.specs.Keywords.{keyword_text};
 ghost use Rattle.vcd_text.specs.Device.{Counts, Takes, failures_after};
-ghost use Rattle.vcd_head.specs.Views.{IsViewOf};
+ghost use Rattle.vcd_view.specs.Views.{IsViewOf};
 ghost use Rattle.vcd_body.specs.Given.{HasGoodText};
 ghost use Rattle.vcd_body.specs.Items.{model_section};
 ghost use Rattle.vcd_body.specs.Device.{DueBy, TakesDue};
@@ -19,8 +19,8 @@ ghost use Rattle.vcd_tools.specs.Pieces.{IsLine, IsPart, Lies, PutsOn, held_in};
 
 use crate::pieces::{Lying, Pieces};
 use vcd_body::{Form, Item, Section, put_change, put_time_unless};
-use vcd_head::HeadView;
 use vcd_text::{Sink, WriteFailed, put};
+use vcd_view::HeadView;
 
 /// The text of kept items, as far as it goes on from here: the time whose line was written last.
 #[derive(Clone, Copy)]

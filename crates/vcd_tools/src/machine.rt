@@ -8,7 +8,7 @@ ghost use Rattle.vcd_model.specs.Tokens.{Token};
 ghost use Rattle.vcd_text.specs.Ahead.{bytes_of, longest_of, passed_of};
 ghost use Rattle.vcd_text.specs.Passed.{Passed};
 ghost use Rattle.vcd_text.specs.Device.{Counts, Takes, failures_after};
-ghost use Rattle.vcd_head.specs.Views.{IsViewOf};
+ghost use Rattle.vcd_view.specs.Views.{IsViewOf};
 ghost use Rattle.vcd_body.specs.Ahead.{HasBits, IsSizedItem};
 ghost use Rattle.vcd_body.specs.Given.{HasGoodText};
 ghost use Rattle.vcd_body.specs.Items.{AreRegsAfter, regs_after};
@@ -35,8 +35,8 @@ use vcd_body::{
     First, Item, Plain, Regs, Stop, mark_ahead, opening_ahead, real_ahead, scalar_ahead,
     vector_ahead,
 };
-use vcd_head::HeadView;
 use vcd_text::{Ahead, Sink, WriteFailed};
+use vcd_view::HeadView;
 
 /// What a task keeps between items.
 #[derive(Drop)]

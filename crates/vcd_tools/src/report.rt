@@ -4,8 +4,8 @@ ghost use Rattle.vcd_model.specs.CheckAndList.{count_line, number_or_dash};
 ghost use Rattle.vcd_text.specs.Device.{Puts, Takes, failures_after};
 ghost use Rattle.vcd_tools.specs.Report.{named_line, report_text, opens_scope, declares_variable};
 
-use vcd_head::{Kind, Row};
 use vcd_text::{Sink, WriteFailed, put, put_number};
+use vcd_view::{Kind, Row};
 
 /// What `check` says of a dump.
 #[derive(Clone, Copy, PartialEq, Eq, Debug)]

@@ -4,13 +4,14 @@ ghost use Rattle.vcd_model.specs.CheckAndList.{list_line, list_text};
 ghost use Rattle.vcd_model.specs.Declarations.{Declaration, Variable, path_of};
 ghost use Rattle.vcd_model.specs.Header.{Header};
 ghost use Rattle.vcd_text.specs.Device.{Counts, Puts, Takes, failures_after};
-ghost use Rattle.vcd_head.specs.Views.{IsViewOf};
+ghost use Rattle.vcd_view.specs.Views.{IsViewOf};
 ghost use Rattle.vcd_body.specs.declared.answer.Done.TheVariants.{Whole};
 ghost use Rattle.vcd_body.specs.declared.answer.Stop.TheVariants.{Write};
 
 use vcd_body::{Done, Stop};
-use vcd_head::{HeadView, Kind, put_path};
+use vcd_head::put_path;
 use vcd_text::{Sink, WriteFailed, put, put_number};
+use vcd_view::{HeadView, Kind};
 
 /// Writes a space and a word.
 fn put_word<W: Sink>(out: &mut W, word: &[u8]) -> Result<(), WriteFailed>

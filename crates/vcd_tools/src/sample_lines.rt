@@ -8,13 +8,14 @@ ghost use Rattle.vcd_model.specs.Sample.{is_settled, sample_lines};
 ghost use Rattle.vcd_model.specs.Selection.{selected};
 ghost use Rattle.vcd_text.specs.Device.{Counts, Takes, failures_after};
 ghost use Rattle.vcd_head.specs.Marks.{marks_of};
-ghost use Rattle.vcd_head.specs.Views.{IsViewOf};
+ghost use Rattle.vcd_view.specs.Views.{IsViewOf};
 ghost use Rattle.vcd_tools.specs.Values.{AreHeld};
 
 use crate::selection::is_marked;
 use vcd_body::Table;
-use vcd_head::{HeadView, Kind, put_path};
+use vcd_head::put_path;
 use vcd_text::{Sink, WriteFailed, put, put_number};
+use vcd_view::{HeadView, Kind};
 
 /// Writes the line of a variable at a time that no item so far is later than: the time, its path and its value. An event has
 /// none.

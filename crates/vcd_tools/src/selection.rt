@@ -4,13 +4,14 @@ ghost use Rattle.vcd_model.specs.Declarations.{IdCode};
 ghost use Rattle.vcd_model.specs.Header.{Header};
 ghost use Rattle.vcd_model.specs.Selection.{selected, selects_code};
 ghost use Rattle.vcd_head.specs.Marks.{is_marked, marks_of};
-ghost use Rattle.vcd_head.specs.Views.{IsViewOf};
+ghost use Rattle.vcd_view.specs.Views.{IsViewOf};
 ghost use Rattle.vcd_tools.specs.Choice.{codes_in, is_chosen};
 ghost use Rattle.vcd_tools.specs.Selection.{AreSelected, IsUnmatched, IsFirstUnmatched};
 
 use crate::choice::Choice;
 use vcd_body::Stop;
-use vcd_head::{HeadView, Kind, select};
+use vcd_head::select;
+use vcd_view::{HeadView, Kind};
 
 /// Whether a row is marked.
 pub(crate) fn is_marked(marks: &[u8], row: usize) -> bool

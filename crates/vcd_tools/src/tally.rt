@@ -7,9 +7,9 @@ ghost use Rattle.vcd_model.specs.Items.{BodyItem, Change, leaves_open};
 ghost use Rattle.vcd_model.specs.Selection.{selected};
 ghost use Rattle.vcd_text.specs.Device.{Counts, Puts, Takes, failures_after};
 ghost use Rattle.vcd_head.specs.Marks.{marks_of};
-ghost use Rattle.vcd_head.specs.Views.{IsViewOf};
-ghost use Rattle.vcd_head.specs.declared.view.Code.{Code};
-ghost use Rattle.vcd_head.specs.declared.view.HeadView.{HeadView};
+ghost use Rattle.vcd_view.specs.Views.{IsViewOf};
+ghost use Rattle.vcd_view.specs.declared.view.Code.{Code};
+ghost use Rattle.vcd_view.specs.declared.view.HeadView.{HeadView};
 ghost use Rattle.vcd_body.specs.Binary.{binary_digits};
 ghost use Rattle.vcd_body.specs.Contents.{bytes_in, codes_in};
 ghost use Rattle.vcd_body.specs.Given.{IsText};
@@ -18,8 +18,9 @@ ghost use Rattle.vcd_tools.specs.Edges.{AreTallied};
 
 use crate::selection::is_marked;
 use vcd_body::{Bits, Form, Table};
-use vcd_head::{HeadView, Kind, put_path};
+use vcd_head::put_path;
 use vcd_text::{Sink, WriteFailed, put, put_number};
+use vcd_view::{HeadView, Kind};
 
 /// Sets the value of the code at a place, which has this size and is no event, by the text of a change, and counts it where it
 /// differs from the one before it.

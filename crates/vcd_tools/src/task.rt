@@ -2,16 +2,16 @@
 ghost use Rattle.std.specs.Prelude.{◌≡◌, ◌≤◌, ℕ, length};
 ghost use Rattle.vcd_model.specs.Bound.{AreWindows, FitsInput, RoomSize, WindowSize};
 ghost use Rattle.vcd_model.specs.Header.{Header};
-ghost use Rattle.vcd_head.specs.Needs.{room, view_size};
-ghost use Rattle.vcd_head.specs.Shown.{parts};
-ghost use Rattle.vcd_head.specs.Views.{IsViewOf};
+ghost use Rattle.vcd_view.specs.Needs.{room, view_size};
+ghost use Rattle.vcd_view.specs.Shown.{parts};
+ghost use Rattle.vcd_view.specs.Views.{IsViewOf};
 ghost use Rattle.vcd_tools.specs.Room.{AreWithinBound, HasRoomFor, IsWithin, marks_for, slots_for, values_for};
 ghost use Rattle.vcd_tools.specs.declared.task.Room.{Room};
 
 use crate::samples::Samples;
 use crate::span::Span;
 use vcd_body::Slot;
-use vcd_head::{HeadView, Need, need};
+use vcd_view::{HeadView, Need, need};
 
 /// What is done with the items of a body.
 #[derive(Clone, Copy)]

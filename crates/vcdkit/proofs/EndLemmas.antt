@@ -7,7 +7,7 @@ use Rattle.std.proofs.Math.Nat.{mul-div_cancel_left}
 use Rattle.std.proofs.lemmas.Nat.{mul-le}
 use Rattle.vcd_model.specs.Header.{Header}
 use Rattle.vcd_head.specs.Shown.{shown}
-use Rattle.vcd_head.specs.Views.{Views}
+use Rattle.vcd_view.specs.Views.{Views}
 use Rattle.vcd_head.specs.declared.head.Head.{Head}
 use Rattle.vcd_merge.specs.MergeParts.{AreParts, part_len}
 use Rattle.vcd_merge.specs.declared.seat.Seat.{Seat}

@@ -27,7 +27,8 @@ use Rattle.vcd_merge.specs.declared.seat.Seat.{Seat}
 use Rattle.vcd_text.specs.declared.device.Source.{Ghosts}
 use Rattle.vcd_text.specs.declared.feed.Feed.{Feed}
 use Rattle.vcd_head.specs.Reads.{Fails, FailsAtEnd, FailsAtToken, GivesHead, HasFault, HasReadToShown, IsGoing}
-use Rattle.vcd_head.specs.Shown.{HeadShown, shown}
+use Rattle.vcd_view.specs.Shown.{HeadShown}
+use Rattle.vcd_head.specs.Shown.{shown}
 use Rattle.vcd_head.specs.declared.fault.HeadFault.{HeadFault}
 use Rattle.vcd_head.specs.declared.fault.HeadFault.TheVariants.{TokenTooLong, EndOfInput, UnknownCommand, OutOfPlace, BadTimescale, BadScope, BadVariable, CodeDiffers, NoScope, TooDeep, TooMany, InputTooLong, ReadFailed, OutOfMemory}
 use Rattle.vcd_body.specs.Answer.{IsLeft}

@@ -12,9 +12,10 @@ use Rattle.vcd_model.specs.Outcome.{allowed_after, declarations_allowed}
 use Rattle.vcd_text.specs.Answer.{whole}
 use Rattle.vcd_text.specs.Device.{Supply, supply}
 use Rattle.vcd_head.specs.Shown.{shown}
-use Rattle.vcd_head.specs.Views.{Views}
+use Rattle.vcd_view.specs.Views.{Views}
 use Rattle.vcd_head.specs.declared.head.Head.{Head}
-use Rattle.vcd_head.proofs.DraftGrows.{all_zip_push, rows_len}
+use Rattle.vcd_view.proofs.ListLemmas.{all_zip_push}
+use Rattle.vcd_view.proofs.RowLemmas.{rows_len}
 use Rattle.vcd_merge.specs.MergeParts.{part, part_len, SameLengths}
 use Rattle.vcd_merge.specs.Seat.{GaveParked, IsSeated, Lane, Spot}
 use Rattle.vcd_merge.specs.declared.windows.Windows.{Windows}

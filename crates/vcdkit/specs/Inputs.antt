@@ -16,7 +16,7 @@ use Rattle.vcd_text.specs.Device.{Supply, supply}
 use Rattle.vcd_text.specs.ReadAhead.{Near, ReadsAsNeeded}
 use Rattle.vcd_head.specs.Reads.{HasFault, IsGoing}
 use Rattle.vcd_head.specs.Shown.{shown}
-use Rattle.vcd_head.specs.Views.{Views}
+use Rattle.vcd_view.specs.Views.{Views}
 use Rattle.vcd_head.specs.declared.head.Head.{Head}
 use Rattle.vcd_merge.specs.MergeParts.{part, part_len, spot_of}
 use Rattle.vcd_body.specs.Answer.{IsLeft}

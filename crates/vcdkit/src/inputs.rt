@@ -8,7 +8,7 @@ ghost use Rattle.vcd_text.specs.Device.{supply};
 ghost use Rattle.vcd_text.specs.Feed.{HasGiven, SameLoans, source_of, limit_of, chunk_len_of, token_of};
 ghost use Rattle.vcd_head.specs.Reads.{Fails, GivesHead};
 ghost use Rattle.vcd_head.specs.Shown.{shown};
-ghost use Rattle.vcd_head.specs.Views.{Views};
+ghost use Rattle.vcd_view.specs.Views.{Views};
 ghost use Rattle.vcd_text.specs.Advances.{HasNotFailed};
 ghost use Rattle.vcd_head.specs.declared.fault.HeadFault.{HeadFault};
 ghost use Rattle.vcd_merge.specs.MergeParts.{AreParts, SameLengths, part, part_len};

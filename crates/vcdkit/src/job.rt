@@ -11,8 +11,8 @@ use crate::times::{Period, Times};
 use crate::words::{limit_word, want_of, words_in};
 use clap::ArgMatches;
 use std::alloc::{AllocError, Global};
-use vcd_head::HeadView;
 use vcd_tools::Task;
+use vcd_view::HeadView;
 
 /// What is done with the input.
 #[derive(PartialEq, Eq, Debug, Drop)]
@@ -37,7 +37,7 @@ impl Want {
     ghost use Rattle.std.specs.Prelude.{MatchResult, OnOk};
     ghost use Rattle.vcd_model.specs.Header.{Header};
     ghost use Rattle.vcd_model.specs.Job.{request_of};
-    ghost use Rattle.vcd_head.specs.Views.{IsViewOf};
+    ghost use Rattle.vcd_view.specs.Views.{IsViewOf};
     ghost use Rattle.vcdkit.specs.Failure.{model_refusal};
     ghost use Rattle.vcdkit.specs.Job.{is_merge, model_want, names_asked, task_request, HasTicks};
 

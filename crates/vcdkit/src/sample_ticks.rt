@@ -2,11 +2,12 @@
 ghost use Rattle.std.specs.Prelude.{◌≡◌, length, MatchResult};
 ghost use Rattle.vcd_model.specs.Header.{Header};
 ghost use Rattle.vcd_model.specs.Job.{do_rise};
-ghost use Rattle.vcd_head.specs.Views.{IsViewOf};
+ghost use Rattle.vcd_view.specs.Views.{IsViewOf};
 ghost use Rattle.vcdkit.specs.Ticks.{all_ticks, has_units, AreTicks, AreRefused};
 
 use crate::failure::Refusal;
-use vcd_head::{HeadView, Moment, ticks};
+use vcd_head::{Moment, ticks};
+use vcd_view::HeadView;
 
 /// Whether some time has a unit.
 pub(crate) fn has_units(units: &[Option<i8>]) -> bool

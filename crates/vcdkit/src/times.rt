@@ -5,8 +5,9 @@ ghost use Rattle.vcdkit.specs.Ticks.{has_units};
 
 use crate::failure::Refusal;
 use crate::sample_ticks::{do_rise, has_units, write_ticks};
-use vcd_head::{HeadView, Moment, ticks};
+use vcd_head::{Moment, ticks};
 use vcd_tools::{Samples, Span};
+use vcd_view::HeadView;
 
 /// The times from which and to which a cut is.
 #[derive(Clone, Copy, PartialEq, Eq, Debug)]
@@ -22,7 +23,7 @@ impl Period {
     ghost use Rattle.vcd_model.specs.Header.{Header};
     ghost use Rattle.vcd_model.specs.Job.{Want, request_of};
     ghost use Rattle.vcd_head.specs.Moments.{asked};
-    ghost use Rattle.vcd_head.specs.Views.{IsViewOf};
+    ghost use Rattle.vcd_view.specs.Views.{IsViewOf};
     ghost use Rattle.vcdkit.specs.Times.{span_request};
 
     /// The times in ticks of the header that is shown: the first rounded up, the last down.
@@ -55,7 +56,7 @@ impl Times {
     ghost use Rattle.std.specs.Prelude.{MatchResult, OnOk, List, ℕ};
     ghost use Rattle.vcd_model.specs.Header.{Header};
     ghost use Rattle.vcd_model.specs.Job.{Want, request_of};
-    ghost use Rattle.vcd_head.specs.Views.{IsViewOf};
+    ghost use Rattle.vcd_view.specs.Views.{IsViewOf};
     ghost use Rattle.vcdkit.specs.Failure.{model_refusal};
     ghost use Rattle.vcdkit.specs.Times.{times_asked};
 

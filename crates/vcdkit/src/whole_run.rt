@@ -9,7 +9,7 @@ ghost use Rattle.vcd_model.specs.Tokens.{Token};
 ghost use Rattle.vcd_text.specs.Answer.{whole};
 ghost use Rattle.vcd_text.specs.Device.{supply};
 ghost use Rattle.vcd_text.specs.Feed.{HasGiven, SameLoans, source_of, supply_of, limit_of, chunk_len_of};
-ghost use Rattle.vcd_head.specs.Views.{IsViewOf};
+ghost use Rattle.vcd_view.specs.Views.{IsViewOf};
 ghost use Rattle.vcd_text.specs.Advances.{HasNotFailed};
 ghost use Rattle.vcdkit.specs.Failure.{end_of, failure_of, merge_end, writes_failed, CountsRead, CountsReads};
 ghost use Rattle.vcdkit.specs.Job.{is_merge, model_want, names_asked};
@@ -23,10 +23,10 @@ use crate::job::{Job, Want};
 use crate::message::report;
 use std::alloc::Global;
 use vcd_body::{Done, Slot, Stop};
-use vcd_head::HeadView;
 use vcd_merge::{Windows, merge};
 use vcd_text::{Feed, Sink, Source};
 use vcd_tools::{Room, list, run_task};
+use vcd_view::HeadView;
 
 /// The answer of a task over the input at this place, as that of its run.
 fn ended(answer: Result<Done, Stop>, input: usize) -> Result<Done, Failure>

@@ -6,8 +6,8 @@ use Rattle.vcd_model.specs.Reading.{phrases_of}
 use Rattle.vcd_model.specs.Tokens.{stream_of}
 use Rattle.vcd_text.specs.Answer.{whole}
 use Rattle.vcd_text.specs.Feed.{HasGiven, limit_of}
-use Rattle.vcd_head.specs.Shown.{HeadShown}
-use Rattle.vcd_head.specs.Views.{Views}
+use Rattle.vcd_view.specs.Shown.{HeadShown}
+use Rattle.vcd_view.specs.Views.{Views}
 use Rattle.example_head.proofs.variables.Goals as goal
 
 pub returns : goal.returns

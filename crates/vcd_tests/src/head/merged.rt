@@ -1,8 +1,9 @@
 // What a merge writes in its header.
 use super::{SMALL, read_good};
 use std::test::Fail;
-use vcd_head::{least_exponent, put_code, put_merged_head};
+use vcd_head::{least_exponent, put_merged_head};
 use vcd_text::{Watch, put};
+use vcd_view::put_code;
 
 #[test]
 fn codes_of_numbers(rt: HostRuntime) -> Result<(), Fail> {

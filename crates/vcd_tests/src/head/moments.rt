@@ -1,6 +1,7 @@
 // Times with a unit, in ticks.
 use std::test::Fail;
-use vcd_head::{HeadView, Moment, Scale, TickFault, ticks};
+use vcd_head::{Moment, TickFault, ticks};
+use vcd_view::{HeadView, Scale};
 
 const TEN_NANOSECONDS: Option<i8> = Some(-8);
 

@@ -5,15 +5,15 @@ ghost use Rattle.vcd_model.specs.Header.{Header};
 ghost use Rattle.vcd_model.specs.Items.{BodyItem};
 ghost use Rattle.vcd_model.specs.ItemText.{last_mark};
 ghost use Rattle.vcd_text.specs.Device.{Counts, Takes, failures_after};
-ghost use Rattle.vcd_head.specs.Views.{IsViewOf};
+ghost use Rattle.vcd_view.specs.Views.{IsViewOf};
 ghost use Rattle.vcd_tools.specs.Check.{AreCounted, IsOfKind};
 ghost use Rattle.vcd_tools.specs.Engine.{last_of};
 
 use crate::machine::last_of;
 use crate::report::{Report, declared_in, put_report};
 use vcd_body::{Item, Regs};
-use vcd_head::HeadView;
 use vcd_text::{Sink, WriteFailed};
+use vcd_view::HeadView;
 
 /// How many time marks, sections and changes there were.
 #[derive(Clone, Copy)]

@@ -7,8 +7,8 @@ ghost use Rattle.vcd_model.specs.Items.{BodyItem};
 ghost use Rattle.vcd_model.specs.ItemText.{last_mark};
 ghost use Rattle.vcd_model.specs.Outcome.{Request};
 ghost use Rattle.vcd_text.specs.Device.{Counts, Takes, failures_after};
-ghost use Rattle.vcd_head.specs.Views.{IsViewOf};
-ghost use Rattle.vcd_head.specs.declared.view.HeadView.{HeadView};
+ghost use Rattle.vcd_view.specs.Views.{IsViewOf};
+ghost use Rattle.vcd_view.specs.declared.view.HeadView.{HeadView};
 ghost use Rattle.vcd_body.specs.Ahead.{HasBits};
 ghost use Rattle.vcd_body.specs.declared.item.Item.TheVariants as kind;
 ghost use Rattle.vcd_tools.specs.Quiet.{TakesQuietly};
@@ -32,8 +32,9 @@ use crate::span::Span;
 use crate::task::Room;
 use crate::values::set_plain;
 use vcd_body::{Item, Plain, Regs, Stop, Table, put_time};
-use vcd_head::{HeadView, put_head, select};
+use vcd_head::{put_head, select};
 use vcd_text::{Sink, WriteFailed, put};
+use vcd_view::HeadView;
 
 /// The values until the start section stands, and from then on the text of what was kept.
 #[derive(Drop)]

@@ -6,7 +6,7 @@ ghost use Rattle.vcd_model.specs.Items.{BodyItem, leaves_open};
 ghost use Rattle.vcd_model.specs.Declarations.{IdCode};
 ghost use Rattle.vcd_model.specs.Outcome.{Request};
 ghost use Rattle.vcd_text.specs.Device.{Counts, Device, Takes, failures_after};
-ghost use Rattle.vcd_head.specs.Views.{IsViewOf};
+ghost use Rattle.vcd_view.specs.Views.{IsViewOf};
 ghost use Rattle.vcd_body.specs.Ahead.{HasBits, IsSizedItem};
 ghost use Rattle.vcd_body.specs.Given.{HasGoodText, IsGoodText};
 ghost use Rattle.vcd_body.specs.Items.{AreRegsAfter, model_form, regs_after};
@@ -20,8 +20,9 @@ ghost use Rattle.vcd_tools.specs.declared.task.Task.TheVariants as task;
 use crate::tally::{put_rows, take_bits, take_mark, take_value};
 use crate::task::Room;
 use vcd_body::{Form, Item, Plain, Regs, Stop, Table};
-use vcd_head::{HeadView, select};
+use vcd_head::select;
 use vcd_text::{Sink, WriteFailed};
+use vcd_view::HeadView;
 
 /// The names that were asked for, the marks of the variables that they select, and the values and counters of all codes.
 #[derive(Drop)]

@@ -6,7 +6,7 @@ ghost use Rattle.vcd_model.specs.ItemText.{last_mark};
 ghost use Rattle.vcd_model.specs.Outcome.{Request};
 ghost use Rattle.vcd_model.specs.Pick.{pick_open, pick_close};
 ghost use Rattle.vcd_text.specs.Device.{Counts, Takes, failures_after};
-ghost use Rattle.vcd_head.specs.Views.{IsViewOf};
+ghost use Rattle.vcd_view.specs.Views.{IsViewOf};
 ghost use Rattle.vcd_body.specs.Given.{HasGoodText};
 ghost use Rattle.vcd_body.specs.Items.{AreRegsAfter, regs_after};
 ghost use Rattle.vcd_body.specs.Answer.{writes_failed};
@@ -25,8 +25,9 @@ use crate::pieces::{Lying, Pieces};
 use crate::selection::select_codes;
 use crate::task::Room;
 use vcd_body::{Item, Regs, Stop};
-use vcd_head::{HeadView, put_head};
+use vcd_head::put_head;
 use vcd_text::{Sink, WriteFailed};
+use vcd_view::HeadView;
 
 /// The names that were asked for, the codes of the variables that they select, and the text of what was kept.
 #[derive(Drop)]

@@ -6,13 +6,13 @@ ghost use Rattle.vcd_model.specs.Items.{BodyItem};
 ghost use Rattle.vcd_model.specs.Outcome.{Request, close_text};
 ghost use Rattle.vcd_model.specs.Selection.{first_unmatched};
 ghost use Rattle.vcd_text.specs.Device.{Counts, Takes, failures_after};
-ghost use Rattle.vcd_head.specs.Views.{IsViewOf};
+ghost use Rattle.vcd_view.specs.Views.{IsViewOf};
 ghost use Rattle.vcd_body.specs.Ahead.{HasBits};
 ghost use Rattle.vcd_body.specs.Given.{HasGoodText};
 ghost use Rattle.vcd_tools.specs.Engine.{TakesOne};
 ghost use Rattle.vcd_body.specs.Given.{IsItem};
 ghost use Rattle.vcd_tools.specs.Room.{HasRoomFor, IsWithin, room_size};
-ghost use Rattle.vcd_head.specs.declared.view.HeadView.{HeadView};
+ghost use Rattle.vcd_view.specs.declared.view.HeadView.{HeadView};
 ghost use Rattle.vcd_body.specs.declared.item.Item.TheVariants as kind;
 ghost use Rattle.vcd_tools.specs.Quiet.{TakesQuietly};
 ghost use Rattle.vcd_tools.specs.Sample.{AreSampled, asked_in, is_due, lent_to};
@@ -24,8 +24,9 @@ use crate::samples::Samples;
 use crate::task::Room;
 use crate::values::set_plain;
 use vcd_body::{Item, Plain, Stop, Table};
-use vcd_head::{HeadView, select};
+use vcd_head::select;
 use vcd_text::{Sink, WriteFailed};
+use vcd_view::HeadView;
 
 /// The times and names that were asked for, the times that are not settled, the current values, and the marks of the selected
 /// variables.

@@ -2,7 +2,7 @@ use Rattle.std.proofs.Common.{[], ◌∷◌, ◌<◌, ◌≤◌, drop, take, len
 use Rattle.vcd_model.specs.Tokens.{Token}
 use Rattle.vcd_text.specs.Ahead.{bytes_of, longest_of, passed_of, start_of}
 use Rattle.vcd_text.specs.Passed.{line_ahead}
-use Rattle.vcd_head.specs.Finds.{IsSized}
+use Rattle.vcd_view.specs.Finds.{IsSized}
 use Rattle.vcd_body.specs.Given.{IsGoodText}
 use Rattle.vcd_body.specs.Spelled.{Names}
 use Rattle.vcd_body.specs.Words.{Begins}

@@ -3,7 +3,7 @@ use Rattle.std.specs.List.{list_all}
 use Rattle.std.proofs.lemmas.Bool.{and_parts}
 use Rattle.vcd_model.specs.Bytes.{is_empty}
 use Rattle.vcd_model.specs.BodyPhrases.{is_value_digit}
-use Rattle.vcd_head.specs.Shown.{parts}
+use Rattle.vcd_view.specs.Shown.{parts}
 use Rattle.vcd_body.proofs.PhraseLemmas.{digits_begin, vector_passes}
 use Rattle.vcd_body.proofs.RegsLemmas.{same_room, vector_sound}
 use Rattle.vcd_body.proofs.WordLemmas.{filled_some}

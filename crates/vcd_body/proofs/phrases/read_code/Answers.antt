@@ -1,7 +1,7 @@
 use Rattle.std.proofs.Common.{◌∷◌, [], None, subst}
 use Rattle.std.proofs.lemmas.Result.{err_from_is_err_and}
 use Rattle.vcd_text.specs.Feed.{token_of}
-use Rattle.vcd_head.specs.Finds.{Finds}
+use Rattle.vcd_view.specs.Finds.{Finds}
 use Rattle.vcd_body.proofs.TokenLemmas.{refused_at, kept}
 use Rattle.vcd_body.proofs.phrases.read_code.Goals as goal
 

@@ -5,7 +5,7 @@ use Rattle.vcd_model.specs.Bytes.{is_empty}
 use Rattle.vcd_model.specs.BodyPhrases.{is_value_digit}
 use Rattle.vcd_model.specs.Reading.{phrases_of}
 use Rattle.vcd_text.specs.Feed.{token_of, value_of}
-use Rattle.vcd_head.specs.Shown.{parts}
+use Rattle.vcd_view.specs.Shown.{parts}
 use Rattle.vcd_body.proofs.TokenLemmas.{refused_at, begun}
 use Rattle.vcd_body.proofs.PhraseLemmas.{bad_digits, digits_begin, digits_ask, too_wide}
 use Rattle.vcd_body.proofs.RegsLemmas.{same_room, vector_read, vector_sound}

@@ -1,5 +1,5 @@
 use Rattle.std.proofs.Common.{◌==◌, Some, None, drop, length, subst, sym, ap, ◌∙◌}
-use Rattle.vcd_head.specs.Finds.{Finds}
+use Rattle.vcd_view.specs.Finds.{Finds}
 use Rattle.vcd_body.proofs.WordLemmas.{filled, empty}
 use Rattle.vcd_body.proofs.PhraseLemmas.{no_code, unknown_code, scalar_passes, first_byte}
 use Rattle.vcd_body.specs.Spelled.{Names}

@@ -5,7 +5,7 @@ use Rattle.vcd_model.specs.Keywords.{Keyword, keyword_text, is_end}
 use Rattle.vcd_model.specs.BodyPhrases.{BodyPhrase}
 use Rattle.vcd_model.specs.Reading.{phrases_of}
 use Rattle.vcd_text.specs.Feed.{token_of}
-use Rattle.vcd_head.proofs.TextSteps.{no_ends_more}
+use Rattle.vcd_view.proofs.KeywordLemmas.{no_ends_more}
 use Rattle.vcd_body.proofs.TokenLemmas.{taken, taken_phrase}
 use Rattle.vcd_body.proofs.PhraseLemmas.{comment_goes_on, comment_open, comment_whole}
 use Rattle.vcd_body.proofs.phrases.skip_comment.Goals as goal

@@ -6,7 +6,7 @@ use Rattle.vcd_model.specs.Declarations.{IdCode}
 use Rattle.vcd_model.specs.BodyPhrases.{BodyPhrase}
 use Rattle.vcd_model.specs.Reading.{Placed}
 use Rattle.vcd_text.specs.Feed.{seen}
-use Rattle.vcd_head.specs.Texts.{NoEnds}
+use Rattle.vcd_view.specs.Keywords.{NoEnds}
 use Rattle.vcd_body.specs.Reads.{Reads}
 use Rattle.vcd_text.specs.Advances.{Advances, CallEnd}
 use Rattle.vcd_body.proofs.phrases.skip_comment.Given as goal

@@ -4,8 +4,8 @@ use Rattle.vcd_model.specs.Tokens.{Token}
 use Rattle.vcd_model.specs.Header.{Header}
 use Rattle.vcd_model.specs.Items.{BodyItem}
 use Rattle.vcd_text.specs.Feed.{seen}
-use Rattle.vcd_head.specs.Shown.{parts}
-use Rattle.vcd_head.specs.Views.{Views}
+use Rattle.vcd_view.specs.Shown.{parts}
+use Rattle.vcd_view.specs.Views.{Views}
 use Rattle.vcd_body.specs.Reads.{GaveItems}
 use Rattle.vcd_text.specs.Advances.{Advances, CallEnd}
 use Rattle.vcd_body.proofs.read.next_item.Given as goal

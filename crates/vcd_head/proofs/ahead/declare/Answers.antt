@@ -9,10 +9,10 @@ use Rattle.vcd_model.specs.HeaderPhrases.{HeaderPhrase, declarations_of}
 use Rattle.vcd_model.specs.Reading.{Placed, phrases_of}
 use Rattle.vcd_head.specs.Ahead.{texts_of}
 use Rattle.vcd_head.specs.Draft.{HasCodes, IsDraftOf, IsFound}
-use Rattle.vcd_head.specs.Views.{IsSize}
+use Rattle.vcd_view.specs.Views.{IsSize}
 use Rattle.vcd_head.specs.declared.draft.Found.{Found}
-use Rattle.vcd_head.specs.declared.view.Kind.TheVariants as kind
-use Rattle.vcd_head.specs.declared.view.Row.{Row}
+use Rattle.vcd_view.specs.declared.view.Kind.TheVariants as kind
+use Rattle.vcd_view.specs.declared.view.Row.{Row}
 use Rattle.vcd_head.proofs.AheadLemmas.{variable_in, variable_so_far}
 use Rattle.vcd_head.proofs.DraftLemmas.{some_token, var_declared, holds_declared, has_codes_grow}
 use Rattle.vcd_head.proofs.DraftSteps.{few_enough, var_checks_pass}

@@ -5,7 +5,7 @@ use Rattle.vcd_model.specs.HeaderPhrases.{HeaderPhrase, declarations_of}
 use Rattle.vcd_model.specs.Reading.{Placed, phrases_of}
 use Rattle.vcd_head.specs.Draft.{IsDraftOf}
 use Rattle.vcd_head.specs.Entries.{AreEntered}
-use Rattle.vcd_head.specs.declared.view.Kind.TheVariants as kind
+use Rattle.vcd_view.specs.declared.view.Kind.TheVariants as kind
 use Rattle.vcd_head.proofs.AheadScopes.{scope_so_far}
 use Rattle.vcd_head.proofs.DraftLemmas.{scope_declared, holds_declared}
 use Rattle.vcd_head.proofs.EnteredLemmas.{entered_either, entered_grow}

@@ -1,10 +1,10 @@
 use Rattle.std.proofs.Common.{◌≡◌, length, sym, ◌∙◌, arith, rules, subst}
 use Rattle.std.proofs.lemmas.Result.{IfOk-weaker}
-use Rattle.vcd_head.specs.declared.view.Code.{Code}
+use Rattle.vcd_view.specs.declared.view.Code.{Code}
 use Rattle.vcd_head.specs.Codes.{IsAdded}
 use Rattle.vcd_head.specs.Draft.{CodeHeld}
 use Rattle.vcd_head.specs.Entries.{AreEntered}
-use Rattle.vcd_head.specs.Views.{IsSize}
+use Rattle.vcd_view.specs.Views.{IsSize}
 use Rattle.vcd_head.proofs.DraftCodes.{held_new}
 use Rattle.vcd_head.proofs.EnteredLemmas.{entered_grow, put_behind}
 use Rattle.vcd_head.proofs.code_place.add_code.Goals as goal

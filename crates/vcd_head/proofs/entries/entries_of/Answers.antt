@@ -1,7 +1,7 @@
 use Rattle.std.proofs.Common.{length, drop, ap, ◌∙◌, refl}
 use Rattle.std.proofs.lemmas.List.{take_at}
-use Rattle.vcd_head.specs.Entries.{are_right, is_right}
-use Rattle.vcd_head.proofs.EntryLemmas.{all_replicated}
+use Rattle.vcd_view.specs.Entries.{are_right, is_right}
+use Rattle.vcd_view.proofs.EntryLemmas.{all_replicated}
 use Rattle.vcd_head.proofs.entries.entries_of.Goals as goal
 
 pub returns-clause-right : goal.returns-clause-right

@@ -1,8 +1,8 @@
 use Rattle.std.proofs.Common.{length, ap, ◌∙◌, arith}
 use Rattle.std.proofs.lemmas.List.{length-set}
 use Rattle.std.proofs.lemmas.Option.{slice_get-get_or}
-use Rattle.vcd_head.specs.Entries.{are_right, is_right}
-use Rattle.vcd_head.proofs.EntryLemmas.{all_written}
+use Rattle.vcd_view.specs.Entries.{are_right, is_right}
+use Rattle.vcd_view.proofs.EntryLemmas.{all_written}
 use Rattle.vcd_head.proofs.entries.fill.Goals as goal
 
 pub loop-place-preserved : goal.loop-place-preserved

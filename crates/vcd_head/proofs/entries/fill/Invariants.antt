@@ -1,5 +1,5 @@
 use Rattle.std.proofs.Common.{◌≡◌, true, length}
-use Rattle.vcd_head.specs.Entries.{are_right}
+use Rattle.vcd_view.specs.Entries.{are_right}
 use Rattle.vcd_head.proofs.entries.fill.Given as goal
 
 abbrev pub invariant-loop-place : goal.invariant-loop-place

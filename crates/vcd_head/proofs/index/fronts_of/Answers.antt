@@ -2,7 +2,7 @@ use Rattle.std.proofs.Common.{◌≡◌, ◌∙◌, ap, sym, refl, subst, map}
 use Rattle.std.specs.List.{AllByRecursion}
 use Rattle.vcd_head.specs.declared.index.Front.{Front}
 use Rattle.vcd_head.specs.Fronts.{bytes_at, front_in}
-use Rattle.vcd_head.proofs.DraftGrows.{all_push}
+use Rattle.vcd_view.proofs.ListLemmas.{all_push}
 use Rattle.vcd_head.proofs.IndexLemmas.{places_more}
 use Rattle.vcd_head.proofs.index.fronts_of.Goals as goal
 

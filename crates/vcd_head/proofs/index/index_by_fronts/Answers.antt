@@ -2,7 +2,7 @@ use Rattle.std.proofs.Common.{◌∙◌, ap, sym, subst, map, rules}
 use Rattle.std.proofs.lemmas.Fn.{always_returns_same}
 use Rattle.std.proofs.lemmas.Result.{IfOk-weaker}
 use Rattle.vcd_head.specs.declared.index.Front.{Front}
-use Rattle.vcd_head.specs.Views.{IsIndex}
+use Rattle.vcd_view.specs.Views.{IsIndex}
 use Rattle.vcd_head.proofs.IndexLemmas.{before, before_weak, index_made}
 use Rattle.vcd_head.proofs.index.index_by_fronts.Goals as goal
 

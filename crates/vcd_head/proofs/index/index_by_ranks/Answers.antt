@@ -2,7 +2,7 @@ use Rattle.std.proofs.Common.{◌≡◌, ◌∙◌, ℕ, length, map, drop, IfSo
 use Rattle.std.specs.Global.{Vec}
 use Rattle.std.proofs.lemmas.List.{length-map, take_at}
 use Rattle.vcd_head.specs.Fronts.{AreRanks, place_in_rank}
-use Rattle.vcd_head.specs.Views.{IsIndex}
+use Rattle.vcd_view.specs.Views.{IsIndex}
 use Rattle.vcd_head.proofs.RankLemmas.{ranks_made}
 use Rattle.vcd_head.proofs.index.index_by_ranks.Goals as goal
 

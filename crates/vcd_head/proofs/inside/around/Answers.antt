@@ -1,8 +1,8 @@
 use Rattle.std.proofs.Common.{◌≡◌, Some, slice_get, length, refl, sym, ap, ◌∙◌, rules}
 use Rattle.std.proofs.lemmas.Option.{slice_get_read}
 use Rattle.vcd_head.specs.Inside.{front}
-use Rattle.vcd_head.specs.Shown.{parts}
-use Rattle.vcd_head.proofs.EnclosingLemmas.{parent_of_row}
+use Rattle.vcd_view.specs.Shown.{parts}
+use Rattle.vcd_view.proofs.ParentLemmas.{parent_of_row}
 use Rattle.vcd_head.proofs.InsideLemmas.{front_is}
 use Rattle.vcd_head.proofs.inside.around.Goals as goal
 

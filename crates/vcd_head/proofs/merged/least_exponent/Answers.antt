@@ -4,7 +4,7 @@ use Rattle.std.specs.Int.{int_min}
 use Rattle.std.specs.List.{reduce}
 use mir.Syntax.{w8}
 use Rattle.vcd_model.specs.HeadText.{exponent, least_exponent as least_of, smaller}
-use Rattle.vcd_head.specs.Views.{Views}
+use Rattle.vcd_view.specs.Views.{Views}
 use Rattle.vcd_head.proofs.MergedLemmas.{HeaderAt, all_passed, header_at, least_more, with_one}
 use Rattle.vcd_head.proofs.merged.least_exponent.Goals.{in-Some, in-None}
 use Rattle.vcd_head.proofs.merged.least_exponent.Goals as goal

@@ -5,7 +5,7 @@ use Rattle.vcd_text.specs.Device.{Takes}
 use Rattle.vcd_text.proofs.Writes.{AppendsSome, appends-first, appends-some, appends-twice, takes-twice}
 use Rattle.vcd_head.specs.Marks.{is_marked, marks_of}
 use Rattle.vcd_head.specs.Merged.{given}
-use Rattle.vcd_head.proofs.DraftGrows.{rows_len}
+use Rattle.vcd_view.proofs.RowLemmas.{rows_len}
 use Rattle.vcd_head.proofs.MergedLemmas.{input_text, not_both, unrefused}
 use Rattle.vcd_head.proofs.merged.put_input_head.Goals as goal
 

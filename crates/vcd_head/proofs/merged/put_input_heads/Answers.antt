@@ -6,8 +6,8 @@ use Rattle.std.proofs.lemmas.Slice.Zip.{AllZip-long}
 use Rattle.vcd_model.specs.Backward.{each}
 use Rattle.vcd_model.specs.HeadText.{input_head}
 use Rattle.vcd_text.proofs.Writes.{appends-twice}
-use Rattle.vcd_head.specs.Views.{Views}
-use Rattle.vcd_head.proofs.LookUpLemmas.{codes_len}
+use Rattle.vcd_view.specs.Views.{Views}
+use Rattle.vcd_view.proofs.LookUpLemmas.{codes_len}
 use Rattle.vcd_head.proofs.MergedLemmas.{HeaderAt, all_passed, header_at, number_more, numbers_fit, room_at}
 use Rattle.vcd_head.proofs.WriteLemmas.{lines-next, lines-some}
 use Rattle.vcd_head.proofs.merged.put_input_heads.Goals as goal

@@ -1,6 +1,6 @@
 use Rattle.std.proofs.Common.{◌≡◌, Some, refl, subst, rules}
 use Rattle.vcd_model.specs.Keywords.{Keyword}
-use Rattle.vcd_head.specs.declared.keyword.Keyword.TheVariants as word
+use Rattle.vcd_view.specs.declared.keyword.Keyword.TheVariants as word
 use Rattle.vcd_head.specs.Draft.{AtFirstToken}
 use Rattle.vcd_head.proofs.PhraseLemmas.{not_begun}
 use Rattle.vcd_head.proofs.phrases.read_rest.Goals as goal

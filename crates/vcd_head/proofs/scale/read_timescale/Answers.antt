@@ -7,7 +7,8 @@ use Rattle.vcd_model.specs.Keywords.{Keyword, keyword_text}
 use Rattle.vcd_model.specs.HeaderPhrases.{HeaderPhrase, scale_of}
 use Rattle.vcd_model.specs.Reading.{phrases_of}
 use Rattle.vcd_text.specs.Feed.{token_of}
-use Rattle.vcd_head.proofs.PhraseLemmas.{begun, ended, refused_inside, until}
+use Rattle.vcd_head.proofs.PhraseLemmas.{begun, ended, refused_inside}
+use Rattle.vcd_view.proofs.KeywordLemmas.{until}
 use Rattle.vcd_head.proofs.DraftSteps.{carried, passed_test, failed_test}
 use Rattle.vcd_head.proofs.DraftLemmas.{holds_scale}
 use Rattle.vcd_head.proofs.ScaleTexts.{scale_in_range}

@@ -9,7 +9,7 @@ use Rattle.vcd_head.proofs.TokenSteps.{faultless_phrase, word_some, word_none, t
 use Rattle.vcd_head.proofs.PhraseLemmas.{begun, not_begun, ended, refused_inside, scope_welcomes_type, scope_welcomes_name}
 use Rattle.vcd_head.proofs.DraftSteps.{carried, few_enough, too_many_scope, too_deep, scope_checks_pass, failed_test, passed_test, failed_not, whole_test}
 use Rattle.vcd_head.proofs.DraftLemmas.{scope_declared, holds_declared}
-use Rattle.vcd_head.specs.declared.view.Kind.TheVariants as kind
+use Rattle.vcd_view.specs.declared.view.Kind.TheVariants as kind
 use Rattle.vcd_head.proofs.scopes.read_scope.Goals as goal
 
 pub returns-then-len-most-clause-reads : goal.returns-then-len-most-clause-reads

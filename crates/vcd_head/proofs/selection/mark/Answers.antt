@@ -1,7 +1,7 @@
 use Rattle.std.proofs.Common.{◌≤◌, suc, set, sym, subst, arith}
 use Rattle.vcd_head.specs.Marks.{Marked}
-use Rattle.vcd_head.specs.Views.{counted_from_one}
-use Rattle.vcd_head.proofs.EnclosingLemmas.{with_scopes}
+use Rattle.vcd_view.specs.Views.{counted_from_one}
+use Rattle.vcd_view.proofs.ParentLemmas.{with_scopes}
 use Rattle.vcd_head.proofs.MarkLemmas.{counted_within, walk_on}
 use Rattle.vcd_head.proofs.selection.mark.Goals as goal
 

@@ -4,8 +4,8 @@ use Rattle.vcd_model.specs.Selection.{marked_places}
 use Rattle.vcd_head.specs.Inside.{AreOpen}
 use Rattle.vcd_head.specs.Marks.{AllMarked, Marked, scopes_at}
 use Rattle.vcd_head.specs.Matched.{HaveMatched}
-use Rattle.vcd_head.specs.Shown.{parts}
-use Rattle.vcd_head.specs.Views.{Views}
+use Rattle.vcd_view.specs.Shown.{parts}
+use Rattle.vcd_view.specs.Views.{Views}
 use Rattle.vcd_head.proofs.selection.mark_selected.Given as goal
 
 abbrev pub invariant-loop-row : goal.invariant-loop-row

@@ -1,7 +1,7 @@
 use Rattle.std.proofs.Common.{◌≡◌, Some, None, slice_get, rules}
-use Rattle.vcd_head.specs.Shown.{parts}
-use Rattle.vcd_head.proofs.EnclosingLemmas.{parent_of_row}
-use Rattle.vcd_head.proofs.RowLemmas.{there}
+use Rattle.vcd_view.specs.Shown.{parts}
+use Rattle.vcd_view.proofs.ParentLemmas.{parent_of_row}
+use Rattle.vcd_view.proofs.RowLemmas.{there}
 use Rattle.vcd_head.proofs.selection.parent_of.Goals as goal
 
 pub returns-in-Some : goal.returns-in-Some

@@ -2,7 +2,7 @@ use Rattle.std.proofs.Common.{◌≡◌, None, Some, [], ◌++◌, map, take, dr
 use Rattle.std.proofs.lemmas.List.{length-map, length-take-le, map-append, take-append-drop, take_all}
 use Rattle.vcd_model.specs.Selection.{first_unmatched, marked_places}
 use Rattle.vcd_head.specs.Marks.{Marked, marks_of}
-use Rattle.vcd_head.proofs.DraftGrows.{rows_len}
+use Rattle.vcd_view.proofs.RowLemmas.{rows_len}
 use Rattle.vcd_head.proofs.InsideLemmas.{take_group, some_taken, some_grouped}
 use Rattle.vcd_head.proofs.MarkLemmas.{marked_all, marked_group}
 use Rattle.vcd_head.proofs.MatchLemmas.{unmatched_first, unmatched_later}

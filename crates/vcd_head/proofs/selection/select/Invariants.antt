@@ -2,8 +2,8 @@ use Rattle.std.proofs.Common.{◌≡◌, None, ◌-◌, ◌<◌, ◌≤◌, List
 use Rattle.vcd_model.specs.Header.{Header}
 use Rattle.vcd_model.specs.Selection.{first_unmatched, marked_places}
 use Rattle.vcd_head.specs.Marks.{Marked}
-use Rattle.vcd_head.specs.Shown.{parts}
-use Rattle.vcd_head.specs.Views.{Views}
+use Rattle.vcd_view.specs.Shown.{parts}
+use Rattle.vcd_view.specs.Views.{Views}
 use Rattle.vcd_head.proofs.selection.select.Given as goal
 
 abbrev pub invariant-loop-done : goal.invariant-loop-done

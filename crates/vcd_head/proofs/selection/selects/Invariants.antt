@@ -1,8 +1,8 @@
 use Rattle.std.proofs.Common.{◌≡◌, Some, slice_get}
 use Rattle.vcd_model.specs.Declarations.{Declaration, Variable}
 use Rattle.vcd_model.specs.Header.{Header}
-use Rattle.vcd_head.specs.Shown.{parts}
-use Rattle.vcd_head.specs.Views.{Views}
+use Rattle.vcd_view.specs.Shown.{parts}
+use Rattle.vcd_view.specs.Views.{Views}
 use Rattle.vcd_head.proofs.NamePaths.{HasMatched}
 use Rattle.vcd_head.proofs.selection.selects.Given as goal
 

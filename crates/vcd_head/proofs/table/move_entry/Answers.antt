@@ -1,8 +1,8 @@
 use Rattle.std.proofs.Common.{◌≡◌, ◌+◌, ◌-◌, ◌%◌, ◌^◌, bit_and, length, set, slice_get, Some, refl, sym, ap, subst, ◌∙◌, rules}
-use Rattle.vcd_head.specs.declared.view.Entry.{Entry}
+use Rattle.vcd_view.specs.declared.view.Entry.{Entry}
 use Rattle.vcd_head.specs.Codes.{Moves}
-use Rattle.vcd_head.specs.Entries.{are_right, is_right}
-use Rattle.vcd_head.proofs.EntryLemmas.{all_written, one_of_all}
+use Rattle.vcd_view.specs.Entries.{are_right, is_right}
+use Rattle.vcd_view.proofs.EntryLemmas.{all_written, one_of_all}
 use Rattle.vcd_head.proofs.SplitLemmas.{moves}
 use Rattle.vcd_head.proofs.table.move_entry.Goals as goal
 

@@ -7,8 +7,8 @@ use Rattle.vcd_head.specs.Reads.{Reads}
 use Rattle.vcd_head.specs.Texts.{RunsOn, ReadsOn, spaced}
 use Rattle.vcd_text.specs.Advances.{Advances, CallEnd}
 use Rattle.vcd_head.specs.Entries.{AreEntered}
-use Rattle.vcd_head.specs.declared.view.Code.{Code}
-use Rattle.vcd_head.specs.declared.view.Entry.{Entry}
+use Rattle.vcd_view.specs.declared.view.Code.{Code}
+use Rattle.vcd_view.specs.declared.view.Entry.{Entry}
 use Rattle.vcd_head.proofs.texts.append_to_end.Given as goal
 
 abbrev pub invariant-tokens : goal.invariant-tokens

@@ -9,7 +9,7 @@ use Rattle.vcd_model.specs.Declarations.{Declaration, Variable}
 use Rattle.vcd_model.specs.Reading.{phrases_of}
 use Rattle.vcd_text.specs.Feed.{token_of}
 use Rattle.vcd_head.specs.Texts.{spaced}
-use Rattle.vcd_head.specs.Views.{IsSize}
+use Rattle.vcd_view.specs.Views.{IsSize}
 use Rattle.vcd_head.specs.Draft.{HasCodes, IsFound}
 use Rattle.vcd_head.proofs.TokenSteps.{faultless_phrase, word_some, word_none, text_taken}
 use Rattle.vcd_head.proofs.TextSteps.{joined}
@@ -17,8 +17,8 @@ use Rattle.vcd_head.proofs.WordLemmas.{size_found, size_parts}
 use Rattle.vcd_head.proofs.PhraseLemmas.{begun, not_begun, ended, refused_inside, var_welcomes_type, var_welcomes_reference, var_runs, var_whole}
 use Rattle.vcd_head.proofs.DraftSteps.{carried, few_enough, too_many_var, var_checks_pass, failed_not}
 use Rattle.vcd_head.proofs.DraftLemmas.{some_token, var_declared, holds_declared, has_codes_grow}
-use Rattle.vcd_head.specs.declared.view.Kind.TheVariants as kind
-use Rattle.vcd_head.specs.declared.view.Row.{Row}
+use Rattle.vcd_view.specs.declared.view.Kind.TheVariants as kind
+use Rattle.vcd_view.specs.declared.view.Row.{Row}
 use Rattle.vcd_head.proofs.variable.read_variable.Goals as goal
 
 pub returns-then-len-most-clause-reads : goal.returns-then-len-most-clause-reads

@@ -6,7 +6,7 @@ use Rattle.vcd_model.specs.Scales.{scale_text}
 use Rattle.vcd_text.specs.Device.{Takes}
 use Rattle.vcd_text.proofs.Writes.{AppendsSome, appends-first, appends-some, appends-twice, takes-twice}
 use Rattle.vcd_head.specs.Marks.{is_marked}
-use Rattle.vcd_head.specs.Shown.{parts}
+use Rattle.vcd_view.specs.Shown.{parts}
 use Rattle.vcd_head.proofs.MarkedHead.{head_is, head_of_parts}
 use Rattle.vcd_head.proofs.write.put_head.Goals as goal
 

@@ -1,8 +1,8 @@
 use Rattle.std.proofs.Common.{◌≡◌}
 use Rattle.vcd_model.specs.Header.{Header}
 use Rattle.vcd_head.specs.Marks.{is_marked}
-use Rattle.vcd_head.specs.Shown.{parts}
-use Rattle.vcd_head.specs.Views.{Views, counted_from_one}
+use Rattle.vcd_view.specs.Shown.{parts}
+use Rattle.vcd_view.specs.Views.{Views, counted_from_one}
 use Rattle.vcd_head.proofs.OpenScopes.{Closes}
 use Rattle.vcd_head.proofs.write.put_open.Given as goal
 

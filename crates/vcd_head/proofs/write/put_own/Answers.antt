@@ -2,7 +2,7 @@ use Rattle.std.proofs.Common.{List, ℕ, subst, sym, ◌∙◌}
 use Rattle.vcd_model.specs.Declarations.{Declaration}
 use Rattle.vcd_text.specs.Device.{Takes}
 use Rattle.vcd_model.specs.HeadText.{var_line}
-use Rattle.vcd_head.specs.Shown.{parts}
+use Rattle.vcd_view.specs.Shown.{parts}
 use Rattle.vcd_head.proofs.WriteLemmas.{code_read, code_there, row_there}
 use Rattle.vcd_head.proofs.write.put_own.Goals as goal
 

@@ -2,7 +2,7 @@ use Rattle.std.proofs.Common.{◌≡◌, ◌+◌, List, ℕ, ap, subst, sym, ◌
 use Rattle.vcd_model.specs.Declarations.{Declaration}
 use Rattle.vcd_model.specs.HeadText.{code_place, new_code, var_line}
 use Rattle.vcd_text.specs.Device.{Takes}
-use Rattle.vcd_head.specs.Shown.{parts}
+use Rattle.vcd_view.specs.Shown.{parts}
 use Rattle.vcd_head.proofs.RenamedLemmas.{place_read}
 use Rattle.vcd_head.proofs.WriteLemmas.{code_read, code_there, row_there}
 use Rattle.vcd_head.proofs.write.put_renamed.Goals as goal

@@ -5,7 +5,7 @@ use Rattle.vcd_text.specs.Device.{Takes}
 use Rattle.vcd_text.proofs.Writes.{appends-none}
 use Rattle.vcd_head.specs.Marks.{is_marked}
 use Rattle.vcd_head.specs.Merged.{given}
-use Rattle.vcd_head.specs.Shown.{parts}
+use Rattle.vcd_view.specs.Shown.{parts}
 use Rattle.vcd_head.proofs.WriteLemmas.{up_some, up_none, scope_row, variable_row, unmarked_row, row_there}
 use Rattle.vcd_head.proofs.write.put_row.Goals as goal
 

@@ -4,7 +4,7 @@ use Rattle.vcd_model.specs.HeadText.{row_line}
 use Rattle.vcd_text.proofs.Writes.{appends-twice}
 use Rattle.vcd_head.specs.Marks.{is_marked}
 use Rattle.vcd_head.specs.Merged.{given}
-use Rattle.vcd_head.specs.Shown.{parts}
+use Rattle.vcd_view.specs.Shown.{parts}
 use Rattle.vcd_head.proofs.WriteLemmas.{declared_there, lines-next, lines-some, lines-all}
 use Rattle.vcd_head.proofs.write.put_rows.Goals as goal
 

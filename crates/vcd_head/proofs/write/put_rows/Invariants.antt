@@ -6,8 +6,8 @@ use Rattle.vcd_model.specs.Header.{Header}
 use Rattle.vcd_model.specs.HeadText.{row_line}
 use Rattle.vcd_head.specs.Marks.{is_marked}
 use Rattle.vcd_head.specs.Merged.{FitNumbers, given}
-use Rattle.vcd_head.specs.Shown.{parts}
-use Rattle.vcd_head.specs.Views.{Views}
+use Rattle.vcd_view.specs.Shown.{parts}
+use Rattle.vcd_view.specs.Views.{Views}
 use Rattle.vcd_head.proofs.write.put_rows.Given as goal
 
 abbrev pub invariant-loop-row : goal.invariant-loop-row

@@ -1,7 +1,7 @@
 use Rattle.std.proofs.Common.{◌≡◌, List, ℕ, Err, decimal, subst, sym, rules}
 use Rattle.vcd_model.specs.Declarations.{Declaration}
 use Rattle.vcd_text.specs.Device.{Takes}
-use Rattle.vcd_head.specs.Shown.{parts}
+use Rattle.vcd_view.specs.Shown.{parts}
 use Rattle.vcd_text.proofs.Writes.{AppendsSome, appends-first, appends-some, appends-twice, takes-twice}
 use Rattle.vcd_head.proofs.WriteLemmas.{some_reference, variable_rest, variable_text}
 use Rattle.vcd_head.proofs.write.put_variable.Goals as goal

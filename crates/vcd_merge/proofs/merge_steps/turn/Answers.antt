@@ -1,7 +1,8 @@
 use Rattle.std.proofs.Common.{◌≡◌, ◌<◌, sym, ap, subst, ◌∙◌, ◌+◌, length, arith, map, slice_set}
 use Rattle.std.proofs.lemmas.Option.{get_or_from_slice_get, slice_get-get_or}
-use Rattle.vcd_head.specs.Shown.{HeadShown, parts, shown}
-use Rattle.vcd_head.specs.Views.{Views}
+use Rattle.vcd_view.specs.Shown.{HeadShown, parts}
+use Rattle.vcd_head.specs.Shown.{shown}
+use Rattle.vcd_view.specs.Views.{Views}
 use Rattle.vcd_merge.specs.MergeParts.{part_len}
 use Rattle.vcd_merge.specs.Seat.{AtSeat}
 use Rattle.vcd_merge.proofs.PartLemmas.{get_other, lent_len, part_other, spot_lent, spot_put, spot_other, seated_put}

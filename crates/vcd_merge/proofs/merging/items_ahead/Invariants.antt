@@ -4,7 +4,7 @@ use Rattle.vcd_model.specs.Items.{BodyItem}
 use Rattle.vcd_model.specs.Tokens.{Token}
 use Rattle.vcd_text.specs.Ahead.{bytes_of, longest_of, passed_of}
 use Rattle.vcd_text.specs.Passed.{Passed}
-use Rattle.vcd_head.specs.Views.{IsViewOf}
+use Rattle.vcd_view.specs.Views.{IsViewOf}
 use Rattle.vcd_merge.specs.MergeAhead.{IsAhead, TrailAhead, seat_with}
 use Rattle.vcd_merge.proofs.merging.items_ahead.Given as goal
 

@@ -1,6 +1,6 @@
 use Rattle.std.proofs.Common.{refl, sym, ap, ◌∙◌}
 use Rattle.std.specs.Prelude.{option_map}
-use Rattle.vcd_head.specs.declared.view.Code.{Code}
+use Rattle.vcd_view.specs.declared.view.Code.{Code}
 use Rattle.vcd_merge.specs.declared.merging.Kind.{Kind}
 use Rattle.vcd_merge.proofs.MergeItem.{sized_is}
 use Rattle.vcd_merge.proofs.merging.kind_at.Goals as goal

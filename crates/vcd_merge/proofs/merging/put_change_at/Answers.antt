@@ -1,7 +1,7 @@
 use Rattle.std.proofs.Common.{◌≡◌, ◌&&◌, true, false, ap, sym, ◌∙◌, Err, rules, ℕ, ◌+◌, ◌*◌, Some, arith, refl}
 use Rattle.vcd_model.specs.HeadText.{new_code}
 use Rattle.vcd_model.specs.Items.{Change, leaves_open, time_after}
-use Rattle.vcd_head.specs.Shown.{parts}
+use Rattle.vcd_view.specs.Shown.{parts}
 use Rattle.vcd_body.specs.Items.{model_form}
 use Rattle.vcd_text.proofs.Writes.{appends-none, appends-first, takes-twice}
 use Rattle.vcd_body.proofs.Results.{if_ok}
@@ -11,7 +11,7 @@ use Rattle.vcd_model.proofs.MergedText.{left_out, left_time, line_due, time_writ
 use Rattle.vcd_body.specs.declared.item.Item.TheVariants as item
 use Rattle.std.specs.Prelude.{option_map}
 use Rattle.vcd_model.specs.Values.{change_line}
-use Rattle.vcd_head.specs.declared.view.Code.{Code}
+use Rattle.vcd_view.specs.declared.view.Code.{Code}
 use Rattle.vcd_merge.specs.declared.merging.Kind.{Kind}
 use Rattle.vcd_merge.proofs.merging.put_change_at.Goals as goal
 

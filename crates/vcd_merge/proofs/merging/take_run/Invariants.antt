@@ -2,7 +2,7 @@ use Rattle.std.proofs.Common.{◌≡◌, ℕ, ◌≤◌, ◌-◌, ◌^◌, List,
 use Rattle.vcd_model.specs.Items.{BodyItem}
 use Rattle.vcd_text.specs.Feed.{SameLoans, limit_of, chunk_len_of, seen, source_of}
 use Rattle.vcd_text.specs.Advances.{HasNotFailed}
-use Rattle.vcd_head.specs.Views.{IsViewOf}
+use Rattle.vcd_view.specs.Views.{IsViewOf}
 use Rattle.vcd_merge.specs.MergeTrail.{Reaches, stage_with}
 use Rattle.vcd_merge.specs.Seat.{AtSeat, Lane, SameSeat, spot_with}
 use Rattle.vcd_merge.proofs.merging.take_run.Given as goal

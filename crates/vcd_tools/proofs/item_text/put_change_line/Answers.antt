@@ -1,6 +1,6 @@
 use Rattle.std.proofs.Common.{sym, subst, ◌∙◌}
 use Rattle.vcd_text.specs.Device.{Takes}
-use Rattle.vcd_head.specs.Shown.{parts}
+use Rattle.vcd_view.specs.Shown.{parts}
 use Rattle.vcd_tools.proofs.ItemTextLemmas.{some_text, change_is}
 use Rattle.vcd_tools.proofs.item_text.put_change_line.Goals as goal
 

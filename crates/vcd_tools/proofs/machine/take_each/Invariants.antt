@@ -5,8 +5,8 @@ use Rattle.vcd_model.specs.Outcome.{open_text}
 use Rattle.vcd_model.specs.Tokens.{Token}
 use Rattle.vcd_text.specs.Ahead.{bytes_of, longest_of, passed_of}
 use Rattle.vcd_text.specs.Passed.{Passed}
-use Rattle.vcd_head.specs.Shown.{parts}
-use Rattle.vcd_head.specs.Views.{Views}
+use Rattle.vcd_view.specs.Shown.{parts}
+use Rattle.vcd_view.specs.Views.{Views}
 use Rattle.vcd_tools.specs.Ahead.{StandsAhead}
 use Rattle.vcd_body.specs.Device.{Grows}
 use Rattle.vcd_tools.specs.Engine.{request_in}

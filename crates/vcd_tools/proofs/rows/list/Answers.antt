@@ -1,7 +1,7 @@
 use Rattle.std.proofs.Common.{◌≡◌, List, ℕ, Err, take, sym, subst, ◌∙◌, arith, rules}
 use Rattle.std.specs.Io.KnownBytes.{Appends}
 use Rattle.vcd_text.proofs.Writes.{appends-twice}
-use Rattle.vcd_head.specs.Shown.{parts}
+use Rattle.vcd_view.specs.Shown.{parts}
 use Rattle.vcd_tools.proofs.Variables.{read_variable, read_other, is_declared}
 use Rattle.vcd_tools.proofs.ListLemmas.{line_after, lines-variable, lines-pass, listed-some, listed-all}
 use Rattle.vcd_body.specs.declared.answer.Stop.TheVariants.{Write}

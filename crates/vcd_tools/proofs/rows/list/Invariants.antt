@@ -1,8 +1,8 @@
 use Rattle.std.proofs.Common.{◌≡◌, [], take}
 use Rattle.std.specs.Io.KnownBytes.{Appends}
 use Rattle.vcd_model.specs.Header.{Header}
-use Rattle.vcd_head.specs.Shown.{parts}
-use Rattle.vcd_head.specs.Views.{Views}
+use Rattle.vcd_view.specs.Shown.{parts}
+use Rattle.vcd_view.specs.Views.{Views}
 use Rattle.vcd_tools.proofs.ListLemmas.{lines_after}
 use Rattle.vcd_tools.proofs.rows.list.Given as goal
 

@@ -2,7 +2,7 @@ use Rattle.std.proofs.Common.{◌≡◌, sym, ◌∙◌, List, ℕ, [], ◌∷�
 use Rattle.vcd_model.specs.Declarations.{Declaration}
 use Rattle.vcd_text.specs.Device.{Takes}
 use Rattle.vcd_text.proofs.Writes.{AppendsSome, appends-first, appends-some, appends-twice, takes-twice}
-use Rattle.vcd_head.specs.Shown.{parts}
+use Rattle.vcd_view.specs.Shown.{parts}
 use Rattle.vcd_tools.proofs.ListLemmas.{line_of_row, row_there, code_there}
 use Rattle.vcd_tools.proofs.rows.put_variable.Goals as goal
 

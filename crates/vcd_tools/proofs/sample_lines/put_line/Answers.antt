@@ -4,7 +4,7 @@ use Rattle.vcd_model.specs.Declarations.{Declaration, path_of}
 use Rattle.vcd_model.specs.Sample.{shown}
 use Rattle.vcd_text.specs.Device.{Takes}
 use Rattle.vcd_text.proofs.Writes.{AppendsSome, appends-first, appends-none, appends-some, appends-twice, takes-twice}
-use Rattle.vcd_head.specs.Shown.{parts}
+use Rattle.vcd_view.specs.Shown.{parts}
 use Rattle.vcd_body.specs.Contents.{codes_shown, value_in}
 use Rattle.vcd_tools.proofs.ListLemmas.{row_there}
 use Rattle.vcd_tools.proofs.SampleLines.{event_is, line_of, no_line}

@@ -2,7 +2,7 @@ use Rattle.std.proofs.Common.{◌≡◌, ◌+◌, List, ℕ, Err, refl, sym, sub
 use Rattle.std.specs.Io.KnownBytes.{Appends}
 use Rattle.vcd_model.specs.Selection.{selected}
 use Rattle.vcd_text.proofs.Writes.{appends-none, appends-twice}
-use Rattle.vcd_head.specs.Shown.{parts}
+use Rattle.vcd_view.specs.Shown.{parts}
 use Rattle.vcd_tools.proofs.SampleLines.{line_at, lines_are}
 use Rattle.vcd_tools.proofs.SelectedLines.{declared_at, rows_all, rows_before, rows_marked, rows_none, rows_other, rows_some, rows_unmarked}
 use Rattle.vcd_tools.proofs.Variables.{read_variable, read_other, is_declared}

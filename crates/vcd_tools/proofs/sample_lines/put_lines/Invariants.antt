@@ -4,8 +4,8 @@ use Rattle.vcd_model.specs.Header.{Header}
 use Rattle.vcd_model.specs.Items.{BodyItem}
 use Rattle.vcd_model.specs.Sample.{is_settled}
 use Rattle.vcd_head.specs.Marks.{marks_of}
-use Rattle.vcd_head.specs.Shown.{parts}
-use Rattle.vcd_head.specs.Views.{Views}
+use Rattle.vcd_view.specs.Shown.{parts}
+use Rattle.vcd_view.specs.Views.{Views}
 use Rattle.vcd_tools.specs.Values.{AreHeld}
 use Rattle.vcd_tools.proofs.SampleLines.{line_at}
 use Rattle.vcd_tools.proofs.SelectedLines.{rows_before}

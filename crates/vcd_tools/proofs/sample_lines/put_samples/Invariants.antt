@@ -6,7 +6,7 @@ use Rattle.vcd_model.specs.Items.{BodyItem}
 use Rattle.vcd_model.specs.Sample.{is_settled, sample_lines}
 use Rattle.vcd_model.specs.Selection.{selected}
 use Rattle.vcd_head.specs.Marks.{marks_of}
-use Rattle.vcd_head.specs.Views.{IsViewOf}
+use Rattle.vcd_view.specs.Views.{IsViewOf}
 use Rattle.vcd_tools.specs.Values.{AreHeld}
 use Rattle.vcd_tools.proofs.sample_lines.put_samples.Given as goal
 

@@ -3,7 +3,7 @@ use Rattle.std.specs.Iterator.Adapters.{zip_first, zip_second}
 use Rattle.std.specs.Slice.Iter.{iter_rest}
 use Rattle.std.proofs.lemmas.List.{length_push}
 use Rattle.std.proofs.lemmas.Slice.Zip.{zip_turn, zip_end}
-use Rattle.vcd_head.specs.Shown.{parts}
+use Rattle.vcd_view.specs.Shown.{parts}
 use Rattle.vcd_tools.specs.Choice.{is_chosen}
 use Rattle.vcd_tools.proofs.SelectionLemmas.{HaveChosen, are_at, none_chosen, next_chosen, next_other, next_unmarked, next_outside, all_chosen}
 use Rattle.vcd_tools.proofs.selection.choose_marked.Goals as goal

@@ -1,5 +1,5 @@
 use Rattle.std.proofs.Common.{◌≡◌, length}
-use Rattle.vcd_head.specs.Shown.{parts}
+use Rattle.vcd_view.specs.Shown.{parts}
 use Rattle.vcd_tools.specs.Choice.{codes_in, is_chosen}
 use Rattle.vcd_tools.proofs.SelectionLemmas.{HaveChosen}
 use Rattle.vcd_tools.proofs.selection.choose_marked.Given as goal

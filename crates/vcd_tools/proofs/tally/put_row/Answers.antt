@@ -2,7 +2,7 @@ use Rattle.std.proofs.Common.{◌≡◌, ℕ, List, [], ◌∷◌, Err, get_or, 
 use Rattle.vcd_model.specs.Declarations.{Declaration}
 use Rattle.vcd_text.specs.Device.{Takes}
 use Rattle.vcd_text.proofs.Writes.{AppendsSome, appends-first, appends-some, appends-twice, takes-twice}
-use Rattle.vcd_head.specs.Shown.{parts}
+use Rattle.vcd_view.specs.Shown.{parts}
 use Rattle.vcd_tools.proofs.ListLemmas.{row_there}
 use Rattle.vcd_tools.proofs.TallyLines.{row_is}
 use Rattle.vcd_tools.proofs.tally.put_row.Goals as goal

@@ -4,8 +4,8 @@ use Rattle.vcd_model.specs.Edges.{edges_line}
 use Rattle.vcd_model.specs.Header.{Header}
 use Rattle.vcd_model.specs.Items.{BodyItem}
 use Rattle.vcd_head.specs.Marks.{marks_of}
-use Rattle.vcd_head.specs.Shown.{parts}
-use Rattle.vcd_head.specs.Views.{Views}
+use Rattle.vcd_view.specs.Shown.{parts}
+use Rattle.vcd_view.specs.Views.{Views}
 use Rattle.vcd_tools.specs.Edges.{AreTallied}
 use Rattle.vcd_tools.proofs.SelectedLines.{rows_before}
 use Rattle.vcd_tools.proofs.tally.put_rows.Given as goal

@@ -2,7 +2,8 @@ use Rattle.std.proofs.Common.{◌≤◌, length, sum_by, take, ap, sym, arith}
 use Rattle.std.proofs.lemmas.List.{take_all}
 use Rattle.std.proofs.lemmas.List.Elements.{All-more, All-same, All-weaker}
 use Rattle.std.proofs.lemmas.List.Sums.{sum_by_more}
-use Rattle.vcd_head.specs.Shown.{HeadShown, shown}
+use Rattle.vcd_view.specs.Shown.{HeadShown}
+use Rattle.vcd_head.specs.Shown.{shown}
 use Rattle.vcd_head.specs.declared.head.Head.{Head}
 use Rattle.vcdkit.proofs.OpenLemmas.{marks_enough}
 use Rattle.vcdkit.proofs.inputs.marks_for.Goals as goal

@@ -1,6 +1,6 @@
 use Rattle.std.proofs.Common.{◌≡◌}
 use Rattle.vcd_model.specs.Header.{Header}
-use Rattle.vcd_head.specs.Views.{IsViewOf}
+use Rattle.vcd_view.specs.Views.{IsViewOf}
 use Rattle.vcdkit.specs.Ticks.{all_ticks}
 use Rattle.vcdkit.proofs.SampleLemmas.{so_far}
 use Rattle.vcdkit.proofs.sample_ticks.write_ticks.Given as goal

@@ -5,9 +5,10 @@ use Rattle.vcd_model.specs.Reading.{phrases_of}
 use Rattle.vcd_text.specs.Answer.{whole}
 use Rattle.vcd_text.specs.Device.{Supply, supply}
 use Rattle.vcd_text.specs.Feed.{HasGiven, chunk_len_of, limit_of, source_of}
-use Rattle.vcd_head.specs.Shown.{HeadShown, shown}
+use Rattle.vcd_view.specs.Shown.{HeadShown}
+use Rattle.vcd_head.specs.Shown.{shown}
 use Rattle.vcd_model.specs.Outcome.{declarations_allowed}
-use Rattle.vcd_head.specs.Views.{Views}
+use Rattle.vcd_view.specs.Views.{Views}
 use Rattle.vcdkit.specs.Failure.{CountsRead}
 use Rattle.vcdkit.specs.declared.failure.Failure.TheVariants.{OutOfMemory}
 use Rattle.vcdkit.proofs.HeaderLemmas.{begun, failed}

@@ -1,7 +1,7 @@
 use Rattle.std.proofs.Common.{◌≡◌, Some, None, slice_get, subst, rules}
 use Rattle.vcd_head.specs.Codes.{place_in}
-use Rattle.vcd_head.specs.Finds.{Finds}
-use Rattle.vcd_head.specs.Keys.{AreBytes}
+use Rattle.vcd_view.specs.Finds.{Finds}
+use Rattle.vcd_view.specs.Keys.{AreBytes}
 use Rattle.vcd_head.proofs.CodesLemmas.{known, listed}
 use Rattle.vcd_head.proofs.codes.Codes.find.Goals as goal
 

@@ -1,8 +1,8 @@
 use Rattle.std.proofs.Common.{◌≡◌, ◌++◌, [], ◌∷◌, length, ap, ◌∙◌, arith}
-use Rattle.vcd_head.specs.Keys.{AreBytes}
+use Rattle.vcd_view.specs.Keys.{AreBytes}
 use Rattle.vcd_head.proofs.CodesLemmas.{finds_more, not_found}
 use Rattle.vcd_head.proofs.EnteredLemmas.{listed_last}
-use Rattle.vcd_head.proofs.LookUpLemmas.{codes_len}
+use Rattle.vcd_view.proofs.LookUpLemmas.{codes_len}
 use Rattle.vcd_head.proofs.codes.Codes.push.Goals as goal
 
 pub returns-clause-added : goal.returns-clause-added

@@ -3,8 +3,8 @@ use Rattle.vcd_model.specs.Declarations.{Declaration, path_of}
 use Rattle.vcd_model.specs.Header.{Header}
 use Rattle.vcd_model.specs.Selection.{is_variable, selects_path}
 use Rattle.vcd_head.specs.Inside.{AreOpen}
-use Rattle.vcd_head.specs.Shown.{parts}
-use Rattle.vcd_head.specs.Views.{Views}
+use Rattle.vcd_view.specs.Shown.{parts}
+use Rattle.vcd_view.specs.Views.{Views}
 use Rattle.vcd_head.proofs.MatchLemmas.{Matching}
 use Rattle.vcd_head.proofs.inside.Open.compare.Given as goal
 

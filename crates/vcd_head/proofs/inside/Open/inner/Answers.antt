@@ -5,7 +5,7 @@ use Rattle.vcd_model.specs.Selection.{selects_path}
 use Rattle.vcd_head.specs.Inside.{AreLeft, front, left_selects}
 use Rattle.vcd_head.specs.Paths.{scopes_text}
 use Rattle.vcd_head.specs.declared.inside.Left.TheVariants.{Rest}
-use Rattle.vcd_head.proofs.DraftGrows.{rows_len}
+use Rattle.vcd_view.proofs.RowLemmas.{rows_len}
 use Rattle.vcd_head.proofs.InsideLemmas.{front_next, both_some}
 use Rattle.vcd_head.proofs.SelectionLemmas.{there}
 use Rattle.vcd_head.proofs.SieveLemmas.{inside_ruled_out}

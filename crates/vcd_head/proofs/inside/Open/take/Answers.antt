@@ -4,11 +4,11 @@ use Rattle.vcd_model.specs.Bytes.{is_empty}
 use Rattle.vcd_model.specs.Declarations.{Declaration}
 use Rattle.vcd_model.specs.Header.{Header}
 use Rattle.vcd_model.specs.Selection.{is_variable}
-use Rattle.vcd_head.specs.Shown.{parts}
-use Rattle.vcd_head.specs.Views.{Views}
+use Rattle.vcd_view.specs.Shown.{parts}
+use Rattle.vcd_view.specs.Views.{Views}
 use Rattle.vcd_head.proofs.InsideLemmas.{is_empty-map, no_variable, none_selects, some_variable}
 use Rattle.vcd_head.proofs.MatchLemmas.{matched_row, no_match, or_false, or_true, selected_row}
-use Rattle.vcd_head.proofs.RowLemmas.{there, row_of}
+use Rattle.vcd_view.proofs.RowLemmas.{there, row_of}
 use Rattle.vcd_head.proofs.inside.Open.take.Goals as goal
 use Rattle.vcd_head.proofs.inside.Open.take.Goals.{After-enter, After-selects}
 

@@ -1,7 +1,7 @@
 use Rattle.std.proofs.Common.{◌≡◌, ◌∷◌, None, length, ap, ◌∙◌}
 use Rattle.std.specs.Option.{option_or}
-use Rattle.vcd_head.specs.Codes.{beside, in_tree, told_by}
-use Rattle.vcd_head.specs.Entries.{are_right, entry_in}
+use Rattle.vcd_view.specs.Entries.{beside, told_by, are_right, entry_in}
+use Rattle.vcd_head.specs.Codes.{in_tree}
 use Rattle.vcd_head.proofs.CodesLemmas.{none_told_anew}
 use Rattle.vcd_head.proofs.EnteredLemmas.{entered_none}
 use Rattle.vcd_head.proofs.table.Table.empty.Goals as goal

@@ -2,9 +2,10 @@ use Rattle.std.proofs.Common.{◌≡◌, ◌∷◌, length, drop, set, slice_get
 use Rattle.std.specs.Vec.{with_items}
 use Rattle.std.proofs.lemmas.List.{length-set, take_at}
 use Rattle.vcd_head.specs.declared.table.Table.{Table}
-use Rattle.vcd_head.specs.Codes.{IsEntered, IsOneOf, beside, place_in}
-use Rattle.vcd_head.specs.Entries.{AreEntered, entry_in}
-use Rattle.vcd_head.specs.Keys.{AreBytes}
+use Rattle.vcd_head.specs.Codes.{IsEntered, IsOneOf, place_in}
+use Rattle.vcd_view.specs.Entries.{beside, entry_in}
+use Rattle.vcd_head.specs.Entries.{AreEntered}
+use Rattle.vcd_view.specs.Keys.{AreBytes}
 use Rattle.vcd_head.proofs.CodesLemmas.{entry_entered, tree_entered}
 use Rattle.vcd_head.proofs.EnteredLemmas.{entered_put}
 use Rattle.vcd_head.proofs.table.Table.enter.Goals as goal

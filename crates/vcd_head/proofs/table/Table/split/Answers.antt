@@ -1,7 +1,7 @@
 use Rattle.std.proofs.Common.{◌≤◌, ◌+◌, length, drop, refl, sym, ap, subst, ◌∙◌, arith}
 use Rattle.std.proofs.lemmas.List.{take_at}
 use Rattle.vcd_head.specs.Codes.{Moves}
-use Rattle.vcd_head.specs.Entries.{are_right}
+use Rattle.vcd_view.specs.Entries.{are_right}
 use Rattle.vcd_head.proofs.SplitLemmas.{ArePartlyMoved, none_moved, one_moved, split_finds, wide_right}
 use Rattle.vcd_head.proofs.table.Table.split.Goals as goal
 

@@ -1,5 +1,5 @@
 use Rattle.std.proofs.Common.{◌≡◌, ℕ, List}
-use Rattle.vcd_head.specs.declared.view.Code.{Code}
+use Rattle.vcd_view.specs.declared.view.Code.{Code}
 use Rattle.vcd_head.specs.Entries.{AreEntered}
 use Rattle.vcd_head.proofs.SplitLemmas.{ArePartlyMoved}
 use Rattle.vcd_head.proofs.table.Table.split.Given as goal

@@ -3,7 +3,7 @@ use Rattle.std.proofs.lemmas.List.{take_all}
 use Rattle.std.proofs.lemmas.Option.{slice_get-get_or}
 use Rattle.vcd_head.specs.Codes.{FindsAll}
 use Rattle.vcd_head.proofs.CodesLemmas.{finds_next, finds_none}
-use Rattle.vcd_head.proofs.LookUpLemmas.{codes_len}
+use Rattle.vcd_view.proofs.LookUpLemmas.{codes_len}
 use Rattle.vcd_head.proofs.table.Table.widen.Goals as goal
 
 pub loop-place-init : goal.loop-place-init

@@ -1,6 +1,7 @@
 use Rattle.std.proofs.Common.{List, take}
 use Rattle.vcd_model.specs.Declarations.{IdCode}
-use Rattle.vcd_head.specs.Codes.{AreHeld, FindsAll}
+use Rattle.vcd_view.specs.Views.{AreHeld}
+use Rattle.vcd_head.specs.Codes.{FindsAll}
 use Rattle.vcd_head.specs.Entries.{AreEntered}
 use Rattle.vcd_head.proofs.table.Table.widen.Given as goal
 

@@ -2,8 +2,8 @@ use Rattle.std.proofs.Common.{rules, ◌≡◌, ◌+◌, ◌^◌, ◌<◌, ◌++
 use Rattle.vcd_text.specs.Ahead.{ahead_of, bytes_of, lines_of, longest_of}
 use Rattle.vcd_text.specs.Feed.{limit_of, seen}
 use Rattle.vcd_text.specs.declared.device.WriteFailed.{WriteFailed}
-use Rattle.vcd_head.specs.Shown.{parts}
-use Rattle.vcd_head.specs.Views.{Views}
+use Rattle.vcd_view.specs.Shown.{parts}
+use Rattle.vcd_view.specs.Views.{Views}
 use Rattle.vcd_tools.specs.Ahead.{RunsAhead, StandsAhead}
 use Rattle.vcd_tools.specs.Engine.{request_of_engine}
 use Rattle.vcd_body.specs.declared.answer.Stop.TheVariants.{Write}

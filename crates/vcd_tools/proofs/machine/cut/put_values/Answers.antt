@@ -4,7 +4,7 @@ use Rattle.std.proofs.Math.Seq.{take-length}
 use Rattle.vcd_model.specs.Cut.{line_if_set}
 use Rattle.vcd_model.specs.History.{value_before}
 use Rattle.vcd_text.proofs.Writes.{AppendsSome, appends-first, appends-some, appends-twice}
-use Rattle.vcd_head.proofs.LookUpLemmas.{codes_len}
+use Rattle.vcd_view.proofs.LookUpLemmas.{codes_len}
 use Rattle.vcd_tools.specs.Cut.{values_text}
 use Rattle.vcd_tools.proofs.CutLemmas.{line_at, read_code, values_line, values_pass, values_rest}
 use Rattle.vcd_tools.proofs.machine.cut.put_values.Goals as goal

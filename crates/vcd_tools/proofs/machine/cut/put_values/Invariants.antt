@@ -3,7 +3,7 @@ use Rattle.std.specs.Io.KnownBytes.{Appends}
 use Rattle.vcd_model.specs.Header.{Header}
 use Rattle.vcd_model.specs.History.{value_before}
 use Rattle.vcd_model.specs.Items.{BodyItem}
-use Rattle.vcd_head.specs.Views.{IsViewOf}
+use Rattle.vcd_view.specs.Views.{IsViewOf}
 use Rattle.vcd_tools.specs.Cut.{values_text}
 use Rattle.vcd_tools.specs.Values.{HasValues}
 use Rattle.vcd_tools.proofs.machine.cut.put_values.Given as goal

@@ -1,6 +1,0 @@
-use Rattle.std.proofs.Common.{◌≡◌, ◌-◌, ◌^◌, min, take, sum_by}
-use Rattle.vcd_head.specs.Needs.{value_bytes}
-use Rattle.vcd_head.proofs.room.need.Given as goal
-
-abbrev pub invariant-loop-code : goal.invariant-loop-code
-invariant-loop-code l = l.values ≡ min (sum_by value_bytes (take l.code-index l.view.codes.now)) (2 ^ 64 - 1)

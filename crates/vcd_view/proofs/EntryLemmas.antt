@@ -1,0 +1,134 @@
+-- The entries by which codes are looked up.
+use Rattle.std.proofs.Common.{◌≡◌, ◌≢◌, ℕ, zero, suc, ◌<◌, ◌==◌, ◌&&◌, ◌||◌, not, cond, Bool, true, false, List, [], ◌∷◌, length, set, replicate, Option, Some, None, option_map, unwrap_or, refl, sym, ap, subst, ◌∙◌, arith}
+use Rattle.std.specs.Prelude.{slice_get}
+use Rattle.std.specs.List.{AllZip, list_all}
+use Rattle.std.specs.Option.{option_or}
+use Rattle.std.proofs.lemmas.Bool.{and_parts, eqb-true, ne_eqb, eq-eqb, false≢true}
+use Rattle.std.proofs.lemmas.Option.{none-some, same_Some, slice_get_within}
+use Rattle.vcd_view.specs.declared.view.Code.{Code}
+use Rattle.vcd_view.specs.declared.view.Entry.{Entry}
+use Rattle.vcd_view.specs.Finds.{Finds}
+use Rattle.vcd_view.specs.Keys.{AreBytes, key_in}
+use Rattle.vcd_model.specs.Declarations.{IdCode}
+use Rattle.vcd_view.specs.Views.{AreHeld, IsCode}
+use Rattle.vcd_view.specs.Entries.{are_right, is_right, is_entry_of, most_of, place_told, text_in, told_by}
+use Rattle.vcd_view.proofs.KeyLemmas.{bytes_at_place, same_key}
+use Rattle.vcd_view.proofs.LookUpLemmas.{first_with}
+use Rattle.vcd_view.proofs.RowLemmas.{text_within}
+
+-- ---- tests of all elements
+
+pub both : (p q : Bool) → p ≡ true → q ≡ true → (p && q) ≡ true
+both p q e f = rw (e, f) refl
+
+-- one that is written passes, and so do all
+pub all_written : {X : Type 0} (p : X → Bool) (xs : List X) (i : ℕ) (y : X) → list_all p xs ≡ true → p y ≡ true → list_all p (set xs i y) ≡ true
+all_written p [] i y h e = refl
+all_written p (x ∷ xs) zero y h e = both (p y) (list_all p xs) e (and_parts (p x) (list_all p xs) h).1
+all_written p (x ∷ xs) (suc i) y h e =
+    let q = and_parts (p x) (list_all p xs) h in
+    both (p x) (list_all p (set xs i y)) q.0 (all_written p xs i y q.1 e)
+
+-- many of one that passes
+pub all_replicated : {X : Type 0} (p : X → Bool) (n : ℕ) (x : X) → p x ≡ true → list_all p (replicate n x) ≡ true
+all_replicated p zero x e = refl
+all_replicated p (suc n) x e = both (p x) (list_all p (replicate n x)) e (all_replicated p n x e)
+
+-- one of those that pass
+pub one_of_all : {X : Type 0} (p : X → Bool) (xs : List X) (i : ℕ) (x : X) → list_all p xs ≡ true → slice_get xs i ≡ Some x → p x ≡ true
+one_of_all p [] i x h e = absurd (none-some x e)
+one_of_all p (y ∷ xs) zero x h e = ap p (sym (same_Some y x e)) ∙ (and_parts (p y) (list_all p xs) h).0
+one_of_all p (y ∷ xs) (suc i) x h e = one_of_all p xs i x (and_parts (p y) (list_all p xs) h).1 e
+
+-- ---- what an entry says
+
+-- what an entry with a key says of the code at its place
+pub entry_tells : (text : List ℕ) (codes : List Code) (e : Entry) → is_right text codes e ≡ true → e.key ≢ 0
+    → (c : Code) × (slice_get codes e.place ≡ Some c) × (e.key ≡ key_in (text_in text c.start c.len)) × (e.most ≡ most_of c)
+entry_tells text codes e h n = by_code (slice_get codes e.place) refl
+  where
+    right : (e.key == 0) ≡ false
+    right = ne_eqb e.key 0 n
+
+    by_code : (o : Option Code) → slice_get codes e.place ≡ o → (c : Code) × (slice_get codes e.place ≡ Some c) × (e.key ≡ key_in (text_in text c.start c.len)) × (e.most ≡ most_of c)
+    by_code None s = absurd (false≢true (sym (ap (λ b. b || false) right) ∙ sym (ap (λ (o : Option Code). (e.key == 0) || unwrap_or (option_map (is_entry_of text e) o) false) s) ∙ h))
+    by_code (Some c) s =
+        let b = and_parts (e.key == key_in (text_in text c.start c.len)) (e.most == most_of c) (sym (ap (λ b. b || is_entry_of text e c) right) ∙ sym (ap (λ (o : Option Code). (e.key == 0) || unwrap_or (option_map (is_entry_of text e) o) false) s) ∙ h) in
+        (c, s, eqb-true _ _ b.0, eqb-true _ _ b.1)
+
+-- an entry with the key and the size of the code at its place
+pub entry_stands : (text : List ℕ) (codes : List Code) (e : Entry) (c : Code) → slice_get codes e.place ≡ Some c → e.key ≡ key_in (text_in text c.start c.len) → e.most ≡ most_of c → is_right text codes e ≡ true
+entry_stands text codes e c s k m =
+    ap (λ (o : Option Code). (e.key == 0) || unwrap_or (option_map (is_entry_of text e) o) false) s
+    ∙ ap (λ b. (e.key == 0) || b) (both (e.key == key_in (text_in text c.start c.len)) (e.most == most_of c) (eq-eqb _ _ k) (eq-eqb _ _ m))
+    ∙ either (e.key == 0)
+  where
+    either : (b : Bool) → (b || true) ≡ true
+    either true = refl
+    either false = refl
+
+-- what the entry with a key says, which is among those that are right
+pub entry_found : (text : List ℕ) (codes : List Code) (es : List Entry) (i : ℕ) (e : Entry) (key : ℕ) → are_right text codes es ≡ true → slice_get es i ≡ Some e → (key ≡ 0 → ⊥) → e.key ≡ key
+    → (c : Code) × (slice_get codes e.place ≡ Some c) × (key ≡ key_in (text_in text c.start c.len)) × (e.most ≡ most_of c)
+entry_found text codes es i e key h s n k =
+    let told = entry_tells text codes e (one_of_all (is_right text codes) es i e h s) (λ z. n (sym k ∙ z)) in
+    (told.0, told.1, sym k ∙ told.2, told.3)
+
+-- a code of a view is the header's at its place
+pub code_found : (text : List ℕ) (cs : List Code) (ks : List IdCode) (p : ℕ) (c : Code) → AllZip (IsCode text) cs ks → slice_get cs p ≡ Some c → (k : IdCode) × (slice_get ks p ≡ Some k) × IsCode text c k
+code_found text [] ks p c h e = absurd (none-some c e)
+code_found text (x ∷ cs) [] p c h e = absurd h
+code_found text (x ∷ cs) (k ∷ ks) zero c h e = (k, refl, subst (λ y. IsCode text y k) (same_Some x c e) h.0)
+code_found text (x ∷ cs) (k ∷ ks) (suc p) c h e = code_found text cs ks p c h.1 e
+
+-- ---- what entries give that are right
+
+-- the key of an entry that gives a place
+pub told_key : (t : List ℕ) (e : Entry) → (not (key_in t == 0) && (e.key == key_in t)) ≡ true → (e.key ≡ key_in t) × (e.key ≢ 0)
+told_key t e h =
+    let b = and_parts (not (key_in t == 0)) (e.key == key_in t) h in
+    let k = eqb-true e.key (key_in t) b.1 in
+    (k, λ z. never (key_in t == 0) b.0 (eq-eqb (key_in t) 0 (sym k ∙ z)))
+  where
+    never : (x : Bool) → not x ≡ true → x ≡ true → ⊥
+    never true h e = cc
+    never false h e = cc
+
+-- an entry that is right gives the place of its code
+gives : (text : List ℕ) (codes : List Code) (cs : List IdCode) (es : List Entry) (i : ℕ) (e : Entry) (t : List ℕ) → AreHeld text codes cs → are_right text codes es ≡ true → slice_get es i ≡ Some e → AreBytes t → e.key ≡ key_in t → e.key ≢ 0 → Finds cs t (Some e.place)
+gives text codes cs es i e t h right there a q n =
+    let told = entry_tells text codes e (one_of_all (is_right text codes) es i e right there) n in
+    let k = code_found text codes cs e.place told.0 h.stand told.1 in
+    let read = text_within text told.0.start told.0.len k.2.within ∙ k.2.text_is in
+    let equal : key_in t ≡ key_in k.0.text = sym q ∙ told.2 ∙ ap key_in read in
+    let own : AreBytes k.0.text = bytes_at_place cs e.place k.0 h.texts k.1 in
+    let some : 0 < key_in t = omega (arith, n, q) in
+    (k.0, k.1, first_with cs t e.place k.0 h.distinct k.1 (same_key t k.0.text a own equal some))
+
+-- and so do some of them
+pub told_finds : (text : List ℕ) (codes : List Code) (cs : List IdCode) (es : List Entry) (t : List ℕ) (p : ℕ) → AreHeld text codes cs → are_right text codes es ≡ true → AreBytes t → (is : List ℕ) → told_by es t is ≡ Some p → Finds cs t (Some p)
+told_finds text codes cs es t p h right a [] z = absurd (none-some p z)
+told_finds text codes cs es t p h right a (i ∷ is) z = by_entry (told_finds text codes cs es t p h right a is) (slice_get es i) refl
+  where
+    by_entry : (told_by es t is ≡ Some p → Finds cs t (Some p)) → (o : Option Entry) → slice_get es i ≡ o → Finds cs t (Some p)
+    by_entry rest None s = rest (sym (ap (λ o. option_or (place_told t o) (told_by es t is)) s) ∙ z)
+    by_entry rest (Some e) s = by_test (not (key_in t == 0) && (e.key == key_in t)) refl (sym (ap (λ o. option_or (place_told t o) (told_by es t is)) s) ∙ z)
+      where
+        by_test : (b : Bool) → (not (key_in t == 0) && (e.key == key_in t)) ≡ b → option_or (cond b (Some e.place) None) (told_by es t is) ≡ Some p → Finds cs t (Some p)
+        by_test true q w = let k = told_key t e q in subst (λ x. Finds cs t (Some x)) (same_Some e.place p w) (gives text codes cs es i e t h right s a k.0 k.1)
+        by_test false q w = rest w
+
+-- what they give is the place of a code
+pub told_within : (text : List ℕ) (codes : List Code) (es : List Entry) (t : List ℕ) (p : ℕ) → are_right text codes es ≡ true → (is : List ℕ) → told_by es t is ≡ Some p → p < length codes
+told_within text codes es t p right [] z = absurd (none-some p z)
+told_within text codes es t p right (i ∷ is) z = by_entry (told_within text codes es t p right is) (slice_get es i) refl
+  where
+    by_entry : (told_by es t is ≡ Some p → p < length codes) → (o : Option Entry) → slice_get es i ≡ o → p < length codes
+    by_entry rest None s = rest (sym (ap (λ o. option_or (place_told t o) (told_by es t is)) s) ∙ z)
+    by_entry rest (Some e) s = by_test (not (key_in t == 0) && (e.key == key_in t)) refl (sym (ap (λ o. option_or (place_told t o) (told_by es t is)) s) ∙ z)
+      where
+        by_test : (b : Bool) → (not (key_in t == 0) && (e.key == key_in t)) ≡ b → option_or (cond b (Some e.place) None) (told_by es t is) ≡ Some p → p < length codes
+        by_test true q w =
+            let told = entry_tells text codes e (one_of_all (is_right text codes) es i e right s) (told_key t e q).1 in
+            subst (λ x. x < length codes) (same_Some e.place p w) (slice_get_within codes e.place told.0 told.1)
+        by_test false q w = rest w

@@ -1,0 +1,96 @@
+-- Short codes as numbers.
+use Rattle.std.proofs.Common.{◌≡◌, ◌≢◌, ℕ, zero, suc, ◌+◌, ◌*◌, ◌/◌, ◌%◌, ◌^◌, ◌<◌, ◌≤◌, nat_le, cond, Bool, true, false, List, [], ◌∷◌, map, Some, unwrap_or, subst, length, get_or, refl, ap, ◌∙◌, arith, add-one, pow-suc}
+use Rattle.std.proofs.Math.Nat.{pow-le-pow_right}
+use Rattle.std.proofs.lemmas.Option.{none-some, same_Some}
+use Rattle.std.specs.Prelude.{slice_get}
+use Rattle.std.specs.List.{AllByRecursion}
+use Rattle.vcd_model.specs.Declarations.{IdCode}
+use Rattle.vcd_view.specs.Entries.{above, number_in}
+use Rattle.vcd_view.specs.Keys.{AreBytes, packed, key_in}
+
+-- a byte more
+pub grown : (key n b : ℕ) → key < 33 * 256 ^ n → b < 256 → key * 256 + b < 33 * 256 ^ (n + 1)
+grown key n b l s = rw (add-one n, pow-suc 256 n) (omega (arith, l, s))
+
+-- up to 7 bytes fit
+pub fits : (key n b : ℕ) → key < 33 * 256 ^ n → n ≤ 6 → b < 256 → key * 256 + b < 2 ^ 64
+fits key n b l f s =
+    let most : 256 ^ n ≤ 256 ^ 6 = pow-le-pow_right (omega arith) f in
+    omega (arith, l, s, most)
+
+pub packed_above : (bs : List ℕ) → 0 < packed bs
+packed_above [] = omega arith
+packed_above (b ∷ bs) = omega (arith, packed_above bs)
+
+same_packed : (a b : List ℕ) → AreBytes a → AreBytes b → packed a ≡ packed b → a ≡ b
+same_packed [] [] f g e = refl
+same_packed [] (y ∷ b) f g e = absurd (omega (arith, e, packed_above b))
+same_packed (x ∷ a) [] f g e = absurd (omega (arith, e, packed_above a))
+same_packed (x ∷ a) (y ∷ b) f g e =
+    let head : x ≡ y = omega (arith, e, f.0, g.0) in
+    let rest : packed a ≡ packed b = omega (arith, e, f.0, g.0) in
+    ap (λ z. z ∷ a) head ∙ ap (λ zs. y ∷ zs) (same_packed a b f.1 g.1 rest)
+
+-- codes with one key are the same
+pub same_key : (a b : List ℕ) → AreBytes a → AreBytes b → key_in a ≡ key_in b → 0 < key_in a → a ≡ b
+same_key a b f g e n = by_length (nat_le (length a) 7) (nat_le (length b) 7) f g e n
+  where
+    by_length : (p q : Bool) → AreBytes a → AreBytes b → cond p (packed a) 0 ≡ cond q (packed b) 0 → 0 < cond p (packed a) 0 → a ≡ b
+    by_length true true f g e n = same_packed a b f g e
+    by_length true false f g e n = absurd (omega (arith, e, n))
+    by_length false q f g e n = absurd (omega (arith, n))
+
+-- the bytes of a list of bytes
+pub are_bytes : (bs : List ℕ) → ((i d : ℕ) → i < length bs → get_or bs i d < 256) → AreBytes bs
+are_bytes [] h = tt
+are_bytes (b ∷ bs) h = (h 0 0 (omega arith), are_bytes bs (λ i d l. h (suc i) d (omega arith)))
+
+-- the key at a code's place
+pub key_at_place : (cs : List IdCode) (p : ℕ) (c : IdCode) → slice_get cs p ≡ Some c → unwrap_or (slice_get (map (λ (k : IdCode). key_in k.text) cs) p) 0 ≡ key_in c.text
+key_at_place [] p c e = absurd (none-some c e)
+key_at_place (k ∷ cs) zero c e = ap (λ (x : IdCode). key_in x.text) (same_Some k c e)
+key_at_place (k ∷ cs) (suc p) c e = key_at_place cs p c e
+
+-- the code at a place is of bytes
+pub bytes_at_place : (cs : List IdCode) (p : ℕ) (c : IdCode) → AllByRecursion (λ (k : IdCode). AreBytes k.text) cs → slice_get cs p ≡ Some c → AreBytes c.text
+bytes_at_place [] p c h e = absurd (none-some c e)
+bytes_at_place (k ∷ cs) zero c h e = subst (λ (x : IdCode). AreBytes x.text) (same_Some k c e) h.0
+bytes_at_place (k ∷ cs) (suc p) c h e = bytes_at_place cs p c h.1 e
+
+-- ---- the number of a short code by its key
+
+-- four bytes or more have a greater key
+long_key : (a b c d : ℕ) (bs : List ℕ) (k : ℕ) → k ≡ key_in (a ∷ b ∷ c ∷ d ∷ bs) → k ≢ 0 → 4294967296 ≤ k
+long_key a b c d bs k e n = by_length (nat_le (length (a ∷ b ∷ c ∷ d ∷ bs)) 7) e
+  where
+    by_length : (q : Bool) → k ≡ cond q (packed (a ∷ b ∷ c ∷ d ∷ bs)) 0 → 4294967296 ≤ k
+    by_length true e = omega (arith, e, packed_above bs)
+    by_length false e = absurd (n e)
+
+pub number_of_one : (code : List ℕ) (k : ℕ) → AreBytes code → k ≡ key_in code → k ≢ 0 → k < 65536 → above 0 (k % 256) ≡ number_in code
+number_of_one [] k a e n l = ap (λ x. above 0 (x % 256)) e
+number_of_one (x ∷ []) k a e n l = let byte : k % 256 ≡ x = omega (arith, e, a.0) in ap (above 0) byte
+number_of_one (x ∷ y ∷ []) k a e n l = absurd (omega (arith, e, l))
+number_of_one (x ∷ y ∷ z ∷ []) k a e n l = absurd (omega (arith, e, l))
+number_of_one (x ∷ y ∷ z ∷ w ∷ bs) k a e n l = absurd (omega (arith, long_key x y z w bs k e n, l))
+
+pub number_of_two : (code : List ℕ) (k : ℕ) → AreBytes code → k ≡ key_in code → k ≢ 0 → 65536 ≤ k → k < 16777216 → above (above 0 (k / 256 % 256)) (k % 256) ≡ number_in code
+number_of_two [] k a e n g l = absurd (omega (arith, e, g))
+number_of_two (x ∷ []) k a e n g l = absurd (omega (arith, e, g, a.0))
+number_of_two (x ∷ y ∷ []) k a e n g l =
+    let first : k % 256 ≡ x = omega (arith, e, a.0) in
+    let second : k / 256 % 256 ≡ y = omega (arith, e, a.0, a.1.0) in
+    ap (λ b. above (above 0 b) (k % 256)) second ∙ ap (above (above 0 y)) first
+number_of_two (x ∷ y ∷ z ∷ []) k a e n g l = absurd (omega (arith, e, l))
+number_of_two (x ∷ y ∷ z ∷ w ∷ bs) k a e n g l = absurd (omega (arith, long_key x y z w bs k e n, l))
+
+pub number_of_three : (code : List ℕ) (k : ℕ) → AreBytes code → k ≡ key_in code → k ≢ 0 → 16777216 ≤ k → k < 4294967296 → above (above (above 0 (k / 65536 % 256)) (k / 256 % 256)) (k % 256) ≡ number_in code
+number_of_three [] k a e n g l = absurd (omega (arith, e, g))
+number_of_three (x ∷ []) k a e n g l = absurd (omega (arith, e, g, a.0))
+number_of_three (x ∷ y ∷ []) k a e n g l = absurd (omega (arith, e, g, a.0, a.1.0))
+number_of_three (x ∷ y ∷ z ∷ []) k a e n g l =
+    let first : k % 256 ≡ x = omega (arith, e, a.0) in
+    let second : k / 256 % 256 ≡ y = omega (arith, e, a.0, a.1.0) in
+    let third : k / 65536 % 256 ≡ z = omega (arith, e, a.0, a.1.0, a.1.1.0) in
+    ap (λ b. above (above (above 0 b) (k / 256 % 256)) (k % 256)) third ∙ ap (λ b. above (above (above 0 z) b) (k % 256)) second ∙ ap (above (above (above 0 z) y)) first
+number_of_three (x ∷ y ∷ z ∷ w ∷ bs) k a e n g l = absurd (omega (arith, long_key x y z w bs k e n, l))

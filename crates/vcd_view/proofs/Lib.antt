@@ -1,0 +1,9 @@
+pub mod ListLemmas
+pub mod RowLemmas
+pub mod ParentLemmas
+pub mod KeyLemmas
+pub mod EntryLemmas
+pub mod LookUpLemmas
+pub mod RoomLemmas
+pub mod KeywordLemmas
+pub mod NewCodeLemmas

@@ -1,0 +1,19 @@
+use Rattle.std.proofs.Common.{◌≡◌, Some, None, slice_get, refl, ◌∙◌, rules}
+use Rattle.std.proofs.lemmas.Option.{slice_get_within}
+use Rattle.vcd_view.specs.Shown.{parts}
+use Rattle.vcd_view.proofs.RowLemmas.{row_of, row_type, read_there, there}
+use Rattle.vcd_view.proofs.view.HeadView.type_of.Goals as goal
+
+pub returns-in-Some : goal.returns-in-Some
+returns-in-Some c = λ h d v is.
+    let r = c.in-Some.row in
+    let text = c.args.self.text.now in
+    let at : slice_get c.args.self.rows.now c.args.row ≡ Some r = search rules in
+    let stands = row_type text h.codes _ r d (row_of (parts c.args.self) h c.args.row r d v at is) in
+    c.text_at.ensures ∙ read_there text r.start r.start _ _ stands refl
+
+pub returns-in-None : goal.returns-in-None
+returns-in-None c = λ h d v is.
+    let none : slice_get c.args.self.rows.now c.args.row ≡ None = search rules in
+    let some = there (parts c.args.self) h c.args.row v (slice_get_within h.declarations c.args.row d is) in
+    cc

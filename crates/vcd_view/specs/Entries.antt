@@ -1,0 +1,54 @@
+-- The entries by which codes are looked up.
+use Rattle.std.specs.Prelude.{ℕ, ◌+◌, ◌-◌, ◌*◌, ◌%◌, ◌^◌, ◌==◌, ◌&&◌, ◌||◌, nat_le, bit_and, bit_xor, not, cond, Bool, false, List, [], ◌∷◌, length, slice_get, slice_range, Option, Some, None, option_map, unwrap_or}
+use Rattle.std.specs.List.{list_all}
+use Rattle.std.specs.Option.{option_or}
+use Rattle.vcd_view.specs.declared.view.Code.{Code}
+use Rattle.vcd_view.specs.declared.view.Entry.{Entry}
+use Rattle.vcd_view.specs.Keys.{key_in}
+
+-- so many bytes of a text from a place on, none where it has fewer
+abbrev pub text_in : List ℕ → ℕ → ℕ → List ℕ
+text_in text start len = cond (nat_le (start + len) (length text)) (slice_range text start (start + len)) []
+
+-- the size of a code, 0 for an event and where 32 bits do not hold it: so many digits a change of the code may have in any case
+abbrev pub most_of : Code → ℕ
+most_of c = cond (c.event || nat_le (2 ^ 32) c.size) 0 c.size
+
+-- the entry is that of the code, whose bytes lie in the text
+abbrev pub is_entry_of : List ℕ → Entry → Code → Bool
+is_entry_of text e c = (e.key == key_in (text_in text c.start c.len)) && (e.most == most_of c)
+
+-- the entry is empty, or that of the code at its place
+abbrev pub is_right : List ℕ → List Code → Entry → Bool
+is_right text codes e = (e.key == 0) || unwrap_or (option_map (is_entry_of text e) (slice_get codes e.place)) false
+
+-- each entry is
+abbrev pub are_right : List ℕ → List Code → List Entry → Bool
+are_right text codes es = list_all (is_right text codes) es
+
+-- the number with a lower digit after it, in 64 bits
+abbrev pub above : ℕ → ℕ → ℕ
+above n b = ((n * 94) % 2 ^ 64 + (b + (2 ^ 64 - 32)) % 2 ^ 64) % 2 ^ 64
+
+-- the number whose digits are the bytes of a code, the first one lowest
+abbrev pub number_in : List ℕ → ℕ
+number_in [] = 0
+number_in (b ∷ bs) = above (number_in bs) b
+
+-- which of so many entries is that of the code
+abbrev pub entry_in : List ℕ → ℕ → ℕ
+entry_in code entries = bit_and (number_in code) ((entries + (2 ^ 64 - 1)) % 2 ^ 64)
+
+-- the place that an entry gives for these bytes: its own, if its key is theirs
+abbrev pub place_told : List ℕ → Option Entry → Option ℕ
+place_told t None = None
+place_told t (Some e) = cond (not (key_in t == 0) && (e.key == key_in t)) (Some e.place) None
+
+-- the place that the first of these entries gives which is that of these bytes
+abbrev pub told_by : List Entry → List ℕ → List ℕ → Option ℕ
+told_by es t [] = None
+told_by es t (i ∷ is) = option_or (place_told t (slice_get es i)) (told_by es t is)
+
+-- the entries beside one
+abbrev pub beside : ℕ → List ℕ
+beside at = bit_xor at 1 ∷ bit_xor at 2 ∷ bit_xor at 3 ∷ []

@@ -1,0 +1,50 @@
+// Short codes as numbers.
+ghost use Rattle.std.specs.Prelude.{◌≡◌, ◌+◌, ◌*◌, ◌^◌, ◌≤◌, ◌<◌, length};
+ghost use Rattle.vcd_view.specs.Keys.{key_in, packed};
+
+// The most bytes that fit into a key with a blank after them.
+const MOST_BYTES: usize = 7;
+
+// What closes a key.
+const BLANK: u64 = b' ' as u64;
+
+/// The number of a code of at most 7 bytes, which no other code has, and 0 for a longer one.
+#[inline(always)]
+pub fn key_of(code: &[u8]) -> u64
+    ensures { result ≡ key_in code.now }
+{
+    match code {
+        [first] => behind(BLANK, *first),
+        [first, second] => behind(behind(BLANK, *second), *first),
+        [first, second, third] => behind(behind(behind(BLANK, *third), *second), *first),
+        [first, second, third, fourth] => behind(
+            behind(behind(behind(BLANK, *fourth), *third), *second),
+            *first,
+        ),
+        _ if code.len() <= MOST_BYTES => packed_of(code),
+        _ => 0,
+    }
+}
+
+// The key with a byte before it.
+#[inline(always)]
+fn behind(key: u64, byte: u8) -> u64
+    requires { key < 2 ^ 56 }
+    ensures { result ≡ key * 256 + byte }
+{
+    key * 256 + u64::from(byte)
+}
+
+// The bytes and a blank after them, the first one lowest.
+fn packed_of(code: &[u8]) -> u64
+    requires { length code.now ≤ 7 }
+    ensures { result ≡ packed code.now }
+{
+    let mut key = BLANK;
+    let mut place = code.len();
+    while place > 0 {
+        place -= 1;
+        key = key * 256 + u64::from(code[place]);
+    }
+    key
+}

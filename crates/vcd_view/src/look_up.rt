@@ -1,0 +1,150 @@
+// Codes that are looked up.
+ghost use Rattle.std.specs.Prelude.{List, true, ◌≡◌, ◌+◌, ◌≤◌, ◌<◌, length, option_map, IfSome, Some};
+ghost use Rattle.std.specs.Int.Digits.{digits_of};
+ghost use Rattle.std.specs.List.{AllByRecursion, AllZip};
+ghost use Rattle.vcd_model.specs.Declarations.{IdCode};
+ghost use Rattle.vcd_model.specs.Header.{Header};
+ghost use Rattle.vcd_view.specs.Entries.{are_right};
+ghost use Rattle.vcd_view.specs.Keys.{AreBytes};
+ghost use Rattle.vcd_view.specs.Views.{IsCode, IsIndex, code_text, IsViewOf};
+ghost use Rattle.vcd_view.specs.Finds.{Finds, IsSized};
+
+use crate::entries::{entry_of, most_of, place_beside};
+use crate::key::key_of;
+use crate::probes::Probes;
+use crate::view::{Code, Entry, HeadView, code_in, text_in};
+use std::cmp::Ordering;
+
+/// A code that was looked up.
+#[derive(Clone, Copy, PartialEq, Eq, Debug)]
+pub struct Found {
+    /// Its place among the distinct codes.
+    pub place: usize,
+    /// Its size: the most digits that a change of it may have. It is 0 where its variables are events, and where 32 bits do not
+    /// hold the size; then the code tells.
+    pub most: usize,
+}
+
+/// The place of a code among the distinct codes.
+///
+/// A look at one entry finds nearly all codes that simulators give, a binary search the others.
+#[inline(always)]
+pub fn find(view: HeadView<'_>, code: &[u8]) -> Option<usize>
+    ensures found { (h : Header) → IsViewOf view.entry h → Finds h.codes code.now result }
+    ensures within { IfSome result (λ place. place < length view.entry.codes.now) }
+{
+    let found = find_sized(view, code)?;
+    Some(found.place)
+}
+
+/// The same, with the code's size.
+#[inline(always)]
+pub fn find_sized(view: HeadView<'_>, code: &[u8]) -> Option<Found>
+    ensures found { (h : Header) → IsViewOf view.entry h
+        → Finds h.codes code.now (option_map (λ found. found.place) result) }
+    ensures sized { IfSome result (λ found. IsSized view.entry.codes.now found) }
+{
+    match find_at_once(view, code) {
+        Some(found) => Some(found),
+        None => {
+            let place = find_slowly(view.text, view.codes, view.index, view.entries, code)?;
+            let code = code_in(view.codes, place)?;
+            Some(Found {
+                place,
+                most: most_of(code) as usize,
+            })
+        }
+    }
+}
+
+// The same by a look at one entry, if it is that of this code.
+#[inline(always)]
+fn find_at_once(view: HeadView<'_>, code: &[u8]) -> Option<Found>
+    ensures found { (h : Header) → IsViewOf view.entry h
+        → IfSome result (λ found. Finds h.codes code.now (Some found.place)) }
+    ensures sized { IfSome result (λ found. IsSized view.entry.codes.now found) }
+{
+    let key = key_of(code);
+    let entry = view.entries.get(entry_of(code, view.entries.len()))?;
+    if key != 0 && entry.key == key {
+        Some(Found {
+            place: entry.place as usize,
+            most: entry.most as usize,
+        })
+    } else {
+        None
+    }
+}
+
+// The place of a code by a look at the entries beside its own, or else by a binary search. It takes no view, so that a look-up that
+// is done at once need not make one ready, and returns a number alone, which needs no memory.
+#[inline(never)]
+fn find_slowly(
+    text: &[u8],
+    codes: &[Code],
+    index: &[usize],
+    entries: &[Entry],
+    code: &[u8],
+) -> Option<usize>
+    requires right { are_right text.now codes.now entries.now ≡ true }
+    ensures found { (ks : List IdCode) → AllZip (IsCode text.now) codes.now ks
+        → AllByRecursion (λ (k : IdCode). AreBytes k.text) ks
+        → IsIndex ks index.now → Finds ks code.now result }
+    ensures within { IfSome result (λ place. place < length codes.now) }
+{
+    match place_beside(entries, entry_of(code, entries.len()), key_of(code)) {
+        Some(place) => Some(place),
+        None => search(text, codes, index, code, &mut Probes::new()),
+    }
+}
+
+/// The same by a binary search alone, which counts its probes.
+pub fn find_counted(view: HeadView<'_>, code: &[u8], probes: &mut Probes) -> Option<usize>
+    ensures found { (h : Header) → IsViewOf view.entry h → Finds h.codes code.now result }
+    ensures within { IfSome result (λ place. place < length view.entry.codes.now) }
+    ensures few { (h : Header) → IsViewOf view.entry h
+        → probes.new.count ≤ probes.old.count + 1 + length (digits_of 2 (length h.codes)) }
+{
+    search(view.text, view.codes, view.index, code, probes)
+}
+
+// The place of a code by a binary search in the order of the codes. It takes no view, so that a look-up that was guessed
+// need not make one ready.
+#[inline(never)]
+fn search(
+    text: &[u8],
+    codes: &[Code],
+    index: &[usize],
+    code: &[u8],
+    probes: &mut Probes,
+) -> Option<usize>
+    ensures found { (ks : List IdCode) → AllZip (IsCode text.now) codes.now ks
+        → IsIndex ks index.now → Finds ks code.now result }
+    ensures within { IfSome result (λ place. place < length codes.now) }
+    ensures few { (ks : List IdCode) → IsIndex ks index.now
+        → probes.new.count ≤ probes.old.count + 1 + length (digits_of 2 (length ks)) }
+{
+    let mut low = 0;
+    let mut high = index.len();
+    while low < high {
+        let middle = low + (high - low) / 2;
+        let place = index[middle];
+        match probes.probe(text_of(text, codes, place), code) {
+            Ordering::Less => low = middle + 1,
+            Ordering::Greater => high = middle,
+            Ordering::Equal => return (place < codes.len()).then_some(place),
+        }
+    }
+    None
+}
+
+// The bytes of the code at a place.
+fn text_of<'a>(text: &'a [u8], codes: &[Code], place: usize) -> &'a [u8]
+    ensures { (ks : List IdCode) → AllZip (IsCode text.now) codes.now ks → place < length ks
+        → result.now ≡ code_text ks place }
+{
+    match code_in(codes, place) {
+        Some(code) => text_in(text, code.start, code.len as usize),
+        None => &[],
+    }
+}

@@ -1,0 +1,55 @@
+//! The codes that a merge gives.
+ghost use Rattle.std.specs.Prelude.{◌≡◌, take, ◌-◌, ◌^◌, ◌<◌, ◌≤◌};
+ghost use Rattle.vcd_model.specs.HeadText.{new_code};
+ghost use Rattle.vcd_text.specs.Device.{Puts};
+ghost use Rattle.vcd_view.specs.NewCode.{digits_of};
+
+use vcd_text::{Sink, WriteFailed, put};
+
+/// The code of a number: its digits in base 94, least significant first.
+#[derive(Clone, Copy)]
+pub struct NewCode {
+    bytes: [u8; 10],
+    len: usize,
+}
+
+impl NewCode {
+    ghost use Rattle.std.specs.Prelude.{length};
+
+    /// The code of this number.
+    pub fn of(number: u64) -> NewCode
+        ensures { digits_of result ≡ new_code number }
+    {
+        let mut bytes = [0u8; 10];
+        let mut rest = number;
+        let mut len = 0;
+        while len < 9 && rest >= 94 {
+            bytes[len] = (rest % 94) as u8 + 33;
+            rest /= 94;
+            len += 1;
+        }
+        bytes[len] = (rest % 94) as u8 + 33;
+        NewCode {
+            bytes,
+            len: len + 1,
+        }
+    }
+
+    /// Its bytes.
+    pub fn text(&self) -> &[u8]
+        ensures { result.now ≡ digits_of self.now }
+    {
+        match self.bytes.get(..self.len) {
+            Some(text) => text,
+            None => &[],
+        }
+    }
+}
+
+/// Writes the code of a number. Where a write fails, a prefix was written.
+pub fn put_code<W: Sink>(number: u64, w: &mut W) -> Result<(), WriteFailed>
+    requires failures { (W.device w.old).failures < 2 ^ 64 - 1 }
+    ensures { Puts (W.device w.old) (W.device w.new) (new_code number) result }
+{
+    put(w, NewCode::of(number).text())
+}

@@ -1,0 +1,30 @@
+// The room of an engine.
+ghost use Rattle.std.specs.Prelude.{◌≡◌, ℕ, ◌-◌, ◌^◌, length, min, sum_by};
+ghost use Rattle.vcd_model.specs.Header.{Header};
+ghost use Rattle.vcd_model.specs.Bound.{WindowSize, AreWindows, FitsInput, room_of};
+ghost use Rattle.vcd_view.specs.Shown.{parts};
+ghost use Rattle.vcd_view.specs.Views.{IsViewOf};
+ghost use Rattle.vcd_view.specs.Needs.{room, value_bytes, view_size};
+
+use crate::view::{HeadView, Need};
+
+/// The room that an engine over this header needs.
+pub fn need(view: HeadView<'_>) -> Need
+    ensures lengths { (result.slots ≡ length view.entry.codes.now)
+        × (result.marks ≡ length view.entry.rows.now) }
+    ensures values { result.values ≡ min (sum_by value_bytes view.entry.codes.now) (2 ^ 64 - 1) }
+    ensures room { (h : Header) → IsViewOf view.entry h → room result ≡ room_of h }
+    ensures fits { (limit : ℕ) (h : Header) (w : WindowSize) → IsViewOf view.entry h
+        → AreWindows limit w
+        → FitsInput limit h w (view_size (parts view.entry)) (room result) }
+{
+    let mut values = 0;
+    for code in view.codes {
+        values = usize::saturating_add(values, code.size.div_ceil(4).max(64));
+    }
+    Need {
+        values,
+        slots: view.codes.len(),
+        marks: view.rows.len(),
+    }
+}

@@ -1,0 +1,235 @@
+// A header as slices and numbers.
+ghost use Rattle.std.specs.Prelude.{◌≡◌, ◌<◌, true, false, length, take, Some, slice_get, option_map, unwrap_or, IfSome};
+ghost use Rattle.vcd_view.specs.Entries.{text_in, are_right};
+
+/// What a row declares.
+#[derive(Clone, Copy, PartialEq, Eq, Debug)]
+pub enum Kind {
+    /// A scope that is opened.
+    Scope,
+    /// A scope that is closed.
+    Up,
+    /// A variable.
+    Var,
+}
+
+/// A declaration: places count from 0, lengths are in bytes. What a kind does not have is 0.
+#[derive(Clone, Copy, PartialEq, Eq, Debug)]
+pub struct Row {
+    pub kind: Kind,
+    /// 1 plus the row of the enclosing scope (for `Up` the one that it closes), 0 where there is none.
+    pub parent: u32,
+    /// The bytes of the type.
+    pub word: u32,
+    /// The bytes of the reference's first token: a scope's name, or that of a variable.
+    pub name: u32,
+    /// The bytes of the whole reference, its tokens with a space between.
+    pub all: u32,
+    /// The place of a variable's code in `codes`.
+    pub code: u32,
+    /// Where in the text the type begins; the reference stands right after it.
+    pub start: usize,
+}
+
+/// An identifier code (clause 18, $var).
+#[derive(Clone, Copy, PartialEq, Eq, Debug)]
+pub struct Code {
+    /// Where in the text it begins.
+    pub start: usize,
+    /// The size of its variables, 1 to 16,777,215 bits (profile).
+    pub size: usize,
+    /// Its bytes.
+    pub len: u32,
+    /// Its variables are events.
+    pub event: bool,
+}
+
+/// A code as a look-up finds it; with key 0 it is of no code.
+#[derive(Clone, Copy, PartialEq, Eq, Debug)]
+pub struct Entry {
+    /// The code as a number.
+    pub key: u64,
+    /// Its place in `codes`.
+    pub place: u32,
+    /// Its size; 0 where its variables are events, or where 32 bits do not hold it.
+    pub most: u32,
+}
+
+/// A time scale (clause 18, $timescale).
+#[derive(Clone, Copy, PartialEq, Eq, Debug)]
+pub struct Scale {
+    /// The power of ten in seconds, -15 to 2.
+    pub exponent: i8,
+}
+
+/// A header.
+#[derive(Clone, Copy)]
+pub struct HeadView<'a> {
+    /// The texts that rows and codes point into.
+    pub text: &'a [u8],
+    /// The declarations, in order.
+    pub rows: &'a [Row],
+    /// The distinct codes, in order of first declaration.
+    pub codes: &'a [Code],
+    /// The places of the codes, in rising order of their bytes.
+    pub index: &'a [usize],
+    /// Codes by their numbers, which only serve look-ups: a power of two of entries, up to three for each code.
+    pub entries: &'a [Entry],
+    /// The last date, its tokens with a space between; empty where there is none.
+    pub date: &'a [u8],
+    /// The last version, likewise.
+    pub version: &'a [u8],
+    /// The last time scale.
+    pub scale: Option<Scale>,
+    pub ghost right: { are_right text.now codes.now entries.now ≡ true },
+}
+
+impl<'a> HeadView<'a> {
+    ghost use Rattle.vcd_model.specs.Declarations.{Declaration, name_of, parent};
+    ghost use Rattle.vcd_model.specs.Header.{Header};
+    ghost use Rattle.vcd_model.specs.HeadText.{exponent};
+    ghost use Rattle.vcd_view.specs.Views.{code_text, reference_of, type_of, IsViewOf};
+
+    /// A row, by its number from 0.
+    #[inline(always)]
+    pub fn row_at(self, row: usize) -> Option<Row>
+        ensures { result ≡ slice_get self.entry.rows.now row }
+    {
+        self.rows.get(row).copied()
+    }
+
+    /// The code at a place.
+    #[inline(always)]
+    pub fn code_at(self, place: usize) -> Option<Code>
+        ensures { result ≡ slice_get self.entry.codes.now place }
+    {
+        code_in(self.codes, place)
+    }
+
+    /// So many bytes of the text from a place on; none where it has fewer.
+    #[inline(always)]
+    pub fn text_at(self, start: usize, len: usize) -> &'a [u8]
+        ensures { result.now ≡ text_in self.entry.text.now start len }
+    {
+        text_in(self.text, start, len)
+    }
+
+    /// The row of the scope that encloses the declaration of a row; for an `$upscope` the one that it closes.
+    #[inline(always)]
+    pub fn scope_of(self, row: usize) -> Option<usize>
+        ensures earlier { IfSome result (λ scope. scope < row) }
+        ensures scope { (h : Header) → IsViewOf self.entry h → row < length h.declarations
+            → result ≡ parent (take row h.declarations) }
+    {
+        let scope = (self.row_at(row)?.parent as usize).checked_sub(1)?;
+        (scope < row).then_some(scope)
+    }
+
+    /// The type of the scope or the variable of a row.
+    #[inline(always)]
+    pub fn type_of(self, row: usize) -> &'a [u8]
+        ensures { (h : Header) (d : Declaration) → IsViewOf self.entry h
+            → slice_get h.declarations row ≡ Some d → result.now ≡ type_of d }
+    {
+        match self.row_at(row) {
+            Some(row) => self.text_at(row.start, row.word as usize),
+            None => &[],
+        }
+    }
+
+    /// The name of the scope or the variable of a row: the first token of its reference.
+    #[inline(always)]
+    pub fn name_of(self, row: usize) -> &'a [u8]
+        ensures { (h : Header) (d : Declaration) → IsViewOf self.entry h
+            → slice_get h.declarations row ≡ Some d → result.now ≡ name_of d }
+    {
+        match self.row_at(row) {
+            Some(row) => self.text_at(
+                row.start.saturating_add(row.word as usize),
+                row.name as usize,
+            ),
+            None => &[],
+        }
+    }
+
+    /// The whole reference of the scope or the variable of a row, its tokens with a space between.
+    #[inline(always)]
+    pub fn reference_of(self, row: usize) -> &'a [u8]
+        ensures { (h : Header) (d : Declaration) → IsViewOf self.entry h
+            → slice_get h.declarations row ≡ Some d → result.now ≡ reference_of d }
+    {
+        match self.row_at(row) {
+            Some(row) => self.text_at(
+                row.start.saturating_add(row.word as usize),
+                row.all as usize,
+            ),
+            None => &[],
+        }
+    }
+
+    /// The bytes of the code at a place.
+    #[inline(always)]
+    pub fn code_text(self, code: usize) -> &'a [u8]
+        ensures { (h : Header) → IsViewOf self.entry h → result.now ≡ code_text h.codes code }
+    {
+        match self.code_at(code) {
+            Some(code) => self.text_at(code.start, code.len as usize),
+            None => &[],
+        }
+    }
+
+    /// The power of ten of its time scale, in seconds; a missing one counts as 1s.
+    pub fn exponent(self) -> i8
+        ensures { (h : Header) → IsViewOf self.entry h → result ≡ exponent h }
+    {
+        match self.scale {
+            Some(scale) => scale.exponent,
+            None => 0,
+        }
+    }
+
+    /// The variables of the code at a place are events.
+    #[inline(always)]
+    pub fn is_event(self, code: usize) -> bool
+        ensures event { (h : Header) → IsViewOf self.entry h
+            → result ≡ unwrap_or (option_map (λ c. c.event) (slice_get h.codes code)) false }
+        ensures value { result ≡ unwrap_or
+            (option_map (λ (c : Code). c.event) (slice_get self.entry.codes.now code)) false }
+    {
+        match self.code_at(code) {
+            Some(code) => code.event,
+            None => false,
+        }
+    }
+}
+
+/// The code at a place among these.
+#[inline(always)]
+pub fn code_in(codes: &[Code], place: usize) -> Option<Code>
+    ensures { result ≡ slice_get codes.now place }
+{
+    codes.get(place).copied()
+}
+
+/// So many bytes of a text from a place on; none where it has fewer.
+#[inline(always)]
+pub fn text_in(text: &[u8], start: usize, len: usize) -> &[u8]
+    ensures { result.now ≡ text_in text.now start len }
+{
+    match text.get(start..start.saturating_add(len)) {
+        Some(bytes) => bytes,
+        None => &[],
+    }
+}
+
+/// The lengths of the slices that an engine over a header works in.
+#[derive(Clone, Copy, PartialEq, Eq, Debug)]
+pub struct Need {
+    /// Bytes for the current values: for each code a quarter of its size rounded up, and at least
+    /// the 64 of a real text.
+    pub values: usize,
+    /// A place for each code.
+    pub slots: usize,
+    /// A mark for each row.
+    pub marks: usize,
+}
