@@ -32,9 +32,10 @@ use Rattle.vcd_merge.specs.declared.windows.Windows.{Windows}
 use Rattle.vcd_merge.proofs.MergeRoomLemmas.{merge_within}
 use Rattle.vcdkit.specs.declared.failure.Failure.{Failure}
 use Rattle.vcdkit.specs.declared.failure.Failure.TheVariants.{Stopped, Refused, OutOfMemory}
-use Rattle.vcdkit.specs.declared.failure.Refusal.{Refusal}
-use Rattle.vcdkit.specs.declared.failure.Refusal.TheVariants as refusal
-use Rattle.vcdkit.specs.Failure.{failure_of, merge_end, model_refusal, CountsReads}
+use Rattle.vcd_words.specs.declared.refusal.Refusal.{Refusal}
+use Rattle.vcd_words.specs.declared.refusal.Refusal.TheVariants as refusal
+use Rattle.vcdkit.specs.Failure.{failure_of, merge_end, CountsReads}
+use Rattle.vcd_words.specs.Refusal.{model_refusal}
 use Rattle.vcdkit.specs.Inputs.{AreBegun, AreParked, AreShown, HaveBegun, Stops, headers_in}
 use Rattle.vcdkit.specs.Message.{end_message, end_status, refusal_status, Shows}
 use Rattle.vcdkit.specs.Run.{EndsAll, HasRun, LeavesAll}

@@ -1,4 +1,3 @@
-mod WordsLemmas
 mod MessageLemmas
 mod OutcomeLemmas
 pub mod HeaderLemmas
@@ -6,6 +5,3 @@ pub mod InputsLemmas
 pub mod OpenLemmas
 mod EndLemmas
 mod RunLemmas
-pub mod TimesLemmas
-mod PeriodLemmas
-mod SampleLemmas

@@ -16,10 +16,11 @@ use Rattle.vcd_model.specs.Reading.{Fault, Placed, Reading, reading_of, phrases_
 use Rattle.vcd_model.specs.Reading.Ending.{AtLast}
 use Rattle.vcd_model.specs.SoFar.{IsWhole}
 use Rattle.vcd_model.proofs.SoFarLemmas.{whole-more}
-use Rattle.vcdkit.specs.declared.job.Want.{Want}
-use Rattle.vcdkit.specs.declared.job.Want.TheVariants as want
-use Rattle.vcdkit.specs.Job.{is_merge, model_want, names_asked, taskless}
-use Rattle.vcdkit.specs.Times.{times_asked}
+use Rattle.vcd_words.specs.declared.job.Want.{Want}
+use Rattle.vcd_words.specs.declared.job.Want.TheVariants as want
+use Rattle.vcd_words.specs.Job.{is_merge, model_want, names_asked}
+use Rattle.vcdkit.specs.Tasks.{taskless}
+use Rattle.vcd_words.specs.Times.{times_asked}
 
 -- the header is read
 abbrev head_of : ℕ → Input → Reading HeaderPhrase

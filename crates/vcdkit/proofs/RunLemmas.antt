@@ -27,12 +27,13 @@ use Rattle.vcd_tools.specs.Run.{Belongs, Follows, IsRefused, is_early}
 use Rattle.vcd_body.specs.declared.answer.Done.{Done}
 use Rattle.vcd_body.specs.declared.answer.Stop.{Stop}
 use Rattle.vcd_body.specs.declared.answer.Stop.TheVariants.{Dump, Read, Write, Unmatched}
-use Rattle.vcdkit.specs.declared.job.Want.{Want}
+use Rattle.vcd_words.specs.declared.job.Want.{Want}
 use Rattle.vcdkit.specs.declared.failure.Failure.{Failure}
 use Rattle.vcdkit.specs.declared.failure.Failure.TheVariants as failure
-use Rattle.vcdkit.specs.declared.failure.Refusal.{Refusal}
-use Rattle.vcdkit.specs.Failure.{end_of, model_refusal}
-use Rattle.vcdkit.specs.Job.{is_merge, model_want, names_asked}
+use Rattle.vcd_words.specs.declared.refusal.Refusal.{Refusal}
+use Rattle.vcdkit.specs.Failure.{end_of}
+use Rattle.vcd_words.specs.Refusal.{model_refusal}
+use Rattle.vcd_words.specs.Job.{is_merge, model_want, names_asked}
 use Rattle.vcdkit.specs.Inputs.{HasFailed, IsBegun}
 use Rattle.vcdkit.specs.Run.{Ends, EndsAll, IsAfter, IsOfJob, Leaves, LeavesAll, settled_for}
 use Rattle.vcdkit.proofs.HeaderLemmas.{all_read, left_since, reads_for, settled_header, settled_run, unsettled_header}

@@ -3,28 +3,11 @@ use Rattle.std.specs.Prelude.{◌≡◌, ℕ, ◌+◌, ◌<◌, List, length, sl
 use Rattle.vcd_head.specs.Fault.{fault_number}
 use Rattle.vcd_head.specs.declared.fault.HeadFault.{HeadFault}
 use Rattle.vcd_head.specs.declared.fault.HeadFault.TheVariants as head_fault
-use Rattle.vcd_head.specs.declared.moment.TickFault.{TickFault}
-use Rattle.vcd_head.specs.declared.moment.TickFault.TheVariants as tick
-use Rattle.vcd_model.specs.Job as model
 use Rattle.vcd_body.specs.declared.answer.Done.{Done}
 use Rattle.vcd_body.specs.declared.answer.Stop.{Stop}
 use Rattle.vcd_body.specs.declared.answer.Stop.TheVariants.{Dump, Read, Write}
 use Rattle.vcdkit.specs.declared.failure.Failure.{Failure}
 use Rattle.vcdkit.specs.declared.failure.Failure.TheVariants.{Stopped, OutOfMemory}
-use Rattle.vcdkit.specs.declared.failure.Refusal.{Refusal}
-use Rattle.vcdkit.specs.declared.failure.Refusal.TheVariants as refusal
-
--- why times are refused, in the definitions' words
-abbrev pub model_refusal : Refusal → model.Refusal
-model_refusal refusal.NoTimescale = model.Refusal.NoTimescale
-model_refusal refusal.OutOfRange = model.Refusal.OutOfRange
-model_refusal refusal.FromAboveTo = model.Refusal.FromAboveTo
-model_refusal refusal.NotRising = model.Refusal.NotRising
-
--- why a time that has no number of ticks is
-abbrev pub tick_refusal : TickFault → Refusal
-tick_refusal tick.NoTimescale = refusal.NoTimescale
-tick_refusal tick.OutOfRange = refusal.OutOfRange
 
 -- the fault of the header of the input at this place, at this line
 abbrev pub head_failure : HeadFault → ℕ → ℕ → Failure

@@ -1,7 +1,4 @@
-pub mod Words
-pub mod Ticks
-pub mod Times
-pub mod Job
+pub mod Tasks
 pub mod Failure
 pub mod Inputs
 pub mod Message

@@ -8,11 +8,11 @@ use Rattle.vcd_body.specs.declared.answer.Stop.{Stop}
 use Rattle.vcd_body.specs.declared.answer.Stop.TheVariants.{Dump, Read, Write, Unmatched}
 use Rattle.vcdkit.specs.declared.failure.Failure.{Failure}
 use Rattle.vcdkit.specs.declared.failure.Failure.TheVariants.{Stopped, Refused, OutOfMemory}
-use Rattle.vcdkit.specs.declared.failure.Refusal.{Refusal}
-use Rattle.vcdkit.specs.declared.failure.Refusal.TheVariants as refusal
-use Rattle.vcdkit.specs.Failure.{model_refusal}
-use Rattle.vcdkit.specs.declared.job.UseFault.{UseFault}
-use Rattle.vcdkit.specs.declared.job.UseFault.TheVariants as use_fault
+use Rattle.vcd_words.specs.declared.refusal.Refusal.{Refusal}
+use Rattle.vcd_words.specs.declared.refusal.Refusal.TheVariants as refusal
+use Rattle.vcd_words.specs.Refusal.{model_refusal}
+use Rattle.vcd_words.specs.declared.job.UseFault.{UseFault}
+use Rattle.vcd_words.specs.declared.job.UseFault.TheVariants as use_fault
 
 -- the stream took the whole line, or failed once after a prefix of it; a fault of it is passed over
 abbrev pub Shows : Device → Device → List ℕ → Type 0

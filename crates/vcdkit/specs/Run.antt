@@ -17,7 +17,7 @@ use Rattle.vcd_body.specs.declared.answer.Done.{Done}
 use Rattle.vcd_body.specs.declared.answer.Stop.TheVariants.{Dump, Read, Write, Unmatched}
 use Rattle.vcdkit.specs.declared.failure.Failure.{Failure}
 use Rattle.vcdkit.specs.declared.failure.Failure.TheVariants.{Stopped, Refused, OutOfMemory}
-use Rattle.vcdkit.specs.Failure.{model_refusal}
+use Rattle.vcd_words.specs.Refusal.{model_refusal}
 use Rattle.vcdkit.specs.Message.{Shows}
 
 -- ---- one input

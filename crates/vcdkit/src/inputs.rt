@@ -18,11 +18,11 @@ ghost use Rattle.vcdkit.specs.Failure.{failure_of, head_failure, writes_failed, 
 ghost use Rattle.vcdkit.specs.Inputs.{Begins, BeginsAt, HasFailed, HaveBegun, IsNew, SameParts, Stops};
 
 use crate::failure::Failure;
-use crate::job::Job;
 use std::alloc::{AllocError, Global};
 use vcd_head::{Head, read_head};
 use vcd_merge::{Seat, Windows};
 use vcd_text::{Feed, Source};
+use vcd_words::Job;
 
 /// How many declarations all inputs of a run may have.
 pub(crate) const MOST_DECLARATIONS: u64 = 16_777_216;

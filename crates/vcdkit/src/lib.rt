@@ -1,26 +1,21 @@
-//! `vcdkit` but for its `main`: the words of the command line to a job, and a job to its outcome.
+//! A job to its outcome: the commands of `vcdkit`, over any readers and sinks.
 //!
-//! `command_of` says which words are taken, `job_of` which job they ask for, and `run` does it, over any readers and sinks, so that
-//! its contract can say what is left on them: output, message and status are those of the definitions' outcome (`HasRun`), or a
-//! prefix of the output where a write failed, or none of it where out of memory.
+//! `run` does a job, and its contract says what is left on readers and sinks: output, message and status are those of the
+//! definitions' outcome (`HasRun`), or a prefix of the output where a write failed, or none of it where out of memory. Where words
+//! ask for no job (`vcd_words`), `use_fault` says so. Words, files and the devices themselves are those of `vcdkit_main`, the
+//! program.
 //!
 //! # The modules
 //!
-//! - `command`: the words that the command line takes, and the status where it takes none
-//! - `help`: what `--help` says of each command
-//! - `words`: what the words ask for, borrowed from their matches
-//! - `job`: `Job`, `Want` with its task and its names, `UseFault`; `job_of`
-//! - `moment_word`: the times that words are, and the fault of those that are none
-//! - `times`: the times of a cut and of a sample, also in ticks; `sample_ticks`: ticks in place of the numbers of times
+//! - `tasks`: what is wanted, as a task over the items of a body, its times in ticks
 //! - `inputs`: the memory of windows; the header of an input, and those of several in order
 //! - `whole_run`: a job over readers: windows, headers, then `list` over the view or `run_task` or `merge` in room that is taken
 //!   for it
 //! - `again`: devices whose interrupted calls are made again
-//! - `failure`: why a run ends before it is done, and why times are refused
+//! - `failure`: why a run ends before it is done
 //! - `message`: the lines on the error stream, and the statuses
 //!
-//! In `specs/`: `Words`, what the command line takes and asks for; `Times` and `Ticks`, its times; `Job`; `Failure`; `Message`; and
-//! `Run`, what a run leaves.
+//! In `specs/`: `Run`, what a run leaves; `Inputs`, how far its inputs were read; `Tasks`; `Failure`; `Message`.
 //!
 //! # Limits
 //!
@@ -29,23 +24,12 @@
 #![tactic(auto)]
 
 mod again;
-mod command;
 mod failure;
-mod help;
 mod inputs;
-mod job;
 mod message;
-mod moment_word;
-mod sample_ticks;
-mod times;
+mod tasks;
 mod whole_run;
-mod words;
 
 pub use again::Again;
-pub use command::{command_of, parse_status};
-pub use failure::Refusal;
-pub use job::{Job, UseFault, Want, job_of};
 pub use message::{open_fault, use_fault, write_fault};
-pub use times::{Period, Times};
 pub use whole_run::run;
-pub use words::{MOST_FILES, Words, files_of, input_of, want_of};

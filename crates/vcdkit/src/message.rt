@@ -7,10 +7,10 @@ ghost use Rattle.vcd_body.specs.declared.answer.Stop.TheVariants.{Write};
 ghost use Rattle.vcdkit.specs.Message.{failure_message, failure_status, refusal_message, refusal_status, stop_message, stop_status, unopened_outcome, use_outcome, Shows};
 ghost use Rattle.vcdkit.specs.declared.failure.Failure.TheVariants.{OutOfMemory};
 
-use crate::failure::{Failure, Refusal};
-use crate::job::UseFault;
+use crate::failure::Failure;
 use vcd_body::Stop;
 use vcd_text::{Sink, WriteFailed, put, put_number, text_of};
+use vcd_words::{Refusal, UseFault};
 
 /// Writes `vcdkit: TEXT`.
 pub fn put_line<E: Sink>(err: &mut E, text: &str) -> Result<(), WriteFailed>

@@ -12,21 +12,22 @@ ghost use Rattle.vcd_text.specs.Feed.{HasGiven, SameLoans, source_of, supply_of,
 ghost use Rattle.vcd_view.specs.Views.{IsViewOf};
 ghost use Rattle.vcd_text.specs.Advances.{HasNotFailed};
 ghost use Rattle.vcdkit.specs.Failure.{end_of, failure_of, merge_end, writes_failed, CountsRead, CountsReads};
-ghost use Rattle.vcdkit.specs.Job.{is_merge, model_want, names_asked};
+ghost use Rattle.vcd_words.specs.Job.{is_merge, model_want, names_asked};
 ghost use Rattle.vcdkit.specs.Message.{end_message, end_status, Shows};
 ghost use Rattle.vcdkit.specs.Run.{Ends, EndsAll, HasRun, IsAfter, IsOfJob, settled_for};
 ghost use Rattle.vcdkit.specs.declared.failure.Failure.{Failure};
 
 use crate::failure::Failure;
 use crate::inputs::{MOST_DECLARATIONS, marks_for, open_input, open_inputs, windows_for};
-use crate::job::{Job, Want};
 use crate::message::report;
+use crate::tasks::task_of;
 use std::alloc::Global;
 use vcd_body::{Done, Slot, Stop};
 use vcd_merge::{Windows, merge};
 use vcd_text::{Feed, Sink, Source};
 use vcd_tools::{Room, list, run_task};
 use vcd_view::HeadView;
+use vcd_words::{Job, Want};
 
 /// The answer of a task over the input at this place, as that of its run.
 fn ended(answer: Result<Done, Stop>, input: usize) -> Result<Done, Failure>
@@ -76,7 +77,7 @@ fn run_want<S: Source, W: Sink>(
     ensures names { names_asked want.new ≡ names_asked want.old }
 {
     want.write_ticks(view)?;
-    let Some(task) = want.task(view)? else {
+    let Some(task) = task_of(want, view)? else {
         return ended(list(view, out), 0);
     };
     let need = task.need(view);

@@ -1,14 +1,14 @@
 //! `vcdkit`: tools over four-state value change dumps (IEEE Std 1364-2005, clause 18).
 //!
 //! `main` reads the words, opens the inputs, runs the job over them, flushes the output and returns the status. It owns the
-//! devices. What the words ask for and what a job leaves is told by the crate `vcdkit`, which it calls.
+//! devices. What the words ask for is told by `vcd_words`, and what a job leaves by `vcdkit`, which it calls.
 //!
 //! Not promised: what these functions do with words, files and streams of the host. They have no clauses on it; those that they
 //! call have.
 #![tactic(auto)]
 
 ghost use Rattle.std.specs.Prelude.{◌≡◌, ◌-◌, ◌^◌, ◌<◌, ◌≤◌, All, length, false, true};
-ghost use Rattle.vcdkit.specs.Job.{is_merge};
+ghost use Rattle.vcd_words.specs.Job.{is_merge};
 
 #[cfg(test)]
 mod tests;
@@ -21,10 +21,8 @@ use std::fs::File;
 use std::io::{BufWriter, ErrorKind, Read, Write};
 use std::process::ExitCode;
 use vcd_text::{Sink, Source, Watch};
-use vcdkit::{
-    Again, Job, MOST_FILES, UseFault, command_of, files_of, input_of, job_of, open_fault,
-    parse_status, run, use_fault, write_fault,
-};
+use vcd_words::{Job, MOST_FILES, UseFault, command_of, files_of, input_of, job_of, parse_status};
+use vcdkit::{Again, open_fault, run, use_fault, write_fault};
 
 /// What standard input is called.
 const INPUT: &str = "(stdin)";

@@ -3,7 +3,7 @@ use crate::run_job;
 use std::alloc::{AllocError, Global};
 use vcd_text::Watch;
 use vcd_text::doubles::Narrow;
-use vcdkit::{Job, Want};
+use vcd_words::{Job, Want};
 
 // Whether a job whose output cannot be flushed is said to have a failed write.
 fn is_flush_said(alloc: Global) -> Result<bool, AllocError> {

@@ -8,7 +8,8 @@ use std::io;
 use std::io::{ErrorKind, Read, Write};
 use vcd_text::Watch;
 use vcd_text::doubles::{Narrow, Pieces};
-use vcdkit::{Again, Job, Want, run};
+use vcd_words::{Job, Want};
+use vcdkit::{Again, run};
 
 // Its first call is interrupted, and each second one after it.
 #[derive(Drop)]

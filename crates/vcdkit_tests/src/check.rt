@@ -1,6 +1,6 @@
 // Dumps and their reports, and faults of bodies.
 use super::runs::{DUMP, REPORT, give_message, give_output, leave, whole};
-use vcdkit::Words;
+use vcd_words::Words;
 
 // Dumps and their reports.
 const REPORTS: [(&[u8], &[u8]); 6] = [

@@ -3,7 +3,7 @@ use super::runs::{
     MIXED, MIXED_HEAD, READ_FAILED, TENS, TENS_HEAD, failing, give_all, give_message, give_output,
     give_refusal, give_report, leave,
 };
-use vcdkit::Words;
+use vcd_words::Words;
 
 // A dump with a change before its first time mark, and its cut from 0 to 5.
 const UNMARKED: &[u8] =

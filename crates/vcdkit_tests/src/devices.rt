@@ -8,7 +8,8 @@ use std::io::{ErrorKind, Write};
 use std::process::Abort;
 use vcd_text::Watch;
 use vcd_text::doubles::{MOST_HELD, Narrow, Pieces};
-use vcdkit::{Job, Want, Words, run};
+use vcd_words::{Job, Want, Words};
+use vcdkit::run;
 
 // No device is called more often in a run.
 const MOST_CALLS: u64 = 1000;

@@ -1,6 +1,6 @@
 // Names, dumps, and how often the variables that they select change.
 use super::runs::{READ_FAILED, give_all, give_message, give_output};
-use vcdkit::Words;
+use vcd_words::Words;
 
 // Names, a dump, and its counts.
 const EDGES: [(&[&str], &[u8], &[u8]); 3] = [

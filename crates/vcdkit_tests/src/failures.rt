@@ -8,7 +8,7 @@ use super::runs::{
 use std::alloc::{AllocError, Global};
 use vcd_text::Watch;
 use vcd_text::doubles::Narrow;
-use vcdkit::{Job, Want, Words};
+use vcd_words::{Job, Want, Words};
 
 // The commands over one input.
 const COMMANDS: [Words<'static, 'static>; 6] = [

@@ -3,7 +3,7 @@ use super::runs::{give_message, leave_under};
 use std::alloc::{AllocError, Global};
 use std::process::Abort;
 use std::test::Fail;
-use vcdkit::Words;
+use vcd_words::Words;
 
 // Headers with a fault, and its line.
 const FAULTY_HEADERS: [(&[u8], &[u8]); 8] = [

@@ -1,6 +1,6 @@
 // Headers and their lists.
 use super::runs::{NESTED, NESTED_LIST, failing, give_output, leave};
-use vcdkit::Words;
+use vcd_words::Words;
 
 // Headers and their lists.
 const LISTS: [(&[u8], &[u8]); 4] = [

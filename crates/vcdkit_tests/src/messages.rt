@@ -5,7 +5,8 @@ use super::runs::{failing, run_named, whole};
 use std::alloc::{AllocError, Global};
 use vcd_text::doubles::{Narrow, Pieces};
 use vcd_text::{Sink, Watch};
-use vcdkit::{Job, UseFault, Want, open_fault, use_fault, write_fault};
+use vcd_words::{Job, UseFault, Want};
+use vcdkit::{open_fault, use_fault, write_fault};
 
 #[test]
 fn a_line_is_laid_out(rt: HostRuntime) {

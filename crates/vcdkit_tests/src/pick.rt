@@ -7,7 +7,7 @@ use super::runs::{
 };
 use std::alloc::{AllocError, Global};
 use std::process::Abort;
-use vcdkit::Words;
+use vcd_words::Words;
 
 // Names, a dump, and what a pick writes.
 const PICKS: [(&[&str], &[u8], &[u8]); 7] = [

@@ -3,7 +3,7 @@ use super::runs::{
     MIXED, MIXED_HEAD, READ_FAILED, TENS, TENS_HEAD, failing, give_all, give_message, give_output,
     give_refusal, leave,
 };
-use vcdkit::Words;
+use vcd_words::Words;
 
 // A dump with a fault after its second time mark.
 const FAULTY: &[u8] =

@@ -1,7 +1,7 @@
 // Words that are times, and words that are none.
 use std::alloc::Global;
 use vcd_head::Moment;
-use vcdkit::{Period, Times, UseFault, Want, Words, want_of};
+use vcd_words::{Period, Times, UseFault, Want, Words, want_of};
 
 // The times of a cut between these words, or their fault.
 fn cut_of<'a>(alloc: Global, from: &'a str, to: &'a str) -> Result<Period, UseFault<'a>> {

@@ -1,7 +1,7 @@
 use Rattle.std.proofs.Common.{◌≡◌, ◌∙◌, length, map, Ok, Err, refl}
 use Rattle.std.specs.Prelude.{string_bytes}
 use Rattle.std.proofs.lemmas.List.{length-map}
-use Rattle.vcdkit.specs.Job.{model_want, names_asked}
+use Rattle.vcd_words.specs.Job.{model_want, names_asked}
 use Rattle.vcdkit.proofs.EndLemmas.{has_run, shows_nothing}
 use Rattle.vcdkit.proofs.whole_run.run.Goals as goal
 

@@ -2,8 +2,9 @@ use Rattle.std.proofs.Common.{◌≡◌, ◌∙◌, ap, Ok, Err, refl, rules, sy
 use Rattle.vcd_model.specs.Job.{request_of}
 use Rattle.vcd_model.specs.Outcome.{Request}
 use Rattle.vcd_tools.specs.Engine.{request_of as request_of_task}
-use Rattle.vcdkit.specs.Failure.{model_refusal}
-use Rattle.vcdkit.specs.Job.{model_want, task_request}
+use Rattle.vcd_words.specs.Refusal.{model_refusal}
+use Rattle.vcd_words.specs.Job.{model_want}
+use Rattle.vcdkit.specs.Tasks.{task_request}
 use Rattle.vcdkit.specs.declared.failure.Failure.TheVariants.{OutOfMemory, Refused}
 use Rattle.vcdkit.proofs.OutcomeLemmas.{listing_due}
 use Rattle.vcdkit.proofs.OutcomeLemmas.{listing_due}

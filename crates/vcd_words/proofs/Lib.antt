@@ -1,0 +1,4 @@
+mod WordsLemmas
+pub mod TimesLemmas
+pub mod PeriodLemmas
+pub mod SampleLemmas

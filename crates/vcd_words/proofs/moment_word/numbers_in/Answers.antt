@@ -1,0 +1,19 @@
+use Rattle.std.proofs.Common.{option_map, ◌∙◌, lit<, rules}
+use Rattle.vcd_model.specs.Job as model
+use Rattle.std.proofs.lemmas.Iterator.{items_from_collect, YieldsList-from_map}
+use Rattle.std.proofs.lemmas.Iterator.Consumers.{YieldsList-at, YieldsList-from_filter_map}
+use Rattle.std.proofs.lemmas.Iterator.Splits.{YieldsList-from_str_split}
+use Rattle.std.proofs.lemmas.Result.{IfOk-weaker}
+use Rattle.vcd_head.specs.declared.moment.Moment.{Moment}
+use Rattle.vcd_words.specs.Times.{parts}
+use Rattle.vcd_words.proofs.TimesLemmas.{kept, same_moment, read_of_kept}
+use Rattle.vcd_words.proofs.moment_word.numbers_in.Goals as goal
+
+pub returns : goal.returns
+returns c =
+    IfOk-weaker c.collect.result _ _ (λ v e. e ∙ read_of_kept (λ (m : Moment). m.number) (parts c.args.at.now))
+    (items_from_collect _ c.collect.ensures.ran
+    (YieldsList-from_map _ (λ (m : Moment). m.number)
+    (YieldsList-at c.map.ensures.source (YieldsList-from_filter_map _ (λ word. option_map kept (model.moment_of word)) (YieldsList-from_str_split 44 c.args.at.now (lit< tt) (cc) (cc) (cc)) c.filter_map.ensures.closure
+    (λ x r q k. (search rules, same_moment r (model.moment_of x.now) (search rules)))))
+    c.map.ensures.closure (λ x r q k. search rules)))

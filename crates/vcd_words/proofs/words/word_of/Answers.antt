@@ -1,0 +1,10 @@
+use Rattle.std.proofs.Common.{◌∙◌}
+use Rattle.clap.specs.Words.{found_of, rows_of, subcommand_rows_of}
+use Rattle.clap.proofs.WalkLemmas.{first_value-rows}
+use Rattle.vcd_words.proofs.WordsLemmas.{first-after}
+use Rattle.vcd_words.proofs.words.word_of.Goals as goal
+
+pub returns : goal.returns
+returns c =
+    c.get_str.ensures ∙ first_value-rows (found_of c.in_ok-options.options.now) c.args.id.now
+    ∙ first-after (subcommand_rows_of c.args.matches.now) (rows_of (found_of c.in_ok-options.options.now)) c.args.id.now c.in_ok-options.ensures.rows

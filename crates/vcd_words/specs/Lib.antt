@@ -1,0 +1,5 @@
+pub mod Words
+pub mod Ticks
+pub mod Times
+pub mod Job
+pub mod Refusal

@@ -1,0 +1,28 @@
+-- The times that words ask for.
+use Rattle.std.specs.Prelude.{◌≡◌, ◌==◌, ℕ, List, [], ◌∷◌, map, Option, Some, None}
+use Rattle.std.specs.List.{slice_split}
+use Rattle.vcd_model.specs.Job.{has_unit, do_rise}
+use Rattle.vcd_model.specs.Ticks.{Moment}
+use Rattle.vcd_words.specs.Ticks.{times_with}
+use Rattle.vcd_words.specs.declared.moment_word.Order.{Order}
+use Rattle.vcd_words.specs.declared.times.Times.{Times}
+
+-- the words between the commas of a word
+abbrev pub parts : List ℕ → List (List ℕ)
+parts at = slice_split (λ b. b == 44) at
+
+-- the last number, if there is one
+abbrev pub last_of : List ℕ → Option ℕ
+last_of [] = None
+last_of (n ∷ []) = Some n
+last_of (n ∷ m ∷ ms) = last_of (m ∷ ms)
+
+-- the order is that of these times
+pub record IsOrderOf (times : List Moment) (o : Order) : Type 0 where
+  pub has_unit_is : o.has_unit ≡ has_unit times
+  pub rises_is : o.rises ≡ do_rise (map (λ m. m.number) times)
+  pub last_is : o.last ≡ last_of (map (λ m. m.number) times)
+
+-- the times that are asked for
+abbrev pub times_asked : Times → List Moment
+times_asked t = times_with t.numbers.items t.units.items

@@ -1,0 +1,156 @@
+//! The command line: which words it takes, and the exit status where it takes none.
+ghost use Rattle.std.specs.Prelude.{◌≡◌, IfOk, false};
+ghost use Rattle.clap.specs.Words.{app_of, is_broken, kind_of, new_app, rule_of};
+ghost use Rattle.vcd_words.specs.Words.{cut_app, limit_rule, merge_app, named_app, one_input_app, parse_status_of, program_app, sample_app, time_rule};
+
+use crate::help;
+use crate::help::Help;
+use clap::error::ErrorKind;
+use clap::{Arg, Command, Error};
+use std::alloc::{AllocError, Global};
+
+/// The option `--token-limit`.
+fn token_limit<'a>(alloc: Global) -> Arg<'a>
+    ensures rule { rule_of result ≡ limit_rule }
+    ensures local { result.global ≡ false }
+{
+    Arg::new(alloc, "token-limit")
+        .long("token-limit")
+        .value_name("N")
+        .help("How long a token may be, in bytes: 64 to 16777216 [default: 1048576]")
+}
+
+/// A command of this name with its help, and no options yet.
+fn new_command<'a>(alloc: Global, name: &'a str, help: Help<'a>) -> Command<'a>
+    ensures words { app_of result ≡ new_app name.entry.now }
+    ensures whole { is_broken result ≡ false }
+{
+    Command::new(alloc, name)
+        .about(help.about)
+        .override_usage(help.usage)
+        .after_help(help.after)
+}
+
+/// A command over one input, with its options.
+fn one_input<'a>(alloc: Global, name: &'a str, help: Help<'a>) -> Result<Command<'a>, AllocError>
+    ensures words { IfOk result (λ c. app_of c ≡ one_input_app name.entry.now) }
+    ensures whole { IfOk result (λ c. is_broken c ≡ false) }
+{
+    let input = Arg::new(alloc, "input")
+        .short('i')
+        .value_name("FILE")
+        .help("Reads this file in place of standard input");
+    new_command(alloc, name, help)
+        .arg(input)?
+        .arg(token_limit(alloc))
+}
+
+/// A command over one input, with its options and names of variables, without which the parse fails where they are required.
+fn named<'a>(
+    alloc: Global,
+    name: &'a str,
+    help: Help<'a>,
+    required: bool,
+) -> Result<Command<'a>, AllocError>
+    ensures words { IfOk result (λ c. app_of c ≡ named_app name.entry.now required) }
+    ensures whole { IfOk result (λ c. is_broken c ≡ false) }
+{
+    let names = Arg::new(alloc, "names")
+        .value_name("NAME")
+        .num_args(1..)
+        .required(required)
+        .help("A variable, or a scope with all that it has: names joined by points");
+    one_input(alloc, name, help)?.arg(names)
+}
+
+/// An option for times, without which the parse fails.
+fn time<'a>(alloc: Global, name: &'a str, value_name: &'a str, help: &'a str) -> Arg<'a>
+    ensures rule { rule_of result ≡ time_rule name.entry.now }
+    ensures local { result.global ≡ false }
+{
+    Arg::new(alloc, name)
+        .long(name)
+        .value_name(value_name)
+        .required(true)
+        .help(help)
+}
+
+/// The command `cut`, with its options and both of its times.
+fn cut<'a>(alloc: Global) -> Result<Command<'a>, AllocError>
+    ensures words { IfOk result (λ c. app_of c ≡ cut_app) }
+    ensures whole { IfOk result (λ c. is_broken c ≡ false) }
+{
+    let from = time(
+        alloc,
+        "from",
+        "N",
+        "The first time: a number of ticks, or of s, ms, us, ns, ps or fs, as 15ns",
+    );
+    let to = time(alloc, "to", "N", "The last time, as the first");
+    one_input(alloc, "cut", help::CUT)?.arg(from)?.arg(to)
+}
+
+/// The command `sample`, with its options, its times and names of variables.
+fn sample<'a>(alloc: Global) -> Result<Command<'a>, AllocError>
+    ensures words { IfOk result (λ c. app_of c ≡ sample_app) }
+    ensures whole { IfOk result (λ c. is_broken c ≡ false) }
+{
+    let at = time(
+        alloc,
+        "at",
+        "N,N,..",
+        "The times, which rise: numbers of ticks, or of s, ms, us, ns, ps or fs, as 5ns,15ns",
+    );
+    named(alloc, "sample", help::SAMPLE, false)?.arg(at)
+}
+
+/// The command `merge`, with its files.
+fn merge<'a>(alloc: Global) -> Result<Command<'a>, AllocError>
+    ensures words { IfOk result (λ c. app_of c ≡ merge_app) }
+    ensures whole { IfOk result (λ c. is_broken c ≡ false) }
+{
+    let files = Arg::new(alloc, "files")
+        .value_name("FILE")
+        .num_args(1..)
+        .required(true)
+        .help("A dump; of several, the changes are merged in the order of their times");
+    new_command(alloc, "merge", help::MERGE)
+        .arg(token_limit(alloc))?
+        .arg(files)
+}
+
+/// The command `vcdkit` with its commands.
+pub fn command_of<'a>(alloc: Global) -> Result<Command<'a>, AllocError>
+    ensures words { IfOk result (λ c. app_of c ≡ program_app) }
+    ensures whole { IfOk result (λ c. is_broken c ≡ false) }
+{
+    let check = one_input(alloc, "check", help::CHECK)?;
+    let list = one_input(alloc, "list", help::LIST)?;
+    let pick = named(alloc, "pick", help::PICK, true)?;
+    let cut = cut(alloc)?;
+    let sample = sample(alloc)?;
+    let edges = named(alloc, "edges", help::EDGES, false)?;
+    let merge = merge(alloc)?;
+    new_command(alloc, "vcdkit", help::PROGRAM)
+        .version("0.1.0")
+        .subcommand_required(true)
+        .disable_help_subcommand(true)
+        .subcommand(check)?
+        .subcommand(list)?
+        .subcommand(pick)?
+        .subcommand(cut)?
+        .subcommand(sample)?
+        .subcommand(edges)?
+        .subcommand(merge)
+}
+
+/// The exit status where a parse gave no matches.
+pub fn parse_status(error: &Error) -> u8
+    ensures { result ≡ parse_status_of (kind_of error.now) }
+{
+    match error.kind() {
+        ErrorKind::DisplayHelp | ErrorKind::DisplayVersion => 0,
+        ErrorKind::OutOfMemory => 3,
+        _ => 2,
+    }
+}

@@ -1,0 +1,177 @@
+//! A job: what is done, and how its input is read; and why there is none.
+ghost use Rattle.std.specs.Prelude.{◌≡◌, ◌≤◌, IfErr, IfOk, Some, None, cond, map, option_map, string_bytes};
+ghost use Rattle.vcd_model.specs.Bytes.{decimal_value};
+ghost use Rattle.vcd_model.specs.Words.{is_limit, limit_of};
+ghost use Rattle.vcd_words.specs.Job.{model_want};
+ghost use Rattle.vcd_words.specs.Words.{job_asked, IsFaultIn, IsFaultOf};
+
+use crate::moment_word::number_of;
+use crate::refusal::Refusal;
+use crate::times::{Period, Times};
+use crate::words::{limit_word, want_of, words_in};
+use clap::ArgMatches;
+use std::alloc::{AllocError, Global};
+use vcd_view::HeadView;
+
+/// What is done with the input.
+#[derive(PartialEq, Eq, Debug, Drop)]
+pub enum Want {
+    /// Counts what the dump has.
+    Check,
+    /// Lists the variables of the dump.
+    List,
+    /// Writes the dump of the variables that these names select.
+    Pick(Vec<String>),
+    /// Writes the dump of these times.
+    Cut(Period),
+    /// Writes the values of the variables that these names select at these times; of all without names.
+    Sample(Times, Vec<String>),
+    /// Counts how often the variables that these names select change, rise and fall; all without names.
+    Edges(Vec<String>),
+    /// Writes the changes of all inputs in one order of time.
+    Merge,
+}
+
+impl Want {
+    ghost use Rattle.std.specs.Prelude.{MatchResult, OnOk};
+    ghost use Rattle.vcd_model.specs.Header.{Header};
+    ghost use Rattle.vcd_model.specs.Job.{request_of};
+    ghost use Rattle.vcd_view.specs.Views.{IsViewOf};
+    ghost use Rattle.vcd_words.specs.Refusal.{model_refusal};
+    ghost use Rattle.vcd_words.specs.Job.{is_merge, model_want, names_asked, HasTicks};
+
+    /// Writes the times of a sample in ticks of the header that is shown over their numbers: it is the same that is wanted. Where
+    /// they are refused it says why, and what they are then is not said.
+    pub fn write_ticks(&mut self, view: HeadView<'_>) -> Result<(), Refusal>
+        ensures same { (h : Header) → IsViewOf view.entry h → MatchResult result
+            (λ _. request_of h.scale (model_want self.new) ≡ request_of h.scale (model_want self.old))
+            (λ why. request_of h.scale (model_want self.old) ≡ Err (model_refusal why)) }
+        ensures ticks { OnOk result (HasTicks self.new) }
+        ensures names { names_asked self.new ≡ names_asked self.old }
+        ensures kind { is_merge self.new ≡ is_merge self.old }
+    {
+        match self {
+            Want::Sample(times, _) => times.write_ticks(view),
+            Want::Check
+            | Want::List
+            | Want::Pick(_)
+            | Want::Cut(_)
+            | Want::Edges(_)
+            | Want::Merge => Ok(()),
+        }
+    }
+
+    /// It is a merge, which alone may have several inputs.
+    pub fn is_merge(&self) -> bool
+        ensures { result ≡ is_merge self.now }
+    {
+        matches!(self, Want::Merge)
+    }
+
+    /// The names that have to select something.
+    pub fn names(&self) -> &[String]
+        ensures { map string_bytes result.now ≡ names_asked self.now }
+    {
+        match self {
+            Want::Check | Want::List | Want::Cut(_) | Want::Merge => &[],
+            Want::Pick(names) | Want::Sample(_, names) | Want::Edges(names) => names.as_slice(),
+        }
+    }
+}
+
+/// What is done, and how the input is read.
+#[derive(PartialEq, Eq, Debug, Drop)]
+pub struct Job {
+    /// What is done.
+    pub want: Want,
+    /// How long a token may be, in bytes.
+    pub limit: usize,
+    /// How much is read at once, in bytes.
+    pub chunk: usize,
+    pub ghost limit_in_range: { (64 ≤ limit) × (limit ≤ 16777216) },
+    pub ghost chunk_in_range: { (1 ≤ chunk) × (chunk ≤ 65536) },
+}
+
+/// Why there is no job.
+#[derive(Clone, Copy, PartialEq, Eq, Debug)]
+pub enum UseFault<'a> {
+    /// The words name no command, or one without the names or times that it needs.
+    BadWords,
+    /// This word is no token limit.
+    BadLimit(&'a str),
+    /// This word is no time.
+    BadTime(&'a str),
+    /// The start of a cut is above its end.
+    FromAboveTo,
+    /// The times of a sample do not rise.
+    NotRising,
+    /// A merge has more than 64 files.
+    TooManyFiles,
+    /// Memory ran out.
+    OutOfMemory,
+}
+
+impl<'a> From<AllocError> for UseFault<'a> {
+    ghost use Rattle.vcd_words.specs.declared.job.UseFault.{UseFault};
+
+    ghost from_gives = { λ _ fault. fault ≡ UseFault.OutOfMemory };
+
+    fn from(_error: AllocError) -> UseFault<'a> {
+        UseFault::OutOfMemory
+    }
+}
+
+/// How long a token may be where the words say nothing of it.
+const DEFAULT_LIMIT: usize = 1_048_576;
+
+// The least and the greatest token limit.
+const LEAST_LIMIT: u64 = 64;
+
+const MOST_LIMIT: u64 = 16_777_216;
+
+/// How much is read at once.
+const CHUNK: usize = 65_536;
+
+/// The token limit that a word is, if it is one.
+fn limit_in(word: &str) -> Option<usize>
+    ensures { result ≡ cond (is_limit word.now) (Some (decimal_value word.now)) None }
+{
+    let limit = number_of(word.as_bytes())?;
+    if limit < LEAST_LIMIT || MOST_LIMIT < limit {
+        return None;
+    }
+    Some(limit as usize)
+}
+
+/// The token limit that is asked for by this word, or by none.
+fn limit_of<'a>(word: Option<&'a str>) -> Result<usize, UseFault<'a>>
+    ensures limit { IfOk result
+        (λ limit. limit_of (option_map (λ text. text.now) word.entry) ≡ Ok limit) }
+    ensures range { IfOk result (λ limit. (64 ≤ limit) × (limit ≤ 16777216)) }
+    ensures fault { IfErr result (λ fault.
+        IsFaultIn fault (limit_of (option_map (λ text. text.now) word.entry))) }
+{
+    match word {
+        None => Ok(DEFAULT_LIMIT),
+        Some(text) => limit_in(text).ok_or(UseFault::BadLimit(text)),
+    }
+}
+
+/// The job that the matches of the command ask for. Memory is taken for its names, once they are known to ask for a job.
+pub fn job_of<'a>(alloc: Global, matches: &ArgMatches<'a>) -> Result<Job, UseFault<'a>>
+    ensures job { IfOk result (λ job. job_asked matches.now
+        ≡ Ok (record { want = model_want job.want; limit = job.limit })) }
+    ensures chunk { IfOk result (λ job. job.chunk ≡ 65536) }
+    ensures fault { IfErr result (λ fault. IsFaultOf fault (job_asked matches.now)) }
+{
+    let Some(words) = words_in(matches) else {
+        return Err(UseFault::BadWords);
+    };
+    let limit = limit_of(limit_word(matches))?;
+    let want = want_of(alloc, words)?;
+    Ok(Job {
+        want,
+        limit,
+        chunk: CHUNK,
+    })
+}

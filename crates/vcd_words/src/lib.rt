@@ -1,0 +1,33 @@
+//! The words of the command line to a job.
+//!
+//! `command_of` says which words are taken, and `job_of` which `Job` their matches ask for, or why they ask for none. Both are the
+//! definitions' (`specs/Words` of `vcd_model`). Times with units are ticks only once a header is read: `write_ticks` puts those of
+//! a sample in ticks, in place. It opens no file and writes nothing.
+//!
+//! # The modules
+//!
+//! - `command`: the words that the command line takes, and the status where it takes none
+//! - `help`: what `--help` says of each command
+//! - `words`: what the words ask for, borrowed from their matches
+//! - `job`: `Job`, `Want` with its names, `UseFault`; `job_of`
+//! - `moment_word`: the times that words are, and the fault of those that are none
+//! - `times`: the times of a cut and of a sample; `sample_ticks`: ticks in place of the numbers of times
+//! - `refusal`: why times are refused, once the header is read
+//!
+//! In `specs/`: `Words`, what the command line takes and asks for; `Times` and `Ticks`, its times; `Job`; `Refusal`.
+#![tactic(auto)]
+
+mod command;
+mod help;
+mod job;
+mod moment_word;
+mod refusal;
+mod sample_ticks;
+mod times;
+mod words;
+
+pub use command::{command_of, parse_status};
+pub use job::{Job, UseFault, Want, job_of};
+pub use refusal::Refusal;
+pub use times::{Period, Times};
+pub use words::{MOST_FILES, Words, files_of, input_of, want_of};

@@ -1,0 +1,170 @@
+//! Words that are numbers and times: the times behind `--from` and `--to`, and those between the commas of `--at`.
+ghost use Rattle.std.specs.Prelude.{◌≡◌, ◌&&◌, ℕ, List, None, OnOk, Some, IfErr, IfOk, cond, filter_map, length, map, option_map};
+ghost use Rattle.std.specs.Char.{is_ascii_digit};
+ghost use Rattle.std.specs.List.{list_all, take_while};
+ghost use Rattle.vcd_model.specs.Bytes.{decimal_value};
+ghost use Rattle.vcd_model.specs.Job as model_job;
+ghost use Rattle.vcd_model.specs.Ticks as model_ticks;
+ghost use Rattle.vcd_model.specs.Words as model;
+ghost use Rattle.vcd_head.specs.Moments.{asked};
+ghost use Rattle.vcd_words.specs.Times.{parts, times_asked};
+ghost use Rattle.vcd_words.specs.Words.{IsFaultIn, IsFaultOf};
+
+use crate::job::UseFault;
+use crate::times::{Period, Times};
+use std::alloc::{AllocError, Global};
+use vcd_head::Moment;
+use vcd_text::decimal_of;
+
+/// How many digits a number may have.
+const MOST_DIGITS: usize = 20;
+
+/// The number that 1 to 20 digits are, if it is below 2^64.
+pub(crate) fn number_of(digits: &[u8]) -> Option<u64>
+    ensures { result ≡ cond (list_all is_ascii_digit digits.now && model_job.is_number digits.now)
+        (Some (decimal_value digits.now)) None }
+{
+    if digits.len() > MOST_DIGITS {
+        return None;
+    }
+    decimal_of(digits)
+}
+
+/// How many digits a word begins with.
+fn digits_before(word: &[u8]) -> usize
+    ensures { result ≡ length (take_while is_ascii_digit word.now) }
+{
+    word.iter().take_while(|byte| byte.is_ascii_digit()).count()
+}
+
+/// The time that a word is, if it is one: 1 to 20 digits with a value below 2^64, and then nothing or a unit, in lower case.
+pub(crate) fn moment_of(word: &str) -> Option<Moment>
+    ensures { option_map asked result ≡ model_job.moment_of word.now }
+{
+    let bytes = word.as_bytes();
+    let (digits, unit) = bytes.split_at(digits_before(bytes));
+    Moment::from_parts(number_of(digits)?, unit)
+}
+
+/// The time that a word is, or that it is none.
+pub(crate) fn time_of<'a>(word: &'a str) -> Result<Moment, UseFault<'a>>
+    ensures time { IfOk result (λ moment. model.time_of word.entry.now ≡ Ok (asked moment)) }
+    ensures fault { IfErr result (λ fault. IsFaultIn fault (model.time_of word.entry.now)) }
+{
+    moment_of(word).ok_or(UseFault::BadTime(word))
+}
+
+/// The times from which and to which a cut is, or the first fault of these words. Without units the first may not be above the
+/// second; with a unit that is to be seen once the time scale is known.
+pub(crate) fn cut_of<'a>(from: &'a str, to: &'a str) -> Result<Period, UseFault<'a>>
+    ensures times { IfOk result (λ period.
+        model.cut_of (model.time_of from.entry.now) (model.time_of to.entry.now)
+        ≡ Ok (model_job.Want.Cut (asked period.from) (asked period.to))) }
+    ensures fault { IfErr result (λ fault. IsFaultIn fault
+        (model.cut_of (model.time_of from.entry.now) (model.time_of to.entry.now))) }
+{
+    let from = time_of(from)?;
+    let to = time_of(to)?;
+    if from.unit.is_none() && to.unit.is_none() && to.number < from.number {
+        return Err(UseFault::FromAboveTo);
+    }
+    Ok(Period { from, to })
+}
+
+/// What is known of some times.
+#[derive(Clone, Copy)]
+struct Order {
+    /// One of them has a unit.
+    has_unit: bool,
+    /// Each number is above the one before.
+    rises: bool,
+    /// The last number.
+    last: Option<u64>,
+}
+
+impl Order {
+    ghost use Rattle.std.specs.Prelude.{[], ◌∷◌, ◌++◌, List};
+    ghost use Rattle.vcd_model.specs.Ticks as model_ticks;
+    ghost use Rattle.vcd_head.specs.Moments.{asked};
+    ghost use Rattle.vcd_words.specs.Times.{IsOrderOf};
+
+    /// What is known of no times.
+    fn new() -> Order
+        ensures { IsOrderOf [] result }
+    {
+        Order {
+            has_unit: false,
+            rises: true,
+            last: None,
+        }
+    }
+
+    /// What is known with one more time.
+    fn with(self, time: Moment) -> Order
+        ensures { (times : List model_ticks.Moment) → IsOrderOf times self
+            → IsOrderOf (times ++ asked time ∷ []) result }
+    {
+        Order {
+            has_unit: self.has_unit || time.unit.is_some(),
+            rises: self.rises && self.last.is_none_or(|last| last < time.number),
+            last: Some(time.number),
+        }
+    }
+}
+
+/// Whether the words between the commas are the times of a sample: without units they rise. It takes no memory.
+fn check_times<'a>(at: &'a str) -> Result<(), UseFault<'a>>
+    ensures times { OnOk result ((names : List (List ℕ)) → (times : List model_ticks.Moment)
+        × (model.times_of (parts at.entry.now) ≡ Ok times)
+        × (model.sample_of names (Ok times) ≡ Ok (model_job.Want.Sample times names))) }
+    ensures fault { IfErr result (λ fault. (names : List (List ℕ))
+        → IsFaultIn fault (model.sample_of names (model.times_of (parts at.entry.now)))) }
+{
+    let mut order = Order::new();
+    for word in at.split(',') {
+        order = order.with(time_of(word)?);
+    }
+    if !order.has_unit && !order.rises {
+        return Err(UseFault::NotRising);
+    }
+    Ok(())
+}
+
+/// The numbers of the times between commas; words that are no times are left out.
+fn numbers_in(alloc: Global, at: &str) -> Result<Vec<u64>, AllocError>
+    ensures { IfOk result (λ numbers. numbers.items
+        ≡ map (λ (m : model_ticks.Moment). m.number)
+        (filter_map model_job.moment_of (parts at.now))) }
+{
+    at.split(',')
+        .filter_map(moment_of)
+        .map(|time| time.number)
+        .collect(alloc)
+}
+
+/// The units of the times between commas; words that are no times are left out.
+fn units_in(alloc: Global, at: &str) -> Result<Vec<Option<i8>>, AllocError>
+    ensures { IfOk result (λ units. units.items
+        ≡ map (λ (m : model_ticks.Moment). m.unit)
+        (filter_map model_job.moment_of (parts at.now))) }
+{
+    at.split(',')
+        .filter_map(moment_of)
+        .map(|time| time.unit)
+        .collect(alloc)
+}
+
+/// The times of a sample, which stand between commas, or the first fault of these words. Memory is taken for them, once they are
+/// known to be times that a sample may have.
+pub(crate) fn sample_times<'a>(alloc: Global, at: &'a str) -> Result<Times, UseFault<'a>>
+    ensures times { IfOk result (λ times. (names : List (List ℕ))
+        → model.sample_of names (model.times_of (parts at.entry.now))
+        ≡ Ok (model_job.Want.Sample (times_asked times) names)) }
+    ensures fault { IfErr result (λ fault. (names : List (List ℕ))
+        → IsFaultOf fault (model.sample_of names (model.times_of (parts at.entry.now)))) }
+{
+    check_times(at)?;
+    let numbers = numbers_in(alloc, at)?;
+    let units = units_in(alloc, at)?;
+    Ok(Times { numbers, units })
+}

@@ -1,0 +1,29 @@
+// Why times are refused.
+use vcd_head::TickFault;
+
+/// Why times are refused, once the header is read.
+#[derive(Clone, Copy, PartialEq, Eq, Debug)]
+pub enum Refusal {
+    /// One has a unit, and the header declares no time scale.
+    NoTimescale,
+    /// One is 2^64 ticks or more.
+    OutOfRange,
+    /// The start of a cut is above its end, in ticks.
+    FromAboveTo,
+    /// The times of a sample do not rise, in ticks.
+    NotRising,
+}
+
+impl From<TickFault> for Refusal {
+    ghost use Rattle.std.specs.Prelude.{◌≡◌};
+    ghost use Rattle.vcd_words.specs.Refusal.{tick_refusal};
+
+    ghost from_gives = { λ fault refusal. refusal ≡ tick_refusal fault };
+
+    fn from(fault: TickFault) -> Refusal {
+        match fault {
+            TickFault::NoTimescale => Refusal::NoTimescale,
+            TickFault::OutOfRange => Refusal::OutOfRange,
+        }
+    }
+}

@@ -1,0 +1,149 @@
+//! What the words of the command line ask for, borrowed from their matches.
+ghost use Rattle.std.specs.Prelude.{◌≡◌, IfErr, IfOk, codes, map, option_map, string_bytes};
+ghost use Rattle.vcd_model.specs.Words.{Command, want_of};
+ghost use Rattle.vcd_words.specs.Job.{model_want};
+ghost use Rattle.vcd_words.specs.Words.{command_named, command_used, complete, files_asked, input_asked, some_names, some_of, values_after, word_after, words_command, IsFaultOf};
+
+use crate::job::{UseFault, Want};
+use crate::moment_word::{cut_of, sample_times};
+use clap::ArgMatches;
+use std::alloc::{AllocError, Global};
+
+/// How many files a merge may have.
+pub const MOST_FILES: usize = 64;
+
+/// A command with its words.
+#[derive(Clone, Copy, PartialEq, Eq, Debug)]
+pub enum Words<'m, 'a> {
+    Check,
+    List,
+    Pick(&'m [&'a str]),
+    Cut(&'a str, &'a str),
+    Sample(&'a str, Option<&'m [&'a str]>),
+    Edges(Option<&'m [&'a str]>),
+    Merge(&'m [&'a str]),
+}
+
+/// The first word after an option of the command that was used.
+fn word_of<'a>(matches: &ArgMatches<'a>, id: &str) -> Option<&'a str>
+    ensures { option_map (λ word. word.now) result ≡ word_after matches.now id.now }
+{
+    let (_, options) = matches.subcommand()?;
+    options.get_str(id)
+}
+
+/// The file that the matches of the command name; without one standard input is read.
+pub fn input_of<'a>(matches: &ArgMatches<'a>) -> Option<&'a str>
+    ensures { option_map (λ name. name.now) result ≡ input_asked matches.now }
+{
+    word_of(matches, "input")
+}
+
+/// The word after `--token-limit`.
+pub(crate) fn limit_word<'a>(matches: &ArgMatches<'a>) -> Option<&'a str>
+    ensures { option_map (λ word. word.now) result ≡ word_after matches.now (codes "token-limit") }
+{
+    word_of(matches, "token-limit")
+}
+
+/// The words of an argument of the command that was used, where there are some.
+fn words_of<'m, 'a>(matches: &'m ArgMatches<'a>, id: &str) -> Option<&'m [&'a str]>
+    ensures { option_map (λ words. map (λ word. word.now) words.now) result
+        ≡ some_of (values_after matches.now id.now) }
+{
+    let (_, options) = matches.subcommand()?;
+    let words = options.get_strs(id)?;
+    (!words.is_empty()).then_some(words)
+}
+
+/// The names of variables after the command that was used, where there are some.
+fn names_of<'m, 'a>(matches: &'m ArgMatches<'a>) -> Option<&'m [&'a str]>
+    ensures { option_map (λ names. map (λ name. name.now) names.now) result
+        ≡ some_of (values_after matches.now (codes "names")) }
+{
+    words_of(matches, "names")
+}
+
+/// The files that the matches of a merge name, where there are some.
+pub fn files_of<'m, 'a>(matches: &'m ArgMatches<'a>) -> Option<&'m [&'a str]>
+    ensures { option_map (λ files. map (λ file. file.now) files.now) result
+        ≡ some_of (files_asked matches.now) }
+{
+    words_of(matches, "files")
+}
+
+/// The command of this name with its words, where it has all that it needs.
+fn words_named<'m, 'a>(name: &str, matches: &'m ArgMatches<'a>) -> Option<Words<'m, 'a>>
+    ensures { option_map words_command result ≡ complete (command_named name.now matches.now) }
+{
+    match name {
+        "check" => Some(Words::Check),
+        "list" => Some(Words::List),
+        "pick" => Some(Words::Pick(names_of(matches)?)),
+        "cut" => Some(Words::Cut(word_of(matches, "from")?, word_of(matches, "to")?)),
+        "sample" => Some(Words::Sample(word_of(matches, "at")?, names_of(matches))),
+        "edges" => Some(Words::Edges(names_of(matches))),
+        "merge" => Some(Words::Merge(files_of(matches)?)),
+        _ => None,
+    }
+}
+
+/// The command that was used with its words, where it has all that it needs.
+pub(crate) fn words_in<'m, 'a>(matches: &'m ArgMatches<'a>) -> Option<Words<'m, 'a>>
+    ensures { option_map words_command result ≡ complete (command_used matches.now) }
+{
+    words_named(matches.subcommand_name()?, matches)
+}
+
+/// A copy of names.
+fn copied(alloc: Global, names: &[&str]) -> Result<Vec<String>, AllocError>
+    ensures { IfOk result (λ copies. map string_bytes copies.items
+        ≡ map (λ name. name.now) names.now) }
+{
+    let mut copies = Vec::new(alloc);
+    for name in names {
+        copies.push(String::from_str(alloc, name)?)?;
+    }
+    Ok(copies)
+}
+
+/// A copy of names, where there are some.
+fn copied_some(alloc: Global, names: Option<&[&str]>) -> Result<Vec<String>, AllocError>
+    ensures { IfOk result (λ copies. map string_bytes copies.items ≡ some_names names.entry) }
+{
+    match names {
+        Some(names) => copied(alloc, names),
+        None => Ok(Vec::new(alloc)),
+    }
+}
+
+/// A merge of these files, where they are not too many.
+fn merge_of<'a>(files: &[&str]) -> Result<Want, UseFault<'a>>
+    ensures want { IfOk result (λ want. want_of (Command.Merge (map (λ file. file.now) files.now))
+        ≡ Ok (model_want want)) }
+    ensures fault { IfErr result (λ fault.
+        IsFaultOf fault (want_of (Command.Merge (map (λ file. file.now) files.now)))) }
+{
+    if files.len() > MOST_FILES {
+        return Err(UseFault::TooManyFiles);
+    }
+    Ok(Want::Merge)
+}
+
+/// What these words ask for, or the first fault of them. Their names are copied.
+pub fn want_of<'a>(alloc: Global, words: Words<'_, 'a>) -> Result<Want, UseFault<'a>>
+    ensures want { IfOk result (λ want. want_of (words_command words.entry) ≡ Ok (model_want want)) }
+    ensures fault { IfErr result (λ fault. IsFaultOf fault (want_of (words_command words.entry))) }
+{
+    Ok(match words {
+        Words::Check => Want::Check,
+        Words::List => Want::List,
+        Words::Pick(names) => Want::Pick(copied(alloc, names)?),
+        Words::Cut(from, to) => Want::Cut(cut_of(from, to)?),
+        Words::Sample(at, names) => {
+            Want::Sample(sample_times(alloc, at)?, copied_some(alloc, names)?)
+        }
+        Words::Edges(names) => Want::Edges(copied_some(alloc, names)?),
+        Words::Merge(files) => merge_of(files)?,
+    })
+}

@@ -1,0 +1,27 @@
+-- What is wanted, as a task over the items of a body.
+use Rattle.std.specs.Prelude.{Option, Some, None, Result, Ok, Err}
+use Rattle.vcd_model.specs.Job as model
+use Rattle.vcd_model.specs.Outcome.{Request}
+use Rattle.vcd_tools.specs.Engine.{request_of}
+use Rattle.vcd_tools.specs.declared.span.Span.{Span}
+use Rattle.vcd_tools.specs.declared.task.Task.{Task}
+use Rattle.vcd_words.specs.Refusal.{model_refusal}
+use Rattle.vcd_words.specs.declared.job.Want.{Want}
+use Rattle.vcd_words.specs.declared.job.Want.TheVariants as want
+use Rattle.vcd_words.specs.declared.refusal.Refusal.{Refusal}
+
+-- the request of a cut over these ticks, or why it is refused
+abbrev pub span_request : Result Span Refusal → Result Request model.Refusal
+span_request (Ok span) = Ok (Request.Cut span.from span.to)
+span_request (Err why) = Err (model_refusal why)
+
+-- the request where there is no task over the items of one body
+abbrev pub taskless : Want → Request
+taskless want.Merge = Request.Merge
+taskless want = Request.Listing
+
+-- the request of a task over items; of what is none; or why it is refused
+abbrev pub task_request : Want → Result (Option Task) Refusal → Result Request model.Refusal
+task_request want (Ok (Some task)) = Ok (request_of task)
+task_request want (Ok None) = Ok (taskless want)
+task_request want (Err why) = Err (model_refusal why)
