@@ -22,7 +22,7 @@ use crate::inputs::{MOST_DECLARATIONS, marks_for, open_input, open_inputs, windo
 use crate::job::{Job, Want};
 use crate::message::report;
 use std::alloc::Global;
-use vcd_body::Slot;
+use vcd_body::{Share, Slot};
 use vcd_head::HeadView;
 use vcd_text::{Feed, Sink, Source};
 use vcd_tools::{Done, Room, Stop, Windows, list, merge, run_task};
@@ -81,10 +81,12 @@ fn run_want<S: Source, W: Sink>(
     let need = task.need(view);
     let mut values = vec![in alloc; 0u8; need.values]?;
     let mut slots = vec![in alloc; Slot::new(); need.slots]?;
+    let mut shares = vec![in alloc; Share::new(); need.slots]?;
     let mut marks = vec![in alloc; 0u8; need.marks]?;
     let mut room = Room {
         values: &mut values,
         slots: &mut slots,
+        shares: &mut shares,
         marks: &mut marks,
     };
     ended(run_task(task, view, feed, &mut room, out), 0)
