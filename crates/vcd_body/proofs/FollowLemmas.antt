@@ -11,12 +11,13 @@ use Rattle.vcd_body.specs.Binary.{binary_digits, count_in, is_proper, number_in}
 use Rattle.vcd_body.specs.Items.{model_form}
 use Rattle.vcd_body.specs.Kept.{Held, IsStep, Kept, counts_if, counts_with, differs, goes_from, last_digit_in, value_at_size, with_change, with_counted, with_held, with_step, with_text}
 use Rattle.vcd_body.specs.Packed.{held_digit}
-use Rattle.vcd_body.specs.Stored.{ChangesAt, held_by, held_of, kept_in, kept_with, one_digit, share_of, used}
+use Rattle.vcd_body.specs.Stored.{ChangesAt, Whole, held_by, held_of, kept_in, kept_with, one_digit, share_of, used_by}
 use denote.Enum.Bare.{sameb}
 use Rattle.vcd_body.specs.contracts.item.Form.{the_type as the_form}
 use Rattle.vcd_body.specs.contracts.slot.State.{the_type}
 use Rattle.vcd_body.specs.declared.item.Form.{Form}
 use Rattle.vcd_body.specs.declared.item.Form.TheVariants as form
+use Rattle.vcd_body.specs.declared.slot.Share.{Share}
 use Rattle.vcd_body.specs.declared.slot.Slot.{Slot}
 use Rattle.vcd_body.specs.declared.slot.State.{State}
 use Rattle.vcd_body.specs.declared.slot.State.TheVariants as state
@@ -26,7 +27,7 @@ use Rattle.vcd_body.proofs.BinaryLemmas.{length_binary, proper_count}
 use Rattle.vcd_body.proofs.NumberLemmas.{bits_kept, number_step, proper_number}
 use Rattle.vcd_body.proofs.SetLemmas.{good_value}
 use Rattle.vcd_body.proofs.StepLemmas.{digit_step}
-use Rattle.vcd_body.proofs.StoreLemmas.{digit_kept, held_one, same_or_not, set_slot, text_fits}
+use Rattle.vcd_body.proofs.StoreLemmas.{digit_kept, held_one, same_or_not, set_whole, text_fits}
 
 -- a step tells what is counted
 pub changed_by : (s : Step) (size : ℕ) (f : Form) (text : List ℕ) (k : Kept) → 0 < length text → IsStep s (value_at_size size k.held) (value_with size (model_form f) text)
@@ -34,8 +35,8 @@ pub changed_by : (s : Step) (size : ℕ) (f : Form) (text : List ℕ) (k : Kept)
 changed_by s size f text k some is = rw (lt-ltb 0 (length text) some, is.0, is.1, is.2) refl
 
 -- one change after another of the same code
-pub change_twice : (code : ℕ) (f g : Kept → Kept) (v1 v2 v3 : List ℕ) (s1 s2 s3 : List Slot) → ChangesAt code f v1 s1 v2 s2 → ChangesAt code g v2 s2 v3 s3 → ChangesAt code (λ k. g (f k)) v1 s1 v3 s3
-change_twice code f g v1 v2 v3 s1 s2 s3 a b = λ p. b p ∙ ap (λ (o : Option Kept). cond (p == code) (option_map g o) o) (a p) ∙ by_case (p == code) (kept_in v1 s1 p)
+pub change_twice : (code : ℕ) (f g : Kept → Kept) (v1 v2 v3 : List ℕ) (s1 s2 s3 : List Slot) (h1 h2 h3 : List Share) → ChangesAt code f v1 s1 h1 v2 s2 h2 → ChangesAt code g v2 s2 h2 v3 s3 h3 → ChangesAt code (λ k. g (f k)) v1 s1 h1 v3 s3 h3
+change_twice code f g v1 v2 v3 s1 s2 s3 h1 h2 h3 a b = λ p. b p ∙ ap (λ (o : Option Kept). cond (p == code) (option_map g o) o) (a p) ∙ by_case (p == code) (kept_in v1 s1 h1 p)
   where
     by_case : (t : Bool) (o : Option Kept) → cond t (option_map g (cond t (option_map f o) o)) (cond t (option_map f o) o) ≡ cond t (option_map (λ k. g (f k)) o) o
     by_case true None = refl
@@ -43,15 +44,15 @@ change_twice code f g v1 v2 v3 s1 s2 s3 a b = λ p. b p ∙ ap (λ (o : Option K
     by_case false o = refl
 
 -- a change is told by what it makes of what was kept
-pub change_as : (code : ℕ) (f g : Kept → Kept) (v v' : List ℕ) (s s' : List Slot) → ((k : Kept) → kept_in v s code ≡ Some k → f k ≡ g k) → ChangesAt code f v s v' s' → ChangesAt code g v s v' s'
-change_as code f g v v' s s' same a = λ p. a p ∙ by_place p (same_or_not p code)
+pub change_as : (code : ℕ) (f g : Kept → Kept) (v v' : List ℕ) (s s' : List Slot) (h h' : List Share) → ((k : Kept) → kept_in v s h code ≡ Some k → f k ≡ g k) → ChangesAt code f v s h v' s' h' → ChangesAt code g v s h v' s' h'
+change_as code f g v v' s s' h h' same a = λ p. a p ∙ by_place p (same_or_not p code)
   where
     maps : (o : Option Kept) → ((k : Kept) → o ≡ Some k → f k ≡ g k) → option_map f o ≡ option_map g o
-    maps None h = refl
-    maps (Some k) h = ap (λ (x : Kept). Some x) (h k refl)
+    maps None is = refl
+    maps (Some k) is = ap (λ (x : Kept). Some x) (is k refl)
 
-    by_place : (p : ℕ) → (p ≡ code) ⊎ (p ≢ code) → cond (p == code) (option_map f (kept_in v s p)) (kept_in v s p) ≡ cond (p == code) (option_map g (kept_in v s p)) (kept_in v s p)
-    by_place p (inl e) = rw (eq-eqb p code e) (maps (kept_in v s p) (λ k is. same k (ap (kept_in v s) (sym e) ∙ is)))
+    by_place : (p : ℕ) → (p ≡ code) ⊎ (p ≢ code) → cond (p == code) (option_map f (kept_in v s h p)) (kept_in v s h p) ≡ cond (p == code) (option_map g (kept_in v s h p)) (kept_in v s h p)
+    by_place p (inl e) = rw (eq-eqb p code e) (maps (kept_in v s h p) (λ k is. same k (ap (kept_in v s h) (sym e) ∙ is)))
     by_place p (inr e) = rw (ne_eqb p code e) refl
 
 -- what is kept of one digit
@@ -61,13 +62,13 @@ one_text form.Vector digit k digits = ap (λ (b : Bool). with_held (cond b (Held
 one_text form.RealText digit k digits = absurd (digits refl)
 
 -- a slot that was set to a digit over another, and counted as the step tells
-module _ (slot : Slot) (st : State) (digit : ℕ) (s : Step) (d : ℕ) (one : one_digit slot.state ≡ Some d) (now : one_digit st ≡ Some (held_digit digit)) (differ : s.differs ≡ not (d == to_ascii_lowercase digit))
+module _ (slot : Whole) (st : State) (digit : ℕ) (s : Step) (d : ℕ) (one : one_digit slot.state ≡ Some d) (now : one_digit st ≡ Some (held_digit digit)) (differ : s.differs ≡ not (d == to_ascii_lowercase digit))
     (rise : s.rises ≡ goes_from 48 49 (one_digit slot.state) (Some (to_ascii_lowercase digit))) (fall : s.falls ≡ goes_from 49 48 (one_digit slot.state) (Some (to_ascii_lowercase digit))) (f : Form) (digits : f ≢ form.RealText) (size end : ℕ) (values : List ℕ) where
-  text_set : kept_with values end (set_slot st slot.len slot) ≡ with_text f (digit ∷ []) (kept_with values end slot)
+  text_set : kept_with values end (set_whole st slot.len slot) ≡ with_text f (digit ∷ []) (kept_with values end slot)
   text_set = digit_kept st slot (held_digit digit) end values now ∙ sym (one_text f digit (kept_with values end slot) digits)
 
   told : with_change size f (digit ∷ []) (kept_with values end slot) ≡ cond s.differs (with_step s.rises s.falls (with_text f (digit ∷ []) (kept_with values end slot))) (with_text f (digit ∷ []) (kept_with values end slot))
-  told = changed_by s size f (digit ∷ []) (kept_with values end slot) (omega arith) (digit_step s f (digit ∷ []) d size (one_digit slot.state) (held_of values slot) digits (omega arith) (omega arith) one (held_one slot.state slot.len d (take (used slot) (drop slot.start values)) one) differ rise fall)
+  told = changed_by s size f (digit ∷ []) (kept_with values end slot) (omega arith) (digit_step s f (digit ∷ []) d size (one_digit slot.state) (held_of values slot) digits (omega arith) (omega arith) one (held_one slot.state slot.len d (take (used_by slot.state slot.len) (drop slot.start values)) one) differ rise fall)
 
   digit_counted : s.differs ≡ true → (counts : List ℕ) → counts ≡ counts_if s.falls (counts_if s.rises (counts_with slot.counts 0) 1) 2
       → kept_with values end (record { state = st; start = slot.start; len = slot.len; counts = counts; chosen = slot.chosen }) ≡ with_change size f (digit ∷ []) (kept_with values end slot)
@@ -75,7 +76,7 @@ module _ (slot : Slot) (st : State) (digit : ℕ) (s : Step) (d : ℕ) (one : on
       rw is (ap (with_step s.rises s.falls) text_set ∙ sym (told ∙ ap (λ (b : Bool). cond b (with_step s.rises s.falls (with_text f (digit ∷ []) (kept_with values end slot))) (with_text f (digit ∷ []) (kept_with values end slot))) differed))
 
 -- 0 that was set over 1, or 1 over 0: one rises, the other falls
-pub bit_counted : (slot : Slot) (one : Bool) (st : State) (counts : List ℕ) → (slot.state ≡ state.Zero) ⊎ (slot.state ≡ state.One) → st ≡ cond one state.One state.Zero → true ≡ not (sameb the_type slot.state st)
+pub bit_counted : (slot : Whole) (one : Bool) (st : State) (counts : List ℕ) → (slot.state ≡ state.Zero) ⊎ (slot.state ≡ state.One) → st ≡ cond one state.One state.Zero → true ≡ not (sameb the_type slot.state st)
     → counts ≡ counts_if (not one) (counts_if one (counts_with slot.counts 0) 1) 2 → (f : Form) → f ≢ form.RealText → (size end : ℕ) (values : List ℕ)
     → kept_with values end (record { state = st; start = slot.start; len = slot.len; counts = counts; chosen = slot.chosen }) ≡ with_change size f (cond one 49 48 ∷ []) (kept_with values end slot)
 bit_counted slot true st counts (inl e) is turned told f digits size end values =
@@ -90,10 +91,10 @@ bit_is digit (inl e) = rw e refl
 bit_is digit (inr e) = rw e refl
 
 -- one of binary digits that was set to others of as many
-module _ (slot : Slot) (p l n size : ℕ) (s : Step) (bits : slot.state ≡ state.Bits) (count : count_in p ≡ l) (number : number_in p ≡ n) (some : 1 ≤ l) (few : l ≤ 32) (fits : n < 2 ^ l) (long : max size (count_in slot.len) ≡ max size l) (proper : is_proper slot.len ≡ true)
+module _ (slot : Whole) (p l n size : ℕ) (s : Step) (bits : slot.state ≡ state.Bits) (count : count_in p ≡ l) (number : number_in p ≡ n) (some : 1 ≤ l) (few : l ≤ 32) (fits : n < 2 ^ l) (long : max size (count_in slot.len) ≡ max size l) (proper : is_proper slot.len ≡ true)
     (differ : s.differs ≡ not (number_in slot.len == n)) (rise : s.rises ≡ goes_from 48 49 (Some (48 + number_in slot.len % 2)) (Some (48 + n % 2))) (fall : s.falls ≡ goes_from 49 48 (Some (48 + number_in slot.len % 2)) (Some (48 + n % 2)))
     (end : ℕ) (values : List ℕ) (room : slot.start + 8 ≤ end) where
-  number_set : kept_with values end (set_slot state.Bits p slot) ≡ with_text form.Vector (binary_digits l n) (kept_with values end slot)
+  number_set : kept_with values end (set_whole state.Bits p slot) ≡ with_text form.Vector (binary_digits l n) (kept_with values end slot)
   number_set = bits_kept slot p l n end values count number some few room
 
   number_told : with_change size form.Vector (binary_digits l n) (kept_with values end slot)
@@ -101,17 +102,17 @@ module _ (slot : Slot) (p l n size : ℕ) (s : Step) (bits : slot.state ≡ stat
   number_told =
       let c = length_binary l n in
       changed_by s size form.Vector (binary_digits l n) (kept_with values end slot) (omega (arith, c, some))
-      (number_step s (held_of values slot) (count_in slot.len) l (number_in slot.len) n size (ap (λ (st : State). held_by st slot.len (take (used slot) (drop slot.start values))) bits) (proper_count slot.len proper) some (proper_number slot.len proper) fits long differ rise fall)
+      (number_step s (held_of values slot) (count_in slot.len) l (number_in slot.len) n size (ap (λ (st : State). held_by st slot.len (take (used_by slot.state slot.len) (drop slot.start values))) bits) (proper_count slot.len proper) some (proper_number slot.len proper) fits long differ rise fall)
 
-  pub number_same : s.differs ≡ false → kept_with values end (set_slot slot.state p slot) ≡ with_change size form.Vector (binary_digits l n) (kept_with values end slot)
+  pub number_same : s.differs ≡ false → kept_with values end (set_whole slot.state p slot) ≡ with_change size form.Vector (binary_digits l n) (kept_with values end slot)
   number_same stayed =
-      ap (λ (st : State). kept_with values end (set_slot st p slot)) bits ∙ number_set
+      ap (λ (st : State). kept_with values end (set_whole st p slot)) bits ∙ number_set
       ∙ sym (number_told ∙ ap (λ (b : Bool). cond b (with_step s.rises s.falls (with_text form.Vector (binary_digits l n) (kept_with values end slot))) (with_text form.Vector (binary_digits l n) (kept_with values end slot))) stayed)
 
   pub number_counted : s.differs ≡ true → (counts : List ℕ) → counts ≡ counts_if s.falls (counts_if s.rises (counts_with slot.counts 0) 1) 2
       → kept_with values end (record { state = slot.state; start = slot.start; len = p; counts = counts; chosen = slot.chosen }) ≡ with_change size form.Vector (binary_digits l n) (kept_with values end slot)
   number_counted differed counts is =
-      rw is (ap (λ (st : State). with_step s.rises s.falls (kept_with values end (set_slot st p slot))) bits ∙ ap (with_step s.rises s.falls) number_set
+      rw is (ap (λ (st : State). with_step s.rises s.falls (kept_with values end (set_whole st p slot))) bits ∙ ap (with_step s.rises s.falls) number_set
       ∙ sym (number_told ∙ ap (λ (b : Bool). cond b (with_step s.rises s.falls (with_text form.Vector (binary_digits l n) (kept_with values end slot))) (with_text form.Vector (binary_digits l n) (kept_with values end slot))) differed))
 
 -- a form that was compared with that of a real number's text
@@ -148,22 +149,22 @@ held_is t code k at = ap (λ (o : Option Kept). unwrap_or (option_map (λ (x : K
 pub set_and_counted : (old mid new : Table) (code size : ℕ) (f : Form) (text : List ℕ) (s : Step) → ChangesCode code (with_text f text) old mid → 0 < length text → IsStep s (value_at_size size (held_at old code)) (value_with size (model_form f) text) → s.differs ≡ true
     → ChangesCode code (with_step s.rises s.falls) mid new → ChangesCode code (with_change size f text) old new
 set_and_counted old mid new code size f text s sets some is differed counts =
-    change_as code (λ k. with_step s.rises s.falls (with_text f text k)) (with_change size f text) old.values.now new.values.now old.slots.now new.slots.now
+    change_as code (λ k. with_step s.rises s.falls (with_text f text k)) (with_change size f text) old.values.now new.values.now old.slots.now new.slots.now old.shares.now new.shares.now
     (λ k at. sym (changed_by s size f text k some (subst (λ (h : Held). IsStep s (value_at_size size h) (value_with size (model_form f) text)) (held_is old code k at) is) ∙ ap (λ (b : Bool). cond b (with_step s.rises s.falls (with_text f text k)) (with_text f text k)) differed))
-    (change_twice code (with_text f text) (with_step s.rises s.falls) old.values.now mid.values.now new.values.now old.slots.now mid.slots.now new.slots.now sets counts)
+    (change_twice code (with_text f text) (with_step s.rises s.falls) old.values.now mid.values.now new.values.now old.slots.now mid.slots.now new.slots.now old.shares.now mid.shares.now new.shares.now sets counts)
 
 -- the value that was set, and is the one before it
 pub set_alone : (old new : Table) (code size : ℕ) (f : Form) (text : List ℕ) (s : Step) → ChangesCode code (with_text f text) old new → 0 < length text → IsStep s (value_at_size size (held_at old code)) (value_with size (model_form f) text) → s.differs ≡ false
     → ChangesCode code (with_change size f text) old new
 set_alone old new code size f text s sets some is stayed =
-    change_as code (with_text f text) (with_change size f text) old.values.now new.values.now old.slots.now new.slots.now
+    change_as code (with_text f text) (with_change size f text) old.values.now new.values.now old.slots.now new.slots.now old.shares.now new.shares.now
     (λ k at. sym (changed_by s size f text k some (subst (λ (h : Held). IsStep s (value_at_size size h) (value_with size (model_form f) text)) (held_is old code k at) is) ∙ ap (λ (b : Bool). cond b (with_step s.rises s.falls (with_text f text k)) (with_text f text k)) stayed)) sets
 
 -- an empty text is passed over
 pub none_changes : (t : Table) (code size : ℕ) (f : Form) (text : List ℕ) → (length text == 0) ≡ true → ChangesCode code (with_change size f text) t t
 none_changes t code size f text none =
-    change_as code (λ (k : Kept). k) (with_change size f text) t.values.now t.values.now t.slots.now t.slots.now (λ k at. sym (ap (λ (n : ℕ). cond (nat_lt 0 n) (with_counted (value_at_size size k.held) (value_with size (model_form f) text) (with_text f text k)) k) (eqb-true (length text) 0 none)))
-    (λ p. by_case (p == code) (kept_in t.values.now t.slots.now p))
+    change_as code (λ (k : Kept). k) (with_change size f text) t.values.now t.values.now t.slots.now t.slots.now t.shares.now t.shares.now (λ k at. sym (ap (λ (n : ℕ). cond (nat_lt 0 n) (with_counted (value_at_size size k.held) (value_with size (model_form f) text) (with_text f text k)) k) (eqb-true (length text) 0 none)))
+    (λ p. by_case (p == code) (kept_in t.values.now t.slots.now t.shares.now p))
   where
     by_case : (b : Bool) (o : Option Kept) → o ≡ cond b (option_map (λ (k : Kept). k) o) o
     by_case true None = refl
@@ -171,10 +172,10 @@ none_changes t code size f text none =
     by_case false o = refl
 
 -- a change that sets a text leaves the value of the text
-pub change_sets : (values values' : List ℕ) (slots slots' : List Slot) (code size : ℕ) (f : Form) (text : List ℕ) (c : Code) (k : Kept) → ChangesAt code (with_change size f text) values slots values' slots' → IsText f c text → c.event ≡ false → kept_in values slots code ≡ Some k → share_of c.size ≤ k.room
-    → value_at_size c.size (unwrap_or (option_map (λ (x : Kept). x.held) (kept_in values' slots' code)) Held.Unset) ≡ Some (value_with c.size (model_form f) text)
-change_sets values values' slots slots' code size f text c k changes good event is most =
-    let now : kept_in values' slots' code ≡ Some (with_change size f text k) = changes code ∙ ap (λ (b : Bool). cond b (option_map (with_change size f text) (kept_in values slots code)) (kept_in values slots code)) (eq-eqb code code refl) ∙ ap (option_map (with_change size f text)) is in
+pub change_sets : (values values' : List ℕ) (slots slots' : List Slot) (shares shares' : List Share) (code size : ℕ) (f : Form) (text : List ℕ) (c : Code) (k : Kept) → ChangesAt code (with_change size f text) values slots shares values' slots' shares' → IsText f c text → c.event ≡ false → kept_in values slots shares code ≡ Some k → share_of c.size ≤ k.room
+    → value_at_size c.size (unwrap_or (option_map (λ (x : Kept). x.held) (kept_in values' slots' shares' code)) Held.Unset) ≡ Some (value_with c.size (model_form f) text)
+change_sets values values' slots slots' shares shares' code size f text c k changes good event is most =
+    let now : kept_in values' slots' shares' code ≡ Some (with_change size f text k) = changes code ∙ ap (λ (b : Bool). cond b (option_map (with_change size f text) (kept_in values slots shares code)) (kept_in values slots shares code)) (eq-eqb code code refl) ∙ ap (option_map (with_change size f text)) is in
     let some = lt-ltb 0 (length text) (good_some f c text good) in
     ap (λ (o : Option Kept). value_at_size c.size (unwrap_or (option_map (λ (x : Kept). x.held) o) Held.Unset)) now
     ∙ ap (λ (b : Bool). value_at_size c.size (cond b (with_counted (value_at_size size k.held) (value_with size (model_form f) text) (with_text f text k)) k).held) some

@@ -1,5 +1,5 @@
 -- Shares that are laid out one behind the other.
-use Rattle.std.proofs.Common.{◌≡◌, ◌≢◌, ℕ, ◌+◌, ◌-◌, ◌<◌, ◌≤◌, min, List, length, slice_get, slice_set, Option, Some, None, refl, sym, ap, ◌∙◌, arith, ◌⊎◌, inl, inr}
+use Rattle.std.proofs.Common.{◌≡◌, ◌≢◌, ℕ, ◌+◌, ◌-◌, ◌<◌, ◌≤◌, min, false, List, length, slice_get, slice_set, Option, Some, None, refl, sym, ap, ◌∙◌, arith, ◌⊎◌, inl, inr}
 use Rattle.std.specs.Prelude.{option_map}
 use Rattle.std.proofs.Math.Seq.{take-length}
 use Rattle.std.proofs.lemmas.Bool.{cases_lt}
@@ -8,9 +8,14 @@ use Rattle.std.proofs.lemmas.Option.{slice_get_past, slice_get_within, get_or_fr
 use Rattle.vcd_view.specs.declared.view.Code.{Code}
 use Rattle.vcd_body.specs.Kept.{unset}
 use Rattle.vcd_body.specs.Contents.{new_at}
-use Rattle.vcd_body.specs.Stored.{AreLaidOut, end_at, kept_in, kept_with, room_of, share_of, some_by, start_of, start_or, unset_at, used}
+use Rattle.vcd_body.specs.Stored.{AreLaidOut, IsUnset, end_at, kept_in, kept_with, room_of, share_from, share_of, some_by, start_of, start_or, used, whole}
+use Rattle.vcd_body.specs.declared.slot.Share.{Share}
 use Rattle.vcd_body.specs.declared.slot.Slot.{Slot}
-use Rattle.vcd_body.proofs.StoreLemmas.{get_other, get_set, same_or_not, some_at}
+use Rattle.vcd_body.specs.declared.slot.State.TheVariants as state
+use Rattle.vcd_body.proofs.StoreLemmas.{get_other, get_set, no_slot, same_or_not, some_at, whole_is}
+
+abbrev unset_slot : Slot
+unset_slot = record { state = state.Unset; len = 0; chosen = false }
 
 abbrev share_at : Code → ℕ
 share_at c = share_of c.size
@@ -33,61 +38,76 @@ start_most codes n k c at =
     let all = ap room_of (take-length codes) in
     omega (arith, e, l, all)
 
--- a slot more is laid out
-pub laid_more : (codes : List Code) (slots : List Slot) (n k : ℕ) → k < length slots → ((j : ℕ) (s : Slot) → j < k → slice_get slots j ≡ Some s → s ≡ unset_at (start_of codes n j))
-    → (j : ℕ) (s : Slot) → j < k + 1 → slice_get (slice_set slots k (unset_at (start_of codes n k))) j ≡ Some s → s ≡ unset_at (start_of codes n j)
-laid_more codes slots n k within so_far j s h at = by_place (same_or_not j k)
+-- a code more is laid out
+pub laid_more : (codes : List Code) (shares : List Share) (n k : ℕ) → k < length shares → ((j : ℕ) (h : Share) → j < k → slice_get shares j ≡ Some h → h ≡ share_from (start_of codes n j))
+    → (j : ℕ) (h : Share) → j < k + 1 → slice_get (slice_set shares k (share_from (start_of codes n k))) j ≡ Some h → h ≡ share_from (start_of codes n j)
+laid_more codes shares n k within so_far j h l at = by_place (same_or_not j k)
   where
-    by_place : (j ≡ k) ⊎ (j ≢ k) → s ≡ unset_at (start_of codes n j)
+    by_place : (j ≡ k) ⊎ (j ≢ k) → h ≡ share_from (start_of codes n j)
     by_place (inl e) =
-        let same : unset_at (start_of codes n k) ≡ s = cc (sym (get_set slots k (unset_at (start_of codes n k)) within) ∙ ap (slice_get (slice_set slots k (unset_at (start_of codes n k)))) (sym e) ∙ at) in
-        sym same ∙ ap (λ i. unset_at (start_of codes n i)) (sym e)
-    by_place (inr e) = so_far j s (omega arith) (sym (get_other slots k j (unset_at (start_of codes n k)) e) ∙ at)
+        let same : share_from (start_of codes n k) ≡ h = cc (sym (get_set shares k (share_from (start_of codes n k)) within) ∙ ap (slice_get (slice_set shares k (share_from (start_of codes n k)))) (sym e) ∙ at) in
+        sym same ∙ ap (λ i. share_from (start_of codes n i)) (sym e)
+    by_place (inr e) = so_far j h (omega arith) (sym (get_other shares k j (share_from (start_of codes n k)) e) ∙ at)
 
-module _ (codes : List Code) (slots : List Slot) (n end : ℕ) (same : length codes ≡ length slots) (ends : end ≡ start_of codes n (length codes)) (are : (k : ℕ) (s : Slot) → slice_get slots k ≡ Some s → s ≡ unset_at (start_of codes n k)) where
-  end_is : (k : ℕ) (s : Slot) → slice_get slots k ≡ Some s → end_at slots end k ≡ start_of codes n (k + 1)
-  end_is k s at = by_end (cases_lt (k + 1) (length slots))
+pub unset_more : (slots : List Slot) (k : ℕ) (d : Slot) → k < length slots → IsUnset d → ((j : ℕ) (s : Slot) → j < k → slice_get slots j ≡ Some s → IsUnset s)
+    → (j : ℕ) (s : Slot) → j < k + 1 → slice_get (slice_set slots k d) j ≡ Some s → IsUnset s
+unset_more slots k d within is so_far j s l at = by_place (same_or_not j k)
+  where
+    by_place : (j ≡ k) ⊎ (j ≢ k) → IsUnset s
+    by_place (inl e) =
+        let same : d ≡ s = cc (sym (get_set slots k d within) ∙ ap (slice_get (slice_set slots k d)) (sym e) ∙ at) in
+        sym same ∙ is
+    by_place (inr e) = so_far j s (omega arith) (sym (get_other slots k j d e) ∙ at)
+
+module _ (codes : List Code) (slots : List Slot) (shares : List Share) (n end : ℕ) (same : length codes ≡ length slots) (all : length codes ≡ length shares) (ends : end ≡ start_of codes n (length codes)) (unset_are : (k : ℕ) (s : Slot) → slice_get slots k ≡ Some s → IsUnset s) (are : (k : ℕ) (h : Share) → slice_get shares k ≡ Some h → h ≡ share_from (start_of codes n k)) where
+  end_is : (k : ℕ) (h : Share) → slice_get shares k ≡ Some h → end_at shares end k ≡ start_of codes n (k + 1)
+  end_is k h at = by_end (cases_lt (k + 1) (length shares))
     where
-      by_end : (k + 1 < length slots) ⊎ (length slots ≤ k + 1) → end_at slots end k ≡ start_of codes n (k + 1)
-      by_end (inl h) = let t = some_at slots (k + 1) h in ap (start_or end) t.1 ∙ ap (λ (x : Slot). x.start) (are (k + 1) t.0 t.1)
-      by_end (inr h) =
-          let w = slice_get_within slots k s at in
+      by_end : (k + 1 < length shares) ⊎ (length shares ≤ k + 1) → end_at shares end k ≡ start_of codes n (k + 1)
+      by_end (inl l) = let t = some_at shares (k + 1) l in ap (start_or end) t.1 ∙ ap (λ (x : Share). x.start) (are (k + 1) t.0 t.1)
+      by_end (inr l) =
+          let w = slice_get_within shares k h at in
           let last : length codes ≡ k + 1 = omega arith in
-          ap (start_or end) (slice_get_past slots (k + 1) h) ∙ ends ∙ ap (start_of codes n) last
+          ap (start_or end) (slice_get_past shares (k + 1) l) ∙ ends ∙ ap (start_of codes n) last
 
   code_there : (k : ℕ) (s : Slot) → slice_get slots k ≡ Some s → (c : Code) × (slice_get codes k ≡ Some c)
-  code_there k s at = let w = slice_get_within slots k s at in some_at codes k (omega arith)
+  code_there k s at = let w = slice_get_within slots k s at in some_at codes k (omega (arith, w, same))
 
-  pub laid : AreLaidOut slots end
+  share_there : (k : ℕ) (s : Slot) → slice_get slots k ≡ Some s → (h : Share) × (slice_get shares k ≡ Some h)
+  share_there k s at = let w = slice_get_within slots k s at in some_at shares k (omega (arith, w, same, all))
+
+  pub laid : AreLaidOut slots shares end
   laid = λ k s at.
       let c = code_there k s at in
+      let h = share_there k s at in
       let next = start_next codes n k c.0 c.1 in
       let most = start_most codes n k c.0 c.1 in
-      let e = are k s at in
-      let t = ap (λ (x : Slot). x.start + used x) e in
-      let o = ap (λ (x : Slot). some_by x.state x.len) e in
-      let m = end_is k s at in
-      (omega (arith, next, t, m), omega (arith, most, m, ends), omega (arith, o))
+      let b = ap (λ (x : Share). x.start) (are k h.0 h.1) in
+      let u = ap used (unset_are k s at) in
+      let o = ap (λ (x : Slot). some_by x.state x.len) (unset_are k s at) in
+      let m = end_is k h.0 h.1 in
+      record { share = h.0; there = h.1; fits = omega (arith, next, b, u, m); within = omega (arith, most, m, ends); some = omega (arith, o) }
 
   -- nothing is known of any code
-  pub new_kept : (values : List ℕ) → length values ≡ end → (k : ℕ) → kept_in values slots k ≡ new_at codes n k
+  pub new_kept : (values : List ℕ) → length values ≡ end → (k : ℕ) → kept_in values slots shares k ≡ new_at codes n k
   new_kept values long k = by_slot (slice_get slots k) refl
     where
-      by_slot : (o : Option Slot) → slice_get slots k ≡ o → kept_in values slots k ≡ new_at codes n k
+      by_slot : (o : Option Slot) → slice_get slots k ≡ o → kept_in values slots shares k ≡ new_at codes n k
       by_slot None e =
           let past : length slots ≤ k = by_order (cases_lt k (length slots)) in
-          let none = slice_get_past codes k (omega arith) in
-          ap (option_map (kept_with values (end_at slots (length values) k))) e ∙ sym (ap (option_map (λ (c : Code). unset (start_of codes n (k + 1) - start_of codes n k))) none)
+          let none = slice_get_past codes k (omega (arith, past, same)) in
+          ap (option_map (kept_with values (end_at shares (length values) k))) (no_slot slots shares k e) ∙ sym (ap (option_map (λ (c : Code). unset (start_of codes n (k + 1) - start_of codes n k))) none)
         where
           by_order : (k < length slots) ⊎ (length slots ≤ k) → length slots ≤ k
           by_order (inl h) = let t = some_at slots k h in absurd (let f : None ≡ Some t.0 = sym e ∙ t.1 in cc)
           by_order (inr h) = h
       by_slot (Some s) e =
           let c = code_there k s e in
-          let is = are k s e in
-          let m : end_at slots (length values) k ≡ start_of codes n (k + 1) = ap (λ i. end_at slots i k) long ∙ end_is k s e in
-          ap (option_map (kept_with values (end_at slots (length values) k))) e
-          ∙ ap (λ (x : Slot). Some (kept_with values (end_at slots (length values) k) x)) is
+          let h = share_there k s e in
+          let m : end_at shares (length values) k ≡ start_of codes n (k + 1) = ap (λ i. end_at shares i k) long ∙ end_is k h.0 h.1 in
+          ap (option_map (kept_with values (end_at shares (length values) k))) (whole_is slots shares k s h.0 e h.1)
+          ∙ ap (λ (x : Slot). Some (kept_with values (end_at shares (length values) k) (whole x h.0))) (unset_are k s e)
+          ∙ ap (λ (x : Share). Some (kept_with values (end_at shares (length values) k) (whole unset_slot x))) (are k h.0 h.1)
           ∙ ap (λ i. Some (unset (i - start_of codes n k))) m
           ∙ sym (ap (option_map (λ (x : Code). unset (start_of codes n (k + 1) - start_of codes n k))) c.1)
 

@@ -16,15 +16,14 @@ use Rattle.vcd_body.specs.Binary.{binary_digits, count_in, is_proper, number_in}
 use Rattle.vcd_body.specs.Items.{model_form}
 use Rattle.vcd_body.specs.Kept.{Held, IsStep, Kept, bytes_for, goes_from, room_for, value_at_size, with_held, with_text}
 use Rattle.vcd_body.specs.Packed.{held_digit}
-use Rattle.vcd_body.specs.Stored.{digits_held, held_by, held_of, kept_with, some_by}
+use Rattle.vcd_body.specs.Stored.{Whole, digits_held, held_by, held_of, kept_with, some_by}
 use Rattle.vcd_body.specs.declared.item.Form.TheVariants as form
-use Rattle.vcd_body.specs.declared.slot.Slot.{Slot}
 use Rattle.vcd_body.specs.declared.slot.State.{State}
 use Rattle.vcd_body.specs.declared.slot.State.TheVariants as state
 use Rattle.vcd_body.specs.declared.step.Step.{Step}
 use Rattle.vcd_body.proofs.BinaryLemmas.{binary_at, length_binary}
 use Rattle.vcd_body.proofs.CompareLemmas.{last_at, last_extended}
-use Rattle.vcd_body.proofs.StoreLemmas.{set_slot, text_fits}
+use Rattle.vcd_body.proofs.StoreLemmas.{set_whole, text_fits}
 use Rattle.vcd_body.proofs.PackedLemmas.{length_digits}
 
 -- digits that are left out in front are 0
@@ -183,8 +182,8 @@ bits_room n room few most = by_one (n == 1)
     by_one true = omega arith
     by_one false = let a = div_ceil_times n 4 (omega arith) in omega arith
 
-pub bits_kept : (s : Slot) (p l n end : ℕ) (values : List ℕ) → count_in p ≡ l → number_in p ≡ n → 1 ≤ l → l ≤ 32 → s.start + 8 ≤ end
-    → kept_with values end (set_slot state.Bits p s) ≡ with_text form.Vector (binary_digits l n) (kept_with values end s)
+pub bits_kept : (s : Whole) (p l n end : ℕ) (values : List ℕ) → count_in p ≡ l → number_in p ≡ n → 1 ≤ l → l ≤ 32 → s.start + 8 ≤ end
+    → kept_with values end (set_whole state.Bits p s) ≡ with_text form.Vector (binary_digits l n) (kept_with values end s)
 bits_kept s p l n end values count number some few room =
     let c = length_binary l n in
     let ds = binary_digits l n in

@@ -1,18 +1,19 @@
--- A table where one slot was written, and perhaps its share: what it keeps of that code, and that it keeps of the others what it kept.
+-- A table where one code was written, and perhaps its bytes: what it keeps of that code, and that it keeps of the others what it kept.
 use Rattle.std.proofs.Common.{◌≡◌, ◌≢◌, ℕ, zero, suc, ◌+◌, ◌-◌, ◌<◌, ◌≤◌, ◌==◌, nat_lt, nat_le, Bool, true, false, cond, List, [], ◌∷◌, length, take, drop, map, slice_get, slice_set, Option, Some, None, refl, sym, ap, ◌∙◌, arith, ◌⊎◌, inl, inr}
-use Rattle.std.specs.Prelude.{get_or, option_map}
+use Rattle.std.specs.Prelude.{get_or, option_and_then, option_map}
 use Rattle.std.proofs.lemmas.Bool.{and_right, cases_lt, eq-eqb, eqb-false, ne_eqb, le-leb, lt-leb, lt-ltb}
 use Rattle.std.proofs.lemmas.List.{drop-take, get_or-take, length-append, length-drop, length-take}
 use Rattle.std.specs.Str.{byte}
-use Rattle.std.proofs.lemmas.Option.{slice_get_within}
+use Rattle.std.proofs.lemmas.Option.{slice_get_past, slice_get_within}
 use Rattle.std.proofs.lemmas.Slice.{take-put_mid_below, drop-put_mid, between-put_mid}
 use Rattle.std.proofs.Math.Seq.{take-take}
 use borrow.Rule.Slice.PartMut.{put_mid}
 use Rattle.vcd_body.specs.Kept.{Held, Kept, bytes_for, counts_if, counts_with, fits, held_as, one_more, room_for, with_held, with_step, with_text}
 use Rattle.vcd_body.specs.Packed.{digits_in, held_digit, quarter_of}
-use Rattle.vcd_body.specs.Stored.{AreLaidOut, ChangesAt, end_at, held_by, held_of, kept_in, kept_with, one_digit, some_by, start_or, used, used_by}
+use Rattle.vcd_body.specs.Stored.{AreLaidOut, ChangesAt, IsLaid, Whole, end_at, held_by, held_of, kept_in, kept_with, one_digit, some_by, start_or, used, used_by, whole, whole_at}
 use Rattle.vcd_body.specs.declared.item.Form.{Form}
 use Rattle.vcd_body.specs.declared.item.Form.TheVariants as form
+use Rattle.vcd_body.specs.declared.slot.Share.{Share}
 use Rattle.vcd_body.specs.declared.slot.Slot.{Slot}
 use Rattle.vcd_body.specs.declared.slot.State.{State}
 use Rattle.vcd_body.specs.declared.slot.State.TheVariants as state
@@ -64,173 +65,290 @@ reads_same a u s k xs ys within same (inr behind) = ap (take u) (drop-put_mid s 
 pub digits_first : (n : ℕ) (ys : List ℕ) → digits_in n (take (quarter_of n) ys) ≡ digits_in n ys
 digits_first n ys = digits_of_first n (take (quarter_of n) ys) ys (λ j h. get_or-take (quarter_of n) ys j 0 h)
 
+-- ---- a slot and its share
+
+pub whole_is : (slots : List Slot) (shares : List Share) (k : ℕ) (s : Slot) (h : Share) → slice_get slots k ≡ Some s → slice_get shares k ≡ Some h → whole_at slots shares k ≡ Some (whole s h)
+whole_is slots shares k s h at there = ap (option_and_then (λ (x : Slot). option_map (whole x) (slice_get shares k))) at ∙ ap (option_map (whole s)) there
+
+pub no_slot : (slots : List Slot) (shares : List Share) (k : ℕ) → slice_get slots k ≡ None → whole_at slots shares k ≡ None
+no_slot slots shares k at = ap (option_and_then (λ (x : Slot). option_map (whole x) (slice_get shares k))) at
+
+pub no_share : (slots : List Slot) (shares : List Share) (k : ℕ) → slice_get shares k ≡ None → whole_at slots shares k ≡ None
+no_share slots shares k at = by_slot (slice_get slots k) (slice_get shares k) at
+  where
+    by_slot : (o : Option Slot) (p : Option Share) → p ≡ None → option_and_then (λ (x : Slot). option_map (whole x) p) o ≡ None
+    by_slot None p e = refl
+    by_slot (Some s) p e = ap (option_map (whole s)) e
+
+-- what they are
+pub parts_of : (slots : List Slot) (shares : List Share) (k : ℕ) (d : Whole) → whole_at slots shares k ≡ Some d → (s : Slot) × (h : Share) × (slice_get slots k ≡ Some s) × (slice_get shares k ≡ Some h) × (whole s h ≡ d)
+parts_of slots shares k d is = by_parts (slice_get slots k) refl (slice_get shares k) refl
+  where
+    by_parts : (o : Option Slot) → slice_get slots k ≡ o → (p : Option Share) → slice_get shares k ≡ p → (s : Slot) × (h : Share) × (slice_get slots k ≡ Some s) × (slice_get shares k ≡ Some h) × (whole s h ≡ d)
+    by_parts None e p f = absurd (let g : None ≡ Some d = sym (no_slot slots shares k e) ∙ is in cc)
+    by_parts (Some s) e None f = absurd (let g : None ≡ Some d = sym (no_share slots shares k f) ∙ is in cc)
+    by_parts (Some s) e (Some h) f = (s, h, e, f, cc (sym (whole_is slots shares k s h e f) ∙ is))
+
 -- ---- shares
 
-module _ (slots : List Slot) (k : ℕ) (s s' : Slot) (at : slice_get slots k ≡ Some s) (start : s'.start ≡ s.start) where
-  starts_same : (n j : ℕ) → start_or n (slice_get (slice_set slots k s') j) ≡ start_or n (slice_get slots j)
-  starts_same n j = by_place (same_or_not j k)
-    where
-      by_place : (j ≡ k) ⊎ (j ≢ k) → start_or n (slice_get (slice_set slots k s') j) ≡ start_or n (slice_get slots j)
-      by_place (inl e) = rw e (ap (start_or n) (get_set slots k s' (slice_get_within slots k s at)) ∙ start ∙ sym (ap (start_or n) at))
-      by_place (inr e) = ap (start_or n) (get_other slots k j s' e)
+starts_same : (shares : List Share) (k : ℕ) (h h' : Share) → slice_get shares k ≡ Some h → h'.start ≡ h.start → (n j : ℕ) → start_or n (slice_get (slice_set shares k h') j) ≡ start_or n (slice_get shares j)
+starts_same shares k h h' at start n j = by_place (same_or_not j k)
+  where
+    by_place : (j ≡ k) ⊎ (j ≢ k) → start_or n (slice_get (slice_set shares k h') j) ≡ start_or n (slice_get shares j)
+    by_place (inl e) = rw e (ap (start_or n) (get_set shares k h' (slice_get_within shares k h at)) ∙ start ∙ sym (ap (start_or n) at))
+    by_place (inr e) = ap (start_or n) (get_other shares k j h' e)
 
-  -- the slot was written, and of the values nothing that others hold
+-- a slot was written, its share, or both, and shares begin where they began
+pub record AreWritten (k : ℕ) (w w' : Whole) (slots : List Slot) (shares : List Share) (slots' : List Slot) (shares' : List Share) : Type 0 where
+  pub was : whole_at slots shares k ≡ Some w
+  pub is : whole_at slots' shares' k ≡ Some w'
+  pub others : (j : ℕ) → j ≢ k → whole_at slots' shares' j ≡ whole_at slots shares j
+  pub ends : (n j : ℕ) → end_at shares' n j ≡ end_at shares n j
+
+other_slots : (slots : List Slot) (shares : List Share) (k : ℕ) (s : Slot) (j : ℕ) → j ≢ k → whole_at (slice_set slots k s) shares j ≡ whole_at slots shares j
+other_slots slots shares k s j e = ap (option_and_then (λ (x : Slot). option_map (whole x) (slice_get shares j))) (get_other slots k j s e)
+
+other_shares : (slots : List Slot) (shares : List Share) (k : ℕ) (h : Share) (j : ℕ) → j ≢ k → whole_at slots (slice_set shares k h) j ≡ whole_at slots shares j
+other_shares slots shares k h j e = ap (λ (o : Option Share). option_and_then (λ (x : Slot). option_map (whole x) o) (slice_get slots j)) (get_other shares k j h e)
+
+pub slot_written : (slots : List Slot) (shares : List Share) (k : ℕ) (s s' : Slot) (h : Share) → slice_get slots k ≡ Some s → slice_get shares k ≡ Some h → AreWritten k (whole s h) (whole s' h) slots shares (slice_set slots k s') shares
+slot_written slots shares k s s' h at there = record {
+  was = whole_is slots shares k s h at there;
+  is = whole_is (slice_set slots k s') shares k s' h (get_set slots k s' (slice_get_within slots k s at)) there;
+  others = other_slots slots shares k s';
+  ends = λ n j. refl;
+}
+
+pub both_written : (slots : List Slot) (shares : List Share) (k : ℕ) (s s' : Slot) (h h' : Share) → slice_get slots k ≡ Some s → slice_get shares k ≡ Some h → h'.start ≡ h.start → AreWritten k (whole s h) (whole s' h') slots shares (slice_set slots k s') (slice_set shares k h')
+both_written slots shares k s s' h h' at there start = record {
+  was = whole_is slots shares k s h at there;
+  is = whole_is (slice_set slots k s') (slice_set shares k h') k s' h' (get_set slots k s' (slice_get_within slots k s at)) (get_set shares k h' (slice_get_within shares k h there));
+  others = λ j e. other_slots slots (slice_set shares k h') k s' j e ∙ other_shares slots shares k h' j e;
+  ends = λ n j. starts_same shares k h h' there start n (j + 1);
+}
+
+share_written : (slots : List Slot) (shares : List Share) (k : ℕ) (s : Slot) (h h' : Share) → slice_get slots k ≡ Some s → slice_get shares k ≡ Some h → h'.start ≡ h.start → AreWritten k (whole s h) (whole s h') slots shares slots (slice_set shares k h')
+share_written slots shares k s h h' at there start = record {
+  was = whole_is slots shares k s h at there;
+  is = whole_is slots (slice_set shares k h') k s h' at (get_set shares k h' (slice_get_within shares k h there));
+  others = other_shares slots shares k h';
+  ends = λ n j. starts_same shares k h h' there start n (j + 1);
+}
+
+module _ (slots slots' : List Slot) (shares shares' : List Share) (k : ℕ) (w w' : Whole) (set : AreWritten k w w' slots shares slots' shares') where
+  -- the code was written, and of the values nothing that others hold
   pub changes : (values values' : List ℕ) (f : Kept → Kept) → length values' ≡ length values
-      → kept_with values' (end_at slots (length values) k) s' ≡ f (kept_with values (end_at slots (length values) k) s)
-      → ((j : ℕ) (d : Slot) → j ≢ k → slice_get slots j ≡ Some d → held_of values' d ≡ held_of values d)
-      → ChangesAt k f values slots values' (slice_set slots k s')
+      → kept_with values' (end_at shares (length values) k) w' ≡ f (kept_with values (end_at shares (length values) k) w)
+      → ((j : ℕ) (d : Whole) → j ≢ k → whole_at slots shares j ≡ Some d → held_of values' d ≡ held_of values d)
+      → ChangesAt k f values slots shares values' slots' shares'
   changes values values' f same one others = λ j. by_place j (same_or_not j k)
     where
-      ends_same : (j : ℕ) → end_at (slice_set slots k s') (length values') j ≡ end_at slots (length values) j
-      ends_same j = ap (λ n. end_at (slice_set slots k s') n j) same ∙ starts_same (length values) (j + 1)
+      ends_same : (j : ℕ) → end_at shares' (length values') j ≡ end_at shares (length values) j
+      ends_same j = ap (λ n. end_at shares' n j) same ∙ set.ends (length values) j
 
-      other_kept : (j : ℕ) → j ≢ k → (o : Option Slot) → slice_get slots j ≡ o → option_map (kept_with values' (end_at slots (length values) j)) o ≡ option_map (kept_with values (end_at slots (length values) j)) o
+      other_kept : (j : ℕ) → j ≢ k → (o : Option Whole) → whole_at slots shares j ≡ o → option_map (kept_with values' (end_at shares (length values) j)) o ≡ option_map (kept_with values (end_at shares (length values) j)) o
       other_kept j e None is = refl
-      other_kept j e (Some d) is = ap (λ (h : Held). Some (record { held = h; counts = d.counts; chosen = d.chosen; room = end_at slots (length values) j - d.start })) (others j d e is)
+      other_kept j e (Some d) is = ap (λ (h : Held). Some (record { held = h; counts = d.counts; chosen = d.chosen; room = end_at shares (length values) j - d.start })) (others j d e is)
 
-      by_place : (j : ℕ) → (j ≡ k) ⊎ (j ≢ k) → kept_in values' (slice_set slots k s') j ≡ cond (j == k) (option_map f (kept_in values slots j)) (kept_in values slots j)
+      by_place : (j : ℕ) → (j ≡ k) ⊎ (j ≢ k) → kept_in values' slots' shares' j ≡ cond (j == k) (option_map f (kept_in values slots shares j)) (kept_in values slots shares j)
       by_place j (inl e) =
           let test = eq-eqb j k e in
-          let there : slice_get (slice_set slots k s') j ≡ Some s' = ap (slice_get (slice_set slots k s')) e ∙ get_set slots k s' (slice_get_within slots k s at) in
-          let was : slice_get slots j ≡ Some s = ap (slice_get slots) e ∙ at in
+          let there : whole_at slots' shares' j ≡ Some w' = ap (whole_at slots' shares') e ∙ set.is in
+          let was : whole_at slots shares j ≡ Some w = ap (whole_at slots shares) e ∙ set.was in
           let ends = ends_same j in
-          let ended : end_at slots (length values) k ≡ end_at slots (length values) j = ap (end_at slots (length values)) (sym e) in
-          ap (option_map (kept_with values' (end_at (slice_set slots k s') (length values') j))) there
-          ∙ ap (λ (i : ℕ). Some (kept_with values' i s')) (ends ∙ sym ended)
+          let ended : end_at shares (length values) k ≡ end_at shares (length values) j = ap (end_at shares (length values)) (sym e) in
+          ap (option_map (kept_with values' (end_at shares' (length values') j))) there
+          ∙ ap (λ (i : ℕ). Some (kept_with values' i w')) (ends ∙ sym ended)
           ∙ ap (λ (x : Kept). Some x) one
-          ∙ ap (λ (i : ℕ). Some (f (kept_with values i s))) ended
-          ∙ sym (ap (λ (b : Bool). cond b (option_map f (kept_in values slots j)) (kept_in values slots j)) test ∙ ap (λ (o : Option Slot). option_map f (option_map (kept_with values (end_at slots (length values) j)) o)) was)
+          ∙ ap (λ (i : ℕ). Some (f (kept_with values i w))) ended
+          ∙ sym (ap (λ (b : Bool). cond b (option_map f (kept_in values slots shares j)) (kept_in values slots shares j)) test ∙ ap (λ (o : Option Whole). option_map f (option_map (kept_with values (end_at shares (length values) j)) o)) was)
       by_place j (inr e) =
           let test = ne_eqb j k e in
-          let there = get_other slots k j s' e in
-          ap (option_map (kept_with values' (end_at (slice_set slots k s') (length values') j))) there
-          ∙ ap (λ (i : ℕ). option_map (kept_with values' i) (slice_get slots j)) (ends_same j)
-          ∙ other_kept j e (slice_get slots j) refl
-          ∙ sym (ap (λ (b : Bool). cond b (option_map f (kept_in values slots j)) (kept_in values slots j)) test)
+          let there = set.others j e in
+          ap (option_map (kept_with values' (end_at shares' (length values') j))) there
+          ∙ ap (λ (i : ℕ). option_map (kept_with values' i) (whole_at slots shares j)) (ends_same j)
+          ∙ other_kept j e (whole_at slots shares j) refl
+          ∙ sym (ap (λ (b : Bool). cond b (option_map f (kept_in values slots shares j)) (kept_in values slots shares j)) test)
 
-  -- the slot alone was written
-  pub slot_changes : (values : List ℕ) (f : Kept → Kept) → ((end : ℕ) → kept_with values end s' ≡ f (kept_with values end s)) → ChangesAt k f values slots values (slice_set slots k s')
-  slot_changes values f one = changes values values f refl (one (end_at slots (length values) k)) (λ j d e there. refl)
+  -- and of the values nothing
+  pub code_changes : (values : List ℕ) (f : Kept → Kept) → ((end : ℕ) → kept_with values end w' ≡ f (kept_with values end w)) → ChangesAt k f values slots shares values slots' shares'
+  code_changes values f one = changes values values f refl (one (end_at shares (length values) k)) (λ j d e there. refl)
+
+-- what was written is no code's
+unseen : (values : List ℕ) (slots slots' : List Slot) (shares shares' : List Share) (k : ℕ) (f : Kept → Kept) → whole_at slots shares k ≡ None → whole_at slots' shares' k ≡ None → ((j : ℕ) → j ≢ k → whole_at slots' shares' j ≡ whole_at slots shares j)
+    → ((n j : ℕ) → end_at shares' n j ≡ end_at shares n j) → ChangesAt k f values slots shares values slots' shares'
+unseen values slots slots' shares shares' k f none none' others ends = λ j. by_place j (same_or_not j k)
+  where
+    by_place : (j : ℕ) → (j ≡ k) ⊎ (j ≢ k) → kept_in values slots' shares' j ≡ cond (j == k) (option_map f (kept_in values slots shares j)) (kept_in values slots shares j)
+    by_place j (inl e) =
+        let was : kept_in values slots shares j ≡ None = ap (option_map (kept_with values (end_at shares (length values) j))) (ap (whole_at slots shares) e ∙ none) in
+        let is : kept_in values slots' shares' j ≡ None = ap (option_map (kept_with values (end_at shares' (length values) j))) (ap (whole_at slots' shares') e ∙ none') in
+        rw (eq-eqb j k e) (is ∙ sym (ap (option_map f) was))
+    by_place j (inr e) =
+        rw (ne_eqb j k e) (ap (option_map (kept_with values (end_at shares' (length values) j))) (others j e) ∙ ap (λ (i : ℕ). option_map (kept_with values i) (whole_at slots shares j)) (ends (length values) j))
 
 -- there is no such code
-pub nothing_there : (values : List ℕ) (slots : List Slot) (k : ℕ) (f : Kept → Kept) → slice_get slots k ≡ None → ChangesAt k f values slots values slots
-nothing_there values slots k f none = λ j. by_place j (same_or_not j k)
+pub nothing_there : (values : List ℕ) (slots : List Slot) (shares : List Share) (k : ℕ) (f : Kept → Kept) → whole_at slots shares k ≡ None → ChangesAt k f values slots shares values slots shares
+nothing_there values slots shares k f none = unseen values slots slots shares shares k f none none (λ j e. refl) (λ n j. refl)
+
+pub no_slot_there : (values : List ℕ) (slots : List Slot) (shares : List Share) (k : ℕ) (f : Kept → Kept) → length slots ≤ k → ChangesAt k f values slots shares values slots shares
+no_slot_there values slots shares k f past = nothing_there values slots shares k f (no_slot slots shares k (slice_get_past slots k past))
+
+pub no_share_there : (values : List ℕ) (slots : List Slot) (shares : List Share) (k : ℕ) (f : Kept → Kept) → length shares ≤ k → ChangesAt k f values slots shares values slots shares
+no_share_there values slots shares k f past = nothing_there values slots shares k f (no_share slots shares k (slice_get_past shares k past))
+
+-- the slot alone was written, and nothing else was looked at
+pub slot_changes : (slots : List Slot) (k : ℕ) (s s' : Slot) → slice_get slots k ≡ Some s → (shares : List Share) (values : List ℕ) (f : Kept → Kept) → ((h : Share) (end : ℕ) → kept_with values end (whole s' h) ≡ f (kept_with values end (whole s h)))
+    → ChangesAt k f values slots shares values (slice_set slots k s') shares
+slot_changes slots k s s' at shares values f one = by_share (slice_get shares k) refl
   where
-    by_place : (j : ℕ) → (j ≡ k) ⊎ (j ≢ k) → kept_in values slots j ≡ cond (j == k) (option_map f (kept_in values slots j)) (kept_in values slots j)
-    by_place j (inl e) =
-        let was : slice_get slots j ≡ None = ap (slice_get slots) e ∙ none in
-        let is : kept_in values slots j ≡ None = ap (option_map (kept_with values (end_at slots (length values) j))) was in
-        rw (eq-eqb j k e) (is ∙ sym (ap (option_map f) is))
-    by_place j (inr e) = rw (ne_eqb j k e) refl
+    by_share : (o : Option Share) → slice_get shares k ≡ o → ChangesAt k f values slots shares values (slice_set slots k s') shares
+    by_share None e = unseen values slots (slice_set slots k s') shares shares k f (no_share slots shares k e) (no_share (slice_set slots k s') shares k e) (other_slots slots shares k s') (λ n j. refl)
+    by_share (Some h) e = code_changes slots (slice_set slots k s') shares shares k (whole s h) (whole s' h) (slot_written slots shares k s s' h at e) values f (one h)
+
+-- the share alone
+pub share_alone_changes : (shares : List Share) (k : ℕ) (h h' : Share) → slice_get shares k ≡ Some h → h'.start ≡ h.start → (slots : List Slot) (values : List ℕ) (f : Kept → Kept) → ((s : Slot) (end : ℕ) → kept_with values end (whole s h') ≡ f (kept_with values end (whole s h)))
+    → ChangesAt k f values slots shares values slots (slice_set shares k h')
+share_alone_changes shares k h h' there start slots values f one = by_slot (slice_get slots k) refl
+  where
+    by_slot : (o : Option Slot) → slice_get slots k ≡ o → ChangesAt k f values slots shares values slots (slice_set shares k h')
+    by_slot None e = unseen values slots slots shares (slice_set shares k h') k f (no_slot slots shares k e) (no_slot slots (slice_set shares k h') k e) (other_shares slots shares k h') (λ n j. starts_same shares k h h' there start n (j + 1))
+    by_slot (Some s) e = code_changes slots slots shares (slice_set shares k h') k (whole s h) (whole s h') (share_written slots shares k s h h' e there start) values f (one s)
 
 -- what is kept of the code is what it is to be
-pub already_so : (values : List ℕ) (slots : List Slot) (k : ℕ) (s : Slot) (f : Kept → Kept) → slice_get slots k ≡ Some s → kept_with values (end_at slots (length values) k) s ≡ f (kept_with values (end_at slots (length values) k) s) → ChangesAt k f values slots values slots
-already_so values slots k s f at same = λ j. by_place j (same_or_not j k)
-  where
-    by_place : (j : ℕ) → (j ≡ k) ⊎ (j ≢ k) → kept_in values slots j ≡ cond (j == k) (option_map f (kept_in values slots j)) (kept_in values slots j)
-    by_place j (inl e) =
-        let was : slice_get slots j ≡ Some s = ap (slice_get slots) e ∙ at in
-        let is : kept_in values slots j ≡ Some (kept_with values (end_at slots (length values) j) s) = ap (option_map (kept_with values (end_at slots (length values) j))) was in
-        let so : kept_with values (end_at slots (length values) j) s ≡ f (kept_with values (end_at slots (length values) j) s) = rw e same in
-        rw (eq-eqb j k e) (is ∙ ap (λ (x : Kept). Some x) so ∙ sym (ap (option_map f) is))
-    by_place j (inr e) = rw (ne_eqb j k e) refl
+pub already_so : (values : List ℕ) (slots : List Slot) (shares : List Share) (k : ℕ) (w : Whole) (f : Kept → Kept) → whole_at slots shares k ≡ Some w → kept_with values (end_at shares (length values) k) w ≡ f (kept_with values (end_at shares (length values) k) w) → ChangesAt k f values slots shares values slots shares
+already_so values slots shares k w f at same = changes slots slots shares shares k w w (record { was = at; is = at; others = λ j e. refl; ends = λ n j. refl }) values values f refl same (λ j d e there. refl)
 
-module _ (slots : List Slot) (n : ℕ) (laid : AreLaidOut slots n) where
+-- the share that a slot has
+pub fits_in : (shares : List Share) (n k : ℕ) (s : Slot) (h : Share) → IsLaid shares n k s → slice_get shares k ≡ Some h → h.start + used s ≤ end_at shares n k
+fits_in shares n k s h l there =
+    let same : l.share ≡ h = cc (sym l.there ∙ there) in
+    let start = ap (λ (x : Share). x.start) same in
+    let fits = l.fits in
+    omega (arith, start, fits)
+
+module _ (slots : List Slot) (shares : List Share) (n : ℕ) (laid : AreLaidOut slots shares n) where
   -- a share ends where a later one begins, or before
-  ends_before : (m j : ℕ) (d : Slot) → slice_get slots (j + 1 + m) ≡ Some d → end_at slots n j ≤ d.start
-  ends_before zero j d at =
+  ends_before : (m j : ℕ) (d : Slot) (g : Share) → slice_get slots (j + 1 + m) ≡ Some d → slice_get shares (j + 1 + m) ≡ Some g → end_at shares n j ≤ g.start
+  ends_before zero j d g at there =
       let e : j + 1 + 0 ≡ j + 1 = omega arith in
-      let s = ap (start_or n) (ap (slice_get slots) (sym e) ∙ at) in
+      let s = ap (start_or n) (ap (slice_get shares) (sym e) ∙ there) in
       omega (arith, s)
-  ends_before (suc m) j d at =
+  ends_before (suc m) j d g at there =
       let w = slice_get_within slots (j + 1 + suc m) d at in
-      let c = some_at slots (j + 1) (omega arith) in
+      let c = some_at slots (j + 1) (omega (arith, w)) in
       let l = laid (j + 1) c.0 c.1 in
       let e : j + 1 + suc m ≡ j + 1 + 1 + m = omega arith in
-      let more = ends_before m (j + 1) d (ap (slice_get slots) (sym e) ∙ at) in
-      let s = ap (start_or n) c.1 in
-      let low = l.0 in
+      let more = ends_before m (j + 1) d g (ap (slice_get slots) (sym e) ∙ at) (ap (slice_get shares) (sym e) ∙ there) in
+      let s = ap (start_or n) l.there in
+      let low = l.fits in
       omega (arith, s, low, more)
 
-  module _ (k : ℕ) (s s' : Slot) (at : slice_get slots k ≡ Some s) (start : s'.start ≡ s.start) where
-    pub laid_set : s'.start + used s' ≤ end_at slots n k → 1 ≤ some_by s'.state s'.len → AreLaidOut (slice_set slots k s') n
-    laid_set fits some = λ j d there. by_place j d there (same_or_not j k)
+  module _ (k : ℕ) (s : Slot) (at : slice_get slots k ≡ Some s) where
+    pub slot_laid : (s' : Slot) → ((h : Share) → slice_get shares k ≡ Some h → h.start + used s' ≤ end_at shares n k) → 1 ≤ some_by s'.state s'.len → AreLaidOut (slice_set slots k s') shares n
+    slot_laid s' fits some = λ j d there. by_place j d there (same_or_not j k)
       where
-        by_place : (j : ℕ) (d : Slot) → slice_get (slice_set slots k s') j ≡ Some d → (j ≡ k) ⊎ (j ≢ k) → (d.start + used d ≤ end_at (slice_set slots k s') n j) × (end_at (slice_set slots k s') n j ≤ n) × (1 ≤ some_by d.state d.len)
+        by_place : (j : ℕ) (d : Slot) → slice_get (slice_set slots k s') j ≡ Some d → (j ≡ k) ⊎ (j ≢ k) → IsLaid shares n j d
         by_place j d there (inl e) =
-            let t = starts_same slots k s s' at start n (j + 1) in
             let same : s' ≡ d = cc (sym (get_set slots k s' (slice_get_within slots k s at)) ∙ ap (slice_get (slice_set slots k s')) (sym e) ∙ there) in
             let l = laid k s at in
-            let u = ap (λ i. end_at slots n i) e in
-            let m = ap (λ (x : Slot). x.start + used x) same in
-            let o = ap (λ (x : Slot). some_by x.state x.len) same in
-            let high = l.1 in
-            (omega (arith, t, u, m, fits), omega (arith, t, u, high), omega (arith, o, some))
-        by_place j d there (inr e) =
-            let t = starts_same slots k s s' at start n (j + 1) in
-            let l = laid j d (sym (get_other slots k j s' e) ∙ there) in
-            let low = l.0 in let high = l.1 in
-            (omega (arith, t, low), omega (arith, t, high), l.2)
+            rw (e, sym same) (record { share = l.share; there = l.there; fits = fits l.share l.there; within = l.within; some = some })
+        by_place j d there (inr e) = laid j d (sym (get_other slots k j s' e) ∙ there)
 
-  module _ (k : ℕ) (s : Slot) (at : slice_get slots k ≡ Some s) where
+  pub share_laid : (k : ℕ) (h h' : Share) → slice_get shares k ≡ Some h → h'.start ≡ h.start → AreLaidOut slots (slice_set shares k h') n
+  share_laid k h h' at start = λ j d there. by_place j d (laid j d there) (same_or_not j k)
+    where
+      by_place : (j : ℕ) (d : Slot) → IsLaid shares n j d → (j ≡ k) ⊎ (j ≢ k) → IsLaid (slice_set shares k h') n j d
+      by_place j d l (inl e) =
+          let t = starts_same shares k h h' at start n (j + 1) in
+          let fits = fits_in shares n j d h l (ap (slice_get shares) e ∙ at) in
+          let most = l.within in
+          record {
+            share = h';
+            there = ap (slice_get (slice_set shares k h')) e ∙ get_set shares k h' (slice_get_within shares k h at);
+            fits = omega (arith, t, fits, start);
+            within = omega (arith, t, most);
+            some = l.some;
+          }
+      by_place j d l (inr e) =
+          let t = starts_same shares k h h' at start n (j + 1) in
+          let fits = l.fits in
+          let most = l.within in
+          record {
+            share = l.share;
+            there = get_other shares k j h' e ∙ l.there;
+            fits = omega (arith, t, fits);
+            within = omega (arith, t, most);
+            some = l.some;
+          }
+
+  module _ (k : ℕ) (s : Slot) (h : Share) (at : slice_get slots k ≡ Some s) (here : slice_get shares k ≡ Some h) where
     -- other shares lie apart
-    apart : (j : ℕ) (d : Slot) → j ≢ k → slice_get slots j ≡ Some d → (d.start + used d ≤ s.start) ⊎ (end_at slots n k ≤ d.start)
-    apart j d other there = by_order (cases_lt j k)
+    apart : (j : ℕ) (d : Slot) (g : Share) → j ≢ k → slice_get slots j ≡ Some d → slice_get shares j ≡ Some g → (g.start + used d ≤ h.start) ⊎ (end_at shares n k ≤ g.start)
+    apart j d g other there begins = by_order (cases_lt j k)
       where
-        by_order : (j < k) ⊎ (k ≤ j) → (d.start + used d ≤ s.start) ⊎ (end_at slots n k ≤ d.start)
-        by_order (inl h) =
+        by_order : (j < k) ⊎ (k ≤ j) → (g.start + used d ≤ h.start) ⊎ (end_at shares n k ≤ g.start)
+        by_order (inl l) =
             let e : k ≡ j + 1 + (k - (j + 1)) = omega arith in
-            let b = ends_before (k - (j + 1)) j s (ap (slice_get slots) (sym e) ∙ at) in
-            let l = laid j d there in
-            inl (omega (arith, l.0, b))
-        by_order (inr h) =
+            let b = ends_before (k - (j + 1)) j s h (ap (slice_get slots) (sym e) ∙ at) (ap (slice_get shares) (sym e) ∙ here) in
+            let fits = fits_in shares n j d g (laid j d there) begins in
+            inl (omega (arith, fits, b))
+        by_order (inr l) =
             let less : k < j = by_apart (cases_lt k j) in
             let e : j ≡ k + 1 + (j - (k + 1)) = omega arith in
-            inr (ends_before (j - (k + 1)) k d (ap (slice_get slots) (sym e) ∙ there))
+            inr (ends_before (j - (k + 1)) k d g (ap (slice_get slots) (sym e) ∙ there) (ap (slice_get shares) (sym e) ∙ begins))
           where
             by_apart : (k < j) ⊎ (j ≤ k) → k < j
-            by_apart (inl l) = l
-            by_apart (inr l) = absurd (other (omega arith))
+            by_apart (inl m) = m
+            by_apart (inr m) = absurd (other (omega arith))
 
     -- where the share alone was written, the others hold what they held
-    others_hold : (values ys : List ℕ) → length values ≡ n → length ys ≡ end_at slots n k - s.start → (j : ℕ) (d : Slot) → j ≢ k → slice_get slots j ≡ Some d
-        → held_of (put_mid s.start (end_at slots n k - s.start) values ys) d ≡ held_of values d
+    others_hold : (values ys : List ℕ) → length values ≡ n → length ys ≡ end_at shares n k - h.start → (j : ℕ) (d : Whole) → j ≢ k → whole_at slots shares j ≡ Some d
+        → held_of (put_mid h.start (end_at shares n k - h.start) values ys) d ≡ held_of values d
     others_hold values ys long same j d other there =
+        let p = parts_of slots shares j d there in
+        let fits = fits_in shares n k s h (laid k s at) here in
         let l = laid k s at in
-        let low = l.0 in let high = l.1 in
-        ap (held_by d.state d.len) (reads_same d.start (used d) s.start (end_at slots n k - s.start) values ys (omega (arith, low, high)) same (by_apart (apart j d other there)))
+        let high = l.within in
+        ap (held_of (put_mid h.start (end_at shares n k - h.start) values ys)) (sym p.4)
+        ∙ ap (held_by p.0.state p.0.len) (reads_same p.1.start (used p.0) h.start (end_at shares n k - h.start) values ys (omega (arith, fits, high)) same (by_apart (apart j p.0 p.1 other p.2 p.3)))
+        ∙ ap (held_of values) p.4
       where
-        by_apart : (d.start + used d ≤ s.start) ⊎ (end_at slots n k ≤ d.start) → (d.start + used d ≤ s.start) ⊎ (s.start + (end_at slots n k - s.start) ≤ d.start)
-        by_apart (inl h) = inl h
-        by_apart (inr h) = let l = laid k s at in let low = l.0 in inr (omega (arith, low))
+        by_apart : {a b : ℕ} → (a ≤ h.start) ⊎ (end_at shares n k ≤ b) → (a ≤ h.start) ⊎ (h.start + (end_at shares n k - h.start) ≤ b)
+        by_apart (inl l) = inl l
+        by_apart (inr l) = let fits = fits_in shares n k s h (laid k s at) here in inr (omega (arith, fits, l))
 
-    -- the share was written, and its slot with it
-    pub share_changes : (s' : Slot) (values ys : List ℕ) (f : Kept → Kept) → s'.start ≡ s.start → length values ≡ n → length ys ≡ end_at slots n k - s.start
-        → kept_with (put_mid s.start (end_at slots n k - s.start) values ys) (end_at slots n k) s' ≡ f (kept_with values (end_at slots n k) s)
-        → ChangesAt k f values slots (put_mid s.start (end_at slots n k - s.start) values ys) (slice_set slots k s')
-    share_changes s' values ys f start long same one =
+    -- the bytes were written, and the slot with them
+    pub share_changes : (s' : Slot) (values ys : List ℕ) (f : Kept → Kept) → length values ≡ n → length ys ≡ end_at shares n k - h.start
+        → kept_with (put_mid h.start (end_at shares n k - h.start) values ys) (end_at shares n k) (whole s' h) ≡ f (kept_with values (end_at shares n k) (whole s h))
+        → ChangesAt k f values slots shares (put_mid h.start (end_at shares n k - h.start) values ys) (slice_set slots k s') shares
+    share_changes s' values ys f long same one =
+        let fits = fits_in shares n k s h (laid k s at) here in
         let l = laid k s at in
-        let low = l.0 in let high = l.1 in
-        let whole = put_mid s.start (end_at slots n k - s.start) values ys in
-        let size : length whole ≡ length values = length-put_mid s.start (end_at slots n k - s.start) values ys (omega (arith, low, high)) same in
-        changes slots k s s' at start values whole f size (rw long one) (λ j d e there. others_hold values ys long same j d e there)
+        let high = l.within in
+        let bytes = put_mid h.start (end_at shares n k - h.start) values ys in
+        let size : length bytes ≡ length values = length-put_mid h.start (end_at shares n k - h.start) values ys (omega (arith, fits, high)) same in
+        changes slots (slice_set slots k s') shares shares k (whole s h) (whole s' h) (slot_written slots shares k s s' h at here) values bytes f size (rw long one) (λ j d e there. others_hold values ys long same j d e there)
 
 -- ---- what is kept of the code
 
--- what an index outside the slots would give in a proof
+-- what an index outside the slots, or the shares, would give in a proof
 abbrev pub blank : Slot
-blank = record { start = 0; len = 0; counts = []; state = state.Unset; chosen = false }
+blank = record { len = 0; state = state.Unset; chosen = false }
+
+abbrev pub blank_share : Share
+blank_share = record { start = 0; counts = [] }
 
 -- with another value
-abbrev kept_as : ℕ → Slot → Held → Kept
+abbrev kept_as : ℕ → Whole → Held → Kept
 kept_as end s h = record { held = h; counts = s.counts; chosen = s.chosen; room = end - s.start }
 
 -- what is read of a written part
 part_read : (start end m : ℕ) (values ys : List ℕ) → start + m ≤ end → end ≤ length values → length ys ≡ end - start → take m (drop start (put_mid start (end - start) values ys)) ≡ take m ys
 part_read start end m values ys fits most same =
-    let whole = put_mid start (end - start) values ys in
-    let part : take (end - start) (drop start whole) ≡ ys = between-put_mid start (end - start) values ys end (omega arith) same in
-    sym (take-take m (end - start) (drop start whole) (omega arith)) ∙ ap (take m) part
+    let bytes = put_mid start (end - start) values ys in
+    let part : take (end - start) (drop start bytes) ≡ ys = between-put_mid start (end - start) values ys end (omega arith) same in
+    sym (take-take m (end - start) (drop start bytes) (omega arith)) ∙ ap (take m) part
 
 pub text_fits : (f : Form) (n room : ℕ) → 0 < n → room_for f n ≤ room → fits f n room ≡ true
 text_fits f n room some most = rw (lt-ltb 0 n some, le-leb (room_for f n) room most) refl
@@ -247,21 +365,29 @@ pub vector_room : (n : ℕ) → n ≢ 1 → room_for form.Vector n ≡ bytes_for
 vector_room n h = ap (λ (b : Bool). cond b 0 (bytes_for n)) (ne_eqb n 1 h)
 
 -- where the text does not fit, its value stays
-pub kept_still : (f : Form) (text values : List ℕ) (end : ℕ) (s : Slot) → fits f (length text) (end - s.start) ≡ false → kept_with values end s ≡ with_text f text (kept_with values end s)
+pub kept_still : (f : Form) (text values : List ℕ) (end : ℕ) (s : Whole) → fits f (length text) (end - s.start) ≡ false → kept_with values end s ≡ with_text f text (kept_with values end s)
 kept_still f text values end s out = sym (ap (λ (b : Bool). kept_as end s (cond b (held_as f text) (held_of values s))) out)
 
--- the slot of a code whose value was set in its share
-abbrev pub set_slot : State → ℕ → Slot → Slot
-set_slot st len s = record { state = st; start = s.start; len = len; counts = s.counts; chosen = s.chosen }
+pub text_stays : (values : List ℕ) (slots : List Slot) (shares : List Share) (k : ℕ) (s : Slot) (h : Share) (f : Form) (text : List ℕ) → slice_get slots k ≡ Some s → slice_get shares k ≡ Some h → fits f (length text) (end_at shares (length values) k - h.start) ≡ false → ChangesAt k (with_text f text) values slots shares values slots shares
+text_stays values slots shares k s h f text at there out = already_so values slots shares k (whole s h) (with_text f text) (whole_is slots shares k s h at there) (kept_still f text values (end_at shares (length values) k) (whole s h) out)
+
+-- a share lies within the values
+pub not_outside : (start used end n : ℕ) → start + used ≤ end → end ≤ n → (end < start) ⊎ ((start ≤ end) × (n < end)) → ⊥
+not_outside start used end n low high (inl h) = omega arith
+not_outside start used end n low high (inr h) = let past = h.1 in omega (arith, high, past)
+
+-- the slot and the share of a code whose value was set
+abbrev pub set_whole : State → ℕ → Whole → Whole
+set_whole st len s = record { state = st; start = s.start; len = len; counts = s.counts; chosen = s.chosen }
 
 -- the digits that were packed lie in the bytes that are in use
 pub packed_held : (ys text : List ℕ) → digits_in (length text) ys ≡ map held_digit text → held_by state.Digits (length text) (take (used_by state.Digits (length text)) ys) ≡ Held.Digits (map held_digit text)
 packed_held ys text packed = ap (λ (l : List ℕ). Held.Digits l) (digits_first (length text) ys ∙ packed)
 
 -- the digits that were put in the share
-pub digits_kept : (st : State) (s : Slot) (end : ℕ) (values ys text : List ℕ) → length text ≢ 1 → 0 < length text → s.start + bytes_for (length text) ≤ end → s.start + used_by st (length text) ≤ end → end ≤ length values → length ys ≡ end - s.start
+pub digits_kept : (st : State) (s : Whole) (end : ℕ) (values ys text : List ℕ) → length text ≢ 1 → 0 < length text → s.start + bytes_for (length text) ≤ end → s.start + used_by st (length text) ≤ end → end ≤ length values → length ys ≡ end - s.start
     → held_by st (length text) (take (used_by st (length text)) ys) ≡ Held.Digits (map held_digit text)
-    → kept_with (put_mid s.start (end - s.start) values ys) end (set_slot st (length text) s) ≡ with_text form.Vector text (kept_with values end s)
+    → kept_with (put_mid s.start (end - s.start) values ys) end (set_whole st (length text) s) ≡ with_text form.Vector text (kept_with values end s)
 digits_kept st s end values ys text several some enough within most same held =
     let n = length text in
     let read = part_read s.start end (used_by st n) values ys within most same in
@@ -272,8 +398,8 @@ digits_kept st s end values ys text several some enough within most same held =
     ∙ sym (ap (λ (b : Bool). kept_as end s (cond b (Held.Digits (map held_digit text)) (held_of values s))) yes)
 
 -- the text that was copied
-pub text_kept : (s : Slot) (end : ℕ) (values ys text : List ℕ) → 0 < length text → s.start + length text ≤ end → end ≤ length values → length ys ≡ end - s.start → take (length text) ys ≡ text
-    → kept_with (put_mid s.start (end - s.start) values ys) end (set_slot state.Real (length text) s) ≡ with_text form.RealText text (kept_with values end s)
+pub text_kept : (s : Whole) (end : ℕ) (values ys text : List ℕ) → 0 < length text → s.start + length text ≤ end → end ≤ length values → length ys ≡ end - s.start → take (length text) ys ≡ text
+    → kept_with (put_mid s.start (end - s.start) values ys) end (set_whole state.Real (length text) s) ≡ with_text form.RealText text (kept_with values end s)
 text_kept s end values ys text some within most same copied =
     let n = length text in
     let yes = text_fits form.RealText n (end - s.start) some (omega (arith, within)) in
@@ -304,8 +430,8 @@ used_none state.Bits len d h = cc
 used_none state.Real len d h = cc
 
 -- one digit is held in the slot
-pub digit_kept : (st : State) (s : Slot) (d end : ℕ) (values : List ℕ) → one_digit st ≡ Some d → kept_with values end (set_slot st s.len s) ≡ with_held (Held.Digits (d ∷ [])) (kept_with values end s)
-digit_kept st s d end values h = ap (λ (x : Held). kept_as end s x) (held_one st s.len d (take (used (set_slot st s.len s)) (drop s.start values)) h)
+pub digit_kept : (st : State) (s : Whole) (d end : ℕ) (values : List ℕ) → one_digit st ≡ Some d → kept_with values end (set_whole st s.len s) ≡ with_held (Held.Digits (d ∷ [])) (kept_with values end s)
+digit_kept st s d end values h = ap (λ (x : Held). kept_as end s x) (held_one st s.len d (take (used_by st s.len) (drop s.start values)) h)
 
 -- a text of one digit
 pub alone : (text : List ℕ) → 1 ≤ length text → length text < 2 → get_or text 0 0 ∷ [] ≡ text
@@ -314,10 +440,10 @@ alone (a ∷ []) h k = refl
 alone (a ∷ b ∷ text) h k = absurd (omega arith)
 
 -- with other counters
-pub counts_kept : (s : Slot) (counts : List ℕ) (which end : ℕ) (values : List ℕ) → counts ≡ counts_with s.counts which → kept_with values end (record { state = s.state; start = s.start; len = s.len; counts = counts; chosen = s.chosen }) ≡ one_more which (kept_with values end s)
+pub counts_kept : (s : Whole) (counts : List ℕ) (which end : ℕ) (values : List ℕ) → counts ≡ counts_with s.counts which → kept_with values end (record { state = s.state; start = s.start; len = s.len; counts = counts; chosen = s.chosen }) ≡ one_more which (kept_with values end s)
 counts_kept s counts which end values e = rw e refl
 
-pub steps_kept : (s : Slot) (counts : List ℕ) (rises falls : Bool) (end : ℕ) (values : List ℕ) → counts ≡ counts_if falls (counts_if rises (counts_with s.counts 0) 1) 2
+pub steps_kept : (s : Whole) (counts : List ℕ) (rises falls : Bool) (end : ℕ) (values : List ℕ) → counts ≡ counts_if falls (counts_if rises (counts_with s.counts 0) 1) 2
     → kept_with values end (record { state = s.state; start = s.start; len = s.len; counts = counts; chosen = s.chosen }) ≡ with_step rises falls (kept_with values end s)
 steps_kept s counts rises falls end values e = rw e refl
 

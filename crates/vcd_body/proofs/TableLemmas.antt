@@ -1,9 +1,9 @@
 -- The value of a code of a view, as the table has it.
-use Rattle.std.proofs.Common.{◌≡◌, ◌≢◌, [], ◌<◌, ◌==◌, ◌||◌, Bool, false, cond, ◌⊎◌, inl, inr, ℕ, ◌+◌, arith, List, slice_get, Option, Some, None, refl, sym, ap, ◌∙◌}
-use Rattle.std.specs.Prelude.{option_map, option_and_then, unwrap_or, length, map, slice_range, ◌∷◌, sum_by}
+use Rattle.std.proofs.Common.{Bor, ◌≡◌, ◌≢◌, [], ◌<◌, ◌≤◌, ◌==◌, ◌||◌, Bool, true, false, cond, ◌⊎◌, inl, inr, ℕ, ◌+◌, arith, List, slice_get, Option, Some, None, refl, sym, ap, ◌∙◌}
+use Rattle.std.specs.Prelude.{IfSome, option_map, option_and_then, unwrap_or, length, map, slice_range, ◌∷◌, sum_by}
 use Rattle.std.specs.List.{AllZip}
 use Rattle.std.proofs.lemmas.List.Sums.{sum_by-cons}
-use Rattle.std.proofs.lemmas.Option.{slice_get-map}
+use Rattle.std.proofs.lemmas.Option.{slice_get-map, slice_get_within}
 use Rattle.vcd_model.specs.Bound.{value_room}
 use Rattle.vcd_model.specs.Cut.{line_if_set}
 use Rattle.vcd_model.specs.Declarations.{IdCode}
@@ -12,19 +12,51 @@ use Rattle.vcd_view.specs.Shown.{text_in}
 use Rattle.vcd_view.specs.Views.{IsCode, IsViewOf}
 use Rattle.vcd_view.specs.declared.view.Code.{Code}
 use Rattle.vcd_view.specs.declared.view.HeadView.{HeadView}
-use Rattle.vcd_body.specs.Contents.{ChangesCode, codes_in, codes_shown, held_at, is_chosen, kept_at, line_of, shown_code, value_in}
+use Rattle.vcd_body.specs.Contents.{ChangesCode, IsLaidOut, codes_in, codes_shown, held_at, is_chosen, kept_at, line_of, shown_code, value_in}
 use Rattle.vcd_body.specs.Kept.{Held, Kept, as_chosen, value_at_size}
-use Rattle.vcd_body.specs.Stored.{end_at, held_of, kept_with, room_of, share_of}
+use Rattle.vcd_body.specs.Stored.{Whole, end_at, held_from, kept_with, room_of, share_of, some_by, start_in, start_or, used, whole}
+use denote.Enum.Bare.{sameb}
+use Rattle.vcd_body.specs.contracts.slot.State.{the_type}
 use Rattle.vcd_body.specs.declared.slot.Slot.{Slot}
+use Rattle.vcd_body.specs.declared.slot.State.{State}
+use Rattle.vcd_body.specs.declared.slot.State.TheVariants as state
 use Rattle.vcd_body.specs.declared.table.Table.{Table}
-use Rattle.vcd_body.proofs.StoreLemmas.{same_or_not, some_at}
+use Rattle.vcd_body.proofs.StoreLemmas.{no_slot, same_or_not, some_at, whole_is}
 use Rattle.std.proofs.lemmas.Bool.{eq-eqb, le-leb, ne_eqb}
 
-pub held_there : (t : Table) (code : ℕ) (s : Slot) → slice_get t.slots.now code ≡ Some s → held_at t code ≡ held_of t.values.now s
-held_there t code s at = ap (λ (o : Option Slot). unwrap_or (option_map (λ (k : Kept). k.held) (option_map (kept_with t.values.now (end_at t.slots.now (length t.values.now) code)) o)) Held.Unset) at
+pub held_there : (t : Table) (code : ℕ) (s : Slot) → IsLaidOut t → slice_get t.slots.now code ≡ Some s → held_at t code ≡ held_from t.values.now (start_in t.shares.now code) s
+held_there t code s laid at =
+    let l = laid code s at in
+    ap (λ (o : Option Whole). unwrap_or (option_map (λ (k : Kept). k.held) (option_map (kept_with t.values.now (end_at t.shares.now (length t.values.now) code)) o)) Held.Unset) (whole_is t.slots.now t.shares.now code s l.share at l.there)
+    ∙ ap (λ n. held_from t.values.now n s) (sym (ap (start_or 0) l.there))
+
+-- its share lies within the values
+pub share_there : (t : Table) (code : ℕ) (s : Slot) → IsLaidOut t → slice_get t.slots.now code ≡ Some s → (code < length t.shares.now) × (start_in t.shares.now code + used s ≤ length t.values.now) × (1 ≤ some_by s.state s.len)
+share_there t code s laid at =
+    let l = laid code s at in
+    let start = ap (start_or 0) l.there in
+    let low = l.fits in
+    let high = l.within in
+    (slice_get_within t.shares.now code l.share l.there, omega (arith, start, low, high), l.some)
+
+-- the text of a real number that is read in its share
+pub is_real : (st : State) → true ≡ sameb the_type st state.Real → st ≡ state.Real
+is_real state.Unset h = cc
+is_real state.Zero h = cc
+is_real state.One h = cc
+is_real state.Unknown h = cc
+is_real state.High h = cc
+is_real state.Plain h = cc
+is_real state.Digits h = cc
+is_real state.Bits h = cc
+is_real state.Real h = refl
+
+pub text_there : (o : Option (Bor (List ℕ))) (d : Bor (List ℕ)) (text : List ℕ) → IfSome o (λ share. share.now ≡ text) → o ≢ None → (unwrap_or o d).now ≡ text
+text_there None d text is there = absurd (there refl)
+text_there (Some share) d text is there = is
 
 pub held_nowhere : (t : Table) (code : ℕ) → slice_get t.slots.now code ≡ None → held_at t code ≡ Held.Unset
-held_nowhere t code at = ap (λ (o : Option Slot). unwrap_or (option_map (λ (k : Kept). k.held) (option_map (kept_with t.values.now (end_at t.slots.now (length t.values.now) code)) o)) Held.Unset) at
+held_nowhere t code at = ap (λ (o : Option Whole). unwrap_or (option_map (λ (k : Kept). k.held) (option_map (kept_with t.values.now (end_at t.shares.now (length t.values.now) code)) o)) Held.Unset) (no_slot t.slots.now t.shares.now code at)
 
 pub code_there : (v : HeadView) (code : ℕ) (c : Code) → slice_get v.codes.now code ≡ Some c → slice_get (codes_shown v) code ≡ Some (shown_code v.text.now c)
 code_there v code c at = slice_get-map (shown_code v.text.now) v.codes.now code ∙ ap (option_map (shown_code v.text.now)) at
@@ -32,14 +64,14 @@ code_there v code c at = slice_get-map (shown_code v.text.now) v.codes.now code 
 pub code_nowhere : (v : HeadView) (code : ℕ) → slice_get v.codes.now code ≡ None → slice_get (codes_shown v) code ≡ None
 code_nowhere v code at = slice_get-map (shown_code v.text.now) v.codes.now code ∙ ap (option_map (shown_code v.text.now)) at
 
-pub value_there : (v : HeadView) (t : Table) (code : ℕ) (c : Code) (s : Slot) → slice_get v.codes.now code ≡ Some c → slice_get t.slots.now code ≡ Some s → value_in (codes_shown v) t code ≡ value_at_size c.size (held_of t.values.now s)
-value_there v t code c s e at =
-    ap (option_and_then (λ (x : IdCode). value_at_size x.size (held_at t code))) (code_there v code c e) ∙ ap (value_at_size c.size) (held_there t code s at)
+pub value_there : (v : HeadView) (t : Table) (code : ℕ) (c : Code) (s : Slot) → IsLaidOut t → slice_get v.codes.now code ≡ Some c → slice_get t.slots.now code ≡ Some s → value_in (codes_shown v) t code ≡ value_at_size c.size (held_from t.values.now (start_in t.shares.now code) s)
+value_there v t code c s laid e at =
+    ap (option_and_then (λ (x : IdCode). value_at_size x.size (held_at t code))) (code_there v code c e) ∙ ap (value_at_size c.size) (held_there t code s laid at)
 
-pub line_there : (v : HeadView) (t : Table) (code : ℕ) (c : Code) (s : Slot) → slice_get v.codes.now code ≡ Some c → slice_get t.slots.now code ≡ Some s → line_of (codes_shown v) t code ≡ line_if_set (shown_code v.text.now c) (value_at_size c.size (held_of t.values.now s))
-line_there v t code c s e at =
+pub line_there : (v : HeadView) (t : Table) (code : ℕ) (c : Code) (s : Slot) → IsLaidOut t → slice_get v.codes.now code ≡ Some c → slice_get t.slots.now code ≡ Some s → line_of (codes_shown v) t code ≡ line_if_set (shown_code v.text.now c) (value_at_size c.size (held_from t.values.now (start_in t.shares.now code) s))
+line_there v t code c s laid e at =
     ap (λ (o : Option IdCode). unwrap_or (option_map (λ (x : IdCode). line_if_set x (value_in (codes_shown v) t code)) o) []) (code_there v code c e)
-    ∙ ap (line_if_set (shown_code v.text.now c)) (value_there v t code c s e at)
+    ∙ ap (line_if_set (shown_code v.text.now c)) (value_there v t code c s laid e at)
 
 -- of what is no code's there is no value
 pub value_nowhere : (v : HeadView) (t : Table) (code : ℕ) → slice_get v.codes.now code ≡ None → value_in (codes_shown v) t code ≡ None
@@ -63,7 +95,9 @@ chosen_after old new code within changed other = by_place (same_or_not other cod
     by_place (inl e) =
         let test = eq-eqb other code e in
         let s = some_at old.slots.now other (omega (arith, e, within)) in
-        let was : kept_at old other ≡ Some (kept_with old.values.now (end_at old.slots.now (length old.values.now) other) s.0) = ap (option_map (kept_with old.values.now (end_at old.slots.now (length old.values.now) other))) s.1 in
+        let h = some_at old.shares.now other (omega (arith, e, within)) in
+        let end = end_at old.shares.now (length old.values.now) other in
+        let was : kept_at old other ≡ Some (kept_with old.values.now end (whole s.0 h.0)) = ap (option_map (kept_with old.values.now end)) (whole_is old.slots.now old.shares.now other s.0 h.0 s.1 h.1) in
         ap choice (changed other)
         ∙ ap (λ (b : Bool). choice (cond b (option_map as_chosen (kept_at old other)) (kept_at old other))) test
         ∙ ap (λ (o : Option Kept). choice (option_map as_chosen o)) was

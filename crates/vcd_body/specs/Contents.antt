@@ -1,5 +1,5 @@
 -- What a table keeps of the codes, as a map from a code's place.
-use Rattle.std.specs.Prelude.{ℕ, ◌+◌, ◌-◌, Bool, false, List, [], ◌∷◌, length, map, unwrap_or, option_map, option_and_then, slice_get, Option}
+use Rattle.std.specs.Prelude.{ℕ, ◌+◌, ◌-◌, min, Bool, false, List, [], ◌∷◌, length, map, unwrap_or, option_map, option_and_then, slice_get, Option}
 use Rattle.vcd_model.specs.Cut.{line_if_set}
 use Rattle.vcd_model.specs.Declarations.{IdCode}
 use Rattle.vcd_model.specs.Values.{Value}
@@ -14,7 +14,7 @@ use Rattle.vcd_body.specs.declared.table.Table.{Table}
 
 -- how many codes it has places for
 abbrev pub codes_in : Table → ℕ
-codes_in t = length t.slots.now
+codes_in t = min (length t.slots.now) (length t.shares.now)
 
 -- how many bytes of values it works with
 abbrev pub bytes_in : Table → ℕ
@@ -22,15 +22,15 @@ bytes_in t = length t.values.now
 
 -- each code has a share of its own, large enough for what it holds: so it is of every table that `new` made, after any calls
 abbrev pub IsLaidOut : Table → Type 0
-IsLaidOut t = AreLaidOut t.slots.now (length t.values.now)
+IsLaidOut t = AreLaidOut t.slots.now t.shares.now (length t.values.now)
 
 -- what is kept of the code at a place, none where there is no code
 abbrev pub kept_at : Table → ℕ → Option Kept
-kept_at t code = kept_in t.values.now t.slots.now code
+kept_at t code = kept_in t.values.now t.slots.now t.shares.now code
 
 -- a call changes what is kept of the code at a place, and nothing else; where there is no code it changes nothing
 abbrev pub ChangesCode : ℕ → (Kept → Kept) → Table → Table → Type 0
-ChangesCode code f old new = ChangesAt code f old.values.now old.slots.now new.values.now new.slots.now
+ChangesCode code f old new = ChangesAt code f old.values.now old.slots.now old.shares.now new.values.now new.slots.now new.shares.now
 
 -- the value of the code at a place, as it was last written
 abbrev pub held_at : Table → ℕ → Held

@@ -1,11 +1,12 @@
--- How a table keeps it: a slot for each code, and a share of the bytes of values.
-use Rattle.std.specs.Prelude.{◌≡◌, ℕ, ◌+◌, ◌-◌, ◌≤◌, ◌==◌, min, max, cond, List, [], ◌∷◌, ◌++◌, length, take, drop, map, sum_by, false, slice_get, Option, Some, None, option_map}
+-- How a table keeps it: a slot for each code, its counters, and a share of the bytes of values.
+use Rattle.std.specs.Prelude.{◌≡◌, ℕ, ◌+◌, ◌-◌, ◌≤◌, ◌==◌, min, max, cond, List, [], ◌∷◌, ◌++◌, length, take, drop, map, sum_by, Bool, false, slice_get, Option, Some, None, option_map, option_and_then}
 use Rattle.std.specs.Str.{byte}
 use Rattle.vcd_view.specs.declared.view.Code.{Code}
 use Rattle.vcd_body.specs.Kept.{Held, Kept, bytes_for}
 use Rattle.vcd_model.specs.Values.{extend, short}
 use Rattle.vcd_body.specs.Binary.{binary_digits, count_in, is_proper, number_in}
 use Rattle.vcd_body.specs.Packed.{digits_in, held_digit}
+use Rattle.vcd_body.specs.declared.slot.Share.{Share}
 use Rattle.vcd_body.specs.declared.slot.Slot.{Slot}
 use Rattle.vcd_body.specs.declared.slot.State.{State}
 use Rattle.vcd_body.specs.declared.slot.State.TheVariants as state
@@ -66,28 +67,49 @@ digits_with s bytes = digits_held (held_with s bytes)
 abbrev pub held_line : ℕ → List ℕ → List ℕ → List ℕ
 held_line size ds id = cond (size == 1) (ds ++ (id ++ 10 ∷ [])) (byte "b" ∷ short (extend ds size) ++ (byte " " ∷ id ++ 10 ∷ []))
 
-abbrev pub held_of : List ℕ → Slot → Held
-held_of values s = held_by s.state s.len (take (used s) (drop s.start values))
+-- a slot and its share as one
+pub record Whole : Type 0 where
+  pub state : State
+  pub len : ℕ
+  pub start : ℕ
+  pub counts : List ℕ
+  pub chosen : Bool
 
--- where the share at a place ends: where the next begins, or where the values end
-abbrev pub start_or : ℕ → Option Slot → ℕ
+abbrev pub whole : Slot → Share → Whole
+whole s h = record { state = s.state; len = s.len; start = h.start; counts = h.counts; chosen = s.chosen }
+
+abbrev pub whole_at : List Slot → List Share → ℕ → Option Whole
+whole_at slots shares code = option_and_then (λ (s : Slot). option_map (whole s) (slice_get shares code)) (slice_get slots code)
+
+-- what is held in a share that begins here
+abbrev pub held_from : List ℕ → ℕ → Slot → Held
+held_from values start s = held_by s.state s.len (take (used s) (drop start values))
+
+abbrev pub held_of : List ℕ → Whole → Held
+held_of values w = held_by w.state w.len (take (used_by w.state w.len) (drop w.start values))
+
+-- where the share at a place begins, and where it ends: where the next begins, or where the values end
+abbrev pub start_or : ℕ → Option Share → ℕ
 start_or n None = n
-start_or n (Some s) = s.start
+start_or n (Some h) = h.start
 
-abbrev pub end_at : List Slot → ℕ → ℕ → ℕ
-end_at slots n code = start_or n (slice_get slots (code + 1))
+abbrev pub start_in : List Share → ℕ → ℕ
+start_in shares code = start_or 0 (slice_get shares code)
+
+abbrev pub end_at : List Share → ℕ → ℕ → ℕ
+end_at shares n code = start_or n (slice_get shares (code + 1))
 
 -- what is kept of a code, whose share ends here
-abbrev pub kept_with : List ℕ → ℕ → Slot → Kept
-kept_with values end s = record { held = held_of values s; counts = s.counts; chosen = s.chosen; room = end - s.start }
+abbrev pub kept_with : List ℕ → ℕ → Whole → Kept
+kept_with values end w = record { held = held_of values w; counts = w.counts; chosen = w.chosen; room = end - w.start }
 
 -- what is kept of the code at a place
-abbrev pub kept_in : List ℕ → List Slot → ℕ → Option Kept
-kept_in values slots code = option_map (kept_with values (end_at slots (length values) code)) (slice_get slots code)
+abbrev pub kept_in : List ℕ → List Slot → List Share → ℕ → Option Kept
+kept_in values slots shares code = option_map (kept_with values (end_at shares (length values) code)) (whole_at slots shares code)
 
 -- of the code at a place is kept what f makes of it, and of the others what was kept
-abbrev pub ChangesAt : ℕ → (Kept → Kept) → List ℕ → List Slot → List ℕ → List Slot → Type 0
-ChangesAt code f values slots values' slots' = (place : ℕ) → kept_in values' slots' place ≡ cond (place == code) (option_map f (kept_in values slots place)) (kept_in values slots place)
+abbrev pub ChangesAt : ℕ → (Kept → Kept) → List ℕ → List Slot → List Share → List ℕ → List Slot → List Share → Type 0
+ChangesAt code f values slots shares values' slots' shares' = (place : ℕ) → kept_in values' slots' shares' place ≡ cond (place == code) (option_map f (kept_in values slots shares place)) (kept_in values slots shares place)
 
 -- several digits are one or more
 abbrev pub some_by : State → ℕ → ℕ
@@ -101,9 +123,16 @@ some_by state.Digits len = len
 some_by state.Bits len = cond (is_proper len) 1 0
 some_by state.Real len = 1
 
--- the shares follow one another, and each is large enough for what it holds
-abbrev pub AreLaidOut : List Slot → ℕ → Type 0
-AreLaidOut slots n = (k : ℕ) (s : Slot) → slice_get slots k ≡ Some s → (s.start + used s ≤ end_at slots n k) × (end_at slots n k ≤ n) × (1 ≤ some_by s.state s.len)
+-- each slot has a share; the shares follow one another, and each is large enough for what it holds
+pub record IsLaid (shares : List Share) (n k : ℕ) (s : Slot) : Type 0 where
+  pub share : Share
+  pub there : slice_get shares k ≡ Some share
+  pub fits : share.start + used s ≤ end_at shares n k
+  pub within : end_at shares n k ≤ n
+  pub some : 1 ≤ some_by s.state s.len
+
+abbrev pub AreLaidOut : List Slot → List Share → ℕ → Type 0
+AreLaidOut slots shares n = (k : ℕ) (s : Slot) → slice_get slots k ≡ Some s → IsLaid shares n k s
 
 -- ---- shares
 
@@ -120,8 +149,12 @@ abbrev pub start_of : List Code → ℕ → ℕ → ℕ
 start_of codes n k = min (room_of (take k codes)) n
 
 -- a code of which nothing is known
-abbrev pub unset_at : ℕ → Slot
-unset_at start = record { state = state.Unset; start = start; len = 0; counts = 0 ∷ 0 ∷ 0 ∷ []; chosen = false }
-
 abbrev pub IsUnset : Slot → Type 0
-IsUnset s = s ≡ unset_at 0
+IsUnset s = s ≡ record { state = state.Unset; len = 0; chosen = false }
+
+-- a share that begins here, of a code of which nothing was counted
+abbrev pub share_from : ℕ → Share
+share_from start = record { start = start; counts = 0 ∷ 0 ∷ 0 ∷ [] }
+
+abbrev pub IsUncounted : Share → Type 0
+IsUncounted h = h ≡ share_from 0

@@ -35,8 +35,8 @@
 //! - `item`, `fault`: `Item`, `Form`, `Section`, `Regs`; `BodyFault`
 //! - `answer`: `Done`, `More`, `Stop`: how a run over a body or several ends, and whether it goes on
 //! - `change`: `put_change`; `renamed`: `put_renamed_change`, `put_renamed_bits`; `lines`: `left_out`; `time_line`: `put_time`
-//! - `table`, `slot`: `Table`, `Shown`; `Slot`; `step`: `Step`, what became of a value that was set
-//! - `store`: slots and shares of the values, and how they are set; `packed`: digits in a share, a byte each or four to a byte
+//! - `table`, `slot`: `Table`, `Shown`; `Slot`, `Share`; `step`: `Step`, what became of a value that was set
+//! - `store`: slots, counters and shares of the values, and how they are set; `packed`: digits in a share, a byte each or four to a byte
 //! - `bits`: `Bits`, up to 32 binary digits as a number, and how a slot holds them
 //! - `held`, `held_text`: the digits of a held value, and how it is written; `compare`: whether a change gives another one
 //!
@@ -86,7 +86,7 @@ pub use item::{Form, Item, Regs, Section};
 pub use lines::{is_mark_line, left_out};
 pub use read::{change_text, next_item};
 pub use renamed::{put_renamed_bits, put_renamed_change};
-pub use slot::{Shown, Slot};
+pub use slot::{Share, Shown, Slot};
 pub use step::Step;
 pub use table::Table;
 pub use time_line::{put_time, put_time_unless};

@@ -4,13 +4,13 @@ ghost use Rattle.vcd_model.specs.Values.{Value, extend, value_with};
 ghost use Rattle.vcd_body.specs.Items.{model_form};
 ghost use Rattle.vcd_body.specs.Kept.{IsStep, bytes_for, goes_from, value_at_size, with_change};
 ghost use Rattle.vcd_body.specs.Packed.{digits_in, held_digit};
-ghost use Rattle.vcd_body.specs.Stored.{AreLaidOut, ChangesAt, held_of};
+ghost use Rattle.vcd_body.specs.Stored.{AreLaidOut, ChangesAt, held_from};
 
 use crate::item::Form;
 use crate::packed::{last_packed, packed_ends_differ, plain_ends_differ};
-use crate::slot::{Slot, State};
+use crate::slot::{Share, Slot, State};
 use crate::step::Step;
-use crate::store::{count_at, end_of, set_digits_in, slot_at};
+use crate::store::{count_at, end_of, set_digits_in};
 
 // The step from digits whose last one is 0 or 1 where a byte is, to those of a text that ends with this one, where they differ. It
 // takes no branches.
@@ -66,17 +66,17 @@ fn part_of(values: &[u8], start: usize, end: usize) -> Option<&[u8]>
     values.get(start..end)
 }
 
-// The step from several digits of a slot, whose share ends here, to those of a text, where the last 16 of both tell that they
+// The step from several digits of a slot, whose share begins and ends here, to those of a text, where the last 16 of both tell that they
 // differ. How they are held is asked once.
 #[inline(always)]
-fn step_told(values: &[u8], slot: Slot, end: usize, text: &[u8]) -> Option<Step>
+fn step_told(values: &[u8], slot: Slot, start: usize, end: usize, text: &[u8]) -> Option<Step>
     ensures many { IfSome result (λ _. 16 ≤ length text.now) }
     ensures differs { IfSome result (λ step. step.differs ≡ true) }
     ensures step { IfSome result (λ step. (size : ℕ)
-        → IsStep step (value_at_size size (held_of values.now slot))
+        → IsStep step (value_at_size size (held_from values.now start slot))
         (value_with size (model_form Form.Vector) text.now)) }
 {
-    let share = part_of(values, slot.start, end)?;
+    let share = part_of(values, start, end)?;
     match slot.state {
         State::Plain => plain_step(share.get(..slot.len)?, text),
         State::Digits => packed_step(share, slot.len, text),
@@ -87,22 +87,30 @@ fn step_told(values: &[u8], slot: Slot, end: usize, text: &[u8]) -> Option<Step>
 /// Sets the value of a code to several digits over several others, where the last 16 of both tell that it differs at each size, and
 /// counts the step. Returns whether it did; else nothing changes. Most that are set are so.
 #[inline(never)]
-pub(crate) fn change_at(slots: &mut [Slot], values: &mut [u8], code: usize, text: &[u8]) -> bool
-    ensures changes { result ≡ true → AreLaidOut slots.old (length values.old) → (size : ℕ)
-        → ChangesAt code (with_change size Form.Vector text.now) values.old slots.old values.new
-        slots.new }
-    ensures same { result ≡ false → (slots.new ≡ slots.old) × (values.new ≡ values.old) }
-    ensures laid { AreLaidOut slots.old (length values.old)
-        → AreLaidOut slots.new (length values.old) }
+pub(crate) fn change_at(
+    slots: &mut [Slot],
+    shares: &mut [Share],
+    values: &mut [u8],
+    code: usize,
+    text: &[u8],
+) -> bool
+    ensures changes { result ≡ true → AreLaidOut slots.old shares.old (length values.old)
+        → (size : ℕ) → ChangesAt code (with_change size Form.Vector text.now) values.old slots.old
+        shares.old values.new slots.new shares.new }
+    ensures same { result ≡ false → (slots.new ≡ slots.old) × (shares.new ≡ shares.old)
+        × (values.new ≡ values.old) }
+    ensures laid { AreLaidOut slots.old shares.old (length values.old)
+        → AreLaidOut slots.new shares.new (length values.old) }
 {
-    let Some(slot) = slot_at(slots, code) else {
+    if code >= slots.len() || code >= shares.len() {
+        return false;
+    }
+    let start = shares[code].start;
+    let end = end_of(shares, values.len(), code);
+    let Some(step) = step_told(values, slots[code], start, end, text) else {
         return false;
     };
-    let end = end_of(slots, values.len(), code);
-    let Some(step) = step_told(values, slot, end, text) else {
-        return false;
-    };
-    set_digits_in(slots, values, code, end, text);
-    count_at(slots, code, step.rises, step.falls);
+    set_digits_in(slots, shares, values, code, end, text);
+    count_at(shares, code, step.rises, step.falls);
     true
 }

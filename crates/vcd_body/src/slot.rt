@@ -1,7 +1,7 @@
 //! What is kept of a code.
 ghost use Rattle.std.specs.Prelude.{◌≡◌, cond};
 ghost use Rattle.vcd_body.specs.Packed.{held_digit};
-ghost use Rattle.vcd_body.specs.Stored.{IsUnset, one_digit, unset_at};
+ghost use Rattle.vcd_body.specs.Stored.{IsUncounted, IsUnset, one_digit, share_from};
 
 /// How the value of a code is held. Each digit has a state of its own, so that a value of one digit is in the slot alone.
 #[derive(Clone, Copy, PartialEq, Eq, Debug)]
@@ -26,16 +26,22 @@ pub(crate) enum State {
     Real,
 }
 
-/// What is kept of a code.
+/// What a change of a code looks at: how its value is held, and the value itself where it is short. It stands apart from what
+/// few changes look at, so that as many slots as can be lie in the first caches.
 #[derive(Clone, Copy, PartialEq, Eq, Debug)]
 pub struct Slot {
-    // Where its share of the values begins. It ends where the next one begins.
-    pub(crate) start: usize,
     // How many digits, or bytes of a text, are held in the share; or binary digits, as `bits` packs them.
     pub(crate) len: usize,
-    pub(crate) counts: [u64; 3],
     pub(crate) state: State,
     pub(crate) chosen: bool,
+}
+
+/// What else is kept of a code: its share of the bytes of values, and its counters.
+#[derive(Clone, Copy, PartialEq, Eq, Debug)]
+pub struct Share {
+    // Where the share begins. It ends where the next one begins.
+    pub(crate) start: usize,
+    pub(crate) counts: [u64; 3],
 }
 
 /// What the value of a code is.
@@ -50,23 +56,33 @@ pub enum Shown {
 }
 
 impl Slot {
-    /// Nothing is known of the code: it has no value, its counters are 0, and it is not chosen.
+    /// The code has no value, and is not chosen.
     pub fn new() -> Slot
         ensures { IsUnset result }
     {
-        Slot::at(0)
-    }
-
-    /// The same, with a share that begins here.
-    pub(crate) fn at(start: usize) -> Slot
-        ensures { result ≡ unset_at start }
-    {
         Slot {
-            start,
             len: 0,
-            counts: [0; 3],
             state: State::Unset,
             chosen: false,
+        }
+    }
+}
+
+impl Share {
+    /// Nothing was counted of the code.
+    pub fn new() -> Share
+        ensures { IsUncounted result }
+    {
+        Share::at(0)
+    }
+
+    /// The same, where its share of the bytes begins here.
+    pub(crate) fn at(start: usize) -> Share
+        ensures { result ≡ share_from start }
+    {
+        Share {
+            start,
+            counts: [0; 3],
         }
     }
 }

@@ -1,15 +1,15 @@
-// What is kept of each code, in lent slices: slots, and a share of the values for each.
+// What is kept of each code, in lent slices: a slot, counters, and a share of the values.
 ghost use Rattle.std.specs.Prelude.{◌≡◌, ◌≢◌, ◌⊎◌, ℕ, cond, max, not, ◌+◌, ◌-◌, ◌*◌, ◌<◌, ◌≤◌, ◌∷◌, [], List, true, false, length, take, drop, map, sum_by, IfSome, None, Some, slice_get, slice_index};
 ghost use Rattle.vcd_view.specs.declared.view.Code.{Code};
 ghost use Rattle.vcd_body.specs.Binary.{binary_digits, count_in, is_proper};
 ghost use Rattle.vcd_body.specs.Kept.{Held, as_chosen, one_more, counts_if, counts_with, with_change, with_held, with_step, with_text};
 ghost use Rattle.vcd_body.specs.Packed.{held_digit};
-ghost use Rattle.vcd_body.specs.Stored.{AreLaidOut, ChangesAt, end_at, held_by, kept_with, share_of, some_by, start_of, unset_at, used, used_by};
+ghost use Rattle.vcd_body.specs.Stored.{AreLaidOut, ChangesAt, IsUnset, end_at, held_by, kept_with, share_from, share_of, some_by, start_in, start_of, used, used_by, whole};
 
 use crate::bits::{Bits, is_number_step, is_proper, number_in, packed, put_digits};
 use crate::item::Form;
 use crate::packed::pack;
-use crate::slot::{Slot, State, bit_state, state_of};
+use crate::slot::{Share, Slot, State, bit_state, state_of};
 use crate::step::{is_bit_step, step_by_number};
 use vcd_view::Code;
 
@@ -23,11 +23,11 @@ pub(crate) fn slot_at(slots: &[Slot], code: usize) -> Option<Slot>
 
 /// Where the share of the code at a place ends.
 #[inline(always)]
-pub(crate) fn end_of(slots: &[Slot], values: usize, code: usize) -> usize
-    requires { code < length slots.now }
-    ensures { result ≡ end_at slots.now values code }
+pub(crate) fn end_of(shares: &[Share], values: usize, code: usize) -> usize
+    requires { code < length shares.now }
+    ensures { result ≡ end_at shares.now values code }
 {
-    match slots.get(code + 1) {
+    match shares.get(code + 1) {
         Some(next) => next.start,
         None => values,
     }
@@ -63,31 +63,40 @@ fn holds_some(slot: Slot) -> bool
     }
 }
 
-/// The bytes of its share that are in use. None where they would not lie within the values, or where the slot says that several
-/// digits are held, and how many is 0. No slot of a table that is laid out is so.
+/// The bytes that are in use of the share of the code that has this slot. None where there is no share, where they would not lie
+/// within the values, or where the slot says that several digits are held, and how many is 0. No code of a table that is laid out
+/// is so.
 #[inline(always)]
-pub(crate) fn share_in(values: &[u8], slot: Slot) -> Option<&[u8]>
+pub(crate) fn share_in<'a>(
+    values: &'a [u8],
+    shares: &[Share],
+    code: usize,
+    slot: Slot,
+) -> Option<&'a [u8]>
     ensures share { IfSome result
-        (λ share. share.now ≡ take (used slot) (drop slot.start values.now)) }
+        (λ share. share.now ≡ take (used slot) (drop (start_in shares.now code) values.now)) }
     ensures used { IfSome result (λ share. used slot ≤ length share.now) }
     ensures some { IfSome result (λ _. 1 ≤ some_by slot.state slot.len) }
-    ensures there { slot.start + used slot ≤ length values.now
+    ensures there { code < length shares.now
+        → start_in shares.now code + used slot ≤ length values.now
         → 1 ≤ some_by slot.state slot.len → result ≢ None }
 {
-    if !holds_some(slot) {
+    if code >= shares.len() || !holds_some(slot) {
         return None;
     }
-    let end = slot.start.checked_add(used_by(slot))?;
-    values.get(slot.start..end)
+    let start = shares[code].start;
+    let end = start.checked_add(used_by(slot))?;
+    values.get(start..end)
 }
 
 /// Sets the value of a code to one digit. Its share is left alone, and need not be looked at.
 #[inline(always)]
 fn set_digit(slots: &mut [Slot], code: usize, digit: u8)
-    ensures changes { (values : List ℕ)
-        → ChangesAt code (with_held (Held.Digits (held_digit digit ∷ []))) values slots.old
-        values slots.new }
-    ensures laid { (n : ℕ) → AreLaidOut slots.old n → AreLaidOut slots.new n }
+    ensures changes { (shares : List Share) (values : List ℕ)
+        → ChangesAt code (with_held (Held.Digits (held_digit digit ∷ []))) values slots.old shares
+        values slots.new shares }
+    ensures laid { (shares : List Share) (n : ℕ) → AreLaidOut slots.old shares n
+        → AreLaidOut slots.new shares n }
 {
     if code < slots.len() {
         slots[code].state = state_of(digit);
@@ -116,6 +125,7 @@ fn hold(share: &mut [u8], text: &[u8]) -> State
 #[inline(always)]
 pub(crate) fn set_digits_in(
     slots: &mut [Slot],
+    shares: &[Share],
     values: &mut [u8],
     code: usize,
     end: usize,
@@ -123,14 +133,15 @@ pub(crate) fn set_digits_in(
 )
     requires several { length text.now ≢ 1 }
     requires within { code < length slots.old }
-    requires end { end ≡ end_at slots.old (length values.old) code }
-    ensures changes { AreLaidOut slots.old (length values.old)
-        → ChangesAt code (with_text Form.Vector text.now) values.old slots.old
-        values.new slots.new }
-    ensures laid { AreLaidOut slots.old (length values.old)
-        → AreLaidOut slots.new (length values.old) }
+    requires shared { code < length shares.now }
+    requires end { end ≡ end_at shares.now (length values.old) code }
+    ensures changes { AreLaidOut slots.old shares.now (length values.old)
+        → ChangesAt code (with_text Form.Vector text.now) values.old slots.old shares.now
+        values.new slots.new shares.now }
+    ensures laid { AreLaidOut slots.old shares.now (length values.old)
+        → AreLaidOut slots.new shares.now (length values.old) }
 {
-    let start = slots[code].start;
+    let start = shares[code].start;
     if end < start || values.len() < end {
         return;
     }
@@ -145,39 +156,40 @@ pub(crate) fn set_digits_in(
 
 /// The same, wherever its share ends.
 #[inline(never)]
-fn set_digits(slots: &mut [Slot], values: &mut [u8], code: usize, text: &[u8])
+fn set_digits(slots: &mut [Slot], shares: &[Share], values: &mut [u8], code: usize, text: &[u8])
     requires several { length text.now ≢ 1 }
-    ensures changes { AreLaidOut slots.old (length values.old)
-        → ChangesAt code (with_text Form.Vector text.now) values.old slots.old
-        values.new slots.new }
-    ensures laid { AreLaidOut slots.old (length values.old)
-        → AreLaidOut slots.new (length values.old) }
+    ensures changes { AreLaidOut slots.old shares.now (length values.old)
+        → ChangesAt code (with_text Form.Vector text.now) values.old slots.old shares.now
+        values.new slots.new shares.now }
+    ensures laid { AreLaidOut slots.old shares.now (length values.old)
+        → AreLaidOut slots.new shares.now (length values.old) }
 {
-    if code < slots.len() {
-        let end = end_of(slots, values.len(), code);
-        set_digits_in(slots, values, code, end, text);
+    if code < slots.len() && code < shares.len() {
+        let end = end_of(shares, values.len(), code);
+        set_digits_in(slots, shares, values, code, end, text);
     }
 }
 
 /// Sets the value of a code to the text of a real number, where it fits its share.
-fn set_real(slots: &mut [Slot], values: &mut [u8], code: usize, text: &[u8])
-    ensures changes { AreLaidOut slots.old (length values.old)
-        → ChangesAt code (with_text Form.RealText text.now) values.old slots.old
-        values.new slots.new }
-    ensures laid { AreLaidOut slots.old (length values.old)
-        → AreLaidOut slots.new (length values.old) }
+fn set_real(slots: &mut [Slot], shares: &[Share], values: &mut [u8], code: usize, text: &[u8])
+    ensures changes { AreLaidOut slots.old shares.now (length values.old)
+        → ChangesAt code (with_text Form.RealText text.now) values.old slots.old shares.now
+        values.new slots.new shares.now }
+    ensures laid { AreLaidOut slots.old shares.now (length values.old)
+        → AreLaidOut slots.new shares.now (length values.old) }
 {
-    let Some(slot) = slot_at(slots, code) else {
-        return;
-    };
-    let end = end_of(slots, values.len(), code);
-    if end < slot.start || values.len() < end {
+    if code >= slots.len() || code >= shares.len() {
         return;
     }
-    if text.is_empty() || text.len() > end - slot.start {
+    let start = shares[code].start;
+    let end = end_of(shares, values.len(), code);
+    if end < start || values.len() < end {
         return;
     }
-    copy_front(&mut values[slot.start..end], text);
+    if text.is_empty() || text.len() > end - start {
+        return;
+    }
+    copy_front(&mut values[start..end], text);
     let slot = &mut slots[code];
     slot.state = State::Real;
     slot.len = text.len();
@@ -193,77 +205,101 @@ fn copy_front(to: &mut [u8], from: &[u8])
 
 /// Sets the value of a code to digits. Most changes are of one digit, and touch one slot alone.
 #[inline(always)]
-fn set_text(slots: &mut [Slot], values: &mut [u8], code: usize, text: &[u8])
-    ensures changes { AreLaidOut slots.old (length values.old)
-        → ChangesAt code (with_text Form.Vector text.now) values.old slots.old
-        values.new slots.new }
-    ensures laid { AreLaidOut slots.old (length values.old)
-        → AreLaidOut slots.new (length values.old) }
+fn set_text(slots: &mut [Slot], shares: &[Share], values: &mut [u8], code: usize, text: &[u8])
+    ensures changes { AreLaidOut slots.old shares.now (length values.old)
+        → ChangesAt code (with_text Form.Vector text.now) values.old slots.old shares.now
+        values.new slots.new shares.now }
+    ensures laid { AreLaidOut slots.old shares.now (length values.old)
+        → AreLaidOut slots.new shares.now (length values.old) }
 {
     match text {
         [digit] => set_digit(slots, code, *digit),
-        _ => set_digits(slots, values, code, text),
+        _ => set_digits(slots, shares, values, code, text),
     }
 }
 
 /// Sets the value of a code: digits, or the text of a real number.
 #[inline(always)]
-pub(crate) fn set_at(slots: &mut [Slot], values: &mut [u8], code: usize, form: Form, text: &[u8])
-    ensures changes { AreLaidOut slots.old (length values.old)
-        → ChangesAt code (with_text form text.now) values.old slots.old
-        values.new slots.new }
-    ensures laid { AreLaidOut slots.old (length values.old)
-        → AreLaidOut slots.new (length values.old) }
+pub(crate) fn set_at(
+    slots: &mut [Slot],
+    shares: &[Share],
+    values: &mut [u8],
+    code: usize,
+    form: Form,
+    text: &[u8],
+)
+    ensures changes { AreLaidOut slots.old shares.now (length values.old)
+        → ChangesAt code (with_text form text.now) values.old slots.old shares.now
+        values.new slots.new shares.now }
+    ensures laid { AreLaidOut slots.old shares.now (length values.old)
+        → AreLaidOut slots.new shares.now (length values.old) }
 {
     match form {
-        Form::RealText => set_real(slots, values, code, text),
-        Form::Scalar => set_text(slots, values, code, text),
-        Form::Vector => set_text(slots, values, code, text),
+        Form::RealText => set_real(slots, shares, values, code, text),
+        Form::Scalar => set_text(slots, shares, values, code, text),
+        Form::Vector => set_text(slots, shares, values, code, text),
+    }
+}
+
+/// How many bytes the share of a code has.
+#[inline(always)]
+fn room_at(shares: &[Share], values: usize, code: usize) -> usize
+    ensures { result ≤ end_at shares.now values code - start_in shares.now code }
+{
+    match shares.get(code) {
+        Some(share) => end_of(shares, values, code).saturating_sub(share.start),
+        None => 0,
     }
 }
 
 /// Whether binary digits may be held in a slot: where such are, or its share has the bytes that they would take.
 #[inline(always)]
-fn may_hold_bits(slots: &[Slot], values: usize, code: usize, slot: Slot) -> bool
-    requires { slice_get slots.now code ≡ Some slot }
-    ensures { result ≡ true → AreLaidOut slots.now values
-        → slot.start + 8 ≤ end_at slots.now values code }
+fn may_hold_bits(shares: &[Share], values: usize, code: usize, slot: Slot) -> bool
+    ensures { result ≡ true → (slots : List Slot) → slice_get slots code ≡ Some slot
+        → AreLaidOut slots shares.now values
+        → start_in shares.now code + 8 ≤ end_at shares.now values code }
 {
     match slot.state {
         State::Bits => true,
-        _ => end_of(slots, values, code).saturating_sub(slot.start) >= 8,
+        _ => room_at(shares, values, code) >= 8,
     }
 }
 
 /// Sets the value of a code to binary digits as to their text.
 #[inline(never)]
-fn set_written(slots: &mut [Slot], values: &mut [u8], code: usize, bits: Bits)
-    ensures changes { AreLaidOut slots.old (length values.old)
+fn set_written(slots: &mut [Slot], shares: &[Share], values: &mut [u8], code: usize, bits: Bits)
+    ensures changes { AreLaidOut slots.old shares.now (length values.old)
         → ChangesAt code (with_text Form.Vector (binary_digits bits.len bits.number)) values.old
-        slots.old values.new slots.new }
-    ensures laid { AreLaidOut slots.old (length values.old)
-        → AreLaidOut slots.new (length values.old) }
+        slots.old shares.now values.new slots.new shares.now }
+    ensures laid { AreLaidOut slots.old shares.now (length values.old)
+        → AreLaidOut slots.new shares.now (length values.old) }
 {
     let mut block = [0u8; 32];
     let text = &mut block[..bits.len];
     put_digits(bits, text);
-    set_at(slots, values, code, Form::Vector, text);
+    set_at(slots, shares, values, code, Form::Vector, text);
 }
 
 /// Sets the value of a code to binary digits. Where its slot holds such, it is touched alone.
 #[inline(always)]
-pub(crate) fn set_bits(slots: &mut [Slot], values: &mut [u8], code: usize, bits: Bits)
-    ensures changes { AreLaidOut slots.old (length values.old)
+pub(crate) fn set_bits(
+    slots: &mut [Slot],
+    shares: &[Share],
+    values: &mut [u8],
+    code: usize,
+    bits: Bits,
+)
+    ensures changes { AreLaidOut slots.old shares.now (length values.old)
         → ChangesAt code (with_text Form.Vector (binary_digits bits.len bits.number)) values.old
-        slots.old values.new slots.new }
-    ensures laid { AreLaidOut slots.old (length values.old)
-        → AreLaidOut slots.new (length values.old) }
+        slots.old shares.now values.new slots.new shares.now }
+    ensures laid { AreLaidOut slots.old shares.now (length values.old)
+        → AreLaidOut slots.new shares.now (length values.old) }
 {
     let Some(slot) = slot_at(slots, code) else {
         return;
     };
-    if !may_hold_bits(slots, values.len(), code, slot) {
-        set_written(slots, values, code, bits);
+    if !may_hold_bits(shares, values.len(), code, slot) {
+        set_written(slots, shares, values, code, bits);
         return;
     }
     let len = packed(bits);
@@ -274,13 +310,14 @@ pub(crate) fn set_bits(slots: &mut [Slot], values: &mut [u8], code: usize, bits:
 
 /// Adds one to a counter of a code. A full one stays.
 #[inline(always)]
-pub(crate) fn bump_at(slots: &mut [Slot], code: usize, which: usize)
-    ensures changes { (values : List ℕ)
-        → ChangesAt code (one_more which) values slots.old values slots.new }
-    ensures laid { (n : ℕ) → AreLaidOut slots.old n → AreLaidOut slots.new n }
+pub(crate) fn bump_at(shares: &mut [Share], code: usize, which: usize)
+    ensures changes { (slots : List Slot) (values : List ℕ)
+        → ChangesAt code (one_more which) values slots shares.old values slots shares.new }
+    ensures laid { (slots : List Slot) (n : ℕ) → AreLaidOut slots shares.old n
+        → AreLaidOut slots shares.new n }
 {
-    if code < slots.len() {
-        slots[code].counts = counts_with(slots[code].counts, which);
+    if code < shares.len() {
+        shares[code].counts = counts_with(shares[code].counts, which);
     }
 }
 
@@ -297,13 +334,14 @@ fn counts_with(mut counts: [u64; 3], which: usize) -> [u64; 3]
 
 /// Adds one to the first counter of a code, and to the others where the tests hold. A full one stays.
 #[inline(always)]
-pub(crate) fn count_at(slots: &mut [Slot], code: usize, rises: bool, falls: bool)
-    ensures changes { (values : List ℕ)
-        → ChangesAt code (with_step rises falls) values slots.old values slots.new }
-    ensures laid { (n : ℕ) → AreLaidOut slots.old n → AreLaidOut slots.new n }
+pub(crate) fn count_at(shares: &mut [Share], code: usize, rises: bool, falls: bool)
+    ensures changes { (slots : List Slot) (values : List ℕ)
+        → ChangesAt code (with_step rises falls) values slots shares.old values slots shares.new }
+    ensures laid { (slots : List Slot) (n : ℕ) → AreLaidOut slots shares.old n
+        → AreLaidOut slots shares.new n }
 {
-    if code < slots.len() {
-        slots[code].counts = counts_after(slots[code].counts, rises, falls);
+    if code < shares.len() {
+        shares[code].counts = counts_after(shares[code].counts, rises, falls);
     }
 }
 
@@ -338,12 +376,13 @@ fn count_turn(counts: &mut [u64; 3], rises: bool)
 
 /// Sets a slot to the digit 1 or 0 over such a digit, and counts the step.
 #[inline(always)]
-fn turn_slot(slot: &mut Slot, one: bool)
+fn turn_slot(slot: &mut Slot, share: &mut Share, one: bool)
     requires { (slot.old.state ≡ State.Zero) ⊎ (slot.old.state ≡ State.One) }
     ensures kept { (form : Form) → form ≢ Form.RealText → (size end : ℕ) (values : List ℕ)
-        → kept_with values end slot.new
-        ≡ with_change size form (cond one 49 48 ∷ []) (kept_with values end slot.old) }
-    ensures start { slot.new.start ≡ slot.old.start }
+        → kept_with values end (whole slot.new share.new)
+        ≡ with_change size form (cond one 49 48 ∷ [])
+        (kept_with values end (whole slot.old share.old)) }
+    ensures start { share.new.start ≡ share.old.start }
     ensures used { used slot.new ≡ 0 }
     ensures some { some_by slot.new.state slot.new.len ≡ 1 }
 {
@@ -351,70 +390,80 @@ fn turn_slot(slot: &mut Slot, one: bool)
     let after = bit_state(one);
     slot.state = after;
     if before != after {
-        count_turn(&mut slot.counts, one);
+        count_turn(&mut share.counts, one);
     }
 }
 
 /// Sets the value of a code to the digit 0 or 1 over such a digit, and counts the step. Returns whether it was one; else nothing
-/// changes. Most changes are of this kind, and touch one slot alone.
+/// changes. Most changes are of this kind, and touch one slot and its counters alone.
 #[inline(always)]
-pub(crate) fn turn_at(slots: &mut [Slot], code: usize, digit: u8) -> bool
+pub(crate) fn turn_at(slots: &mut [Slot], shares: &mut [Share], code: usize, digit: u8) -> bool
     ensures changes { result ≡ true → (form : Form) → form ≢ Form.RealText → (size : ℕ)
         (values : List ℕ) → ChangesAt code (with_change size form (digit ∷ [])) values slots.old
-        values slots.new }
-    ensures same { result ≡ false → slots.new ≡ slots.old }
-    ensures laid { (n : ℕ) → AreLaidOut slots.old n → AreLaidOut slots.new n }
+        shares.old values slots.new shares.new }
+    ensures same { result ≡ false → (slots.new ≡ slots.old) × (shares.new ≡ shares.old) }
+    ensures laid { (n : ℕ) → AreLaidOut slots.old shares.old n
+        → AreLaidOut slots.new shares.new n }
 {
-    if code >= slots.len() || !is_bit_step(slots[code].state, digit) {
+    if code >= slots.len() || code >= shares.len() || !is_bit_step(slots[code].state, digit) {
         return false;
     }
-    turn_slot(&mut slots[code], digit == b'1');
+    turn_slot(&mut slots[code], &mut shares[code], digit == b'1');
     true
 }
 
 /// Sets a slot of binary digits to others that make a value of as many at this size, and counts the step.
 #[inline(always)]
-fn step_slot(slot: &mut Slot, size: usize, bits: Bits)
+fn step_slot(slot: &mut Slot, share: &mut Share, size: usize, bits: Bits)
     requires state { slot.old.state ≡ State.Bits }
     requires long { max size (count_in slot.old.len) ≡ max size bits.len }
     ensures kept { (end : ℕ) (values : List ℕ) → is_proper slot.old.len ≡ true
-        → slot.old.start + 8 ≤ end → kept_with values end slot.new
+        → share.old.start + 8 ≤ end → kept_with values end (whole slot.new share.new)
         ≡ with_change size Form.Vector (binary_digits bits.len bits.number)
-        (kept_with values end slot.old) }
-    ensures start { slot.new.start ≡ slot.old.start }
+        (kept_with values end (whole slot.old share.old)) }
+    ensures start { share.new.start ≡ share.old.start }
     ensures used { used slot.new ≡ 8 }
     ensures some { 1 ≤ some_by slot.new.state slot.new.len }
 {
     let step = step_by_number(number_in(slot.len), bits.number);
     slot.len = packed(bits);
     if step.differs {
-        slot.counts = counts_after(slot.counts, step.rises, step.falls);
+        share.counts = counts_after(share.counts, step.rises, step.falls);
     }
 }
 
 /// Sets the value of a code to binary digits over such digits, where they make values of as many at this size, and counts the
 /// step. Returns whether it did; else nothing changes.
 #[inline(always)]
-pub(crate) fn step_at(slots: &mut [Slot], code: usize, size: usize, bits: Bits) -> bool
-    ensures changes { result ≡ true → (values : List ℕ) → AreLaidOut slots.old (length values)
+pub(crate) fn step_at(
+    slots: &mut [Slot],
+    shares: &mut [Share],
+    code: usize,
+    size: usize,
+    bits: Bits,
+) -> bool
+    ensures changes { result ≡ true → (values : List ℕ)
+        → AreLaidOut slots.old shares.old (length values)
         → ChangesAt code (with_change size Form.Vector (binary_digits bits.len bits.number))
-        values slots.old values slots.new }
-    ensures same { result ≡ false → slots.new ≡ slots.old }
-    ensures laid { (n : ℕ) → AreLaidOut slots.old n → AreLaidOut slots.new n }
+        values slots.old shares.old values slots.new shares.new }
+    ensures same { result ≡ false → (slots.new ≡ slots.old) × (shares.new ≡ shares.old) }
+    ensures laid { (n : ℕ) → AreLaidOut slots.old shares.old n
+        → AreLaidOut slots.new shares.new n }
 {
-    if code >= slots.len() || !is_number_step(slots[code], size, bits) {
+    if code >= slots.len() || code >= shares.len() || !is_number_step(slots[code], size, bits) {
         return false;
     }
-    step_slot(&mut slots[code], size, bits);
+    step_slot(&mut slots[code], &mut shares[code], size, bits);
     true
 }
 
 /// Chooses a code.
 #[inline(always)]
 pub(crate) fn choose_at(slots: &mut [Slot], code: usize)
-    ensures changes { (values : List ℕ)
-        → ChangesAt code as_chosen values slots.old values slots.new }
-    ensures laid { (n : ℕ) → AreLaidOut slots.old n → AreLaidOut slots.new n }
+    ensures changes { (shares : List Share) (values : List ℕ)
+        → ChangesAt code as_chosen values slots.old shares values slots.new shares }
+    ensures laid { (shares : List Share) (n : ℕ) → AreLaidOut slots.old shares n
+        → AreLaidOut slots.new shares n }
 {
     if code < slots.len() {
         slots[code].chosen = true;
@@ -440,16 +489,23 @@ fn share_at(codes: &[Code], place: usize) -> usize
 
 /// Gives each code its share of the values, one after the other, and unsets all. Where the values have no room for all shares,
 /// the last ones are cut. Returns where the last share ends.
-pub(crate) fn lay_out(codes: &[Code], slots: &mut [Slot], values: usize) -> usize
-    requires { length codes.now ≡ length slots.old }
-    ensures length { length slots.new ≡ length slots.old }
-    ensures slots { (k : ℕ) (s : Slot) → slice_get slots.new k ≡ Some s
-        → s ≡ unset_at (start_of codes.now values k) }
+pub(crate) fn lay_out(
+    codes: &[Code],
+    slots: &mut [Slot],
+    shares: &mut [Share],
+    values: usize,
+) -> usize
+    requires slots { length codes.now ≡ length slots.old }
+    requires shares { length codes.now ≡ length shares.old }
+    ensures slots { (k : ℕ) (s : Slot) → slice_get slots.new k ≡ Some s → IsUnset s }
+    ensures shares { (k : ℕ) (h : Share) → slice_get shares.new k ≡ Some h
+        → h ≡ share_from (start_of codes.now values k) }
     ensures end { result ≡ start_of codes.now values (length codes.now) }
 {
     let mut at = 0;
     for place in 0..slots.len() {
-        slots[place] = Slot::at(at);
+        slots[place] = Slot::new();
+        shares[place] = Share::at(at);
         at = at.saturating_add(share_at(codes, place)).min(values);
     }
     at

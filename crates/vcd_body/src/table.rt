@@ -12,7 +12,7 @@ use crate::held::{digit_shown, last_held};
 use crate::held_text::{put_value, put_value_line};
 use crate::item::Form;
 use crate::several::change_at;
-use crate::slot::{Shown, Slot, State};
+use crate::slot::{Share, Shown, Slot, State};
 use crate::step::{Step, is_digit_step, step_by_digit, step_by_number, step_to_text};
 use crate::store::{
     bump_at, choose_at, count_at, lay_out, set_at, set_bits, share_in, slot_at, step_at, turn_at,
@@ -27,6 +27,7 @@ use vcd_view::HeadView;
 pub struct Table<'a> {
     values: &'a mut [u8],
     slots: &'a mut [Slot],
+    shares: &'a mut [Share],
 }
 
 impl<'a> Table<'a> {
@@ -41,9 +42,15 @@ impl<'a> Table<'a> {
 
     /// A table of the codes of the header that is shown: each is unset, its counters are 0, and it is not chosen. A code's value
     /// has a quarter of its size of the bytes of `values`, rounded up, and at least 64; where there are fewer, the last codes go
-    /// short. Slots and bytes beyond these are left alone.
-    pub fn new(view: HeadView<'_>, values: &'a mut [u8], slots: &'a mut [Slot]) -> Table<'a>
+    /// short. Slots, shares and bytes beyond these are left alone.
+    pub fn new(
+        view: HeadView<'_>,
+        values: &'a mut [u8],
+        slots: &'a mut [Slot],
+        shares: &'a mut [Share],
+    ) -> Table<'a>
         requires slots { length view.codes.now ≤ length slots.old }
+        requires shares { length view.codes.now ≤ length shares.old }
         ensures laid { IsLaidOut result }
         ensures codes { codes_in result ≡ length view.entry.codes.now }
         ensures bytes { bytes_in result ≤ length values.old }
@@ -54,9 +61,14 @@ impl<'a> Table<'a> {
             → kept_at result code ≡ Some (unset (share_of c.size)) }
     {
         let slots = &mut slots[..view.codes.len()];
-        let end = lay_out(view.codes, slots, values.len());
+        let shares = &mut shares[..view.codes.len()];
+        let end = lay_out(view.codes, slots, shares, values.len());
         let values = &mut values[..end];
-        Table { values, slots }
+        Table {
+            values,
+            slots,
+            shares,
+        }
     }
 
     /// Sets the value of the code at a place by the text of a change: digits, or that of a real number, as `change_text` gives
@@ -74,7 +86,10 @@ impl<'a> Table<'a> {
         ensures codes { codes_in self.new ≡ codes_in self.old }
         ensures bytes { bytes_in self.new ≡ bytes_in self.old }
     {
-        set_at(self.slots, self.values, code, form, text);
+        let slots = &mut *self.slots;
+        let shares = &mut *self.shares;
+        let values = &mut *self.values;
+        set_at(slots, shares, values, code, form, text);
     }
 
     /// Sets the value of the code at a place by binary digits, as `set` does by their text. Over others that were set so it
@@ -92,7 +107,10 @@ impl<'a> Table<'a> {
         ensures codes { codes_in self.new ≡ codes_in self.old }
         ensures bytes { bytes_in self.new ≡ bytes_in self.old }
     {
-        set_bits(self.slots, self.values, code, bits);
+        let slots = &mut *self.slots;
+        let shares = &mut *self.shares;
+        let values = &mut *self.values;
+        set_bits(slots, shares, values, code, bits);
     }
 
     /// Sets the value of the code at a place as `set` does, and tells what becomes of it at this size: the step from what it was
@@ -175,7 +193,7 @@ impl<'a> Table<'a> {
 
     /// Sets the value of the code at a place by the text of a change as `set` does, and counts its step at this size as `replace`
     /// and `count` do, where it differs. A text that is empty is passed over. One of the digits 0 and 1 over another touches the
-    /// code's slot alone.
+    /// code's slot and its counters alone.
     #[inline(always)]
     pub fn follow(&mut self, code: usize, size: usize, form: Form, text: &[u8])
         ensures laid { IsLaidOut self.old → IsLaidOut self.new }
@@ -190,13 +208,13 @@ impl<'a> Table<'a> {
     {
         match text {
             [digit] if form != Form::RealText => {
-                if !turn_at(self.slots, code, *digit) {
+                if !turn_at(self.slots, self.shares, code, *digit) {
                     self.follow_any(code, size, form, text);
                 }
             }
             _ if form != Form::Vector => self.follow_any(code, size, form, text),
             _ => {
-                if !change_at(self.slots, self.values, code, text) {
+                if !change_at(self.slots, self.shares, self.values, code, text) {
                     self.follow_any(code, size, form, text);
                 }
             }
@@ -204,7 +222,7 @@ impl<'a> Table<'a> {
     }
 
     /// Sets the value of the code at a place by binary digits, and counts its step at this size, as `follow` does by their text.
-    /// Over others that were set so it touches the code's slot alone.
+    /// Over others that were set so it touches the code's slot and its counters alone.
     #[inline(always)]
     pub fn follow_bits(&mut self, code: usize, size: usize, bits: Bits)
         ensures laid { IsLaidOut self.old → IsLaidOut self.new }
@@ -218,7 +236,7 @@ impl<'a> Table<'a> {
         ensures codes { codes_in self.new ≡ codes_in self.old }
         ensures bytes { bytes_in self.new ≡ bytes_in self.old }
     {
-        if !step_at(self.slots, code, size, bits) {
+        if !step_at(self.slots, self.shares, code, size, bits) {
             self.follow_bits_any(code, size, bits);
         }
     }
@@ -295,7 +313,7 @@ impl<'a> Table<'a> {
         let Some(slot) = slot_at(self.slots, code) else {
             return step_to_text(false, None, form, text);
         };
-        let Some(share) = share_in(self.values, slot) else {
+        let Some(share) = share_in(self.values, self.shares, code, slot) else {
             return step_to_text(false, None, form, text);
         };
         let differs = value_differs(slot, share, size, form, text);
@@ -307,14 +325,14 @@ impl<'a> Table<'a> {
     pub fn get(&self, code: usize) -> Shown
         ensures { result ≡ shown_as (held_at self.now code) }
     {
-        match slot_at(self.slots, code) {
-            None => Shown::Unset,
-            Some(slot) => match slot.state {
-                State::Unset => Shown::Unset,
-                State::Real => Shown::Real,
-                State::Zero | State::One | State::Unknown | State::High => Shown::Bits,
-                State::Plain | State::Digits | State::Bits => Shown::Bits,
-            },
+        if code >= self.slots.len() || code >= self.shares.len() {
+            return Shown::Unset;
+        }
+        match self.slots[code].state {
+            State::Unset => Shown::Unset,
+            State::Real => Shown::Real,
+            State::Zero | State::One | State::Unknown | State::High => Shown::Bits,
+            State::Plain | State::Digits | State::Bits => Shown::Bits,
         }
     }
 
@@ -331,7 +349,7 @@ impl<'a> Table<'a> {
         let Some(slot) = slot_at(self.slots, code) else {
             return None;
         };
-        let Some(share) = share_in(self.values, slot) else {
+        let Some(share) = share_in(self.values, self.shares, code, slot) else {
             return None;
         };
         digit_shown(slot, share, declared.size, place)
@@ -344,7 +362,7 @@ impl<'a> Table<'a> {
     {
         match slot_at(self.slots, code) {
             Some(slot) if slot.state == State::Real => {
-                share_in(self.values, slot).unwrap_or(&[])
+                share_in(self.values, self.shares, code, slot).unwrap_or(&[])
             }
             _ => &[],
         }
@@ -369,7 +387,7 @@ impl<'a> Table<'a> {
         let Some(slot) = slot_at(self.slots, code) else {
             return Ok(());
         };
-        let Some(share) = share_in(self.values, slot) else {
+        let Some(share) = share_in(self.values, self.shares, code, slot) else {
             return Ok(());
         };
         let id = view.text_at(declared.start, declared.len as usize);
@@ -395,7 +413,7 @@ impl<'a> Table<'a> {
         let Some(slot) = slot_at(self.slots, code) else {
             return put(w, b"-");
         };
-        let Some(share) = share_in(self.values, slot) else {
+        let Some(share) = share_in(self.values, self.shares, code, slot) else {
             return put(w, b"-");
         };
         put_value(slot, share, declared.size, w)
@@ -406,9 +424,10 @@ impl<'a> Table<'a> {
     pub fn tally(&self, code: usize) -> [u64; 3]
         ensures { result ≡ counts_at self.now code }
     {
-        match slot_at(self.slots, code) {
-            Some(slot) => slot.counts,
-            None => [0; 3],
+        if code < self.slots.len() && code < self.shares.len() {
+            self.shares[code].counts
+        } else {
+            [0; 3]
         }
     }
 
@@ -420,7 +439,7 @@ impl<'a> Table<'a> {
         ensures codes { codes_in self.new ≡ codes_in self.old }
         ensures bytes { bytes_in self.new ≡ bytes_in self.old }
     {
-        bump_at(self.slots, code, which);
+        bump_at(self.shares, code, which);
     }
 
     /// Counts a step of the value of the code at a place: adds one to the first counter, to the second where it rises, and to the
@@ -432,7 +451,7 @@ impl<'a> Table<'a> {
         ensures codes { codes_in self.new ≡ codes_in self.old }
         ensures bytes { bytes_in self.new ≡ bytes_in self.old }
     {
-        count_at(self.slots, code, rises, falls);
+        count_at(self.shares, code, rises, falls);
     }
 
     /// Chooses the code at a place.
@@ -451,9 +470,6 @@ impl<'a> Table<'a> {
     pub fn chosen(&self, code: usize) -> bool
         ensures { result ≡ is_chosen self.now code }
     {
-        match self.slots.get(code) {
-            Some(slot) => slot.chosen,
-            None => false,
-        }
+        code < self.slots.len() && code < self.shares.len() && self.slots[code].chosen
     }
 }

@@ -3,7 +3,7 @@ ghost use Rattle.std.specs.Prelude.{◌≡◌};
 
 use std::alloc::Global;
 use std::test::Fail;
-use vcd_body::{Done, Slot, Stop};
+use vcd_body::{Done, Share, Slot, Stop};
 use vcd_head::{HeadFault, read_head};
 use vcd_text::doubles::Narrow;
 use vcd_text::{Feed, Sink, Source, Watch};
@@ -40,10 +40,12 @@ fn edges_over<S: Source, W: Sink>(
     let need = Task::Edges(names).need(view);
     let mut values = vec![in alloc; 0u8; need.values]?;
     let mut slots = vec![in alloc; Slot::new(); need.slots]?;
+    let mut shares = vec![in alloc; Share::new(); need.slots]?;
     let mut marks = vec![in alloc; 0u8; need.marks]?;
     let mut room = Room {
         values: &mut values,
         slots: &mut slots,
+        shares: &mut shares,
         marks: &mut marks,
     };
     Ok(edges(view, &mut feed, &mut room, names, out))

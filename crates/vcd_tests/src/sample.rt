@@ -4,7 +4,7 @@ ghost use Rattle.vcd_model.specs.Job.{do_rise};
 
 use std::alloc::Global;
 use std::test::Fail;
-use vcd_body::{Done, Slot, Stop};
+use vcd_body::{Done, Share, Slot, Stop};
 use vcd_head::{HeadFault, read_head};
 use vcd_text::doubles::Narrow;
 use vcd_text::{Feed, Sink, Source, Watch};
@@ -59,10 +59,12 @@ fn sample_over<S: Source, W: Sink>(
     let need = Task::Sample(asked).need(view);
     let mut values = vec![in alloc; 0u8; need.values]?;
     let mut slots = vec![in alloc; Slot::new(); need.slots]?;
+    let mut shares = vec![in alloc; Share::new(); need.slots]?;
     let mut marks = vec![in alloc; 0u8; need.marks]?;
     let mut room = Room {
         values: &mut values,
         slots: &mut slots,
+        shares: &mut shares,
         marks: &mut marks,
     };
     Ok(sample(view, &mut feed, &mut room, asked, out))

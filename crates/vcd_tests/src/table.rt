@@ -3,7 +3,7 @@ ghost use Rattle.std.specs.Prelude.{◌≡◌, ◌<◌};
 
 use std::alloc::{AllocError, Global};
 use std::test::Fail;
-use vcd_body::{Bits, Form, Shown, Slot, Step, Table};
+use vcd_body::{Bits, Form, Share, Shown, Slot, Step, Table};
 use vcd_text::doubles::Narrow;
 use vcd_text::{Sink, Watch, WriteFailed};
 use vcd_view::{Code, HeadView, need};
@@ -85,7 +85,8 @@ fn is_shown(
     let view = view_of(&codes);
     let mut values = vec![in alloc; 255u8; need(view).values]?;
     let mut slots = [Slot::new()];
-    let mut table = Table::new(view, &mut values, &mut slots);
+    let mut shares = [Share::new()];
+    let mut table = Table::new(view, &mut values, &mut slots, &mut shares);
     table.set(0, form, text);
     let mut short_page = Watch::new(Narrow::new(1024));
     let mut full_page = Watch::new(Narrow::new(1024));
@@ -271,7 +272,8 @@ fn unset_codes_and_places_of_none(rt: HostRuntime) -> Result<(), Fail> {
     let view = view_of(&codes);
     let mut values = vec![in alloc; 255u8; need(view).values]?;
     let mut slots = [Slot::new(); 2];
-    let mut table = Table::new(view, &mut values, &mut slots);
+    let mut shares = [Share::new(); 2];
+    let mut table = Table::new(view, &mut values, &mut slots, &mut shares);
     table.set(1, Form::Vector, b"10");
     table.bump(1, 0);
     table.choose(1);
@@ -335,7 +337,8 @@ fn digits_by_their_places(rt: HostRuntime) -> Result<(), Fail> {
     let view = view_of(&codes);
     let mut values = vec![in alloc; 255u8; need(view).values]?;
     let mut slots = [Slot::new()];
-    let mut table = Table::new(view, &mut values, &mut slots);
+    let mut shares = [Share::new()];
+    let mut table = Table::new(view, &mut values, &mut slots, &mut shares);
     for (form, text, kind, digits, real) in PLACES {
         table.set(0, form, text);
         assert_eq!(rt; table.get(0), kind);
@@ -358,7 +361,8 @@ fn is_changed(
     let view = view_of(&codes);
     let mut values = vec![in alloc; 255u8; need(view).values]?;
     let mut slots = [Slot::new()];
-    let mut table = Table::new(view, &mut values, &mut slots);
+    let mut shares = [Share::new()];
+    let mut table = Table::new(view, &mut values, &mut slots, &mut shares);
     table.set(0, first.0, first.1);
     Ok(table.replace(0, size, second.0, second.1).differs)
 }
@@ -488,7 +492,8 @@ fn real_numbers_that_differ(rt: HostRuntime) -> Result<(), Fail> {
 fn value_of_no_code_never_differs(rt: HostRuntime) {
     let codes = [code_of(4)];
     let mut slots = [Slot::new()];
-    let mut table = Table::new(view_of(&codes), &mut [], &mut slots);
+    let mut shares = [Share::new()];
+    let mut table = Table::new(view_of(&codes), &mut [], &mut slots, &mut shares);
     for (code, text) in [(0, b"1"), (1, b"1"), (1, b"0")] {
         assert_eq!(rt;
             table.replace(code, 4, Form::Scalar, text),
@@ -529,7 +534,8 @@ fn steps_of_values(rt: HostRuntime) -> Result<(), Fail> {
     let view = view_of(&codes);
     let mut values = vec![in alloc; 255u8; need(view).values]?;
     let mut slots = [Slot::new()];
-    let mut table = Table::new(view, &mut values, &mut slots);
+    let mut shares = [Share::new()];
+    let mut table = Table::new(view, &mut values, &mut slots, &mut shares);
     for (form, text, differs, way) in STEPS {
         assert_eq!(rt; table.replace(0, 9, form, text), step_of(differs, way));
     }
@@ -543,7 +549,8 @@ fn steps_that_are_counted(rt: HostRuntime) -> Result<(), Fail> {
     let view = view_of(&codes);
     let mut values = vec![in alloc; 255u8; need(view).values]?;
     let mut slots = [Slot::new()];
-    let mut table = Table::new(view, &mut values, &mut slots);
+    let mut shares = [Share::new()];
+    let mut table = Table::new(view, &mut values, &mut slots, &mut shares);
     for (form, text, _, _) in STEPS {
         table.follow(0, 9, form, text);
     }
@@ -558,7 +565,8 @@ fn steps_of_numbers_that_are_counted(rt: HostRuntime) -> Result<(), Fail> {
     let view = view_of(&codes);
     let mut values = vec![in alloc; 255u8; need(view).values]?;
     let mut slots = [Slot::new()];
-    let mut table = Table::new(view, &mut values, &mut slots);
+    let mut shares = [Share::new()];
+    let mut table = Table::new(view, &mut values, &mut slots, &mut shares);
     for (len, number) in [(1, 1), (4, 0b0001), (3, 0b110), (3, 0b111), (3, 0b101)] {
         if let Some(bits) = Bits::new(len, number) {
             table.follow_bits(0, 9, bits);
@@ -596,7 +604,8 @@ fn shares_lie_apart(rt: HostRuntime) -> Result<(), Fail> {
     assert_eq!(rt; need(view).values, 379);
     let mut values = vec![in alloc; 255u8; 379]?;
     let mut slots = [Slot::new(); 3];
-    let mut table = Table::new(view, &mut values, &mut slots);
+    let mut shares = [Share::new(); 3];
+    let mut table = Table::new(view, &mut values, &mut slots, &mut shares);
     let first = mixed(alloc, 256)?;
     let second = padded(alloc, b'x', 256, b"1")?;
     let third = mixed(alloc, 1_000)?;
@@ -616,7 +625,8 @@ fn texts_without_room_are_passed_over(rt: HostRuntime) {
     let codes = [code_of(8)];
     let view = view_of(&codes);
     let mut slots = [Slot::new()];
-    let mut table = Table::new(view, &mut [], &mut slots);
+    let mut shares = [Share::new()];
+    let mut table = Table::new(view, &mut [], &mut slots, &mut shares);
     table.set(0, Form::Vector, b"1");
     table.set(0, Form::Vector, b"01");
     table.set(0, Form::RealText, b"1");
@@ -629,7 +639,8 @@ fn counters_of_a_code(rt: HostRuntime) {
     let codes = [code_of(1); 2];
     let view = view_of(&codes);
     let mut slots = [Slot::new(); 2];
-    let mut table = Table::new(view, &mut [], &mut slots);
+    let mut shares = [Share::new(); 2];
+    let mut table = Table::new(view, &mut [], &mut slots, &mut shares);
     table.bump(1, 0);
     table.bump(1, 2);
     table.bump(1, 2);
@@ -646,11 +657,12 @@ fn counters_of_a_code(rt: HostRuntime) {
 fn one_of_three_codes_is_chosen(rt: HostRuntime) {
     let codes = [code_of(1); 3];
     let mut slots = [Slot::new(); 4];
-    let mut table = Table::new(view_of(&codes), &mut [], &mut slots);
+    let mut shares = [Share::new(); 4];
+    let mut table = Table::new(view_of(&codes), &mut [], &mut slots, &mut shares);
     table.choose(1);
     table.set(1, Form::Scalar, b"x");
     assert!(rt; !table.chosen(0) && table.chosen(1) && !table.chosen(2));
-    let again = Table::new(view_of(&codes), &mut [], &mut slots);
+    let again = Table::new(view_of(&codes), &mut [], &mut slots, &mut shares);
     assert!(rt; !again.chosen(0) && !again.chosen(1) && !again.chosen(2));
     assert_eq!(rt; again.get(1), Shown::Unset);
 }
@@ -660,7 +672,8 @@ fn sink_that_fails_at_a_value(rt: HostRuntime) {
     let codes = [code_of(8)];
     let view = view_of(&codes);
     let mut slots = [Slot::new()];
-    let mut table = Table::new(view, &mut [], &mut slots);
+    let mut shares = [Share::new()];
+    let mut table = Table::new(view, &mut [], &mut slots, &mut shares);
     table.set(0, Form::Vector, b"1");
     let mut page = Watch::new(Narrow::new(3));
     assert_eq!(rt; table.put_full(view, 0, &mut page), Err(WriteFailed));

@@ -7,7 +7,7 @@ ghost use Rattle.vcd_tools.specs.Room.{AreWithinBound, room_in, view_in};
 
 use std::alloc::Global;
 use std::test::Fail;
-use vcd_body::{Done, More, Slot, Stop};
+use vcd_body::{Done, More, Share, Slot, Stop};
 use vcd_head::{Head, HeadFault, read_head};
 use vcd_text::doubles::{Narrow, Pieces};
 use vcd_text::{Feed, Sink, Source, Watch};
@@ -231,10 +231,12 @@ fn takes_steps_over(
     let need = task.need(view);
     let mut values = vec![in alloc; 0u8; need.values]?;
     let mut slots = vec![in alloc; Slot::new(); need.slots]?;
+    let mut shares = vec![in alloc; Share::new(); need.slots]?;
     let mut marks = vec![in alloc; 0u8; need.marks]?;
     let room = Room {
         values: &mut values,
         slots: &mut slots,
+        shares: &mut shares,
         marks: &mut marks,
     };
     let mut out = Watch::new(Narrow::new(256));
@@ -292,6 +294,7 @@ fn pick_over<S: Source, W: Sink>(
     let mut room = Room {
         values: &mut values,
         slots: &mut [],
+        shares: &mut [],
         marks: &mut marks,
     };
     Ok(pick(view, &mut feed, &mut room, &names, out))

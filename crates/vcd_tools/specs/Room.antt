@@ -1,5 +1,5 @@
 -- Whether room is large enough for a task, and small enough for the bound.
-use Rattle.std.specs.Prelude.{ℕ, ◌≤◌, length}
+use Rattle.std.specs.Prelude.{ℕ, ◌≤◌, length, max}
 use Rattle.vcd_model.specs.Bound.{FitsInput, RoomSize, no_room}
 use Rattle.vcd_model.specs.Header.{Header}
 use Rattle.vcd_view.specs.Needs.{view_size}
@@ -35,7 +35,7 @@ marks_for (Cut s) v = length v.rows.now
 marks_for (Sample a) v = length v.rows.now
 marks_for (Edges names) v = length v.rows.now
 
--- how many places for codes
+-- how many places for codes, and how many shares
 abbrev pub slots_for : Task → HeadView → ℕ
 slots_for Check v = 0
 slots_for (Pick names) v = 0
@@ -48,12 +48,13 @@ pub record HasRoomFor (t : Task) (v : HeadView) (r : Room) : Type 0 where
   pub values : values_for t v ≤ length r.values.now
   pub marks : marks_for t v ≤ length r.marks.now
   pub slots : slots_for t v ≤ length r.slots.now
+  pub shares : slots_for t v ≤ length r.shares.now
 
 -- ---- what is lent
 
--- the lengths of room
+-- the lengths of room; a slot and its share count as one
 abbrev pub room_size : Room → RoomSize
-room_size r = record { values = length r.values.now; slots = length r.slots.now; marks = length r.marks.now }
+room_size r = record { values = length r.values.now; slots = max (length r.slots.now) (length r.shares.now); marks = length r.marks.now }
 
 -- those of the room that a machine holds
 abbrev pub room_of : Machine → RoomSize

@@ -46,6 +46,7 @@ pub fn check<S: Source, W: Sink>(
     let mut room = Room {
         values: &mut [],
         slots: &mut [],
+        shares: &mut [],
         marks: &mut [],
     };
     run_task(Task::Check, view, feed, &mut room, out)

@@ -373,6 +373,7 @@ pub fn run_task<S: Source, W: Sink>(
     let room = Room {
         values: &mut *room.values,
         slots: &mut *room.slots,
+        shares: &mut *room.shares,
         marks: &mut *room.marks,
     };
     let begun = Begun::start(task, view, room, out)?;

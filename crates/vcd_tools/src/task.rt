@@ -10,7 +10,7 @@ ghost use Rattle.vcd_tools.specs.declared.task.Room.{Room};
 
 use crate::samples::Samples;
 use crate::span::Span;
-use vcd_body::Slot;
+use vcd_body::{Share, Slot};
 use vcd_view::{HeadView, Need, need};
 
 /// What is done with the items of a body.
@@ -33,8 +33,10 @@ pub enum Task<'n> {
 pub struct Room<'r> {
     /// Bytes for the values of codes; `pick` has a flag of one byte for each code there.
     pub values: &'r mut [u8],
-    /// A place for each code.
+    /// A slot for each code.
     pub slots: &'r mut [Slot],
+    /// A share for each code, as many as slots.
+    pub shares: &'r mut [Share],
     /// A mark for each declaration.
     pub marks: &'r mut [u8],
 }
@@ -46,8 +48,8 @@ impl<'n> Task<'n> {
             × (result.slots ≡ slots_for self.now view.entry)
             × (result.marks ≡ marks_for self.now view.entry) }
         ensures room { (r : Room) → result.values ≤ length r.values.now
-            → result.slots ≤ length r.slots.now → result.marks ≤ length r.marks.now
-            → HasRoomFor self.now view.entry r }
+            → result.slots ≤ length r.slots.now → result.slots ≤ length r.shares.now
+            → result.marks ≤ length r.marks.now → HasRoomFor self.now view.entry r }
         ensures fits { (limit : ℕ) (h : Header) (w : WindowSize) → IsViewOf view.entry h
             → AreWindows limit w
             → FitsInput limit h w (view_size (parts view.entry)) (room result) }

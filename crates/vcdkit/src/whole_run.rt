@@ -22,7 +22,7 @@ use crate::inputs::{MOST_DECLARATIONS, marks_for, open_input, open_inputs, windo
 use crate::message::report;
 use crate::tasks::task_of;
 use std::alloc::Global;
-use vcd_body::{Done, Slot, Stop};
+use vcd_body::{Done, Share, Slot, Stop};
 use vcd_merge::{Windows, merge};
 use vcd_text::{Feed, Sink, Source};
 use vcd_tools::{Room, list, run_task};
@@ -83,10 +83,12 @@ fn run_want<S: Source, W: Sink>(
     let need = task.need(view);
     let mut values = vec![in alloc; 0u8; need.values]?;
     let mut slots = vec![in alloc; Slot::new(); need.slots]?;
+    let mut shares = vec![in alloc; Share::new(); need.slots]?;
     let mut marks = vec![in alloc; 0u8; need.marks]?;
     let mut room = Room {
         values: &mut values,
         slots: &mut slots,
+        shares: &mut shares,
         marks: &mut marks,
     };
     ended(run_task(task, view, feed, &mut room, out), 0)

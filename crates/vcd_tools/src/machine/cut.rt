@@ -120,6 +120,7 @@ impl<'r> Cut<'r> {
         let Room {
             values,
             slots,
+            shares,
             marks,
         } = room;
         let marks = &mut marks[..view.rows.len()];
@@ -130,7 +131,7 @@ impl<'r> Cut<'r> {
         let mut cut = Cut {
             from: span.from,
             to: span.to,
-            table: Table::new(view, values, slots),
+            table: Table::new(view, values, slots, shares),
             text: ItemText::new(),
             started: false,
         };

@@ -50,13 +50,14 @@ impl<'n, 'r> Edges<'n, 'r> {
         let Room {
             values,
             slots,
+            shares,
             marks,
         } = room;
         let marks = &mut marks[..view.rows.len()];
         if let Err(name) = select(view, names, marks) {
             return Err(Stop::Unmatched { name });
         }
-        let table = Table::new(view, values, slots);
+        let table = Table::new(view, values, slots, shares);
         Ok(Edges {
             names,
             marks,

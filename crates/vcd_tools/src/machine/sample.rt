@@ -69,6 +69,7 @@ impl<'n, 'r> Sample<'n, 'r> {
         let Room {
             values,
             slots,
+            shares,
             marks,
         } = room;
         let marks = &mut marks[..view.rows.len()];
@@ -79,7 +80,7 @@ impl<'n, 'r> Sample<'n, 'r> {
             times: asked.times,
             names: asked.names,
             rest: asked.times,
-            table: Table::new(view, values, slots),
+            table: Table::new(view, values, slots, shares),
             marks,
         })
     }

@@ -1,25 +1,23 @@
 use Rattle.std.proofs.Common.{get_or, refl}
-use Rattle.std.proofs.lemmas.Option.{slice_get-get_or, slice_get_past}
+use Rattle.std.proofs.lemmas.Option.{slice_get-get_or}
 use Rattle.vcd_body.specs.Kept.{with_step}
-use Rattle.vcd_body.proofs.StoreLemmas.{blank, steps_kept, laid_set, nothing_there, slot_changes}
+use Rattle.vcd_body.specs.Stored.{whole}
+use Rattle.vcd_body.proofs.StoreLemmas.{blank_share, no_share_there, share_alone_changes, share_laid, steps_kept}
 use Rattle.vcd_body.proofs.store.count_at.Goals as goal
 
-pub returns-then-code-slots-clause-changes : goal.returns-then-code-slots-clause-changes
-returns-then-code-slots-clause-changes c = λ values.
-    let slots = c.args.slots.now in
-    let slot = get_or slots c.args.code blank in
-    let at = slice_get-get_or slots c.args.code blank c.if-code-slots.true in
-    slot_changes slots c.args.code slot _ at refl values (with_step c.args.rises c.args.falls) (λ end. steps_kept slot c.counts_after.result c.args.rises c.args.falls end values c.counts_after.ensures)
+pub returns-then-code-shares-clause-changes : goal.returns-then-code-shares-clause-changes
+returns-then-code-shares-clause-changes c = λ slots values.
+    let parts = c.args.shares.now in
+    let share = get_or parts c.args.code blank_share in
+    let at = slice_get-get_or parts c.args.code blank_share c.if-code-shares.true in
+    share_alone_changes parts c.args.code share _ at refl slots values (with_step c.args.rises c.args.falls) (λ s end. steps_kept (whole s share) c.counts_after.result c.args.rises c.args.falls end values c.counts_after.ensures)
 
-pub returns-then-code-slots-clause-laid : goal.returns-then-code-slots-clause-laid
-returns-then-code-slots-clause-laid c = λ n laid.
-    let slots = c.args.slots.now in
-    let slot = get_or slots c.args.code blank in
-    let at = slice_get-get_or slots c.args.code blank c.if-code-slots.true in
-    let l = laid c.args.code slot at in
-    laid_set slots n laid c.args.code slot _ at refl l.0 l.2
+pub returns-then-code-shares-clause-laid : goal.returns-then-code-shares-clause-laid
+returns-then-code-shares-clause-laid c = λ slots n laid.
+    let parts = c.args.shares.now in
+    let share = get_or parts c.args.code blank_share in
+    let at = slice_get-get_or parts c.args.code blank_share c.if-code-shares.true in
+    share_laid slots parts n laid c.args.code share _ at refl
 
-pub returns-else-code-slots-clause-changes : goal.returns-else-code-slots-clause-changes
-returns-else-code-slots-clause-changes c = λ values.
-    let slots = c.args.slots.now in
-    nothing_there values slots c.args.code (with_step c.args.rises c.args.falls) (slice_get_past slots c.args.code c.if-code-slots.false)
+pub returns-else-code-shares-clause-changes : goal.returns-else-code-shares-clause-changes
+returns-else-code-shares-clause-changes c = λ slots values. no_share_there values slots c.args.shares.now c.args.code (with_step c.args.rises c.args.falls) c.if-code-shares.false

@@ -1,22 +1,34 @@
 use Rattle.std.proofs.Common.{◌∙◌, arith}
 use Rattle.std.proofs.Math.ListN.{length-set}
 use Rattle.std.proofs.lemmas.Option.{slice_get_within}
-use Rattle.vcd_body.proofs.LayoutLemmas.{laid_more, start_next}
+use Rattle.vcd_body.proofs.LayoutLemmas.{laid_more, start_next, unset_more}
 use Rattle.vcd_body.proofs.StoreLemmas.{some_at}
 use Rattle.vcd_body.proofs.store.lay_out.Goals as goal
 
 pub loop-place-preserved : goal.loop-place-preserved
 loop-place-preserved c =
     let i = c.loop-place.invariant in
-    let d = some_at c.args.codes.now c.loop-place.place (let e = i.0 in omega (arith, e)) in
+    let e = i.0 in
+    let f = i.1 in
+    let at = i.2 in
+    let d = some_at c.args.codes.now c.loop-place.place (omega (arith, e)) in
     let s = start_next c.args.codes.now c.args.values c.loop-place.place d.0 d.1 in
-    let at = i.1 in
     let one = c.share_at.ensures d.0 d.1 in
-    let more = laid_more c.args.codes.now c.loop-place.slots c.args.values c.loop-place.place (omega arith) i.2 in (
+    let more = laid_more c.args.codes.now c.loop-place.shares c.args.values c.loop-place.place (omega (arith, e, f)) i.4 in (
       length-set _ _ _ ∙ i.0,
+      length-set _ _ _ ∙ i.1,
       omega (arith, s, at, one, c.saturating_add.ensures, c.min-at.ensures),
+      unset_more c.loop-place.slots c.loop-place.place c.new.result (omega arith) c.new.ensures i.3,
       rw (c.at.ensures, at) more,
     )
 
 pub returns-clause-slots : goal.returns-clause-slots
-returns-clause-slots c = λ k d at. c.loop-place.invariant.2 k d (let w = slice_get_within c.loop-place.slots k d at in omega arith) at
+returns-clause-slots c = λ k d at. c.loop-place.invariant.3 k d (let w = slice_get_within c.loop-place.slots k d at in omega arith) at
+
+pub returns-clause-shares : goal.returns-clause-shares
+returns-clause-shares c = λ k d at.
+    let i = c.loop-place.invariant in
+    let e = i.0 in
+    let f = i.1 in
+    let w = slice_get_within c.loop-place.shares k d at in
+    i.4 k d (omega (arith, w, e, f)) at

@@ -1,35 +1,80 @@
 use Rattle.std.proofs.Common.{◌≡◌, ◌-◌, sym, ap, ◌∙◌, refl, arith, length, take, drop, length-take, length-drop, get_or}
-use Rattle.std.proofs.lemmas.Option.{slice_get-get_or, slice_get_within}
+use Rattle.std.proofs.lemmas.Bool.{eqb-true}
+use Rattle.std.proofs.lemmas.Option.{slice_get-get_or}
 use Rattle.vcd_body.specs.Kept.{with_text}
-use Rattle.vcd_body.specs.Stored.{end_at}
+use Rattle.vcd_body.specs.Stored.{end_at, used, whole}
 use Rattle.vcd_body.specs.declared.item.Form.TheVariants as form
-use Rattle.vcd_body.specs.declared.slot.State.TheVariants as state
-use Rattle.vcd_body.proofs.StoreLemmas.{blank, text_kept, laid_set, set_slot, share_changes, some_text}
+use Rattle.vcd_body.specs.declared.slot.Share.{Share}
+use Rattle.vcd_body.proofs.StoreLemmas.{blank, blank_share, fits_in, none_fits, not_outside, share_changes, slot_laid, some_text, text_kept, text_stays, too_long}
 use Rattle.vcd_body.proofs.store.set_real.Goals as goal
+use Rattle.vcd_body.proofs.store.set_real.Goals.{then-is_empty-via-then-is_empty, then-is_empty-via-else-is_empty+then-text-end}
 
 pub returns-clause-changes : goal.returns-clause-changes
 returns-clause-changes c = λ laid.
-    let slot = c.in-Some.slot in
-    let text = c.args.text.now in
-    let values = c.args.values.now in
     let slots = c.args.slots.now in
-    let at = sym c.slot_at.ensures ∙ c.in-Some.is in
-    let same : get_or slots c.args.code blank ≡ slot = cc (sym (slice_get-get_or slots c.args.code blank (slice_get_within slots c.args.code slot at)) ∙ at) in
+    let parts = c.args.shares.now in
+    let slot = get_or slots c.args.code blank in
+    let share = get_or parts c.args.code blank_share in
+    let at = slice_get-get_or slots c.args.code blank c.if-code-slots.false in
+    let there = slice_get-get_or parts c.args.code blank_share c.if-code-shares.false in
+    let values = c.args.values.now in
+    let text = c.args.text.now in
     let l = laid c.args.code slot at in
-    let low = l.0 in
-    let high = l.1 in
+    let low = fits_in parts (length values) c.args.code slot share l there in
+    let high = l.within in
     let some = some_text text (sym c.is_empty.ensures ∙ c.if-is_empty.false) in
-    let lent : length (take (c.end_of-end.result - slot.start) (drop slot.start values)) ≡ c.end_of-end.result - slot.start = omega (arith, low, high, c.end_of-end.ensures, length-take (c.end_of-end.result - slot.start) (drop slot.start values), length-drop slot.start values) in
-    let size : length c.copy_front.new.to ≡ end_at slots (length values) c.args.code - slot.start = c.copy_front.auto.to ∙ lent ∙ ap (λ e. e - slot.start) c.end_of-end.ensures in
-    rw (same, c.end_of-end.ensures) (share_changes slots (length values) laid c.args.code slot at (set_slot state.Real (length text) slot) values c.copy_front.new.to (with_text form.RealText text) refl refl size
-    (text_kept slot (end_at slots (length values) c.args.code) values c.copy_front.new.to text some (omega (arith, low, c.end_of-end.ensures, c.if-text-end.false)) high size c.copy_front.ensures))
+    let lent : length (take (c.end_of-end.result - share.start) (drop share.start values)) ≡ c.end_of-end.result - share.start = omega (arith, low, high, c.end_of-end.ensures, length-take (c.end_of-end.result - share.start) (drop share.start values), length-drop share.start values) in
+    let size : length c.copy_front.new.to ≡ end_at parts (length values) c.args.code - share.start = c.copy_front.auto.to ∙ lent ∙ ap (λ e. e - share.start) c.end_of-end.ensures in
+    rw c.end_of-end.ensures (share_changes slots parts (length values) laid c.args.code slot share at there _ values c.copy_front.new.to (with_text form.RealText text) refl size
+    (text_kept (whole slot share) (end_at parts (length values) c.args.code) values c.copy_front.new.to text some (omega (arith, low, c.end_of-end.ensures, c.if-text-end.false)) high size c.copy_front.ensures))
 
 pub returns-clause-laid : goal.returns-clause-laid
 returns-clause-laid c = λ laid.
-    let slot = c.in-Some.slot in
-    let at = sym c.slot_at.ensures ∙ c.in-Some.is in
-    let same : get_or c.args.slots.now c.args.code blank ≡ slot = cc (sym (slice_get-get_or c.args.slots.now c.args.code blank (slice_get_within c.args.slots.now c.args.code slot at)) ∙ at) in
+    let slots = c.args.slots.now in
+    let parts = c.args.shares.now in
+    let slot = get_or slots c.args.code blank in
+    let share = get_or parts c.args.code blank_share in
+    let at = slice_get-get_or slots c.args.code blank c.if-code-slots.false in
+    let there = slice_get-get_or parts c.args.code blank_share c.if-code-shares.false in
+    let values = c.args.values.now in
+    let text = c.args.text.now in
     let l = laid c.args.code slot at in
-    let low = l.0 in
-    let some = some_text c.args.text.now (sym c.is_empty.ensures ∙ c.if-is_empty.false) in
-    rw same (laid_set c.args.slots.now (length c.args.values.now) laid c.args.code slot (set_slot state.Real (length c.args.text.now) slot) at refl (omega (arith, low, c.end_of-end.ensures, c.if-text-end.false)) (omega (arith, some)))
+    let low = fits_in parts (length values) c.args.code slot share l there in
+    let high = l.within in
+    let some = some_text text (sym c.is_empty.ensures ∙ c.if-is_empty.false) in
+    slot_laid slots parts (length values) laid c.args.code slot at _ (λ h is. let same : share ≡ h = cc (sym there ∙ is) in let start = ap (λ (x : Share). x.start) same in omega (arith, low, start, c.end_of-end.ensures, c.if-text-end.false)) (omega (arith, some))
+
+pub returns-then-end-start-clause-changes : goal.returns-then-end-start-clause-changes
+returns-then-end-start-clause-changes c = λ laid.
+    let slots = c.args.slots.now in
+    let parts = c.args.shares.now in
+    let values = c.args.values.now in
+    let text = c.args.text.now in
+    let slot = get_or slots c.args.code blank in
+    let share = get_or parts c.args.code blank_share in
+    let at = slice_get-get_or slots c.args.code blank c.if-code-slots.false in
+    let there = slice_get-get_or parts c.args.code blank_share c.if-code-shares.false in
+    let end = c.end_of-end.ensures in
+    let l = laid c.args.code slot at in
+    let low = fits_in parts (length values) c.args.code slot share l there in
+    let high = l.within in
+    absurd (not_outside share.start (used slot) c.end_of-end.result (length values) (omega (arith, low, end)) (omega (arith, high, end)) c.then-end-start.either)
+
+pub returns-then-is_empty-clause-changes : goal.returns-then-is_empty-clause-changes
+returns-then-is_empty-clause-changes c = λ laid.
+    let slots = c.args.slots.now in
+    let parts = c.args.shares.now in
+    let values = c.args.values.now in
+    let text = c.args.text.now in
+    let slot = get_or slots c.args.code blank in
+    let share = get_or parts c.args.code blank_share in
+    let at = slice_get-get_or slots c.args.code blank c.if-code-slots.false in
+    let there = slice_get-get_or parts c.args.code blank_share c.if-code-shares.false in
+    let end = c.end_of-end.ensures in
+    let n = length text in
+    let room = end_at parts (length values) c.args.code - share.start in
+    text_stays values slots parts c.args.code slot share form.RealText text at there
+    (elim c.then-is_empty.branch [
+      | then-is_empty-via-then-is_empty w ↦ none_fits form.RealText n room (eqb-true n 0 (sym c.is_empty.ensures ∙ w.if-is_empty.true))
+      | then-is_empty-via-else-is_empty+then-text-end w ↦ too_long form.RealText n room (omega (arith, end, w.if-text-end.true))
+    ])

@@ -5,4 +5,4 @@ use Rattle.vcd_body.specs.declared.item.Form.TheVariants as form
 use Rattle.vcd_body.proofs.store.set_written.Goals as goal
 
 pub returns-clause-changes : goal.returns-clause-changes
-returns-clause-changes c = λ laid. subst (λ (t : List ℕ). ChangesAt c.args.code (with_text form.Vector t) c.args.values.now c.args.slots.now c.set_at.new.values c.set_at.new.slots) c.put_digits.ensures (c.set_at.ensures.changes laid)
+returns-clause-changes c = λ laid. subst (λ (t : List ℕ). ChangesAt c.args.code (with_text form.Vector t) c.args.values.now c.args.slots.now c.args.shares.now c.set_at.new.values c.set_at.new.slots c.args.shares.now) c.put_digits.ensures (c.set_at.ensures.changes laid)

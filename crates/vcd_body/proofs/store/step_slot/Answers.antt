@@ -1,5 +1,5 @@
 use Rattle.std.proofs.Common.{◌≤◌, subst, sym}
-use Rattle.vcd_body.specs.Stored.{some_by}
+use Rattle.vcd_body.specs.Stored.{some_by, whole}
 use Rattle.vcd_body.specs.declared.slot.State.{State}
 use Rattle.vcd_body.proofs.FollowLemmas.{number_counted, number_same}
 use Rattle.vcd_body.proofs.NumberLemmas.{bits_some}
@@ -11,8 +11,8 @@ returns-then-step-clause-kept c = λ end values proper room.
     let is = c.packed-slot.ensures in
     let step = c.step_by_number-step.ensures in
     let same = c.number_in.ensures in
-    number_counted c.args.slot.now c.packed-slot.result bits.len bits.number c.args.size c.step_by_number-step.result c.requires.state is.count is.number bits.some bits.few bits.fits c.requires.long proper
-    (rw same at step.differs) (rw same at step.rises) (rw same at step.falls) end values room c.if-step.true c.counts_after-slot.result c.counts_after-slot.ensures
+    number_counted (whole c.args.slot.now c.args.share.now) c.packed-slot.result bits.len bits.number c.args.size c.step_by_number-step.result c.requires.state is.count is.number bits.some bits.few bits.fits c.requires.long proper
+    (rw same at step.differs) (rw same at step.rises) (rw same at step.falls) end values room c.if-step.true c.counts_after-share.result c.counts_after-share.ensures
 
 pub returns-then-step-clause-some : goal.returns-then-step-clause-some
 returns-then-step-clause-some c =
@@ -26,7 +26,7 @@ returns-else-step-clause-kept c = λ end values proper room.
     let is = c.packed-slot.ensures in
     let step = c.step_by_number-step.ensures in
     let same = c.number_in.ensures in
-    number_same c.args.slot.now c.packed-slot.result bits.len bits.number c.args.size c.step_by_number-step.result c.requires.state is.count is.number bits.some bits.few bits.fits c.requires.long proper
+    number_same (whole c.args.slot.now c.args.share.now) c.packed-slot.result bits.len bits.number c.args.size c.step_by_number-step.result c.requires.state is.count is.number bits.some bits.few bits.fits c.requires.long proper
     (rw same at step.differs) (rw same at step.rises) (rw same at step.falls) end values room c.if-step.false
 
 pub returns-else-step-clause-some : goal.returns-else-step-clause-some

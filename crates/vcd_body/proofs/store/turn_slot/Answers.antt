@@ -1,5 +1,6 @@
+use Rattle.vcd_body.specs.Stored.{whole}
 use Rattle.vcd_body.proofs.FollowLemmas.{bit_counted}
 use Rattle.vcd_body.proofs.store.turn_slot.Goals as goal
 
 pub returns-then-ne-clause-kept : goal.returns-then-ne-clause-kept
-returns-then-ne-clause-kept c = bit_counted c.args.slot.now c.args.one c.bit_state-after.result c.count_turn.new.counts c.requires c.bit_state-after.ensures (c.if-ne.ensures) c.count_turn.ensures
+returns-then-ne-clause-kept c = bit_counted (whole c.args.slot.now c.args.share.now) c.args.one c.bit_state-after.result c.count_turn.new.counts c.requires c.bit_state-after.ensures (c.if-ne.ensures) c.count_turn.ensures

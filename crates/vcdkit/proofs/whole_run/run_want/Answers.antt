@@ -44,6 +44,11 @@ returns-in_err-slots-clause-ends g c = λ h i front name v st.
     let e : c.from_residual-in_err-slots.result ≡ Err OutOfMemory = search rules in
     rw e (no_room c.args.want.now _ _ i front h name _ c.args.feed.now _ refl st)
 
+pub returns-in_err-shares-clause-ends : goal.returns-in_err-shares-clause-ends
+returns-in_err-shares-clause-ends g c = λ h i front name v st.
+    let e : c.from_residual-in_err-shares.result ≡ Err OutOfMemory = search rules in
+    rw e (no_room c.args.want.now _ _ i front h name _ c.args.feed.now _ refl st)
+
 pub returns-clause-ends : goal.returns-clause-ends
 returns-clause-ends g c = λ h i front name v st.
     let same : request_of h.scale (model_want c.args.want.now) ≡ Ok (request_of_task c.in-Some.task) = sym (c.in_ok-write_ticks.ensures.same h v) ∙ c.in_ok-task.ensures h v ∙ ap (λ task. task_request c.write_ticks.new.self (Ok task)) c.in-Some.is in

@@ -12,8 +12,9 @@ returns-clause-laid c =
     let values = c.args.values.now in
     let end = c.lay_out-end.ensures.end in
     let size = length-take-le c.lay_out-end.result values (omega (arith, end)) in
-    let same = c.lay_out-end.ensures.length ∙ length-take-le (length codes) c.args.slots.now c.requires.slots in
-    laid codes c.lay_out-end.new.slots (length values) (length (take c.lay_out-end.result values)) (sym same) (size ∙ end) c.lay_out-end.ensures.slots
+    let same = c.lay_out-end.auto.slots ∙ length-take-le (length codes) c.args.slots.now c.requires.slots in
+    let all = c.lay_out-end.auto.shares ∙ length-take-le (length codes) c.args.shares.now c.requires.shares in
+    laid codes c.lay_out-end.new.slots c.lay_out-end.new.shares (length values) (length (take c.lay_out-end.result values)) (sym same) (sym all) (size ∙ end) c.lay_out-end.ensures.slots c.lay_out-end.ensures.shares
 
 pub returns-clause-kept : goal.returns-clause-kept
 returns-clause-kept c = λ code.
@@ -21,8 +22,9 @@ returns-clause-kept c = λ code.
     let values = c.args.values.now in
     let end = c.lay_out-end.ensures.end in
     let size = length-take-le c.lay_out-end.result values (omega (arith, end)) in
-    let same = c.lay_out-end.ensures.length ∙ length-take-le (length codes) c.args.slots.now c.requires.slots in
-    new_kept codes c.lay_out-end.new.slots (length values) c.lay_out-end.result (sym same) end c.lay_out-end.ensures.slots (take c.lay_out-end.result values) size code
+    let same = c.lay_out-end.auto.slots ∙ length-take-le (length codes) c.args.slots.now c.requires.slots in
+    let all = c.lay_out-end.auto.shares ∙ length-take-le (length codes) c.args.shares.now c.requires.shares in
+    new_kept codes c.lay_out-end.new.slots c.lay_out-end.new.shares (length values) c.lay_out-end.result (sym same) (sym all) end c.lay_out-end.ensures.slots c.lay_out-end.ensures.shares (take c.lay_out-end.result values) size code
 
 pub returns-clause-room : goal.returns-clause-room
 returns-clause-room c = λ most code declared at.
@@ -30,8 +32,9 @@ returns-clause-room c = λ most code declared at.
     let values = c.args.values.now in
     let end = c.lay_out-end.ensures.end in
     let size = length-take-le c.lay_out-end.result values (omega (arith, end)) in
-    let same = c.lay_out-end.ensures.length ∙ length-take-le (length codes) c.args.slots.now c.requires.slots in
-    new_kept codes c.lay_out-end.new.slots (length values) c.lay_out-end.result (sym same) end c.lay_out-end.ensures.slots (take c.lay_out-end.result values) size code
+    let same = c.lay_out-end.auto.slots ∙ length-take-le (length codes) c.args.slots.now c.requires.slots in
+    let all = c.lay_out-end.auto.shares ∙ length-take-le (length codes) c.args.shares.now c.requires.shares in
+    new_kept codes c.lay_out-end.new.slots c.lay_out-end.new.shares (length values) c.lay_out-end.result (sym same) (sym all) end c.lay_out-end.ensures.slots c.lay_out-end.ensures.shares (take c.lay_out-end.result values) size code
     ∙ ap (option_map (λ (x : Code). unset (start_of codes (length values) (code + 1) - start_of codes (length values) code))) at
     ∙ ap (λ n. Some (unset n)) (whole_share codes (length values) code declared most at)
 

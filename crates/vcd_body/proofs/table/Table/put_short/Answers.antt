@@ -4,7 +4,7 @@ use Rattle.vcd_text.specs.Device.{Takes}
 use Rattle.vcd_body.specs.Contents.{shown_code}
 use Rattle.vcd_body.specs.Kept.{value_at_size}
 use Rattle.vcd_body.specs.Stored.{held_by}
-use Rattle.vcd_body.proofs.TableLemmas.{line_there}
+use Rattle.vcd_body.proofs.TableLemmas.{line_there, share_there}
 use Rattle.vcd_body.proofs.table.Table.put_short.Goals as goal
 
 pub returns-clause-takes : goal.returns-clause-takes
@@ -12,7 +12,7 @@ returns-clause-takes g c = λ laid.
     let slot = c.in-Some-slot_at.slot in
     let declared = c.in-Some.declared in
     let share = c.in-Some-share_in.share in
-    let line = line_there c.args.view c.args.self.now c.args.code declared slot (sym c.code_at.ensures ∙ c.in-Some.is) (sym c.slot_at.ensures ∙ c.in-Some-slot_at.is) in
+    let line = line_there c.args.view c.args.self.now c.args.code declared slot laid (sym c.code_at.ensures ∙ c.in-Some.is) (sym c.slot_at.ensures ∙ c.in-Some-slot_at.is) in
     subst (λ l. Takes (g.W.Sink.device c.args.w.now) (g.W.Sink.device c.put_value_line.new.w) l c.put_value_line.result)
     (ap (λ (t : List ℕ). line_if_set (record { text = t; size = declared.size; event = declared.event }) (value_at_size declared.size (held_by slot.state slot.len share.now))) c.text_at-id.ensures
     ∙ ap (λ (l : List ℕ). line_if_set (shown_code c.args.view.text.now declared) (value_at_size declared.size (held_by slot.state slot.len l))) c.in-Some-share_in.ensures.share
@@ -21,3 +21,10 @@ returns-clause-takes g c = λ laid.
 
 pub returns-clause-counts : goal.returns-clause-counts
 returns-clause-counts g c = let puts = c.put_value_line.ensures c.in-Some.declared.event in puts.1
+
+pub returns-in_default-share_in-clause-takes : goal.returns-in_default-share_in-clause-takes
+returns-in_default-share_in-clause-takes g c = λ laid.
+    let slot = c.in-Some-slot_at.slot in
+    let at = sym c.slot_at.ensures ∙ c.in-Some-slot_at.is in
+    let p = share_there c.args.self.now c.args.code slot laid at in
+    absurd (c.share_in.ensures.there p.0 p.1 p.2 c.in_default-share_in.is)

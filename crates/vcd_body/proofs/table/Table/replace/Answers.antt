@@ -1,5 +1,5 @@
 use Rattle.std.proofs.Common.{take, drop, sym, ◌∙◌}
-use Rattle.vcd_body.specs.Stored.{one_digit, used}
+use Rattle.vcd_body.specs.Stored.{one_digit, start_in, used}
 use Rattle.vcd_body.specs.Contents.{held_at}
 use Rattle.vcd_body.proofs.StepLemmas.{digit_step}
 use Rattle.vcd_body.proofs.StoreLemmas.{held_one}
@@ -13,7 +13,7 @@ returns-in-len1-Some-clause-step c = λ laid some.
     let form = c.is_digit_step.ensures.form c.if-is_digit_step.true in
     let one = c.is_digit_step.ensures.one c.if-is_digit_step.true in
     let at = sym c.slot.ensures ∙ c.in-len1-Some.is-1 in
-    let before = held_there old c.args.code slot at ∙ held_one slot.state slot.len one.0 (take (used slot) (drop slot.start old.values.now)) one.1 in
+    let before = held_there old c.args.code slot laid at ∙ held_one slot.state slot.len one.0 (take (used slot) (drop (start_in old.shares.now c.args.code) old.values.now)) one.1 in
     let is = c.step_by_digit.ensures in
     digit_step c.step_by_digit.result c.args.form c.args.text.now one.0 c.args.size (one_digit slot.state) (held_at old c.args.code) form c.in-len1-Some.len_at_least c.in-len1-Some.len_below one.1 before (is.differs one.0 one.1) is.rises is.falls
 
