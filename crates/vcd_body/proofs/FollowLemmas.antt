@@ -9,7 +9,7 @@ use Rattle.vcd_body.specs.Contents.{ChangesCode, held_at, kept_at}
 use Rattle.vcd_body.specs.Given.{IsText}
 use Rattle.vcd_body.specs.Binary.{binary_digits, count_in, is_proper, number_in}
 use Rattle.vcd_body.specs.Items.{model_form}
-use Rattle.vcd_body.specs.Kept.{Held, IsStep, Kept, counts_if, counts_with, differs, goes_from, last_digit_in, value_at_size, with_change, with_counted, with_held, with_step, with_text}
+use Rattle.vcd_body.specs.Kept.{Held, IsStep, Kept, counts_if, counts_with, differs, goes_from, last_digit_in, value_at_size, with_change, with_counted, with_held, with_number, with_number_change, with_step, with_text}
 use Rattle.vcd_body.specs.Packed.{held_digit}
 use Rattle.vcd_body.specs.Stored.{ChangesAt, Whole, held_by, held_of, kept_in, kept_with, one_digit, share_of, used_by}
 use denote.Enum.Bare.{sameb}
@@ -24,7 +24,7 @@ use Rattle.vcd_body.specs.declared.slot.State.TheVariants as state
 use Rattle.vcd_body.specs.declared.step.Step.{Step}
 use Rattle.vcd_body.specs.declared.table.Table.{Table}
 use Rattle.vcd_body.proofs.BinaryLemmas.{length_binary, proper_count}
-use Rattle.vcd_body.proofs.NumberLemmas.{bits_kept, number_step, proper_number}
+use Rattle.vcd_body.proofs.NumberLemmas.{bits_kept, number_is_text, number_step, proper_number}
 use Rattle.vcd_body.proofs.SetLemmas.{good_value}
 use Rattle.vcd_body.proofs.StepLemmas.{digit_step}
 use Rattle.vcd_body.proofs.StoreLemmas.{digit_kept, held_one, same_or_not, set_whole, text_fits}
@@ -33,6 +33,10 @@ use Rattle.vcd_body.proofs.StoreLemmas.{digit_kept, held_one, same_or_not, set_w
 pub changed_by : (s : Step) (size : ℕ) (f : Form) (text : List ℕ) (k : Kept) → 0 < length text → IsStep s (value_at_size size k.held) (value_with size (model_form f) text)
     → with_change size f text k ≡ cond s.differs (with_step s.rises s.falls (with_text f text k)) (with_text f text k)
 changed_by s size f text k some is = rw (lt-ltb 0 (length text) some, is.0, is.1, is.2) refl
+
+pub changed_to : (s : Step) (size l n : ℕ) (k : Kept) → IsStep s (value_at_size size k.held) (value_with size (model_form form.Vector) (binary_digits l n))
+    → with_number_change size l n k ≡ cond s.differs (with_step s.rises s.falls (with_number l n k)) (with_number l n k)
+changed_to s size l n k is = rw (is.0, is.1, is.2) refl
 
 -- one change after another of the same code
 pub change_twice : (code : ℕ) (f g : Kept → Kept) (v1 v2 v3 : List ℕ) (s1 s2 s3 : List Slot) (h1 h2 h3 : List Share) → ChangesAt code f v1 s1 h1 v2 s2 h2 → ChangesAt code g v2 s2 h2 v3 s3 h3 → ChangesAt code (λ k. g (f k)) v1 s1 h1 v3 s3 h3
@@ -54,6 +58,22 @@ change_as code f g v v' s s' h h' same a = λ p. a p ∙ by_place p (same_or_not
     by_place : (p : ℕ) → (p ≡ code) ⊎ (p ≢ code) → cond (p == code) (option_map f (kept_in v s h p)) (kept_in v s h p) ≡ cond (p == code) (option_map g (kept_in v s h p)) (kept_in v s h p)
     by_place p (inl e) = rw (eq-eqb p code e) (maps (kept_in v s h p) (λ k is. same k (ap (kept_in v s h) (sym e) ∙ is)))
     by_place p (inr e) = rw (ne_eqb p code e) refl
+
+-- binary digits that were set, where their text has room
+module _ (code l n : ℕ) (v v' : List ℕ) (s s' : List Slot) (h h' : List Share) (k : Kept) (some : 1 ≤ l) (few : l ≤ 32) (at : kept_in v s h code ≡ Some k) (room : 8 ≤ k.room) where
+  enough : (x : Kept) → kept_in v s h code ≡ Some x → 8 ≤ x.room
+  enough x is = let same : k ≡ x = cc (sym at ∙ is) in subst (λ (y : Kept). 8 ≤ y.room) same room
+
+  pub number_as_text : ChangesAt code (with_number l n) v s h v' s' h' → ChangesAt code (with_text form.Vector (binary_digits l n)) v s h v' s' h'
+  number_as_text changes = change_as code (with_number l n) (with_text form.Vector (binary_digits l n)) v v' s s' h h' (λ x is. number_is_text l n x some few (enough x is)) changes
+
+  pub step_as_text : (size : ℕ) → ChangesAt code (with_number_change size l n) v s h v' s' h' → ChangesAt code (with_change size form.Vector (binary_digits l n)) v s h v' s' h'
+  step_as_text size changes =
+      let c = length_binary l n in
+      let ds = binary_digits l n in
+      change_as code (with_number_change size l n) (with_change size form.Vector ds) v v' s s' h h'
+      (λ x is. ap (with_counted (value_at_size size x.held) (value_with size (model_form form.Vector) ds)) (number_is_text l n x some few (enough x is))
+      ∙ sym (ap (λ (b : Bool). cond b (with_counted (value_at_size size x.held) (value_with size (model_form form.Vector) ds) (with_text form.Vector ds x)) x) (lt-ltb 0 (length ds) (omega (arith, c, some))))) changes
 
 -- what is kept of one digit
 one_text : (f : Form) (digit : ℕ) (k : Kept) → f ≢ form.RealText → with_text f (digit ∷ []) k ≡ with_held (Held.Digits (held_digit digit ∷ [])) k
@@ -91,29 +111,27 @@ bit_is digit (inl e) = rw e refl
 bit_is digit (inr e) = rw e refl
 
 -- one of binary digits that was set to others of as many
-module _ (slot : Whole) (p l n size : ℕ) (s : Step) (bits : slot.state ≡ state.Bits) (count : count_in p ≡ l) (number : number_in p ≡ n) (some : 1 ≤ l) (few : l ≤ 32) (fits : n < 2 ^ l) (long : max size (count_in slot.len) ≡ max size l) (proper : is_proper slot.len ≡ true)
+module _ (slot : Whole) (p l n size : ℕ) (s : Step) (bits : slot.state ≡ state.Bits) (count : count_in p ≡ l) (number : number_in p ≡ n) (some : 1 ≤ l) (fits : n < 2 ^ l) (long : max size (count_in slot.len) ≡ max size l) (proper : is_proper slot.len ≡ true)
     (differ : s.differs ≡ not (number_in slot.len == n)) (rise : s.rises ≡ goes_from 48 49 (Some (48 + number_in slot.len % 2)) (Some (48 + n % 2))) (fall : s.falls ≡ goes_from 49 48 (Some (48 + number_in slot.len % 2)) (Some (48 + n % 2)))
-    (end : ℕ) (values : List ℕ) (room : slot.start + 8 ≤ end) where
-  number_set : kept_with values end (set_whole state.Bits p slot) ≡ with_text form.Vector (binary_digits l n) (kept_with values end slot)
-  number_set = bits_kept slot p l n end values count number some few room
+    (end : ℕ) (values : List ℕ) where
+  number_set : kept_with values end (set_whole state.Bits p slot) ≡ with_number l n (kept_with values end slot)
+  number_set = bits_kept slot p l n end values count number
 
-  number_told : with_change size form.Vector (binary_digits l n) (kept_with values end slot)
-      ≡ cond s.differs (with_step s.rises s.falls (with_text form.Vector (binary_digits l n) (kept_with values end slot))) (with_text form.Vector (binary_digits l n) (kept_with values end slot))
+  number_told : with_number_change size l n (kept_with values end slot) ≡ cond s.differs (with_step s.rises s.falls (with_number l n (kept_with values end slot))) (with_number l n (kept_with values end slot))
   number_told =
-      let c = length_binary l n in
-      changed_by s size form.Vector (binary_digits l n) (kept_with values end slot) (omega (arith, c, some))
+      changed_to s size l n (kept_with values end slot)
       (number_step s (held_of values slot) (count_in slot.len) l (number_in slot.len) n size (ap (λ (st : State). held_by st slot.len (take (used_by slot.state slot.len) (drop slot.start values))) bits) (proper_count slot.len proper) some (proper_number slot.len proper) fits long differ rise fall)
 
-  pub number_same : s.differs ≡ false → kept_with values end (set_whole slot.state p slot) ≡ with_change size form.Vector (binary_digits l n) (kept_with values end slot)
+  pub number_same : s.differs ≡ false → kept_with values end (set_whole slot.state p slot) ≡ with_number_change size l n (kept_with values end slot)
   number_same stayed =
       ap (λ (st : State). kept_with values end (set_whole st p slot)) bits ∙ number_set
-      ∙ sym (number_told ∙ ap (λ (b : Bool). cond b (with_step s.rises s.falls (with_text form.Vector (binary_digits l n) (kept_with values end slot))) (with_text form.Vector (binary_digits l n) (kept_with values end slot))) stayed)
+      ∙ sym (number_told ∙ ap (λ (b : Bool). cond b (with_step s.rises s.falls (with_number l n (kept_with values end slot))) (with_number l n (kept_with values end slot))) stayed)
 
   pub number_counted : s.differs ≡ true → (counts : List ℕ) → counts ≡ counts_if s.falls (counts_if s.rises (counts_with slot.counts 0) 1) 2
-      → kept_with values end (record { state = slot.state; start = slot.start; len = p; counts = counts; chosen = slot.chosen }) ≡ with_change size form.Vector (binary_digits l n) (kept_with values end slot)
+      → kept_with values end (record { state = slot.state; start = slot.start; len = p; counts = counts; chosen = slot.chosen }) ≡ with_number_change size l n (kept_with values end slot)
   number_counted differed counts is =
       rw is (ap (λ (st : State). with_step s.rises s.falls (kept_with values end (set_whole st p slot))) bits ∙ ap (with_step s.rises s.falls) number_set
-      ∙ sym (number_told ∙ ap (λ (b : Bool). cond b (with_step s.rises s.falls (with_text form.Vector (binary_digits l n) (kept_with values end slot))) (with_text form.Vector (binary_digits l n) (kept_with values end slot))) differed))
+      ∙ sym (number_told ∙ ap (λ (b : Bool). cond b (with_step s.rises s.falls (with_number l n (kept_with values end slot))) (with_number l n (kept_with values end slot))) differed))
 
 -- a form that was compared with that of a real number's text
 pub no_real : (f : Form) → true ≡ not (sameb the_form f form.RealText) → f ≢ form.RealText
@@ -159,6 +177,20 @@ pub set_alone : (old new : Table) (code size : ℕ) (f : Form) (text : List ℕ)
 set_alone old new code size f text s sets some is stayed =
     change_as code (with_text f text) (with_change size f text) old.values.now new.values.now old.slots.now new.slots.now old.shares.now new.shares.now
     (λ k at. sym (changed_by s size f text k some (subst (λ (h : Held). IsStep s (value_at_size size h) (value_with size (model_form f) text)) (held_is old code k at) is) ∙ ap (λ (b : Bool). cond b (with_step s.rises s.falls (with_text f text k)) (with_text f text k)) stayed)) sets
+
+-- the same of binary digits
+pub number_and_counted : (old mid new : Table) (code size l n : ℕ) (s : Step) → ChangesCode code (with_number l n) old mid → IsStep s (value_at_size size (held_at old code)) (value_with size (model_form form.Vector) (binary_digits l n)) → s.differs ≡ true
+    → ChangesCode code (with_step s.rises s.falls) mid new → ChangesCode code (with_number_change size l n) old new
+number_and_counted old mid new code size l n s sets is differed counts =
+    change_as code (λ k. with_step s.rises s.falls (with_number l n k)) (with_number_change size l n) old.values.now new.values.now old.slots.now new.slots.now old.shares.now new.shares.now
+    (λ k at. sym (changed_to s size l n k (subst (λ (h : Held). IsStep s (value_at_size size h) (value_with size (model_form form.Vector) (binary_digits l n))) (held_is old code k at) is) ∙ ap (λ (b : Bool). cond b (with_step s.rises s.falls (with_number l n k)) (with_number l n k)) differed))
+    (change_twice code (with_number l n) (with_step s.rises s.falls) old.values.now mid.values.now new.values.now old.slots.now mid.slots.now new.slots.now old.shares.now mid.shares.now new.shares.now sets counts)
+
+pub number_alone : (old new : Table) (code size l n : ℕ) (s : Step) → ChangesCode code (with_number l n) old new → IsStep s (value_at_size size (held_at old code)) (value_with size (model_form form.Vector) (binary_digits l n)) → s.differs ≡ false
+    → ChangesCode code (with_number_change size l n) old new
+number_alone old new code size l n s sets is stayed =
+    change_as code (with_number l n) (with_number_change size l n) old.values.now new.values.now old.slots.now new.slots.now old.shares.now new.shares.now
+    (λ k at. sym (changed_to s size l n k (subst (λ (h : Held). IsStep s (value_at_size size h) (value_with size (model_form form.Vector) (binary_digits l n))) (held_is old code k at) is) ∙ ap (λ (b : Bool). cond b (with_step s.rises s.falls (with_number l n k)) (with_number l n k)) stayed)) sets
 
 -- an empty text is passed over
 pub none_changes : (t : Table) (code size : ℕ) (f : Form) (text : List ℕ) → (length text == 0) ≡ true → ChangesCode code (with_change size f text) t t

@@ -1,5 +1,5 @@
 -- Shares that are laid out one behind the other.
-use Rattle.std.proofs.Common.{◌≡◌, ◌≢◌, ℕ, ◌+◌, ◌-◌, ◌<◌, ◌≤◌, min, false, List, length, slice_get, slice_set, Option, Some, None, refl, sym, ap, ◌∙◌, arith, ◌⊎◌, inl, inr}
+use Rattle.std.proofs.Common.{◌≡◌, ◌≢◌, ℕ, ◌+◌, ◌-◌, ◌<◌, ◌≤◌, min, false, List, [], ◌∷◌, length, slice_get, slice_set, Option, Some, None, refl, sym, ap, ◌∙◌, arith, ◌⊎◌, inl, inr}
 use Rattle.std.specs.Prelude.{option_map}
 use Rattle.std.proofs.Math.Seq.{take-length}
 use Rattle.std.proofs.lemmas.Bool.{cases_lt}
@@ -15,7 +15,7 @@ use Rattle.vcd_body.specs.declared.slot.State.TheVariants as state
 use Rattle.vcd_body.proofs.StoreLemmas.{get_other, get_set, no_slot, same_or_not, some_at, whole_is}
 
 abbrev unset_slot : Slot
-unset_slot = record { state = state.Unset; len = 0; chosen = false }
+unset_slot = record { state = state.Unset; len = 0; chosen = false; low = 0 ∷ 0 ∷ 0 ∷ [] }
 
 abbrev share_at : Code → ℕ
 share_at c = share_of c.size

@@ -16,6 +16,7 @@ pub mod CodeLanes
 pub mod BinaryLemmas
 pub mod BinaryShort
 pub mod StoreLemmas
+mod CountersLemmas
 pub mod LayoutLemmas
 pub mod HeldLemmas
 pub mod TableLemmas

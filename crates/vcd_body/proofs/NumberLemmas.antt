@@ -14,7 +14,7 @@ use Rattle.std.proofs.lemmas.Slice.Eq.{bytes_eq-Decides}
 use Rattle.vcd_model.specs.Values.{extend, extension, value_with}
 use Rattle.vcd_body.specs.Binary.{binary_digits, count_in, is_proper, number_in}
 use Rattle.vcd_body.specs.Items.{model_form}
-use Rattle.vcd_body.specs.Kept.{Held, IsStep, Kept, bytes_for, goes_from, room_for, value_at_size, with_held, with_text}
+use Rattle.vcd_body.specs.Kept.{Held, IsStep, Kept, bytes_for, goes_from, room_for, value_at_size, with_held, with_number, with_text}
 use Rattle.vcd_body.specs.Packed.{held_digit}
 use Rattle.vcd_body.specs.Stored.{Whole, digits_held, held_by, held_of, kept_with, some_by}
 use Rattle.vcd_body.specs.declared.item.Form.TheVariants as form
@@ -182,19 +182,22 @@ bits_room n room few most = by_one (n == 1)
     by_one true = omega arith
     by_one false = let a = div_ceil_times n 4 (omega arith) in omega arith
 
-pub bits_kept : (s : Whole) (p l n end : ℕ) (values : List ℕ) → count_in p ≡ l → number_in p ≡ n → 1 ≤ l → l ≤ 32 → s.start + 8 ≤ end
-    → kept_with values end (set_whole state.Bits p s) ≡ with_text form.Vector (binary_digits l n) (kept_with values end s)
-bits_kept s p l n end values count number some few room =
-    let c = length_binary l n in
-    let ds = binary_digits l n in
-    let yes = text_fits form.Vector (length ds) (end - s.start) (omega (arith, c)) (bits_room (length ds) (end - s.start) (omega (arith, c)) (omega arith)) in
+pub bits_kept : (s : Whole) (p l n end : ℕ) (values : List ℕ) → count_in p ≡ l → number_in p ≡ n → kept_with values end (set_whole state.Bits p s) ≡ with_number l n (kept_with values end s)
+bits_kept s p l n end values count number =
     ap (λ i. as_held (Held.Digits (binary_digits i (number_in p)))) count
     ∙ ap (λ i. as_held (Held.Digits (binary_digits l i))) number
-    ∙ sym (ap (λ (x : List ℕ). as_held (Held.Digits x)) (binary_held l n))
-    ∙ sym (ap (λ (b : Bool). as_held (cond b (Held.Digits (map held_digit ds)) (held_of values s))) yes)
   where
     as_held : Held → Kept
     as_held h = with_held h (kept_with values end s)
+
+-- where their text has room, they are held as it is
+pub number_is_text : (l n : ℕ) (k : Kept) → 1 ≤ l → l ≤ 32 → 8 ≤ k.room → with_number l n k ≡ with_text form.Vector (binary_digits l n) k
+number_is_text l n k some few room =
+    let c = length_binary l n in
+    let ds = binary_digits l n in
+    let yes = text_fits form.Vector (length ds) k.room (omega (arith, c, some)) (bits_room (length ds) k.room (omega (arith, c, few)) room) in
+    sym (ap (λ (x : List ℕ). with_held (Held.Digits x) k) (binary_held l n))
+    ∙ sym (ap (λ (b : Bool). with_held (cond b (Held.Digits (map held_digit ds)) k.held) k) yes)
 
 pub bits_some : (p l n : ℕ) → count_in p ≡ l → number_in p ≡ n → 1 ≤ l → n < 2 ^ l → 1 ≤ some_by state.Bits p
 bits_some p l n count number some small =

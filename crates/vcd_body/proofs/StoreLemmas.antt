@@ -334,10 +334,10 @@ module _ (slots : List Slot) (shares : List Share) (n : ℕ) (laid : AreLaidOut 
 
 -- what an index outside the slots, or the shares, would give in a proof
 abbrev pub blank : Slot
-blank = record { len = 0; state = state.Unset; chosen = false }
+blank = record { len = 0; state = state.Unset; chosen = false; low = [] }
 
 abbrev pub blank_share : Share
-blank_share = record { start = 0; counts = [] }
+blank_share = record { start = 0; middle = []; high = [] }
 
 -- with another value
 abbrev kept_as : ℕ → Whole → Held → Kept

@@ -1,6 +1,6 @@
 -- The value of a code of a view, as the table has it.
 use Rattle.std.proofs.Common.{Bor, ◌≡◌, ◌≢◌, [], ◌<◌, ◌≤◌, ◌==◌, ◌||◌, Bool, true, false, cond, ◌⊎◌, inl, inr, ℕ, ◌+◌, arith, List, slice_get, Option, Some, None, refl, sym, ap, ◌∙◌}
-use Rattle.std.specs.Prelude.{IfSome, option_map, option_and_then, unwrap_or, length, map, slice_range, ◌∷◌, sum_by}
+use Rattle.std.specs.Prelude.{IfSome, option_map, option_and_then, unwrap_or, drop, length, map, take, slice_range, ◌∷◌, sum_by}
 use Rattle.std.specs.List.{AllZip}
 use Rattle.std.proofs.lemmas.List.Sums.{sum_by-cons}
 use Rattle.std.proofs.lemmas.Option.{slice_get-map, slice_get_within}
@@ -14,9 +14,10 @@ use Rattle.vcd_view.specs.declared.view.Code.{Code}
 use Rattle.vcd_view.specs.declared.view.HeadView.{HeadView}
 use Rattle.vcd_body.specs.Contents.{ChangesCode, IsLaidOut, codes_in, codes_shown, held_at, is_chosen, kept_at, line_of, shown_code, value_in}
 use Rattle.vcd_body.specs.Kept.{Held, Kept, as_chosen, value_at_size}
-use Rattle.vcd_body.specs.Stored.{Whole, end_at, held_from, kept_with, room_of, share_of, some_by, start_in, start_or, used, whole}
+use Rattle.vcd_body.specs.Stored.{Whole, end_at, held_by, held_from, kept_with, room_of, share_of, some_by, start_in, start_or, used, whole}
 use denote.Enum.Bare.{sameb}
 use Rattle.vcd_body.specs.contracts.slot.State.{the_type}
+use Rattle.vcd_body.specs.declared.slot.Share.{Share}
 use Rattle.vcd_body.specs.declared.slot.Slot.{Slot}
 use Rattle.vcd_body.specs.declared.slot.State.{State}
 use Rattle.vcd_body.specs.declared.slot.State.TheVariants as state
@@ -29,6 +30,10 @@ held_there t code s laid at =
     let l = laid code s at in
     ap (λ (o : Option Whole). unwrap_or (option_map (λ (k : Kept). k.held) (option_map (kept_with t.values.now (end_at t.shares.now (length t.values.now) code)) o)) Held.Unset) (whole_is t.slots.now t.shares.now code s l.share at l.there)
     ∙ ap (λ n. held_from t.values.now n s) (sym (ap (start_or 0) l.there))
+
+-- of a table that may not be laid out, by the slot and the share
+pub held_here : (t : Table) (code : ℕ) (s : Slot) (h : Share) → slice_get t.slots.now code ≡ Some s → slice_get t.shares.now code ≡ Some h → held_at t code ≡ held_by s.state s.len (take (used s) (drop h.start t.values.now))
+held_here t code s h at there = ap (λ (o : Option Whole). unwrap_or (option_map (λ (k : Kept). k.held) (option_map (kept_with t.values.now (end_at t.shares.now (length t.values.now) code)) o)) Held.Unset) (whole_is t.slots.now t.shares.now code s h at there)
 
 -- its share lies within the values
 pub share_there : (t : Table) (code : ℕ) (s : Slot) → IsLaidOut t → slice_get t.slots.now code ≡ Some s → (code < length t.shares.now) × (start_in t.shares.now code + used s ≤ length t.values.now) × (1 ≤ some_by s.state s.len)

@@ -3,6 +3,7 @@ use Rattle.std.specs.Prelude.{◌≡◌, ℕ, ◌+◌, ◌-◌, ◌^◌, ◌==�
 use Rattle.std.specs.List.{last_or}
 use Rattle.std.specs.Str.{byte}
 use Rattle.vcd_model.specs.Values.{Value, extend, same_value, value_with}
+use Rattle.vcd_body.specs.Binary.{binary_digits}
 use Rattle.vcd_body.specs.Items.{model_form}
 use Rattle.vcd_body.specs.Packed.{held_digit, quarter_of}
 use Rattle.vcd_body.specs.declared.item.Form.{Form}
@@ -54,6 +55,10 @@ with_held h k = record { held = h; counts = k.counts; chosen = k.chosen; room = 
 -- the value is that of the text, where it is held; else it stays
 abbrev pub with_text : Form → List ℕ → Kept → Kept
 with_text f text k = with_held (cond (fits f (length text) k.room) (held_as f text) k.held) k
+
+-- the value is that of so many binary digits, as their number; they need no room
+abbrev pub with_number : ℕ → ℕ → Kept → Kept
+with_number count number k = with_held (Digits (binary_digits count number)) k
 
 -- the definitions' value at a size, none where there is no value
 abbrev pub value_at_size : ℕ → Held → Option Value
@@ -125,6 +130,10 @@ with_counted old new k = cond (differs old new) (with_step (goes_from (byte "0")
 -- the value is that of the text, where it is held, and its step at this size is counted; an empty text is passed over
 abbrev pub with_change : ℕ → Form → List ℕ → Kept → Kept
 with_change size f text k = cond (nat_lt 0 (length text)) (with_counted (value_at_size size k.held) (value_with size (model_form f) text) (with_text f text k)) k
+
+-- the same of so many binary digits, which need no room
+abbrev pub with_number_change : ℕ → ℕ → ℕ → Kept → Kept
+with_number_change size count number k = with_counted (value_at_size size k.held) (value_with size (model_form form.Vector) (binary_digits count number)) (with_number count number k)
 
 abbrev pub as_chosen : Kept → Kept
 as_chosen k = record { held = k.held; counts = k.counts; chosen = true; room = k.room }

@@ -7,6 +7,7 @@ pub mod Changes
 pub mod Contents
 pub mod Packed
 pub mod Binary
+pub mod Counters
 pub mod Kept
 pub mod Stored
 pub mod Ahead

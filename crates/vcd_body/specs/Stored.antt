@@ -1,7 +1,8 @@
--- How a table keeps it: a slot for each code, its counters, and a share of the bytes of values.
+-- How a table keeps it: a slot for each code, with the lowest parts of its counters, and a share of the bytes of values, with the others.
 use Rattle.std.specs.Prelude.{◌≡◌, ℕ, ◌+◌, ◌-◌, ◌≤◌, ◌==◌, min, max, cond, List, [], ◌∷◌, ◌++◌, length, take, drop, map, sum_by, Bool, false, slice_get, Option, Some, None, option_map, option_and_then}
 use Rattle.std.specs.Str.{byte}
 use Rattle.vcd_view.specs.declared.view.Code.{Code}
+use Rattle.vcd_body.specs.Counters.{counts_of}
 use Rattle.vcd_body.specs.Kept.{Held, Kept, bytes_for}
 use Rattle.vcd_model.specs.Values.{extend, short}
 use Rattle.vcd_body.specs.Binary.{binary_digits, count_in, is_proper, number_in}
@@ -23,7 +24,7 @@ one_digit state.Digits = None
 one_digit state.Bits = None
 one_digit state.Real = None
 
--- how many bytes of its share are in use; those of a number are left alone, and as many as 32 digits would take
+-- how many bytes of its share are in use
 abbrev pub used_by : State → ℕ → ℕ
 used_by state.Unset len = 0
 used_by state.Zero len = 0
@@ -32,7 +33,7 @@ used_by state.Unknown len = 0
 used_by state.High len = 0
 used_by state.Plain len = len
 used_by state.Digits len = bytes_for len
-used_by state.Bits len = 8
+used_by state.Bits len = 0
 used_by state.Real len = len
 
 abbrev pub used : Slot → ℕ
@@ -76,7 +77,7 @@ pub record Whole : Type 0 where
   pub chosen : Bool
 
 abbrev pub whole : Slot → Share → Whole
-whole s h = record { state = s.state; len = s.len; start = h.start; counts = h.counts; chosen = s.chosen }
+whole s h = record { state = s.state; len = s.len; start = h.start; counts = counts_of s.low h.middle h.high; chosen = s.chosen }
 
 abbrev pub whole_at : List Slot → List Share → ℕ → Option Whole
 whole_at slots shares code = option_and_then (λ (s : Slot). option_map (whole s) (slice_get shares code)) (slice_get slots code)
@@ -150,11 +151,11 @@ start_of codes n k = min (room_of (take k codes)) n
 
 -- a code of which nothing is known
 abbrev pub IsUnset : Slot → Type 0
-IsUnset s = s ≡ record { state = state.Unset; len = 0; chosen = false }
+IsUnset s = s ≡ record { state = state.Unset; len = 0; chosen = false; low = 0 ∷ 0 ∷ 0 ∷ [] }
 
 -- a share that begins here, of a code of which nothing was counted
 abbrev pub share_from : ℕ → Share
-share_from start = record { start = start; counts = 0 ∷ 0 ∷ 0 ∷ [] }
+share_from start = record { start = start; middle = 0 ∷ 0 ∷ 0 ∷ []; high = 0 ∷ 0 ∷ 0 ∷ [] }
 
 abbrev pub IsUncounted : Share → Type 0
 IsUncounted h = h ≡ share_from 0

@@ -36,7 +36,8 @@
 //! - `answer`: `Done`, `More`, `Stop`: how a run over a body or several ends, and whether it goes on
 //! - `change`: `put_change`; `renamed`: `put_renamed_change`, `put_renamed_bits`; `lines`: `left_out`; `time_line`: `put_time`
 //! - `table`, `slot`: `Table`, `Shown`; `Slot`, `Share`; `step`: `Step`, what became of a value that was set
-//! - `store`: slots, counters and shares of the values, and how they are set; `packed`: digits in a share, a byte each or four to a byte
+//! - `store`: slots and shares of the values, and how they are set; `packed`: digits in a share, a byte each or four to a byte
+//! - `counters`: the counters of a code, which lie in parts in its slot and its share
 //! - `bits`: `Bits`, up to 32 binary digits as a number, and how a slot holds them
 //! - `held`, `held_text`: the digits of a held value, and how it is written; `compare`: whether a change gives another one
 //!
@@ -56,6 +57,7 @@ mod answer;
 mod bits;
 mod change;
 mod compare;
+mod counters;
 mod fault;
 mod held;
 mod held_text;

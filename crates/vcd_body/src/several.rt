@@ -111,6 +111,6 @@ pub(crate) fn change_at(
         return false;
     };
     set_digits_in(slots, shares, values, code, end, text);
-    count_at(shares, code, step.rises, step.falls);
+    count_at(slots, shares, code, step.rises, step.falls);
     true
 }

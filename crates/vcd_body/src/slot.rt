@@ -34,14 +34,18 @@ pub struct Slot {
     pub(crate) len: usize,
     pub(crate) state: State,
     pub(crate) chosen: bool,
+    // The lowest 16 bits of each counter, so that most steps are counted here.
+    pub(crate) low: [u16; 3],
 }
 
-/// What else is kept of a code: its share of the bytes of values, and its counters.
+/// What else is kept of a code: its share of the bytes of values, and the upper parts of its counters.
 #[derive(Clone, Copy, PartialEq, Eq, Debug)]
 pub struct Share {
     // Where the share begins. It ends where the next one begins.
     pub(crate) start: usize,
-    pub(crate) counts: [u64; 3],
+    // Above the lowest 16 bits of each counter these 32, and above them 16.
+    pub(crate) middle: [u32; 3],
+    pub(crate) high: [u16; 3],
 }
 
 /// What the value of a code is.
@@ -64,6 +68,7 @@ impl Slot {
             len: 0,
             state: State::Unset,
             chosen: false,
+            low: [0; 3],
         }
     }
 }
@@ -82,7 +87,8 @@ impl Share {
     {
         Share {
             start,
-            counts: [0; 3],
+            middle: [0; 3],
+            high: [0; 3],
         }
     }
 }

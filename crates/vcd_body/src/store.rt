@@ -1,12 +1,13 @@
-// What is kept of each code, in lent slices: a slot, counters, and a share of the values.
+// What is kept of each code, in lent slices: a slot, and a share of the values.
 ghost use Rattle.std.specs.Prelude.{◌≡◌, ◌≢◌, ◌⊎◌, ℕ, cond, max, not, ◌+◌, ◌-◌, ◌*◌, ◌<◌, ◌≤◌, ◌∷◌, [], List, true, false, length, take, drop, map, sum_by, IfSome, None, Some, slice_get, slice_index};
 ghost use Rattle.vcd_view.specs.declared.view.Code.{Code};
-ghost use Rattle.vcd_body.specs.Binary.{binary_digits, count_in, is_proper};
-ghost use Rattle.vcd_body.specs.Kept.{Held, as_chosen, one_more, counts_if, counts_with, with_change, with_held, with_step, with_text};
+ghost use Rattle.vcd_body.specs.Binary.{count_in, is_proper};
+ghost use Rattle.vcd_body.specs.Kept.{Held, as_chosen, one_more, with_change, with_held, with_number, with_number_change, with_step, with_text};
 ghost use Rattle.vcd_body.specs.Packed.{held_digit};
 ghost use Rattle.vcd_body.specs.Stored.{AreLaidOut, ChangesAt, IsUnset, end_at, held_by, kept_with, share_from, share_of, some_by, start_in, start_of, used, used_by, whole};
 
-use crate::bits::{Bits, is_number_step, is_proper, number_in, packed, put_digits};
+use crate::bits::{Bits, is_number_step, is_proper, number_in, packed};
+use crate::counters::{count_one, count_step};
 use crate::item::Form;
 use crate::packed::pack;
 use crate::slot::{Share, Slot, State, bit_state, state_of};
@@ -44,7 +45,7 @@ fn used_by(slot: Slot) -> usize
     match slot.state {
         State::Digits => slot.len.div_ceil(4),
         State::Plain | State::Real => slot.len,
-        State::Bits => 8,
+        State::Bits => 0,
         State::Unset | State::Zero | State::One | State::Unknown | State::High => 0,
     }
 }
@@ -241,137 +242,62 @@ pub(crate) fn set_at(
     }
 }
 
-/// How many bytes the share of a code has.
+/// Sets the value of a code to binary digits. Its slot is written alone, and neither it nor the share need be looked at.
 #[inline(always)]
-fn room_at(shares: &[Share], values: usize, code: usize) -> usize
-    ensures { result ≤ end_at shares.now values code - start_in shares.now code }
+pub(crate) fn set_bits(slots: &mut [Slot], code: usize, bits: Bits)
+    ensures changes { (shares : List Share) (values : List ℕ)
+        → ChangesAt code (with_number bits.len bits.number) values slots.old shares values slots.new
+        shares }
+    ensures laid { (shares : List Share) (n : ℕ) → AreLaidOut slots.old shares n
+        → AreLaidOut slots.new shares n }
 {
-    match shares.get(code) {
-        Some(share) => end_of(shares, values, code).saturating_sub(share.start),
-        None => 0,
+    if code < slots.len() {
+        let slot = &mut slots[code];
+        slot.state = State::Bits;
+        slot.len = packed(bits);
     }
-}
-
-/// Whether binary digits may be held in a slot: where such are, or its share has the bytes that they would take.
-#[inline(always)]
-fn may_hold_bits(shares: &[Share], values: usize, code: usize, slot: Slot) -> bool
-    ensures { result ≡ true → (slots : List Slot) → slice_get slots code ≡ Some slot
-        → AreLaidOut slots shares.now values
-        → start_in shares.now code + 8 ≤ end_at shares.now values code }
-{
-    match slot.state {
-        State::Bits => true,
-        _ => room_at(shares, values, code) >= 8,
-    }
-}
-
-/// Sets the value of a code to binary digits as to their text.
-#[inline(never)]
-fn set_written(slots: &mut [Slot], shares: &[Share], values: &mut [u8], code: usize, bits: Bits)
-    ensures changes { AreLaidOut slots.old shares.now (length values.old)
-        → ChangesAt code (with_text Form.Vector (binary_digits bits.len bits.number)) values.old
-        slots.old shares.now values.new slots.new shares.now }
-    ensures laid { AreLaidOut slots.old shares.now (length values.old)
-        → AreLaidOut slots.new shares.now (length values.old) }
-{
-    let mut block = [0u8; 32];
-    let text = &mut block[..bits.len];
-    put_digits(bits, text);
-    set_at(slots, shares, values, code, Form::Vector, text);
-}
-
-/// Sets the value of a code to binary digits. Where its slot holds such, it is touched alone.
-#[inline(always)]
-pub(crate) fn set_bits(
-    slots: &mut [Slot],
-    shares: &[Share],
-    values: &mut [u8],
-    code: usize,
-    bits: Bits,
-)
-    ensures changes { AreLaidOut slots.old shares.now (length values.old)
-        → ChangesAt code (with_text Form.Vector (binary_digits bits.len bits.number)) values.old
-        slots.old shares.now values.new slots.new shares.now }
-    ensures laid { AreLaidOut slots.old shares.now (length values.old)
-        → AreLaidOut slots.new shares.now (length values.old) }
-{
-    let Some(slot) = slot_at(slots, code) else {
-        return;
-    };
-    if !may_hold_bits(shares, values.len(), code, slot) {
-        set_written(slots, shares, values, code, bits);
-        return;
-    }
-    let len = packed(bits);
-    let slot = &mut slots[code];
-    slot.state = State::Bits;
-    slot.len = len;
 }
 
 /// Adds one to a counter of a code. A full one stays.
 #[inline(always)]
-pub(crate) fn bump_at(shares: &mut [Share], code: usize, which: usize)
-    ensures changes { (slots : List Slot) (values : List ℕ)
-        → ChangesAt code (one_more which) values slots shares.old values slots shares.new }
-    ensures laid { (slots : List Slot) (n : ℕ) → AreLaidOut slots shares.old n
-        → AreLaidOut slots shares.new n }
+pub(crate) fn bump_at(slots: &mut [Slot], shares: &mut [Share], code: usize, which: usize)
+    ensures changes { (values : List ℕ) → ChangesAt code (one_more which) values slots.old shares.old
+        values slots.new shares.new }
+    ensures laid { (n : ℕ) → AreLaidOut slots.old shares.old n → AreLaidOut slots.new shares.new n }
 {
-    if code < shares.len() {
-        shares[code].counts = counts_with(shares[code].counts, which);
+    if code >= slots.len() || code >= shares.len() {
+        return;
     }
-}
-
-/// Counters, with one more in one of them.
-#[inline(always)]
-fn counts_with(mut counts: [u64; 3], which: usize) -> [u64; 3]
-    ensures { result ≡ counts_with counts which }
-{
-    if which < counts.len() {
-        counts[which] = counts[which].saturating_add(1);
-    }
-    counts
+    let slot = &mut slots[code];
+    let share = &mut shares[code];
+    count_one(&mut slot.low, &mut share.middle, &mut share.high, which);
 }
 
 /// Adds one to the first counter of a code, and to the others where the tests hold. A full one stays.
 #[inline(always)]
-pub(crate) fn count_at(shares: &mut [Share], code: usize, rises: bool, falls: bool)
-    ensures changes { (slots : List Slot) (values : List ℕ)
-        → ChangesAt code (with_step rises falls) values slots shares.old values slots shares.new }
-    ensures laid { (slots : List Slot) (n : ℕ) → AreLaidOut slots shares.old n
-        → AreLaidOut slots shares.new n }
+pub(crate) fn count_at(
+    slots: &mut [Slot],
+    shares: &mut [Share],
+    code: usize,
+    rises: bool,
+    falls: bool,
+)
+    ensures changes { (values : List ℕ) → ChangesAt code (with_step rises falls) values slots.old
+        shares.old values slots.new shares.new }
+    ensures laid { (n : ℕ) → AreLaidOut slots.old shares.old n → AreLaidOut slots.new shares.new n }
 {
-    if code < shares.len() {
-        shares[code].counts = counts_after(shares[code].counts, rises, falls);
+    if code >= slots.len() || code >= shares.len() {
+        return;
     }
-}
-
-/// Counters, with one more in the first, and in the others where the tests hold. It takes no branches.
-#[inline(always)]
-fn counts_after(counts: [u64; 3], rises: bool, falls: bool) -> [u64; 3]
-    ensures { result ≡ counts_if falls (counts_if rises (counts_with counts 0) 1) 2 }
-{
-    let [changes, ups, downs] = counts;
-    [
-        changes.saturating_add(1),
-        ups.saturating_add(u64::from(rises)),
-        // Not as the one before it: two in one vector take longer than one after the other.
-        if falls {
-            downs.saturating_add(1)
-        } else {
-            downs
-        },
-    ]
-}
-
-/// Counters, with one more in the first, and in that of rises or of falls. It takes no branches, and adds to two of them.
-#[inline(always)]
-fn count_turn(counts: &mut [u64; 3], rises: bool)
-    ensures { counts.new
-        ≡ counts_if (not rises) (counts_if rises (counts_with counts.old 0) 1) 2 }
-{
-    counts[0] = counts[0].saturating_add(1);
-    let turned = if rises { 1 } else { 2 };
-    counts[turned] = counts[turned].saturating_add(1);
+    let slot = &mut slots[code];
+    let share = &mut shares[code];
+    count_step(
+        &mut slot.low,
+        &mut share.middle,
+        &mut share.high,
+        rises,
+        falls,
+    );
 }
 
 /// Sets a slot to the digit 1 or 0 over such a digit, and counts the step.
@@ -390,12 +316,12 @@ fn turn_slot(slot: &mut Slot, share: &mut Share, one: bool)
     let after = bit_state(one);
     slot.state = after;
     if before != after {
-        count_turn(&mut share.counts, one);
+        count_step(&mut slot.low, &mut share.middle, &mut share.high, one, !one);
     }
 }
 
 /// Sets the value of a code to the digit 0 or 1 over such a digit, and counts the step. Returns whether it was one; else nothing
-/// changes. Most changes are of this kind, and touch one slot and its counters alone.
+/// changes. Most changes are of this kind, and touch one slot alone.
 #[inline(always)]
 pub(crate) fn turn_at(slots: &mut [Slot], shares: &mut [Share], code: usize, digit: u8) -> bool
     ensures changes { result ≡ true → (form : Form) → form ≢ Form.RealText → (size : ℕ)
@@ -418,17 +344,23 @@ fn step_slot(slot: &mut Slot, share: &mut Share, size: usize, bits: Bits)
     requires state { slot.old.state ≡ State.Bits }
     requires long { max size (count_in slot.old.len) ≡ max size bits.len }
     ensures kept { (end : ℕ) (values : List ℕ) → is_proper slot.old.len ≡ true
-        → share.old.start + 8 ≤ end → kept_with values end (whole slot.new share.new)
-        ≡ with_change size Form.Vector (binary_digits bits.len bits.number)
+        → kept_with values end (whole slot.new share.new)
+        ≡ with_number_change size bits.len bits.number
         (kept_with values end (whole slot.old share.old)) }
     ensures start { share.new.start ≡ share.old.start }
-    ensures used { used slot.new ≡ 8 }
+    ensures used { used slot.new ≡ 0 }
     ensures some { 1 ≤ some_by slot.new.state slot.new.len }
 {
     let step = step_by_number(number_in(slot.len), bits.number);
     slot.len = packed(bits);
     if step.differs {
-        share.counts = counts_after(share.counts, step.rises, step.falls);
+        count_step(
+            &mut slot.low,
+            &mut share.middle,
+            &mut share.high,
+            step.rises,
+            step.falls,
+        );
     }
 }
 
@@ -444,7 +376,7 @@ pub(crate) fn step_at(
 ) -> bool
     ensures changes { result ≡ true → (values : List ℕ)
         → AreLaidOut slots.old shares.old (length values)
-        → ChangesAt code (with_change size Form.Vector (binary_digits bits.len bits.number))
+        → ChangesAt code (with_number_change size bits.len bits.number)
         values slots.old shares.old values slots.new shares.new }
     ensures same { result ≡ false → (slots.new ≡ slots.old) × (shares.new ≡ shares.old) }
     ensures laid { (n : ℕ) → AreLaidOut slots.old shares.old n

@@ -3,17 +3,18 @@ ghost use Rattle.std.specs.Prelude.{◌≡◌, ℕ, ◌+◌, ◌-◌, ◌^◌, �
 ghost use Rattle.vcd_model.specs.Sample.{shown};
 ghost use Rattle.vcd_text.specs.Device.{Counts, Takes, failures_after};
 ghost use Rattle.vcd_body.specs.Binary.{binary_digits};
-ghost use Rattle.vcd_body.specs.Kept.{Held, as_chosen, differs, digit_in, IsStep, one_more, real_text, with_change, with_step, with_text};
+ghost use Rattle.vcd_body.specs.Kept.{Held, as_chosen, differs, digit_in, IsStep, one_more, real_text, with_change, with_number, with_number_change, with_step, with_text};
 ghost use Rattle.vcd_body.specs.Stored.{room_of};
 
-use crate::bits::{Bits, is_number_step, number_in, put_digits};
+use crate::bits::{Bits, put_digits};
 use crate::compare::value_differs;
+use crate::counters::counts_of;
 use crate::held::{digit_shown, last_held};
 use crate::held_text::{put_value, put_value_line};
 use crate::item::Form;
 use crate::several::change_at;
 use crate::slot::{Share, Shown, Slot, State};
-use crate::step::{Step, is_digit_step, step_by_digit, step_by_number, step_to_text};
+use crate::step::{Step, is_digit_step, step_by_digit, step_to_text};
 use crate::store::{
     bump_at, choose_at, count_at, lay_out, set_at, set_bits, share_in, slot_at, step_at, turn_at,
 };
@@ -92,13 +93,15 @@ impl<'a> Table<'a> {
         set_at(slots, shares, values, code, form, text);
     }
 
-    /// Sets the value of the code at a place by binary digits, as `set` does by their text. Over others that were set so it
-    /// touches the code's slot alone, and takes the same time for all.
+    /// Sets the value of the code at a place by binary digits, as `set` does by their text where that has room; they need none. It
+    /// writes the code's slot alone, looks at nothing, and takes the same time for all.
     #[inline(always)]
     pub fn set_bits(&mut self, code: usize, bits: Bits)
         ensures laid { IsLaidOut self.old → IsLaidOut self.new }
-        ensures changes { IsLaidOut self.old → ChangesCode code
-            (with_text Form.Vector (binary_digits bits.len bits.number)) self.old self.new }
+        ensures changes { ChangesCode code (with_number bits.len bits.number) self.old self.new }
+        ensures as_text { (k : Kept) → kept_at self.old code ≡ Some k → 8 ≤ k.room
+            → ChangesCode code (with_text Form.Vector (binary_digits bits.len bits.number))
+            self.old self.new }
         ensures value { IsLaidOut self.old → (c : Code) (k : Kept)
             → IsText Form.Vector c (binary_digits bits.len bits.number)
             → c.event ≡ false → kept_at self.old code ≡ Some k → share_of c.size ≤ k.room
@@ -107,10 +110,7 @@ impl<'a> Table<'a> {
         ensures codes { codes_in self.new ≡ codes_in self.old }
         ensures bytes { bytes_in self.new ≡ bytes_in self.old }
     {
-        let slots = &mut *self.slots;
-        let shares = &mut *self.shares;
-        let values = &mut *self.values;
-        set_bits(slots, shares, values, code, bits);
+        set_bits(self.slots, code, bits);
     }
 
     /// Sets the value of the code at a place as `set` does, and tells what becomes of it at this size: the step from what it was
@@ -140,43 +140,11 @@ impl<'a> Table<'a> {
     }
 
     /// Sets the value of the code at a place by binary digits, and tells what becomes of it at this size, as `replace` does by
-    /// their text. Over others that were set so it touches the code's slot alone.
-    #[inline(always)]
-    pub fn replace_bits(&mut self, code: usize, size: usize, bits: Bits) -> Step
-        ensures laid { IsLaidOut self.old → IsLaidOut self.new }
-        ensures changes { IsLaidOut self.old → ChangesCode code
-            (with_text Form.Vector (binary_digits bits.len bits.number)) self.old self.new }
-        ensures value { IsLaidOut self.old → (c : Code) (k : Kept)
-            → IsText Form.Vector c (binary_digits bits.len bits.number)
-            → c.event ≡ false → kept_at self.old code ≡ Some k → share_of c.size ≤ k.room
-            → value_at_size c.size (held_at self.new code) ≡ Some (value_with c.size
-            (model_form Form.Vector) (binary_digits bits.len bits.number)) }
-        ensures step { IsLaidOut self.old
-            → IsStep result (value_at_size size (held_at self.old code)) (value_with size
-            (model_form Form.Vector) (binary_digits bits.len bits.number)) }
-        ensures codes { codes_in self.new ≡ codes_in self.old }
-        ensures bytes { bytes_in self.new ≡ bytes_in self.old }
-    {
-        match self.slot(code) {
-            Some(slot) if is_number_step(slot, size, bits) => {
-                self.set_bits(code, bits);
-                step_by_number(number_in(slot.len), bits.number)
-            }
-            _ => self.replace_bits_any(code, size, bits),
-        }
-    }
-
-    /// The same over any value.
+    /// their text.
     #[inline(never)]
-    fn replace_bits_any(&mut self, code: usize, size: usize, bits: Bits) -> Step
+    fn replace_bits(&mut self, code: usize, size: usize, bits: Bits) -> Step
         ensures laid { IsLaidOut self.old → IsLaidOut self.new }
-        ensures changes { IsLaidOut self.old → ChangesCode code
-            (with_text Form.Vector (binary_digits bits.len bits.number)) self.old self.new }
-        ensures value { IsLaidOut self.old → (c : Code) (k : Kept)
-            → IsText Form.Vector c (binary_digits bits.len bits.number)
-            → c.event ≡ false → kept_at self.old code ≡ Some k → share_of c.size ≤ k.room
-            → value_at_size c.size (held_at self.new code) ≡ Some (value_with c.size
-            (model_form Form.Vector) (binary_digits bits.len bits.number)) }
+        ensures changes { ChangesCode code (with_number bits.len bits.number) self.old self.new }
         ensures step { IsLaidOut self.old
             → IsStep result (value_at_size size (held_at self.old code)) (value_with size
             (model_form Form.Vector) (binary_digits bits.len bits.number)) }
@@ -193,7 +161,7 @@ impl<'a> Table<'a> {
 
     /// Sets the value of the code at a place by the text of a change as `set` does, and counts its step at this size as `replace`
     /// and `count` do, where it differs. A text that is empty is passed over. One of the digits 0 and 1 over another touches the
-    /// code's slot and its counters alone.
+    /// code's slot alone.
     #[inline(always)]
     pub fn follow(&mut self, code: usize, size: usize, form: Form, text: &[u8])
         ensures laid { IsLaidOut self.old → IsLaidOut self.new }
@@ -221,12 +189,15 @@ impl<'a> Table<'a> {
         }
     }
 
-    /// Sets the value of the code at a place by binary digits, and counts its step at this size, as `follow` does by their text.
-    /// Over others that were set so it touches the code's slot and its counters alone.
+    /// Sets the value of the code at a place by binary digits, and counts its step at this size, as `follow` does by their text
+    /// where that has room; they need none. Over others that were set so it touches the code's slot alone.
     #[inline(always)]
     pub fn follow_bits(&mut self, code: usize, size: usize, bits: Bits)
         ensures laid { IsLaidOut self.old → IsLaidOut self.new }
-        ensures changes { IsLaidOut self.old → ChangesCode code
+        ensures changes { IsLaidOut self.old
+            → ChangesCode code (with_number_change size bits.len bits.number) self.old self.new }
+        ensures as_text { IsLaidOut self.old → (k : Kept) → kept_at self.old code ≡ Some k
+            → 8 ≤ k.room → ChangesCode code
             (with_change size Form.Vector (binary_digits bits.len bits.number)) self.old self.new }
         ensures value { IsLaidOut self.old → (c : Code) (k : Kept)
             → IsText Form.Vector c (binary_digits bits.len bits.number)
@@ -263,12 +234,12 @@ impl<'a> Table<'a> {
     #[inline(never)]
     fn follow_bits_any(&mut self, code: usize, size: usize, bits: Bits)
         ensures laid { IsLaidOut self.old → IsLaidOut self.new }
-        ensures changes { IsLaidOut self.old → ChangesCode code
-            (with_change size Form.Vector (binary_digits bits.len bits.number)) self.old self.new }
+        ensures changes { IsLaidOut self.old
+            → ChangesCode code (with_number_change size bits.len bits.number) self.old self.new }
         ensures codes { codes_in self.new ≡ codes_in self.old }
         ensures bytes { bytes_in self.new ≡ bytes_in self.old }
     {
-        let told = self.replace_bits_any(code, size, bits);
+        let told = self.replace_bits(code, size, bits);
         if told.differs {
             self.count(code, told.rises, told.falls);
         }
@@ -425,7 +396,8 @@ impl<'a> Table<'a> {
         ensures { result ≡ counts_at self.now code }
     {
         if code < self.slots.len() && code < self.shares.len() {
-            self.shares[code].counts
+            let share = self.shares[code];
+            counts_of(self.slots[code].low, share.middle, share.high)
         } else {
             [0; 3]
         }
@@ -439,7 +411,7 @@ impl<'a> Table<'a> {
         ensures codes { codes_in self.new ≡ codes_in self.old }
         ensures bytes { bytes_in self.new ≡ bytes_in self.old }
     {
-        bump_at(self.shares, code, which);
+        bump_at(self.slots, self.shares, code, which);
     }
 
     /// Counts a step of the value of the code at a place: adds one to the first counter, to the second where it rises, and to the
@@ -451,7 +423,7 @@ impl<'a> Table<'a> {
         ensures codes { codes_in self.new ≡ codes_in self.old }
         ensures bytes { bytes_in self.new ≡ bytes_in self.old }
     {
-        count_at(self.shares, code, rises, falls);
+        count_at(self.slots, self.shares, code, rises, falls);
     }
 
     /// Chooses the code at a place.

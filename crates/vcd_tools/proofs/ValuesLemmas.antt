@@ -162,12 +162,15 @@ other_gives codes text Finish x is none c = absurd is
 
 -- the code has the value of its digits
 pub bits_hold : (v : HeadView) (h : Header) (old new : Table) (items : List BodyItem) (i : Item) (text : List ℕ) (b : Bits) (place : ℕ) (form : Form) (x : BodyItem) → IsViewOf v h → AreHeld old h items → i ≡ Change place form → HasBits i text (Some b) → HasGoodText v.codes.now text i → IsItem h.codes text i x
-    → ChangesCode place (with_text Vector (binary_digits b.len b.number)) old new → IsLaidOut new → SetsValue Vector (binary_digits b.len b.number) place old new → AreHeld new h (items ++ x ∷ [])
+    → ((k : Kept) → kept_at old place ≡ Some k → 8 ≤ k.room → ChangesCode place (with_text Vector (binary_digits b.len b.number)) old new) → IsLaidOut new → SetsValue Vector (binary_digits b.len b.number) place old new → AreHeld new h (items ++ x ∷ [])
 bits_hold v h old new items i text b place form x views held is has good read changes laid sets =
     let digits = binary_digits b.len b.number in
     let codes = v.codes.now in
     let same : place ≡ has.0 = let one = sym is ∙ has.1 in cc in
     let change = subst (λ (j : Item). IsItem h.codes text j x) has.1 read in
     let sound = subst (λ (j : Item). HasGoodText codes text j) has.1 good in
+    let there = ap (slice_get h.codes) same ∙ change.1 in
+    let k = held.shares place change.0 there in
+    let enough = k.2 in
     let fits : (d : Code) → slice_get codes place ≡ Some d → IsText Vector d digits = λ d there. subst (IsText Vector d) has.2 (good_text codes text has.0 Vector d sound (ap (slice_get codes) (sym same) ∙ there)) in
-    subst (λ (y : BodyItem). AreHeld new h (items ++ y ∷ [])) (sym (rw (sym has.2) change.2)) (set_holds v h old new items place Vector digits change.0 views (ap (slice_get h.codes) same ∙ change.1) held changes laid fits sets)
+    subst (λ (y : BodyItem). AreHeld new h (items ++ y ∷ [])) (sym (rw (sym has.2) change.2)) (set_holds v h old new items place Vector digits change.0 views there held (changes k.0 k.1 (omega (arith, enough))) laid fits sets)

@@ -21,11 +21,11 @@ returns-clause-changes c = λ told laid size.
     let there = slice_get-get_or parts c.args.code blank_share c.if-code-shares.false in
     let step = c.in-Some.step in
     let is = c.in-Some.ensures in
-    change_as c.args.code (λ k. with_step step.rises step.falls (with_text form.Vector text k)) (with_change size form.Vector text) values c.set_digits_in.new.values slots c.set_digits_in.new.slots parts c.count_at.new.shares
+    change_as c.args.code (λ k. with_step step.rises step.falls (with_text form.Vector text k)) (with_change size form.Vector text) values c.set_digits_in.new.values slots c.count_at.new.slots parts c.count_at.new.shares
     (λ k at. sym (changed_by step size form.Vector text k (omega (arith, is.many)) (subst (λ (h : Held). IsStep step (value_at_size size h) (value_with size (model_form form.Vector) text)) (kept_there values slots parts c.args.code slot share k here there at) (is.step size))
     ∙ ap (λ (b : Bool). cond b (with_step step.rises step.falls (with_text form.Vector text k)) (with_text form.Vector text k)) is.differs))
-    (change_twice c.args.code (with_text form.Vector text) (with_step step.rises step.falls) values c.set_digits_in.new.values c.set_digits_in.new.values slots c.set_digits_in.new.slots c.set_digits_in.new.slots parts parts c.count_at.new.shares
-    (c.set_digits_in.ensures.changes laid) (c.count_at.ensures.changes c.set_digits_in.new.slots c.set_digits_in.new.values))
+    (change_twice c.args.code (with_text form.Vector text) (with_step step.rises step.falls) values c.set_digits_in.new.values c.set_digits_in.new.values slots c.set_digits_in.new.slots c.count_at.new.slots parts parts c.count_at.new.shares
+    (c.set_digits_in.ensures.changes laid) (c.count_at.ensures.changes c.set_digits_in.new.values))
 
 pub returns-clause-laid : goal.returns-clause-laid
-returns-clause-laid c = λ laid. c.count_at.ensures.laid c.set_digits_in.new.slots (length c.args.values.now) (c.set_digits_in.ensures.laid laid)
+returns-clause-laid c = λ laid. c.count_at.ensures.laid (length c.args.values.now) (c.set_digits_in.ensures.laid laid)

@@ -1,23 +1,41 @@
 use Rattle.std.proofs.Common.{get_or, refl}
 use Rattle.std.proofs.lemmas.Option.{slice_get-get_or}
+use Rattle.vcd_body.specs.Counters.{counts_of}
 use Rattle.vcd_body.specs.Kept.{with_step}
 use Rattle.vcd_body.specs.Stored.{whole}
-use Rattle.vcd_body.proofs.StoreLemmas.{blank_share, no_share_there, share_alone_changes, share_laid, steps_kept}
+use Rattle.vcd_body.specs.declared.slot.Share.{Share}
+use Rattle.vcd_body.specs.declared.slot.Slot.{Slot}
+use Rattle.vcd_body.proofs.StoreLemmas.{blank, blank_share, both_written, code_changes, steps_kept, fits_in, no_share_there, no_slot_there, share_laid, slot_laid}
 use Rattle.vcd_body.proofs.store.count_at.Goals as goal
+use Rattle.vcd_body.proofs.store.count_at.Goals.{then-code-slots-via-then-code-slots, then-code-slots-via-else-code-slots+then-code-shares}
 
-pub returns-then-code-shares-clause-changes : goal.returns-then-code-shares-clause-changes
-returns-then-code-shares-clause-changes c = λ slots values.
+pub returns-clause-changes : goal.returns-clause-changes
+returns-clause-changes c = λ values.
+    let slots = c.args.slots.now in
     let parts = c.args.shares.now in
+    let slot = get_or slots c.args.code blank in
     let share = get_or parts c.args.code blank_share in
-    let at = slice_get-get_or parts c.args.code blank_share c.if-code-shares.true in
-    share_alone_changes parts c.args.code share _ at refl slots values (with_step c.args.rises c.args.falls) (λ s end. steps_kept (whole s share) c.counts_after.result c.args.rises c.args.falls end values c.counts_after.ensures)
+    let at = slice_get-get_or slots c.args.code blank c.if-code-slots.false in
+    let there = slice_get-get_or parts c.args.code blank_share c.if-code-shares.false in
+    let new = c.count_step.new in
+    let slot_now : Slot = record { len = slot.len; state = slot.state; chosen = slot.chosen; low = new.low } in
+    let share_now : Share = record { start = share.start; middle = new.middle; high = new.high } in
+    code_changes slots _ parts _ c.args.code (whole slot share) (whole slot_now share_now) (both_written slots parts c.args.code slot slot_now share share_now at there refl) values (with_step c.args.rises c.args.falls)
+    (λ end. steps_kept (whole slot share) (counts_of new.low new.middle new.high) c.args.rises c.args.falls end values c.count_step.ensures)
 
-pub returns-then-code-shares-clause-laid : goal.returns-then-code-shares-clause-laid
-returns-then-code-shares-clause-laid c = λ slots n laid.
+pub returns-clause-laid : goal.returns-clause-laid
+returns-clause-laid c = λ n laid.
+    let slots = c.args.slots.now in
     let parts = c.args.shares.now in
+    let slot = get_or slots c.args.code blank in
     let share = get_or parts c.args.code blank_share in
-    let at = slice_get-get_or parts c.args.code blank_share c.if-code-shares.true in
-    share_laid slots parts n laid c.args.code share _ at refl
+    let at = slice_get-get_or slots c.args.code blank c.if-code-slots.false in
+    let there = slice_get-get_or parts c.args.code blank_share c.if-code-shares.false in
+    let l = laid c.args.code slot at in
+    share_laid _ parts n (slot_laid slots parts n laid c.args.code slot at _ (λ h begins. fits_in parts n c.args.code slot h l begins) l.some) c.args.code share _ there refl
 
-pub returns-else-code-shares-clause-changes : goal.returns-else-code-shares-clause-changes
-returns-else-code-shares-clause-changes c = λ slots values. no_share_there values slots c.args.shares.now c.args.code (with_step c.args.rises c.args.falls) c.if-code-shares.false
+pub returns-then-code-slots-clause-changes : goal.returns-then-code-slots-clause-changes
+returns-then-code-slots-clause-changes c = λ values. elim c.then-code-slots.branch [
+  | then-code-slots-via-then-code-slots w ↦ no_slot_there values c.args.slots.now c.args.shares.now c.args.code (with_step c.args.rises c.args.falls) w.if-code-slots.true
+  | then-code-slots-via-else-code-slots+then-code-shares w ↦ no_share_there values c.args.slots.now c.args.shares.now c.args.code (with_step c.args.rises c.args.falls) w.if-code-shares.true
+]

@@ -5,9 +5,9 @@ use Rattle.vcd_body.specs.Kept.{with_text}
 use Rattle.vcd_body.specs.Stored.{end_at, used, whole}
 use Rattle.vcd_body.specs.declared.item.Form.TheVariants as form
 use Rattle.vcd_body.specs.declared.slot.Share.{Share}
-use Rattle.vcd_body.proofs.StoreLemmas.{blank, blank_share, fits_in, none_fits, not_outside, share_changes, slot_laid, some_text, text_kept, text_stays, too_long}
+use Rattle.vcd_body.proofs.StoreLemmas.{blank, blank_share, fits_in, no_share_there, no_slot_there, none_fits, not_outside, share_changes, slot_laid, some_text, text_kept, text_stays, too_long}
 use Rattle.vcd_body.proofs.store.set_real.Goals as goal
-use Rattle.vcd_body.proofs.store.set_real.Goals.{then-is_empty-via-then-is_empty, then-is_empty-via-else-is_empty+then-text-end}
+use Rattle.vcd_body.proofs.store.set_real.Goals.{then-code-slots-via-then-code-slots, then-code-slots-via-else-code-slots+then-code-shares, then-is_empty-via-then-is_empty, then-is_empty-via-else-is_empty+then-text-end}
 
 pub returns-clause-changes : goal.returns-clause-changes
 returns-clause-changes c = λ laid.
@@ -78,3 +78,9 @@ returns-then-is_empty-clause-changes c = λ laid.
       | then-is_empty-via-then-is_empty w ↦ none_fits form.RealText n room (eqb-true n 0 (sym c.is_empty.ensures ∙ w.if-is_empty.true))
       | then-is_empty-via-else-is_empty+then-text-end w ↦ too_long form.RealText n room (omega (arith, end, w.if-text-end.true))
     ])
+
+pub returns-then-code-slots-clause-changes : goal.returns-then-code-slots-clause-changes
+returns-then-code-slots-clause-changes c = λ laid. elim c.then-code-slots.branch [
+  | then-code-slots-via-then-code-slots w ↦ no_slot_there c.args.values.now c.args.slots.now c.args.shares.now c.args.code (with_text form.RealText c.args.text.now) w.if-code-slots.true
+  | then-code-slots-via-else-code-slots+then-code-shares w ↦ no_share_there c.args.values.now c.args.slots.now c.args.shares.now c.args.code (with_text form.RealText c.args.text.now) w.if-code-shares.true
+]

@@ -1,0 +1,48 @@
+-- Counters in parts, with one more in some.
+use Rattle.std.proofs.Common.{◌≡◌, ◌≢◌, ℕ, zero, suc, ◌+◌, ◌-◌, ◌*◌, ◌^◌, ◌<◌, ◌≤◌, min, Bool, true, false, cond, List, [], ◌∷◌, get_or, refl, ap, ◌∙◌, arith}
+use Rattle.vcd_body.specs.Counters.{count_at, count_of, counts_of}
+use Rattle.vcd_body.specs.Kept.{counts_if, counts_with}
+
+-- one more of what may be full
+pub one_above : (n m top : ℕ) → m ≡ n + 1 → min m top ≡ min (min n top + 1) top
+one_above n m top e = omega (arith, e)
+
+-- one more in a low part
+low_more : (a m h : ℕ) → count_of (a + 1) m h ≡ min (count_of a m h + 1) (2 ^ 64 - 1)
+low_more a m h = one_above (a + 65536 * m + 281474976710656 * h) (a + 1 + 65536 * m + 281474976710656 * h) (2 ^ 64 - 1) (omega arith)
+
+same_low : (a b m h : ℕ) → b ≡ a → count_of b m h ≡ count_of a m h
+same_low a b m h e = ap (λ n. count_of n m h) e
+
+-- a step that is counted in the low parts
+pub low_counted : (a b c b' c' : ℕ) (rises falls : Bool) (middle high : List ℕ) → b' ≡ b + cond rises 1 0 → c' ≡ c + cond falls 1 0
+    → counts_of ((a + 1) ∷ b' ∷ c' ∷ []) middle high ≡ counts_if falls (counts_if rises (counts_with (counts_of (a ∷ b ∷ c ∷ []) middle high) 0) 1) 2
+low_counted a b c b' c' rises falls middle high up down =
+    ap (λ n. n ∷ count_of b' (get_or middle 1 0) (get_or high 1 0) ∷ count_of c' (get_or middle 2 0) (get_or high 2 0) ∷ []) (low_more a (get_or middle 0 0) (get_or high 0 0))
+    ∙ by_tests rises falls up down
+  where
+    first : ℕ
+    first = min (count_of a (get_or middle 0 0) (get_or high 0 0) + 1) (2 ^ 64 - 1)
+
+    by_tests : (rises falls : Bool) → b' ≡ b + cond rises 1 0 → c' ≡ c + cond falls 1 0
+        → first ∷ count_of b' (get_or middle 1 0) (get_or high 1 0) ∷ count_of c' (get_or middle 2 0) (get_or high 2 0) ∷ []
+        ≡ counts_if falls (counts_if rises (first ∷ count_of b (get_or middle 1 0) (get_or high 1 0) ∷ count_of c (get_or middle 2 0) (get_or high 2 0) ∷ []) 1) 2
+    by_tests true true e f = let up : b' ≡ b + 1 = e in let down : c' ≡ c + 1 = f in rw (up, down, low_more b (get_or middle 1 0) (get_or high 1 0), low_more c (get_or middle 2 0) (get_or high 2 0)) refl
+    by_tests true false e f = let up : b' ≡ b + 1 = e in let same : c' ≡ c + 0 = f in let down : c' ≡ c = omega (arith, same) in rw (up, down, low_more b (get_or middle 1 0) (get_or high 1 0)) refl
+    by_tests false true e f = let same : b' ≡ b + 0 = e in let up : b' ≡ b = omega (arith, same) in let down : c' ≡ c + 1 = f in rw (up, down, low_more c (get_or middle 2 0) (get_or high 2 0)) refl
+    by_tests false false e f = let same : b' ≡ b + 0 = e in let up : b' ≡ b = omega (arith, same) in let still : c' ≡ c + 0 = f in let down : c' ≡ c = omega (arith, still) in rw (up, down) refl
+
+-- one counter that was counted, and the others as they were
+pub one_counted : (l m h l' m' h' : List ℕ) (which : ℕ) → which < 3 → ((k : ℕ) → k ≢ which → count_at l' m' h' k ≡ count_at l m h k) → count_at l' m' h' which ≡ min (count_at l m h which + 1) (2 ^ 64 - 1)
+    → counts_of l' m' h' ≡ counts_with (counts_of l m h) which
+one_counted l m h l' m' h' zero few others one = rw (one, others 1 (λ e. cc), others 2 (λ e. cc)) refl
+one_counted l m h l' m' h' (suc zero) few others one = rw (one, others 0 (λ e. cc), others 2 (λ e. cc)) refl
+one_counted l m h l' m' h' (suc (suc zero)) few others one = rw (one, others 0 (λ e. cc), others 1 (λ e. cc)) refl
+one_counted l m h l' m' h' (suc (suc (suc k))) few others one = absurd (omega arith)
+
+-- no counter has such a place
+pub none_counted : (l m h : List ℕ) (which : ℕ) → 3 ≤ which → counts_of l m h ≡ counts_with (counts_of l m h) which
+none_counted l m h zero past = absurd (omega arith)
+none_counted l m h (suc zero) past = absurd (omega arith)
+none_counted l m h (suc (suc zero)) past = absurd (omega arith)
+none_counted l m h (suc (suc (suc k))) past = refl
