@@ -1,9 +1,10 @@
-use Rattle.std.proofs.Common.{rules, arith, ap, ap₂, codes, refl, ◌≡◌, ◌∙◌, Bool, true, false, not, ◌&&◌, ◌||◌}
+use Rattle.std.proofs.Common.{arith, ap, ap₂, codes, refl, ◌≡◌, ◌∙◌, Bool, true, false, not, ◌&&◌, ◌||◌}
 use Rattle.std.proofs.lemmas.Result.{IfOk-weaker}
 use Rattle.clap.specs.Built.{AddsSubcommand}
-use Rattle.clap.specs.Words.{App, app_of, is_broken, with_subcommand}
+use Rattle.clap.specs.Words.{App, app_of, is_broken, new_app, with_subcommand}
 use Rattle.clap.specs.declared.builder.command.Command.{Command}
 use Rattle.vcd_words.specs.Words.{bare_app, cut_app, merge_app, named_app, one_input_app, sample_app}
+use Rattle.vcd_words.proofs.CommandLemmas.{with_subcommand_required, with_version, without_help, IsWhole}
 use Rattle.vcd_words.proofs.command.command_of.Goals as goal
 
 -- a plain command has no global argument
@@ -14,10 +15,16 @@ local groups external globals rest e = grind arith
 added : (old sub new : Command) (before is : App) → AddsSubcommand old sub new → app_of old ≡ before → app_of sub ≡ is → is.top.is_plain ≡ true → app_of new ≡ with_subcommand before is.top
 added old sub new before is adds o s plain = adds.shape (local _ _ _ _ (ap (λ (a : App). a.top.is_plain) s ∙ plain)) ∙ ap₂ with_subcommand o (ap (λ (a : App). a.top) s)
 
+-- the program before it has commands
+bare : (c : goal.After-subcommand-7) → IsWhole c.disable_help_subcommand.result bare_app
+bare c =
+    let version = with_version c.new_command.result c.version.result (new_app (codes "vcdkit")) (c.new_command.ensures.words, c.new_command.ensures.whole) _ c.version.ensures in
+    let required = with_subcommand_required c.version.result c.subcommand_required.result _ version c.subcommand_required.ensures in
+    without_help c.subcommand_required.result c.disable_help_subcommand.result _ required c.disable_help_subcommand.ensures
+
 pub returns-clause-words : goal.returns-clause-words
 returns-clause-words c =
-    let bare : app_of c.disable_help_subcommand.result ≡ bare_app = search rules in
-    let first = added _ _ _ bare_app (one_input_app (codes "check")) c.in_ok-subcommand.ensures bare c.in_ok-check.ensures.words refl in
+    let first = added _ _ _ bare_app (one_input_app (codes "check")) c.in_ok-subcommand.ensures (bare c).0 c.in_ok-check.ensures.words refl in
     let second = added _ _ _ _ (one_input_app (codes "list")) c.in_ok-subcommand-2.ensures first c.in_ok-list.ensures.words refl in
     let third = added _ _ _ _ (named_app (codes "pick") true) c.in_ok-subcommand-3.ensures second c.in_ok-pick.ensures.words refl in
     let fourth = added _ _ _ _ cut_app c.in_ok-subcommand-4.ensures third c.in_ok-cut.ensures.words refl in
@@ -27,9 +34,7 @@ returns-clause-words c =
 
 pub returns-clause-whole : goal.returns-clause-whole
 returns-clause-whole c =
-    let bare : is_broken c.disable_help_subcommand.result ≡ false =
-    ap (λ f. f.is_broken) c.disable_help_subcommand.ensures ∙ ap (λ f. f.is_broken) c.subcommand_required.ensures ∙ ap (λ f. f.is_broken) c.version.ensures ∙ c.new_command.ensures.whole in
-    let first : is_broken c.in_ok-subcommand.field-0 ≡ false = c.in_ok-subcommand.ensures.broken ∙ ap₂ ◌||◌ bare c.in_ok-check.ensures.whole in
+    let first : is_broken c.in_ok-subcommand.field-0 ≡ false = c.in_ok-subcommand.ensures.broken ∙ ap₂ ◌||◌ (bare c).1 c.in_ok-check.ensures.whole in
     let second : is_broken c.in_ok-subcommand-2.field-0 ≡ false = c.in_ok-subcommand-2.ensures.broken ∙ ap₂ ◌||◌ first c.in_ok-list.ensures.whole in
     let third : is_broken c.in_ok-subcommand-3.field-0 ≡ false = c.in_ok-subcommand-3.ensures.broken ∙ ap₂ ◌||◌ second c.in_ok-pick.ensures.whole in
     let fourth : is_broken c.in_ok-subcommand-4.field-0 ≡ false = c.in_ok-subcommand-4.ensures.broken ∙ ap₂ ◌||◌ third c.in_ok-cut.ensures.whole in
