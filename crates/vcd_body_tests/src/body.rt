@@ -1,14 +1,16 @@
 // Bodies that are read to their end, bodies that are refused, a source that fails, and changes that are written.
-ghost use Rattle.std.specs.Prelude.{◌+◌, ◌<◌, ◌≤◌};
+ghost use Rattle.std.specs.Prelude.{◌≡◌, ◌+◌, ◌<◌, ◌≤◌, IfOk, OnOk, true};
+ghost use Rattle.vcd_text.specs.Feed.{source_of};
 
 use std::alloc::{AllocError, Global};
 use std::test::Fail;
 use vcd_body::{
     Bits, Form, Item, Regs, change_text, item_ahead, left_out, next_item, pass_items, put_change,
 };
-use vcd_head::read_head;
+use vcd_head::{Head, HeadFault, read_head};
 use vcd_text::doubles::{Narrow, Pieces};
-use vcd_text::{Feed, Sink, Watch, WriteFailed};
+use vcd_text::{Feed, Sink, Source, Watch, WriteFailed};
+use vcd_view::HeadView;
 
 // Variables of 1 and of 4 bits, in six lines.
 const HEAD: &[u8] =
@@ -29,18 +31,76 @@ fn shown(alloc: Global, item: Item, text: &[u8]) -> Result<String, AllocError> {
 }
 
 // The text of an item, if it is a change.
-fn text_of<'f>(feed: &'f Feed<'_, '_, '_, '_, Watch<Pieces<'_>>>, item: Item) -> &'f [u8] {
+fn text_of<'f, S: Source>(feed: &'f Feed<'_, '_, '_, '_, S>, item: Item) -> &'f [u8] {
     match item {
         Item::Change { form, .. } => change_text(feed, form),
         _ => &[],
     }
 }
 
+// These texts, one after another.
+fn joined(alloc: Global, texts: [&[u8]; 3]) -> Result<Vec<u8>, AllocError> {
+    let mut text = Vec::new(alloc);
+    for part in texts {
+        text.extend_from_slice(part)?;
+    }
+    Ok(text)
+}
+
+// The header that a feed begins with, of which no more is told than that no read failed.
+fn head_of<S: Source>(alloc: Global, feed: &mut Feed<'_, '_, '_, '_, S>) -> Result<Head, HeadFault>
+    requires { S.failures (source_of feed.old) ≡ 0 }
+    ensures { OnOk result (S.failures (source_of feed.new) ≡ 0) }
+{
+    read_head(alloc, feed, 16_777_216)
+}
+
+// The next item as it is shown, or the fault's number and line, and whether more may follow.
+fn next_shown<S: Source>(
+    alloc: Global,
+    feed: &mut Feed<'_, '_, '_, '_, S>,
+    view: HeadView<'_>,
+    regs: &mut Regs,
+) -> Result<(String, bool), AllocError>
+    requires { S.failures (source_of feed.old) ≡ 0 }
+    ensures { IfOk result (λ shown. shown.1 ≡ true → S.failures (source_of feed.new) ≡ 0) }
+{
+    match next_item(feed, view, regs) {
+        Ok(item) => {
+            let text = shown(alloc, item, text_of(feed, item))?;
+            Ok((text, item != Item::Finish))
+        }
+        Err(fault) => {
+            let number = fault.number();
+            let line = feed.line();
+            Ok((format!(in alloc; "fault {number} at {line}")?, false))
+        }
+    }
+}
+
+// The items from here on, and then the end, or the fault's number and line.
+fn items_from<S: Source>(
+    alloc: Global,
+    feed: &mut Feed<'_, '_, '_, '_, S>,
+    view: HeadView<'_>,
+) -> Result<String, AllocError>
+    requires { S.failures (source_of feed.old) ≡ 0 }
+{
+    let mut items = String::new(alloc);
+    let mut regs = Regs::new();
+    'items: for _ in 0..u64::MAX {
+        let next = next_shown(alloc, feed, view, &mut regs)?;
+        items.push_str(&next.0)?;
+        if !next.1 {
+            return Ok(items);
+        }
+    }
+    Ok(items)
+}
+
 // The items of the body after the header, and then the end, or the fault's number and line. A token has at most 72 bytes.
 fn transcript(alloc: Global, header: &[u8], body: &[u8], fails: bool) -> Result<String, Fail> {
-    let mut text = Vec::new(alloc);
-    text.extend_from_slice(header)?;
-    text.extend_from_slice(body)?;
+    let text = joined(alloc, [header, body, b""])?;
     let mut pieces = Pieces::new(&text, 5);
     pieces.broken = fails;
     let mut source = Watch::new(pieces);
@@ -48,26 +108,8 @@ fn transcript(alloc: Global, header: &[u8], body: &[u8], fails: bool) -> Result<
     let mut token = [0u8; 72];
     let mut value = [0u8; 72];
     let mut feed = Feed::new(&mut source, &mut chunk, &mut token, &mut value);
-    let head = read_head(alloc, &mut feed, 16_777_216)?;
-    let mut items = String::new(alloc);
-    let mut regs = Regs::new();
-    'items: for _ in 0..u64::MAX {
-        match next_item(&mut feed, head.view(), &mut regs) {
-            Ok(item) => {
-                items.push_str(&shown(alloc, item, text_of(&feed, item))?)?;
-                if item == Item::Finish {
-                    return Ok(items);
-                }
-            }
-            Err(fault) => {
-                let number = fault.number();
-                let line = feed.line();
-                items.push_str(&format!(in alloc; "fault {number} at {line}")?)?;
-                return Ok(items);
-            }
-        }
-    }
-    Ok(items)
+    let head = head_of(alloc, &mut feed)?;
+    Ok(items_from(alloc, &mut feed, head.view())?)
 }
 
 // These are the items of the body after the header of six lines, and then its end or its fault.
@@ -166,36 +208,38 @@ fn source_that_fails(rt: HostRuntime) -> Result<(), Fail> {
     Ok(())
 }
 
+// The items that are taken ahead, and then the next one.
+fn taken_from<S: Source>(
+    alloc: Global,
+    feed: &mut Feed<'_, '_, '_, '_, S>,
+    view: HeadView<'_>,
+) -> Result<String, AllocError>
+    requires { S.failures (source_of feed.old) ≡ 0 }
+{
+    let mut items = String::new(alloc);
+    let mut regs = Regs::new();
+    let mut ahead = feed.ahead();
+    while let Some(plain) = item_ahead(&mut ahead, view, &mut regs) {
+        items.push_str(&shown(alloc, plain.item, plain.text)?)?;
+    }
+    let passed = ahead.passed();
+    pass_items(feed, passed);
+    let next = next_shown(alloc, feed, view, &mut regs)?;
+    items.push_str("then ")?;
+    items.push_str(&next.0)?;
+    Ok(items)
+}
+
 // The items that are taken ahead of the body's first, and then the next one. The whole input is in the chunk.
 fn taken_ahead(alloc: Global, body: &[u8]) -> Result<String, Fail> {
-    let mut text = Vec::new(alloc);
-    text.extend_from_slice(HEAD)?;
-    text.extend_from_slice(body)?;
+    let text = joined(alloc, [HEAD, body, b""])?;
     let mut source = Watch::new(Pieces::new(&text, 512));
     let mut chunk = [0u8; 512];
     let mut token = [0u8; 72];
     let mut value = [0u8; 72];
     let mut feed = Feed::new(&mut source, &mut chunk, &mut token, &mut value);
-    let head = read_head(alloc, &mut feed, 16_777_216)?;
-    let mut items = String::new(alloc);
-    let mut regs = Regs::new();
-    let mut ahead = feed.ahead();
-    while let Some(plain) = item_ahead(&mut ahead, head.view(), &mut regs) {
-        items.push_str(&shown(alloc, plain.item, plain.text)?)?;
-    }
-    let passed = ahead.passed();
-    pass_items(&mut feed, passed);
-    let end = match next_item(&mut feed, head.view(), &mut regs) {
-        Ok(item) => shown(alloc, item, text_of(&feed, item))?,
-        Err(fault) => {
-            let number = fault.number();
-            let line = feed.line();
-            format!(in alloc; "fault {number} at {line}")?
-        }
-    };
-    items.push_str("then ")?;
-    items.push_str(&end)?;
-    Ok(items)
+    let head = head_of(alloc, &mut feed)?;
+    Ok(taken_from(alloc, &mut feed, head.view())?)
 }
 
 #[test]
@@ -213,20 +257,12 @@ fn plain_items_taken_ahead(rt: HostRuntime) -> Result<(), Fail> {
 const CODES: &[u8] =
     b"$var wire 1 ! clk $end $var reg 4 \" q $end $var reg 40 & w $end $var event 1 % go $end $enddefinitions $end\n";
 
-// Which of the items that are taken ahead of the body's first stand as their lines (`=`), which but for so many digits, and which do
-// not (`.`).
-fn standing(alloc: Global, body: &[u8]) -> Result<String, Fail> {
-    let mut text = Vec::new(alloc);
-    text.extend_from_slice(CODES)?;
-    text.extend_from_slice(body)?;
-    text.extend_from_slice(&[b'\n'; 64])?;
-    let mut source = Watch::new(Pieces::new(&text, 512));
-    let mut chunk = [0u8; 512];
-    let mut token = [0u8; 72];
-    let mut value = [0u8; 72];
-    let mut feed = Feed::new(&mut source, &mut chunk, &mut token, &mut value);
-    let head = read_head(alloc, &mut feed, 16_777_216)?;
-    let view = head.view();
+// Which of the items that are taken ahead stand as their lines (`=`), which but for so many digits, and which do not (`.`).
+fn standing_from<S: Source>(
+    alloc: Global,
+    feed: &mut Feed<'_, '_, '_, '_, S>,
+    view: HeadView<'_>,
+) -> Result<String, AllocError> {
     let mut marks = String::new(alloc);
     let mut regs = Regs::new();
     let mut ahead = feed.ahead();
@@ -241,6 +277,18 @@ fn standing(alloc: Global, body: &[u8]) -> Result<String, Fail> {
         from = to;
     }
     Ok(marks)
+}
+
+// Which of the items that are taken ahead of the body's first stand as their lines.
+fn standing(alloc: Global, body: &[u8]) -> Result<String, Fail> {
+    let text = joined(alloc, [CODES, body, &[b'\n'; 64]])?;
+    let mut source = Watch::new(Pieces::new(&text, 512));
+    let mut chunk = [0u8; 512];
+    let mut token = [0u8; 72];
+    let mut value = [0u8; 72];
+    let mut feed = Feed::new(&mut source, &mut chunk, &mut token, &mut value);
+    let head = head_of(alloc, &mut feed)?;
+    Ok(standing_from(alloc, &mut feed, head.view())?)
 }
 
 // Changes, and which of them stand as their lines: single digits, vectors of a few digits, vectors with digits that are left out, vectors of more
@@ -348,16 +396,13 @@ fn sink_that_fails(rt: HostRuntime) {
 
 // The number that is told of the digits of the body's first change.
 fn bits_told(alloc: Global, body: &[u8]) -> Result<Option<Bits>, Fail> {
-    let mut text = Vec::new(alloc);
-    text.extend_from_slice(CODES)?;
-    text.extend_from_slice(body)?;
-    text.extend_from_slice(&[b'1'; 64])?;
+    let text = joined(alloc, [CODES, body, &[b'1'; 64]])?;
     let mut source = Watch::new(Pieces::new(&text, 512));
     let mut chunk = [0u8; 512];
     let mut token = [0u8; 72];
     let mut value = [0u8; 72];
     let mut feed = Feed::new(&mut source, &mut chunk, &mut token, &mut value);
-    let head = read_head(alloc, &mut feed, 16_777_216)?;
+    let head = head_of(alloc, &mut feed)?;
     match item_ahead(&mut feed.ahead(), head.view(), &mut Regs::new()) {
         Some(plain) => Ok(plain.bits),
         None => Ok(None),

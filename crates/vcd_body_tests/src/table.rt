@@ -1,5 +1,5 @@
 // Tables with room of exactly `need`: what is held, how it is written, counters, and codes that are chosen.
-ghost use Rattle.std.specs.Prelude.{◌≡◌, ◌<◌};
+ghost use Rattle.std.specs.Prelude.{◌≡◌, ◌<◌, ◌≤◌, length};
 
 use std::alloc::{AllocError, Global};
 use std::test::Fail;
@@ -32,6 +32,29 @@ fn view_of(codes: &[Code]) -> HeadView<'_>
         version: &[],
         scale: None,
     }
+}
+
+// A table in this room, of which no more is told than that it stands: what is proved of a table is proved where it is made.
+fn table_in<'a>(
+    view: HeadView<'_>,
+    values: &'a mut [u8],
+    slots: &'a mut [Slot],
+    shares: &'a mut [Share],
+) -> Table<'a>
+    requires slots { length view.codes.now ≤ length slots.old }
+    requires shares { length view.codes.now ≤ length shares.old }
+{
+    Table::new(view, values, slots, shares)
+}
+
+// Sets a code, of which no more is told.
+fn set(table: &mut Table<'_>, code: usize, form: Form, text: &[u8]) {
+    table.set(code, form, text);
+}
+
+// Sets a code, and returns the step of its value, of which no more is told.
+fn replace(table: &mut Table<'_>, code: usize, size: usize, form: Form, text: &[u8]) -> Step {
+    table.replace(code, size, form, text)
 }
 
 // So many of a digit, and then these.
@@ -86,13 +109,9 @@ fn is_shown(
     let mut values = vec![in alloc; 255u8; need(view).values]?;
     let mut slots = [Slot::new()];
     let mut shares = [Share::new()];
-    let mut table = Table::new(view, &mut values, &mut slots, &mut shares);
-    table.set(0, form, text);
-    let mut short_page = Watch::new(Narrow::new(1024));
-    let mut full_page = Watch::new(Narrow::new(1024));
-    let is_short = table.put_short(view, 0, &mut short_page).is_ok();
-    let is_full = table.put_full(view, 0, &mut full_page).is_ok();
-    Ok(is_short && is_full && short_page.device.held() == line && full_page.device.held() == full)
+    let mut table = table_in(view, &mut values, &mut slots, &mut shares);
+    set(&mut table, 0, form, text);
+    Ok(is_short(&table, view, 0, line) && is_full(&table, view, 0, full))
 }
 
 // Digits that set a code of this size are written as these, the shortest, and in full.
@@ -273,8 +292,8 @@ fn unset_codes_and_places_of_none(rt: HostRuntime) -> Result<(), Fail> {
     let mut values = vec![in alloc; 255u8; need(view).values]?;
     let mut slots = [Slot::new(); 2];
     let mut shares = [Share::new(); 2];
-    let mut table = Table::new(view, &mut values, &mut slots, &mut shares);
-    table.set(1, Form::Vector, b"10");
+    let mut table = table_in(view, &mut values, &mut slots, &mut shares);
+    set(&mut table, 1, Form::Vector, b"10");
     table.bump(1, 0);
     table.choose(1);
     for code in 0..2 {
@@ -338,9 +357,9 @@ fn digits_by_their_places(rt: HostRuntime) -> Result<(), Fail> {
     let mut values = vec![in alloc; 255u8; need(view).values]?;
     let mut slots = [Slot::new()];
     let mut shares = [Share::new()];
-    let mut table = Table::new(view, &mut values, &mut slots, &mut shares);
+    let mut table = table_in(view, &mut values, &mut slots, &mut shares);
     for (form, text, kind, digits, real) in PLACES {
-        table.set(0, form, text);
+        set(&mut table, 0, form, text);
         assert_eq!(rt; table.get(0), kind);
         for place in 0..7 {
             assert_eq!(rt; table.digit(view, 0, place), digits[place], "at {place}");
@@ -362,9 +381,9 @@ fn is_changed(
     let mut values = vec![in alloc; 255u8; need(view).values]?;
     let mut slots = [Slot::new()];
     let mut shares = [Share::new()];
-    let mut table = Table::new(view, &mut values, &mut slots, &mut shares);
-    table.set(0, first.0, first.1);
-    Ok(table.replace(0, size, second.0, second.1).differs)
+    let mut table = table_in(view, &mut values, &mut slots, &mut shares);
+    set(&mut table, 0, first.0, first.1);
+    Ok(replace(&mut table, 0, size, second.0, second.1).differs)
 }
 
 // The same of two texts of digits, whichever comes first: they are two values, or one.
@@ -493,10 +512,10 @@ fn value_of_no_code_never_differs(rt: HostRuntime) {
     let codes = [code_of(4)];
     let mut slots = [Slot::new()];
     let mut shares = [Share::new()];
-    let mut table = Table::new(view_of(&codes), &mut [], &mut slots, &mut shares);
+    let mut table = table_in(view_of(&codes), &mut [], &mut slots, &mut shares);
     for (code, text) in [(0, b"1"), (1, b"1"), (1, b"0")] {
         assert_eq!(rt;
-            table.replace(code, 4, Form::Scalar, text),
+            replace(&mut table, code, 4, Form::Scalar, text),
             step_of(false, 0)
         );
     }
@@ -535,9 +554,12 @@ fn steps_of_values(rt: HostRuntime) -> Result<(), Fail> {
     let mut values = vec![in alloc; 255u8; need(view).values]?;
     let mut slots = [Slot::new()];
     let mut shares = [Share::new()];
-    let mut table = Table::new(view, &mut values, &mut slots, &mut shares);
+    let mut table = table_in(view, &mut values, &mut slots, &mut shares);
     for (form, text, differs, way) in STEPS {
-        assert_eq!(rt; table.replace(0, 9, form, text), step_of(differs, way));
+        assert_eq!(rt;
+            replace(&mut table, 0, 9, form, text),
+            step_of(differs, way)
+        );
     }
     Ok(())
 }
@@ -550,7 +572,7 @@ fn steps_that_are_counted(rt: HostRuntime) -> Result<(), Fail> {
     let mut values = vec![in alloc; 255u8; need(view).values]?;
     let mut slots = [Slot::new()];
     let mut shares = [Share::new()];
-    let mut table = Table::new(view, &mut values, &mut slots, &mut shares);
+    let mut table = table_in(view, &mut values, &mut slots, &mut shares);
     for (form, text, _, _) in STEPS {
         table.follow(0, 9, form, text);
     }
@@ -566,7 +588,7 @@ fn steps_of_numbers_that_are_counted(rt: HostRuntime) -> Result<(), Fail> {
     let mut values = vec![in alloc; 255u8; need(view).values]?;
     let mut slots = [Slot::new()];
     let mut shares = [Share::new()];
-    let mut table = Table::new(view, &mut values, &mut slots, &mut shares);
+    let mut table = table_in(view, &mut values, &mut slots, &mut shares);
     for (len, number) in [(1, 1), (4, 0b0001), (3, 0b110), (3, 0b111), (3, 0b101)] {
         if let Some(bits) = Bits::new(len, number) {
             table.follow_bits(0, 9, bits);
@@ -605,20 +627,28 @@ fn shares_lie_apart(rt: HostRuntime) -> Result<(), Fail> {
     let mut values = vec![in alloc; 255u8; 379]?;
     let mut slots = [Slot::new(); 3];
     let mut shares = [Share::new(); 3];
-    let mut table = Table::new(view, &mut values, &mut slots, &mut shares);
+    let mut table = table_in(view, &mut values, &mut slots, &mut shares);
     let first = mixed(alloc, 256)?;
     let second = padded(alloc, b'x', 256, b"1")?;
     let third = mixed(alloc, 1_000)?;
-    table.set(2, Form::Vector, &third);
-    table.set(0, Form::Vector, &first);
-    table.set(1, Form::Vector, &second);
+    set(&mut table, 2, Form::Vector, &third);
+    set(&mut table, 0, Form::Vector, &first);
+    set(&mut table, 1, Form::Vector, &second);
     assert!(rt; are_full(&table, view, [&first, &second, &third]));
     let real = padded(alloc, b'7', 64, b"")?;
     let text = padded(alloc, b'r', 1, &real)?;
-    table.set(0, Form::RealText, &real);
+    set(&mut table, 0, Form::RealText, &real);
     assert!(rt; are_full(&table, view, [&text, &second, &third]));
     Ok(())
 }
+
+// Texts that set a code of 8 bits without room, of which the first one alone is taken.
+const WITHOUT_ROOM: [(Form, &[u8]); 4] = [
+    (Form::Vector, b"1"),
+    (Form::Vector, b"01"),
+    (Form::RealText, b"1"),
+    (Form::Vector, b""),
+];
 
 #[test]
 fn texts_without_room_are_passed_over(rt: HostRuntime) {
@@ -626,11 +656,10 @@ fn texts_without_room_are_passed_over(rt: HostRuntime) {
     let view = view_of(&codes);
     let mut slots = [Slot::new()];
     let mut shares = [Share::new()];
-    let mut table = Table::new(view, &mut [], &mut slots, &mut shares);
-    table.set(0, Form::Vector, b"1");
-    table.set(0, Form::Vector, b"01");
-    table.set(0, Form::RealText, b"1");
-    table.set(0, Form::Vector, b"");
+    let mut table = table_in(view, &mut [], &mut slots, &mut shares);
+    for (form, text) in WITHOUT_ROOM {
+        set(&mut table, 0, form, text);
+    }
     assert!(rt; is_full(&table, view, 0, b"00000001"));
 }
 
@@ -640,15 +669,14 @@ fn counters_of_a_code(rt: HostRuntime) {
     let view = view_of(&codes);
     let mut slots = [Slot::new(); 2];
     let mut shares = [Share::new(); 2];
-    let mut table = Table::new(view, &mut [], &mut slots, &mut shares);
-    table.bump(1, 0);
-    table.bump(1, 2);
-    table.bump(1, 2);
-    table.bump(1, 3);
-    table.count(1, true, false);
-    table.count(1, false, true);
-    table.count(1, false, false);
-    table.set(1, Form::Scalar, b"1");
+    let mut table = table_in(view, &mut [], &mut slots, &mut shares);
+    for which in [0, 2, 2, 3] {
+        table.bump(1, which);
+    }
+    for (rises, falls) in [(true, false), (false, true), (false, false)] {
+        table.count(1, rises, falls);
+    }
+    set(&mut table, 1, Form::Scalar, b"1");
     assert_eq!(rt; table.tally(0), [0, 0, 0]);
     assert_eq!(rt; table.tally(1), [4, 1, 3]);
 }
@@ -658,11 +686,11 @@ fn one_of_three_codes_is_chosen(rt: HostRuntime) {
     let codes = [code_of(1); 3];
     let mut slots = [Slot::new(); 4];
     let mut shares = [Share::new(); 4];
-    let mut table = Table::new(view_of(&codes), &mut [], &mut slots, &mut shares);
+    let mut table = table_in(view_of(&codes), &mut [], &mut slots, &mut shares);
     table.choose(1);
-    table.set(1, Form::Scalar, b"x");
+    set(&mut table, 1, Form::Scalar, b"x");
     assert!(rt; !table.chosen(0) && table.chosen(1) && !table.chosen(2));
-    let again = Table::new(view_of(&codes), &mut [], &mut slots, &mut shares);
+    let again = table_in(view_of(&codes), &mut [], &mut slots, &mut shares);
     assert!(rt; !again.chosen(0) && !again.chosen(1) && !again.chosen(2));
     assert_eq!(rt; again.get(1), Shown::Unset);
 }
@@ -673,8 +701,8 @@ fn sink_that_fails_at_a_value(rt: HostRuntime) {
     let view = view_of(&codes);
     let mut slots = [Slot::new()];
     let mut shares = [Share::new()];
-    let mut table = Table::new(view, &mut [], &mut slots, &mut shares);
-    table.set(0, Form::Vector, b"1");
+    let mut table = table_in(view, &mut [], &mut slots, &mut shares);
+    set(&mut table, 0, Form::Vector, b"1");
     let mut page = Watch::new(Narrow::new(3));
     assert_eq!(rt; table.put_full(view, 0, &mut page), Err(WriteFailed));
     assert_eq!(rt; page.device.held(), b"000".as_slice());

@@ -5,7 +5,7 @@ use std::alloc::{AllocError, Global};
 use std::test::Fail;
 use vcd_head::{Head, HeadFault, put_head, put_path, read_head, select, selects};
 use vcd_text::{Feed, Watch};
-use vcd_view::{Code, Kind, Need, Probes, Row, Scale, find, find_counted, need};
+use vcd_view::{Code, HeadView, Kind, Need, Probes, Row, Scale, find, find_counted, need};
 
 mod merged;
 mod moments;
@@ -30,41 +30,120 @@ fn read(alloc: Global, text: &[u8], most: u64) -> Result<Head, (HeadFault, u64)>
     }
 }
 
-fn row(kind: Kind, parent: u32, start: usize, word: u32, name: u32, all: u32, code: u32) -> Row {
-    Row {
-        kind,
-        parent,
-        start,
-        word,
-        name,
-        all,
-        code,
-    }
+// The head of a text that is a header with so many declarations at most.
+fn read_under(alloc: Global, text: &[u8], most: u64) -> Result<Head, HeadFault>
+    requires { most ≤ 16777216 }
+{
+    let mut source = Watch::new(text);
+    let mut chunk = [0u8; 7];
+    let mut token = [0u8; 64];
+    let mut value = [0u8; 64];
+    let mut feed = Feed::new(&mut source, &mut chunk, &mut token, &mut value);
+    read_head(alloc, &mut feed, most)
+}
+
+fn read_good(alloc: Global, text: &[u8]) -> Result<Head, HeadFault> {
+    read_under(alloc, text, 16_777_216)
+}
+
+// Rows of the header with nested scopes, by their places.
+const NESTED_ROWS: [(usize, Row); 5] = [
+    (
+        1,
+        Row {
+            kind: Kind::Var,
+            parent: 1,
+            start: 8,
+            word: 4,
+            name: 3,
+            all: 3,
+            code: 0,
+        },
+    ),
+    (
+        3,
+        Row {
+            kind: Kind::Var,
+            parent: 3,
+            start: 23,
+            word: 3,
+            name: 1,
+            all: 7,
+            code: 1,
+        },
+    ),
+    (
+        4,
+        Row {
+            kind: Kind::Var,
+            parent: 3,
+            start: 34,
+            word: 3,
+            name: 5,
+            all: 5,
+            code: 1,
+        },
+    ),
+    (
+        5,
+        Row {
+            kind: Kind::Up,
+            parent: 3,
+            start: 0,
+            word: 0,
+            name: 0,
+            all: 0,
+            code: 0,
+        },
+    ),
+    (
+        6,
+        Row {
+            kind: Kind::Var,
+            parent: 1,
+            start: 42,
+            word: 5,
+            name: 2,
+            all: 2,
+            code: 2,
+        },
+    ),
+];
+
+const NESTED_LAST: Code = Code {
+    start: 49,
+    len: 2,
+    size: 1,
+    event: true,
+};
+
+// Whether that header has seven rows, and three codes, the last one and their order as they are to be.
+fn has_nested_codes(view: HeadView<'_>) -> bool {
+    view.rows.len() == 7
+        && view.codes.len() == 3
+        && view.codes.last().copied() == Some(NESTED_LAST)
+        && view.index == [1, 2, 0].as_slice()
 }
 
 #[test]
 fn scopes_and_aliases(rt: HostRuntime) -> Result<(), Fail> {
-    let head = read(rt.alloc(), NESTED, 16_777_216).map_err(|refused| refused.0)?;
-    let view = head.view();
-    assert_eq!(rt; view.rows.len(), 7);
-    assert_eq!(rt; view.rows[1], row(Kind::Var, 1, 8, 4, 3, 3, 0));
-    assert_eq!(rt; view.rows[3], row(Kind::Var, 3, 23, 3, 1, 7, 1));
-    assert_eq!(rt; view.rows[4], row(Kind::Var, 3, 34, 3, 5, 5, 1));
-    assert_eq!(rt; view.rows[5], row(Kind::Up, 3, 0, 0, 0, 0, 0));
-    assert_eq!(rt; view.rows[6], row(Kind::Var, 1, 42, 5, 2, 2, 2));
-    assert_eq!(rt; view.codes.len(), 3);
-    assert_eq!(rt;
-        view.codes[2],
-        Code {
-            start: 49,
-            len: 2,
-            size: 1,
-            event: true
-        }
-    );
-    assert_eq!(rt; view.index, [1, 2, 0].as_slice());
-    assert_eq!(rt; view.date, b"Tue Mar 5".as_slice());
-    assert_eq!(rt; view.scale, Some(Scale { exponent: -8 }));
+    let head = read_good(rt.alloc(), NESTED)?;
+    for (place, row) in NESTED_ROWS {
+        assert_eq!(rt;
+            head.view().rows.get(place).copied(),
+            Some(row),
+            "at {place}"
+        );
+    }
+    assert!(rt; has_nested_codes(head.view()));
+    Ok(())
+}
+
+#[test]
+fn date_and_scale_of_a_header(rt: HostRuntime) -> Result<(), Fail> {
+    let head = read_good(rt.alloc(), NESTED)?;
+    assert_eq!(rt; head.view().date, b"Tue Mar 5".as_slice());
+    assert_eq!(rt; head.view().scale, Some(Scale { exponent: -8 }));
     Ok(())
 }
 
@@ -78,38 +157,43 @@ fn too_many(rt: HostRuntime) {
 const SMALL: &[u8] =
     b"$timescale 1ns $end\n$scope module tb $end\n$var wire 1 ! clk $end\n$var reg 4 \" q [3:0] $end\n$upscope $end\n$enddefinitions $end\n";
 
+// Texts that are no headers, the number of their fault, and its line.
+const FAULTS: [(&[u8], u8, u64); 16] = [
+    (b"", 2, 1),
+    (b"$foo $end\n", 2, 2),
+    (b"$comment x$end\n$enddefinitions $end\n", 2, 3),
+    (
+        b"$comment xxxxxxxxxxxxxxxxxxxxxxxxxxxxxxxxxxxxxxxxxxxxxxxxxxxxxxxxxxxxxxxxx $end\n$enddefinitions $end\n",
+        1,
+        1,
+    ),
+    (b"foo $end\n", 3, 1),
+    (b"$ $end\n", 3, 1),
+    (b"#0\n", 4, 1),
+    (b"$timescale 2ns $end\n", 5, 1),
+    (b"$timescale 1ns ps $end\n", 5, 1),
+    (b"$scope module $end\n", 6, 1),
+    (b"$var wire 0 ! a $end\n", 7, 1),
+    (b"$var wire 1 ! $end\n", 7, 1),
+    (b"$var wire 16777216 ! a $end\n", 7, 1),
+    (b"$var wire 1 ! a $end\n$var wire 2 ! b $end\n", 8, 2),
+    (b"$var event 1 ! a $end\n$var wire 1 ! b $end\n", 8, 2),
+    (b"$upscope $end\n", 9, 1),
+];
+
+// The number of a text's fault, and its line.
+fn fault_of(alloc: Global, text: &[u8]) -> Option<(u8, u64)> {
+    match read(alloc, text, 16_777_216) {
+        Ok(_) => None,
+        Err((fault, line)) => Some((fault.number(), line)),
+    }
+}
+
 #[test]
 fn faults_and_lines(rt: HostRuntime) {
-    let cases: [(&[u8], u8, u64); 16] = [
-        (b"", 2, 1),
-        (b"$foo $end\n", 2, 2),
-        (b"$comment x$end\n$enddefinitions $end\n", 2, 3),
-        (
-            b"$comment xxxxxxxxxxxxxxxxxxxxxxxxxxxxxxxxxxxxxxxxxxxxxxxxxxxxxxxxxxxxxxxxx $end\n$enddefinitions $end\n",
-            1,
-            1,
-        ),
-        (b"foo $end\n", 3, 1),
-        (b"$ $end\n", 3, 1),
-        (b"#0\n", 4, 1),
-        (b"$timescale 2ns $end\n", 5, 1),
-        (b"$timescale 1ns ps $end\n", 5, 1),
-        (b"$scope module $end\n", 6, 1),
-        (b"$var wire 0 ! a $end\n", 7, 1),
-        (b"$var wire 1 ! $end\n", 7, 1),
-        (b"$var wire 16777216 ! a $end\n", 7, 1),
-        (b"$var wire 1 ! a $end\n$var wire 2 ! b $end\n", 8, 2),
-        (b"$var event 1 ! a $end\n$var wire 1 ! b $end\n", 8, 2),
-        (b"$upscope $end\n", 9, 1),
-    ];
-    for (text, number, line) in cases {
-        match read(rt.alloc(), text, 16_777_216) {
-            Ok(_) => assert!(rt; false, "no fault {number}"),
-            Err((fault, at)) => {
-                assert_eq!(rt; fault.number(), number);
-                assert_eq!(rt; at, line, "line of fault {number}");
-            }
-        }
+    for (text, number, line) in FAULTS {
+        let fault = fault_of(rt.alloc(), text);
+        assert_eq!(rt; fault, Some((number, line)), "fault {number}");
     }
 }
 
@@ -156,36 +240,43 @@ fn token_after_the_end(rt: HostRuntime) {
     assert!(rt; feed.token().is_empty());
 }
 
-#[test]
-fn larger_header(rt: HostRuntime) -> Result<(), Fail> {
-    let mut text = Vec::new(rt.alloc());
+// A scope with two thousand variables.
+fn larger(alloc: Global) -> Result<Vec<u8>, AllocError> {
+    let mut text = Vec::new(alloc);
     text.extend_from_slice(b"$scope module top $end\n")?;
     for code in 1000..3000u32 {
-        let line = format!(in rt.alloc(); "$var reg 8 {code} bus [7:0] $end\n")?;
+        let line = format!(in alloc; "$var reg 8 {code} bus [7:0] $end\n")?;
         text.extend_from_slice(line.as_bytes())?;
     }
     text.extend_from_slice(b"$upscope $end\n$enddefinitions $end\n")?;
-    let head = read(rt.alloc(), &text, 2002).map_err(|refused| refused.0)?;
+    Ok(text)
+}
+
+const LARGER_LAST: Row = Row {
+    kind: Kind::Up,
+    parent: 1,
+    start: 0,
+    word: 0,
+    name: 0,
+    all: 0,
+    code: 0,
+};
+
+// Whether the rows of that scope are as they are to be.
+fn has_larger_rows(rows: &[Row]) -> bool {
+    rows.len() == 2002 && rows[2000].code == 1999 && rows[2001] == LARGER_LAST
+}
+
+#[test]
+fn larger_header(rt: HostRuntime) -> Result<(), Fail> {
+    let head = read_under(rt.alloc(), &larger(rt.alloc())?, 2002)?;
     let view = head.view();
-    assert_eq!(rt; view.rows.len(), 2002);
-    assert_eq!(rt; view.rows[2000].code, 1999);
-    assert_eq!(rt; view.rows[2001], row(Kind::Up, 1, 0, 0, 0, 0, 0));
-    assert_eq!(rt; view.codes.len(), 2000);
-    assert_eq!(rt; view.index.last().copied(), Some(1999));
+    assert!(rt; has_larger_rows(view.rows));
+    assert!(rt; view.codes.len() == 2000 && view.index.last().copied() == Some(1999));
     Ok(())
 }
 
 // Look-ups and room.
-
-// The head of a text that is a header.
-fn read_good(alloc: Global, text: &[u8]) -> Result<Head, HeadFault> {
-    let mut source = Watch::new(text);
-    let mut chunk = [0u8; 7];
-    let mut token = [0u8; 64];
-    let mut value = [0u8; 64];
-    let mut feed = Feed::new(&mut source, &mut chunk, &mut token, &mut value);
-    read_head(alloc, &mut feed, 16_777_216)
-}
 
 const FOUR: &[u8] =
     b"$var wire 1 ~ a $end $var wire 1 ! b $end $var wire 1 !! c $end $var wire 1 \" d $end $enddefinitions $end\n";
@@ -208,18 +299,25 @@ fn needed(head: &Head) -> Need {
     need(head.view())
 }
 
+// Codes, and the places at which both look-ups find them.
+const FOUND: [(&[u8], Option<usize>); 8] = [
+    (b"~", Some(0)),
+    (b"!", Some(1)),
+    (b"!!", Some(2)),
+    (b"\"", Some(3)),
+    (b"!\"", None),
+    (b"!!!", None),
+    (b"}", None),
+    (b"", None),
+];
+
 #[test]
 fn codes_are_found(rt: HostRuntime) -> Result<(), Fail> {
     let head = read_good(rt.alloc(), FOUR)?;
     assert_eq!(rt; head.view().index, [1, 2, 3, 0].as_slice());
-    assert_eq!(rt; found(&head, b"~"), [Some(0); 2]);
-    assert_eq!(rt; found(&head, b"!"), [Some(1); 2]);
-    assert_eq!(rt; found(&head, b"!!"), [Some(2); 2]);
-    assert_eq!(rt; found(&head, b"\""), [Some(3); 2]);
-    assert_eq!(rt; found(&head, b"!\""), [None; 2]);
-    assert_eq!(rt; found(&head, b"!!!"), [None; 2]);
-    assert_eq!(rt; found(&head, b"}"), [None; 2]);
-    assert_eq!(rt; found(&head, b""), [None; 2]);
+    for (code, place) in FOUND {
+        assert_eq!(rt; found(&head, code), [place; 2], "of {code:?}");
+    }
     Ok(())
 }
 
@@ -247,7 +345,7 @@ fn room_of_codes(rt: HostRuntime) -> Result<(), Fail> {
 // The paths of the variables, a line each.
 #[test]
 fn paths_of_nested_scopes(rt: HostRuntime) -> Result<(), Fail> {
-    let head = read(rt.alloc(), NESTED, 16_777_216).map_err(|refused| refused.0)?;
+    let head = read_good(rt.alloc(), NESTED)?;
     let view = head.view();
     let mut paths = Watch::new(Vec::new(rt.alloc()));
     for row in 0..view.rows.len() {
@@ -311,17 +409,24 @@ fn selected(head: &Head, name: &str) -> [bool; 3] {
     ]
 }
 
+// Names, and which of tb.a, tb.ab and tb.a.x they select.
+const SELECTED: [(&str, [bool; 3]); 8] = [
+    ("tb", [true; 3]),
+    ("tb.a", [true, false, true]),
+    ("tb.ab", [false, true, false]),
+    ("tb.a.x", [false, false, true]),
+    ("t", [false; 3]),
+    ("tb.a.", [false; 3]),
+    ("a", [false; 3]),
+    ("", [false; 3]),
+];
+
 #[test]
 fn names_select_whole_components(rt: HostRuntime) -> Result<(), Fail> {
     let head = read_good(rt.alloc(), BESIDE)?;
-    assert_eq!(rt; selected(&head, "tb"), [true; 3]);
-    assert_eq!(rt; selected(&head, "tb.a"), [true, false, true]);
-    assert_eq!(rt; selected(&head, "tb.ab"), [false, true, false]);
-    assert_eq!(rt; selected(&head, "tb.a.x"), [false, false, true]);
-    assert_eq!(rt; selected(&head, "t"), [false; 3]);
-    assert_eq!(rt; selected(&head, "tb.a."), [false; 3]);
-    assert_eq!(rt; selected(&head, "a"), [false; 3]);
-    assert_eq!(rt; selected(&head, ""), [false; 3]);
+    for (name, places) in SELECTED {
+        assert_eq!(rt; selected(&head, name), places, "by {name}");
+    }
     Ok(())
 }
 
@@ -348,21 +453,21 @@ fn marked(
     Ok(select(view, &names, &mut marks).map(|_| marks))
 }
 
+// Names, and the marks of the seven rows, or the place of the name that is refused.
+const MARKED: [(&[&str], Result<[u8; 7], usize>); 6] = [
+    (&[], Ok([1, 1, 1, 1, 1, 0, 0])),
+    (&["tb.a"], Ok([1, 1, 0, 1, 1, 0, 0])),
+    (&["tb.a.x"], Ok([1, 0, 0, 1, 1, 0, 0])),
+    (&["tb.ab", "tb.ab"], Ok([1, 0, 1, 0, 0, 0, 0])),
+    (&["tb", "tb.b", "x"], Err(1)),
+    (&["a", "tb"], Err(0)),
+];
+
 #[test]
 fn selected_variables_are_marked(rt: HostRuntime) -> Result<(), Fail> {
-    let alloc = rt.alloc();
-    let head = read_good(alloc, BESIDE)?;
-    assert_eq!(rt; marked(alloc, &head, &[])?, Ok([1, 1, 1, 1, 1, 0, 0]));
-    assert_eq!(rt; marked(alloc, &head, &["tb.a"])?, Ok([1, 1, 0, 1, 1, 0, 0]));
-    assert_eq!(rt;
-        marked(alloc, &head, &["tb.a.x"])?,
-        Ok([1, 0, 0, 1, 1, 0, 0])
-    );
-    assert_eq!(rt;
-        marked(alloc, &head, &["tb.ab", "tb.ab"])?,
-        Ok([1, 0, 1, 0, 0, 0, 0])
-    );
-    assert_eq!(rt; marked(alloc, &head, &["tb", "tb.b", "x"])?, Err(1));
-    assert_eq!(rt; marked(alloc, &head, &["a", "tb"])?, Err(0));
+    let head = read_good(rt.alloc(), BESIDE)?;
+    for (texts, marks) in MARKED {
+        assert_eq!(rt; marked(rt.alloc(), &head, texts)?, marks, "by {texts:?}");
+    }
     Ok(())
 }

@@ -7,6 +7,8 @@ mod cut;
 #[cfg(test)]
 mod edges;
 #[cfg(test)]
+mod over;
+#[cfg(test)]
 mod sample;
 #[cfg(test)]
 mod tools;

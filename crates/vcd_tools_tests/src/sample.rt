@@ -2,13 +2,10 @@
 ghost use Rattle.std.specs.Prelude.{◌≡◌, ◌≢◌, [], true};
 ghost use Rattle.vcd_model.specs.Job.{do_rise};
 
-use std::alloc::Global;
+use super::over::{is_run, wrong_room};
 use std::test::Fail;
-use vcd_body::{Done, Share, Slot, Stop};
-use vcd_head::{HeadFault, read_head};
-use vcd_text::doubles::Narrow;
-use vcd_text::{Feed, Sink, Source, Watch};
-use vcd_tools::{Room, Samples, Task, sample};
+use vcd_body::{Done, Stop};
+use vcd_tools::{Samples, Task};
 
 // Vectors that are shorter than their variables.
 const SHORT: &[u8] =
@@ -36,71 +33,52 @@ const ALIASED: &[u8] =
 const ALIASED_SAMPLED: &[u8] =
     b"4 tb.clk -\n4 tb.u.c -\n4 tb.u.q -\n7 tb.clk 1\n7 tb.u.c 1\n7 tb.u.q 01\n39 tb.clk 1\n39 tb.u.c 1\n39 tb.u.q 01\n";
 
-// Runs `sample` over a source, in the room that it needs.
-fn sample_over<S: Source, W: Sink>(
-    alloc: Global,
-    source: &mut S,
-    times: &[u64],
-    names: &[String],
-    out: &mut W,
-) -> Result<Result<Done, Stop>, HeadFault>
+// A sample at these times.
+fn sample_at<'n>(times: &'n [u64], names: &'n [String]) -> Task<'n>
     requires some { times.now ≢ [] }
     requires rising { do_rise times.now ≡ true }
-    requires source { S.failures source.old ≡ 0 }
-    requires out { (W.device out.old).failures ≡ 0 }
 {
     let asked = Samples { times, names };
-    let mut chunk = [0u8; 7];
-    let mut token = [0u8; 64];
-    let mut value = [0u8; 64];
-    let mut feed = Feed::new(source, &mut chunk, &mut token, &mut value);
-    let head = read_head(alloc, &mut feed, 16_777_216)?;
-    let view = head.view();
-    let need = Task::Sample(asked).need(view);
-    let mut values = vec![in alloc; 0u8; need.values]?;
-    let mut slots = vec![in alloc; Slot::new(); need.slots]?;
-    let mut shares = vec![in alloc; Share::new(); need.slots]?;
-    let mut marks = vec![in alloc; 0u8; need.marks]?;
-    let mut room = Room {
-        values: &mut values,
-        slots: &mut slots,
-        shares: &mut shares,
-        marks: &mut marks,
-    };
-    Ok(sample(view, &mut feed, &mut room, asked, out))
-}
-
-// Whether a sample at these times has this result, and this is written.
-fn is_sampled(
-    alloc: Global,
-    text: &[u8],
-    times: &[u64],
-    names: &[String],
-    answer: Result<Done, Stop>,
-    written: &[u8],
-) -> Result<bool, HeadFault>
-    requires some { times.now ≢ [] }
-    requires rising { do_rise times.now ≡ true }
-{
-    let mut source = Watch::new(text);
-    let mut out = Watch::new(Narrow::new(256));
-    let given = sample_over(alloc, &mut source, times, names, &mut out)?;
-    Ok(given == answer && out.device.held() == written)
+    Task::Sample(asked)
 }
 
 #[test]
 fn values_are_extended_to_the_left(rt: HostRuntime) -> Result<(), Fail> {
     let times = [0, 1, 2, 3, 4];
     let whole = Ok(Done::Whole);
-    assert!(rt; is_sampled(rt.alloc(), SHORT, &times, &[], whole, SHORT_SAMPLED)?);
+    assert!(rt;
+        is_run(
+            rt.alloc(),
+            SHORT,
+            sample_at(&times, &[]),
+            whole,
+            SHORT_SAMPLED
+        )?
+    );
     Ok(())
 }
 
 #[test]
 fn a_mark_above_the_last_time_ends_a_sample(rt: HostRuntime) -> Result<(), Fail> {
     let early = Ok(Done::Early);
-    assert!(rt; is_sampled(rt.alloc(), FAULTY, &[1], &[], early, FAULTY_SAMPLED)?);
-    assert!(rt; is_sampled(rt.alloc(), KINDS, &[9, 20], &[], early, KINDS_SAMPLED)?);
+    assert!(rt;
+        is_run(
+            rt.alloc(),
+            FAULTY,
+            sample_at(&[1], &[]),
+            early,
+            FAULTY_SAMPLED
+        )?
+    );
+    assert!(rt;
+        is_run(
+            rt.alloc(),
+            KINDS,
+            sample_at(&[9, 20], &[]),
+            early,
+            KINDS_SAMPLED
+        )?
+    );
     Ok(())
 }
 
@@ -111,7 +89,15 @@ fn a_sample_writes_what_was_settled_before_a_fault(rt: HostRuntime) -> Result<()
         line: 7,
         fault: 3,
     });
-    assert!(rt; is_sampled(rt.alloc(), FAULTY, &[1, 2], &[], fault, FAULTY_SAMPLED)?);
+    assert!(rt;
+        is_run(
+            rt.alloc(),
+            FAULTY,
+            sample_at(&[1, 2], &[]),
+            fault,
+            FAULTY_SAMPLED
+        )?
+    );
     Ok(())
 }
 
@@ -123,7 +109,15 @@ fn sample_of_two_names(rt: HostRuntime) -> Result<(), Fail> {
     ];
     let written = b"9 a 0\n9 r r1.5\n20 a 1\n20 r r2\n";
     let early = Ok(Done::Early);
-    assert!(rt; is_sampled(rt.alloc(), KINDS, &[9, 20], &names, early, written)?);
+    assert!(rt;
+        is_run(
+            rt.alloc(),
+            KINDS,
+            sample_at(&[9, 20], &names),
+            early,
+            written
+        )?
+    );
     Ok(())
 }
 
@@ -131,7 +125,15 @@ fn sample_of_two_names(rt: HostRuntime) -> Result<(), Fail> {
 fn each_name_of_a_code_has_a_line(rt: HostRuntime) -> Result<(), Fail> {
     let times = [4, 7, 39];
     let early = Ok(Done::Early);
-    assert!(rt; is_sampled(rt.alloc(), ALIASED, &times, &[], early, ALIASED_SAMPLED)?);
+    assert!(rt;
+        is_run(
+            rt.alloc(),
+            ALIASED,
+            sample_at(&times, &[]),
+            early,
+            ALIASED_SAMPLED
+        )?
+    );
     Ok(())
 }
 
@@ -140,7 +142,15 @@ fn sample_after_the_end_of_a_dump(rt: HostRuntime) -> Result<(), Fail> {
     let names = [String::from_str(rt.alloc(), "tb.u")?];
     let written = b"40 tb.u.c 0\n40 tb.u.q 01\n50 tb.u.c 0\n50 tb.u.q 01\n";
     let whole = Ok(Done::Whole);
-    assert!(rt; is_sampled(rt.alloc(), ALIASED, &[40, 50], &names, whole, written)?);
+    assert!(rt;
+        is_run(
+            rt.alloc(),
+            ALIASED,
+            sample_at(&[40, 50], &names),
+            whole,
+            written
+        )?
+    );
     Ok(())
 }
 
@@ -151,21 +161,13 @@ fn a_sample_of_a_name_that_selects_nothing_is_refused(rt: HostRuntime) -> Result
         String::from_str(rt.alloc(), "zz")?,
     ];
     let unmatched = Err(Stop::Unmatched { name: 1 });
-    assert!(rt; is_sampled(rt.alloc(), KINDS, &[9], &names, unmatched, b"")?);
+    assert!(rt; is_run(rt.alloc(), KINDS, sample_at(&[9], &names), unmatched, b"")?);
     Ok(())
 }
 
 #[test]
 fn a_sample_ends_where_a_write_fails(rt: HostRuntime) -> Result<(), Fail> {
-    for room in 0..KINDS_SAMPLED.len() {
-        let mut source = Watch::new(KINDS);
-        let mut out = Watch::new(Narrow::new(room));
-        assert_eq!(rt;
-            sample_over(rt.alloc(), &mut source, &[9, 20], &[], &mut out)?,
-            Err(Stop::Write),
-            "in {room}"
-        );
-        assert_eq!(rt; out.device.held(), &KINDS_SAMPLED[..room], "in {room}");
-    }
+    let task = sample_at(&[9, 20], &[]);
+    assert_eq!(rt; wrong_room(rt.alloc(), KINDS, task, KINDS_SAMPLED)?, None);
     Ok(())
 }

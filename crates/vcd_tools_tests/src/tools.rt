@@ -1,17 +1,19 @@
 // Headers that are listed, bodies that are counted and of which some variables are picked, and devices that fail.
-ghost use Rattle.std.specs.Prelude.{◌≡◌, ◌-◌, ◌^◌, ◌<◌, true};
+ghost use Rattle.std.specs.Prelude.{◌≡◌, ◌-◌, ◌^◌, ◌<◌, ◌≤◌, true};
 ghost use Rattle.vcd_text.specs.Feed.{chunk_len_of, limit_of, source_of};
 ghost use Rattle.vcd_text.specs.Watch.{failed_calls};
 ghost use Rattle.vcd_tools.specs.Engine.{is_going};
-ghost use Rattle.vcd_tools.specs.Room.{AreWithinBound, room_in, view_in};
+ghost use Rattle.vcd_tools.specs.Room.{AreWithinBound, HasRoomFor, room_in, room_size, view_in};
 
+use super::over::{is_run, wrong_room};
 use std::alloc::Global;
 use std::test::Fail;
 use vcd_body::{Done, More, Share, Slot, Stop};
 use vcd_head::{Head, HeadFault, read_head};
 use vcd_text::doubles::{Narrow, Pieces};
 use vcd_text::{Feed, Sink, Source, Watch};
-use vcd_tools::{Begun, Engine, Room, Task, check, list, pick};
+use vcd_tools::{Begun, Engine, Room, Task, check, list};
+use vcd_view::HeadView;
 
 const NESTED: &[u8] =
     b"$var event 1 % go $end\n$scope module tb $end\n$var wire 1 ! clk $end\n$scope module u $end\n$var reg 4 \" q [3:0] $end\n$upscope $end\n$var real 1 # r $end\n$enddefinitions $end\n";
@@ -27,12 +29,18 @@ fn read(alloc: Global, text: &[u8]) -> Result<Head, HeadFault> {
     read_head(alloc, &mut feed, 16_777_216)
 }
 
+// Whether a list of a header, with so much room for it, has this result, and this is written.
+fn is_listed(head: &Head, room: usize, answer: Result<Done, Stop>, written: &[u8]) -> bool
+    requires { room ≤ 1024 }
+{
+    let mut out = Watch::new(Narrow::new(room));
+    list(head.view(), &mut out) == answer && out.device.held() == written
+}
+
 #[test]
 fn list_of_nested_scopes_and_kinds(rt: HostRuntime) -> Result<(), Fail> {
     let head = read(rt.alloc(), NESTED)?;
-    let mut out = Watch::new(Narrow::new(256));
-    assert_eq!(rt; list(head.view(), &mut out), Ok(Done::Whole));
-    assert_eq!(rt; out.device.held(), NESTED_LIST);
+    assert!(rt; is_listed(&head, 256, Ok(Done::Whole), NESTED_LIST));
     Ok(())
 }
 
@@ -42,9 +50,7 @@ fn list_of_a_code_that_is_end(rt: HostRuntime) -> Result<(), Fail> {
         rt.alloc(),
         b"$timescale 1 ns $end\n$var wire 1 $end a [0] $end\n$enddefinitions $end\n",
     )?;
-    let mut out = Watch::new(Narrow::new(256));
-    assert_eq!(rt; list(head.view(), &mut out), Ok(Done::Whole));
-    assert_eq!(rt; out.device.held(), b"a wire 1 $end\n".as_slice());
+    assert!(rt; is_listed(&head, 256, Ok(Done::Whole), b"a wire 1 $end\n"));
     Ok(())
 }
 
@@ -52,9 +58,8 @@ fn list_of_a_code_that_is_end(rt: HostRuntime) -> Result<(), Fail> {
 fn a_list_ends_where_a_write_fails(rt: HostRuntime) -> Result<(), Fail> {
     let head = read(rt.alloc(), NESTED)?;
     for room in 0..NESTED_LIST.len() {
-        let mut out = Watch::new(Narrow::new(room));
-        assert_eq!(rt; list(head.view(), &mut out), Err(Stop::Write), "in {room}");
-        assert_eq!(rt; out.device.held(), &NESTED_LIST[..room], "in {room}");
+        let is = is_listed(&head, room, Err(Stop::Write), &NESTED_LIST[..room]);
+        assert!(rt; is, "in {room}");
     }
     Ok(())
 }
@@ -83,6 +88,22 @@ fn check_over<S: Source, W: Sink>(
     Ok(check(head.view(), &mut feed, out))
 }
 
+// Whether a dump, with so much room for what is written, has this result, and this is written.
+fn is_checked_in(
+    alloc: Global,
+    room: usize,
+    text: &[u8],
+    answer: Result<Done, Stop>,
+    written: &[u8],
+) -> Result<bool, HeadFault>
+    requires { room ≤ 1024 }
+{
+    let mut source = Watch::new(text);
+    let mut out = Watch::new(Narrow::new(room));
+    let given = check_over(alloc, &mut source, &mut out)?;
+    Ok(given == answer && out.device.held() == written)
+}
+
 // Whether a dump has this result, and this is written.
 fn is_checked(
     alloc: Global,
@@ -90,10 +111,7 @@ fn is_checked(
     answer: Result<Done, Stop>,
     written: &[u8],
 ) -> Result<bool, HeadFault> {
-    let mut source = Watch::new(text);
-    let mut out = Watch::new(Narrow::new(256));
-    let given = check_over(alloc, &mut source, &mut out)?;
-    Ok(given == answer && out.device.held() == written)
+    is_checked_in(alloc, 256, text, answer, written)
 }
 
 #[test]
@@ -149,32 +167,29 @@ fn check_of_an_open_section(rt: HostRuntime) -> Result<(), Fail> {
     Ok(())
 }
 
-#[test]
-fn check_stops_where_a_read_fails(rt: HostRuntime) -> Result<(), Fail> {
+// Whether a check of a dump, whose source fails after it, ends at the one failed read, with nothing written.
+fn stops_at_a_failed_read(alloc: Global) -> Result<bool, HeadFault> {
     let mut pieces = Pieces::new(ICARUS, 5);
     pieces.broken = true;
     let mut source = Watch::new(pieces);
     let mut out = Watch::new(Narrow::new(256));
-    assert_eq!(rt;
-        check_over(rt.alloc(), &mut source, &mut out)?,
-        Err(Stop::Read { input: 0 })
-    );
-    assert_eq!(rt; out.device.held(), b"".as_slice());
-    assert_eq!(rt; Source::failures(&source), 1);
+    let given = check_over(alloc, &mut source, &mut out)?;
+    let is_read = given == Err(Stop::Read { input: 0 });
+    Ok(is_read && out.device.held().is_empty() && Source::failures(&source) == 1)
+}
+
+#[test]
+fn check_stops_where_a_read_fails(rt: HostRuntime) -> Result<(), Fail> {
+    assert!(rt; stops_at_a_failed_read(rt.alloc())?);
     Ok(())
 }
 
 #[test]
 fn a_report_ends_where_a_write_fails(rt: HostRuntime) -> Result<(), Fail> {
     for room in 0..ICARUS_COUNTS.len() {
-        let mut source = Watch::new(ICARUS);
-        let mut out = Watch::new(Narrow::new(room));
-        assert_eq!(rt;
-            check_over(rt.alloc(), &mut source, &mut out)?,
-            Err(Stop::Write),
-            "in {room}"
-        );
-        assert_eq!(rt; out.device.held(), &ICARUS_COUNTS[..room], "in {room}");
+        let left = &ICARUS_COUNTS[..room];
+        let is = is_checked_in(rt.alloc(), room, ICARUS, Err(Stop::Write), left)?;
+        assert!(rt; is, "in {room}");
     }
     Ok(())
 }
@@ -186,6 +201,47 @@ struct Steps<'a> {
     after_each: &'a [&'a [u8]],
     last: Result<More, Stop>,
     after_last: &'a [u8],
+}
+
+// Whether an engine goes on after its next step, and this is written then.
+fn steps_on<S: Source>(
+    engine: &mut Engine<'_, '_, '_>,
+    feed: &mut Feed<'_, '_, '_, '_, S>,
+    out: &mut Watch<Narrow>,
+    written: &[u8],
+) -> bool
+    requires feed_failures { S.failures (source_of feed.old) < 2 ^ 64 - 1 }
+    requires out_failures { failed_calls out.old < 2 ^ 64 - 1 }
+    requires going { is_going engine.old ≡ true }
+    requires bound { AreWithinBound (limit_of feed.old) (chunk_len_of feed.old)
+        (view_in engine.old) (room_in engine.old) }
+    ensures feed_failures { result ≡ true → S.failures (source_of feed.new) < 2 ^ 64 - 1 }
+    ensures out_failures { result ≡ true → failed_calls out.new < 2 ^ 64 - 1 }
+    ensures going { result ≡ true → is_going engine.new ≡ true }
+    ensures bound { AreWithinBound (limit_of feed.new) (chunk_len_of feed.new)
+        (view_in engine.new) (room_in engine.new) }
+{
+    match engine.step(feed, out) {
+        Ok(More::Again) => engine.going() && out.device.held() == written,
+        Ok(More::Ended(_)) | Err(_) => false,
+    }
+}
+
+// Whether the next step of an engine is its last one, as these steps have it.
+fn ends<S: Source>(
+    engine: &mut Engine<'_, '_, '_>,
+    feed: &mut Feed<'_, '_, '_, '_, S>,
+    out: &mut Watch<Narrow>,
+    steps: &Steps<'_>,
+) -> bool
+    requires feed_failures { S.failures (source_of feed.old) < 2 ^ 64 - 1 }
+    requires out_failures { failed_calls out.old < 2 ^ 64 - 1 }
+    requires going { is_going engine.old ≡ true }
+    requires bound { AreWithinBound (limit_of feed.old) (chunk_len_of feed.old)
+        (view_in engine.old) (room_in engine.old) }
+{
+    let last = engine.step(feed, out);
+    last == steps.last && !engine.going() && out.device.held() == steps.after_last
 }
 
 // Whether an engine takes these steps, and no more.
@@ -202,19 +258,62 @@ fn takes_steps<S: Source>(
         (view_in engine.old) (room_in engine.old) }
 {
     for written in steps.after_each {
-        match engine.step(feed, out) {
-            Ok(More::Again) => {}
-            Ok(More::Ended(_)) | Err(_) => return false,
-        }
-        if !engine.going() || out.device.held() != *written {
+        if !steps_on(engine, feed, out, written) {
             return false;
         }
     }
-    let last = engine.step(feed, out);
-    last == steps.last && !engine.going() && out.device.held() == steps.after_last
+    ends(engine, feed, out, steps)
 }
 
-// Whether a task over a dump takes these steps, and no more, in the room that it needs.
+// Whether a task in this room takes these steps, and no more.
+fn takes_steps_in<S: Source>(
+    view: HeadView<'_>,
+    feed: &mut Feed<'_, '_, '_, '_, S>,
+    room: Room<'_>,
+    task: Task<'_>,
+    steps: &Steps<'_>,
+) -> Result<bool, Stop>
+    requires feed_failures { S.failures (source_of feed.old) < 2 ^ 64 - 1 }
+    requires room { HasRoomFor task view room }
+    requires bound { AreWithinBound (limit_of feed.old) (chunk_len_of feed.old) view
+        (room_size room) }
+{
+    let mut out = Watch::new(Narrow::new(256));
+    let begun = Begun::start(task, view, room, &mut out)?;
+    let mut engine = Engine::new(begun, view);
+    Ok(
+        engine.going()
+            && out.device.held() == steps.before
+            && takes_steps(&mut engine, feed, &mut out, steps),
+    )
+}
+
+// Whether a task behind a header takes these steps, and no more, in the room that it needs.
+fn takes_steps_behind<S: Source>(
+    alloc: Global,
+    view: HeadView<'_>,
+    feed: &mut Feed<'_, '_, '_, '_, S>,
+    task: Task<'_>,
+    steps: &Steps<'_>,
+) -> Result<bool, Fail>
+    requires feed_failures { S.failures (source_of feed.old) < 2 ^ 64 - 1 }
+    requires chunk { chunk_len_of feed.old ≤ 65536 }
+{
+    let need = task.need(view);
+    let mut values = vec![in alloc; 0u8; need.values]?;
+    let mut slots = vec![in alloc; Slot::new(); need.slots]?;
+    let mut shares = vec![in alloc; Share::new(); need.slots]?;
+    let mut marks = vec![in alloc; 0u8; need.marks]?;
+    let room = Room {
+        values: &mut values,
+        slots: &mut slots,
+        shares: &mut shares,
+        marks: &mut marks,
+    };
+    Ok(takes_steps_in(view, feed, room, task, steps)?)
+}
+
+// Whether a task over a dump takes these steps, and no more.
 fn takes_steps_over(
     alloc: Global,
     text: &[u8],
@@ -227,26 +326,7 @@ fn takes_steps_over(
     let mut value = [0u8; 64];
     let mut feed = Feed::new(&mut source, &mut chunk, &mut token, &mut value);
     let head = read_head(alloc, &mut feed, 16_777_216)?;
-    let view = head.view();
-    let need = task.need(view);
-    let mut values = vec![in alloc; 0u8; need.values]?;
-    let mut slots = vec![in alloc; Slot::new(); need.slots]?;
-    let mut shares = vec![in alloc; Share::new(); need.slots]?;
-    let mut marks = vec![in alloc; 0u8; need.marks]?;
-    let room = Room {
-        values: &mut values,
-        slots: &mut slots,
-        shares: &mut shares,
-        marks: &mut marks,
-    };
-    let mut out = Watch::new(Narrow::new(256));
-    let begun = Begun::start(task, view, room, &mut out)?;
-    let mut engine = Engine::new(begun, view);
-    Ok(
-        engine.going()
-            && out.device.held() == steps.before
-            && takes_steps(&mut engine, &mut feed, &mut out, steps),
-    )
+    takes_steps_behind(alloc, head.view(), &mut feed, task, steps)
 }
 
 #[test]
@@ -272,76 +352,41 @@ const CLOCKED_PICKED: &[u8] =
 const CLOCK_PICKED: &[u8] =
     b"$timescale\n\t1ns\n$end\n$scope module tb $end\n$var wire 1 ! clk $end\n$upscope $end\n$enddefinitions $end\n#0\n1!\n";
 
-// Runs `pick` of one name over a source.
-fn pick_over<S: Source, W: Sink>(
-    alloc: Global,
-    source: &mut S,
-    name: &str,
-    out: &mut W,
-) -> Result<Result<Done, Stop>, HeadFault>
-    requires source { S.failures source.old ≡ 0 }
-    requires out { (W.device out.old).failures ≡ 0 }
-{
-    let mut chunk = [0u8; 7];
-    let mut token = [0u8; 64];
-    let mut value = [0u8; 64];
-    let mut feed = Feed::new(source, &mut chunk, &mut token, &mut value);
-    let head = read_head(alloc, &mut feed, 16_777_216)?;
-    let view = head.view();
-    let mut marks = vec![in alloc; 0u8; view.rows.len()]?;
-    let mut values = vec![in alloc; 0u8; view.codes.len()]?;
-    let names = [String::from_str(alloc, name)?];
-    let mut room = Room {
-        values: &mut values,
-        slots: &mut [],
-        shares: &mut [],
-        marks: &mut marks,
-    };
-    Ok(pick(view, &mut feed, &mut room, &names, out))
-}
-
 // Whether a pick of this name has this result, and this is written.
 fn is_picked(
     alloc: Global,
-    text: &[u8],
     name: &str,
     answer: Result<Done, Stop>,
     written: &[u8],
 ) -> Result<bool, HeadFault> {
-    let mut source = Watch::new(text);
-    let mut out = Watch::new(Narrow::new(256));
-    let given = pick_over(alloc, &mut source, name, &mut out)?;
-    Ok(given == answer && out.device.held() == written)
+    let names = [String::from_str(alloc, name)?];
+    is_run(alloc, CLOCKED, Task::Pick(&names), answer, written)
 }
 
 #[test]
 fn pick_of_a_scope_and_of_a_variable(rt: HostRuntime) -> Result<(), Fail> {
     let whole = Ok(Done::Whole);
-    assert!(rt; is_picked(rt.alloc(), CLOCKED, "tb", whole, CLOCKED_PICKED)?);
-    assert!(rt; is_picked(rt.alloc(), CLOCKED, "tb.clk", whole, CLOCK_PICKED)?);
+    assert!(rt; is_picked(rt.alloc(), "tb", whole, CLOCKED_PICKED)?);
+    assert!(rt; is_picked(rt.alloc(), "tb.clk", whole, CLOCK_PICKED)?);
     Ok(())
 }
 
 #[test]
 fn a_name_that_selects_nothing_is_refused(rt: HostRuntime) -> Result<(), Fail> {
     let unmatched = Err(Stop::Unmatched { name: 0 });
-    assert!(rt; is_picked(rt.alloc(), CLOCKED, "zz", unmatched, b"")?);
-    assert!(rt; is_picked(rt.alloc(), CLOCKED, "tb.c", unmatched, b"")?);
+    assert!(rt; is_picked(rt.alloc(), "zz", unmatched, b"")?);
+    assert!(rt; is_picked(rt.alloc(), "tb.c", unmatched, b"")?);
     Ok(())
 }
 
 #[test]
 fn a_pick_ends_where_a_write_fails(rt: HostRuntime) -> Result<(), Fail> {
-    for room in 0..CLOCKED_PICKED.len() {
-        let mut source = Watch::new(CLOCKED);
-        let mut out = Watch::new(Narrow::new(room));
-        assert_eq!(rt;
-            pick_over(rt.alloc(), &mut source, "tb", &mut out)?,
-            Err(Stop::Write),
-            "in {room}"
-        );
-        assert_eq!(rt; out.device.held(), &CLOCKED_PICKED[..room], "in {room}");
-    }
+    let names = [String::from_str(rt.alloc(), "tb")?];
+    let task = Task::Pick(&names);
+    assert_eq!(rt;
+        wrong_room(rt.alloc(), CLOCKED, task, CLOCKED_PICKED)?,
+        None
+    );
     Ok(())
 }
 

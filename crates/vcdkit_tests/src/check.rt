@@ -3,7 +3,7 @@ use super::runs::{DUMP, REPORT, give_message, give_output, leave, whole};
 use vcd_words::Words;
 
 // Dumps and their reports.
-const REPORTS: [(&[u8], &[u8]); 6] = [
+const REPORTS: [(&[u8], &[u8]); 8] = [
     (DUMP, REPORT),
     (
         b"$timescale 1ns $end\n$scope module tb $end\n$var wire 1 ! clk $end\n$var reg 4 \" q [3:0] $end\n$upscope $end\n$enddefinitions $end\n",
@@ -25,6 +25,15 @@ const REPORTS: [(&[u8], &[u8]); 6] = [
         b"$var wire 1 ! a $end\n$enddefinitions $end\n#000000000000000000000000000005\n",
         b"scopes 0\nvariables 1\ncodes 1\ntimes 1\nsections 0\nchanges 0\nlast 5\n",
     ),
+    // Dumps of all kinds of items and variables.
+    (
+        b"$date\n\tTue Mar  5 10:00:00 2024\n$end\n$version\n\tIcarus Verilog\n$end\n$timescale\n\t1ns\n$end\n$scope module tb $end\n$var wire 8 ! data [7:0] $end\n$var reg 1 \" clk $end\n$upscope $end\n$enddefinitions $end\n#0\n$dumpvars\n0\"\nbx !\n$end\n#5\n1\"\nb101 !\n#10\n",
+        b"scopes 1\nvariables 2\ncodes 2\ntimes 3\nsections 1\nchanges 4\nlast 10\n",
+    ),
+    (
+        b"$var wire 1 ! a $end\n$var real 1 \" r $end\n$var event 1 # e $end\n$var wire 2 % u $end\n$enddefinitions $end\n$dumpall\nrnan \"\n$end\n#0\n$dumpvars\n1#\nbz0 %\n$end\n1#\n",
+        b"scopes 0\nvariables 4\ncodes 4\ntimes 1\nsections 2\nchanges 4\nlast 0\n",
+    ),
 ];
 
 #[test]
@@ -41,27 +50,8 @@ fn a_report_is_the_same_by_any_chunk(rt: HostRuntime) {
     }
 }
 
-// Dumps of all kinds of items and variables, and their reports.
-const FULL_REPORTS: [(&[u8], &[u8]); 2] = [
-    (
-        b"$date\n\tTue Mar  5 10:00:00 2024\n$end\n$version\n\tIcarus Verilog\n$end\n$timescale\n\t1ns\n$end\n$scope module tb $end\n$var wire 8 ! data [7:0] $end\n$var reg 1 \" clk $end\n$upscope $end\n$enddefinitions $end\n#0\n$dumpvars\n0\"\nbx !\n$end\n#5\n1\"\nb101 !\n#10\n",
-        b"scopes 1\nvariables 2\ncodes 2\ntimes 3\nsections 1\nchanges 4\nlast 10\n",
-    ),
-    (
-        b"$var wire 1 ! a $end\n$var real 1 \" r $end\n$var event 1 # e $end\n$var wire 2 % u $end\n$enddefinitions $end\n$dumpall\nrnan \"\n$end\n#0\n$dumpvars\n1#\nbz0 %\n$end\n1#\n",
-        b"scopes 0\nvariables 4\ncodes 4\ntimes 1\nsections 2\nchanges 4\nlast 0\n",
-    ),
-];
-
-#[test]
-fn a_full_dump_has_its_report(rt: HostRuntime) {
-    for (text, report) in &FULL_REPORTS {
-        give_output(&rt, Words::Check, text, report);
-    }
-}
-
 // Dumps with a fault in their body, and its line.
-const FAULTY_BODIES: [(&[u8], &[u8]); 6] = [
+const FAULTY_BODIES: [(&[u8], &[u8]); 18] = [
     (
         b"$timescale 1ns $end\n$scope module tb $end\n$var wire 1 ! clk $end\n$var reg 4 \" q [3:0] $end\n$upscope $end\n$enddefinitions $end\n#5\n#5\n1!\n#4\n",
         b"vcdkit: (stdin):10: time goes back\n",
@@ -86,17 +76,7 @@ const FAULTY_BODIES: [(&[u8], &[u8]); 6] = [
         b"$var wire 1 ! a $end\n$enddefinitions $end\n#18446744073709551616\n",
         b"vcdkit: (stdin):3: bad time\n",
     ),
-];
-
-#[test]
-fn a_fault_of_a_body_has_its_line(rt: HostRuntime) {
-    for (text, message) in &FAULTY_BODIES {
-        give_message(&rt, Words::Check, text, message);
-    }
-}
-
-// Dumps with a fault in an item, and its line.
-const FAULTY_ITEMS: [(&[u8], &[u8]); 12] = [
+    // In an item.
     (
         b"$timescale 1ns $end\n$scope module tb $end\n$var wire 1 ! clk $end\n$var reg 4 \" q [3:0] $end\n$upscope $end\n$enddefinitions $end\n#5\n$dumpvars\n#4\n",
         b"vcdkit: (stdin):9: time inside a section\n",
@@ -148,8 +128,8 @@ const FAULTY_ITEMS: [(&[u8], &[u8]); 12] = [
 ];
 
 #[test]
-fn a_fault_of_an_item_has_its_line(rt: HostRuntime) {
-    for (text, message) in &FAULTY_ITEMS {
+fn a_fault_of_a_body_has_its_line(rt: HostRuntime) {
+    for (text, message) in &FAULTY_BODIES {
         give_message(&rt, Words::Check, text, message);
     }
 }

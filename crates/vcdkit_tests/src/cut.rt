@@ -81,19 +81,23 @@ fn what_a_cut_between_other_times_writes_is_a_dump(rt: HostRuntime) {
     }
 }
 
-#[test]
-fn a_cut_writes_what_stands_before_a_fault(rt: HostRuntime) {
-    let text =
-        b"$var wire 1 ! a $end\n$var real 1 \" r $end\n$var event 1 # e $end\n$var wire 2 % u $end\n$enddefinitions $end\n#9\n0!\n?\n".as_slice();
-    let line = b"vcdkit: (stdin):8: unknown command\n".as_slice();
-    let words = Words::Cut("30", "40");
-    give_all(&rt, words, (text, false), (MIXED_HEAD, line, 1));
-}
+// A text, and whether a read fails after it, and the message and the status of a cut from 30 to 40, which writes the header alone.
+const HEADS: [(&[u8], bool, &[u8], u8); 2] = [
+    (
+        b"$var wire 1 ! a $end\n$var real 1 \" r $end\n$var event 1 # e $end\n$var wire 2 % u $end\n$enddefinitions $end\n#9\n0!\n?\n",
+        false,
+        b"vcdkit: (stdin):8: unknown command\n",
+        1,
+    ),
+    (MIXED, true, READ_FAILED, 3),
+];
 
 #[test]
-fn a_cut_writes_what_stands_before_a_failed_read(rt: HostRuntime) {
-    let words = Words::Cut("30", "40");
-    give_all(&rt, words, (MIXED, true), (MIXED_HEAD, READ_FAILED, 3));
+fn a_cut_writes_what_stands_before_a_fault_or_a_failed_read(rt: HostRuntime) {
+    for (text, fails, message, status) in &HEADS {
+        let left = (MIXED_HEAD, *message, *status);
+        give_all(&rt, Words::Cut("30", "40"), (*text, *fails), left);
+    }
 }
 
 #[test]

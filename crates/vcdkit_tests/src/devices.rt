@@ -1,7 +1,7 @@
 // Devices that give or take one to seven bytes a call, and fail at one call alone.
-ghost use Rattle.std.specs.Prelude.{◌≡◌, ◌≤◌};
+ghost use Rattle.std.specs.Prelude.{◌≡◌, ◌<◌, ◌≤◌};
 
-use super::runs::{READ_FAILED, wanted};
+use super::runs::{READ_FAILED, merge_names, wanted};
 use std::alloc::{AllocError, Global};
 use std::io;
 use std::io::{ErrorKind, Write};
@@ -98,16 +98,21 @@ enum Failing {
     ReadLine,
 }
 
-// The call of this number fails.
-fn plan_of(failing: Failing, most: usize, chunk: usize, call: u64) -> Plan
-    ensures { result.chunk ≡ chunk }
-{
-    let (read, out, err) = match failing {
+// Which call of the reader, of the output and of the message fails, where the call of this number does; none is 0.
+fn calls_that_fail(failing: Failing, call: u64) -> (u64, u64, u64) {
+    match failing {
         Failing::Read => (call, 0, 0),
         Failing::Output => (0, call, 0),
         Failing::Message => (0, 0, call),
         Failing::ReadLine => (1, 0, call),
-    };
+    }
+}
+
+// The call of this number fails.
+fn plan_of(failing: Failing, most: usize, chunk: usize, call: u64) -> Plan
+    ensures { result.chunk ≡ chunk }
+{
+    let (read, out, err) = calls_that_fail(failing, call);
     Plan {
         most,
         chunk,
@@ -125,6 +130,17 @@ fn failing_at(bytes: &[u8], most: usize, call: u64) -> Pieces<'_> {
     }
 }
 
+// What a run left, the reader that may fail among it.
+fn left_of(out: Watch<Sparing>, err: Watch<Sparing>, status: u8, reader: &Pieces<'_>) -> Left {
+    Left {
+        out: out.device,
+        err: err.device,
+        status,
+        reads: reader.calls,
+        ahead: reader.bytes.len(),
+    }
+}
+
 // Runs these words over one reader.
 fn run_alone(
     alloc: Global,
@@ -134,15 +150,16 @@ fn run_alone(
 ) -> Result<Left, AllocError>
     requires { (1 ≤ plan.chunk) × (plan.chunk ≤ 65536) }
 {
+    let want = wanted(alloc, words)?;
+    let job = Job {
+        want,
+        limit: 64,
+        chunk: plan.chunk,
+    };
     let names = [String::from_str(alloc, "(stdin)")?];
     let mut readers = [Watch::new(failing_at(dump, plan.most, plan.read))];
     let mut out = Watch::new(Sparing::new(plan.most, plan.out));
     let mut err = Watch::new(Sparing::new(plan.most, plan.err));
-    let job = Job {
-        want: wanted(alloc, words)?,
-        limit: 64,
-        chunk: plan.chunk,
-    };
     let status = run(
         alloc,
         job,
@@ -151,37 +168,24 @@ fn run_alone(
         &mut out,
         &mut err,
     );
-    Ok(Left {
-        out: out.device,
-        err: err.device,
-        status,
-        reads: readers[0].device.calls,
-        ahead: readers[0].device.bytes.len(),
-    })
+    Ok(left_of(out, err, status, &readers[0].device))
 }
 
-// Merges two readers, of which the first may fail, or else the second.
+// Merges two readers, each of which may fail at a call, and returns what was left, of both the reader at this place.
 fn run_merge(
     alloc: Global,
-    first: &[u8],
-    second: &[u8],
-    first_fails: bool,
+    first: (&[u8], u64),
+    second: (&[u8], u64),
+    place: usize,
     plan: Plan,
 ) -> Result<Left, AllocError>
-    requires { (1 ≤ plan.chunk) × (plan.chunk ≤ 65536) }
+    requires chunk { (1 ≤ plan.chunk) × (plan.chunk ≤ 65536) }
+    requires place { place < 2 }
 {
-    let names = [
-        String::from_str(alloc, "a.vcd")?,
-        String::from_str(alloc, "b.vcd")?,
-    ];
-    let (call, other_call) = if first_fails {
-        (plan.read, 0)
-    } else {
-        (0, plan.read)
-    };
+    let names = merge_names(alloc)?;
     let mut readers = [
-        Watch::new(failing_at(first, plan.most, call)),
-        Watch::new(failing_at(second, plan.most, other_call)),
+        Watch::new(failing_at(first.0, plan.most, first.1)),
+        Watch::new(failing_at(second.0, plan.most, second.1)),
     ];
     let mut out = Watch::new(Sparing::new(plan.most, plan.out));
     let mut err = Watch::new(Sparing::new(plan.most, plan.err));
@@ -198,14 +202,7 @@ fn run_merge(
         &mut out,
         &mut err,
     );
-    let place = if first_fails { 0 } else { 1 };
-    Ok(Left {
-        out: out.device,
-        err: err.device,
-        status,
-        reads: readers[place].device.calls,
-        ahead: readers[place].device.bytes.len(),
-    })
+    Ok(left_of(out, err, status, &readers[place].device))
 }
 
 // Runs a row over this dump, by a plan.
@@ -214,8 +211,8 @@ fn run_row(alloc: Global, row: &Row<'_>, dump: &[u8], plan: Plan) -> Result<Left
 {
     match row.readers {
         Readers::Alone => run_alone(alloc, row.words, dump, plan),
-        Readers::WithSecond(second) => run_merge(alloc, dump, second, true, plan),
-        Readers::WithFirst(first) => run_merge(alloc, first, dump, false, plan),
+        Readers::WithSecond(second) => run_merge(alloc, (dump, plan.read), (second, 0), 0, plan),
+        Readers::WithFirst(first) => run_merge(alloc, (first, 0), (dump, plan.read), 1, plan),
     }
 }
 
@@ -235,14 +232,20 @@ struct Whole {
     output: Narrow,
 }
 
+// Writes the parts of a row.
+fn write_parts(parts: &[(&[u8], &[u8])], dump: &mut Narrow, output: &mut Narrow) -> io::Result<()> {
+    for (part, text) in parts {
+        dump.write_all(part)?;
+        output.write_all(text)?;
+    }
+    Ok(())
+}
+
 // Both of a row.
 fn whole_of(row: &Row<'_>) -> io::Result<Whole> {
     let mut dump = Narrow::new(MOST_HELD);
     let mut output = Narrow::new(MOST_HELD);
-    for (part, text) in row.parts {
-        dump.write_all(part)?;
-        output.write_all(text)?;
-    }
+    write_parts(row.parts, &mut dump, &mut output)?;
     output.write_all(row.closing)?;
     Ok(Whole { dump, output })
 }

@@ -2,13 +2,11 @@
 ghost use Rattle.std.specs.Prelude.{◌≤◌};
 
 use super::runs::{
-    DUMP, NESTED, NESTED_LIST, PICKED, READ_FAILED, REPORT, SAMPLED, leave_under, run_into, wanted,
-    whole,
+    DUMP, NESTED, NESTED_LIST, PICKED, READ_FAILED, REPORT, SAMPLED, leave_under, run_named,
+    wanted, whole,
 };
 use std::alloc::{AllocError, Global};
-use vcd_text::Watch;
-use vcd_text::doubles::Narrow;
-use vcd_words::{Job, Want, Words};
+use vcd_words::{Job, Words};
 
 // The commands over one input.
 const COMMANDS: [Words<'static, 'static>; 6] = [
@@ -47,15 +45,14 @@ fn is_left_in(
 ) -> Result<bool, AllocError>
     requires { (room ≤ 1024) × (error_room ≤ 1024) }
 {
-    let mut out = Watch::new(Narrow::new(room));
-    let mut err = Watch::new(Narrow::new(error_room));
+    let want = wanted(alloc, words)?;
     let job = Job {
-        want: wanted(alloc, words)?,
+        want,
         limit: 64,
         chunk: 64,
     };
-    let status = run_into(alloc, job, whole(text), &mut out, &mut err)?;
-    Ok((out.device.held(), err.device.held(), status) == left)
+    let run = run_named(alloc, "(stdin)", job, whole(text), room, error_room)?;
+    Ok((run.out.device.held(), run.err.device.held(), run.status) == left)
 }
 
 // Words, a dump, and the output of a run.

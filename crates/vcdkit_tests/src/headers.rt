@@ -5,8 +5,8 @@ use std::process::Abort;
 use std::test::Fail;
 use vcd_words::Words;
 
-// Headers with a fault, and its line.
-const FAULTY_HEADERS: [(&[u8], &[u8]); 8] = [
+// Headers with a fault, in a declaration from the ninth on, and its line.
+const FAULTY: [(&[u8], &[u8]); 15] = [
     (b"", b"vcdkit: (stdin):1: unexpected end of input\n"),
     (
         b"$foo $end\n",
@@ -27,18 +27,6 @@ const FAULTY_HEADERS: [(&[u8], &[u8]); 8] = [
         b"$timescale 1ns ps $end\n",
         b"vcdkit: (stdin):1: bad timescale\n",
     ),
-];
-
-#[test]
-fn a_fault_of_a_header_has_its_line(rt: HostRuntime) {
-    for (text, message) in &FAULTY_HEADERS {
-        give_message(&rt, Words::Check, text, message);
-        give_message(&rt, Words::List, text, message);
-    }
-}
-
-// Headers with a fault in a declaration, and its line.
-const FAULTY_DECLARATIONS: [(&[u8], &[u8]); 7] = [
     (b"$scope module $end\n", b"vcdkit: (stdin):1: bad scope\n"),
     (
         b"$upscope $end\n",
@@ -67,8 +55,8 @@ const FAULTY_DECLARATIONS: [(&[u8], &[u8]); 7] = [
 ];
 
 #[test]
-fn a_fault_of_a_declaration_has_its_line(rt: HostRuntime) {
-    for (text, message) in &FAULTY_DECLARATIONS {
+fn a_fault_of_a_header_has_its_line(rt: HostRuntime) {
+    for (text, message) in &FAULTY {
         give_message(&rt, Words::Check, text, message);
         give_message(&rt, Words::List, text, message);
     }

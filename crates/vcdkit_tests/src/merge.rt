@@ -1,7 +1,7 @@
 // Two inputs, and what a merge of them leaves.
 ghost use Rattle.std.specs.Prelude.{◌≤◌};
 
-use super::runs::whole;
+use super::runs::{Left, merge_names, whole};
 use std::alloc::{AllocError, Global};
 use std::process::Abort;
 use vcd_text::Watch;
@@ -45,15 +45,12 @@ const MERGES: [(&[u8], &[u8], &[u8], &[u8], u8); 4] = [
     ),
 ];
 
-// What both streams hold, and the status, of a merge of two texts, so many bytes at a time.
-fn merge_on(
-    alloc: Global,
-    first: &[u8],
-    second: &[u8],
-    chunk: usize,
-) -> Result<(Narrow, Narrow, u8), AllocError>
+// What a merge of two texts, so many bytes at a time, leaves.
+fn merge_on(alloc: Global, first: &[u8], second: &[u8], chunk: usize) -> Result<Left, AllocError>
     requires { (1 ≤ chunk) × (chunk ≤ 65536) }
 {
+    let names = merge_names(alloc)?;
+    let mut readers = [Watch::new(whole(first)), Watch::new(whole(second))];
     let mut out = Watch::new(Narrow::new(1024));
     let mut err = Watch::new(Narrow::new(80));
     let job = Job {
@@ -61,11 +58,6 @@ fn merge_on(
         limit: 1_048_576,
         chunk,
     };
-    let names = [
-        String::from_str(alloc, "a.vcd")?,
-        String::from_str(alloc, "b.vcd")?,
-    ];
-    let mut readers = [Watch::new(whole(first)), Watch::new(whole(second))];
     let status = run(
         alloc,
         job,
@@ -74,7 +66,7 @@ fn merge_on(
         &mut out,
         &mut err,
     );
-    Ok((out.device, err.device, status))
+    Ok(Left { out, err, status })
 }
 
 // A merge of two texts, so many bytes at a time, leaves this output, this message and this status.
@@ -87,11 +79,12 @@ fn give_merge<R: Abort + AllocGlobal>(
 )
     requires { (1 ≤ chunk) × (chunk ≤ 65536) }
 {
-    let Ok((out, err, status)) = merge_on(rt.alloc(), first, second, chunk) else {
+    let Ok(run) = merge_on(rt.alloc(), first, second, chunk) else {
         assert!(rt; false, "out of memory");
         return;
     };
-    assert_eq!(rt; (out.held(), err.held(), status), left);
+    let (output, message) = (run.out.device.held(), run.err.device.held());
+    assert_eq!(rt; (output, message, run.status), left);
 }
 
 #[test]

@@ -93,9 +93,10 @@ fn is_same_again(
 ) -> Result<bool, AllocError>
     requires { (1 ≤ chunk) × (chunk ≤ 65536) }
 {
-    let (out, _, _) = run_on(alloc, Words::Pick(names), 64, whole(text), chunk)?;
-    let (again, _, _) = run_on(alloc, Words::Pick(names), 64, whole(out.held()), chunk)?;
-    Ok(again.held() == out.held())
+    let left = run_on(alloc, Words::Pick(names), 64, whole(text), chunk)?;
+    let dump = left.out.device.held();
+    let again = run_on(alloc, Words::Pick(names), 64, whole(dump), chunk)?;
+    Ok(again.out.device.held() == dump)
 }
 
 // What a pick of these names writes has a report, and is no less when it is picked again.
@@ -145,12 +146,6 @@ fn a_name_that_selects_nothing_is_said(rt: HostRuntime) {
     }
 }
 
-#[test]
-fn a_name_that_selects_nothing_is_said_before_the_body_is_read(rt: HostRuntime) {
-    let line = b"vcdkit: tb.zz: selects nothing\n".as_slice();
-    give_all(&rt, Words::Pick(&["tb.zz"]), (TB, true), (b"", line, 1));
-}
-
 // A dump that ends in a vector, one that ends after a change, and what is written of both.
 const OPEN: &[u8] =
     b"$timescale 1ns $end\n$scope module tb $end\n$var wire 1 ! clk $end\n$var reg 4 \" q [3:0] $end\n$upscope $end\n$enddefinitions $end\n#0\n0!\n#5\nb10";
@@ -161,23 +156,40 @@ const CHANGED: &[u8] =
 const CHANGED_WRITTEN: &[u8] =
     b"$timescale\n\t1ns\n$end\n$scope module tb $end\n$var wire 1 ! clk $end\n$var reg 4 \" q [3:0] $end\n$upscope $end\n$enddefinitions $end\n#0\n0!\n";
 
-#[test]
-fn a_pick_writes_what_stands_before_a_fault(rt: HostRuntime) {
-    let line = b"vcdkit: (stdin):10: unexpected end of input\n".as_slice();
-    let left = (CHANGED_WRITTEN, line, 1);
-    give_all(&rt, Words::Pick(&["tb"]), (OPEN, false), left);
-}
+// Names, a text, and whether a read fails after it, and what a pick leaves: a name that selects nothing is said before the body is
+// read, what stands before a fault or a failed read is written, and nothing of a change whose read fails.
+const LEFT: [(&str, &[u8], bool, &[u8], &[u8], u8); 4] = [
+    (
+        "tb.zz",
+        TB,
+        true,
+        b"",
+        b"vcdkit: tb.zz: selects nothing\n",
+        1,
+    ),
+    (
+        "tb",
+        OPEN,
+        false,
+        CHANGED_WRITTEN,
+        b"vcdkit: (stdin):10: unexpected end of input\n",
+        1,
+    ),
+    ("tb", CHANGED, true, CHANGED_WRITTEN, READ_FAILED, 3),
+    (
+        "tb",
+        b"$timescale 1ns $end\n$scope module tb $end\n$var wire 1 ! clk $end\n$var reg 4 \" q [3:0] $end\n$upscope $end\n$enddefinitions $end\n#0\n0!",
+        true,
+        TB_WRITTEN,
+        READ_FAILED,
+        3,
+    ),
+];
 
 #[test]
-fn a_pick_writes_what_stands_before_a_failed_read(rt: HostRuntime) {
-    let left = (CHANGED_WRITTEN, READ_FAILED, 3);
-    give_all(&rt, Words::Pick(&["tb"]), (CHANGED, true), left);
-}
-
-#[test]
-fn a_pick_writes_nothing_of_a_change_whose_read_fails(rt: HostRuntime) {
-    let text =
-        b"$timescale 1ns $end\n$scope module tb $end\n$var wire 1 ! clk $end\n$var reg 4 \" q [3:0] $end\n$upscope $end\n$enddefinitions $end\n#0\n0!".as_slice();
-    let left = (TB_WRITTEN, READ_FAILED, 3);
-    give_all(&rt, Words::Pick(&["tb"]), (text, true), left);
+fn a_pick_writes_what_stands_before_a_fault_or_a_failed_read(rt: HostRuntime) {
+    for (name, text, fails, output, message, status) in &LEFT {
+        let left = (*output, *message, *status);
+        give_all(&rt, Words::Pick(&[*name]), (*text, *fails), left);
+    }
 }

@@ -1,6 +1,5 @@
 // Runs over texts, and dumps that several tests have.
-ghost use Rattle.std.specs.Prelude.{◌-◌, ◌^◌, ◌<◌, ◌≤◌};
-ghost use Rattle.vcd_text.specs.Watch.{failed_calls};
+ghost use Rattle.std.specs.Prelude.{◌≤◌};
 
 use std::alloc::{AllocError, Global};
 use std::process::Abort;
@@ -70,64 +69,68 @@ pub fn failing(bytes: &[u8]) -> Pieces<'_> {
 
 // What good words ask for.
 pub fn wanted(alloc: Global, words: Words<'_, '_>) -> Result<Want, AllocError> {
-    want_of(alloc, words).map_err(|_| AllocError)
+    match want_of(alloc, words) {
+        Ok(want) => Ok(want),
+        Err(_) => Err(AllocError),
+    }
 }
 
-// What both streams hold, and the status, of a run over what a reader gives, so many bytes at a time.
+// The names of both inputs of a merge.
+pub fn merge_names(alloc: Global) -> Result<[String; 2], AllocError> {
+    Ok([
+        String::from_str(alloc, "a.vcd")?,
+        String::from_str(alloc, "b.vcd")?,
+    ])
+}
+
+// What a run leaves: both streams, and the status.
+#[derive(Drop)]
+pub struct Left {
+    pub out: Watch<Narrow>,
+    pub err: Watch<Narrow>,
+    pub status: u8,
+}
+
+// What a job over what a reader with this name gives leaves, with so much room for the output and for the message.
+pub fn run_named(
+    alloc: Global,
+    name: &str,
+    job: Job,
+    input: Pieces<'_>,
+    room: usize,
+    error_room: usize,
+) -> Result<Left, AllocError>
+    requires { (room ≤ 1024) × (error_room ≤ 1024) }
+{
+    let names = [String::from_str(alloc, name)?];
+    let mut readers = [Watch::new(input)];
+    let mut out = Watch::new(Narrow::new(room));
+    let mut err = Watch::new(Narrow::new(error_room));
+    let status = run(
+        alloc,
+        job,
+        names.as_slice(),
+        readers.as_mut_slice(),
+        &mut out,
+        &mut err,
+    );
+    Ok(Left { out, err, status })
+}
+
+// What a run over what a reader gives, so many bytes at a time, leaves.
 pub fn run_on(
     alloc: Global,
     words: Words<'_, '_>,
     limit: usize,
     input: Pieces<'_>,
     chunk: usize,
-) -> Result<(Narrow, Narrow, u8), AllocError>
+) -> Result<Left, AllocError>
     requires limit { (64 ≤ limit) × (limit ≤ 16777216) }
     requires chunk { (1 ≤ chunk) × (chunk ≤ 65536) }
 {
-    let mut out = Watch::new(Narrow::new(1024));
-    let mut err = Watch::new(Narrow::new(80));
     let want = wanted(alloc, words)?;
     let job = Job { want, limit, chunk };
-    let status = run_into(alloc, job, input, &mut out, &mut err)?;
-    Ok((out.device, err.device, status))
-}
-
-// Runs a job over what a reader gives, and returns the status.
-pub fn run_into(
-    alloc: Global,
-    job: Job,
-    input: Pieces<'_>,
-    out: &mut Watch<Narrow>,
-    err: &mut Watch<Narrow>,
-) -> Result<u8, AllocError>
-    requires out_failures { failed_calls out.old < 2 ^ 64 - 1 }
-    requires err_failures { failed_calls err.old < 2 ^ 64 - 1 }
-{
-    run_named(alloc, "(stdin)", job, input, out, err)
-}
-
-// The same of a reader with this name.
-pub fn run_named(
-    alloc: Global,
-    name: &str,
-    job: Job,
-    input: Pieces<'_>,
-    out: &mut Watch<Narrow>,
-    err: &mut Watch<Narrow>,
-) -> Result<u8, AllocError>
-    requires out_failures { failed_calls out.old < 2 ^ 64 - 1 }
-    requires err_failures { failed_calls err.old < 2 ^ 64 - 1 }
-{
-    let names = [String::from_str(alloc, name)?];
-    let mut readers = [Watch::new(input)];
-    Ok(run(
-        alloc,
-        job,
-        names.as_slice(),
-        readers.as_mut_slice(),
-        out,
-        err,
-    ))
+    run_named(alloc, "(stdin)", job, input, 1024, 80)
 }
 
 // A run over what a reader gives, so many bytes at a time, leaves this output, this message and this status.
@@ -142,11 +145,12 @@ pub fn leave<R: Abort + AllocGlobal>(
     requires limit { (64 ≤ limit) × (limit ≤ 16777216) }
     requires chunk { (1 ≤ chunk) × (chunk ≤ 65536) }
 {
-    let Ok((out, err, status)) = run_on(rt.alloc(), words, limit, input, chunk) else {
+    let Ok(run) = run_on(rt.alloc(), words, limit, input, chunk) else {
         assert!(rt; false, "out of memory");
         return;
     };
-    assert_eq!(rt; (out.held(), err.held(), status), left, "of {words:?}");
+    let (output, message) = (run.out.device.held(), run.err.device.held());
+    assert_eq!(rt; (output, message, run.status), left, "of {words:?}");
 }
 
 // The same under this token limit of a run over what a text gives, and a failed read after it where that is said.
@@ -210,15 +214,12 @@ pub fn give_refusal<R: Abort + AllocGlobal>(
     give_all(rt, words, (head, true), (b"", message, status));
 }
 
-// Whether a check of a text is done without a message, and writes a report.
-fn has_report(alloc: Global, text: &[u8], chunk: usize) -> Result<bool, AllocError>
-    requires { (1 ≤ chunk) × (chunk ≤ 65536) }
-{
-    let (report, err, status) = run_on(alloc, Words::Check, 64, whole(text), chunk)?;
-    Ok(status == 0 && err.held().is_empty() && report.held().starts_with(b"scopes "))
+// Whether a run is done without a message.
+fn is_done(left: &Left) -> bool {
+    left.status == 0 && left.err.device.held().is_empty()
 }
 
-// Whether a run over a text is done without a message, and what it writes has a report.
+// Whether a run over a text is done without a message, and so is a check of what it writes, which writes a report.
 fn is_reported(
     alloc: Global,
     words: Words<'_, '_>,
@@ -227,9 +228,11 @@ fn is_reported(
 ) -> Result<bool, AllocError>
     requires { (1 ≤ chunk) × (chunk ≤ 65536) }
 {
-    let (out, err, status) = run_on(alloc, words, 64, whole(text), chunk)?;
-    let is_report = has_report(alloc, out.held(), chunk)?;
-    Ok(status == 0 && err.held().is_empty() && is_report)
+    let left = run_on(alloc, words, 64, whole(text), chunk)?;
+    let dump = left.out.device.held();
+    let report = run_on(alloc, Words::Check, 64, whole(dump), chunk)?;
+    let is_report = report.out.device.held().starts_with(b"scopes ");
+    Ok(is_done(&left) && is_done(&report) && is_report)
 }
 
 // What a run over a text writes has a report.

@@ -53,18 +53,32 @@ fn a_sample_has_its_values(rt: HostRuntime) {
     }
 }
 
-#[test]
-fn a_sample_writes_what_stands_before_a_fault(rt: HostRuntime) {
-    let line = b"vcdkit: (stdin):7: unknown command\n".as_slice();
-    let words = Words::Sample("1,2", None);
-    give_all(&rt, words, (FAULTY, false), (FAULTY_SAMPLE, line, 1));
-}
+// Times, a text, and whether a read fails after it, and what a sample leaves.
+const LEFT: [(&str, &[u8], bool, &[u8], &[u8], u8); 2] = [
+    (
+        "1,2",
+        FAULTY,
+        false,
+        FAULTY_SAMPLE,
+        b"vcdkit: (stdin):7: unknown command\n",
+        1,
+    ),
+    (
+        "9,30",
+        MIXED,
+        true,
+        b"9 a 0\n9 r r1.5\n9 u -\n",
+        READ_FAILED,
+        3,
+    ),
+];
 
 #[test]
-fn a_sample_writes_what_stands_before_a_failed_read(rt: HostRuntime) {
-    let output = b"9 a 0\n9 r r1.5\n9 u -\n".as_slice();
-    let words = Words::Sample("9,30", None);
-    give_all(&rt, words, (MIXED, true), (output, READ_FAILED, 3));
+fn a_sample_writes_what_stands_before_a_fault_or_a_failed_read(rt: HostRuntime) {
+    for (at, text, fails, output, message, status) in &LEFT {
+        let left = (*output, *message, *status);
+        give_all(&rt, Words::Sample(*at, None), (*text, *fails), left);
+    }
 }
 
 #[test]

@@ -5,17 +5,19 @@ use vcd_words::{Period, Times, UseFault, Want, Words, want_of};
 
 // The times of a cut between these words, or their fault.
 fn cut_of<'a>(alloc: Global, from: &'a str, to: &'a str) -> Result<Period, UseFault<'a>> {
-    match want_of(alloc, Words::Cut(from, to))? {
-        Want::Cut(period) => Ok(period),
-        _ => Err(UseFault::BadWords),
+    match want_of(alloc, Words::Cut(from, to)) {
+        Ok(Want::Cut(period)) => Ok(period),
+        Ok(_) => Err(UseFault::BadWords),
+        Err(fault) => Err(fault),
     }
 }
 
 // The times of a sample of this word, or their fault.
 fn sample_times<'a>(alloc: Global, at: &'a str) -> Result<Times, UseFault<'a>> {
-    match want_of(alloc, Words::Sample(at, None))? {
-        Want::Sample(times, _) => Ok(times),
-        _ => Err(UseFault::BadWords),
+    match want_of(alloc, Words::Sample(at, None)) {
+        Ok(Want::Sample(times, _)) => Ok(times),
+        Ok(_) => Err(UseFault::BadWords),
+        Err(fault) => Err(fault),
     }
 }
 

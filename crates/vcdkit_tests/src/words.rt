@@ -3,7 +3,7 @@ ghost use Rattle.std.specs.Prelude.{◌≤◌};
 
 use super::runs::wanted;
 use clap::error::ErrorKind;
-use clap::{Arg, Command, Error};
+use clap::{Arg, ArgMatches, Command, Error};
 use std::alloc::{AllocError, Global};
 use std::process::Abort;
 use vcd_words::{Job, UseFault, Want, Words, command_of, input_of, job_of, parse_status};
@@ -109,19 +109,27 @@ fn a_parse_without_memory_has_its_status(rt: HostRuntime) {
     assert_eq!(rt; parse_status(&Error::from(AllocError)), 3);
 }
 
-// What is said of these words.
-fn said(alloc: Global, words: &[&str]) -> Result<String, AllocError> {
+// Whether this is said of these words.
+fn is_said(alloc: Global, words: &[&str], text: &str) -> Result<bool, AllocError> {
     match command_of(alloc)?.try_get_matches_from(words) {
-        Ok(_) => String::from_str(alloc, "matches"),
-        Err(error) => format!(in alloc; "{error}"),
+        Ok(_) => Ok(false),
+        Err(error) => Ok(format!(in alloc; "{error}")?.as_str() == text),
     }
 }
 
 #[test]
 fn the_version_is_said(rt: HostRuntime) {
     for word in ["--version", "-V"] {
-        let text = said(rt.alloc(), &["vcdkit", word]).unwrap_or(String::new(rt.alloc()));
-        assert_eq!(rt; text.as_str(), "vcdkit 0.1.0\n");
+        let is = is_said(rt.alloc(), &["vcdkit", word], "vcdkit 0.1.0\n");
+        assert_eq!(rt; is, Ok(true), "of {word}");
+    }
+}
+
+// What these words of a command line match, if they do.
+fn matches_of<'a>(command: Command<'a>, words: &'a [&'a str]) -> Option<ArgMatches<'a>> {
+    match command.try_get_matches_from(words) {
+        Ok(matches) => Some(matches),
+        Err(_) => None,
     }
 }
 
@@ -132,10 +140,19 @@ fn is_asked<'a>(
     words: &'a [&'a str],
     wanted: Result<Job, UseFault<'_>>,
 ) -> bool {
-    match command.try_get_matches_from(words) {
-        Ok(matches) => job_of(alloc, &matches) == wanted,
-        Err(_) => false,
+    match matches_of(command, words) {
+        Some(matches) => job_of(alloc, &matches) == wanted,
+        None => false,
     }
+}
+
+// Whether these words ask for this job, or are refused for this fault.
+fn is_answered<'a>(
+    alloc: Global,
+    words: &'a [&'a str],
+    wanted: Result<Job, UseFault<'_>>,
+) -> Result<bool, AllocError> {
+    Ok(is_asked(alloc, command_of(alloc)?, words, wanted))
 }
 
 // Whether these words ask for this under this token limit.
@@ -147,21 +164,13 @@ fn is_job<'a>(
 ) -> Result<bool, AllocError>
     requires { (64 ≤ limit) × (limit ≤ 16777216) }
 {
+    let want = wanted(alloc, want)?;
     let job = Job {
-        want: wanted(alloc, want)?,
+        want,
         limit,
         chunk: 65_536,
     };
-    Ok(is_asked(alloc, command_of(alloc)?, words, Ok(job)))
-}
-
-// Whether these words are refused for this fault.
-fn is_refused<'a>(
-    alloc: Global,
-    words: &'a [&'a str],
-    fault: UseFault<'_>,
-) -> Result<bool, AllocError> {
-    Ok(is_asked(alloc, command_of(alloc)?, words, Err(fault)))
+    is_answered(alloc, words, Ok(job))
 }
 
 // These words ask for this under this token limit.
@@ -177,7 +186,7 @@ fn ask<R: Abort + AllocGlobal>(rt: &R, words: &[&str], want: Words<'_, '_>, limi
 // These words are refused for this fault.
 fn refuse<'a, R: Abort + AllocGlobal>(rt: &R, words: &'a [&'a str], fault: UseFault<'a>) {
     assert_eq!(rt;
-        is_refused(rt.alloc(), words, fault),
+        is_answered(rt.alloc(), words, Err(fault)),
         Ok(true),
         "of {words:?}"
     );
@@ -190,8 +199,8 @@ fn a_command_asks_for_its_job(rt: HostRuntime) {
         limit: LIMIT,
         chunk: 65_536,
     };
-    let command = command_of(rt.alloc()).unwrap_or(Command::new(rt.alloc(), "vcdkit"));
-    assert!(rt; is_asked(rt.alloc(), command, &["vcdkit", "check"], Ok(job)));
+    let is = is_answered(rt.alloc(), &["vcdkit", "check"], Ok(job));
+    assert_eq!(rt; is, Ok(true));
 }
 
 #[test]
@@ -277,9 +286,9 @@ fn a_word_that_is_no_token_limit_is_refused(rt: HostRuntime) {
 
 // Whether these words of a command line name this input.
 fn is_input<'a>(command: Command<'a>, words: &'a [&'a str], input: Option<&str>) -> bool {
-    match command.try_get_matches_from(words) {
-        Ok(matches) => input_of(&matches) == input,
-        Err(_) => false,
+    match matches_of(command, words) {
+        Some(matches) => input_of(&matches) == input,
+        None => false,
     }
 }
 
@@ -407,11 +416,19 @@ fn bad_times_of_a_cut_are_refused(rt: HostRuntime) {
     }
 }
 
+// A command with one more option of this name.
+fn with_option<'a>(
+    alloc: Global,
+    command: Command<'a>,
+    name: &'a str,
+) -> Result<Command<'a>, AllocError> {
+    command.arg(Arg::new(alloc, name).long(name))
+}
+
 // A cut that may be without times.
 fn free_cut<'a>(alloc: Global) -> Result<Command<'a>, AllocError> {
-    let from = Arg::new(alloc, "from").long("from");
-    let to = Arg::new(alloc, "to").long("to");
-    Command::new(alloc, "cut").arg(from)?.arg(to)
+    let cut = with_option(alloc, Command::new(alloc, "cut"), "from")?;
+    with_option(alloc, cut, "to")
 }
 
 // Whether such a cut is bad without the time that it begins at.

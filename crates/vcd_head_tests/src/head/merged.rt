@@ -1,27 +1,33 @@
 // What a merge writes in its header.
 use super::{SMALL, read_good};
+use std::alloc::Global;
 use std::test::Fail;
 use vcd_head::{least_exponent, put_merged_head};
-use vcd_text::{Watch, put};
+use vcd_text::{Watch, WriteFailed};
 use vcd_view::put_code;
+
+// Whether this is the code of a number.
+fn is_code(alloc: Global, number: u64, code: &[u8]) -> Result<bool, WriteFailed> {
+    let mut out = Watch::new(Vec::new(alloc));
+    put_code(number, &mut out)?;
+    Ok(out.device.as_slice() == code)
+}
+
+const CODES: [(u64, &[u8]); 7] = [
+    (0, b"!"),
+    (1, b"\""),
+    (93, b"~"),
+    (94, b"!\""),
+    (95, b"\"\""),
+    (187, b"~\""),
+    (188, b"!#"),
+];
 
 #[test]
 fn codes_of_numbers(rt: HostRuntime) -> Result<(), Fail> {
-    let mut out = Watch::new(Vec::new(rt.alloc()));
-    put_code(0, &mut out)?;
-    put(&mut out, b" ")?;
-    put_code(1, &mut out)?;
-    put(&mut out, b" ")?;
-    put_code(93, &mut out)?;
-    put(&mut out, b" ")?;
-    put_code(94, &mut out)?;
-    put(&mut out, b" ")?;
-    put_code(95, &mut out)?;
-    put(&mut out, b" ")?;
-    put_code(187, &mut out)?;
-    put(&mut out, b" ")?;
-    put_code(188, &mut out)?;
-    assert_eq!(rt; out.device.as_slice(), b"! \" ~ !\" \"\" ~\" !#".as_slice());
+    for (number, code) in CODES {
+        assert!(rt; is_code(rt.alloc(), number, code)?, "of {number}");
+    }
     Ok(())
 }
 

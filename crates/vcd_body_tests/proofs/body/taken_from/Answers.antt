@@ -1,10 +1,10 @@
 use Rattle.std.proofs.Common.{◌++◌, ◌∙◌}
 use Rattle.vcd_text.specs.Ahead.{ahead_of, lines_of}
 use Rattle.vcd_text.specs.Feed.{limit_of}
-use Rattle.vcd_body_tests.proofs.body.taken_ahead.Goals as goal
+use Rattle.vcd_body_tests.proofs.body.taken_from.Goals as goal
 
 pub loop-plain-preserved : goal.loop-plain-preserved
-loop-plain-preserved c = (
+loop-plain-preserved g c = (
   c.item_ahead.ensures.within,
   λ limit lines bytes over.
       let i = c.loop-plain.invariant.1 limit lines bytes over in
@@ -14,8 +14,8 @@ loop-plain-preserved c = (
 )
 
 pub pass_items-requires : goal.pass_items-requires
-pass_items-requires c =
-    let f = c.read_head.new.feed in
+pass_items-requires g c =
+    let f = c.args.feed.now in
     let i = c.loop-plain.invariant.1 (limit_of f) (lines_of f) (ahead_of f) (c.ahead-ahead.ensures.limit, c.ahead-ahead.ensures.bytes) in
     let more = c.item_ahead.ensures.passes (limit_of f) (lines_of f) (ahead_of f) i.1.0 i.0 i.1.1 in
     (i.1.0 ++ more.0, rw c.passed-passed.ensures.passed more.1)
