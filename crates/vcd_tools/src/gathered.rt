@@ -6,7 +6,7 @@ use std::simd::prelude::*;
 use vcd_text::{Sink, WriteFailed, put};
 
 /// So many bytes of short pieces are gathered.
-pub(crate) const GATHERED: usize = 16_384;
+pub(crate) const GATHERED: usize = 8_448;
 
 /// A piece of at most so many bytes is short: it is copied by a copy of so many, whatever its length.
 const SHORT: usize = 64;
@@ -16,8 +16,8 @@ const SHORT: usize = 64;
 pub(crate) struct Gathered {
     pub(crate) bytes: [u8; GATHERED],
     pub(crate) len: usize,
-    ghost size: { 16384 ≤ length bytes },
-    ghost room: { len ≤ 16384 },
+    ghost size: { 8448 ≤ length bytes },
+    ghost room: { len ≤ 8448 },
 }
 
 /// Copies so many bytes, from a place on, to a place.
@@ -50,7 +50,7 @@ impl Gathered {
         requires within { (from ≤ to) × (to ≤ length bytes.now) }
         ensures short { result ≡ true → to ≤ from + 64 }
         ensures there { result ≡ true → from + 64 ≤ length bytes.now }
-        ensures room { result ≡ true → self.now.len + 64 ≤ 16384 }
+        ensures room { result ≡ true → self.now.len + 64 ≤ 8448 }
     {
         to - from <= SHORT && from + SHORT <= bytes.len() && self.len <= GATHERED - SHORT
     }
@@ -60,7 +60,7 @@ impl Gathered {
     pub(crate) fn push(&mut self, bytes: &[u8], from: usize, to: usize)
         requires short { (from ≤ to) × (to ≤ from + 64) }
         requires there { from + 64 ≤ length bytes.now }
-        requires room { self.old.len + 64 ≤ 16384 }
+        requires room { self.old.len + 64 ≤ 8448 }
         ensures { take self.new.len self.new.bytes
             ≡ take self.old.len self.old.bytes ++ slice_range bytes.now from to }
     {
@@ -71,7 +71,7 @@ impl Gathered {
     /// Takes a part of any length behind the others, where it has room.
     pub(crate) fn push_long(&mut self, bytes: &[u8], from: usize, to: usize)
         requires within { (from ≤ to) × (to ≤ length bytes.now) }
-        requires room { self.old.len + (to - from) ≤ 16384 }
+        requires room { self.old.len + (to - from) ≤ 8448 }
         ensures { take self.new.len self.new.bytes
             ≡ take self.old.len self.old.bytes ++ slice_range bytes.now from to }
     {
