@@ -125,23 +125,23 @@ pub fn command_of<'a>(alloc: Global) -> Result<Command<'a>, AllocError>
     ensures whole { IfOk result (λ c. is_broken c ≡ false) }
 {
     let check = one_input(alloc, "check", help::CHECK)?;
-    let list = one_input(alloc, "list", help::LIST)?;
-    let pick = named(alloc, "pick", help::PICK, true)?;
-    let cut = cut(alloc)?;
-    let sample = sample(alloc)?;
-    let edges = named(alloc, "edges", help::EDGES, false)?;
-    let merge = merge(alloc)?;
-    new_command(alloc, "vcdkit", help::PROGRAM)
+    let program = new_command(alloc, "vcdkit", help::PROGRAM)
         .version("0.1.0")
         .subcommand_required(true)
         .disable_help_subcommand(true)
-        .subcommand(check)?
-        .subcommand(list)?
-        .subcommand(pick)?
-        .subcommand(cut)?
-        .subcommand(sample)?
-        .subcommand(edges)?
-        .subcommand(merge)
+        .subcommand(check)?;
+    let list = one_input(alloc, "list", help::LIST)?;
+    let program = program.subcommand(list)?;
+    let pick = named(alloc, "pick", help::PICK, true)?;
+    let program = program.subcommand(pick)?;
+    let cut = cut(alloc)?;
+    let program = program.subcommand(cut)?;
+    let sample = sample(alloc)?;
+    let program = program.subcommand(sample)?;
+    let edges = named(alloc, "edges", help::EDGES, false)?;
+    let program = program.subcommand(edges)?;
+    let merge = merge(alloc)?;
+    program.subcommand(merge)
 }
 
 /// The exit status where a parse gave no matches.

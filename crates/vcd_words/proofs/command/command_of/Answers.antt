@@ -24,20 +24,20 @@ bare c =
 
 pub returns-clause-words : goal.returns-clause-words
 returns-clause-words c =
-    let first = added _ _ _ bare_app (one_input_app (codes "check")) c.in_ok-subcommand.ensures (bare c).0 c.in_ok-check.ensures.words refl in
-    let second = added _ _ _ _ (one_input_app (codes "list")) c.in_ok-subcommand-2.ensures first c.in_ok-list.ensures.words refl in
-    let third = added _ _ _ _ (named_app (codes "pick") true) c.in_ok-subcommand-3.ensures second c.in_ok-pick.ensures.words refl in
-    let fourth = added _ _ _ _ cut_app c.in_ok-subcommand-4.ensures third c.in_ok-cut.ensures.words refl in
-    let fifth = added _ _ _ _ sample_app c.in_ok-subcommand-5.ensures fourth c.in_ok-sample.ensures.words refl in
-    let sixth = added _ _ _ _ (named_app (codes "edges") false) c.in_ok-subcommand-6.ensures fifth c.in_ok-edges.ensures.words refl in
+    let first = added _ _ _ bare_app (one_input_app (codes "check")) c.in_ok-program.ensures (bare c).0 c.in_ok-check.ensures.words refl in
+    let second = added _ _ _ _ (one_input_app (codes "list")) c.in_ok-program-2.ensures first c.in_ok-list.ensures.words refl in
+    let third = added _ _ _ _ (named_app (codes "pick") true) c.in_ok-program-3.ensures second c.in_ok-pick.ensures.words refl in
+    let fourth = added _ _ _ _ cut_app c.in_ok-program-4.ensures third c.in_ok-cut.ensures.words refl in
+    let fifth = added _ _ _ _ sample_app c.in_ok-program-5.ensures fourth c.in_ok-sample.ensures.words refl in
+    let sixth = added _ _ _ _ (named_app (codes "edges") false) c.in_ok-program-6.ensures fifth c.in_ok-edges.ensures.words refl in
     IfOk-weaker c.subcommand-7.result _ _ (λ r h. added _ _ _ _ merge_app h sixth c.in_ok-merge.ensures.words refl) c.subcommand-7.ensures
 
 pub returns-clause-whole : goal.returns-clause-whole
 returns-clause-whole c =
-    let first : is_broken c.in_ok-subcommand.field-0 ≡ false = c.in_ok-subcommand.ensures.broken ∙ ap₂ ◌||◌ (bare c).1 c.in_ok-check.ensures.whole in
-    let second : is_broken c.in_ok-subcommand-2.field-0 ≡ false = c.in_ok-subcommand-2.ensures.broken ∙ ap₂ ◌||◌ first c.in_ok-list.ensures.whole in
-    let third : is_broken c.in_ok-subcommand-3.field-0 ≡ false = c.in_ok-subcommand-3.ensures.broken ∙ ap₂ ◌||◌ second c.in_ok-pick.ensures.whole in
-    let fourth : is_broken c.in_ok-subcommand-4.field-0 ≡ false = c.in_ok-subcommand-4.ensures.broken ∙ ap₂ ◌||◌ third c.in_ok-cut.ensures.whole in
-    let fifth : is_broken c.in_ok-subcommand-5.field-0 ≡ false = c.in_ok-subcommand-5.ensures.broken ∙ ap₂ ◌||◌ fourth c.in_ok-sample.ensures.whole in
-    let sixth : is_broken c.in_ok-subcommand-6.field-0 ≡ false = c.in_ok-subcommand-6.ensures.broken ∙ ap₂ ◌||◌ fifth c.in_ok-edges.ensures.whole in
+    let first : is_broken c.in_ok-program.program ≡ false = c.in_ok-program.ensures.broken ∙ ap₂ ◌||◌ (bare c).1 c.in_ok-check.ensures.whole in
+    let second : is_broken c.in_ok-program-2.program ≡ false = c.in_ok-program-2.ensures.broken ∙ ap₂ ◌||◌ first c.in_ok-list.ensures.whole in
+    let third : is_broken c.in_ok-program-3.program ≡ false = c.in_ok-program-3.ensures.broken ∙ ap₂ ◌||◌ second c.in_ok-pick.ensures.whole in
+    let fourth : is_broken c.in_ok-program-4.program ≡ false = c.in_ok-program-4.ensures.broken ∙ ap₂ ◌||◌ third c.in_ok-cut.ensures.whole in
+    let fifth : is_broken c.in_ok-program-5.program ≡ false = c.in_ok-program-5.ensures.broken ∙ ap₂ ◌||◌ fourth c.in_ok-sample.ensures.whole in
+    let sixth : is_broken c.in_ok-program-6.program ≡ false = c.in_ok-program-6.ensures.broken ∙ ap₂ ◌||◌ fifth c.in_ok-edges.ensures.whole in
     IfOk-weaker c.subcommand-7.result _ _ (λ r h. h.broken ∙ ap₂ ◌||◌ sixth c.in_ok-merge.ensures.whole) c.subcommand-7.ensures
