@@ -1,5 +1,5 @@
 -- Counters in parts, with one more in some.
-use Rattle.std.proofs.Common.{◌≡◌, ◌≢◌, ℕ, zero, suc, ◌+◌, ◌-◌, ◌*◌, ◌^◌, ◌<◌, ◌≤◌, min, Bool, true, false, cond, List, [], ◌∷◌, get_or, refl, ap, ◌∙◌, arith}
+use Rattle.std.proofs.Common.{◌≡◌, ◌≢◌, ℕ, zero, suc, ◌+◌, ◌-◌, ◌*◌, ◌^◌, ◌<◌, ◌≤◌, min, Bool, true, false, not, cond, List, [], ◌∷◌, length, slice_set, get_or, refl, ap, ◌∙◌, arith}
 use Rattle.vcd_body.specs.Counters.{count_at, count_of, counts_of}
 use Rattle.vcd_body.specs.Kept.{counts_if, counts_with}
 
@@ -46,3 +46,13 @@ none_counted l m h zero past = absurd (omega arith)
 none_counted l m h (suc zero) past = absurd (omega arith)
 none_counted l m h (suc (suc zero)) past = absurd (omega arith)
 none_counted l m h (suc (suc (suc k))) past = refl
+
+-- a step that rises or falls, where the parts at both places were set
+pub low_turned : (low middle high : List ℕ) (rises : Bool) (turned : ℕ) → length low ≡ 3 → turned ≡ cond rises 1 2
+    → counts_of (slice_set (slice_set low 0 (get_or low 0 0 + 1)) turned (get_or (slice_set low 0 (get_or low 0 0 + 1)) turned 0 + 1)) middle high ≡ counts_if (not rises) (counts_if rises (counts_with (counts_of low middle high) 0) 1) 2
+low_turned [] middle high rises turned long is = cc
+low_turned (a ∷ []) middle high rises turned long is = cc
+low_turned (a ∷ b ∷ []) middle high rises turned long is = cc
+low_turned (a ∷ b ∷ c ∷ []) middle high true turned long is = rw is (low_counted a b c (b + 1) c true false middle high refl (let e : c ≡ c + 0 = omega arith in e))
+low_turned (a ∷ b ∷ c ∷ []) middle high false turned long is = rw is (low_counted a b c b (c + 1) false true middle high (let e : b ≡ b + 0 = omega arith in e) refl)
+low_turned (a ∷ b ∷ c ∷ d ∷ low) middle high rises turned long is = absurd (omega (arith, long))

@@ -1,6 +1,6 @@
 // The three counters of a code, of 64 bits each. The lowest 16 bits of each lie in the code's slot, beside its value, and the others in its
 // share: so most steps touch the slot alone.
-ghost use Rattle.std.specs.Prelude.{◌≡◌, ℕ, ◌<◌, List, IfSome};
+ghost use Rattle.std.specs.Prelude.{◌≡◌, ℕ, ◌<◌, List, IfSome, not, true, false};
 ghost use Rattle.vcd_body.specs.Counters.{count_of, counts_of};
 ghost use Rattle.vcd_body.specs.Kept.{counts_if, counts_with};
 
@@ -87,6 +87,38 @@ pub(crate) fn count_step(
     match low_after(*low, rises, falls) {
         Some(after) => *low = after,
         None => carry_step(low, middle, high, rises, falls),
+    }
+}
+
+/// Adds one to the first of the lowest parts, and to that of rises or of falls. Returns whether both had room; else nothing changes.
+#[inline(always)]
+fn turn_low(low: &mut [u16; 3], rises: bool) -> bool
+    ensures more { result ≡ true → (middle high : List ℕ) → counts_of low.new middle high
+        ≡ counts_if (not rises) (counts_if rises (counts_with (counts_of low.old middle high) 0) 1) 2 }
+    ensures same { result ≡ false → low.new ≡ low.old }
+{
+    let turned = if rises { 1 } else { 2 };
+    if low[0] == u16::MAX || low[turned] == u16::MAX {
+        return false;
+    }
+    low[0] += 1;
+    low[turned] += 1;
+    true
+}
+
+/// Adds one to the first counter, and to that of rises or of falls: it takes no branches by which, and adds to two of them. A full one stays.
+#[inline(always)]
+pub(crate) fn count_turn(
+    low: &mut [u16; 3],
+    middle: &mut [u32; 3],
+    high: &mut [u16; 3],
+    rises: bool,
+)
+    ensures { counts_of low.new middle.new high.new ≡ counts_if (not rises)
+        (counts_if rises (counts_with (counts_of low.old middle.old high.old) 0) 1) 2 }
+{
+    if !turn_low(low, rises) {
+        carry_step(low, middle, high, rises, !rises);
     }
 }
 

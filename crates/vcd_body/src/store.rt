@@ -7,7 +7,7 @@ ghost use Rattle.vcd_body.specs.Packed.{held_digit};
 ghost use Rattle.vcd_body.specs.Stored.{AreLaidOut, ChangesAt, IsUnset, end_at, held_by, kept_with, share_from, share_of, some_by, start_in, start_of, used, used_by, whole};
 
 use crate::bits::{Bits, is_number_step, is_proper, number_in, packed};
-use crate::counters::{count_one, count_step};
+use crate::counters::{count_one, count_step, count_turn};
 use crate::item::Form;
 use crate::packed::pack;
 use crate::slot::{Share, Slot, State, bit_state, state_of};
@@ -316,7 +316,7 @@ fn turn_slot(slot: &mut Slot, share: &mut Share, one: bool)
     let after = bit_state(one);
     slot.state = after;
     if before != after {
-        count_step(&mut slot.low, &mut share.middle, &mut share.high, one, !one);
+        count_turn(&mut slot.low, &mut share.middle, &mut share.high, one);
     }
 }
 
