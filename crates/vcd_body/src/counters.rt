@@ -54,25 +54,24 @@ pub(crate) fn count_one(
     }
 }
 
-/// The lowest parts, with one more in the first, and in the others where the tests hold: it takes no branches by them. None where one of
-/// the parts is full.
+/// Adds one to the first of the lowest parts, and to that of rises or of falls where one of the tests holds: it takes no branches by
+/// which. Returns whether these parts had room; else, or where both tests hold, nothing changes.
 #[inline(always)]
-fn low_after(low: [u16; 3], rises: bool, falls: bool) -> Option<[u16; 3]>
-    ensures { IfSome result (λ after. (middle high : List ℕ) → counts_of after middle high
-        ≡ counts_if falls (counts_if rises (counts_with (counts_of low middle high) 0) 1) 2) }
+fn step_low(low: &mut [u16; 3], rises: bool, falls: bool) -> bool
+    ensures more { result ≡ true → (middle high : List ℕ) → counts_of low.new middle high
+        ≡ counts_if falls (counts_if rises (counts_with (counts_of low.old middle high) 0) 1) 2 }
+    ensures same { result ≡ false → low.new ≡ low.old }
 {
-    let [changes, ups, downs] = low;
-    if changes == u16::MAX || ups == u16::MAX || downs == u16::MAX {
-        return None;
+    let turned = if falls { 2 } else { 1 };
+    if rises & falls || low[0] == u16::MAX || low[turned] == u16::MAX {
+        return false;
     }
-    Some([
-        changes + 1,
-        ups + u16::from(rises),
-        downs + u16::from(falls),
-    ])
+    low[0] += 1;
+    low[turned] += u16::from(rises | falls);
+    true
 }
 
-/// Adds one to the first counter, and to the others where the tests hold. A full one stays.
+/// Adds one to the first counter, and to the others where the tests hold. A full one stays. Most steps add to two lowest parts alone.
 #[inline(always)]
 pub(crate) fn count_step(
     low: &mut [u16; 3],
@@ -84,9 +83,8 @@ pub(crate) fn count_step(
     ensures { counts_of low.new middle.new high.new ≡ counts_if falls
         (counts_if rises (counts_with (counts_of low.old middle.old high.old) 0) 1) 2 }
 {
-    match low_after(*low, rises, falls) {
-        Some(after) => *low = after,
-        None => carry_step(low, middle, high, rises, falls),
+    if !step_low(low, rises, falls) {
+        carry_step(low, middle, high, rises, falls);
     }
 }
 
