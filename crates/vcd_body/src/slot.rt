@@ -93,21 +93,18 @@ impl Share {
     }
 }
 
-/// The state that holds one digit. It is written so that it takes no branches.
+/// The state that holds one digit. Most are 0 or 1: between these it takes no branches.
 #[inline(always)]
 pub(crate) fn state_of(digit: u8) -> State
     ensures { one_digit result ≡ Some (held_digit digit) }
 {
-    let x_or_z = if (digit == b'x') | (digit == b'X') {
+    if digit == b'0' || digit == b'1' {
+        return bit_state(digit == b'1');
+    }
+    if digit == b'x' || digit == b'X' {
         State::Unknown
     } else {
         State::High
-    };
-    let all_but_0 = if digit == b'1' { State::One } else { x_or_z };
-    if digit == b'0' {
-        State::Zero
-    } else {
-        all_but_0
     }
 }
 
