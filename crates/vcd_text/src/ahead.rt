@@ -1,5 +1,5 @@
 //! A look ahead over the bytes of a chunk, in a caller's loop: most tokens cost no change of the feed.
-ghost use Rattle.std.specs.Prelude.{◌≡◌, ◌≢◌, ℕ, ◌+◌, ◌-◌, ◌^◌, ◌<◌, ◌≤◌, true, false, length, slice_index};
+ghost use Rattle.std.specs.Prelude.{◌≡◌, ◌≢◌, ℕ, ◌+◌, ◌-◌, ◌^◌, ◌<◌, ◌≤◌, true, false, length, slice_index, IfSome, None};
 ghost use Rattle.std.specs.Int.{bit_at};
 ghost use Rattle.vcd_model.specs.Bytes.{is_white_space};
 ghost use Rattle.vcd_text.specs.Masks.{Marks};
@@ -91,10 +91,7 @@ impl<'a> Ahead<'a> {
         ensures same { (bytes_of self.new ≡ bytes_of self.old)
             × (longest_of self.new ≡ longest_of self.old) }
     {
-        let white = white_ahead(self.bytes, self.white);
-        if white.bits == 0 {
-            return None;
-        }
+        let white = white_ahead(self.bytes, self.white)?;
         if !stands_at(white, self.at) {
             return self.take(self.at, white);
         }
@@ -185,23 +182,29 @@ fn past_white(bytes: &[u8], from: usize) -> usize
     at
 }
 
-/// The white space that is known ahead: no bits where there is none, or fewer than 64 bytes from it on.
+/// The white space that is known ahead, or else stands next. None where there is none, or fewer than 64 bytes from it on.
+// What is known is asked once: it is so for most tokens.
 #[inline(always)]
-fn white_ahead(bytes: &[u8], known: White) -> White
+fn white_ahead(bytes: &[u8], known: White) -> Option<White>
     requires { known.next ≤ length bytes.now }
-    ensures marks { result.bits ≢ 0 → (at : ℕ) → at ≤ known.next
+    ensures some { IfSome result (λ white. white.bits ≢ 0) }
+    ensures marks { IfSome result (λ white. (at : ℕ) → at ≤ known.next
         → Marks bytes.now at (length bytes.now) known
-        → Marks bytes.now at (length bytes.now) result }
-    ensures none { result.bits ≡ 0 → (length bytes.now < result.next + 64)
+        → Marks bytes.now at (length bytes.now) white) }
+    ensures next { IfSome result (λ white. (known.next ≤ white.next) × (white.next ≤ length bytes.now)) }
+    ensures none { result ≡ None → (next : ℕ) × (length bytes.now < next + 64)
         × ((at : ℕ) → at ≤ known.next → Marks bytes.now at (length bytes.now) known
-        → (j : ℕ) → at ≤ j → j < result.next
+        → (j : ℕ) → at ≤ j → j < next
         → is_white_space (slice_index bytes.now j) ≡ false) }
-    ensures next { (known.next ≤ result.next) × (result.next ≤ length bytes.now) }
 {
     if known.bits != 0 {
-        return known;
+        return Some(known);
     }
-    look_ahead(bytes, known.next)
+    let white = look_ahead(bytes, known.next);
+    if white.bits == 0 {
+        return None;
+    }
+    Some(white)
 }
 
 /// Looks on for white space, 64 bytes at a time: no bits where fewer are left before any.
