@@ -1,5 +1,5 @@
 -- What a table keeps of a code whose value was set and whose step was counted.
-use Rattle.std.proofs.Common.{◌≡◌, ◌≢◌, ◌⊎◌, inl, inr, ℕ, ◌+◌, ◌<◌, ◌≤◌, ◌==◌, ◌%◌, ◌^◌, max, not, Bool, true, false, cond, List, [], ◌∷◌, length, take, drop, Option, Some, None, refl, subst, sym, ap, ◌∙◌, arith}
+use Rattle.std.proofs.Common.{◌≡◌, ◌≢◌, ◌⊎◌, inl, inr, ℕ, ◌+◌, ◌<◌, ◌≤◌, ◌==◌, ◌%◌, ◌^◌, max, not, Bool, true, false, cond, List, [], ◌∷◌, length, take, drop, slice_get, Option, Some, None, refl, subst, sym, ap, ◌∙◌, arith}
 use Rattle.std.specs.Prelude.{nat_lt, option_map, unwrap_or}
 use Rattle.std.specs.Char.{to_ascii_lowercase}
 use Rattle.std.proofs.lemmas.Bool.{eq-eqb, eqb-true, lt-ltb, ne_eqb}
@@ -9,12 +9,11 @@ use Rattle.vcd_body.specs.Contents.{ChangesCode, held_at, kept_at}
 use Rattle.vcd_body.specs.Given.{IsText}
 use Rattle.vcd_body.specs.Binary.{binary_digits, count_in, is_proper, number_in}
 use Rattle.vcd_body.specs.Items.{model_form}
-use Rattle.vcd_body.specs.Kept.{Held, IsStep, Kept, counts_if, counts_with, differs, goes_from, last_digit_in, value_at_size, with_change, with_counted, with_held, with_number, with_number_change, with_step, with_text}
+use Rattle.vcd_body.specs.Kept.{Held, IsStep, Kept, differs, goes_from, last_digit_in, value_at_size, with_change, with_counted, with_held, with_number, with_number_change, with_step, with_text}
 use Rattle.vcd_body.specs.Packed.{held_digit}
-use Rattle.vcd_body.specs.Stored.{ChangesAt, Whole, held_by, held_of, kept_in, kept_with, one_digit, share_of, used_by}
+use Rattle.vcd_body.specs.Stored.{AreLaidOut, ChangesAt, Whole, end_at, held_by, held_of, kept_in, kept_with, len_in, number_of, one_digit, share_of, some_by, state_in, used_by, whole}
 use denote.Enum.Bare.{sameb}
 use Rattle.vcd_body.specs.contracts.item.Form.{the_type as the_form}
-use Rattle.vcd_body.specs.contracts.slot.State.{the_type}
 use Rattle.vcd_body.specs.declared.item.Form.{Form}
 use Rattle.vcd_body.specs.declared.item.Form.TheVariants as form
 use Rattle.vcd_body.specs.declared.slot.Share.{Share}
@@ -23,11 +22,11 @@ use Rattle.vcd_body.specs.declared.slot.State.{State}
 use Rattle.vcd_body.specs.declared.slot.State.TheVariants as state
 use Rattle.vcd_body.specs.declared.step.Step.{Step}
 use Rattle.vcd_body.specs.declared.table.Table.{Table}
-use Rattle.vcd_body.proofs.BinaryLemmas.{length_binary, proper_count}
-use Rattle.vcd_body.proofs.NumberLemmas.{bits_kept, number_is_text, number_step, proper_number}
+use Rattle.vcd_body.proofs.BinaryLemmas.{length_binary, proper, proper_count}
+use Rattle.vcd_body.proofs.NumberLemmas.{number_is_text, number_step, proper_number}
 use Rattle.vcd_body.proofs.SetLemmas.{good_value}
 use Rattle.vcd_body.proofs.StepLemmas.{digit_step}
-use Rattle.vcd_body.proofs.StoreLemmas.{digit_kept, held_one, same_or_not, set_whole, text_fits}
+use Rattle.vcd_body.proofs.StoreLemmas.{held_one, kept_parts, same_or_not, some_in, text_fits, told_state}
 
 -- a step tells what is counted
 pub changed_by : (s : Step) (size : ℕ) (f : Form) (text : List ℕ) (k : Kept) → 0 < length text → IsStep s (value_at_size size k.held) (value_with size (model_form f) text)
@@ -76,7 +75,7 @@ module _ (code l n : ℕ) (v v' : List ℕ) (s s' : List Slot) (h h' : List Shar
       ∙ sym (ap (λ (b : Bool). cond b (with_counted (value_at_size size x.held) (value_with size (model_form form.Vector) ds) (with_text form.Vector ds x)) x) (lt-ltb 0 (length ds) (omega (arith, c, some))))) changes
 
 -- what is kept of one digit
-one_text : (f : Form) (digit : ℕ) (k : Kept) → f ≢ form.RealText → with_text f (digit ∷ []) k ≡ with_held (Held.Digits (held_digit digit ∷ [])) k
+pub one_text : (f : Form) (digit : ℕ) (k : Kept) → f ≢ form.RealText → with_text f (digit ∷ []) k ≡ with_held (Held.Digits (held_digit digit ∷ [])) k
 one_text form.Scalar digit k digits = ap (λ (b : Bool). with_held (cond b (Held.Digits (held_digit digit ∷ [])) k.held) k) (text_fits form.Scalar 1 k.room (omega arith) (omega arith))
 one_text form.Vector digit k digits = ap (λ (b : Bool). with_held (cond b (Held.Digits (held_digit digit ∷ [])) k.held) k) (text_fits form.Vector 1 k.room (omega arith) (omega arith))
 one_text form.RealText digit k digits = absurd (digits refl)
@@ -84,54 +83,93 @@ one_text form.RealText digit k digits = absurd (digits refl)
 -- a slot that was set to a digit over another, and counted as the step tells
 module _ (slot : Whole) (st : State) (digit : ℕ) (s : Step) (d : ℕ) (one : one_digit slot.state ≡ Some d) (now : one_digit st ≡ Some (held_digit digit)) (differ : s.differs ≡ not (d == to_ascii_lowercase digit))
     (rise : s.rises ≡ goes_from 48 49 (one_digit slot.state) (Some (to_ascii_lowercase digit))) (fall : s.falls ≡ goes_from 49 48 (one_digit slot.state) (Some (to_ascii_lowercase digit))) (f : Form) (digits : f ≢ form.RealText) (size end : ℕ) (values : List ℕ) where
-  text_set : kept_with values end (set_whole st slot.len slot) ≡ with_text f (digit ∷ []) (kept_with values end slot)
-  text_set = digit_kept st slot (held_digit digit) end values now ∙ sym (one_text f digit (kept_with values end slot) digits)
-
   told : with_change size f (digit ∷ []) (kept_with values end slot) ≡ cond s.differs (with_step s.rises s.falls (with_text f (digit ∷ []) (kept_with values end slot))) (with_text f (digit ∷ []) (kept_with values end slot))
   told = changed_by s size f (digit ∷ []) (kept_with values end slot) (omega arith) (digit_step s f (digit ∷ []) d size (one_digit slot.state) (held_of values slot) digits (omega arith) (omega arith) one (held_one slot.state slot.len d (take (used_by slot.state slot.len) (drop slot.start values)) one) differ rise fall)
 
-  digit_counted : s.differs ≡ true → (counts : List ℕ) → counts ≡ counts_if s.falls (counts_if s.rises (counts_with slot.counts 0) 1) 2
-      → kept_with values end (record { state = st; start = slot.start; len = slot.len; counts = counts; chosen = slot.chosen }) ≡ with_change size f (digit ∷ []) (kept_with values end slot)
-  digit_counted differed counts is =
-      rw is (ap (with_step s.rises s.falls) text_set ∙ sym (told ∙ ap (λ (b : Bool). cond b (with_step s.rises s.falls (with_text f (digit ∷ []) (kept_with values end slot))) (with_text f (digit ∷ []) (kept_with values end slot))) differed))
+-- 0 that is set over 1, or 1 over 0: one rises, the other falls
+pub bit_turned : (w : Whole) (one : Bool) → w.state ≡ cond one state.Zero state.One → (f : Form) → f ≢ form.RealText → (size end : ℕ) (values : List ℕ)
+    → with_step one (not one) (with_held (Held.Digits (cond one 49 48 ∷ [])) (kept_with values end w)) ≡ with_change size f (cond one 49 48 ∷ []) (kept_with values end w)
+bit_turned w true e f digits size end values =
+    ap (with_step true false) (sym (one_text f 49 (kept_with values end w) digits))
+    ∙ sym (told w state.One 49 (record { differs = true; rises = true; falls = false }) 48 (ap one_digit e) refl refl (rw e refl) (rw e refl) f digits size end values)
+bit_turned w false e f digits size end values =
+    ap (with_step false true) (sym (one_text f 48 (kept_with values end w) digits))
+    ∙ sym (told w state.Zero 48 (record { differs = true; rises = false; falls = true }) 49 (ap one_digit e) refl refl (rw e refl) (rw e refl) f digits size end values)
 
--- 0 that was set over 1, or 1 over 0: one rises, the other falls
-pub bit_counted : (slot : Whole) (one : Bool) (st : State) (counts : List ℕ) → (slot.state ≡ state.Zero) ⊎ (slot.state ≡ state.One) → st ≡ cond one state.One state.Zero → true ≡ not (sameb the_type slot.state st)
-    → counts ≡ counts_if (not one) (counts_if one (counts_with slot.counts 0) 1) 2 → (f : Form) → f ≢ form.RealText → (size end : ℕ) (values : List ℕ)
-    → kept_with values end (record { state = st; start = slot.start; len = slot.len; counts = counts; chosen = slot.chosen }) ≡ with_change size f (cond one 49 48 ∷ []) (kept_with values end slot)
-bit_counted slot true st counts (inl e) is turned told f digits size end values =
-    digit_counted slot st 49 (record { differs = true; rises = true; falls = false }) 48 (ap one_digit e) (ap one_digit is) refl (rw e refl) (rw e refl) f digits size end values refl counts told
-bit_counted slot false st counts (inl e) is turned told f digits size end values = let same : true ≡ not (sameb the_type state.Zero state.Zero) = turned ∙ rw (e, is) refl in cc
-bit_counted slot true st counts (inr e) is turned told f digits size end values = let same : true ≡ not (sameb the_type state.One state.One) = turned ∙ rw (e, is) refl in cc
-bit_counted slot false st counts (inr e) is turned told f digits size end values =
-    digit_counted slot st 48 (record { differs = true; rises = false; falls = true }) 49 (ap one_digit e) (ap one_digit is) refl (rw e refl) (rw e refl) f digits size end values refl counts told
+-- the same digit over itself
+pub bit_stays : (w : Whole) (one : Bool) → w.state ≡ cond one state.One state.Zero → (f : Form) → f ≢ form.RealText → (size end : ℕ) (values : List ℕ)
+    → with_held (Held.Digits (cond one 49 48 ∷ [])) (kept_with values end w) ≡ with_change size f (cond one 49 48 ∷ []) (kept_with values end w)
+bit_stays w true e f digits size end values =
+    sym (one_text f 49 (kept_with values end w) digits)
+    ∙ sym (told w state.One 49 (record { differs = false; rises = false; falls = false }) 49 (ap one_digit e) refl refl (rw e refl) (rw e refl) f digits size end values)
+bit_stays w false e f digits size end values =
+    sym (one_text f 48 (kept_with values end w) digits)
+    ∙ sym (told w state.Zero 48 (record { differs = false; rises = false; falls = false }) 48 (ap one_digit e) refl refl (rw e refl) (rw e refl) f digits size end values)
+
+pub not_true : (b : Bool) → not b ≡ true → b ≡ false
+not_true true h = cc
+not_true false h = refl
+
+pub not_false : (b : Bool) → not b ≡ false → b ≡ true
+not_false true h = refl
+not_false false h = cc
+
+pub bit_digit : (one : Bool) (how : ℕ) → how ≡ number_of (cond one state.One state.Zero) → one_digit (state_in how) ≡ Some (cond one 49 48)
+bit_digit true how is = ap (λ n. one_digit (state_in n)) is
+bit_digit false how is = ap (λ n. one_digit (state_in n)) is
+
+-- a slot that holds 0 or 1 holds the other one, or the same
+pub other_bit : (how : ℕ) (one : Bool) → (how ≡ number_of state.Zero) ⊎ (how ≡ number_of state.One) → how ≢ number_of (cond one state.One state.Zero) → state_in how ≡ cond one state.Zero state.One
+other_bit how true (inl e) other = ap state_in e
+other_bit how false (inl e) other = absurd (other e)
+other_bit how true (inr e) other = absurd (other e)
+other_bit how false (inr e) other = ap state_in e
+
+pub same_bit : (how : ℕ) (one : Bool) → how ≡ number_of (cond one state.One state.Zero) → state_in how ≡ cond one state.One state.Zero
+same_bit how true same = ap state_in same
+same_bit how false same = ap state_in same
+
+-- one of binary digits, and others of as many
+pub number_told : (w : Whole) (l n size : ℕ) (s : Step) → w.state ≡ state.Bits → 1 ≤ l → n < 2 ^ l → max size (count_in w.len) ≡ max size l → is_proper w.len ≡ true
+    → s.differs ≡ not (number_in w.len == n) → s.rises ≡ goes_from 48 49 (Some (48 + number_in w.len % 2)) (Some (48 + n % 2)) → s.falls ≡ goes_from 49 48 (Some (48 + number_in w.len % 2)) (Some (48 + n % 2)) → (end : ℕ) (values : List ℕ)
+    → with_number_change size l n (kept_with values end w) ≡ cond s.differs (with_step s.rises s.falls (with_number l n (kept_with values end w))) (with_number l n (kept_with values end w))
+number_told w l n size s bits some fits long proper differ rise fall end values =
+    changed_to s size l n (kept_with values end w)
+    (number_step s (held_of values w) (count_in w.len) l (number_in w.len) n size (ap (λ (st : State). held_by st w.len (take (used_by w.state w.len) (drop w.start values))) bits) (proper_count w.len proper) some (proper_number w.len proper) fits long differ rise fall)
+
+-- what is kept of a code whose slot is this one
+module _ (values : List ℕ) (slots : List Slot) (shares : List Share) (code : ℕ) (slot : Slot) (at : slice_get slots code ≡ Some slot) (k : Kept) (kept : kept_in values slots shares code ≡ Some k) where
+  by_slot : (P : Kept → Type 0) → ((h : Share) → slice_get shares code ≡ Some h → P (kept_with values (end_at shares (length values) code) (whole slot h))) → P k
+  by_slot P all =
+      let p = kept_parts values slots shares code k kept in
+      let same : p.0 ≡ slot = cc (sym p.2 ∙ at) in
+      subst P (ap (λ (s : Slot). kept_with values (end_at shares (length values) code) (whole s p.1)) (sym same) ∙ p.4) (all p.1 p.3)
+
+  pub kept_turns : (one : Bool) → state_in slot.how ≡ cond one state.Zero state.One → (f : Form) → f ≢ form.RealText → (size : ℕ) → with_step one (not one) (with_held (Held.Digits (cond one 49 48 ∷ [])) k) ≡ with_change size f (cond one 49 48 ∷ []) k
+  kept_turns one is f digits size = by_slot (λ x. with_step one (not one) (with_held (Held.Digits (cond one 49 48 ∷ [])) x) ≡ with_change size f (cond one 49 48 ∷ []) x)
+      (λ h there. bit_turned (whole slot h) one is f digits size (end_at shares (length values) code) values)
+
+  pub kept_stays : (one : Bool) → state_in slot.how ≡ cond one state.One state.Zero → (f : Form) → f ≢ form.RealText → (size : ℕ) → with_held (Held.Digits (cond one 49 48 ∷ [])) k ≡ with_change size f (cond one 49 48 ∷ []) k
+  kept_stays one is f digits size = by_slot (λ x. with_held (Held.Digits (cond one 49 48 ∷ [])) x ≡ with_change size f (cond one 49 48 ∷ []) x)
+      (λ h there. bit_stays (whole slot h) one is f digits size (end_at shares (length values) code) values)
+
+  pub kept_steps : AreLaidOut slots shares (length values) → (l n size : ℕ) (s : Step) → state_in slot.how ≡ state.Bits → 1 ≤ l → n < 2 ^ l → ((upper : ℕ) → max size (count_in (len_in slot.how slot.number upper)) ≡ max size l)
+      → s.differs ≡ not (number_in slot.number == n) → s.rises ≡ goes_from 48 49 (Some (48 + number_in slot.number % 2)) (Some (48 + n % 2)) → s.falls ≡ goes_from 49 48 (Some (48 + number_in slot.number % 2)) (Some (48 + n % 2))
+      → with_number_change size l n k ≡ cond s.differs (with_step s.rises s.falls (with_number l n k)) (with_number l n k)
+  kept_steps laid l n size s bits some fits long differ rise fall = by_slot (λ x. with_number_change size l n x ≡ cond s.differs (with_step s.rises s.falls (with_number l n x)) (with_number l n x))
+      (λ h there.
+      let len = len_in slot.how slot.number h.upper in
+      let is = proper len (subst (λ (st : State). 1 ≤ some_by st len) bits (some_in shares (length values) code slot h (laid code slot at) there)) in
+      let same : number_in slot.number ≡ number_in len = omega arith in
+      number_told (whole slot h) l n size s bits some fits (long h.upper) is
+      (subst (λ m. s.differs ≡ not (m == n)) same differ)
+      (subst (λ m. s.rises ≡ goes_from 48 49 (Some (48 + m % 2)) (Some (48 + n % 2))) same rise)
+      (subst (λ m. s.falls ≡ goes_from 49 48 (Some (48 + m % 2)) (Some (48 + n % 2))) same fall)
+      (end_at shares (length values) code) values)
 
 pub bit_is : (digit : ℕ) → (digit ≡ 48) ⊎ (digit ≡ 49) → cond (digit == 49) 49 48 ≡ digit
 bit_is digit (inl e) = rw e refl
 bit_is digit (inr e) = rw e refl
-
--- one of binary digits that was set to others of as many
-module _ (slot : Whole) (p l n size : ℕ) (s : Step) (bits : slot.state ≡ state.Bits) (count : count_in p ≡ l) (number : number_in p ≡ n) (some : 1 ≤ l) (fits : n < 2 ^ l) (long : max size (count_in slot.len) ≡ max size l) (proper : is_proper slot.len ≡ true)
-    (differ : s.differs ≡ not (number_in slot.len == n)) (rise : s.rises ≡ goes_from 48 49 (Some (48 + number_in slot.len % 2)) (Some (48 + n % 2))) (fall : s.falls ≡ goes_from 49 48 (Some (48 + number_in slot.len % 2)) (Some (48 + n % 2)))
-    (end : ℕ) (values : List ℕ) where
-  number_set : kept_with values end (set_whole state.Bits p slot) ≡ with_number l n (kept_with values end slot)
-  number_set = bits_kept slot p l n end values count number
-
-  number_told : with_number_change size l n (kept_with values end slot) ≡ cond s.differs (with_step s.rises s.falls (with_number l n (kept_with values end slot))) (with_number l n (kept_with values end slot))
-  number_told =
-      changed_to s size l n (kept_with values end slot)
-      (number_step s (held_of values slot) (count_in slot.len) l (number_in slot.len) n size (ap (λ (st : State). held_by st slot.len (take (used_by slot.state slot.len) (drop slot.start values))) bits) (proper_count slot.len proper) some (proper_number slot.len proper) fits long differ rise fall)
-
-  pub number_same : s.differs ≡ false → kept_with values end (set_whole slot.state p slot) ≡ with_number_change size l n (kept_with values end slot)
-  number_same stayed =
-      ap (λ (st : State). kept_with values end (set_whole st p slot)) bits ∙ number_set
-      ∙ sym (number_told ∙ ap (λ (b : Bool). cond b (with_step s.rises s.falls (with_number l n (kept_with values end slot))) (with_number l n (kept_with values end slot))) stayed)
-
-  pub number_counted : s.differs ≡ true → (counts : List ℕ) → counts ≡ counts_if s.falls (counts_if s.rises (counts_with slot.counts 0) 1) 2
-      → kept_with values end (record { state = slot.state; start = slot.start; len = p; counts = counts; chosen = slot.chosen }) ≡ with_number_change size l n (kept_with values end slot)
-  number_counted differed counts is =
-      rw is (ap (λ (st : State). with_step s.rises s.falls (kept_with values end (set_whole st p slot))) bits ∙ ap (with_step s.rises s.falls) number_set
-      ∙ sym (number_told ∙ ap (λ (b : Bool). cond b (with_step s.rises s.falls (with_number l n (kept_with values end slot))) (with_number l n (kept_with values end slot))) differed))
 
 -- a form that was compared with that of a real number's text
 pub no_real : (f : Form) → true ≡ not (sameb the_form f form.RealText) → f ≢ form.RealText

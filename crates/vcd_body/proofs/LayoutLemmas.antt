@@ -1,5 +1,5 @@
 -- Shares that are laid out one behind the other.
-use Rattle.std.proofs.Common.{◌≡◌, ◌≢◌, ℕ, ◌+◌, ◌-◌, ◌<◌, ◌≤◌, min, false, List, [], ◌∷◌, length, slice_get, slice_set, Option, Some, None, refl, sym, ap, ◌∙◌, arith, ◌⊎◌, inl, inr}
+use Rattle.std.proofs.Common.{◌≡◌, ◌≢◌, ℕ, ◌+◌, ◌-◌, ◌<◌, ◌≤◌, min, List, [], ◌∷◌, length, slice_get, slice_set, Option, Some, None, refl, sym, ap, ◌∙◌, arith, ◌⊎◌, inl, inr}
 use Rattle.std.specs.Prelude.{option_map}
 use Rattle.std.proofs.Math.Seq.{take-length}
 use Rattle.std.proofs.lemmas.Bool.{cases_lt}
@@ -8,14 +8,13 @@ use Rattle.std.proofs.lemmas.Option.{slice_get_past, slice_get_within, get_or_fr
 use Rattle.vcd_view.specs.declared.view.Code.{Code}
 use Rattle.vcd_body.specs.Kept.{unset}
 use Rattle.vcd_body.specs.Contents.{new_at}
-use Rattle.vcd_body.specs.Stored.{AreLaidOut, IsUnset, end_at, kept_in, kept_with, room_of, share_from, share_of, some_by, start_of, start_or, used, whole}
+use Rattle.vcd_body.specs.Stored.{AreLaidOut, IsUnset, end_at, holding_of, kept_in, kept_with, len_in, room_of, share_from, share_of, some_by, start_of, start_or, state_in, used, whole}
 use Rattle.vcd_body.specs.declared.slot.Share.{Share}
 use Rattle.vcd_body.specs.declared.slot.Slot.{Slot}
-use Rattle.vcd_body.specs.declared.slot.State.TheVariants as state
 use Rattle.vcd_body.proofs.StoreLemmas.{get_other, get_set, no_slot, same_or_not, some_at, whole_is}
 
 abbrev unset_slot : Slot
-unset_slot = record { state = state.Unset; len = 0; chosen = false; low = 0 ∷ 0 ∷ 0 ∷ [] }
+unset_slot = record { number = 0; how = 0; low = 0 ∷ 0 ∷ 0 ∷ [] }
 
 abbrev share_at : Code → ℕ
 share_at c = share_of c.size
@@ -83,8 +82,8 @@ module _ (codes : List Code) (slots : List Slot) (shares : List Share) (n end : 
       let next = start_next codes n k c.0 c.1 in
       let most = start_most codes n k c.0 c.1 in
       let b = ap (λ (x : Share). x.start) (are k h.0 h.1) in
-      let u = ap used (unset_are k s at) in
-      let o = ap (λ (x : Slot). some_by x.state x.len) (unset_are k s at) in
+      let u : used (holding_of s h.0) ≡ 0 = ap (λ (x : Slot). used (holding_of x h.0)) (unset_are k s at) in
+      let o : some_by (state_in s.how) (len_in s.how s.number h.0.upper) ≡ 1 = ap (λ (x : Slot). some_by (state_in x.how) (len_in x.how x.number h.0.upper)) (unset_are k s at) in
       let m = end_is k h.0 h.1 in
       record { share = h.0; there = h.1; fits = omega (arith, next, b, u, m); within = omega (arith, most, m, ends); some = omega (arith, o) }
 

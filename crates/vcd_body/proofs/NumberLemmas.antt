@@ -16,14 +16,14 @@ use Rattle.vcd_body.specs.Binary.{binary_digits, count_in, is_proper, number_in}
 use Rattle.vcd_body.specs.Items.{model_form}
 use Rattle.vcd_body.specs.Kept.{Held, IsStep, Kept, bytes_for, goes_from, room_for, value_at_size, with_held, with_number, with_text}
 use Rattle.vcd_body.specs.Packed.{held_digit}
-use Rattle.vcd_body.specs.Stored.{Whole, digits_held, held_by, held_of, kept_with, some_by}
+use Rattle.vcd_body.specs.Stored.{Whole, digits_held, held_by, kept_with, set_whole, some_by}
 use Rattle.vcd_body.specs.declared.item.Form.TheVariants as form
 use Rattle.vcd_body.specs.declared.slot.State.{State}
 use Rattle.vcd_body.specs.declared.slot.State.TheVariants as state
 use Rattle.vcd_body.specs.declared.step.Step.{Step}
 use Rattle.vcd_body.proofs.BinaryLemmas.{binary_at, length_binary}
 use Rattle.vcd_body.proofs.CompareLemmas.{last_at, last_extended}
-use Rattle.vcd_body.proofs.StoreLemmas.{set_whole, text_fits}
+use Rattle.vcd_body.proofs.StoreLemmas.{text_fits}
 use Rattle.vcd_body.proofs.PackedLemmas.{length_digits}
 
 -- digits that are left out in front are 0

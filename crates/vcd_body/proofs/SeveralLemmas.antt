@@ -10,7 +10,8 @@ use Rattle.std.proofs.lemmas.Option.{slice_get-get_or, slice_get-map}
 use Rattle.vcd_model.specs.Values.{Value, extend}
 use Rattle.vcd_body.specs.Kept.{Held, IsStep, Kept, goes_from, last_digit_in}
 use Rattle.vcd_body.specs.Packed.{code_among, digit_of, digits_in, held_digit, quarter_of}
-use Rattle.vcd_body.specs.Stored.{end_at, held_by, held_from, kept_in, kept_with, used_by, whole}
+use Rattle.vcd_body.specs.Stored.{end_at, held_by, held_from, holding_of, kept_in, kept_with, used_by, whole}
+use Rattle.vcd_body.specs.declared.slot.Holding.{Holding}
 use Rattle.vcd_body.specs.declared.slot.Share.{Share}
 use Rattle.vcd_body.specs.declared.slot.Slot.{Slot}
 use Rattle.vcd_body.specs.declared.slot.State.{State}
@@ -124,18 +125,18 @@ digits_there len m start values enough =
     ap (digits_in len) (sym (take-take (quarter_of len) m (drop start values) (let l = length-take m (drop start values) in omega arith))) ∙ digits_first len (take m (drop start values))
 
 -- what is kept of a code that has this slot, and a share that begins here
-pub kept_there : (values : List ℕ) (slots : List Slot) (shares : List Share) (code : ℕ) (slot : Slot) (share : Share) (k : Kept) → slice_get slots code ≡ Some slot → slice_get shares code ≡ Some share → kept_in values slots shares code ≡ Some k → held_from values share.start slot ≡ k.held
+pub kept_there : (values : List ℕ) (slots : List Slot) (shares : List Share) (code : ℕ) (slot : Slot) (share : Share) (k : Kept) → slice_get slots code ≡ Some slot → slice_get shares code ≡ Some share → kept_in values slots shares code ≡ Some k → held_from values share.start (holding_of slot share) ≡ k.held
 kept_there values slots shares code slot share k here there at =
     let end = end_at shares (length values) code in
     let same : Some (kept_with values end (whole slot share)) ≡ Some k = sym (ap (option_map (kept_with values end)) (whole_is slots shares code slot share here there)) ∙ at in
     let kept : kept_with values end (whole slot share) ≡ k = cc same in
     ap (λ (x : Kept). x.held) kept
 
--- the digits that are packed in the first bytes of a share are those of its slot
-pub packed_there : (values : List ℕ) (m start : ℕ) (slot : Slot) (share : List ℕ) → slot.state ≡ state.Digits → share ≡ take m (drop start values) → quarter_of slot.len ≤ length share → held_from values start slot ≡ Held.Digits (digits_in slot.len share)
-packed_there values m start slot share packed is room =
-    ap (λ (st : State). held_by st slot.len (take (used_by st slot.len) (drop start values))) packed
-    ∙ ap (λ (l : List ℕ). Held.Digits l) (digits_there slot.len m start values (subst (λ (l : List ℕ). quarter_of slot.len ≤ length l) is room) ∙ ap (digits_in slot.len) (sym is))
+-- the digits that are packed in the first bytes of a share are those that are held
+pub packed_there : (values : List ℕ) (m start : ℕ) (v : Holding) (share : List ℕ) → v.state ≡ state.Digits → share ≡ take m (drop start values) → quarter_of v.len ≤ length share → held_from values start v ≡ Held.Digits (digits_in v.len share)
+packed_there values m start v share packed is room =
+    ap (λ (st : State). held_by st v.len (take (used_by st v.len) (drop start values))) packed
+    ∙ ap (λ (l : List ℕ). Held.Digits l) (digits_there v.len m start values (subst (λ (l : List ℕ). quarter_of v.len ≤ length l) is room) ∙ ap (digits_in v.len) (sym is))
 
 -- a fact of what there may be, by two others
 pub by_both : (o : Option Step) (A : Type 0) (P R : Step → Type 0) → IfSome o (λ _. A) → IfSome o P → ((s : Step) → A → P s → R s) → IfSome o R

@@ -1,5 +1,5 @@
 -- A table where one code was written, and perhaps its bytes: what it keeps of that code, and that it keeps of the others what it kept.
-use Rattle.std.proofs.Common.{◌≡◌, ◌≢◌, ℕ, zero, suc, ◌+◌, ◌-◌, ◌<◌, ◌≤◌, ◌==◌, nat_lt, nat_le, Bool, true, false, cond, List, [], ◌∷◌, length, take, drop, map, slice_get, slice_set, Option, Some, None, refl, sym, ap, ◌∙◌, arith, ◌⊎◌, inl, inr}
+use Rattle.std.proofs.Common.{◌≡◌, ◌≢◌, ℕ, zero, suc, ◌+◌, ◌-◌, ◌*◌, ◌/◌, ◌%◌, ◌<◌, ◌≤◌, ◌==◌, nat_lt, nat_le, Bool, true, false, cond, List, [], ◌∷◌, length, take, drop, map, slice_get, slice_set, Option, Some, None, refl, sym, subst, ap, ◌∙◌, arith, ◌⊎◌, inl, inr}
 use Rattle.std.specs.Prelude.{get_or, option_and_then, option_map}
 use Rattle.std.proofs.lemmas.Bool.{and_right, cases_lt, eq-eqb, eqb-false, ne_eqb, le-leb, lt-leb, lt-ltb}
 use Rattle.std.proofs.lemmas.List.{drop-take, get_or-take, length-append, length-drop, length-take}
@@ -10,9 +10,10 @@ use Rattle.std.proofs.Math.Seq.{take-take}
 use borrow.Rule.Slice.PartMut.{put_mid}
 use Rattle.vcd_body.specs.Kept.{Held, Kept, bytes_for, counts_if, counts_with, fits, held_as, one_more, room_for, with_held, with_step, with_text}
 use Rattle.vcd_body.specs.Packed.{digits_in, held_digit, quarter_of}
-use Rattle.vcd_body.specs.Stored.{AreLaidOut, ChangesAt, IsLaid, Whole, end_at, held_by, held_of, kept_in, kept_with, one_digit, some_by, start_or, used, used_by, whole, whole_at}
+use Rattle.vcd_body.specs.Stored.{AreLaidOut, ChangesAt, IsLaid, Whole, end_at, held_by, held_of, holding_of, holding_at, kept_in, kept_with, len_in, number_of, one_digit, set_whole, some_by, start_or, state_in, used, used_by, whole, whole_at}
 use Rattle.vcd_body.specs.declared.item.Form.{Form}
 use Rattle.vcd_body.specs.declared.item.Form.TheVariants as form
+use Rattle.vcd_body.specs.declared.slot.Holding.{Holding}
 use Rattle.vcd_body.specs.declared.slot.Share.{Share}
 use Rattle.vcd_body.specs.declared.slot.Slot.{Slot}
 use Rattle.vcd_body.specs.declared.slot.State.{State}
@@ -42,6 +43,11 @@ get_other (y ∷ xs) zero zero x h = absurd (h refl)
 get_other (y ∷ xs) zero (suc j) x h = refl
 get_other (y ∷ xs) (suc k) zero x h = refl
 get_other (y ∷ xs) (suc k) (suc j) x h = get_other xs k j x (λ e. h (ap suc e))
+
+pub set_same : {X : Type 0} (xs : List X) (k : ℕ) (x : X) → slice_get xs k ≡ Some x → slice_set xs k x ≡ xs
+set_same [] k x h = refl
+set_same (y ∷ xs) zero x h = let same : y ≡ x = cc in ap (λ z. z ∷ xs) (sym same)
+set_same (y ∷ xs) (suc k) x h = ap (λ l. y ∷ l) (set_same xs k x h)
 
 pub same_or_not : (j k : ℕ) → (j ≡ k) ⊎ (j ≢ k)
 same_or_not j k = by_order (cases_lt j k) (cases_lt k j)
@@ -88,6 +94,15 @@ parts_of slots shares k d is = by_parts (slice_get slots k) refl (slice_get shar
     by_parts None e p f = absurd (let g : None ≡ Some d = sym (no_slot slots shares k e) ∙ is in cc)
     by_parts (Some s) e None f = absurd (let g : None ≡ Some d = sym (no_share slots shares k f) ∙ is in cc)
     by_parts (Some s) e (Some h) f = (s, h, e, f, cc (sym (whole_is slots shares k s h e f) ∙ is))
+
+-- where nothing is held, nothing is there
+pub no_holding : (slots : List Slot) (shares : List Share) (k : ℕ) → holding_at slots shares k ≡ None → whole_at slots shares k ≡ None
+no_holding slots shares k none = by_parts (slice_get slots k) (slice_get shares k) none
+  where
+    by_parts : (o : Option Slot) (p : Option Share) → option_and_then (λ (x : Slot). option_map (holding_of x) p) o ≡ None → option_and_then (λ (x : Slot). option_map (whole x) p) o ≡ None
+    by_parts None p e = refl
+    by_parts (Some s) None e = refl
+    by_parts (Some s) (Some h) e = absurd (let f : Some (holding_of s h) ≡ None = e in cc)
 
 -- ---- shares
 
@@ -220,12 +235,32 @@ pub already_so : (values : List ℕ) (slots : List Slot) (shares : List Share) (
 already_so values slots shares k w f at same = changes slots slots shares shares k w w (record { was = at; is = at; others = λ j e. refl; ends = λ n j. refl }) values values f refl same (λ j d e there. refl)
 
 -- the share that a slot has
-pub fits_in : (shares : List Share) (n k : ℕ) (s : Slot) (h : Share) → IsLaid shares n k s → slice_get shares k ≡ Some h → h.start + used s ≤ end_at shares n k
+pub fits_in : (shares : List Share) (n k : ℕ) (s : Slot) (h : Share) → IsLaid shares n k s → slice_get shares k ≡ Some h → h.start + used (holding_of s h) ≤ end_at shares n k
 fits_in shares n k s h l there =
     let same : l.share ≡ h = cc (sym l.there ∙ there) in
-    let start = ap (λ (x : Share). x.start) same in
-    let fits = l.fits in
-    omega (arith, start, fits)
+    subst (λ (x : Share). x.start + used (holding_of s x) ≤ end_at shares n k) same l.fits
+
+-- and several digits are some
+pub some_in : (shares : List Share) (n k : ℕ) (s : Slot) (h : Share) → IsLaid shares n k s → slice_get shares k ≡ Some h → 1 ≤ some_by (state_in s.how) (len_in s.how s.number h.upper)
+some_in shares n k s h l there =
+    let same : l.share ≡ h = cc (sym l.there ∙ there) in
+    subst (λ (x : Share). 1 ≤ some_by (state_in s.how) (len_in s.how s.number x.upper)) same l.some
+
+-- how it is held
+pub holding_is : (slots : List Slot) (shares : List Share) (k : ℕ) (s : Slot) (h : Share) → slice_get slots k ≡ Some s → slice_get shares k ≡ Some h → holding_at slots shares k ≡ Some (holding_of s h)
+holding_is slots shares k s h at there = ap (option_and_then (λ (x : Slot). option_map (holding_of x) (slice_get shares k))) at ∙ ap (option_map (holding_of s)) there
+
+pub holding_parts : (slots : List Slot) (shares : List Share) (k : ℕ) (v : Holding) → holding_at slots shares k ≡ Some v → (s : Slot) × (h : Share) × (slice_get slots k ≡ Some s) × (slice_get shares k ≡ Some h) × (holding_of s h ≡ v)
+holding_parts slots shares k v is = by_parts (slice_get slots k) refl (slice_get shares k) refl
+  where
+    by_share : (o : Option Slot) (p : Option Share) → p ≡ None → option_and_then (λ (x : Slot). option_map (holding_of x) p) o ≡ None
+    by_share None p e = refl
+    by_share (Some s) p e = ap (option_map (holding_of s)) e
+
+    by_parts : (o : Option Slot) → slice_get slots k ≡ o → (p : Option Share) → slice_get shares k ≡ p → (s : Slot) × (h : Share) × (slice_get slots k ≡ Some s) × (slice_get shares k ≡ Some h) × (holding_of s h ≡ v)
+    by_parts None e p f = absurd (let g : None ≡ Some v = sym (ap (option_and_then (λ (x : Slot). option_map (holding_of x) (slice_get shares k))) e) ∙ is in cc)
+    by_parts (Some s) e None f = absurd (let g : None ≡ Some v = sym (by_share (slice_get slots k) (slice_get shares k) f) ∙ is in cc)
+    by_parts (Some s) e (Some h) f = (s, h, e, f, cc (sym (holding_is slots shares k s h e f) ∙ is))
 
 module _ (slots : List Slot) (shares : List Share) (n : ℕ) (laid : AreLaidOut slots shares n) where
   -- a share ends where a later one begins, or before
@@ -245,32 +280,38 @@ module _ (slots : List Slot) (shares : List Share) (n : ℕ) (laid : AreLaidOut 
       omega (arith, s, low, more)
 
   module _ (k : ℕ) (s : Slot) (at : slice_get slots k ≡ Some s) where
-    pub slot_laid : (s' : Slot) → ((h : Share) → slice_get shares k ≡ Some h → h.start + used s' ≤ end_at shares n k) → 1 ≤ some_by s'.state s'.len → AreLaidOut (slice_set slots k s') shares n
-    slot_laid s' fits some = λ j d there. by_place j d there (same_or_not j k)
+    pub slot_laid : (s' : Slot) → ((h : Share) → slice_get shares k ≡ Some h → (h.start + used (holding_of s' h) ≤ end_at shares n k) × (1 ≤ some_by (state_in s'.how) (len_in s'.how s'.number h.upper))) → AreLaidOut (slice_set slots k s') shares n
+    slot_laid s' fits = λ j d there. by_place j d there (same_or_not j k)
       where
         by_place : (j : ℕ) (d : Slot) → slice_get (slice_set slots k s') j ≡ Some d → (j ≡ k) ⊎ (j ≢ k) → IsLaid shares n j d
         by_place j d there (inl e) =
             let same : s' ≡ d = cc (sym (get_set slots k s' (slice_get_within slots k s at)) ∙ ap (slice_get (slice_set slots k s')) (sym e) ∙ there) in
             let l = laid k s at in
-            rw (e, sym same) (record { share = l.share; there = l.there; fits = fits l.share l.there; within = l.within; some = some })
+            let now = fits l.share l.there in
+            rw (e, sym same) (record { share = l.share; there = l.there; fits = now.0; within = l.within; some = now.1 })
         by_place j d there (inr e) = laid j d (sym (get_other slots k j s' e) ∙ there)
 
-  pub share_laid : (k : ℕ) (h h' : Share) → slice_get shares k ≡ Some h → h'.start ≡ h.start → AreLaidOut slots (slice_set shares k h') n
-  share_laid k h h' at start = λ j d there. by_place j d (laid j d there) (same_or_not j k)
+  -- a share was written that begins where it began, and its slot has room in it
+  pub share_laid : (k : ℕ) (h h' : Share) → slice_get shares k ≡ Some h → h'.start ≡ h.start
+      → ((s : Slot) → slice_get slots k ≡ Some s → (h'.start + used (holding_of s h') ≤ end_at shares n k) × (1 ≤ some_by (state_in s.how) (len_in s.how s.number h'.upper)))
+      → AreLaidOut slots (slice_set shares k h') n
+  share_laid k h h' at start fits_now = λ j d there. by_place j d there (laid j d there) (same_or_not j k)
     where
-      by_place : (j : ℕ) (d : Slot) → IsLaid shares n j d → (j ≡ k) ⊎ (j ≢ k) → IsLaid (slice_set shares k h') n j d
-      by_place j d l (inl e) =
+      by_place : (j : ℕ) (d : Slot) → slice_get slots j ≡ Some d → IsLaid shares n j d → (j ≡ k) ⊎ (j ≢ k) → IsLaid (slice_set shares k h') n j d
+      by_place j d there l (inl e) =
           let t = starts_same shares k h h' at start n (j + 1) in
-          let fits = fits_in shares n j d h l (ap (slice_get shares) e ∙ at) in
+          let now = fits_now d (ap (slice_get slots) (sym e) ∙ there) in
+          let fits = now.0 in
+          let ends : end_at shares n k ≡ end_at shares n j = ap (end_at shares n) (sym e) in
           let most = l.within in
           record {
             share = h';
             there = ap (slice_get (slice_set shares k h')) e ∙ get_set shares k h' (slice_get_within shares k h at);
-            fits = omega (arith, t, fits, start);
+            fits = omega (arith, t, fits, ends);
             within = omega (arith, t, most);
-            some = l.some;
+            some = now.1;
           }
-      by_place j d l (inr e) =
+      by_place j d there l (inr e) =
           let t = starts_same shares k h h' at start n (j + 1) in
           let fits = l.fits in
           let most = l.within in
@@ -282,12 +323,51 @@ module _ (slots : List Slot) (shares : List Share) (n : ℕ) (laid : AreLaidOut 
             some = l.some;
           }
 
+  -- a share was written of which the slot looks at nothing
+  pub counted_laid : (k : ℕ) (h h' : Share) → slice_get shares k ≡ Some h → h'.start ≡ h.start → h'.upper ≡ h.upper → AreLaidOut slots (slice_set shares k h') n
+  counted_laid k h h' at start upper = share_laid k h h' at start (λ s there.
+      let l = laid k s there in
+      let low = fits_in shares n k s h l at in
+      let some = some_in shares n k s h l at in
+      rw (start, upper) (low, some))
+
   module _ (k : ℕ) (s : Slot) (h : Share) (at : slice_get slots k ≡ Some s) (here : slice_get shares k ≡ Some h) where
+    -- both were written
+    pub both_laid : (s' : Slot) (h' : Share) → h'.start ≡ h.start → h.start + used (holding_of s' h') ≤ end_at shares n k → 1 ≤ some_by (state_in s'.how) (len_in s'.how s'.number h'.upper) → AreLaidOut (slice_set slots k s') (slice_set shares k h') n
+    both_laid s' h' start fits some = λ j d there. by_place j d there (same_or_not j k)
+      where
+        by_place : (j : ℕ) (d : Slot) → slice_get (slice_set slots k s') j ≡ Some d → (j ≡ k) ⊎ (j ≢ k) → IsLaid (slice_set shares k h') n j d
+        by_place j d there (inl e) =
+            let t = starts_same shares k h h' here start n (j + 1) in
+            let ends : end_at shares n k ≡ end_at shares n j = ap (end_at shares n) (sym e) in
+            let l = laid k s at in
+            let most = l.within in
+            let same : s' ≡ d = cc (sym (get_set slots k s' (slice_get_within slots k s at)) ∙ ap (slice_get (slice_set slots k s')) (sym e) ∙ there) in
+            rw (sym same) (record {
+              share = h';
+              there = ap (slice_get (slice_set shares k h')) e ∙ get_set shares k h' (slice_get_within shares k h here);
+              fits = omega (arith, t, fits, ends, start);
+              within = omega (arith, t, most, ends);
+              some = some;
+            })
+        by_place j d there (inr e) =
+            let l = laid j d (sym (get_other slots k j s' e) ∙ there) in
+            let t = starts_same shares k h h' here start n (j + 1) in
+            let low = l.fits in
+            let most = l.within in
+            record {
+              share = l.share;
+              there = get_other shares k j h' e ∙ l.there;
+              fits = omega (arith, t, low);
+              within = omega (arith, t, most);
+              some = l.some;
+            }
+
     -- other shares lie apart
-    apart : (j : ℕ) (d : Slot) (g : Share) → j ≢ k → slice_get slots j ≡ Some d → slice_get shares j ≡ Some g → (g.start + used d ≤ h.start) ⊎ (end_at shares n k ≤ g.start)
+    apart : (j : ℕ) (d : Slot) (g : Share) → j ≢ k → slice_get slots j ≡ Some d → slice_get shares j ≡ Some g → (g.start + used (holding_of d g) ≤ h.start) ⊎ (end_at shares n k ≤ g.start)
     apart j d g other there begins = by_order (cases_lt j k)
       where
-        by_order : (j < k) ⊎ (k ≤ j) → (g.start + used d ≤ h.start) ⊎ (end_at shares n k ≤ g.start)
+        by_order : (j < k) ⊎ (k ≤ j) → (g.start + used (holding_of d g) ≤ h.start) ⊎ (end_at shares n k ≤ g.start)
         by_order (inl l) =
             let e : k ≡ j + 1 + (k - (j + 1)) = omega arith in
             let b = ends_before (k - (j + 1)) j s h (ap (slice_get slots) (sym e) ∙ at) (ap (slice_get shares) (sym e) ∙ here) in
@@ -311,33 +391,33 @@ module _ (slots : List Slot) (shares : List Share) (n : ℕ) (laid : AreLaidOut 
         let l = laid k s at in
         let high = l.within in
         ap (held_of (put_mid h.start (end_at shares n k - h.start) values ys)) (sym p.4)
-        ∙ ap (held_by p.0.state p.0.len) (reads_same p.1.start (used p.0) h.start (end_at shares n k - h.start) values ys (omega (arith, fits, high)) same (by_apart (apart j p.0 p.1 other p.2 p.3)))
+        ∙ ap (held_by (state_in p.0.how) (len_in p.0.how p.0.number p.1.upper)) (reads_same p.1.start (used (holding_of p.0 p.1)) h.start (end_at shares n k - h.start) values ys (omega (arith, fits, high)) same (by_apart (apart j p.0 p.1 other p.2 p.3)))
         ∙ ap (held_of values) p.4
       where
         by_apart : {a b : ℕ} → (a ≤ h.start) ⊎ (end_at shares n k ≤ b) → (a ≤ h.start) ⊎ (h.start + (end_at shares n k - h.start) ≤ b)
         by_apart (inl l) = inl l
         by_apart (inr l) = let fits = fits_in shares n k s h (laid k s at) here in inr (omega (arith, fits, l))
 
-    -- the bytes were written, and the slot with them
-    pub share_changes : (s' : Slot) (values ys : List ℕ) (f : Kept → Kept) → length values ≡ n → length ys ≡ end_at shares n k - h.start
-        → kept_with (put_mid h.start (end_at shares n k - h.start) values ys) (end_at shares n k) (whole s' h) ≡ f (kept_with values (end_at shares n k) (whole s h))
-        → ChangesAt k f values slots shares (put_mid h.start (end_at shares n k - h.start) values ys) (slice_set slots k s') shares
-    share_changes s' values ys f long same one =
+    -- the bytes were written, and the slot and the share with them
+    pub share_changes : (s' : Slot) (h' : Share) (values ys : List ℕ) (f : Kept → Kept) → h'.start ≡ h.start → length values ≡ n → length ys ≡ end_at shares n k - h.start
+        → kept_with (put_mid h.start (end_at shares n k - h.start) values ys) (end_at shares n k) (whole s' h') ≡ f (kept_with values (end_at shares n k) (whole s h))
+        → ChangesAt k f values slots shares (put_mid h.start (end_at shares n k - h.start) values ys) (slice_set slots k s') (slice_set shares k h')
+    share_changes s' h' values ys f start long same one =
         let fits = fits_in shares n k s h (laid k s at) here in
         let l = laid k s at in
         let high = l.within in
         let bytes = put_mid h.start (end_at shares n k - h.start) values ys in
         let size : length bytes ≡ length values = length-put_mid h.start (end_at shares n k - h.start) values ys (omega (arith, fits, high)) same in
-        changes slots (slice_set slots k s') shares shares k (whole s h) (whole s' h) (slot_written slots shares k s s' h at here) values bytes f size (rw long one) (λ j d e there. others_hold values ys long same j d e there)
+        changes slots (slice_set slots k s') shares (slice_set shares k h') k (whole s h) (whole s' h') (both_written slots shares k s s' h h' at here start) values bytes f size (rw long one) (λ j d e there. others_hold values ys long same j d e there)
 
 -- ---- what is kept of the code
 
 -- what an index outside the slots, or the shares, would give in a proof
 abbrev pub blank : Slot
-blank = record { len = 0; state = state.Unset; chosen = false; low = [] }
+blank = record { number = 0; how = 0; low = [] }
 
 abbrev pub blank_share : Share
-blank_share = record { start = 0; middle = []; high = [] }
+blank_share = record { start = 0; upper = 0; middle = []; high = []; top = []; chosen = false }
 
 -- with another value
 abbrev kept_as : ℕ → Whole → Held → Kept
@@ -375,10 +455,6 @@ text_stays values slots shares k s h f text at there out = already_so values slo
 pub not_outside : (start used end n : ℕ) → start + used ≤ end → end ≤ n → (end < start) ⊎ ((start ≤ end) × (n < end)) → ⊥
 not_outside start used end n low high (inl h) = omega arith
 not_outside start used end n low high (inr h) = let past = h.1 in omega (arith, high, past)
-
--- the slot and the share of a code whose value was set
-abbrev pub set_whole : State → ℕ → Whole → Whole
-set_whole st len s = record { state = st; start = s.start; len = len; counts = s.counts; chosen = s.chosen }
 
 -- the digits that were packed lie in the bytes that are in use
 pub packed_held : (ys text : List ℕ) → digits_in (length text) ys ≡ map held_digit text → held_by state.Digits (length text) (take (used_by state.Digits (length text)) ys) ≡ Held.Digits (map held_digit text)
@@ -430,8 +506,64 @@ used_none state.Bits len d h = cc
 used_none state.Real len d h = cc
 
 -- one digit is held in the slot
-pub digit_kept : (st : State) (s : Whole) (d end : ℕ) (values : List ℕ) → one_digit st ≡ Some d → kept_with values end (set_whole st s.len s) ≡ with_held (Held.Digits (d ∷ [])) (kept_with values end s)
-digit_kept st s d end values h = ap (λ (x : Held). kept_as end s x) (held_one st s.len d (take (used_by st s.len) (drop s.start values)) h)
+pub digit_kept : (st : State) (len : ℕ) (s : Whole) (d end : ℕ) (values : List ℕ) → one_digit st ≡ Some d → kept_with values end (set_whole st len s) ≡ with_held (Held.Digits (d ∷ [])) (kept_with values end s)
+digit_kept st len s d end values h = ap (λ (x : Held). kept_as end s x) (held_one st len d (take (used_by st len) (drop s.start values)) h)
+
+-- a state is told by its number
+pub told_state : (st : State) → state_in (number_of st) ≡ st
+told_state state.Unset = refl
+told_state state.Zero = refl
+told_state state.One = refl
+told_state state.Unknown = refl
+told_state state.High = refl
+told_state state.Plain = refl
+told_state state.Digits = refl
+told_state state.Bits = refl
+told_state state.Real = refl
+
+-- from 8 on a number tells binary digits
+pub many_bits : (how : ℕ) → 8 ≤ how → state_in how ≡ state.Bits
+many_bits zero h = absurd (omega arith)
+many_bits (suc zero) h = absurd (omega arith)
+many_bits (suc (suc zero)) h = absurd (omega arith)
+many_bits (suc (suc (suc zero))) h = absurd (omega arith)
+many_bits (suc (suc (suc (suc zero)))) h = absurd (omega arith)
+many_bits (suc (suc (suc (suc (suc zero))))) h = absurd (omega arith)
+many_bits (suc (suc (suc (suc (suc (suc zero)))))) h = absurd (omega arith)
+many_bits (suc (suc (suc (suc (suc (suc (suc zero))))))) h = absurd (omega arith)
+many_bits (suc (suc (suc (suc (suc (suc (suc (suc n)))))))) h = refl
+
+-- a length that a slot and its share hold in two parts
+pub len_told : (st : State) (how len : ℕ) → how ≡ number_of st → st ≢ state.Bits → len_in how (len % 4294967296) (len / 4294967296) ≡ len
+len_told st how len e text = ap (λ n. len_in n (len % 4294967296) (len / 4294967296)) e ∙ by_state st text
+  where
+    parts : len / 4294967296 * 4294967296 + len % 4294967296 % 4294967296 ≡ len
+    parts = omega arith
+
+    by_state : (st : State) → st ≢ state.Bits → len_in (number_of st) (len % 4294967296) (len / 4294967296) ≡ len
+    by_state state.Unset h = parts
+    by_state state.Zero h = parts
+    by_state state.One h = parts
+    by_state state.Unknown h = parts
+    by_state state.High h = parts
+    by_state state.Plain h = parts
+    by_state state.Digits h = parts
+    by_state state.Bits h = absurd (h refl)
+    by_state state.Real h = parts
+
+-- what is kept of a code is what its slot and its share tell
+pub kept_parts : (values : List ℕ) (slots : List Slot) (shares : List Share) (k : ℕ) (kept : Kept) → kept_in values slots shares k ≡ Some kept → (s : Slot) × (h : Share) × (slice_get slots k ≡ Some s) × (slice_get shares k ≡ Some h) × (kept_with values (end_at shares (length values) k) (whole s h) ≡ kept)
+kept_parts values slots shares k kept is = by_whole (whole_at slots shares k) refl
+  where
+    end : ℕ
+    end = end_at shares (length values) k
+
+    by_whole : (o : Option Whole) → whole_at slots shares k ≡ o → (s : Slot) × (h : Share) × (slice_get slots k ≡ Some s) × (slice_get shares k ≡ Some h) × (kept_with values end (whole s h) ≡ kept)
+    by_whole None e = absurd (let f : None ≡ Some kept = sym (ap (option_map (kept_with values end)) e) ∙ is in cc)
+    by_whole (Some w) e =
+        let p = parts_of slots shares k w e in
+        let f : Some (kept_with values end w) ≡ Some kept = sym (ap (option_map (kept_with values end)) e) ∙ is in
+        (p.0, p.1, p.2, p.3, ap (kept_with values end) p.4 ∙ cc f)
 
 -- a text of one digit
 pub alone : (text : List ℕ) → 1 ≤ length text → length text < 2 → get_or text 0 0 ∷ [] ≡ text

@@ -1,6 +1,6 @@
 -- The value of a code of a view, as the table has it.
 use Rattle.std.proofs.Common.{Bor, ◌≡◌, ◌≢◌, [], ◌<◌, ◌≤◌, ◌==◌, ◌||◌, Bool, true, false, cond, ◌⊎◌, inl, inr, ℕ, ◌+◌, arith, List, slice_get, Option, Some, None, refl, sym, ap, ◌∙◌}
-use Rattle.std.specs.Prelude.{IfSome, option_map, option_and_then, unwrap_or, drop, length, map, take, slice_range, ◌∷◌, sum_by}
+use Rattle.std.specs.Prelude.{IfSome, option_map, option_and_then, unwrap_or, length, map, slice_range, ◌∷◌, sum_by}
 use Rattle.std.specs.List.{AllZip}
 use Rattle.std.proofs.lemmas.List.Sums.{sum_by-cons}
 use Rattle.std.proofs.lemmas.Option.{slice_get-map, slice_get_within}
@@ -14,35 +14,38 @@ use Rattle.vcd_view.specs.declared.view.Code.{Code}
 use Rattle.vcd_view.specs.declared.view.HeadView.{HeadView}
 use Rattle.vcd_body.specs.Contents.{ChangesCode, IsLaidOut, codes_in, codes_shown, held_at, is_chosen, kept_at, line_of, shown_code, value_in}
 use Rattle.vcd_body.specs.Kept.{Held, Kept, as_chosen, value_at_size}
-use Rattle.vcd_body.specs.Stored.{Whole, end_at, held_by, held_from, kept_with, room_of, share_of, some_by, start_in, start_or, used, whole}
+use Rattle.vcd_body.specs.Stored.{Whole, end_at, held_from, holding_of, holding_at, kept_with, room_of, share_of, some_by, start_in, start_or, used, whole}
 use denote.Enum.Bare.{sameb}
 use Rattle.vcd_body.specs.contracts.slot.State.{the_type}
+use Rattle.vcd_body.specs.declared.slot.Holding.{Holding}
 use Rattle.vcd_body.specs.declared.slot.Share.{Share}
 use Rattle.vcd_body.specs.declared.slot.Slot.{Slot}
 use Rattle.vcd_body.specs.declared.slot.State.{State}
 use Rattle.vcd_body.specs.declared.slot.State.TheVariants as state
 use Rattle.vcd_body.specs.declared.table.Table.{Table}
-use Rattle.vcd_body.proofs.StoreLemmas.{no_slot, same_or_not, some_at, whole_is}
+use Rattle.vcd_body.proofs.StoreLemmas.{fits_in, holding_parts, no_holding, same_or_not, some_at, some_in, whole_is}
 use Rattle.std.proofs.lemmas.Bool.{eq-eqb, le-leb, ne_eqb}
 
-pub held_there : (t : Table) (code : ℕ) (s : Slot) → IsLaidOut t → slice_get t.slots.now code ≡ Some s → held_at t code ≡ held_from t.values.now (start_in t.shares.now code) s
-held_there t code s laid at =
-    let l = laid code s at in
-    ap (λ (o : Option Whole). unwrap_or (option_map (λ (k : Kept). k.held) (option_map (kept_with t.values.now (end_at t.shares.now (length t.values.now) code)) o)) Held.Unset) (whole_is t.slots.now t.shares.now code s l.share at l.there)
-    ∙ ap (λ n. held_from t.values.now n s) (sym (ap (start_or 0) l.there))
-
--- of a table that may not be laid out, by the slot and the share
-pub held_here : (t : Table) (code : ℕ) (s : Slot) (h : Share) → slice_get t.slots.now code ≡ Some s → slice_get t.shares.now code ≡ Some h → held_at t code ≡ held_by s.state s.len (take (used s) (drop h.start t.values.now))
+pub held_here : (t : Table) (code : ℕ) (s : Slot) (h : Share) → slice_get t.slots.now code ≡ Some s → slice_get t.shares.now code ≡ Some h → held_at t code ≡ held_from t.values.now h.start (holding_of s h)
 held_here t code s h at there = ap (λ (o : Option Whole). unwrap_or (option_map (λ (k : Kept). k.held) (option_map (kept_with t.values.now (end_at t.shares.now (length t.values.now) code)) o)) Held.Unset) (whole_is t.slots.now t.shares.now code s h at there)
 
+pub held_there : (t : Table) (code : ℕ) (v : Holding) → holding_at t.slots.now t.shares.now code ≡ Some v → held_at t code ≡ held_from t.values.now (start_in t.shares.now code) v
+held_there t code v at =
+    let p = holding_parts t.slots.now t.shares.now code v at in
+    held_here t code p.0 p.1 p.2 p.3
+    ∙ ap (λ n. held_from t.values.now n (holding_of p.0 p.1)) (sym (ap (start_or 0) p.3))
+    ∙ ap (held_from t.values.now (start_in t.shares.now code)) p.4
+
 -- its share lies within the values
-pub share_there : (t : Table) (code : ℕ) (s : Slot) → IsLaidOut t → slice_get t.slots.now code ≡ Some s → (code < length t.shares.now) × (start_in t.shares.now code + used s ≤ length t.values.now) × (1 ≤ some_by s.state s.len)
-share_there t code s laid at =
-    let l = laid code s at in
-    let start = ap (start_or 0) l.there in
-    let low = l.fits in
+pub share_there : (t : Table) (code : ℕ) (v : Holding) → IsLaidOut t → holding_at t.slots.now t.shares.now code ≡ Some v → (code < length t.shares.now) × (start_in t.shares.now code + used v ≤ length t.values.now) × (1 ≤ some_by v.state v.len)
+share_there t code v laid at =
+    let p = holding_parts t.slots.now t.shares.now code v at in
+    let l = laid code p.0 p.2 in
+    let start = ap (start_or 0) p.3 in
+    let low = fits_in t.shares.now (length t.values.now) code p.0 p.1 l p.3 in
+    let some = some_in t.shares.now (length t.values.now) code p.0 p.1 l p.3 in
     let high = l.within in
-    (slice_get_within t.shares.now code l.share l.there, omega (arith, start, low, high), l.some)
+    (slice_get_within t.shares.now code p.1 p.3, rw (sym p.4) (omega (arith, start, low, high)), rw (sym p.4) some)
 
 -- the text of a real number that is read in its share
 pub is_real : (st : State) → true ≡ sameb the_type st state.Real → st ≡ state.Real
@@ -60,8 +63,8 @@ pub text_there : (o : Option (Bor (List ℕ))) (d : Bor (List ℕ)) (text : List
 text_there None d text is there = absurd (there refl)
 text_there (Some share) d text is there = is
 
-pub held_nowhere : (t : Table) (code : ℕ) → slice_get t.slots.now code ≡ None → held_at t code ≡ Held.Unset
-held_nowhere t code at = ap (λ (o : Option Whole). unwrap_or (option_map (λ (k : Kept). k.held) (option_map (kept_with t.values.now (end_at t.shares.now (length t.values.now) code)) o)) Held.Unset) (no_slot t.slots.now t.shares.now code at)
+pub held_nowhere : (t : Table) (code : ℕ) → holding_at t.slots.now t.shares.now code ≡ None → held_at t code ≡ Held.Unset
+held_nowhere t code at = ap (λ (o : Option Whole). unwrap_or (option_map (λ (k : Kept). k.held) (option_map (kept_with t.values.now (end_at t.shares.now (length t.values.now) code)) o)) Held.Unset) (no_holding t.slots.now t.shares.now code at)
 
 pub code_there : (v : HeadView) (code : ℕ) (c : Code) → slice_get v.codes.now code ≡ Some c → slice_get (codes_shown v) code ≡ Some (shown_code v.text.now c)
 code_there v code c at = slice_get-map (shown_code v.text.now) v.codes.now code ∙ ap (option_map (shown_code v.text.now)) at
@@ -69,20 +72,20 @@ code_there v code c at = slice_get-map (shown_code v.text.now) v.codes.now code 
 pub code_nowhere : (v : HeadView) (code : ℕ) → slice_get v.codes.now code ≡ None → slice_get (codes_shown v) code ≡ None
 code_nowhere v code at = slice_get-map (shown_code v.text.now) v.codes.now code ∙ ap (option_map (shown_code v.text.now)) at
 
-pub value_there : (v : HeadView) (t : Table) (code : ℕ) (c : Code) (s : Slot) → IsLaidOut t → slice_get v.codes.now code ≡ Some c → slice_get t.slots.now code ≡ Some s → value_in (codes_shown v) t code ≡ value_at_size c.size (held_from t.values.now (start_in t.shares.now code) s)
-value_there v t code c s laid e at =
-    ap (option_and_then (λ (x : IdCode). value_at_size x.size (held_at t code))) (code_there v code c e) ∙ ap (value_at_size c.size) (held_there t code s laid at)
+pub value_there : (v : HeadView) (t : Table) (code : ℕ) (c : Code) (s : Holding) → slice_get v.codes.now code ≡ Some c → holding_at t.slots.now t.shares.now code ≡ Some s → value_in (codes_shown v) t code ≡ value_at_size c.size (held_from t.values.now (start_in t.shares.now code) s)
+value_there v t code c s e at =
+    ap (option_and_then (λ (x : IdCode). value_at_size x.size (held_at t code))) (code_there v code c e) ∙ ap (value_at_size c.size) (held_there t code s at)
 
-pub line_there : (v : HeadView) (t : Table) (code : ℕ) (c : Code) (s : Slot) → IsLaidOut t → slice_get v.codes.now code ≡ Some c → slice_get t.slots.now code ≡ Some s → line_of (codes_shown v) t code ≡ line_if_set (shown_code v.text.now c) (value_at_size c.size (held_from t.values.now (start_in t.shares.now code) s))
-line_there v t code c s laid e at =
+pub line_there : (v : HeadView) (t : Table) (code : ℕ) (c : Code) (s : Holding) → slice_get v.codes.now code ≡ Some c → holding_at t.slots.now t.shares.now code ≡ Some s → line_of (codes_shown v) t code ≡ line_if_set (shown_code v.text.now c) (value_at_size c.size (held_from t.values.now (start_in t.shares.now code) s))
+line_there v t code c s e at =
     ap (λ (o : Option IdCode). unwrap_or (option_map (λ (x : IdCode). line_if_set x (value_in (codes_shown v) t code)) o) []) (code_there v code c e)
-    ∙ ap (line_if_set (shown_code v.text.now c)) (value_there v t code c s laid e at)
+    ∙ ap (line_if_set (shown_code v.text.now c)) (value_there v t code c s e at)
 
 -- of what is no code's there is no value
 pub value_nowhere : (v : HeadView) (t : Table) (code : ℕ) → slice_get v.codes.now code ≡ None → value_in (codes_shown v) t code ≡ None
 value_nowhere v t code e = ap (option_and_then (λ (x : IdCode). value_at_size x.size (held_at t code))) (code_nowhere v code e)
 
-pub value_unkept : (v : HeadView) (t : Table) (code : ℕ) → slice_get t.slots.now code ≡ None → value_in (codes_shown v) t code ≡ None
+pub value_unkept : (v : HeadView) (t : Table) (code : ℕ) → holding_at t.slots.now t.shares.now code ≡ None → value_in (codes_shown v) t code ≡ None
 value_unkept v t code at = by_code (slice_get (codes_shown v) code)
   where
     by_code : (o : Option IdCode) → option_and_then (λ (x : IdCode). value_at_size x.size (held_at t code)) o ≡ None

@@ -211,7 +211,3 @@ pub byte_there : (xs bytes : List ℕ) (at n k : ℕ) → k < n → xs ≡ slice
 byte_there xs bytes at n k less place =
     let long : at + n - at ≡ n = omega arith in
     ap (λ (l : List ℕ). get_or l k 0) (place ∙ ap (λ m. take m (drop at bytes)) long) ∙ get_or-take n (drop at bytes) k 0 less ∙ get_or-drop at bytes k 0
-
-pub digits_there : (digits bytes : List ℕ) (at : ℕ) → 1 ≤ length digits → digits ≡ slice_range bytes at (at + length digits) → ((k : ℕ) → k < length digits → is_value_digit (slice_index bytes (at + k)) ≡ true) → true ≡ (not (is_empty digits) && list_all is_value_digit digits)
-digits_there [] bytes at some place each = absurd (omega arith)
-digits_there (d ∷ digits) bytes at some place each = sym (all_by_place is_value_digit (d ∷ digits) (λ k less. ap is_value_digit (byte_there (d ∷ digits) bytes at (length (d ∷ digits)) k less place) ∙ each k less))

@@ -1,5 +1,5 @@
 -- How a table keeps it: a slot for each code, with the lowest parts of its counters, and a share of the bytes of values, with the others.
-use Rattle.std.specs.Prelude.{◌≡◌, ℕ, ◌+◌, ◌-◌, ◌≤◌, ◌==◌, min, max, cond, List, [], ◌∷◌, ◌++◌, length, take, drop, map, sum_by, Bool, false, slice_get, Option, Some, None, option_map, option_and_then}
+use Rattle.std.specs.Prelude.{◌≡◌, ℕ, zero, suc, ◌+◌, ◌-◌, ◌*◌, ◌%◌, ◌≤◌, ◌==◌, nat_le, min, max, cond, List, [], ◌∷◌, ◌++◌, length, take, drop, map, sum_by, Bool, false, slice_get, Option, Some, None, option_map, option_and_then}
 use Rattle.std.specs.Str.{byte}
 use Rattle.vcd_view.specs.declared.view.Code.{Code}
 use Rattle.vcd_body.specs.Counters.{counts_of}
@@ -7,6 +7,7 @@ use Rattle.vcd_body.specs.Kept.{Held, Kept, bytes_for}
 use Rattle.vcd_model.specs.Values.{extend, short}
 use Rattle.vcd_body.specs.Binary.{binary_digits, count_in, is_proper, number_in}
 use Rattle.vcd_body.specs.Packed.{digits_in, held_digit}
+use Rattle.vcd_body.specs.declared.slot.Holding.{Holding}
 use Rattle.vcd_body.specs.declared.slot.Share.{Share}
 use Rattle.vcd_body.specs.declared.slot.Slot.{Slot}
 use Rattle.vcd_body.specs.declared.slot.State.{State}
@@ -36,8 +37,8 @@ used_by state.Digits len = bytes_for len
 used_by state.Bits len = 0
 used_by state.Real len = len
 
-abbrev pub used : Slot → ℕ
-used s = used_by s.state s.len
+abbrev pub used : Holding → ℕ
+used v = used_by v.state v.len
 
 -- what is held so, with these bytes of the share
 abbrev pub held_by : State → ℕ → List ℕ → Held
@@ -57,16 +58,51 @@ digits_held Held.Unset = []
 digits_held (Held.Digits ds) = ds
 digits_held (Held.Text text) = []
 
--- what a slot holds, with these bytes of its share, and its digits
-abbrev pub held_with : Slot → List ℕ → Held
-held_with s bytes = held_by s.state s.len bytes
+-- what is held so with these bytes of a share, and its digits
+abbrev pub held_with : Holding → List ℕ → Held
+held_with v bytes = held_by v.state v.len bytes
 
-abbrev pub digits_with : Slot → List ℕ → List ℕ
-digits_with s bytes = digits_held (held_with s bytes)
+abbrev pub digits_with : Holding → List ℕ → List ℕ
+digits_with v bytes = digits_held (held_with v bytes)
 
 -- the line of a value of these digits: all of them at size 1, or the shortest after `b`
 abbrev pub held_line : ℕ → List ℕ → List ℕ → List ℕ
 held_line size ds id = cond (size == 1) (ds ++ (id ++ 10 ∷ [])) (byte "b" ∷ short (extend ds size) ++ (byte " " ∷ id ++ 10 ∷ []))
+
+-- ---- what a slot and its share tell
+
+-- the number that tells a state, and the state that a number tells; from 8 on it tells how many binary digits there are
+abbrev pub number_of : State → ℕ
+number_of state.Unset = 0
+number_of state.One = 1
+number_of state.Zero = 2
+number_of state.Unknown = 3
+number_of state.High = 4
+number_of state.Plain = 5
+number_of state.Digits = 6
+number_of state.Real = 7
+number_of state.Bits = 8
+
+abbrev pub state_in : ℕ → State
+state_in zero = state.Unset
+state_in (suc zero) = state.One
+state_in (suc (suc zero)) = state.Zero
+state_in (suc (suc (suc zero))) = state.Unknown
+state_in (suc (suc (suc (suc zero)))) = state.High
+state_in (suc (suc (suc (suc (suc zero))))) = state.Plain
+state_in (suc (suc (suc (suc (suc (suc zero)))))) = state.Digits
+state_in (suc (suc (suc (suc (suc (suc (suc zero))))))) = state.Real
+state_in (suc (suc (suc (suc (suc (suc (suc (suc n)))))))) = state.Bits
+
+-- a length of these parts: the upper one is the share's, or how many binary digits there are
+abbrev pub len_in : ℕ → ℕ → ℕ → ℕ
+len_in how number upper = cond (nat_le 8 how) (how - 8) upper * 4294967296 + number % 4294967296
+
+abbrev pub holding_of : Slot → Share → Holding
+holding_of s h = record { state = state_in s.how; len = len_in s.how s.number h.upper }
+
+abbrev pub holding_at : List Slot → List Share → ℕ → Option Holding
+holding_at slots shares code = option_and_then (λ (s : Slot). option_map (holding_of s) (slice_get shares code)) (slice_get slots code)
 
 -- a slot and its share as one
 pub record Whole : Type 0 where
@@ -77,14 +113,18 @@ pub record Whole : Type 0 where
   pub chosen : Bool
 
 abbrev pub whole : Slot → Share → Whole
-whole s h = record { state = s.state; len = s.len; start = h.start; counts = counts_of s.low h.middle h.high; chosen = s.chosen }
+whole s h = record { state = state_in s.how; len = len_in s.how s.number h.upper; start = h.start; counts = counts_of s.low h.middle h.high h.top; chosen = h.chosen }
+
+-- with a value that is held so
+abbrev pub set_whole : State → ℕ → Whole → Whole
+set_whole st len w = record { state = st; start = w.start; len = len; counts = w.counts; chosen = w.chosen }
 
 abbrev pub whole_at : List Slot → List Share → ℕ → Option Whole
 whole_at slots shares code = option_and_then (λ (s : Slot). option_map (whole s) (slice_get shares code)) (slice_get slots code)
 
 -- what is held in a share that begins here
-abbrev pub held_from : List ℕ → ℕ → Slot → Held
-held_from values start s = held_by s.state s.len (take (used s) (drop start values))
+abbrev pub held_from : List ℕ → ℕ → Holding → Held
+held_from values start v = held_by v.state v.len (take (used v) (drop start values))
 
 abbrev pub held_of : List ℕ → Whole → Held
 held_of values w = held_by w.state w.len (take (used_by w.state w.len) (drop w.start values))
@@ -128,9 +168,9 @@ some_by state.Real len = 1
 pub record IsLaid (shares : List Share) (n k : ℕ) (s : Slot) : Type 0 where
   pub share : Share
   pub there : slice_get shares k ≡ Some share
-  pub fits : share.start + used s ≤ end_at shares n k
+  pub fits : share.start + used (holding_of s share) ≤ end_at shares n k
   pub within : end_at shares n k ≤ n
-  pub some : 1 ≤ some_by s.state s.len
+  pub some : 1 ≤ some_by (state_in s.how) (len_in s.how s.number share.upper)
 
 abbrev pub AreLaidOut : List Slot → List Share → ℕ → Type 0
 AreLaidOut slots shares n = (k : ℕ) (s : Slot) → slice_get slots k ≡ Some s → IsLaid shares n k s
@@ -151,11 +191,11 @@ start_of codes n k = min (room_of (take k codes)) n
 
 -- a code of which nothing is known
 abbrev pub IsUnset : Slot → Type 0
-IsUnset s = s ≡ record { state = state.Unset; len = 0; chosen = false; low = 0 ∷ 0 ∷ 0 ∷ [] }
+IsUnset s = s ≡ record { number = 0; how = 0; low = 0 ∷ 0 ∷ 0 ∷ [] }
 
 -- a share that begins here, of a code of which nothing was counted
 abbrev pub share_from : ℕ → Share
-share_from start = record { start = start; middle = 0 ∷ 0 ∷ 0 ∷ []; high = 0 ∷ 0 ∷ 0 ∷ [] }
+share_from start = record { start = start; upper = 0; middle = 0 ∷ 0 ∷ 0 ∷ []; high = 0 ∷ 0 ∷ 0 ∷ []; top = 0 ∷ 0 ∷ 0 ∷ []; chosen = false }
 
 abbrev pub IsUncounted : Share → Type 0
 IsUncounted h = h ≡ share_from 0

@@ -1,5 +1,5 @@
 -- What is taken ahead: a token where a phrase begins, and then the whole item.
-use Rattle.std.specs.Prelude.{◌≡◌, ℕ, ◌+◌, ◌-◌, ◌<◌, ◌≤◌, List, [], ◌∷◌, ◌++◌, length, slice_range}
+use Rattle.std.specs.Prelude.{◌≡◌, ℕ, ◌+◌, ◌-◌, ◌<◌, ◌≤◌, List, [], ◌∷◌, ◌++◌, IfSome, drop, length, slice_range}
 use Rattle.vcd_model.specs.Header.{Header}
 use Rattle.vcd_model.specs.Items.{BodyItem}
 use Rattle.vcd_model.specs.Tokens.{Token}
@@ -9,13 +9,16 @@ use Rattle.vcd_text.specs.declared.ahead.Ahead.{Ahead}
 use Rattle.vcd_view.specs.Views.{IsViewOf}
 use Rattle.vcd_view.specs.declared.view.HeadView.{HeadView}
 use Rattle.vcd_body.specs.Ahead.{GaveAhead, HasBits, IsPlain, IsSizedItem, LooksOver}
+use Rattle.vcd_body.specs.Binary.{binary_digits}
 use Rattle.vcd_body.specs.Given.{HasGoodText, IsItem}
 use Rattle.vcd_body.specs.Items.{AreRegsAfter, regs_after}
 use Rattle.vcd_body.specs.Spelled.{HasSpelled}
 use Rattle.vcd_body.specs.Words.{Begins}
 use Rattle.vcd_body.specs.declared.ahead.Opening.{Opening}
 use Rattle.vcd_body.specs.declared.ahead.Plain.{Plain}
+use Rattle.vcd_body.specs.declared.ahead.VectorTokens.{VectorTokens}
 use Rattle.vcd_body.specs.declared.item.Regs.{Regs}
+use Rattle.vcd_body.specs.declared.words.First.TheVariants as first
 
 -- a token was taken, from one place ahead to another, and this is what it begins
 pub record Opens (a a' : Ahead) (o : Opening) : Type 0 where
@@ -27,6 +30,25 @@ pub record Opens (a a' : Ahead) (o : Opening) : Type 0 where
   pub further : passed_of a + length o.token.now + 1 ≤ passed_of a'
   pub within : passed_of a' ≤ length (bytes_of a)
   pub same : (bytes_of a' ≡ bytes_of a) × (longest_of a' ≡ longest_of a)
+
+-- the token after it was taken
+pub record TakesToken (a a' : Ahead) (token : List ℕ) : Type 0 where
+  pub gives : (lines : ℕ) (ts : List Token) → Passed (longest_of a) lines (bytes_of a) (passed_of a) ts → Passed (longest_of a) lines (bytes_of a) (passed_of a') (ts ++ record { bytes = token; line = line_ahead lines (bytes_of a) (start_of a' token) } ∷ [])
+  pub place : token ≡ slice_range (bytes_of a) (start_of a' token) (passed_of a' - 1)
+  pub before : AreWhite (bytes_of a) (passed_of a) (start_of a' token)
+  pub further : passed_of a + length token + 1 ≤ passed_of a'
+  pub within : passed_of a' ≤ length (bytes_of a)
+  pub same : (bytes_of a' ≡ bytes_of a) × (longest_of a' ≡ longest_of a)
+
+-- the tokens of a vector's change were taken, where they begin, and what is known of the digits
+pub record OpensVector (a a' : Ahead) (t : VectorTokens) : Type 0 where
+  pub middle : Ahead
+  pub token : TakesToken a middle t.token.now
+  pub begins : Begins t.token.now first.Vector
+  pub code : TakesToken middle a' t.code.now
+  pub at : t.at ≡ passed_of middle - 1 - length t.token.now
+  pub code_at : t.code_at ≡ passed_of a' - 1 - length t.code.now
+  pub bits : IfSome t.bits (λ b. drop 1 t.token.now ≡ binary_digits b.len b.number)
 
 -- an item was taken, from one place ahead to another, where the registers before it are these
 pub record TakesItem (v : HeadView) (a a' : Ahead) (r : Regs) (p : Plain) : Type 0 where

@@ -22,7 +22,7 @@ ghost use Rattle.vcd_body.specs.Reads.{GaveItems};
 ghost use Rattle.vcd_body.specs.Given.{HasGoodText, IsGoodText, IsItem};
 ghost use Rattle.vcd_body.specs.Ahead.{GaveAhead, GaveLast, HasBits, IsPlain, IsSizedItem, LooksOver, PassBoth};
 ghost use Rattle.vcd_body.specs.Spelled.{HasSpelled, Names};
-ghost use Rattle.vcd_body.specs.Taken.{Opens, TakesItem};
+ghost use Rattle.vcd_body.specs.Taken.{Opens, OpensVector, TakesItem};
 ghost use Rattle.vcd_view.specs.declared.view.HeadView.{HeadView};
 
 use crate::bits::Bits;
@@ -100,19 +100,9 @@ fn mark_of<'a>(time: u64, at: usize) -> Plain<'a>
     }
 }
 
-/// The code that stands after the digits of a vector, where there are digits, and the code has room for them. The
-/// vector is a token at a place of these bytes.
+/// The code that stands after the digits of a vector, where there are digits, and the code has room for them.
 #[inline(always)]
-fn vector_code(
-    bytes: &[u8],
-    at: usize,
-    token: &[u8],
-    code: &[u8],
-    view: HeadView<'_>,
-    bits: Option<Bits>,
-) -> Option<Found>
-    requires within { at + length token.now ≤ length bytes.now }
-    requires place { token.now ≡ slice_range bytes.now at (at + length token.now) }
+fn vector_code(token: &[u8], code: &[u8], view: HeadView<'_>, bits: Option<Bits>) -> Option<Found>
     requires begins { Begins token.now first.Vector }
     requires bits { IfSome bits (λ b. drop 1 token.now ≡ binary_digits b.len b.number) }
     ensures code { (h : Header) → IsViewOf view.entry h
@@ -129,7 +119,7 @@ fn vector_code(
     ensures sized { IfSome result (IsSized view.entry.codes.now) }
 {
     let digits = rest_of(token);
-    if !are_digits_or_known(bytes, at + 1, digits, bits) {
+    if !are_digits_or_known(digits, bits) {
         return None;
     }
     let found = find_sized(view, code)?;
@@ -216,31 +206,74 @@ pub fn scalar_ahead<'a>(
     Some(change_of(found, Form::Scalar, text, None, at, at + 1))
 }
 
-/// The change that a `b` and digits begin, with the code that is the next token. The place is that after the digits, and then that
-/// after the code; none where it is no such change.
+/// The tokens of a vector's change, which were taken ahead: one that a `b` and digits begin, and the code.
+#[derive(Clone, Copy)]
+pub struct VectorTokens<'a> {
+    /// The digits as a number, where they are few, and `0` and `1` alone. None says nothing.
+    pub bits: Option<Bits>,
+    pub(crate) token: &'a [u8],
+    pub(crate) code: &'a [u8],
+    // Where they begin.
+    pub(crate) at: usize,
+    pub(crate) code_at: usize,
+}
+
+/// The token that a `b` and digits begin, with the code that is the next one. The place is that after the digits, and then that after
+/// the code; none where `item_ahead` gives none.
 #[inline(always)]
-pub fn vector_ahead<'a>(
+pub fn vector_tokens_ahead<'a>(
     opening: Opening<'a>,
     ahead: &mut Ahead<'a>,
-    view: HeadView<'_>,
-) -> Option<Plain<'a>>
+) -> Option<VectorTokens<'a>>
     requires opens { (a : Ahead) × Opens a ahead.old opening }
     requires first { opening.first ≡ first.Vector }
-    ensures takes { IfSome result (λ plain. (a : Ahead) (r : Regs) → Opens a ahead.old opening.entry
-        → TakesItem view.entry a ahead.new r plain) }
-    ensures form { IfSome result (λ plain. (place : ℕ) × (plain.item ≡ item.Change place form.Vector)) }
+    ensures opens { IfSome result (λ tokens. (a : Ahead) → Opens a ahead.old opening.entry
+        → OpensVector a ahead.new tokens) }
 {
     let token = opening.token;
     let bytes = ahead.bytes();
     let at = ahead.passed() - 1 - token.len();
     let code = ahead.next()?;
     let bits = vector_bits(bytes, at, token);
-    let found = vector_code(bytes, at, token, code, view, bits)?;
     let code_at = ahead.passed() - 1 - code.len();
-    Some(change_of(found, Form::Vector, rest_of(token), bits, at + 1, code_at))
+    Some(VectorTokens {
+        bits,
+        token,
+        code,
+        at,
+        code_at,
+    })
 }
 
-/// The change that an `r` and the text of a real number begin, as `vector_ahead` does.
+/// The change that these tokens are, where the number of its digits is known or not. The place is that after them; none where they are no
+/// such change.
+// What is known is asked before it, so that what is done with the change need not ask again.
+#[inline(always)]
+pub fn vector_ahead<'a>(
+    tokens: VectorTokens<'a>,
+    bits: Option<Bits>,
+    ahead: Ahead<'a>,
+    view: HeadView<'_>,
+) -> Option<Plain<'a>>
+    requires opens { (a : Ahead) × OpensVector a ahead tokens }
+    requires bits { bits ≡ tokens.bits }
+    ensures takes { IfSome result (λ plain. (a : Ahead) (r : Regs)
+        → OpensVector a ahead.entry tokens.entry → TakesItem view.entry a ahead.entry r plain) }
+    ensures form { IfSome result (λ plain. (place : ℕ) × (plain.item ≡ item.Change place form.Vector)) }
+{
+    let found = vector_code(tokens.token, tokens.code, view, bits)?;
+    let digits = rest_of(tokens.token);
+    Some(change_of(
+        found,
+        Form::Vector,
+        digits,
+        bits,
+        tokens.at + 1,
+        tokens.code_at,
+    ))
+}
+
+/// The change that an `r` and the text of a real number begin, as `vector_tokens_ahead` and `vector_ahead` do.
 #[inline(always)]
 pub fn real_ahead<'a>(
     opening: Opening<'a>,
@@ -329,7 +362,10 @@ pub fn item_ahead<'a>(
     let opening = opening_ahead(&mut next)?;
     let plain = match opening.first {
         First::Scalar => scalar_ahead(opening, next, view)?,
-        First::Vector => vector_ahead(opening, &mut next, view)?,
+        First::Vector => {
+            let tokens = vector_tokens_ahead(opening, &mut next)?;
+            vector_ahead(tokens, tokens.bits, next, view)?
+        }
         First::Mark => mark_ahead(opening, next, regs)?,
         First::Real => real_ahead(opening, &mut next, view)?,
         First::Other => return None,

@@ -1,8 +1,10 @@
 //! Up to 32 binary digits as a number, and how a slot holds them.
-ghost use Rattle.std.specs.Prelude.{◌≡◌, ◌-◌, ◌<◌, ◌≤◌, ◌^◌, get_or, length, max, slice_get, true};
+ghost use Rattle.std.specs.Prelude.{◌≡◌, ◌-◌, ◌<◌, ◌≤◌, ◌^◌, get_or, length, max, slice_get, true, ℕ};
 ghost use Rattle.vcd_body.specs.Binary.{binary_digits, count_in, is_proper, number_in};
+ghost use Rattle.vcd_body.specs.Stored.{len_in, state_in};
+ghost use Rattle.vcd_body.specs.declared.slot.State.{State};
 
-use crate::slot::{Slot, State};
+use crate::slot::Slot;
 
 /// One to 32 binary digits, as the number that they write.
 #[derive(Clone, Copy, PartialEq, Eq, Debug)]
@@ -31,16 +33,18 @@ impl Bits {
     }
 }
 
-/// The digits as a slot holds them: their number beside how many they are.
+/// The digits as a slot holds them: their number, and how many they are as the number of a state.
 #[inline(always)]
-pub(crate) fn packed(bits: Bits) -> usize
-    ensures count { count_in result ≡ bits.len }
-    ensures number { number_in result ≡ bits.number }
+#[tactic(auto, using(crate::proofs::StoreLemmas::many_bits))]
+pub(crate) fn held_bits(bits: Bits) -> (u32, u8)
+    ensures count { (upper : ℕ) → count_in (len_in result.1 result.0 upper) ≡ bits.len }
+    ensures number { (upper : ℕ) → number_in (len_in result.1 result.0 upper) ≡ bits.number }
+    ensures state { state_in result.1 ≡ State.Bits }
 {
-    bits.len * 4_294_967_296 + bits.number
+    (bits.number as u32, bits.len as u8 + 8)
 }
 
-/// How many digits a slot holds.
+/// How many digits are held.
 #[inline(always)]
 pub(crate) fn count_in(len: usize) -> usize
     ensures { result ≡ count_in len }
@@ -112,9 +116,11 @@ pub(crate) fn put_digits(bits: Bits, to: &mut [u8])
 
 /// Whether a slot holds binary digits, and neither these nor those are more than the size: so both make values of as many digits.
 #[inline(always)]
-pub(crate) fn is_number_step(slot: Slot, size: usize, bits: Bits) -> bool
-    ensures state { result ≡ true → slot.state ≡ State.Bits }
-    ensures long { result ≡ true → max size (count_in slot.len) ≡ max size bits.len }
+#[tactic(auto, using(crate::proofs::StoreLemmas::many_bits))]
+pub(crate) fn is_number_step(slot: &Slot, size: usize, bits: Bits) -> bool
+    ensures state { result ≡ true → state_in slot.now.how ≡ State.Bits }
+    ensures long { result ≡ true → (upper : ℕ)
+        → max size (count_in (len_in slot.now.how slot.now.number upper)) ≡ max size bits.len }
 {
-    slot.state == State::Bits && slot.len / 4_294_967_296 <= size && bits.len <= size
+    slot.how >= 8 && usize::from(slot.how - 8) <= size && bits.len <= size
 }

@@ -12,7 +12,7 @@ use crate::change::extended_by;
 use crate::held::{count_of, digit_held, digit_shown};
 use crate::item::Form;
 use crate::packed::{held_digit, packed_ends_differ, plain_ends_differ};
-use crate::slot::{Slot, State, digit_of_state};
+use crate::slot::{Holding, State, digit_of_state};
 
 // What a text is extended by.
 fn extension_of_text(text: &[u8]) -> u8
@@ -41,13 +41,13 @@ fn text_digit(text: &[u8], size: usize, place: usize) -> u8
 
 // The same of the digits that are held.
 #[inline(always)]
-fn shown_digit(slot: Slot, share: &[u8], size: usize, place: usize) -> u8
-    requires used { used slot ≤ length share.now }
-    requires some { 1 ≤ some_by slot.state slot.len }
-    requires digits { held_with slot share.now ≡ Held.Digits (digits_with slot share.now) }
-    ensures { result ≡ get_or (extend (digits_with slot share.now) size) place 0 }
+fn shown_digit(holding: Holding, share: &[u8], size: usize, place: usize) -> u8
+    requires used { used holding ≤ length share.now }
+    requires some { 1 ≤ some_by holding.state holding.len }
+    requires digits { held_with holding share.now ≡ Held.Digits (digits_with holding share.now) }
+    ensures { result ≡ get_or (extend (digits_with holding share.now) size) place 0 }
 {
-    match digit_shown(slot, share, size, place) {
+    match digit_shown(holding, share, size, place) {
         Some(digit) => digit,
         None => 0,
     }
@@ -55,19 +55,19 @@ fn shown_digit(slot: Slot, share: &[u8], size: usize, place: usize) -> u8
 
 // Whether the digits that are held and a text are the same, both extended to a size that is no less than their lengths. It
 // looks from the right, where they mostly differ.
-fn are_same(slot: Slot, share: &[u8], text: &[u8], size: usize) -> bool
-    requires used { used slot ≤ length share.now }
-    requires some { 1 ≤ some_by slot.state slot.len }
-    requires digits { held_with slot share.now ≡ Held.Digits (digits_with slot share.now) }
-    requires held_fit { length (digits_with slot share.now) ≤ size }
+fn are_same(holding: Holding, share: &[u8], text: &[u8], size: usize) -> bool
+    requires used { used holding ≤ length share.now }
+    requires some { 1 ≤ some_by holding.state holding.len }
+    requires digits { held_with holding share.now ≡ Held.Digits (digits_with holding share.now) }
+    requires held_fit { length (digits_with holding share.now) ≤ size }
     requires text_fits { length text.now ≤ size }
-    ensures { Decides result (extend (digits_with slot share.now) size
+    ensures { Decides result (extend (digits_with holding share.now) size
         ≡ extend (str_to_ascii_lowercase text.now) size) }
 {
     let mut place = size;
     while place > 0 {
         place -= 1;
-        if shown_digit(slot, share, size, place) != text_digit(text, size, place) {
+        if shown_digit(holding, share, size, place) != text_digit(text, size, place) {
             return false;
         }
     }
@@ -118,16 +118,16 @@ fn ends_differ(share: &[u8], text: &[u8]) -> bool
 // Whether a digit of those that are held and one of a text differ, each so many places before the last; false where either has
 // fewer.
 #[inline(always)]
-fn held_differs_at(slot: Slot, share: &[u8], text: &[u8], back: usize) -> bool
-    requires used { used slot ≤ length share.now }
-    ensures { result ≡ true → (size : ℕ) → extend (digits_with slot share.now) size
+fn held_differs_at(holding: Holding, share: &[u8], text: &[u8], back: usize) -> bool
+    requires used { used holding ≤ length share.now }
+    ensures { result ≡ true → (size : ℕ) → extend (digits_with holding share.now) size
         ≢ extend (str_to_ascii_lowercase text.now) size }
 {
-    let held = count_of(slot, share);
+    let held = count_of(holding, share);
     if back >= held || back >= text.len() {
         return false;
     }
-    match digit_held(slot, share, held - 1 - back) {
+    match digit_held(holding, share, held - 1 - back) {
         Some(digit) => digit != text[text.len() - 1 - back].to_ascii_lowercase(),
         None => false,
     }
@@ -136,13 +136,13 @@ fn held_differs_at(slot: Slot, share: &[u8], text: &[u8], back: usize) -> bool
 // Whether one of the last eight digits of those that are held and of a text differs, where both have it. It looks from the right,
 // where they mostly differ.
 #[inline(always)]
-fn lasts_differ(slot: Slot, share: &[u8], text: &[u8]) -> bool
-    requires used { used slot ≤ length share.now }
-    ensures { result ≡ true → (size : ℕ) → extend (digits_with slot share.now) size
+fn lasts_differ(holding: Holding, share: &[u8], text: &[u8]) -> bool
+    requires used { used holding ≤ length share.now }
+    ensures { result ≡ true → (size : ℕ) → extend (digits_with holding share.now) size
         ≢ extend (str_to_ascii_lowercase text.now) size }
 {
     for back in 0..8 {
-        if held_differs_at(slot, share, text, back) {
+        if held_differs_at(holding, share, text, back) {
             return true;
         }
     }
@@ -152,28 +152,28 @@ fn lasts_differ(slot: Slot, share: &[u8], text: &[u8]) -> bool
 // Whether the last 16 digits of several that are held and of a text tell that the values differ, where both have as many. Most
 // values that differ do so there.
 #[inline(always)]
-fn ends_tell(slot: Slot, share: &[u8], text: &[u8]) -> bool
-    requires used { used slot ≤ length share.now }
-    ensures { result ≡ true → (size : ℕ) → extend (digits_with slot share.now) size
+fn ends_tell(holding: Holding, share: &[u8], text: &[u8]) -> bool
+    requires used { used holding ≤ length share.now }
+    ensures { result ≡ true → (size : ℕ) → extend (digits_with holding share.now) size
         ≢ extend (str_to_ascii_lowercase text.now) size }
 {
-    match slot.state {
+    match holding.state {
         State::Plain => plain_ends_differ(share, text),
-        State::Digits => packed_ends_differ(share, slot.len, text),
+        State::Digits => packed_ends_differ(share, holding.len, text),
         _ => false,
     }
 }
 
 // The same of some last digits, where there are fewer.
 #[inline(always)]
-fn few_tell(slot: Slot, share: &[u8], text: &[u8]) -> bool
-    requires used { used slot ≤ length share.now }
-    ensures { result ≡ true → (size : ℕ) → extend (digits_with slot share.now) size
+fn few_tell(holding: Holding, share: &[u8], text: &[u8]) -> bool
+    requires used { used holding ≤ length share.now }
+    ensures { result ≡ true → (size : ℕ) → extend (digits_with holding share.now) size
         ≢ extend (str_to_ascii_lowercase text.now) size }
 {
-    match slot.state {
+    match holding.state {
         State::Plain => ends_differ(share, text),
-        State::Digits => lasts_differ(slot, share, text),
+        State::Digits => lasts_differ(holding, share, text),
         _ => false,
     }
 }
@@ -181,65 +181,71 @@ fn few_tell(slot: Slot, share: &[u8], text: &[u8]) -> bool
 // Whether a text gives a code of this size other digits than several that are held, or is itself of several. It takes as long
 // as these digits and the text are, whatever the size is.
 #[inline(never)]
-fn all_differ(slot: Slot, share: &[u8], size: usize, text: &[u8]) -> bool
-    requires used { used slot ≤ length share.now }
-    requires some { 1 ≤ some_by slot.state slot.len }
-    requires digits { held_with slot share.now ≡ Held.Digits (digits_with slot share.now) }
-    ensures { result ≡ not (bytes_eq (extend (digits_with slot share.now) size)
+fn all_differ(holding: Holding, share: &[u8], size: usize, text: &[u8]) -> bool
+    requires used { used holding ≤ length share.now }
+    requires some { 1 ≤ some_by holding.state holding.len }
+    requires digits { held_with holding share.now ≡ Held.Digits (digits_with holding share.now) }
+    ensures { result ≡ not (bytes_eq (extend (digits_with holding share.now) size)
         (extend (str_to_ascii_lowercase text.now) size)) }
 {
-    if few_tell(slot, share, text) {
+    if few_tell(holding, share, text) {
         return true;
     }
-    let held = count_of(slot, share);
+    let held = count_of(holding, share);
     if size.max(held) != size.max(text.len()) {
         return true;
     }
-    match slot.state {
+    match holding.state {
         State::Plain if held == text.len() => !are_same_plain(share, text),
-        _ => !are_same(slot, share, text, held.max(text.len())),
+        _ => !are_same(holding, share, text, held.max(text.len())),
     }
 }
 
 // The same, after a look at the last digits.
 #[inline(always)]
-fn several_differ(slot: Slot, share: &[u8], size: usize, text: &[u8]) -> bool
-    requires used { used slot ≤ length share.now }
-    requires some { 1 ≤ some_by slot.state slot.len }
-    requires digits { held_with slot share.now ≡ Held.Digits (digits_with slot share.now) }
-    ensures { result ≡ not (bytes_eq (extend (digits_with slot share.now) size)
+fn several_differ(holding: Holding, share: &[u8], size: usize, text: &[u8]) -> bool
+    requires used { used holding ≤ length share.now }
+    requires some { 1 ≤ some_by holding.state holding.len }
+    requires digits { held_with holding share.now ≡ Held.Digits (digits_with holding share.now) }
+    ensures { result ≡ not (bytes_eq (extend (digits_with holding share.now) size)
         (extend (str_to_ascii_lowercase text.now) size)) }
 {
-    ends_tell(slot, share, text) || all_differ(slot, share, size, text)
+    ends_tell(holding, share, text) || all_differ(holding, share, size, text)
 }
 
 // Whether a text gives a code of this size other digits than those that are held. Most are one digit.
 #[inline(always)]
-fn digits_differ(slot: Slot, share: &[u8], size: usize, text: &[u8]) -> bool
-    requires used { used slot ≤ length share.now }
-    requires some { 1 ≤ some_by slot.state slot.len }
-    requires digits { held_with slot share.now ≡ Held.Digits (digits_with slot share.now) }
-    ensures { result ≡ not (bytes_eq (extend (digits_with slot share.now) size)
+fn digits_differ(holding: Holding, share: &[u8], size: usize, text: &[u8]) -> bool
+    requires used { used holding ≤ length share.now }
+    requires some { 1 ≤ some_by holding.state holding.len }
+    requires digits { held_with holding share.now ≡ Held.Digits (digits_with holding share.now) }
+    ensures { result ≡ not (bytes_eq (extend (digits_with holding share.now) size)
         (extend (str_to_ascii_lowercase text.now) size)) }
 {
-    match (text, digit_of_state(slot.state)) {
+    match (text, digit_of_state(holding.state)) {
         ([digit], Some(held)) => held != digit.to_ascii_lowercase(),
-        _ => several_differ(slot, share, size, text),
+        _ => several_differ(holding, share, size, text),
     }
 }
 
 /// Whether a text gives a code of this size another value than it has; false where it has none.
 #[inline(always)]
-pub(crate) fn value_differs(slot: Slot, share: &[u8], size: usize, form: Form, text: &[u8]) -> bool
-    requires used { used slot ≤ length share.now }
-    requires some { 1 ≤ some_by slot.state slot.len }
-    ensures { result ≡ differs (value_at_size size (held_with slot share.now))
+pub(crate) fn value_differs(
+    holding: Holding,
+    share: &[u8],
+    size: usize,
+    form: Form,
+    text: &[u8],
+) -> bool
+    requires used { used holding ≤ length share.now }
+    requires some { 1 ≤ some_by holding.state holding.len }
+    ensures { result ≡ differs (value_at_size size (held_with holding share.now))
         (value_with size (model_form form) text.now) }
 {
-    match slot.state {
-        State::Plain => form == Form::RealText || several_differ(slot, share, size, text),
+    match holding.state {
+        State::Plain => form == Form::RealText || several_differ(holding, share, size, text),
         State::Unset => false,
         State::Real => form != Form::RealText || share != text,
-        _ => form == Form::RealText || digits_differ(slot, share, size, text),
+        _ => form == Form::RealText || digits_differ(holding, share, size, text),
     }
 }

@@ -1,4 +1,4 @@
-// The value that a slot holds, as it is written.
+// The value that is held, as it is written.
 ghost use Rattle.std.specs.Prelude.{◌≡◌, ◌≢◌, ℕ, ◌+◌, ◌-◌, ◌^◌, ◌<◌, ◌≤◌, ◌++◌, ◌∷◌, [], Bool, drop, get_or, take, length, replicate};
 ghost use Rattle.vcd_model.specs.Cut.{line_if_set};
 ghost use Rattle.vcd_model.specs.Sample.{shown};
@@ -9,7 +9,7 @@ ghost use Rattle.vcd_body.specs.Stored.{digits_with, held_line, held_with, some_
 
 use crate::change::{extension_of, put_end, put_real};
 use crate::held::{count_of, digit_held};
-use crate::slot::{Slot, State};
+use crate::slot::{Holding, State};
 use vcd_text::{Sink, WriteFailed, put};
 
 // Writes a digit so many times.
@@ -29,38 +29,43 @@ fn put_repeated<W: Sink>(digit: u8, count: usize, w: &mut W) -> Result<(), Write
 
 // The digit at a place of those that are held, 0 where there is none.
 #[inline(always)]
-fn digit_or(slot: Slot, share: &[u8], place: usize) -> u8
-    ensures { result ≡ get_or (digits_with slot share.now) place 0 }
+fn digit_or(holding: Holding, share: &[u8], place: usize) -> u8
+    ensures { result ≡ get_or (digits_with holding share.now) place 0 }
 {
-    match digit_held(slot, share, place) {
+    match digit_held(holding, share, place) {
         Some(digit) => digit,
         None => 0,
     }
 }
 
 // Puts the digits from a place on at the front.
-fn fill(slot: Slot, share: &[u8], from: usize, to: &mut [u8])
-    requires { from + length to.old ≤ length (digits_with slot share.now) }
-    ensures { to.new ≡ take (length to.old) (drop from (digits_with slot share.now)) }
+fn fill(holding: Holding, share: &[u8], from: usize, to: &mut [u8])
+    requires { from + length to.old ≤ length (digits_with holding share.now) }
+    ensures { to.new ≡ take (length to.old) (drop from (digits_with holding share.now)) }
 {
     for place in 0..to.len() {
-        to[place] = digit_or(slot, share, from + place);
+        to[place] = digit_or(holding, share, from + place);
     }
 }
 
 // Writes the digits that are held, from a place on.
-fn put_from<W: Sink>(slot: Slot, share: &[u8], from: usize, w: &mut W) -> Result<(), WriteFailed>
+fn put_from<W: Sink>(
+    holding: Holding,
+    share: &[u8],
+    from: usize,
+    w: &mut W,
+) -> Result<(), WriteFailed>
     requires failures { (W.device w.old).failures < 2 ^ 64 - 1 }
-    requires used { used slot ≤ length share.now }
+    requires used { used holding ≤ length share.now }
     ensures { Puts (W.device w.old) (W.device w.new)
-        (drop from (digits_with slot share.now)) result }
+        (drop from (digits_with holding share.now)) result }
 {
-    let count = count_of(slot, share);
+    let count = count_of(holding, share);
     let mut block = [0u8; 64];
     let mut at = from;
     while at < count {
         let some = (count - at).min(64);
-        fill(slot, share, at, &mut block[..some]);
+        fill(holding, share, at, &mut block[..some]);
         put(w, &block[..some])?;
         at += some;
     }
@@ -68,16 +73,16 @@ fn put_from<W: Sink>(slot: Slot, share: &[u8], from: usize, w: &mut W) -> Result
 }
 
 // Where the shortest digits begin that extend to the same value.
-fn first_needed(slot: Slot, share: &[u8]) -> usize
-    requires used { used slot ≤ length share.now }
-    requires some { 0 < length (digits_with slot share.now) }
-    ensures { (size : ℕ) → drop result (digits_with slot share.now)
-        ≡ short (extend (digits_with slot share.now) size) }
+fn first_needed(holding: Holding, share: &[u8]) -> usize
+    requires used { used holding ≤ length share.now }
+    requires some { 0 < length (digits_with holding share.now) }
+    ensures { (size : ℕ) → drop result (digits_with holding share.now)
+        ≡ short (extend (digits_with holding share.now) size) }
 {
-    let count = count_of(slot, share);
+    let count = count_of(holding, share);
     let mut from = 0;
     'digits: while from + 1 < count {
-        if digit_or(slot, share, from) != extension_of(digit_or(slot, share, from + 1)) {
+        if digit_or(holding, share, from) != extension_of(digit_or(holding, share, from + 1)) {
             return from;
         }
         from += 1;
@@ -86,95 +91,100 @@ fn first_needed(slot: Slot, share: &[u8]) -> usize
 }
 
 // Writes all digits that are held, and the code, as a line.
-fn put_all_held<W: Sink>(slot: Slot, share: &[u8], id: &[u8], w: &mut W) -> Result<(), WriteFailed>
+fn put_all_held<W: Sink>(
+    holding: Holding,
+    share: &[u8],
+    id: &[u8],
+    w: &mut W,
+) -> Result<(), WriteFailed>
     requires failures { (W.device w.old).failures < 2 ^ 64 - 1 }
-    requires used { used slot ≤ length share.now }
+    requires used { used holding ≤ length share.now }
     ensures { Puts (W.device w.old) (W.device w.new)
-        (digits_with slot share.now ++ (id.now ++ 10 ∷ [])) result }
+        (digits_with holding share.now ++ (id.now ++ 10 ∷ [])) result }
 {
-    put_from(slot, share, 0, w)?;
+    put_from(holding, share, 0, w)?;
     put(w, id)?;
     put(w, b"\n")
 }
 
 // Writes the shortest digits after `b`, and the code, as a line.
 fn put_short_held<W: Sink>(
-    slot: Slot,
+    holding: Holding,
     share: &[u8],
     id: &[u8],
     w: &mut W,
 ) -> Result<(), WriteFailed>
     requires failures { (W.device w.old).failures < 2 ^ 64 - 1 }
-    requires used { used slot ≤ length share.now }
-    requires some { 0 < length (digits_with slot share.now) }
+    requires used { used holding ≤ length share.now }
+    requires some { 0 < length (digits_with holding share.now) }
     ensures takes { (size : ℕ) → Takes (W.device w.old) (W.device w.new)
-        (98 ∷ short (extend (digits_with slot share.now) size)
+        (98 ∷ short (extend (digits_with holding share.now) size)
         ++ (32 ∷ id.now ++ 10 ∷ [])) result }
     ensures counts { Counts (W.device w.old) (W.device w.new) result }
 {
     put(w, b"b")?;
-    put_from(slot, share, first_needed(slot, share), w)?;
+    put_from(holding, share, first_needed(holding, share), w)?;
     put_end(w, b' ', id)
 }
 
 // Writes the line of digits that are held.
 fn put_digits_held<W: Sink>(
-    slot: Slot,
+    holding: Holding,
     share: &[u8],
     size: usize,
     id: &[u8],
     w: &mut W,
 ) -> Result<(), WriteFailed>
     requires failures { (W.device w.old).failures < 2 ^ 64 - 1 }
-    requires used { used slot ≤ length share.now }
-    requires some { 0 < length (digits_with slot share.now) }
+    requires used { used holding ≤ length share.now }
+    requires some { 0 < length (digits_with holding share.now) }
     ensures { Puts (W.device w.old) (W.device w.new)
-        (held_line size (digits_with slot share.now) id.now) result }
+        (held_line size (digits_with holding share.now) id.now) result }
 {
     if size == 1 {
-        return put_all_held(slot, share, id, w);
+        return put_all_held(holding, share, id, w);
     }
-    put_short_held(slot, share, id, w)
+    put_short_held(holding, share, id, w)
 }
 
 /// Writes the line that gives a code of this size its value; nothing where it has none.
 pub(crate) fn put_value_line<W: Sink>(
-    slot: Slot,
+    holding: Holding,
     share: &[u8],
     size: usize,
     id: &[u8],
     w: &mut W,
 ) -> Result<(), WriteFailed>
     requires failures { (W.device w.old).failures < 2 ^ 64 - 1 }
-    requires used { used slot ≤ length share.now }
-    requires some { 1 ≤ some_by slot.state slot.len }
+    requires used { used holding ≤ length share.now }
+    requires some { 1 ≤ some_by holding.state holding.len }
     ensures { (event : Bool) → Puts (W.device w.old) (W.device w.new)
         (line_if_set (record { text = id.now; size = size; event = event })
-        (value_at_size size (held_with slot share.now))) result }
+        (value_at_size size (held_with holding share.now))) result }
 {
-    match slot.state {
+    match holding.state {
         State::Unset => Ok(()),
         State::Real => put_real(w, share, id),
-        _ => put_digits_held(slot, share, size, id, w),
+        _ => put_digits_held(holding, share, size, id, w),
     }
 }
 
 // Writes the digits that are held, extended to a size.
 fn put_extended<W: Sink>(
-    slot: Slot,
+    holding: Holding,
     share: &[u8],
     size: usize,
     w: &mut W,
 ) -> Result<(), WriteFailed>
     requires failures { (W.device w.old).failures < 2 ^ 64 - 1 }
-    requires used { used slot ≤ length share.now }
-    requires some { 0 < length (digits_with slot share.now) }
+    requires used { used holding ≤ length share.now }
+    requires some { 0 < length (digits_with holding share.now) }
     ensures { Puts (W.device w.old) (W.device w.new)
-        (extend (digits_with slot share.now) size) result }
+        (extend (digits_with holding share.now) size) result }
 {
-    let missing = size.saturating_sub(count_of(slot, share));
-    put_repeated(extension_of(digit_or(slot, share, 0)), missing, w)?;
-    put_from(slot, share, 0, w)
+    let missing = size.saturating_sub(count_of(holding, share));
+    put_repeated(extension_of(digit_or(holding, share, 0)), missing, w)?;
+    put_from(holding, share, 0, w)
 }
 
 // Writes the text of a real number in full.
@@ -188,20 +198,20 @@ fn put_real_text<W: Sink>(text: &[u8], w: &mut W) -> Result<(), WriteFailed>
 
 /// Writes the value at a size in full, `-` where there is none.
 pub(crate) fn put_value<W: Sink>(
-    slot: Slot,
+    holding: Holding,
     share: &[u8],
     size: usize,
     w: &mut W,
 ) -> Result<(), WriteFailed>
     requires failures { (W.device w.old).failures < 2 ^ 64 - 1 }
-    requires used { used slot ≤ length share.now }
-    requires some { 1 ≤ some_by slot.state slot.len }
+    requires used { used holding ≤ length share.now }
+    requires some { 1 ≤ some_by holding.state holding.len }
     ensures { Puts (W.device w.old) (W.device w.new)
-        (shown (value_at_size size (held_with slot share.now))) result }
+        (shown (value_at_size size (held_with holding share.now))) result }
 {
-    match slot.state {
+    match holding.state {
         State::Unset => put(w, b"-"),
         State::Real => put_real_text(share, w),
-        _ => put_extended(slot, share, size, w),
+        _ => put_extended(holding, share, size, w),
     }
 }

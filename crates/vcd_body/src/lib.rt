@@ -20,8 +20,8 @@
 //! `GaveAhead codes limit lines bytes n before items`: the first n bytes ahead are phrases with these items, which go on behind
 //! any with the items before. `item_ahead` takes it to one item more; `pass_items` takes `GaveItems` to all of them, and at the
 //! last of them to `GaveLast`, which tells how much was read. `opening_ahead` takes the token that an item begins with (`Opens`), and
-//! `scalar_ahead`, `vector_ahead`, `real_ahead` and `mark_ahead` the item that it begins (`TakesItem`), so that a loop which does
-//! something else with each asks once what it is; `item_ahead` is those five. `HasSpelled view bytes from to text item` says by which bytes a change
+//! `scalar_ahead`, `real_ahead` and `mark_ahead` the item that it begins (`TakesItem`), as `vector_tokens_ahead` (`OpensVector`) and
+//! `vector_ahead` do, so that a loop which does something else with each asks once what it is; `item_ahead` is those six. `HasSpelled view bytes from to text item` says by which bytes a change
 //! that was taken ahead is spelled; `left_out` asks for it.
 //!
 //! What is kept of a code is told by `kept_at t code`, over each place. A call of a table changes what is kept of the code at
@@ -30,7 +30,7 @@
 //! # The modules
 //!
 //! - `read`: `next_item`, `change_text`
-//! - `ahead`: `item_ahead`, and its parts, by what an item begins with; `pass_items`, `Plain`, `Opening`
+//! - `ahead`: `item_ahead`, and its parts, by what an item begins with; `pass_items`, `Plain`, `Opening`, `VectorTokens`
 //! - `phrases`, `tokens`, `words`: phrases by what they begin with; the next token; what a token is, by its first byte
 //! - `item`, `fault`: `Item`, `Form`, `Section`, `Regs`; `BodyFault`
 //! - `answer`: `Done`, `More`, `Stop`: how a run over a body or several ends, and whether it goes on
@@ -77,8 +77,8 @@ mod tokens;
 mod words;
 
 pub use ahead::{
-    Opening, Plain, item_ahead, mark_ahead, opening_ahead, pass_items, real_ahead, scalar_ahead,
-    vector_ahead,
+    Opening, Plain, VectorTokens, item_ahead, mark_ahead, opening_ahead, pass_items, real_ahead,
+    scalar_ahead, vector_ahead, vector_tokens_ahead,
 };
 pub use answer::{Done, More, Stop};
 pub use bits::Bits;

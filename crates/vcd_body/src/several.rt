@@ -8,7 +8,7 @@ ghost use Rattle.vcd_body.specs.Stored.{AreLaidOut, ChangesAt, held_from};
 
 use crate::item::Form;
 use crate::packed::{last_packed, packed_ends_differ, plain_ends_differ};
-use crate::slot::{Share, Slot, State};
+use crate::slot::{Holding, Share, Slot, State, holding_of};
 use crate::step::Step;
 use crate::store::{count_at, end_of, set_digits_in};
 
@@ -66,20 +66,20 @@ fn part_of(values: &[u8], start: usize, end: usize) -> Option<&[u8]>
     values.get(start..end)
 }
 
-// The step from several digits of a slot, whose share begins and ends here, to those of a text, where the last 16 of both tell that they
+// The step from several digits that are held so, in a share that begins and ends here, to those of a text, where the last 16 of both tell that they
 // differ. How they are held is asked once.
 #[inline(always)]
-fn step_told(values: &[u8], slot: Slot, start: usize, end: usize, text: &[u8]) -> Option<Step>
+fn step_told(values: &[u8], holding: Holding, start: usize, end: usize, text: &[u8]) -> Option<Step>
     ensures many { IfSome result (λ _. 16 ≤ length text.now) }
     ensures differs { IfSome result (λ step. step.differs ≡ true) }
     ensures step { IfSome result (λ step. (size : ℕ)
-        → IsStep step (value_at_size size (held_from values.now start slot))
+        → IsStep step (value_at_size size (held_from values.now start holding))
         (value_with size (model_form Form.Vector) text.now)) }
 {
     let share = part_of(values, start, end)?;
-    match slot.state {
-        State::Plain => plain_step(share.get(..slot.len)?, text),
-        State::Digits => packed_step(share, slot.len, text),
+    match holding.state {
+        State::Plain => plain_step(share.get(..holding.len)?, text),
+        State::Digits => packed_step(share, holding.len, text),
         _ => None,
     }
 }
@@ -107,7 +107,8 @@ pub(crate) fn change_at(
     }
     let start = shares[code].start;
     let end = end_of(shares, values.len(), code);
-    let Some(step) = step_told(values, slots[code], start, end, text) else {
+    let held = holding_of(slots[code], shares[code]);
+    let Some(step) = step_told(values, held, start, end, text) else {
         return false;
     };
     set_digits_in(slots, shares, values, code, end, text);

@@ -1,17 +1,18 @@
 //! What is kept of a code.
-ghost use Rattle.std.specs.Prelude.{◌≡◌, cond};
+ghost use Rattle.std.specs.Prelude.{◌≡◌, ◌≢◌, ◌⊎◌, ◌==◌, cond, true, false};
 ghost use Rattle.vcd_body.specs.Packed.{held_digit};
-ghost use Rattle.vcd_body.specs.Stored.{IsUncounted, IsUnset, one_digit, share_from};
+ghost use Rattle.vcd_body.specs.Stored.{IsUncounted, IsUnset, holding_of, number_of, one_digit, share_from, state_in};
 
 /// How the value of a code is held. Each digit has a state of its own, so that a value of one digit is in the slot alone.
+// In the order of the numbers that tell them, so that none has to be looked up.
 #[derive(Clone, Copy, PartialEq, Eq, Debug)]
 pub(crate) enum State {
     /// It has no value.
     Unset,
-    /// By the digit 0.
-    Zero,
     /// By the digit 1.
     One,
+    /// By the digit 0.
+    Zero,
     /// By the digit x.
     Unknown,
     /// By the digit z.
@@ -20,32 +21,44 @@ pub(crate) enum State {
     Plain,
     /// By several digits, packed four to a byte, where it has not.
     Digits,
-    /// By up to 32 binary digits, as their number beside how many they are, in the slot alone.
-    Bits,
     /// By the text of a real number, in its share of the values.
     Real,
+    /// By up to 32 binary digits, as their number beside how many they are, in the slot alone.
+    Bits,
 }
 
-/// What a change of a code looks at: how its value is held, and the value itself where it is short. It stands apart from what
-/// few changes look at, so that as many slots as can be lie in the first caches.
+/// What a change of a code looks at: its value where it is short, and how it is held. It stands apart from what few changes look at, and
+/// takes 8 bytes, so that as many slots as can be lie in the first caches.
 #[derive(Clone, Copy, PartialEq, Eq, Debug)]
 pub struct Slot {
-    // How many digits, or bytes of a text, are held in the share; or binary digits, as `bits` packs them.
-    pub(crate) len: usize,
-    pub(crate) state: State,
-    pub(crate) chosen: bool,
-    // The lowest 16 bits of each counter, so that most steps are counted here.
-    pub(crate) low: [u16; 3],
+    // The number of binary digits; else the lowest 32 bits of how many digits, or bytes of a text, are held in the share.
+    pub(crate) number: u32,
+    // The number of the state that holds the value; and from 8 on, by how many binary digits it is above 8.
+    pub(crate) how: u8,
+    // The lowest 8 bits of each counter, so that most steps are counted here.
+    pub(crate) low: [u8; 3],
 }
 
-/// What else is kept of a code: its share of the bytes of values, and the upper parts of its counters.
+/// What else is kept of a code: its share of the bytes of values, the upper parts of its counters, and whether it is chosen.
 #[derive(Clone, Copy, PartialEq, Eq, Debug)]
 pub struct Share {
     // Where the share begins. It ends where the next one begins.
     pub(crate) start: usize,
-    // Above the lowest 16 bits of each counter these 32, and above them 16.
+    // How many digits, or bytes of a text, are held in it, above the lowest 32 bits.
+    pub(crate) upper: u32,
+    // Above the lowest 8 bits of each counter these 32, above them 16, and above them 8.
     pub(crate) middle: [u32; 3],
     pub(crate) high: [u16; 3],
+    pub(crate) top: [u8; 3],
+    pub(crate) chosen: bool,
+}
+
+/// How a value is held, as its slot and its share tell.
+#[derive(Clone, Copy, PartialEq, Eq, Debug)]
+pub(crate) struct Holding {
+    pub(crate) state: State,
+    /// How many digits, or bytes of a text, are held in the share; or binary digits, as `bits` packs them.
+    pub(crate) len: usize,
 }
 
 /// What the value of a code is.
@@ -60,21 +73,20 @@ pub enum Shown {
 }
 
 impl Slot {
-    /// The code has no value, and is not chosen.
+    /// The code has no value.
     pub fn new() -> Slot
         ensures { IsUnset result }
     {
         Slot {
-            len: 0,
-            state: State::Unset,
-            chosen: false,
+            number: 0,
+            how: number_of(State::Unset),
             low: [0; 3],
         }
     }
 }
 
 impl Share {
-    /// Nothing was counted of the code.
+    /// Nothing was counted of the code, and it is not chosen.
     pub fn new() -> Share
         ensures { IsUncounted result }
     {
@@ -87,33 +99,111 @@ impl Share {
     {
         Share {
             start,
+            upper: 0,
             middle: [0; 3],
             high: [0; 3],
+            top: [0; 3],
+            chosen: false,
         }
     }
 }
 
-/// The state that holds one digit. Most are 0 or 1: between these it takes no branches.
+/// The number that tells a state in a slot.
 #[inline(always)]
-pub(crate) fn state_of(digit: u8) -> State
-    ensures { one_digit result ≡ Some (held_digit digit) }
+pub(crate) fn number_of(state: State) -> u8
+    ensures { result ≡ number_of state }
 {
-    if digit == b'0' || digit == b'1' {
-        return bit_state(digit == b'1');
-    }
-    if digit == b'x' || digit == b'X' {
-        State::Unknown
-    } else {
-        State::High
+    match state {
+        State::Unset => 0,
+        State::One => 1,
+        State::Zero => 2,
+        State::Unknown => 3,
+        State::High => 4,
+        State::Plain => 5,
+        State::Digits => 6,
+        State::Real => 7,
+        State::Bits => 8,
     }
 }
 
-/// The state that holds the digit 1 or 0.
+/// Whether a digit is 0 or 1.
 #[inline(always)]
-pub(crate) fn bit_state(one: bool) -> State
-    ensures { result ≡ cond one State.One State.Zero }
+pub(crate) fn is_bit(digit: u8) -> bool
+    ensures yes { result ≡ true → (digit ≡ 48) ⊎ (digit ≡ 49) }
+    ensures no { result ≡ false → (digit ≢ 48) × (digit ≢ 49) }
 {
-    if one { State::One } else { State::Zero }
+    digit.wrapping_sub(b'0') < 2
+}
+
+/// The number that tells the state of the digit 1 or 0: as well the place of the counter of rises or of falls, the steps to that digit.
+/// It takes no branches.
+#[inline(always)]
+pub(crate) fn number_of_bit(digit: u8) -> u8
+    requires { (digit ≡ 48) ⊎ (digit ≡ 49) }
+    ensures state { result ≡ number_of (cond (digit == 49) State.One State.Zero) }
+    ensures counter { result ≡ cond (digit == 49) 1 2 }
+{
+    b'2' - digit
+}
+
+/// The state that a number tells.
+#[inline(always)]
+pub(crate) fn state_in(how: u8) -> State
+    ensures { result ≡ state_in how }
+{
+    match how {
+        0 => State::Unset,
+        1 => State::One,
+        2 => State::Zero,
+        3 => State::Unknown,
+        4 => State::High,
+        5 => State::Plain,
+        6 => State::Digits,
+        7 => State::Real,
+        _ => State::Bits,
+    }
+}
+
+/// How the value of a code is held that has this slot and this share.
+#[inline(always)]
+pub(crate) fn holding_of(slot: Slot, share: Share) -> Holding
+    ensures { result ≡ holding_of slot share }
+{
+    let upper = if slot.how >= 8 {
+        u32::from(slot.how - 8)
+    } else {
+        share.upper
+    };
+    Holding {
+        state: state_in(slot.how),
+        len: upper as usize * 4_294_967_296 + slot.number as usize,
+    }
+}
+
+/// The number of the state that holds a digit. Most are 0 or 1: between these it takes no branches.
+#[inline(always)]
+pub(crate) fn number_of_digit(digit: u8) -> u8
+    ensures { one_digit (state_in result) ≡ Some (held_digit digit) }
+{
+    if is_bit(digit) {
+        return number_of_bit(digit);
+    }
+    number_of_other(digit)
+}
+
+/// The same of a digit that is neither 0 nor 1.
+// Out of line, so that it is no work for the digits that most are.
+#[cold]
+#[inline(never)]
+fn number_of_other(digit: u8) -> u8
+    requires { (digit ≢ 48) × (digit ≢ 49) }
+    ensures { one_digit (state_in result) ≡ Some (held_digit digit) }
+{
+    if digit == b'x' || digit == b'X' {
+        number_of(State::Unknown)
+    } else {
+        number_of(State::High)
+    }
 }
 
 /// The digit of a state that holds one.

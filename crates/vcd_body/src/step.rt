@@ -4,10 +4,10 @@ ghost use Rattle.std.specs.Char.{to_ascii_lowercase as lower};
 ghost use Rattle.vcd_model.specs.Values.{value_with};
 ghost use Rattle.vcd_body.specs.Items.{model_form};
 ghost use Rattle.vcd_body.specs.Kept.{goes_from, is_digit, last_digit_in};
-ghost use Rattle.vcd_body.specs.Stored.{one_digit};
+ghost use Rattle.vcd_body.specs.Stored.{number_of, one_digit};
 
 use crate::item::Form;
-use crate::slot::State;
+use crate::slot::{State, is_bit, number_of};
 
 /// What became of a value that was set.
 #[derive(Clone, Copy, PartialEq, Eq, Debug)]
@@ -83,13 +83,13 @@ fn holds_one(state: State) -> bool
     }
 }
 
-/// Whether a state holds 0 or 1, and a digit is one of them.
+/// Whether the state that a number tells holds 0 or 1, and a digit is one of them.
 #[inline(always)]
-pub(crate) fn is_bit_step(state: State, digit: u8) -> bool
-    ensures state { result ≡ true → (state ≡ State.Zero) ⊎ (state ≡ State.One) }
+pub(crate) fn is_bit_step(how: u8, digit: u8) -> bool
+    ensures how { result ≡ true → (how ≡ number_of State.Zero) ⊎ (how ≡ number_of State.One) }
     ensures digit { result ≡ true → (digit ≡ 48) ⊎ (digit ≡ 49) }
 {
-    ((state == State::Zero) | (state == State::One)) && ((digit == b'0') | (digit == b'1'))
+    ((how == number_of(State::Zero)) | (how == number_of(State::One))) && is_bit(digit)
 }
 
 /// The digit of a state that holds one. It takes no branches.
@@ -154,11 +154,11 @@ pub(crate) fn step_by_number(before: usize, after: usize) -> Step
     ensures falls { result.falls
         ≡ goes_from 49 48 (Some (48 + before % 2)) (Some (48 + after % 2)) }
 {
-    let first = Some(b'0' + (before % 2) as u8);
-    let last = Some(b'0' + (after % 2) as u8);
+    let first = before % 2;
+    let last = after % 2;
     Step {
         differs: before != after,
-        rises: goes(b'0', b'1', first, last),
-        falls: goes(b'1', b'0', first, last),
+        rises: first < last,
+        falls: last < first,
     }
 }

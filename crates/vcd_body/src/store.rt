@@ -1,25 +1,30 @@
 // What is kept of each code, in lent slices: a slot, and a share of the values.
-ghost use Rattle.std.specs.Prelude.{◌≡◌, ◌≢◌, ◌⊎◌, ℕ, cond, max, not, ◌+◌, ◌-◌, ◌*◌, ◌<◌, ◌≤◌, ◌∷◌, [], List, true, false, length, take, drop, map, sum_by, IfSome, None, Some, slice_get, slice_index};
+ghost use Rattle.std.specs.Prelude.{◌≡◌, ◌≢◌, ◌⊎◌, ◌==◌, ℕ, cond, max, not, ◌+◌, ◌-◌, ◌*◌, ◌<◌, ◌≤◌, ◌∷◌, [], List, true, false, length, take, drop, map, sum_by, IfSome, None, Some, slice_get, slice_index, Bool};
 ghost use Rattle.vcd_view.specs.declared.view.Code.{Code};
-ghost use Rattle.vcd_body.specs.Binary.{count_in, is_proper};
+ghost use Rattle.vcd_body.specs.Binary.{is_proper};
 ghost use Rattle.vcd_body.specs.Kept.{Held, as_chosen, one_more, with_change, with_held, with_number, with_number_change, with_step, with_text};
 ghost use Rattle.vcd_body.specs.Packed.{held_digit};
-ghost use Rattle.vcd_body.specs.Stored.{AreLaidOut, ChangesAt, IsUnset, end_at, held_by, kept_with, share_from, share_of, some_by, start_in, start_of, used, used_by, whole};
+ghost use Rattle.vcd_body.specs.Stored.{AreLaidOut, ChangesAt, IsUnset, end_at, held_by, holding_at, one_digit, set_whole, share_from, share_of, some_by, start_in, start_of, state_in, used, used_by, whole};
 
-use crate::bits::{Bits, is_number_step, is_proper, number_in, packed};
-use crate::counters::{count_one, count_step, count_turn};
+use crate::bits::{Bits, held_bits, is_number_step, is_proper, number_in};
+use crate::counters::{carry_step, count_one, step_low, turn_low};
 use crate::item::Form;
 use crate::packed::pack;
-use crate::slot::{Share, Slot, State, bit_state, state_of};
+use crate::slot::{
+    Holding, Share, Slot, State, holding_of, number_of, number_of_bit, number_of_digit,
+};
 use crate::step::{is_bit_step, step_by_number};
 use vcd_view::Code;
 
-/// The slot of the code at a place.
+/// How the value of the code at a place is held.
 #[inline(always)]
-pub(crate) fn slot_at(slots: &[Slot], code: usize) -> Option<Slot>
-    ensures { result ≡ slice_get slots.now code }
+pub(crate) fn holding_at(slots: &[Slot], shares: &[Share], code: usize) -> Option<Holding>
+    ensures { result ≡ holding_at slots.now shares.now code }
 {
-    slots.get(code).copied()
+    if code >= slots.len() || code >= shares.len() {
+        return None;
+    }
+    Some(holding_of(slots[code], shares[code]))
 }
 
 /// Where the share of the code at a place ends.
@@ -36,15 +41,15 @@ pub(crate) fn end_of(shares: &[Share], values: usize, code: usize) -> usize
 
 /// How many bytes of its share are in use.
 #[inline(always)]
-fn used_by(slot: Slot) -> usize
-    ensures { result ≡ used slot }
+fn used_by(holding: Holding) -> usize
+    ensures { result ≡ used holding }
 {
-    if slot.state == State::Plain {
-        return slot.len;
+    if holding.state == State::Plain {
+        return holding.len;
     }
-    match slot.state {
-        State::Digits => slot.len.div_ceil(4),
-        State::Plain | State::Real => slot.len,
+    match holding.state {
+        State::Digits => holding.len.div_ceil(4),
+        State::Plain | State::Real => holding.len,
         State::Bits => 0,
         State::Unset | State::Zero | State::One | State::Unknown | State::High => 0,
     }
@@ -52,45 +57,59 @@ fn used_by(slot: Slot) -> usize
 
 /// Whether digits are some where several are held.
 #[inline(always)]
-fn holds_some(slot: Slot) -> bool
-    ensures yes { result ≡ true → 1 ≤ some_by slot.state slot.len }
-    ensures no { result ≡ false → some_by slot.state slot.len ≡ 0 }
+fn holds_some(holding: Holding) -> bool
+    ensures yes { result ≡ true → 1 ≤ some_by holding.state holding.len }
+    ensures no { result ≡ false → some_by holding.state holding.len ≡ 0 }
 {
-    match slot.state {
-        State::Plain | State::Digits => slot.len > 0,
-        State::Bits => is_proper(slot.len),
+    match holding.state {
+        State::Plain | State::Digits => holding.len > 0,
+        State::Bits => is_proper(holding.len),
         State::Unset | State::Zero | State::One | State::Unknown | State::High | State::Real =>
             true,
     }
 }
 
-/// The bytes that are in use of the share of the code that has this slot. None where there is no share, where they would not lie
-/// within the values, or where the slot says that several digits are held, and how many is 0. No code of a table that is laid out
+/// The bytes that are in use of the share of the code whose value is held so. None where there is no share, where they would not lie
+/// within the values, or where the holding says that several digits are held, and how many is 0. No code of a table that is laid out
 /// is so.
 #[inline(always)]
 pub(crate) fn share_in<'a>(
     values: &'a [u8],
     shares: &[Share],
     code: usize,
-    slot: Slot,
+    holding: Holding,
 ) -> Option<&'a [u8]>
     ensures share { IfSome result
-        (λ share. share.now ≡ take (used slot) (drop (start_in shares.now code) values.now)) }
-    ensures used { IfSome result (λ share. used slot ≤ length share.now) }
-    ensures some { IfSome result (λ _. 1 ≤ some_by slot.state slot.len) }
+        (λ share. share.now ≡ take (used holding) (drop (start_in shares.now code) values.now)) }
+    ensures used { IfSome result (λ share. used holding ≤ length share.now) }
+    ensures some { IfSome result (λ _. 1 ≤ some_by holding.state holding.len) }
     ensures there { code < length shares.now
-        → start_in shares.now code + used slot ≤ length values.now
-        → 1 ≤ some_by slot.state slot.len → result ≢ None }
+        → start_in shares.now code + used holding ≤ length values.now
+        → 1 ≤ some_by holding.state holding.len → result ≢ None }
 {
-    if code >= shares.len() || !holds_some(slot) {
+    if code >= shares.len() || !holds_some(holding) {
         return None;
     }
     let start = shares[code].start;
-    let end = start.checked_add(used_by(slot))?;
+    let end = start.checked_add(used_by(holding))?;
     values.get(start..end)
 }
 
-/// Sets the value of a code to one digit. Its share is left alone, and need not be looked at.
+/// Sets the value of a code to the one digit that a state holds, by its number. Its share is left alone, and need not be looked at.
+#[inline(always)]
+fn set_how(slots: &mut [Slot], code: usize, how: u8)
+    ensures changes { (d : ℕ) → one_digit (state_in how) ≡ Some d → (shares : List Share)
+        (values : List ℕ) → ChangesAt code (with_held (Held.Digits (d ∷ []))) values slots.old shares
+        values slots.new shares }
+    ensures laid { (d : ℕ) → one_digit (state_in how) ≡ Some d → (shares : List Share) (n : ℕ)
+        → AreLaidOut slots.old shares n → AreLaidOut slots.new shares n }
+{
+    if code < slots.len() {
+        slots[code].how = how;
+    }
+}
+
+/// Sets the value of a code to one digit.
 #[inline(always)]
 fn set_digit(slots: &mut [Slot], code: usize, digit: u8)
     ensures changes { (shares : List Share) (values : List ℕ)
@@ -100,7 +119,7 @@ fn set_digit(slots: &mut [Slot], code: usize, digit: u8)
         → AreLaidOut slots.new shares n }
 {
     if code < slots.len() {
-        slots[code].state = state_of(digit);
+        set_how(slots, code, number_of_digit(digit));
     }
 }
 
@@ -112,6 +131,7 @@ fn hold(share: &mut [u8], text: &[u8]) -> State
         ≡ Held.Digits (map held_digit text.now) }
     ensures used { used_by result (length text.now) ≤ length share.old }
     ensures some { some_by result (length text.now) ≡ length text.now }
+    ensures text { result ≢ State.Bits }
 {
     if text.len() <= share.len() {
         copy_front(share, text);
@@ -122,11 +142,22 @@ fn hold(share: &mut [u8], text: &[u8]) -> State
     }
 }
 
+/// Tells in a slot and its share by which state so many digits, or bytes of a text, are held.
+#[inline(always)]
+fn hold_text(slot: &mut Slot, share: &mut Share, state: State, len: usize)
+    requires text { state ≢ State.Bits }
+    ensures { whole slot.new share.new ≡ set_whole state len (whole slot.old share.old) }
+{
+    slot.how = number_of(state);
+    slot.number = (len % 4_294_967_296) as u32;
+    share.upper = (len / 4_294_967_296) as u32;
+}
+
 /// Sets the value of a code to digits, where they fit its share, which ends here.
 #[inline(always)]
 pub(crate) fn set_digits_in(
     slots: &mut [Slot],
-    shares: &[Share],
+    shares: &mut [Share],
     values: &mut [u8],
     code: usize,
     end: usize,
@@ -134,13 +165,13 @@ pub(crate) fn set_digits_in(
 )
     requires several { length text.now ≢ 1 }
     requires within { code < length slots.old }
-    requires shared { code < length shares.now }
-    requires end { end ≡ end_at shares.now (length values.old) code }
-    ensures changes { AreLaidOut slots.old shares.now (length values.old)
-        → ChangesAt code (with_text Form.Vector text.now) values.old slots.old shares.now
-        values.new slots.new shares.now }
-    ensures laid { AreLaidOut slots.old shares.now (length values.old)
-        → AreLaidOut slots.new shares.now (length values.old) }
+    requires shared { code < length shares.old }
+    requires end { end ≡ end_at shares.old (length values.old) code }
+    ensures changes { AreLaidOut slots.old shares.old (length values.old)
+        → ChangesAt code (with_text Form.Vector text.now) values.old slots.old shares.old
+        values.new slots.new shares.new }
+    ensures laid { AreLaidOut slots.old shares.old (length values.old)
+        → AreLaidOut slots.new shares.new (length values.old) }
 {
     let start = shares[code].start;
     if end < start || values.len() < end {
@@ -150,20 +181,18 @@ pub(crate) fn set_digits_in(
         return;
     }
     let state = hold(&mut values[start..end], text);
-    let slot = &mut slots[code];
-    slot.state = state;
-    slot.len = text.len();
+    hold_text(&mut slots[code], &mut shares[code], state, text.len());
 }
 
 /// The same, wherever its share ends.
 #[inline(never)]
-fn set_digits(slots: &mut [Slot], shares: &[Share], values: &mut [u8], code: usize, text: &[u8])
+fn set_digits(slots: &mut [Slot], shares: &mut [Share], values: &mut [u8], code: usize, text: &[u8])
     requires several { length text.now ≢ 1 }
-    ensures changes { AreLaidOut slots.old shares.now (length values.old)
-        → ChangesAt code (with_text Form.Vector text.now) values.old slots.old shares.now
-        values.new slots.new shares.now }
-    ensures laid { AreLaidOut slots.old shares.now (length values.old)
-        → AreLaidOut slots.new shares.now (length values.old) }
+    ensures changes { AreLaidOut slots.old shares.old (length values.old)
+        → ChangesAt code (with_text Form.Vector text.now) values.old slots.old shares.old
+        values.new slots.new shares.new }
+    ensures laid { AreLaidOut slots.old shares.old (length values.old)
+        → AreLaidOut slots.new shares.new (length values.old) }
 {
     if code < slots.len() && code < shares.len() {
         let end = end_of(shares, values.len(), code);
@@ -172,12 +201,12 @@ fn set_digits(slots: &mut [Slot], shares: &[Share], values: &mut [u8], code: usi
 }
 
 /// Sets the value of a code to the text of a real number, where it fits its share.
-fn set_real(slots: &mut [Slot], shares: &[Share], values: &mut [u8], code: usize, text: &[u8])
-    ensures changes { AreLaidOut slots.old shares.now (length values.old)
-        → ChangesAt code (with_text Form.RealText text.now) values.old slots.old shares.now
-        values.new slots.new shares.now }
-    ensures laid { AreLaidOut slots.old shares.now (length values.old)
-        → AreLaidOut slots.new shares.now (length values.old) }
+fn set_real(slots: &mut [Slot], shares: &mut [Share], values: &mut [u8], code: usize, text: &[u8])
+    ensures changes { AreLaidOut slots.old shares.old (length values.old)
+        → ChangesAt code (with_text Form.RealText text.now) values.old slots.old shares.old
+        values.new slots.new shares.new }
+    ensures laid { AreLaidOut slots.old shares.old (length values.old)
+        → AreLaidOut slots.new shares.new (length values.old) }
 {
     if code >= slots.len() || code >= shares.len() {
         return;
@@ -191,9 +220,7 @@ fn set_real(slots: &mut [Slot], shares: &[Share], values: &mut [u8], code: usize
         return;
     }
     copy_front(&mut values[start..end], text);
-    let slot = &mut slots[code];
-    slot.state = State::Real;
-    slot.len = text.len();
+    hold_text(&mut slots[code], &mut shares[code], State::Real, text.len());
 }
 
 /// Copies bytes to the front.
@@ -206,12 +233,12 @@ fn copy_front(to: &mut [u8], from: &[u8])
 
 /// Sets the value of a code to digits. Most changes are of one digit, and touch one slot alone.
 #[inline(always)]
-fn set_text(slots: &mut [Slot], shares: &[Share], values: &mut [u8], code: usize, text: &[u8])
-    ensures changes { AreLaidOut slots.old shares.now (length values.old)
-        → ChangesAt code (with_text Form.Vector text.now) values.old slots.old shares.now
-        values.new slots.new shares.now }
-    ensures laid { AreLaidOut slots.old shares.now (length values.old)
-        → AreLaidOut slots.new shares.now (length values.old) }
+fn set_text(slots: &mut [Slot], shares: &mut [Share], values: &mut [u8], code: usize, text: &[u8])
+    ensures changes { AreLaidOut slots.old shares.old (length values.old)
+        → ChangesAt code (with_text Form.Vector text.now) values.old slots.old shares.old
+        values.new slots.new shares.new }
+    ensures laid { AreLaidOut slots.old shares.old (length values.old)
+        → AreLaidOut slots.new shares.new (length values.old) }
 {
     match text {
         [digit] => set_digit(slots, code, *digit),
@@ -223,17 +250,17 @@ fn set_text(slots: &mut [Slot], shares: &[Share], values: &mut [u8], code: usize
 #[inline(always)]
 pub(crate) fn set_at(
     slots: &mut [Slot],
-    shares: &[Share],
+    shares: &mut [Share],
     values: &mut [u8],
     code: usize,
     form: Form,
     text: &[u8],
 )
-    ensures changes { AreLaidOut slots.old shares.now (length values.old)
-        → ChangesAt code (with_text form text.now) values.old slots.old shares.now
-        values.new slots.new shares.now }
-    ensures laid { AreLaidOut slots.old shares.now (length values.old)
-        → AreLaidOut slots.new shares.now (length values.old) }
+    ensures changes { AreLaidOut slots.old shares.old (length values.old)
+        → ChangesAt code (with_text form text.now) values.old slots.old shares.old
+        values.new slots.new shares.new }
+    ensures laid { AreLaidOut slots.old shares.old (length values.old)
+        → AreLaidOut slots.new shares.new (length values.old) }
 {
     match form {
         Form::RealText => set_real(slots, shares, values, code, text),
@@ -252,9 +279,10 @@ pub(crate) fn set_bits(slots: &mut [Slot], code: usize, bits: Bits)
         → AreLaidOut slots.new shares n }
 {
     if code < slots.len() {
+        let (number, how) = held_bits(bits);
         let slot = &mut slots[code];
-        slot.state = State::Bits;
-        slot.len = packed(bits);
+        slot.number = number;
+        slot.how = how;
     }
 }
 
@@ -270,12 +298,19 @@ pub(crate) fn bump_at(slots: &mut [Slot], shares: &mut [Share], code: usize, whi
     }
     let slot = &mut slots[code];
     let share = &mut shares[code];
-    count_one(&mut slot.low, &mut share.middle, &mut share.high, which);
+    count_one(
+        &mut slot.low,
+        &mut share.middle,
+        &mut share.high,
+        &mut share.top,
+        which,
+    );
 }
 
-/// Adds one to the first counter of a code, and to the others where the tests hold. A full one stays.
-#[inline(always)]
-pub(crate) fn count_at(
+/// Adds one to the first counter of a code, and to the others where the tests hold, whatever is in the slot.
+#[cold]
+#[inline(never)]
+pub(crate) fn carry_at(
     slots: &mut [Slot],
     shares: &mut [Share],
     code: usize,
@@ -291,114 +326,152 @@ pub(crate) fn count_at(
     }
     let slot = &mut slots[code];
     let share = &mut shares[code];
-    count_step(
+    carry_step(
         &mut slot.low,
         &mut share.middle,
         &mut share.high,
+        &mut share.top,
         rises,
         falls,
     );
 }
 
-/// Sets a slot to the digit 1 or 0 over such a digit, and counts the step.
+/// Adds one to the first counter of a code, and to the others where the tests hold, where its slot has room for that. Returns whether it
+/// has; else nothing changes.
 #[inline(always)]
-fn turn_slot(slot: &mut Slot, share: &mut Share, one: bool)
-    requires { (slot.old.state ≡ State.Zero) ⊎ (slot.old.state ≡ State.One) }
-    ensures kept { (form : Form) → form ≢ Form.RealText → (size end : ℕ) (values : List ℕ)
-        → kept_with values end (whole slot.new share.new)
-        ≡ with_change size form (cond one 49 48 ∷ [])
-        (kept_with values end (whole slot.old share.old)) }
-    ensures start { share.new.start ≡ share.old.start }
-    ensures used { used slot.new ≡ 0 }
-    ensures some { some_by slot.new.state slot.new.len ≡ 1 }
+fn count_in_slot(slots: &mut [Slot], code: usize, rises: bool, falls: bool) -> bool
+    ensures counts { result ≡ true → (shares : List Share) (values : List ℕ)
+        → ChangesAt code (with_step rises falls) values slots.old shares values slots.new shares }
+    ensures same { result ≡ false → slots.new ≡ slots.old }
+    ensures laid { (shares : List Share) (n : ℕ) → AreLaidOut slots.old shares n
+        → AreLaidOut slots.new shares n }
 {
-    let before = slot.state;
-    let after = bit_state(one);
-    slot.state = after;
-    if before != after {
-        count_turn(&mut slot.low, &mut share.middle, &mut share.high, one);
-    }
-}
-
-/// Sets the value of a code to the digit 0 or 1 over such a digit, and counts the step. Returns whether it was one; else nothing
-/// changes. Most changes are of this kind, and touch one slot alone.
-#[inline(always)]
-pub(crate) fn turn_at(slots: &mut [Slot], shares: &mut [Share], code: usize, digit: u8) -> bool
-    ensures changes { result ≡ true → (form : Form) → form ≢ Form.RealText → (size : ℕ)
-        (values : List ℕ) → ChangesAt code (with_change size form (digit ∷ [])) values slots.old
-        shares.old values slots.new shares.new }
-    ensures same { result ≡ false → (slots.new ≡ slots.old) × (shares.new ≡ shares.old) }
-    ensures laid { (n : ℕ) → AreLaidOut slots.old shares.old n
-        → AreLaidOut slots.new shares.new n }
-{
-    if code >= slots.len() || code >= shares.len() || !is_bit_step(slots[code].state, digit) {
+    if code >= slots.len() {
         return false;
     }
-    turn_slot(&mut slots[code], &mut shares[code], digit == b'1');
-    true
+    step_low(&mut slots[code].low, rises, falls)
 }
 
-/// Sets a slot of binary digits to others that make a value of as many at this size, and counts the step.
+/// Adds one to the first counter of a code, and to that of rises or of falls, the steps to the digit 1 or 0, as `count_in_slot` does.
 #[inline(always)]
-fn step_slot(slot: &mut Slot, share: &mut Share, size: usize, bits: Bits)
-    requires state { slot.old.state ≡ State.Bits }
-    requires long { max size (count_in slot.old.len) ≡ max size bits.len }
-    ensures kept { (end : ℕ) (values : List ℕ) → is_proper slot.old.len ≡ true
-        → kept_with values end (whole slot.new share.new)
-        ≡ with_number_change size bits.len bits.number
-        (kept_with values end (whole slot.old share.old)) }
-    ensures start { share.new.start ≡ share.old.start }
-    ensures used { used slot.new ≡ 0 }
-    ensures some { 1 ≤ some_by slot.new.state slot.new.len }
+fn count_turn_in(slots: &mut [Slot], code: usize, digit: u8) -> bool
+    requires { (digit ≡ 48) ⊎ (digit ≡ 49) }
+    ensures counts { result ≡ true → (shares : List Share) (values : List ℕ)
+        → ChangesAt code (with_step (digit == 49) (not (digit == 49))) values slots.old shares values
+        slots.new shares }
+    ensures same { result ≡ false → slots.new ≡ slots.old }
+    ensures laid { (shares : List Share) (n : ℕ) → AreLaidOut slots.old shares n
+        → AreLaidOut slots.new shares n }
 {
-    let step = step_by_number(number_in(slot.len), bits.number);
-    slot.len = packed(bits);
-    if step.differs {
-        count_step(
-            &mut slot.low,
-            &mut share.middle,
-            &mut share.high,
-            step.rises,
-            step.falls,
-        );
+    if code >= slots.len() {
+        return false;
+    }
+    turn_low(&mut slots[code].low, digit)
+}
+
+/// Adds one to the first counter of a code, and to the others where the tests hold. A full one stays. Most steps touch the slot alone.
+#[inline(always)]
+pub(crate) fn count_at(
+    slots: &mut [Slot],
+    shares: &mut [Share],
+    code: usize,
+    rises: bool,
+    falls: bool,
+)
+    ensures changes { (values : List ℕ) → ChangesAt code (with_step rises falls) values slots.old
+        shares.old values slots.new shares.new }
+    ensures laid { (n : ℕ) → AreLaidOut slots.old shares.old n → AreLaidOut slots.new shares.new n }
+{
+    if !count_in_slot(slots, code, rises, falls) {
+        carry_at(slots, shares, code, rises, falls);
+    }
+}
+
+/// What became of a change that its slot may tell alone.
+#[derive(Clone, Copy, PartialEq, Eq, Debug)]
+pub(crate) enum Told {
+    /// It is none of these, and nothing changed.
+    Not,
+    /// The value was set, and its step was counted where it differs.
+    All,
+    /// The value was set. Its step, which rises or falls where a test holds, is left to count, since the slot has no room for it.
+    But { rises: bool, falls: bool },
+}
+
+/// Sets the value of a code to the digit 0 or 1 over such a digit, and counts the step. Most changes are of this kind, and touch one
+/// slot alone.
+#[inline(always)]
+pub(crate) fn turn_at(slots: &mut [Slot], code: usize, digit: u8) -> Told
+    ensures all { result ≡ Told.All → (form : Form) → form ≢ Form.RealText → (size : ℕ)
+        (shares : List Share) (values : List ℕ) → ChangesAt code (with_change size form (digit ∷ []))
+        values slots.old shares values slots.new shares }
+    ensures but { (rises falls : Bool) → result ≡ Told.But rises falls → (form : Form)
+        → form ≢ Form.RealText → (size : ℕ) (shares : List Share) (values after : List ℕ)
+        (counted : List Slot) (with : List Share)
+        → ChangesAt code (with_step rises falls) values slots.new shares after counted with
+        → ChangesAt code (with_change size form (digit ∷ [])) values slots.old shares after counted
+        with }
+    ensures same { result ≡ Told.Not → slots.new ≡ slots.old }
+    ensures laid { (shares : List Share) (n : ℕ) → AreLaidOut slots.old shares n
+        → AreLaidOut slots.new shares n }
+{
+    if code >= slots.len() || !is_bit_step(slots[code].how, digit) {
+        return Told::Not;
+    }
+    let how = number_of_bit(digit);
+    let turns = slots[code].how != how;
+    set_how(slots, code, how);
+    if !turns || count_turn_in(slots, code, digit) {
+        return Told::All;
+    }
+    Told::But {
+        rises: digit == b'1',
+        falls: digit != b'1',
     }
 }
 
 /// Sets the value of a code to binary digits over such digits, where they make values of as many at this size, and counts the
-/// step. Returns whether it did; else nothing changes.
+/// step.
 #[inline(always)]
-pub(crate) fn step_at(
-    slots: &mut [Slot],
-    shares: &mut [Share],
-    code: usize,
-    size: usize,
-    bits: Bits,
-) -> bool
-    ensures changes { result ≡ true → (values : List ℕ)
-        → AreLaidOut slots.old shares.old (length values)
+pub(crate) fn step_at(slots: &mut [Slot], code: usize, size: usize, bits: Bits) -> Told
+    ensures all { result ≡ Told.All → (shares : List Share) (values : List ℕ)
+        → AreLaidOut slots.old shares (length values)
         → ChangesAt code (with_number_change size bits.len bits.number)
-        values slots.old shares.old values slots.new shares.new }
-    ensures same { result ≡ false → (slots.new ≡ slots.old) × (shares.new ≡ shares.old) }
-    ensures laid { (n : ℕ) → AreLaidOut slots.old shares.old n
-        → AreLaidOut slots.new shares.new n }
+        values slots.old shares values slots.new shares }
+    ensures but { (rises falls : Bool) → result ≡ Told.But rises falls → (shares : List Share)
+        (values after : List ℕ) → AreLaidOut slots.old shares (length values)
+        → (counted : List Slot) (with : List Share)
+        → ChangesAt code (with_step rises falls) values slots.new shares after counted with
+        → ChangesAt code (with_number_change size bits.len bits.number)
+        values slots.old shares after counted with }
+    ensures same { result ≡ Told.Not → slots.new ≡ slots.old }
+    ensures laid { (shares : List Share) (n : ℕ) → AreLaidOut slots.old shares n
+        → AreLaidOut slots.new shares n }
 {
-    if code >= slots.len() || code >= shares.len() || !is_number_step(slots[code], size, bits) {
-        return false;
+    if code >= slots.len() || !is_number_step(&slots[code], size, bits) {
+        return Told::Not;
     }
-    step_slot(&mut slots[code], &mut shares[code], size, bits);
-    true
+    let step = step_by_number(number_in(slots[code].number as usize), bits.number);
+    set_bits(slots, code, bits);
+    if !step.differs || count_in_slot(slots, code, step.rises, step.falls) {
+        return Told::All;
+    }
+    Told::But {
+        rises: step.rises,
+        falls: step.falls,
+    }
 }
 
 /// Chooses a code.
 #[inline(always)]
-pub(crate) fn choose_at(slots: &mut [Slot], code: usize)
-    ensures changes { (shares : List Share) (values : List ℕ)
-        → ChangesAt code as_chosen values slots.old shares values slots.new shares }
-    ensures laid { (shares : List Share) (n : ℕ) → AreLaidOut slots.old shares n
-        → AreLaidOut slots.new shares n }
+pub(crate) fn choose_at(shares: &mut [Share], code: usize)
+    ensures changes { (slots : List Slot) (values : List ℕ)
+        → ChangesAt code as_chosen values slots shares.old values slots shares.new }
+    ensures laid { (slots : List Slot) (n : ℕ) → AreLaidOut slots shares.old n
+        → AreLaidOut slots shares.new n }
 {
-    if code < slots.len() {
-        slots[code].chosen = true;
+    if code < shares.len() {
+        shares[code].chosen = true;
     }
 }
 

@@ -13,10 +13,11 @@ use crate::held::{digit_shown, last_held};
 use crate::held_text::{put_value, put_value_line};
 use crate::item::Form;
 use crate::several::change_at;
-use crate::slot::{Share, Shown, Slot, State};
+use crate::slot::{Holding, Share, Shown, Slot, State, state_in};
 use crate::step::{Step, is_digit_step, step_by_digit, step_to_text};
 use crate::store::{
-    bump_at, choose_at, count_at, lay_out, set_at, set_bits, share_in, slot_at, step_at, turn_at,
+    Told, bump_at, carry_at, choose_at, count_at, holding_at, lay_out, set_at, set_bits, share_in,
+    step_at, turn_at,
 };
 use vcd_text::{Sink, WriteFailed, put};
 use vcd_view::HeadView;
@@ -38,7 +39,7 @@ impl<'a> Table<'a> {
     ghost use Rattle.vcd_body.specs.Given.{IsText};
     ghost use Rattle.vcd_body.specs.Items.{model_form};
     ghost use Rattle.vcd_body.specs.Kept.{Kept, unset, value_at_size};
-    ghost use Rattle.vcd_body.specs.Stored.{share_of};
+    ghost use Rattle.vcd_body.specs.Stored.{holding_at, share_of};
     ghost use Rattle.vcd_body.specs.Contents.{ChangesCode, IsLaidOut, bytes_in, codes_in, codes_shown, counts_at, held_at, is_chosen, kept_at, line_of, new_at, shown_as, value_in};
 
     /// A table of the codes of the header that is shown: each is unset, its counters are 0, and it is not chosen. A code's value
@@ -130,10 +131,10 @@ impl<'a> Table<'a> {
         ensures codes { codes_in self.new ≡ codes_in self.old }
         ensures bytes { bytes_in self.new ≡ bytes_in self.old }
     {
-        match (text, self.slot(code)) {
-            ([digit], Some(slot)) if is_digit_step(form, slot.state) => {
+        match (text, self.holding(code)) {
+            ([digit], Some(holding)) if is_digit_step(form, holding.state) => {
                 self.set(code, form, text);
-                step_by_digit(slot.state, *digit)
+                step_by_digit(holding.state, *digit)
             }
             _ => self.replace_any(code, size, form, text),
         }
@@ -175,11 +176,11 @@ impl<'a> Table<'a> {
         ensures bytes { bytes_in self.new ≡ bytes_in self.old }
     {
         match text {
-            [digit] if form != Form::RealText => {
-                if !turn_at(self.slots, self.shares, code, *digit) {
-                    self.follow_any(code, size, form, text);
-                }
-            }
+            [digit] if form != Form::RealText => match turn_at(self.slots, code, *digit) {
+                Told::All => {}
+                Told::But { rises, falls } => self.carry(code, rises, falls),
+                Told::Not => self.follow_any(code, size, form, text),
+            },
             _ if form != Form::Vector => self.follow_any(code, size, form, text),
             _ => {
                 if !change_at(self.slots, self.shares, self.values, code, text) {
@@ -207,9 +208,24 @@ impl<'a> Table<'a> {
         ensures codes { codes_in self.new ≡ codes_in self.old }
         ensures bytes { bytes_in self.new ≡ bytes_in self.old }
     {
-        if !step_at(self.slots, self.shares, code, size, bits) {
-            self.follow_bits_any(code, size, bits);
+        match step_at(self.slots, code, size, bits) {
+            Told::All => {}
+            Told::But { rises, falls } => self.carry(code, rises, falls),
+            Told::Not => self.follow_bits_any(code, size, bits),
         }
+    }
+
+    /// As `count`, where the slot has no room.
+    // It is given the table, and no parts of it, so that none is made ready for it where it is not called.
+    #[cold]
+    #[inline(never)]
+    fn carry(&mut self, code: usize, rises: bool, falls: bool)
+        ensures laid { IsLaidOut self.old → IsLaidOut self.new }
+        ensures changes { ChangesCode code (with_step rises falls) self.old self.new }
+        ensures codes { codes_in self.new ≡ codes_in self.old }
+        ensures bytes { bytes_in self.new ≡ bytes_in self.old }
+    {
+        carry_at(self.slots, self.shares, code, rises, falls);
     }
 
     /// As `follow`, over any value.
@@ -245,12 +261,12 @@ impl<'a> Table<'a> {
         }
     }
 
-    /// The slot of the code at a place.
+    /// How the value of the code at a place is held.
     #[inline(always)]
-    fn slot(&self, code: usize) -> Option<Slot>
-        ensures { result ≡ slice_get self.now.slots.now code }
+    fn holding(&self, code: usize) -> Option<Holding>
+        ensures { result ≡ holding_at self.now.slots.now self.now.shares.now code }
     {
-        slot_at(self.slots, code)
+        holding_at(self.slots, self.shares, code)
     }
 
     /// The same of any value and text. It takes as long as what is held and the text are, whatever the size is.
@@ -281,14 +297,14 @@ impl<'a> Table<'a> {
             → IsStep result (value_at_size size (held_at self.now code))
             (value_with size (model_form form) text.now) }
     {
-        let Some(slot) = slot_at(self.slots, code) else {
+        let Some(holding) = holding_at(self.slots, self.shares, code) else {
             return step_to_text(false, None, form, text);
         };
-        let Some(share) = share_in(self.values, self.shares, code, slot) else {
+        let Some(share) = share_in(self.values, self.shares, code, holding) else {
             return step_to_text(false, None, form, text);
         };
-        let differs = value_differs(slot, share, size, form, text);
-        step_to_text(differs, last_held(slot, share), form, text)
+        let differs = value_differs(holding, share, size, form, text);
+        step_to_text(differs, last_held(holding, share), form, text)
     }
 
     /// What the value of the code at a place is.
@@ -299,7 +315,7 @@ impl<'a> Table<'a> {
         if code >= self.slots.len() || code >= self.shares.len() {
             return Shown::Unset;
         }
-        match self.slots[code].state {
+        match state_in(self.slots[code].how) {
             State::Unset => Shown::Unset,
             State::Real => Shown::Real,
             State::Zero | State::One | State::Unknown | State::High => Shown::Bits,
@@ -317,13 +333,13 @@ impl<'a> Table<'a> {
         let Some(declared) = view.code_at(code) else {
             return None;
         };
-        let Some(slot) = slot_at(self.slots, code) else {
+        let Some(holding) = holding_at(self.slots, self.shares, code) else {
             return None;
         };
-        let Some(share) = share_in(self.values, self.shares, code, slot) else {
+        let Some(share) = share_in(self.values, self.shares, code, holding) else {
             return None;
         };
-        digit_shown(slot, share, declared.size, place)
+        digit_shown(holding, share, declared.size, place)
     }
 
     /// The text of the real number that is the value of the code at a place; empty where it has no such value.
@@ -331,9 +347,9 @@ impl<'a> Table<'a> {
     pub fn real(&self, code: usize) -> &[u8]
         ensures { IsLaidOut self.now → result.now ≡ real_text (held_at self.now code) }
     {
-        match slot_at(self.slots, code) {
-            Some(slot) if slot.state == State::Real => {
-                share_in(self.values, self.shares, code, slot).unwrap_or(&[])
+        match holding_at(self.slots, self.shares, code) {
+            Some(holding) if holding.state == State::Real => {
+                share_in(self.values, self.shares, code, holding).unwrap_or(&[])
             }
             _ => &[],
         }
@@ -355,14 +371,14 @@ impl<'a> Table<'a> {
         let Some(declared) = view.code_at(code) else {
             return Ok(());
         };
-        let Some(slot) = slot_at(self.slots, code) else {
+        let Some(holding) = holding_at(self.slots, self.shares, code) else {
             return Ok(());
         };
-        let Some(share) = share_in(self.values, self.shares, code, slot) else {
+        let Some(share) = share_in(self.values, self.shares, code, holding) else {
             return Ok(());
         };
         let id = view.text_at(declared.start, declared.len as usize);
-        put_value_line(slot, share, declared.size, id, w)
+        put_value_line(holding, share, declared.size, id, w)
     }
 
     /// Writes the value of the code at a place in full: all its digits, or `r` and the text of a real number; `-` where it has no
@@ -381,13 +397,13 @@ impl<'a> Table<'a> {
         let Some(declared) = view.code_at(code) else {
             return put(w, b"-");
         };
-        let Some(slot) = slot_at(self.slots, code) else {
+        let Some(holding) = holding_at(self.slots, self.shares, code) else {
             return put(w, b"-");
         };
-        let Some(share) = share_in(self.values, self.shares, code, slot) else {
+        let Some(share) = share_in(self.values, self.shares, code, holding) else {
             return put(w, b"-");
         };
-        put_value(slot, share, declared.size, w)
+        put_value(holding, share, declared.size, w)
     }
 
     /// The three counters of the code at a place.
@@ -397,7 +413,7 @@ impl<'a> Table<'a> {
     {
         if code < self.slots.len() && code < self.shares.len() {
             let share = self.shares[code];
-            counts_of(self.slots[code].low, share.middle, share.high)
+            counts_of(self.slots[code].low, share.middle, share.high, share.top)
         } else {
             [0; 3]
         }
@@ -434,7 +450,7 @@ impl<'a> Table<'a> {
         ensures codes { codes_in self.new ≡ codes_in self.old }
         ensures bytes { bytes_in self.new ≡ bytes_in self.old }
     {
-        choose_at(self.slots, code);
+        choose_at(self.shares, code);
     }
 
     /// Whether the code at a place is chosen. It takes the same time for every table.
@@ -442,6 +458,10 @@ impl<'a> Table<'a> {
     pub fn chosen(&self, code: usize) -> bool
         ensures { result ≡ is_chosen self.now code }
     {
-        code < self.slots.len() && code < self.shares.len() && self.slots[code].chosen
+        if code < self.slots.len() && code < self.shares.len() {
+            self.shares[code].chosen
+        } else {
+            false
+        }
     }
 }

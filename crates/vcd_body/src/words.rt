@@ -192,7 +192,7 @@ fn are_binary(digits: &[u8]) -> bool
     other_32(digits, last) == 0
 }
 
-// Out of line, so that the short way of `are_digits_at` stays small.
+// Out of line, so that the ways of digits that are known stay small.
 #[inline(never)]
 fn all_are_digits(digits: &[u8]) -> bool
     ensures { result ≡ list_all is_digit digits.now }
@@ -207,38 +207,16 @@ pub(crate) fn are_value_digits(digits: &[u8]) -> bool
     !digits.is_empty() && all_are_digits(digits)
 }
 
-/// The same of digits that begin at a place of these bytes. Most are few, and `0` and `1`: they are looked at at once, whatever
-/// their number is.
-#[inline(always)]
-pub(crate) fn are_digits_at(bytes: &[u8], at: usize, digits: &[u8]) -> bool
-    requires within { at ≤ length bytes.now }
-    requires place { digits.now ≡ slice_range bytes.now at (at + length digits.now) }
-    ensures { result ≡ (not (is_empty digits.now) && list_all is_digit digits.now) }
-{
-    let n = digits.len();
-    if 1 <= n && n <= 32 && bytes.len() - at >= 32 && are_binary_at(bytes, at, n) {
-        return true;
-    }
-    are_value_digits(digits)
-}
-
 /// The same, where some digits are known as a number: then they are digits.
 #[inline(always)]
-pub(crate) fn are_digits_or_known(
-    bytes: &[u8],
-    at: usize,
-    digits: &[u8],
-    bits: Option<Bits>,
-) -> bool
-    requires within { at ≤ length bytes.now }
-    requires place { digits.now ≡ slice_range bytes.now at (at + length digits.now) }
+pub(crate) fn are_digits_or_known(digits: &[u8], bits: Option<Bits>) -> bool
     requires bits { IfSome bits (λ b. digits.now ≡ binary_digits b.len b.number) }
     ensures { result ≡ (not (is_empty digits.now) && list_all is_digit digits.now) }
 {
     if bits.is_some() {
         return true;
     }
-    are_digits_at(bytes, at, digits)
+    are_value_digits(digits)
 }
 
 /// Bit 31 - k is set where byte `at + k` is `1`: the last byte tells the lowest bit.

@@ -33,7 +33,7 @@ use crate::pieces::{Lying, Pieces, line_before};
 use crate::task::{Room, Task};
 use vcd_body::{
     First, Item, Plain, Regs, Stop, mark_ahead, opening_ahead, real_ahead, scalar_ahead,
-    vector_ahead,
+    vector_ahead, vector_tokens_ahead,
 };
 use vcd_text::{Ahead, Sink, WriteFailed};
 use vcd_view::HeadView;
@@ -210,7 +210,7 @@ impl<'n, 'r> Taker for edges::Edges<'n, 'r> {
 
 /// Takes the next item that lies ahead, with what is due after it: returns whether it ended the run. None where it takes none, and then
 /// nothing has changed.
-// What begins the item is asked once: what is done with it follows in each arm.
+// What begins the item, and whether the number of its digits is known, is asked once: what is done with it follows in each arm.
 #[inline(always)]
 fn take_next<T: Taker, W: Sink>(
     taker: &mut T,
@@ -238,8 +238,17 @@ fn take_next<T: Taker, W: Sink>(
             taker.take_one(view, *regs, plain, out)
         }
         First::Vector => {
-            let plain = vector_ahead(opening, &mut next, view)?;
-            taker.take_one(view, *regs, plain, out)
+            let tokens = vector_tokens_ahead(opening, &mut next)?;
+            match tokens.bits {
+                Some(bits) => {
+                    let plain = vector_ahead(tokens, Some(bits), next, view)?;
+                    taker.take_one(view, *regs, plain, out)
+                }
+                None => {
+                    let plain = vector_ahead(tokens, None, next, view)?;
+                    taker.take_one(view, *regs, plain, out)
+                }
+            }
         }
         First::Mark => {
             let mut after = *regs;
@@ -471,8 +480,17 @@ fn take_next_lying<T: Copier, W: Sink>(
             take_found(copier, view, *regs, plain, from, next, line, pieces, out)
         }
         First::Vector => {
-            let plain = vector_ahead(opening, &mut next, view)?;
-            take_found(copier, view, *regs, plain, from, next, line, pieces, out)
+            let tokens = vector_tokens_ahead(opening, &mut next)?;
+            match tokens.bits {
+                Some(bits) => {
+                    let plain = vector_ahead(tokens, Some(bits), next, view)?;
+                    take_found(copier, view, *regs, plain, from, next, line, pieces, out)
+                }
+                None => {
+                    let plain = vector_ahead(tokens, None, next, view)?;
+                    take_found(copier, view, *regs, plain, from, next, line, pieces, out)
+                }
+            }
         }
         First::Mark => {
             let plain = mark_ahead(opening, next, regs)?;

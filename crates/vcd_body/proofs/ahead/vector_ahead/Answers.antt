@@ -2,33 +2,39 @@ use Rattle.std.proofs.Common.{[], ◌∷◌, ◌++◌, ◌∙◌, ◌<◌, ◌�
 use Rattle.vcd_model.specs.Tokens.{Token}
 use Rattle.vcd_text.specs.Ahead.{bytes_of, longest_of, passed_of, start_of}
 use Rattle.vcd_text.specs.Passed.{Passed, line_ahead}
-use Rattle.vcd_body.specs.Words.{Begins}
 use Rattle.vcd_body.specs.declared.item.Form.TheVariants as form
 use Rattle.vcd_body.proofs.AheadLemmas.{passes_same, both_taken, has_bits}
 use Rattle.vcd_body.proofs.LineLemmas.{token_there, both_there, both_places}
 use Rattle.vcd_body.proofs.ahead.vector_ahead.Goals as goal
 
+pub vector_code-requires-clause-begins : goal.vector_code-requires-clause-begins
+vector_code-requires-clause-begins c = c.requires.opens.1.begins
+
+pub vector_code-requires-clause-bits : goal.vector_code-requires-clause-bits
+vector_code-requires-clause-bits c = rw c.requires.bits c.requires.opens.1.bits
+
 pub returns-clause-takes : goal.returns-clause-takes
-returns-clause-takes c = λ a r o.
-    let token = c.args.opening.token.now in
-    let code = c.in_ok-code.code.now in
+returns-clause-takes c = λ a r v.
+    let token = c.args.tokens.token.now in
+    let code = c.args.tokens.code.now in
     let bytes = bytes_of a in
-    let mid = c.args.ahead.now in
-    let new = c.next.new.self in
-    let m = c.in_ok-code.ensures in
+    let mid = v.middle in
+    let new = c.args.ahead in
+    let o = v.token in
+    let m = v.code in
     let further = o.further in
     let further' = m.further in
     let less : passed_of a < passed_of new = omega (arith, further, further') in
-    let begins = subst (Begins token) c.requires.first o.begins in
+    let begins = v.begins in
     let first = token_there bytes (passed_of a) (passed_of mid) token o.further o.within o.before o.place in
     let second = token_there (bytes_of mid) (passed_of mid) (passed_of new) code m.further m.within m.before m.place in
-    let text = c.rest_of.ensures in
-    rw (c.change_of.ensures, c.passed.ensures.passed, c.passed-2.ensures.passed) (record {
-      gives = λ h limit lines bytes before items v over k g.
+    let text = c.rest_of-digits.ensures in
+    rw (c.change_of.ensures, v.at, v.code_at) (record {
+      gives = λ h limit lines bytes before items views over k g.
           let line = line_ahead lines bytes (start_of mid token) in
           let one = passes_same limit (longest_of a) lines bytes (bytes_of a) (passed_of a) (passed_of mid) (start_of mid token) token over.0 over.1 (o.gives lines) g.tokens g.passed in
           let two = passes_same limit (longest_of mid) lines bytes (bytes_of mid) (passed_of mid) (passed_of new) (start_of new code) code (o.same.1 ∙ over.0) (o.same.0 ∙ over.1) (m.gives lines) (g.tokens ++ record { bytes = token; line = line } ∷ []) one in
-          let s = c.in_ok-found.ensures.code h v in
+          let s = c.in_ok-found.ensures.code h views in
           both_taken h.codes limit lines bytes before items (passed_of a) r g k form.Vector (passed_of new) _ line _ token code _ less two text s.0 s.1 s.2;
       passes = λ limit lines bytes ts over p.
           let t : Token = record { bytes = token; line = line_ahead lines bytes (start_of mid token) } in
@@ -39,7 +45,7 @@ returns-clause-takes c = λ a r o.
       sound = rw text c.in_ok-found.ensures.sound;
       plain = tt;
       sized = c.in_ok-found.ensures.sized;
-      bits = rw text (has_bits c.in_ok-found.found.place (drop 1 token) c.vector_bits-bits.result c.vector_bits-bits.ensures);
+      bits = rw (text, c.requires.bits) (has_bits c.in_ok-found.found.place (drop 1 token) c.args.tokens.bits v.bits);
       spelled = (code, both_there bytes (bytes_of mid) _ _ _ token _ _ begins.0 begins.1 begins.3 text o.same.0 first second, c.in_ok-found.ensures.names, both_places bytes (bytes_of mid) _ _ _ token _ _ begins.0 begins.1 begins.3 text o.same.0 first second);
       further = less;
       within = subst (λ (bs : _). passed_of new ≤ length bs) (sym m.same.0) m.within;

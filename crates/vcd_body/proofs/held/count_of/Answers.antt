@@ -7,9 +7,9 @@ use Rattle.vcd_body.proofs.HeldLemmas.{count_held}
 use Rattle.vcd_body.proofs.held.count_of.Goals as goal
 
 pub returns-in-Digits : goal.returns-in-Digits
-returns-in-Digits c = count_held c.args.slot.state c.args.slot.len c.args.share.now c.in-Digits.is c.requires
+returns-in-Digits c = count_held c.args.holding.state c.args.holding.len c.args.share.now c.in-Digits.is c.requires
 
 pub returns-in-Bits : goal.returns-in-Bits
 returns-in-Bits c =
-    let len = c.args.slot.len in
+    let len = c.args.holding.len in
     c.count_in.ensures ∙ sym (length_binary (count_in len) (number_in len)) ∙ sym (ap (λ (s : State). length (digits_held (held_by s len c.args.share.now))) c.in-Bits.is)

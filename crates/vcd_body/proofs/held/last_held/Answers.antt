@@ -9,7 +9,7 @@ use Rattle.vcd_body.proofs.held.last_held.Goals as goal
 
 pub returns-in-Plain : goal.returns-in-Plain
 returns-in-Plain c size =
-    let len = c.args.slot.len in
+    let len = c.args.holding.len in
     let bytes = c.args.share.now in
     let used = subst (λ (s : State). used_by s len ≤ length bytes) c.in-Plain.is c.requires.used in
     let some = subst (λ (s : State). 1 ≤ some_by s len) c.in-Plain.is c.requires.some in
@@ -20,7 +20,7 @@ returns-in-Plain c size =
 
 pub returns-in-Digits : goal.returns-in-Digits
 returns-in-Digits c size =
-    let len = c.args.slot.len in
+    let len = c.args.holding.len in
     let bytes = c.args.share.now in
     let used = subst (λ (s : State). used_by s len ≤ length bytes) c.in-Digits.is c.requires.used in
     let some = subst (λ (s : State). 1 ≤ some_by s len) c.in-Digits.is c.requires.some in
@@ -31,12 +31,12 @@ returns-in-Digits c size =
 
 pub last_binary-requires : goal.last_binary-requires
 last_binary-requires c =
-    let some = subst (λ (s : State). 1 ≤ some_by s c.args.slot.len) c.in-Bits.is c.requires.some in
-    proper_count c.args.slot.len (proper c.args.slot.len some)
+    let some = subst (λ (s : State). 1 ≤ some_by s c.args.holding.len) c.in-Bits.is c.requires.some in
+    proper_count c.args.holding.len (proper c.args.holding.len some)
 
 pub returns-in-Bits : goal.returns-in-Bits
 returns-in-Bits c size =
-    let len = c.args.slot.len in
+    let len = c.args.holding.len in
     let bytes = c.args.share.now in
     let some = subst (λ (s : State). 1 ≤ some_by s len) c.in-Bits.is c.requires.some in
     let count = proper_count len (proper len some) in
@@ -46,4 +46,4 @@ returns-in-Bits c size =
     ∙ sym (ap (λ (s : State). last_digit_in (value_at_size size (held_by s len bytes))) c.in-Bits.is)
 
 pub returns-in_default : goal.returns-in_default
-returns-in_default c size = c.digit_of_state.ensures ∙ last_of_state c.args.slot.state c.args.slot.len c.args.share.now size c.in_default.not-Plain c.in_default.not-Digits c.in_default.not-Bits
+returns-in_default c size = c.digit_of_state.ensures ∙ last_of_state c.args.holding.state c.args.holding.len c.args.share.now size c.in_default.not-Plain c.in_default.not-Digits c.in_default.not-Bits

@@ -8,6 +8,6 @@ use Rattle.vcd_body.proofs.several.step_told.Goals as goal
 
 pub returns-in-Digits-clause-step : goal.returns-in-Digits-clause-step
 returns-in-Digits-clause-step c = by_both c.packed_step.result _ _ _ c.packed_step.ensures.room c.packed_step.ensures.step (λ step room is size.
-    let slot = c.args.slot in
-    let held = packed_there c.args.values.now (c.args.end - c.args.start) c.args.start slot c.in_ok-share.share.now c.in-Digits.is c.in_ok-share.ensures room in
+    let holding = c.args.holding in
+    let held = packed_there c.args.values.now (c.args.end - c.args.start) c.args.start holding c.in_ok-share.share.now c.in-Digits.is c.in_ok-share.ensures room in
     subst (λ (h : Held). IsStep step (value_at_size size h) (value_with size (model_form form.Vector) c.args.text.now)) (sym held) (is size))

@@ -1,27 +1,14 @@
-use Rattle.std.proofs.Common.{◌∷◌, [], get_or, arith}
-use Rattle.std.proofs.lemmas.Option.{slice_get-get_or}
+use Rattle.std.proofs.Common.{◌∷◌, []}
 use Rattle.vcd_body.specs.Kept.{Held, with_held}
 use Rattle.vcd_body.specs.Packed.{held_digit}
-use Rattle.vcd_body.specs.Stored.{whole}
-use Rattle.vcd_body.proofs.StoreLemmas.{blank, digit_kept, fits_in, no_slot_there, slot_changes, slot_laid, used_none}
+use Rattle.vcd_body.proofs.StoreLemmas.{no_slot_there}
 use Rattle.vcd_body.proofs.store.set_digit.Goals as goal
 
 pub returns-then-code-slots-clause-changes : goal.returns-then-code-slots-clause-changes
-returns-then-code-slots-clause-changes c = λ shares values.
-    let slots = c.args.slots.now in
-    let slot = get_or slots c.args.code blank in
-    let at = slice_get-get_or slots c.args.code blank c.if-code-slots.true in
-    slot_changes slots c.args.code slot _ at shares values (with_held (Held.Digits (held_digit c.args.digit ∷ []))) (λ h end. digit_kept c.state_of.result (whole slot h) (held_digit c.args.digit) end values c.state_of.ensures)
+returns-then-code-slots-clause-changes c = c.set_how.ensures.changes (held_digit c.args.digit) c.number_of_digit.ensures
 
 pub returns-then-code-slots-clause-laid : goal.returns-then-code-slots-clause-laid
-returns-then-code-slots-clause-laid c = λ shares n laid.
-    let slots = c.args.slots.now in
-    let slot = get_or slots c.args.code blank in
-    let at = slice_get-get_or slots c.args.code blank c.if-code-slots.true in
-    let none = used_none c.state_of.result slot.len (held_digit c.args.digit) c.state_of.ensures in
-    let u = none.0 in
-    let o = none.1 in
-    slot_laid slots shares n laid c.args.code slot at _ (λ h there. let low = fits_in shares n c.args.code slot h (laid c.args.code slot at) there in omega (arith, low, u)) (omega (arith, o))
+returns-then-code-slots-clause-laid c = c.set_how.ensures.laid (held_digit c.args.digit) c.number_of_digit.ensures
 
 pub returns-else-code-slots-clause-changes : goal.returns-else-code-slots-clause-changes
 returns-else-code-slots-clause-changes c = λ shares values. no_slot_there values c.args.slots.now shares c.args.code (with_held (Held.Digits (held_digit c.args.digit ∷ []))) c.if-code-slots.false

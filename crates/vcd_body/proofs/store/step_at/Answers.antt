@@ -1,36 +1,59 @@
-use Rattle.std.proofs.Common.{◌≤◌, ap, arith, get_or, length, refl, subst}
+use Rattle.std.proofs.Common.{◌≡◌, Bool, List, Some, ap, cond, get_or, refl, subst, sym, ◌∙◌}
 use Rattle.std.proofs.lemmas.Option.{slice_get-get_or}
-use Rattle.vcd_body.specs.Kept.{with_number_change}
-use Rattle.vcd_body.specs.Stored.{end_at, some_by, whole}
-use Rattle.vcd_body.specs.declared.slot.State.{State}
-use Rattle.vcd_body.proofs.BinaryLemmas.{proper}
-use Rattle.vcd_body.proofs.StoreLemmas.{blank, blank_share, both_written, changes, fits_in, share_laid, slot_laid}
+use Rattle.vcd_body.specs.Kept.{Kept, with_number, with_number_change, with_step}
+use Rattle.vcd_body.specs.Stored.{ChangesAt, kept_in}
+use Rattle.vcd_body.specs.declared.slot.Slot.{Slot}
+use Rattle.vcd_body.proofs.FollowLemmas.{change_as, change_twice, kept_steps, not_false, not_true}
+use Rattle.vcd_body.proofs.StoreLemmas.{blank}
 use Rattle.vcd_body.proofs.store.step_at.Goals as goal
+use Rattle.vcd_body.proofs.store.step_at.Goals.{then-not-step-via-then-not-step, then-not-step-via-else-not-step+then-count_in_slot}
 
-pub returns-clause-changes : goal.returns-clause-changes
-returns-clause-changes c = λ told values laid.
+pub returns-then-not-step-clause-all : goal.returns-then-not-step-clause-all
+returns-then-not-step-clause-all c = λ _ shares values laid.
     let slots = c.args.slots.now in
-    let parts = c.args.shares.now in
-    let slot = get_or slots c.args.code blank in
-    let share = get_or parts c.args.code blank_share in
-    let at = slice_get-get_or slots c.args.code blank c.if-code-slots.false in
-    let there = slice_get-get_or parts c.args.code blank_share c.if-code-shares.false in
-    let new = c.step_slot.new in
-    let state = c.is_number_step.ensures.state c.if-not-is_number_step.false in
-    let l = laid c.args.code slot at in
-    let is = proper slot.len (subst (λ (s : State). 1 ≤ some_by s slot.len) state l.some) in
-    changes slots _ parts _ c.args.code (whole slot share) (whole new.slot new.share) (both_written slots parts c.args.code slot new.slot share new.share at there c.step_slot.ensures.start) values values (with_number_change c.args.size c.args.bits.len c.args.bits.number) refl
-    (c.step_slot.ensures.kept (end_at parts (length values) c.args.code) values is) (λ j d e begins. refl)
+    let code = c.args.code in
+    let bits = c.args.bits in
+    let slot = get_or slots code blank in
+    let at = slice_get-get_or slots code blank c.if-code-slots.false in
+    let s = c.step_by_number-step.result in
+    let step = c.step_by_number-step.ensures in
+    let held = c.number_in.ensures in
+    let l = bits.len in
+    let n = bits.number in
+    let set = c.set_bits.ensures.changes shares values in
+    let told : (k : Kept) → kept_in values slots shares code ≡ Some k → with_number_change c.args.size l n k ≡ cond s.differs (with_step s.rises s.falls (with_number l n k)) (with_number l n k) =
+    λ k kept. kept_steps values slots shares code slot at k kept laid l n c.args.size s (c.if-not-is_number_step.ensures.state refl) bits.some bits.fits (c.if-not-is_number_step.ensures.long refl) (rw (sym held) step.differs) (rw (sym held) step.rises) (rw (sym held) step.falls) in
+    elim c.then-not-step.branch [
+      | then-not-step-via-then-not-step w ↦ subst (λ (p : List Slot). ChangesAt code (with_number_change c.args.size l n) values slots shares values p shares) (sym w.slots-is)
+          (change_as code (with_number l n) (with_number_change c.args.size l n) values values slots c.set_bits.new.slots shares shares
+          (λ k kept. sym (told k kept ∙ ap (λ (b : Bool). cond b (with_step s.rises s.falls (with_number l n k)) (with_number l n k)) (not_true s.differs w.if-not-step.true))) set)
+      | then-not-step-via-else-not-step+then-count_in_slot w ↦ subst (λ (p : List Slot). ChangesAt code (with_number_change c.args.size l n) values slots shares values p shares) (sym w.slots-is)
+          (change_as code (λ k. with_step s.rises s.falls (with_number l n k)) (with_number_change c.args.size l n) values values slots w.count_in_slot.new.slots shares shares
+          (λ k kept. sym (told k kept ∙ ap (λ (b : Bool). cond b (with_step s.rises s.falls (with_number l n k)) (with_number l n k)) (not_false s.differs w.if-not-step.false)))
+          (change_twice code (with_number l n) (with_step s.rises s.falls) values values values slots c.set_bits.new.slots w.count_in_slot.new.slots shares shares shares set (w.count_in_slot.ensures.counts w.if-count_in_slot.true shares values)))
+    ]
 
-pub returns-clause-laid : goal.returns-clause-laid
-returns-clause-laid c = λ n laid.
+-- the slot had no room, and stayed
+pub returns-clause-but : goal.returns-clause-but
+returns-clause-but c = λ rises falls is shares values after laid counted with counts.
     let slots = c.args.slots.now in
-    let parts = c.args.shares.now in
-    let slot = get_or slots c.args.code blank in
-    let share = get_or parts c.args.code blank_share in
-    let at = slice_get-get_or slots c.args.code blank c.if-code-slots.false in
-    let there = slice_get-get_or parts c.args.code blank_share c.if-code-shares.false in
-    let new = c.step_slot.new in
-    let is = c.step_slot.ensures in
-    let v = is.used in
-    share_laid _ parts n (slot_laid slots parts n laid c.args.code slot at new.slot (λ h begins. let low = fits_in parts n c.args.code slot h (laid c.args.code slot at) begins in omega (arith, low, v)) is.some) c.args.code share new.share there is.start
+    let code = c.args.code in
+    let bits = c.args.bits in
+    let slot = get_or slots code blank in
+    let at = slice_get-get_or slots code blank c.if-code-slots.false in
+    let s = c.step_by_number-step.result in
+    let step = c.step_by_number-step.ensures in
+    let held = c.number_in.ensures in
+    let l = bits.len in
+    let n = bits.number in
+    let set = c.set_bits.ensures.changes shares values in
+    let told : (k : Kept) → kept_in values slots shares code ≡ Some k → with_number_change c.args.size l n k ≡ cond s.differs (with_step s.rises s.falls (with_number l n k)) (with_number l n k) =
+    λ k kept. kept_steps values slots shares code slot at k kept laid l n c.args.size s (c.if-not-is_number_step.ensures.state refl) bits.some bits.fits (c.if-not-is_number_step.ensures.long refl) (rw (sym held) step.differs) (rw (sym held) step.rises) (rw (sym held) step.falls) in
+    let rise : rises ≡ s.rises = cc in
+    let fall : falls ≡ s.falls = cc in
+    let count = subst (λ (p : List Slot). ChangesAt code (with_step s.rises s.falls) values p shares after counted with) (c.if-count_in_slot.ensures.same refl)
+    (subst (λ (b : Bool). ChangesAt code (with_step s.rises b) values c.count_in_slot.new.slots shares after counted with) fall
+    (subst (λ (b : Bool). ChangesAt code (with_step b falls) values c.count_in_slot.new.slots shares after counted with) rise counts)) in
+    change_as code (λ k. with_step s.rises s.falls (with_number l n k)) (with_number_change c.args.size l n) values after slots counted shares with
+    (λ k kept. sym (told k kept ∙ ap (λ (b : Bool). cond b (with_step s.rises s.falls (with_number l n k)) (with_number l n k)) (not_false s.differs c.if-not-step.false)))
+    (change_twice code (with_number l n) (with_step s.rises s.falls) values values after slots c.set_bits.new.slots counted shares shares with set count)

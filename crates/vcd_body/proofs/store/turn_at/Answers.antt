@@ -1,34 +1,63 @@
-use Rattle.std.proofs.Common.{◌∷◌, [], arith, get_or}
+use Rattle.std.proofs.Common.{◌≡◌, ◌∷◌, [], ◌==◌, Bool, List, ap, cond, get_or, not, refl, subst, sym, ◌∙◌}
 use Rattle.std.proofs.lemmas.Option.{slice_get-get_or}
-use Rattle.vcd_body.specs.Kept.{with_change}
-use Rattle.vcd_body.specs.Stored.{whole}
-use Rattle.vcd_body.proofs.FollowLemmas.{bit_is}
-use Rattle.vcd_body.proofs.StoreLemmas.{blank, blank_share, both_written, code_changes, fits_in, share_laid, slot_laid}
+use Rattle.vcd_body.specs.Kept.{Held, with_change, with_held, with_step}
+use Rattle.vcd_body.specs.Stored.{ChangesAt}
+use Rattle.vcd_body.specs.declared.slot.Slot.{Slot}
+use Rattle.vcd_body.proofs.FollowLemmas.{bit_digit, bit_is, change_as, change_twice, kept_stays, kept_turns, other_bit, same_bit}
+use Rattle.vcd_body.proofs.StoreLemmas.{blank}
 use Rattle.vcd_body.proofs.store.turn_at.Goals as goal
+use Rattle.vcd_body.proofs.store.turn_at.Goals.{then-not-turns-via-then-not-turns, then-not-turns-via-else-not-turns+then-count_turn_in}
 
-pub returns-clause-changes : goal.returns-clause-changes
-returns-clause-changes c = λ told form digits size values.
+pub returns-then-not-turns-clause-all : goal.returns-then-not-turns-clause-all
+returns-then-not-turns-clause-all c = λ _ form digits size shares values.
     let slots = c.args.slots.now in
-    let parts = c.args.shares.now in
-    let slot = get_or slots c.args.code blank in
-    let share = get_or parts c.args.code blank_share in
-    let at = slice_get-get_or slots c.args.code blank c.if-code-slots.false in
-    let there = slice_get-get_or parts c.args.code blank_share c.if-code-shares.false in
-    let new = c.turn_slot.new in
-    let bit = bit_is c.args.digit (c.is_bit_step.ensures.digit c.if-not-is_bit_step.false) in
-    code_changes slots _ parts _ c.args.code (whole slot share) (whole new.slot new.share) (both_written slots parts c.args.code slot new.slot share new.share at there c.turn_slot.ensures.start) values (with_change size form (c.args.digit ∷ []))
-    (λ end. rw bit at (c.turn_slot.ensures.kept form digits size end values))
+    let code = c.args.code in
+    let slot = get_or slots code blank in
+    let at = slice_get-get_or slots code blank c.if-code-slots.false in
+    let one = c.args.digit == 49 in
+    let set = c.set_how.ensures.changes (cond one 49 48) (bit_digit one c.number_of_bit-how.result c.number_of_bit-how.ensures.state) shares values in
+    let bit = bit_is c.args.digit (c.if-not-is_bit_step.ensures.digit refl) in
+    subst (λ d. ChangesAt code (with_change size form (d ∷ [])) values slots shares values c.then-not-turns.slots shares) bit
+    (elim c.then-not-turns.branch [
+      | then-not-turns-via-then-not-turns w ↦ subst (λ (s : List Slot). ChangesAt code (with_change size form (cond one 49 48 ∷ [])) values slots shares values s shares) (sym w.slots-is)
+          (change_as code (with_held (Held.Digits (cond one 49 48 ∷ []))) (with_change size form (cond one 49 48 ∷ [])) values values slots c.set_how.new.slots shares shares
+          (λ k kept. kept_stays values slots shares code slot at k kept one (same_bit slot.how one (w.if-not-turns.true ∙ c.number_of_bit-how.ensures.state)) form digits size) set)
+      | then-not-turns-via-else-not-turns+then-count_turn_in w ↦ subst (λ (s : List Slot). ChangesAt code (with_change size form (cond one 49 48 ∷ [])) values slots shares values s shares) (sym w.slots-is)
+          (change_as code (λ k. with_step one (not one) (with_held (Held.Digits (cond one 49 48 ∷ [])) k)) (with_change size form (cond one 49 48 ∷ [])) values values slots w.count_turn_in.new.slots shares shares
+          (λ k kept. kept_turns values slots shares code slot at k kept one (other_bit slot.how one (c.if-not-is_bit_step.ensures.how refl) (λ e. w.if-not-turns.false (e ∙ sym c.number_of_bit-how.ensures.state))) form digits size)
+          (change_twice code (with_held (Held.Digits (cond one 49 48 ∷ []))) (with_step one (not one)) values values values slots c.set_how.new.slots w.count_turn_in.new.slots shares shares shares set (w.count_turn_in.ensures.counts w.if-count_turn_in.true shares values)))
+    ])
+
+pub returns-then-not-turns-clause-laid : goal.returns-then-not-turns-clause-laid
+returns-then-not-turns-clause-laid c = λ shares n laid.
+    let one = c.args.digit == 49 in
+    let set = c.set_how.ensures.laid (cond one 49 48) (bit_digit one c.number_of_bit-how.result c.number_of_bit-how.ensures.state) shares n laid in
+    elim c.then-not-turns.branch [
+      | then-not-turns-via-then-not-turns w ↦ rw w.slots-is set
+      | then-not-turns-via-else-not-turns+then-count_turn_in w ↦ rw w.slots-is (w.count_turn_in.ensures.laid shares n set)
+    ]
+
+-- the slot had no room, and stayed
+pub returns-clause-but : goal.returns-clause-but
+returns-clause-but c = λ rises falls is form digits size shares values after counted with counts.
+    let slots = c.args.slots.now in
+    let code = c.args.code in
+    let slot = get_or slots code blank in
+    let at = slice_get-get_or slots code blank c.if-code-slots.false in
+    let one = c.args.digit == 49 in
+    let rise : rises ≡ one = cc in
+    let fall : falls ≡ not one = cc in
+    let set = c.set_how.ensures.changes (cond one 49 48) (bit_digit one c.number_of_bit-how.result c.number_of_bit-how.ensures.state) shares values in
+    let step = subst (λ (s : List Slot). ChangesAt code (with_step one (not one)) values s shares after counted with) (c.if-count_turn_in.ensures.same refl)
+    (subst (λ (b : Bool). ChangesAt code (with_step one b) values c.count_turn_in.new.slots shares after counted with) fall
+    (subst (λ (b : Bool). ChangesAt code (with_step b falls) values c.count_turn_in.new.slots shares after counted with) rise counts)) in
+    let bit = bit_is c.args.digit (c.if-not-is_bit_step.ensures.digit refl) in
+    subst (λ d. ChangesAt code (with_change size form (d ∷ [])) values slots shares after counted with) bit
+    (change_as code (λ k. with_step one (not one) (with_held (Held.Digits (cond one 49 48 ∷ [])) k)) (with_change size form (cond one 49 48 ∷ [])) values after slots counted shares with
+    (λ k kept. kept_turns values slots shares code slot at k kept one (other_bit slot.how one (c.if-not-is_bit_step.ensures.how refl) (λ e. c.if-not-turns.false (e ∙ sym c.number_of_bit-how.ensures.state))) form digits size)
+    (change_twice code (with_held (Held.Digits (cond one 49 48 ∷ []))) (with_step one (not one)) values values after slots c.set_how.new.slots counted shares shares with set step))
 
 pub returns-clause-laid : goal.returns-clause-laid
-returns-clause-laid c = λ n laid.
-    let slots = c.args.slots.now in
-    let parts = c.args.shares.now in
-    let slot = get_or slots c.args.code blank in
-    let share = get_or parts c.args.code blank_share in
-    let at = slice_get-get_or slots c.args.code blank c.if-code-slots.false in
-    let there = slice_get-get_or parts c.args.code blank_share c.if-code-shares.false in
-    let new = c.turn_slot.new in
-    let is = c.turn_slot.ensures in
-    let u = is.used in
-    let o = is.some in
-    share_laid _ parts n (slot_laid slots parts n laid c.args.code slot at new.slot (λ h begins. let low = fits_in parts n c.args.code slot h (laid c.args.code slot at) begins in omega (arith, low, u)) (omega (arith, o))) c.args.code share new.share there is.start
+returns-clause-laid c = λ shares n laid.
+    let one = c.args.digit == 49 in
+    c.count_turn_in.ensures.laid shares n (c.set_how.ensures.laid (cond one 49 48) (bit_digit one c.number_of_bit-how.result c.number_of_bit-how.ensures.state) shares n laid)

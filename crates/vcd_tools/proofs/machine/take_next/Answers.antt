@@ -6,8 +6,14 @@ use Rattle.vcd_tools.proofs.machine.take_next.Goals as goal
 pub scalar_ahead-requires-clause-opens : goal.scalar_ahead-requires-clause-opens
 scalar_ahead-requires-clause-opens g c = (c.args.ahead.now, c.in_ok-opening.ensures.opens)
 
+pub vector_tokens_ahead-requires-clause-opens : goal.vector_tokens_ahead-requires-clause-opens
+vector_tokens_ahead-requires-clause-opens g c = (c.args.ahead.now, c.in_ok-opening.ensures.opens)
+
 pub vector_ahead-requires-clause-opens : goal.vector_ahead-requires-clause-opens
-vector_ahead-requires-clause-opens g c = (c.args.ahead.now, c.in_ok-opening.ensures.opens)
+vector_ahead-requires-clause-opens g c = (c.args.ahead.now, c.in_ok-tokens-in-Vector.ensures.opens c.args.ahead.now c.in_ok-opening.ensures.opens)
+
+pub vector_ahead-requires-in-None-clause-opens : goal.vector_ahead-requires-in-None-clause-opens
+vector_ahead-requires-in-None-clause-opens g c = (c.args.ahead.now, c.in_ok-tokens-in-Vector.ensures.opens c.args.ahead.now c.in_ok-opening.ensures.opens)
 
 pub mark_ahead-requires-clause-opens : goal.mark_ahead-requires-clause-opens
 mark_ahead-requires-clause-opens g c = (c.args.ahead.now, c.in_ok-opening.ensures.opens)
@@ -24,14 +30,23 @@ take_one-taken-requires-clause-sized g c = (c.in_ok-plain-in-Scalar.ensures.take
 pub take_one-taken-requires-clause-bits : goal.take_one-taken-requires-clause-bits
 take_one-taken-requires-clause-bits g c = (c.in_ok-plain-in-Scalar.ensures.takes c.args.ahead.now c.args.regs.now c.in_ok-opening.ensures.opens).bits
 
-pub take_one-taken-requires-in-Vector-clause-sound : goal.take_one-taken-requires-in-Vector-clause-sound
-take_one-taken-requires-in-Vector-clause-sound g c = (c.in_ok-plain-in-Vector.ensures.takes c.args.ahead.now c.args.regs.now c.in_ok-opening.ensures.opens).sound
+pub take_one-requires-clause-sound : goal.take_one-requires-clause-sound
+take_one-requires-clause-sound g c = (c.in_ok-plain-in-Some.ensures.takes c.args.ahead.now c.args.regs.now (c.in_ok-tokens-in-Vector.ensures.opens c.args.ahead.now c.in_ok-opening.ensures.opens)).sound
 
-pub take_one-taken-requires-in-Vector-clause-sized : goal.take_one-taken-requires-in-Vector-clause-sized
-take_one-taken-requires-in-Vector-clause-sized g c = (c.in_ok-plain-in-Vector.ensures.takes c.args.ahead.now c.args.regs.now c.in_ok-opening.ensures.opens).sized
+pub take_one-requires-clause-sized : goal.take_one-requires-clause-sized
+take_one-requires-clause-sized g c = (c.in_ok-plain-in-Some.ensures.takes c.args.ahead.now c.args.regs.now (c.in_ok-tokens-in-Vector.ensures.opens c.args.ahead.now c.in_ok-opening.ensures.opens)).sized
 
-pub take_one-taken-requires-in-Vector-clause-bits : goal.take_one-taken-requires-in-Vector-clause-bits
-take_one-taken-requires-in-Vector-clause-bits g c = (c.in_ok-plain-in-Vector.ensures.takes c.args.ahead.now c.args.regs.now c.in_ok-opening.ensures.opens).bits
+pub take_one-requires-clause-bits : goal.take_one-requires-clause-bits
+take_one-requires-clause-bits g c = (c.in_ok-plain-in-Some.ensures.takes c.args.ahead.now c.args.regs.now (c.in_ok-tokens-in-Vector.ensures.opens c.args.ahead.now c.in_ok-opening.ensures.opens)).bits
+
+pub take_one-requires-in-None-clause-sound : goal.take_one-requires-in-None-clause-sound
+take_one-requires-in-None-clause-sound g c = (c.in_ok-plain-in-None.ensures.takes c.args.ahead.now c.args.regs.now (c.in_ok-tokens-in-Vector.ensures.opens c.args.ahead.now c.in_ok-opening.ensures.opens)).sound
+
+pub take_one-requires-in-None-clause-sized : goal.take_one-requires-in-None-clause-sized
+take_one-requires-in-None-clause-sized g c = (c.in_ok-plain-in-None.ensures.takes c.args.ahead.now c.args.regs.now (c.in_ok-tokens-in-Vector.ensures.opens c.args.ahead.now c.in_ok-opening.ensures.opens)).sized
+
+pub take_one-requires-in-None-clause-bits : goal.take_one-requires-in-None-clause-bits
+take_one-requires-in-None-clause-bits g c = (c.in_ok-plain-in-None.ensures.takes c.args.ahead.now c.args.regs.now (c.in_ok-tokens-in-Vector.ensures.opens c.args.ahead.now c.in_ok-opening.ensures.opens)).bits
 
 pub take_one-taken-requires-in-Real-clause-sound : goal.take_one-taken-requires-in-Real-clause-sound
 take_one-taken-requires-in-Real-clause-sound g c = (c.in_ok-plain-in-Real.ensures.takes c.args.ahead.now c.args.regs.now c.in_ok-opening.ensures.opens).sound
@@ -67,15 +82,31 @@ returns-in_ok-plain-in-Scalar-clause-next g c =
       early = t.early;
     }
 
-pub returns-in_ok-plain-in-Vector-clause-next : goal.returns-in_ok-plain-in-Vector-clause-next
-returns-in_ok-plain-in-Vector-clause-next g c =
+pub returns-in_ok-plain-in-Some-clause-next : goal.returns-in_ok-plain-in-Some-clause-next
+returns-in_ok-plain-in-Some-clause-next g c =
     let r = c.args.regs.now in
-    let n = c.in_ok-plain-in-Vector.ensures in
+    let n = c.in_ok-plain-in-Some.ensures in
     let regs = subst (λ (i : Item). r ≡ regs_after r i) (sym n.form.1) refl in
-    let t = c.take_one-taken-in-Vector.ensures in
+    let t = c.take_one.ensures in
     record {
-      plain = c.in_ok-plain-in-Vector.plain;
-      item = n.takes c.args.ahead.now r c.in_ok-opening.ensures.opens;
+      plain = c.in_ok-plain-in-Some.plain;
+      item = n.takes c.args.ahead.now r (c.in_ok-tokens-in-Vector.ensures.opens c.args.ahead.now c.in_ok-opening.ensures.opens);
+      regs = regs;
+      one = λ h items x views known is few keeps. t.takes h items r x views known regs is few keeps;
+      request = t.request;
+      room = t.room;
+      early = t.early;
+    }
+
+pub returns-in_ok-plain-in-None-clause-next : goal.returns-in_ok-plain-in-None-clause-next
+returns-in_ok-plain-in-None-clause-next g c =
+    let r = c.args.regs.now in
+    let n = c.in_ok-plain-in-None.ensures in
+    let regs = subst (λ (i : Item). r ≡ regs_after r i) (sym n.form.1) refl in
+    let t = c.take_one-in-None.ensures in
+    record {
+      plain = c.in_ok-plain-in-None.plain;
+      item = n.takes c.args.ahead.now r (c.in_ok-tokens-in-Vector.ensures.opens c.args.ahead.now c.in_ok-opening.ensures.opens);
       regs = regs;
       one = λ h items x views known is few keeps. t.takes h items r x views known regs is few keeps;
       request = t.request;

@@ -1,4 +1,4 @@
-use Rattle.std.proofs.Common.{List, length, subst, sym, ℕ, ◌∙◌}
+use Rattle.std.proofs.Common.{List, length, refl, subst, sym, ℕ, ◌∙◌}
 use Rattle.vcd_body.specs.Kept.{with_change}
 use Rattle.vcd_body.specs.Stored.{AreLaidOut, ChangesAt}
 use Rattle.vcd_body.specs.declared.item.Form.{Form}
@@ -8,28 +8,36 @@ use Rattle.vcd_body.proofs.FollowLemmas.{change_sets, is_vector, no_real}
 use Rattle.vcd_body.proofs.StoreLemmas.{alone}
 use Rattle.vcd_body.proofs.table.Table.follow.Goals as goal
 
-pub returns-then-not-turn_at-clause-value : goal.returns-then-not-turn_at-clause-value
-returns-then-not-turn_at-clause-value c = λ laid code k good event is most.
+pub returns-in-All-clause-value : goal.returns-in-All-clause-value
+returns-in-All-clause-value c = λ laid code k good event is most.
+    let old = c.args.self.now in
+    let values = old.values.now in
+    let text = c.args.text.now in
+    let turned = c.in-All.ensures.all refl c.args.form (no_real c.args.form c.if-ne.ensures) c.args.size old.shares.now values in
+    let changes = subst (λ (t : List ℕ). ChangesAt c.args.code (with_change c.args.size c.args.form t) values old.slots.now old.shares.now values c.turn_at.new.slots old.shares.now) (alone text c.in-len1.len_at_least c.in-len1.len_below) turned in
+    change_sets values values old.slots.now c.turn_at.new.slots old.shares.now old.shares.now c.args.code c.args.size c.args.form text code k changes good event is most
+
+pub returns-in-But-clause-changes : goal.returns-in-But-clause-changes
+returns-in-But-clause-changes c = λ laid.
+    let old = c.args.self.now in
+    let new = c.carry.new.self in
+    let turned = c.in-But.ensures.but c.in-But.rises c.in-But.falls refl c.args.form (no_real c.args.form c.if-ne.ensures) c.args.size old.shares.now old.values.now new.values.now new.slots.now new.shares.now c.carry.ensures.changes in
+    subst (λ (t : List ℕ). ChangesAt c.args.code (with_change c.args.size c.args.form t) old.values.now old.slots.now old.shares.now new.values.now new.slots.now new.shares.now) (alone c.args.text.now c.in-len1.len_at_least c.in-len1.len_below) turned
+
+pub returns-in-But-clause-value : goal.returns-in-But-clause-value
+returns-in-But-clause-value c = λ laid code k good event is most.
+    let old = c.args.self.now in
+    let new = c.carry.new.self in
+    change_sets old.values.now new.values.now old.slots.now new.slots.now old.shares.now new.shares.now c.args.code c.args.size c.args.form c.args.text.now code k (returns-in-But-clause-changes c laid) good event is most
+
+pub returns-in-Not-clause-value : goal.returns-in-Not-clause-value
+returns-in-Not-clause-value c = λ laid code k good event is most.
     let old = c.args.self.now in
     let text = c.args.text.now in
     let new = c.follow_any.new.self in
-    let same = c.turn_at.ensures.same c.if-not-turn_at.true in
-    let changes = subst (λ (s : List Slot). ChangesAt c.args.code (with_change c.args.size c.args.form text) old.values.now s old.shares.now new.values.now new.slots.now new.shares.now) same.0
-    (subst (λ (h : List Share). ChangesAt c.args.code (with_change c.args.size c.args.form text) old.values.now c.turn_at.new.slots h new.values.now new.slots.now new.shares.now) same.1 (c.follow_any.ensures.changes (c.turn_at.ensures.laid (length old.values.now) laid))) in
+    let changes = subst (λ (s : List Slot). ChangesAt c.args.code (with_change c.args.size c.args.form text) old.values.now s old.shares.now new.values.now new.slots.now new.shares.now) (c.in-Not.ensures.same refl)
+    (c.follow_any.ensures.changes (c.turn_at.ensures.laid old.shares.now (length old.values.now) laid)) in
     change_sets old.values.now new.values.now old.slots.now new.slots.now old.shares.now new.shares.now c.args.code c.args.size c.args.form text code k changes good event is most
-
-pub returns-else-not-turn_at-clause-laid : goal.returns-else-not-turn_at-clause-laid
-returns-else-not-turn_at-clause-laid c = c.turn_at.ensures.laid (length c.args.self.now.values.now)
-
-pub returns-else-not-turn_at-clause-value : goal.returns-else-not-turn_at-clause-value
-returns-else-not-turn_at-clause-value c = λ laid code k good event is most.
-    let old = c.args.self.now in
-    let values = old.values.now in
-    let new = c.turn_at.new in
-    let text = c.args.text.now in
-    let turned = c.turn_at.ensures.changes c.if-not-turn_at.false c.args.form (no_real c.args.form c.if-ne.ensures) c.args.size values in
-    let changes = subst (λ (t : List ℕ). ChangesAt c.args.code (with_change c.args.size c.args.form t) values old.slots.now old.shares.now values new.slots new.shares) (alone text c.in-len1.len_at_least c.in-len1.len_below) turned in
-    change_sets values values old.slots.now new.slots old.shares.now new.shares c.args.code c.args.size c.args.form text code k changes good event is most
 
 pub returns-in_default-clause-value : goal.returns-in_default-clause-value
 returns-in_default-clause-value c = λ laid code k good event is most.

@@ -7,13 +7,13 @@ use Rattle.vcd_body.proofs.table.Table.real.Goals as goal
 
 pub returns-in-Some : goal.returns-in-Some
 returns-in-Some c = λ laid.
-    let slot = c.in-Some.slot in
-    let at = sym c.slot_at.ensures ∙ c.in-Some.is in
-    let p = share_there c.args.self.now c.args.code slot laid at in
+    let holding = c.in-Some.holding in
+    let at = sym c.holding_at.ensures ∙ c.in-Some.is in
+    let p = share_there c.args.self.now c.args.code holding laid at in
     let old = c.args.self.now in
-    let bytes = take (used slot) (drop (start_in old.shares.now c.args.code) old.values.now) in
-    let held = held_there old c.args.code slot laid at in
-    let is = is_real slot.state c.if-eq.ensures in
+    let bytes = take (used holding) (drop (start_in old.shares.now c.args.code) old.values.now) in
+    let held = held_there old c.args.code holding at in
+    let is = is_real holding.state c.if-eq.ensures in
     ap (λ (b : Bor (List ℕ)). b.now) c.unwrap_or.ensures
     ∙ text_there c.share_in.result _ bytes c.share_in.ensures.share (c.share_in.ensures.there p.0 p.1 p.2)
-    ∙ sym (ap real_text held ∙ ap (λ (st : State). real_text (held_by st slot.len bytes)) is)
+    ∙ sym (ap real_text held ∙ ap (λ (st : State). real_text (held_by st holding.len bytes)) is)

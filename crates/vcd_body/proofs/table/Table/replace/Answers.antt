@@ -9,13 +9,13 @@ use Rattle.vcd_body.proofs.table.Table.replace.Goals as goal
 pub returns-in-len1-Some-clause-step : goal.returns-in-len1-Some-clause-step
 returns-in-len1-Some-clause-step c = λ laid some.
     let old = c.args.self.now in
-    let slot = c.in-len1-Some.slot in
+    let holding = c.in-len1-Some.holding in
     let form = c.is_digit_step.ensures.form c.if-is_digit_step.true in
     let one = c.is_digit_step.ensures.one c.if-is_digit_step.true in
-    let at = sym c.slot.ensures ∙ c.in-len1-Some.is-1 in
-    let before = held_there old c.args.code slot laid at ∙ held_one slot.state slot.len one.0 (take (used slot) (drop (start_in old.shares.now c.args.code) old.values.now)) one.1 in
+    let at = sym c.holding.ensures ∙ c.in-len1-Some.is-1 in
+    let before = held_there old c.args.code holding at ∙ held_one holding.state holding.len one.0 (take (used holding) (drop (start_in old.shares.now c.args.code) old.values.now)) one.1 in
     let is = c.step_by_digit.ensures in
-    digit_step c.step_by_digit.result c.args.form c.args.text.now one.0 c.args.size (one_digit slot.state) (held_at old c.args.code) form c.in-len1-Some.len_at_least c.in-len1-Some.len_below one.1 before (is.differs one.0 one.1) is.rises is.falls
+    digit_step c.step_by_digit.result c.args.form c.args.text.now one.0 c.args.size (one_digit holding.state) (held_at old c.args.code) form c.in-len1-Some.len_at_least c.in-len1-Some.len_below one.1 before (is.differs one.0 one.1) is.rises is.falls
 
 pub returns-in-len1-Some-clause-laid : goal.returns-in-len1-Some-clause-laid
 returns-in-len1-Some-clause-laid c = c.set.ensures.laid

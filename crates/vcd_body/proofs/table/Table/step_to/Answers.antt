@@ -10,7 +10,7 @@ pub returns-in_default : goal.returns-in_default
 returns-in_default c = λ laid some.
     let size = c.args.size in
     let v = value_with size (model_form c.args.form) c.args.text.now in
-    let none = held_nowhere c.args.self.now c.args.code (sym c.slot_at.ensures ∙ c.in_default.is) in
+    let none = held_nowhere c.args.self.now c.args.code (sym c.holding_at.ensures ∙ c.in_default.is) in
     let is = c.step_to_text.ensures in (
       is.differs ∙ sym (ap (λ (h : Held). differs (value_at_size size h) v) none),
       is.rises some size ∙ sym (ap (λ (h : Held). goes_from 48 49 (last_digit_in (value_at_size size h)) (last_digit_in (Some v))) none),
@@ -19,17 +19,17 @@ returns-in_default c = λ laid some.
 
 pub returns-in_default-share_in : goal.returns-in_default-share_in
 returns-in_default-share_in c = λ laid some.
-    let slot = c.in-Some.slot in
-    let at = sym c.slot_at.ensures ∙ c.in-Some.is in
-    let p = share_there c.args.self.now c.args.code slot laid at in
+    let holding = c.in-Some.holding in
+    let at = sym c.holding_at.ensures ∙ c.in-Some.is in
+    let p = share_there c.args.self.now c.args.code holding laid at in
     absurd (c.share_in.ensures.there p.0 p.1 p.2 c.in_default-share_in.is)
 
 pub returns : goal.returns
 returns c = λ laid some.
     let size = c.args.size in
-    let slot = c.in-Some.slot in
+    let holding = c.in-Some.holding in
     let v = value_with size (model_form c.args.form) c.args.text.now in
-    let held = ap (λ (l : List ℕ). held_by slot.state slot.len l) c.in-Some-share_in.ensures.share ∙ sym (held_there c.args.self.now c.args.code slot laid (sym c.slot_at.ensures ∙ c.in-Some.is)) in
+    let held = ap (λ (l : List ℕ). held_by holding.state holding.len l) c.in-Some-share_in.ensures.share ∙ sym (held_there c.args.self.now c.args.code holding (sym c.holding_at.ensures ∙ c.in-Some.is)) in
     let is = c.step_to_text-2.ensures in
     let last = c.last_held.ensures size ∙ ap (λ (h : Held). last_digit_in (value_at_size size h)) held in (
       is.differs ∙ c.value_differs-differs.ensures ∙ ap (λ (h : Held). differs (value_at_size size h) v) held,

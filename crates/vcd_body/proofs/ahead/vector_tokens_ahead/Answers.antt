@@ -1,0 +1,19 @@
+use Rattle.std.proofs.Common.{◌-◌, ap, length, subst}
+use Rattle.vcd_body.specs.Words.{Begins}
+use Rattle.vcd_body.proofs.ahead.vector_tokens_ahead.Goals as goal
+
+pub returns : goal.returns
+returns c = record {
+  opens = λ a o.
+      let token = c.args.opening.token.now in
+      let m = c.in_ok-code.ensures in
+      record {
+        middle = c.args.ahead.now;
+        token = record { gives = o.gives; place = o.place; before = o.before; further = o.further; within = o.within; same = o.same };
+        begins = subst (Begins token) c.requires.first o.begins;
+        code = record { gives = m.gives; place = m.place; before = m.before; further = m.further; within = m.within; same = m.same };
+        at = ap (λ n. n - 1 - length token) c.passed.ensures.passed;
+        code_at = ap (λ n. n - 1 - length c.in_ok-code.code.now) c.passed-2.ensures.passed;
+        bits = c.vector_bits-bits.ensures;
+      };
+}
