@@ -99,7 +99,7 @@ fn is_run_in(
 }
 
 // Whether a task over a dump has this result, and this is written.
-pub fn is_run(
+pub(crate) fn is_run(
     alloc: Global,
     text: &[u8],
     task: Task<'_>,
@@ -110,7 +110,7 @@ pub fn is_run(
 }
 
 // The least room, too small for what a task over a dump writes, in which it does not end at a failed write with what there is room for.
-pub fn wrong_room(
+pub(crate) fn wrong_room(
     alloc: Global,
     text: &[u8],
     task: Task<'_>,

@@ -55,12 +55,12 @@ pub const TENS_HEAD: &[u8] = b"$timescale 10ns $end\n$var wire 1 ! a $end\n$endd
 pub const READ_FAILED: &[u8] = b"vcdkit: (stdin): read failed\n";
 
 // A reader that gives the text, as much at once as is asked for.
-pub fn whole(bytes: &[u8]) -> Pieces<'_> {
+pub(crate) fn whole(bytes: &[u8]) -> Pieces<'_> {
     Pieces::new(bytes, usize::MAX)
 }
 
 // A reader that gives the text, and fails at every read after it.
-pub fn failing(bytes: &[u8]) -> Pieces<'_> {
+pub(crate) fn failing(bytes: &[u8]) -> Pieces<'_> {
     Pieces {
         broken: true,
         ..whole(bytes)
@@ -68,7 +68,7 @@ pub fn failing(bytes: &[u8]) -> Pieces<'_> {
 }
 
 // What good words ask for.
-pub fn wanted(alloc: Global, words: Words<'_, '_>) -> Result<Want, AllocError> {
+pub(crate) fn wanted(alloc: Global, words: Words<'_, '_>) -> Result<Want, AllocError> {
     match want_of(alloc, words) {
         Ok(want) => Ok(want),
         Err(_) => Err(AllocError),
@@ -76,7 +76,7 @@ pub fn wanted(alloc: Global, words: Words<'_, '_>) -> Result<Want, AllocError> {
 }
 
 // The names of both inputs of a merge.
-pub fn merge_names(alloc: Global) -> Result<[String; 2], AllocError> {
+pub(crate) fn merge_names(alloc: Global) -> Result<[String; 2], AllocError> {
     Ok([
         String::from_str(alloc, "a.vcd")?,
         String::from_str(alloc, "b.vcd")?,
@@ -92,7 +92,7 @@ pub struct Left {
 }
 
 // What a job over what a reader with this name gives leaves, with so much room for the output and for the message.
-pub fn run_named(
+pub(crate) fn run_named(
     alloc: Global,
     name: &str,
     job: Job,
@@ -118,7 +118,7 @@ pub fn run_named(
 }
 
 // What a run over what a reader gives, so many bytes at a time, leaves.
-pub fn run_on(
+pub(crate) fn run_on(
     alloc: Global,
     words: Words<'_, '_>,
     limit: usize,
@@ -134,7 +134,7 @@ pub fn run_on(
 }
 
 // A run over what a reader gives, so many bytes at a time, leaves this output, this message and this status.
-pub fn leave<R: Abort + AllocGlobal>(
+pub(crate) fn leave<R: Abort + AllocGlobal>(
     rt: &R,
     words: Words<'_, '_>,
     limit: usize,
@@ -154,7 +154,7 @@ pub fn leave<R: Abort + AllocGlobal>(
 }
 
 // The same under this token limit of a run over what a text gives, and a failed read after it where that is said.
-pub fn leave_under<R: Abort + AllocGlobal>(
+pub(crate) fn leave_under<R: Abort + AllocGlobal>(
     rt: &R,
     words: Words<'_, '_>,
     limit: usize,
@@ -171,7 +171,7 @@ pub fn leave_under<R: Abort + AllocGlobal>(
 }
 
 // A run over what a text gives, and a failed read after it where that is said, leaves this output, this message and this status.
-pub fn give_all<R: Abort + AllocGlobal>(
+pub(crate) fn give_all<R: Abort + AllocGlobal>(
     rt: &R,
     words: Words<'_, '_>,
     (text, fails): (&[u8], bool),
@@ -181,7 +181,7 @@ pub fn give_all<R: Abort + AllocGlobal>(
 }
 
 // A run over a text leaves this output alone.
-pub fn give_output<R: Abort + AllocGlobal>(
+pub(crate) fn give_output<R: Abort + AllocGlobal>(
     rt: &R,
     words: Words<'_, '_>,
     text: &[u8],
@@ -191,7 +191,7 @@ pub fn give_output<R: Abort + AllocGlobal>(
 }
 
 // A run over a text leaves this message alone, as of a fault.
-pub fn give_message<R: Abort + AllocGlobal>(
+pub(crate) fn give_message<R: Abort + AllocGlobal>(
     rt: &R,
     words: Words<'_, '_>,
     text: &[u8],
@@ -202,7 +202,7 @@ pub fn give_message<R: Abort + AllocGlobal>(
 
 // Words are refused once the header is read: a run leaves this message and this status, over the dump, and where each read after the
 // header fails.
-pub fn give_refusal<R: Abort + AllocGlobal>(
+pub(crate) fn give_refusal<R: Abort + AllocGlobal>(
     rt: &R,
     words: Words<'_, '_>,
     dump: &[u8],
@@ -236,7 +236,12 @@ fn is_reported(
 }
 
 // What a run over a text writes has a report.
-pub fn give_report<R: Abort + AllocGlobal>(rt: &R, words: Words<'_, '_>, text: &[u8], chunk: usize)
+pub(crate) fn give_report<R: Abort + AllocGlobal>(
+    rt: &R,
+    words: Words<'_, '_>,
+    text: &[u8],
+    chunk: usize,
+)
     requires { (1 ≤ chunk) × (chunk ≤ 65536) }
 {
     let is = is_reported(rt.alloc(), words, text, chunk);
