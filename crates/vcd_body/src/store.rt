@@ -118,9 +118,7 @@ fn set_digit(slots: &mut [Slot], code: usize, digit: u8)
     ensures laid { (shares : List Share) (n : ℕ) → AreLaidOut slots.old shares n
         → AreLaidOut slots.new shares n }
 {
-    if code < slots.len() {
-        set_how(slots, code, number_of_digit(digit));
-    }
+    set_how(slots, code, number_of_digit(digit));
 }
 
 /// Holds digits in a share: a byte each where it has room for them, and else four to a byte. Says how they are held.
