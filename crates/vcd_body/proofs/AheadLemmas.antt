@@ -192,10 +192,8 @@ module _ (codes : List IdCode) (limit lines : ℕ) (bytes : List ℕ) (before it
         )
 
     -- a time mark
-    pub mark_taken : (n' time line : ℕ) (token : List ℕ) (found : Result ℕ BodyFault) → n < n' → Passed limit lines bytes n' (g.tokens ++ record { bytes = token; line = line } ∷ []) → Some time ≡ result_ok found
-        → ((earlier : List BodyPhrase) → AreRegsAfter (items_of earlier) r → MatchResult found (IsMark earlier token) (Refuses codes earlier token)) → TakesOne n' (regs_after r (item.Time time)) (item.Time time) []
-    mark_taken n' time line token found less p ok m =
-        let h : (earlier : List BodyPhrase) → AreRegsAfter (items_of earlier) r → IsMark earlier token time = λ earlier a. at_ok (IsMark earlier token) (Refuses codes earlier token) found time ok (m earlier a) in
+    pub mark_taken : (n' time line : ℕ) (token : List ℕ) → n < n' → Passed limit lines bytes n' (g.tokens ++ record { bytes = token; line = line } ∷ []) → ((earlier : List BodyPhrase) → AreRegsAfter (items_of earlier) r → IsMark earlier token time) → TakesOne n' (regs_after r (item.Time time)) (item.Time time) []
+    mark_taken n' time line token less p h =
         let known : (earlier : List BodyPhrase) → items_of earlier ≡ before ++ items → AreRegsAfter (items_of earlier) r = λ earlier e. subst (λ (l : List BodyItem). AreRegsAfter l r) (sym e) k in
         let are = items_each (before ++ items) in
         let late : time_after (before ++ items) ≤ time = subst (λ (l : List BodyItem). time_after l ≤ time) are (h (map BodyPhrase.Gives (before ++ items)) (known (map BodyPhrase.Gives (before ++ items)) are)).1 in (

@@ -2,7 +2,7 @@
 use Rattle.std.proofs.Common.{◌≡◌, ℕ, zero, suc, Bool, true, false, cond, ◌&&◌, ◌^◌, ◌<◌, nat_lt, List, [], ◌∷◌, Option, Some, None, refl, sym, subst}
 use Rattle.std.specs.Prelude.{slice_get}
 use Rattle.std.specs.List.{AllZip}
-use Rattle.std.proofs.lemmas.Bool.{and_parts, ltb-true}
+use Rattle.std.proofs.lemmas.Bool.{and_parts, lt-ltb, ltb-true}
 use Rattle.std.proofs.lemmas.Option.{cond_some}
 use Rattle.vcd_model.specs.Bytes.{is_decimal, decimal_value}
 use Rattle.vcd_model.specs.Declarations.{IdCode}
@@ -35,6 +35,10 @@ pub time_fits : (digits : List ℕ) (time : ℕ) → (is_decimal digits && nat_l
 time_fits digits time both value =
     let p = and_parts (is_decimal digits) (nat_lt (decimal_value digits) (2 ^ 64)) both in
     (p.0, value, subst (λ n. n < 2 ^ 64) value (ltb-true (decimal_value digits) (2 ^ 64) p.1))
+
+-- and digits of a number below 2^64 spell it
+pub time_whole : (digits : List ℕ) (time : ℕ) → is_decimal digits ≡ true → decimal_value digits ≡ time → time < 2 ^ 64 → (is_decimal digits && nat_lt (decimal_value digits) (2 ^ 64)) ≡ true
+time_whole digits time decimal value less = rw (decimal, value, lt-ltb time (2 ^ 64) less) refl
 
 none_of : (b : Bool) (v : ℕ) → cond b (Some v) None ≡ None → b ≡ false
 none_of false v h = refl

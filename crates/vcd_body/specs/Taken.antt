@@ -1,5 +1,6 @@
 -- What is taken ahead: a token where a phrase begins, and then the whole item.
-use Rattle.std.specs.Prelude.{◌≡◌, ℕ, ◌+◌, ◌-◌, ◌<◌, ◌≤◌, List, [], ◌∷◌, ◌++◌, IfSome, drop, length, slice_range}
+use Rattle.std.specs.Prelude.{◌≡◌, ℕ, ◌+◌, ◌-◌, ◌^◌, ◌<◌, ◌≤◌, true, List, [], ◌∷◌, ◌++◌, IfSome, drop, length, slice_range}
+use Rattle.vcd_model.specs.Bytes.{decimal_value, is_decimal}
 use Rattle.vcd_model.specs.Header.{Header}
 use Rattle.vcd_model.specs.Items.{BodyItem}
 use Rattle.vcd_model.specs.Tokens.{Token}
@@ -30,6 +31,10 @@ pub record Opens (a a' : Ahead) (o : Opening) : Type 0 where
   pub further : passed_of a + length o.token.now + 1 ≤ passed_of a'
   pub within : passed_of a' ≤ length (bytes_of a)
   pub same : (bytes_of a' ≡ bytes_of a) × (longest_of a' ≡ longest_of a)
+
+-- a mark's digits spell this time
+abbrev pub HasTime : Opening → ℕ → Type 0
+HasTime o time = (is_decimal (drop 1 o.token.now) ≡ true) × (decimal_value (drop 1 o.token.now) ≡ time) × (time < 2 ^ 64)
 
 -- the token after it was taken
 pub record TakesToken (a a' : Ahead) (token : List ℕ) : Type 0 where

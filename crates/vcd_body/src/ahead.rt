@@ -22,14 +22,14 @@ ghost use Rattle.vcd_body.specs.Reads.{GaveItems};
 ghost use Rattle.vcd_body.specs.Given.{HasGoodText, IsGoodText, IsItem};
 ghost use Rattle.vcd_body.specs.Ahead.{GaveAhead, GaveLast, HasBits, IsPlain, IsSizedItem, LooksOver, PassBoth};
 ghost use Rattle.vcd_body.specs.Spelled.{HasSpelled, Names};
-ghost use Rattle.vcd_body.specs.Taken.{Opens, OpensVector, TakesItem};
+ghost use Rattle.vcd_body.specs.Taken.{HasTime, Opens, OpensVector, TakesItem};
 ghost use Rattle.vcd_view.specs.declared.view.HeadView.{HeadView};
 
 use crate::bits::Bits;
 use crate::item::{Form, Item, Regs};
-use crate::phrases::{scalar_code, takes, time_of};
+use crate::phrases::{scalar_code, takes};
 use crate::words::{First, are_digits_or_known, bits_at, first_byte_of, first_of, rest_of};
-use vcd_text::{Ahead, Feed, Source};
+use vcd_text::{Ahead, Feed, Source, decimal_of};
 use vcd_view::{Found, HeadView, find_sized};
 
 /// An item that was taken ahead.
@@ -294,23 +294,36 @@ pub fn real_ahead<'a>(
     Some(change_of(found, Form::RealText, rest_of(token), None, at + 1, code_at))
 }
 
-/// The time mark that a token is, and the registers after it. The place is that after it; none where it is no mark that may stand here,
+/// The time of the mark that a token is; none where it spells none.
+#[inline(always)]
+pub fn time_ahead(opening: Opening<'_>) -> Option<u64>
+    ensures { IfSome result (λ time. HasTime opening.entry time) }
+{
+    decimal_of(rest_of(opening.token))
+}
+
+/// The mark of the time that a token spells, and the registers after it. The place is that after it; none where it may not stand here,
 /// and then nothing has changed.
 #[inline(always)]
-pub fn mark_ahead<'a>(opening: Opening<'a>, ahead: Ahead<'a>, regs: &mut Regs) -> Option<Plain<'a>>
+pub fn mark_ahead<'a>(
+    opening: Opening<'a>,
+    time: u64,
+    ahead: Ahead<'a>,
+    regs: &mut Regs,
+) -> Option<Plain<'a>>
     requires opens { (a : Ahead) × Opens a ahead opening }
     requires first { opening.first ≡ first.Mark }
+    requires time { HasTime opening time }
     ensures takes { IfSome result (λ plain. (a : Ahead) (v : HeadView)
         → Opens a ahead.entry opening.entry → TakesItem v a ahead.entry regs.old plain) }
-    ensures time { IfSome result (λ plain. (time : ℕ) × (plain.item ≡ item.Time time)) }
+    ensures time { IfSome result (λ plain. plain.item ≡ item.Time time) }
     ensures regs { MatchOption result (regs.new ≡ regs.old)
         (λ plain. regs.new ≡ regs_after regs.old plain.item) }
 {
-    let token = opening.token;
-    let time = time_of(token, *regs).ok()?;
-    regs.time = time;
-    regs.marked = true;
-    let at = ahead.passed() - 1 - token.len();
+    if !regs.take_mark(time) {
+        return None;
+    }
+    let at = ahead.passed() - 1 - opening.token.len();
     Some(mark_of(time, at + 1))
 }
 
@@ -366,7 +379,10 @@ pub fn item_ahead<'a>(
             let tokens = vector_tokens_ahead(opening, &mut next)?;
             vector_ahead(tokens, tokens.bits, next, view)?
         }
-        First::Mark => mark_ahead(opening, next, regs)?,
+        First::Mark => {
+            let time = time_ahead(opening)?;
+            mark_ahead(opening, time, next, regs)?
+        }
         First::Real => real_ahead(opening, &mut next, view)?,
         First::Other => return None,
     };

@@ -51,8 +51,9 @@ pub struct Regs {
 }
 
 impl Regs {
-    ghost use Rattle.std.specs.Prelude.{◌≡◌, [], false, None};
-    ghost use Rattle.vcd_body.specs.Items.{AreRegsAfter};
+    ghost use Rattle.std.specs.Prelude.{◌≡◌, [], false, not, cond, ◌&&◌, nat_le, is_some, None};
+    ghost use Rattle.vcd_body.specs.Items.{AreRegsAfter, regs_after};
+    ghost use Rattle.vcd_body.specs.declared.item.Item.TheVariants as item;
 
     /// Before the first item.
     pub fn new() -> Regs
@@ -64,5 +65,21 @@ impl Regs {
             marked: false,
             section: None,
         }
+    }
+
+    /// Takes a time mark, and returns whether one may stand here: outside a section, and at no time before the last one. Where it may not,
+    /// nothing changes.
+    // Out of line, so that a loop over items keeps neither time nor mark at hand for it.
+    #[inline(never)]
+    pub(crate) fn take_mark(&mut self, time: u64) -> bool
+        ensures may { result ≡ (not (is_some self.old.section) && nat_le self.old.time time) }
+        ensures regs { self.new ≡ cond result (regs_after self.old (item.Time time)) self.old }
+    {
+        if self.section.is_some() || time < self.time {
+            return false;
+        }
+        self.time = time;
+        self.marked = true;
+        true
     }
 }

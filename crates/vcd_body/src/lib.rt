@@ -20,9 +20,10 @@
 //! `GaveAhead codes limit lines bytes n before items`: the first n bytes ahead are phrases with these items, which go on behind
 //! any with the items before. `item_ahead` takes it to one item more; `pass_items` takes `GaveItems` to all of them, and at the
 //! last of them to `GaveLast`, which tells how much was read. `opening_ahead` takes the token that an item begins with (`Opens`), and
-//! `scalar_ahead`, `real_ahead` and `mark_ahead` the item that it begins (`TakesItem`), as `vector_tokens_ahead` (`OpensVector`) and
-//! `vector_ahead` do, so that a loop which does something else with each asks once what it is; `item_ahead` is those six. `HasSpelled view bytes from to text item` says by which bytes a change
-//! that was taken ahead is spelled; `left_out` asks for it.
+//! `scalar_ahead` and `real_ahead` the item that it begins (`TakesItem`), as `vector_tokens_ahead` (`OpensVector`) and `vector_ahead`
+//! do, and `time_ahead` (`HasTime`) and `mark_ahead`, so that a loop which does something else with each asks once what it is;
+//! `item_ahead` is those seven. `HasSpelled view bytes from to text item` says by which bytes a change that was taken ahead is spelled;
+//! `left_out` asks for it.
 //!
 //! What is kept of a code is told by `kept_at t code`, over each place. A call of a table changes what is kept of the code at
 //! the place that it names, and nothing else (`ChangesCode`).
@@ -78,7 +79,7 @@ mod words;
 
 pub use ahead::{
     Opening, Plain, VectorTokens, item_ahead, mark_ahead, opening_ahead, pass_items, real_ahead,
-    scalar_ahead, vector_ahead, vector_tokens_ahead,
+    scalar_ahead, time_ahead, vector_ahead, vector_tokens_ahead,
 };
 pub use answer::{Done, More, Stop};
 pub use bits::Bits;

@@ -33,7 +33,7 @@ use crate::pieces::{Lying, Pieces, line_before};
 use crate::task::{Room, Task};
 use vcd_body::{
     First, Item, Plain, Regs, Stop, mark_ahead, opening_ahead, real_ahead, scalar_ahead,
-    vector_ahead, vector_tokens_ahead,
+    time_ahead, vector_ahead, vector_tokens_ahead,
 };
 use vcd_text::{Ahead, Sink, WriteFailed};
 use vcd_view::HeadView;
@@ -251,13 +251,12 @@ fn take_next<T: Taker, W: Sink>(
             }
         }
         First::Mark => {
-            let mut after = *regs;
-            let plain = mark_ahead(opening, next, &mut after)?;
-            if taker.leaves(after.time) {
+            let time = time_ahead(opening)?;
+            if taker.leaves(time) {
                 return None;
             }
-            *regs = after;
-            taker.take_one(view, after, plain, out)
+            let plain = mark_ahead(opening, time, next, regs)?;
+            taker.take_one(view, *regs, plain, out)
         }
         First::Real => {
             let plain = real_ahead(opening, &mut next, view)?;
@@ -493,7 +492,8 @@ fn take_next_lying<T: Copier, W: Sink>(
             }
         }
         First::Mark => {
-            let plain = mark_ahead(opening, next, regs)?;
+            let time = time_ahead(opening)?;
+            let plain = mark_ahead(opening, time, next, regs)?;
             take_found(copier, view, *regs, plain, from, next, line, pieces, out)
         }
         First::Real => {

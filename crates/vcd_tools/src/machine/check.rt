@@ -42,9 +42,9 @@ impl Check {
             → AreCounted items self.old → AreCounted (items ++ x ∷ []) self.new }
     {
         match item {
-            Item::Time(_) => self.times = self.times.saturating_add(1),
-            Item::Begin(_) => self.sections = self.sections.saturating_add(1),
-            Item::Change { .. } => self.changes = self.changes.saturating_add(1),
+            Item::Time(_) => self.times = self.times.wrapping_add(1),
+            Item::Begin(_) => self.sections = self.sections.wrapping_add(1),
+            Item::Change { .. } => self.changes = self.changes.wrapping_add(1),
             Item::End => {}
             Item::Finish => {}
         }

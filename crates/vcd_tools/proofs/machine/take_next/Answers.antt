@@ -130,8 +130,8 @@ returns-in_ok-plain-in-Real-clause-next g c =
       early = t.early;
     }
 
-pub returns-else-leaves-clause-next : goal.returns-else-leaves-clause-next
-returns-else-leaves-clause-next g c =
+pub returns-in_ok-plain-in-Mark-clause-next : goal.returns-in_ok-plain-in-Mark-clause-next
+returns-in_ok-plain-in-Mark-clause-next g c =
     let r = c.args.regs.now in
     let n = c.in_ok-plain-in-Mark.ensures in
     let t = c.take_one-taken-in-Mark.ensures in

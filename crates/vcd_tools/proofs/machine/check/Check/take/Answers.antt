@@ -1,4 +1,4 @@
-use Rattle.std.proofs.Common.{◌≡◌, ◌+◌, subst, arith}
+use Rattle.std.proofs.Common.{◌≡◌, ◌+◌, ◌%◌, ◌^◌, subst, arith}
 use Rattle.vcd_model.specs.Items.{BodyItem}
 use Rattle.vcd_body.specs.Items.{model_section}
 use Rattle.vcd_body.specs.declared.item.Item.{Item}
@@ -11,7 +11,7 @@ returns-in-Time c = λ items x is few counted.
     let old = c.args.self.now in
     let n = (are_few items old counted).times in
     let k : x ≡ BodyItem.Time c.in-Time.field-0 = subst (λ (i : Item). IsOfKind i x) c.in-Time.is is in
-    let e : c.saturating_add-self.result ≡ old.times + 1 = omega (arith, c.saturating_add-self.ensures, n) in
+    let e : (old.times + 1) % 2 ^ 64 ≡ old.times + 1 = omega (arith, n) in
     rw (k, e) (counted_time items old counted c.in-Time.field-0)
 
 pub returns-in-Begin : goal.returns-in-Begin
@@ -19,7 +19,7 @@ returns-in-Begin c = λ items x is few counted.
     let old = c.args.self.now in
     let n = (are_few items old counted).sections in
     let k : x ≡ BodyItem.Begin (model_section c.in-Begin.field-0) = subst (λ (i : Item). IsOfKind i x) c.in-Begin.is is in
-    let e : c.saturating_add-self-in-Begin.result ≡ old.sections + 1 = omega (arith, c.saturating_add-self-in-Begin.ensures, n) in
+    let e : (old.sections + 1) % 2 ^ 64 ≡ old.sections + 1 = omega (arith, n) in
     rw (k, e) (counted_begin items old counted c.in-Begin.field-0)
 
 pub returns-in-Change : goal.returns-in-Change
@@ -27,7 +27,7 @@ returns-in-Change c = λ items x is few counted.
     let old = c.args.self.now in
     let n = (are_few items old counted).changes in
     let k = subst (λ (i : Item). IsOfKind i x) c.in-Change.is is in
-    let e : c.saturating_add-self-in-Change.result ≡ old.changes + 1 = omega (arith, c.saturating_add-self-in-Change.ensures, n) in
+    let e : (old.changes + 1) % 2 ^ 64 ≡ old.changes + 1 = omega (arith, n) in
     rw (k.1, e) (counted_change items old counted k.0)
 
 pub returns-in-End : goal.returns-in-End
