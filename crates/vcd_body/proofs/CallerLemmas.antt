@@ -1,19 +1,17 @@
 -- What callers use: nothing was given yet, and what was given stands first in the body.
 use Rattle.std.proofs.Common.{◌≡◌, ℕ, List, [], ◌∷◌, ◌++◌, Option, Some, None, refl, sym, ap, subst, ◌∙◌, append-nil, arith}
-use Rattle.std.proofs.lemmas.List.{append_assoc, map-append}
-use Rattle.std.proofs.lemmas.List.Elements.{filter_map-append}
+use Rattle.std.proofs.lemmas.List.{append_assoc}
 use Rattle.vcd_model.specs.Input.{Input}
-use Rattle.vcd_model.specs.Tokens.{Token, stream_of}
-use Rattle.vcd_model.specs.Laws.{IsPrefixOf}
+use Rattle.vcd_model.specs.Tokens.{Token}
 use Rattle.vcd_model.specs.Declarations.{IdCode}
 use Rattle.vcd_model.specs.Items.{BodyItem}
-use Rattle.vcd_model.specs.BodyPhrases.{BodyPhrase, body_phrase, items_of}
-use Rattle.vcd_model.specs.BodyReading.{body_grammar, read_body, body_items}
+use Rattle.vcd_model.specs.BodyPhrases.{BodyPhrase, body_phrase}
+use Rattle.vcd_model.specs.BodyReading.{body_grammar}
 use Rattle.vcd_model.specs.BodyChecks.{body_fault}
 use Rattle.vcd_model.specs.Reading.{Placed, Reading, phrases_of, reading_of}
 use Rattle.vcd_model.specs.SoFar.{IsSoFar}
 use Rattle.vcd_model.proofs.SoFarLemmas.{so_far-nothing, so_far-token, so_far-phrase, faulty-token}
-use Rattle.vcd_text.specs.Feed.{HasGiven, limit_of, token_of}
+use Rattle.vcd_text.specs.Feed.{HasGiven, token_of}
 use Rattle.vcd_text.specs.declared.device.Source.{Ghosts}
 use Rattle.vcd_text.specs.declared.feed.Feed.{Feed}
 use Rattle.vcd_body.specs.declared.item.Regs.{Regs}
@@ -61,19 +59,6 @@ module _ (codes : List IdCode) where
 same_behind : (front xs ys : List Token) → front ++ xs ≡ front ++ ys → xs ≡ ys
 same_behind [] xs ys e = e
 same_behind (t ∷ front) xs ys e = same_behind front xs ys (let s : front ++ xs ≡ front ++ ys = cc in s)
-
--- the items given so far are the first ones of the body, whatever follows them
-pub items_first : {X : Type 0} {g : Ghosts X} (codes : List IdCode) (i : Input) (front : List Token) (items : List BodyItem) (f : Feed X g) (r : Regs) (rest : List Token) → GaveItems codes i front items f r
-    → (stream_of (limit_of f) i).tokens ≡ front ++ rest → IsPrefixOf items (body_items (read_body codes rest))
-unfolding read_body
-items_first codes i front items f r rest h e =
-    let first : IsPrefixOf (front ++ h.given) (stream_of (limit_of f) i).tokens = h.stands.given_first in
-    let same = same_behind front rest (h.given ++ first.0) (sym e ∙ first.1 ∙ append_assoc front h.given first.0) in
-    let on = goes_on codes first.0 h.given h.placed [] h.so_far in (
-      items_of (phrases_of on.0),
-      ap (λ (l : List Token). body_items (reading_of (body_grammar codes) l)) same ∙ ap (λ (l : List (Placed BodyPhrase)). items_of (phrases_of l)) on.1
-          ∙ rw (map-append, filter_map-append) (ap (λ (l : List BodyItem). l ++ items_of (phrases_of on.0)) h.items_are),
-    )
 
 -- ---- ahead of the feed
 

@@ -57,9 +57,6 @@ code_lane text at k p room less is =
     let long = length-chunk at 16 text room in
     get_or-map code_of (chunk at 16 text) k 0 0 (omega (arith, long, less)) ∙ ap code_of (get_or-chunk at 16 text k 0 less ∙ ap (λ j. get_or text j 0) is) ∙ sym (in_text text p (omega arith))
 
-pub long_codes : (text : List ℕ) (at : ℕ) → at + 16 ≤ length text → length (map code_of (chunk at 16 text)) ≡ 16
-long_codes text at room = length-map (chunk at 16 text) code_of ∙ length-chunk at 16 text room
-
 -- ---- a lane plus four times another
 
 pub long_4_times : (low high : List ℕ) → length low ≡ 16 → length high ≡ 16 → length (zip2 added low (zip2 added (zip2 added high high) (zip2 added high high))) ≡ 16

@@ -6,7 +6,7 @@ use Rattle.std.specs.Char.{to_ascii_lowercase}
 use Rattle.std.specs.Str.{bytes_eq, str_to_ascii_lowercase}
 use Rattle.std.proofs.lemmas.Bool.{cases_lt}
 use Rattle.std.proofs.lemmas.Bool.Decides.{same_from_decides}
-use Rattle.std.proofs.lemmas.List.{length-append, length-map, length-replicate, same_lists}
+use Rattle.std.proofs.lemmas.List.{length-append, length-map, length-replicate}
 use Rattle.std.proofs.lemmas.Slice.Eq.{bytes_eq-Decides}
 use Rattle.vcd_model.specs.Values.{extend, extension}
 use Rattle.vcd_body.specs.Kept.{last_digit_in, value_at_size}
@@ -63,12 +63,6 @@ cut_again ds n size fits more =
 -- ---- two rows of digits
 
 module _ (xs ys : List ℕ) (size : ℕ) where
-  other_lengths : max size (length xs) ≢ max size (length ys) → extend xs size ≢ extend ys size
-  other_lengths other e =
-      let l = ap length e in
-      let a = length_extended xs size in
-      let b = length_extended ys size in
-      other (omega arith)
 
   -- at a size that both fit
   pub same_where_fit : (n : ℕ) → length xs ≤ n → length ys ≤ n → n ≤ size → (r : Bool) → Decides r (extend xs n ≡ extend ys n) → Decides r (extend xs size ≡ extend ys size)
@@ -94,9 +88,6 @@ module _ (xs ys : List ℕ) (size : ℕ) where
 
   pub differ_at_longest : (n : ℕ) → n ≡ max (length xs) (length ys) → max size (length xs) ≡ max size (length ys) → (r : Bool) → Decides r (extend xs n ≡ extend ys n) → not r ≡ not (bytes_eq (extend xs size) (extend ys size))
   differ_at_longest n is fill r d = test_is r (same_at_longest n is fill r d)
-
-  pub differ_in_length : max size (length xs) ≢ max size (length ys) → true ≡ not (bytes_eq (extend xs size) (extend ys size))
-  differ_in_length other = test_is false ((λ f. absurd (let g : false ≡ true = f in cc)), λ same. absurd (other_lengths other same))
 
 -- they differ
 pub differ_for : (xs ys : List ℕ) (size : ℕ) → extend xs size ≢ extend ys size → true ≡ not (bytes_eq (extend xs size) (extend ys size))
@@ -162,26 +153,6 @@ none_yet xs ys size few less k most =
     let a = length_extended xs size in
     let b = length_extended ys size in
     get_past (extend xs size) k 0 (omega arith) ∙ sym (get_past (extend ys size) k 0 (omega arith))
-
--- after one more
-pub one_further : (place next : ℕ) (xs ys : List ℕ) → next ≡ place + 1 → get_or xs place 0 ≡ get_or ys place 0 → SameFrom next xs ys → SameFrom place xs ys
-one_further place next xs ys is here rest k from = by_place (cases_lt place k)
-  where
-    by_place : (place < k) ⊎ (k ≤ place) → get_or xs k 0 ≡ get_or ys k 0
-    by_place (inl more) = rest k (omega arith)
-    by_place (inr less) = let e : k ≡ place = omega arith in rw e here
-
--- after all
-pub all_same : (xs ys : List ℕ) (size : ℕ) → length xs ≤ size → length ys ≤ size → SameFrom 0 (extend xs size) (extend ys size) → extend xs size ≡ extend ys size
-all_same xs ys size few less same =
-    let a = length_extended xs size in
-    let b = length_extended ys size in
-    same_lists (extend xs size) (extend ys size) (omega arith) (λ k d within. or_zero (extend xs size) k d within ∙ same k (omega arith) ∙ sym (or_zero (extend ys size) k d (omega arith)))
-  where
-    or_zero : (l : List ℕ) (k d : ℕ) → k < length l → get_or l k d ≡ get_or l k 0
-    or_zero [] k d h = absurd (omega arith)
-    or_zero (x ∷ l) zero d h = refl
-    or_zero (x ∷ l) (suc k) d h = or_zero l k d (omega arith)
 
 -- as many digits on both sides are compared as they are
 pub differ_where_as_many : (xs ys : List ℕ) (size : ℕ) → length xs ≡ length ys → (r : Bool) → Decides r (xs ≡ ys) → not r ≡ not (bytes_eq (extend xs size) (extend ys size))

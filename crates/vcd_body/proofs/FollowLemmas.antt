@@ -1,8 +1,8 @@
 -- What a table keeps of a code whose value was set and whose step was counted.
 use Rattle.std.proofs.Common.{◌≡◌, ◌≢◌, ◌⊎◌, inl, inr, ℕ, ◌+◌, ◌<◌, ◌≤◌, ◌==◌, ◌%◌, ◌^◌, max, not, Bool, true, false, cond, List, [], ◌∷◌, length, take, drop, slice_get, Option, Some, None, refl, subst, sym, ap, ◌∙◌, arith}
-use Rattle.std.specs.Prelude.{nat_lt, option_map, unwrap_or}
+use Rattle.std.specs.Prelude.{option_map, unwrap_or}
 use Rattle.std.specs.Char.{to_ascii_lowercase}
-use Rattle.std.proofs.lemmas.Bool.{eq-eqb, eqb-true, lt-ltb, ne_eqb}
+use Rattle.std.proofs.lemmas.Bool.{eq-eqb, lt-ltb, ne_eqb}
 use Rattle.vcd_model.specs.Values.{Value, value_with}
 use Rattle.vcd_view.specs.declared.view.Code.{Code}
 use Rattle.vcd_body.specs.Contents.{ChangesCode, held_at, kept_at}
@@ -26,7 +26,7 @@ use Rattle.vcd_body.proofs.BinaryLemmas.{length_binary, proper, proper_count}
 use Rattle.vcd_body.proofs.NumberLemmas.{number_is_text, number_step, proper_number}
 use Rattle.vcd_body.proofs.SetLemmas.{good_value}
 use Rattle.vcd_body.proofs.StepLemmas.{digit_step}
-use Rattle.vcd_body.proofs.StoreLemmas.{held_one, kept_parts, same_or_not, some_in, text_fits, told_state}
+use Rattle.vcd_body.proofs.StoreLemmas.{held_one, kept_parts, same_or_not, some_in, text_fits}
 
 -- a step tells what is counted
 pub changed_by : (s : Step) (size : ℕ) (f : Form) (text : List ℕ) (k : Kept) → 0 < length text → IsStep s (value_at_size size k.held) (value_with size (model_form f) text)
@@ -209,13 +209,6 @@ set_and_counted old mid new code size f text s sets some is differed counts =
     (λ k at. sym (changed_by s size f text k some (subst (λ (h : Held). IsStep s (value_at_size size h) (value_with size (model_form f) text)) (held_is old code k at) is) ∙ ap (λ (b : Bool). cond b (with_step s.rises s.falls (with_text f text k)) (with_text f text k)) differed))
     (change_twice code (with_text f text) (with_step s.rises s.falls) old.values.now mid.values.now new.values.now old.slots.now mid.slots.now new.slots.now old.shares.now mid.shares.now new.shares.now sets counts)
 
--- the value that was set, and is the one before it
-pub set_alone : (old new : Table) (code size : ℕ) (f : Form) (text : List ℕ) (s : Step) → ChangesCode code (with_text f text) old new → 0 < length text → IsStep s (value_at_size size (held_at old code)) (value_with size (model_form f) text) → s.differs ≡ false
-    → ChangesCode code (with_change size f text) old new
-set_alone old new code size f text s sets some is stayed =
-    change_as code (with_text f text) (with_change size f text) old.values.now new.values.now old.slots.now new.slots.now old.shares.now new.shares.now
-    (λ k at. sym (changed_by s size f text k some (subst (λ (h : Held). IsStep s (value_at_size size h) (value_with size (model_form f) text)) (held_is old code k at) is) ∙ ap (λ (b : Bool). cond b (with_step s.rises s.falls (with_text f text k)) (with_text f text k)) stayed)) sets
-
 -- the same of binary digits
 pub number_and_counted : (old mid new : Table) (code size l n : ℕ) (s : Step) → ChangesCode code (with_number l n) old mid → IsStep s (value_at_size size (held_at old code)) (value_with size (model_form form.Vector) (binary_digits l n)) → s.differs ≡ true
     → ChangesCode code (with_step s.rises s.falls) mid new → ChangesCode code (with_number_change size l n) old new
@@ -229,17 +222,6 @@ pub number_alone : (old new : Table) (code size l n : ℕ) (s : Step) → Change
 number_alone old new code size l n s sets is stayed =
     change_as code (with_number l n) (with_number_change size l n) old.values.now new.values.now old.slots.now new.slots.now old.shares.now new.shares.now
     (λ k at. sym (changed_to s size l n k (subst (λ (h : Held). IsStep s (value_at_size size h) (value_with size (model_form form.Vector) (binary_digits l n))) (held_is old code k at) is) ∙ ap (λ (b : Bool). cond b (with_step s.rises s.falls (with_number l n k)) (with_number l n k)) stayed)) sets
-
--- an empty text is passed over
-pub none_changes : (t : Table) (code size : ℕ) (f : Form) (text : List ℕ) → (length text == 0) ≡ true → ChangesCode code (with_change size f text) t t
-none_changes t code size f text none =
-    change_as code (λ (k : Kept). k) (with_change size f text) t.values.now t.values.now t.slots.now t.slots.now t.shares.now t.shares.now (λ k at. sym (ap (λ (n : ℕ). cond (nat_lt 0 n) (with_counted (value_at_size size k.held) (value_with size (model_form f) text) (with_text f text k)) k) (eqb-true (length text) 0 none)))
-    (λ p. by_case (p == code) (kept_in t.values.now t.slots.now t.shares.now p))
-  where
-    by_case : (b : Bool) (o : Option Kept) → o ≡ cond b (option_map (λ (k : Kept). k) o) o
-    by_case true None = refl
-    by_case true (Some k) = refl
-    by_case false o = refl
 
 -- a change that sets a text leaves the value of the text
 pub change_sets : (values values' : List ℕ) (slots slots' : List Slot) (shares shares' : List Share) (code size : ℕ) (f : Form) (text : List ℕ) (c : Code) (k : Kept) → ChangesAt code (with_change size f text) values slots shares values' slots' shares' → IsText f c text → c.event ≡ false → kept_in values slots shares code ≡ Some k → share_of c.size ≤ k.room

@@ -1,7 +1,6 @@
 -- The value that a slot holds, digit by digit.
 use Rattle.std.proofs.Common.{◌≡◌, ℕ, zero, suc, ◌-◌, ◌<◌, ◌≤◌, List, [], ◌∷◌, ◌++◌, length, take, map, replicate, slice_get, Some, None, refl, sym, ap, ◌∙◌, arith}
-use Rattle.std.proofs.lemmas.List.{length-map, length-take}
-use Rattle.std.proofs.lemmas.Option.{slice_get_past}
+use Rattle.std.proofs.lemmas.List.{length-map}
 use Rattle.vcd_model.specs.Values.{extend, extension}
 use Rattle.vcd_body.specs.Kept.{Held, bytes_for, digit_in, value_at_size}
 use Rattle.vcd_body.specs.Binary.{binary_digits, count_in, number_in}
@@ -19,9 +18,6 @@ get_taken xs zero i h = absurd (omega arith)
 get_taken [] (suc n) i h = refl
 get_taken (x ∷ xs) (suc n) zero h = refl
 get_taken (x ∷ xs) (suc n) (suc i) h = get_taken xs n i (omega arith)
-
-pub none_taken : {X : Type 0} (xs : List X) (n i : ℕ) → n ≤ i → slice_get (take n xs) i ≡ None
-none_taken xs n i h = slice_get_past (take n xs) i (let l = length-take n xs in omega arith)
 
 -- so many packed digits are held
 pub length_held : (len : ℕ) (bytes : List ℕ) → bytes_for len ≤ length bytes → length (digits_in len bytes) ≡ len

@@ -24,9 +24,6 @@ use Rattle.vcd_body.specs.Reads.{Passes}
 head_and_rest : (token : List ℕ) (b : ℕ) (rest : List ℕ) → token ≡ b ∷ rest → token ≡ b ∷ drop 1 token
 head_and_rest token b rest e = e ∙ ap (λ l. b ∷ l) (sym (ap (drop 1) e))
 
-pub filled_token : (token : List ℕ) (b : ℕ) (rest : List ℕ) → token ≡ b ∷ rest → 1 ≤ length token
-filled_token token b rest e = let n = ap length e in omega arith
-
 pub first_byte : (token : List ℕ) (b : ℕ) (rest : List ℕ) → token ≡ b ∷ rest → take 1 token ≡ b ∷ []
 first_byte token b rest e = ap (take 1) e
 

@@ -26,9 +26,6 @@ use Rattle.vcd_body.proofs.TokenLemmas.{taken_phrase}
 use Rattle.vcd_body.proofs.FindLemmas.{code_at}
 use Rattle.vcd_body.proofs.PhraseLemmas.{real_passes, vector_passes}
 
-abbrev pub the_code : Code
-the_code = record { start = 0; len = 0; size = 0; event = false }
-
 module _ {X : Type 0} {g : Ghosts X} (codes : List IdCode) (i : Input) (front : List Token) (placed : List (Placed BodyPhrase)) (f : Feed X g) (t : List ℕ) where
   -- the code's token was looked at, and is declared
   abbrev FoundBehind : ℕ → Type 0

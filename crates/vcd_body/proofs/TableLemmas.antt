@@ -1,5 +1,5 @@
 -- The value of a code of a view, as the table has it.
-use Rattle.std.proofs.Common.{Bor, ◌≡◌, ◌≢◌, [], ◌<◌, ◌≤◌, ◌==◌, ◌||◌, Bool, true, false, cond, ◌⊎◌, inl, inr, ℕ, ◌+◌, arith, List, slice_get, Option, Some, None, refl, sym, ap, ◌∙◌}
+use Rattle.std.proofs.Common.{Bor, ◌≡◌, ◌≢◌, [], ◌<◌, ◌≤◌, Bool, true, false, cond, ℕ, ◌+◌, arith, List, slice_get, Option, Some, None, refl, sym, ap, ◌∙◌}
 use Rattle.std.specs.Prelude.{IfSome, option_map, option_and_then, unwrap_or, length, map, slice_range, ◌∷◌, sum_by}
 use Rattle.std.specs.List.{AllZip}
 use Rattle.std.proofs.lemmas.List.Sums.{sum_by-cons}
@@ -12,9 +12,9 @@ use Rattle.vcd_view.specs.Shown.{text_in}
 use Rattle.vcd_view.specs.Views.{IsCode, IsViewOf}
 use Rattle.vcd_view.specs.declared.view.Code.{Code}
 use Rattle.vcd_view.specs.declared.view.HeadView.{HeadView}
-use Rattle.vcd_body.specs.Contents.{ChangesCode, IsLaidOut, codes_in, codes_shown, held_at, is_chosen, kept_at, line_of, shown_code, value_in}
-use Rattle.vcd_body.specs.Kept.{Held, Kept, as_chosen, value_at_size}
-use Rattle.vcd_body.specs.Stored.{Whole, end_at, held_from, holding_of, holding_at, kept_with, room_of, share_of, some_by, start_in, start_or, used, whole}
+use Rattle.vcd_body.specs.Contents.{IsLaidOut, codes_shown, held_at, line_of, shown_code, value_in}
+use Rattle.vcd_body.specs.Kept.{Held, Kept, value_at_size}
+use Rattle.vcd_body.specs.Stored.{Whole, end_at, held_from, holding_of, holding_at, kept_with, room_of, share_of, some_by, start_in, start_or, used}
 use denote.Enum.Bare.{sameb}
 use Rattle.vcd_body.specs.contracts.slot.State.{the_type}
 use Rattle.vcd_body.specs.declared.slot.Holding.{Holding}
@@ -23,8 +23,8 @@ use Rattle.vcd_body.specs.declared.slot.Slot.{Slot}
 use Rattle.vcd_body.specs.declared.slot.State.{State}
 use Rattle.vcd_body.specs.declared.slot.State.TheVariants as state
 use Rattle.vcd_body.specs.declared.table.Table.{Table}
-use Rattle.vcd_body.proofs.StoreLemmas.{fits_in, holding_parts, no_holding, same_or_not, some_at, some_in, whole_is}
-use Rattle.std.proofs.lemmas.Bool.{eq-eqb, le-leb, ne_eqb}
+use Rattle.vcd_body.proofs.StoreLemmas.{fits_in, holding_parts, no_holding, some_in, whole_is}
+use Rattle.std.proofs.lemmas.Bool.{le-leb}
 
 pub held_here : (t : Table) (code : ℕ) (s : Slot) (h : Share) → slice_get t.slots.now code ≡ Some s → slice_get t.shares.now code ≡ Some h → held_at t code ≡ held_from t.values.now h.start (holding_of s h)
 held_here t code s h at there = ap (λ (o : Option Whole). unwrap_or (option_map (λ (k : Kept). k.held) (option_map (kept_with t.values.now (end_at t.shares.now (length t.values.now) code)) o)) Held.Unset) (whole_is t.slots.now t.shares.now code s h at there)
@@ -69,9 +69,6 @@ held_nowhere t code at = ap (λ (o : Option Whole). unwrap_or (option_map (λ (k
 pub code_there : (v : HeadView) (code : ℕ) (c : Code) → slice_get v.codes.now code ≡ Some c → slice_get (codes_shown v) code ≡ Some (shown_code v.text.now c)
 code_there v code c at = slice_get-map (shown_code v.text.now) v.codes.now code ∙ ap (option_map (shown_code v.text.now)) at
 
-pub code_nowhere : (v : HeadView) (code : ℕ) → slice_get v.codes.now code ≡ None → slice_get (codes_shown v) code ≡ None
-code_nowhere v code at = slice_get-map (shown_code v.text.now) v.codes.now code ∙ ap (option_map (shown_code v.text.now)) at
-
 pub value_there : (v : HeadView) (t : Table) (code : ℕ) (c : Code) (s : Holding) → slice_get v.codes.now code ≡ Some c → holding_at t.slots.now t.shares.now code ≡ Some s → value_in (codes_shown v) t code ≡ value_at_size c.size (held_from t.values.now (start_in t.shares.now code) s)
 value_there v t code c s e at =
     ap (option_and_then (λ (x : IdCode). value_at_size x.size (held_at t code))) (code_there v code c e) ∙ ap (value_at_size c.size) (held_there t code s at)
@@ -81,40 +78,8 @@ line_there v t code c s e at =
     ap (λ (o : Option IdCode). unwrap_or (option_map (λ (x : IdCode). line_if_set x (value_in (codes_shown v) t code)) o) []) (code_there v code c e)
     ∙ ap (line_if_set (shown_code v.text.now c)) (value_there v t code c s e at)
 
--- of what is no code's there is no value
-pub value_nowhere : (v : HeadView) (t : Table) (code : ℕ) → slice_get v.codes.now code ≡ None → value_in (codes_shown v) t code ≡ None
-value_nowhere v t code e = ap (option_and_then (λ (x : IdCode). value_at_size x.size (held_at t code))) (code_nowhere v code e)
-
-pub value_unkept : (v : HeadView) (t : Table) (code : ℕ) → holding_at t.slots.now t.shares.now code ≡ None → value_in (codes_shown v) t code ≡ None
-value_unkept v t code at = by_code (slice_get (codes_shown v) code)
-  where
-    by_code : (o : Option IdCode) → option_and_then (λ (x : IdCode). value_at_size x.size (held_at t code)) o ≡ None
-    by_code None = refl
-    by_code (Some c) = ap (value_at_size c.size) (held_nowhere t code at)
-
 abbrev choice : Option Kept → Bool
 choice o = unwrap_or (option_map (λ (k : Kept). k.chosen) o) false
-
--- where a code was chosen, it is, and the others are as they were
-pub chosen_after : (old new : Table) (code : ℕ) → code < codes_in old → ChangesCode code as_chosen old new → (other : ℕ) → is_chosen new other ≡ ((other == code) || is_chosen old other)
-chosen_after old new code within changed other = by_place (same_or_not other code)
-  where
-    by_place : (other ≡ code) ⊎ (other ≢ code) → is_chosen new other ≡ ((other == code) || is_chosen old other)
-    by_place (inl e) =
-        let test = eq-eqb other code e in
-        let s = some_at old.slots.now other (omega (arith, e, within)) in
-        let h = some_at old.shares.now other (omega (arith, e, within)) in
-        let end = end_at old.shares.now (length old.values.now) other in
-        let was : kept_at old other ≡ Some (kept_with old.values.now end (whole s.0 h.0)) = ap (option_map (kept_with old.values.now end)) (whole_is old.slots.now old.shares.now other s.0 h.0 s.1 h.1) in
-        ap choice (changed other)
-        ∙ ap (λ (b : Bool). choice (cond b (option_map as_chosen (kept_at old other)) (kept_at old other))) test
-        ∙ ap (λ (o : Option Kept). choice (option_map as_chosen o)) was
-        ∙ sym (ap (λ (b : Bool). b || is_chosen old other) test)
-    by_place (inr e) =
-        let test = ne_eqb other code e in
-        ap choice (changed other)
-        ∙ ap (λ (b : Bool). choice (cond b (option_map as_chosen (kept_at old other)) (kept_at old other))) test
-        ∙ sym (ap (λ (b : Bool). b || is_chosen old other) test)
 
 -- ---- the codes of a header
 

@@ -1,4 +1,4 @@
-use Rattle.std.proofs.Common.{refl, ◌≡◌, ℕ, not, [], ◌∷◌, ◌<◌, ◌≤◌, nat_le, drop, length, subst, sym, ◌∙◌, arith}
+use Rattle.std.proofs.Common.{refl, ℕ, not, [], ◌∷◌, ◌<◌, ◌≤◌, nat_le, drop, length, subst, sym, ◌∙◌, arith}
 use Rattle.std.proofs.lemmas.Bool.{and_parts, leb-true}
 use Rattle.std.specs.Prelude.{is_some}
 use Rattle.vcd_model.specs.Bytes.{decimal_value}

@@ -3,7 +3,6 @@ use Rattle.vcd_body.specs.Binary.{binary_digits}
 use Rattle.vcd_body.specs.Kept.{with_number_change}
 use Rattle.vcd_body.specs.Stored.{ChangesAt}
 use Rattle.vcd_body.specs.declared.item.Form.TheVariants as form
-use Rattle.vcd_body.specs.declared.slot.Share.{Share}
 use Rattle.vcd_body.specs.declared.slot.Slot.{Slot}
 use Rattle.vcd_body.proofs.FollowLemmas.{change_sets, step_as_text}
 use Rattle.vcd_body.proofs.table.Table.follow_bits.Goals as goal
