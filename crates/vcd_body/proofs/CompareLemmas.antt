@@ -63,7 +63,6 @@ cut_again ds n size fits more =
 -- ---- two rows of digits
 
 module _ (xs ys : List ℕ) (size : ℕ) where
-
   -- at a size that both fit
   pub same_where_fit : (n : ℕ) → length xs ≤ n → length ys ≤ n → n ≤ size → (r : Bool) → Decides r (extend xs n ≡ extend ys n) → Decides r (extend xs size ≡ extend ys size)
   same_where_fit n few less more r d = (

@@ -16,7 +16,7 @@ use Rattle.vcd_view.proofs.KeywordLemmas.{until, not_until}
 use Rattle.vcd_body.specs.declared.item.Regs.{Regs}
 use Rattle.vcd_body.specs.declared.words.First.TheVariants as first
 use Rattle.vcd_body.specs.Items.{AreRegsAfter}
-use Rattle.vcd_body.specs.Words.{Begins, is_of_header}
+use Rattle.vcd_body.specs.Words.{Begins, IsScalar, is_of_header}
 use Rattle.vcd_body.specs.Reads.{Passes}
 
 -- ---- the parts of a first token
@@ -31,7 +31,7 @@ module _ (codes : List IdCode) where
   start_mark : (token : List ℕ) → Begins token first.Mark → start_of token ≡ Mark (drop 1 token)
   start_mark token b = ap start_of (head_and_rest token 35 b.0 b.1) ∙ start_of-mark codes (drop 1 token)
 
-  start_digit : (token : List ℕ) (b : Begins token first.Scalar) → start_of token ≡ Digit b.0 (drop 1 token)
+  start_digit : (token : List ℕ) (b : IsScalar token) → start_of token ≡ Digit b.0 (drop 1 token)
   start_digit token b = ap start_of (head_and_rest token b.0 b.1 b.3) ∙ start_of-digit codes b.0 (drop 1 token) b.2
 
   start_digits : (token : List ℕ) → Begins token first.Vector → start_of token ≡ Digits (drop 1 token)
@@ -100,7 +100,7 @@ module _ (codes : List IdCode) where
 
   -- ---- a digit and a code
 
-  module _ (earlier : List BodyPhrase) (token : List ℕ) (b : Begins token first.Scalar) where
+  module _ (earlier : List BodyPhrase) (token : List ℕ) (b : IsScalar token) where
     pub no_code : is_empty (drop 1 token) ≡ true → body_fault codes earlier [] token ≡ Some 15
     no_code h = start_fault earlier token (Digit b.0 (drop 1 token)) (start_digit token b) ∙ rw h refl
 

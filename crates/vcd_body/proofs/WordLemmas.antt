@@ -1,9 +1,10 @@
 -- What the tests of words say.
 use Rattle.std.proofs.Common.{◌≡◌, Some, None, Option, IfSome, is_some, zero, ◌/◌, ◌⊎◌, take, drop, slice_range, ◌&&◌, inl, inr, ◌+◌, ◌-◌, ◌*◌, ◌<◌, ◌≤◌, ◌∙◌, get_or, ℕ, suc, ◌%◌, ◌^◌, map, Bool, true, false, cond, not, ◌||◌, ◌==◌, List, [], ◌∷◌, length, Fits, w8, refl, sym, ap, ap₂, subst, arith, rules}
-use Rattle.std.specs.Prelude.{slice_index, min, bit_and}
+use Rattle.std.specs.Prelude.{IsTrue, slice_index, min, bit_and}
 use Rattle.std.specs.Char.{to_ascii_lowercase}
 use Rattle.std.specs.Int.{bit_at}
-use Rattle.std.specs.List.{list_all}
+use Rattle.std.specs.List.{list_all, list_any}
+use Rattle.std.specs.Str.{byte}
 use Rattle.std.proofs.lemmas.Bool.{eqb-true, cases_lt, agree_below, agree_below_at}
 use Rattle.std.proofs.lemmas.List.{length-map, get_or-map, get_or-take, get_or-drop}
 use Rattle.std.proofs.lemmas.Nat.{pow_below}
@@ -20,7 +21,9 @@ use Rattle.vcd_view.specs.declared.keyword.Keyword.{Keyword as HeadKeyword}
 use Rattle.vcd_view.specs.declared.keyword.Keyword.TheVariants as head
 use Rattle.vcd_body.specs.Binary.{binary_digits, bit_of}
 use Rattle.vcd_body.specs.declared.bits.Bits.{Bits}
-use Rattle.vcd_body.specs.Words.{StandsFor, command_is}
+use Rattle.vcd_body.specs.Words.{Begins, IsScalar, StandsFor, command_is, is_either}
+use Rattle.vcd_body.specs.declared.words.First.{First}
+use Rattle.vcd_body.specs.declared.words.First.TheVariants as first
 
 pub filled : (l : List ℕ) → (length l == 0) ≡ false → is_empty l ≡ false
 filled [] e = cc
@@ -37,6 +40,23 @@ some_bytes (d ∷ l) e = omega arith
 pub filled_some : (l : List ℕ) → not (is_empty l) ≡ true → 0 < length l
 filled_some [] e = cc
 filled_some (d ∷ l) e = omega arith
+
+-- ---- what begins a phrase
+
+-- 0 and 1 are digits of a value
+bit_digit : (d : ℕ) → IsTrue (is_either (byte "0") (byte "1") d) → IsTrue (is_value_digit d)
+unfolding is_value_digit
+bit_digit d is = by_first (d == 48) (d == 49) is
+  where
+    by_first : (a b : Bool) → IsTrue (a || (b || false)) → IsTrue (a || (b || list_any (λ e. d == e) (120 ∷ 88 ∷ 122 ∷ 90 ∷ [])))
+    by_first true b h = refl
+    by_first false true h = refl
+    by_first false false h = cc
+
+-- a digit of a value, whichever it is
+pub scalar_begins : (token : List ℕ) (f : First) → (f ≡ first.Bit) ⊎ (f ≡ first.Scalar) → Begins token f → IsScalar token
+scalar_begins token f (inl e) b = let s : Begins token first.Bit = subst (Begins token) e b in (s.0, s.1, bit_digit s.0 s.2, s.3)
+scalar_begins token f (inr e) b = let s : Begins token first.Scalar = subst (Begins token) e b in (s.0, s.1, s.2, s.4)
 
 -- ---- keywords
 

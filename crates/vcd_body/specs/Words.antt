@@ -11,7 +11,7 @@ use Rattle.vcd_body.specs.Items.{model_section}
 use Rattle.vcd_body.specs.declared.words.Command.{Command}
 use Rattle.vcd_body.specs.declared.words.Command.TheVariants.{Comment, Begin, End, OfHeader}
 use Rattle.vcd_body.specs.declared.words.First.{First}
-use Rattle.vcd_body.specs.declared.words.First.TheVariants.{Mark, Scalar, Vector, Real, Other}
+use Rattle.vcd_body.specs.declared.words.First.TheVariants.{Mark, Bit, Scalar, Vector, Real, Other}
 
 -- a keyword that belongs into the header
 abbrev pub is_of_header : Keyword → Bool
@@ -56,10 +56,15 @@ abbrev pub BeginsOther : List ℕ → Type 0
 BeginsOther [] = Unit {0}
 BeginsOther (b ∷ rest) = ((b == byte "#") ≡ false) × (is_value_digit b ≡ false) × (is_either (byte "b") (byte "B") b ≡ false) × (is_either (byte "r") (byte "R") b ≡ false)
 
+-- a digit of a value begins the token
+abbrev pub IsScalar : List ℕ → Type 0
+IsScalar token = (d : ℕ) × (code : List ℕ) × IsTrue (is_value_digit d) × (token ≡ d ∷ code)
+
 -- the token begins so
 abbrev pub Begins : List ℕ → First → Type 0
 Begins token Mark = (digits : List ℕ) × (token ≡ byte "#" ∷ digits)
-Begins token Scalar = (d : ℕ) × (code : List ℕ) × IsTrue (is_value_digit d) × (token ≡ d ∷ code)
+Begins token Bit = (d : ℕ) × (code : List ℕ) × IsTrue (is_either (byte "0") (byte "1") d) × (token ≡ d ∷ code)
+Begins token Scalar = (d : ℕ) × (code : List ℕ) × IsTrue (is_value_digit d) × (is_either (byte "0") (byte "1") d ≡ false) × (token ≡ d ∷ code)
 Begins token Vector = (b : ℕ) × (digits : List ℕ) × IsTrue (is_either (byte "b") (byte "B") b) × (token ≡ b ∷ digits)
 Begins token Real = (r : ℕ) × (text : List ℕ) × IsTrue (is_either (byte "r") (byte "R") r) × (token ≡ r ∷ text)
 Begins token Other = BeginsOther token

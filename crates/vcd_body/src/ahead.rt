@@ -1,5 +1,5 @@
 // Items whose tokens lie whole ahead in the chunk: most cost no change of the feed.
-ghost use Rattle.std.specs.Prelude.{◌≡◌, ℕ, ◌+◌, ◌<◌, ◌≤◌, ◌^◌, List, [], ◌∷◌, ◌++◌, drop, length, slice_get, slice_range, None, Some, IfSome, MatchOption};
+ghost use Rattle.std.specs.Prelude.{◌≡◌, ◌⊎◌, ℕ, ◌+◌, ◌<◌, ◌≤◌, ◌^◌, List, [], ◌∷◌, ◌++◌, drop, length, slice_get, slice_range, None, Some, IfSome, MatchOption};
 ghost use Rattle.vcd_model.specs.Input.{Input};
 ghost use Rattle.vcd_model.specs.Tokens.{Token};
 ghost use Rattle.vcd_model.specs.Header.{Header};
@@ -194,7 +194,7 @@ pub fn scalar_ahead<'a>(
     view: HeadView<'_>,
 ) -> Option<Plain<'a>>
     requires opens { (a : Ahead) × Opens a ahead opening }
-    requires first { opening.first ≡ first.Scalar }
+    requires first { (opening.first ≡ first.Bit) ⊎ (opening.first ≡ first.Scalar) }
     ensures takes { IfSome result (λ plain. (a : Ahead) (r : Regs) → Opens a ahead.entry opening.entry
         → TakesItem view.entry a ahead.entry r plain) }
     ensures form { IfSome result (λ plain. (place : ℕ) × (plain.item ≡ item.Change place form.Scalar)) }
@@ -374,7 +374,7 @@ pub fn item_ahead<'a>(
     let mut next = *ahead;
     let opening = opening_ahead(&mut next)?;
     let plain = match opening.first {
-        First::Scalar => scalar_ahead(opening, next, view)?,
+        First::Bit | First::Scalar => scalar_ahead(opening, next, view)?,
         First::Vector => {
             let tokens = vector_tokens_ahead(opening, &mut next)?;
             vector_ahead(tokens, tokens.bits, next, view)?

@@ -15,7 +15,7 @@ ghost use Rattle.vcd_view.specs.Finds.{IsSized};
 ghost use Rattle.vcd_view.specs.declared.view.Code.{Code};
 ghost use Rattle.vcd_body.specs.declared.words.First.TheVariants as first;
 ghost use Rattle.vcd_body.specs.Items.{AreRegsAfter};
-ghost use Rattle.vcd_body.specs.Words.{Begins};
+ghost use Rattle.vcd_body.specs.Words.{Begins, IsScalar};
 ghost use Rattle.vcd_body.specs.Reads.{Reads, ReadsPhrase, Looks, Fails, Passes, Refuses};
 ghost use Rattle.vcd_body.specs.Reads.{AsksForCode};
 ghost use Rattle.vcd_body.specs.Given.{IsGoodText};
@@ -60,7 +60,7 @@ pub(crate) fn time_of(token: &[u8], regs: Regs) -> Result<u64, BodyFault>
 /// The code that stands after a digit, at once.
 #[inline(always)]
 pub(crate) fn scalar_code(token: &[u8], view: HeadView<'_>) -> Result<Found, BodyFault>
-    requires begins { Begins token.now first.Scalar }
+    requires begins { IsScalar token.now }
     ensures code { (h : Header) (earlier : List BodyPhrase) → IsViewOf view.entry h
         → MatchResult result
         (λ found. (c : IdCode) × (slice_get h.codes found.place ≡ Some c)

@@ -103,7 +103,7 @@ fn read_phrase<S: Source>(
     }
     let token = feed.token();
     let item = match first_of(token) {
-        First::Scalar => Item::Change {
+        First::Bit | First::Scalar => Item::Change {
             code: scalar_code(token, view)?.place,
             form: Form::Scalar,
         },

@@ -387,42 +387,42 @@ pub(crate) fn count_at(
 
 /// What became of a change that its slot may tell alone.
 #[derive(Clone, Copy, PartialEq, Eq, Debug)]
-pub(crate) enum Told {
-    /// It is none of these, and nothing changed.
+pub(crate) enum Stepped {
+    /// The slot does not tell it alone, and nothing changed.
     Not,
     /// The value was set, and its step was counted where it differs.
-    All,
+    Counted,
     /// The value was set. Its step, which rises or falls where a test holds, is left to count, since the slot has no room for it.
-    But { rises: bool, falls: bool },
+    Uncounted { rises: bool, falls: bool },
 }
 
 /// Sets the value of a code to the digit 0 or 1 over such a digit, and counts the step. Most changes are of this kind, and touch one
 /// slot alone.
 #[inline(always)]
-pub(crate) fn turn_at(slots: &mut [Slot], code: usize, digit: u8) -> Told
-    ensures all { result ≡ Told.All → (form : Form) → form ≢ Form.RealText → (size : ℕ)
+pub(crate) fn turn_at(slots: &mut [Slot], code: usize, digit: u8) -> Stepped
+    ensures counted { result ≡ Stepped.Counted → (form : Form) → form ≢ Form.RealText → (size : ℕ)
         (shares : List Share) (values : List ℕ) → ChangesAt code (with_change size form (digit ∷ []))
         values slots.old shares values slots.new shares }
-    ensures but { (rises falls : Bool) → result ≡ Told.But rises falls → (form : Form)
+    ensures uncounted { (rises falls : Bool) → result ≡ Stepped.Uncounted rises falls → (form : Form)
         → form ≢ Form.RealText → (size : ℕ) (shares : List Share) (values after : List ℕ)
         (counted : List Slot) (with : List Share)
         → ChangesAt code (with_step rises falls) values slots.new shares after counted with
         → ChangesAt code (with_change size form (digit ∷ [])) values slots.old shares after counted
         with }
-    ensures same { result ≡ Told.Not → slots.new ≡ slots.old }
+    ensures same { result ≡ Stepped.Not → slots.new ≡ slots.old }
     ensures laid { (shares : List Share) (n : ℕ) → AreLaidOut slots.old shares n
         → AreLaidOut slots.new shares n }
 {
     if code >= slots.len() || !is_bit_step(slots[code].how, digit) {
-        return Told::Not;
+        return Stepped::Not;
     }
     let how = number_of_bit(digit);
     let turns = slots[code].how != how;
     set_how(slots, code, how);
     if !turns || count_turn_in(slots, code, digit) {
-        return Told::All;
+        return Stepped::Counted;
     }
-    Told::But {
+    Stepped::Uncounted {
         rises: digit == b'1',
         falls: digit != b'1',
     }
@@ -431,30 +431,30 @@ pub(crate) fn turn_at(slots: &mut [Slot], code: usize, digit: u8) -> Told
 /// Sets the value of a code to binary digits over such digits, where they make values of as many at this size, and counts the
 /// step.
 #[inline(always)]
-pub(crate) fn step_at(slots: &mut [Slot], code: usize, size: usize, bits: Bits) -> Told
-    ensures all { result ≡ Told.All → (shares : List Share) (values : List ℕ)
+pub(crate) fn step_at(slots: &mut [Slot], code: usize, size: usize, bits: Bits) -> Stepped
+    ensures counted { result ≡ Stepped.Counted → (shares : List Share) (values : List ℕ)
         → AreLaidOut slots.old shares (length values)
         → ChangesAt code (with_number_change size bits.len bits.number)
         values slots.old shares values slots.new shares }
-    ensures but { (rises falls : Bool) → result ≡ Told.But rises falls → (shares : List Share)
+    ensures uncounted { (rises falls : Bool) → result ≡ Stepped.Uncounted rises falls → (shares : List Share)
         (values after : List ℕ) → AreLaidOut slots.old shares (length values)
         → (counted : List Slot) (with : List Share)
         → ChangesAt code (with_step rises falls) values slots.new shares after counted with
         → ChangesAt code (with_number_change size bits.len bits.number)
         values slots.old shares after counted with }
-    ensures same { result ≡ Told.Not → slots.new ≡ slots.old }
+    ensures same { result ≡ Stepped.Not → slots.new ≡ slots.old }
     ensures laid { (shares : List Share) (n : ℕ) → AreLaidOut slots.old shares n
         → AreLaidOut slots.new shares n }
 {
     if code >= slots.len() || !is_number_step(&slots[code], size, bits) {
-        return Told::Not;
+        return Stepped::Not;
     }
     let step = step_by_number(number_in(slots[code].number as usize), bits.number);
     set_bits(slots, code, bits);
     if !step.differs || count_in_slot(slots, code, step.rises, step.falls) {
-        return Told::All;
+        return Stepped::Counted;
     }
-    Told::But {
+    Stepped::Uncounted {
         rises: step.rises,
         falls: step.falls,
     }

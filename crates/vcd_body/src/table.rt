@@ -16,8 +16,8 @@ use crate::several::change_at;
 use crate::slot::{Holding, Share, Shown, Slot, State, state_in};
 use crate::step::{Step, is_digit_step, step_by_digit, step_to_text};
 use crate::store::{
-    Told, bump_at, carry_at, choose_at, count_at, holding_at, lay_out, set_at, set_bits, share_in,
-    step_at, turn_at,
+    Stepped, bump_at, carry_at, choose_at, count_at, holding_at, lay_out, set_at, set_bits,
+    share_in, step_at, turn_at,
 };
 use vcd_text::{Sink, WriteFailed, put};
 use vcd_view::HeadView;
@@ -177,9 +177,9 @@ impl<'a> Table<'a> {
     {
         match text {
             [digit] if form != Form::RealText => match turn_at(self.slots, code, *digit) {
-                Told::All => {}
-                Told::But { rises, falls } => self.carry(code, rises, falls),
-                Told::Not => self.follow_any(code, size, form, text),
+                Stepped::Counted => {}
+                Stepped::Uncounted { rises, falls } => self.carry(code, rises, falls),
+                Stepped::Not => self.follow_any(code, size, form, text),
             },
             _ if form != Form::Vector => self.follow_any(code, size, form, text),
             _ => {
@@ -209,9 +209,9 @@ impl<'a> Table<'a> {
         ensures bytes { bytes_in self.new ≡ bytes_in self.old }
     {
         match step_at(self.slots, code, size, bits) {
-            Told::All => {}
-            Told::But { rises, falls } => self.carry(code, rises, falls),
-            Told::Not => self.follow_bits_any(code, size, bits),
+            Stepped::Counted => {}
+            Stepped::Uncounted { rises, falls } => self.carry(code, rises, falls),
+            Stepped::Not => self.follow_bits_any(code, size, bits),
         }
     }
 

@@ -19,7 +19,9 @@ use vcd_view::{Keyword, keyword_of};
 pub enum First {
     /// `#`: a time mark.
     Mark,
-    /// A digit of a value, with its code at once.
+    /// The digit `0` or `1` of a value, with its code at once.
+    Bit,
+    /// Another digit of a value, with its code at once.
     Scalar,
     /// `b` or `B`: the digits of a value.
     Vector,
@@ -54,7 +56,9 @@ pub(crate) fn first_of(token: &[u8]) -> First
 fn first_by(byte: u8) -> First
     ensures { (rest : List ℕ) → Begins (byte ∷ rest) result }
 {
-    if is_value_digit(byte) {
+    if byte == b'0' || byte == b'1' {
+        First::Bit
+    } else if is_value_digit(byte) {
         First::Scalar
     } else if byte == b'b' || byte == b'B' {
         First::Vector

@@ -210,7 +210,7 @@ impl<'n, 'r> Taker for edges::Edges<'n, 'r> {
 
 /// Takes the next item that lies ahead, with what is due after it: returns whether it ended the run. None where it takes none, and then
 /// nothing has changed.
-// What begins the item, and whether the number of its digits is known, is asked once: what is done with it follows in each arm.
+// What begins the item, and whether its digits are known to be 0 and 1, is asked once: what is done with it follows in each arm.
 #[inline(always)]
 fn take_next<T: Taker, W: Sink>(
     taker: &mut T,
@@ -233,6 +233,10 @@ fn take_next<T: Taker, W: Sink>(
     let mut next = *ahead;
     let opening = opening_ahead(&mut next)?;
     let taken = match opening.first {
+        First::Bit => {
+            let plain = scalar_ahead(opening, next, view)?;
+            taker.take_one(view, *regs, plain, out)
+        }
         First::Scalar => {
             let plain = scalar_ahead(opening, next, view)?;
             taker.take_one(view, *regs, plain, out)
@@ -474,7 +478,7 @@ fn take_next_lying<T: Copier, W: Sink>(
     let mut next = *ahead;
     let opening = opening_ahead(&mut next)?;
     let taken = match opening.first {
-        First::Scalar => {
+        First::Bit | First::Scalar => {
             let plain = scalar_ahead(opening, next, view)?;
             take_found(copier, view, *regs, plain, from, next, line, pieces, out)
         }

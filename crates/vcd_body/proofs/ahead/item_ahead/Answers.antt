@@ -3,7 +3,7 @@ use Rattle.vcd_body.specs.Items.{regs_after}
 use Rattle.vcd_body.specs.Taken.{TakesItem}
 use Rattle.vcd_body.specs.declared.item.Item.{Item}
 use Rattle.vcd_body.proofs.ahead.item_ahead.Goals as goal
-use Rattle.vcd_body.proofs.ahead.item_ahead.Goals.{in-Scalar+in_ok-plain-in-Scalar, in-Vector+in_ok-tokens-in-Vector+in_ok-plain-in-Vector, in-Mark+in_ok-time-in-Mark+in_ok-plain-in-Mark, in-Real+in_ok-plain-in-Real}
+use Rattle.vcd_body.proofs.ahead.item_ahead.Goals.{in-Bit+in_ok-plain-in-Bit, in-Vector+in_ok-tokens-in-Vector+in_ok-plain-in-Vector, in-Mark+in_ok-time-in-Mark+in_ok-plain-in-Mark, in-Real+in_ok-plain-in-Real}
 
 -- what was taken, whichever form it has
 taken : (c : goal.Joined-opening) → TakesItem c.args.view c.args.ahead.now c.match-opening.next c.args.regs.now c.match-opening.plain × (c.match-opening.regs ≡ regs_after c.args.regs.now c.match-opening.plain.item)
@@ -11,8 +11,8 @@ taken c =
     let opens = c.in_ok-opening.ensures.opens in
     let r = c.args.regs.now in
     elim c.match-opening.branch [
-      | in-Scalar+in_ok-plain-in-Scalar w ↦
-          let n = w.in_ok-plain-in-Scalar.ensures in
+      | in-Bit+in_ok-plain-in-Bit w ↦
+          let n = w.in_ok-plain-in-Bit.ensures in
           rw (w.plain-is, w.next-is, w.regs-is) (n.takes c.args.ahead.now r opens, subst (λ (i : Item). r ≡ regs_after r i) (sym n.form.1) refl)
       | in-Vector+in_ok-tokens-in-Vector+in_ok-plain-in-Vector w ↦
           let n = w.in_ok-plain-in-Vector.ensures in

@@ -5,11 +5,14 @@ use Rattle.vcd_text.specs.Passed.{line_ahead}
 use Rattle.vcd_view.specs.Finds.{IsSized}
 use Rattle.vcd_body.specs.Given.{IsGoodText}
 use Rattle.vcd_body.specs.Spelled.{Names}
-use Rattle.vcd_body.specs.Words.{Begins}
 use Rattle.vcd_body.specs.declared.item.Form.TheVariants as form
 use Rattle.vcd_body.proofs.AheadLemmas.{passes_same, scalar_taken}
 use Rattle.vcd_body.proofs.LineLemmas.{of_found, token_there, scalar_there, scalar_places}
+use Rattle.vcd_body.proofs.WordLemmas.{scalar_begins}
 use Rattle.vcd_body.proofs.ahead.scalar_ahead.Goals as goal
+
+pub scalar_code-requires : goal.scalar_code-requires
+scalar_code-requires c = record { begins = scalar_begins c.args.opening.token.now c.args.opening.first c.requires.first c.requires.opens.1.begins }
 
 pub returns-clause-takes : goal.returns-clause-takes
 returns-clause-takes c = λ a r o.
@@ -20,7 +23,7 @@ returns-clause-takes c = λ a r o.
     let to = passed_of c.args.ahead in
     let further = o.further in
     let less : from < to = omega (arith, further) in
-    let begins = subst (Begins token) c.requires.first o.begins in
+    let begins = scalar_begins token c.args.opening.first c.requires.first o.begins in
     let there = token_there bytes from to token o.further o.within o.before o.place in
     let found = c.in_ok-found.found in
     let is = c.in_ok-found.ensures.value in

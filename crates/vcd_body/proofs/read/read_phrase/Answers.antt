@@ -2,7 +2,11 @@ use Rattle.std.proofs.Common.{[], sym, ◌∙◌}
 use Rattle.std.proofs.lemmas.Result.{err_from_is_err_and}
 use Rattle.vcd_model.specs.Reading.{phrases_of}
 use Rattle.vcd_body.proofs.ReadLemmas as given
+use Rattle.vcd_body.proofs.WordLemmas.{scalar_begins}
 use Rattle.vcd_body.proofs.read.read_phrase.Goals as goal
+
+pub scalar_code-requires : goal.scalar_code-requires
+scalar_code-requires g c = record { begins = scalar_begins c.token-token.result.now c.first_of.result c.in-Bit.is c.first_of.ensures }
 
 pub returns-in_err-next_token-clause-reads : goal.returns-in_err-next_token-clause-reads
 returns-in_err-next_token-clause-reads g c =
@@ -20,12 +24,12 @@ returns-then-not-branch-clause-reads g c = λ h i front items v s.
     let a = rw c.if-not-branch.true at c.in_ok-next_token.ensures.reads h.codes i front s.placed [] (given.reads_of h.codes i front items c.args.feed.now c.args.regs.now s) in
     given.ends_clean h.codes i front items c.args.feed.now c.next_token.new.feed c.args.regs.now s a (sym c.is_some.ensures ∙ c.if-is_some.false)
 
-pub returns-in_err-scalar_code-in-Scalar-clause-reads : goal.returns-in_err-scalar_code-in-Scalar-clause-reads
-returns-in_err-scalar_code-in-Scalar-clause-reads g c =
-    let p = err_from_is_err_and c.from_residual-in_err-scalar_code-in-Scalar.result c.from_residual-in_err-scalar_code-in-Scalar.ensures.1 in
+pub returns-in_err-scalar_code-in-Bit-clause-reads : goal.returns-in_err-scalar_code-in-Bit-clause-reads
+returns-in_err-scalar_code-in-Bit-clause-reads g c =
+    let p = err_from_is_err_and c.from_residual-in_err-scalar_code-in-Bit.result c.from_residual-in_err-scalar_code-in-Bit.ensures.1 in
     rw (p.1, p.2) (λ h i front items v s.
     let b = given.begun_at h.codes i front items c.args.feed.now c.next_token.new.feed c.args.regs.now c.in_ok-next_token.field-0 c.if-not-branch.false s (c.in_ok-next_token.ensures.reads h.codes i front s.placed [] (given.reads_of h.codes i front items c.args.feed.now c.args.regs.now s)) in
-    given.refused_own h.codes i front items c.next_token.new.feed c.args.regs.now c.token-token.result.now _ b c.token-token.ensures (c.in_err-scalar_code-in-Scalar.ensures.code h (phrases_of b.placed) v))
+    given.refused_own h.codes i front items c.next_token.new.feed c.args.regs.now c.token-token.result.now _ b c.token-token.ensures (c.in_err-scalar_code-in-Bit.ensures.code h (phrases_of b.placed) v))
 
 pub returns-in_err-time-in-Mark-clause-reads : goal.returns-in_err-time-in-Mark-clause-reads
 returns-in_err-time-in-Mark-clause-reads g c =
@@ -35,10 +39,10 @@ returns-in_err-time-in-Mark-clause-reads g c =
     given.refused_own h.codes i front items c.next_token.new.feed c.args.regs.now c.token-token.result.now _ b c.token-token.ensures
     (c.in_err-time-in-Mark.ensures.time h.codes (phrases_of b.placed) (given.known_so_far h.codes i front items c.next_token.new.feed c.args.regs.now b)))
 
-pub returns-in_ok-scalar_code-in-Scalar-clause-reads : goal.returns-in_ok-scalar_code-in-Scalar-clause-reads
-returns-in_ok-scalar_code-in-Scalar-clause-reads g c = λ h i front items v s.
+pub returns-in_ok-scalar_code-in-Bit-clause-reads : goal.returns-in_ok-scalar_code-in-Bit-clause-reads
+returns-in_ok-scalar_code-in-Bit-clause-reads g c = λ h i front items v s.
     let b = given.begun_at h.codes i front items c.args.feed.now c.next_token.new.feed c.args.regs.now c.in_ok-next_token.field-0 c.if-not-branch.false s (c.in_ok-next_token.ensures.reads h.codes i front s.placed [] (given.reads_of h.codes i front items c.args.feed.now c.args.regs.now s)) in
-    let k = c.in_ok-scalar_code-in-Scalar.ensures.code h (phrases_of b.placed) v in
+    let k = c.in_ok-scalar_code-in-Bit.ensures.code h (phrases_of b.placed) v in
     (k.0, k.1, given.scalar_given h.codes i front items c.next_token.new.feed c.args.regs.now c.token-token.result.now k.0 b c.token-token.ensures k.2)
 
 pub returns-in_ok-read_vector-in-Vector-clause-reads : goal.returns-in_ok-read_vector-in-Vector-clause-reads

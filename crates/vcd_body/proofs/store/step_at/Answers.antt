@@ -8,8 +8,8 @@ use Rattle.vcd_body.proofs.StoreLemmas.{blank}
 use Rattle.vcd_body.proofs.store.step_at.Goals as goal
 use Rattle.vcd_body.proofs.store.step_at.Goals.{then-not-step-via-then-not-step, then-not-step-via-else-not-step+then-count_in_slot}
 
-pub returns-then-not-step-clause-all : goal.returns-then-not-step-clause-all
-returns-then-not-step-clause-all c = λ _ shares values laid.
+pub returns-then-not-step-clause-counted : goal.returns-then-not-step-clause-counted
+returns-then-not-step-clause-counted c = λ _ shares values laid.
     let slots = c.args.slots.now in
     let code = c.args.code in
     let bits = c.args.bits in
@@ -34,8 +34,8 @@ returns-then-not-step-clause-all c = λ _ shares values laid.
     ]
 
 -- the slot had no room, and stayed
-pub returns-clause-but : goal.returns-clause-but
-returns-clause-but c = λ rises falls is shares values after laid counted with counts.
+pub returns-clause-uncounted : goal.returns-clause-uncounted
+returns-clause-uncounted c = λ rises falls is shares values after laid counted with counts.
     let slots = c.args.slots.now in
     let code = c.args.code in
     let bits = c.args.bits in

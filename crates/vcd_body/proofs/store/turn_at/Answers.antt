@@ -8,8 +8,8 @@ use Rattle.vcd_body.proofs.StoreLemmas.{blank}
 use Rattle.vcd_body.proofs.store.turn_at.Goals as goal
 use Rattle.vcd_body.proofs.store.turn_at.Goals.{then-not-turns-via-then-not-turns, then-not-turns-via-else-not-turns+then-count_turn_in}
 
-pub returns-then-not-turns-clause-all : goal.returns-then-not-turns-clause-all
-returns-then-not-turns-clause-all c = λ _ form digits size shares values.
+pub returns-then-not-turns-clause-counted : goal.returns-then-not-turns-clause-counted
+returns-then-not-turns-clause-counted c = λ _ form digits size shares values.
     let slots = c.args.slots.now in
     let code = c.args.code in
     let slot = get_or slots code blank in
@@ -38,8 +38,8 @@ returns-then-not-turns-clause-laid c = λ shares n laid.
     ]
 
 -- the slot had no room, and stayed
-pub returns-clause-but : goal.returns-clause-but
-returns-clause-but c = λ rises falls is form digits size shares values after counted with counts.
+pub returns-clause-uncounted : goal.returns-clause-uncounted
+returns-clause-uncounted c = λ rises falls is form digits size shares values after counted with counts.
     let slots = c.args.slots.now in
     let code = c.args.code in
     let slot = get_or slots code blank in

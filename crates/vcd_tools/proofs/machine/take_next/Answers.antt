@@ -6,6 +6,9 @@ use Rattle.vcd_tools.proofs.machine.take_next.Goals as goal
 pub scalar_ahead-requires-clause-opens : goal.scalar_ahead-requires-clause-opens
 scalar_ahead-requires-clause-opens g c = (c.args.ahead.now, c.in_ok-opening.ensures.opens)
 
+pub scalar_ahead-requires-in-Scalar-clause-opens : goal.scalar_ahead-requires-in-Scalar-clause-opens
+scalar_ahead-requires-in-Scalar-clause-opens g c = (c.args.ahead.now, c.in_ok-opening.ensures.opens)
+
 pub vector_tokens_ahead-requires-clause-opens : goal.vector_tokens_ahead-requires-clause-opens
 vector_tokens_ahead-requires-clause-opens g c = (c.args.ahead.now, c.in_ok-opening.ensures.opens)
 
@@ -22,13 +25,22 @@ pub real_ahead-requires-clause-opens : goal.real_ahead-requires-clause-opens
 real_ahead-requires-clause-opens g c = (c.args.ahead.now, c.in_ok-opening.ensures.opens)
 
 pub take_one-taken-requires-clause-sound : goal.take_one-taken-requires-clause-sound
-take_one-taken-requires-clause-sound g c = (c.in_ok-plain-in-Scalar.ensures.takes c.args.ahead.now c.args.regs.now c.in_ok-opening.ensures.opens).sound
+take_one-taken-requires-clause-sound g c = (c.in_ok-plain-in-Bit.ensures.takes c.args.ahead.now c.args.regs.now c.in_ok-opening.ensures.opens).sound
+
+pub take_one-taken-requires-in-Scalar-clause-sound : goal.take_one-taken-requires-in-Scalar-clause-sound
+take_one-taken-requires-in-Scalar-clause-sound g c = (c.in_ok-plain-in-Scalar.ensures.takes c.args.ahead.now c.args.regs.now c.in_ok-opening.ensures.opens).sound
 
 pub take_one-taken-requires-clause-sized : goal.take_one-taken-requires-clause-sized
-take_one-taken-requires-clause-sized g c = (c.in_ok-plain-in-Scalar.ensures.takes c.args.ahead.now c.args.regs.now c.in_ok-opening.ensures.opens).sized
+take_one-taken-requires-clause-sized g c = (c.in_ok-plain-in-Bit.ensures.takes c.args.ahead.now c.args.regs.now c.in_ok-opening.ensures.opens).sized
+
+pub take_one-taken-requires-in-Scalar-clause-sized : goal.take_one-taken-requires-in-Scalar-clause-sized
+take_one-taken-requires-in-Scalar-clause-sized g c = (c.in_ok-plain-in-Scalar.ensures.takes c.args.ahead.now c.args.regs.now c.in_ok-opening.ensures.opens).sized
 
 pub take_one-taken-requires-clause-bits : goal.take_one-taken-requires-clause-bits
-take_one-taken-requires-clause-bits g c = (c.in_ok-plain-in-Scalar.ensures.takes c.args.ahead.now c.args.regs.now c.in_ok-opening.ensures.opens).bits
+take_one-taken-requires-clause-bits g c = (c.in_ok-plain-in-Bit.ensures.takes c.args.ahead.now c.args.regs.now c.in_ok-opening.ensures.opens).bits
+
+pub take_one-taken-requires-in-Scalar-clause-bits : goal.take_one-taken-requires-in-Scalar-clause-bits
+take_one-taken-requires-in-Scalar-clause-bits g c = (c.in_ok-plain-in-Scalar.ensures.takes c.args.ahead.now c.args.regs.now c.in_ok-opening.ensures.opens).bits
 
 pub take_one-requires-clause-sound : goal.take_one-requires-clause-sound
 take_one-requires-clause-sound g c = (c.in_ok-plain-in-Some.ensures.takes c.args.ahead.now c.args.regs.now (c.in_ok-tokens-in-Vector.ensures.opens c.args.ahead.now c.in_ok-opening.ensures.opens)).sound
@@ -66,12 +78,28 @@ take_one-taken-requires-in-Mark-clause-sized g c = (c.in_ok-plain-in-Mark.ensure
 pub take_one-taken-requires-in-Mark-clause-bits : goal.take_one-taken-requires-in-Mark-clause-bits
 take_one-taken-requires-in-Mark-clause-bits g c = (c.in_ok-plain-in-Mark.ensures.takes c.args.ahead.now c.args.view c.in_ok-opening.ensures.opens).bits
 
+pub returns-in_ok-plain-in-Bit-clause-next : goal.returns-in_ok-plain-in-Bit-clause-next
+returns-in_ok-plain-in-Bit-clause-next g c =
+    let r = c.args.regs.now in
+    let n = c.in_ok-plain-in-Bit.ensures in
+    let regs = subst (λ (i : Item). r ≡ regs_after r i) (sym n.form.1) refl in
+    let t = c.take_one-taken.ensures in
+    record {
+      plain = c.in_ok-plain-in-Bit.plain;
+      item = n.takes c.args.ahead.now r c.in_ok-opening.ensures.opens;
+      regs = regs;
+      one = λ h items x views known is few keeps. t.takes h items r x views known regs is few keeps;
+      request = t.request;
+      room = t.room;
+      early = t.early;
+    }
+
 pub returns-in_ok-plain-in-Scalar-clause-next : goal.returns-in_ok-plain-in-Scalar-clause-next
 returns-in_ok-plain-in-Scalar-clause-next g c =
     let r = c.args.regs.now in
     let n = c.in_ok-plain-in-Scalar.ensures in
     let regs = subst (λ (i : Item). r ≡ regs_after r i) (sym n.form.1) refl in
-    let t = c.take_one-taken.ensures in
+    let t = c.take_one-taken-in-Scalar.ensures in
     record {
       plain = c.in_ok-plain-in-Scalar.plain;
       item = n.takes c.args.ahead.now r c.in_ok-opening.ensures.opens;

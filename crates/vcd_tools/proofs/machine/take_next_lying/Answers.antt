@@ -29,19 +29,19 @@ real_ahead-requires-clause-opens g c = (c.args.ahead.now, c.in_ok-opening.ensure
 pub take_found-taken-requires-clause-found : goal.take_found-taken-requires-clause-found
 take_found-taken-requires-clause-found g c =
     let r = c.args.regs.now in
-    let n = c.in_ok-plain-in-Scalar.ensures in
+    let n = c.in_ok-plain-in-Bit.ensures in
     (c.args.ahead.now, r, n.takes c.args.ahead.now r c.in_ok-opening.ensures.opens, c.passed-from.ensures.passed, subst (λ (i : Item). r ≡ regs_after r i) (sym n.form.1) refl, c.requires.line)
 
 pub take_found-taken-requires-clause-part : goal.take_found-taken-requires-clause-part
 take_found-taken-requires-clause-part g c =
     let r = c.args.regs.now in
-    let item = c.in_ok-plain-in-Scalar.ensures.takes c.args.ahead.now r c.in_ok-opening.ensures.opens in
+    let item = c.in_ok-plain-in-Bit.ensures.takes c.args.ahead.now r c.in_ok-opening.ensures.opens in
     subst (λ (bs : List ℕ). IsPart bs c.args.pieces.now) (sym item.same.0) c.requires.part
 
-pub returns-in_ok-plain-in-Scalar-clause-next : goal.returns-in_ok-plain-in-Scalar-clause-next
-returns-in_ok-plain-in-Scalar-clause-next g c =
+pub returns-in_ok-plain-in-Bit-clause-next : goal.returns-in_ok-plain-in-Bit-clause-next
+returns-in_ok-plain-in-Bit-clause-next g c =
     let r = c.args.regs.now in
-    let n = c.in_ok-plain-in-Scalar.ensures in
+    let n = c.in_ok-plain-in-Bit.ensures in
     let item = n.takes c.args.ahead.now r c.in_ok-opening.ensures.opens in
     let regs = subst (λ (i : Item). r ≡ regs_after r i) (sym n.form.1) refl in
     let t = c.take_found-taken.ensures in
@@ -50,7 +50,7 @@ returns-in_ok-plain-in-Scalar-clause-next g c =
     let old = g.W.Sink.device c.args.out.now in
     let new = g.W.Sink.device c.take_found-taken.new.out in
     record {
-      plain = c.in_ok-plain-in-Scalar.plain;
+      plain = c.in_ok-plain-in-Bit.plain;
       item = item;
       regs = regs;
       one = λ h items x views known is few keeps. subst (λ (bs : List ℕ). TakesOneBy {E = WriteFailed} (λ due. PutsOn (held_in bs c.args.pieces.now) (held_in bs c.take_found-taken.new.pieces) old new due result) (Keeps (g.T.Copier.machine c.take_found-taken.new.copier) h (items ++ x ∷ [])) (request_in m) h items x result) item.same.0 (t.one h items r x views known regs is few keeps);
@@ -59,16 +59,16 @@ returns-in_ok-plain-in-Scalar-clause-next g c =
       early = t.early;
     }
 
-pub returns-in_ok-plain-in-Scalar-clause-part : goal.returns-in_ok-plain-in-Scalar-clause-part
-returns-in_ok-plain-in-Scalar-clause-part g c =
+pub returns-in_ok-plain-in-Bit-clause-part : goal.returns-in_ok-plain-in-Bit-clause-part
+returns-in_ok-plain-in-Bit-clause-part g c =
     let r = c.args.regs.now in
-    let item = c.in_ok-plain-in-Scalar.ensures.takes c.args.ahead.now r c.in_ok-opening.ensures.opens in
+    let item = c.in_ok-plain-in-Bit.ensures.takes c.args.ahead.now r c.in_ok-opening.ensures.opens in
     subst (λ (bs : List ℕ). IfOk c.take_found-taken.result (λ _. IsPart bs c.take_found-taken.new.pieces)) item.same.0 c.take_found-taken.ensures.part
 
-pub returns-in_ok-plain-in-Scalar-clause-line : goal.returns-in_ok-plain-in-Scalar-clause-line
-returns-in_ok-plain-in-Scalar-clause-line g c =
+pub returns-in_ok-plain-in-Bit-clause-line : goal.returns-in_ok-plain-in-Bit-clause-line
+returns-in_ok-plain-in-Bit-clause-line g c =
     let r = c.args.regs.now in
-    let item = c.in_ok-plain-in-Scalar.ensures.takes c.args.ahead.now r c.in_ok-opening.ensures.opens in
+    let item = c.in_ok-plain-in-Bit.ensures.takes c.args.ahead.now r c.in_ok-opening.ensures.opens in
     next_line_is _ _ _ _ _ _ _ item.same.0 refl refl c.take_found-taken.ensures.line
 
 pub take_found-requires-clause-found : goal.take_found-requires-clause-found

@@ -8,27 +8,27 @@ use Rattle.vcd_body.proofs.FollowLemmas.{change_sets, is_vector, no_real}
 use Rattle.vcd_body.proofs.StoreLemmas.{alone}
 use Rattle.vcd_body.proofs.table.Table.follow.Goals as goal
 
-pub returns-in-All-clause-value : goal.returns-in-All-clause-value
-returns-in-All-clause-value c = λ laid code k good event is most.
+pub returns-in-Counted-clause-value : goal.returns-in-Counted-clause-value
+returns-in-Counted-clause-value c = λ laid code k good event is most.
     let old = c.args.self.now in
     let values = old.values.now in
     let text = c.args.text.now in
-    let turned = c.in-All.ensures.all refl c.args.form (no_real c.args.form c.if-ne.ensures) c.args.size old.shares.now values in
+    let turned = c.in-Counted.ensures.counted refl c.args.form (no_real c.args.form c.if-ne.ensures) c.args.size old.shares.now values in
     let changes = subst (λ (t : List ℕ). ChangesAt c.args.code (with_change c.args.size c.args.form t) values old.slots.now old.shares.now values c.turn_at.new.slots old.shares.now) (alone text c.in-len1.len_at_least c.in-len1.len_below) turned in
     change_sets values values old.slots.now c.turn_at.new.slots old.shares.now old.shares.now c.args.code c.args.size c.args.form text code k changes good event is most
 
-pub returns-in-But-clause-changes : goal.returns-in-But-clause-changes
-returns-in-But-clause-changes c = λ laid.
+pub returns-in-Uncounted-clause-changes : goal.returns-in-Uncounted-clause-changes
+returns-in-Uncounted-clause-changes c = λ laid.
     let old = c.args.self.now in
     let new = c.carry.new.self in
-    let turned = c.in-But.ensures.but c.in-But.rises c.in-But.falls refl c.args.form (no_real c.args.form c.if-ne.ensures) c.args.size old.shares.now old.values.now new.values.now new.slots.now new.shares.now c.carry.ensures.changes in
+    let turned = c.in-Uncounted.ensures.uncounted c.in-Uncounted.rises c.in-Uncounted.falls refl c.args.form (no_real c.args.form c.if-ne.ensures) c.args.size old.shares.now old.values.now new.values.now new.slots.now new.shares.now c.carry.ensures.changes in
     subst (λ (t : List ℕ). ChangesAt c.args.code (with_change c.args.size c.args.form t) old.values.now old.slots.now old.shares.now new.values.now new.slots.now new.shares.now) (alone c.args.text.now c.in-len1.len_at_least c.in-len1.len_below) turned
 
-pub returns-in-But-clause-value : goal.returns-in-But-clause-value
-returns-in-But-clause-value c = λ laid code k good event is most.
+pub returns-in-Uncounted-clause-value : goal.returns-in-Uncounted-clause-value
+returns-in-Uncounted-clause-value c = λ laid code k good event is most.
     let old = c.args.self.now in
     let new = c.carry.new.self in
-    change_sets old.values.now new.values.now old.slots.now new.slots.now old.shares.now new.shares.now c.args.code c.args.size c.args.form c.args.text.now code k (returns-in-But-clause-changes c laid) good event is most
+    change_sets old.values.now new.values.now old.slots.now new.slots.now old.shares.now new.shares.now c.args.code c.args.size c.args.form c.args.text.now code k (returns-in-Uncounted-clause-changes c laid) good event is most
 
 pub returns-in-Not-clause-value : goal.returns-in-Not-clause-value
 returns-in-Not-clause-value c = λ laid code k good event is most.
