@@ -46,6 +46,15 @@ change_twice code f g v1 v2 v3 s1 s2 s3 h1 h2 h3 a b = λ p. b p ∙ ap (λ (o :
     by_case true (Some k) = refl
     by_case false o = refl
 
+-- what stays as it was
+pub nothing_changes : (code : ℕ) (v : List ℕ) (s : List Slot) (h : List Share) → ChangesAt code (λ (k : Kept). k) v s h v s h
+nothing_changes code v s h p = by_case (p == code) (kept_in v s h p)
+  where
+    by_case : (t : Bool) (o : Option Kept) → o ≡ cond t (option_map (λ (k : Kept). k) o) o
+    by_case true None = refl
+    by_case true (Some k) = refl
+    by_case false o = refl
+
 -- a change is told by what it makes of what was kept
 pub change_as : (code : ℕ) (f g : Kept → Kept) (v v' : List ℕ) (s s' : List Slot) (h h' : List Share) → ((k : Kept) → kept_in v s h code ≡ Some k → f k ≡ g k) → ChangesAt code f v s h v' s' h' → ChangesAt code g v s h v' s' h'
 change_as code f g v v' s s' h h' same a = λ p. a p ∙ by_place p (same_or_not p code)
@@ -98,12 +107,14 @@ bit_turned w false e f digits size end values =
 
 -- the same digit over itself
 pub bit_stays : (w : Whole) (one : Bool) → w.state ≡ cond one state.One state.Zero → (f : Form) → f ≢ form.RealText → (size end : ℕ) (values : List ℕ)
-    → with_held (Held.Digits (cond one 49 48 ∷ [])) (kept_with values end w) ≡ with_change size f (cond one 49 48 ∷ []) (kept_with values end w)
+    → kept_with values end w ≡ with_change size f (cond one 49 48 ∷ []) (kept_with values end w)
 bit_stays w true e f digits size end values =
-    sym (one_text f 49 (kept_with values end w) digits)
+    ap (λ (st : State). with_held (held_by st w.len (take (used_by w.state w.len) (drop w.start values))) (kept_with values end w)) e
+    ∙ sym (one_text f 49 (kept_with values end w) digits)
     ∙ sym (told w state.One 49 (record { differs = false; rises = false; falls = false }) 49 (ap one_digit e) refl refl (rw e refl) (rw e refl) f digits size end values)
 bit_stays w false e f digits size end values =
-    sym (one_text f 48 (kept_with values end w) digits)
+    ap (λ (st : State). with_held (held_by st w.len (take (used_by w.state w.len) (drop w.start values))) (kept_with values end w)) e
+    ∙ sym (one_text f 48 (kept_with values end w) digits)
     ∙ sym (told w state.Zero 48 (record { differs = false; rises = false; falls = false }) 48 (ap one_digit e) refl refl (rw e refl) (rw e refl) f digits size end values)
 
 pub not_true : (b : Bool) → not b ≡ true → b ≡ false
@@ -118,12 +129,10 @@ pub bit_digit : (one : Bool) (how : ℕ) → how ≡ number_of (cond one state.O
 bit_digit true how is = ap (λ n. one_digit (state_in n)) is
 bit_digit false how is = ap (λ n. one_digit (state_in n)) is
 
--- a slot that holds 0 or 1 holds the other one, or the same
-pub other_bit : (how : ℕ) (one : Bool) → (how ≡ number_of state.Zero) ⊎ (how ≡ number_of state.One) → how ≢ number_of (cond one state.One state.Zero) → state_in how ≡ cond one state.Zero state.One
-other_bit how true (inl e) other = ap state_in e
-other_bit how false (inl e) other = absurd (other e)
-other_bit how true (inr e) other = absurd (other e)
-other_bit how false (inr e) other = ap state_in e
+-- a slot that holds the other digit of 0 and 1, or the same
+pub other_bit : (how : ℕ) (one : Bool) → how ≡ number_of (cond one state.Zero state.One) → state_in how ≡ cond one state.Zero state.One
+other_bit how true other = ap state_in other
+other_bit how false other = ap state_in other
 
 pub same_bit : (how : ℕ) (one : Bool) → how ≡ number_of (cond one state.One state.Zero) → state_in how ≡ cond one state.One state.Zero
 same_bit how true same = ap state_in same
@@ -149,8 +158,8 @@ module _ (values : List ℕ) (slots : List Slot) (shares : List Share) (code : �
   kept_turns one is f digits size = by_slot (λ x. with_step one (not one) (with_held (Held.Digits (cond one 49 48 ∷ [])) x) ≡ with_change size f (cond one 49 48 ∷ []) x)
       (λ h there. bit_turned (whole slot h) one is f digits size (end_at shares (length values) code) values)
 
-  pub kept_stays : (one : Bool) → state_in slot.how ≡ cond one state.One state.Zero → (f : Form) → f ≢ form.RealText → (size : ℕ) → with_held (Held.Digits (cond one 49 48 ∷ [])) k ≡ with_change size f (cond one 49 48 ∷ []) k
-  kept_stays one is f digits size = by_slot (λ x. with_held (Held.Digits (cond one 49 48 ∷ [])) x ≡ with_change size f (cond one 49 48 ∷ []) x)
+  pub kept_stays : (one : Bool) → state_in slot.how ≡ cond one state.One state.Zero → (f : Form) → f ≢ form.RealText → (size : ℕ) → k ≡ with_change size f (cond one 49 48 ∷ []) k
+  kept_stays one is f digits size = by_slot (λ x. x ≡ with_change size f (cond one 49 48 ∷ []) x)
       (λ h there. bit_stays (whole slot h) one is f digits size (end_at shares (length values) code) values)
 
   pub kept_steps : AreLaidOut slots shares (length values) → (l n size : ℕ) (s : Step) → state_in slot.how ≡ state.Bits → 1 ≤ l → n < 2 ^ l → ((upper : ℕ) → max size (count_in (len_in slot.how slot.number upper)) ≡ max size l)

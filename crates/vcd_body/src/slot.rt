@@ -146,6 +146,15 @@ pub(crate) fn number_of_bit(digit: u8) -> u8
     b'2' - digit
 }
 
+/// The number that tells the state of the other digit of 1 and 0.
+#[inline(always)]
+pub(crate) fn number_of_turned(digit: u8) -> u8
+    requires { (digit ≡ 48) ⊎ (digit ≡ 49) }
+    ensures { result ≡ number_of (cond (digit == 49) State.Zero State.One) }
+{
+    number_of_bit(b'0' + b'1' - digit)
+}
+
 /// The state that a number tells.
 #[inline(always)]
 pub(crate) fn state_in(how: u8) -> State

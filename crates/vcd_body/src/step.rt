@@ -7,7 +7,7 @@ ghost use Rattle.vcd_body.specs.Kept.{goes_from, is_digit, last_digit_in};
 ghost use Rattle.vcd_body.specs.Stored.{number_of, one_digit};
 
 use crate::item::Form;
-use crate::slot::{State, is_bit, number_of};
+use crate::slot::State;
 
 /// What became of a value that was set.
 #[derive(Clone, Copy, PartialEq, Eq, Debug)]
@@ -81,15 +81,6 @@ fn holds_one(state: State) -> bool
         State::Zero | State::One | State::Unknown | State::High => true,
         State::Unset | State::Plain | State::Digits | State::Bits | State::Real => false,
     }
-}
-
-/// Whether the state that a number tells holds 0 or 1, and a digit is one of them.
-#[inline(always)]
-pub(crate) fn is_bit_step(how: u8, digit: u8) -> bool
-    ensures how { result ≡ true → (how ≡ number_of State.Zero) ⊎ (how ≡ number_of State.One) }
-    ensures digit { result ≡ true → (digit ≡ 48) ⊎ (digit ≡ 49) }
-{
-    ((how == number_of(State::Zero)) | (how == number_of(State::One))) && is_bit(digit)
 }
 
 /// The digit of a state that holds one. It takes no branches.

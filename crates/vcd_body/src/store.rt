@@ -11,9 +11,10 @@ use crate::counters::{carry_step, count_one, step_low, turn_low};
 use crate::item::Form;
 use crate::packed::pack;
 use crate::slot::{
-    Holding, Share, Slot, State, holding_of, number_of, number_of_bit, number_of_digit,
+    Holding, Share, Slot, State, holding_of, is_bit, number_of, number_of_bit, number_of_digit,
+    number_of_turned,
 };
-use crate::step::{is_bit_step, step_by_number};
+use crate::step::step_by_number;
 use vcd_view::Code;
 
 /// How the value of the code at a place is held.
@@ -413,13 +414,20 @@ pub(crate) fn turn_at(slots: &mut [Slot], code: usize, digit: u8) -> Stepped
     ensures laid { (shares : List Share) (n : ℕ) → AreLaidOut slots.old shares n
         → AreLaidOut slots.new shares n }
 {
-    if code >= slots.len() || !is_bit_step(slots[code].how, digit) {
+    if code >= slots.len() || !is_bit(digit) {
         return Stepped::Not;
     }
     let how = number_of_bit(digit);
-    let turns = slots[code].how != how;
+    let before = slots[code].how;
+    if before != number_of_turned(digit) {
+        return if before == how {
+            Stepped::Counted
+        } else {
+            Stepped::Not
+        };
+    }
     set_how(slots, code, how);
-    if !turns || count_turn_in(slots, code, digit) {
+    if count_turn_in(slots, code, digit) {
         return Stepped::Counted;
     }
     Stepped::Uncounted {

@@ -1,41 +1,45 @@
 use Rattle.std.proofs.Common.{◌≡◌, ◌∷◌, [], ◌==◌, Bool, List, cond, get_or, not, refl, subst, sym, ◌∙◌}
 use Rattle.std.proofs.lemmas.Option.{slice_get-get_or}
-use Rattle.vcd_body.specs.Kept.{Held, with_change, with_held, with_step}
+use Rattle.vcd_body.specs.Kept.{Held, Kept, with_change, with_held, with_step}
 use Rattle.vcd_body.specs.Stored.{ChangesAt}
 use Rattle.vcd_body.specs.declared.slot.Slot.{Slot}
-use Rattle.vcd_body.proofs.FollowLemmas.{bit_digit, bit_is, change_as, change_twice, kept_stays, kept_turns, other_bit, same_bit}
+use Rattle.vcd_body.proofs.FollowLemmas.{bit_digit, bit_is, change_as, change_twice, kept_stays, kept_turns, nothing_changes, other_bit, same_bit}
 use Rattle.vcd_body.proofs.StoreLemmas.{blank}
 use Rattle.vcd_body.proofs.store.turn_at.Goals as goal
-use Rattle.vcd_body.proofs.store.turn_at.Goals.{then-not-turns-via-then-not-turns, then-not-turns-via-else-not-turns+then-count_turn_in}
 
-pub returns-then-not-turns-clause-counted : goal.returns-then-not-turns-clause-counted
-returns-then-not-turns-clause-counted c = λ _ form digits size shares values.
+-- the same digit
+pub returns-then-before-how-clause-counted : goal.returns-then-before-how-clause-counted
+returns-then-before-how-clause-counted c = λ _ form digits size shares values.
+    let slots = c.args.slots.now in
+    let code = c.args.code in
+    let slot = get_or slots code blank in
+    let at = slice_get-get_or slots code blank c.if-code-slots.false in
+    let one = c.args.digit == 49 in
+    let bit = bit_is c.args.digit (c.if-not-is_bit.ensures.yes refl) in
+    subst (λ d. ChangesAt code (with_change size form (d ∷ [])) values slots shares values slots shares) bit
+    (change_as code (λ (k : Kept). k) (with_change size form (cond one 49 48 ∷ [])) values values slots slots shares shares
+    (λ k kept. kept_stays values slots shares code slot at k kept one (same_bit slot.how one (c.if-before-how.true ∙ c.number_of_bit-how.ensures.state)) form digits size)
+    (nothing_changes code values slots shares))
+
+-- the other digit, with its step
+pub returns-then-count_turn_in-clause-counted : goal.returns-then-count_turn_in-clause-counted
+returns-then-count_turn_in-clause-counted c = λ _ form digits size shares values.
     let slots = c.args.slots.now in
     let code = c.args.code in
     let slot = get_or slots code blank in
     let at = slice_get-get_or slots code blank c.if-code-slots.false in
     let one = c.args.digit == 49 in
     let set = c.set_how.ensures.changes (cond one 49 48) (bit_digit one c.number_of_bit-how.result c.number_of_bit-how.ensures.state) shares values in
-    let bit = bit_is c.args.digit (c.if-not-is_bit_step.ensures.digit refl) in
-    subst (λ d. ChangesAt code (with_change size form (d ∷ [])) values slots shares values c.then-not-turns.slots shares) bit
-    (elim c.then-not-turns.branch [
-      | then-not-turns-via-then-not-turns w ↦ subst (λ (s : List Slot). ChangesAt code (with_change size form (cond one 49 48 ∷ [])) values slots shares values s shares) (sym w.slots-is)
-          (change_as code (with_held (Held.Digits (cond one 49 48 ∷ []))) (with_change size form (cond one 49 48 ∷ [])) values values slots c.set_how.new.slots shares shares
-          (λ k kept. kept_stays values slots shares code slot at k kept one (same_bit slot.how one (w.if-not-turns.true ∙ c.number_of_bit-how.ensures.state)) form digits size) set)
-      | then-not-turns-via-else-not-turns+then-count_turn_in w ↦ subst (λ (s : List Slot). ChangesAt code (with_change size form (cond one 49 48 ∷ [])) values slots shares values s shares) (sym w.slots-is)
-          (change_as code (λ k. with_step one (not one) (with_held (Held.Digits (cond one 49 48 ∷ [])) k)) (with_change size form (cond one 49 48 ∷ [])) values values slots w.count_turn_in.new.slots shares shares
-          (λ k kept. kept_turns values slots shares code slot at k kept one (other_bit slot.how one (c.if-not-is_bit_step.ensures.how refl) (λ e. w.if-not-turns.false (e ∙ sym c.number_of_bit-how.ensures.state))) form digits size)
-          (change_twice code (with_held (Held.Digits (cond one 49 48 ∷ []))) (with_step one (not one)) values values values slots c.set_how.new.slots w.count_turn_in.new.slots shares shares shares set (w.count_turn_in.ensures.counts w.if-count_turn_in.true shares values)))
-    ])
+    let bit = bit_is c.args.digit (c.if-not-is_bit.ensures.yes refl) in
+    subst (λ d. ChangesAt code (with_change size form (d ∷ [])) values slots shares values c.count_turn_in.new.slots shares) bit
+    (change_as code (λ k. with_step one (not one) (with_held (Held.Digits (cond one 49 48 ∷ [])) k)) (with_change size form (cond one 49 48 ∷ [])) values values slots c.count_turn_in.new.slots shares shares
+    (λ k kept. kept_turns values slots shares code slot at k kept one (other_bit slot.how one (c.if-before-number_of_turned.false ∙ c.number_of_turned.ensures)) form digits size)
+    (change_twice code (with_held (Held.Digits (cond one 49 48 ∷ []))) (with_step one (not one)) values values values slots c.set_how.new.slots c.count_turn_in.new.slots shares shares shares set (c.if-count_turn_in.ensures.counts refl shares values)))
 
-pub returns-then-not-turns-clause-laid : goal.returns-then-not-turns-clause-laid
-returns-then-not-turns-clause-laid c = λ shares n laid.
+pub returns-then-count_turn_in-clause-laid : goal.returns-then-count_turn_in-clause-laid
+returns-then-count_turn_in-clause-laid c = λ shares n laid.
     let one = c.args.digit == 49 in
-    let set = c.set_how.ensures.laid (cond one 49 48) (bit_digit one c.number_of_bit-how.result c.number_of_bit-how.ensures.state) shares n laid in
-    elim c.then-not-turns.branch [
-      | then-not-turns-via-then-not-turns w ↦ rw w.slots-is set
-      | then-not-turns-via-else-not-turns+then-count_turn_in w ↦ rw w.slots-is (w.count_turn_in.ensures.laid shares n set)
-    ]
+    c.count_turn_in.ensures.laid shares n (c.set_how.ensures.laid (cond one 49 48) (bit_digit one c.number_of_bit-how.result c.number_of_bit-how.ensures.state) shares n laid)
 
 -- the slot had no room, and stayed
 pub returns-clause-uncounted : goal.returns-clause-uncounted
@@ -51,10 +55,10 @@ returns-clause-uncounted c = λ rises falls is form digits size shares values af
     let step = subst (λ (s : List Slot). ChangesAt code (with_step one (not one)) values s shares after counted with) (c.if-count_turn_in.ensures.same refl)
     (subst (λ (b : Bool). ChangesAt code (with_step one b) values c.count_turn_in.new.slots shares after counted with) fall
     (subst (λ (b : Bool). ChangesAt code (with_step b falls) values c.count_turn_in.new.slots shares after counted with) rise counts)) in
-    let bit = bit_is c.args.digit (c.if-not-is_bit_step.ensures.digit refl) in
+    let bit = bit_is c.args.digit (c.if-not-is_bit.ensures.yes refl) in
     subst (λ d. ChangesAt code (with_change size form (d ∷ [])) values slots shares after counted with) bit
     (change_as code (λ k. with_step one (not one) (with_held (Held.Digits (cond one 49 48 ∷ [])) k)) (with_change size form (cond one 49 48 ∷ [])) values after slots counted shares with
-    (λ k kept. kept_turns values slots shares code slot at k kept one (other_bit slot.how one (c.if-not-is_bit_step.ensures.how refl) (λ e. c.if-not-turns.false (e ∙ sym c.number_of_bit-how.ensures.state))) form digits size)
+    (λ k kept. kept_turns values slots shares code slot at k kept one (other_bit slot.how one (c.if-before-number_of_turned.false ∙ c.number_of_turned.ensures)) form digits size)
     (change_twice code (with_held (Held.Digits (cond one 49 48 ∷ []))) (with_step one (not one)) values values after slots c.set_how.new.slots counted shares shares with set step))
 
 pub returns-clause-laid : goal.returns-clause-laid
