@@ -16,7 +16,6 @@ pub mod CodeLanes
 pub mod BinaryLemmas
 pub mod BinaryShort
 pub mod StoreLemmas
-mod CountersLemmas
 pub mod LayoutLemmas
 pub mod HeldLemmas
 pub mod TableLemmas

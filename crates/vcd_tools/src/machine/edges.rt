@@ -109,6 +109,7 @@ impl<'n, 'r> Edges<'n, 'r> {
     }
 
     /// Counts a change of the code at a place, which stands inside a section or not.
+    #[cold]
     #[inline(never)]
     fn take_change(
         &mut self,

@@ -1,4 +1,4 @@
-use Rattle.std.proofs.Common.{◌≡◌, ◌∷◌, [], ◌==◌, Bool, List, cond, get_or, not, refl, subst, sym, ◌∙◌}
+use Rattle.std.proofs.Common.{◌≡◌, ◌∷◌, [], ◌==◌, Bool, List, cond, get_or, not, refl, subst, ◌∙◌}
 use Rattle.std.proofs.lemmas.Option.{slice_get-get_or}
 use Rattle.vcd_body.specs.Kept.{Held, Kept, with_change, with_held, with_step}
 use Rattle.vcd_body.specs.Stored.{ChangesAt}
