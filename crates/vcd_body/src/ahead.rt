@@ -1,5 +1,5 @@
 // Items whose tokens lie whole ahead in the chunk: most cost no change of the feed.
-ghost use Rattle.std.specs.Prelude.{◌≡◌, ◌⊎◌, ℕ, ◌+◌, ◌<◌, ◌≤◌, ◌^◌, List, [], ◌∷◌, ◌++◌, drop, length, slice_get, slice_range, None, Some, IfSome, MatchOption};
+ghost use Rattle.std.specs.Prelude.{◌≡◌, ◌⊎◌, ℕ, ◌+◌, ◌<◌, ◌≤◌, ◌^◌, List, [], ◌∷◌, ◌++◌, drop, length, slice_get, slice_range, true, is_some, None, Some, IfSome, MatchOption};
 ghost use Rattle.vcd_model.specs.Input.{Input};
 ghost use Rattle.vcd_model.specs.Tokens.{Token};
 ghost use Rattle.vcd_model.specs.Header.{Header};
@@ -297,7 +297,8 @@ pub fn real_ahead<'a>(
 /// The time of the mark that a token is; none where it spells none.
 #[inline(always)]
 pub fn time_ahead(opening: Opening<'_>) -> Option<u64>
-    ensures { IfSome result (λ time. HasTime opening.entry time) }
+    ensures time { IfSome result (λ time. HasTime opening.entry time) }
+    ensures all { (time : ℕ) → HasTime opening.entry time → result ≡ Some time }
 {
     decimal_of(rest_of(opening.token))
 }
@@ -317,6 +318,8 @@ pub fn mark_ahead<'a>(
     ensures takes { IfSome result (λ plain. (a : Ahead) (v : HeadView)
         → Opens a ahead.entry opening.entry → TakesItem v a ahead.entry regs.old plain) }
     ensures time { IfSome result (λ plain. plain.item ≡ item.Time time) }
+    ensures none { result ≡ None
+        → (is_some regs.old.section ≡ true) ⊎ (time < regs.old.time) }
     ensures regs { MatchOption result (regs.new ≡ regs.old)
         (λ plain. regs.new ≡ regs_after regs.old plain.item) }
 {

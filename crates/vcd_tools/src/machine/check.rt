@@ -36,6 +36,7 @@ impl Check {
     }
 
     /// Counts one item more.
+    // An input is shorter than 2^63 bytes, so no count wraps.
     #[inline(always)]
     pub(crate) fn take(&mut self, item: Item)
         ensures { (items : List BodyItem) (x : BodyItem) → IsOfKind item x → length items < 2 ^ 63
