@@ -14,7 +14,7 @@ use Rattle.vcd_model.specs.Cut.{ends_cut}
 use Rattle.vcd_model.specs.Merge.{Dump, KeyedFault, headers_of, merged_items, first_fault, items_before, merge_open, merge_close}
 use Rattle.vcd_model.specs.Ticks.{Moment, in_range, unit_ticks, number_ticks, ticks, moment_ticks}
 use Rattle.vcd_model.specs.Outcome.{Request, Outcome, Opened, fault_text, program_line, fault_outcome, clean_outcome, allowed_after, open_from, items_in, fault_in, name_at, ends_early, open_text, close_text, at_end, over_body, unmatched_outcome, over_dump, dumps_of, merge_outcome, over_dumps}
-use Rattle.vcd_model.specs.Job.{Want, IsTime, Refusal, request_of, cut_request, first_refusal, has_unit, refusal_outcome, over_opened, outcome}
+use Rattle.vcd_model.specs.Job.{Want, IsJob, IsTime, Refusal, request_of, cut_request, first_refusal, has_unit, refusal_outcome, over_opened, outcome}
 use Rattle.vcd_model.specs.Laws.{IsBehind, KeepsValues, Opens, cut_text, PickRunKeeps, CutRunKeeps, MergeRunKeeps, MergeKeepsValues}
 use Rattle.vcd_model.proofs.JobLemmas.{requests_are_valid}
 use Rattle.vcd_model.proofs.PickKept.{pick_keeps}
@@ -53,7 +53,7 @@ unfolding behind_headers
 headers_good want names (Err e) h = absurd (fault_status [] (name_at names e.0) e.1 h)
 headers_good want names (Ok os) h = (os, refl, refl)
 
-run_behind : (want : Want) (limit : ℕ) (names : List (List ℕ)) (inputs : List Input) → (outcome want limit names inputs).status ≡ 0
+pub run_behind : (want : Want) (limit : ℕ) (names : List (List ℕ)) (inputs : List Input) → (outcome want limit names inputs).status ≡ 0
     → (os : List Opened) × (open_from limit [] inputs ≡ Ok os) × (outcome want limit names inputs ≡ over_opened want names os)
 unfolding outcome behind_headers
 run_behind want limit names inputs h = headers_good want names (open_from limit [] inputs) h
@@ -74,13 +74,13 @@ unfolding merge_of
 merge_clean names ds (Some f) h = absurd (fault_status (merge_open (headers_of ds) (items_before f (merged_items ds))) (name_at names f.key.input) f.fault h)
 merge_clean names ds None h = (refl, refl)
 
-merge_case : (names : List (List ℕ)) (os : List Opened) → (over_opened Want.Merge names os).status ≡ 0
+pub merge_case : (names : List (List ℕ)) (os : List Opened) → (over_opened Want.Merge names os).status ≡ 0
     → (first_fault (dumps_of os) ≡ None) × ((over_opened Want.Merge names os).output ≡ merge_open (headers_of (dumps_of os)) (merged_items (dumps_of os)) ++ merge_close (merged_items (dumps_of os)))
 unfolding request_of merge_outcome merge_of
 merge_case names os h = merge_clean names (dumps_of os) (first_fault (dumps_of os)) h
 
 -- an outcome that is another has its status, and its output stands behind the same head
-same_status : (done other : Outcome) → done ≡ other → done.status ≡ 0 → other.status ≡ 0
+pub same_status : (done other : Outcome) → done ≡ other → done.status ≡ 0 → other.status ≡ 0
 same_status done other e h = subst (λ (d : Outcome). d.status ≡ 0) e h
 
 behind_same : (done other : Outcome) (head text : List ℕ) (P : List ℕ → Type 0) → done ≡ other → other.output ≡ text → IsBehind head text P → IsBehind head done.output P
@@ -128,7 +128,7 @@ no_end names (BodyItem.End ∷ items) = no_end names items
 no_end names (BodyItem.Changes c ∷ items) = no_end names items
 
 -- no time mark ends a run of `pick`
-pick_body : (names : List (List ℕ)) (h : Header) (items : List BodyItem) (name : List ℕ) (fault : Option Fault) → over_body (Request.Pick names) h items name fault ≡ at_end (Request.Pick names) h items name fault
+pub pick_body : (names : List (List ℕ)) (h : Header) (items : List BodyItem) (name : List ℕ) (fault : Option Fault) → over_body (Request.Pick names) h items name fault ≡ at_end (Request.Pick names) h items name fault
 unfolding over_body
 pick_body names h items name fault = rw (no_end names items, over_body) refl
 
@@ -142,7 +142,7 @@ one_run want limit name input h =
     = subst (λ (l : List Opened). (open_from limit [] (input ∷ []) ≡ Ok l) × (outcome want limit (name ∷ []) (input ∷ []) ≡ over_opened want (name ∷ []) l)) one.1 (run.1, run.2) in
     (one.0, pair.0, pair.1)
 
-pick_case : (names : List (List ℕ)) (name : List ℕ) (o : Opened) → (over_opened (Want.Pick names) (name ∷ []) (o ∷ [])).status ≡ 0
+pub pick_case : (names : List (List ℕ)) (name : List ℕ) (o : Opened) → (over_opened (Want.Pick names) (name ∷ []) (o ∷ [])).status ≡ 0
     → (fault_in o ≡ None) × ((over_opened (Want.Pick names) (name ∷ []) (o ∷ [])).output ≡ open_text (Request.Pick names) o.header (items_in o) ++ close_text (Request.Pick names) o.header (items_in o))
 unfolding request_of over_dump named
 pick_case names name o h =
@@ -234,31 +234,47 @@ cut_case : (a b : ℕ) (name : List ℕ) (o : Opened) → (over_dumps (Request.C
 unfolding over_dump
 cut_case a b name o h = cut_end a b o.header (items_in o) (name_at (name ∷ []) 0) (fault_in o) (ends_cut b (items_in o)) refl h
 
-pub cut_run_keeps : CutRunKeeps
+-- what a run of `cut` with status 0 has written, from the first to the second of its times in ticks
+pub record IsCutRun (limit : ℕ) (name : List ℕ) (from to : Moment) (input : Input) (o : Opened) : Type 0 where
+  pub a : ℕ
+  pub b : ℕ
+  pub first : moment_ticks o.header.scale from true ≡ Ok a
+  pub last : moment_ticks o.header.scale to false ≡ Ok b
+  pub small : a < 2 ^ 64
+  pub order : a ≤ b
+  pub ends : IsTrue (ends_cut b (items_in o)) ⊎ (fault_in o ≡ None)
+  pub output : (outcome (Want.Cut from to) limit (name ∷ []) (input ∷ [])).output ≡ cut_text o.header a b (items_in o)
+
+pub cut_run : (limit : ℕ) (name : List ℕ) (from to : Moment) (input : Input) (o : Opened) → IsJob (Want.Cut from to) → outcome (Want.Cut from to) limit (name ∷ []) (input ∷ []) ≡ over_opened (Want.Cut from to) (name ∷ []) (o ∷ [])
+    → (outcome (Want.Cut from to) limit (name ∷ []) (input ∷ [])).status ≡ 0 → IsCutRun limit name from to input o
 unfolding request_of asked
-cut_run_keeps limit name from to input job h =
-    let run = one_run (Want.Cut from to) limit name input h in
-    let o = run.0 in
+cut_run limit name from to input o job run h =
     let scale = o.header.scale in
     let done = outcome (Want.Cut from to) limit (name ∷ []) (input ∷ []) in
     let opened = over_opened (Want.Cut from to) (name ∷ []) (o ∷ []) in
-    let ends = same_status done opened run.2 h in
+    let ends = same_status done opened run h in
     let times = cut_ticks (has_unit (from ∷ to ∷ [])) (moment_ticks scale from true) (moment_ticks scale to false) (name ∷ []) o ends in
     let a = times.0 in
     let b = times.1 in
-    let valid = requests_are_valid scale (Want.Cut from to) (Request.Cut a b) job times.4 in
-    let small = moment_small scale from true a job.0 times.2 in
     let other = over_dumps (Request.Cut a b) (name ∷ []) (o ∷ []) in
     let same : opened ≡ other = ap (asked (name ∷ []) o) times.4 in
     let is = cut_case a b name o (same_status opened other same ends) in
-    let keeps = cut_keeps limit input o a b small valid run.1 is.0 in
-    let P : List ℕ → Type 0 = λ l. KeepsValues o.header.codes l (λ t. (a ≤ t) × (t ≤ b)) (items_in o) in (
-      o,
-      a,
-      b,
-      run.1,
-      times.2,
-      times.3,
-      subst (λ (d : Outcome). IsBehind (head_for o.header []) d.output P) (sym run.2)
-          (behind_same opened other (head_for o.header []) (cut_text o.header a b (items_in o)) P same is.1 keeps),
-    )
+    record {
+      a = a;
+      b = b;
+      first = times.2;
+      last = times.3;
+      small = moment_small scale from true a job.0 times.2;
+      order = requests_are_valid scale (Want.Cut from to) (Request.Cut a b) job times.4;
+      ends = is.0;
+      output = ap (λ (d : Outcome). d.output) (run ∙ same) ∙ is.1;
+    }
+
+pub cut_run_keeps : CutRunKeeps
+cut_run_keeps limit name from to input job h =
+    let run = one_run (Want.Cut from to) limit name input h in
+    let o = run.0 in
+    let is = cut_run limit name from to input o job run.2 h in
+    let keeps = cut_keeps limit input o is.a is.b is.small is.order run.1 is.ends in
+    let P : List ℕ → Type 0 = λ l. KeepsValues o.header.codes l (λ t. (is.a ≤ t) × (t ≤ is.b)) (items_in o) in
+    (o, is.a, is.b, run.1, is.first, is.last, subst (λ (l : List ℕ). IsBehind (head_for o.header []) l P) (sym is.output) keeps)
