@@ -4,6 +4,7 @@ use Rattle.std.specs.List.{AllByRecursion}
 use Rattle.std.proofs.lemmas.Bool.{and_parts, not-true}
 use Rattle.vcd_model.specs.Backward.{later_or, last_where}
 use Rattle.vcd_model.specs.Input.{Input}
+use Rattle.vcd_model.specs.Tokens.{first_halt}
 use Rattle.vcd_model.specs.Keywords.{Keyword}
 use Rattle.vcd_model.specs.Declarations.{IdCode, has_text}
 use Rattle.vcd_model.specs.Items.{BodyItem, Entry, entries}
@@ -12,8 +13,9 @@ use Rattle.vcd_model.specs.History.{gives_to, value_in, value_before}
 use Rattle.vcd_model.specs.BodyPhrases.{declared_code}
 use Rattle.vcd_model.specs.Cut.{within}
 use Rattle.vcd_model.specs.Outcome.{Opened, items_in}
-use Rattle.vcd_model.specs.Job.{Want, outcome}
-use Rattle.vcd_model.specs.Laws.{Opens, CodesFit, CutIsNotHalted}
+use Rattle.vcd_model.specs.Ticks.{Moment}
+use Rattle.vcd_model.specs.Job.{Want, IsJob}
+use Rattle.vcd_model.specs.Laws.{Opens, CodesFit, input_of, written_by, IsReadable}
 use Rattle.vcd_model.proofs.TokenTexts.{texts_from}
 use Rattle.vcd_model.proofs.ItemStates.{time_behind, IsGoodChange, IsFit, next_time, next_open, AreFit, entries_from, at_start, entries_are}
 use Rattle.vcd_model.proofs.ReadBack.{item_tokens}
@@ -30,8 +32,7 @@ use Rattle.vcd_model.proofs.StartSections.{item_if_set, set_items}
 use Rattle.vcd_model.proofs.CutKept.{cuts}
 use Rattle.vcd_model.proofs.CutLaw.{cut_entries, cut_start, cut_end, CutBehind, cut_behind}
 use Rattle.vcd_model.proofs.WrittenCodes.{to_contained, from_find}
-use Rattle.vcd_model.proofs.RunLaws.{cut_run}
-use Rattle.vcd_model.proofs.PickUses.{opened_run}
+use Rattle.vcd_model.proofs.RunLaws.{cut_run, opened_run}
 use Rattle.vcd_model.proofs.ShortTokens.{AllShort, not_halted}
 use Rattle.vcd_model.proofs.ShortHeads.{keyword_short, number_short}
 use Rattle.vcd_model.proofs.ShortBodies.{ShortItem, ShortValue, value_short, value_tokens_short, written_tokens_short, closing_short, tokens-append, entries_short, opened_short, short_items, short_behind}
@@ -143,12 +144,15 @@ cut_tokens_short limit input o a b least opens low small behind =
     (written_tokens_short codes limit least (time_behind 0 start) false (a ∷ []) ks parts.writable entries fits)
     (closing_short codes limit least w mark (λ e m. (parts.last e m).1))))
 
-pub cut_is_not_halted : CutIsNotHalted
-cut_is_not_halted limit name from to input o least opens job ok low small =
-    let run = cut_run limit name from to input o job (opened_run (Want.Cut from to) limit name input o opens) ok in
+-- nothing halts the reading of what `cut` wrote
+pub cut_is_not_halted : (limit : ℕ) (name : List ℕ) (from to : Moment) (input : Input) (o : Opened)
+    → IsJob (Want.Cut from to) → IsReadable (Want.Cut from to) limit name input o → first_halt limit (input_of (written_by (Want.Cut from to) limit name input)) ≡ None
+cut_is_not_halted limit name from to input o job can =
+    let opens = can.opens in
+    let run = cut_run limit name from to input o job (opened_run (Want.Cut from to) limit name input o opens) can.clean in
     let good = opens_good limit input o opens in
     let behind = cut_behind o run.a run.b run.small run.order good run.ends in
     let text = flat_map plain_line (parts_items (cut_start o.header run.a run.b (items_in o)) (run.a ∷ []) (cut_entries run.a run.b (items_in o)) (cut_end run.a run.b (items_in o))) in
-    not_halted limit (outcome (Want.Cut from to) limit (name ∷ []) (input ∷ [])).output small
+    not_halted limit (written_by (Want.Cut from to) limit name input) can.bytes
     (subst (λ (l : List ℕ). AllShort limit (texts_from true l)) (sym (run.output ∙ behind.text))
-    (short_behind limit input o [] text least opens (cut_tokens_short limit input o run.a run.b least opens low run.small behind)))
+    (short_behind limit input o [] text can.least opens (cut_tokens_short limit input o run.a run.b can.least opens can.fits run.small behind)))

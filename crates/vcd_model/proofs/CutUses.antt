@@ -10,14 +10,14 @@ use Rattle.vcd_model.specs.Sample.{sample_lines}
 use Rattle.vcd_model.specs.Ticks.{moment_ticks}
 use Rattle.vcd_model.specs.Outcome.{Request, Outcome, Opened, items_in, fault_in, ends_early, over_dumps}
 use Rattle.vcd_model.specs.Job.{Want, Refusal, request_of, refusal_outcome, outcome}
-use Rattle.vcd_model.specs.Laws.{input_of, CanBeRead, IsDumpFor, SampleOfCut}
+use Rattle.vcd_model.specs.Laws.{input_of, written_by, IsDumpFor, SampleOfCut}
 use Rattle.vcd_model.proofs.JobLemmas.{requests_are_valid}
-use Rattle.vcd_model.proofs.WrittenCodes.{In, to_contained, in_map, to_codes_of}
+use Rattle.vcd_model.proofs.WrittenCodes.{In, from_filter, to_contained, in_map, to_codes_of}
 use Rattle.vcd_model.proofs.HeadBack.{variables_are, opens_header}
-use Rattle.vcd_model.proofs.RunLaws.{cut_run}
-use Rattle.vcd_model.proofs.DumpLaws.{from_filter, cut_is_a_dump}
+use Rattle.vcd_model.proofs.RunLaws.{cut_run, opened_run}
+use Rattle.vcd_model.proofs.DumpLaws.{cut_is_a_dump}
 use Rattle.vcd_model.proofs.SampleText.{ends_sample}
-use Rattle.vcd_model.proofs.PickUses.{chosen, selected_is, same_selected, same_unmatched, same_opened, opened_run, sampled, sample_run}
+use Rattle.vcd_model.proofs.PickUses.{chosen, selected_is, same_selected, same_unmatched, sampled, sample_run}
 
 -- items in which these variables have the same values at some times
 abbrev SameWhere : (ℕ → Type 0) → List BodyItem → List BodyItem → Selected → Type 0
@@ -45,15 +45,14 @@ ups_to a b (t ∷ ts) h = (h.0.1, ups_to a b ts h.1)
 
 pub sample_of_cut : SampleOfCut
 unfolding request_of
-sample_of_cut limit name from to times wanted input o a b ts cuts job opens first last asks inside ok can =
-    let text = (outcome (Want.Cut from to) limit (name ∷ []) (input ∷ [])).output in
-    let run = cut_run limit name from to input o cuts (opened_run (Want.Cut from to) limit name input o opens) ok in
-    let law = cut_is_a_dump limit name from to input cuts ok in
-    let same : law.0 ≡ o = same_opened limit input law.0 o law.3 opens in
-    let begins : law.1 ≡ a = same_ok (moment_ticks o.header.scale from true) law.1 a (subst (λ (p : Opened). moment_ticks p.header.scale from true ≡ Ok law.1) same law.4) first in
-    let stops : law.2 ≡ b = same_ok (moment_ticks o.header.scale to false) law.2 b (subst (λ (p : Opened). moment_ticks p.header.scale to false ≡ Ok law.2) same law.5) last in
-    let make : CanBeRead limit o.header text → IsDumpFor limit o [] (λ t. (law.1 ≤ t) × (t ≤ law.2)) text = subst (λ (p : Opened). CanBeRead limit p.header text → IsDumpFor limit p [] (λ t. (law.1 ≤ t) × (t ≤ law.2)) text) same law.6 in
-    let d : IsDumpFor limit o [] (λ t. (a ≤ t) × (t ≤ b)) text = subst (λ (n : ℕ). IsDumpFor limit o [] (λ t. (a ≤ t) × (t ≤ n)) text) stops (subst (λ (n : ℕ). IsDumpFor limit o [] (λ t. (n ≤ t) × (t ≤ law.2)) text) begins (make can)) in
+sample_of_cut limit name from to times wanted input o a b ts cuts job can first last asks inside =
+    let opens = can.opens in
+    let text = written_by (Want.Cut from to) limit name input in
+    let run = cut_run limit name from to input o cuts (opened_run (Want.Cut from to) limit name input o opens) can.clean in
+    let law = cut_is_a_dump limit name from to input o cuts can in
+    let begins : law.0 ≡ a = same_ok (moment_ticks o.header.scale from true) law.0 a law.2 first in
+    let stops : law.1 ≡ b = same_ok (moment_ticks o.header.scale to false) law.1 b law.3 last in
+    let d : IsDumpFor limit o [] (λ t. (a ≤ t) × (t ≤ b)) text = subst (λ (n : ℕ). IsDumpFor limit o [] (λ t. (a ≤ t) × (t ≤ n)) text) stops (subst (λ (n : ℕ). IsDumpFor limit o [] (λ t. (n ≤ t) × (t ≤ law.1)) text) begins law.4) in
     let k = d.dump in
     let head = d.head in
     let bound : run.b ≡ b = same_ok (moment_ticks o.header.scale to false) run.b b run.last last in

@@ -14,21 +14,25 @@ use Rattle.vcd_model.specs.Reading.{Fault, phrases_of}
 use Rattle.vcd_model.specs.HeaderReading.{read_header, header_fault_of}
 use Rattle.vcd_model.specs.BodyPhrases.{declared_code}
 use Rattle.vcd_model.specs.BodyReading.{read_body, body_items}
-use Rattle.vcd_model.specs.Merge.{factor, headers_of}
+use Rattle.vcd_model.specs.Merge.{factor, headers_of, first_fault}
+use Rattle.vcd_model.specs.Ticks.{Moment, moment_ticks}
 use Rattle.vcd_model.specs.Outcome.{Opened, dumps_of, declarations_allowed, open_from, body_of, items_in}
 use Rattle.vcd_model.specs.Job.{Want, outcome}
-use Rattle.vcd_model.specs.Laws.{stream_over, read_text, Opens, KeepsValues, input_of, CanBeRead, IsDumpFor, PickIsADump, CutIsADump, OpenAll, renamed_code, merged_codes, MergeKeepsValues, CanAllBeRead, IsMergedDump, MergeIsADump}
+use Rattle.vcd_model.specs.Laws.{stream_over, read_text, Opens, KeepsValues, input_of, written_by, most_declared, IsDumpFor, PickIsADump, CutIsADump, OpenAll, renamed_code, merged_codes, MergeKeepsValues, IsShallow, most_merged, IsMergedDump, MergeIsADump}
 use Rattle.vcd_model.proofs.TokenTexts.{texts_from, texts_of-tokens}
 use Rattle.vcd_model.proofs.HeaderFacts.{AreCodes}
 use Rattle.vcd_model.proofs.OpenedBodies.{opens_good}
 use Rattle.vcd_model.proofs.PickKept.{find-filter, all_kept}
 use Rattle.vcd_model.proofs.HeadersGood.{IsGoodHeader}
-use Rattle.vcd_model.proofs.WrittenCodes.{In, from_contained, to_contained, from_map, any_of, from_codes_of, found_same}
+use Rattle.vcd_model.proofs.WrittenCodes.{In, from_filter, to_filter, from_contained, to_contained, from_map, any_of, from_codes_of, found_same}
 use Rattle.vcd_model.proofs.SameReadings.{bodies_alike, same_items, same_whole}
 use Rattle.vcd_model.proofs.WrittenRows.{written}
 use Rattle.vcd_model.proofs.HeadBack.{marks, own_code, variables_are, head_read, IsHeadRead, opens_header}
 use Rattle.vcd_model.proofs.MergedBack.{merged_found, IsMergedRead, merged_read, all_can}
-use Rattle.vcd_model.proofs.RunLaws.{pick_run_keeps, cut_run_keeps, merge_run_keeps}
+use Rattle.vcd_model.proofs.RunLaws.{same_opened, pick_run_keeps, cut_run_keeps, merge_run_keeps}
+use Rattle.vcd_model.proofs.ShortBodies.{pick_is_not_halted}
+use Rattle.vcd_model.proofs.CutShort.{cut_is_not_halted}
+use Rattle.vcd_model.proofs.MergeShort.{merge_is_not_halted}
 
 -- ---- a stream that is not halted
 
@@ -55,6 +59,10 @@ pub opens_stream : (limit : ℕ) (input : Input) (stream : Stream) → stream_of
 opens_stream limit input stream e none =
     subst (λ (s : Stream). Opens limit input (opened_from s)) e (opens_own limit input (subst (λ (s : Stream). header_fault_of s (read_header declarations_allowed s) ≡ None) (sym e) none))
 
+-- nothing halts the reading of a text, and a head for this header has no more declarations than are allowed
+abbrev pub CanOpen : ℕ → Header → List ℕ → Type 0
+CanOpen limit h text = (first_halt limit (input_of text) ≡ None) × (most_declared h ≤ declarations_allowed)
+
 -- ---- one input
 
 -- the codes of the text behind a head: those of the header that a selected variable carries
@@ -70,7 +78,7 @@ pub record IsReadDump (limit : ℕ) (o : Opened) (names : List (List ℕ)) (decl
   pub rows : dump.dump.header.declarations ≡ written own_code (marks names o.header.declarations) o.header.declarations
 
 pub is_dump : (limit : ℕ) (input : Input) (o : Opened) (names : List (List ℕ)) (declared : List IdCode) (InTime : ℕ → Type 0) (text whole : List ℕ) → Opens limit input o → AreSelectedCodes o.header names declared
-    → whole ≡ head_for o.header names ++ text → KeepsValues declared text InTime (items_in o) → CanBeRead limit o.header whole → IsReadDump limit o names declared InTime text whole
+    → whole ≡ head_for o.header names ++ text → KeepsValues declared text InTime (items_in o) → CanOpen limit o.header whole → IsReadDump limit o names declared InTime text whole
 unfolding body_of
 is_dump limit input o names declared InTime text whole opens are e keeps can =
     let good = opens_good limit input o opens in
@@ -104,24 +112,6 @@ is_dump limit input o names declared InTime text whole opens are e keeps can =
 
 -- ---- `pick` and `cut`
 
-pub from_filter : {X : Type 0} (test : X → Bool) (xs : List X) (x : X) → In x (filter test xs) → In x xs × (test x ≡ true)
-from_filter test [] x i = absurd i
-from_filter test (y ∷ ys) x i = by_test (test y) refl i (from_filter test ys x)
-  where
-    by_test : (b : Bool) → test y ≡ b → In x (cond b (y ∷ filter test ys) (filter test ys)) → (In x (filter test ys) → In x ys × (test x ≡ true)) → In x (y ∷ ys) × (test x ≡ true)
-    by_test true e (inl same) more = (inl same, ap test same ∙ e)
-    by_test true e (inr j) more = let h = more j in (inr h.0, h.1)
-    by_test false e j more = let h = more j in (inr h.0, h.1)
-
-pub to_filter : {X : Type 0} (test : X → Bool) (xs : List X) (x : X) → In x xs → test x ≡ true → In x (filter test xs)
-to_filter test [] x i e = absurd i
-to_filter test (y ∷ ys) x (inl same) e = rw (sym same, e) (inl refl)
-to_filter test (y ∷ ys) x (inr i) e = by_test (test y) (to_filter test ys x i e)
-  where
-    by_test : (b : Bool) → In x (filter test ys) → In x (cond b (y ∷ filter test ys) (filter test ys))
-    by_test true j = inr j
-    by_test false j = j
-
 pub picked_codes : (h : Header) (names : List (List ℕ)) → AreCodes h.codes → AreSelectedCodes h names (filter (selects_code (selected names h.declarations)) h.codes)
 picked_codes h names found =
     let test = selects_code (selected names h.declarations) in
@@ -143,39 +133,53 @@ own_codes h good found = record {
 }
 
 pub pick_is_a_dump : PickIsADump
-pick_is_a_dump limit name names input h =
-    let run = pick_run_keeps limit name names input h in
-    let o = run.0 in
+pick_is_a_dump limit name names input o can =
+    let run = pick_run_keeps limit name names input can.clean in
+    let same : run.0 ≡ o = same_opened limit input run.0 o run.1 can.opens in
+    let made = λ (p : Opened). CanOpen limit p.header (written_by (Want.Pick names) limit name input) → IsDumpFor limit p names (λ t. Unit {0}) (written_by (Want.Pick names) limit name input) in
     let behind = run.3 in
-    let good = opens_good limit input o run.1 in (
-      o,
-      run.1,
-      λ can. (is_dump limit input o names (filter (selects_code (selected names o.header.declarations)) o.header.codes) (λ t. Unit {0}) behind.0 (outcome (Want.Pick names) limit (name ∷ []) (input ∷ [])).output run.1
-          (picked_codes o.header names good.codes) behind.1 behind.2 can).dump,
-    )
+    let good = opens_good limit input run.0 run.1 in
+    let make : made run.0 = λ is.
+    (is_dump limit input run.0 names (filter (selects_code (selected names run.0.header.declarations)) run.0.header.codes) (λ t. Unit {0}) behind.0 (written_by (Want.Pick names) limit name input) run.1
+    (picked_codes run.0.header names good.codes) behind.1 behind.2 is).dump in
+    subst made same make (pick_is_not_halted limit name names input o can, can.few)
+
+-- the times of a cut in ticks, and such a dump
+abbrev CutDump : ℕ → Moment → Moment → List ℕ → Opened → Type 0
+CutDump limit from to text o =
+    (a : ℕ) × (b : ℕ) × (moment_ticks o.header.scale from true ≡ Ok a) × (moment_ticks o.header.scale to false ≡ Ok b)
+    × IsDumpFor limit o [] (λ t. (a ≤ t) × (t ≤ b)) text
 
 pub cut_is_a_dump : CutIsADump
-cut_is_a_dump limit name from to input job h =
-    let run = cut_run_keeps limit name from to input job h in
-    let o = run.0 in
+cut_is_a_dump limit name from to input o job can =
+    let run = cut_run_keeps limit name from to input job can.clean in
+    let text = written_by (Want.Cut from to) limit name input in
+    let same : run.0 ≡ o = same_opened limit input run.0 o run.3 can.opens in
+    let made = λ (p : Opened). CanOpen limit p.header text → CutDump limit from to text p in
     let a = run.1 in
     let b = run.2 in
     let behind = run.6 in
-    let good = opens_good limit input o run.3 in (
-      o,
+    let good = opens_good limit input run.0 run.3 in
+    let make : made run.0 = λ is. (
       a,
       b,
-      run.3,
       run.4,
       run.5,
-      λ can. (is_dump limit input o [] o.header.codes (λ t. (a ≤ t) × (t ≤ b)) behind.0 (outcome (Want.Cut from to) limit (name ∷ []) (input ∷ [])).output run.3
-          (own_codes o.header (opens_header limit input o run.3) good.codes) behind.1 behind.2 can).dump,
-    )
+      (is_dump limit input run.0 [] run.0.header.codes (λ t. (a ≤ t) × (t ≤ b)) behind.0 text run.3
+          (own_codes run.0.header (opens_header limit input run.0 run.3) good.codes) behind.1 behind.2 is).dump,
+    ) in
+    subst made same make (cut_is_not_halted limit name from to input o job can, can.few)
 
 -- ---- `merge`
 
+-- nothing halts the reading of a text, no scope of an input is too deep, and there are no more declarations than are allowed
+pub record CanAllOpen (limit : ℕ) (hs : List Header) (text : List ℕ) : Type 0 where
+  pub given : first_halt limit (input_of text) ≡ None
+  pub shallow : AllByRecursion IsShallow hs
+  pub few : most_merged hs ≤ declarations_allowed
+
 pub is_merged_dump : (limit : ℕ) (inputs : List Input) (os : List Opened) (text whole : List ℕ) → OpenAll limit inputs os → whole ≡ merged_head (headers_of (dumps_of os)) ++ text → MergeKeepsValues (dumps_of os) text
-    → CanAllBeRead limit (headers_of (dumps_of os)) whole → IsMergedDump limit (dumps_of os) whole
+    → CanAllOpen limit (headers_of (dumps_of os)) whole → IsMergedDump limit (dumps_of os) whole
 unfolding body_of
 is_merged_dump limit inputs os text whole opens e keeps can =
     let ds = dumps_of os in
@@ -204,13 +208,15 @@ is_merged_dump limit inputs os text whole opens e keeps can =
           ap (λ (l : List BodyItem). value_at l (renamed_code (headers_of earlier) d.header c) (factor hs d.header * t)) items ∙ keeps.values earlier later d split c t i quiet;
     }
 
+same_all : (limit : ℕ) (inputs : List Input) (os ps : List Opened) → OpenAll limit inputs os → OpenAll limit inputs ps → os ≡ ps
+same_all limit inputs os ps a b = let c = sym a ∙ b in cc
+
 pub merge_is_a_dump : MergeIsADump
-merge_is_a_dump limit names inputs h =
-    let run = merge_run_keeps limit names inputs h in
-    let os = run.0 in
-    let behind = run.3 in (
-      os,
-      run.1,
-      run.2,
-      λ can. is_merged_dump limit inputs os behind.0 (outcome Want.Merge limit names inputs).output run.1 behind.1 behind.2 can,
-    )
+merge_is_a_dump limit names inputs os can =
+    let run = merge_run_keeps limit names inputs can.clean in
+    let text = (outcome Want.Merge limit names inputs).output in
+    let same : run.0 ≡ os = same_all limit inputs run.0 os run.1 can.opens in
+    let made = λ (ps : List Opened). CanAllOpen limit (headers_of (dumps_of ps)) text → (first_fault (dumps_of ps) ≡ None) × IsMergedDump limit (dumps_of ps) text in
+    let behind = run.3 in
+    let make : made run.0 = λ is. (run.2, is_merged_dump limit inputs run.0 behind.0 text run.1 behind.1 behind.2 is) in
+    subst made same make (record { given = merge_is_not_halted limit names inputs os can; shallow = can.shallow; few = can.few })

@@ -13,18 +13,19 @@ use Rattle.vcd_model.specs.HeadText.{head_for}
 use Rattle.vcd_model.specs.Pick.{pick_open, pick_close}
 use Rattle.vcd_model.specs.Outcome.{Request, Outcome, Opened, clean_outcome, name_at, items_in, fault_in, ends_early, at_end, over_body, unmatched_outcome, over_dump, over_dumps}
 use Rattle.vcd_model.specs.Job.{Want, request_of, over_opened, outcome}
-use Rattle.vcd_model.specs.Laws.{Opens, input_of, KeepsValues, CanBeRead, IsDumpFor, EdgesOfPick}
+use Rattle.vcd_model.specs.Laws.{written_by, input_of, KeepsValues, IsReadable, IsDumpFor, EdgesOfPick}
 use Rattle.vcd_model.proofs.ItemStates.{entries_from, at_start, entries_are}
 use Rattle.vcd_model.proofs.Lines.{IsRead}
 use Rattle.vcd_model.proofs.Assembled.{parts_items, parts_read}
 use Rattle.vcd_model.proofs.OpenedBodies.{opens_good, opened_fit, opened_shut}
 use Rattle.vcd_model.proofs.PickKept.{picks, pick_parts, pick_keeps_items}
-use Rattle.vcd_model.proofs.WrittenCodes.{In, in_map, to_contained, from_contained, to_codes_of, found_in}
+use Rattle.vcd_model.proofs.WrittenCodes.{In, from_filter, to_filter, in_map, to_contained, from_contained, to_codes_of, found_in}
 use Rattle.vcd_model.proofs.WrittenRows.{written}
 use Rattle.vcd_model.proofs.HeadBack.{marks, own_code, variables_are, opens_header}
-use Rattle.vcd_model.proofs.DumpLaws.{IsReadDump, is_dump, picked_codes, from_filter, to_filter}
-use Rattle.vcd_model.proofs.RunLaws.{pick_case}
-use Rattle.vcd_model.proofs.PickUses.{chosen, selected_is, same_selected, are_within, same_unmatched, opened_run}
+use Rattle.vcd_model.proofs.DumpLaws.{IsReadDump, is_dump, picked_codes}
+use Rattle.vcd_model.proofs.ShortBodies.{pick_is_not_halted}
+use Rattle.vcd_model.proofs.RunLaws.{pick_case, opened_run}
+use Rattle.vcd_model.proofs.PickUses.{chosen, selected_is, same_selected, are_within, same_unmatched}
 use Rattle.vcd_model.proofs.PickCounts.{KeepsCounts, picked_counts}
 
 -- ---- a run of `edges`
@@ -68,17 +69,17 @@ lines_same (s ∷ vs) items others h = rw (counts_same items others (code_of s.v
 
 pub record PickedItems (limit : ℕ) (name : List ℕ) (names : List (List ℕ)) (input : Input) (o : Opened) : Type 0 where
   pub none : fault_in o ≡ None
-  pub dump : IsDumpFor limit o names (λ t. Unit {0}) (outcome (Want.Pick names) limit (name ∷ []) (input ∷ [])).output
+  pub dump : IsDumpFor limit o names (λ t. Unit {0}) (written_by (Want.Pick names) limit name input)
   pub items : items_in dump.dump ≡ parts_items [] [] (filter (picks (selected names o.header.declarations)) (entries_from 0 false (items_in o))) (last_mark (items_in o))
   pub rows : dump.dump.header.declarations ≡ written own_code (marks names o.header.declarations) o.header.declarations
 
-pub picked_items : (limit : ℕ) (name : List ℕ) (names : List (List ℕ)) (input : Input) (o : Opened) → Opens limit input o → (outcome (Want.Pick names) limit (name ∷ []) (input ∷ [])).status ≡ 0
-    → CanBeRead limit o.header (outcome (Want.Pick names) limit (name ∷ []) (input ∷ [])).output → PickedItems limit name names input o
+pub picked_items : (limit : ℕ) (name : List ℕ) (names : List (List ℕ)) (input : Input) (o : Opened) → IsReadable (Want.Pick names) limit name input o → PickedItems limit name names input o
 unfolding pick_open pick_close
-picked_items limit name names input o opens ok can =
+picked_items limit name names input o can =
+    let opens = can.opens in
     let run = opened_run (Want.Pick names) limit name input o opens in
     let other = over_opened (Want.Pick names) (name ∷ []) (o ∷ []) in
-    let done : other.status ≡ 0 = ap (λ (d : Outcome). d.status) (sym run) ∙ ok in
+    let done : other.status ≡ 0 = ap (λ (d : Outcome). d.status) (sym run) ∙ can.clean in
     let clean = pick_case names name o done in
     let items = items_in o in
     let good = opens_good limit input o opens in
@@ -88,10 +89,10 @@ picked_items limit name names input o opens ok can =
     let kept = filter (picks vs) (entries items) in
     let own = filter (picks vs) (entries_from 0 false items) in
     let text : List ℕ = text_after [] kept ++ closing (map (λ e. e.time) kept) (last_mark items) in
-    let output = (outcome (Want.Pick names) limit (name ∷ []) (input ∷ [])).output in
+    let output = written_by (Want.Pick names) limit name input in
     let whole : output ≡ head_for o.header names ++ text = ap (λ (d : Outcome). d.output) run ∙ clean.1 ∙ append_assoc (head_for o.header names) (text_after [] kept) (closing (map (λ e. e.time) kept) (last_mark items)) in
     let keeps : KeepsValues new text (λ t. Unit {0}) items = pick_keeps_items o.header.codes vs items text good.codes fit (opened_shut o good clean.0) refl in
-    let read : IsReadDump limit o names new (λ t. Unit {0}) text output = is_dump limit input o names new (λ t. Unit {0}) text output opens (picked_codes o.header names good.codes) whole keeps can in
+    let read : IsReadDump limit o names new (λ t. Unit {0}) text output = is_dump limit input o names new (λ t. Unit {0}) text output opens (picked_codes o.header names good.codes) whole keeps (pick_is_not_halted limit name names input o can, can.few) in
     let parts = pick_parts o.header.codes vs items good.codes fit (opened_shut o good clean.0) in
     let es = entries_are o.header.codes [] 0 false items at_start fit in
     let is : IsRead new text (parts_items [] [] own (last_mark items)) = parts_read new [] [] own (last_mark items) text parts (ap (λ l. text_after [] (filter (picks vs) l) ++ closing (map (λ e. e.time) (filter (picks vs) l)) (last_mark items)) es) in
@@ -99,12 +100,13 @@ picked_items limit name names input o opens ok can =
 
 pub edges_of_pick : EdgesOfPick
 unfolding request_of
-edges_of_pick limit name names wanted input o opens ok can within =
-    let p = picked_items limit name names input o opens ok can in
+edges_of_pick limit name names wanted input o can within =
+    let opens = can.opens in
+    let p = picked_items limit name names input o can in
     let d = p.dump in
     let k = d.dump in
     let head = d.head in
-    let text = (outcome (Want.Pick names) limit (name ∷ []) (input ∷ [])).output in
+    let text = written_by (Want.Pick names) limit name input in
     let good = opens_good limit input o opens in
     let fit = opened_fit o good in
     let shut = opened_shut o good p.none in

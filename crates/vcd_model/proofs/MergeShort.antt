@@ -7,6 +7,7 @@ use Rattle.std.proofs.lemmas.List.Sums.{sum_by-cons, sum_by-append}
 use Rattle.std.proofs.lemmas.Bool.{lt-ltb}
 use Rattle.vcd_model.specs.Backward.{each_after}
 use Rattle.vcd_model.specs.Input.{Input}
+use Rattle.vcd_model.specs.Tokens.{first_halt}
 use Rattle.vcd_model.specs.Declarations.{Declaration, Variable, IdCode, variable_of, variables_of, codes_of, code_of, has_text}
 use Rattle.vcd_model.specs.Header.{Header}
 use Rattle.vcd_model.specs.Items.{BodyItem, Entry}
@@ -17,7 +18,7 @@ use Rattle.vcd_model.specs.HeadText.{base94, new_code, code_place, first_number,
 use Rattle.vcd_model.specs.Merge.{Dump, Keyed, keyed_after, keyed_items, scaled_item, factor, headers_of, dump_of, placed_is_too_large, by_key, merged_items, merge_kept, greatest_mark, merge_open, merge_close}
 use Rattle.vcd_model.specs.Outcome.{Outcome, Opened, body_of, fault_in, dumps_of, declarations_allowed}
 use Rattle.vcd_model.specs.Job.{Want, over_opened, outcome}
-use Rattle.vcd_model.specs.Laws.{OpenAll, most_declared, merged_codes, MergeIsNotHalted}
+use Rattle.vcd_model.specs.Laws.{OpenAll, most_declared, merged_codes, input_of, AreReadable}
 use Rattle.vcd_model.proofs.TokenTexts.{texts_from}
 use Rattle.vcd_model.proofs.ReadBack.{item_tokens}
 use Rattle.vcd_model.proofs.Lines.{lines_words}
@@ -207,7 +208,7 @@ module _ (limit : ℕ) (least : 64 ≤ limit) where
       (written_tokens_short new limit least 0 false [] kept parts.writable entries (merged_codes_short hs few))
       (closing_short new limit least w mark (λ e m. (parts.last e m).1)))))
 
--- ---- the law
+-- ---- what is written
 
 short_headers : (limit : ℕ) (os : List Opened) → AllByRecursion (IsShortInput limit) os → AllByRecursion (IsShortHeader limit) (map (λ o. o.header) os)
 short_headers limit [] s = tt
@@ -217,9 +218,14 @@ merge_run : (limit : ℕ) (names : List (List ℕ)) (inputs : List Input) (os : 
 unfolding outcome
 merge_run limit names inputs os opens = rw (opens, outcome) refl
 
-pub merge_is_not_halted : MergeIsNotHalted
+-- nothing halts the reading of what `merge` wrote
+pub merge_is_not_halted : (limit : ℕ) (names : List (List ℕ)) (inputs : List Input) (os : List Opened)
+    → AreReadable limit names inputs os → first_halt limit (input_of (outcome Want.Merge limit names inputs).output) ≡ None
 unfolding merge_open merge_close
-merge_is_not_halted limit names inputs os least opens ok shallow few small =
+merge_is_not_halted limit names inputs os can =
+    let opens = can.opens in
+    let least = can.least in
+    let few = can.few in
     let ds = dumps_of os in
     let hs = headers_of ds in
     let ks = merged_items ds in
@@ -228,13 +234,13 @@ merge_is_not_halted limit names inputs os least opens ok shallow few small =
     let done = outcome Want.Merge limit names inputs in
     let other = over_opened Want.Merge names os in
     let run : done ≡ other = merge_run limit names inputs os opens in
-    let clean = merge_case names os (same_status done other run ok) in
+    let clean = merge_case names os (same_status done other run can.clean) in
     let whole : done.output ≡ merged_head hs ++ text = ap (λ (d : Outcome). d.output) run ∙ clean.1 ∙ append_assoc (merged_head hs) (text_after [] kept) (closing (map (λ x. x.time) kept) (greatest_mark ks)) in
     let good = inputs_good limit [] inputs os opens in
     let short = inputs_short limit [] inputs os opens in
-    let can = all_can limit inputs os opens shallow in
-    let n = numbers_few hs can in
+    let all = all_can limit inputs os opens can.shallow in
+    let n = numbers_few hs all in
     let headers : AllByRecursion (IsShortHeader limit) hs = subst (AllByRecursion (IsShortHeader limit)) (sym (headers_are os)) (short_headers limit os short) in
-    not_halted limit done.output small
+    not_halted limit done.output can.bytes
     (subst (λ (l : List ℕ). AllShort limit (texts_from true l)) (sym whole)
-    (merged_head_short limit least hs text can headers few (body_tokens_short limit least os good short (omega arith))))
+    (merged_head_short limit least hs text all headers few (body_tokens_short limit least os good short (omega arith))))

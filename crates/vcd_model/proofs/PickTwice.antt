@@ -16,7 +16,7 @@ use Rattle.vcd_model.specs.HeadText.{head_for}
 use Rattle.vcd_model.specs.Pick.{pick_open, pick_close}
 use Rattle.vcd_model.specs.Outcome.{Request, Outcome, Opened, name_at, items_in, fault_in, at_end, over_body, unmatched_outcome, over_dump}
 use Rattle.vcd_model.specs.Job.{Want, request_of, over_opened, outcome}
-use Rattle.vcd_model.specs.Laws.{input_of, IsHeadFor, PickTwice}
+use Rattle.vcd_model.specs.Laws.{input_of, written_by, IsHeadFor, PickTwice}
 use Rattle.vcd_model.proofs.Times.{marks-append}
 use Rattle.vcd_model.proofs.ItemStates.{IsGoodChange, next_open, AreFit, open_behind, entries_from, at_start, entries_are}
 use Rattle.vcd_model.proofs.ChangeLines.{read_again, read_again_is}
@@ -32,9 +32,9 @@ use Rattle.vcd_model.proofs.WrittenRows.{Open, HasOpen, written}
 use Rattle.vcd_model.proofs.WrittenCodes.{In}
 use Rattle.vcd_model.proofs.HeadBack.{marks as marks_of, own_code, rows_written, rows_declared, rows_selected, head_is, opens_header}
 use Rattle.vcd_model.proofs.MergedHead.{selected_after, selected_more}
-use Rattle.vcd_model.proofs.DumpLaws.{from_filter}
-use Rattle.vcd_model.proofs.RunLaws.{pick_body}
-use Rattle.vcd_model.proofs.PickUses.{chosen, selected_is, same_selected, same_unmatched, opened_run, sampled}
+use Rattle.vcd_model.proofs.WrittenCodes.{from_filter}
+use Rattle.vcd_model.proofs.RunLaws.{pick_body, opened_run}
+use Rattle.vcd_model.proofs.PickUses.{chosen, selected_is, same_selected, same_unmatched, sampled}
 use Rattle.vcd_model.proofs.EdgesOfPick.{picked_items}
 use Rattle.vcd_model.proofs.HeadTwice.{all_used, written_same}
 
@@ -262,12 +262,13 @@ pick_run names name o none = by_place (first_unmatched names o.header.declaratio
 
 pub pick_twice : PickTwice
 unfolding pick_open pick_close
-pick_twice limit name names input o opens ok can =
-    let p = picked_items limit name names input o opens ok can in
+pick_twice limit name names input o can =
+    let opens = can.opens in
+    let p = picked_items limit name names input o can in
     let d = p.dump in
     let k = d.dump in
     let head = d.head in
-    let out = (outcome (Want.Pick names) limit (name ∷ []) (input ∷ [])).output in
+    let out = written_by (Want.Pick names) limit name input in
     let good = opens_good limit input o opens in
     let fit = opened_fit o good in
     let shut = opened_shut o good p.none in

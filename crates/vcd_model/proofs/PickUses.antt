@@ -14,13 +14,13 @@ use Rattle.vcd_model.specs.Sample.{sample_lines}
 use Rattle.vcd_model.specs.Ticks.{moment_ticks}
 use Rattle.vcd_model.specs.Outcome.{Request, Outcome, Opened, clean_outcome, name_at, items_in, fault_in, ends_early, over_body, unmatched_outcome, over_dump, over_dumps}
 use Rattle.vcd_model.specs.Job.{Want, Refusal, first_refusal, do_rise, ok_of, sample_at, has_unit, request_of, refusal_outcome, sample_request, over_opened, outcome}
-use Rattle.vcd_model.specs.Laws.{IsValid, Opens, input_of, CanBeRead, IsDumpFor, SelectWithin, ListOfPick, SampleOfPick}
-use Rattle.vcd_model.proofs.WrittenCodes.{In, from_contained, to_contained, in_map, any_of, to_codes_of}
+use Rattle.vcd_model.specs.Laws.{IsValid, written_by, input_of, IsReadable, SelectWithin, ListOfPick, SampleOfPick}
+use Rattle.vcd_model.proofs.WrittenCodes.{In, from_filter, to_filter, from_contained, to_contained, in_map, any_of, to_codes_of}
 use Rattle.vcd_model.proofs.HeadBack.{variables_are, opens_header}
 use Rattle.vcd_model.proofs.JobLemmas.{requests_are_valid}
 use Rattle.vcd_model.proofs.SampleText.{sample_is}
-use Rattle.vcd_model.proofs.RunLaws.{pick_run_keeps}
-use Rattle.vcd_model.proofs.DumpLaws.{from_filter, to_filter, pick_is_a_dump}
+use Rattle.vcd_model.proofs.RunLaws.{pick_run_keeps, opened_run, same_opened}
+use Rattle.vcd_model.proofs.DumpLaws.{pick_is_a_dump}
 
 -- ---- selections
 
@@ -91,41 +91,22 @@ same_unmatched (n ∷ ns) wanted names h k e within sub =
     let more = same_unmatched ns wanted names h k e within (λ m i. sub m (inr i)) in
     rw (one, more) refl
 
--- ---- runs over an opened input
+-- ---- what a pick wrote
 
-pub opened_run : (want : Want) (limit : ℕ) (name : List ℕ) (input : Input) (o : Opened) → Opens limit input o → outcome want limit (name ∷ []) (input ∷ []) ≡ over_opened want (name ∷ []) (o ∷ [])
-unfolding outcome
-opened_run want limit name input o opens = rw (opens, outcome) refl
-
--- what a pick wrote, where it can be read
-record Picked (limit : ℕ) (name : List ℕ) (names : List (List ℕ)) (input : Input) (o : Opened) : Type 0 where
-  none : fault_in o ≡ None
-  dump : IsDumpFor limit o names (λ t. Unit {0}) (outcome (Want.Pick names) limit (name ∷ []) (input ∷ [])).output
-
-pub same_opened : (limit : ℕ) (input : Input) (o p : Opened) → Opens limit input o → Opens limit input p → o ≡ p
-same_opened limit input o p a b = let c = sym a ∙ b in cc
-
-picked : (limit : ℕ) (name : List ℕ) (names : List (List ℕ)) (input : Input) (o : Opened) → Opens limit input o → (outcome (Want.Pick names) limit (name ∷ []) (input ∷ [])).status ≡ 0
-    → CanBeRead limit o.header (outcome (Want.Pick names) limit (name ∷ []) (input ∷ [])).output → Picked limit name names input o
-picked limit name names input o opens ok can =
-    let run = pick_run_keeps limit name names input ok in
-    let dump = pick_is_a_dump limit name names input ok in
-    let same : run.0 ≡ o = same_opened limit input run.0 o run.1 opens in
-    let also : dump.0 ≡ o = same_opened limit input dump.0 o dump.1 opens in
-    let text = (outcome (Want.Pick names) limit (name ∷ []) (input ∷ [])).output in
-    let make : CanBeRead limit o.header text → IsDumpFor limit o names (λ t. Unit {0}) text
-    = subst (λ (p : Opened). CanBeRead limit p.header text → IsDumpFor limit p names (λ t. Unit {0}) text) also dump.2 in
-    record { none = subst (λ (p : Opened). fault_in p ≡ None) same run.2; dump = make can }
+-- an input that was picked with status 0 has no fault
+pub pick_none : (limit : ℕ) (name : List ℕ) (names : List (List ℕ)) (input : Input) (o : Opened) → IsReadable (Want.Pick names) limit name input o → fault_in o ≡ None
+pick_none limit name names input o can =
+    let run = pick_run_keeps limit name names input can.clean in
+    subst (λ (p : Opened). fault_in p ≡ None) (same_opened limit input run.0 o run.1 can.opens) run.2
 
 -- ---- `list`
 
 pub list_of_pick : ListOfPick
 unfolding request_of over_dump list_text
-list_of_pick limit name names input o opens ok can =
-    let p = picked limit name names input o opens ok can in
-    let d = p.dump in
+list_of_pick limit name names input o can =
+    let d = pick_is_a_dump limit name names input o can in
     let head = d.head in
-    opened_run Want.Listing limit name (input_of (outcome (Want.Pick names) limit (name ∷ []) (input ∷ [])).output) d.dump d.opens
+    opened_run Want.Listing limit name (input_of (written_by (Want.Pick names) limit name input)) d.dump d.opens
     ∙ ap (λ l. clean_outcome (flat_map list_line l)) head.variables
 
 -- ---- `sample`
@@ -176,12 +157,11 @@ sample_shape units ks wanted request e = by_all (list_all is_ok ks) e
 
 pub sample_of_pick : SampleOfPick
 unfolding request_of
-sample_of_pick limit name names wanted times input o job opens ok can within =
-    let p = picked limit name names input o opens ok can in
-    let d = p.dump in
+sample_of_pick limit name names wanted times input o job can within =
+    let d = pick_is_a_dump limit name names input o can in
     let k = d.dump in
     let head = d.head in
-    let text = (outcome (Want.Pick names) limit (name ∷ []) (input ∷ [])).output in
+    let text = written_by (Want.Pick names) limit name input in
     let inside = are_within wanted names o.header within in
     let selection = same_selected wanted names o.header k.header head.variables inside in
     let unmatched = same_unmatched wanted wanted names o.header k.header head.variables inside (λ n i. i) in
@@ -196,11 +176,11 @@ sample_of_pick limit name names wanted times input o job opens ok can within =
     ∙ ap (λ (l : List Selected). sampled wanted (first_unmatched wanted k.header.declarations) (flat_map (sample_lines l (items_in k)) ts)) selection
     ∙ ap (λ place. sampled wanted place (flat_map (sample_lines (selected wanted o.header.declarations) (items_in k)) ts)) unmatched
     ∙ ap (sampled wanted (first_unmatched wanted o.header.declarations)) (all_lines_same (selected wanted o.header.declarations) (items_in k) (items_in o) ts values)
-    ∙ sym (sample_run ts wanted name o (inr p.none) valid) in
+    ∙ sym (sample_run ts wanted name o (inr (pick_none limit name names input o can)) valid) in
     opened_run (Want.Sample times wanted) limit name (input_of text) k d.opens
     ∙ ap (λ scale. over (request_of scale (Want.Sample times wanted)) k) head.scale
     ∙ by_request (request_of o.header.scale (Want.Sample times wanted)) refl k sampled_same
-    ∙ sym (opened_run (Want.Sample times wanted) limit name input o opens)
+    ∙ sym (opened_run (Want.Sample times wanted) limit name input o can.opens)
   where
     over : Result Request Refusal → Opened → Outcome
     over r p = elim r [ Err why ↦ refusal_outcome name why | Ok request ↦ over_dumps request (name ∷ []) (p ∷ []) ]

@@ -278,3 +278,12 @@ cut_run_keeps limit name from to input job h =
     let keeps = cut_keeps limit input o is.a is.b is.small is.order run.1 is.ends in
     let P : List ℕ → Type 0 = λ l. KeepsValues o.header.codes l (λ t. (is.a ≤ t) × (t ≤ is.b)) (items_in o) in
     (o, is.a, is.b, run.1, is.first, is.last, subst (λ (l : List ℕ). IsBehind (head_for o.header []) l P) (sym is.output) keeps)
+
+-- ---- runs over an opened input
+
+pub opened_run : (want : Want) (limit : ℕ) (name : List ℕ) (input : Input) (o : Opened) → Opens limit input o → outcome want limit (name ∷ []) (input ∷ []) ≡ over_opened want (name ∷ []) (o ∷ [])
+unfolding outcome
+opened_run want limit name input o opens = rw (opens, outcome) refl
+
+pub same_opened : (limit : ℕ) (input : Input) (o p : Opened) → Opens limit input o → Opens limit input p → o ≡ p
+same_opened limit input o p a b = let c = sym a ∙ b in cc

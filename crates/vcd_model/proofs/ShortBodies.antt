@@ -5,7 +5,7 @@ use Rattle.std.specs.Str.{str_to_ascii_lowercase}
 use Rattle.std.proofs.lemmas.List.{append_assoc, map-append, length-append, length-map}
 use Rattle.std.proofs.lemmas.Bool.{eqb-true, leb-true}
 use Rattle.vcd_model.specs.Input.{Input}
-use Rattle.vcd_model.specs.Tokens.{Token}
+use Rattle.vcd_model.specs.Tokens.{Token, first_halt}
 use Rattle.vcd_model.specs.Keywords.{Keyword, keyword_text}
 use Rattle.vcd_model.specs.Declarations.{IdCode, has_text}
 use Rattle.vcd_model.specs.Items.{SectionKind, ChangeForm, Change, BodyItem, Entry, entries}
@@ -23,7 +23,7 @@ use Rattle.vcd_model.specs.Selection.{selected, selects_code}
 use Rattle.vcd_model.specs.Pick.{pick_open, pick_close}
 use Rattle.vcd_model.specs.Outcome.{Outcome, Opened, body_of, items_in, fault_in}
 use Rattle.vcd_model.specs.Job.{Want, over_opened, outcome}
-use Rattle.vcd_model.specs.Laws.{Opens, CodesFit, PickIsNotHalted}
+use Rattle.vcd_model.specs.Laws.{Opens, CodesFit, input_of, written_by, IsReadable}
 use Rattle.vcd_model.proofs.Readings.{reading_is_one}
 use Rattle.vcd_model.proofs.BodyGrammar.{body_computes}
 use Rattle.vcd_model.proofs.TokenTexts.{texts_from}
@@ -39,11 +39,9 @@ use Rattle.vcd_model.proofs.HeaderFacts.{filter_words}
 use Rattle.vcd_model.proofs.OpenedBodies.{opens_good, opened_fit, opened_shut}
 use Rattle.vcd_model.proofs.PickKept.{picks, pick_parts}
 use Rattle.vcd_model.proofs.WrittenRows.{written}
-use Rattle.vcd_model.proofs.WrittenCodes.{to_contained, from_find}
+use Rattle.vcd_model.proofs.WrittenCodes.{from_filter, to_contained, from_find}
 use Rattle.vcd_model.proofs.HeadBack.{marks, own_code, rows_declared, head_is, opens_header}
-use Rattle.vcd_model.proofs.DumpLaws.{from_filter}
-use Rattle.vcd_model.proofs.RunLaws.{pick_case}
-use Rattle.vcd_model.proofs.PickUses.{opened_run}
+use Rattle.vcd_model.proofs.RunLaws.{pick_case, opened_run}
 use Rattle.vcd_model.proofs.ShortTokens.{AllShort, not_halted}
 use Rattle.vcd_model.proofs.ShortHeads.{IsShortInput, inputs_short, written_short, keyword_short, number_short, head_short}
 
@@ -218,17 +216,20 @@ picked_short limit input o names least opens none low =
     (written_tokens_short new limit least 0 false [] kept parts.writable short fits)
     (closing_short new limit least w mark (λ e m. (parts.last e m).1))))
 
-pub pick_is_not_halted : PickIsNotHalted
+-- nothing halts the reading of what `pick` wrote
+pub pick_is_not_halted : (limit : ℕ) (name : List ℕ) (names : List (List ℕ)) (input : Input) (o : Opened)
+    → IsReadable (Want.Pick names) limit name input o → first_halt limit (input_of (written_by (Want.Pick names) limit name input)) ≡ None
 unfolding pick_open pick_close
-pick_is_not_halted limit name names input o least opens ok low small =
+pick_is_not_halted limit name names input o can =
+    let opens = can.opens in
     let run = opened_run (Want.Pick names) limit name input o opens in
     let other = over_opened (Want.Pick names) (name ∷ []) (o ∷ []) in
-    let done : other.status ≡ 0 = ap (λ (d : Outcome). d.status) (sym run) ∙ ok in
+    let done : other.status ≡ 0 = ap (λ (d : Outcome). d.status) (sym run) ∙ can.clean in
     let clean = pick_case names name o done in
     let vs = selected names o.header.declarations in
     let kept = filter (picks vs) (entries (items_in o)) in
     let text : List ℕ = text_after [] kept ++ closing (map (λ e. e.time) kept) (last_mark (items_in o)) in
-    let whole : (outcome (Want.Pick names) limit (name ∷ []) (input ∷ [])).output ≡ head_for o.header names ++ text
+    let whole : written_by (Want.Pick names) limit name input ≡ head_for o.header names ++ text
     = ap (λ (d : Outcome). d.output) run ∙ clean.1 ∙ append_assoc (head_for o.header names) (text_after [] kept) (closing (map (λ e. e.time) kept) (last_mark (items_in o))) in
-    not_halted limit (outcome (Want.Pick names) limit (name ∷ []) (input ∷ [])).output small
-    (subst (λ (l : List ℕ). AllShort limit (texts_from true l)) (sym whole) (short_behind limit input o names text least opens (picked_short limit input o names least opens clean.0 low)))
+    not_halted limit (written_by (Want.Pick names) limit name input) can.bytes
+    (subst (λ (l : List ℕ). AllShort limit (texts_from true l)) (sym whole) (short_behind limit input o names text can.least opens (picked_short limit input o names can.least opens clean.0 can.fits)))

@@ -1,5 +1,5 @@
 -- The codes that variables carry, where those with one code agree.
-use Rattle.std.proofs.Common.{◌≡◌, ℕ, suc, ◌==◌, Bool, true, false, cond, ◌&&◌, ◌||◌, List, [], ◌∷◌, ◌++◌, map, filter_map, find, bytes_eq, Option, Some, None, Contains, ◌⊎◌, inl, inr, refl, sym, ap, ◌∙◌, subst, arith}
+use Rattle.std.proofs.Common.{◌≡◌, ℕ, suc, ◌==◌, Bool, true, false, cond, ◌&&◌, ◌||◌, List, [], ◌∷◌, ◌++◌, map, filter, filter_map, find, bytes_eq, Option, Some, None, Contains, ◌⊎◌, inl, inr, refl, sym, ap, ◌∙◌, subst, arith}
 use Rattle.std.specs.List.{AllByRecursion, list_any, cons_option}
 use Rattle.std.proofs.lemmas.List.{append_assoc, append-nil}
 use Rattle.std.proofs.lemmas.List.Elements.{filter_map-append}
@@ -56,6 +56,24 @@ pub from_map : {X Y : Type 0} (f : X → Y) (xs : List X) (y : Y) → In y (map 
 from_map f [] y i = absurd i
 from_map f (x ∷ xs) y (inl e) = (x, inl refl, e)
 from_map f (x ∷ xs) y (inr i) = let h = from_map f xs y i in (h.0, inr h.1, h.2)
+
+pub from_filter : {X : Type 0} (test : X → Bool) (xs : List X) (x : X) → In x (filter test xs) → In x xs × (test x ≡ true)
+from_filter test [] x i = absurd i
+from_filter test (y ∷ ys) x i = by_test (test y) refl i (from_filter test ys x)
+  where
+    by_test : (b : Bool) → test y ≡ b → In x (cond b (y ∷ filter test ys) (filter test ys)) → (In x (filter test ys) → In x ys × (test x ≡ true)) → In x (y ∷ ys) × (test x ≡ true)
+    by_test true e (inl same) more = (inl same, ap test same ∙ e)
+    by_test true e (inr j) more = let h = more j in (inr h.0, h.1)
+    by_test false e j more = let h = more j in (inr h.0, h.1)
+
+pub to_filter : {X : Type 0} (test : X → Bool) (xs : List X) (x : X) → In x xs → test x ≡ true → In x (filter test xs)
+to_filter test [] x i e = absurd i
+to_filter test (y ∷ ys) x (inl same) e = rw (sym same, e) (inl refl)
+to_filter test (y ∷ ys) x (inr i) e = by_test (test y) (to_filter test ys x i e)
+  where
+    by_test : (b : Bool) → In x (filter test ys) → In x (cond b (y ∷ filter test ys) (filter test ys))
+    by_test true j = inr j
+    by_test false j = j
 
 pub any_of : {X : Type 0} (test : X → Bool) (xs : List X) (x : X) → In x xs → test x ≡ true → list_any test xs ≡ true
 any_of test [] x i e = absurd i
