@@ -1,13 +1,30 @@
--- Rows on what is written and read again, computed: that the laws' premises can be met, and why they are wanted.
-use Rattle.std.proofs.Common.{◌≡◌, ℕ, List, [], ◌∷◌, map, codes, None, Result, Ok, Err, refl}
+-- Rows on what is written and read again, computed: that the laws' premises can be met, and why they are there.
+use Rattle.std.proofs.Common.{◌≡◌, ℕ, ◌+◌, ◌<◌, ◌≤◌, Bool, true, false, cond, List, [], ◌∷◌, ◌++◌, length, count_by, map, replicate, codes, Option, Some, None, Result, Ok, Err, refl, ap, ◌∙◌, arith}
+use Rattle.std.specs.List.{AllByRecursion}
+use Rattle.std.proofs.lemmas.List.{length-append}
+use Rattle.std.proofs.lemmas.List.Sums.{sum_by-cons}
 use Rattle.vcd_model.proofs.Computing.{model}
-use Rattle.vcd_model.proofs.RowText.{clean, limit, gives, on, sample}
+use Rattle.vcd_model.proofs.PickKept.{at_contained}
+use Rattle.vcd_model.proofs.RowText.{clean, limit, gives, on, cut, sample}
 use Prim.Native.String.{String}
 use Rattle.vcd_model.specs.Tokens.{first_halt}
+use Rattle.vcd_model.specs.Declarations.{Declaration, is_scope}
+use Rattle.vcd_model.specs.Header.{Header, header_of}
+use Rattle.vcd_model.specs.Checks.{first_failed}
+use Rattle.vcd_model.specs.HeaderChecks.{start_checks}
+use Rattle.vcd_model.specs.HeaderReading.{read_header, header_fault_of}
+use Rattle.vcd_model.specs.HeadText.{head_for}
+use Rattle.vcd_model.specs.Keywords.{Keyword}
 use Rattle.vcd_model.specs.Reading.{Fault}
-use Rattle.vcd_model.specs.Outcome.{Outcome, Opened, open_from}
-use Rattle.vcd_model.specs.Job.{Want, outcome}
-use Rattle.vcd_model.specs.Laws.{input_of}
+use Rattle.vcd_model.specs.Merge.{headers_of}
+use Rattle.vcd_model.specs.Outcome.{Outcome, Opened, declarations_allowed, open_from, dumps_of}
+use Rattle.vcd_model.specs.Job.{Want, IsJob, outcome}
+use Rattle.vcd_model.specs.Laws.{input_of, written_by, over_written, stream_over, most_declared, input_scope, IsShallow, IsReadable, AreReadable}
+
+abbrev stdin : List ℕ
+stdin = codes "(stdin)"
+
+-- ---- `pick`
 
 -- b shares no code with a, and c is an alias of a
 abbrev aliased : String
@@ -16,53 +33,191 @@ aliased = "$date $scope today $end $timescale 1 ns $end $var wire 1 x a $end $va
 abbrev some_names : List (List ℕ)
 some_names = codes "b" ∷ codes "m" ∷ []
 
-abbrev again : Want → List ℕ
-again want = (on want aliased).output
-
 -- what a job gives for what a pick wrote
 abbrev over_pick : Want → Outcome
-over_pick want = outcome want limit (codes "(stdin)" ∷ []) (input_of (again (Want.Pick some_names)) ∷ [])
+over_pick want = over_written want (Want.Pick some_names) limit stdin (clean aliased)
 
-picked : on (Want.Pick some_names) aliased ≡ gives "$date;^$scope today;$end;$timescale;^1ns;$end;$var wire 1 y b $end;$scope module m $end;$var wire 1 x c $end;$upscope $end;$enddefinitions $end;#0;0x;1y;#5;1x;" "" 0
+abbrev picked_text : String
+picked_text = "$date;^$scope today;$end;$timescale;^1ns;$end;$var wire 1 y b $end;$scope module m $end;$var wire 1 x c $end;$upscope $end;$enddefinitions $end;#0;0x;1y;#5;1x;"
+
+picked : on (Want.Pick some_names) aliased ≡ gives picked_text "" 0
 unfolding model
 picked = refl
 
-not_halted : first_halt limit (input_of (again (Want.Pick some_names))) ≡ None
-unfolding model
-not_halted = refl
+-- the input, its header read
+abbrev opened : Opened
+opened = first_or (open_from limit [] (clean aliased ∷ []))
+  where
+    first_or : Result (List Opened) (ℕ × Fault) → Opened
+    first_or (Ok (o ∷ os)) = o
+    first_or r = record { header = header_of []; stream = stream_over []; rest = [] }
 
-listed : over_pick Want.Listing ≡ gives "b wire 1 y;m.c wire 1 x;" "" 0
+-- the premises of the laws of `pick` are met
+picked_within : IsReadable (Want.Pick some_names) limit stdin (clean aliased) opened
 unfolding model
-listed = refl
+picked_within = record {
+  opens = refl;
+  clean = refl;
+  least = omega arith;
+  fits = λ c i. at_contained (λ d. length d.text < limit) opened.header.codes c ((omega arith), ((omega arith), tt)) i;
+  bytes = omega arith;
+  few = omega arith;
+}
 
-sampled : over_pick (sample (0 ∷ 5 ∷ []) some_names) ≡ gives "0 b 1;0 m.c 0;5 b 1;5 m.c 1;" "" 0
+picked_not_halted : first_halt limit (input_of (written_by (Want.Pick some_names) limit stdin (clean aliased))) ≡ None
+unfolding model
+picked_not_halted = refl
+
+picked_checked : over_pick Want.Check ≡ gives "scopes 1;variables 2;codes 2;times 2;sections 0;changes 3;last 5;" "" 0
+unfolding model
+picked_checked = refl
+
+picked_twice : over_pick (Want.Pick some_names) ≡ gives picked_text "" 0
+unfolding model
+picked_twice = refl
+
+picked_listed : over_pick Want.Listing ≡ gives "b wire 1 y;m.c wire 1 x;" "" 0
+unfolding model
+picked_listed = refl
+
+picked_sampled : over_pick (sample (0 ∷ 5 ∷ []) some_names) ≡ gives "0 b 1;0 m.c 0;5 b 1;5 m.c 1;" "" 0
+unfolding model
+picked_sampled = refl
+
+sampled : on (sample (0 ∷ 5 ∷ []) some_names) aliased ≡ gives "0 b 1;0 m.c 0;5 b 1;5 m.c 1;" "" 0
 unfolding model
 sampled = refl
 
-sampled_before : on (sample (0 ∷ 5 ∷ []) some_names) aliased ≡ gives "0 b 1;0 m.c 0;5 b 1;5 m.c 1;" "" 0
+picked_counted : over_pick (Want.Edges some_names) ≡ gives "b 0 0 0;m.c 1 1 0;" "" 0
 unfolding model
-sampled_before = refl
+picked_counted = refl
 
-edges : over_pick (Want.Edges some_names) ≡ gives "b 0 0 0;m.c 1 1 0;" "" 0
+counted : on (Want.Edges some_names) aliased ≡ gives "b 0 0 0;m.c 1 1 0;" "" 0
 unfolding model
-edges = refl
+counted = refl
 
-edges_before : on (Want.Edges some_names) aliased ≡ gives "b 0 0 0;m.c 1 1 0;" "" 0
+-- ---- `cut`
+
+abbrev over_cut : Want → Outcome
+over_cut want = over_written want (cut "1" "5") limit stdin (clean aliased)
+
+-- the premises of the laws of `cut` are met
+cut_asked : IsJob (cut "1" "5")
 unfolding model
-edges_before = refl
+cut_asked = (((omega arith), refl), ((omega arith), refl), λ e. omega arith)
 
--- the codes of the first of some inputs
-abbrev code_texts : Result (List Opened) (ℕ × Fault) → List (List ℕ)
-code_texts (Err e) = []
-code_texts (Ok []) = []
-code_texts (Ok (o ∷ os)) = map (λ c. c.text) o.header.codes
+cut_within : IsReadable (cut "1" "5") limit stdin (clean aliased) opened
+unfolding model
+cut_within = record {
+  opens = refl;
+  clean = refl;
+  least = omega arith;
+  fits = λ c i. at_contained (λ d. length d.text < limit) opened.header.codes c ((omega arith), ((omega arith), tt)) i;
+  bytes = omega arith;
+  few = omega arith;
+}
+
+was_cut : on (cut "1" "5") aliased ≡ gives "$date;^$scope today;$end;$timescale;^1ns;$end;$var wire 1 x a $end;$var wire 1 y b $end;$scope module m $end;$var wire 1 x c $end;$upscope $end;$enddefinitions $end;#1;$dumpvars;0x;1y;$end;#5;1x;" "" 0
+unfolding model
+was_cut = refl
+
+cut_checked : over_cut Want.Check ≡ gives "scopes 1;variables 3;codes 2;times 2;sections 1;changes 3;last 5;" "" 0
+unfolding model
+cut_checked = refl
+
+cut_sampled : over_cut (sample (1 ∷ 4 ∷ 5 ∷ []) some_names) ≡ gives "1 b 1;1 m.c 0;4 b 1;4 m.c 0;5 b 1;5 m.c 1;" "" 0
+unfolding model
+cut_sampled = refl
+
+sampled_as_cut : on (sample (1 ∷ 4 ∷ 5 ∷ []) some_names) aliased ≡ gives "1 b 1;1 m.c 0;4 b 1;4 m.c 0;5 b 1;5 m.c 1;" "" 0
+unfolding model
+sampled_as_cut = refl
+
+-- ---- `merge`
+
+-- a dump at a finer scale
+abbrev finer : String
+finer = "$timescale 100 ps $end $var reg 4 ! q $end $enddefinitions $end #5 bz ! #60 b1 !"
+
+abbrev merged : Outcome
+merged = outcome Want.Merge limit (codes "a.vcd" ∷ codes "b.vcd" ∷ []) (clean aliased ∷ clean finer ∷ [])
+
+-- few declarations open few scopes
+count_few : (ds : List Declaration) → count_by is_scope ds ≤ length ds
+count_few [] = omega arith
+count_few (d ∷ ds) = let n = sum_by-cons (λ e. cond (is_scope e) 1 0) d ds in by_kind (is_scope d) n (count_few ds)
+  where
+    by_kind : (b : Bool) → count_by is_scope (d ∷ ds) ≡ cond b 1 0 + count_by is_scope ds → count_by is_scope ds ≤ length ds → count_by is_scope (d ∷ ds) ≤ length (d ∷ ds)
+    by_kind true n few = omega arith
+    by_kind false n few = omega arith
+
+are_shallow : (hs : List Header) → AllByRecursion (λ h. length h.declarations < 999) hs → AllByRecursion IsShallow hs
+are_shallow [] few = tt
+are_shallow (h ∷ hs) few = (
+  λ front back type name e.
+      let n = ap length e ∙ length-append front (Declaration.Scope type name ∷ back) in
+      let m = count_few front in
+      let l = few.0 in
+      omega arith,
+  are_shallow hs few.1,
+)
+
+abbrev opened_both : List Opened
+opened_both = all_or (open_from limit [] (clean aliased ∷ clean finer ∷ []))
+  where
+    all_or : Result (List Opened) (ℕ × Fault) → List Opened
+    all_or (Ok os) = os
+    all_or (Err e) = []
+
+-- the premises of the laws of `merge` are met
+merged_within : AreReadable limit (codes "a.vcd" ∷ codes "b.vcd" ∷ []) (clean aliased ∷ clean finer ∷ []) opened_both
+unfolding model
+merged_within = record {
+  opens = refl;
+  clean = refl;
+  least = omega arith;
+  shallow = are_shallow (headers_of (dumps_of opened_both)) ((omega arith), ((omega arith), tt));
+  bytes = omega arith;
+  few = omega arith;
+}
+
+-- what a job gives for what a merge wrote
+abbrev over_merge : Want → Outcome
+over_merge want = outcome want limit (stdin ∷ []) (input_of merged.output ∷ [])
+
+was_merged : merged ≡ gives "$timescale;^100ps;$end;$scope module in1 $end;$var wire 1 ! a $end;$var wire 1 \" b $end;$scope module m $end;$var wire 1 ! c $end;$upscope $end;$upscope $end;$scope module in2 $end;$var reg 4 # q $end;$upscope $end;$enddefinitions $end;#0;0!;1\";#5;bz #;#50;1!;#60;b1 #;" "" 0
+unfolding model
+was_merged = refl
+
+merged_checked : over_merge Want.Check ≡ gives "scopes 3;variables 4;codes 3;times 4;sections 0;changes 5;last 60;" "" 0
+unfolding model
+merged_checked = refl
+
+merged_listed : over_merge Want.Listing ≡ gives "in1.a wire 1 !;in1.b wire 1 \";in1.m.c wire 1 !;in2.q reg 4 #;" "" 0
+unfolding model
+merged_listed = refl
+
+-- the times of the first input are ten times as many ticks
+merged_sampled : over_merge (sample (40 ∷ 50 ∷ []) (codes "in1.m" ∷ codes "in2" ∷ [])) ≡ gives "40 in1.m.c 0;40 in2.q zzzz;50 in1.m.c 1;50 in2.q zzzz;" "" 0
+unfolding model
+merged_sampled = refl
+
+-- ---- where an output is not as its input was
+
+-- an input that is opened
+abbrev first_of : Result (List Opened) (ℕ × Fault) → List Header
+first_of (Err e) = []
+first_of (Ok os) = map (λ o. o.header) os
+
+abbrev code_texts : List ℕ → List (List (List ℕ))
+code_texts text = map (λ h. map (λ c. c.text) h.codes) (first_of (open_from limit [] (input_of text ∷ [])))
 
 -- The codes of a pick are those of the header that are selected, but they may stand in another order: the first variable with a code may not be selected.
-codes_before : code_texts (open_from limit [] (clean aliased ∷ [])) ≡ codes "x" ∷ codes "y" ∷ []
+codes_before : code_texts (codes aliased) ≡ (codes "x" ∷ codes "y" ∷ []) ∷ []
 unfolding model
 codes_before = refl
 
-codes_after : code_texts (open_from limit [] (input_of (again (Want.Pick some_names)) ∷ [])) ≡ codes "y" ∷ codes "x" ∷ []
+codes_after : code_texts (written_by (Want.Pick some_names) limit stdin (clean aliased)) ≡ (codes "y" ∷ codes "x" ∷ []) ∷ []
 unfolding model
 codes_after = refl
 
@@ -70,10 +225,53 @@ codes_after = refl
 abbrev long_code : String
 long_code = "$var wire 1 cccccccccccccccccccccccccccccccccccccccccccccccccccccccccccccccc a $end $enddefinitions $end #0 b1 cccccccccccccccccccccccccccccccccccccccccccccccccccccccccccccccc"
 
-long_code_read : (outcome Want.Check 64 (codes "(stdin)" ∷ []) (clean long_code ∷ [])).status ≡ 0
+long_code_read : (outcome Want.Check 64 (stdin ∷ []) (clean long_code ∷ [])).status ≡ 0
 unfolding model
 long_code_read = refl
 
-long_code_halts : outcome Want.Check 64 (codes "(stdin)" ∷ []) (input_of (outcome (Want.Pick (codes "a" ∷ [])) 64 (codes "(stdin)" ∷ []) (clean long_code ∷ [])).output ∷ []) ≡ gives "" "vcdkit: (stdin):4: token too long;" 1
+long_code_halts : over_written Want.Check (Want.Pick (codes "a" ∷ [])) 64 stdin (clean long_code) ≡ gives "" "vcdkit: (stdin):4: token too long;" 1
 unfolding model
 long_code_halts = refl
+
+-- a limit one greater is enough
+long_code_fits : outcome Want.Check 65 (stdin ∷ []) (input_of (written_by (Want.Pick (codes "a" ∷ [])) 64 stdin (clean long_code)) ∷ []) ≡ gives "scopes 0;variables 1;codes 1;times 1;sections 0;changes 1;last 0;" "" 0
+unfolding model
+long_code_fits = refl
+
+-- Scopes that a header leaves open are closed where it is written: each is a declaration more.
+abbrev left_open : List ℕ
+left_open = codes "$scope module a $end $scope module b $end $var wire 1 x v $end $enddefinitions $end"
+
+-- the fault of a text where so many declarations are allowed
+abbrev header_fault_in : ℕ → List ℕ → Option Fault
+header_fault_in most text = header_fault_of (stream_over text) (read_header most (stream_over text))
+
+abbrev heads_of : List ℕ → List (List ℕ)
+heads_of text = map (λ h. head_for h []) (first_of (open_from limit [] (input_of text ∷ [])))
+
+three_are_read : header_fault_in 3 left_open ≡ None
+unfolding model
+three_are_read = refl
+
+five_are_written : map (header_fault_in 4) (heads_of left_open) ≡ Some (record { number = 11; line = 5 }) ∷ []
+unfolding model
+five_are_written = refl
+
+five_are_read : map (header_fault_in 5) (heads_of left_open) ≡ None ∷ []
+unfolding model
+five_are_read = refl
+
+five_at_most : map most_declared (first_of (open_from limit [] (input_of left_open ∷ []))) ≡ 5 ∷ []
+unfolding model
+five_at_most = refl
+
+-- A merge puts each input into a scope of its own, so a thousand open scopes are one too many.
+abbrev deep : List Declaration
+deep = replicate 999 (Declaration.Scope (codes "module") (codes "s"))
+
+scope_number_1000 : first_failed (start_checks declarations_allowed deep Keyword.Scope) ≡ None
+scope_number_1000 = refl
+
+scope_number_1001 : first_failed (start_checks declarations_allowed (Declaration.Scope (codes "module") (input_scope 1) ∷ deep) Keyword.Scope) ≡ Some 10
+unfolding model
+scope_number_1001 = refl
