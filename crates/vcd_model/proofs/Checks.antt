@@ -101,7 +101,7 @@ sections_kept vs t o (BodyItem.Changes c ∷ items) =
     by_keep true m = sum_by-cons (λ (e : Entry). cond {A = ℕ} (is_begin e.item) 1 0) (record { time = t; inside = o; item = BodyItem.Changes c }) rest ∙ (let l = m in omega arith)
     by_keep false m = m
 
-same_tally : (a b c d e f a' b' c' d' e' f' : ℕ) (g g' : Option ℕ) → a ≡ a' → b ≡ b' → c ≡ c' → d ≡ d' → e ≡ e' → f ≡ f' → g ≡ g'
+pub same_tally : (a b c d e f a' b' c' d' e' f' : ℕ) (g g' : Option ℕ) → a ≡ a' → b ≡ b' → c ≡ c' → d ≡ d' → e ≡ e' → f ≡ f' → g ≡ g'
     → ◌≡◌ {A = Tally} (record { scopes = a; variables = b; codes = c; times = d; sections = e; changes = f; last = g }) (record { scopes = a'; variables = b'; codes = c'; times = d'; sections = e'; changes = f'; last = g' })
 same_tally a b c d e f a' b' c' d' e' f' g g' p q r s t u v = cc
 
