@@ -8,8 +8,9 @@ use Rattle.vcd_model.specs.Header.{Header}
 use Rattle.vcd_model.specs.Reading.{Fault}
 use Rattle.vcd_model.specs.HeaderReading.{read_header, header_fault_of}
 use Rattle.vcd_model.specs.Job.{Want, outcome}
+use Rattle.vcd_model.specs.Words.{Command}
 use Rattle.vcd_model.specs.Outcome.{allowed_after, open_from}
-use Rattle.vcd_model.proofs.RowText.{written, clean, limit, on, gives, cut, sample}
+use Rattle.vcd_model.proofs.RowText.{written, clean, limit, on, gives, cut, sample, asked}
 
 -- ---- of two checks that fail the first counts
 
@@ -223,6 +224,10 @@ second_time_at_end = refl
 times_before_variables : on (sample (7 ∷ 8 ∷ []) []) "$var wire 1 ! a $end;$var real 1 \" r $end;$var event 1 # e $end;$var wire 2 % u $end;$enddefinitions $end;#3;0!;bx %;" ≡ gives "7 a 0;7 r -;7 u xx;8 a 0;8 r -;8 u xx;" "" 0
 unfolding model
 times_before_variables = refl
+
+values_of_sections : asked (Command.Sample (codes "1") []) "$var wire 1 ! a $end;$enddefinitions $end;#0;$dumpvars;0!;$end;#1;$dumpoff;x!;$end;" ≡ gives "1 a x;" "" 0
+unfolding model
+values_of_sections = refl
 
 -- a scope that was left open is closed
 names_that_overlap : on (Want.Pick (codes "t.u" ∷ codes "t" ∷ [])) "$scope m t $end;$scope m u $end;$var wire 1 ! a $end;$upscope $end;$enddefinitions $end;" ≡ gives "$scope m t $end;$scope m u $end;$var wire 1 ! a $end;$upscope $end;$upscope $end;$enddefinitions $end;" "" 0

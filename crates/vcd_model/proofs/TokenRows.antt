@@ -17,6 +17,11 @@ lines_of_carriage_returns : outcome Want.Check limit (codes "(stdin)" ∷ []) (r
 unfolding model
 lines_of_carriage_returns = refl
 
+-- every other byte may stand in a token
+other_bytes_in_a_name : outcome Want.Listing limit (codes "(stdin)" ∷ []) (record { bytes = written "$var wire 1 ! a" ++ (0 ∷ 1 ∷ 8 ∷ 14 ∷ 31 ∷ 127 ∷ 133 ∷ 160 ∷ 255 ∷ []) ++ written "b $end;$enddefinitions $end;"; mark = Mark.Clean } ∷ []) ≡ record { output = written "a" ++ (0 ∷ 1 ∷ 8 ∷ 14 ∷ 31 ∷ 127 ∷ 133 ∷ 160 ∷ 255 ∷ []) ++ written "b wire 1 !;"; message = []; status = 0 }
+unfolding model
+other_bytes_in_a_name = refl
+
 -- ---- where the first tokens end
 
 ends : map (end_of_tokens (written "ab c;; def")) (0 ∷ 1 ∷ 2 ∷ 3 ∷ []) ≡ 0 ∷ 2 ∷ 4 ∷ 10 ∷ []

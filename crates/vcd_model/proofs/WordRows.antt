@@ -1,10 +1,10 @@
 -- Command lines, computed.
-use Rattle.std.proofs.Common.{◌≡◌, ℕ, List, [], ◌∷◌, map, codes, replicate, negsuc, Option, Some, None, Ok, Err, refl}
+use Rattle.std.proofs.Common.{◌≡◌, ℕ, List, [], ◌∷◌, map, codes, replicate, negsuc, Option, Some, None, Result, Ok, Err, refl}
 use Rattle.vcd_model.specs.Outcome.{Outcome}
 use Rattle.vcd_model.specs.Job.{Want}
-use Rattle.vcd_model.specs.Words.{Command, UseFault, limit_of, job_of, command_outcome}
+use Rattle.vcd_model.specs.Words.{Command, Job, UseFault, limit_of, job_of, command_outcome}
 use Rattle.vcd_model.proofs.Computing.{model}
-use Rattle.vcd_model.proofs.RowText.{clean, gives, at}
+use Rattle.vcd_model.proofs.RowText.{clean, gives, at, asked}
 
 -- a command with this token limit, of an empty standard input
 abbrev said : Option (List ℕ) → Command → Outcome
@@ -72,6 +72,23 @@ first_bad_time_of_two : said None (Command.Sample (codes "1,x,y") []) ≡ gives 
 unfolding model
 first_bad_time_of_two = refl
 
+-- .. and before files and times that are refused
+limit_before_files : said (Some (codes "63")) (Command.Merge (replicate 65 (codes "f.vcd"))) ≡ gives "" "vcdkit: bad token limit: 63;" 2
+unfolding model
+limit_before_files = refl
+
+limit_before_order : said (Some (codes "63")) (Command.Cut (codes "5") (codes "4")) ≡ gives "" "vcdkit: bad token limit: 63;" 2
+unfolding model
+limit_before_order = refl
+
+limit_of_no_digits : said (Some (codes "")) Command.Check ≡ gives "" "vcdkit: bad token limit: ;" 2
+unfolding model
+limit_of_no_digits = refl
+
+no_times : said None (Command.Sample (codes "") []) ≡ gives "" "vcdkit: bad time: ;" 2
+unfolding model
+no_times = refl
+
 time_before_order : said None (Command.Sample (codes "5,5,5x") []) ≡ gives "" "vcdkit: bad time: 5x;" 2
 unfolding model
 time_before_order = refl
@@ -100,3 +117,42 @@ sample_with_a_unit = refl
 sample_of_three : job_of (Some (record { command = Command.Sample (codes "1,007,20") (codes "a" ∷ []); limit = Some (codes "64") })) ≡ Ok (record { want = Want.Sample (at 1 ∷ at 7 ∷ at 20 ∷ []) (codes "a" ∷ []); limit = 64 })
 unfolding model
 sample_of_three = refl
+
+-- ---- command lines that are run
+
+check_is_run : asked Command.Check "$var wire 1 ! a $end;$enddefinitions $end;#3;" ≡ gives "scopes 0;variables 1;codes 1;times 1;sections 0;changes 0;last 3;" "" 0
+unfolding model
+check_is_run = refl
+
+list_is_run : asked Command.Listing "$var wire 1 ! a $end;$enddefinitions $end;" ≡ gives "a wire 1 !;" "" 0
+unfolding model
+list_is_run = refl
+
+pick_is_run : asked (Command.Pick (codes "a" ∷ codes "b" ∷ [])) "$var wire 1 ! a $end;$var wire 1 \" b $end;$enddefinitions $end;" ≡ gives "$var wire 1 ! a $end;$var wire 1 \" b $end;$enddefinitions $end;" "" 0
+unfolding model
+pick_is_run = refl
+
+edges_are_run : asked (Command.Edges (codes "b" ∷ [])) "$var wire 1 ! a $end;$var wire 1 \" b $end;$enddefinitions $end;" ≡ gives "b 0 0 0;" "" 0
+unfolding model
+edges_are_run = refl
+
+edges_without_names_are_run : asked (Command.Edges []) "$var wire 1 ! a $end;$enddefinitions $end;" ≡ gives "a 0 0 0;" "" 0
+unfolding model
+edges_without_names_are_run = refl
+
+token_limit_is_used : command_outcome (Some (record { command = Command.Check; limit = Some (codes "64") })) (codes "(stdin)" ∷ []) (clean "$comment xxxxxxxxxxxxxxxxxxxxxxxxxxxxxxxxxxxxxxxxxxxxxxxxxxxxxxxxxxxxxxxxx $end;$enddefinitions $end;" ∷ []) ≡ gives "" "vcdkit: (stdin):1: token too long;" 1
+unfolding model
+token_limit_is_used = refl
+
+-- a job with the default token limit
+abbrev job : Command → Result Job UseFault
+job command = job_of (Some (record { command = command; limit = None }))
+
+jobs : map job (Command.Check ∷ Command.Listing ∷ Command.Pick (codes "a" ∷ codes "b" ∷ []) ∷ Command.Edges [] ∷ Command.Edges (codes "a" ∷ []) ∷ Command.Merge (codes "f" ∷ []) ∷ []) ≡ map (λ want. Ok (record { want = want; limit = 1048576 })) (Want.Check ∷ Want.Listing ∷ Want.Pick (codes "a" ∷ codes "b" ∷ []) ∷ Want.Edges [] ∷ Want.Edges (codes "a" ∷ []) ∷ Want.Merge ∷ [])
+unfolding model
+jobs = refl
+
+-- the order of times is that of their numbers: the words may be longer or have zeros in front
+times_by_their_numbers : job (Command.Cut (codes "9") (codes "10")) ∷ job (Command.Cut (codes "10") (codes "9")) ∷ job (Command.Cut (codes "010") (codes "9")) ∷ job (Command.Sample (codes "9,10") []) ∷ [] ≡ Ok (record { want = Want.Cut (at 9) (at 10); limit = 1048576 }) ∷ Err UseFault.FromAboveTo ∷ Err UseFault.FromAboveTo ∷ Ok (record { want = Want.Sample (at 9 ∷ at 10 ∷ []) []; limit = 1048576 }) ∷ []
+unfolding model
+times_by_their_numbers = refl
