@@ -98,10 +98,15 @@ fn find_slowly(
     }
 }
 
-/// The same by a binary search alone, which counts its probes.
+/// The place of a code among the distinct codes, by a binary search alone, which counts its probes.
+///
+/// The count grows by each comparison, by at least one where there is a code, and by at most one
+/// more than the binary digits of the number of codes.
 pub fn find_counted(view: HeadView<'_>, code: &[u8], probes: &mut Probes) -> Option<usize>
     ensures found { (h : Header) → IsViewOf view.entry h → Finds h.codes code.now result }
     ensures within { IfSome result (λ place. place < length view.entry.codes.now) }
+    ensures never_falls { probes.old.count ≤ probes.new.count }
+    ensures counted { 0 < length view.entry.index.now → probes.old.count < probes.new.count }
     ensures few { (h : Header) → IsViewOf view.entry h
         → probes.new.count ≤ probes.old.count + 1 + length (digits_of 2 (length h.codes)) }
 {
@@ -121,6 +126,8 @@ fn search(
     ensures found { (ks : List IdCode) → AllZip (IsCode text.now) codes.now ks
         → IsIndex ks index.now → Finds ks code.now result }
     ensures within { IfSome result (λ place. place < length codes.now) }
+    ensures never_falls { probes.old.count ≤ probes.new.count }
+    ensures counted { 0 < length index.now → probes.old.count < probes.new.count }
     ensures few { (ks : List IdCode) → IsIndex ks index.now
         → probes.new.count ≤ probes.old.count + 1 + length (digits_of 2 (length ks)) }
 {

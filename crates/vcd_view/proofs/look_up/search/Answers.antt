@@ -10,6 +10,8 @@ loop-low-init c = record {
   within = omega arith;
   end = omega arith;
   between = λ ks a x. between_all ks c.args.index.now c.args.code.now;
+  grown = omega arith;
+  counted = λ l. absurd (omega arith);
   few = (let all : length c.args.index.now - 0 ≡ length c.args.index.now = omega arith in rw all (omega arith));
 }
 
@@ -24,6 +26,8 @@ loop-low-preserved-in-Less c =
       end = c.loop-low.invariant.end;
       between = λ ks a x. between_above ks c.args.index.now c.args.code.now low high middle x (c.loop-low.invariant.between ks a x) inside
           (ap (λ t. slice_cmp nat_cmp t c.args.code.now) (sym (c.text_of.ensures ks a (place_below ks c.args.index.now middle x inside))) ∙ sym c.in-Less.ensures.order);
+      grown = omega (arith, c.loop-low.invariant.grown);
+      counted = λ l. omega (arith, c.loop-low.invariant.grown);
       few = omega (arith, c.loop-low.invariant.few);
     }
 
@@ -38,6 +42,8 @@ loop-low-preserved c =
       end = omega (arith, c.loop-low.invariant.end);
       between = λ ks a x. between_below ks c.args.index.now c.args.code.now low high middle x (c.loop-low.invariant.between ks a x)
           (ap (λ t. slice_cmp nat_cmp t c.args.code.now) (sym (c.text_of.ensures ks a (place_below ks c.args.index.now middle x inside))) ∙ sym c.in-Greater.ensures.order);
+      grown = omega (arith, c.loop-low.invariant.grown);
+      counted = λ l. omega (arith, c.loop-low.invariant.grown);
       few = omega (arith, c.loop-low.invariant.few);
     }
 

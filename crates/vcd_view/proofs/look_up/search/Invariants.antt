@@ -1,4 +1,4 @@
-use Rattle.std.proofs.Common.{◌+◌, ◌-◌, ◌≤◌, List, length}
+use Rattle.std.proofs.Common.{◌+◌, ◌-◌, ◌<◌, ◌≤◌, List, length}
 use Rattle.std.specs.List.{AllZip}
 use Rattle.std.specs.Int.Digits.{digits_of}
 use Rattle.vcd_model.specs.Declarations.{IdCode}
@@ -11,6 +11,8 @@ invariant-loop-low l = record {
   within : l.low ≤ l.high;
   end : l.high ≤ length l.index;
   between : (ks : List IdCode) → AllZip (IsCode l.text) l.codes ks → IsIndex ks l.index → IsBetween ks l.index l.code l.low l.high;
+  grown : l.initial.probes.count ≤ l.probes.count;
+  counted : l.high - l.low < length l.index → l.initial.probes.count < l.probes.count;
   few : l.probes.count + length (digits_of 2 (l.high - l.low)) ≤ l.initial.probes.count + length (digits_of 2 (length l.index));
 }
 
