@@ -14,7 +14,7 @@ use Rattle.vcd_model.specs.Reading.{Fault, phrases_of}
 use Rattle.vcd_model.specs.HeaderReading.{read_header, header_fault_of}
 use Rattle.vcd_model.specs.BodyPhrases.{declared_code}
 use Rattle.vcd_model.specs.BodyReading.{read_body, body_items}
-use Rattle.vcd_model.specs.Merge.{factor, headers_of, first_fault}
+use Rattle.vcd_model.specs.Merge.{Dump, factor, headers_of, first_fault}
 use Rattle.vcd_model.specs.Ticks.{Moment, moment_ticks}
 use Rattle.vcd_model.specs.Outcome.{Opened, dumps_of, declarations_allowed, open_from, body_of, items_in}
 use Rattle.vcd_model.specs.Job.{Want, outcome}
@@ -28,6 +28,7 @@ use Rattle.vcd_model.proofs.WrittenCodes.{In, from_filter, to_filter, from_conta
 use Rattle.vcd_model.proofs.SameReadings.{bodies_alike, same_items, same_whole}
 use Rattle.vcd_model.proofs.WrittenRows.{written}
 use Rattle.vcd_model.proofs.HeadBack.{marks, own_code, variables_are, head_read, IsHeadRead, opens_header}
+use Rattle.vcd_model.proofs.MergedHead.{all_rows}
 use Rattle.vcd_model.proofs.MergedBack.{merged_found, IsMergedRead, merged_read, all_can}
 use Rattle.vcd_model.proofs.RunLaws.{same_opened, pick_run_keeps, cut_run_keeps, merge_run_keeps}
 use Rattle.vcd_model.proofs.ShortBodies.{pick_is_not_halted}
@@ -178,8 +179,14 @@ pub record CanAllOpen (limit : ℕ) (hs : List Header) (text : List ℕ) : Type 
   pub shallow : AllByRecursion IsShallow hs
   pub few : most_merged hs ≤ declarations_allowed
 
+-- such a dump, and its items
+pub record IsReadMerge (limit : ℕ) (ds : List Dump) (text whole : List ℕ) : Type 0 where
+  pub dump : IsMergedDump limit ds whole
+  pub items : items_in dump.dump ≡ body_items (read_text (merged_codes (headers_of ds)) text)
+  pub rows : dump.dump.header.declarations ≡ all_rows [] (headers_of ds)
+
 pub is_merged_dump : (limit : ℕ) (inputs : List Input) (os : List Opened) (text whole : List ℕ) → OpenAll limit inputs os → whole ≡ merged_head (headers_of (dumps_of os)) ++ text → MergeKeepsValues (dumps_of os) text
-    → CanAllOpen limit (headers_of (dumps_of os)) whole → IsMergedDump limit (dumps_of os) whole
+    → CanAllOpen limit (headers_of (dumps_of os)) whole → IsReadMerge limit (dumps_of os) text whole
 unfolding body_of
 is_merged_dump limit inputs os text whole opens e keeps can =
     let ds = dumps_of os in
@@ -200,12 +207,16 @@ is_merged_dump limit inputs os text whole opens e keeps can =
     let alike = bodies_alike dump.header.codes (merged_codes hs) same r.rest (tokens_of text) read.left in
     let items : items_in dump ≡ body_items (read_text (merged_codes hs) text) = same_items (read_body dump.header.codes r.rest) (read_text (merged_codes hs) text) alike in
     record {
-      dump = dump;
-      opens = back;
-      head = head;
-      whole = same_whole stream (stream_over text) (read_body dump.header.codes r.rest) (read_text (merged_codes hs) text) refl alike keeps.whole;
-      values = λ earlier later d split c t i quiet.
-          ap (λ (l : List BodyItem). value_at l (renamed_code (headers_of earlier) d.header c) (factor hs d.header * t)) items ∙ keeps.values earlier later d split c t i quiet;
+      dump = record {
+        dump = dump;
+        opens = back;
+        head = head;
+        whole = same_whole stream (stream_over text) (read_body dump.header.codes r.rest) (read_text (merged_codes hs) text) refl alike keeps.whole;
+        values = λ earlier later d split c t i quiet.
+            ap (λ (l : List BodyItem). value_at l (renamed_code (headers_of earlier) d.header c) (factor hs d.header * t)) items ∙ keeps.values earlier later d split c t i quiet;
+      };
+      items = items;
+      rows = read.rows;
     }
 
 same_all : (limit : ℕ) (inputs : List Input) (os ps : List Opened) → OpenAll limit inputs os → OpenAll limit inputs ps → os ≡ ps
@@ -218,5 +229,5 @@ merge_is_a_dump limit names inputs os can =
     let same : run.0 ≡ os = same_all limit inputs run.0 os run.1 can.opens in
     let made = λ (ps : List Opened). CanAllOpen limit (headers_of (dumps_of ps)) text → (first_fault (dumps_of ps) ≡ None) × IsMergedDump limit (dumps_of ps) text in
     let behind = run.3 in
-    let make : made run.0 = λ is. (run.2, is_merged_dump limit inputs run.0 behind.0 text run.1 behind.1 behind.2 is) in
+    let make : made run.0 = λ is. (run.2, (is_merged_dump limit inputs run.0 behind.0 text run.1 behind.1 behind.2 is).dump) in
     subst made same make (record { given = merge_is_not_halted limit names inputs os can; shallow = can.shallow; few = can.few })

@@ -19,7 +19,7 @@ use Rattle.vcd_model.specs.Reading.{Fault}
 use Rattle.vcd_model.specs.Merge.{headers_of}
 use Rattle.vcd_model.specs.Outcome.{Outcome, Opened, declarations_allowed, open_from, dumps_of}
 use Rattle.vcd_model.specs.Job.{Want, IsJob, outcome}
-use Rattle.vcd_model.specs.Laws.{input_of, written_by, over_written, stream_over, most_declared, input_scope, IsShallow, IsReadable, AreReadable}
+use Rattle.vcd_model.specs.Laws.{input_of, written_by, over_written, stream_over, most_declared, input_scope, distinct, IsShallow, IsReadable, AreReadable}
 
 abbrev stdin : List ℕ
 stdin = codes "(stdin)"
@@ -95,6 +95,22 @@ picked_counted = refl
 counted : on (Want.Edges some_names) aliased ≡ gives "b 0 0 0;m.c 1 1 0;" "" 0
 unfolding model
 counted = refl
+
+-- changes before the first time mark have time 0, and what is written has a mark for it
+abbrev unmarked : String
+unmarked = "$var wire 1 x a $end $enddefinitions $end 0x"
+
+unmarked_checked : on Want.Check unmarked ≡ gives "scopes 0;variables 1;codes 1;times 0;sections 0;changes 1;last -;" "" 0
+unfolding model
+unmarked_checked = refl
+
+unmarked_picked : over_written Want.Check (Want.Pick (codes "a" ∷ [])) limit stdin (clean unmarked) ≡ gives "scopes 0;variables 1;codes 1;times 1;sections 0;changes 1;last 0;" "" 0
+unfolding model
+unmarked_picked = refl
+
+-- times that are written once each
+once_each : distinct (0 ∷ 0 ∷ 5 ∷ 7 ∷ 7 ∷ []) ≡ 3
+once_each = refl
 
 -- ---- `cut`
 

@@ -214,7 +214,7 @@ short_headers : (limit : ℕ) (os : List Opened) → AllByRecursion (IsShortInpu
 short_headers limit [] s = tt
 short_headers limit (o ∷ os) s = let h = s.0 in (h.header, short_headers limit os s.1)
 
-merge_run : (limit : ℕ) (names : List (List ℕ)) (inputs : List Input) (os : List Opened) → OpenAll limit inputs os → outcome Want.Merge limit names inputs ≡ over_opened Want.Merge names os
+pub merge_run : (limit : ℕ) (names : List (List ℕ)) (inputs : List Input) (os : List Opened) → OpenAll limit inputs os → outcome Want.Merge limit names inputs ≡ over_opened Want.Merge names os
 unfolding outcome
 merge_run limit names inputs os opens = rw (opens, outcome) refl
 

@@ -171,6 +171,7 @@ pub record IsMergedRead (hs : List Header) (stream : Stream) (r : Reading Header
   pub whole : header_fault_of stream r ≡ None
   pub head : IsMergedHead hs (header_of (phrases_of r.placed))
   pub left : texts_of r.rest ≡ texts_of (tokens_of text)
+  pub rows : (header_of (phrases_of r.placed)).declarations ≡ all_rows [] hs
 
 pub many : (hs : List Header) → length hs ≤ sum_by (λ h. most_declared h + 2) hs
 many [] = omega arith
@@ -191,6 +192,7 @@ merged_read hs most stream text can few small e =
       whole = no_fault stream (read_header most stream) all.ending;
       head = subst (IsMergedHead hs) (sym back) (merged_says hs can more);
       left = all.texts ∙ sym (texts_of-tokens text);
+      rows = ap (λ (k : Header). k.declarations) back;
     }
 
 -- ---- opened inputs
