@@ -214,6 +214,14 @@ unfolding model
 merged_listed = refl
 
 -- the times of the first input are ten times as many ticks
+merged_sampled_one : over_merge (sample (40 ∷ 50 ∷ []) (codes "in1.b" ∷ codes "in1.m" ∷ [])) ≡ gives "40 in1.b 1;40 in1.m.c 0;50 in1.b 1;50 in1.m.c 1;" "" 0
+unfolding model
+merged_sampled_one = refl
+
+sampled_alone : on (sample (4 ∷ 5 ∷ []) some_names) aliased ≡ gives "4 b 1;4 m.c 0;5 b 1;5 m.c 1;" "" 0
+unfolding model
+sampled_alone = refl
+
 merged_sampled : over_merge (sample (40 ∷ 50 ∷ []) (codes "in1.m" ∷ codes "in2" ∷ [])) ≡ gives "40 in1.m.c 0;40 in2.q zzzz;50 in1.m.c 1;50 in2.q zzzz;" "" 0
 unfolding model
 merged_sampled = refl

@@ -37,14 +37,14 @@ no_end names (BodyItem.Begin s ∷ items) = no_end names items
 no_end names (BodyItem.End ∷ items) = no_end names items
 no_end names (BodyItem.Changes c ∷ items) = no_end names items
 
-counted : List (List ℕ) → Option ℕ → List ℕ → Outcome
+unfoldable pub counted : List (List ℕ) → Option ℕ → List ℕ → Outcome
 counted wanted place text = elim place [ Some i ↦ unmatched_outcome (name_at wanted i) | None ↦ clean_outcome text ]
 
 edges_body : (wanted : List (List ℕ)) (name : List ℕ) (o : Opened) → fault_in o ≡ None → over_body (Request.Edges wanted) o.header (items_in o) name (fault_in o) ≡ clean_outcome (flat_map (edges_line (items_in o)) (selected wanted o.header.declarations))
 unfolding over_body edges_close
 edges_body wanted name o none = rw (no_end wanted (items_in o), over_body) (ap (at_end (Request.Edges wanted) o.header (items_in o) name) none)
 
-edges_run : (wanted : List (List ℕ)) (name : List ℕ) (o : Opened) → fault_in o ≡ None → over_dumps (Request.Edges wanted) (name ∷ []) (o ∷ []) ≡ counted wanted (first_unmatched wanted o.header.declarations) (flat_map (edges_line (items_in o)) (selected wanted o.header.declarations))
+pub edges_run : (wanted : List (List ℕ)) (name : List ℕ) (o : Opened) → fault_in o ≡ None → over_dumps (Request.Edges wanted) (name ∷ []) (o ∷ []) ≡ counted wanted (first_unmatched wanted o.header.declarations) (flat_map (edges_line (items_in o)) (selected wanted o.header.declarations))
 unfolding over_dump counted
 edges_run wanted name o none = by_place (first_unmatched wanted o.header.declarations)
   where

@@ -58,7 +58,7 @@ module _ (c : IdCode) where
             let code : same_code c (read_again d).code ≡ false = ap (same_code c) r.same ∙ e in
             rw (code, e) refl
 
-    written_values : (t : ℕ) (o : Bool) (w : List ℕ) (es : List Entry) → AreWritable codes t o es → values_of (written_items w es) c ≡ values_of (map (λ e. e.item) es) c
+    pub written_values : (t : ℕ) (o : Bool) (w : List ℕ) (es : List Entry) → AreWritable codes t o es → values_of (written_items w es) c ≡ values_of (map (λ e. e.item) es) c
     written_values t o w [] h = refl
     written_values t o w (e ∷ es) h =
         let rest = written_items (w ++ e.time ∷ []) es in
@@ -68,6 +68,41 @@ module _ (c : IdCode) where
         ∙ ap (λ l. l ++ values_of rest c) (item_values o e.item h.3)
         ∙ ap (λ l. values_of (e.item ∷ []) c ++ l) (written_values e.time (next_open o e.item) (w ++ e.time ∷ []) es h.4)
         ∙ sym (values-append (e.item ∷ []) (map (λ (x : Entry). x.item) es) c)
+
+  -- ---- marks of events
+
+  abbrev pub counted : Entry → Bool
+  counted e = gives_to c e.item && not e.inside
+
+  abbrev pub count_from : ℕ → Bool → List BodyItem → ℕ
+  count_from t o xs = count_by counted (entries_from t o xs)
+
+  pub count_more : (t : ℕ) (o : Bool) (x : BodyItem) (xs : List BodyItem) → count_from t o (x ∷ xs) ≡ cond (gives_to c x && not o) 1 0 + count_from (next_time t x) (next_open o x) xs
+  count_more t o x xs = sum_by-cons (λ e. cond (counted e) 1 0) (record { time = t; inside = o; item = x }) (entries_from (next_time t x) (next_open o x) xs)
+
+  count_time : (t u : ℕ) (o : Bool) (xs : List BodyItem) → count_from t o xs ≡ count_from u o xs
+  count_time t u o [] = refl
+  count_time t u o (BodyItem.Time v ∷ xs) = count_more t o (BodyItem.Time v) xs ∙ sym (count_more u o (BodyItem.Time v) xs)
+  count_time t u o (BodyItem.Begin s ∷ xs) = count_more t o (BodyItem.Begin s) xs ∙ ap (λ n. 0 + n) (count_time t u true xs) ∙ sym (count_more u o (BodyItem.Begin s) xs)
+  count_time t u o (BodyItem.End ∷ xs) = count_more t o BodyItem.End xs ∙ ap (λ n. 0 + n) (count_time t u false xs) ∙ sym (count_more u o BodyItem.End xs)
+  count_time t u o (BodyItem.Changes d ∷ xs) = count_more t o (BodyItem.Changes d) xs ∙ ap (λ n. cond (same_code c d.code && not o) 1 0 + n) (count_time t u o xs) ∙ sym (count_more u o (BodyItem.Changes d) xs)
+
+  pub count_over_time : (t u : ℕ) (o : Bool) (w : List ℕ) (xs : List BodyItem) → count_from t o (time_items w u ++ xs) ≡ count_from 0 o xs
+  count_over_time t u o w xs = by_any (list_any (λ v. v == u) w)
+    where
+      by_any : (b : Bool) → count_from t o (cond b [] (BodyItem.Time u ∷ []) ++ xs) ≡ count_from 0 o xs
+      by_any true = count_time t 0 o xs
+      by_any false = count_more t o (BodyItem.Time u) xs ∙ (let n = count_time u 0 o xs in omega arith)
+
+  -- one kept entry, and what follows
+  pub count_kept : (t u : ℕ) (o : Bool) (w : List ℕ) (x : BodyItem) (more rest : List BodyItem) → count_from t o (time_items w u ++ x ∷ more ++ rest) ≡ cond (gives_to c x && not o) 1 0 + count_from 0 (next_open o x) (more ++ rest)
+  count_kept t u o w x more rest =
+      ap (count_from t o) (append_assoc (time_items w u) (x ∷ more) rest) ∙ count_over_time t u o w (x ∷ (more ++ rest)) ∙ count_more 0 o x (more ++ rest)
+      ∙ ap (λ n. cond (gives_to c x && not o) 1 0 + n) (count_time (next_time 0 x) 0 (next_open o x) (more ++ rest))
+
+  pub closing_count : (o : Bool) (w : List ℕ) (mark : Option ℕ) → count_from 0 o (closing_items w mark) ≡ 0
+  closing_count o w None = refl
+  closing_count o w (Some e) = ap (count_from 0 o) (sym (append-nil (time_items w e))) ∙ count_over_time 0 e o w []
 
   -- ---- what is kept of it
 
@@ -91,37 +126,6 @@ module _ (c : IdCode) where
             let same : c ≡ d.code = same_declared codes c d.code declared good.declared s in
             let keep : (selects_code vs d.code && not (d.code.event && o)) ≡ true = subst (λ (x : IdCode). (selects_code vs x && not (x.event && o)) ≡ true) same (rw (picked, quiet) refl) in
             cc
-
-    -- ---- marks of events
-
-    abbrev counted : Entry → Bool
-    counted e = gives_to c e.item && not e.inside
-
-    abbrev count_from : ℕ → Bool → List BodyItem → ℕ
-    count_from t o xs = count_by counted (entries_from t o xs)
-
-    count_more : (t : ℕ) (o : Bool) (x : BodyItem) (xs : List BodyItem) → count_from t o (x ∷ xs) ≡ cond (gives_to c x && not o) 1 0 + count_from (next_time t x) (next_open o x) xs
-    count_more t o x xs = sum_by-cons (λ e. cond (counted e) 1 0) (record { time = t; inside = o; item = x }) (entries_from (next_time t x) (next_open o x) xs)
-
-    count_time : (t u : ℕ) (o : Bool) (xs : List BodyItem) → count_from t o xs ≡ count_from u o xs
-    count_time t u o [] = refl
-    count_time t u o (BodyItem.Time v ∷ xs) = count_more t o (BodyItem.Time v) xs ∙ sym (count_more u o (BodyItem.Time v) xs)
-    count_time t u o (BodyItem.Begin s ∷ xs) = count_more t o (BodyItem.Begin s) xs ∙ ap (λ n. 0 + n) (count_time t u true xs) ∙ sym (count_more u o (BodyItem.Begin s) xs)
-    count_time t u o (BodyItem.End ∷ xs) = count_more t o BodyItem.End xs ∙ ap (λ n. 0 + n) (count_time t u false xs) ∙ sym (count_more u o BodyItem.End xs)
-    count_time t u o (BodyItem.Changes d ∷ xs) = count_more t o (BodyItem.Changes d) xs ∙ ap (λ n. cond (same_code c d.code && not o) 1 0 + n) (count_time t u o xs) ∙ sym (count_more u o (BodyItem.Changes d) xs)
-
-    count_over_time : (t u : ℕ) (o : Bool) (w : List ℕ) (xs : List BodyItem) → count_from t o (time_items w u ++ xs) ≡ count_from 0 o xs
-    count_over_time t u o w xs = by_any (list_any (λ v. v == u) w)
-      where
-        by_any : (b : Bool) → count_from t o (cond b [] (BodyItem.Time u ∷ []) ++ xs) ≡ count_from 0 o xs
-        by_any true = count_time t 0 o xs
-        by_any false = count_more t o (BodyItem.Time u) xs ∙ (let n = count_time u 0 o xs in omega arith)
-
-    -- one kept entry, and what follows
-    count_kept : (t u : ℕ) (o : Bool) (w : List ℕ) (x : BodyItem) (more rest : List BodyItem) → count_from t o (time_items w u ++ x ∷ more ++ rest) ≡ cond (gives_to c x && not o) 1 0 + count_from 0 (next_open o x) (more ++ rest)
-    count_kept t u o w x more rest =
-        ap (count_from t o) (append_assoc (time_items w u) (x ∷ more) rest) ∙ count_over_time t u o w (x ∷ (more ++ rest)) ∙ count_more 0 o x (more ++ rest)
-        ∙ ap (λ n. cond (gives_to c x && not o) 1 0 + n) (count_time (next_time 0 x) 0 (next_open o x) (more ++ rest))
 
     written_count : (are : AreCodes codes) (items : List BodyItem) (t t' : ℕ) (o : Bool) (w : List ℕ) (rest : List BodyItem) → AreFit codes t o items → count_from t' o (written_items w (filter (picks vs) (entries_from t o items)) ++ rest) ≡ count_from t o items + count_from 0 (open_behind o items) rest
     written_count are [] t t' o w rest fit = let n = count_time t' 0 o rest in omega arith
@@ -174,10 +178,6 @@ module _ (c : IdCode) where
             let zero : cond {A = ℕ} (same_code c d.code && not o) 1 0 ≡ 0 = ap (λ (x : Bool). cond x 1 0) n in
             rw e (omega arith)
 
-    closing_count : (o : Bool) (w : List ℕ) (mark : Option ℕ) → count_from 0 o (closing_items w mark) ≡ 0
-    closing_count o w None = refl
-    closing_count o w (Some e) = ap (count_from 0 o) (sym (append-nil (time_items w e))) ∙ count_over_time 0 e o w []
-
 -- ---- the items that a pick is read as
 
 -- a picked code has the same values, in order, and as many marks outside sections
@@ -203,7 +203,7 @@ picked_counts codes vs items c are fit shut declared picked =
           ∙ kept_values c codes vs declared picked 0 false items quiet fit;
       marks =
           let all = written_count c codes vs declared picked are items 0 0 false [] end fit in
-          let none = closing_count c codes vs declared picked (open_behind false items) w (last_mark items) in
+          let none = closing_count c (open_behind false items) w (last_mark items) in
           ap (count_by (λ (e : Entry). gives_to c e.item && not e.inside)) (entries_are new [] 0 false (written_items [] kept ++ end) at_start (parts_fit new [] [] kept (last_mark items) parts))
           ∙ all
           ∙ (let n = none in omega arith)
