@@ -226,6 +226,10 @@ merged_sampled : over_merge (sample (40 ∷ 50 ∷ []) (codes "in1.m" ∷ codes 
 unfolding model
 merged_sampled = refl
 
+merged_counted : over_merge (Want.Edges (codes "in1.b" ∷ codes "in1.m" ∷ [])) ≡ gives "in1.b 0 0 0;in1.m.c 1 1 0;" "" 0
+unfolding model
+merged_counted = refl
+
 -- ---- where an output is not as its input was
 
 -- an input that is opened

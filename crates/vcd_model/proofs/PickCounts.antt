@@ -19,7 +19,7 @@ use Rattle.vcd_model.proofs.Assembled.{parts_items, parts_fit, closing_items}
 use Rattle.vcd_model.proofs.PickKept.{picks, pick_parts, find-filter, same_declared, find_all}
 use Rattle.vcd_model.proofs.HeaderFacts.{AreCodes}
 
-values-append : (xs ys : List BodyItem) (c : IdCode) → values_of (xs ++ ys) c ≡ values_of xs c ++ values_of ys c
+pub values-append : (xs ys : List BodyItem) (c : IdCode) → values_of (xs ++ ys) c ≡ values_of xs c ++ values_of ys c
 values-append xs ys c =
     let f = λ (item : BodyItem). option_map value_of (change_of item) in
     ap (filter_map f) (filter-append (gives_to c) xs ys) ∙ filter_map-append f (filter (gives_to c) xs) (filter (gives_to c) ys)
@@ -80,7 +80,7 @@ module _ (c : IdCode) where
   pub count_more : (t : ℕ) (o : Bool) (x : BodyItem) (xs : List BodyItem) → count_from t o (x ∷ xs) ≡ cond (gives_to c x && not o) 1 0 + count_from (next_time t x) (next_open o x) xs
   count_more t o x xs = sum_by-cons (λ e. cond (counted e) 1 0) (record { time = t; inside = o; item = x }) (entries_from (next_time t x) (next_open o x) xs)
 
-  count_time : (t u : ℕ) (o : Bool) (xs : List BodyItem) → count_from t o xs ≡ count_from u o xs
+  pub count_time : (t u : ℕ) (o : Bool) (xs : List BodyItem) → count_from t o xs ≡ count_from u o xs
   count_time t u o [] = refl
   count_time t u o (BodyItem.Time v ∷ xs) = count_more t o (BodyItem.Time v) xs ∙ sym (count_more u o (BodyItem.Time v) xs)
   count_time t u o (BodyItem.Begin s ∷ xs) = count_more t o (BodyItem.Begin s) xs ∙ ap (λ n. 0 + n) (count_time t u true xs) ∙ sym (count_more u o (BodyItem.Begin s) xs)
