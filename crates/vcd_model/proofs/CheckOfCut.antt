@@ -1,12 +1,11 @@
 -- `check` of what `cut` wrote.
-use Rattle.std.proofs.Common.{◌≡◌, ℕ, ◌+◌, ◌≤◌, ◌==◌, Bool, true, false, cond, not, ◌&&◌, ◌||◌, nat_lt, List, [], ◌∷◌, ◌++◌, length, map, filter, filter_map, flat_map, count_by, Option, Some, None, is_some, Result, Ok, IsTrue, ◌⊎◌, inl, inr, refl, sym, ap, ◌∙◌, subst, arith}
-use Rattle.std.specs.List.{list_any, last_or}
+use Rattle.std.proofs.Common.{◌≡◌, ℕ, ◌+◌, ◌≤◌, ◌==◌, Bool, true, false, cond, not, ◌&&◌, ◌||◌, nat_lt, List, [], ◌∷◌, ◌++◌, length, map, filter, filter_map, flat_map, count_by, Option, Some, None, is_some, Result, Ok, refl, sym, ap, ◌∙◌, subst, arith}
+use Rattle.std.specs.List.{last_or}
 use Rattle.std.proofs.lemmas.List.{append-nil}
 use Rattle.std.proofs.lemmas.List.Sums.{sum_by-cons, sum_by-append}
 use Rattle.std.proofs.lemmas.Bool.{eqb-true}
 use Rattle.vcd_model.specs.Input.{Input}
-use Rattle.vcd_model.specs.Tokens.{tokens_of}
-use Rattle.vcd_model.specs.Declarations.{Declaration, IdCode, is_scope, variables_of, codes_of}
+use Rattle.vcd_model.specs.Declarations.{IdCode, is_scope, variables_of, codes_of}
 use Rattle.vcd_model.specs.Header.{Header}
 use Rattle.vcd_model.specs.Items.{BodyItem, Entry, is_begin, change_of, marks}
 use Rattle.vcd_model.specs.Items.SectionKind.{Vars}
@@ -15,29 +14,28 @@ use Rattle.vcd_model.specs.Values.{Value}
 use Rattle.vcd_model.specs.History.{value_before}
 use Rattle.vcd_model.specs.Merge.{is_change}
 use Rattle.vcd_model.specs.Cut.{ends_cut, within, cut_kept, times_of}
-use Rattle.vcd_model.specs.HeadText.{head_for}
 use Rattle.vcd_model.specs.Ticks.{Moment, moment_ticks}
 use Rattle.vcd_model.specs.Outcome.{Opened, items_in}
 use Rattle.vcd_model.specs.Job.{Want, IsJob}
-use Rattle.vcd_model.specs.Laws.{KeepsValues, input_of, written_by, IsReadable, IsDumpFor, tally_outcome, scopes_around, as_list, distinct, changes_in, cut_closing, cut_times, set_before, CheckOfCut}
+use Rattle.vcd_model.specs.Laws.{input_of, written_by, IsReadable, IsDumpFor, tally_outcome, scopes_around, as_list, distinct, changes_in, cut_closing, cut_times, set_before, CheckOfCut}
 use Rattle.vcd_model.proofs.Times.{marks-append}
-use Rattle.vcd_model.proofs.ItemStates.{time_behind, entries_from, at_start, entries_are}
+use Rattle.vcd_model.proofs.ItemStates.{time_behind, at_start, entries_are}
 use Rattle.vcd_model.proofs.Lines.{plain_line, IsRead, is_read}
 use Rattle.vcd_model.proofs.Assembled.{parts_items, parts_fit, parts_shut}
 use Rattle.vcd_model.proofs.OpenedBodies.{opens_good}
 use Rattle.vcd_model.proofs.CutGrows.{all_within}
 use Rattle.vcd_model.proofs.StartSections.{item_if_set, set_items}
-use Rattle.vcd_model.proofs.CutKept.{cuts, above, cut_mark}
+use Rattle.vcd_model.proofs.CutKept.{cuts, cut_mark}
 use Rattle.vcd_model.proofs.CutLaw.{cut_entries, cut_start, cut_end, CutBehind, cut_behind}
 use Rattle.vcd_model.proofs.WrittenRows.{written}
 use Rattle.vcd_model.proofs.WrittenCodes.{In, from_contained, to_contained}
-use Rattle.vcd_model.proofs.HeadBack.{marks as marks_of, own_code, variables_are, opens_header}
+use Rattle.vcd_model.proofs.HeadBack.{marks as marks_of, own_code, opens_header}
 use Rattle.vcd_model.proofs.RunLaws.{cut_run, opened_run}
 use Rattle.vcd_model.proofs.CutShort.{cut_is_not_halted}
-use Rattle.vcd_model.proofs.DumpLaws.{IsReadDump, is_dump, AreSelectedCodes, own_codes}
-use Rattle.vcd_model.proofs.WrittenCounts.{HasCounts, parts_counts}
+use Rattle.vcd_model.proofs.DumpLaws.{IsReadDump, is_dump, own_codes}
+use Rattle.vcd_model.proofs.WrittenCounts.{parts_counts}
 use Rattle.vcd_model.proofs.HeadCounts.{scopes_written, AreApart, apart_same, codes_apart}
-use Rattle.vcd_model.proofs.Checks.{tally_of, check_run, variables_written, same_tally}
+use Rattle.vcd_model.proofs.Checks.{check_run, variables_written, same_tally}
 
 -- ---- what a cut wrote, and its items
 

@@ -1,33 +1,32 @@
 -- `check` of what `merge` wrote.
-use Rattle.std.proofs.Common.{◌≡◌, ℕ, ◌+◌, ◌≤◌, Bool, true, false, cond, not, ◌&&◌, List, [], ◌∷◌, ◌++◌, length, map, filter, filter_map, count_by, sum_by, None, refl, sym, ap, ◌∙◌, subst, arith}
+use Rattle.std.proofs.Common.{◌≡◌, ℕ, ◌+◌, Bool, true, false, cond, not, ◌&&◌, List, [], ◌∷◌, ◌++◌, length, map, filter, filter_map, count_by, sum_by, None, refl, sym, ap, ◌∙◌, subst, arith}
 use Rattle.std.specs.List.{AllByRecursion, last_or}
 use Rattle.std.proofs.lemmas.List.{length-map}
 use Rattle.std.proofs.lemmas.List.Sums.{sum_by-cons}
 use Rattle.vcd_model.specs.Input.{Input}
-use Rattle.vcd_model.specs.Backward.{each_after}
-use Rattle.vcd_model.specs.Declarations.{IdCode, is_scope, variables_of, codes_of}
+use Rattle.vcd_model.specs.Declarations.{is_scope, variables_of}
 use Rattle.vcd_model.specs.Header.{Header}
 use Rattle.vcd_model.specs.Items.{BodyItem, Entry, is_begin, change_of, marks}
 use Rattle.vcd_model.specs.ItemText.{last_mark}
 use Rattle.vcd_model.specs.HeadText.{merged_head}
-use Rattle.vcd_model.specs.Merge.{Dump, Keyed, headers_of, merged_items, merge_kept, greatest_mark, is_change, keyed_items}
+use Rattle.vcd_model.specs.Merge.{Keyed, headers_of, merged_items, merge_kept, greatest_mark, is_change}
 use Rattle.vcd_model.specs.Selection.{Selected, selected}
 use Rattle.vcd_model.specs.Outcome.{Outcome, Opened, items_in, dumps_of}
 use Rattle.vcd_model.specs.Job.{Want, over_opened, outcome}
-use Rattle.vcd_model.specs.Laws.{input_of, merged_codes, AreReadable, IsMergedDump, tally_outcome, scopes_around, as_list, distinct, changes_in, merge_times, merged_changes, CheckOfMerge}
+use Rattle.vcd_model.specs.Laws.{input_of, merged_codes, AreReadable, IsMergedDump, tally_outcome, scopes_around, distinct, changes_in, merge_times, merged_changes, CheckOfMerge}
 use Rattle.vcd_model.proofs.Lines.{IsRead}
 use Rattle.vcd_model.proofs.Assembled.{Parts, parts_items}
 use Rattle.vcd_model.proofs.HeaderFacts.{AreCodes, inputs_good}
 use Rattle.vcd_model.proofs.MergeDumps.{merged_is, dumps_good}
 use Rattle.vcd_model.proofs.MergeLaw.{merges, merge_parts, merge_text, merge_text_is, merge_read, merge_keeps_text}
 use Rattle.vcd_model.proofs.RunLaws.{merge_case, same_status}
-use Rattle.vcd_model.proofs.WrittenCodes.{In, from_contained, to_contained}
+use Rattle.vcd_model.proofs.WrittenCodes.{from_contained, to_contained}
 use Rattle.vcd_model.proofs.HeadBack.{variables_are, opens_header}
 use Rattle.vcd_model.proofs.MergedHead.{CanMerge, all_rows}
 use Rattle.vcd_model.proofs.MergedBack.{all_can}
 use Rattle.vcd_model.proofs.MergeShort.{merge_run, merge_is_not_halted}
 use Rattle.vcd_model.proofs.DumpLaws.{IsReadMerge, is_merged_dump}
-use Rattle.vcd_model.proofs.WrittenCounts.{HasCounts, parts_counts}
+use Rattle.vcd_model.proofs.WrittenCounts.{parts_counts}
 use Rattle.vcd_model.proofs.HeadCounts.{AreApart, apart_same, codes_apart}
 use Rattle.vcd_model.proofs.Checks.{check_run, same_tally}
 use Rattle.vcd_model.proofs.MergeCounts.{scopes_in_all, variables_in_all, codes_in_all, codes_all_apart, changes_merged}

@@ -1,29 +1,27 @@
 -- `check` of what was written.
-use Rattle.std.proofs.Common.{◌≡◌, ℕ, ◌+◌, Bool, true, false, cond, not, ◌&&◌, List, [], ◌∷◌, ◌++◌, length, map, filter, filter_map, count_by, Option, Some, None, Contains, IsTrue, ◌↔◌, refl, sym, ap, ◌∙◌, subst, arith}
+use Rattle.std.proofs.Common.{◌≡◌, ℕ, Bool, true, false, cond, not, ◌&&◌, List, [], ◌∷◌, ◌++◌, length, map, filter, filter_map, count_by, Option, None, Contains, IsTrue, ◌↔◌, refl, sym, ap, ◌∙◌, subst, arith}
 use Rattle.std.specs.List.{list_any, last_or}
 use Rattle.std.proofs.lemmas.List.{length-map}
 use Rattle.std.proofs.lemmas.List.Sums.{sum_by-cons, length-filter}
 use Rattle.vcd_model.specs.Input.{Input}
 use Rattle.vcd_model.specs.Declarations.{IdCode, is_scope, variables_of, codes_of}
 use Rattle.vcd_model.specs.Header.{Header}
-use Rattle.vcd_model.specs.Items.{BodyItem, Entry, is_begin, change_of, marks, entries}
+use Rattle.vcd_model.specs.Items.{BodyItem, Entry, is_begin, change_of, marks}
 use Rattle.vcd_model.specs.ItemText.{last_mark}
 use Rattle.vcd_model.specs.CheckAndList.{check_close}
 use Rattle.vcd_model.specs.Selection.{Selected, selected, selects_code}
 use Rattle.vcd_model.specs.Pick.{pick_kept}
-use Rattle.vcd_model.specs.Outcome.{Request, Outcome, Opened, items_in, fault_in, clean_outcome, ends_early, at_end, over_body, over_dump, over_dumps}
+use Rattle.vcd_model.specs.Outcome.{Request, Opened, items_in, fault_in, ends_early, at_end, over_body, over_dump, over_dumps}
 use Rattle.vcd_model.specs.Job.{Want, request_of, outcome}
-use Rattle.vcd_model.specs.Laws.{Opens, input_of, written_by, IsHeadFor, Tally, tally_outcome, scopes_around, distinct, as_list, changes_in, pick_times, CheckOfPick}
-use Rattle.vcd_model.proofs.ItemStates.{next_time, next_open, entries_from, at_start, entries_are}
-use Rattle.vcd_model.proofs.HeaderFacts.{AreCodes}
+use Rattle.vcd_model.specs.Laws.{Opens, input_of, written_by, Tally, tally_outcome, scopes_around, distinct, as_list, changes_in, pick_times, CheckOfPick}
+use Rattle.vcd_model.proofs.ItemStates.{entries_from, at_start, entries_are}
 use Rattle.vcd_model.proofs.OpenedBodies.{opens_good, opened_fit, opened_shut}
 use Rattle.vcd_model.proofs.PickKept.{picks, pick_parts}
-use Rattle.vcd_model.proofs.WrittenCodes.{In, from_filter, to_filter, from_contained, to_contained}
-use Rattle.vcd_model.proofs.WrittenRows.{written}
+use Rattle.vcd_model.proofs.WrittenCodes.{from_filter, to_filter, from_contained, to_contained}
 use Rattle.vcd_model.proofs.HeadBack.{marks as marks_of, own_code, variables_are, opens_header}
 use Rattle.vcd_model.proofs.RunLaws.{opened_run}
 use Rattle.vcd_model.proofs.EdgesOfPick.{picked_items}
-use Rattle.vcd_model.proofs.WrittenCounts.{HasCounts, parts_counts}
+use Rattle.vcd_model.proofs.WrittenCounts.{parts_counts}
 use Rattle.vcd_model.proofs.HeadCounts.{scopes_written, AreApart, apart_same, apart_filter, codes_apart}
 
 -- ---- a run of `check`

@@ -9,7 +9,7 @@ use Rattle.vcd_model.specs.Cut.{ends_cut}
 use Rattle.vcd_model.specs.Sample.{sample_lines}
 use Rattle.vcd_model.specs.Ticks.{moment_ticks}
 use Rattle.vcd_model.specs.Outcome.{Request, Outcome, Opened, items_in, fault_in, ends_early, over_dumps}
-use Rattle.vcd_model.specs.Job.{Want, Refusal, request_of, refusal_outcome, outcome}
+use Rattle.vcd_model.specs.Job.{Want, Refusal, request_of, refusal_outcome}
 use Rattle.vcd_model.specs.Laws.{input_of, written_by, IsDumpFor, SampleOfCut}
 use Rattle.vcd_model.proofs.JobLemmas.{requests_are_valid}
 use Rattle.vcd_model.proofs.WrittenCodes.{In, from_filter, to_contained, in_map, to_codes_of}

@@ -1,27 +1,27 @@
 -- `edges` of what `merge` wrote gives the counts of its inputs.
-use Rattle.std.proofs.Common.{◌≡◌, ◌≢◌, ℕ, ◌+◌, ◌<◌, ◌^◌, Bool, true, false, cond, not, ◌&&◌, List, [], ◌∷◌, ◌++◌, length, map, filter, filter_map, flat_map, count_by, decimal, Option, Some, None, option_map, Contains, inl, inr, refl, sym, ap, ◌∙◌, subst, arith}
+use Rattle.std.proofs.Common.{◌≡◌, ℕ, ◌+◌, ◌<◌, ◌^◌, Bool, true, false, cond, not, ◌&&◌, List, [], ◌∷◌, ◌++◌, length, map, filter, filter_map, flat_map, count_by, decimal, Some, None, option_map, inl, inr, refl, sym, ap, ◌∙◌, subst, arith}
 use Rattle.std.specs.List.{AllByRecursion, cons_option}
-use Rattle.std.proofs.lemmas.List.{append_assoc, append-nil, length-map}
+use Rattle.std.proofs.lemmas.List.{append-nil, length-map}
 use Rattle.std.proofs.lemmas.List.Sums.{sum_by-cons, length-filter}
 use Rattle.vcd_model.specs.Backward.{each_after}
 use Rattle.vcd_model.specs.Input.{Input}
 use Rattle.vcd_model.specs.Declarations.{IdCode, code_of, same_code}
 use Rattle.vcd_model.specs.Header.{Header}
-use Rattle.vcd_model.specs.Items.{Change, BodyItem, Entry, change_of, entries}
-use Rattle.vcd_model.specs.Values.{Value, value_of}
+use Rattle.vcd_model.specs.Items.{BodyItem, Entry, change_of, entries}
+use Rattle.vcd_model.specs.Values.{value_of}
 use Rattle.vcd_model.specs.History.{gives_to, value_in, values_of}
 use Rattle.vcd_model.specs.HeadText.{words, renamed}
 use Rattle.vcd_model.specs.Edges.{counts_of, counts_for, event_count, edges_line}
 use Rattle.vcd_model.specs.BodyPhrases.{declared_code}
 use Rattle.vcd_model.specs.Selection.{Selected, selected, first_unmatched}
-use Rattle.vcd_model.specs.Merge.{Dump, Keyed, factor, headers_of, is_change, scaled_item, merged_items, merge_kept, greatest_mark}
-use Rattle.vcd_model.specs.Outcome.{Outcome, Opened, items_in, clean_outcome, dumps_of}
+use Rattle.vcd_model.specs.Merge.{Keyed, factor, headers_of, is_change, scaled_item, merged_items, merge_kept, greatest_mark}
+use Rattle.vcd_model.specs.Outcome.{Opened, items_in, clean_outcome, dumps_of}
 use Rattle.vcd_model.specs.Job.{Want, request_of, outcome}
 use Rattle.vcd_model.specs.Laws.{input_of, AreReadable, under_input, merged_variable, renamed_code, merged_codes, merged_entry, changes_kept, merged_row, names_under, EdgesOfMerge}
-use Rattle.vcd_model.proofs.ItemStates.{IsGoodChange, next_time, next_open, AreFit, entries_from, at_start, entries_are}
-use Rattle.vcd_model.proofs.ChangeLines.{read_again, read_again_is}
+use Rattle.vcd_model.proofs.ItemStates.{IsGoodChange, next_open, AreFit, entries_from, at_start, entries_are}
+use Rattle.vcd_model.proofs.ChangeLines.{read_again_is}
 use Rattle.vcd_model.proofs.Rewritten.{read_item, written_items, IsWritable, AreWritable}
-use Rattle.vcd_model.proofs.Assembled.{Parts, parts_items, parts_fit, closing_items}
+use Rattle.vcd_model.proofs.Assembled.{parts_items, parts_fit, closing_items}
 use Rattle.vcd_model.proofs.BodyFacts.{all_front, all_back}
 use Rattle.vcd_model.proofs.HeaderFacts.{AreCodes, inputs_good}
 use Rattle.vcd_model.proofs.PickKept.{same_declared}
@@ -35,7 +35,7 @@ use Rattle.vcd_model.proofs.MergedBack.{all_can, many}
 use Rattle.vcd_model.proofs.RunLaws.{opened_run}
 use Rattle.vcd_model.proofs.PickCounts.{values-append, closing_gives, written_values, counted, count_from, count_time, count_kept, closing_count}
 use Rattle.vcd_model.proofs.EdgesOfPick.{counted as counted_outcome, edges_run}
-use Rattle.vcd_model.proofs.CheckOfMerge.{MergeItems, merge_items}
+use Rattle.vcd_model.proofs.CheckOfMerge.{merge_items}
 use Rattle.vcd_model.proofs.MergedPaths.{selected_under, unmatched_under}
 use Rattle.vcd_model.proofs.WholeDumps.{whole_dump}
 use Rattle.vcd_model.proofs.SampleOfMerge.{Among, among, code_in}

@@ -12,7 +12,7 @@ use Rattle.vcd_model.specs.Selection.{Selected, selected, selects_code, first_un
 use Rattle.vcd_model.specs.HeadText.{head_for}
 use Rattle.vcd_model.specs.Pick.{pick_open, pick_close}
 use Rattle.vcd_model.specs.Outcome.{Request, Outcome, Opened, clean_outcome, name_at, items_in, fault_in, ends_early, at_end, over_body, unmatched_outcome, over_dump, over_dumps}
-use Rattle.vcd_model.specs.Job.{Want, request_of, over_opened, outcome}
+use Rattle.vcd_model.specs.Job.{Want, request_of, over_opened}
 use Rattle.vcd_model.specs.Laws.{written_by, input_of, KeepsValues, IsReadable, IsDumpFor, EdgesOfPick}
 use Rattle.vcd_model.proofs.ItemStates.{entries_from, at_start, entries_are}
 use Rattle.vcd_model.proofs.Lines.{IsRead}

@@ -15,7 +15,7 @@ use Rattle.vcd_model.specs.Header.{Header}
 use Rattle.vcd_model.specs.HeadText.{head_for}
 use Rattle.vcd_model.specs.Pick.{pick_open, pick_close}
 use Rattle.vcd_model.specs.Outcome.{Request, Outcome, Opened, name_at, items_in, fault_in, at_end, over_body, unmatched_outcome, over_dump}
-use Rattle.vcd_model.specs.Job.{Want, request_of, over_opened, outcome}
+use Rattle.vcd_model.specs.Job.{Want, request_of, over_opened}
 use Rattle.vcd_model.specs.Laws.{input_of, written_by, IsHeadFor, PickTwice}
 use Rattle.vcd_model.proofs.Times.{marks-append}
 use Rattle.vcd_model.proofs.ItemStates.{IsGoodChange, next_open, AreFit, open_behind, entries_from, at_start, entries_are}

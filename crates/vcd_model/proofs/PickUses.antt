@@ -13,7 +13,7 @@ use Rattle.vcd_model.specs.CheckAndList.{list_line, list_text}
 use Rattle.vcd_model.specs.Sample.{sample_lines}
 use Rattle.vcd_model.specs.Ticks.{moment_ticks}
 use Rattle.vcd_model.specs.Outcome.{Request, Outcome, Opened, clean_outcome, name_at, items_in, fault_in, ends_early, over_body, unmatched_outcome, over_dump, over_dumps}
-use Rattle.vcd_model.specs.Job.{Want, Refusal, first_refusal, do_rise, ok_of, sample_at, has_unit, request_of, refusal_outcome, sample_request, over_opened, outcome}
+use Rattle.vcd_model.specs.Job.{Want, Refusal, first_refusal, do_rise, ok_of, sample_at, has_unit, request_of, refusal_outcome, sample_request}
 use Rattle.vcd_model.specs.Laws.{IsValid, written_by, input_of, IsReadable, SelectWithin, ListOfPick, SampleOfPick}
 use Rattle.vcd_model.proofs.WrittenCodes.{In, from_filter, to_filter, from_contained, to_contained, in_map, any_of, to_codes_of}
 use Rattle.vcd_model.proofs.HeadBack.{variables_are, opens_header}

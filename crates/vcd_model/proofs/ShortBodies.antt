@@ -22,7 +22,7 @@ use Rattle.vcd_model.specs.HeadText.{head_for}
 use Rattle.vcd_model.specs.Selection.{selected, selects_code}
 use Rattle.vcd_model.specs.Pick.{pick_open, pick_close}
 use Rattle.vcd_model.specs.Outcome.{Outcome, Opened, body_of, items_in, fault_in}
-use Rattle.vcd_model.specs.Job.{Want, over_opened, outcome}
+use Rattle.vcd_model.specs.Job.{Want, over_opened}
 use Rattle.vcd_model.specs.Laws.{Opens, CodesFit, input_of, written_by, IsReadable}
 use Rattle.vcd_model.proofs.Readings.{reading_is_one}
 use Rattle.vcd_model.proofs.BodyGrammar.{body_computes}

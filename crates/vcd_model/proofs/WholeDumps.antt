@@ -1,5 +1,5 @@
 -- In a merge without a fault each input is whole.
-use Rattle.std.proofs.Common.{◌≡◌, ℕ, Bool, true, false, cond, List, [], ◌∷◌, ◌++◌, length, map, filter_map, find, Option, Some, None, option_map, refl, sym, ap, ◌∙◌, subst, one-add}
+use Rattle.std.proofs.Common.{◌≡◌, Bool, true, false, cond, List, [], ◌∷◌, ◌++◌, length, map, filter_map, find, Option, Some, None, option_map, refl, ap, ◌∙◌, one-add}
 use Rattle.std.specs.List.{AllByRecursion, before_first, reduce, cons_option}
 use Rattle.vcd_model.specs.Backward.{each_after}
 use Rattle.vcd_model.specs.Header.{Header}

@@ -2,12 +2,10 @@
 use Rattle.std.proofs.Common.{◌≡◌, ℕ, ◌+◌, ◌≤◌, ◌==◌, Bool, true, false, cond, not, List, [], ◌∷◌, ◌++◌, length, map, filter_map, count_by, Option, Some, None, refl, sym, ap, ◌∙◌, subst, arith}
 use Rattle.std.specs.List.{list_any, last_or}
 use Rattle.std.proofs.lemmas.List.{append_assoc, append-nil, length-append}
-use Rattle.std.proofs.lemmas.List.Elements.{filter_map-append}
 use Rattle.std.proofs.lemmas.List.Sums.{sum_by-cons, sum_by-append}
-use Rattle.std.proofs.lemmas.Bool.{eqb-true}
 use Rattle.vcd_model.specs.Backward.{each_after}
 use Rattle.vcd_model.specs.Declarations.{IdCode}
-use Rattle.vcd_model.specs.Items.{Change, BodyItem, Entry, is_begin, change_of, marks}
+use Rattle.vcd_model.specs.Items.{BodyItem, Entry, is_begin, change_of, marks}
 use Rattle.vcd_model.specs.ItemText.{last_mark}
 use Rattle.vcd_model.specs.Merge.{is_change}
 use Rattle.vcd_model.specs.Laws.{as_list, distinct, changes_in}
