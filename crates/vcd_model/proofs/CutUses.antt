@@ -1,15 +1,12 @@
 -- What `cut` wrote is read by `sample` as its input was, at times that were kept.
-use Rattle.std.proofs.Common.{◌≡◌, ◌≢◌, ℕ, ◌≤◌, Bool, true, false, List, [], ◌∷◌, flat_map, None, Result, Ok, Err, ◌⊎◌, inl, inr, IsTrue, refl, sym, ap, ◌∙◌, subst}
+use Rattle.std.proofs.Common.{◌≡◌, ◌≢◌, ℕ, ◌≤◌, true, false, List, [], ◌∷◌, None, Result, Ok, Err, ◌⊎◌, inl, inr, IsTrue, refl, sym, ap, ◌∙◌, subst}
 use Rattle.std.specs.List.{AllByRecursion, list_any}
 use Rattle.vcd_model.specs.Declarations.{code_of}
-use Rattle.vcd_model.specs.Items.{BodyItem}
-use Rattle.vcd_model.specs.History.{value_at}
-use Rattle.vcd_model.specs.Selection.{Selected, selected, first_unmatched}
+use Rattle.vcd_model.specs.Selection.{Selected, selected}
 use Rattle.vcd_model.specs.Cut.{ends_cut}
-use Rattle.vcd_model.specs.Sample.{sample_lines}
 use Rattle.vcd_model.specs.Ticks.{moment_ticks}
 use Rattle.vcd_model.specs.Outcome.{Request, Outcome, Opened, items_in, fault_in, ends_early, over_dumps}
-use Rattle.vcd_model.specs.Job.{Want, Refusal, request_of, refusal_outcome}
+use Rattle.vcd_model.specs.Job.{Want, Refusal, request_of, refusal_outcome, outcome}
 use Rattle.vcd_model.specs.Laws.{input_of, written_by, IsDumpFor, SampleOfCut}
 use Rattle.vcd_model.proofs.JobLemmas.{requests_are_valid}
 use Rattle.vcd_model.proofs.WrittenCodes.{In, from_filter, to_contained, in_map, to_codes_of}
@@ -17,23 +14,7 @@ use Rattle.vcd_model.proofs.HeadBack.{variables_are, opens_header}
 use Rattle.vcd_model.proofs.RunLaws.{cut_run, opened_run}
 use Rattle.vcd_model.proofs.DumpLaws.{cut_is_a_dump}
 use Rattle.vcd_model.proofs.SampleText.{ends_sample}
-use Rattle.vcd_model.proofs.PickUses.{chosen, selected_is, same_selected, same_unmatched, sampled, sample_run}
-
--- items in which these variables have the same values at some times
-abbrev SameWhere : (ℕ → Type 0) → List BodyItem → List BodyItem → Selected → Type 0
-SameWhere InTime items others s = (code_of s.variable).event ≡ false → (t : ℕ) → InTime t → value_at items (code_of s.variable) t ≡ value_at others (code_of s.variable) t
-
-lines_same : (InTime : ℕ → Type 0) (vs : List Selected) (items others : List BodyItem) (t : ℕ) → InTime t → ((s : Selected) → In s vs → SameWhere InTime items others s) → sample_lines vs items t ≡ sample_lines vs others t
-lines_same InTime [] items others t is h = refl
-lines_same InTime (s ∷ vs) items others t is h = by_event (code_of s.variable).event refl (lines_same InTime vs items others t is (λ x i. h x (inr i)))
-  where
-    by_event : (b : Bool) → (code_of s.variable).event ≡ b → sample_lines vs items t ≡ sample_lines vs others t → sample_lines (s ∷ vs) items t ≡ sample_lines (s ∷ vs) others t
-    by_event true e more = rw e more
-    by_event false e more = rw (e, h s (inl refl) e t is, more) refl
-
-all_same : (InTime : ℕ → Type 0) (vs : List Selected) (items others : List BodyItem) (ts : List ℕ) → AllByRecursion InTime ts → ((s : Selected) → In s vs → SameWhere InTime items others s) → flat_map (sample_lines vs items) ts ≡ flat_map (sample_lines vs others) ts
-all_same InTime vs items others [] is h = refl
-all_same InTime vs items others (t ∷ ts) is h = rw (lines_same InTime vs items others t is.0 h, all_same InTime vs items others ts is.1 h) refl
+use Rattle.vcd_model.proofs.PickUses.{chosen, selected_is, same_selected, same_unmatched, samples_agree, SameWhere, all_same}
 
 -- the same ticks, whichever way they are named
 same_ok : (r : Result ℕ ℕ) (a b : ℕ) → r ≡ Ok a → r ≡ Ok b → a ≡ b
@@ -67,17 +48,14 @@ sample_of_cut limit name from to times wanted input o a b ts cuts job can first 
     let own = to_codes_of k.header.declarations s.variable back.declared (subst (In s.variable) (variables_are k.header.declarations) (in_map (λ (x : Selected). x.variable) (selected [] k.header.declarations) s there)) in
     d.values (code_of s.variable) t (to_contained k.header.codes (code_of s.variable) (subst (In (code_of s.variable)) (sym back.codes) own)) quiet is in
     let done : over_dumps (Request.Sample ts wanted) (name ∷ []) (k ∷ []) ≡ over_dumps (Request.Sample ts wanted) (name ∷ []) (o ∷ [])
-    = sample_run ts wanted name k (inr d.whole) valid
-    ∙ ap (λ (l : List Selected). sampled wanted (first_unmatched wanted k.header.declarations) (flat_map (sample_lines l (items_in k)) ts)) selection
-    ∙ ap (λ place. sampled wanted place (flat_map (sample_lines (selected wanted o.header.declarations) (items_in k)) ts)) unmatched
-    ∙ ap (sampled wanted (first_unmatched wanted o.header.declarations)) (all_same (λ t. (a ≤ t) × (t ≤ b)) (selected wanted o.header.declarations) (items_in k) (items_in o) ts inside values)
-    ∙ sym (sample_run ts wanted name o clean valid) in
-    opened_run (Want.Sample times wanted) limit name (input_of text) k d.opens
-    ∙ ap (λ scale. over (request_of scale (Want.Sample times wanted)) k) head.scale
-    ∙ ap (λ r. over r k) asks
-    ∙ done
-    ∙ ap (λ r. over r o) (sym asks)
-    ∙ sym (opened_run (Want.Sample times wanted) limit name input o opens)
+    = samples_agree ts wanted name k o valid (inr d.whole) clean selection unmatched
+    (all_same (λ t. (a ≤ t) × (t ≤ b)) (selected wanted o.header.declarations) (items_in k) (items_in o) ts inside values) in
+    let want = Want.Sample times wanted in
+    let after : outcome want limit (name ∷ []) (input_of text ∷ []) ≡ over_dumps (Request.Sample ts wanted) (name ∷ []) (k ∷ [])
+    = opened_run want limit name (input_of text) k d.opens ∙ ap (λ r. over r k) (ap (λ scale. request_of scale want) head.scale ∙ asks) in
+    let before : outcome want limit (name ∷ []) (input ∷ []) ≡ over_dumps (Request.Sample ts wanted) (name ∷ []) (o ∷ [])
+    = opened_run want limit name input o opens ∙ ap (λ r. over r o) asks in
+    after ∙ done ∙ sym before
   where
     over : Result Request Refusal → Opened → Outcome
     over r p = elim r [ Err why ↦ refusal_outcome name why | Ok request ↦ over_dumps request (name ∷ []) (p ∷ []) ]

@@ -1,6 +1,6 @@
 -- What `pick` wrote is read by `list` and `sample` as its input was.
 use Rattle.std.proofs.Common.{◌≡◌, ℕ, Bool, true, false, cond, ◌&&◌, ◌||◌, List, [], ◌∷◌, ◌++◌, map, filter, filter_map, flat_map, Option, Some, None, ◌⊎◌, Result, Ok, Err, is_ok, not, inl, inr, refl, sym, ap, ◌∙◌, subst}
-use Rattle.std.specs.List.{list_all, list_any, cons_option}
+use Rattle.std.specs.List.{AllByRecursion, list_all, list_any, cons_option}
 use Rattle.vcd_model.specs.Bytes.{is_empty}
 use Rattle.vcd_model.specs.Backward.{each_after}
 use Rattle.vcd_model.specs.Input.{Input}
@@ -111,21 +111,21 @@ list_of_pick limit name names input o can =
 
 -- ---- `sample`
 
--- items in which these variables have the same values
-abbrev SameFor : List BodyItem → List BodyItem → Selected → Type 0
-SameFor items others s = (code_of s.variable).event ≡ false → (t : ℕ) → value_at items (code_of s.variable) t ≡ value_at others (code_of s.variable) t
+-- items in which these variables have the same values at some times
+abbrev pub SameWhere : (ℕ → Type 0) → List BodyItem → List BodyItem → Selected → Type 0
+SameWhere InTime items others s = (code_of s.variable).event ≡ false → (t : ℕ) → InTime t → value_at items (code_of s.variable) t ≡ value_at others (code_of s.variable) t
 
-lines_same : (vs : List Selected) (items others : List BodyItem) (t : ℕ) → ((s : Selected) → In s vs → SameFor items others s) → sample_lines vs items t ≡ sample_lines vs others t
-lines_same [] items others t h = refl
-lines_same (s ∷ vs) items others t h = by_event (code_of s.variable).event refl (lines_same vs items others t (λ x i. h x (inr i)))
+lines_same : (InTime : ℕ → Type 0) (vs : List Selected) (items others : List BodyItem) (t : ℕ) → InTime t → ((s : Selected) → In s vs → SameWhere InTime items others s) → sample_lines vs items t ≡ sample_lines vs others t
+lines_same InTime [] items others t is h = refl
+lines_same InTime (s ∷ vs) items others t is h = by_event (code_of s.variable).event refl (lines_same InTime vs items others t is (λ x i. h x (inr i)))
   where
     by_event : (b : Bool) → (code_of s.variable).event ≡ b → sample_lines vs items t ≡ sample_lines vs others t → sample_lines (s ∷ vs) items t ≡ sample_lines (s ∷ vs) others t
     by_event true e more = rw e more
-    by_event false e more = rw (e, h s (inl refl) e t, more) refl
+    by_event false e more = rw (e, h s (inl refl) e t is, more) refl
 
-all_lines_same : (vs : List Selected) (items others : List BodyItem) (times : List ℕ) → ((s : Selected) → In s vs → SameFor items others s) → flat_map (sample_lines vs items) times ≡ flat_map (sample_lines vs others) times
-all_lines_same vs items others [] h = refl
-all_lines_same vs items others (t ∷ times) h = rw (lines_same vs items others t h, all_lines_same vs items others times h) refl
+pub all_same : (InTime : ℕ → Type 0) (vs : List Selected) (items others : List BodyItem) (ts : List ℕ) → AllByRecursion InTime ts → ((s : Selected) → In s vs → SameWhere InTime items others s) → flat_map (sample_lines vs items) ts ≡ flat_map (sample_lines vs others) ts
+all_same InTime vs items others [] is h = refl
+all_same InTime vs items others (t ∷ ts) is h = rw (lines_same InTime vs items others t is.0 h, all_same InTime vs items others ts is.1 h) refl
 
 -- a sample whose names select something
 unfoldable pub sampled : List (List ℕ) → Option ℕ → List ℕ → Outcome
@@ -143,6 +143,22 @@ sample_run times wanted name o clean valid = by_place (first_unmatched wanted o.
     by_place (Some i) = refl
     by_place None = sample_is o.header times wanted (items_in o) name (fault_in o) valid.0 valid.1 clean
 
+-- two samples that select the same and have the same lines
+pub samples_agree : (ts : List ℕ) (wanted : List (List ℕ)) (name : List ℕ) (k o : Opened) → IsValid (Request.Sample ts wanted)
+    → (list_any (ends_early (Request.Sample ts wanted)) (items_in k) ≡ true) ⊎ (fault_in k ≡ None)
+    → (list_any (ends_early (Request.Sample ts wanted)) (items_in o) ≡ true) ⊎ (fault_in o ≡ None)
+    → selected wanted k.header.declarations ≡ selected wanted o.header.declarations
+    → first_unmatched wanted k.header.declarations ≡ first_unmatched wanted o.header.declarations
+    → flat_map (sample_lines (selected wanted o.header.declarations) (items_in k)) ts ≡ flat_map (sample_lines (selected wanted o.header.declarations) (items_in o)) ts
+    → over_dumps (Request.Sample ts wanted) (name ∷ []) (k ∷ []) ≡ over_dumps (Request.Sample ts wanted) (name ∷ []) (o ∷ [])
+samples_agree ts wanted name k o valid clean own selection unmatched lines =
+    let text = λ (vs : List Selected) (items : List BodyItem). flat_map (sample_lines vs items) ts in
+    sample_run ts wanted name k clean valid
+    ∙ ap (λ vs. sampled wanted (first_unmatched wanted k.header.declarations) (text vs (items_in k))) selection
+    ∙ ap (λ place. sampled wanted place (text (selected wanted o.header.declarations) (items_in k))) unmatched
+    ∙ ap (sampled wanted (first_unmatched wanted o.header.declarations)) lines
+    ∙ sym (sample_run ts wanted name o own valid)
+
 -- what a sample asks for, in ticks
 pub sample_shape : (units : Bool) (ks : List (Result ℕ ℕ)) (wanted : List (List ℕ)) (request : Request) → sample_request units ks wanted ≡ Ok request → (times : List ℕ) × (request ≡ Request.Sample times wanted)
 sample_shape units ks wanted request e = by_all (list_all is_ok ks) e
@@ -155,6 +171,10 @@ sample_shape units ks wanted request e = by_all (list_all is_ok ks) e
     by_all true f = by_rise (units && not (do_rise (filter_map ok_of ks))) f
     by_all false f = cc
 
+any_time : (ts : List ℕ) → AllByRecursion (λ t. Unit {0}) ts
+any_time [] = tt
+any_time (t ∷ ts) = (tt, any_time ts)
+
 pub sample_of_pick : SampleOfPick
 unfolding request_of
 sample_of_pick limit name names wanted times input o job can within =
@@ -166,17 +186,15 @@ sample_of_pick limit name names wanted times input o job can within =
     let selection = same_selected wanted names o.header k.header head.variables inside in
     let unmatched = same_unmatched wanted wanted names o.header k.header head.variables inside (λ n i. i) in
     let back = opens_header limit (input_of text) k d.opens in
-    let values : (s : Selected) → In s (selected wanted o.header.declarations) → SameFor (items_in k) (items_in o) s = λ s i quiet t.
+    let values : (s : Selected) → In s (selected wanted o.header.declarations) → SameWhere (λ t. Unit {0}) (items_in k) (items_in o) s = λ s i quiet t is.
     let parts = from_filter (chosen wanted) (selected [] o.header.declarations) s (subst (In s) (selected_is wanted o.header.declarations) i) in
     let there : In s (selected [] k.header.declarations) = subst (In s) (sym (head.variables ∙ selected_is names o.header.declarations)) (to_filter (chosen names) (selected [] o.header.declarations) s parts.0 (inside s parts.0 parts.1)) in
     let own = to_codes_of k.header.declarations s.variable back.declared (subst (In s.variable) (variables_are k.header.declarations) (in_map (λ (x : Selected). x.variable) (selected [] k.header.declarations) s there)) in
     d.values (code_of s.variable) t (to_contained k.header.codes (code_of s.variable) (subst (In (code_of s.variable)) (sym back.codes) own)) quiet tt in
-    let sampled_same : (ts : List ℕ) → IsValid (Request.Sample ts wanted) → over_dumps (Request.Sample ts wanted) (name ∷ []) (k ∷ []) ≡ over_dumps (Request.Sample ts wanted) (name ∷ []) (o ∷ []) = λ ts valid.
-    sample_run ts wanted name k (inr d.whole) valid
-    ∙ ap (λ (l : List Selected). sampled wanted (first_unmatched wanted k.header.declarations) (flat_map (sample_lines l (items_in k)) ts)) selection
-    ∙ ap (λ place. sampled wanted place (flat_map (sample_lines (selected wanted o.header.declarations) (items_in k)) ts)) unmatched
-    ∙ ap (sampled wanted (first_unmatched wanted o.header.declarations)) (all_lines_same (selected wanted o.header.declarations) (items_in k) (items_in o) ts values)
-    ∙ sym (sample_run ts wanted name o (inr (pick_none limit name names input o can)) valid) in
+    let none = pick_none limit name names input o can in
+    let sampled_same : (ts : List ℕ) → IsValid (Request.Sample ts wanted) → over_dumps (Request.Sample ts wanted) (name ∷ []) (k ∷ []) ≡ over_dumps (Request.Sample ts wanted) (name ∷ []) (o ∷ [])
+    = λ ts valid. samples_agree ts wanted name k o valid (inr d.whole) (inr none) selection unmatched
+    (all_same (λ t. Unit {0}) (selected wanted o.header.declarations) (items_in k) (items_in o) ts (any_time ts) values) in
     opened_run (Want.Sample times wanted) limit name (input_of text) k d.opens
     ∙ ap (λ scale. over (request_of scale (Want.Sample times wanted)) k) head.scale
     ∙ by_request (request_of o.header.scale (Want.Sample times wanted)) refl k sampled_same
