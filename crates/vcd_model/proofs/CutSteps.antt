@@ -1,14 +1,13 @@
 -- `cut` with one item more, and at its end.
-use Rattle.std.proofs.Common.{◌≡◌, ℕ, zero, suc, ◌≤◌, ◌<◌, max, Bool, true, false, not, cond, ◌&&◌, ◌||◌, ◌==◌, nat_lt, nat_le, List, [], ◌∷◌, ◌++◌, map, filter, flat_map, fold, Option, Some, None, refl, sym, ap, ◌∙◌, subst, arith}
-use Rattle.std.specs.Prelude.{option_and_then}
+use Rattle.std.proofs.Common.{◌≡◌, ℕ, zero, suc, ◌≤◌, ◌<◌, max, Bool, true, false, not, cond, ◌&&◌, ◌||◌, ◌==◌, nat_lt, nat_le, List, [], ◌∷◌, ◌++◌, map, filter, flat_map, fold, Option, Some, None, refl, sym, ap, ◌∙◌, arith}
 use Rattle.std.specs.List.{AllByRecursion, list_any, last_or}
 use Rattle.std.proofs.lemmas.List.{append_assoc, append-nil}
 use Rattle.std.proofs.lemmas.List.Folds.{list_any-append}
 use Rattle.std.proofs.lemmas.Bool.{le-leb, lt-leb, leb-true, le-ltb, lt-ltb, ltb-false}
 use Rattle.vcd_model.specs.Declarations.{IdCode, same_code}
 use Rattle.vcd_model.specs.Header.{Header}
-use Rattle.vcd_model.specs.Items.{BodyItem, Change, Entry, entries, entry_after, marks, time_after, leaves_open}
-use Rattle.vcd_model.specs.Values.{Value, value_of}
+use Rattle.vcd_model.specs.Items.{BodyItem, Change, Entry, entries, entry_after, marks, time_after}
+use Rattle.vcd_model.specs.Values.{value_of}
 use Rattle.vcd_model.specs.History.{gives_to, value_before}
 use Rattle.vcd_model.specs.ItemText.{text_after, time_unless, time_due, kept_by, may_keep, closing, last_mark}
 use Rattle.vcd_model.specs.HeadText.{head_for}
@@ -18,7 +17,7 @@ use Rattle.vcd_model.proofs.Times.{marks-append}
 use Rattle.vcd_model.proofs.KeptLines.{keeps, kept_more, kept_same, kept_rise, last_is_enough, Rise}
 use Rattle.vcd_model.proofs.CutGrows.{all_below, all_within, due, goes_on, none_kept, or_parts, section_stays, so_far, so_far_is, started_more, whole_is}
 use Rattle.vcd_model.proofs.CutKept.{above, closing_above_is}
-use Rattle.vcd_model.proofs.Latest.{behind, gives_at, last_value_is, latest, latest-append, newer}
+use Rattle.vcd_model.proofs.Latest.{behind, gives_at, last_value_is, latest, latest-append}
 
 -- the entries from a time on
 abbrev pub from_on : ℕ → Entry → Bool

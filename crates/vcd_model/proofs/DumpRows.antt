@@ -1,11 +1,16 @@
--- Rows on what is written and read again, computed: that the laws' premises can be met, and why they are there.
-use Rattle.std.proofs.Common.{◌≡◌, ℕ, ◌+◌, ◌<◌, ◌≤◌, Bool, true, false, cond, List, [], ◌∷◌, ◌++◌, length, count_by, map, replicate, codes, Option, Some, None, Result, Ok, Err, refl, ap, ◌∙◌, arith}
+-- Rows on what is written and read again, computed: that the laws' premises can be met, and why
+-- they are there.
+use Rattle.std.proofs.Common.{◌≡◌, ℕ, ◌+◌, ◌<◌, ◌≤◌, Bool, true, false, cond, List, [], ◌∷◌, length, count_by, map, replicate, codes, Option, Some, None, Result, Ok, Err, refl, ap, ◌∙◌, arith, zero, suc, flat_map, drop}
 use Rattle.std.specs.List.{AllByRecursion}
 use Rattle.std.proofs.lemmas.List.{length-append}
 use Rattle.std.proofs.lemmas.List.Sums.{sum_by-cons}
+use Rattle.std.specs.List.Sorted.{IsStrictlyIncreasing}
+use Rattle.vcd_model.proofs.SampleOfMerge.{sample_of_merge}
+use Rattle.vcd_model.specs.Selection.{selected}
+use Rattle.vcd_model.proofs.CutUses.{sample_of_cut}
 use Rattle.vcd_model.proofs.Computing.{model}
 use Rattle.vcd_model.proofs.PickKept.{at_contained}
-use Rattle.vcd_model.proofs.RowText.{clean, limit, gives, on, cut, sample}
+use Rattle.vcd_model.proofs.RowText.{clean, limit, gives, on, cut, sample, at, time}
 use Prim.Native.String.{String}
 use Rattle.vcd_model.specs.Tokens.{first_halt}
 use Rattle.vcd_model.specs.Declarations.{Declaration, is_scope}
@@ -17,9 +22,9 @@ use Rattle.vcd_model.specs.HeadText.{head_for}
 use Rattle.vcd_model.specs.Keywords.{Keyword}
 use Rattle.vcd_model.specs.Reading.{Fault}
 use Rattle.vcd_model.specs.Merge.{headers_of}
-use Rattle.vcd_model.specs.Outcome.{Outcome, Opened, declarations_allowed, open_from, dumps_of}
+use Rattle.vcd_model.specs.Outcome.{Outcome, Opened, declarations_allowed, open_from, dumps_of, clean_outcome, items_in}
 use Rattle.vcd_model.specs.Job.{Want, IsJob, outcome}
-use Rattle.vcd_model.specs.Laws.{input_of, written_by, over_written, stream_over, most_declared, input_scope, IsShallow, IsReadable, AreReadable}
+use Rattle.vcd_model.specs.Laws.{input_of, written_by, over_written, stream_over, most_declared, input_scope, distinct, IsShallow, IsReadable, AreReadable, names_under, over_merged, merged_lines}
 
 abbrev stdin : List ℕ
 stdin = codes "(stdin)"
@@ -38,7 +43,8 @@ abbrev over_pick : Want → Outcome
 over_pick want = over_written want (Want.Pick some_names) limit stdin (clean aliased)
 
 abbrev picked_text : String
-picked_text = "$date;^$scope today;$end;$timescale;^1ns;$end;$var wire 1 y b $end;$scope module m $end;$var wire 1 x c $end;$upscope $end;$enddefinitions $end;#0;0x;1y;#5;1x;"
+picked_text =
+    "$date;^$scope today;$end;$timescale;^1ns;$end;$var wire 1 y b $end;$scope module m $end;$var wire 1 x c $end;$upscope $end;$enddefinitions $end;#0;0x;1y;#5;1x;"
 
 picked : on (Want.Pick some_names) aliased ≡ gives picked_text "" 0
 unfolding model
@@ -59,16 +65,19 @@ picked_within = record {
   opens = refl;
   clean = refl;
   least = omega arith;
-  fits = λ c i. at_contained (λ d. length d.text < limit) opened.header.codes c ((omega arith), ((omega arith), tt)) i;
+  fits = λ c i. at_contained (λ d. length d.text < limit) opened.header.codes c
+      ((omega arith), ((omega arith), tt)) i;
   bytes = omega arith;
   few = omega arith;
 }
 
-picked_not_halted : first_halt limit (input_of (written_by (Want.Pick some_names) limit stdin (clean aliased))) ≡ None
+picked_not_halted : first_halt limit (input_of
+    (written_by (Want.Pick some_names) limit stdin (clean aliased))) ≡ None
 unfolding model
 picked_not_halted = refl
 
-picked_checked : over_pick Want.Check ≡ gives "scopes 1;variables 2;codes 2;times 2;sections 0;changes 3;last 5;" "" 0
+picked_checked : over_pick Want.Check ≡ gives
+    "scopes 1;variables 2;codes 2;times 2;sections 0;changes 3;last 5;" "" 0
 unfolding model
 picked_checked = refl
 
@@ -80,7 +89,8 @@ picked_listed : over_pick Want.Listing ≡ gives "b wire 1 y;m.c wire 1 x;" "" 0
 unfolding model
 picked_listed = refl
 
-picked_sampled : over_pick (sample (0 ∷ 5 ∷ []) some_names) ≡ gives "0 b 1;0 m.c 0;5 b 1;5 m.c 1;" "" 0
+picked_sampled : over_pick (sample (0 ∷ 5 ∷ []) some_names)
+    ≡ gives "0 b 1;0 m.c 0;5 b 1;5 m.c 1;" "" 0
 unfolding model
 picked_sampled = refl
 
@@ -95,6 +105,24 @@ picked_counted = refl
 counted : on (Want.Edges some_names) aliased ≡ gives "b 0 0 0;m.c 1 1 0;" "" 0
 unfolding model
 counted = refl
+
+-- changes before the first time mark have time 0, and what is written has a mark for it
+abbrev unmarked : String
+unmarked = "$var wire 1 x a $end $enddefinitions $end 0x"
+
+unmarked_checked : on Want.Check unmarked ≡ gives
+    "scopes 0;variables 1;codes 1;times 0;sections 0;changes 1;last -;" "" 0
+unfolding model
+unmarked_checked = refl
+
+unmarked_picked : over_written Want.Check (Want.Pick (codes "a" ∷ [])) limit stdin (clean unmarked)
+    ≡ gives "scopes 0;variables 1;codes 1;times 1;sections 0;changes 1;last 0;" "" 0
+unfolding model
+unmarked_picked = refl
+
+-- times that are written once each
+once_each : distinct (0 ∷ 0 ∷ 5 ∷ 7 ∷ 7 ∷ []) ≡ 3
+once_each = refl
 
 -- ---- `cut`
 
@@ -112,26 +140,45 @@ cut_within = record {
   opens = refl;
   clean = refl;
   least = omega arith;
-  fits = λ c i. at_contained (λ d. length d.text < limit) opened.header.codes c ((omega arith), ((omega arith), tt)) i;
+  fits = λ c i. at_contained (λ d. length d.text < limit) opened.header.codes c
+      ((omega arith), ((omega arith), tt)) i;
   bytes = omega arith;
   few = omega arith;
 }
 
-was_cut : on (cut "1" "5") aliased ≡ gives "$date;^$scope today;$end;$timescale;^1ns;$end;$var wire 1 x a $end;$var wire 1 y b $end;$scope module m $end;$var wire 1 x c $end;$upscope $end;$enddefinitions $end;#1;$dumpvars;0x;1y;$end;#5;1x;" "" 0
+was_cut : on (cut "1" "5") aliased
+    ≡ gives "$date;^$scope today;$end;$timescale;^1ns;$end;$var wire 1 x a $end;$var wire 1 y b $end;$scope module m $end;$var wire 1 x c $end;$upscope $end;$enddefinitions $end;#1;$dumpvars;0x;1y;$end;#5;1x;" "" 0
 unfolding model
 was_cut = refl
 
-cut_checked : over_cut Want.Check ≡ gives "scopes 1;variables 3;codes 2;times 2;sections 1;changes 3;last 5;" "" 0
+cut_checked : over_cut Want.Check
+    ≡ gives "scopes 1;variables 3;codes 2;times 2;sections 1;changes 3;last 5;" "" 0
 unfolding model
 cut_checked = refl
 
-cut_sampled : over_cut (sample (1 ∷ 4 ∷ 5 ∷ []) some_names) ≡ gives "1 b 1;1 m.c 0;4 b 1;4 m.c 0;5 b 1;5 m.c 1;" "" 0
+cut_sampled : over_cut (sample (1 ∷ 4 ∷ 5 ∷ []) some_names)
+    ≡ gives "1 b 1;1 m.c 0;4 b 1;4 m.c 0;5 b 1;5 m.c 1;" "" 0
 unfolding model
 cut_sampled = refl
 
-sampled_as_cut : on (sample (1 ∷ 4 ∷ 5 ∷ []) some_names) aliased ≡ gives "1 b 1;1 m.c 0;4 b 1;4 m.c 0;5 b 1;5 m.c 1;" "" 0
+sampled_as_cut : on (sample (1 ∷ 4 ∷ 5 ∷ []) some_names) aliased
+    ≡ gives "1 b 1;1 m.c 0;4 b 1;4 m.c 0;5 b 1;5 m.c 1;" "" 0
 unfolding model
 sampled_as_cut = refl
+
+-- the law on samples of a cut, with all its premises met
+rising_in_cut : IsStrictlyIncreasing (1 ∷ 5 ∷ [])
+rising_in_cut zero h = omega arith
+rising_in_cut (suc k) h = absurd (omega arith)
+
+asked_of_cut : IsJob (sample (1 ∷ 5 ∷ []) some_names)
+asked_of_cut = (λ e. cc, (((omega arith), refl), (((omega arith), refl), tt)), λ e. rising_in_cut)
+
+cut_sample : over_cut (sample (1 ∷ 5 ∷ []) some_names) ≡ on (sample (1 ∷ 5 ∷ []) some_names) aliased
+unfolding model
+cut_sample = sample_of_cut limit stdin (time "1") (time "5") (map at (1 ∷ 5 ∷ [])) some_names
+    (clean aliased) opened 1 5 (1 ∷ 5 ∷ []) cut_asked asked_of_cut cut_within refl refl refl
+    (((omega arith), (omega arith)), (((omega arith), (omega arith)), tt))
 
 -- ---- `merge`
 
@@ -140,18 +187,22 @@ abbrev finer : String
 finer = "$timescale 100 ps $end $var reg 4 ! q $end $enddefinitions $end #5 bz ! #60 b1 !"
 
 abbrev merged : Outcome
-merged = outcome Want.Merge limit (codes "a.vcd" ∷ codes "b.vcd" ∷ []) (clean aliased ∷ clean finer ∷ [])
+merged = outcome Want.Merge limit (codes "a.vcd" ∷ codes "b.vcd" ∷ [])
+    (clean aliased ∷ clean finer ∷ [])
 
 -- few declarations open few scopes
 count_few : (ds : List Declaration) → count_by is_scope ds ≤ length ds
 count_few [] = omega arith
-count_few (d ∷ ds) = let n = sum_by-cons (λ e. cond (is_scope e) 1 0) d ds in by_kind (is_scope d) n (count_few ds)
+count_few (d ∷ ds) = let n = sum_by-cons (λ e. cond (is_scope e) 1 0) d ds in
+    by_kind (is_scope d) n (count_few ds)
   where
-    by_kind : (b : Bool) → count_by is_scope (d ∷ ds) ≡ cond b 1 0 + count_by is_scope ds → count_by is_scope ds ≤ length ds → count_by is_scope (d ∷ ds) ≤ length (d ∷ ds)
+    by_kind : (b : Bool) → count_by is_scope (d ∷ ds) ≡ cond b 1 0 + count_by is_scope ds
+        → count_by is_scope ds ≤ length ds → count_by is_scope (d ∷ ds) ≤ length (d ∷ ds)
     by_kind true n few = omega arith
     by_kind false n few = omega arith
 
-are_shallow : (hs : List Header) → AllByRecursion (λ h. length h.declarations < 999) hs → AllByRecursion IsShallow hs
+are_shallow : (hs : List Header) → AllByRecursion (λ h. length h.declarations < 999) hs
+    → AllByRecursion IsShallow hs
 are_shallow [] few = tt
 are_shallow (h ∷ hs) few = (
   λ front back type name e.
@@ -170,7 +221,8 @@ opened_both = all_or (open_from limit [] (clean aliased ∷ clean finer ∷ []))
     all_or (Err e) = []
 
 -- the premises of the laws of `merge` are met
-merged_within : AreReadable limit (codes "a.vcd" ∷ codes "b.vcd" ∷ []) (clean aliased ∷ clean finer ∷ []) opened_both
+merged_within : AreReadable limit (codes "a.vcd" ∷ codes "b.vcd" ∷ [])
+    (clean aliased ∷ clean finer ∷ []) opened_both
 unfolding model
 merged_within = record {
   opens = refl;
@@ -185,22 +237,59 @@ merged_within = record {
 abbrev over_merge : Want → Outcome
 over_merge want = outcome want limit (stdin ∷ []) (input_of merged.output ∷ [])
 
-was_merged : merged ≡ gives "$timescale;^100ps;$end;$scope module in1 $end;$var wire 1 ! a $end;$var wire 1 \" b $end;$scope module m $end;$var wire 1 ! c $end;$upscope $end;$upscope $end;$scope module in2 $end;$var reg 4 # q $end;$upscope $end;$enddefinitions $end;#0;0!;1\";#5;bz #;#50;1!;#60;b1 #;" "" 0
+was_merged : merged
+    ≡ gives "$timescale;^100ps;$end;$scope module in1 $end;$var wire 1 ! a $end;$var wire 1 \" b $end;$scope module m $end;$var wire 1 ! c $end;$upscope $end;$upscope $end;$scope module in2 $end;$var reg 4 # q $end;$upscope $end;$enddefinitions $end;#0;0!;1\";#5;bz #;#50;1!;#60;b1 #;" "" 0
 unfolding model
 was_merged = refl
 
-merged_checked : over_merge Want.Check ≡ gives "scopes 3;variables 4;codes 3;times 4;sections 0;changes 5;last 60;" "" 0
+merged_checked : over_merge Want.Check ≡ gives
+    "scopes 3;variables 4;codes 3;times 4;sections 0;changes 5;last 60;" "" 0
 unfolding model
 merged_checked = refl
 
-merged_listed : over_merge Want.Listing ≡ gives "in1.a wire 1 !;in1.b wire 1 \";in1.m.c wire 1 !;in2.q reg 4 #;" "" 0
+merged_listed : over_merge Want.Listing ≡ gives
+    "in1.a wire 1 !;in1.b wire 1 \";in1.m.c wire 1 !;in2.q reg 4 #;" "" 0
 unfolding model
 merged_listed = refl
 
 -- the times of the first input are ten times as many ticks
-merged_sampled : over_merge (sample (40 ∷ 50 ∷ []) (codes "in1.m" ∷ codes "in2" ∷ [])) ≡ gives "40 in1.m.c 0;40 in2.q zzzz;50 in1.m.c 1;50 in2.q zzzz;" "" 0
+merged_sampled_one : over_merge (sample (40 ∷ 50 ∷ []) (codes "in1.b" ∷ codes "in1.m" ∷ []))
+    ≡ gives "40 in1.b 1;40 in1.m.c 0;50 in1.b 1;50 in1.m.c 1;" "" 0
+unfolding model
+merged_sampled_one = refl
+
+sampled_alone : on (sample (4 ∷ 5 ∷ []) some_names) aliased
+    ≡ gives "4 b 1;4 m.c 0;5 b 1;5 m.c 1;" "" 0
+unfolding model
+sampled_alone = refl
+
+merged_sampled : over_merge (sample (40 ∷ 50 ∷ []) (codes "in1.m" ∷ codes "in2" ∷ []))
+    ≡ gives "40 in1.m.c 0;40 in2.q zzzz;50 in1.m.c 1;50 in2.q zzzz;" "" 0
 unfolding model
 merged_sampled = refl
+
+-- the law on samples of a merge, with all its premises met
+rising : IsStrictlyIncreasing (40 ∷ 50 ∷ [])
+rising zero h = omega arith
+rising (suc k) h = absurd (omega arith)
+
+asked_of_merge : IsJob (sample (40 ∷ 50 ∷ []) (names_under 1 some_names))
+asked_of_merge = (λ e. cc, (((omega arith), refl), (((omega arith), refl), tt)), λ e. rising)
+
+merged_sample : over_merged (sample (40 ∷ 50 ∷ []) (names_under 1 some_names)) limit stdin
+    (codes "a.vcd" ∷ codes "b.vcd" ∷ []) (clean aliased ∷ clean finer ∷ [])
+    ≡ clean_outcome (flat_map (merged_lines 1 10 (selected some_names opened.header.declarations)
+    (items_in opened)) (4 ∷ 5 ∷ []))
+unfolding model
+merged_sample = sample_of_merge limit stdin (codes "a.vcd" ∷ codes "b.vcd" ∷ [])
+    (clean aliased ∷ clean finer ∷ []) opened_both [] (drop 1 opened_both) opened
+    (map at (40 ∷ 50 ∷ [])) some_names (4 ∷ 5 ∷ []) merged_within refl (λ e. cc) refl
+    asked_of_merge refl
+
+merged_counted : over_merge (Want.Edges (codes "in1.b" ∷ codes "in1.m" ∷ []))
+    ≡ gives "in1.b 0 0 0;in1.m.c 1 1 0;" "" 0
+unfolding model
+merged_counted = refl
 
 -- ---- where an output is not as its input was
 
@@ -210,14 +299,17 @@ first_of (Err e) = []
 first_of (Ok os) = map (λ o. o.header) os
 
 abbrev code_texts : List ℕ → List (List (List ℕ))
-code_texts text = map (λ h. map (λ c. c.text) h.codes) (first_of (open_from limit [] (input_of text ∷ [])))
+code_texts text = map (λ h. map (λ c. c.text) h.codes)
+    (first_of (open_from limit [] (input_of text ∷ [])))
 
--- The codes of a pick are those of the header that are selected, but they may stand in another order: the first variable with a code may not be selected.
+-- The codes of a pick are those of the header that are selected, but they may stand in another
+-- order: the first variable with a code may not be selected.
 codes_before : code_texts (codes aliased) ≡ (codes "x" ∷ codes "y" ∷ []) ∷ []
 unfolding model
 codes_before = refl
 
-codes_after : code_texts (written_by (Want.Pick some_names) limit stdin (clean aliased)) ≡ (codes "y" ∷ codes "x" ∷ []) ∷ []
+codes_after : code_texts (written_by (Want.Pick some_names) limit stdin (clean aliased))
+    ≡ (codes "y" ∷ codes "x" ∷ []) ∷ []
 unfolding model
 codes_after = refl
 
@@ -229,18 +321,22 @@ long_code_read : (outcome Want.Check 64 (stdin ∷ []) (clean long_code ∷ []))
 unfolding model
 long_code_read = refl
 
-long_code_halts : over_written Want.Check (Want.Pick (codes "a" ∷ [])) 64 stdin (clean long_code) ≡ gives "" "vcdkit: (stdin):4: token too long;" 1
+long_code_halts : over_written Want.Check (Want.Pick (codes "a" ∷ [])) 64 stdin (clean long_code)
+    ≡ gives "" "vcdkit: (stdin):4: token too long;" 1
 unfolding model
 long_code_halts = refl
 
 -- a limit one greater is enough
-long_code_fits : outcome Want.Check 65 (stdin ∷ []) (input_of (written_by (Want.Pick (codes "a" ∷ [])) 64 stdin (clean long_code)) ∷ []) ≡ gives "scopes 0;variables 1;codes 1;times 1;sections 0;changes 1;last 0;" "" 0
+long_code_fits : outcome Want.Check 65 (stdin ∷ [])
+    (input_of (written_by (Want.Pick (codes "a" ∷ [])) 64 stdin (clean long_code)) ∷ [])
+    ≡ gives "scopes 0;variables 1;codes 1;times 1;sections 0;changes 1;last 0;" "" 0
 unfolding model
 long_code_fits = refl
 
 -- Scopes that a header leaves open are closed where it is written: each is a declaration more.
 abbrev left_open : List ℕ
-left_open = codes "$scope module a $end $scope module b $end $var wire 1 x v $end $enddefinitions $end"
+left_open = codes
+    "$scope module a $end $scope module b $end $var wire 1 x v $end $enddefinitions $end"
 
 -- the fault of a text where so many declarations are allowed
 abbrev header_fault_in : ℕ → List ℕ → Option Fault
@@ -253,7 +349,8 @@ three_are_read : header_fault_in 3 left_open ≡ None
 unfolding model
 three_are_read = refl
 
-five_are_written : map (header_fault_in 4) (heads_of left_open) ≡ Some (record { number = 11; line = 5 }) ∷ []
+five_are_written : map (header_fault_in 4) (heads_of left_open)
+    ≡ Some (record { number = 11; line = 5 }) ∷ []
 unfolding model
 five_are_written = refl
 
@@ -272,6 +369,7 @@ deep = replicate 999 (Declaration.Scope (codes "module") (codes "s"))
 scope_number_1000 : first_failed (start_checks declarations_allowed deep Keyword.Scope) ≡ None
 scope_number_1000 = refl
 
-scope_number_1001 : first_failed (start_checks declarations_allowed (Declaration.Scope (codes "module") (input_scope 1) ∷ deep) Keyword.Scope) ≡ Some 10
+scope_number_1001 : first_failed (start_checks declarations_allowed
+    (Declaration.Scope (codes "module") (input_scope 1) ∷ deep) Keyword.Scope) ≡ Some 10
 unfolding model
 scope_number_1001 = refl
