@@ -189,7 +189,13 @@ module _ {X : Type 0} (rest : X → Option (List ℕ)) (hs : List Header) (lanes
 
     pub again : (u : A) → Turns {A = A} k scale first l d.items s.written s'.written p out out' (Ok u) → Gives rest hs lanes ds s s' out out' (Ok Again)
     again u (inl t) = again_item t.0 t.1 t.2
-    again u (inr t) = inr (record { given = still t.0 t.1; written = t.2 ∙ holds.written }, t.3, k, all_read t.4)
+    again u (inr t) = inr (record {
+      holds = record { given = still t.0 t.1; written = t.2 ∙ holds.written };
+      writes = t.3;
+      input = k;
+      finishes = record { before = next.seat; after = p.seat; before_at = next.there; after_at = spot_seat rest s' k p at_p; unfinished = next.unfinished; finished = t.0 };
+      reads = all_read t.4;
+    })
 
     -- none is left: then it has finished
     pub ended : (u : A) → All (λ (x : Seat). x.finished ≡ true) s'.seats → Turns {A = A} k scale first l d.items s.written s'.written p out out' (Ok u) → Holds rest hs lanes ds s' × Writes out out' [] × ReadsOne rest lanes s s' k None

@@ -85,7 +85,7 @@ module _ {X : Type 0} (rest : X → _) (failures : X → ℕ) (hs : List Header)
         record { given = t.3.given; written = t.4 },
         subst (Writes begin new) (sym due.1) (both-written begin out new (merge_open hs (merged_items ds)) due.0 w due.2),
       )
-  advances_on ds s s' begin out new w (inr t) = (ds, t.0, subst (Writes begin new) (append-nil (merge_open hs (merged_items ds))) (both-written begin out new (merge_open hs (merged_items ds)) [] w t.1))
+  advances_on ds s s' begin out new w (inr t) = (ds, t.holds, subst (Writes begin new) (append-nil (merge_open hs (merged_items ds))) (both-written begin out new (merge_open hs (merged_items ds)) [] w t.writes))
 
   module _ (limit chunk : ℕ) (olds : List Supply) (s s' : Standing X) (is_limit : part_len (length s.seats) s.tokens ≡ limit) (is_chunk : part_len (length s.seats) s.chunks ≡ chunk) (so_far : AreReadSoFar rest failures limit chunk lanes olds s.sources) where
     -- no read failed in a step
@@ -95,7 +95,7 @@ module _ {X : Type 0} (rest : X → _) (failures : X → ℕ) (hs : List Header)
     -- .. after which the merge goes on
     pub reads_on : (ds : List Dump) (out new : Device) (k : ℕ) → map failures s'.sources ≡ failures_with {A = More} (map failures s.sources) k (Ok Again) → Gives rest hs lanes ds s s' out new (Ok Again) → AreReadSoFar rest failures limit chunk lanes olds s'.sources
     reads_on ds out new k counts (inl t) = read_on k t.0 (Ok Again) refl counts t.6
-    reads_on ds out new k counts (inr t) = read_on k t.2 (Ok Again) refl counts t.3
+    reads_on ds out new k counts (inr t) = read_on k t.input (Ok Again) refl counts t.reads
 
     -- ---- the exits: what a last step takes the run to
 

@@ -82,6 +82,15 @@ pub record ReadsOne {X : Type 0} (rest : X → Option (List ℕ)) (lanes : List 
   pub has_rest : IfSome cut (λ n. lane.input.mark ≡ Clean → HasRest (rest source) n lane.input)
   pub others : (j : ℕ) → j ≢ k → slice_get s'.sources j ≡ slice_get s.sources j
 
+-- an input finishes: it did not count as finished before, and does so after
+pub record Finishes (old new : List Seat) (k : ℕ) : Type 0 where
+  pub before : Seat
+  pub after : Seat
+  pub before_at : slice_get old k ≡ Some before
+  pub after_at : slice_get new k ≡ Some after
+  pub unfinished : before.finished ≡ false
+  pub finished : after.finished ≡ true
+
 -- an item may come after these: those of the merged list go before the place after the items of each input that has not finished
 abbrev pub GoBefore : List Header → List Dump → List Seat → Type 0
 GoBefore hs ds seats = (k : ℕ) (d : Dump) (s : Seat) → slice_get ds k ≡ Some d → slice_get seats k ≡ Some s → s.finished ≡ false
@@ -130,6 +139,14 @@ module _ {X : Type 0} (rest : X → Option (List ℕ)) (hs : List Header) (lanes
     pub merged : merged_items (with_item ds k d x) ≡ merged_items ds ++ next_item k d x ∷ []
     pub given : AreGiven (with_item ds k d x) s
 
+  -- no item was taken: an input has finished, the same items are held, and nothing was written
+  pub record HasEnded (ds : List Dump) (s s' : Standing X) (out out' : Device) : Type 0 where
+    pub holds : Holds ds s'
+    pub writes : Writes out out' []
+    pub input : ℕ
+    pub finishes : Finishes s.seats s'.seats input
+    pub reads : ReadsOne rest lanes s s' input None
+
   -- all inputs have finished, after an item more or after these; and what follows was written, all of it or a prefix
   pub record IsEnd (ds : List Dump) (s s' : Standing X) (out out' : Device) : Type 0 where
     pub given : AreGiven ds s'
@@ -145,12 +162,12 @@ module _ {X : Type 0} (rest : X → Option (List ℕ)) (hs : List Header) (lanes
     pub input : ℕ
     pub reads : ReadsOne rest lanes s s' input None
 
-  -- what a step from s after these items returns, by what it leaves
+  -- What a step from s after these items returns, by what it leaves. Where the merge goes on, an item was taken, or an input has finished that had not.
   abbrev pub Gives : List Dump → Standing X → Standing X → Device → Device → Result More Stop → Type 0
   Gives ds s s' out out' (Ok Again) =
       ((k : ℕ) × (d : Dump) × (x : BodyItem) × Takes ds s' k d x × (s'.written ≡ last_written (merged_items (with_item ds k d x)))
       × Grows out out' (merge_open hs (merged_items ds)) (merge_open hs (merged_items (with_item ds k d x))) × ReadsOne rest lanes s s' k None)
-      ⊎ (Holds ds s' × Writes out out' [] × (k : ℕ) × ReadsOne rest lanes s s' k None)
+      ⊎ HasEnded ds s s' out out'
   Gives ds s s' out out' (Ok (Ended Whole)) = IsEnd ds s s' out out'
   Gives ds s s' out out' (Ok (Ended Early)) = ⊥
   Gives ds s s' out out' (Err (Faulty input line fault)) = HasFault ds s input line fault None × ((fault == 31) ≡ false) × Writes out out' [] × ReadsOne rest lanes s s' input None

@@ -10,7 +10,7 @@ use Rattle.vcd_view.specs.Shown.{parts}
 use Rattle.vcd_view.specs.Views.{IsViewOf}
 use Rattle.vcd_model.specs.Header.{Header}
 use Rattle.vcd_view.specs.declared.view.HeadView.{HeadView}
-use Rattle.vcd_tools.specs.Room.{AreWithinBound, IsWithin}
+use Rattle.vcd_tools.specs.Room.{AreWithinBound, IsWithin, IsWithinEachBound}
 
 pub less_room : (limit : ℕ) (h : Header) (w : WindowSize) (v : ViewSize) (r most : RoomSize) → IsWithin r most → FitsInput limit h w v most → FitsInput limit h w v r
 less_room limit h w v r most within fits = omega (arith, within.values, within.slots, within.marks, fits)
@@ -28,6 +28,13 @@ no_room_fits limit h w v views are = room_fits limit h w (view_size (parts v)) n
 
 pub no_room_within : (limit chunk : ℕ) (v : HeadView) → chunk ≤ 65536 → AreWithinBound limit chunk v no_room
 no_room_within limit chunk v le = λ h views. no_room_fits limit h (record { chunk = chunk; token = limit; value = limit }) v views (windows limit chunk le)
+
+pub no_room_in_each : (v : HeadView) → IsWithinEachBound v no_room
+no_room_in_each v = λ limit. no_room_within limit 0 v (omega arith)
+
+-- the token limit counts as much in the bound as in the windows, so what is within one is within each
+pub within_each : (limit chunk : ℕ) (v : HeadView) (r : RoomSize) → AreWithinBound limit chunk v r → IsWithinEachBound v r
+within_each limit chunk v r bound = λ other h views. omega (arith, bound h views)
 
 -- a code has a byte of values at least
 byte_each : (cs : List IdCode) → length cs ≤ sum_by value_room cs

@@ -83,3 +83,7 @@ pub record IsWithin (r most : RoomSize) : Type 0 where
 -- windows of these lengths, the view and room of this size count at most the bound of the header that is shown, with 512 bytes to spare
 abbrev pub AreWithinBound : (limit chunk : ℕ) → HeadView → RoomSize → Type 0
 AreWithinBound limit chunk v r = (h : Header) → IsViewOf v h → FitsInput limit h (record { chunk = chunk; token = limit; value = limit }) (view_size (parts v)) r
+
+-- the same for every token limit, where no chunk is lent: of what begins, or reads no body
+abbrev pub IsWithinEachBound : HeadView → RoomSize → Type 0
+IsWithinEachBound v r = (limit : ℕ) → AreWithinBound limit 0 v r

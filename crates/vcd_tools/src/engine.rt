@@ -14,7 +14,7 @@ ghost use Rattle.vcd_body.specs.declared.item.Item.TheVariants.{Finish};
 ghost use Rattle.vcd_body.specs.Answer.{goes_on, reads_failed, writes_failed};
 ghost use Rattle.vcd_text.specs.Device.{Counts, Device, Takes, Writes, failures_after};
 ghost use Rattle.vcd_tools.specs.Engine.{CanRun, HasBegun, Holds, Runs, Starts, StopsUnread, is_going, may_end_early, request_of, request_of_begun, request_of_engine};
-ghost use Rattle.vcd_tools.specs.Room.{AreWithinBound, HasRoomFor, IsWithin, room_in, room_of_begun, room_size, view_in};
+ghost use Rattle.vcd_tools.specs.Room.{AreWithinBound, HasRoomFor, IsWithin, IsWithinEachBound, room_in, room_of_begun, room_size, view_in};
 ghost use Rattle.vcd_tools.specs.Run.{Follows};
 ghost use Rattle.vcd_tools.specs.Step.{StepGives, StepsGive, TakesAhead, step_end};
 ghost use Rattle.vcd_body.specs.declared.answer.Done.TheVariants.{Early};
@@ -77,6 +77,7 @@ impl<'n, 'r> Begun<'n, 'r> {
     ) -> Result<Begun<'n, 'r>, Stop>
         requires failures { (W.device out.old).failures < 2 ^ 64 - 1 }
         requires room { HasRoomFor task view room }
+        requires bound { IsWithinEachBound view (room_size room) }
         ensures starts { (h : Header) → IsViewOf view.entry h
             → Starts (λ b. HasBegun b h) (request_of task.entry) h
             (W.device out.old) (W.device out.new) result }

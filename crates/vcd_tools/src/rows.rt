@@ -5,6 +5,8 @@ ghost use Rattle.vcd_model.specs.Declarations.{Declaration, Variable, path_of};
 ghost use Rattle.vcd_model.specs.Header.{Header};
 ghost use Rattle.vcd_text.specs.Device.{Counts, Puts, Takes, failures_after};
 ghost use Rattle.vcd_view.specs.Views.{IsViewOf};
+ghost use Rattle.vcd_model.specs.Bound.{no_room};
+ghost use Rattle.vcd_tools.specs.Room.{IsWithinEachBound};
 ghost use Rattle.vcd_body.specs.declared.answer.Done.TheVariants.{Whole};
 ghost use Rattle.vcd_body.specs.declared.answer.Stop.TheVariants.{Write};
 
@@ -53,6 +55,7 @@ fn put_variable<W: Sink>(view: HeadView<'_>, row: usize, out: &mut W) -> Result<
 /// Writes a line for each variable, in order of declaration: its path, type, size and code. The body of the dump is not read.
 pub fn list<W: Sink>(view: HeadView<'_>, out: &mut W) -> Result<Done, Stop>
     requires failures { (W.device out.old).failures < 2 ^ 64 - 1 }
+    requires bound { IsWithinEachBound view no_room }
     ensures takes { (h : Header) → IsViewOf view.entry h
         → Takes (W.device out.old) (W.device out.new) (list_text h) result }
     ensures counts { Counts (W.device out.old) (W.device out.new) result }

@@ -19,7 +19,8 @@ use Rattle.vcd_model.proofs.SoFarLemmas.{whole-more}
 use Rattle.vcd_words.specs.declared.job.Want.{Want}
 use Rattle.vcd_words.specs.declared.job.Want.TheVariants as want
 use Rattle.vcd_words.specs.Job.{is_merge, model_want, names_asked}
-use Rattle.vcdkit.specs.Tasks.{taskless}
+use Rattle.vcdkit.specs.Tasks.{request_for, task_request, taskless}
+use Rattle.vcd_tools.specs.declared.task.Task.{Task}
 use Rattle.vcd_words.specs.Times.{times_asked}
 
 -- the header is read
@@ -120,6 +121,11 @@ listing_due (want.Cut period) one = refl
 listing_due (want.Sample times names) one = refl
 listing_due (want.Edges names) one = refl
 listing_due want.Merge one = cc
+
+-- what is asked where no times are refused, as the request of a task or a list
+pub asked_for : (wanted : Want) (task : Option Task) → is_merge wanted ≡ false → task_request wanted (Ok task) ≡ Ok (request_for task)
+asked_for wanted (Some task) one = refl
+asked_for wanted None one = ap (λ (r : Request). Ok r) (listing_due wanted one)
 
 pub names_due : (wanted : Want) (scale : Option ℤ) (task : Request) → is_merge wanted ≡ false → request_of scale (model_want wanted) ≡ Ok task → names_of task ≡ names_asked wanted
 names_due wanted scale task one e = (of_one wanted scale task one e).0

@@ -1,5 +1,5 @@
 -- How a run ends, and what it leaves.
-use Rattle.std.proofs.Common.{◌≡◌, ◌==◌, ℕ, Bool, true, false, ◌++◌, inl, List, [], ◌∷◌, length, map, get_or, set, Option, Some, Result, Ok, Err, refl, sym, ap, subst, ◌∙◌, arith}
+use Rattle.std.proofs.Common.{◌≡◌, ◌==◌, ℕ, Bool, true, false, ◌+◌, ◌++◌, inl, List, [], ◌∷◌, length, map, get_or, set, Option, Some, Result, Ok, Err, refl, sym, ap, subst, ◌∙◌, arith}
 use Rattle.std.specs.Prelude.{MatchResult, IfOk, IfErr}
 use Rattle.std.specs.List.{list_any}
 use Rattle.vcd_model.specs.Input.{Input}
@@ -24,6 +24,7 @@ use Rattle.vcd_text.specs.declared.device.Source.{Ghosts}
 use Rattle.vcd_text.specs.declared.feed.Feed.{Feed}
 use Rattle.vcd_text.proofs.Writes.{appends-none}
 use Rattle.vcd_tools.specs.Run.{Belongs, Follows, IsRefused, is_early}
+use Rattle.vcd_body.specs.Answer.{reads_failed, writes_failed}
 use Rattle.vcd_body.specs.declared.answer.Done.{Done}
 use Rattle.vcd_body.specs.declared.answer.Stop.{Stop}
 use Rattle.vcd_body.specs.declared.answer.Stop.TheVariants.{Dump, Read, Write, Unmatched}
@@ -71,6 +72,15 @@ list_ends items (Err stop) m = tt
 list_stops : (h : Header) (r : Result Done Stop) → MatchResult r (λ done. done ≡ Done.Whole) (λ stop. stop ≡ Write) → IfErr r (IsRefused Request.Listing h)
 list_stops h (Ok done) m = tt
 list_stops h (Err stop) m = rw m tt
+
+-- a list reads nothing, and where it stops a write failed
+pub list_reads : (n : ℕ) (r : Result Done Stop) → MatchResult r (λ done. done ≡ Done.Whole) (λ stop. stop ≡ Write) → n ≡ n + reads_failed r
+list_reads n (Ok done) m = omega arith
+list_reads n (Err stop) m = rw m (omega arith)
+
+pub list_writes : (out out' : Device) (r : Result Done Stop) → Counts out out' r → MatchResult r (λ done. done ≡ Done.Whole) (λ stop. stop ≡ Write) → out'.failures ≡ out.failures + writes_failed r
+list_writes out out' (Ok done) f m = omega (arith, f)
+list_writes out out' (Err stop) f m = rw m (omega (arith, f))
 
 pub listed : {X : Type 0} {x : Ghosts X} (limit chunk : ℕ) (i : Input) (front : List Token) (h : Header) (name : List ℕ) (before : Supply) (old : Feed X x) (out out' : Device) (r : Result Done Stop)
     → limit_of old ≡ limit → HasGiven i front old → Takes out out' (list_text h) r → Counts out out' r → MatchResult r (λ done. done ≡ Done.Whole) (λ stop. stop ≡ Write)

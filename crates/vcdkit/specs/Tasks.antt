@@ -3,8 +3,11 @@ use Rattle.std.specs.Prelude.{Option, Some, None, Result, Ok, Err}
 use Rattle.vcd_model.specs.Job as model
 use Rattle.vcd_model.specs.Outcome.{Request}
 use Rattle.vcd_tools.specs.Engine.{request_of}
+use Rattle.vcd_tools.specs.Room.{HasRoomFor}
 use Rattle.vcd_tools.specs.declared.span.Span.{Span}
+use Rattle.vcd_tools.specs.declared.task.Room.{Room}
 use Rattle.vcd_tools.specs.declared.task.Task.{Task}
+use Rattle.vcd_view.specs.declared.view.HeadView.{HeadView}
 use Rattle.vcd_words.specs.Refusal.{model_refusal}
 use Rattle.vcd_words.specs.declared.job.Want.{Want}
 use Rattle.vcd_words.specs.declared.job.Want.TheVariants as want
@@ -19,6 +22,16 @@ span_request (Err why) = Err (model_refusal why)
 abbrev pub taskless : Want → Request
 taskless want.Merge = Request.Merge
 taskless want = Request.Listing
+
+-- the request of a task over items, and that of a list where there is none
+abbrev pub request_for : Option Task → Request
+request_for (Some task) = request_of task
+request_for None = Request.Listing
+
+-- the room is enough for the task, where there is one, over the header that is shown
+abbrev pub IsEnough : Option Task → HeadView → Room → Type 0
+IsEnough (Some task) v r = HasRoomFor task v r
+IsEnough None v r = Unit {0}
 
 -- the request of a task over items; of what is none; or why it is refused
 abbrev pub task_request : Want → Result (Option Task) Refusal → Result Request model.Refusal

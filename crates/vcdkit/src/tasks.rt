@@ -1,16 +1,20 @@
 //! What is wanted, as a task over the items of a body.
-ghost use Rattle.std.specs.Prelude.{◌≡◌, false};
+ghost use Rattle.std.specs.Prelude.{◌≡◌, ◌≤◌, ℕ, false, length};
 ghost use Rattle.vcd_model.specs.Header.{Header};
 ghost use Rattle.vcd_model.specs.Job.{Want as ModelWant, request_of};
 ghost use Rattle.vcd_head.specs.Moments.{asked};
 ghost use Rattle.vcd_view.specs.Views.{IsViewOf};
 ghost use Rattle.vcd_words.specs.Job.{model_want, HasTicks};
 ghost use Rattle.vcd_words.specs.Ticks.{has_units};
-ghost use Rattle.vcdkit.specs.Tasks.{span_request, task_request};
+ghost use Rattle.vcd_model.specs.Bound.{RoomSize};
+ghost use Rattle.vcd_view.specs.Needs.{room};
+ghost use Rattle.vcd_tools.specs.Room.{AreWithinBound, IsWithin};
+ghost use Rattle.vcd_tools.specs.declared.task.Room.{Room};
+ghost use Rattle.vcdkit.specs.Tasks.{IsEnough, span_request, task_request};
 
 use vcd_head::ticks;
 use vcd_tools::{Samples, Span, Task};
-use vcd_view::HeadView;
+use vcd_view::{HeadView, Need};
 use vcd_words::{Period, Refusal, Times, Want};
 
 /// The times of a cut in ticks of the header that is shown: the first rounded up, the last down.
@@ -53,5 +57,23 @@ pub(crate) fn task_of<'w>(want: &'w Want, view: HeadView<'_>) -> Result<Option<T
         Want::Cut(period) => Ok(Some(Task::Cut(span_of(*period, view)?))),
         Want::Sample(times, names) => Ok(Some(Task::Sample(samples_of(times, names.as_slice())))),
         Want::Edges(names) => Ok(Some(Task::Edges(names.as_slice()))),
+    }
+}
+
+/// The room that a task works in over the header that is shown; none where there is no task.
+pub(crate) fn need_of(task: Option<Task<'_>>, view: HeadView<'_>) -> Need
+    ensures room { (r : Room) → result.values ≤ length r.values.now
+        → result.slots ≤ length r.slots.now → result.slots ≤ length r.shares.now
+        → result.marks ≤ length r.marks.now → IsEnough task.entry view.entry r }
+    ensures bound { (limit chunk : ℕ) (lent : RoomSize) → chunk ≤ 65536
+        → IsWithin lent (room result) → AreWithinBound limit chunk view.entry lent }
+{
+    match task {
+        Some(task) => task.need(view),
+        None => Need {
+            values: 0,
+            slots: 0,
+            marks: 0,
+        },
     }
 }

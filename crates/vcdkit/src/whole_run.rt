@@ -11,6 +11,10 @@ ghost use Rattle.vcd_text.specs.Device.{supply};
 ghost use Rattle.vcd_text.specs.Feed.{HasGiven, SameLoans, source_of, supply_of, limit_of, chunk_len_of};
 ghost use Rattle.vcd_view.specs.Views.{IsViewOf};
 ghost use Rattle.vcd_text.specs.Advances.{HasNotFailed};
+ghost use Rattle.vcd_body.specs.Answer.{reads_failed, writes_failed as stop_writes};
+ghost use Rattle.vcd_tools.specs.Room.{AreWithinBound, room_size};
+ghost use Rattle.vcd_tools.specs.Run.{Follows};
+ghost use Rattle.vcdkit.specs.Tasks.{IsEnough, request_for};
 ghost use Rattle.vcdkit.specs.Failure.{end_of, failure_of, merge_end, writes_failed, CountsRead, CountsReads};
 ghost use Rattle.vcd_words.specs.Job.{is_merge, model_want, names_asked};
 ghost use Rattle.vcdkit.specs.Message.{end_message, end_status, Shows};
@@ -20,12 +24,12 @@ ghost use Rattle.vcdkit.specs.declared.failure.Failure.{Failure};
 use crate::failure::Failure;
 use crate::inputs::{MOST_DECLARATIONS, marks_for, open_input, open_inputs, windows_for};
 use crate::message::report;
-use crate::tasks::task_of;
+use crate::tasks::{need_of, task_of};
 use std::alloc::Global;
 use vcd_body::{Done, Share, Slot, Stop};
 use vcd_merge::{Windows, merge};
 use vcd_text::{Feed, Sink, Source};
-use vcd_tools::{Room, list, run_task};
+use vcd_tools::{Room, Task, list, run_task};
 use vcd_view::HeadView;
 use vcd_words::{Job, Want};
 
@@ -49,7 +53,39 @@ fn merged(answer: Result<Done, Stop>) -> Result<Done, Failure>
     }
 }
 
-/// What is done after the header, in room that is taken before it starts.
+/// Does the task over the body after the header that is shown, in this room; writes the list where there is none. It is given no
+/// allocator, so from its begin on the run takes no memory.
+fn run_in<S: Source, W: Sink>(
+    task: Option<Task<'_>>,
+    view: HeadView<'_>,
+    feed: &mut Feed<'_, '_, '_, '_, S>,
+    room: &mut Room<'_>,
+    out: &mut W,
+) -> Result<Done, Stop>
+    requires feed_failures { S.failures (source_of feed.old) < 2 ^ 64 - 1 }
+    requires out_failures { (W.device out.old).failures < 2 ^ 64 - 1 }
+    requires open { HasNotFailed feed.old }
+    requires room { IsEnough task view room.old }
+    requires bound { AreWithinBound (limit_of feed.old) (chunk_len_of feed.old) view
+        (room_size room.old) }
+    ensures gives { (h : Header) (i : Input) (front : List Token) (name : List ℕ)
+        → IsViewOf view.entry h → HasGiven i front feed.old
+        → Follows (request_for task.entry) (limit_of feed.old) (chunk_len_of feed.old)
+        i front h name (supply_of feed.old) (supply_of feed.new)
+        (W.device out.old) (W.device out.new) result }
+    ensures reads { S.failures (source_of feed.new)
+        ≡ S.failures (source_of feed.old) + reads_failed result }
+    ensures writes { (W.device out.new).failures
+        ≡ (W.device out.old).failures + stop_writes result }
+    ensures loans { SameLoans feed.old feed.new }
+{
+    match task {
+        Some(task) => run_task(task, view, feed, room, out),
+        None => list(view, out),
+    }
+}
+
+/// Does what is wanted after the header: takes the room for it, and then calls what takes no more memory.
 fn run_want<S: Source, W: Sink>(
     alloc: Global,
     want: &mut Want,
@@ -77,10 +113,8 @@ fn run_want<S: Source, W: Sink>(
     ensures names { names_asked want.new ≡ names_asked want.old }
 {
     want.write_ticks(view)?;
-    let Some(task) = task_of(want, view)? else {
-        return ended(list(view, out), 0);
-    };
-    let need = task.need(view);
+    let task = task_of(want, view)?;
+    let need = need_of(task, view);
     let mut values = vec![in alloc; 0u8; need.values]?;
     let mut slots = vec![in alloc; Slot::new(); need.slots]?;
     let mut shares = vec![in alloc; Share::new(); need.slots]?;
@@ -91,7 +125,7 @@ fn run_want<S: Source, W: Sink>(
         shares: &mut shares,
         marks: &mut marks,
     };
-    ended(run_task(task, view, feed, &mut room, out), 0)
+    ended(run_in(task, view, feed, &mut room, out), 0)
 }
 
 /// A job over one input: its windows, its header, and then what is wanted.
