@@ -33,7 +33,7 @@ test: toolchain
 
 hostile: vcdkit
 	devices=$$(mktemp --suffix=.so) && cc -O1 -shared -fPIC -o $$devices hostile/devices.c -ldl && \
-	hostile/hostile.py ./vcdkit $$devices memory devices cut_off && hostile/random_runs.py ./vcdkit --runs 50000 && hostile/crafted.py ./vcdkit; \
+	hostile/hostile.py ./vcdkit $$devices memory large devices cut_off && hostile/random_runs.py ./vcdkit --runs 50000 && hostile/crafted.py ./vcdkit; \
 	status=$$?; rm -f $$devices; exit $$status
 
 # It takes the ./vcdkit that is there, and builds none.

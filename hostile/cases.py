@@ -12,6 +12,13 @@ ON_C = C + b"#9\n0!\nr1.5 \"\n1#\n#10\n1!\n1#\n#20\nr2 \"\n#21\n0!\n"
 ON_D = D + b"#7 b1010 ! b" + b"1" * 70 + b" ~~ $comment #8 $end #20 bz ~~ #400 0!"
 BAD = A + b"#0\n0!\n#5\nb10"
 WIDE = B + b"#1\nb1 !\n#2\n?\n"
+ICARUS = (b"$date\n\tTue Mar  5 10:00:00 2024\n$end\n$version\n\tIcarus Verilog\n$end\n$timescale\n\t1ns\n$end\n$scope module tb $end\n"
+          b"$var wire 8 ! data [7:0] $end\n$var reg 1 \" clk $end\n$upscope $end\n$enddefinitions $end\n"
+          b"#0\n$dumpvars\n0\"\nbx !\n$end\n#5\n1\"\nb101 !\n#10\n")
+NESTED = (b"$var event 1 % go $end\n$scope module tb $end\n$var wire 1 ! clk $end\n$scope module u $end\n$var reg 4 \" q [3:0] $end\n"
+          b"$upscope $end\n$var real 1 # r $end\n$enddefinitions $end\n")
+CLOCK = A + b"#0\n0!\n#5\n1!\n"
+TENS = b"$timescale 10ns $end\n$var wire 1 ! a $end\n$enddefinitions $end\n#0\n0!\n#1\n1!\n#2\n0!\n#3\n1!\n"
 
 
 class Case:
@@ -48,7 +55,38 @@ CASES = [
     Case("sample_units", "sample", [ON_D], options=[(70, "ps"), (4, "ns")], names=[b"top.inner"]),
     Case("edges", "edges", [ON_A]),
     Case("edges_names", "edges", [ON_C], names=[b"a", b"e"]),
+    Case("check_icarus", "check", [ICARUS]),
+    Case("list_nested", "list", [NESTED]),
+    Case("pick_vectors", "pick", [A + b"#0\nb0010 \"\nb1 !\n"], names=[b"tb"]),
+    Case("cut_to_a_mark", "cut", [ON_C], options=[(10, None), (20, None)]),
+    Case("cut_ns", "cut", [TENS], options=[(5, "ns"), (29, "ns")]),
+    Case("cut_tick_and_ns", "cut", [TENS], options=[(1, None), (29, "ns")]),
+    Case("sample_early", "sample", [WIDE], options=[(1, None)]),
+    Case("sample_ns", "sample", [TENS], options=[(5, "ns"), (15, "ns"), (25, "ns")]),
+    Case("merge_clock_twice", "merge", [CLOCK, CLOCK]),
+    Case("merge_one", "merge", [CLOCK]),
     Case("merge_two", "merge", [ON_A, ON_C]),
     Case("merge_same", "merge", [ON_D, ON_D]),
     Case("merge_fault", "merge", [ON_B, BAD, WIDE]),
+]
+
+
+def base_94(n):
+    """The code of a number, of one to three bytes."""
+    code = bytes([33 + n % 94])
+    while n >= 94:
+        n //= 94
+        code += bytes([33 + n % 94])
+    return code
+
+
+# 100,008 declarations: 8,334 times a scope, ten variables with a code each, and the scope's end.
+MANY = b"".join(
+    b"$scope module s%d $end\n" % k + b"".join(b"$var wire 4 %s v%d [3:0] $end\n" % (base_94(10 * k + n), n) for n in range(10)) + b"$upscope $end\n"
+    for k in range(8_334)) + b"$enddefinitions $end\n"
+
+LARGE = [
+    Case("check_many", "check", [MANY + b"#0\nb1010 !\n#5\nb1 \"\n"]),
+    Case("pick_many", "pick", [MANY + b"#0\nb1010 !\n#5\nb1 \"\n"], names=[b"s0.v0", b"s8333"]),
+    Case("merge_many", "merge", [MANY + b"#0\nb1010 !\n", CLOCK]),
 ]

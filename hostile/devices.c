@@ -4,7 +4,7 @@
 //   WRITE_MOST=N    the same of writes to standard output;   WRITE_FAILS=N
 //   ERROR_MOST=N    and of those to the error stream;   ERROR_FAILS=N
 //   INTERRUPTED=1   these calls are interrupted (EINTR) where they would fail
-//   COUNTS=FILE     at the end the number of requests for memory and of reads is written to the file
+//   COUNTS=FILE     at the end the number of requests for memory and of reads, and the sum of the bytes asked for, is written to the file
 #define _GNU_SOURCE
 #include <dlfcn.h>
 #include <errno.h>
@@ -15,27 +15,28 @@
 #include <unistd.h>
 #include <sys/syscall.h>
 
-static long requests, reads, writes, errors;
+static long requests, asked, reads, writes, errors;
 
 static long number(const char *name) {
     const char *text = getenv(name);
     return text ? atol(text) : 0;
 }
 
-static int refused(void) {
+static int refused(size_t size) {
+    asked += size;
     return ++requests == number("REFUSE");
 }
 
 void *malloc(size_t size) {
     static void *(*next)(size_t);
     if (!next) next = dlsym(RTLD_NEXT, "malloc");
-    return refused() ? NULL : next(size);
+    return refused(size) ? NULL : next(size);
 }
 
 void *realloc(void *at, size_t size) {
     static void *(*next)(void *, size_t);
     if (!next) next = dlsym(RTLD_NEXT, "realloc");
-    return refused() ? NULL : next(at, size);
+    return refused(size) ? NULL : next(at, size);
 }
 
 static ssize_t limited(long call, long most, long fails, long device, int fd, void *bytes, size_t size) {
@@ -65,7 +66,7 @@ __attribute__((destructor)) static void tell(void) {
     const char *name = getenv("COUNTS");
     if (!name) return;
     char text[64];
-    int size = snprintf(text, sizeof text, "%ld %ld\n", requests, reads);
+    int size = snprintf(text, sizeof text, "%ld %ld %ld\n", requests, reads, asked);
     int fd = open(name, O_WRONLY | O_CREAT | O_TRUNC, 0600);
     syscall(SYS_write, fd, text, size);
     close(fd);

@@ -1,5 +1,5 @@
 #!/usr/bin/env python3
-"""hostile.py PROGRAM DEVICES PART..     PART is memory, devices or cut_off; COMMANDS=check,list takes the cases of these alone
+"""hostile.py PROGRAM DEVICES PART..     PART is memory, large, devices or cut_off; COMMANDS=check,list takes the cases of these alone
 
 Runs the program where memory is refused, where its devices fail or give little, and on dumps that are cut off after each byte.
 What it writes has to be what the evaluator says. DEVICES is devices.c, built as a shared library."""
@@ -7,7 +7,7 @@ import os, subprocess, sys, tempfile
 from concurrent.futures import ThreadPoolExecutor
 
 import evaluator
-from cases import CASES
+from cases import CASES, LARGE
 
 LITTLE = [1, 2, 3, 5, 7]
 
@@ -33,7 +33,7 @@ class Place:
         return p.stdout, p.stderr, p.returncode
 
     def counts(self, case, files):
-        """How many requests for memory and how many reads a run makes."""
+        """How many requests for memory and how many reads a run makes, and the sum of the bytes that it asks for."""
         name = os.path.join(self.folder, files[0] + ".counts")
         self.run(case, files, counts=name)
         with open(name) as f:
@@ -51,19 +51,58 @@ def say(case, what, want, got):
 
 # ---- memory
 
+# The command line, names, messages and the buffer of the output.
+COMMAND_LINE = 65_536
+
+
+def bound(inputs, limit=1_048_576):
+    """The bytes that a run over these inputs may ask for in all. Windows are asked for once. What is kept of a header grows with it: its
+    sizes double, so all of them together are at most four times the last one."""
+    windows = held = 0
+    for text in inputs:
+        try:
+            head = evaluator.read_head(evaluator.Tokens(text, limit), evaluator.MOST_DECLARATIONS)
+        except evaluator.Fault:
+            head = evaluator.Head()
+        windows += 65_536 + 512 + 2 * limit
+        # Texts, declarations and codes are parts of the input.
+        held += len(text) + 64 * len(head.rows) + sum(size + 192 for size, _ in head.codes.values())
+    return windows + 4 * held + COMMAND_LINE
+
+
+def too_much(case, asked):
+    """What to say where a run asks for more bytes than it may."""
+    most = bound(case.inputs)
+    return [say(case, "bytes asked for in all", "at most %d" % most, asked)] if asked > most else []
+
+
+def large(place, case):
+    """A run with ample memory."""
+    files = place.files_of(case, case.inputs)
+    want, got = wanted(case, files, case.inputs), place.run(case, files)
+    if got != want:
+        yield say(case, "with ample memory", want[1:], got[1:])
+    yield from too_much(case, place.counts(case, files)[2])
+    yield 2
+
+
 def memory(place, case):
     """Each request for memory is refused in turn."""
     files = place.files_of(case, case.inputs)
-    requests, _ = place.counts(case, files)
+    requests, _, asked = place.counts(case, files)
     whole = wanted(case, files, case.inputs)
+    yield from too_much(case, asked)
     for n in range(1, requests + 1):
         got = place.run(case, files, refuse=n)
         # A library asks for more than it needs in some places, or to give some back, and goes on where that is refused.
         if got not in ((b"", b"vcdkit: out of memory\n", 3), whole):
             yield say(case, "request %d of %d refused" % (n, requests), whole, got)
-    longer = place.files_of(case, [text + b"\n$comment x $end" * 5000 for text in case.inputs], ".longer")
-    if whole[2] == 0 and place.counts(case, longer)[0] != requests:
-        yield say(case, "a longer body", requests, place.counts(case, longer)[0])
+    # How the last variable of a header is read, and so whether its code is held, depends on whether 64 bytes lie behind it in the chunk:
+    # five comments are more. The names of the files are as long, since they are copied too.
+    few, many = [place.counts(case, place.files_of(case, [text + b"\n$comment x $end" * n for text in case.inputs], mark))
+                 for n, mark in ((5, ".few"), (5000, ".all"))]
+    if whole[2] == 0 and (few[0], few[2]) != (many[0], many[2]):
+        yield say(case, "a longer body", few, many)
     yield requests + 1
 
 
@@ -130,7 +169,7 @@ def cut_off(place, case):
     yield runs
 
 
-PARTS = {"memory": memory, "devices": devices, "cut_off": cut_off}
+PARTS = {"memory": memory, "large": large, "devices": devices, "cut_off": cut_off}
 
 
 def results(place, part, case):
@@ -146,12 +185,12 @@ def main():
         runs = 0
         with tempfile.TemporaryDirectory() as folder, ThreadPoolExecutor(os.cpu_count()) as pool:
             place = Place(program, devices_, folder)
-            for found in pool.map(lambda case: results(place, part, case), cases):
+            for found in pool.map(lambda case: results(place, part, case), LARGE if part == "large" else cases):
                 runs += found[-1]
                 bad += len(found) - 1
                 for text in found[:-1][:3]:
                     print(text)
-        print("%s: %d runs of %d cases" % (part, runs, len(cases)))
+        print("%s: %d runs of %d cases" % (part, runs, len(LARGE if part == "large" else cases)))
     print("%d differ" % bad)
     return 1 if bad else 0
 
