@@ -8,8 +8,8 @@ ghost use Rattle.vcd_words.specs.Job.{model_want, HasTicks};
 ghost use Rattle.vcd_words.specs.Ticks.{has_units};
 ghost use Rattle.vcdkit.specs.Tasks.{span_request, task_request};
 
+use vcd_engine::{Samples, Span, Task};
 use vcd_head::ticks;
-use vcd_tools::{Samples, Span, Task};
 use vcd_view::HeadView;
 use vcd_words::{Period, Refusal, Times, Want};
 

@@ -1,0 +1,8 @@
+use Rattle.std.proofs.Common.{length, rules, max}
+use Rattle.vcd_text.specs.Feed.{chunk_len_of, limit_of}
+use Rattle.vcd_engine_tests.proofs.over.run_behind.Goals as goal
+
+pub dispatch-requires-clause-bound : goal.dispatch-requires-clause-bound
+dispatch-requires-clause-bound g c =
+    c.need-need.ensures.bound (limit_of c.args.feed.now) (chunk_len_of c.args.feed.now) (record { values = length c.deref_mut.result.now; slots = max (length c.deref_mut-2.result.now) (length c.deref_mut-3.result.now); marks = length c.deref_mut-4.result.now })
+    c.requires.chunk (record { values = search rules; slots = search rules; marks = search rules })
