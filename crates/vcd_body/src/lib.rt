@@ -41,6 +41,7 @@
 //! - `counters`: the counters of a code, which lie in parts in its slot and its share
 //! - `bits`: `Bits`, up to 32 binary digits as a number, and how a slot holds them
 //! - `held`, `held_text`: the digits of a held value, and how it is written; `compare`: whether a change gives another one
+//! - `laws`: each function has a law over bodies and values as its contract
 //!
 //! In `specs/` callers read `Items`, `Reads`, `Given`, `Ahead`, `Taken`, `Spelled` and `Fault`; of a run's
 //! end `Answer`, and of what was written `Device`; for the table `Contents` and `Kept`.
@@ -63,6 +64,7 @@ mod fault;
 mod held;
 mod held_text;
 mod item;
+pub mod laws;
 mod lines;
 mod packed;
 mod phrases;
