@@ -3,7 +3,7 @@ ghost use Rattle.std.specs.Prelude.{◌≡◌, ◌<◌, ◌≤◌, length};
 
 use std::alloc::{AllocError, Global};
 use std::test::Fail;
-use vcd_body::{Bits, Form, Share, Shown, Slot, Step, Table};
+use vcd_body::{Bits, Form, Share, Shown, Slot, Step, Table, put_full, put_short};
 use vcd_text::doubles::Narrow;
 use vcd_text::{Sink, Watch, WriteFailed};
 use vcd_view::{Code, HeadView, need};
@@ -602,13 +602,13 @@ fn steps_of_numbers_that_are_counted(rt: HostRuntime) -> Result<(), Fail> {
 // The line of a code's value is this.
 fn is_short(table: &Table<'_>, view: HeadView<'_>, code: usize, line: &[u8]) -> bool {
     let mut page = Watch::new(Narrow::new(1024));
-    table.put_short(view, code, &mut page).is_ok() && page.device.held() == line
+    put_short(view, table, code, &mut page).is_ok() && page.device.held() == line
 }
 
 // The value of a code in full is this.
 fn is_full(table: &Table<'_>, view: HeadView<'_>, code: usize, full: &[u8]) -> bool {
     let mut page = Watch::new(Narrow::new(1024));
-    table.put_full(view, code, &mut page).is_ok() && page.device.held() == full
+    put_full(view, table, code, &mut page).is_ok() && page.device.held() == full
 }
 
 // The values of three codes in full are these.
@@ -704,7 +704,7 @@ fn sink_that_fails_at_a_value(rt: HostRuntime) {
     let mut table = table_in(view, &mut [], &mut slots, &mut shares);
     set(&mut table, 0, Form::Vector, b"1");
     let mut page = Watch::new(Narrow::new(3));
-    assert_eq!(rt; table.put_full(view, 0, &mut page), Err(WriteFailed));
+    assert_eq!(rt; put_full(view, &table, 0, &mut page), Err(WriteFailed));
     assert_eq!(rt; page.device.held(), b"000".as_slice());
     assert_eq!(rt; Sink::failures(&page), 1);
 }
