@@ -1,15 +1,16 @@
 // Headers that are listed, bodies that are counted and of which some variables are picked, and devices that fail.
 ghost use Rattle.std.specs.Prelude.{◌≡◌, ◌-◌, ◌^◌, ◌<◌, ◌≤◌, true};
+ghost use Rattle.vcd_model.specs.Laws.{IsValid};
 ghost use Rattle.vcd_text.specs.Feed.{chunk_len_of, limit_of, source_of};
 ghost use Rattle.vcd_text.specs.Watch.{failed_calls};
-ghost use Rattle.vcd_engine.specs.Engine.{is_going};
+ghost use Rattle.vcd_engine.specs.Engine.{is_going, request_of};
 ghost use Rattle.vcd_engine.specs.Room.{AreWithinBound, HasRoomFor, room_in, room_size, view_in};
 
 use super::over::{is_run, wrong_room};
 use std::alloc::Global;
 use std::test::Fail;
 use vcd_body::{Done, More, Share, Slot, Stop};
-use vcd_engine::{Begun, Engine, Room, Task, check, list};
+use vcd_engine::{Begun, Engine, Room, Task, check, list, step};
 use vcd_head::{Head, HeadFault, read_head};
 use vcd_text::doubles::{Narrow, Pieces};
 use vcd_text::{Feed, Sink, Source, Watch};
@@ -221,7 +222,7 @@ fn steps_on<S: Source>(
     ensures bound { AreWithinBound (limit_of feed.new) (chunk_len_of feed.new)
         (view_in engine.new) (room_in engine.new) }
 {
-    match engine.step(feed, out) {
+    match step(engine, feed, out) {
         Ok(More::Again) => engine.going() && out.device.held() == written,
         Ok(More::Ended(_)) | Err(_) => false,
     }
@@ -240,7 +241,7 @@ fn ends<S: Source>(
     requires bound { AreWithinBound (limit_of feed.old) (chunk_len_of feed.old)
         (view_in engine.old) (room_in engine.old) }
 {
-    let last = engine.step(feed, out);
+    let last = step(engine, feed, out);
     last == steps.last && !engine.going() && out.device.held() == steps.after_last
 }
 
@@ -274,6 +275,7 @@ fn takes_steps_in<S: Source>(
     steps: &Steps<'_>,
 ) -> Result<bool, Stop>
     requires feed_failures { S.failures (source_of feed.old) < 2 ^ 64 - 1 }
+    requires valid { IsValid (request_of task) }
     requires room { HasRoomFor task view room }
     requires bound { AreWithinBound (limit_of feed.old) (chunk_len_of feed.old) view
         (room_size room) }
@@ -297,6 +299,7 @@ fn takes_steps_behind<S: Source>(
     steps: &Steps<'_>,
 ) -> Result<bool, Fail>
     requires feed_failures { S.failures (source_of feed.old) < 2 ^ 64 - 1 }
+    requires valid { IsValid (request_of task) }
     requires chunk { chunk_len_of feed.old ≤ 65536 }
 {
     let need = task.need(view);
@@ -319,7 +322,9 @@ fn takes_steps_over(
     text: &[u8],
     task: Task<'_>,
     steps: &Steps<'_>,
-) -> Result<bool, Fail> {
+) -> Result<bool, Fail>
+    requires { IsValid (request_of task) }
+{
     let mut source = Watch::new(text);
     let mut chunk = [0u8; 7];
     let mut token = [0u8; 64];

@@ -4,3 +4,5 @@
 
 #[cfg(test)]
 mod merge;
+#[cfg(test)]
+mod steps;

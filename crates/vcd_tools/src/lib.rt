@@ -1,7 +1,7 @@
 //! What is done with dumps whose headers were read: the surface for callers, and the laws on what is written.
 //!
 //! `check`, `list`, `pick`, `cut`, `sample`, `edges` and `merge` are one command each. An `Engine`, of a task that has `Begun`, and
-//! a `Merge` are the runs in parts: `Engine::step` and `merge_step` take one item each. `Done`, `More` and `Stop` say how they
+//! a `Merge` are the runs in parts: `step` and `merge_step` take one item each. `Done`, `More` and `Stop` say how they
 //! end. None of them takes memory.
 //!
 //! All code stands in crates below, side by side, so that no crate waits for this one: the commands over one dump in
@@ -20,6 +20,6 @@ pub mod laws;
 
 pub use vcd_body::{Done, More, Stop};
 pub use vcd_engine::{
-    Begun, Engine, Room, Samples, Span, Task, check, cut, edges, list, pick, run_task, sample,
+    Begun, Engine, Room, Task, check, cut, edges, list, pick, run_task, sample, step,
 };
 pub use vcd_merge::{Merge, Seat, Windows, merge, merge_step};

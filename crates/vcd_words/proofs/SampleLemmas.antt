@@ -1,9 +1,10 @@
 -- The times of a sample in ticks.
-use Rattle.std.proofs.Common.{◌≡◌, ℕ, suc, zero, ◌+◌, ◌<◌, Bool, true, false, ◌||◌, nat_lt, is_some, is_ok, List, [], ◌∷◌, ◌++◌, length, replicate, vec_len, map, filter_map, get_or, set, take, drop, Option, Some, None, Result, Ok, Err, refl, sym, ap, ap₂, ◌∙◌, arith}
+use Rattle.std.proofs.Common.{◌≡◌, ℕ, suc, zero, ◌+◌, ◌<◌, Bool, true, false, not, ◌||◌, ◌&&◌, ◌==◌, nat_lt, is_some, is_ok, List, [], ◌∷◌, ◌++◌, length, replicate, vec_len, map, filter_map, get_or, set, take, drop, Option, Some, None, Result, Ok, Err, refl, sym, ap, ap₂, ◌∙◌, arith}
 use Rattle.std.specs.Prelude.{ℤ, ◌≢◌}
 use Rattle.std.specs.Global.{Vec}
 use Rattle.std.specs.List.{list_any, list_all, IsAllAdjacentAnswer}
-use Rattle.std.proofs.lemmas.Bool.{and_from}
+use Rattle.std.proofs.lemmas.Bool.{and_from, and_parts, eqb-true}
+use Rattle.vcd_model.specs.Bytes.{is_empty}
 use Rattle.vcd_model.specs.Job as model
 use Rattle.vcd_model.specs.Job.{Want, do_rise, first_refusal, has_unit, is_without_scale, ok_of, request_of, sample_at, sample_request}
 use Rattle.vcd_model.specs.Outcome.{Request}
@@ -178,3 +179,21 @@ pub refused : (scale : Option ℤ) (ns ns' : List ℕ) (us : List (Option ℤ)) 
 refused scale ns ns' us p n u fault e l t is =
     refused_at scale (time_at ns' us p n u) (times_with ns us) (take p ns') (all_ticks scale (drop (suc p) ns') (drop (suc p) us)) fault t
     (is ∙ ap (λ rest. found (take p ns') ++ rest) (from_place scale ns' us p n u e l ∙ ap (λ r. r ∷ all_ticks scale (drop (suc p) ns') (drop (suc p) us)) t))
+
+-- ---- what words may ask for
+
+module _ (ns : List ℕ) (us : List (Option ℤ)) (e : (length us == length ns && not (is_empty ns) && (has_units us || do_rise ns)) ≡ true) where
+  parts_of : ((length us == length ns && not (is_empty ns)) ≡ true) × ((has_units us || do_rise ns) ≡ true)
+  parts_of = and_parts _ _ e
+
+  pub asked_pairs : length us ≡ length ns
+  asked_pairs = eqb-true _ _ (and_parts _ _ parts_of.0).0
+
+  pub asked_some : ns ≢ []
+  asked_some none = let some = (and_parts _ _ parts_of.0).1 in let one : not (is_empty []) ≡ true = rw none at some in cc
+
+  pub asked_order : (has_units us || do_rise ns) ≡ true
+  asked_order = parts_of.1
+
+  pub asked_rises : has_units us ≡ false → do_rise ns ≡ true
+  asked_rises none = let rises = parts_of.1 in rw none at rises

@@ -6,7 +6,7 @@ pub mod Run
 -- the words, and the job that they ask for
 pub use Rattle.vcd_words.specs.Job
 pub use Rattle.vcd_words.specs.Refusal
-pub use Rattle.vcd_words.specs.Times
+pub use Rattle.vcd_words.specs.Ticks
 pub use Rattle.vcd_words.specs.Words
 -- the definitions that the clauses cite
 pub use Rattle.vcd_model.specs as Model

@@ -16,7 +16,7 @@
 //! - `message`: the lines on the error stream, and the statuses
 //!
 //! In `specs/`: `Run`, what a run leaves; `Inputs`, how far its inputs were read; `Tasks`; `Failure`; `Message`; of the words
-//! `Job`, `Words`, `Times` and `Refusal`; and the definitions that these cite, as `Model`.
+//! `Job`, `Words`, `Ticks` and `Refusal`; and the definitions that these cite, as `Model`.
 //!
 //! # Limits
 //!
@@ -34,7 +34,6 @@ mod whole_run;
 pub use again::Again;
 pub use message::{open_fault, use_fault, write_fault};
 pub use vcd_words::{
-    Job, MOST_FILES, Period, Times, UseFault, Want, command_of, files_of, input_of, job_of,
-    parse_status,
+    Job, MOST_FILES, UseFault, Want, command_of, files_of, input_of, job_of, parse_status,
 };
 pub use whole_run::run;

@@ -67,7 +67,7 @@ fn check(alloc: Global, out: &mut Sink, err: &mut Sink) -> Result<u8, AllocError
 {
     let names = [String::from_str(alloc, "a.vcd")?];
     let job = Job {
-        want: Want::Check,
+        task: Want::Check,
         limit: 64,
         chunk: 16,
     };

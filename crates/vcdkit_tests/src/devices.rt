@@ -152,7 +152,7 @@ fn run_alone(
 {
     let want = wanted(alloc, words)?;
     let job = Job {
-        want,
+        task: want,
         limit: 64,
         chunk: plan.chunk,
     };
@@ -190,7 +190,7 @@ fn run_merge(
     let mut out = Watch::new(Sparing::new(plan.most, plan.out));
     let mut err = Watch::new(Sparing::new(plan.most, plan.err));
     let job = Job {
-        want: Want::Merge,
+        task: Want::Merge,
         limit: 64,
         chunk: plan.chunk,
     };

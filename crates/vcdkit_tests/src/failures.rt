@@ -47,7 +47,7 @@ fn is_left_in(
 {
     let want = wanted(alloc, words)?;
     let job = Job {
-        want,
+        task: want,
         limit: 64,
         chunk: 64,
     };

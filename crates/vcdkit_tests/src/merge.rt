@@ -54,7 +54,7 @@ fn merge_on(alloc: Global, first: &[u8], second: &[u8], chunk: usize) -> Result<
     let mut out = Watch::new(Narrow::new(1024));
     let mut err = Watch::new(Narrow::new(80));
     let job = Job {
-        want: Want::Merge,
+        task: Want::Merge,
         limit: 1_048_576,
         chunk,
     };

@@ -33,7 +33,7 @@ fn is_told(
     requires { room ≤ 1024 }
 {
     let job = Job {
-        want: Want::Check,
+        task: Want::Check,
         limit: 64,
         chunk: 64,
     };

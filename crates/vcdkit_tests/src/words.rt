@@ -166,7 +166,7 @@ fn is_job<'a>(
 {
     let want = wanted(alloc, want)?;
     let job = Job {
-        want,
+        task: want,
         limit,
         chunk: 65_536,
     };
@@ -195,7 +195,7 @@ fn refuse<'a, R: Abort + AllocGlobal>(rt: &R, words: &'a [&'a str], fault: UseFa
 #[test]
 fn a_command_asks_for_its_job(rt: HostRuntime) {
     let job = Job {
-        want: Want::Check,
+        task: Want::Check,
         limit: LIMIT,
         chunk: 65_536,
     };

@@ -6,7 +6,7 @@ use Rattle.vcd_words.specs.declared.job.UseFault.TheVariants.{OutOfMemory}
 use Rattle.vcd_words.specs.Ticks.{has_units, times_with}
 use Rattle.vcd_words.specs.Times.{parts}
 use Rattle.vcd_words.proofs.TimesLemmas.{good_rises, put_together, some_times, times_kept}
-use Rattle.vcd_words.proofs.moment_word.sample_times.Goals as goal
+use Rattle.vcd_words.proofs.moment_word.sample_of.Goals as goal
 
 pub returns-in_err-numbers-clause-fault : goal.returns-in_err-numbers-clause-fault
 returns-in_err-numbers-clause-fault c =

@@ -1,45 +1,29 @@
-use Rattle.std.proofs.Common.{◌≡◌, ◌∙◌, Ok, Err, ap, rules, sym, true, false}
-use Rattle.std.specs.Vec.{with_items}
-use Rattle.std.proofs.lemmas.List.{with_items_is}
+use Rattle.std.proofs.Common.{◌≡◌, ◌∙◌, ◌||◌, Ok, Err, ap, rules, sym, true, false}
 use Rattle.vcd_model.specs.Job.{do_rise}
 use Rattle.vcd_model.specs.Outcome.{Request}
-use Rattle.vcd_words.specs.Ticks.{all_ticks, has_units, AreRefused, AreTicks}
-use Rattle.vcd_words.proofs.SampleLemmas.{falling_request, no_units_left, paired_lists, plain_request, refused_request, rising_request}
-use Rattle.vcd_words.proofs.times.Times.write_ticks.Goals as goal
+use Rattle.vcd_words.specs.Ticks.{has_units}
+use Rattle.vcd_words.proofs.SampleLemmas.{falling_request, no_units_left, plain_request, refused_request, rising_request}
+use Rattle.vcd_words.proofs.sample_ticks.write_times.Goals as goal
 
 pub returns-in_err-write_ticks-clause-same : goal.returns-in_err-write_ticks-clause-same
 returns-in_err-write_ticks-clause-same c = λ h names v.
-    let t = c.args.self.now in
     let same : c.from_residual.result ≡ Err c.in_err-write_ticks.field-0.0 = search rules in
-    let found = c.in_err-write_ticks.ensures h v in
-    let told : AreRefused (all_ticks h.scale t.numbers.items t.units.items) c.in_err-write_ticks.field-0.0 = rw (c.deref_mut.ensures.value, c.deref-2.ensures.value) at found in
-    rw same (refused_request h.scale t.numbers.items t.units.items names (paired_lists t.numbers t.units t.paired) c.in_err-write_ticks.field-0.0 told)
+    rw same (refused_request h.scale c.args.numbers.now c.args.units.now names c.requires.paired c.in_err-write_ticks.field-0.0 (c.in_err-write_ticks.ensures h v))
 
 pub returns-then-not-do_rise-clause-same : goal.returns-then-not-do_rise-clause-same
 returns-then-not-do_rise-clause-same c = λ h names v.
-    let t = c.args.self.now in
-    let ks = c.write_ticks.new.numbers in
-    let some : has_units t.units.items ≡ true = ap has_units (sym c.deref.ensures.value) ∙ sym c.has_units.ensures ∙ c.if-not-has_units.false in
-    let found = c.in_ok-write_ticks.ensures h v in
-    let told : AreTicks (all_ticks h.scale t.numbers.items t.units.items) ks = rw (c.deref_mut.ensures.value, c.deref-2.ensures.value) at found in
-    let items : c.deref-3.result.now ≡ ks = c.deref-3.ensures.value ∙ with_items_is t.numbers ks (c.write_ticks.auto.numbers ∙ c.deref_mut.ensures.len) in
-    let down : do_rise ks ≡ false = ap do_rise (sym items) ∙ sym c.do_rise.ensures ∙ c.if-not-do_rise.true in
-    falling_request h.scale t.numbers.items t.units.items names (paired_lists t.numbers t.units t.paired) some ks told down
+    let some : has_units c.args.units.now ≡ true = sym c.has_units.ensures ∙ c.if-not-has_units.false in
+    let down : do_rise c.write_ticks.new.numbers ≡ false = sym c.do_rise.ensures ∙ c.if-not-do_rise.true in
+    falling_request h.scale c.args.numbers.now c.args.units.now names c.requires.paired some c.write_ticks.new.numbers (c.in_ok-write_ticks.ensures h v) down
 
 pub returns-clause-same : goal.returns-clause-same
 returns-clause-same c = λ h names v.
-    let t = c.args.self.now in
     let ks = c.write_ticks.new.numbers in
-    let some : has_units t.units.items ≡ true = ap has_units (sym c.deref.ensures.value) ∙ sym c.has_units.ensures ∙ c.if-not-has_units.false in
-    let found = c.in_ok-write_ticks.ensures h v in
-    let told : AreTicks (all_ticks h.scale t.numbers.items t.units.items) ks = rw (c.deref_mut.ensures.value, c.deref-2.ensures.value) at found in
-    let written : (with_items t.numbers ks).items ≡ ks = with_items_is t.numbers ks (c.write_ticks.auto.numbers ∙ c.deref_mut.ensures.len) in
-    let items : c.deref-3.result.now ≡ ks = c.deref-3.ensures.value ∙ written in
-    let up : do_rise ks ≡ true = ap do_rise (sym items) ∙ sym c.do_rise.ensures ∙ c.if-not-do_rise.false in
-    let none : has_units c.fill.new.self.items ≡ false = no_units_left _ _ (c.fill.ensures.items (λ y is. search rules)) in
-    plain_request h.scale (with_items t.numbers ks).items c.fill.new.self.items names (paired_lists (with_items t.numbers ks) c.fill.new.self (c.fill.ensures.len ∙ t.paired)) none
-    ∙ ap (λ times. Ok (Request.Sample times names)) written
-    ∙ sym (rising_request h.scale t.numbers.items t.units.items names (paired_lists t.numbers t.units t.paired) some ks told up)
+    let some : has_units c.args.units.now ≡ true = sym c.has_units.ensures ∙ c.if-not-has_units.false in
+    let up : do_rise ks ≡ true = sym c.do_rise.ensures ∙ c.if-not-do_rise.false in
+    let none : has_units c.fill.new.self ≡ false = no_units_left _ _ (c.fill.ensures.items (λ y is. search rules)) in
+    plain_request h.scale ks c.fill.new.self names (c.fill.ensures.len ∙ c.requires.paired ∙ sym c.write_ticks.auto.numbers) none
+    ∙ sym (rising_request h.scale c.args.numbers.now c.args.units.now names c.requires.paired some ks (c.in_ok-write_ticks.ensures h v) up)
 
 pub returns-clause-no_units : goal.returns-clause-no_units
 returns-clause-no_units c = no_units_left _ _ (c.fill.ensures.items (λ y is. search rules))
