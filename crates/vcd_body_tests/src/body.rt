@@ -8,10 +8,9 @@ use vcd_body::{
     Bits, Form, Id, Item, Regs, change_text, item_ahead, left_out, next_item, pass_items,
     put_change,
 };
-use vcd_head::{Head, HeadFault, read_head};
+use vcd_head::{Head, HeadFault, HeadView, read_head};
 use vcd_text::doubles::{Narrow, Pieces};
 use vcd_text::{Feed, Sink, Source, Watch, WriteFailed};
-use vcd_view::HeadView;
 
 // Variables of 1 and of 4 bits, in six lines.
 const HEAD: &[u8] =

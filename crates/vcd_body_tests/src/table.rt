@@ -1,12 +1,13 @@
 // Tables with room of exactly `need`: what is held, how it is written, counters, and codes that are chosen.
 ghost use Rattle.std.specs.Prelude.{◌≡◌, ◌<◌, ◌≤◌, length};
+ghost use Rattle.vcd_head.specs.Model.Laws.{ShortIsShortest};
 
 use std::alloc::{AllocError, Global};
 use std::test::Fail;
-use vcd_body::{Bits, Form, Share, Shown, Slot, Step, Table, put_full, put_short};
+use vcd_body::{Bits, Form, Share, Shown, Slot, Step, Table, laws, put_full, put_short};
+use vcd_head::{Code, HeadView, need};
 use vcd_text::doubles::Narrow;
 use vcd_text::{Sink, Watch, WriteFailed};
-use vcd_view::{Code, HeadView, need};
 
 // The code `!` of this size.
 fn code_of(size: usize) -> Code {
@@ -707,4 +708,16 @@ fn sink_that_fails_at_a_value(rt: HostRuntime) {
     assert_eq!(rt; put_full(view, &table, 0, &mut page), Err(WriteFailed));
     assert_eq!(rt; page.device.held(), b"000".as_slice());
     assert_eq!(rt; Sink::failures(&page), 1);
+}
+
+// The law over the shortest digits, as a caller has it.
+fn short_is_shortest()
+    ensures { ShortIsShortest }
+{
+    laws::short_is_shortest();
+}
+
+#[test]
+fn callers_have_the_law_over_digits() {
+    short_is_shortest();
 }

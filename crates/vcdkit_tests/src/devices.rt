@@ -8,8 +8,8 @@ use std::io::{ErrorKind, Write};
 use std::process::Abort;
 use vcd_text::Watch;
 use vcd_text::doubles::{MOST_HELD, Narrow, Pieces};
-use vcd_words::{Job, Want, Words};
-use vcdkit::run;
+use vcd_words::Words;
+use vcdkit::{Job, Want, run};
 
 // No device is called more often in a run.
 const MOST_CALLS: u64 = 1000;

@@ -6,7 +6,8 @@ use super::runs::{
     wanted, whole,
 };
 use std::alloc::{AllocError, Global};
-use vcd_words::{Job, Words};
+use vcd_words::Words;
+use vcdkit::Job;
 
 // The commands over one input.
 const COMMANDS: [Words<'static, 'static>; 6] = [

@@ -6,8 +6,7 @@ use std::alloc::{AllocError, Global};
 use std::process::Abort;
 use vcd_text::Watch;
 use vcd_text::doubles::Narrow;
-use vcd_words::{Job, Want};
-use vcdkit::run;
+use vcdkit::{Job, Want, run};
 
 // Both inputs, the output, the message and the status.
 const MERGES: [(&[u8], &[u8], &[u8], &[u8], u8); 4] = [

@@ -6,8 +6,8 @@ use std::alloc::{AllocError, Global};
 use std::process::Abort;
 use vcd_text::Watch;
 use vcd_text::doubles::{Narrow, Pieces};
-use vcd_words::{Job, Want, Words, want_of};
-use vcdkit::run;
+use vcd_words::{Words, want_of};
+use vcdkit::{Job, Want, run};
 
 // A dump with two times and two changes, and its report.
 pub const DUMP: &[u8] =

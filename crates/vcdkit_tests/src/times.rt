@@ -1,7 +1,8 @@
 // Words that are times, and words that are none.
 use std::alloc::Global;
 use vcd_head::Moment;
-use vcd_words::{UseFault, Want, Words, want_of};
+use vcd_words::{Words, want_of};
+use vcdkit::{UseFault, Want};
 
 // The times of a cut between these words, or their fault.
 fn cut_of<'a>(alloc: Global, from: &'a str, to: &'a str) -> Result<[Moment; 2], UseFault<'a>> {

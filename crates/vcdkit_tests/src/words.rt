@@ -6,7 +6,8 @@ use clap::error::ErrorKind;
 use clap::{Arg, ArgMatches, Command, Error};
 use std::alloc::{AllocError, Global};
 use std::process::Abort;
-use vcd_words::{Job, UseFault, Want, Words, command_of, input_of, job_of, parse_status};
+use vcd_words::Words;
+use vcdkit::{Job, UseFault, Want, command_of, input_of, job_of, parse_status};
 
 // The token limit where none is asked for.
 const LIMIT: usize = 1_048_576;

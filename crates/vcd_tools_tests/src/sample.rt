@@ -1,13 +1,12 @@
 // Values at some times of dumps.
 ghost use Rattle.std.specs.Prelude.{◌≡◌, ◌≢◌, [], true};
-ghost use Rattle.vcd_model.specs.Job.{do_rise};
-ghost use Rattle.vcd_model.specs.Laws.{IsValid};
-ghost use Rattle.vcd_engine.specs.Engine.{request_of};
+ghost use Rattle.vcd_tools.specs.Model.Job.{do_rise};
+ghost use Rattle.vcd_tools.specs.Model.Laws.{IsValid};
+ghost use Rattle.vcd_tools.specs.Engine.{request_of};
 
 use super::over::{is_run, wrong_room};
 use std::test::Fail;
-use vcd_body::{Done, Stop};
-use vcd_engine::Task;
+use vcd_tools::{Done, Stop, Task};
 
 // Vectors that are shorter than their variables.
 const SHORT: &[u8] =

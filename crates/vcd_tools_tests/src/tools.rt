@@ -1,20 +1,19 @@
 // Headers that are listed, bodies that are counted and of which some variables are picked, and devices that fail.
 ghost use Rattle.std.specs.Prelude.{◌≡◌, ◌-◌, ◌^◌, ◌<◌, ◌≤◌, true};
-ghost use Rattle.vcd_model.specs.Laws.{IsValid};
+ghost use Rattle.vcd_tools.specs.Model.Laws.{CutKeeps, IsValid, MergeKeeps, NothingRevised, PickKeeps};
 ghost use Rattle.vcd_text.specs.Feed.{chunk_len_of, limit_of, source_of};
 ghost use Rattle.vcd_text.specs.Watch.{failed_calls};
-ghost use Rattle.vcd_engine.specs.Engine.{is_going, request_of};
-ghost use Rattle.vcd_engine.specs.Room.{AreWithinBound, HasRoomFor, room_in, room_size, view_in};
+ghost use Rattle.vcd_tools.specs.Engine.{is_going, request_of};
+ghost use Rattle.vcd_tools.specs.Room.{AreWithinBound, HasRoomFor, room_in, room_size, view_in};
 
 use super::over::{is_run, wrong_room};
 use std::alloc::Global;
 use std::test::Fail;
-use vcd_body::{Done, More, Share, Slot, Stop};
-use vcd_engine::{Begun, Engine, Room, Task, check, list, step};
-use vcd_head::{Head, HeadFault, read_head};
+use vcd_body::{Share, Slot};
+use vcd_head::{Head, HeadFault, HeadView, read_head};
 use vcd_text::doubles::{Narrow, Pieces};
 use vcd_text::{Feed, Sink, Source, Watch};
-use vcd_view::HeadView;
+use vcd_tools::{Begun, Done, Engine, More, Room, Stop, Task, check, laws, list, step};
 
 const NESTED: &[u8] =
     b"$var event 1 % go $end\n$scope module tb $end\n$var wire 1 ! clk $end\n$scope module u $end\n$var reg 4 \" q [3:0] $end\n$upscope $end\n$var real 1 # r $end\n$enddefinitions $end\n";
@@ -420,4 +419,22 @@ fn steps_of_a_pick_write_what_is_due(rt: HostRuntime) -> Result<(), Fail> {
     };
     assert!(rt; takes_steps_over(rt.alloc(), CUT_SHORT, Task::Pick(&names), &steps)?);
     Ok(())
+}
+
+// The laws on what commands write, as a caller has them.
+fn laws_hold()
+    ensures pick { PickKeeps }
+    ensures cut { CutKeeps }
+    ensures merge { MergeKeeps }
+    ensures revised { NothingRevised }
+{
+    laws::pick_keeps();
+    laws::cut_keeps();
+    laws::merge_keeps();
+    laws::nothing_revised();
+}
+
+#[test]
+fn callers_have_the_laws() {
+    laws_hold();
 }

@@ -1,6 +1,6 @@
 use Rattle.std.proofs.Common.{length, rules, max}
 use Rattle.vcd_text.specs.Feed.{chunk_len_of, limit_of}
-use Rattle.vcd_engine_tests.proofs.over.run_behind.Goals as goal
+use Rattle.vcd_tools_tests.proofs.over.run_behind.Goals as goal
 
 pub dispatch-requires-clause-bound : goal.dispatch-requires-clause-bound
 dispatch-requires-clause-bound g c =

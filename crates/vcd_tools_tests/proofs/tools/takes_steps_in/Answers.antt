@@ -1,5 +1,5 @@
 use Rattle.vcd_engine.proofs.RoomLemmas.{lent_within, same_within}
-use Rattle.vcd_engine_tests.proofs.tools.takes_steps_in.Goals as goal
+use Rattle.vcd_tools_tests.proofs.tools.takes_steps_in.Goals as goal
 
 pub takes_steps-requires-clause-bound : goal.takes_steps-requires-clause-bound
 takes_steps-requires-clause-bound g c =

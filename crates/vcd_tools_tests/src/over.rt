@@ -1,18 +1,17 @@
 // Tasks that are run over a dump, in the room that they need.
 ghost use Rattle.std.specs.Prelude.{◌≡◌, ◌-◌, ◌^◌, ◌<◌, ◌≤◌};
-ghost use Rattle.vcd_model.specs.Laws.{IsValid};
+ghost use Rattle.vcd_tools.specs.Model.Laws.{IsValid};
 ghost use Rattle.vcd_text.specs.Advances.{HasNotFailed};
 ghost use Rattle.vcd_text.specs.Feed.{chunk_len_of, limit_of, source_of};
-ghost use Rattle.vcd_engine.specs.Engine.{request_of};
-ghost use Rattle.vcd_engine.specs.Room.{AreWithinBound, HasRoomFor, room_size};
+ghost use Rattle.vcd_tools.specs.Engine.{request_of};
+ghost use Rattle.vcd_tools.specs.Room.{AreWithinBound, HasRoomFor, room_size};
 
 use std::alloc::{AllocError, Global};
-use vcd_body::{Done, Share, Slot, Stop};
-use vcd_engine::{Room, Task, cut, edges, pick, sample};
-use vcd_head::{HeadFault, read_head};
+use vcd_body::{Share, Slot};
+use vcd_head::{HeadFault, HeadView, read_head};
 use vcd_text::doubles::Narrow;
 use vcd_text::{Feed, Sink, Source, Watch};
-use vcd_view::HeadView;
+use vcd_tools::{Done, Room, Stop, Task, cut, edges, pick, sample};
 
 // Calls the function of a task. A check has no room: its tests call it themselves, and nothing is run for it here.
 fn dispatch<S: Source, W: Sink>(

@@ -1,9 +1,9 @@
 use Rattle.std.proofs.Common.{◌≡◌, ◌-◌, ◌^◌, ◌<◌, true}
 use Rattle.vcd_text.specs.Feed.{chunk_len_of, limit_of, source_of}
 use Rattle.vcd_text.specs.Watch.{failed_calls}
-use Rattle.vcd_engine.specs.Engine.{is_going}
-use Rattle.vcd_engine.specs.Room.{AreWithinBound, room_in, view_in}
-use Rattle.vcd_engine_tests.proofs.tools.takes_steps.Given as goal
+use Rattle.vcd_tools.specs.Engine.{is_going}
+use Rattle.vcd_tools.specs.Room.{AreWithinBound, room_in, view_in}
+use Rattle.vcd_tools_tests.proofs.tools.takes_steps.Given as goal
 
 abbrev pub invariant-loop-written : goal.invariant-loop-written
 invariant-loop-written g l =

@@ -1,8 +1,7 @@
 // Windows of time, cut out of dumps.
 use super::over::{is_run, wrong_room};
 use std::test::Fail;
-use vcd_body::Done;
-use vcd_engine::Task;
+use vcd_tools::{Done, Task};
 
 // A value of each kind, and one that is never set.
 const KINDS: &[u8] =

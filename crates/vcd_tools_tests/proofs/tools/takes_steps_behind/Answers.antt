@@ -1,6 +1,6 @@
 use Rattle.std.proofs.Common.{length, rules, max}
 use Rattle.vcd_text.specs.Feed.{chunk_len_of, limit_of}
-use Rattle.vcd_engine_tests.proofs.tools.takes_steps_behind.Goals as goal
+use Rattle.vcd_tools_tests.proofs.tools.takes_steps_behind.Goals as goal
 
 pub takes_steps_in-requires-clause-bound : goal.takes_steps_in-requires-clause-bound
 takes_steps_in-requires-clause-bound g c =

@@ -1,0 +1,14 @@
+//! The tests of the commands over one dump, by the paths that callers of `vcd_tools` use. They stand apart so that the libraries are
+//! proved once: a crate with tests of its own is proved again with them.
+#![tactic(auto)]
+
+#[cfg(test)]
+mod cut;
+#[cfg(test)]
+mod edges;
+#[cfg(test)]
+mod over;
+#[cfg(test)]
+mod sample;
+#[cfg(test)]
+mod tools;
