@@ -34,7 +34,7 @@ pub fn put_change<W: Sink>(
     requires digits { event ≡ false → form ≢ Form.RealText → 0 < length text.now }
     ensures { Puts (W.device w.old) (W.device w.new)
         (change_line (record {
-          code = record { text = id_text id; size = size; event = event };
+          code = record { text = id_text id.entry; size = size; event = event };
           form = model_form form;
           text = text.now;
         })) result }

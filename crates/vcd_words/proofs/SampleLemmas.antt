@@ -3,7 +3,8 @@ use Rattle.std.proofs.Common.{◌≡◌, ℕ, suc, zero, ◌+◌, ◌<◌, Bool,
 use Rattle.std.specs.Prelude.{ℤ, ◌≢◌}
 use Rattle.std.specs.Global.{Vec}
 use Rattle.std.specs.List.{list_any, list_all, IsAllAdjacentAnswer}
-use Rattle.std.proofs.lemmas.Bool.{and_from, and_parts, eqb-true}
+use Rattle.std.proofs.lemmas.Bool.{and_from, and_parts, eq-eqb, eqb-true}
+use Rattle.std.proofs.lemmas.List.{length-map}
 use Rattle.vcd_model.specs.Bytes.{is_empty}
 use Rattle.vcd_model.specs.Job as model
 use Rattle.vcd_model.specs.Job.{Want, do_rise, first_refusal, has_unit, is_without_scale, ok_of, request_of, sample_at, sample_request}
@@ -197,3 +198,22 @@ module _ (ns : List ℕ) (us : List (Option ℤ)) (e : (length us == length ns &
 
   pub asked_rises : has_units us ≡ false → do_rise ns ≡ true
   asked_rises none = let rises = parts_of.1 in rw none at rises
+
+-- numbers and units of the same times are as many
+pub long_units : (ns : List ℕ) (us : List (Option ℤ)) (ms : List Moment) → ns ≡ map (λ (m : Moment). m.number) ms → us ≡ map (λ (m : Moment). m.unit) ms → length us ≡ length ns
+long_units ns us ms n u = rw (n, u) (length-map ms (λ (m : Moment). m.unit) ∙ sym (length-map ms (λ (m : Moment). m.number)))
+
+either : (a b : Bool) → (a ≡ false → b ≡ true) → (a || b) ≡ true
+either true b h = refl
+either false b h = h refl
+
+not_none : (ts : List ℕ) → 0 < length ts → not (is_empty ts) ≡ true
+not_none [] l = absurd (omega arith)
+not_none (t ∷ ts) l = refl
+
+-- a sample that words may ask for
+pub asked_of : (ns : Vec ℕ) (us : Vec (Option ℤ)) → length us.items ≡ length ns.items → 0 < vec_len ns → (has_units us.items ≡ false → do_rise ns.items ≡ true)
+    → (length us.items == length ns.items && not (is_empty ns.items) && (has_units us.items || do_rise ns.items)) ≡ true
+asked_of ns us long some rises =
+    let one : 0 < length ns.items = omega (arith, some, ns.ok.0) in
+    and_from _ _ (and_from _ _ (eq-eqb _ _ long) (not_none ns.items one)) (either (has_units us.items) (do_rise ns.items) rises)
