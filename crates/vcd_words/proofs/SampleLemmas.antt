@@ -183,6 +183,14 @@ refused scale ns ns' us p n u fault e l t is =
 
 -- ---- what words may ask for
 
+some_there : (ts : List ℕ) → not (is_empty ts) ≡ true → ts ≢ []
+some_there [] e none = cc
+some_there (t ∷ ts) e none = cc
+
+some_long : (ts : List ℕ) → not (is_empty ts) ≡ true → 0 < length ts
+some_long [] e = cc
+some_long (t ∷ ts) e = omega arith
+
 module _ (ns : List ℕ) (us : List (Option ℤ)) (e : (length us == length ns && not (is_empty ns) && (has_units us || do_rise ns)) ≡ true) where
   parts_of : ((length us == length ns && not (is_empty ns)) ≡ true) × ((has_units us || do_rise ns) ≡ true)
   parts_of = and_parts _ _ e
@@ -191,7 +199,10 @@ module _ (ns : List ℕ) (us : List (Option ℤ)) (e : (length us == length ns &
   asked_pairs = eqb-true _ _ (and_parts _ _ parts_of.0).0
 
   pub asked_some : ns ≢ []
-  asked_some none = let some = (and_parts _ _ parts_of.0).1 in let one : not (is_empty []) ≡ true = rw none at some in cc
+  asked_some = some_there ns (and_parts _ _ parts_of.0).1
+
+  pub asked_long : 0 < length ns
+  asked_long = some_long ns (and_parts _ _ parts_of.0).1
 
   pub asked_order : (has_units us || do_rise ns) ≡ true
   asked_order = parts_of.1
@@ -217,3 +228,11 @@ pub asked_of : (ns : Vec ℕ) (us : Vec (Option ℤ)) → length us.items ≡ le
 asked_of ns us long some rises =
     let one : 0 < length ns.items = omega (arith, some, ns.ok.0) in
     and_from _ _ (and_from _ _ (eq-eqb _ _ long) (not_none ns.items one)) (either (has_units us.items) (do_rise ns.items) rises)
+
+-- and still may once other numbers and units of as many times are in their place
+pub asked_again : (ns ms : List ℕ) (us vs : List (Option ℤ)) → (length us == length ns && not (is_empty ns) && (has_units us || do_rise ns)) ≡ true → length vs ≡ length ms → length ms ≡ length ns → (has_units vs || do_rise ms) ≡ true
+    → (length vs == length ms && not (is_empty ms) && (has_units vs || do_rise ms)) ≡ true
+asked_again ns ms us vs told paired many order =
+    let long = asked_long ns us told in
+    let one : 0 < length ms = omega (arith, long, many) in
+    and_from _ _ (and_from _ _ (eq-eqb _ _ paired) (not_none ms one)) order

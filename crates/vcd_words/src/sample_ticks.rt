@@ -46,19 +46,21 @@ fn write_ticks(numbers: &mut [u64], units: &[Option<i8>], view: HeadView<'_>) ->
 /// rounded down, and leaves them without units: they are the same times. Where they are refused it says why, and what they are
 /// then is not said.
 pub(crate) fn write_times(
-    numbers: &mut [u64],
-    units: &mut [Option<i8>],
+    numbers: &mut Vec<u64>,
+    units: &mut Vec<Option<i8>>,
     view: HeadView<'_>,
 ) -> Result<(), Refusal>
-    requires paired { length units.old ≡ length numbers.old }
-    requires order { (has_units units.old || do_rise numbers.old) ≡ true }
+    requires paired { length units.old.items ≡ length numbers.old.items }
+    requires order { (has_units units.old.items || do_rise numbers.old.items) ≡ true }
     ensures same { (h : Header) (names : List (List ℕ)) → IsViewOf view.entry h → MatchResult result
-        (λ _. request_of h.scale (Want.Sample (times_with numbers.new units.new) names)
-        ≡ request_of h.scale (Want.Sample (times_with numbers.old units.old) names))
-        (λ why. request_of h.scale (Want.Sample (times_with numbers.old units.old) names)
+        (λ _. request_of h.scale (Want.Sample (times_with numbers.new.items units.new.items) names)
+        ≡ request_of h.scale (Want.Sample (times_with numbers.old.items units.old.items) names))
+        (λ why. request_of h.scale (Want.Sample (times_with numbers.old.items units.old.items) names)
         ≡ Err (model_refusal why)) }
-    ensures no_units { OnOk result (has_units units.new ≡ false) }
-    ensures order { (has_units units.new || do_rise numbers.new) ≡ true }
+    ensures no_units { OnOk result (has_units units.new.items ≡ false) }
+    ensures paired { length units.new.items ≡ length numbers.new.items }
+    ensures many { length numbers.new.items ≡ length numbers.old.items }
+    ensures order { (has_units units.new.items || do_rise numbers.new.items) ≡ true }
 {
     if !has_units(units) {
         return Ok(());
