@@ -1,5 +1,5 @@
 use Rattle.std.proofs.Common.{refl}
-use Rattle.vcd_tools.proofs.RoomLemmas.{no_room_in_each}
+use Rattle.vcd_engine.proofs.RoomLemmas.{no_room_in_each}
 use Rattle.vcdkit.proofs.RunLemmas.{list_reads, list_writes, listed}
 use Rattle.vcdkit.proofs.whole_run.run_in.Goals as goal
 

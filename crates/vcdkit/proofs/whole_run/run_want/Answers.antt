@@ -16,7 +16,7 @@ returns-in_err-write_ticks-clause-ends g c = λ h i front name v st.
 pub returns-in_err-task-clause-ends : goal.returns-in_err-task-clause-ends
 returns-in_err-task-clause-ends g c = λ h i front name v st.
     let e : c.from_residual-in_err-task.result ≡ Err (Refused c.in_err-task.field-0.0) = search rules in
-    let why : request_of h.scale (model_want c.args.want.now) ≡ Err (model_refusal c.in_err-task.field-0.0) = sym (c.in_ok-write_ticks.ensures.same h v) ∙ c.in_err-task.ensures h v in
+    let why : request_of h.scale (model_want c.args.want.now) ≡ Err (model_refusal c.in_err-task.field-0.0) = sym (c.in_ok-write_ticks.ensures.same h v) ∙ c.in_err-task.ensures.request h v in
     rw e (no_ticks c.args.want.now _ _ i front h name _ c.args.feed.now _ refl st c.in_err-task.field-0.0 why)
 
 pub returns-in_err-marks-clause-ends : goal.returns-in_err-marks-clause-ends
@@ -42,7 +42,7 @@ returns-in_err-shares-clause-ends g c = λ h i front name v st.
 pub returns-clause-ends : goal.returns-clause-ends
 returns-clause-ends g c = λ h i front name v st.
     let one = c.write_ticks.ensures.kind ∙ c.requires.one in
-    let same : request_of h.scale (model_want c.args.want.now) ≡ Ok (request_for c.in_ok-task.task) = sym (c.in_ok-write_ticks.ensures.same h v) ∙ c.in_ok-task.ensures h v ∙ asked_for c.write_ticks.new.self c.in_ok-task.task one in
+    let same : request_of h.scale (model_want c.args.want.now) ≡ Ok (request_for c.in_ok-task.task) = sym (c.in_ok-write_ticks.ensures.same h v) ∙ c.in_ok-task.ensures.request h v ∙ asked_for c.write_ticks.new.self c.in_ok-task.task one in
     rw (c.ended.ensures) (followed c.args.want.now _ _ _ i front h name _ _ _ _ c.run_in.result c.requires.one same (c.run_in.ensures.gives h i front name v st))
 
 pub run_in-requires-clause-bound : goal.run_in-requires-clause-bound

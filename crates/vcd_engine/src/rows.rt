@@ -1,0 +1,70 @@
+//! `list`: the variables of a header.
+ghost use Rattle.std.specs.Prelude.{◌≡◌, ◌++◌, ◌∷◌, ◌-◌, ◌^◌, ◌<◌, take, MatchResult, Some, slice_get};
+ghost use Rattle.vcd_model.specs.CheckAndList.{list_line, list_text};
+ghost use Rattle.vcd_model.specs.Declarations.{Declaration, Variable, path_of};
+ghost use Rattle.vcd_model.specs.Header.{Header};
+ghost use Rattle.vcd_text.specs.Device.{Counts, Puts, Takes, failures_after};
+ghost use Rattle.vcd_view.specs.Views.{IsViewOf};
+ghost use Rattle.vcd_model.specs.Bound.{no_room};
+ghost use Rattle.vcd_engine.specs.Room.{IsWithinEachBound};
+ghost use Rattle.vcd_body.specs.declared.answer.Done.TheVariants.{Whole};
+ghost use Rattle.vcd_body.specs.declared.answer.Stop.TheVariants.{Write};
+
+use vcd_body::{Done, Stop};
+use vcd_head::put_path;
+use vcd_text::{Sink, WriteFailed, put, put_number};
+use vcd_view::{HeadView, Kind};
+
+/// Writes a space and a word.
+fn put_word<W: Sink>(out: &mut W, word: &[u8]) -> Result<(), WriteFailed>
+    requires { (W.device out.old).failures < 2 ^ 64 - 1 }
+    ensures { Puts (W.device out.old) (W.device out.new) (32 ∷ word.now) result }
+{
+    put(out, b" ")?;
+    put(out, word)
+}
+
+/// Writes the line of a variable: path, type, size and code.
+fn put_variable<W: Sink>(view: HeadView<'_>, row: usize, out: &mut W) -> Result<(), WriteFailed>
+    requires failures { (W.device out.old).failures < 2 ^ 64 - 1 }
+    ensures takes { (h : Header) (v : Variable) → IsViewOf view.entry h
+        → slice_get h.declarations row ≡ Some (Declaration.Var v)
+        → Takes (W.device out.old) (W.device out.new)
+        (list_line (record {
+          path = path_of (take row h.declarations) (Declaration.Var v);
+          variable = v;
+        })) result }
+    ensures counts { Counts (W.device out.old) (W.device out.new) result }
+{
+    let Some(variable) = view.row_at(row) else {
+        return Ok(());
+    };
+    let Some(code) = view.code_at(variable.code as usize) else {
+        return Ok(());
+    };
+    let kind = view.type_of(row);
+    let bytes = view.code_text(variable.code as usize);
+    put_path(view, row, out)?;
+    put_word(out, kind)?;
+    put(out, b" ")?;
+    put_number(out, code.size as u64)?;
+    put_word(out, bytes)?;
+    put(out, b"\n")
+}
+
+/// Writes a line for each variable, in order of declaration: its path, type, size and code. The body of the dump is not read.
+pub fn list<W: Sink>(view: HeadView<'_>, out: &mut W) -> Result<Done, Stop>
+    requires failures { (W.device out.old).failures < 2 ^ 64 - 1 }
+    requires bound { IsWithinEachBound view no_room }
+    ensures takes { (h : Header) → IsViewOf view.entry h
+        → Takes (W.device out.old) (W.device out.new) (list_text h) result }
+    ensures counts { Counts (W.device out.old) (W.device out.new) result }
+    ensures answer { MatchResult result (λ done. done ≡ Whole) (λ stop. stop ≡ Write) }
+{
+    for (row, declared) in view.rows.iter().enumerate() {
+        if declared.kind == Kind::Var {
+            put_variable(view, row, out)?;
+        }
+    }
+    Ok(Done::Whole)
+}
