@@ -1,14 +1,14 @@
 //! The laws on what commands write, of the definitions alone.
-ghost use Rattle.vcd_model.specs.Laws.{CutIsADump, CutIsNotHalted, CutKeeps, CutRunKeeps, EdgesOfPick, ListOfPick, MergeFits, MergeIsADump, MergeIsNotHalted, MergeKeeps, MergeKeepsChanges, MergeKeepsChangesBefore, MergeRunKeeps, NothingRevised, NothingRevisedInMerge, PickIsADump, PickIsNotHalted, PickKeeps, PickRunKeeps, PickTwice, RoomFits, SampleOfCut, SampleOfPick};
+ghost use Rattle.vcd_model.specs.Laws.{CheckOfCut, CheckOfMerge, CheckOfPick, CutIsADump, CutKeeps, CutRunKeeps, EdgesOfMerge, EdgesOfPick, ListOfPick, MergeFits, MergeIsADump, MergeKeeps, MergeKeepsChanges, MergeKeepsChangesBefore, MergeRunKeeps, NothingRevised, NothingRevisedInMerge, PickIsADump, PickKeeps, PickRunKeeps, PickTwice, RoomFits, SampleOfCut, SampleOfMerge, SampleOfPick};
 
-/// Before an early end nothing that a command over one dump has written is revised.
+/// Before an early end nothing that was written is revised.
 pub fn nothing_revised()
     ensures { NothingRevised }
 {
     vcd_model::laws::nothing_revised();
 }
 
-/// Nothing that a merge has written is revised.
+/// In a merge nothing that was written is revised.
 pub fn nothing_revised_in_merge()
     ensures { NothingRevisedInMerge }
 {
@@ -22,7 +22,7 @@ pub fn room_fits()
     vcd_model::laws::room_fits();
 }
 
-/// What a merge is lent counts at most the bound of its inputs, less their registers.
+/// What an engine over several inputs is lent counts at most their bound, less its registers.
 pub fn merge_fits()
     ensures { MergeFits }
 {
@@ -50,7 +50,7 @@ pub fn merge_keeps_changes()
     vcd_model::laws::merge_keeps_changes();
 }
 
-/// The changes under a merged code that stand before a fault are those of one input's code.
+/// The changes under a merged code before a fault are those of one input's code before it.
 pub fn merge_keeps_changes_before()
     ensures { MergeKeepsChangesBefore }
 {
@@ -78,7 +78,7 @@ pub fn cut_run_keeps()
     vcd_model::laws::cut_run_keeps();
 }
 
-/// The output of a run of `merge` with status 0 gives each merged code its values at scaled times.
+/// The output of a run of `merge` with status 0 gives each merged code its values.
 pub fn merge_run_keeps()
     ensures { MergeRunKeeps }
 {
@@ -127,27 +127,6 @@ pub fn edges_of_pick()
     vcd_model::laws::edges_of_pick();
 }
 
-/// The output of a run of `pick` with status 0 can be read under the same token limit.
-pub fn pick_is_not_halted()
-    ensures { PickIsNotHalted }
-{
-    vcd_model::laws::pick_is_not_halted();
-}
-
-/// The output of a run of `cut` with status 0 can be read under the same token limit.
-pub fn cut_is_not_halted()
-    ensures { CutIsNotHalted }
-{
-    vcd_model::laws::cut_is_not_halted();
-}
-
-/// The output of a run of `merge` with status 0 can be read under the same token limit.
-pub fn merge_is_not_halted()
-    ensures { MergeIsNotHalted }
-{
-    vcd_model::laws::merge_is_not_halted();
-}
-
 /// `sample` of what `cut` wrote is `sample` of its input, at times that were kept.
 pub fn sample_of_cut()
     ensures { SampleOfCut }
@@ -160,4 +139,39 @@ pub fn pick_twice()
     ensures { PickTwice }
 {
     vcd_model::laws::pick_twice();
+}
+
+/// `check` of what `pick` wrote counts the selected variables and what was kept of the body.
+pub fn check_of_pick()
+    ensures { CheckOfPick }
+{
+    vcd_model::laws::check_of_pick();
+}
+
+/// `check` of what `cut` wrote counts all variables, the start section and what was kept of the body.
+pub fn check_of_cut()
+    ensures { CheckOfCut }
+{
+    vcd_model::laws::check_of_cut();
+}
+
+/// `check` of what `merge` wrote counts what all inputs declare, a scope more for each, and the changes that were kept.
+pub fn check_of_merge()
+    ensures { CheckOfMerge }
+{
+    vcd_model::laws::check_of_merge();
+}
+
+/// `sample` of what `merge` wrote gives the values of each input, at scaled times and under its scope.
+pub fn sample_of_merge()
+    ensures { SampleOfMerge }
+{
+    vcd_model::laws::sample_of_merge();
+}
+
+/// `edges` of what `merge` wrote gives the counts of each input, under its scope.
+pub fn edges_of_merge()
+    ensures { EdgesOfMerge }
+{
+    vcd_model::laws::edges_of_merge();
 }

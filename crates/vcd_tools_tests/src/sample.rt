@@ -38,7 +38,7 @@ const ALIASED_SAMPLED: &[u8] =
 fn sample_at<'n>(times: &'n [u64], names: &'n [String]) -> Task<'n>
     requires some { times.now ≢ [] }
     requires rising { do_rise times.now ≡ true }
-    ensures valid { IsValid (request_of result) }
+    ensures { IsValid (request_of result) }
 {
     Task::Sample { times, names }
 }

@@ -30,7 +30,7 @@ returns-in_ok-cut_of-in-Cut-clause-request c = λ h v. rw c.in-Cut.is (c.in_ok-c
 pub returns-in-Sample-clause-request : goal.returns-in-Sample-clause-request
 returns-in-Sample-clause-request c = λ h v.
     let ns = c.in-Sample.numbers in
-    let us = c.in-Sample.units in
+    let us = c.in-Sample.field-1 in
     let none : has_units us.items ≡ false = rw c.in-Sample.is at c.requires.ticks in
     let told : is_asked (Sample ns us c.in-Sample.names) ≡ true = rw c.in-Sample.is at c.requires.asked in
     rw (c.in-Sample.is, c.as_slice-in-Sample.ensures.value, c.as_slice-in-Sample-2.ensures.value) (plain_request h.scale ns.items us.items (map string_bytes c.in-Sample.names.items) (asked_pairs ns.items us.items told) none)
@@ -38,7 +38,7 @@ returns-in-Sample-clause-request c = λ h v.
 pub returns-in-Sample-clause-valid : goal.returns-in-Sample-clause-valid
 returns-in-Sample-clause-valid c =
     let ns = c.in-Sample.numbers in
-    let us = c.in-Sample.units in
+    let us = c.in-Sample.field-1 in
     let none : has_units us.items ≡ false = rw c.in-Sample.is at c.requires.ticks in
     let told : is_asked (Sample ns us c.in-Sample.names) ≡ true = rw c.in-Sample.is at c.requires.asked in
     rw c.as_slice-in-Sample.ensures.value (asked_some ns.items us.items told, rises_at ns.items (asked_rises ns.items us.items told none))
