@@ -89,7 +89,7 @@ CanOpen limit h text = (first_halt limit (input_of text) ≡ None)
 
 -- ---- one input
 
--- the codes of the text behind a head: those of the header that a selected variable carries
+-- the codes of the text after a head: those of the header that a selected variable carries
 pub record AreSelectedCodes (h : Header) (names : List (List ℕ)) (declared : List IdCode) : Type 0
   where
     pub found : AllByRecursion (λ c. declared_code declared c.text ≡ Some c) declared

@@ -277,7 +277,7 @@ pub no_fault : (stream : Stream) (r : Reading HeaderPhrase) → r.ending ≡ AtL
     → header_fault_of stream r ≡ None
 no_fault stream r e = rw e refl
 
--- the reading of a head and what stands behind it
+-- the reading of a head and what follows it
 pub record IsHeadRead (h : Header) (names : List (List ℕ)) (stream : Stream)
     (r : Reading HeaderPhrase) (text : List ℕ) : Type 0 where
   pub whole : header_fault_of stream r ≡ None

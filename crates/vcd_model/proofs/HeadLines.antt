@@ -1,4 +1,4 @@
--- The lines of a head, read as a text: its phrases, and then what stands behind it.
+-- The lines of a head, read as a text: its phrases, and then what follows it.
 use Rattle.std.proofs.Common.{◌≡◌, ℕ, ℤ, ◌<◌, ◌≤◌, ◌^◌, true, false, not, List, [], ◌∷◌, ◌++◌, length, map, flat_map, filter_map, decimal, Option, Some, None, option_map, unwrap_or, refl, sym, ap, ◌∙◌, arith}
 use Rattle.std.specs.List.{AllByRecursion, list_all, join_with_byte}
 use Rattle.std.proofs.lemmas.List.{append_assoc, map-append}
@@ -71,7 +71,7 @@ line_words (w ∷ x ∷ ws) rest all =
     ∙ texts_from-word w 32 ((j ++ 10 ∷ []) ++ rest) all.0 refl
     ∙ ap (λ l. w ∷ l) (line_words (x ∷ ws) rest all.1)
 
--- a keyword, words behind a tab, and `$end`, on three lines
+-- a keyword, words after a tab, and `$end`, on three lines
 pub three_words : (k : Keyword) (ws : List (List ℕ)) (rest : List ℕ) → AllByRecursion IsWord ws
     → texts_from true (three_lines k (join_with_byte 32 ws) ++ rest) ≡ keyword_text k ∷ ws
     ++ end_text ∷ texts_from true rest
@@ -270,7 +270,7 @@ module _ (most : ℕ) where
       ∙ filter_map-append declaration_of (phrases_of done) (phrases_of placed)
       ∙ rw (e, p, none) refl
 
-  -- a head, and whatever stands behind it, is read as the phrases that it was written from
+  -- a head, and whatever follows it, is read as the phrases that it was written from
   pub reads_head : (h : Header) (parts : AreParts h) (ds : List Declaration) (text : List ℕ)
       (ts : List Token) → AreDeclared [] ds → length ds ≤ most
       → texts_of ts ≡ texts_from true (head_of h ds ++ text)

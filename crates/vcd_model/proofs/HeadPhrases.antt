@@ -25,7 +25,7 @@ use Rattle.vcd_model.proofs.PickKept.{find_all}
 
 -- ---- the tokens of one phrase
 
--- behind these tokens of its phrase, none of these completes one
+-- after these tokens of its phrase, none of these completes one
 abbrev NoneWhole : List (List ℕ) → List (List ℕ) → Type 0
 NoneWhole before [] = ⊤
 NoneWhole before (w ∷ ws) =
@@ -248,7 +248,7 @@ pub record IsToken (text : List ℕ) : Type 0 where
   pub word : IsWord text
   pub other : is_end text ≡ false
 
--- a variable that passes its checks behind these declarations
+-- a variable that passes its checks after these declarations
 pub record IsGoodVariable (earlier : List Declaration) (v : Variable) : Type 0 where
   pub type : IsWord v.type
   pub other : is_end v.type ≡ false
@@ -261,24 +261,24 @@ pub record IsGoodVariable (earlier : List Declaration) (v : Variable) : Type 0 w
   pub none : HasNoEnd v.reference
   pub filled : v.reference ≢ []
 
--- a declaration that passes its checks behind these, their number aside
+-- a declaration that passes its checks after these, their number aside
 abbrev pub IsDeclared : List Declaration → Declaration → Type 0
 IsDeclared earlier (Declaration.Scope type name) =
     (open_scopes earlier < 1000) × IsToken type × IsToken name
 IsDeclared earlier Declaration.Up = 0 < open_scopes earlier
 IsDeclared earlier (Declaration.Var v) = IsGoodVariable earlier v
 
--- declarations in a row that do, behind these
+-- declarations in a row that pass their checks after these
 abbrev pub AreDeclared : List Declaration → List Declaration → Type 0
 AreDeclared earlier [] = ⊤
 AreDeclared earlier (d ∷ ds) = IsDeclared earlier d × AreDeclared (earlier ++ d ∷ []) ds
 
 module _ (most : ℕ) where
-  -- what reading these tokens behind these phrases gives
+  -- what reading these tokens after these phrases gives
   abbrev pub read_on : List (Placed HeaderPhrase) → List Token → Reading HeaderPhrase
   read_on done ts = read_from (header_grammar most) done [] ts
 
-  -- reading goes on behind these phrases more
+  -- reading goes on after these phrases more
   pub record ReadsPhrases (done : List (Placed HeaderPhrase)) (ps : List HeaderPhrase)
       (ts : List Token) (more : List (List ℕ)) : Type 0 where
     pub placed : List (Placed HeaderPhrase)
@@ -661,7 +661,7 @@ module _ (most : ℕ) where
       reads_phrase done (keyword_text Keyword.Timescale ∷ scale_text scale ∷ []) end_text
       (Timescale scale) ts more refl (timescale_tokens (phrases_of done) scale good) e
 
-  -- a reading that ends with `$enddefinitions $end`: these phrases, and these texts behind
+  -- a reading that ends with `$enddefinitions $end`: these phrases, and these texts after them
   pub record ReadsHead (done : List (Placed HeaderPhrase)) (ps : List HeaderPhrase)
       (r : Reading HeaderPhrase) (more : List (List ℕ)) : Type 0 where
     pub ending : r.ending ≡ AtLast

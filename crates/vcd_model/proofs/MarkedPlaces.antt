@@ -14,7 +14,7 @@ use Rattle.vcd_model.proofs.ScopeLemmas.{enclosing_below}
 use Rattle.vcd_model.proofs.HeadPhrases.{IsDeclared, AreDeclared}
 use Rattle.vcd_model.proofs.WrittenRows.{slice_get-more, slice_get-last, Open, IsNamed, HasOpen, has_scope, has_up, has_var, open_count}
 
--- the scopes that are open behind one more declaration
+-- the scopes that are open after one more declaration
 pub opens_more : (earlier : List Declaration) (d : Declaration) (s : List Open) → HasOpen earlier s
     → IsDeclared earlier d → (t : List Open) × HasOpen (earlier ++ d ∷ []) t
 opens_more earlier (Declaration.Scope type name) s is fine =

@@ -233,7 +233,7 @@ same_empty : (front : List Header) (h : Header) (vs : List Selected)
 same_empty front h [] = refl
 same_empty front h (s ∷ vs) = refl
 
--- and the same of them select nothing
+-- the names that select nothing are the same
 pub unmatched_under : (front back : List Header) (h : Header) (wanted : List (List ℕ))
     (es : List Declaration) → length (front ++ h ∷ back) < 2 ^ 63
     → selected [] es ≡ selected_all [] (front ++ h ∷ back)

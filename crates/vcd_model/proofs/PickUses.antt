@@ -104,7 +104,7 @@ one_chosen (w ∷ ws) n s i e =
     or_false true e = refl
     or_false false e = cc
 
--- and the same of them select nothing
+-- the names that select nothing are the same
 pub same_unmatched : (ns wanted names : List (List ℕ)) (h k : Header)
     → selected [] k.declarations ≡ selected names h.declarations
     → ((s : Selected) → In s (selected [] h.declarations) → chosen wanted s ≡ true

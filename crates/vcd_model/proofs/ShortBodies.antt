@@ -233,7 +233,7 @@ pub short_items : (limit : ℕ) (o : Opened) → 64 ≤ limit → IsShortInput l
 unfolding body_of
 short_items limit o least s = body_short o.header.codes limit least o.rest s.rest
 
--- a head and the tokens behind it
+-- a head and the tokens after it
 pub short_behind : (limit : ℕ) (input : Input) (o : Opened) (names : List (List ℕ)) (text : List ℕ)
     → 64 ≤ limit → Opens limit input o → AllShort limit (texts_from true text)
     → AllShort limit (texts_from true (head_for o.header names ++ text))

@@ -365,7 +365,7 @@ module _ (limit : ℕ) (least : 64 ≤ limit) where
     ),
   )
 
-  -- the tokens of a head, and of what stands behind it
+  -- the tokens of a head, and of what follows it
   pub head_short : (h : Header) (parts : AreParts h) (ds : List Declaration) (text : List ℕ)
       → AreDeclared [] ds → ShortText limit h.date → ShortText limit h.version
       → AllByRecursion (ShortDeclaration limit) ds → AllShort limit (texts_from true text)

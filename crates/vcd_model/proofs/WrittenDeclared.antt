@@ -41,7 +41,7 @@ true_all test (x ∷ xs) h = and_from (test x) (list_all test xs) h.0 (true_all 
 
 -- ---- new codes
 
--- codes of such variables may be replaced, behind these other variables
+-- codes of such variables may be replaced, after these other variables
 pub record IsRenaming (rename : List ℕ → List ℕ) (marked : ℕ → Bool) (M : Variable → Type 0)
     (outer : List Variable) : Type 0 where
   pub words : (v : Variable) → M v → IsWord (rename v.code)
@@ -454,7 +454,7 @@ module _ (rename : List ℕ → List ℕ) (marked : ℕ → Bool) (names : List 
       (rows_from rename marked (earlier ++ d ∷ []) ds) in
       omega arith
 
-  -- all that is written, behind w
+  -- all that is written, after w
   pub record IsWritten (w ds : List Declaration) : Type 0 where
     pub declared : AreDeclared w (written rename marked ds)
     pub chosen : selected_after [] w (written rename marked ds)

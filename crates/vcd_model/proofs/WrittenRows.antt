@@ -94,7 +94,7 @@ names_back ds (e ∷ s) h =
     ++ filter_map (λ (i : ℕ). option_map name_of o) (e.0 ∷ [])) h.0.1
     ∙ sym (reverse-append (e.1 ∷ []) (map (λ (x : Open). x.1) s))
 
--- the path of a declaration behind these
+-- the path of a declaration after these
 pub path_is : (ds : List Declaration) (s : List Open) (d : Declaration) → HasOpen ds s
     → path_of ds d ≡ join_with_byte 46 (reverse (map (λ e. e.1) s) ++ name_of d ∷ [])
 unfolding path_of
