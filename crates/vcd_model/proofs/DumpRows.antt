@@ -1,12 +1,15 @@
 -- Rows on what is written and read again, computed: that the laws' premises can be met, and why
 -- they are there.
-use Rattle.std.proofs.Common.{◌≡◌, ℕ, ◌+◌, ◌<◌, ◌≤◌, Bool, true, false, cond, List, [], ◌∷◌, length, count_by, map, replicate, codes, Option, Some, None, Result, Ok, Err, refl, ap, ◌∙◌, arith}
+use Rattle.std.proofs.Common.{◌≡◌, ℕ, ◌+◌, ◌<◌, ◌≤◌, Bool, true, false, cond, List, [], ◌∷◌, length, count_by, map, replicate, codes, Option, Some, None, Result, Ok, Err, refl, ap, ◌∙◌, arith, zero, suc, flat_map, drop}
 use Rattle.std.specs.List.{AllByRecursion}
 use Rattle.std.proofs.lemmas.List.{length-append}
 use Rattle.std.proofs.lemmas.List.Sums.{sum_by-cons}
+use Rattle.std.specs.List.Sorted.{IsStrictlyIncreasing}
+use Rattle.vcd_model.proofs.SampleOfMerge.{sample_of_merge}
+use Rattle.vcd_model.specs.Selection.{selected}
 use Rattle.vcd_model.proofs.Computing.{model}
 use Rattle.vcd_model.proofs.PickKept.{at_contained}
-use Rattle.vcd_model.proofs.RowText.{clean, limit, gives, on, cut, sample}
+use Rattle.vcd_model.proofs.RowText.{clean, limit, gives, on, cut, sample, at}
 use Prim.Native.String.{String}
 use Rattle.vcd_model.specs.Tokens.{first_halt}
 use Rattle.vcd_model.specs.Declarations.{Declaration, is_scope}
@@ -18,9 +21,9 @@ use Rattle.vcd_model.specs.HeadText.{head_for}
 use Rattle.vcd_model.specs.Keywords.{Keyword}
 use Rattle.vcd_model.specs.Reading.{Fault}
 use Rattle.vcd_model.specs.Merge.{headers_of}
-use Rattle.vcd_model.specs.Outcome.{Outcome, Opened, declarations_allowed, open_from, dumps_of}
+use Rattle.vcd_model.specs.Outcome.{Outcome, Opened, declarations_allowed, open_from, dumps_of, clean_outcome, items_in}
 use Rattle.vcd_model.specs.Job.{Want, IsJob, outcome}
-use Rattle.vcd_model.specs.Laws.{input_of, written_by, over_written, stream_over, most_declared, input_scope, distinct, IsShallow, IsReadable, AreReadable}
+use Rattle.vcd_model.specs.Laws.{input_of, written_by, over_written, stream_over, most_declared, input_scope, distinct, IsShallow, IsReadable, AreReadable, names_under, over_merged, merged_lines}
 
 abbrev stdin : List ℕ
 stdin = codes "(stdin)"
@@ -249,6 +252,24 @@ merged_sampled : over_merge (sample (40 ∷ 50 ∷ []) (codes "in1.m" ∷ codes 
     ≡ gives "40 in1.m.c 0;40 in2.q zzzz;50 in1.m.c 1;50 in2.q zzzz;" "" 0
 unfolding model
 merged_sampled = refl
+
+-- the law on samples of a merge, with all its premises met
+rising : IsStrictlyIncreasing (40 ∷ 50 ∷ [])
+rising zero h = omega arith
+rising (suc k) h = absurd (omega arith)
+
+asked_of_merge : IsJob (sample (40 ∷ 50 ∷ []) (names_under 1 some_names))
+asked_of_merge = (λ e. cc, (((omega arith), refl), (((omega arith), refl), tt)), λ e. rising)
+
+merged_sample : over_merged (sample (40 ∷ 50 ∷ []) (names_under 1 some_names)) limit stdin
+    (codes "a.vcd" ∷ codes "b.vcd" ∷ []) (clean aliased ∷ clean finer ∷ [])
+    ≡ clean_outcome (flat_map (merged_lines 1 10 (selected some_names opened.header.declarations)
+    (items_in opened)) (4 ∷ 5 ∷ []))
+unfolding model
+merged_sample = sample_of_merge limit stdin (codes "a.vcd" ∷ codes "b.vcd" ∷ [])
+    (clean aliased ∷ clean finer ∷ []) opened_both [] (drop 1 opened_both) opened
+    (map at (40 ∷ 50 ∷ [])) some_names (4 ∷ 5 ∷ []) merged_within refl (λ e. cc) refl
+    asked_of_merge refl
 
 merged_counted : over_merge (Want.Edges (codes "in1.b" ∷ codes "in1.m" ∷ []))
     ≡ gives "in1.b 0 0 0;in1.m.c 1 1 0;" "" 0
