@@ -7,9 +7,10 @@ use Rattle.std.proofs.lemmas.List.Sums.{sum_by-cons}
 use Rattle.std.specs.List.Sorted.{IsStrictlyIncreasing}
 use Rattle.vcd_model.proofs.SampleOfMerge.{sample_of_merge}
 use Rattle.vcd_model.specs.Selection.{selected}
+use Rattle.vcd_model.proofs.CutUses.{sample_of_cut}
 use Rattle.vcd_model.proofs.Computing.{model}
 use Rattle.vcd_model.proofs.PickKept.{at_contained}
-use Rattle.vcd_model.proofs.RowText.{clean, limit, gives, on, cut, sample, at}
+use Rattle.vcd_model.proofs.RowText.{clean, limit, gives, on, cut, sample, at, time}
 use Prim.Native.String.{String}
 use Rattle.vcd_model.specs.Tokens.{first_halt}
 use Rattle.vcd_model.specs.Declarations.{Declaration, is_scope}
@@ -164,6 +165,20 @@ sampled_as_cut : on (sample (1 ∷ 4 ∷ 5 ∷ []) some_names) aliased
     ≡ gives "1 b 1;1 m.c 0;4 b 1;4 m.c 0;5 b 1;5 m.c 1;" "" 0
 unfolding model
 sampled_as_cut = refl
+
+-- the law on samples of a cut, with all its premises met
+rising_in_cut : IsStrictlyIncreasing (1 ∷ 5 ∷ [])
+rising_in_cut zero h = omega arith
+rising_in_cut (suc k) h = absurd (omega arith)
+
+asked_of_cut : IsJob (sample (1 ∷ 5 ∷ []) some_names)
+asked_of_cut = (λ e. cc, (((omega arith), refl), (((omega arith), refl), tt)), λ e. rising_in_cut)
+
+cut_sample : over_cut (sample (1 ∷ 5 ∷ []) some_names) ≡ on (sample (1 ∷ 5 ∷ []) some_names) aliased
+unfolding model
+cut_sample = sample_of_cut limit stdin (time "1") (time "5") (map at (1 ∷ 5 ∷ [])) some_names
+    (clean aliased) opened 1 5 (1 ∷ 5 ∷ []) cut_asked asked_of_cut cut_within refl refl refl
+    (((omega arith), (omega arith)), (((omega arith), (omega arith)), tt))
 
 -- ---- `merge`
 
