@@ -169,7 +169,8 @@ module _ (earlier : List Header) (h : Header) (w : List Declaration) (good : IsG
   old_code v there = (
     code_of v,
     found_in h.codes (code_of v) found
-        (subst (In (code_of v)) (sym good.codes) (to_codes_of h.declarations v good.declared there)),
+        (subst (In (code_of v)) (sym good.codes)
+        (to_codes_of h.declarations v good.declared there)),
   )
 
   member : (front back : List Declaration) (v : Variable)

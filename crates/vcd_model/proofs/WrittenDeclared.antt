@@ -62,7 +62,8 @@ AreDeclared-append earlier [] ys h g = rw append-nil at g
 AreDeclared-append earlier (x ∷ xs) ys h g = (
   h.0,
   AreDeclared-append (earlier ++ x ∷ []) xs ys h.1
-      (subst (λ (l : List Declaration). AreDeclared l ys) (sym (append_assoc earlier (x ∷ []) xs)) g),
+      (subst (λ (l : List Declaration). AreDeclared l ys)
+      (sym (append_assoc earlier (x ∷ []) xs)) g),
 )
 
 filter_fewer : {X : Type 0} (test : X → Bool) (xs : List X) → length (filter test xs) ≤ length xs
