@@ -4,8 +4,9 @@ use std::io::{ErrorKind, Read, Write};
 
 /// A reader or a writer whose interrupted calls are made again.
 ///
-/// Any other result is returned as it is. The contract says which bytes are given and taken where the device tells them: a call
-/// that failed, also one that was interrupted, gave and took none. It does not say which calls are made again.
+/// Any other result is returned as it is. The contract says which bytes are given and taken where
+/// the device tells them: a call that failed, also one that was interrupted, gave and took none.
+/// It does not say which calls are made again.
 #[derive(Drop)]
 pub struct Again<D> {
     /// What is called.

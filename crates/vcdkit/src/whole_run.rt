@@ -55,8 +55,8 @@ fn merged(answer: Result<Done, Stop>) -> Result<Done, Failure>
     }
 }
 
-/// Does the task over the body after the header that is shown, in this room; writes the list where there is none. It is given no
-/// allocator, so from its begin on the run takes no memory.
+/// Does the task over the body after the header that is shown, in this room; writes the list where
+/// there is no task. It is given no allocator, so from its begin on the run takes no memory.
 fn run_in<S: Source, W: Sink>(
     task: Option<Task<'_>>,
     view: HeadView<'_>,
