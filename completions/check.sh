@@ -66,6 +66,14 @@ for command in $help_commands; do
     done
 done
 
+# The faults of the manual's table, each with its cause in the man page; and the words for the statuses in both, and in the help.
+same 'faults in the man page' "$(sed -n '/^## Faults/,/^Other lines/s/^| `\([a-z ]*\)`.*/\1/p' docs/MANUAL.md | LC_ALL=C sort -u | paste -s -d ,)" \
+    "$(sed -n '/^is one of these/,/^The manual has/s/^\.B \([a-z ]*\)$/\1/p' man/vcdkit.1 | LC_ALL=C sort -u | paste -s -d ,)"
+for words in 'usage error' 'i/o error' 'out of memory' 'not a valid dump'; do
+    same "'$words' in help, man page and manual" 3 "$({ "$program" check --help | tr '\n' ' '; echo; sed -n '/^\.SH "EXIT STATUS"/,/^\.SH DIAG/p' man/vcdkit.1 | tr '\n' ' '; echo
+        sed -n '/^## Exit statuses/,/^## Memory/p' docs/MANUAL.md | tr '\n' ' '; echo; } | grep -ci -- "$words")"
+done
+
 dump=samples/nested.vcd
 same 'a command' 'sample' "$(completed "$program" sa)"
 same 'an option' '--from' "$(completed "$program" cut -i $dump --f)"

@@ -1,4 +1,4 @@
-//! What `--help` says of each command: what it does, how it is used, examples, and what its exit status says.
+//! What `--help` says of each command: what it does, its usage, examples, and exit statuses.
 
 /// The texts of one command.
 #[derive(Clone, Copy)]
@@ -11,21 +11,27 @@ pub struct Help<'a> {
 
 pub const CHECK: Help<'static> = Help {
     about: "Checks a dump and counts what it has",
-    usage: "vcdkit check [-i FILE] [--token-limit N]",
+    usage: "vcdkit check -i FILE [--token-limit N]
+       vcdkit check [--token-limit N] < FILE",
     after: "Examples:
   vcdkit check -i sim.vcd
   gzip -dc sim.vcd.gz | vcdkit check
 
 Exit status:
-  0  it is a whole dump, and the counts were written
-  1  it is none: the line says where and why
-  2  the command line
-  3  the machine: files, reads, writes, memory",
+  0  a valid dump, as far as it goes: the counts were written
+  1  not a valid dump: the message says where and why
+  2  usage error
+  3  I/O error or out of memory
+
+A dump has no end mark: one that was cut off between two lines is valid too. Whether a simulation
+came to its end is told by the line 'last'. Let a CI job ask for the time that must be reached:
+  vcdkit check -i sim.vcd | awk '$1 == \"last\" && $2 >= 1220 { ok = 1 } END { exit !ok }'",
 };
 
 pub const LIST: Help<'static> = Help {
     about: "Lists the variables of a dump",
-    usage: "vcdkit list [-i FILE] [--token-limit N]",
+    usage: "vcdkit list -i FILE [--token-limit N]
+       vcdkit list [--token-limit N] < FILE",
     after: "Examples:
   vcdkit list -i sim.vcd
   vcdkit list -i sim.vcd | grep clk
@@ -34,14 +40,15 @@ A line has the path, the type, the size and the code of a variable. The header a
 
 Exit status:
   0  all was written
-  1  the header has a fault: the line says where and why
-  2  the command line
-  3  the machine: files, reads, writes, memory",
+  1  not a valid header: the message says where and why
+  2  usage error
+  3  I/O error or out of memory",
 };
 
 pub const PICK: Help<'static> = Help {
     about: "Writes the dump of some variables",
-    usage: "vcdkit pick [-i FILE] [--token-limit N] NAME..",
+    usage: "vcdkit pick -i FILE [--token-limit N] NAME..
+       vcdkit pick [--token-limit N] NAME.. < FILE",
     after: "Examples:
   vcdkit pick -i sim.vcd top.clk top.cpu > some.vcd
   vcdkit pick -i sim.vcd 'top.mem[0]' | vcdkit check
@@ -50,55 +57,63 @@ Names are those of vcdkit list.
 
 Exit status:
   0  all was written
-  1  a name selects nothing, or the dump has a fault: what comes before it was written
-  2  the command line
-  3  the machine: files, reads, writes, memory",
+  1  a name selects nothing, or not a valid dump: what comes before the fault was written
+  2  usage error
+  3  I/O error or out of memory",
 };
 
 pub const CUT: Help<'static> = Help {
     about: "Writes the dump from one time to another",
-    usage: "vcdkit cut [-i FILE] [--token-limit N] --from N --to N",
+    usage: "vcdkit cut -i FILE --from N --to N [--token-limit N]
+       vcdkit cut --from N --to N [--token-limit N] < FILE",
     after: "Examples:
   vcdkit cut -i sim.vcd --from 100us --to 200us > window.vcd
   vcdkit cut -i sim.vcd --from 5000 --to 18446744073709551615    (to the end)
 
+Where the dump ends before --to, the cut ends with the last time mark of the dump, or at --from
+where that is later, with status 0.
+
 Exit status:
   0  all was written
-  1  no time scale for a unit, or the dump has a fault: what comes before it was written
-  2  the command line
-  3  the machine: files, reads, writes, memory",
+  1  a unit and no time scale, or not a valid dump: what comes before the fault was written
+  2  usage error
+  3  I/O error or out of memory",
 };
 
 pub const SAMPLE: Help<'static> = Help {
     about: "Writes the values of variables at some times",
-    usage: "vcdkit sample [-i FILE] [--token-limit N] --at N,N,.. [NAME..]",
+    usage: "vcdkit sample -i FILE --at N,N,.. [--token-limit N] [NAME..]
+       vcdkit sample --at N,N,.. [--token-limit N] [NAME..] < FILE",
     after: "Examples:
   vcdkit sample -i sim.vcd --at 0,15ns,2us top.cpu.pc
   vcdkit sample -i sim.vcd --at 5000
 
 With no name all variables are sampled. Names are those of vcdkit list.
+At a time after the end of the dump the values are the last ones, with status 0.
 
 Exit status:
   0  all was written
-  1  a name selects nothing, no time scale for a unit, or the dump has a fault
-  2  the command line
-  3  the machine: files, reads, writes, memory",
+  1  a name selects nothing, a unit and no time scale, or not a valid dump
+  2  usage error
+  3  I/O error or out of memory",
 };
 
 pub const EDGES: Help<'static> = Help {
     about: "Counts changes, rises and falls of variables",
-    usage: "vcdkit edges [-i FILE] [--token-limit N] [NAME..]",
+    usage: "vcdkit edges -i FILE [--token-limit N] [NAME..]
+       vcdkit edges [--token-limit N] [NAME..] < FILE",
     after: "Examples:
   vcdkit edges -i sim.vcd top.clk
   vcdkit edges -i sim.vcd | sort -k 2,2nr | head
 
 With no name all variables are counted. Names are those of vcdkit list.
+Rises and falls are those of the last digit alone, that of a vector too.
 
 Exit status:
   0  all was written
-  1  a name selects nothing, or the dump has a fault
-  2  the command line
-  3  the machine: files, reads, writes, memory",
+  1  a name selects nothing, or not a valid dump
+  2  usage error
+  3  I/O error or out of memory",
 };
 
 pub const MERGE: Help<'static> = Help {
@@ -108,18 +123,21 @@ pub const MERGE: Help<'static> = Help {
   vcdkit merge cpu.vcd bus.vcd > both.vcd
   gzip -dc cpu.vcd.gz | vcdkit merge /dev/stdin bus.vcd > both.vcd
 
-The variables of the first file stand in the scope in1, those of the second in in2, and so on.
+The variables of the first file are in the scope in1, those of the second in in2, and so on.
 
 Exit status:
   0  all was written
-  1  a dump has a fault: what comes before it was written
-  2  the command line
-  3  the machine: files, reads, writes, memory",
+  1  not a valid dump: what comes before the fault was written
+  2  usage error
+  3  I/O error or out of memory",
 };
 
 pub const PROGRAM: Help<'static> = Help {
-    about: "Proved tools for value change dumps",
+    about: "Reads value change dumps (VCD), and answers questions about them",
     usage: "vcdkit COMMAND ..",
-    after: "A command reads a dump from the file behind -i, or from standard input; merge reads the files that it names.
-Its own help has examples: vcdkit check --help",
+    after: "A command reads the dump from the file after -i, or from standard input; merge reads the
+files that it names. Each command has its own help, with examples: vcdkit check --help
+
+Man page: man vcdkit. Manual, recipes and what producers write: share/doc/vcdkit, below the prefix
+of the installation (/usr/local/share/doc/vcdkit), or docs/ of the sources.",
 };
