@@ -2,30 +2,40 @@
 # make test    the merge gate: every proof from nothing, must-fail edits, tests, the program as two compilers build it
 # make hostile runs the program where memory, reads and writes fail, and on dumps that are cut off, crafted or made at random: some minutes
 # make docs-check runs the commands that README, manual and recipes show over ./vcdkit, and compares what they print: seconds
+# make static  links ./vcdkit-static, the program without any shared library: seconds after make
+# make dist    a tarball and a Debian package of it in dist/, with documents, man page, completions and extras
+# make library ./libvcd_c.a and ./libvcd_c.so, for callers in C and Python: a minute or two after make
+# make dist-check          tries both without the kit, and that they come out the same byte for byte: a minute
 # make clean   drops what was built, and what the proofs kept
-# make install [PREFIX=/usr/local] [DESTDIR=]    puts ./vcdkit, as it was built, its man page, completions and documents in place
+# make install [PREFIX=/usr/local] [DESTDIR=]    puts ./vcdkit, as it was built, its man page, completions, extras and documents in place
 # make uninstall [PREFIX=..] [DESTDIR=..]        takes them away again
 # make completions-check    compares the completions and the man page with the help of ./vcdkit: a second
 # make extras-check         tries extras/ with ./vcdkit: some seconds
 
 sample := samples/counter.vcd
 
-.PHONY: all test hostile docs-check clean vcdkit toolchain install uninstall completions-check extras-check
+.PHONY: all test hostile docs-check clean vcdkit toolchain static library dist dist-check install uninstall completions-check extras-check
 
 PREFIX ?= /usr/local
 DESTDIR ?=
 bin := $(DESTDIR)$(PREFIX)/bin
 man := $(DESTDIR)$(PREFIX)/share/man/man1
 bash_words := $(DESTDIR)$(PREFIX)/share/bash-completion/completions
-zsh_words := $(DESTDIR)$(PREFIX)/share/zsh/site-functions
+# The folder of zsh for what a package brings is another one on Debian than that for what is installed beside packages.
+ZSH_FOLDER ?= $(PREFIX)/share/zsh/$(if $(filter /usr,$(PREFIX)),vendor-completions,site-functions)
+zsh_words := $(DESTDIR)$(ZSH_FOLDER)
+extras := endmend explain first_difference four_state join_bits list_json pick_by_pattern table_csv values_csv
+scripts := $(DESTDIR)$(PREFIX)/share/vcdkit/extras
 documents := $(DESTDIR)$(PREFIX)/share/doc/vcdkit
 
 all: vcdkit
 	./vcdkit check < $(sample)
+	@echo "Built: ./vcdkit, which needs the C library of this machine. Next: make install, or make static, make dist; ./vcdkit --help"
 
-# `rt run` proves the crates below the program and the program, builds it and runs it. With no change it only runs it.
+# The log is begun anew, and prove.py shows how far it is. With no change the program is only run.
 vcdkit: toolchain
-	cd crates/vcdkit_main && rt run -- check < ../../$(sample) > /dev/null
+	@rm -f make.log
+	packaging/prove.py vcdkit_main run -- check < $(sample)
 	cp crates/vcdkit_main/out/vcdkit_main $@
 
 test: toolchain
@@ -40,27 +50,49 @@ hostile: vcdkit
 docs-check:
 	docs/check.py
 
+# Both link and pack what `make` built, and prove nothing.
+static:
+	packaging/static.sh vcdkit-static
+
+dist:
+	packaging/static.sh vcdkit-static
+	packaging/dist.sh vcdkit-static dist
+
+# A static library for C, proved as the program is, and the same as a shared one.
+library: toolchain
+	packaging/prove.py vcd_c lib
+	packaging/library.sh crates/vcd_c/out/libvcd_c.a .
+
+dist-check:
+	packaging/try_dist.sh dist
+
 clean:
-	rm -rf vcdkit crates/*/out
+	rm -rf vcdkit vcdkit-static libvcd_c.a libvcd_c.so dist make.log crates/*/out
 
 toolchain:
-	@command -v rt > /dev/null || { echo "make: there is no command rt. It comes with the Rattle kit: see README.md." >&2; exit 1; }
+	@command -v rt > /dev/null || { echo "make: there is no command rt. It comes with the Rattle kit: see README.md, \"Set up\"." >&2; exit 1; }
 
 # Nothing is built or proved here, so that no proof runs as root: `make` comes first.
 install:
 	@test -x vcdkit || { echo "make: there is no ./vcdkit to install. Run make first." >&2; exit 1; }
-	install -d "$(bin)" "$(man)" "$(bash_words)" "$(zsh_words)" "$(documents)/docs" "$(documents)/samples"
+	install -d "$(bin)" "$(man)" "$(bash_words)" "$(zsh_words)" "$(scripts)"
+	install -d "$(documents)/docs" "$(documents)/samples" "$(documents)/bench" "$(documents)/hostile"
 	install -m 755 vcdkit "$(bin)/vcdkit"
 	install -m 644 man/vcdkit.1 "$(man)/vcdkit.1"
 	install -m 644 completions/vcdkit.bash "$(bash_words)/vcdkit"
 	install -m 644 completions/_vcdkit "$(zsh_words)/_vcdkit"
-	install -m 644 README.md CHANGELOG.md NOTICE.md "$(documents)"
+	install -m 755 $(addprefix extras/,$(extras)) "$(scripts)"
+	install -m 644 extras/README.md extras/dumps.py "$(scripts)"
+	install -m 644 README.md CHANGELOG.md CONTRIBUTING.md NOTICE.md "$(documents)"
 	install -m 644 docs/*.md "$(documents)/docs"
+	install -m 644 bench/README.md "$(documents)/bench"
+	install -m 644 hostile/README.md "$(documents)/hostile"
 	install -m 644 samples/* "$(documents)/samples"
+	ln -sfn ../../vcdkit/extras "$(documents)/extras"
 
 uninstall:
 	rm -f "$(bin)/vcdkit" "$(man)/vcdkit.1" "$(bash_words)/vcdkit" "$(zsh_words)/_vcdkit"
-	rm -rf "$(documents)"
+	rm -rf "$(DESTDIR)$(PREFIX)/share/vcdkit" "$(documents)"
 
 completions-check:
 	completions/check.sh

@@ -263,7 +263,7 @@ same 'explain: status of the program' 3 "$(explained "$folder/none.vcd")"
 
 # What each does with no help, and where there is no program.
 for script in extras/*; do
-    [[ -x $script && $script != */test.sh ]] || continue
+    [[ -f $script && -x $script && $script != */test.sh ]] || continue
     name=${script##*/}
     same "$name --help" "0 $name" "$("$script" --help > "$folder/said" 2>&1; echo "$? $(head -c ${#name} "$folder/said")")"
     case $name in four_state | join_bits | endmend | test.sh) continue ;; esac
@@ -273,6 +273,22 @@ for script in extras/*; do
     same "$name: no program" "3 $name: there is no program none on the PATH; VCDKIT=FILE names it" \
         "$(said=$(VCDKIT=none "$script" "${words[@]}" 2>&1 > /dev/null); echo "$? $said")"
 done
+
+# A caller in C and one in Python, where `make library` has left the library, and there is a C compiler.
+if [[ -e libvcd_c.a && -e libvcd_c.so ]] && command -v cc > /dev/null; then
+    cc -std=c99 -Wall -Wextra -Werror -Iextras/c -o "$folder/variables" extras/c/variables.c libvcd_c.a
+    for dump in samples/*.vcd; do
+        wanted=$(grep -c '\$var' "$dump")
+        same "$dump: variables by C" "$wanted" "$("$folder/variables" < "$dump")"
+        same "$dump: variables by Python" "$wanted" "$(python3 extras/c/variables.py ./libvcd_c.so "$dump")"
+    done
+    same 'C: the fault of a header' 'fault 7
+1' "$(printf '$var wire 0 ! q $end\n' | "$folder/variables" 2>&1; echo $?)"
+    same 'Python: the fault of a header' 'fault 2
+1' "$(python3 extras/c/variables.py ./libvcd_c.so /dev/null 2>&1; echo $?)"
+else
+    echo 'the callers in C and Python are not tried: there is no libvcd_c.a (make library), or no cc'
+fi
 
 # What holds of any dump: of three simulators here (Icarus Verilog, Verilator, GHDL), and of those that are given.
 extras/four_state < samples/ghdl.vcd > "$folder/ghdl.vcd"

@@ -1,0 +1,14 @@
+#!/bin/sh
+# library.sh ARCHIVE FOLDER: puts what a static library of rt is linked with, the C archives of the kit, into it, and makes
+# lib*.a and lib*.so of all in the folder: so a caller needs neither the kit nor its archives.
+set -eu
+[ $# = 2 ] || { sed -n '2,3s/^# //p' "$0"; exit 2; }
+if [ -z "${KIT:-}" ]; then
+    KIT=$(dirname "$(dirname "$(readlink -f "$(command -v rt)")")")
+fi
+name=$(basename "$1" .a)
+rm -f "$2/$name.a"
+printf 'create %s\naddlib %s\naddlib %s\naddlib %s\nsave\nend\n' "$2/$name.a" "$1" "$KIT/c/libos_c.a" "$KIT/c/liblibc_c.a" | "${AR:-ar}" -M
+"${RANLIB:-ranlib}" -D "$2/$name.a"
+"${CC:-cc}" -shared -s -o "$2/$name.so" -Wl,--whole-archive "$1" -Wl,--no-whole-archive "$2/$name.a" -lm -Wl,--build-id=none
+echo "made $2/$name.a and $2/$name.so"

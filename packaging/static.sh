@@ -1,0 +1,18 @@
+#!/bin/sh
+# static.sh PROGRAM: links the program that `make` built once more, as one that needs no shared library. Nothing is proved or
+# compiled here: it takes the object file that rt compiled from what was proved, the two C archives of the kit that rt links too,
+# and the static C library of this machine (Debian: libc6-dev). CC names the linking compiler; KIT the kit, else that of rt.
+set -eu
+[ $# = 1 ] || { sed -n '2,4s/^# //p' "$0"; exit 2; }
+top=$(cd "$(dirname "$0")/.." && pwd)
+object=$top/crates/vcdkit_main/out/vcdkit_main.o
+[ -s "$object" ] || { echo "static.sh: there is no $object: run make first" >&2; exit 1; }
+if [ -z "${KIT:-}" ]; then
+    rt=$(command -v rt) || { echo "static.sh: there is no command rt: KIT names the folder of the Rattle kit" >&2; exit 1; }
+    KIT=$(dirname "$(dirname "$(readlink -f "$rt")")")
+fi
+# No build number and no symbols: the same files give the same bytes.
+"${CC:-cc}" -static-pie -s -Wl,--gc-sections -Wl,--build-id=none -Wl,-z,relro,-z,now -o "$1" \
+    "$object" "$KIT/c/libos_c.a" "$KIT/c/liblibc_c.a" -lm
+"./$1" --version > /dev/null 2>&1 || "$1" --version > /dev/null
+echo "linked $1: $(wc -c < "$1") bytes, no shared library"
