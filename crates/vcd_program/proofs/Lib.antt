@@ -1,0 +1,4 @@
+mod AskedLemmas
+mod MemoryLemmas
+mod OpensLemmas
+mod RunsLemmas

@@ -1,0 +1,217 @@
+-- What a program leaves, from what its calls do.
+use Rattle.std.proofs.Common.{◌≡◌, ◌≤◌, ◌+◌, ◌⊎◌, ℕ, Bool, true, false, List, [], length, map, refl, sym, subst, ap, ◌∙◌, inl, inr, arith, codes, cond, ◌==◌}
+use Rattle.std.specs.Prelude.{Option, Some, Result, Ok, Err}
+use Rattle.clap.specs.Words.{Text, is_simple_and_free}
+use Rattle.clap.specs.declared.error.kind.ErrorKind.{ErrorKind}
+use Rattle.clap.specs.declared.error.kind.ErrorKind.TheVariants as kind
+use Rattle.vcd_model.specs.Input.{Input}
+use Rattle.vcd_model.specs.Job.{Want, outcome}
+use Rattle.vcd_model.specs.Outcome.{Outcome, clean_outcome, fault_text, program_line}
+use Rattle.vcd_model.specs.Words as model
+use Rattle.vcd_model.specs.Words.{Job, Words, command_outcome, job_of}
+use Rattle.std.specs.Io.KnownBytes.{Keeps}
+use Rattle.vcd_text.specs.Device.{Device, Puts, Supply, Writes, WritesSome, supply}
+use Rattle.vcd_text.proofs.Writes.{appends-none}
+use Rattle.vcd_words.specs.Job.{is_merge, model_want, names_asked}
+use Rattle.vcd_words.specs.Words.{IsFaultOf, parse_status_of, program_app}
+use Rattle.vcd_words.specs.declared.job.UseFault.{UseFault}
+use Rattle.vcd_words.specs.declared.job.UseFault.TheVariants as use_fault
+use Rattle.vcd_words.specs.declared.job.Want.TheVariants as asked
+use Rattle.vcd_words.specs.declared.job.Want as job
+use Rattle.vcdkit.specs.Message.{Shows, unopened_outcome, use_outcome}
+use Rattle.vcdkit.specs.Run.{HasRun, IsOutcome}
+use Rattle.vcdkit.specs.Run.IsOutcome.{Whole, Part}
+use Rattle.vcd_program.specs.Opens.{Opens, OpensSome, OpensUpTo, StopsAmong, called, text_of}
+use Rattle.vcd_program.specs.Runs.{Answers, EndsSo, Finishes, Leaves, Runs, names_wanted}
+use Rattle.vcd_program.specs.declared.host.OpenFault.{OpenFault}
+use Rattle.vcd_program.specs.declared.opened.Stop.{Stop}
+use Rattle.vcd_program.specs.declared.opened.Stop.TheVariants as stop
+use Rattle.std.specs.Borrow.{Bor}
+use Rattle.std.proofs.lemmas.List.{length-map}
+use Rattle.vcd_program.proofs.AskedLemmas.{wants_merge}
+
+-- ---- devices
+
+-- nothing is written
+pub writes-none : (d : Device) → Writes d d []
+writes-none d = (appends-none d.held, refl)
+
+-- nothing is shown
+pub shows-none : (d : Device) → Shows d d []
+shows-none d = inl (writes-none d)
+
+-- a line on the error stream counts one failure at most
+pub shown-counts : (old new : Device) (line : List ℕ) → Shows old new line → new.failures ≤ old.failures + 1
+shown-counts old new line (inl all) = let same = all.1 in omega (arith, same)
+shown-counts old new line (inr some) = let more = some.1 in omega (arith, more)
+
+-- what was put is shown, whatever the result
+pub put-shows : {A E : Type 0} (old new : Device) (line : List ℕ) (r : Result A E) → Puts old new line r → Shows old new line
+put-shows old new line (Ok v) puts = inl puts
+put-shows old new line (Err e) puts = inr puts
+
+-- ---- what is wanted
+
+pub merge-same : (w : job.Want) → is_merge w ≡ wants_merge (model_want w)
+merge-same asked.Check = refl
+merge-same asked.List = refl
+merge-same (asked.Pick names) = refl
+merge-same (asked.Cut period) = refl
+merge-same (asked.Sample times names) = refl
+merge-same (asked.Edges names) = refl
+merge-same asked.Merge = refl
+
+pub names-same : (w : job.Want) → names_asked w ≡ names_wanted (model_want w)
+names-same asked.Check = refl
+names-same asked.List = refl
+names-same (asked.Pick names) = refl
+names-same (asked.Cut period) = refl
+names-same (asked.Sample times names) = refl
+names-same (asked.Edges names) = refl
+names-same asked.Merge = refl
+
+-- ---- the outcome of words
+
+command-refused : (words : Option Words) (f : model.UseFault) → job_of words ≡ Err f → command_outcome words [] [] ≡ model.use_outcome f
+unfolding command_outcome
+command-refused words f e = rw (e, command_outcome) refl
+
+command-is : (words : Option Words) (want : Want) (limit : ℕ) (names : List Text) (inputs : List Input) → job_of words ≡ Ok (record { want = want; limit = limit }) → command_outcome words names inputs ≡ outcome want limit names inputs
+unfolding command_outcome
+command-is words want limit names inputs e = rw (e, command_outcome) refl
+
+-- a job that was run leaves the outcome of its words
+pub leaves-of : (words : Option Words) (want : Want) (limit : ℕ) (names texts : List Text) (old new : List Supply) (out out' err err' : Device) (status : ℕ) → job_of words ≡ Ok (record { want = want; limit = limit })
+    → HasRun want limit 65536 names texts old new out out' err err' status → Leaves words want limit names texts old new out out' err err' status
+leaves-of words want limit names texts old new out out' err err' status e (HasRun.WithOutcome inputs read left) =
+    Leaves.WithOutcome inputs read (subst (λ o. IsOutcome o out out' err err' status) (sym (command-is words want limit names inputs e)) left)
+leaves-of words want limit names texts old new out out' err err' status e (HasRun.NoMemory inputs read written shown is) = Leaves.NoMemory inputs read (written, shown, is)
+
+-- ---- before a job is run
+
+memory-line : (use_outcome use_fault.OutOfMemory).message ≡ program_line (codes "out of memory")
+unfolding fault_text
+memory-line = refl
+
+-- the line that memory ran out
+pub memory-shown : (err err' : Device) → Shows err err' (use_outcome use_fault.OutOfMemory).message → Shows err err' (program_line (codes "out of memory"))
+memory-shown err err' shown = subst (λ l. Shows err err' l) memory-line shown
+
+-- no outcome has output where none was written
+pub without-output : (o : Outcome) (out err err' : Device) (status : ℕ) → o.output ≡ [] → Shows err err' o.message → status ≡ o.status → IsOutcome o out out err err' status
+without-output o out err err' status none shown is = Whole (subst (λ l. Writes out out l) (sym none) (writes-none out)) shown is
+
+-- memory ran out before an input was opened
+pub no-memory : {H I : Type 0} (opens : H → Option Text → Result I OpenFault → H → Type 0) (rest : I → Option (List ℕ)) (failures : I → ℕ) (words : Option Words) (names : List (Option Text)) (host : H) (out err err' : Device) (status : ℕ) (j : Job)
+    → job_of words ≡ Ok j → Shows err err' (program_line (codes "out of memory")) → status ≡ 3 → Runs opens rest failures words names host host out out err err' status
+no-memory opens rest failures words names host out err err' status j e shown is = Runs.NoMemory j e ([], names, refl, [], host, refl, inl refl) (writes-none out, shown, is)
+
+-- words that ask for no job
+pub refused : {H I : Type 0} (opens : H → Option Text → Result I OpenFault → H → Type 0) (rest : I → Option (List ℕ)) (failures : I → ℕ) (words : Option Words) (names : List (Option Text)) (host : H) (out err err' : Device) (status : ℕ) (f : UseFault)
+    → IsFaultOf f (job_of words) → Shows err err' (use_outcome f).message → status ≡ (use_outcome f).status → Runs opens rest failures words names host host out out err err' status
+refused {H} {I} opens rest failures words names host out err err' status f e shown is = by_fault f e shown is
+  where
+    said : (g : model.UseFault) → job_of words ≡ Err g → Shows err err' (model.use_outcome g).message → status ≡ 2 → Runs opens rest failures words names host host out out err err' status
+    said g e shown is = Runs.Refused g e refl (subst (λ o. IsOutcome o out out err err' status) (sym (command-refused words g e)) (Whole (writes-none out) shown is))
+
+    by_fault : (f : UseFault) → IsFaultOf f (job_of words) → Shows err err' (use_outcome f).message → status ≡ (use_outcome f).status → Runs opens rest failures words names host host out out err err' status
+    by_fault use_fault.BadWords e shown is = said model.UseFault.BadWords e shown is
+    by_fault (use_fault.BadLimit word) e shown is = said (model.UseFault.BadLimit word.now) e shown is
+    by_fault (use_fault.BadTime word) e shown is = said (model.UseFault.BadTime word.now) e shown is
+    by_fault use_fault.FromAboveTo e shown is = said model.UseFault.FromAboveTo e shown is
+    by_fault use_fault.NotRising e shown is = said model.UseFault.NotRising e shown is
+    by_fault use_fault.TooManyFiles e shown is = said model.UseFault.TooManyFiles e shown is
+    by_fault use_fault.OutOfMemory e shown is = no-memory opens rest failures words names host out err err' status e.0 e.1 (memory-shown err err' shown) is
+
+-- an input that cannot be opened
+pub stopped : {H I : Type 0} (opens : H → Option Text → Result I OpenFault → H → Type 0) (rest : I → Option (List ℕ)) (failures : I → ℕ) (words : Option Words) (asked names : List (Option Text)) (host host' : H) (out err err' : Device) (status : ℕ)
+    (j : Job) (why : Stop) (said : Option (Bor Text)) → job_of words ≡ Ok j → names ≡ asked → why ≡ stop.Unopened said → StopsAmong opens names host host' why → Shows err err' (unopened_outcome (called (text_of said))).message → status ≡ 3
+    → Runs opens rest failures words asked host host' out out err err' status
+stopped opens rest failures words asked names host host' out err err' status j why said e named is at shown three =
+    Runs.Stopped j e (text_of said) (subst (λ l. OpensUpTo opens l (text_of said) host host') named (subst (λ w. StopsAmong opens names host host' w) is at))
+    (without-output (unopened_outcome (called (text_of said))) out err err' status refl shown three)
+
+-- memory ran out while inputs were opened
+pub memory-stopped : {H I : Type 0} (opens : H → Option Text → Result I OpenFault → H → Type 0) (rest : I → Option (List ℕ)) (failures : I → ℕ) (words : Option Words) (asked names : List (Option Text)) (host host' : H) (out err err' : Device) (status : ℕ)
+    (j : Job) (why : Stop) → job_of words ≡ Ok j → names ≡ asked → why ≡ stop.OutOfMemory → StopsAmong opens names host host' why → Shows err err' (program_line (codes "out of memory")) → status ≡ 3
+    → Runs opens rest failures words asked host host' out out err err' status
+memory-stopped opens rest failures words asked names host host' out err err' status j why e named is at shown three =
+    Runs.NoMemory j e (subst (λ l. OpensSome opens l host host') named (subst (λ w. StopsAmong opens names host host' w) is at)) (writes-none out, shown, three)
+
+-- ---- answers of a parse
+
+-- the command line is one of which `clap` says its faults
+pub simple : is_simple_and_free program_app ≡ true
+simple = refl
+
+-- the statuses of a parse
+pub statuses : (why : ErrorKind) → (parse_status_of why ≡ 0) ⊎ ((parse_status_of why ≡ 2) ⊎ (parse_status_of why ≡ 3))
+statuses kind.InvalidValue = inr (inl refl)
+statuses kind.UnknownArgument = inr (inl refl)
+statuses kind.InvalidSubcommand = inr (inl refl)
+statuses kind.NoEquals = inr (inl refl)
+statuses kind.ValueValidation = inr (inl refl)
+statuses kind.TooManyValues = inr (inl refl)
+statuses kind.TooFewValues = inr (inl refl)
+statuses kind.WrongNumberOfValues = inr (inl refl)
+statuses kind.ArgumentConflict = inr (inl refl)
+statuses kind.MissingRequiredArgument = inr (inl refl)
+statuses kind.MissingSubcommand = inr (inl refl)
+statuses kind.DisplayHelp = inl refl
+statuses kind.DisplayHelpOnMissingArgumentOrSubcommand = inr (inl refl)
+statuses kind.DisplayVersion = inl refl
+statuses kind.Io = inr (inl refl)
+statuses kind.Format = inr (inl refl)
+statuses kind.OutOfMemory = inr (inr refl)
+
+-- where it is neither 3 nor 2 it is 0
+pub status-zero : (why : ErrorKind) (n : ℕ) → n ≡ parse_status_of why → (n ≡ 3 → ⊥) → (n ≡ 2 → ⊥) → parse_status_of why ≡ 0
+status-zero why n e no3 no2 = elim (statuses why) [ inl zero ↦ zero | inr more ↦ elim more [ inl two ↦ absurd (no2 (e ∙ two)) | inr three ↦ absurd (no3 (e ∙ three)) ] ]
+
+abbrev answer-of : ℕ → Text → Outcome
+answer-of n text = cond (n == 0) (clean_outcome text) (record { output = []; message = text; status = n })
+
+answered : (why : ErrorKind) (n : ℕ) (text : Text) (out out' err err' : Device) (status : ℕ) → parse_status_of why ≡ n → IsOutcome (answer-of n text) out out' err err' status → Answers why out out' err err' status
+answered why n text out out' err err' status e left = inl (text, subst (λ m. IsOutcome (answer-of m text) out out' err err' status) (sym e) left)
+
+-- the text was put on the error stream
+pub answer-shown : (why : ErrorKind) (text : Text) (out err err' : Device) → parse_status_of why ≡ 2 → Shows err err' text → Answers why out out err err' 2
+answer-shown why text out err err' e shown = answered why 2 text out out err err' 2 e (Whole (writes-none out) shown refl)
+
+-- it was written on the output
+pub answer-written : (why : ErrorKind) (text : Text) (out out' err : Device) → parse_status_of why ≡ 0 → Writes out out' text → Answers why out out' err err 0
+answer-written why text out out' err e written = answered why 0 text out out' err err 0 e (Whole written (shows-none err) refl)
+
+-- a write of it failed
+pub answer-failed : (why : ErrorKind) (text : Text) (out out' err err' : Device) → parse_status_of why ≡ 0 → WritesSome out out' text → Shows err err' (program_line (codes "write failed")) → Answers why out out' err err' 3
+answer-failed why text out out' err err' e written shown = answered why 0 text out out' err err' 3 e (Part written shown refl)
+
+-- ---- a job
+
+-- as many names as inputs
+pub names-many : {A : Type 0} (bytes : A → Text) (names : List A) (asked : List (Option Text)) → map bytes names ≡ map called asked → length names ≡ length asked
+names-many bytes names asked e = sym (length-map names bytes) ∙ ap length e ∙ length-map asked called
+
+-- the job was run over the inputs that the words ask for
+pub ran : {H I : Type 0} (opens : H → Option Text → Result I OpenFault → H → Type 0) (rest : I → Option (List ℕ)) (failures : I → ℕ) (words : Option Words) (asked : List (Option Text)) (host host' : H) (out out' err err' : Device) (status : ℕ)
+    (want : Want) (limit chunk : ℕ) (names wanted : List Text) (readers after : List I)
+    → job_of words ≡ Ok (record { want = want; limit = limit }) → chunk ≡ 65536 → names ≡ map called asked → wanted ≡ names_wanted want → Opens opens host asked readers host'
+    → EndsSo names wanted (map failures readers) (map failures after) out out' err err' status
+    → ((texts : List Text) → map rest readers ≡ map (λ text. Some text) texts → HasRun want limit chunk names texts (map (supply rest failures) readers) (map (supply rest failures) after) out out' err err' status)
+    → Runs opens rest failures words asked host host' out out' err err' status
+ran opens rest failures words asked host host' out out' err err' status want limit chunk names wanted readers after e at named wants opened ends gives =
+    Runs.Ran want limit e readers after opened
+    (subst (λ l. EndsSo l (names_wanted want) (map failures readers) (map failures after) out out' err err' status) named (subst (λ l. EndsSo names l (map failures readers) (map failures after) out out' err err' status) wants ends))
+    (λ texts h. subst (λ l. Leaves words want limit l texts (map (supply rest failures) readers) (map (supply rest failures) after) out out' err err' status) named
+    (leaves-of words want limit names texts (map (supply rest failures) readers) (map (supply rest failures) after) out out' err err' status e
+    (subst (λ n. HasRun want limit n names texts (map (supply rest failures) readers) (map (supply rest failures) after) out out' err err' status) at (gives texts h))))
+
+-- ---- the flush
+
+pub finished : {W : Type 0} (device : W → Device) (flushes : W → Bool → W → Type 0) (Left : (out err : Device) → ℕ → Type 0) (before out' : W) (err' : Device) (status : ℕ) (is : Bool)
+    → Left (device before) err' status → flushes before is out' → Keeps (device before).held (device out').held → (device out').failures ≡ (device before).failures → (is ≡ false → 3 ≤ status) → Finishes device flushes Left out' err' status
+finished device flushes Left before out' err' status true left flushed held same machine = Finishes.Flushed before left flushed held same
+finished device flushes Left before out' err' status false left flushed held same machine = Finishes.Failed before left (machine refl) flushed held same
+
+pub apart : true ≡ false → ⊥
+apart e = cc

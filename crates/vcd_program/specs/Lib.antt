@@ -1,0 +1,4 @@
+pub mod Asked
+pub mod Opens
+pub mod Runs
+pub mod Memory

@@ -1,0 +1,84 @@
+-- A host in memory: what a call of `open` leaves, and what a program leaves over it, which is the whole of the definitions.
+use Rattle.std.specs.Prelude.{◌≡◌, ◌⊎◌, true, cond, List, [], ◌∷◌, ◌++◌, codes, map, Option, Some, None, option_map, string_bytes, Result, Ok, Err}
+use Rattle.std.specs.Str.{bytes_eq}
+use Rattle.clap.specs.Words.{HasMatchesOf, IsAmong, Text, fault_of, takes}
+use Rattle.clap.specs.declared.error.kind.ErrorKind.{ErrorKind}
+use Rattle.clap.specs.declared.error.kind.ErrorKind.TheVariants as kind
+use Rattle.clap.specs.declared.parser.matches.ArgMatches.{ArgMatches}
+use Rattle.vcd_model.specs.Outcome.{Outcome, program_line}
+use Rattle.vcd_model.specs.Words.{Words, UseFault, Job, command_outcome, job_of}
+use Rattle.vcd_text.specs.Answer.{whole}
+use Rattle.vcd_words.specs.Words.{program_app, words_used}
+use Rattle.vcdkit.specs.Message.{unopened_outcome}
+use Rattle.vcd_program.specs.Opens.{called}
+use Rattle.vcd_program.specs.Asked.{inputs_asked}
+use Rattle.vcd_program.specs.Runs.{answer_outcome}
+use Rattle.vcd_program.specs.declared.host.OpenFault.{OpenFault}
+use Rattle.vcd_program.specs.declared.host.OpenFault.TheVariants.{Unopened, OutOfMemory}
+use Rattle.vcd_program.specs.declared.memory.Bytes.{Bytes}
+use Rattle.vcd_program.specs.declared.memory.Left.{Left}
+use Rattle.vcd_program.specs.declared.memory.Memory.{Memory}
+use Rattle.vcd_program.specs.declared.memory.MemoryFile.{MemoryFile}
+
+-- ---- one call
+
+-- the bytes of the first of these files that has this name, if there is one
+abbrev pub bytes_named : List MemoryFile → Text → Option Text
+bytes_named [] name = None
+bytes_named (file ∷ files) name = cond (bytes_eq file.name.now name) (Some file.bytes.now) (bytes_named files name)
+
+-- the bytes of an input among these files, if there is one: of standard input, which has no name, or of the file of this name
+abbrev pub bytes_among : List MemoryFile → (input : Text) → Option Text → Option Text
+bytes_among files input None = Some input
+bytes_among files input (Some name) = bytes_named files name
+
+abbrev pub bytes_in : Memory → Option Text → Option Text
+bytes_in m name = bytes_among m.files.now m.input.now name
+
+-- the names that were noted
+abbrev pub noted : Memory → List (Option Text)
+noted m = map (λ name. option_map string_bytes name) m.opened.items
+
+-- it has the files and the input that it had
+pub record SameFiles (old new : Memory) : Type 0 where
+  pub files_are : new.files ≡ old.files
+  pub input_is : new.input ≡ old.input
+
+-- the name was noted, and what is returned are its bytes, or that there are none; or memory ran out for the note
+abbrev pub OpensIn : Memory → Option Text → Result Bytes OpenFault → Memory → Type 0
+OpensIn old name (Ok bytes) new = SameFiles old new × (noted new ≡ noted old ++ name ∷ []) × (bytes_in old name ≡ Some bytes.rest.now)
+OpensIn old name (Err Unopened) new = SameFiles old new × (noted new ≡ noted old ++ name ∷ []) × (bytes_in old name ≡ None)
+OpensIn old name (Err OutOfMemory) new = SameFiles old new
+
+-- ---- a whole run
+
+-- this was opened or tried, and this outcome was left
+pub record IsLeft (left : Left) (names : List (Option Text)) (o : Outcome) : Type 0 where
+  pub opened : map (λ name. option_map string_bytes name) left.opened.items ≡ names
+  pub output : left.output.items ≡ o.output
+  pub message : left.message.items ≡ o.message
+  pub status : left.status ≡ o.status
+
+-- the texts of these inputs are these
+abbrev pub HaveTexts : List MemoryFile → (input : Text) → List (Option Text) → List Text → Type 0
+HaveTexts files input names texts = map (λ name. bytes_among files input name) names ≡ map (λ text. Some text) texts
+
+-- What is left of words that were parsed: over files that are all there the outcome of the words and of their bytes. Where the words ask for no job, nothing was opened; where a file is not there, those before it were.
+pub data IsLeftOf (words : Option Words) (asked : List (Option Text)) (files : List MemoryFile) (input : Text) (left : Left) : Type 0 where
+  Refused : (fault : UseFault) (is : job_of words ≡ Err fault) (leaves : IsLeft left [] (command_outcome words [] [])) → IsLeftOf words asked files input left
+  Ran : (job : Job) (is : job_of words ≡ Ok job) (texts : List Text) (have : HaveTexts files input asked texts) (leaves : IsLeft left asked (command_outcome words (map called asked) (map whole texts))) → IsLeftOf words asked files input left
+  Stopped : (job : Job) (is : job_of words ≡ Ok job) (before after : List (Option Text)) (name : Option Text) (order : asked ≡ before ++ name ∷ after) (texts : List Text) (have : HaveTexts files input before texts)
+      (missing : bytes_among files input name ≡ None) (leaves : IsLeft left (before ++ name ∷ []) (unopened_outcome (called name))) → IsLeftOf words asked files input left
+
+-- memory ran out: no output, and a line
+pub record IsOutOfMemory (left : Left) : Type 0 where
+  pub output : left.output.items ≡ []
+  pub message : left.message.items ≡ program_line (codes "out of memory")
+  pub status : left.status ≡ 3
+
+-- what is left of any words, the program's name first
+pub data IsLeftBy (words : List Text) (files : List MemoryFile) (input : Text) (left : Left) : Type 0 where
+  Parsed : (matches : ArgMatches) (is : HasMatchesOf program_app words matches) (leaves : IsLeftOf (words_used matches) (inputs_asked matches) files input left) → IsLeftBy words files input left
+  NoMatches : (why : ErrorKind) (is : (why ≡ kind.OutOfMemory) ⊎ IsAmong why (fault_of program_app words)) (only : takes program_app words ≡ true → why ≡ kind.OutOfMemory) (text : Text)
+      (leaves : IsLeft left [] (answer_outcome why text)) → IsLeftBy words files input left
+  NoMemory : (fails : IsOutOfMemory left) → IsLeftBy words files input left

@@ -1,0 +1,94 @@
+-- What a program leaves that is run on words over a host.
+use Rattle.std.specs.Prelude.{◌≡◌, ◌⊎◌, ◌==◌, ◌+◌, ◌<◌, ◌≤◌, ℕ, Bool, true, false, cond, List, [], map, codes, Option, Some, Result, Ok, Err}
+use Rattle.std.specs.Io.KnownBytes.{Keeps}
+use Rattle.clap.specs.Words.{HasMatchesOf, IsAmong, Text, fault_of, takes}
+use Rattle.clap.specs.declared.error.kind.ErrorKind.{ErrorKind}
+use Rattle.clap.specs.declared.error.kind.ErrorKind.TheVariants as kind
+use Rattle.clap.specs.declared.parser.matches.ArgMatches.{ArgMatches}
+use Rattle.vcd_model.specs.Input.{Input}
+use Rattle.vcd_model.specs.Outcome.{Outcome, clean_outcome, program_line}
+use Rattle.vcd_model.specs.Settled.{is_header_over, is_settled}
+use Rattle.vcd_model.specs.Words.{Job, Words, UseFault, command_outcome, job_of}
+use Rattle.vcd_model.specs.Job.{Want}
+use Rattle.vcd_text.specs.Device.{Device, Supply, Writes, supply}
+use Rattle.vcd_words.specs.Words.{parse_status_of, program_app, words_used}
+use Rattle.vcdkit.specs.Failure.{CountsReads, writes_failed}
+use Rattle.vcdkit.specs.Message.{Shows, end_message, end_status, unopened_outcome}
+use Rattle.vcdkit.specs.Run.{AreRead, IsOutcome}
+use Rattle.vcd_program.specs.Asked.{inputs_asked}
+use Rattle.vcd_program.specs.Opens.{Opens, OpensSome, OpensUpTo, called}
+use Rattle.vcd_program.specs.declared.host.OpenFault.{OpenFault}
+
+-- ---- what a job leaves
+
+-- nothing on the output, this line, and status 3
+abbrev pub Fails : Text → (out out' err err' : Device) → ℕ → Type 0
+Fails text out out' err err' status = Writes out out' [] × Shows err err' (program_line text) × (status ≡ 3)
+
+-- the names that have to select something
+abbrev pub names_wanted : Want → List Text
+names_wanted (Want.Pick names) = names
+names_wanted (Want.Sample times names) = names
+names_wanted (Want.Edges names) = names
+names_wanted want = []
+
+-- over any inputs: the job ends done or failed, and says which; for a failed read only where one of the input that is named failed and of no other, and likewise for a write
+abbrev pub EndsSo : (names asked : List Text) (before after : List ℕ) (out out' err err' : Device) (status : ℕ) → Type 0
+EndsSo names asked before after out out' err err' status =
+    (why : _) × CountsReads before after why × (out'.failures ≡ out.failures + writes_failed why) × (status ≡ end_status why) × Shows err err' (end_message names asked why)
+
+-- over inputs with these names and texts: the outcome of the words and of what was read of each, and no more was read than what settles it; or nothing where memory ran out
+pub data Leaves (words : Option Words) (want : Want) (limit : ℕ) (names texts : List Text) (old new : List Supply) (out out' err err' : Device) (status : ℕ) : Type 0 where
+  WithOutcome : (inputs : List Input) (read : AreRead (is_settled want) limit 65536 [] texts old new inputs) (leaves : IsOutcome (command_outcome words names inputs) out out' err err' status)
+      → Leaves words want limit names texts old new out out' err err' status
+  NoMemory : (inputs : List Input) (read : AreRead is_header_over limit 65536 [] texts old new inputs) (fails : Fails (codes "out of memory") out out' err err' status)
+      → Leaves words want limit names texts old new out out' err err' status
+
+-- ---- what words leave that were parsed
+
+-- what a program leaves whose words ask for these inputs, before it flushes
+pub data Runs {H I : Type 0} (opens : H → Option Text → Result I OpenFault → H → Type 0) (rest : I → Option (List ℕ)) (failures : I → ℕ) (words : Option Words) (asked : List (Option Text)) (host host' : H) (out out' err err' : Device) (status : ℕ) : Type 0 where
+  -- the words ask for no job: no input is opened
+  Refused : (fault : UseFault) (is : job_of words ≡ Err fault) (same : host' ≡ host) (leaves : IsOutcome (command_outcome words [] []) out out' err err' status)
+      → Runs opens rest failures words asked host host' out out' err err' status
+  -- all inputs were opened, and the job was run over them
+  Ran : (want : Want) (limit : ℕ) (is : job_of words ≡ Ok (record { want = want; limit = limit })) (readers after : List I) (opened : Opens opens host asked readers host')
+      (ends : EndsSo (map called asked) (names_wanted want) (map failures readers) (map failures after) out out' err err' status)
+      (leaves : (texts : List Text) → map rest readers ≡ map (λ text. Some text) texts → Leaves words want limit (map called asked) texts (map (supply rest failures) readers) (map (supply rest failures) after) out out' err err' status)
+      → Runs opens rest failures words asked host host' out out' err err' status
+  -- one of them cannot be opened
+  Stopped : (job : Job) (is : job_of words ≡ Ok job) (name : Option Text) (opened : OpensUpTo opens asked name host host') (leaves : IsOutcome (unopened_outcome (called name)) out out' err err' status)
+      → Runs opens rest failures words asked host host' out out' err err' status
+  -- memory ran out before the job was run
+  NoMemory : (job : Job) (is : job_of words ≡ Ok job) (opened : OpensSome opens asked host host') (fails : Fails (codes "out of memory") out out' err err' status)
+      → Runs opens rest failures words asked host host' out out' err err' status
+
+-- ---- what any words leave
+
+-- what is left where a parse of this kind gave no matches: help and the version on the output, all else on the error stream; which text is not said
+abbrev pub answer_outcome : ErrorKind → Text → Outcome
+answer_outcome kind text = cond (parse_status_of kind == 0) (clean_outcome text) (record { output = []; message = text; status = parse_status_of kind })
+
+-- such an answer; where memory ran out for its text, or while words were parsed, the line of that
+abbrev pub Answers : ErrorKind → (out out' err err' : Device) → ℕ → Type 0
+Answers kind out out' err err' status = ((text : Text) × IsOutcome (answer_outcome kind text) out out' err err' status) ⊎ Fails (codes "out of memory") out out' err err' status
+
+-- what a program leaves that is run on these words, its name first, before it flushes
+pub data RunsOn {H I : Type 0} (words : List Text) (opens : H → Option Text → Result I OpenFault → H → Type 0) (rest : I → Option (List ℕ)) (failures : I → ℕ) (host host' : H) (out out' err err' : Device) (status : ℕ) : Type 0 where
+  -- what their matches ask for
+  Parsed : (matches : ArgMatches) (is : HasMatchesOf program_app words matches) (runs : Runs opens rest failures (words_used matches) (inputs_asked matches) host host' out out' err err' status)
+      → RunsOn words opens rest failures host host' out out' err err' status
+  -- they have no matches, for the reason that the command line has for them: no input is opened
+  NoMatches : (why : ErrorKind) (is : (why ≡ kind.OutOfMemory) ⊎ IsAmong why (fault_of program_app words)) (only : takes program_app words ≡ true → why ≡ kind.OutOfMemory) (same : host' ≡ host)
+      (answers : Answers why out out' err err' status) → RunsOn words opens rest failures host host' out out' err err' status
+
+-- ---- what is left in the end
+
+-- What is left once the output `before`, with this left in it, was flushed: all of that; where the flush failed, its line is said, unless the machine's fault was said already.
+pub data Finishes {W : Type 0} (device : W → Device) (flushes : W → Bool → W → Type 0) (Left : (out err : Device) → ℕ → Type 0) (out' : W) (err' : Device) (status : ℕ) : Type 0 where
+  Flushed : (before : W) (left : Left (device before) err' status) (flushed : flushes before true out') (held : Keeps (device before).held (device out').held) (same : (device out').failures ≡ (device before).failures)
+      → Finishes device flushes Left out' err' status
+  Failed : (before : W) (left : Left (device before) err' status) (machine : 3 ≤ status) (fails : flushes before false out') (held : Keeps (device before).held (device out').held) (same : (device out').failures ≡ (device before).failures)
+      → Finishes device flushes Left out' err' status
+  Unflushed : (before : W) (shown : Device) (was : ℕ) (left : Left (device before) shown was) (below : was < 3) (fails : flushes before false out') (held : Keeps (device before).held (device out').held)
+      (same : (device out').failures ≡ (device before).failures) (then : Shows shown err' (program_line (codes "write failed"))) (status_is : status ≡ 3) → Finishes device flushes Left out' err' status

@@ -1,0 +1,149 @@
+//! From the words of the command line to the exit status.
+ghost use Rattle.std.specs.Prelude.{◌≡◌, ◌-◌, ◌^◌, ◌<◌, ◌≤◌, ◌+◌, map, string_bytes, Ok};
+ghost use Rattle.clap.specs.Words.{kind_of};
+ghost use Rattle.vcd_words.specs.Job.{model_want};
+ghost use Rattle.vcd_words.specs.Words.{job_asked, words_used};
+ghost use Rattle.vcd_program.specs.Asked.{inputs_asked};
+ghost use Rattle.vcd_program.specs.Runs.{Answers, Finishes, Runs, RunsOn};
+
+use crate::asked::inputs_of;
+use crate::host::{Host, Output};
+use crate::opened::{Stop, called, open_inputs};
+use clap::{ArgMatches, Error};
+use std::alloc::Global;
+use vcd_text::{Sink, put};
+use vcd_words::{Job, UseFault, command_of, job_of, parse_status};
+use vcdkit::{open_fault, run, use_fault, write_fault};
+
+/// Opens the inputs that the matches of this job name, runs it over them, and returns the exit status.
+fn run_job<H: Host, W: Sink, E: Sink>(
+    alloc: Global,
+    job: Job,
+    matches: &ArgMatches<'_>,
+    host: &mut H,
+    out: &mut W,
+    err: &mut E,
+) -> u8
+    requires out_failures { (W.device out.old).failures < 2 ^ 64 - 1 }
+    requires err_failures { (E.device err.old).failures < 2 ^ 64 - 1 }
+    requires chunk { job.chunk ≡ 65536 }
+    requires job { job_asked matches.now
+        ≡ Ok (record { want = model_want job.task; limit = job.limit }) }
+    ensures runs { Runs H.opens H.Input.rest H.Input.failures
+        (words_used matches.now) (inputs_asked matches.now) host.old host.new
+        (W.device out.old) (W.device out.new) (E.device err.old) (E.device err.new) result }
+    ensures failures { (E.device err.new).failures ≤ (E.device err.old).failures + 1 }
+{
+    let Ok(asked) = inputs_of(alloc, job.task.is_merge(), matches) else {
+        return use_fault(UseFault::OutOfMemory, err);
+    };
+    match open_inputs(alloc, asked.as_slice(), host) {
+        Ok(mut inputs) => run(
+            alloc,
+            job,
+            inputs.names.as_slice(),
+            inputs.readers.as_mut_slice(),
+            out,
+            err,
+        ),
+        Err(Stop::Unopened(name)) => open_fault(called(name), err),
+        Err(Stop::OutOfMemory) => use_fault(UseFault::OutOfMemory, err),
+    }
+}
+
+/// Runs the job that the matches ask for over the inputs that they name, and returns the exit status. `out` is not flushed.
+fn run_matches<H: Host, W: Sink, E: Sink>(
+    alloc: Global,
+    matches: &ArgMatches<'_>,
+    host: &mut H,
+    out: &mut W,
+    err: &mut E,
+) -> u8
+    requires out_failures { (W.device out.old).failures < 2 ^ 64 - 1 }
+    requires err_failures { (E.device err.old).failures < 2 ^ 64 - 1 }
+    ensures runs { Runs H.opens H.Input.rest H.Input.failures
+        (words_used matches.now) (inputs_asked matches.now) host.old host.new
+        (W.device out.old) (W.device out.new) (E.device err.old) (E.device err.new) result }
+    ensures failures { (E.device err.new).failures ≤ (E.device err.old).failures + 1 }
+{
+    match job_of(alloc, matches) {
+        Ok(job) => run_job(alloc, job, matches, host, out, err),
+        Err(fault) => use_fault(fault, err),
+    }
+}
+
+/// Says what a parse answered that gave no matches, help and the version on the output and all else on the error stream, and
+/// returns the exit status.
+fn answer<W: Sink, E: Sink>(alloc: Global, error: &Error, out: &mut W, err: &mut E) -> u8
+    requires out_failures { (W.device out.old).failures < 2 ^ 64 - 1 }
+    requires err_failures { (E.device err.old).failures < 2 ^ 64 - 1 }
+    ensures answers { Answers (kind_of error.now)
+        (W.device out.old) (W.device out.new) (E.device err.old) (E.device err.new) result }
+    ensures failures { (E.device err.new).failures ≤ (E.device err.old).failures + 1 }
+{
+    let status = parse_status(error);
+    if status == 3 {
+        return use_fault(UseFault::OutOfMemory, err);
+    }
+    let Ok(text) = error.to_string(alloc) else {
+        return use_fault(UseFault::OutOfMemory, err);
+    };
+    if status == 2 {
+        let _ = put(err, text.as_bytes());
+        return status;
+    }
+    if put(out, text.as_bytes()).is_err() {
+        return write_fault(err);
+    }
+    status
+}
+
+/// Parses the words, and does what they ask for. `out` is not flushed.
+fn run_words<H: Host, W: Sink, E: Sink>(
+    alloc: Global,
+    words: &[String],
+    host: &mut H,
+    out: &mut W,
+    err: &mut E,
+) -> u8
+    requires out_failures { (W.device out.old).failures < 2 ^ 64 - 1 }
+    requires err_failures { (E.device err.old).failures < 2 ^ 64 - 1 }
+    ensures runs { RunsOn (map string_bytes words.now) H.opens H.Input.rest H.Input.failures
+        host.old host.new
+        (W.device out.old) (W.device out.new) (E.device err.old) (E.device err.new) result }
+    ensures failures { (E.device err.new).failures ≤ (E.device err.old).failures + 1 }
+{
+    let Ok(command) = command_of(alloc) else {
+        return use_fault(UseFault::OutOfMemory, err);
+    };
+    match command.try_get_matches_from(words) {
+        Ok(matches) => run_matches(alloc, &matches, host, out, err),
+        Err(error) => answer(alloc, &error, out, err),
+    }
+}
+
+/// Does what the words ask for, the program's name first among them, flushes the output, and returns the exit status: that of
+/// the definitions for the words and the inputs; 3 for an input that cannot be opened, where memory ran out and for a failed
+/// read or write; 0 for help and the version.
+pub fn run_program<H: Host, W: Output, E: Sink>(
+    alloc: Global,
+    words: &[String],
+    host: &mut H,
+    out: &mut W,
+    err: &mut E,
+) -> u8
+    requires out_failures { (W.device out.old).failures < 2 ^ 64 - 1 }
+    requires err_failures { (E.device err.old).failures < 2 ^ 64 - 2 }
+    ensures { Finishes W.device W.flushes
+        (λ out_now err_now status. RunsOn (map string_bytes words.now)
+        H.opens H.Input.rest H.Input.failures host.old host.new
+        (W.device out.old) out_now (E.device err.old) err_now status)
+        out.new (E.device err.new) result }
+{
+    let status = run_words(alloc, words, host, out, err);
+    let flushed = out.flush();
+    if status < 3 && flushed.is_err() {
+        return write_fault(err);
+    }
+    status
+}

@@ -1,0 +1,176 @@
+//! A host in memory: files by name and standard input, as bytes.
+ghost use Rattle.std.specs.Prelude.{◌≡◌, IfOk, OnOk, map, option_map, string_bytes};
+ghost use Rattle.vcd_program.specs.Memory.{bytes_named, IsLeftBy};
+
+use crate::command_line::run_program;
+use crate::host::{Host, OpenFault, Output};
+use std::alloc::{AllocError, Global};
+use vcd_text::{ReadFailed, Sink, Source, Watch, WriteFailed};
+
+/// A file in memory.
+#[derive(Clone, Copy, PartialEq, Eq, Debug)]
+pub struct MemoryFile<'a> {
+    /// Its name.
+    pub name: &'a str,
+    /// Its bytes.
+    pub bytes: &'a [u8],
+}
+
+/// Bytes that are read to their end, and no read of them fails.
+#[derive(Drop)]
+pub struct Bytes<'a> {
+    /// What is still to be read.
+    pub rest: &'a [u8],
+}
+
+impl<'a> Source for Bytes<'a> {
+    ghost use Rattle.std.specs.Prelude.{Some};
+
+    ghost rest = { λ bytes. Some bytes.rest.now };
+
+    ghost failures = { λ _. 0 };
+
+    fn read(&mut self, into: &mut [u8]) -> Result<usize, ReadFailed> {
+        let n = into.len().min(self.rest.len());
+        let (front, back) = self.rest.split_at(n);
+        into[..n].copy_from_slice(front);
+        self.rest = back;
+        Ok(n)
+    }
+
+    fn failures(&self) -> u64 {
+        0
+    }
+}
+
+/// Files in memory and standard input. It notes what is opened.
+#[derive(Drop)]
+pub struct Memory<'a> {
+    /// The files. Of two with one name the first counts.
+    pub files: &'a [MemoryFile<'a>],
+    /// The bytes of standard input.
+    pub input: &'a [u8],
+    /// What was opened or tried, in order: the names of files, and none for standard input.
+    pub opened: Vec<Option<String>>,
+}
+
+/// Copies a name, where there is one.
+fn copied(alloc: Global, name: Option<&str>) -> Result<Option<String>, AllocError>
+    ensures { IfOk result (λ copy. option_map string_bytes copy
+        ≡ option_map (λ text. text.now) name.entry) }
+{
+    match name {
+        Some(name) => Ok(Some(String::from_str(alloc, name)?)),
+        None => Ok(None),
+    }
+}
+
+/// Returns the bytes of the first file of this name, if there is one.
+fn bytes_named<'a>(files: &[MemoryFile<'a>], name: &str) -> Option<&'a [u8]>
+    ensures { option_map (λ bytes. bytes.now) result ≡ bytes_named files.now name.now }
+{
+    for file in files {
+        if file.name == name {
+            return Some(file.bytes);
+        }
+    }
+    None
+}
+
+impl<'a> Memory<'a> {
+    ghost use Rattle.std.specs.Prelude.{◌++◌, ◌∷◌, []};
+    ghost use Rattle.vcd_program.specs.Memory.{bytes_in, noted};
+
+    /// Notes that the input of this name is opened.
+    fn note(&mut self, name: Option<&str>) -> Result<(), AllocError>
+        ensures files { self.new.files ≡ self.old.files }
+        ensures input { self.new.input ≡ self.old.input }
+        ensures noted { OnOk result (noted self.new
+            ≡ noted self.old ++ option_map (λ text. text.now) name.entry ∷ []) }
+    {
+        let alloc = *self.opened.allocator();
+        Ok(self.opened.push(copied(alloc, name)?)?)
+    }
+
+    /// Returns the bytes of the input of this name, if there is one.
+    fn bytes_of(&self, name: Option<&str>) -> Option<&'a [u8]>
+        ensures { option_map (λ bytes. bytes.now) result
+            ≡ bytes_in self.now (option_map (λ text. text.now) name.entry) }
+    {
+        match name {
+            Some(name) => bytes_named(self.files, name),
+            None => Some(self.input),
+        }
+    }
+}
+
+impl<'a> Host for Memory<'a> {
+    ghost use Rattle.vcd_program.specs.Memory.{OpensIn};
+
+    type Input = Bytes<'a>;
+
+    ghost opens = { λ old name result new. OpensIn old name result new };
+
+    fn open(&mut self, name: Option<&str>) -> Result<Bytes<'a>, OpenFault> {
+        if self.note(name).is_err() {
+            return Err(OpenFault::OutOfMemory);
+        }
+        match self.bytes_of(name) {
+            Some(rest) => Ok(Bytes { rest }),
+            None => Err(OpenFault::Unopened),
+        }
+    }
+}
+
+/// It keeps nothing in a buffer.
+impl Output for Watch<Vec<u8>> {
+    ghost use Rattle.std.specs.Prelude.{◌≡◌, true};
+
+    ghost flushes = { λ old done new. (done ≡ true) × (new ≡ old) };
+
+    fn flush(&mut self) -> Result<(), WriteFailed> {
+        Ok(())
+    }
+}
+
+/// What a program left.
+#[derive(Drop)]
+pub struct Left {
+    /// What was opened or tried, in order: the names of files, and none for standard input.
+    pub opened: Vec<Option<String>>,
+    /// The bytes on standard output.
+    pub output: Vec<u8>,
+    /// The bytes on the error stream.
+    pub message: Vec<u8>,
+    /// The exit status.
+    pub status: u8,
+}
+
+/// Runs the program on these words, its own name first among them, over files in memory, and returns what it left. An error
+/// says that memory for the output, for the message or for the notes ran out.
+pub fn run_in_memory(
+    alloc: Global,
+    words: &[String],
+    files: &[MemoryFile<'_>],
+    input: &[u8],
+) -> Result<Left, AllocError>
+    ensures { IfOk result (λ left. IsLeftBy (map string_bytes words.now) files.now input.now left) }
+{
+    let mut memory = Memory {
+        files,
+        input,
+        opened: Vec::new(alloc),
+    };
+    let mut out = Watch::new(Vec::new(alloc));
+    let mut err = Watch::new(Vec::new(alloc));
+    let status = run_program(alloc, words, &mut memory, &mut out, &mut err);
+    if out.failures() > 0 || err.failures() > 0 {
+        return Err(AllocError);
+    }
+    Ok(Left {
+        opened: memory.opened,
+        output: out.device,
+        message: err.device,
+        status,
+    })
+}

@@ -1,0 +1,104 @@
+//! Inputs that are opened one by one.
+ghost use Rattle.std.specs.Prelude.{◌≡◌, ◌++◌, ◌∷◌, [], All, IfErr, IfOk, OnOk, map, string_bytes};
+ghost use Rattle.vcd_program.specs.Opens.{called, text_of, Opens, OpensOne, StopsAmong, StopsAt};
+
+use crate::host::{Host, OpenFault};
+use std::alloc::{AllocError, Global};
+
+/// What standard input is called.
+const INPUT: &str = "(stdin)";
+
+/// What an input is called in a message.
+pub(crate) fn called<'a>(name: Option<&'a str>) -> &'a str
+    ensures { result.now ≡ called (text_of name.entry) }
+{
+    match name {
+        Some(name) => name,
+        None => INPUT,
+    }
+}
+
+/// Inputs that are open, and what each is called.
+#[derive(Drop)]
+pub(crate) struct Opened<I: Drop> {
+    pub names: Vec<String>,
+    pub readers: Vec<I>,
+}
+
+impl<I: Drop> Opened<I> {
+    ghost use Rattle.std.specs.Prelude.{◌≡◌, ◌++◌, ◌∷◌, [], OnOk, map, string_bytes};
+    ghost use Rattle.vcd_program.specs.Opens.{called, text_of};
+
+    /// Adds an input.
+    fn push(&mut self, alloc: Global, name: Option<&str>, reader: I) -> Result<(), AllocError>
+        ensures readers { OnOk result (self.new.readers.items ≡ self.old.readers.items ++ reader ∷ []) }
+        ensures names { OnOk result (map string_bytes self.new.names.items
+            ≡ map string_bytes self.old.names.items ++ called (text_of name.entry) ∷ []) }
+    {
+        self.names.push(String::from_str(alloc, called(name))?)?;
+        Ok(self.readers.push(reader)?)
+    }
+}
+
+/// Why inputs were not opened.
+#[derive(Clone, Copy)]
+pub(crate) enum Stop<'a> {
+    /// The one of this name cannot be.
+    Unopened(Option<&'a str>),
+    /// Memory ran out.
+    OutOfMemory,
+}
+
+impl<'a> From<AllocError> for Stop<'a> {
+    ghost use Rattle.std.specs.Prelude.{◌≡◌};
+    ghost use Rattle.vcd_program.specs.declared.opened.Stop.{Stop};
+
+    ghost from_gives = { λ _ stop. stop ≡ Stop.OutOfMemory };
+
+    fn from(_error: AllocError) -> Stop<'a> {
+        Stop::OutOfMemory
+    }
+}
+
+/// Opens the input of this name, and adds it.
+fn open_next<'a, H: Host>(
+    alloc: Global,
+    name: Option<&'a str>,
+    host: &mut H,
+    opened: &mut Opened<H::Input>,
+) -> Result<(), Stop<'a>>
+    ensures opened { OnOk result (OpensOne H.opens H.Input.failures (text_of name.entry)
+        host.old host.new opened.old.readers.items opened.new.readers.items) }
+    ensures names { OnOk result (map string_bytes opened.new.names.items
+        ≡ map string_bytes opened.old.names.items ++ called (text_of name.entry) ∷ []) }
+    ensures stop { IfErr result (StopsAt H.opens (text_of name.entry) host.old host.new) }
+{
+    match host.open(name) {
+        Ok(reader) => Ok(opened.push(alloc, name, reader)?),
+        Err(OpenFault::OutOfMemory) => Err(Stop::OutOfMemory),
+        Err(OpenFault::Unopened) => Err(Stop::Unopened(name)),
+    }
+}
+
+/// Opens the inputs of these names in order, up to the first that cannot be opened.
+pub(crate) fn open_inputs<'a, H: Host>(
+    alloc: Global,
+    asked: &[Option<&'a str>],
+    host: &mut H,
+) -> Result<Opened<H::Input>, Stop<'a>>
+    ensures opened { IfOk result (λ inputs.
+        Opens H.opens host.old (map text_of asked.now) inputs.readers.items host.new) }
+    ensures names { IfOk result (λ inputs.
+        map string_bytes inputs.names.items ≡ map called (map text_of asked.now)) }
+    ensures fresh { IfOk result (λ inputs. All (λ r. H.Input.failures r ≡ 0) inputs.readers.items) }
+    ensures stop { IfErr result (StopsAmong H.opens (map text_of asked.now) host.old host.new) }
+{
+    let mut opened = Opened {
+        names: Vec::new(alloc),
+        readers: Vec::new(alloc),
+    };
+    for name in asked {
+        open_next(alloc, *name, host, &mut opened)?;
+    }
+    Ok(opened)
+}

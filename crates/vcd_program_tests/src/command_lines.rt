@@ -1,0 +1,199 @@
+// What command lines leave over files in memory: which inputs are opened, the bytes on both streams, and the status.
+use std::alloc::{AllocError, Global};
+use vcd_program::{Left, MemoryFile, run_in_memory};
+
+// Three dumps of a variable, each with its own name; one that stops; and one on standard input.
+const FILES: [MemoryFile<'static>; 4] = [
+    MemoryFile {
+        name: "a.vcd",
+        bytes: b"$timescale 1ns $end $var wire 1 ! a $end $enddefinitions $end #1 1!\n",
+    },
+    MemoryFile {
+        name: "b.vcd",
+        bytes: b"$timescale 1ns $end $var wire 1 ! b $end $enddefinitions $end #2 0!\n",
+    },
+    MemoryFile {
+        name: "c.vcd",
+        bytes: b"$timescale 1ns $end $var wire 1 ! c $end $enddefinitions $end #3 1!\n",
+    },
+    MemoryFile {
+        name: "bad.vcd",
+        bytes: b"$var wire 1 ! bad $end\n$enddefinitions $end\n#x\n",
+    },
+];
+
+const INPUT: &[u8] = b"$var real 1 ! input $end $enddefinitions $end #4 r1 !\n";
+
+// What is on a stream: this text, or some text.
+#[derive(Clone, Copy)]
+enum Said {
+    Just(&'static [u8]),
+    Some,
+}
+
+// Words, which inputs are opened for them (standard input has no name), what is on the output and on the error stream, and the
+// status.
+#[derive(Clone, Copy)]
+struct Row {
+    words: &'static [&'static str],
+    opened: &'static [Option<&'static str>],
+    out: Said,
+    err: Said,
+    status: u8,
+}
+
+const NOTHING: Said = Said::Just(b"");
+
+const ROWS: [Row; 13] = [
+    Row {
+        words: &["list"],
+        opened: &[None],
+        out: Said::Just(b"input real 1 !\n"),
+        err: NOTHING,
+        status: 0,
+    },
+    Row {
+        words: &["list", "-i", "b.vcd"],
+        opened: &[Some("b.vcd")],
+        out: Said::Just(b"b wire 1 !\n"),
+        err: NOTHING,
+        status: 0,
+    },
+    Row {
+        words: &["check", "-i", "bad.vcd"],
+        opened: &[Some("bad.vcd")],
+        out: NOTHING,
+        err: Said::Just(b"vcdkit: bad.vcd:3: bad time\n"),
+        status: 1,
+    },
+    Row {
+        words: &["check", "-i", "none.vcd"],
+        opened: &[Some("none.vcd")],
+        out: NOTHING,
+        err: Said::Just(b"vcdkit: none.vcd: cannot be opened\n"),
+        status: 3,
+    },
+    Row {
+        words: &["merge", "c.vcd", "a.vcd", "b.vcd"],
+        opened: &[Some("c.vcd"), Some("a.vcd"), Some("b.vcd")],
+        out: Said::Just(
+            b"$timescale\n\t1ns\n$end\n$scope module in1 $end\n$var wire 1 ! c $end\n$upscope $end\n$scope module in2 $end\n$var wire 1 \" a $end\n$upscope $end\n$scope module in3 $end\n$var wire 1 # b $end\n$upscope $end\n$enddefinitions $end\n#1\n1\"\n#2\n0#\n#3\n1!\n",
+        ),
+        err: NOTHING,
+        status: 0,
+    },
+    Row {
+        words: &["merge", "a.vcd", "none.vcd", "b.vcd"],
+        opened: &[Some("a.vcd"), Some("none.vcd")],
+        out: NOTHING,
+        err: Said::Just(b"vcdkit: none.vcd: cannot be opened\n"),
+        status: 3,
+    },
+    Row {
+        words: &["cut", "--from", "5", "--to", "4", "-i", "a.vcd"],
+        opened: &[],
+        out: NOTHING,
+        err: Said::Just(b"vcdkit: --from is above --to\n"),
+        status: 2,
+    },
+    Row {
+        words: &["check", "--token-limit", "63"],
+        opened: &[],
+        out: NOTHING,
+        err: Said::Just(b"vcdkit: bad token limit: 63\n"),
+        status: 2,
+    },
+    Row {
+        words: &["--help"],
+        opened: &[],
+        out: Said::Some,
+        err: NOTHING,
+        status: 0,
+    },
+    Row {
+        words: &["check", "--help"],
+        opened: &[],
+        out: Said::Some,
+        err: NOTHING,
+        status: 0,
+    },
+    Row {
+        words: &["--version"],
+        opened: &[],
+        out: Said::Just(b"vcdkit 0.1.0\n"),
+        err: NOTHING,
+        status: 0,
+    },
+    Row {
+        words: &["chekc"],
+        opened: &[],
+        out: NOTHING,
+        err: Said::Some,
+        status: 2,
+    },
+    Row {
+        words: &[],
+        opened: &[],
+        out: NOTHING,
+        err: Said::Some,
+        status: 2,
+    },
+];
+
+fn is_said(stream: &[u8], said: Said) -> bool {
+    match said {
+        Said::Just(text) => stream == text,
+        Said::Some => !stream.is_empty(),
+    }
+}
+
+// Whether these inputs were opened and no others, in this order.
+fn are_opened(left: &Left, names: &[Option<&str>]) -> bool {
+    if left.opened.len() != names.len() {
+        return false;
+    }
+    for (place, name) in names.iter().enumerate() {
+        let is_same = match (left.opened.get(place), name) {
+            (Some(Some(opened)), Some(name)) => opened.as_str() == *name,
+            (Some(None), None) => true,
+            _ => false,
+        };
+        if !is_same {
+            return false;
+        }
+    }
+    true
+}
+
+fn is_as(left: &Left, row: &Row) -> bool {
+    are_opened(left, row.opened)
+        && is_said(left.output.as_slice(), row.out)
+        && is_said(left.message.as_slice(), row.err)
+        && left.status == row.status
+}
+
+// The words of a command line, the program's name before them.
+pub(crate) fn words_of(alloc: Global, words: &[&str]) -> Result<Vec<String>, AllocError> {
+    let mut texts = Vec::new(alloc);
+    texts.push(String::from_str(alloc, "vcdkit")?)?;
+    for word in words {
+        texts.push(String::from_str(alloc, word)?)?;
+    }
+    Ok(texts)
+}
+
+// The first row that is not as it says, from 0; the count of rows where each is.
+fn first_wrong(alloc: Global) -> Result<usize, AllocError> {
+    for (place, row) in ROWS.iter().enumerate() {
+        let words = words_of(alloc, row.words)?;
+        if !is_as(&run_in_memory(alloc, words.as_slice(), &FILES, INPUT)?, row) {
+            return Ok(place);
+        }
+    }
+    Ok(ROWS.len())
+}
+
+#[test]
+fn command_lines_leave_what_they_ask_for(rt: HostRuntime) {
+    assert_eq!(rt; first_wrong(rt.alloc()), Ok(ROWS.len()));
+}

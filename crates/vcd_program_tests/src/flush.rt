@@ -1,0 +1,41 @@
+// An output that cannot be flushed.
+use super::command_lines::words_of;
+use std::alloc::{AllocError, Global};
+use std::io::BufWriter;
+use vcd_program::{Memory, run_program};
+use vcd_text::Watch;
+use vcd_text::doubles::Narrow;
+
+// The status and the message of these words over this input, where the output cannot be flushed.
+fn run_unflushed(alloc: Global, word: &str, input: &[u8]) -> Result<(u8, Vec<u8>), AllocError> {
+    let words = words_of(alloc, &[word])?;
+    let mut memory = Memory {
+        files: &[],
+        input,
+        opened: Vec::new(alloc),
+    };
+    let mut out = Watch::new(BufWriter::new(alloc, Narrow::new(0)).map_err(|_| AllocError)?);
+    let mut err = Watch::new(Vec::new(alloc));
+    let status = run_program(alloc, words.as_slice(), &mut memory, &mut out, &mut err);
+    Ok((status, err.device))
+}
+
+// Whether just this is said, with status 3.
+fn is_said(alloc: Global, word: &str, input: &[u8], line: &[u8]) -> Result<bool, AllocError> {
+    let (status, message) = run_unflushed(alloc, word, input)?;
+    Ok(status == 3 && message.as_slice() == line)
+}
+
+// A job that is done, and the version.
+fn is_flush_said(alloc: Global) -> Result<bool, AllocError> {
+    let dump = b"$timescale 1ns $end $var wire 1 ! a $end $enddefinitions $end\n#5\n1!\n";
+    Ok(
+        is_said(alloc, "check", dump, b"vcdkit: write failed\n")?
+            && is_said(alloc, "--version", dump, b"vcdkit: write failed\n")?,
+    )
+}
+
+#[test]
+fn a_flush_that_fails_is_a_failed_write(rt: HostRuntime) {
+    assert_eq!(rt; is_flush_said(rt.alloc()), Ok(true));
+}
