@@ -1,4 +1,4 @@
-//! A stored run of the program: `cut --from 5 --to 4`, which ends before it begins, with a dump on standard input.
+//! A stored run of the program: `cut --from 5 --to 4`, with a dump on standard input.
 #![tactic(auto)]
 
 use std::process::ExitCode;
