@@ -1,4 +1,4 @@
-//! A stored run of the program: `list -i none.vcd`, where there is no such file, and a dump on standard input.
+//! A stored run of the program: `list -i none.vcd`, which is not there.
 #![tactic(auto)]
 
 use std::process::ExitCode;

@@ -15,7 +15,8 @@ use vcd_text::{Sink, put};
 use vcd_words::{Job, UseFault, command_of, job_of, parse_status};
 use vcdkit::{open_fault, run, use_fault, write_fault};
 
-/// Opens the inputs that the matches of this job name, runs it over them, and returns the exit status.
+/// Opens the inputs that the matches of this job name, runs it over them, and returns the exit
+/// status.
 fn run_job<H: Host, W: Sink, E: Sink>(
     alloc: Global,
     job: Job,
@@ -51,7 +52,8 @@ fn run_job<H: Host, W: Sink, E: Sink>(
     }
 }
 
-/// Runs the job that the matches ask for over the inputs that they name, and returns the exit status. `out` is not flushed.
+/// Runs the job that the matches ask for over the inputs that they name, and returns the exit
+/// status. `out` is not flushed.
 fn run_matches<H: Host, W: Sink, E: Sink>(
     alloc: Global,
     matches: &ArgMatches<'_>,
@@ -72,8 +74,8 @@ fn run_matches<H: Host, W: Sink, E: Sink>(
     }
 }
 
-/// Says what a parse answered that gave no matches, help and the version on the output and all else on the error stream, and
-/// returns the exit status.
+/// Says what a parse answered that gave no matches, help and the version on the output and all else
+/// on the error stream, and returns the exit status.
 fn answer<W: Sink, E: Sink>(alloc: Global, error: &Error, out: &mut W, err: &mut E) -> u8
     requires out_failures { (W.device out.old).failures < 2 ^ 64 - 1 }
     requires err_failures { (E.device err.old).failures < 2 ^ 64 - 1 }
@@ -122,9 +124,10 @@ fn run_words<H: Host, W: Sink, E: Sink>(
     }
 }
 
-/// Does what the words ask for, the program's name first among them, flushes the output, and returns the exit status: that of
-/// the definitions for the words and the inputs; 3 for an input that cannot be opened, where memory ran out and for a failed
-/// read or write; 0 for help and the version.
+/// Does what the words ask for, the program's name first among them, flushes the output, and
+/// returns the exit status: that of the definitions for the words and the inputs; 3 for an input
+/// that cannot be opened, where memory ran out and for a failed read or write; 0 for help and the
+/// version.
 pub fn run_program<H: Host, W: Output, E: Sink>(
     alloc: Global,
     words: &[String],

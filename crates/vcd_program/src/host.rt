@@ -20,8 +20,8 @@ pub trait Host {
     /// An input that is open.
     type Input: Source + Drop;
 
-    // What a call of `open` with this name may return, and what it leaves the host. A contract that speaks of it for every host
-    // says which calls were made: there is no other way to it.
+    // What a call of `open` with this name may return, and what it leaves the host. A contract that
+    // speaks of it for every host says which calls were made: there is no other way to it.
     ghost opens: { Self → Option (List ℕ) → Result Self.Input OpenFault → Self → Type 0 };
 
     /// Opens the file of this name, or standard input where there is none.

@@ -1,10 +1,11 @@
-//! The program over any host: from the words of its command line to its output, its message and its status.
+//! The program over any host: from its words to its output, its message and its status.
 //!
-//! `run_program` parses the words, opens the inputs that they name, in order, runs the job over them, flushes the output and
-//! returns the status. Where inputs are opened is a `Host`, where output goes an `Output`. Its contract says which inputs were
-//! opened, in which order and under which names, and what was left: the outcome that the definitions have for the words and the
-//! inputs, or the line and the status of what went wrong before (`Runs`). Over a host in memory the outcome is that of the words
-//! and the bytes of the files (`run_in_memory`, `specs/Memory`).
+//! `run_program` parses the words, opens the inputs that they name, in order, runs the job over
+//! them, flushes the output and returns the status. Where inputs are opened is a `Host`, where
+//! output goes an `Output`. Its contract says which inputs were opened, in which order and under
+//! which names, and what was left: the outcome that the definitions have for the words and the
+//! inputs, or the line and the status of what went wrong before (`Runs`). Over a host in memory the
+//! outcome is that of the words and the bytes of the files (`run_in_memory`, `specs/Memory`).
 //!
 //! # The modules
 //!
@@ -15,8 +16,8 @@
 //! - `memory`: a host in memory
 //! - `machine`: the machine that a process runs on, as a host
 //!
-//! In `specs/`: `Asked`; `Opens`, which inputs were opened; `Runs`, what a program leaves; `Memory`, what it leaves over a host in
-//! memory.
+//! In `specs/`: `Asked`; `Opens`, which inputs were opened; `Runs`, what a program leaves;
+//! `Memory`, what it leaves over a host in memory.
 #![tactic(auto)]
 
 mod asked;

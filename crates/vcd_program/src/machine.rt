@@ -61,7 +61,8 @@ fn words_of<R: Env + AllocGlobal>(rt: &R) -> Result<Vec<String>, UseFault<'stati
     Ok(words.collect(rt.alloc())?)
 }
 
-/// Runs the program on the words, the files and the streams of the process, and returns the exit status.
+/// Runs the program on the words, the files and the streams of the process, and returns the exit
+/// status.
 pub fn run_on_machine(rt: &HostRuntime) -> u8 {
     let mut err = Watch::new(Again::new(rt.stderr()));
     let words = match words_of(rt) {

@@ -146,8 +146,9 @@ pub struct Left {
     pub status: u8,
 }
 
-/// Runs the program on these words, its own name first among them, over files in memory, and returns what it left. An error
-/// says that memory for the output, for the message or for the notes ran out.
+/// Runs the program on these words, its own name first among them, over files in memory, and
+/// returns what it left. An error says that memory for the output, for the message or for the notes
+/// ran out.
 pub fn run_in_memory(
     alloc: Global,
     words: &[String],

@@ -31,7 +31,8 @@ impl<I: Drop> Opened<I> {
 
     /// Adds an input.
     fn push(&mut self, alloc: Global, name: Option<&str>, reader: I) -> Result<(), AllocError>
-        ensures readers { OnOk result (self.new.readers.items ≡ self.old.readers.items ++ reader ∷ []) }
+        ensures readers { OnOk result (self.new.readers.items
+            ≡ self.old.readers.items ++ reader ∷ []) }
         ensures names { OnOk result (map string_bytes self.new.names.items
             ≡ map string_bytes self.old.names.items ++ called (text_of name.entry) ∷ []) }
     {

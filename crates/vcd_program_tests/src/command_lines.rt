@@ -1,4 +1,5 @@
-// What command lines leave over files in memory: which inputs are opened, the bytes on both streams, and the status.
+// What command lines leave over files in memory: which inputs are opened, the bytes on both
+// streams, and the status.
 use std::alloc::{AllocError, Global};
 use vcd_program::{Left, MemoryFile, run_in_memory};
 
@@ -31,8 +32,8 @@ enum Said {
     Some,
 }
 
-// Words, which inputs are opened for them (standard input has no name), what is on the output and on the error stream, and the
-// status.
+// Words, which inputs are opened for them (standard input has no name), what is on the output and
+// on the error stream, and the status.
 #[derive(Clone, Copy)]
 struct Row {
     words: &'static [&'static str],

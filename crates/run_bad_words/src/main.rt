@@ -1,9 +1,0 @@
-//! A stored run of the program: `cut --from 5 --to 4`, which ends before it begins, with a dump on standard input.
-#![tactic(auto)]
-
-use std::process::ExitCode;
-use vcd_program::run_on_machine;
-
-fn main(rt: HostRuntime) -> ExitCode {
-    ExitCode::from(run_on_machine(&rt))
-}
