@@ -31,5 +31,5 @@ mod tasks;
 mod whole_run;
 
 pub use again::Again;
-pub use message::{open_fault, use_fault, write_fault};
-pub use whole_run::run;
+pub use message::{open_fault, read_fault, use_fault, write_fault};
+pub use whole_run::{run, run_with_hasher};

@@ -3,7 +3,7 @@
 ghost use Rattle.std.specs.Prelude.{◌≡◌, ◌-◌, ◌^◌, ◌<◌, ◌++◌, [], codes, decimal, map, string_bytes};
 ghost use Rattle.vcd_model.specs.Outcome.{name_at, program_line};
 ghost use Rattle.vcd_text.specs.Device.{Puts, Takes, failures_after};
-ghost use Rattle.vcd_body.specs.declared.answer.Stop.TheVariants.{Write};
+ghost use Rattle.vcd_body.specs.declared.answer.Stop.TheVariants.{Read, Write};
 ghost use Rattle.vcdkit.specs.Message.{failure_message, failure_status, refusal_message, refusal_status, stop_message, stop_status, unopened_outcome, use_outcome, Shows};
 ghost use Rattle.vcdkit.specs.declared.failure.Failure.TheVariants.{OutOfMemory};
 
@@ -153,6 +153,16 @@ pub fn write_fault<E: Sink>(err: &mut E) -> u8
     ensures status { result ≡ stop_status Write }
 {
     report_stop(Stop::Write, &[], &[], err)
+}
+
+/// Says that the first input of these names could not be read, and returns the exit status. A fault of the stream is passed over.
+pub fn read_fault<E: Sink>(names: &[String], err: &mut E) -> u8
+    requires { (E.device err.old).failures < 2 ^ 64 - 1 }
+    ensures line { Shows (E.device err.old) (E.device err.new)
+        (stop_message (map string_bytes names.now) [] (Read 0)) }
+    ensures status { result ≡ stop_status (Read 0) }
+{
+    report_stop(Stop::Read { input: 0 }, names, &[], err)
 }
 
 /// Says why there is no job, and returns the exit status. A fault of the stream is passed over.

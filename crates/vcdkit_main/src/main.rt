@@ -15,14 +15,15 @@ mod tests;
 
 use clap::Error;
 use std::alloc::{AllocError, Global};
-use std::env;
 use std::env::Env;
 use std::fs::File;
+use std::hash::RandomState;
 use std::io::{BufWriter, ErrorKind, Read, Write};
 use std::process::ExitCode;
+use std::{env, io};
 use vcd_text::{Sink, Source, Watch};
 use vcd_words::{Job, MOST_FILES, UseFault, command_of, files_of, input_of, job_of, parse_status};
-use vcdkit::{Again, open_fault, run, use_fault, write_fault};
+use vcdkit::{Again, open_fault, read_fault, run_with_hasher, use_fault, write_fault};
 
 /// What standard input is called.
 const INPUT: &str = "(stdin)";
@@ -44,6 +45,7 @@ fn run_job<S: Source, W: Write + Drop, E: Sink>(
     readers: &mut [S],
     output: W,
     err: &mut E,
+    hasher: io::Result<RandomState>,
 ) -> Result<u8, AllocError>
     requires names { length names.now ≡ length readers.old }
     requires some { 0 < length readers.old }
@@ -52,8 +54,11 @@ fn run_job<S: Source, W: Write + Drop, E: Sink>(
     requires reader_failures { All (λ r. S.failures r < 2 ^ 64 - 1) readers.old }
     requires err_failures { (E.device err.old).failures < 2 ^ 64 - 2 }
 {
+    let Ok(hasher) = hasher else {
+        return Ok(read_fault(names, err));
+    };
     let mut out = Watch::new(BufWriter::new(alloc, output).map_err(|_| AllocError)?);
-    let status = run(alloc, job, names, readers, &mut out, err);
+    let status = run_with_hasher(alloc, job, names, readers, &mut out, err, &hasher);
     let flushed = out.device.flush();
     if status < 3 && flushed.is_err() {
         return Ok(write_fault(err));
@@ -91,6 +96,7 @@ fn run_over<R: Read + Drop>(
         readers.as_mut_slice(),
         Again::new(rt.stdout()),
         &mut Watch::new(Again::new(rt.stderr())),
+        RandomState::new(rt),
     )
 }
 
@@ -126,6 +132,7 @@ fn run_over_files(rt: &HostRuntime, job: Job, files: &[&str]) -> Result<u8, Allo
         readers.as_mut_slice(),
         Again::new(rt.stdout()),
         &mut Watch::new(Again::new(rt.stderr())),
+        RandomState::new(rt),
     )
 }
 
