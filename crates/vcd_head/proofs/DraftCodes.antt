@@ -11,7 +11,9 @@ use Rattle.vcd_model.specs.HeaderChecks.{agrees, same_flag}
 use Rattle.vcd_view.specs.declared.view.Code.{Code}
 use Rattle.vcd_head.specs.declared.codes.Codes.{Codes}
 use Rattle.vcd_view.specs.Views.{AreHeld, IsCode, IsSize}
-use Rattle.vcd_head.specs.Codes.{EntersIn, FindsAll, IsAdded}
+use Rattle.vcd_head.specs.Codes.{IsAdded}
+use Rattle.vcd_head.specs.Keys.{AreKeysOf, shape_in, shape_of}
+use Rattle.vcd_head.specs.declared.code_key.CodeKey.{CodeKey}
 use Rattle.vcd_view.specs.Keys.{AreBytes}
 use Rattle.vcd_head.specs.Draft.{HasCodes, CodeHeld}
 use Rattle.vcd_head.proofs.DraftLemmas.{range_at, held_grow}
@@ -38,7 +40,7 @@ codes_alias text es ds v h f =
     let vars = sym (variables_push ds (Declaration.Var v)) in
     record {
       held = subst (AreHeld text es.list.items) c h.held;
-      finds = subst (λ ks. FindsAll ks es.table) c h.finds;
+      keys = subst (AreKeysOf es.keys.keys) c h.keys;
       known = subst (λ ks. AllByRecursion (λ u. find (has_text u.code) ks ≡ Some (code_of u)) (variables_of (ds ++ Declaration.Var v ∷ []))) c
           (subst (λ vs. AllByRecursion (λ u. find (has_text u.code) (codes_of ds) ≡ Some (code_of u)) vs) vars (all_push (λ u. find (has_text u.code) (codes_of ds) ≡ Some (code_of u)) (variables_of ds) v h.known f));
       seen = λ t. ap (list_any (λ u. bytes_eq u.code t)) (sym vars) ∙ any_push (variables_of ds) v t ∙ seen_or t (bytes_eq v.code t) refl ∙ ap (λ ks. is_some (find (has_text t) ks)) c;
@@ -51,15 +53,15 @@ codes_alias text es ds v h f =
 
 -- ---- a new code
 
-pub codes_new : (text more : List ℕ) (old new : Codes) (ds : List Declaration) (v : Variable) (k : List ℕ) (code : Code) (place : ℕ) → HasCodes text old ds → EntersIn (text ++ more) old → find (has_text v.code) (codes_of ds) ≡ None → k ≡ v.code → IsAdded (text ++ more) old new k code place
+pub codes_new : (text more : List ℕ) (old new : Codes) (ds : List Declaration) (v : Variable) (k : List ℕ) (key : CodeKey) (code : Code) (place : ℕ) → HasCodes text old ds → shape_of key ≡ shape_in k → AreBytes k → find (has_text v.code) (codes_of ds) ≡ None → k ≡ v.code → IsAdded old new key code place
     → IsCode (text ++ more) code (code_of v) → IsSize (code_of v).size → HasCodes (text ++ more) new (ds ++ Declaration.Var v ∷ [])
-codes_new text more old new ds v k code place h e f b added is size =
+codes_new text more old new ds v k key code place h own bytes f b added is size =
     let c = sym (codes-new ds v (h.seen v.code ∙ ap is_some f)) in
     let vars = sym (variables_push ds (Declaration.Var v)) in
     record {
       held = subst (AreHeld (text ++ more) new.list.items) c
-          (subst (λ xs. AreHeld (text ++ more) xs (codes_of ds ++ code_of v ∷ [])) (sym added.listed) (held_more (text ++ more) old.list.items (codes_of ds) code (code_of v) grown is (subst AreBytes b added.own) f));
-      finds = subst (λ ks. FindsAll ks new.table) c (added.found (codes_of ds) (code_of v) grown e h.finds (ap (λ t. find (has_text t) (codes_of ds)) b ∙ f) (sym b));
+          (subst (λ xs. AreHeld (text ++ more) xs (codes_of ds ++ code_of v ∷ [])) (sym added.listed) (held_more (text ++ more) old.list.items (codes_of ds) code (code_of v) grown is (subst AreBytes b bytes) f));
+      keys = subst (AreKeysOf new.keys.keys) c (added.found (text ++ more) k (codes_of ds) (code_of v) own bytes grown h.keys (ap (λ t. find (has_text t) (codes_of ds)) b ∙ f) (sym b));
       known = subst (λ ks. AllByRecursion (λ u. find (has_text u.code) ks ≡ Some (code_of u)) (variables_of (ds ++ Declaration.Var v ∷ []))) c
           (subst (λ vs. AllByRecursion (λ u. find (has_text u.code) (codes_of ds ++ code_of v ∷ []) ≡ Some (code_of u)) vs) vars
           (all_push (λ u. find (has_text u.code) (codes_of ds ++ code_of v ∷ []) ≡ Some (code_of u)) (variables_of ds) v
@@ -152,9 +154,9 @@ held_alias text es ds v place h at f = record {
   short = omega arith;
 }
 
-pub held_new : (old new : List ℕ) (before after : Codes) (ds : List Declaration) (v : Variable) (k : List ℕ) (code : Code) (place : ℕ) → HasCodes old before ds → EntersIn (old ++ k) before → find (has_text v.code) (codes_of ds) ≡ None → k ≡ v.code → IsSize (code_of v).size
-    → code ≡ record { start = length old; len = length k; size = (code_of v).size; event = (code_of v).event } → new ≡ old ++ k → IsAdded (old ++ k) before after k code place → CodeHeld old new after ds v place
-held_new old new before after ds v k code place h e f b size is_code text added =
+pub held_new : (old new : List ℕ) (before after : Codes) (ds : List Declaration) (v : Variable) (k : List ℕ) (key : CodeKey) (code : Code) (place : ℕ) → HasCodes old before ds → shape_of key ≡ shape_in k → AreBytes k → find (has_text v.code) (codes_of ds) ≡ None → k ≡ v.code → IsSize (code_of v).size
+    → code ≡ record { start = length old; len = length k; size = (code_of v).size; event = (code_of v).event } → new ≡ old ++ k → IsAdded before after key code place → CodeHeld old new after ds v place
+held_new old new before after ds v k key code place h own bytes f b size is_code text added =
     let at : place ≡ length (codes_of ds) = added.last ∙ codes_len old before.list.items (codes_of ds) h.held.stand in
     let from = ap (λ (c : Code). c.start) is_code in
     let size_of = ap (λ (c : Code). c.len) is_code in
@@ -165,7 +167,7 @@ held_new old new before after ds v k code place h e f b size is_code text added 
       event_is = ap (λ (c : Code). c.event) is_code;
     } in
     record {
-      held_codes = rw text (codes_new old k before after ds v k code place h e f b added is size);
+      held_codes = rw text (codes_new old k before after ds v k key code place h own bytes f b added is size);
       held_at = ap (λ ks. slice_get ks place) (codes-new ds v (h.seen v.code ∙ ap is_some f)) ∙ ap (slice_get (codes_of ds ++ code_of v ∷ [])) at ∙ slice_get-seam (codes_of ds) (code_of v) [];
       more = k;
       grown = text;

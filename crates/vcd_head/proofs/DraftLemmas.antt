@@ -13,8 +13,7 @@ use Rattle.vcd_view.specs.declared.view.Row.{Row}
 use Rattle.vcd_view.specs.declared.view.Scale.{Scale}
 use Rattle.vcd_head.specs.declared.codes.Codes.{Codes}
 use Rattle.vcd_view.specs.Views.{AreHeld, HasTexts, IsRow, AreRows, IsExponent, IsSize, counted_from_one}
-use Rattle.vcd_head.specs.Codes.{FindsAll}
-use Rattle.vcd_head.specs.Entries.{AreEntered}
+use Rattle.vcd_head.specs.Keys.{AreKeysOf}
 use Rattle.vcd_view.specs.declared.view.Code.{Code}
 use Rattle.vcd_head.specs.declared.draft.Draft.{Draft}
 use Rattle.vcd_head.specs.Texts.{spaced}
@@ -75,7 +74,7 @@ pub held_grow : (text more : List ℕ) (list : List Code) (cs : List IdCode) →
 held_grow text more list cs h = record { stand = are_codes_grow text more list cs h.stand; distinct = h.distinct; texts = h.texts }
 
 pub has_codes_grow : (text more : List ℕ) (es : Codes) (ds : List Declaration) → HasCodes text es ds → HasCodes (text ++ more) es ds
-has_codes_grow text more es ds h = record { held = held_grow text more es.list.items (codes_of ds) h.held; finds = h.finds; known = h.known; seen = h.seen; sizes = h.sizes }
+has_codes_grow text more es ds h = record { held = held_grow text more es.list.items (codes_of ds) h.held; keys = h.keys; known = h.known; seen = h.seen; sizes = h.sizes }
 
 same_variables : (ds : List Declaration) (d : Declaration) → variable_of d ≡ None → variables_of (ds ++ d ∷ []) ≡ variables_of ds
 same_variables ds d h = variables_push ds d ∙ rw h (append-nil (variables_of ds))
@@ -86,7 +85,7 @@ has_codes_other text es ds d n h =
     let v = sym (same_variables ds d n) in
     record {
       held = subst (AreHeld text es.list.items) c h.held;
-      finds = subst (λ ks. FindsAll ks es.table) c h.finds;
+      keys = subst (AreKeysOf es.keys.keys) c h.keys;
       known = subst (λ ks. AllByRecursion (λ u. find (has_text u.code) ks ≡ Some (code_of u)) (variables_of (ds ++ d ∷ []))) c (subst (λ vs. AllByRecursion (λ u. find (has_text u.code) (codes_of ds) ≡ Some (code_of u)) vs) v h.known);
       seen = λ t. ap (list_any (λ u. bytes_eq u.code t)) (sym v) ∙ h.seen t ∙ ap (λ ks. is_some (find (has_text t) ks)) c;
       sizes = subst (λ ks. AllByRecursion (λ (k : IdCode). IsSize k.size) ks) c h.sizes;
@@ -228,8 +227,8 @@ last_push : {X : Type 0} (o : Option X) (xs : List X) (x : X) → last_or o (xs 
 last_push o [] x = refl
 last_push o (y ∷ xs) x = last_push (Some y) xs x
 
-pub holds_date : (most : ℕ) (d : Draft) (entered : AreEntered d.text.items d.codes.list.items d.codes.table.entries.items) (ps : List HeaderPhrase) (inner : List (List ℕ)) (v : Vec ℕ) → IsDraftOf most d ps → v.items ≡ join_with_byte 32 inner → IsDraftOf most (record d { date = v; entered = entered }) (ps ++ HeaderPhrase.Date inner ∷ [])
-holds_date most d entered ps inner v h e = record {
+pub holds_date : (most : ℕ) (d : Draft) (ps : List HeaderPhrase) (inner : List (List ℕ)) (v : Vec ℕ) → IsDraftOf most d ps → v.items ≡ join_with_byte 32 inner → IsDraftOf most (record d { date = v }) (ps ++ HeaderPhrase.Date inner ∷ [])
+holds_date most d ps inner v h e = record {
   declares = again (sym (filter_map-append declaration_of ps (HeaderPhrase.Date inner ∷ []) ∙ append-nil (declarations_of ps))) h.declares;
   date = e ∙ ap (λ (o : Option (List ℕ)). unwrap_or o []) (sym (ap (last_or None) (filter_map-append date_of ps (HeaderPhrase.Date inner ∷ [])) ∙ last_push None (filter_map date_of ps) (join_with_byte 32 inner)));
   version = h.version ∙ ap (λ l. unwrap_or (last_or None l) []) (sym (filter_map-append version_of ps (HeaderPhrase.Date inner ∷ []) ∙ append-nil (filter_map version_of ps)));
@@ -237,11 +236,11 @@ holds_date most d entered ps inner v h e = record {
   scaled = h.scaled;
 }
   where
-    again : {ds es : List Declaration} → ds ≡ es → Declares most d ds → Declares most (record d { date = v; entered = entered }) es
-    again q k = subst (Declares most (record d { date = v; entered = entered })) q (record { codes = k.codes; rows = k.rows; nested = k.nested; balance = k.balance; held = k.held; few = k.few })
+    again : {ds es : List Declaration} → ds ≡ es → Declares most d ds → Declares most (record d { date = v }) es
+    again q k = subst (Declares most (record d { date = v })) q (record { codes = k.codes; rows = k.rows; nested = k.nested; balance = k.balance; held = k.held; few = k.few })
 
-pub holds_version : (most : ℕ) (d : Draft) (entered : AreEntered d.text.items d.codes.list.items d.codes.table.entries.items) (ps : List HeaderPhrase) (inner : List (List ℕ)) (v : Vec ℕ) → IsDraftOf most d ps → v.items ≡ join_with_byte 32 inner → IsDraftOf most (record d { version = v; entered = entered }) (ps ++ HeaderPhrase.Version inner ∷ [])
-holds_version most d entered ps inner v h e = record {
+pub holds_version : (most : ℕ) (d : Draft) (ps : List HeaderPhrase) (inner : List (List ℕ)) (v : Vec ℕ) → IsDraftOf most d ps → v.items ≡ join_with_byte 32 inner → IsDraftOf most (record d { version = v }) (ps ++ HeaderPhrase.Version inner ∷ [])
+holds_version most d ps inner v h e = record {
   declares = again (sym (filter_map-append declaration_of ps (HeaderPhrase.Version inner ∷ []) ∙ append-nil (declarations_of ps))) h.declares;
   date = h.date ∙ ap (λ l. unwrap_or (last_or None l) []) (sym (filter_map-append date_of ps (HeaderPhrase.Version inner ∷ []) ∙ append-nil (filter_map date_of ps)));
   version = e ∙ ap (λ (o : Option (List ℕ)). unwrap_or o []) (sym (ap (last_or None) (filter_map-append version_of ps (HeaderPhrase.Version inner ∷ [])) ∙ last_push None (filter_map version_of ps) (join_with_byte 32 inner)));
@@ -249,11 +248,11 @@ holds_version most d entered ps inner v h e = record {
   scaled = h.scaled;
 }
   where
-    again : {ds es : List Declaration} → ds ≡ es → Declares most d ds → Declares most (record d { version = v; entered = entered }) es
-    again q k = subst (Declares most (record d { version = v; entered = entered })) q (record { codes = k.codes; rows = k.rows; nested = k.nested; balance = k.balance; held = k.held; few = k.few })
+    again : {ds es : List Declaration} → ds ≡ es → Declares most d ds → Declares most (record d { version = v }) es
+    again q k = subst (Declares most (record d { version = v })) q (record { codes = k.codes; rows = k.rows; nested = k.nested; balance = k.balance; held = k.held; few = k.few })
 
-pub holds_scale : (most : ℕ) (d : Draft) (entered : AreEntered d.text.items d.codes.list.items d.codes.table.entries.items) (ps : List HeaderPhrase) (x : Scale) → IsDraftOf most d ps → IsExponent x.exponent → IsDraftOf most (record d { scale = Some x; entered = entered }) (ps ++ HeaderPhrase.Timescale x.exponent ∷ [])
-holds_scale most d entered ps x h in_range = record {
+pub holds_scale : (most : ℕ) (d : Draft) (ps : List HeaderPhrase) (x : Scale) → IsDraftOf most d ps → IsExponent x.exponent → IsDraftOf most (record d { scale = Some x }) (ps ++ HeaderPhrase.Timescale x.exponent ∷ [])
+holds_scale most d ps x h in_range = record {
   declares = again (sym (filter_map-append declaration_of ps (HeaderPhrase.Timescale x.exponent ∷ []) ∙ append-nil (declarations_of ps))) h.declares;
   date = h.date ∙ ap (λ l. unwrap_or (last_or None l) []) (sym (filter_map-append date_of ps (HeaderPhrase.Timescale x.exponent ∷ []) ∙ append-nil (filter_map date_of ps)));
   version = h.version ∙ ap (λ l. unwrap_or (last_or None l) []) (sym (filter_map-append version_of ps (HeaderPhrase.Timescale x.exponent ∷ []) ∙ append-nil (filter_map version_of ps)));
@@ -261,8 +260,8 @@ holds_scale most d entered ps x h in_range = record {
   scaled = in_range;
 }
   where
-    again : {ds es : List Declaration} → ds ≡ es → Declares most d ds → Declares most (record d { scale = Some x; entered = entered }) es
-    again q k = subst (Declares most (record d { scale = Some x; entered = entered })) q (record { codes = k.codes; rows = k.rows; nested = k.nested; balance = k.balance; held = k.held; few = k.few })
+    again : {ds es : List Declaration} → ds ≡ es → Declares most d ds → Declares most (record d { scale = Some x }) es
+    again q k = subst (Declares most (record d { scale = Some x })) q (record { codes = k.codes; rows = k.rows; nested = k.nested; balance = k.balance; held = k.held; few = k.few })
 
 -- a variable
 pub var_declared : (most : ℕ) (d d' : Draft) (ds : List Declaration) (v : Variable) (r : Row) (more : List ℕ) → Declares most d ds → length ds < most → v.reference ≢ []

@@ -20,6 +20,7 @@ pub mod MatchLemmas
 pub mod DraftSteps
 pub mod DraftCodes
 pub mod CodesLemmas
+pub mod CodeKeys
 pub mod IndexLemmas
 pub mod RankLemmas
 pub mod CodeChecks
@@ -27,8 +28,6 @@ pub mod ScaleLemmas
 pub mod ScaleChecks
 pub mod ScaleTexts
 pub mod PhraseSteps
-pub mod EnteredLemmas
-pub mod SplitLemmas
 pub mod MomentLemmas
 pub mod RenamedLemmas
 pub mod MergedLemmas

@@ -13,7 +13,6 @@ use Rattle.vcd_text.proofs.ShownLemmas.{read_to_shown}
 use Rattle.vcd_text.specs.Feed.{token_of}
 use Rattle.vcd_text.specs.declared.device.Source.{Ghosts}
 use Rattle.vcd_text.specs.declared.feed.Feed.{Feed}
-use Rattle.vcd_head.specs.Entries.{AreEntered}
 use Rattle.vcd_head.specs.declared.draft.Draft.{Draft}
 use Rattle.vcd_head.specs.declared.fault.HeadFault.{HeadFault}
 use Rattle.vcd_head.specs.Reads.{Reads, ReadsToken, FailsAtToken, Fails, GivesHead}
@@ -56,17 +55,17 @@ module _ {X : Type 0} {g : Ghosts X} (most : ℕ) (i : Input) where
       → Reads most i b.placed (keyword_text k ∷ []) f × RunsOn most b.placed (keyword_text k ∷ [])
   text_begun k d f b c q free whole = (begun most i b.placed k f b.keyword c q b.token_read, runs_freely most b.placed k [] free whole)
 
-  pub date_read : (d : Draft) (entered : AreEntered d.text.items d.codes.list.items d.codes.table.entries.items) (f f' : Feed X g) (v : Vec ℕ) (b : AtKeyword most i Keyword.Date d f) → EndsThere most i b.placed (keyword_text Keyword.Date ∷ []) f' (λ inner. v.items ≡ join_with_byte 32 inner) → DraftsUpTo most i (record d { date = v; entered = entered }) f'
-  date_read d entered f f' v b e =
-      carried most i (record d { date = v; entered = entered }) f' b.placed (record { phrase = HeaderPhrase.Date e.inner; line = (token_of f').line })
+  pub date_read : (d : Draft) (f f' : Feed X g) (v : Vec ℕ) (b : AtKeyword most i Keyword.Date d f) → EndsThere most i b.placed (keyword_text Keyword.Date ∷ []) f' (λ inner. v.items ≡ join_with_byte 32 inner) → DraftsUpTo most i (record d { date = v }) f'
+  date_read d f f' v b e =
+      carried most i (record d { date = v }) f' b.placed (record { phrase = HeaderPhrase.Date e.inner; line = (token_of f').line })
       (ended most i b.placed Keyword.Date f' e.inner (HeaderPhrase.Date e.inner) refl (ap (option_map HeaderPhrase.Date) (until e.inner (token_of f').bytes e.none e.ends)) refl e.token_read)
-      (holds_date most d entered (phrases_of b.placed) e.inner v b.holds e.grows)
+      (holds_date most d (phrases_of b.placed) e.inner v b.holds e.grows)
 
-  pub version_read : (d : Draft) (entered : AreEntered d.text.items d.codes.list.items d.codes.table.entries.items) (f f' : Feed X g) (v : Vec ℕ) (b : AtKeyword most i Keyword.Version d f) → EndsThere most i b.placed (keyword_text Keyword.Version ∷ []) f' (λ inner. v.items ≡ join_with_byte 32 inner) → DraftsUpTo most i (record d { version = v; entered = entered }) f'
-  version_read d entered f f' v b e =
-      carried most i (record d { version = v; entered = entered }) f' b.placed (record { phrase = HeaderPhrase.Version e.inner; line = (token_of f').line })
+  pub version_read : (d : Draft) (f f' : Feed X g) (v : Vec ℕ) (b : AtKeyword most i Keyword.Version d f) → EndsThere most i b.placed (keyword_text Keyword.Version ∷ []) f' (λ inner. v.items ≡ join_with_byte 32 inner) → DraftsUpTo most i (record d { version = v }) f'
+  version_read d f f' v b e =
+      carried most i (record d { version = v }) f' b.placed (record { phrase = HeaderPhrase.Version e.inner; line = (token_of f').line })
       (ended most i b.placed Keyword.Version f' e.inner (HeaderPhrase.Version e.inner) refl (ap (option_map HeaderPhrase.Version) (until e.inner (token_of f').bytes e.none e.ends)) refl e.token_read)
-      (holds_version most d entered (phrases_of b.placed) e.inner v b.holds e.grows)
+      (holds_version most d (phrases_of b.placed) e.inner v b.holds e.grows)
 
   pub comment_read : (d : Draft) (f f' : Feed X g) (r : Result (Unit {0}) HeadFault) (b : AtKeyword most i Keyword.Comment d f)
       → (RunsOn most b.placed (keyword_text Keyword.Comment ∷ []) → Reads most i b.placed (keyword_text Keyword.Comment ∷ []) f → MatchResult r (λ u. EndsThere most i b.placed (keyword_text Keyword.Comment ∷ []) f' (λ inner. Unit {0})) (λ fault. Fails most i fault f'))
@@ -120,7 +119,7 @@ begun_by most i d f placed (Some k) e l h = record { placed = placed; token_read
 
 no_codes_yet : (text : List ℕ) (c : Codes) → HasNone c → HasCodes text c []
 unfolding codes_of
-no_codes_yet text c n = record { held = rw n.no_codes (none_held text); finds = n.finds_none; known = tt; seen = λ t. refl; sizes = tt }
+no_codes_yet text c n = record { held = rw n.no_codes (none_held text); keys = rw n.no_keys refl; known = tt; seen = λ t. refl; sizes = tt }
 
 no_rows_yet : (text : List ℕ) → AreRows text (codes_of []) [] [] []
 no_rows_yet text = tt

@@ -1,12 +1,12 @@
 pub mod Fault
 pub mod Shown
-pub mod Entries
 pub mod Moments
 pub mod Paths
 pub mod ScopesLeft
 pub mod Reads
 pub mod Words
 pub mod Texts
+pub mod Keys
 pub mod Codes
 pub mod Fronts
 pub mod Draft

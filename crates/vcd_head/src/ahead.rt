@@ -12,11 +12,8 @@ ghost use Rattle.vcd_text.specs.Ahead.{bytes_of, longest_of, passed_of, start_of
 ghost use Rattle.vcd_text.specs.Passed.{Passed};
 ghost use Rattle.vcd_head.specs.Ahead.{IsReference, IsVariable, LooksOver};
 ghost use Rattle.vcd_head.specs.Draft.{DraftsBehind, DraftsOn, DraftsUpTo, HasCodes, IsFound};
-ghost use Rattle.vcd_head.specs.Entries.{AreEntered};
 ghost use Rattle.vcd_head.specs.Fault.{call_end};
 ghost use Rattle.vcd_head.specs.Reads.{Fails};
-ghost use Rattle.vcd_view.specs.declared.view.Code.{Code};
-ghost use Rattle.vcd_view.specs.declared.view.Entry.{Entry};
 
 use crate::ahead_scopes::{close_scope, open_scope, scope_ahead, upscope_ahead};
 use crate::code_place::place_of;
@@ -170,17 +167,17 @@ fn variable_ahead<'a>(ahead: &mut Ahead<'a>) -> Option<AheadVariable<'a>>
 /// How the code of a variable of this size, which is an event or none, was found; none where it was declared with another size or
 /// kind.
 #[inline(always)]
-fn found_in(known: &Codes, code: Sought<'_>, size: usize, event: bool) -> Option<Found>
+fn found_in(known: &Codes, code: &Sought<'_>, size: usize, event: bool) -> Option<Found>
     ensures { (text type digits : List ℕ) (ds : List Declaration) → HasCodes text known.now ds
         → decimal_value digits ≡ size → bytes_eq (codes "event") type ≡ event
-        → list_all is_code_byte code.entry.bytes.now ≡ true → IfSome result (λ found.
-        (first_failed (var_checks ds (type ∷ digits ∷ []) code.entry.bytes.now) ≡ None)
+        → list_all is_code_byte code.now.bytes.now ≡ true → IfSome result (λ found.
+        (first_failed (var_checks ds (type ∷ digits ∷ []) code.now.bytes.now) ≡ None)
         × ((reference : List (List ℕ)) → IsFound ds (record {
           type = type;
           size = decimal_value digits;
-          code = code.entry.bytes.now;
+          code = code.now.bytes.now;
           reference = reference;
-        }) code.entry.bytes.now found)) }
+        }) code.now.bytes.now found)) }
 {
     let Some(coded) = known.find(code) else {
         return Some(Found::New);
@@ -199,8 +196,6 @@ fn found_in(known: &Codes, code: Sought<'_>, size: usize, event: bool) -> Option
 fn put_texts(text: &mut Vec<u8>, variable: AheadVariable<'_>) -> Result<(), AllocError>
     ensures text { IfOk result (λ _. text.new.items
         ≡ text.old.items ++ (variable.entry.word.now ++ variable.entry.reference.text.now)) }
-    ensures entered { (codes : List Code) (es : List Entry)
-        → AreEntered text.old.items codes es → AreEntered text.new.items codes es }
 {
     text.extend_from_slice(variable.word)?;
     text.extend_from_slice(variable.reference.text)?;
@@ -224,8 +219,8 @@ fn declare(
         return Ok(false);
     }
     let event = is_event(variable.word);
-    let code = Sought::new(variable.code);
-    let Some(found) = found_in(&draft.codes, code, variable.size, event) else {
+    let code = Sought::new(alloc, variable.code)?;
+    let Some(found) = found_in(&draft.codes, &code, variable.size, event) else {
         return Ok(false);
     };
     let start = draft.text.len();
@@ -233,7 +228,6 @@ fn declare(
     let word = variable.word.len();
     let all = variable.reference.text.len();
     let place = place_of(
-        alloc,
         &mut draft.text,
         &mut draft.codes,
         found,

@@ -1,7 +1,6 @@
 // The place of a variable's code among the distinct codes.
 ghost use Rattle.std.specs.Prelude.{◌≡◌, List, IfOk, IfErr};
 ghost use Rattle.vcd_model.specs.Declarations.{Declaration, Variable, code_of};
-ghost use Rattle.vcd_head.specs.Codes.{EntersIn};
 ghost use Rattle.vcd_view.specs.Views.{IsSize};
 ghost use Rattle.vcd_head.specs.Draft.{HasCodes, IsFound, CodeHeld};
 
@@ -9,13 +8,11 @@ use crate::codes::Codes;
 use crate::draft::Found;
 use crate::fault::HeadFault;
 use crate::sought::Sought;
-use std::alloc::Global;
 use vcd_view::Code;
 
 /// The place of the code of a variable, which is added where it is new, behind the text.
 #[inline(always)]
 pub(crate) fn place_of(
-    alloc: Global,
     text: &mut Vec<u8>,
     codes: &mut Codes,
     found: Found,
@@ -24,22 +21,20 @@ pub(crate) fn place_of(
     event: bool,
 ) -> Result<usize, HeadFault>
     ensures codes { (ds : List Declaration) (v : Variable)
-        → HasCodes text.old.items codes.old ds → EntersIn text.old.items codes.old
+        → HasCodes text.old.items codes.old ds
         → IsFound ds v sought.entry.bytes.now found → IsSize size → size ≡ (code_of v).size → event ≡ (code_of v).event
         → IfOk result (CodeHeld text.old.items text.new.items codes.new ds v) }
-    ensures entered { EntersIn text.old.items codes.old → EntersIn text.new.items codes.new }
     ensures memory { IfErr result (λ fault. fault ≡ HeadFault.OutOfMemory) }
 {
     match found {
         Found::Declared(place) => Ok(place),
-        Found::New => add_code(alloc, text, codes, sought, size, event),
+        Found::New => add_code(text, codes, sought, size, event),
     }
 }
 
 // The same of a new code.
 #[inline(always)]
 fn add_code(
-    alloc: Global,
     text: &mut Vec<u8>,
     codes: &mut Codes,
     sought: Sought<'_>,
@@ -47,10 +42,9 @@ fn add_code(
     event: bool,
 ) -> Result<usize, HeadFault>
     ensures codes { (ds : List Declaration) (v : Variable)
-        → HasCodes text.old.items codes.old ds → EntersIn text.old.items codes.old
+        → HasCodes text.old.items codes.old ds
         → IsFound ds v sought.entry.bytes.now Found.New → IsSize size → size ≡ (code_of v).size → event ≡ (code_of v).event
         → IfOk result (CodeHeld text.old.items text.new.items codes.new ds v) }
-    ensures entered { EntersIn text.old.items codes.old → EntersIn text.new.items codes.new }
     ensures memory { IfErr result (λ fault. fault ≡ HeadFault.OutOfMemory) }
 {
     let Ok(len) = u32::try_from(sought.bytes.len()) else {
@@ -63,5 +57,5 @@ fn add_code(
         event,
     };
     text.extend_from_slice(sought.bytes)?;
-    codes.push(alloc, text, sought, code)
+    codes.push(sought.key, code)
 }

@@ -1,11 +1,9 @@
 // A header while it is read.
 ghost use Rattle.std.specs.Prelude.{◌≡◌, ◌-◌, length, unwrap_or, slice_get};
-ghost use Rattle.std.proofs.Props.{props};
-ghost use Rattle.vcd_head.specs.Entries.{AreEntered};
 
 use crate::codes::Codes;
 use std::alloc::Global;
-use vcd_view::{Row, Scale};
+use vcd_view::{CodeSeed, Row, Scale};
 
 // What the phrases read so far declare.
 #[derive(Drop)]
@@ -20,20 +18,18 @@ pub(crate) struct Draft {
     pub(crate) scopes: Vec<usize>,
     // The bytes of the code that is read, where it is new.
     pub(crate) held: Vec<u8>,
-    // What the entries of the table say is right, whatever was read.
-    pub(crate) ghost entered: { AreEntered text.items codes.list.items codes.table.entries.items } by { Prim.hlevel props },
 }
 
 impl Draft {
     ghost use Rattle.vcd_head.specs.Draft.{IsNew};
 
-    pub(crate) fn new(alloc: Global) -> Self
+    pub(crate) fn new(alloc: Global, seed: CodeSeed) -> Self
         ensures { IsNew result }
     {
         Draft {
             text: Vec::new(alloc),
             rows: Vec::new(alloc),
-            codes: Codes::new(alloc),
+            codes: Codes::new(alloc, seed),
             date: Vec::new(alloc),
             version: Vec::new(alloc),
             scale: None,

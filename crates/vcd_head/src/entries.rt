@@ -32,24 +32,6 @@ pub(crate) fn entries_of(
     Ok(entries)
 }
 
-/// The entries of these codes: those that are given, if there are enough and not too many of them.
-pub(crate) fn entries_in(
-    alloc: Global,
-    given: Vec<Entry>,
-    text: &[u8],
-    codes: &[Code],
-) -> Result<Vec<Entry>, AllocError>
-    requires right { are_right text.now codes.now given.items ≡ true }
-    ensures right { IfOk result (λ entries. are_right text.now codes.now entries.items ≡ true) }
-    ensures few { IfOk result (λ entries. length entries.items ≤ 3 * length codes.now) }
-{
-    if given.len() < codes.len() || given.len() / 3 >= codes.len() {
-        drop(given);
-        return entries_of(alloc, text, codes);
-    }
-    Ok(given)
-}
-
 // How many entries so many codes have: the greatest power of two that is at most three times as many.
 fn count_for(codes: usize) -> usize
     requires { (0 < codes) × (codes < 2 ^ 60) }
@@ -85,7 +67,7 @@ pub(crate) fn entry_at(place: usize, code: Code, bytes: &[u8]) -> Entry
     entry_with(place, code, key_of(bytes))
 }
 
-/// The same of a code with this key.
+/// The entry of a code with this key, which is at this place; an empty one where 32 bits do not hold the place.
 #[inline(always)]
 pub(crate) fn entry_with(place: usize, code: Code, key: u64) -> Entry
     ensures right { (text bytes : List ℕ) (codes : List Code) → slice_get codes place ≡ Some code

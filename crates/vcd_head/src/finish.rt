@@ -8,7 +8,7 @@ ghost use Rattle.vcd_view.specs.Views.{Views};
 
 use crate::codes::Codes;
 use crate::draft::Draft;
-use crate::entries::entries_in;
+use crate::entries::entries_of;
 use crate::fault::HeadFault;
 use crate::head::Head;
 use crate::index::index_of;
@@ -29,10 +29,10 @@ pub(crate) fn finish(alloc: Global, draft: Draft) -> Result<Head, HeadFault>
         scale,
         ..
     } = draft;
-    let Codes { list: codes, table } = codes;
-    let entered = table.into_entries();
+    let Codes { list: codes, keys } = codes;
+    drop(keys);
     let index = index_of(alloc, &text, &codes)?;
-    let entries = entries_in(alloc, entered, &text, &codes)?;
+    let entries = entries_of(alloc, &text, &codes)?;
     Ok(Head {
         text,
         rows,

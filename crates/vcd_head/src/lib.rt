@@ -1,10 +1,11 @@
 //! Reading the header of a dump, and all that is made of it: what names select, paths, headers as they are written.
 //!
-//! `read_head` reads a header from a feed, up to the `$end` of `$enddefinitions`, into a `Head`, which owns its memory. All
-//! else works on its `HeadView`: the path of a variable (`put_path`), the variables that names select (`select`, as marks), the
-//! header of marked declarations (`put_head`), and, over the heads themselves, the header of a merged dump
-//! (`put_merged_head`). The view and its rows, the look-up of codes (`find`), the room that an engine needs (`need`) and the codes
-//! of a merge (`put_code`) stand in `vcd_view`, so that who reads a body needs no more; a caller finds them here.
+//! `read_head` reads a header from a feed, up to the `$end` of `$enddefinitions`, into a `Head`, which owns its memory;
+//! `read_head_with_hasher` hashes its codes by what the caller chooses, against crafted ones. All else works on its
+//! `HeadView`: the path of a variable (`put_path`), the variables that names select (`select`, as marks), the header of
+//! marked declarations (`put_head`), and, over the heads themselves, the header of a merged dump (`put_merged_head`). The
+//! view and its rows, the look-up of codes (`find`), the room that an engine needs (`need`) and the codes of a merge
+//! (`put_code`) are of `vcd_view`, so that who reads a body needs no more; a caller finds them here.
 //!
 //! # The relations
 //!
@@ -21,8 +22,8 @@
 //! - `tokens`, `texts`, `words`: the next token; texts up to `$end`; tests of tokens
 //! - `scopes`, `variable`, `scale`, `rows`: what a phrase declares, and its row
 //! - `ahead`, `ahead_scopes`: variables and scopes whose phrases lie whole in the chunk
-//! - `draft`, `codes`, `code_place`, `table`, `sought`, `finish`: a header while it is read, its codes, and how they are found
-//!   by their bytes; the head that it becomes
+//! - `draft`, `codes`, `code_place`, `code_key`, `sought`, `finish`: a header while it is read, its codes, and the keys by
+//!   which a set finds them; the head that it becomes
 //! - `head`, `fault`: `Head`; `HeadFault`
 //! - `entries`, `index`: how the entries are filled; the order of the codes by their bytes
 //! - `enclosing`, `path`: the scopes around a declaration, outermost first; paths
@@ -47,6 +48,7 @@
 
 mod ahead;
 mod ahead_scopes;
+mod code_key;
 mod code_place;
 mod codes;
 mod draft;
@@ -69,7 +71,6 @@ mod scopes;
 mod selection;
 mod sieve;
 mod sought;
-mod table;
 mod texts;
 mod tokens;
 mod variable;
@@ -81,7 +82,7 @@ pub use head::Head;
 pub use merged::{least_exponent, put_merged_head};
 pub use moment::{Moment, TickFault, ticks};
 pub use path::put_path;
-pub use read::read_head;
+pub use read::{read_head, read_head_with_hasher};
 pub use selection::{select, selects};
 pub use vcd_view::{
     Code, HeadView, Kind, Need, Probes, Row, Scale, find, find_counted, need, put_code,

@@ -5,13 +5,10 @@ ghost use Rattle.vcd_model.specs.Input.{Input};
 ghost use Rattle.vcd_model.specs.HeaderPhrases.{HeaderPhrase};
 ghost use Rattle.vcd_model.specs.Reading.{Placed};
 ghost use Rattle.vcd_text.specs.Feed.{source_of};
-ghost use Rattle.vcd_head.specs.Entries.{AreEntered};
 ghost use Rattle.vcd_head.specs.Reads.{Reads, Fails};
 ghost use Rattle.vcd_head.specs.Texts.{RunsOn, EndsThere, spaced};
 ghost use Rattle.vcd_text.specs.Advances.{Advances};
 ghost use Rattle.vcd_head.specs.Fault.{call_end};
-ghost use Rattle.vcd_view.specs.declared.view.Code.{Code};
-ghost use Rattle.vcd_view.specs.declared.view.Entry.{Entry};
 
 use crate::fault::HeadFault;
 use crate::tokens::next_ends;
@@ -48,8 +45,6 @@ pub(crate) fn append_to_end<S: Source>(
         (λ inner. text.new.items ≡ text.old.items ++ spaced inner))
         (λ fault. Fails most i fault feed.new) }
     ensures longer { OnOk result (length text.old.items ≤ length text.new.items) }
-    ensures entered { (codes : List Code) (es : List Entry)
-        → AreEntered text.old.items codes es → AreEntered text.new.items codes es }
     ensures advances { Advances S.failures feed.old feed.new (call_end result) }
 {
     'tokens: loop {

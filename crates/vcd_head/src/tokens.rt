@@ -8,13 +8,10 @@ ghost use Rattle.vcd_model.specs.HeaderReading.{header_grammar};
 ghost use Rattle.vcd_model.specs.SoFar.{IsSoFar};
 ghost use Rattle.vcd_model.specs.Tokens.{Token};
 ghost use Rattle.vcd_text.specs.Feed.{HasGiven, source_of, seen, token_of};
-ghost use Rattle.vcd_head.specs.Entries.{AreEntered};
 ghost use Rattle.vcd_head.specs.Reads.{Reads, ReadsToken, Fails};
 ghost use Rattle.vcd_head.specs.Texts.{Welcomes, WordRead, WordTaken};
 ghost use Rattle.vcd_text.specs.Advances.{Advances};
 ghost use Rattle.vcd_head.specs.Fault.{call_end};
-ghost use Rattle.vcd_view.specs.declared.view.Code.{Code};
-ghost use Rattle.vcd_view.specs.declared.view.Entry.{Entry};
 
 use crate::fault::HeadFault;
 use crate::words;
@@ -88,8 +85,6 @@ pub(crate) fn next_word<S: Source>(
         → MatchResult result (WordRead most i placed before feed.new)
         (λ fault. Fails most i fault feed.new) }
     ensures text { IfOk result (WordTaken text.old.items text.new.items (token_of feed.new).bytes) }
-    ensures entered { (codes : List Code) (es : List Entry)
-        → AreEntered text.old.items codes es → AreEntered text.new.items codes es }
     ensures advances { Advances S.failures feed.old feed.new (call_end result) }
 {
     if next_ends(feed)? {

@@ -43,6 +43,7 @@ fn read_size<S: Source>(feed: &mut Feed<'_, '_, '_, '_, S>) -> Result<usize, Hea
 
 /// The code of a variable of this size, which is an event or none. Its bytes are held where it is new.
 fn read_code<S: Source>(
+    alloc: Global,
     feed: &mut Feed<'_, '_, '_, '_, S>,
     known: &Codes,
     held: &mut Vec<u8>,
@@ -64,7 +65,7 @@ fn read_code<S: Source>(
     if !is_code(token) {
         return Err(HeadFault::BadVariable);
     }
-    let Some(coded) = known.find(Sought::new(token)) else {
+    let Some(coded) = known.find_bytes(alloc, token) else {
         held.clear();
         held.extend_from_slice(token)?;
         return Ok(Found::New);
@@ -100,18 +101,17 @@ pub(crate) fn read_variable<S: Source>(
     };
     let event = is_event(feed.token());
     let size = read_size(feed)?;
-    let found = read_code(feed, &draft.codes, &mut draft.held, size, event)?;
+    let found = read_code(alloc, feed, &draft.codes, &mut draft.held, size, event)?;
     let Some(name) = next_word(feed, &mut draft.text)? else {
         return Err(HeadFault::BadVariable);
     };
     append_to_end(feed, &mut draft.text)?;
     let all = draft.text.len() - start - word;
     let code = place_of(
-        alloc,
         &mut draft.text,
         &mut draft.codes,
         found,
-        Sought::new(&draft.held),
+        Sought::new(alloc, &draft.held)?,
         size,
         event,
     )?;

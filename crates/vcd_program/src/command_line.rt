@@ -11,19 +11,21 @@ use crate::host::{Host, Output};
 use crate::opened::{Stop, called, open_inputs};
 use clap::{ArgMatches, Error};
 use std::alloc::Global;
+use std::hash::BuildHasher;
 use vcd_text::{Sink, put};
 use vcd_words::{Job, UseFault, command_of, job_of, parse_status};
-use vcdkit::{open_fault, run, use_fault, write_fault};
+use vcdkit::{open_fault, run_with_hasher, use_fault, write_fault};
 
 /// Opens the inputs that the matches of this job name, runs it over them, and returns the exit
 /// status.
-fn run_job<H: Host, W: Sink, E: Sink>(
+fn run_job<H: Host, W: Sink, E: Sink, B: BuildHasher>(
     alloc: Global,
     job: Job,
     matches: &ArgMatches<'_>,
     host: &mut H,
     out: &mut W,
     err: &mut E,
+    hasher: &B,
 ) -> u8
     requires out_failures { (W.device out.old).failures < 2 ^ 64 - 1 }
     requires err_failures { (E.device err.old).failures < 2 ^ 64 - 1 }
@@ -39,13 +41,14 @@ fn run_job<H: Host, W: Sink, E: Sink>(
         return use_fault(UseFault::OutOfMemory, err);
     };
     match open_inputs(alloc, asked.as_slice(), host) {
-        Ok(mut inputs) => run(
+        Ok(mut inputs) => run_with_hasher(
             alloc,
             job,
             inputs.names.as_slice(),
             inputs.readers.as_mut_slice(),
             out,
             err,
+            hasher,
         ),
         Err(Stop::Unopened(name)) => open_fault(called(name), err),
         Err(Stop::OutOfMemory) => use_fault(UseFault::OutOfMemory, err),
@@ -54,12 +57,13 @@ fn run_job<H: Host, W: Sink, E: Sink>(
 
 /// Runs the job that the matches ask for over the inputs that they name, and returns the exit
 /// status. `out` is not flushed.
-fn run_matches<H: Host, W: Sink, E: Sink>(
+fn run_matches<H: Host, W: Sink, E: Sink, B: BuildHasher>(
     alloc: Global,
     matches: &ArgMatches<'_>,
     host: &mut H,
     out: &mut W,
     err: &mut E,
+    hasher: &B,
 ) -> u8
     requires out_failures { (W.device out.old).failures < 2 ^ 64 - 1 }
     requires err_failures { (E.device err.old).failures < 2 ^ 64 - 1 }
@@ -69,7 +73,7 @@ fn run_matches<H: Host, W: Sink, E: Sink>(
     ensures failures { (E.device err.new).failures ≤ (E.device err.old).failures + 1 }
 {
     match job_of(alloc, matches) {
-        Ok(job) => run_job(alloc, job, matches, host, out, err),
+        Ok(job) => run_job(alloc, job, matches, host, out, err, hasher),
         Err(fault) => use_fault(fault, err),
     }
 }
@@ -101,12 +105,13 @@ fn answer<W: Sink, E: Sink>(alloc: Global, error: &Error, out: &mut W, err: &mut
 }
 
 /// Parses the words, and does what they ask for. `out` is not flushed.
-fn run_words<H: Host, W: Sink, E: Sink>(
+fn run_words<H: Host, W: Sink, E: Sink, B: BuildHasher>(
     alloc: Global,
     words: &[String],
     host: &mut H,
     out: &mut W,
     err: &mut E,
+    hasher: &B,
 ) -> u8
     requires out_failures { (W.device out.old).failures < 2 ^ 64 - 1 }
     requires err_failures { (E.device err.old).failures < 2 ^ 64 - 1 }
@@ -119,7 +124,7 @@ fn run_words<H: Host, W: Sink, E: Sink>(
         return use_fault(UseFault::OutOfMemory, err);
     };
     match command.try_get_matches_from(words) {
-        Ok(matches) => run_matches(alloc, &matches, host, out, err),
+        Ok(matches) => run_matches(alloc, &matches, host, out, err, hasher),
         Err(error) => answer(alloc, &error, out, err),
     }
 }
@@ -128,12 +133,13 @@ fn run_words<H: Host, W: Sink, E: Sink>(
 /// returns the exit status: that of the definitions for the words and the inputs; 3 for an input
 /// that cannot be opened, where memory ran out and for a failed read or write; 0 for help and the
 /// version.
-pub fn run_program<H: Host, W: Output, E: Sink>(
+pub fn run_program<H: Host, W: Output, E: Sink, B: BuildHasher>(
     alloc: Global,
     words: &[String],
     host: &mut H,
     out: &mut W,
     err: &mut E,
+    hasher: &B,
 ) -> u8
     requires out_failures { (W.device out.old).failures < 2 ^ 64 - 1 }
     requires err_failures { (E.device err.old).failures < 2 ^ 64 - 2 }
@@ -143,7 +149,7 @@ pub fn run_program<H: Host, W: Output, E: Sink>(
         (W.device out.old) out_now (E.device err.old) err_now status)
         out.new (E.device err.new) result }
 {
-    let status = run_words(alloc, words, host, out, err);
+    let status = run_words(alloc, words, host, out, err, hasher);
     let flushed = out.flush();
     if status < 3 && flushed.is_err() {
         return write_fault(err);

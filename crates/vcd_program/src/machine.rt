@@ -5,6 +5,7 @@ use crate::command_line::run_program;
 use crate::host::{Host, OpenFault};
 use std::env::Env;
 use std::fs::File;
+use std::hash::{BuildHasher, BuildHasherDefault, FoldHasher, RandomState};
 use std::io::{BufWriter, ErrorKind, Read, Stdin};
 use std::{env, io};
 use vcd_text::Watch;
@@ -18,6 +19,8 @@ pub enum Stream {
     File(Again<File>),
     /// Standard input.
     Input(Again<Stdin>),
+    /// An input of a machine that gives no random numbers: each read of it fails.
+    Refused,
 }
 
 impl Read for Stream {
@@ -25,6 +28,7 @@ impl Read for Stream {
         match self {
             Stream::File(file) => file.read(into),
             Stream::Input(input) => input.read(into),
+            Stream::Refused => Err(io::Error::from(ErrorKind::Unsupported)),
         }
     }
 }
@@ -33,6 +37,18 @@ impl Read for Stream {
 #[derive(Drop)]
 struct Machine<'r> {
     rt: &'r HostRuntime,
+    /// Whether the machine gave random numbers. Where it gave none, each read of an input fails.
+    is_seeded: bool,
+}
+
+impl Machine<'_> {
+    /// Returns an input that was opened.
+    fn input(&self, stream: Stream) -> Watch<Stream> {
+        if self.is_seeded {
+            return Watch::new(stream);
+        }
+        Watch::new(Stream::Refused)
+    }
 }
 
 impl Host for Machine<'_> {
@@ -42,10 +58,10 @@ impl Host for Machine<'_> {
 
     fn open(&mut self, name: Option<&str>) -> Result<Watch<Stream>, OpenFault> {
         let Some(name) = name else {
-            return Ok(Watch::new(Stream::Input(Again::new(self.rt.stdin()))));
+            return Ok(self.input(Stream::Input(Again::new(self.rt.stdin()))));
         };
         match File::open(self.rt, name) {
-            Ok(file) => Ok(Watch::new(Stream::File(Again::new(file)))),
+            Ok(file) => Ok(self.input(Stream::File(Again::new(file)))),
             Err(error) if error.kind() == ErrorKind::OutOfMemory => Err(OpenFault::OutOfMemory),
             Err(_) => Err(OpenFault::Unopened),
         }
@@ -61,22 +77,43 @@ fn words_of<R: Env + AllocGlobal>(rt: &R) -> Result<Vec<String>, UseFault<'stati
     Ok(words.collect(rt.alloc())?)
 }
 
-/// Runs the program on the words, the files and the streams of the process, and returns the exit
-/// status.
-pub fn run_on_machine(rt: &HostRuntime) -> u8 {
+/// Runs the program on these words over the files and the streams of the process, and returns the
+/// exit status.
+fn run_words<B: BuildHasher>(
+    rt: &HostRuntime,
+    words: &[String],
+    is_seeded: bool,
+    hasher: &B,
+) -> u8 {
     let mut err = Watch::new(Again::new(rt.stderr()));
-    let words = match words_of(rt) {
-        Ok(words) => words,
-        Err(fault) => return use_fault(fault, &mut err),
-    };
     match BufWriter::new(rt.alloc(), Again::new(rt.stdout())) {
         Ok(output) => run_program(
             rt.alloc(),
-            words.as_slice(),
-            &mut Machine { rt },
+            words,
+            &mut Machine { rt, is_seeded },
             &mut Watch::new(output),
             &mut err,
+            hasher,
         ),
         Err(_) => use_fault(UseFault::OutOfMemory, &mut err),
+    }
+}
+
+/// Runs the program on the words, the files and the streams of the process, and returns the exit
+/// status.
+///
+/// Identifier codes are hashed by random numbers of the machine, so that nobody can make a dump
+/// whose codes are slow to find. Where the machine gives none, the first input cannot be read.
+pub fn run_on_machine(rt: &HostRuntime) -> u8 {
+    let words = match words_of(rt) {
+        Ok(words) => words,
+        Err(fault) => return use_fault(fault, &mut Watch::new(Again::new(rt.stderr()))),
+    };
+    match RandomState::new(rt) {
+        Ok(hasher) => run_words(rt, words.as_slice(), true, &hasher),
+        Err(_) => {
+            let hasher: BuildHasherDefault<FoldHasher> = BuildHasherDefault::new();
+            run_words(rt, words.as_slice(), false, &hasher)
+        }
     }
 }

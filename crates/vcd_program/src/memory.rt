@@ -4,6 +4,7 @@ ghost use Rattle.vcd_program.specs.Memory.{bytes_named, IsLeftBy};
 
 use crate::command_line::run_program;
 use crate::host::{Host, OpenFault, Output};
+use std::hash::{BuildHasherDefault, FoldHasher};
 use std::alloc::{AllocError, Global};
 use vcd_text::{ReadFailed, Sink, Source, Watch, WriteFailed};
 
@@ -164,7 +165,8 @@ pub fn run_in_memory(
     };
     let mut out = Watch::new(Vec::new(alloc));
     let mut err = Watch::new(Vec::new(alloc));
-    let status = run_program(alloc, words, &mut memory, &mut out, &mut err);
+    let hasher: BuildHasherDefault<FoldHasher> = BuildHasherDefault::new();
+    let status = run_program(alloc, words, &mut memory, &mut out, &mut err, &hasher);
     if out.failures() > 0 || err.failures() > 0 {
         return Err(AllocError);
     }

@@ -1,6 +1,7 @@
 // An output that cannot be flushed.
 use super::command_lines::words_of;
 use std::alloc::{AllocError, Global};
+use std::hash::{BuildHasherDefault, FoldHasher};
 use std::io::BufWriter;
 use vcd_program::{Memory, run_program};
 use vcd_text::Watch;
@@ -16,7 +17,15 @@ fn run_unflushed(alloc: Global, word: &str, input: &[u8]) -> Result<(u8, Vec<u8>
     };
     let mut out = Watch::new(BufWriter::new(alloc, Narrow::new(0)).map_err(|_| AllocError)?);
     let mut err = Watch::new(Vec::new(alloc));
-    let status = run_program(alloc, words.as_slice(), &mut memory, &mut out, &mut err);
+    let hasher: BuildHasherDefault<FoldHasher> = BuildHasherDefault::new();
+    let status = run_program(
+        alloc,
+        words.as_slice(),
+        &mut memory,
+        &mut out,
+        &mut err,
+        &hasher,
+    );
     Ok((status, err.device))
 }
 

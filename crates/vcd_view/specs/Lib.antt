@@ -6,3 +6,4 @@ pub mod Entries
 pub mod Needs
 pub mod Keywords
 pub mod NewCode
+pub mod CodeHash

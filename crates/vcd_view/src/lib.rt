@@ -17,6 +17,7 @@
 //! - `view`: `HeadView` with its rows and codes, and `Need`
 //! - `look_up`, `probes`: a look at one entry, then a binary search; comparisons, counted
 //! - `entries`, `key`: where a code's entry is, and what it tells; codes as numbers
+//! - `code_hash`: codes hashed by numbers that nobody knows
 //! - `room`: `need`, the room that an engine over a header needs
 //! - `keyword`: the keywords of a dump
 //! - `new_code`: the codes that a merge gives
@@ -27,6 +28,7 @@
 //! Not promised: what a call gives over a view that is of no header.
 #![tactic(auto)]
 
+mod code_hash;
 mod entries;
 mod key;
 mod keyword;
@@ -36,6 +38,7 @@ mod probes;
 mod room;
 mod view;
 
+pub use code_hash::{CodeHasher, CodeSeed};
 pub use entries::{
     code_number, entry_for, entry_of, most_of, number_of_key, place_beside, place_told,
 };

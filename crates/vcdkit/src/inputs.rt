@@ -19,7 +19,8 @@ ghost use Rattle.vcdkit.specs.Inputs.{Begins, BeginsAt, HasFailed, HaveBegun, Is
 
 use crate::failure::Failure;
 use std::alloc::{AllocError, Global};
-use vcd_head::{Head, read_head};
+use std::hash::BuildHasher;
+use vcd_head::{Head, read_head_with_hasher};
 use vcd_merge::{Seat, Windows};
 use vcd_text::{Feed, Source};
 use vcd_words::Job;
@@ -54,11 +55,12 @@ pub(crate) fn windows_for(alloc: Global, job: &Job, inputs: usize) -> Result<Mem
 
 /// Reads the header of the input at this place among all, of whose feed nothing was given, with at most `most` declarations
 /// (at most 16,777,216).
-pub(crate) fn open_input<S: Source>(
+pub(crate) fn open_input<S: Source, B: BuildHasher>(
     alloc: Global,
     input: usize,
     feed: &mut Feed<'_, '_, '_, '_, S>,
     most: u64,
+    hasher: &B,
 ) -> Result<Head, Failure>
     requires failures { S.failures (source_of feed.old) < 2 ^ 64 - 1 }
     requires open { HasNotFailed feed.old }
@@ -77,7 +79,7 @@ pub(crate) fn open_input<S: Source>(
         × (chunk_len_of feed.new ≡ chunk_len_of feed.old) }
     ensures loans { SameLoans feed.old feed.new }
 {
-    match read_head(alloc, feed, most) {
+    match read_head_with_hasher(alloc, feed, most, hasher) {
         Ok(head) => Ok(head),
         Err(fault) => Err(Failure::of_head(fault, input, feed.line())),
     }
@@ -93,7 +95,7 @@ pub(crate) struct Begun {
 
 /// Reads the header of the input at this place among all, with at most `most` declarations (at most 16,777,216), over its reader
 /// and its parts of the windows alone, and parks its feed.
-fn begin<S: Source>(
+fn begin<S: Source, B: BuildHasher>(
     alloc: Global,
     input: usize,
     reader: &mut S,
@@ -101,6 +103,7 @@ fn begin<S: Source>(
     token: &mut [u8],
     value: &mut [u8],
     most: u64,
+    hasher: &B,
 ) -> Result<Begun, Failure>
     requires failures { S.failures reader.old < 2 ^ 64 - 1 }
     requires chunk_some { 0 < length chunk.old }
@@ -120,19 +123,20 @@ fn begin<S: Source>(
         (λ begun. IsSeated (length chunk.old) (length token.old) begun.seat × IsNew begun.seat) }
 {
     let mut feed = Feed::new(reader, chunk, token, value);
-    let head = open_input(alloc, input, &mut feed, most)?;
+    let head = open_input(alloc, input, &mut feed, most, hasher)?;
     let seat = Seat::new(feed.parked());
     Ok(Begun { head, seat })
 }
 
 /// The same over the reader at its place among these. The parts of the windows are those at its place, and no other input's are
 /// touched.
-fn begin_at<S: Source>(
+fn begin_at<S: Source, B: BuildHasher>(
     alloc: Global,
     input: usize,
     readers: &mut [S],
     windows: &mut Windows<'_>,
     most: u64,
+    hasher: &B,
 ) -> Result<Begun, Failure>
     requires input { input < length readers.old }
     requires parts { AreParts
@@ -162,6 +166,7 @@ fn begin_at<S: Source>(
         &mut windows.tokens[token_at..token_at + limit],
         &mut windows.values[token_at..token_at + limit],
         most,
+        hasher,
     )
 }
 
@@ -188,10 +193,11 @@ impl Inputs {
 }
 
 /// Reads the headers of all inputs in order, up to the first that has a fault.
-pub(crate) fn open_inputs<S: Source>(
+pub(crate) fn open_inputs<S: Source, B: BuildHasher>(
     alloc: Global,
     readers: &mut [S],
     windows: &mut Windows<'_>,
+    hasher: &B,
 ) -> Result<Inputs, Failure>
     requires some { 0 < length readers.old }
     requires parts { AreParts
@@ -223,7 +229,7 @@ pub(crate) fn open_inputs<S: Source>(
     };
     let mut left = MOST_DECLARATIONS;
     for input in 0..readers.len() {
-        let begun = begin_at(alloc, input, readers, windows, left)?;
+        let begun = begin_at(alloc, input, readers, windows, left, hasher)?;
         left = left.saturating_sub(begun.head.view().rows.len() as u64);
         inputs.push(begun)?;
     }

@@ -28,6 +28,7 @@ use crate::inputs::{MOST_DECLARATIONS, marks_for, open_input, open_inputs, windo
 use crate::message::report;
 use crate::tasks::{need_of, task_of};
 use std::alloc::Global;
+use std::hash::{BuildHasher, BuildHasherDefault, FoldHasher};
 use vcd_body::{Done, Share, Slot, Stop};
 use vcd_engine::{Room, Task, list, run_task};
 use vcd_merge::{Windows, merge};
@@ -134,11 +135,12 @@ fn run_want<S: Source, W: Sink>(
 }
 
 /// A job over one input: its windows, its header, and then what is wanted.
-fn run_input<S: Source, W: Sink>(
+fn run_input<S: Source, W: Sink, B: BuildHasher>(
     alloc: Global,
     job: &mut Job,
     reader: &mut S,
     out: &mut W,
+    hasher: &B,
 ) -> Result<Done, Failure>
     requires one { is_merge job.old.task ≡ false }
     requires reader_failures { S.failures reader.old < 2 ^ 64 - 1 }
@@ -163,16 +165,17 @@ fn run_input<S: Source, W: Sink>(
         &mut memory.tokens,
         &mut memory.values,
     );
-    let head = open_input(alloc, 0, &mut feed, MOST_DECLARATIONS)?;
+    let head = open_input(alloc, 0, &mut feed, MOST_DECLARATIONS, hasher)?;
     run_want(alloc, &mut job.task, head.view(), &mut feed, out)
 }
 
 /// A merge over several inputs: their windows, their headers in order, and then the merge.
-fn run_merge<S: Source, W: Sink>(
+fn run_merge<S: Source, W: Sink, B: BuildHasher>(
     alloc: Global,
     job: &Job,
     readers: &mut [S],
     out: &mut W,
+    hasher: &B,
 ) -> Result<Done, Failure>
     requires some { 0 < length readers.old }
     requires few { length readers.old ≤ 64 }
@@ -193,7 +196,7 @@ fn run_merge<S: Source, W: Sink>(
         tokens: &mut memory.tokens,
         values: &mut memory.values,
     };
-    let mut inputs = open_inputs(alloc, readers, &mut windows)?;
+    let mut inputs = open_inputs(alloc, readers, &mut windows, hasher)?;
     let mut marks = vec![in alloc; 0u8; marks_for(&inputs.heads)]?;
     merged(merge(
         &inputs.heads,
@@ -206,11 +209,12 @@ fn run_merge<S: Source, W: Sink>(
 }
 
 /// A job over its readers: all of them for a merge, else the one that there is.
-fn run_readers<S: Source, W: Sink>(
+fn run_readers<S: Source, W: Sink, B: BuildHasher>(
     alloc: Global,
     job: &mut Job,
     readers: &mut [S],
     out: &mut W,
+    hasher: &B,
 ) -> Result<Done, Failure>
     requires some { 0 < length readers.old }
     requires few { length readers.old ≤ 64 }
@@ -230,9 +234,9 @@ fn run_readers<S: Source, W: Sink>(
     ensures names { names_asked job.new.task ≡ names_asked job.old.task }
 {
     if job.task.is_merge() {
-        return run_merge(alloc, job, readers, out);
+        return run_merge(alloc, job, readers, out, hasher);
     }
-    run_input(alloc, job, &mut readers[0], out)
+    run_input(alloc, job, &mut readers[0], out, hasher)
 }
 
 /// Runs a job over the readers, whose names are said in messages, and returns the exit status: 0 where it is done, 1 for a fault
@@ -242,9 +246,62 @@ fn run_readers<S: Source, W: Sink>(
 ///
 /// Memory is taken for the windows, while the headers are read, and then for what the task works in; none after that. Nothing is
 /// written on `out` before all of it was taken.
-pub fn run<S: Source, W: Sink, E: Sink>(
+///
+/// The codes of a header are hashed by numbers that the hasher gives; what is written is the same by each. Where nobody knows
+/// these numbers who made the dump, as with `RandomState`, no choice of codes takes long to find.
+pub fn run_with_hasher<S: Source, W: Sink, E: Sink, B: BuildHasher>(
     alloc: Global,
     mut job: Job,
+    names: &[String],
+    readers: &mut [S],
+    out: &mut W,
+    err: &mut E,
+    hasher: &B,
+) -> u8
+    requires names { length names.now ≡ length readers.old }
+    requires some { 0 < length readers.old }
+    requires few { length readers.old ≤ 64 }
+    requires alone { is_merge job.task ≡ false → length readers.old ≡ 1 }
+    requires reader_failures { All (λ r. S.failures r < 2 ^ 64 - 1) readers.old }
+    requires out_failures { (W.device out.old).failures < 2 ^ 64 - 1 }
+    requires err_failures { (E.device err.old).failures < 2 ^ 64 - 1 }
+    ensures failures { ((W.device out.new).failures ≤ (W.device out.old).failures + 1)
+        × ((E.device err.new).failures ≤ (E.device err.old).failures + 1) }
+
+    // It ends done or failed, over any readers and writers: for a failed read only where one of the reader that is named failed
+    // and of no other, and likewise for a write.
+    ensures ends { (why : Option Failure)
+        × CountsReads (map S.failures readers.old) (map S.failures readers.new) why
+        × ((W.device out.new).failures ≡ (W.device out.old).failures + writes_failed why)
+        × (result ≡ end_status why)
+        × Shows (E.device err.old) (E.device err.new)
+        (end_message (map string_bytes names.now) (names_asked job.task) why) }
+
+    // Over readers that tell their bytes: it is the outcome of the definitions, and no more was read than what settles it.
+    ensures gives { (texts : List (List ℕ)) → map S.rest readers.old ≡ map (λ text. Some text) texts
+        → HasRun (model_want job.task) job.limit job.chunk (map string_bytes names.now) texts
+        (map (supply S.rest S.failures) readers.old) (map (supply S.rest S.failures) readers.new)
+        (W.device out.old) (W.device out.new) (E.device err.old) (E.device err.new) result }
+{
+    match run_readers(alloc, &mut job, readers, out, hasher) {
+        Ok(_) => 0,
+        Err(failure) => report(failure, names, job.task.names(), err),
+    }
+}
+
+/// Runs a job over the readers, whose names are said in messages, and returns the exit status: 0 where it is done, 1 for a fault
+/// of an input, for a name that selects nothing and for a unit without a time scale, 2 for times that are out of range or out of
+/// order in ticks, 3 for a failed read or write and where memory ran out. A merge has 1 to 64 readers, any other job one. Output
+/// goes to `out`, the message to `err`; a fault of `err` is passed over. `out` is not flushed.
+///
+/// Memory is taken for the windows, while the headers are read, and then for what the task works in; none after that. Nothing is
+/// written on `out` before all of it was taken.
+///
+/// The codes of a header are hashed by numbers that all may know, so that codes can be crafted which take long to find: a dump
+/// that is not trusted is run over by `run_with_hasher`.
+pub fn run<S: Source, W: Sink, E: Sink>(
+    alloc: Global,
+    job: Job,
     names: &[String],
     readers: &mut [S],
     out: &mut W,
@@ -275,8 +332,6 @@ pub fn run<S: Source, W: Sink, E: Sink>(
         (map (supply S.rest S.failures) readers.old) (map (supply S.rest S.failures) readers.new)
         (W.device out.old) (W.device out.new) (E.device err.old) (E.device err.new) result }
 {
-    match run_readers(alloc, &mut job, readers, out) {
-        Ok(_) => 0,
-        Err(failure) => report(failure, names, job.task.names(), err),
-    }
+    let hasher: BuildHasherDefault<FoldHasher> = BuildHasherDefault::new();
+    run_with_hasher(alloc, job, names, readers, out, err, &hasher)
 }

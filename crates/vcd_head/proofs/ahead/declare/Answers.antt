@@ -34,8 +34,8 @@ returns-clause-declares c = λ given more a k.
     let sf = size_found digits variable.size k.size_is in
     let sp = size_parts digits sf.0 in
     let ev : bytes_eq (codes "event") type ≡ c.is_event-event.result = sym c.is_event-event.ensures in
-    let sought = c.new-code.result.bytes.now in
-    let same : sought ≡ variable.code.now = c.new-code.ensures in
+    let sought = c.in_ok-code.code.bytes.now in
+    let same : sought ≡ variable.code.now = c.in_ok-code.ensures in
     let f : (first_failed (var_checks ds (type ∷ digits ∷ []) variable.code.now) ≡ None) × ((reference : List (List ℕ)) → IsFound ds (record { type = type; size = decimal_value digits; code = variable.code.now; reference = reference }) variable.code.now c.in-Some.found) =
     subst (λ o. IfSome o (λ (found : Found). (first_failed (var_checks ds (type ∷ digits ∷ []) variable.code.now) ≡ None) × ((reference : List (List ℕ)) → IsFound ds (record { type = type; size = decimal_value digits; code = variable.code.now; reference = reference }) variable.code.now found)))
     c.in-Some.is
@@ -48,7 +48,7 @@ returns-clause-declares c = λ given more a k.
     let z2 = sp.2 in
     let z3 = sf.1 in
     let is_size : IsSize variable.size = record { some = omega arith; most = omega arith } in
-    let ch = c.in_ok-place.ensures.codes ds v hc3 (c.in_ok-put_texts.ensures.entered d.codes.list.items d.codes.table.entries.items d.entered) (subst (λ b. IsFound ds v b c.in-Some.found) (sym same) (f.1 v.reference)) is_size (sym sf.1) (sym ev) in
+    let ch = c.in_ok-place.ensures.codes ds v hc3 (subst (λ b. IsFound ds v b c.in-Some.found) (sym same) (f.1 v.reference)) is_size (sym sf.1) (sym ev) in
     let grown : c.place_of.new.text.items ≡ old ++ (type ++ (join ++ ch.more)) = ch.grown ∙ ap (λ t. t ++ ch.more) text ∙ append_assoc old (type ++ join) ch.more ∙ ap (λ t. old ++ t) (append_assoc type join ch.more) in
     let start : c.len-start.result ≡ length old = omega arith in
     let all : length variable.reference.text.now ≡ length join = ap length k.reference.text_is in

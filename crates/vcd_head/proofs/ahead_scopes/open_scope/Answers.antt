@@ -4,11 +4,9 @@ use Rattle.vcd_model.specs.Declarations.{Declaration}
 use Rattle.vcd_model.specs.HeaderPhrases.{HeaderPhrase, declarations_of}
 use Rattle.vcd_model.specs.Reading.{Placed, phrases_of}
 use Rattle.vcd_head.specs.Draft.{IsDraftOf}
-use Rattle.vcd_head.specs.Entries.{AreEntered}
 use Rattle.vcd_view.specs.declared.view.Kind.TheVariants as kind
 use Rattle.vcd_head.proofs.AheadScopes.{scope_so_far}
 use Rattle.vcd_head.proofs.DraftLemmas.{scope_declared, holds_declared}
-use Rattle.vcd_head.proofs.EnteredLemmas.{entered_either, entered_grow}
 use Rattle.vcd_head.proofs.DraftSteps.{few_enough, scope_checks_pass}
 use Rattle.vcd_head.proofs.ahead_scopes.open_scope.Goals as goal
 
@@ -33,11 +31,3 @@ returns-clause-declares c = λ given more a k.
           (λ j. record { kind = kind.Scope; parent = c.parent-parent.ensures j; start = start j; word = length type; name = length name; all = length name; code = 0 }))
           refl refl refl);
     }
-
-pub invariant_of-draft-2 : goal.invariant_of-draft-2
-invariant_of-draft-2 c =
-    let d = c.args.draft.now in
-    let list = d.codes.list.items in
-    let es = d.codes.table.entries.items in
-    let named = entered_grow d.text.items c.args.scope.word.now list es d.entered in
-    record { entered = entered_either c.extend_from_slice.new.self.items c.args.scope.name.now c.extend_from_slice-2.new.self.items _ list es c.extend_from_slice-2.ensures.items (subst (λ t. AreEntered t list es) (sym c.in_ok-extend_from_slice.ensures.items) named) }

@@ -12,4 +12,4 @@ returns-in_err-draft-clause-reads g c =
 pub returns-clause-reads : goal.returns-clause-reads
 returns-clause-reads g c = λ most i b.
     let s = steps.text_begun most i Keyword.Date c.args.draft.now c.args.feed.now b refl refl (λ inner t. refl) (λ inner t none e. steps.not_whole_date inner t none e) in
-    steps.date_read most i c.args.draft.now _ c.args.feed.now c.text_to_end.new.feed c.in_ok-draft.field-0 b (c.in_ok-draft.ensures.reads most i b.placed (keyword_text Keyword.Date ∷ []) s.1 s.0)
+    steps.date_read most i c.args.draft.now c.args.feed.now c.text_to_end.new.feed c.in_ok-draft.field-0 b (c.in_ok-draft.ensures.reads most i b.placed (keyword_text Keyword.Date ∷ []) s.1 s.0)

@@ -39,4 +39,4 @@ returns-clause-reads g c = λ most i b.
     let e = sym c.in_ok-next_ends.ensures.end ∙ c.if-not-branch.false in
     let r = ended most i b.placed Keyword.Timescale c.next_ends.new.feed s.inner (HeaderPhrase.Timescale x) (ap first_failed (s.then_end (token_of c.next_ends.new.feed).bytes) ∙ passed_test _ 5 e)
     (ap (λ o. option_map HeaderPhrase.Timescale (option_and_then scale_of o)) (until s.inner (token_of c.next_ends.new.feed).bytes s.none e) ∙ ap (option_map HeaderPhrase.Timescale) (s.scale_is ∙ ap Some (sym s.fits))) refl (c.in_ok-next_ends.ensures.reads most i b.placed (keyword_text Keyword.Timescale ∷ s.inner) s.reads) in
-    carried most i _ c.next_ends.new.feed b.placed (record { phrase = HeaderPhrase.Timescale x; line = (token_of c.next_ends.new.feed).line }) r (holds_scale most c.args.draft.now _ (phrases_of b.placed) (record { exponent = to_z w8 (of_z w8 c.in_ok-exponent.exponent) }) b.holds (scale_in_range s.inner x (s.scale_is ∙ ap Some (sym s.fits))))
+    carried most i _ c.next_ends.new.feed b.placed (record { phrase = HeaderPhrase.Timescale x; line = (token_of c.next_ends.new.feed).line }) r (holds_scale most c.args.draft.now (phrases_of b.placed) (record { exponent = to_z w8 (of_z w8 c.in_ok-exponent.exponent) }) b.holds (scale_in_range s.inner x (s.scale_is ∙ ap Some (sym s.fits))))

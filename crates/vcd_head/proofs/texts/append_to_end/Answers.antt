@@ -1,11 +1,9 @@
 use Rattle.vcd_text.proofs.AdvancesLemmas.{advances_on}
-use Rattle.std.proofs.Common.{◌∷◌, [], sym, ap, subst, ◌∙◌, ◌++◌, length, arith}
+use Rattle.std.proofs.Common.{◌∷◌, [], sym, ap, ◌∙◌, ◌++◌, length, arith}
 use Rattle.std.proofs.lemmas.List.{append_assoc, length-append}
 use Rattle.std.proofs.lemmas.Result.{err_from_is_err_and}
 use Rattle.vcd_text.specs.Feed.{token_of}
-use Rattle.vcd_head.specs.Entries.{AreEntered}
 use Rattle.vcd_head.specs.Texts.{spaced}
-use Rattle.vcd_head.proofs.EnteredLemmas.{entered_grow}
 use Rattle.vcd_head.proofs.TextSteps.{reads_more, faultless_more, spaced_more}
 use Rattle.vcd_head.proofs.texts.append_to_end.Goals as goal
 
@@ -33,10 +31,6 @@ returns-in_err-extend_from_slice-clause-reads g c =
     let on = c.tokens.invariant.1 most i placed before runs r in
     faultless_more most i placed before c.next_ends.new.feed on.inner runs on.none (sym c.in_ok-next_ends.ensures.end ∙ c.if-branch.false) (c.in_ok-next_ends.ensures.reads most i placed (before ++ on.inner) on.reads))
 
-pub returns-in_err-extend_from_slice-clause-entered : goal.returns-in_err-extend_from_slice-clause-entered
-returns-in_err-extend_from_slice-clause-entered g c = λ codes es h.
-    subst (λ t. AreEntered t codes es) (sym (c.in_err-extend_from_slice.ensures.items ∙ c.in_ok-push.ensures.items)) (entered_grow c.tokens.text.items (32 ∷ []) codes es (c.tokens.invariant.3 codes es h))
-
 pub tokens-preserved : goal.tokens-preserved
 tokens-preserved g c = (
   advances_on g.S.Source.failures _ _ _ _ c.tokens.invariant.0 c.in_ok-next_ends.ensures.advances,
@@ -51,7 +45,4 @@ tokens-preserved g c = (
       ∙ append_assoc c.args.text.now.items (spaced on.inner) (32 ∷ (token_of c.next_ends.new.feed).bytes)
       ∙ ap (λ t. c.args.text.now.items ++ t) (sym (spaced_more on.inner (token_of c.next_ends.new.feed).bytes))),
   omega (arith, c.tokens.invariant.2, ap length c.in_ok-extend_from_slice.ensures.items, ap length c.in_ok-push.ensures.items, length-append c.push.new.self.items c.token.result.now, length-append c.tokens.text.items (32 ∷ [])),
-  λ codes es h.
-      subst (λ t. AreEntered t codes es) (sym c.in_ok-extend_from_slice.ensures.items) (entered_grow c.push.new.self.items c.token.result.now codes es
-      (subst (λ t. AreEntered t codes es) (sym c.in_ok-push.ensures.items) (entered_grow c.tokens.text.items (32 ∷ []) codes es (c.tokens.invariant.3 codes es h)))),
 )

@@ -1,8 +1,6 @@
-use Rattle.std.proofs.Common.{sym, subst, ◌∙◌}
+use Rattle.std.proofs.Common.{sym, ◌∙◌}
 use Rattle.std.proofs.lemmas.Result.{err_from_is_err_and}
 use Rattle.vcd_text.specs.Feed.{token_of}
-use Rattle.vcd_head.specs.Entries.{AreEntered}
-use Rattle.vcd_head.proofs.EnteredLemmas.{entered_grow}
 use Rattle.vcd_head.proofs.TokenSteps.{welcomed, faultless}
 use Rattle.vcd_head.proofs.tokens.next_word.Goals as goal
 
@@ -22,6 +20,3 @@ pub returns-clause-reads : goal.returns-clause-reads
 returns-clause-reads g c = λ most i placed before w r.
     let n = sym c.in_ok-next_ends.ensures.end ∙ c.if-branch.false in
     (welcomed most i placed before c.next_ends.new.feed w n (c.in_ok-next_ends.ensures.reads most i placed before r), n)
-
-pub returns-clause-entered : goal.returns-clause-entered
-returns-clause-entered g c = λ codes es h. subst (λ t. AreEntered t codes es) (sym c.in_ok-extend_from_slice.ensures.items) (entered_grow c.args.text.now.items c.token-word.result.now codes es h)

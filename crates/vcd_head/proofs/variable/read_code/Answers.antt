@@ -33,7 +33,7 @@ returns-in_err-extend_from_slice-clause-reads g c =
     let es = c.args.known.now in
     let good : list_all is_code_byte tok ≡ true = sym (c.is_code.ensures ∙ ap (list_all is_code_byte) c.token-token.ensures) ∙ c.if-not-is_code.false in
     let l = c.in_ok-next_token.ensures.reads most i placed (keyword_text Keyword.Var ∷ type ∷ digits ∷ []) r in
-    let none : IsKnown (codes_of ds) tok None = subst (IsKnown (codes_of ds) tok) (not_some c.find.result c.in_default.not-Some) (subst (λ t. IsKnown (codes_of ds) t c.find.result) (c.new.ensures ∙ c.token-token.ensures) (c.find.ensures text (codes_of ds) h.held h.finds)) in
+    let none : IsKnown (codes_of ds) tok None = subst (IsKnown (codes_of ds) tok) (not_some c.find_bytes.result c.in_default.not-Some) (subst (λ t. IsKnown (codes_of ds) t c.find_bytes.result) c.token-token.ensures (c.find_bytes.ensures text (codes_of ds) h.held h.keys)) in
     let read = inside most i placed Keyword.Var c.next_token.new.feed (type ∷ digits ∷ []) (check_new text es ds type digits tok c.args.size c.args.event h s e good none) refl l in
     faultless most i placed (keyword_text Keyword.Var ∷ type ∷ digits ∷ []) tok c.next_token.new.feed read)
 
@@ -44,7 +44,7 @@ returns-in_default-clause-reads g c = λ most i placed type digits text h s e r.
     let es = c.args.known.now in
     let good : list_all is_code_byte tok ≡ true = sym (c.is_code.ensures ∙ ap (list_all is_code_byte) c.token-token.ensures) ∙ c.if-not-is_code.false in
     let l = c.in_ok-next_token.ensures.reads most i placed (keyword_text Keyword.Var ∷ type ∷ digits ∷ []) r in
-    let none : IsKnown (codes_of ds) tok None = subst (IsKnown (codes_of ds) tok) (not_some c.find.result c.in_default.not-Some) (subst (λ t. IsKnown (codes_of ds) t c.find.result) (c.new.ensures ∙ c.token-token.ensures) (c.find.ensures text (codes_of ds) h.held h.finds)) in
+    let none : IsKnown (codes_of ds) tok None = subst (IsKnown (codes_of ds) tok) (not_some c.find_bytes.result c.in_default.not-Some) (subst (λ t. IsKnown (codes_of ds) t c.find_bytes.result) c.token-token.ensures (c.find_bytes.ensures text (codes_of ds) h.held h.keys)) in
     let read = inside most i placed Keyword.Var c.next_token.new.feed (type ∷ digits ∷ []) (check_new text es ds type digits tok c.args.size c.args.event h s e good none) refl l in
     record { reads = read; found_is = λ reference. found_new text es ds type digits tok c.args.size c.args.event h s e c.extend_from_slice.new.self.items reference none (c.in_ok-extend_from_slice.ensures.items ∙ ap (λ l. l ++ c.token-token.result.now) c.clear.ensures.items ∙ c.token-token.ensures) }
 
@@ -55,7 +55,7 @@ returns-then-coded-size-clause-reads g c = λ most i placed type digits text h s
     let es = c.args.known.now in
     let good : list_all is_code_byte tok ≡ true = sym (c.is_code.ensures ∙ ap (list_all is_code_byte) c.token-token.ensures) ∙ c.if-not-is_code.false in
     let l = c.in_ok-next_token.ensures.reads most i placed (keyword_text Keyword.Var ∷ type ∷ digits ∷ []) r in
-    let some : IsKnown (codes_of ds) tok (Some c.in-Some.coded) = subst (IsKnown (codes_of ds) tok) c.in-Some.is (subst (λ t. IsKnown (codes_of ds) t c.find.result) (c.new.ensures ∙ c.token-token.ensures) (c.find.ensures text (codes_of ds) h.held h.finds)) in
+    let some : IsKnown (codes_of ds) tok (Some c.in-Some.coded) = subst (IsKnown (codes_of ds) tok) c.in-Some.is (subst (λ t. IsKnown (codes_of ds) t c.find_bytes.result) c.token-token.ensures (c.find_bytes.ensures text (codes_of ds) h.held h.keys)) in
     refused_inside most i placed Keyword.Var c.next_token.new.feed (type ∷ digits ∷ []) 8 (check_size text es ds type digits tok c.args.size c.args.event h s e c.in-Some.coded good some c.if-coded-size.true) l
 
 pub returns-then-coded-event-clause-reads : goal.returns-then-coded-event-clause-reads
@@ -65,7 +65,7 @@ returns-then-coded-event-clause-reads g c = λ most i placed type digits text h 
     let es = c.args.known.now in
     let good : list_all is_code_byte tok ≡ true = sym (c.is_code.ensures ∙ ap (list_all is_code_byte) c.token-token.ensures) ∙ c.if-not-is_code.false in
     let l = c.in_ok-next_token.ensures.reads most i placed (keyword_text Keyword.Var ∷ type ∷ digits ∷ []) r in
-    let some : IsKnown (codes_of ds) tok (Some c.in-Some.coded) = subst (IsKnown (codes_of ds) tok) c.in-Some.is (subst (λ t. IsKnown (codes_of ds) t c.find.result) (c.new.ensures ∙ c.token-token.ensures) (c.find.ensures text (codes_of ds) h.held h.finds)) in
+    let some : IsKnown (codes_of ds) tok (Some c.in-Some.coded) = subst (IsKnown (codes_of ds) tok) c.in-Some.is (subst (λ t. IsKnown (codes_of ds) t c.find_bytes.result) c.token-token.ensures (c.find_bytes.ensures text (codes_of ds) h.held h.keys)) in
     refused_inside most i placed Keyword.Var c.next_token.new.feed (type ∷ digits ∷ []) 8 (check_event text es ds type digits tok c.args.size c.args.event h s e c.in-Some.coded good some c.if-coded-size.false (flags_differ c.in-Some.coded.code.event c.args.event c.if-coded-event.true)) l
 
 pub returns-clause-reads : goal.returns-clause-reads
@@ -75,6 +75,6 @@ returns-clause-reads g c = λ most i placed type digits text h s e r.
     let es = c.args.known.now in
     let good : list_all is_code_byte tok ≡ true = sym (c.is_code.ensures ∙ ap (list_all is_code_byte) c.token-token.ensures) ∙ c.if-not-is_code.false in
     let l = c.in_ok-next_token.ensures.reads most i placed (keyword_text Keyword.Var ∷ type ∷ digits ∷ []) r in
-    let some : IsKnown (codes_of ds) tok (Some c.in-Some.coded) = subst (IsKnown (codes_of ds) tok) c.in-Some.is (subst (λ t. IsKnown (codes_of ds) t c.find.result) (c.new.ensures ∙ c.token-token.ensures) (c.find.ensures text (codes_of ds) h.held h.finds)) in
+    let some : IsKnown (codes_of ds) tok (Some c.in-Some.coded) = subst (IsKnown (codes_of ds) tok) c.in-Some.is (subst (λ t. IsKnown (codes_of ds) t c.find_bytes.result) c.token-token.ensures (c.find_bytes.ensures text (codes_of ds) h.held h.keys)) in
     let read = inside most i placed Keyword.Var c.next_token.new.feed (type ∷ digits ∷ []) (check_same text es ds type digits tok c.args.size c.args.event h s e c.in-Some.coded good some c.if-coded-size.false (flags_same c.in-Some.coded.code.event c.args.event c.if-coded-event.false)) refl l in
     record { reads = read; found_is = λ reference. found_same text es ds type digits tok c.args.size c.args.event h s e c.args.held.now.items c.in-Some.coded reference some c.if-coded-size.false (flags_same c.in-Some.coded.code.event c.args.event c.if-coded-event.false) }

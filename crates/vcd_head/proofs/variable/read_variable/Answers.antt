@@ -161,6 +161,34 @@ returns-in_err-code-clause-reads g c =
     let r5 = ended c.args.most i b.placed Keyword.Var c.append_to_end.new.feed (type ∷ digits ∷ code ∷ first ∷ inner) (HeaderPhrase.Declares (Declaration.Var v)) refl (var_whole type digits code first inner (token_of c.append_to_end.new.feed).bytes ws.1 e5.none e5.ends sp.0) refl e5.token_read in
     faultless_phrase c.args.most i b.placed (record { phrase = HeaderPhrase.Declares (Declaration.Var v); line = (token_of c.append_to_end.new.feed).line }) c.append_to_end.new.feed r5)
 
+pub returns-in_err-new-clause-reads : goal.returns-in_err-new-clause-reads
+returns-in_err-new-clause-reads g c =
+    let p = err_from_is_err_and c.from_residual-in_err-new.result c.from_residual-in_err-new.ensures.1 in
+    rw (p.1, p.2) (λ i b.
+    let n : length c.args.draft.now.rows.items < c.args.most = omega arith in
+    let r0 = begun c.args.most i b.placed Keyword.Var c.args.feed.now b.keyword (var_checks_pass c.args.most c.args.draft.now (phrases_of b.placed) b.holds n) refl b.token_read in
+    let w1 = c.in_ok-word.ensures.reads c.args.most i b.placed (keyword_text Keyword.Var ∷ []) (var_welcomes_type c.args.most b.placed) r0 in
+    let type = (token_of c.next_word.new.feed).bytes in
+    let r1 = (word_some c.args.most i b.placed (keyword_text Keyword.Var ∷ []) c.next_word.new.feed c.in_ok-word.field-0 c.in-Some.word c.in-Some.is w1).0 in
+    let s1 = c.in_ok-size.ensures.reads c.args.most i b.placed type r1 in
+    let digits = (token_of c.read_size.new.feed).bytes in
+    let r2 = s1.reads in
+    let sf = size_found digits c.in_ok-size.size s1.size_is in
+    let ev : bytes_eq (codes "event") type ≡ c.is_event-event.result = sym (c.is_event-event.ensures ∙ ap (bytes_eq (codes "event")) c.token.ensures) in
+    let hc = b.holds.declares.codes in
+    let k1 = c.in_ok-found.ensures.reads c.args.most i b.placed type digits c.args.draft.now.text.items hc sf.1 ev r2 in
+    let code = (token_of c.read_code.new.feed).bytes in
+    let r3 = k1.reads in
+    let w2 = c.in_ok-name.ensures.reads c.args.most i b.placed (keyword_text Keyword.Var ∷ type ∷ digits ∷ code ∷ []) (var_welcomes_reference c.args.most b.placed type digits code) r3 in
+    let first = (token_of c.next_word-2.new.feed).bytes in
+    let ws = word_some c.args.most i b.placed (keyword_text Keyword.Var ∷ type ∷ digits ∷ code ∷ []) c.next_word-2.new.feed c.in_ok-name.field-0 c.in-Some-2.name c.in-Some-2.is w2 in
+    let e5 = c.in_ok-append_to_end.ensures.reads c.args.most i b.placed (keyword_text Keyword.Var ∷ type ∷ digits ∷ code ∷ first ∷ []) (var_runs c.args.most b.placed type digits code first ws.1) ws.0 in
+    let inner = e5.inner in
+    let v : Variable = record { type = type; size = decimal_value digits; code = code; reference = first ∷ inner } in
+    let sp = size_parts digits sf.0 in
+    let r5 = ended c.args.most i b.placed Keyword.Var c.append_to_end.new.feed (type ∷ digits ∷ code ∷ first ∷ inner) (HeaderPhrase.Declares (Declaration.Var v)) refl (var_whole type digits code first inner (token_of c.append_to_end.new.feed).bytes ws.1 e5.none e5.ends sp.0) refl e5.token_read in
+    faultless_phrase c.args.most i b.placed (record { phrase = HeaderPhrase.Declares (Declaration.Var v); line = (token_of c.append_to_end.new.feed).line }) c.append_to_end.new.feed r5)
+
 pub returns-in_err-push-clause-reads : goal.returns-in_err-push-clause-reads
 returns-in_err-push-clause-reads g c =
     let p = err_from_is_err_and c.from_residual-in_err-push.result c.from_residual-in_err-push.ensures.1 in
@@ -223,10 +251,7 @@ returns-clause-reads g c = λ i b.
     let z2 = sp.2 in
     let z3 = sf.1 in
     let is_size : IsSize c.in_ok-size.size = record { some = omega arith; most = omega arith } in
-    let list = c.args.draft.now.codes.list.items in
-    let es = c.args.draft.now.codes.table.entries.items in
-    let entered = c.append_to_end.ensures.entered list es (c.next_word-2.ensures.entered list es (c.next_word.ensures.entered list es c.args.draft.now.entered)) in
-    let ch = c.in_ok-code.ensures.codes (declarations_of (phrases_of b.placed)) v hc3 entered (subst (λ k. IsFound (declarations_of (phrases_of b.placed)) v k c.in_ok-found.found) (sym (c.new.ensures ∙ c.deref.ensures.value)) (k1.found_is (first ∷ inner))) is_size (sym sf.1) (sym ev) in
+    let ch = c.in_ok-code.ensures.codes (declarations_of (phrases_of b.placed)) v hc3 (subst (λ k. IsFound (declarations_of (phrases_of b.placed)) v k c.in_ok-found.found) (sym (c.in_ok-new.ensures ∙ c.deref.ensures.value)) (k1.found_is (first ∷ inner))) is_size (sym sf.1) (sym ev) in
     let grown : c.place_of.new.text.items ≡ c.args.draft.now.text.items ++ (type ++ (join ++ ch.more)) = ch.grown ∙ ap (λ t. t ++ ch.more) text ∙ append_assoc c.args.draft.now.text.items (type ++ join) ch.more ∙ ap (λ t. c.args.draft.now.text.items ++ t) (append_assoc type join ch.more) in
     let start : c.len-start.result ≡ length c.args.draft.now.text.items = omega arith in
     let len : length c.append_to_end.new.text.items ≡ length c.args.draft.now.text.items + (length type + length join) = ap length text ∙ length-append c.args.draft.now.text.items (type ++ join) ∙ ap (λ k. length c.args.draft.now.text.items + k) (length-append type join) in

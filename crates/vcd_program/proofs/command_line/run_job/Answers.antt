@@ -16,13 +16,13 @@ returns-in_default-clause-runs g c =
     no-memory g.H.Host.opens g.H.Input.Source.rest g.H.Input.Source.failures (words_used m) (inputs_asked m) c.args.host.now (g.W.Sink.device c.args.out.now) (g.E.Sink.device c.args.err.now) (g.E.Sink.device c.use_fault.new.err) c.use_fault.result _ c.requires.job
     (memory-shown _ _ c.use_fault.ensures.line) c.use_fault.ensures.status
 
-pub run-requires-clause-names : goal.run-requires-clause-names
-run-requires-clause-names g c =
+pub run_with_hasher-requires-clause-names : goal.run_with_hasher-requires-clause-names
+run_with_hasher-requires-clause-names g c =
     let many = opens-many g.H.Host.opens c.args.host.now (map text_of c.as_slice.result.now) c.in-Ok-open_inputs.inputs.readers.items c.open_inputs.new.host c.in-Ok-open_inputs.ensures.opened in
     ap length c.as_slice-in-Ok-open_inputs.ensures.value ∙ names-many string_bytes c.in-Ok-open_inputs.inputs.names.items (map text_of c.as_slice.result.now) c.in-Ok-open_inputs.ensures.names ∙ sym many ∙ ap length (sym c.as_mut_slice.ensures.value)
 
-pub run-requires-clause-some : goal.run-requires-clause-some
-run-requires-clause-some g c =
+pub run_with_hasher-requires-clause-some : goal.run_with_hasher-requires-clause-some
+run_with_hasher-requires-clause-some g c =
     let m = c.args.matches.now in
     let asked = asked-is m (model_want c.args.job.task) c.args.job.limit c.requires.job in
     let named : map text_of c.as_slice.result.now ≡ inputs_asked m =
@@ -32,8 +32,8 @@ run-requires-clause-some g c =
     let some = asked.1.some in
     omega (arith, all, some)
 
-pub run-requires-clause-few : goal.run-requires-clause-few
-run-requires-clause-few g c =
+pub run_with_hasher-requires-clause-few : goal.run_with_hasher-requires-clause-few
+run_with_hasher-requires-clause-few g c =
     let m = c.args.matches.now in
     let asked = asked-is m (model_want c.args.job.task) c.args.job.limit c.requires.job in
     let named : map text_of c.as_slice.result.now ≡ inputs_asked m =
@@ -51,9 +51,9 @@ returns-in-Ok-open_inputs-clause-runs g c =
     ap (map text_of) c.as_slice.ensures.value ∙ c.in-Ok.ensures ∙ ap (λ merge. inputs_for merge m) (c.is_merge.ensures ∙ merge-same c.args.job.task) ∙ asked.0 in
     let opened = subst (λ names. Opens g.H.Host.opens c.args.host.now names c.in-Ok-open_inputs.inputs.readers.items c.open_inputs.new.host) named c.in-Ok-open_inputs.ensures.opened in
     let opened_now = subst (λ readers. Opens g.H.Host.opens c.args.host.now (inputs_asked m) readers c.open_inputs.new.host) (sym c.as_mut_slice.ensures.value) opened in
-    ran g.H.Host.opens g.H.Input.Source.rest g.H.Input.Source.failures (words_used m) (inputs_asked m) c.args.host.now c.open_inputs.new.host (g.W.Sink.device c.args.out.now) (g.W.Sink.device c.run.new.out) (g.E.Sink.device c.args.err.now) (g.E.Sink.device c.run.new.err) c.run.result
-    (model_want c.args.job.task) c.args.job.limit c.args.job.chunk (map string_bytes c.as_slice-in-Ok-open_inputs.result.now) (names_asked c.args.job.task) c.as_mut_slice.result.now c.run.new.readers
-    c.requires.job c.requires.chunk (ap (map string_bytes) c.as_slice-in-Ok-open_inputs.ensures.value ∙ c.in-Ok-open_inputs.ensures.names ∙ ap (map called) named) (names-same c.args.job.task) opened_now c.run.ensures.ends c.run.ensures.gives
+    ran g.H.Host.opens g.H.Input.Source.rest g.H.Input.Source.failures (words_used m) (inputs_asked m) c.args.host.now c.open_inputs.new.host (g.W.Sink.device c.args.out.now) (g.W.Sink.device c.run_with_hasher.new.out) (g.E.Sink.device c.args.err.now) (g.E.Sink.device c.run_with_hasher.new.err) c.run_with_hasher.result
+    (model_want c.args.job.task) c.args.job.limit c.args.job.chunk (map string_bytes c.as_slice-in-Ok-open_inputs.result.now) (names_asked c.args.job.task) c.as_mut_slice.result.now c.run_with_hasher.new.readers
+    c.requires.job c.requires.chunk (ap (map string_bytes) c.as_slice-in-Ok-open_inputs.ensures.value ∙ c.in-Ok-open_inputs.ensures.names ∙ ap (map called) named) (names-same c.args.job.task) opened_now c.run_with_hasher.ensures.ends c.run_with_hasher.ensures.gives
 
 pub returns-in-Err-Unopened-clause-runs : goal.returns-in-Err-Unopened-clause-runs
 returns-in-Err-Unopened-clause-runs g c =

@@ -3,7 +3,7 @@ use Rattle.vcd_text.proofs.AdvancesLemmas.{advances_on, advances_nowhere}
 use Rattle.std.proofs.lemmas.Bool.{MatchBool-at_false, MatchBool-at_true}
 use Rattle.std.proofs.lemmas.Result.{err_from_is_err_and}
 use Rattle.vcd_head.proofs.PhraseSteps.{carries_nothing, finished}
-use Rattle.vcd_head.proofs.read.read_head.Goals as goal
+use Rattle.vcd_head.proofs.read.read_head_with_hasher.Goals as goal
 
 pub phrases-init : goal.phrases-init
 phrases-init g c = (advances_nowhere g.S.Source.failures c.args.feed.now, λ i s. carries_nothing c.args.most i c.new-draft.result c.args.feed.now c.new-draft.ensures s)

@@ -3,7 +3,7 @@ use Rattle.std.specs.Prelude.{string_bytes}
 use Rattle.std.proofs.lemmas.List.{length-map}
 use Rattle.vcd_words.specs.Job.{model_want, names_asked}
 use Rattle.vcdkit.proofs.EndLemmas.{has_run, shows_nothing}
-use Rattle.vcdkit.proofs.whole_run.run.Goals as goal
+use Rattle.vcdkit.proofs.whole_run.run_with_hasher.Goals as goal
 
 pub returns-in-Ok-clause-gives : goal.returns-in-Ok-clause-gives
 returns-in-Ok-clause-gives g c = λ texts h.

@@ -3,7 +3,7 @@ use Rattle.vcd_model.specs.Input.{Input}
 use Rattle.vcd_text.specs.Feed.{HasGiven, seen}
 use Rattle.vcd_head.specs.Draft.{DraftsBehind}
 use Rattle.vcd_text.specs.Advances.{Advances, CallEnd}
-use Rattle.vcd_head.proofs.read.read_head.Given as goal
+use Rattle.vcd_head.proofs.read.read_head_with_hasher.Given as goal
 
 abbrev pub invariant-phrases : goal.invariant-phrases
 invariant-phrases g l = Advances g.S.Source.failures l.fn.feed l.feed CallEnd.GoesOn × ((i : Input) → HasGiven i [] l.fn.feed → DraftsBehind l.most i l.draft l.feed)

@@ -1,0 +1,82 @@
+// The keys by which the set of codes finds them.
+use std::alloc::{AllocError, Global};
+use std::hash::{Hash, Hasher};
+use vcd_view::key_of;
+
+// A code as the set has it: a short one as its number, a longer one as its bytes.
+#[derive(Drop)]
+pub(crate) enum CodeKey {
+    Short(u64),
+    Long(Vec<u8>),
+}
+
+impl CodeKey {
+    ghost use Rattle.std.specs.Prelude.{◌≡◌, bytes_eq, IfOk};
+    ghost use Rattle.vcd_head.specs.Keys.{shape_in, shape_of};
+
+    /// The code with these bytes. A short one takes no memory.
+    #[inline(always)]
+    pub(crate) fn of(alloc: Global, bytes: &[u8]) -> Result<CodeKey, AllocError>
+        ensures { IfOk result (λ key. shape_of key ≡ shape_in bytes.now) }
+    {
+        let key = key_of(bytes);
+        if key != 0 {
+            return Ok(CodeKey::Short(key));
+        }
+        Ok(CodeKey::Long(Vec::from_slice(alloc, bytes)?))
+    }
+
+    /// Whether this is the key of the code with these bytes.
+    pub(crate) fn is_of(&self, bytes: &[u8]) -> bool
+        ensures { result ≡ bytes_eq (shape_in bytes.now) (shape_of self.now) }
+    {
+        let number = key_of(bytes);
+        match self {
+            CodeKey::Short(own) => number != 0 && number == *own,
+            CodeKey::Long(own) => number == 0 && bytes == own.as_slice(),
+        }
+    }
+}
+
+impl PartialEq for CodeKey {
+    ghost use Rattle.std.specs.Cmp.{on_per, partial_equiv_from_equiv};
+    ghost use Rattle.std.specs.Cmp.Lexicographic.{nat_list_eq_equiv};
+    ghost use Rattle.vcd_head.specs.Keys.{same_shape, shape_of};
+
+    ghost eq = { same_shape };
+
+    ghost laws = { on_per shape_of (partial_equiv_from_equiv nat_list_eq_equiv) };
+
+    #[inline(always)]
+    fn eq(&self, other: &CodeKey) -> bool {
+        match (self, other) {
+            (CodeKey::Short(a), CodeKey::Short(b)) => *a == *b,
+            (CodeKey::Long(a), CodeKey::Long(b)) => *a == *b,
+            _ => false,
+        }
+    }
+}
+
+impl Eq for CodeKey {
+    ghost use Rattle.std.specs.Cmp.{on_equiv};
+    ghost use Rattle.std.specs.Cmp.Lexicographic.{nat_list_eq_equiv};
+    ghost use Rattle.vcd_head.specs.Keys.{shape_of};
+
+    ghost laws = { on_equiv shape_of nat_list_eq_equiv };
+}
+
+impl Hash for CodeKey {
+    ghost use Rattle.vcd_head.specs.Keys.{writes_of, same_writes};
+
+    ghost hash_input = { writes_of };
+
+    ghost respects_eq = { same_writes };
+
+    #[inline(always)]
+    fn hash<H: Hasher>(&self, state: &mut H) {
+        match self {
+            CodeKey::Short(number) => state.write_u64(*number),
+            CodeKey::Long(bytes) => state.write(bytes),
+        }
+    }
+}

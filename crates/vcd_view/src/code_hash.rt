@@ -1,0 +1,103 @@
+// How codes are hashed: by numbers that nobody knows who makes a dump.
+ghost use Rattle.std.specs.Prelude.{◌≡◌, ◌^◌, ◌<◌, length};
+ghost use Rattle.vcd_view.specs.CodeHash.{hashed, hashed_singly, mixed};
+
+use std::hash::{BuildHasher, Hasher};
+
+/// Two numbers by which codes are hashed. Who does not know them cannot choose codes whose hashes fall together.
+#[derive(Clone, Copy, PartialEq, Eq, Debug)]
+pub struct CodeSeed {
+    /// What a word is multiplied by, to 128 bits.
+    pub factor: u128,
+    /// What is added to the product.
+    pub more: u128,
+}
+
+impl CodeSeed {
+    /// The numbers that a hasher gives.
+    pub fn of<B: BuildHasher>(hasher: &B) -> CodeSeed {
+        CodeSeed {
+            factor: number_of(hasher, 0),
+            more: number_of(hasher, 2),
+        }
+    }
+
+    /// The state after a word: the upper half of a product of 128 bits.
+    #[inline(always)]
+    pub fn mixed(self, state: u64, word: u64) -> u64
+        ensures { result ≡ mixed self state word }
+    {
+        let product = u128::from(state ^ word)
+            .wrapping_mul(self.factor)
+            .wrapping_add(self.more);
+        (product >> 64) as u64
+    }
+
+    /// The state after these bytes: eight of them count as one word, and else each as one.
+    #[inline(always)]
+    pub fn hashed(self, state: u64, bytes: &[u8]) -> u64
+        ensures { result ≡ hashed self state bytes.now }
+    {
+        match bytes {
+            [a, b, c, d, e, f, g, h] => {
+                self.mixed(state, u64::from_le_bytes([*a, *b, *c, *d, *e, *f, *g, *h]))
+            }
+            _ => self.hashed_singly(state, bytes),
+        }
+    }
+
+    // The state after these bytes, each as one word.
+    fn hashed_singly(self, state: u64, bytes: &[u8]) -> u64
+        ensures { result ≡ hashed_singly self state bytes.now }
+    {
+        let mut state = state;
+        for byte in bytes {
+            state = self.mixed(state, u64::from(*byte));
+        }
+        state
+    }
+}
+
+// A number of 128 bits that a hasher gives: its hashes of two numbers.
+fn number_of<B: BuildHasher>(hasher: &B, first: u64) -> u128
+    requires { first < 2 ^ 32 }
+{
+    u128::from(hasher.hash_one(first)) << 64 | u128::from(hasher.hash_one(first + 1))
+}
+
+/// What a code's bytes are fed to.
+#[derive(Clone, Copy)]
+pub struct CodeHasher {
+    seed: CodeSeed,
+    state: u64,
+}
+
+impl BuildHasher for CodeSeed {
+    type Hasher = CodeHasher;
+
+    ghost build_hasher = { λ s. record { seed = s; state = 0 } };
+
+    #[inline(always)]
+    fn build_hasher(&self) -> CodeHasher {
+        CodeHasher {
+            seed: *self,
+            state: 0,
+        }
+    }
+}
+
+impl Hasher for CodeHasher {
+    ghost write = { λ h bytes. record { seed = h.seed; state = hashed h.seed h.state bytes } };
+
+    ghost finish = { λ h. h.state };
+
+    #[inline(always)]
+    fn finish(&self) -> u64 {
+        self.state
+    }
+
+    #[inline(always)]
+    fn write(&mut self, bytes: &[u8]) {
+        self.state = self.seed.hashed(self.state, bytes);
+    }
+}
