@@ -4,8 +4,8 @@ ghost use Rattle.vcd_program.specs.Memory.{bytes_named, IsLeftBy};
 
 use crate::command_line::run_program;
 use crate::host::{Host, OpenFault, Output};
-use std::hash::{BuildHasherDefault, FoldHasher};
 use std::alloc::{AllocError, Global};
+use std::hash::{BuildHasherDefault, FoldHasher};
 use vcd_text::{ReadFailed, Sink, Source, Watch, WriteFailed};
 
 /// A file in memory.
