@@ -36,6 +36,11 @@ cut_steps : steps (Request.Cut 10 15) "$var wire 1 ! a $end;$var real 1 \" r $en
 unfolding model
 cut_steps = refl
 
+-- what follows the mark that ends a cut adds nothing
+cut_steps_past_its_end : steps (Request.Cut 3 5) "$var wire 1 ! a $end;$enddefinitions $end;0!;#4;1!;#6;0!;#7;1!;" ≡ record { appended = written "$var wire 1 ! a $end;$enddefinitions $end;" ∷ written "" ∷ written "#3;$dumpvars;0!;$end;" ∷ written "#4;1!;" ∷ written "#5;" ∷ written "" ∷ written "" ∷ written "" ∷ []; fault = None } ∷ []
+unfolding model
+cut_steps_past_its_end = refl
+
 -- the lines of a time are due at the first mark above it
 sample_steps : steps (Request.Sample (1 ∷ []) []) "$var wire 4 ! v $end;$var wire 8 \" w $end;$enddefinitions $end;#1;b1 !;#2;?;" ≡ record { appended = written "" ∷ written "" ∷ written "" ∷ written "1 v 0001;1 w -;" ∷ []; fault = Some (record { number = 3; line = 7 }) } ∷ []
 unfolding model

@@ -17,7 +17,7 @@ use Rattle.vcd_model.specs.Selection.{first_unmatched, marked_places, selected, 
 use Rattle.vcd_model.specs.HeadText.{new_code}
 use Rattle.vcd_model.specs.Merge.{factor}
 use Rattle.vcd_model.specs.Outcome.{Opened, fault_text, open_from}
-use Rattle.vcd_model.specs.Bound.{AreAllWindows, AreMarks, AreViews, AreWindows, FitsBound, FitsInput, IsRoom, IsView, RoomSize, ViewSize, WindowSize, bound, no_room, room_count, room_of, value_room, view_count, window_count}
+use Rattle.vcd_model.specs.Bound.{AreAllWindows, AreMarks, AreViews, AreWindows, FitsBound, FitsInput, IsRoom, IsView, RoomSize, ViewSize, WindowSize, bound, marks_alone, no_room, room_count, room_of, value_room, view_count, window_count}
 use Rattle.vcd_model.proofs.Computing.{model}
 use Rattle.vcd_model.proofs.RowText.{written, clean}
 
@@ -432,6 +432,11 @@ slot_too_many r = let p = r.slots in omega arith
 
 mark_too_many : IsRoom one (record { values = 64; slots = 1; marks = 2 }) → ⊥
 mark_too_many r = let p = r.marks in omega arith
+
+-- a merge has room for marks alone
+room_of_a_merge : marks_alone 5 ≡ record { values = 0; slots = 0; marks = 5 }
+unfolding model
+room_of_a_merge = refl
 
 marks_of_two : AreMarks (one ∷ one ∷ []) 2
 marks_of_two = omega arith

@@ -1,12 +1,12 @@
 -- What words ask for is a job.
 use Rattle.std.proofs.Common.{◌≡◌, ◌≢◌, ℕ, ◌^◌, ◌<◌, ◌≤◌, ℤ, Bool, true, false, not, cond, ◌&&◌, nat_lt, nat_le, IsFalse, List, [], ◌∷◌, map, length, codes, Option, Some, None, option_map, Result, Ok, Err, bytes_eq, drop, inl, inr, ◌==◌, refl, sym, subst, arith}
 use Rattle.std.specs.Char.{is_ascii_digit}
-use Rattle.std.specs.List.{list_any, list_all, slice_split, onto_first, take_while, AllByRecursion}
+use Rattle.std.specs.List.{list_any, slice_split, onto_first, take_while, AllByRecursion}
 use Rattle.std.specs.List.Sorted.{IsStrictlyIncreasing}
 use Rattle.std.specs.Str.{byte}
 use Rattle.std.proofs.lemmas.Bool.{ltb-true, ltb-false, leb-true, and_parts, not-false, or_cases}
 use Rattle.std.proofs.lemmas.Slice.Eq.{bytes_eq-Decides}
-use Rattle.vcd_model.specs.Bytes.{decimal_value, is_empty}
+use Rattle.vcd_model.specs.Bytes.{decimal_value, is_decimal, is_empty}
 use Rattle.vcd_model.specs.Scales.{exponent_of, is_scale_unit}
 use Rattle.vcd_model.specs.Ticks.{Moment}
 use Rattle.vcd_model.specs.Job.{Want, IsJob, IsTime, is_number, is_unit, unit_exponent, moment_of, has_unit, do_rise}
@@ -18,7 +18,7 @@ use Rattle.vcd_model.proofs.JobLemmas.{rises_at}
 
 number_fits : (digits : List ℕ) → is_number digits ≡ true → decimal_value digits < 2 ^ 64
 number_fits digits e =
-    let outer = and_parts (not (is_empty digits) && nat_le (length digits) 20) (nat_lt (decimal_value digits) (2 ^ 64)) e in
+    let outer = and_parts (is_decimal digits && nat_le (length digits) 20) (nat_lt (decimal_value digits) (2 ^ 64)) e in
     ltb-true (decimal_value digits) (2 ^ 64) outer.1
 
 -- a word that is one of these has the exponent of a unit, where each of these has
@@ -141,8 +141,8 @@ limit_is (Some word) n e = decided (is_limit word) (λ is. in_range is) e
   where
     in_range : is_limit word ≡ true → (64 ≤ decimal_value word) × (decimal_value word ≤ 16777216)
     in_range is =
-        let outer = and_parts (list_all is_ascii_digit word && is_number word && nat_le 64 (decimal_value word)) (nat_le (decimal_value word) 16777216) is in
-        let inner = and_parts (list_all is_ascii_digit word && is_number word) (nat_le 64 (decimal_value word)) outer.0 in
+        let outer = and_parts (is_number word && nat_le 64 (decimal_value word)) (nat_le (decimal_value word) 16777216) is in
+        let inner = and_parts (is_number word) (nat_le 64 (decimal_value word)) outer.0 in
         (leb-true 64 (decimal_value word) inner.1, leb-true (decimal_value word) 16777216 outer.1)
 
     decided : (b : Bool) → (b ≡ true → (64 ≤ decimal_value word) × (decimal_value word ≤ 16777216)) → cond b (Ok (decimal_value word)) (Err (UseFault.BadLimit word)) ≡ Ok n → (64 ≤ n) × (n ≤ 16777216)

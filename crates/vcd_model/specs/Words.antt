@@ -1,7 +1,6 @@
 -- The words of a command line: what they ask for, or what is wrong with them (profile).
 use Rattle.std.specs.Prelude.{ℕ, Bool, true, not, cond, ◌&&◌, ◌==◌, nat_lt, nat_le, List, [], ◌∷◌, ◌++◌, length, map, codes, Option, Some, None, Result, Ok, Err}
-use Rattle.std.specs.Char.{is_ascii_digit}
-use Rattle.std.specs.List.{list_all, slice_split}
+use Rattle.std.specs.List.{slice_split}
 use Rattle.std.specs.Str.{byte}
 use Rattle.vcd_model.specs.Bytes.{decimal_value, is_empty}
 use Rattle.vcd_model.specs.Input.{Input}
@@ -63,7 +62,7 @@ default_limit = 1048576
 
 -- a number of 64 to 16,777,216 bytes
 abbrev pub is_limit : List ℕ → Bool
-is_limit word = list_all is_ascii_digit word && is_number word && nat_le 64 (decimal_value word) && nat_le (decimal_value word) 16777216
+is_limit word = is_number word && nat_le 64 (decimal_value word) && nat_le (decimal_value word) 16777216
 
 -- the token limit that is asked for
 abbrev pub limit_of : Option (List ℕ) → Result ℕ UseFault

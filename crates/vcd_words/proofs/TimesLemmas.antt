@@ -1,8 +1,7 @@
 -- Words that are times, one after the other, and their order.
 use Rattle.std.proofs.Common.{◌≡◌, ℕ, suc, ◌+◌, ◌<◌, Bool, true, false, not, cond, ◌&&◌, ◌||◌, ◌==◌, nat_lt, is_some, vec_len, List, [], ◌∷◌, ◌++◌, length, map, filter_map, get_or, take, drop, take-append-drop, Option, Some, None, option_map, Result, Ok, Err, refl, sym, ap, ◌∙◌, arith}
 use Rattle.std.specs.Char.{is_ascii_digit}
-use Rattle.std.specs.List.{cons_option, list_all, prefix_len, take_while}
-use Rattle.std.proofs.lemmas.Bool.{and_from}
+use Rattle.std.specs.List.{cons_option, take_while}
 use Rattle.std.proofs.lemmas.List.{length-map}
 use Rattle.std.proofs.lemmas.List.Folds.{length-prefix_len}
 use Rattle.std.proofs.lemmas.List.Splits.{length-slice_split}
@@ -23,18 +22,9 @@ use Rattle.vcd_words.specs.Words.{IsFaultIn, IsFaultOf}
 
 -- ---- a word
 
--- what stands before the first byte that fails
-front_all : (p : ℕ → Bool) (xs : List ℕ) → list_all p (take (prefix_len p xs) xs) ≡ true
-front_all p [] = refl
-front_all p (x ∷ xs) = by_test (p x) refl (front_all p xs)
-  where
-    by_test : (b : Bool) → p x ≡ b → list_all p (take (prefix_len p xs) xs) ≡ true → list_all p (take (cond b (1 + prefix_len p xs) 0) (x ∷ xs)) ≡ true
-    by_test true e more = let n : 1 + prefix_len p xs ≡ suc (prefix_len p xs) = omega arith in rw n (and_from (p x) (list_all p (take (prefix_len p xs) xs)) e more)
-    by_test false e more = refl
-
 -- the number that the digits of a word are
 abbrev digits_number : List ℕ → Option ℕ
-digits_number digits = cond (list_all is_ascii_digit digits && is_number digits) (Some (decimal_value digits)) None
+digits_number digits = cond (is_number digits) (Some (decimal_value digits)) None
 
 -- a word whose digits are a number, or none
 number_with : (digits unit : List ℕ) (b : Bool) → is_number digits ≡ b → (o : Option ℕ) → o ≡ cond b (Some (decimal_value digits)) None → (none : o ≡ None → moment_with digits unit ≡ None) × ((n : ℕ) → o ≡ Some n → moment_with digits unit ≡ with_unit n unit)
@@ -46,7 +36,7 @@ module _ (word digits : List ℕ) (k : ℕ) (number : Option ℕ) (count : k ≡
   digits_are = front ∙ ap (λ n. take n word) (count ∙ length-prefix_len is_ascii_digit word)
 
   number_is : number ≡ cond (is_number (take_while is_ascii_digit word)) (Some (decimal_value (take_while is_ascii_digit word))) None
-  number_is = rw (read, digits_are, front_all is_ascii_digit word) refl
+  number_is = rw (read, digits_are) refl
 
   pub no_moment : number ≡ None → moment_of word ≡ None
   unfolding moment_of

@@ -1,7 +1,7 @@
 //! Words that are numbers and times: the times behind `--from` and `--to`, and those between the commas of `--at`.
-ghost use Rattle.std.specs.Prelude.{◌≡◌, ◌&&◌, ℕ, List, None, OnOk, true, Some, IfErr, IfOk, cond, filter_map, length, map, option_map};
+ghost use Rattle.std.specs.Prelude.{◌≡◌, ℕ, List, None, OnOk, true, Some, IfErr, IfOk, cond, filter_map, length, map, option_map};
 ghost use Rattle.std.specs.Char.{is_ascii_digit};
-ghost use Rattle.std.specs.List.{list_all, take_while};
+ghost use Rattle.std.specs.List.{take_while};
 ghost use Rattle.vcd_model.specs.Bytes.{decimal_value};
 ghost use Rattle.vcd_model.specs.Job as model_job;
 ghost use Rattle.vcd_model.specs.Ticks as model_ticks;
@@ -22,7 +22,7 @@ const MOST_DIGITS: usize = 20;
 
 /// The number that 1 to 20 digits are, if it is below 2^64.
 pub(crate) fn number_of(digits: &[u8]) -> Option<u64>
-    ensures { result ≡ cond (list_all is_ascii_digit digits.now && model_job.is_number digits.now)
+    ensures { result ≡ cond (model_job.is_number digits.now)
         (Some (decimal_value digits.now)) None }
 {
     if digits.len() > MOST_DIGITS {
