@@ -1,10 +1,10 @@
 -- The counts after one item more.
 use Rattle.std.proofs.Common.{◌≡◌, ℕ, ◌+◌, ◌<◌, ◌≤◌, Bool, true, false, cond, List, [], ◌∷◌, ◌++◌, count_by, refl, ◌∙◌, arith}
 use Rattle.std.proofs.lemmas.List.Sums.{sum_by-append}
-use Rattle.vcd_model.specs.Declarations.{IdCode}
-use Rattle.vcd_model.specs.Input.{Input}
-use Rattle.vcd_model.specs.Items.{BodyItem}
-use Rattle.vcd_model.specs.Tokens.{Token}
+use Rattle.vcd_head.specs.Model.Declarations.{IdCode}
+use Rattle.vcd_head.specs.Model.Input.{Input}
+use Rattle.vcd_head.specs.Model.Items.{BodyItem}
+use Rattle.vcd_head.specs.Model.Tokens.{Token}
 use Rattle.vcd_text.specs.declared.device.Source.{Ghosts}
 use Rattle.vcd_text.specs.declared.feed.Feed.{Feed}
 use Rattle.vcd_body.specs.Given.{GivesItem}
@@ -15,11 +15,11 @@ use Rattle.vcd_body.specs.declared.item.Item.TheVariants.{Time, Begin, End, Chan
 use Rattle.vcd_body.specs.declared.item.Regs.{Regs}
 use Rattle.std.specs.Prelude.{Result, IfOk}
 use Rattle.std.proofs.lemmas.Result.{IfOk-weaker}
-use Rattle.vcd_model.specs.Header.{header_of}
-use Rattle.vcd_model.specs.HeaderPhrases.{HeaderPhrase}
-use Rattle.vcd_model.specs.HeaderReading.{header_grammar}
-use Rattle.vcd_model.specs.Reading.{Placed, phrases_of}
-use Rattle.vcd_model.specs.SoFar.{IsWhole}
+use Rattle.vcd_head.specs.Model.Header.{header_of}
+use Rattle.vcd_head.specs.Model.HeaderPhrases.{HeaderPhrase}
+use Rattle.vcd_head.specs.Model.HeaderReading.{header_grammar}
+use Rattle.vcd_head.specs.Model.Reading.{Placed, phrases_of}
+use Rattle.vcd_head.specs.Model.SoFar.{IsWhole}
 use Rattle.vcd_text.specs.Answer.{whole}
 use Rattle.example_body.specs.Counts.{AreForms, BodyCounts, DumpCounts, counted, is_change, is_real, is_scalar, is_vector}
 use Rattle.example_body.specs.declared.Forms.{Forms}

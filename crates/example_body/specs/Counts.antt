@@ -1,14 +1,14 @@
 -- How many changes of each kind a dump has.
 use Rattle.std.specs.Prelude.{◌≡◌, ℕ, ◌+◌, Bool, true, false, List, None, count_by}
-use Rattle.vcd_model.specs.Declarations.{IdCode}
-use Rattle.vcd_model.specs.Header.{header_of}
-use Rattle.vcd_model.specs.HeaderPhrases.{HeaderPhrase}
-use Rattle.vcd_model.specs.HeaderReading.{header_grammar}
-use Rattle.vcd_model.specs.Input.{Input}
-use Rattle.vcd_model.specs.Items.{BodyItem, ChangeForm}
-use Rattle.vcd_model.specs.Reading.{Placed, phrases_of}
-use Rattle.vcd_model.specs.SoFar.{IsWhole}
-use Rattle.vcd_model.specs.Tokens.{Token}
+use Rattle.vcd_head.specs.Model.Declarations.{IdCode}
+use Rattle.vcd_head.specs.Model.Header.{header_of}
+use Rattle.vcd_head.specs.Model.HeaderPhrases.{HeaderPhrase}
+use Rattle.vcd_head.specs.Model.HeaderReading.{header_grammar}
+use Rattle.vcd_head.specs.Model.Input.{Input}
+use Rattle.vcd_head.specs.Model.Items.{BodyItem, ChangeForm}
+use Rattle.vcd_head.specs.Model.Reading.{Placed, phrases_of}
+use Rattle.vcd_head.specs.Model.SoFar.{IsWhole}
+use Rattle.vcd_head.specs.Model.Tokens.{Token}
 use Rattle.vcd_text.specs.Answer.{whole}
 use Rattle.vcd_body.specs.Reads.{BodyHas}
 use Rattle.vcd_body.specs.declared.item.Form.TheVariants.{Scalar, Vector, RealText}

@@ -7,18 +7,17 @@
 
 ghost use Rattle.std.specs.Prelude.{◌≡◌, ◌+◌, ◌-◌, ◌^◌, ◌<◌, ℕ, List, IfOk, Some};
 ghost use Rattle.example_body.specs.Counts.{BodyCounts, DumpCounts, counted};
-ghost use Rattle.vcd_view.specs.Views.{IsViewOf};
-ghost use Rattle.vcd_model.specs.Header.{Header};
-ghost use Rattle.vcd_model.specs.Input.{Input};
-ghost use Rattle.vcd_model.specs.Tokens.{Token};
+ghost use Rattle.vcd_head.specs.Views.{IsViewOf};
+ghost use Rattle.vcd_head.specs.Model.Header.{Header};
+ghost use Rattle.vcd_head.specs.Model.Input.{Input};
+ghost use Rattle.vcd_head.specs.Model.Tokens.{Token};
 ghost use Rattle.vcd_text.specs.Feed.{HasGiven, limit_of, source_of};
 
 use std::alloc::Global;
 use std::process::ExitCode;
 use vcd_body::{BodyFault, Form, Item, Regs, next_item};
-use vcd_head::{HeadFault, read_head};
+use vcd_head::{HeadFault, HeadView, read_head};
 use vcd_text::{Feed, Source, Watch, text_of};
-use vcd_view::HeadView;
 
 /// The most bytes that a token may have.
 const LIMIT: usize = 65_536;

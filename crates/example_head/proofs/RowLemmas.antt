@@ -1,9 +1,9 @@
 -- The rows of a view that declare variables are as many as the header's variables.
 use Rattle.std.proofs.Common.{◌≡◌, ℕ, suc, ◌+◌, true, false, cond, List, [], ◌∷◌, ◌++◌, length, count_by, refl, ap, ◌∙◌, arith}
 use Rattle.std.proofs.lemmas.List.Sums.{sum_by-append}
-use Rattle.vcd_model.specs.Declarations.{Declaration, IdCode, variables_of}
-use Rattle.vcd_view.specs.Views.{AreRows}
-use Rattle.vcd_view.specs.declared.view.Row.{Row}
+use Rattle.vcd_head.specs.Model.Declarations.{Declaration, IdCode, variables_of}
+use Rattle.vcd_head.specs.Views.{AreRows}
+use Rattle.vcd_head.specs.Row.{Row}
 use Rattle.example_head.specs.Variables.{is_variable}
 
 counted : (r : Row) (rs : List Row) → count_by (λ r. is_variable r.kind) (r ∷ rs) ≡ cond (is_variable r.kind) 1 0 + count_by (λ r. is_variable r.kind) rs

@@ -1,16 +1,16 @@
 -- How many variables the header of a text has.
 use Rattle.std.specs.Prelude.{◌≡◌, ℕ, Bool, true, false, List, length}
-use Rattle.vcd_model.specs.Declarations.{variables_of}
-use Rattle.vcd_model.specs.Header.{header_of}
-use Rattle.vcd_model.specs.HeaderPhrases.{HeaderPhrase}
-use Rattle.vcd_model.specs.HeaderReading.{header_grammar}
-use Rattle.vcd_model.specs.Laws.{IsPrefixOf}
-use Rattle.vcd_model.specs.Reading.{Placed, phrases_of}
-use Rattle.vcd_model.specs.SoFar.{IsWhole}
-use Rattle.vcd_model.specs.Tokens.{Token, stream_of}
+use Rattle.vcd_head.specs.Model.Declarations.{variables_of}
+use Rattle.vcd_head.specs.Model.Header.{header_of}
+use Rattle.vcd_head.specs.Model.HeaderPhrases.{HeaderPhrase}
+use Rattle.vcd_head.specs.Model.HeaderReading.{header_grammar}
+use Rattle.vcd_head.specs.Model.Laws.{IsPrefixOf}
+use Rattle.vcd_head.specs.Model.Reading.{Placed, phrases_of}
+use Rattle.vcd_head.specs.Model.SoFar.{IsWhole}
+use Rattle.vcd_head.specs.Model.Tokens.{Token, stream_of}
 use Rattle.vcd_text.specs.Answer.{whole}
-use Rattle.vcd_view.specs.declared.view.Kind.{Kind}
-use Rattle.vcd_view.specs.declared.view.Kind.TheVariants.{Scope, Up, Var}
+use Rattle.vcd_head.specs.Kind.{Kind}
+use Rattle.vcd_head.specs.Kind.TheVariants.{Scope, Up, Var}
 
 -- a variable is declared
 abbrev pub is_variable : Kind → Bool

@@ -5,16 +5,15 @@
 #![tactic(auto)]
 
 ghost use Rattle.std.specs.Prelude.{◌≡◌, ◌-◌, ◌^◌, ◌<◌, List, ℕ, IfOk, Some, length, count_by};
-ghost use Rattle.vcd_view.specs.Views.{IsViewOf};
-ghost use Rattle.vcd_model.specs.Declarations.{variables_of};
-ghost use Rattle.vcd_model.specs.Header.{Header};
+ghost use Rattle.vcd_head.specs.Views.{IsViewOf};
+ghost use Rattle.vcd_head.specs.Model.Declarations.{variables_of};
+ghost use Rattle.vcd_head.specs.Model.Header.{Header};
 ghost use Rattle.example_head.specs.Variables.{HasVariables, is_variable};
 
 use std::alloc::Global;
 use std::process::ExitCode;
-use vcd_head::{HeadFault, read_head};
+use vcd_head::{HeadFault, HeadView, Kind, Row, read_head};
 use vcd_text::{Feed, Source, Watch, text_of};
-use vcd_view::{HeadView, Kind, Row};
 
 /// The most bytes that a token may have.
 const LIMIT: usize = 65_536;

@@ -20,3 +20,19 @@ pub mod Inside
 pub mod Matched
 pub mod Merged
 pub mod Rows
+-- the view: what its functions promise, and its types
+pub use Rattle.vcd_view.specs.Finds
+pub use Rattle.vcd_view.specs.NewCode
+pub use Rattle.vcd_view.specs.Needs
+pub use Rattle.vcd_view.specs.Views
+pub use Rattle.vcd_view.specs.Entries as ViewEntries
+pub use Rattle.vcd_view.specs.Shown as ViewShown
+pub use Rattle.vcd_view.specs.declared.probes.Probes
+pub use Rattle.vcd_view.specs.declared.view.Code
+pub use Rattle.vcd_view.specs.declared.view.HeadView
+pub use Rattle.vcd_view.specs.declared.view.Kind
+pub use Rattle.vcd_view.specs.declared.view.Need
+pub use Rattle.vcd_view.specs.declared.view.Row
+pub use Rattle.vcd_view.specs.declared.view.Scale
+-- the definitions that the clauses cite
+pub use Rattle.vcd_model.specs as Model

@@ -1,9 +1,10 @@
 //! Reading the header of a dump, and all that is made of it: what names select, paths, headers as they are written.
 //!
 //! `read_head` reads a header from a feed, up to the `$end` of `$enddefinitions`, into a `Head`, which owns its memory. All
-//! else works on its `HeadView` (of `vcd_view`, which has the look-up of codes too): the path of a variable (`put_path`), the
-//! variables that names select (`select`, as marks), the header of marked declarations (`put_head`), and, over the
-//! heads themselves, the header of a merged dump (`put_merged_head`).
+//! else works on its `HeadView`: the path of a variable (`put_path`), the variables that names select (`select`, as marks), the
+//! header of marked declarations (`put_head`), and, over the heads themselves, the header of a merged dump
+//! (`put_merged_head`). The view and its rows, the look-up of codes (`find`), the room that an engine needs (`need`) and the codes
+//! of a merge (`put_code`) stand in `vcd_view`, so that who reads a body needs no more; a caller finds them here.
 //!
 //! # The relations
 //!
@@ -30,8 +31,10 @@
 //! - `write`: headers as they are written
 //! - `moment`: `ticks`, a time with a unit in ticks of the header's scale
 //! - `merged`: the header of a merged dump
+//! - `laws`: each function has a law over headers and codes as its contract
 //!
-//! In `specs/` callers read `Shown`, `Reads`, `Fault`, `Marks`, `Merged` and `Moments`, and `Views` of `vcd_view`.
+//! In `specs/` callers read `Shown`, `Reads`, `Fault`, `Marks`, `Merged` and `Moments`; of the view `Views`, `ViewShown`, `Finds`,
+//! `Needs` and `NewCode`; and the definitions that these cite, as `Model`.
 //!
 //! # Limits
 //!
@@ -54,6 +57,7 @@ mod finish;
 mod head;
 mod index;
 mod inside;
+pub mod laws;
 mod merged;
 mod moment;
 mod path;
@@ -79,4 +83,7 @@ pub use moment::{Moment, TickFault, ticks};
 pub use path::put_path;
 pub use read::read_head;
 pub use selection::{select, selects};
+pub use vcd_view::{
+    Code, HeadView, Kind, Need, Probes, Row, Scale, find, find_counted, need, put_code,
+};
 pub use write::put_head;

@@ -1,11 +1,14 @@
 // Headers that are read, and headers that are refused.
 ghost use Rattle.std.specs.Prelude.{◌≤◌};
+ghost use Rattle.vcd_head.specs.Model.Laws.{CodesDiffer};
 
 use std::alloc::{AllocError, Global};
 use std::test::Fail;
-use vcd_head::{Head, HeadFault, put_head, put_path, read_head, select, selects};
+use vcd_head::{
+    Code, Head, HeadFault, HeadView, Kind, Need, Probes, Row, Scale, find, find_counted, laws,
+    need, put_head, put_path, read_head, select, selects,
+};
 use vcd_text::{Feed, Watch};
-use vcd_view::{Code, HeadView, Kind, Need, Probes, Row, Scale, find, find_counted, need};
 
 mod merged;
 mod moments;
@@ -470,4 +473,16 @@ fn selected_variables_are_marked(rt: HostRuntime) -> Result<(), Fail> {
         assert_eq!(rt; marked(rt.alloc(), &head, texts)?, marks, "by {texts:?}");
     }
     Ok(())
+}
+
+// The law over codes, as a caller has it.
+fn codes_differ()
+    ensures { CodesDiffer }
+{
+    laws::codes_differ();
+}
+
+#[test]
+fn callers_have_the_law_over_codes() {
+    codes_differ();
 }

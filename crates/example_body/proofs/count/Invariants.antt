@@ -1,11 +1,11 @@
 use Rattle.std.proofs.Common.{◌+◌, ◌-◌, ◌^◌, ◌≤◌, List}
-use Rattle.vcd_model.specs.Header.{Header}
-use Rattle.vcd_model.specs.Input.{Input}
-use Rattle.vcd_model.specs.Items.{BodyItem}
-use Rattle.vcd_model.specs.Tokens.{Token}
+use Rattle.vcd_head.specs.Model.Header.{Header}
+use Rattle.vcd_head.specs.Model.Input.{Input}
+use Rattle.vcd_head.specs.Model.Items.{BodyItem}
+use Rattle.vcd_head.specs.Model.Tokens.{Token}
 use Rattle.vcd_text.specs.Advances.{Advances, CallEnd}
 use Rattle.vcd_text.specs.Feed.{HasGiven, seen}
-use Rattle.vcd_view.specs.Views.{IsViewOf}
+use Rattle.vcd_head.specs.Views.{IsViewOf}
 use Rattle.vcd_body.specs.Reads.{GaveItems}
 use Rattle.example_body.specs.Counts.{AreForms}
 use Rattle.example_body.proofs.count.Given as goal

@@ -1,11 +1,11 @@
 use Rattle.std.proofs.Common.{◌≡◌, ℕ, List, [], Option, sym, subst, ◌∙◌, arith}
 use Rattle.std.specs.Prelude.{IfOk, IfSome}
-use Rattle.vcd_model.specs.Header.{header_of}
-use Rattle.vcd_model.specs.Reading.{phrases_of}
+use Rattle.vcd_head.specs.Model.Header.{header_of}
+use Rattle.vcd_head.specs.Model.Reading.{phrases_of}
 use Rattle.vcd_text.specs.Answer.{whole}
 use Rattle.vcd_text.specs.Feed.{HasGiven, limit_of}
-use Rattle.vcd_view.specs.Shown.{HeadShown}
-use Rattle.vcd_view.specs.Views.{Views}
+use Rattle.vcd_head.specs.ViewShown.{HeadShown}
+use Rattle.vcd_head.specs.Views.{Views}
 use Rattle.example_body.specs.Counts.{BodyCounts}
 use Rattle.example_body.proofs.CountLemmas.{dump_counts}
 use Rattle.example_body.proofs.forms_in.Goals as goal

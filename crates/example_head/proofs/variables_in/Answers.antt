@@ -1,5 +1,5 @@
 use Rattle.std.proofs.Common.{[], ◌∙◌}
-use Rattle.vcd_view.specs.Shown.{parts}
+use Rattle.vcd_head.specs.ViewShown.{parts}
 use Rattle.example_head.proofs.RowLemmas.{variables_are}
 use Rattle.example_head.proofs.variables_in.Goals as goal
 

@@ -2,9 +2,8 @@
 use super::{SMALL, read_good};
 use std::alloc::Global;
 use std::test::Fail;
-use vcd_head::{least_exponent, put_merged_head};
+use vcd_head::{least_exponent, put_code, put_merged_head};
 use vcd_text::{Watch, WriteFailed};
-use vcd_view::put_code;
 
 // Whether this is the code of a number.
 fn is_code(alloc: Global, number: u64, code: &[u8]) -> Result<bool, WriteFailed> {

@@ -1,6 +1,5 @@
 // Times with a unit, in ticks.
-use vcd_head::{Moment, TickFault, ticks};
-use vcd_view::{HeadView, Scale};
+use vcd_head::{HeadView, Moment, Scale, TickFault, ticks};
 
 const TEN_NANOSECONDS: Option<i8> = Some(-8);
 
