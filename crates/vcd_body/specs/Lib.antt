@@ -4,6 +4,7 @@ pub mod Words
 pub mod Reads
 pub mod Given
 pub mod Changes
+pub mod Id
 pub mod Contents
 pub mod Packed
 pub mod Binary

@@ -296,9 +296,8 @@ pub(crate) fn is_bit(size: usize, event: bool, form: Form) -> bool
     (size == 1) & !event & (form == Form::Scalar)
 }
 
-/// Writes a change of a code of this size, or of an event, as its line. A bad text of an event is not looked at. Where a write
-/// fails, a prefix was written.
-pub fn put_change<W: Sink>(
+// Writes a change as `put_change` does, under the code with these bytes.
+pub(crate) fn put_own_change<W: Sink>(
     size: usize,
     event: bool,
     form: Form,

@@ -35,15 +35,18 @@
 //! - `phrases`, `tokens`, `words`: phrases by what they begin with; the next token; what a token is, by its first byte
 //! - `item`, `fault`: `Item`, `Form`, `Section`, `Regs`; `BodyFault`
 //! - `answer`: `Done`, `More`, `Stop`: how a run over a body or several ends, and whether it goes on
-//! - `change`: `put_change`; `renamed`: `put_renamed_change`, `put_renamed_bits`; `lines`: `left_out`; `time_line`: `put_time`
-//! - `table`, `slot`: `Table`, `Shown`; `Slot`, `Share`; `step`: `Step`, what became of a value that was set
+//! - `id`: `put_change`, under an `Id`; `change`: under a code's own bytes; `renamed`: `put_renamed_bits`, under a new code
+//! - `lines`: `left_out`; `time_line`: `put_time`
+//! - `table`, `slot`: `Table`, `Shown`; `Slot`, `Share`; `table_text`: `put_short`, `put_full`; `step`: `Step`, what became of a
+//!   value that was set
 //! - `store`: slots and shares of the values, and how they are set; `packed`: digits in a share, a byte each or four to a byte
 //! - `counters`: the counters of a code, which lie in parts in its slot and its share
 //! - `bits`: `Bits`, up to 32 binary digits as a number, and how a slot holds them
 //! - `held`, `held_text`: the digits of a held value, and how it is written; `compare`: whether a change gives another one
+//! - `laws`: each function has a law over bodies and values as its contract
 //!
 //! In `specs/` callers read `Items`, `Reads`, `Given`, `Ahead`, `Taken`, `Spelled` and `Fault`; of a run's
-//! end `Answer`, and of what was written `Device`; for the table `Contents` and `Kept`.
+//! end `Answer`, and of what was written `Device` and `Id`; for the table `Contents` and `Kept`.
 //!
 //! # Limits
 //!
@@ -62,7 +65,9 @@ mod counters;
 mod fault;
 mod held;
 mod held_text;
+mod id;
 mod item;
+pub mod laws;
 mod lines;
 mod packed;
 mod phrases;
@@ -73,6 +78,7 @@ mod slot;
 mod step;
 mod store;
 mod table;
+mod table_text;
 mod time_line;
 mod tokens;
 mod words;
@@ -83,14 +89,15 @@ pub use ahead::{
 };
 pub use answer::{Done, More, Stop};
 pub use bits::Bits;
-pub use change::put_change;
 pub use fault::BodyFault;
+pub use id::{Id, put_change};
 pub use item::{Form, Item, Regs, Section};
 pub use lines::{is_mark_line, left_out};
 pub use read::{change_text, next_item};
-pub use renamed::{put_renamed_bits, put_renamed_change};
+pub use renamed::put_renamed_bits;
 pub use slot::{Share, Shown, Slot};
 pub use step::Step;
 pub use table::Table;
+pub use table_text::{put_full, put_short};
 pub use time_line::{put_time, put_time_unless};
 pub use words::First;

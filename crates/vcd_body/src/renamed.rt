@@ -8,7 +8,7 @@ ghost use Rattle.vcd_body.specs.Binary.{binary_digits};
 ghost use Rattle.vcd_body.specs.Items.{model_form};
 
 use crate::bits::Bits;
-use crate::change::{is_bit, put_change, put_shortest, shortest_known};
+use crate::change::{is_bit, put_own_change, put_shortest, shortest_known};
 use crate::item::Form;
 use vcd_text::{Sink, WriteFailed, put};
 use vcd_view::{NewCode, put_code};
@@ -167,32 +167,11 @@ fn put_any<W: Sink>(
           text = text.now;
         })) result }
 {
-    put_change(size, event, form, text, NewCode::of(number).text(), w)
+    put_own_change(size, event, form, text, NewCode::of(number).text(), w)
 }
 
-/// Writes a change as `put_change` does, under the new code of this number.
-#[inline(always)]
-pub fn put_renamed_change<W: Sink>(
-    size: usize,
-    event: bool,
-    form: Form,
-    text: &[u8],
-    number: u64,
-    w: &mut W,
-) -> Result<(), WriteFailed>
-    requires failures { (W.device w.old).failures < 2 ^ 64 - 1 }
-    requires digits { event ≡ false → form ≢ Form.RealText → 0 < length text.now }
-    ensures { Puts (W.device w.old) (W.device w.new)
-        (change_line (record {
-          code = record { text = new_code number; size = size; event = event };
-          form = model_form form;
-          text = text.now;
-        })) result }
-{
-    put_renamed_bits(size, event, form, text, None, number, w)
-}
-
-/// The same, where the number of the text's digits may be known: then none of them is looked at.
+/// Writes a change as `put_change` does, under the new code of this number. The number of the text's digits may be known: then
+/// none of them is looked at.
 #[inline(always)]
 pub fn put_renamed_bits<W: Sink>(
     size: usize,

@@ -1,7 +1,5 @@
 //! The current values of the codes of a header, in lent slices.
-ghost use Rattle.std.specs.Prelude.{◌≡◌, ℕ, ◌+◌, ◌-◌, ◌^◌, ◌<◌, ◌≤◌, length};
-ghost use Rattle.vcd_model.specs.Sample.{shown};
-ghost use Rattle.vcd_text.specs.Device.{Counts, Takes, failures_after};
+ghost use Rattle.std.specs.Prelude.{◌≡◌, ℕ, ◌<◌, ◌≤◌, length};
 ghost use Rattle.vcd_body.specs.Binary.{binary_digits};
 ghost use Rattle.vcd_body.specs.Kept.{Held, as_chosen, differs, digit_in, IsStep, one_more, real_text, with_change, with_number, with_number_change, with_step, with_text};
 ghost use Rattle.vcd_body.specs.Stored.{room_of};
@@ -10,7 +8,6 @@ use crate::bits::{Bits, put_digits};
 use crate::compare::value_differs;
 use crate::counters::counts_of;
 use crate::held::{digit_shown, last_held};
-use crate::held_text::{put_value, put_value_line};
 use crate::item::Form;
 use crate::several::change_at;
 use crate::slot::{Holding, Share, Shown, Slot, State, state_in};
@@ -19,7 +16,6 @@ use crate::store::{
     Stepped, bump_at, carry_at, choose_at, count_at, holding_at, lay_out, set_at, set_bits,
     share_in, step_at, turn_at,
 };
-use vcd_text::{Sink, WriteFailed, put};
 use vcd_view::HeadView;
 
 /// What is kept of the codes of a header, by their places: the value of each, as it was last written, three counters, and
@@ -27,9 +23,9 @@ use vcd_view::HeadView;
 /// kept, and nothing changes.
 #[derive(Drop)]
 pub struct Table<'a> {
-    values: &'a mut [u8],
-    slots: &'a mut [Slot],
-    shares: &'a mut [Share],
+    pub(crate) values: &'a mut [u8],
+    pub(crate) slots: &'a mut [Slot],
+    pub(crate) shares: &'a mut [Share],
 }
 
 impl<'a> Table<'a> {
@@ -40,7 +36,7 @@ impl<'a> Table<'a> {
     ghost use Rattle.vcd_body.specs.Items.{model_form};
     ghost use Rattle.vcd_body.specs.Kept.{Kept, unset, value_at_size};
     ghost use Rattle.vcd_body.specs.Stored.{holding_at, share_of};
-    ghost use Rattle.vcd_body.specs.Contents.{ChangesCode, IsLaidOut, bytes_in, codes_in, codes_shown, counts_at, held_at, is_chosen, kept_at, line_of, new_at, shown_as, value_in};
+    ghost use Rattle.vcd_body.specs.Contents.{ChangesCode, IsLaidOut, bytes_in, codes_in, codes_shown, counts_at, held_at, is_chosen, kept_at, new_at, shown_as, value_in};
 
     /// A table of the codes of the header that is shown: each is unset, its counters are 0, and it is not chosen. A code's value
     /// has a quarter of its size of the bytes of `values`, rounded up, and at least 64; where there are fewer, the last codes go
@@ -353,57 +349,6 @@ impl<'a> Table<'a> {
             }
             _ => &[],
         }
-    }
-
-    /// Writes the line of a change that gives the code at a place its value, with the shortest digits; nothing where it has no
-    /// value. Where a write fails, a prefix was written.
-    pub fn put_short<W: Sink>(
-        &self,
-        view: HeadView<'_>,
-        code: usize,
-        w: &mut W,
-    ) -> Result<(), WriteFailed>
-        requires { (W.device w.old).failures < 2 ^ 64 - 1 }
-        ensures takes { IsLaidOut self.now → Takes (W.device w.old) (W.device w.new)
-            (line_of (codes_shown view.entry) self.now code) result }
-        ensures counts { Counts (W.device w.old) (W.device w.new) result }
-    {
-        let Some(declared) = view.code_at(code) else {
-            return Ok(());
-        };
-        let Some(holding) = holding_at(self.slots, self.shares, code) else {
-            return Ok(());
-        };
-        let Some(share) = share_in(self.values, self.shares, code, holding) else {
-            return Ok(());
-        };
-        let id = view.text_at(declared.start, declared.len as usize);
-        put_value_line(holding, share, declared.size, id, w)
-    }
-
-    /// Writes the value of the code at a place in full: all its digits, or `r` and the text of a real number; `-` where it has no
-    /// value. Where a write fails, a prefix was written.
-    pub fn put_full<W: Sink>(
-        &self,
-        view: HeadView<'_>,
-        code: usize,
-        w: &mut W,
-    ) -> Result<(), WriteFailed>
-        requires { (W.device w.old).failures < 2 ^ 64 - 1 }
-        ensures takes { IsLaidOut self.now → Takes (W.device w.old) (W.device w.new)
-            (shown (value_in (codes_shown view.entry) self.now code)) result }
-        ensures counts { Counts (W.device w.old) (W.device w.new) result }
-    {
-        let Some(declared) = view.code_at(code) else {
-            return put(w, b"-");
-        };
-        let Some(holding) = holding_at(self.slots, self.shares, code) else {
-            return put(w, b"-");
-        };
-        let Some(share) = share_in(self.values, self.shares, code, holding) else {
-            return put(w, b"-");
-        };
-        put_value(holding, share, declared.size, w)
     }
 
     /// The three counters of the code at a place.

@@ -5,12 +5,12 @@ ghost use Rattle.vcd_text.specs.Feed.{source_of};
 use std::alloc::{AllocError, Global};
 use std::test::Fail;
 use vcd_body::{
-    Bits, Form, Item, Regs, change_text, item_ahead, left_out, next_item, pass_items, put_change,
+    Bits, Form, Id, Item, Regs, change_text, item_ahead, left_out, next_item, pass_items,
+    put_change,
 };
-use vcd_head::{Head, HeadFault, read_head};
+use vcd_head::{Head, HeadFault, HeadView, read_head};
 use vcd_text::doubles::{Narrow, Pieces};
 use vcd_text::{Feed, Sink, Source, Watch, WriteFailed};
-use vcd_view::HeadView;
 
 // Variables of 1 and of 4 bits, in six lines.
 const HEAD: &[u8] =
@@ -337,7 +337,7 @@ fn real_numbers_taken_ahead(rt: HostRuntime) -> Result<(), Fail> {
 fn writes(size: usize, form: Form, text: &[u8], line: &[u8]) -> bool {
     let mut page = Watch::new(Narrow::new(80));
     !text.is_empty()
-        && put_change(size, false, form, text, b"!", &mut page).is_ok()
+        && put_change(size, false, form, text, Id::Own(b"!"), &mut page).is_ok()
         && page.device.held() == line
 }
 
@@ -377,9 +377,19 @@ fn shortest_digits_are_written(rt: HostRuntime) {
 #[test]
 fn numbers_and_events_are_written(rt: HostRuntime) {
     let mut page = Watch::new(Narrow::new(80));
-    assert!(rt; put_change(1, false, Form::RealText, b"-1.5E3", b"\"", &mut page).is_ok());
-    assert!(rt; put_change(2, true, Form::Vector, b"b101", b"#", &mut page).is_ok());
-    assert!(rt; put_change(1, true, Form::Scalar, b"x", b"#", &mut page).is_ok());
+    assert!(rt;
+        put_change(
+            1,
+            false,
+            Form::RealText,
+            b"-1.5E3",
+            Id::Own(b"\""),
+            &mut page
+        )
+        .is_ok()
+    );
+    assert!(rt; put_change(2, true, Form::Vector, b"b101", Id::Own(b"#"), &mut page).is_ok());
+    assert!(rt; put_change(1, true, Form::Scalar, b"x", Id::Number(2), &mut page).is_ok());
     assert_eq!(rt; page.device.held(), b"r-1.5E3 \"\n1#\n1#\n".as_slice());
 }
 
@@ -387,7 +397,7 @@ fn numbers_and_events_are_written(rt: HostRuntime) {
 fn sink_that_fails(rt: HostRuntime) {
     let mut page = Watch::new(Narrow::new(5));
     assert_eq!(rt;
-        put_change(1, false, Form::RealText, b"1.5", b"!!", &mut page),
+        put_change(1, false, Form::RealText, b"1.5", Id::Own(b"!!"), &mut page),
         Err(WriteFailed)
     );
     assert_eq!(rt; page.device.held(), b"r1.5 ".as_slice());

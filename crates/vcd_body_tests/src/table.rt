@@ -1,12 +1,13 @@
 // Tables with room of exactly `need`: what is held, how it is written, counters, and codes that are chosen.
 ghost use Rattle.std.specs.Prelude.{◌≡◌, ◌<◌, ◌≤◌, length};
+ghost use Rattle.vcd_head.specs.Model.Laws.{ShortIsShortest};
 
 use std::alloc::{AllocError, Global};
 use std::test::Fail;
-use vcd_body::{Bits, Form, Share, Shown, Slot, Step, Table};
+use vcd_body::{Bits, Form, Share, Shown, Slot, Step, Table, laws, put_full, put_short};
+use vcd_head::{Code, HeadView, need};
 use vcd_text::doubles::Narrow;
 use vcd_text::{Sink, Watch, WriteFailed};
-use vcd_view::{Code, HeadView, need};
 
 // The code `!` of this size.
 fn code_of(size: usize) -> Code {
@@ -602,13 +603,13 @@ fn steps_of_numbers_that_are_counted(rt: HostRuntime) -> Result<(), Fail> {
 // The line of a code's value is this.
 fn is_short(table: &Table<'_>, view: HeadView<'_>, code: usize, line: &[u8]) -> bool {
     let mut page = Watch::new(Narrow::new(1024));
-    table.put_short(view, code, &mut page).is_ok() && page.device.held() == line
+    put_short(view, table, code, &mut page).is_ok() && page.device.held() == line
 }
 
 // The value of a code in full is this.
 fn is_full(table: &Table<'_>, view: HeadView<'_>, code: usize, full: &[u8]) -> bool {
     let mut page = Watch::new(Narrow::new(1024));
-    table.put_full(view, code, &mut page).is_ok() && page.device.held() == full
+    put_full(view, table, code, &mut page).is_ok() && page.device.held() == full
 }
 
 // The values of three codes in full are these.
@@ -704,7 +705,19 @@ fn sink_that_fails_at_a_value(rt: HostRuntime) {
     let mut table = table_in(view, &mut [], &mut slots, &mut shares);
     set(&mut table, 0, Form::Vector, b"1");
     let mut page = Watch::new(Narrow::new(3));
-    assert_eq!(rt; table.put_full(view, 0, &mut page), Err(WriteFailed));
+    assert_eq!(rt; put_full(view, &table, 0, &mut page), Err(WriteFailed));
     assert_eq!(rt; page.device.held(), b"000".as_slice());
     assert_eq!(rt; Sink::failures(&page), 1);
+}
+
+// The law over the shortest digits, as a caller has it.
+fn short_is_shortest()
+    ensures { ShortIsShortest }
+{
+    laws::short_is_shortest();
+}
+
+#[test]
+fn callers_have_the_law_over_digits() {
+    short_is_shortest();
 }

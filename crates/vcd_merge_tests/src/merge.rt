@@ -5,12 +5,13 @@ ghost use Rattle.vcd_merge.specs.MergeParts.{AreParts, SameLengths, part_len};
 ghost use Rattle.vcd_merge.specs.MergeRoom.{kept_in};
 ghost use Rattle.vcd_merge.specs.Seat.{IsSeated};
 
+use super::steps::merge_as;
 use std::alloc::{AllocError, Global};
 use std::process::Abort;
 use std::test::Fail;
 use vcd_body::{Done, Stop};
 use vcd_head::{Head, HeadFault, read_head};
-use vcd_merge::{Seat, Windows, merge};
+use vcd_merge::{Seat, Windows};
 use vcd_text::{Feed, Source, Watch};
 
 // An input whose header was read.
@@ -134,11 +135,12 @@ fn begin_all<'t>(
     Ok(inputs)
 }
 
-// How a merge of these texts ends, so many bytes of each at a time, and what it writes.
+// How a merge of these texts ends, so many bytes of each at a time, at once or item by item, and what it writes.
 fn merge_of(
     alloc: Global,
     texts: &[&[u8]],
     chunk: usize,
+    by_steps: bool,
 ) -> Result<(Result<Done, Stop>, Vec<u8>), HeadFault>
     requires texts { (0 < length texts.now) × (length texts.now ≤ 64) }
     requires chunk { (0 < chunk) × (chunk ≤ 65536) }
@@ -159,7 +161,8 @@ fn merge_of(
     } = begin_all(alloc, texts, &mut windows)?;
     let mut marks = vec![in alloc; 0u8; marks]?;
     let mut out = Watch::new(Vec::with_capacity(alloc, 8192)?);
-    let answer = merge(
+    let answer = merge_as(
+        by_steps,
         &heads,
         &mut seats,
         &mut marks,
@@ -170,7 +173,7 @@ fn merge_of(
     Ok((answer, out.device))
 }
 
-// A merge of these texts writes this and has this answer, however many bytes are read at a time.
+// A merge of these texts writes this and has this answer, however many bytes are read at a time, at once and item by item.
 fn gives<R: Abort + AllocGlobal>(
     rt: &R,
     texts: &[&[u8]],
@@ -179,10 +182,20 @@ fn gives<R: Abort + AllocGlobal>(
 ) -> Result<(), HeadFault>
     requires texts { (0 < length texts.now) × (length texts.now ≤ 64) }
 {
-    for chunk in [1, 7, 65_536] {
-        let (given, output) = merge_of(rt.alloc(), texts, chunk)?;
-        assert_eq!(rt; output.as_slice(), written, "by {chunk}");
-        assert_eq!(rt; given, answer, "by {chunk}");
+    for (chunk, by_steps) in [
+        (1, false),
+        (7, false),
+        (65_536, false),
+        (1, true),
+        (65_536, true),
+    ] {
+        let (given, output) = merge_of(rt.alloc(), texts, chunk, by_steps)?;
+        assert_eq!(rt;
+            output.as_slice(),
+            written,
+            "by {chunk}, in steps {by_steps}"
+        );
+        assert_eq!(rt; given, answer, "by {chunk}, in steps {by_steps}");
     }
     Ok(())
 }
@@ -337,7 +350,7 @@ const LAST_OF_ALL: &[u8] = b"\n1\\\n1]\n1^\n1_\n1`\n";
 // 42 bytes are of no input, 57 and the digits of its number of each header; each of two times has a line, and 64 changes.
 #[test]
 fn as_many_inputs_as_there_may_be(rt: HostRuntime) -> Result<(), Fail> {
-    let (answer, output) = merge_of(rt.alloc(), &[SMALL; 64], 7)?;
+    let (answer, output) = merge_of(rt.alloc(), &[SMALL; 64], 7, false)?;
     assert_eq!(rt; answer, Ok(Done::Whole));
     assert_eq!(rt; output.len(), 42 + 64 * 57 + 9 + 55 * 2 + 2 * (3 + 64 * 3));
     assert!(rt; output.starts_with(FIRST_OF_ALL));

@@ -38,8 +38,8 @@ use Rattle.vcd_tools.specs.declared.task.Task.TheVariants as task
 abbrev pub request_of : Task → Request
 request_of task.Check = Request.Check
 request_of (task.Pick names) = Request.Pick (map string_bytes names.now)
-request_of (task.Cut s) = Request.Cut s.from s.to
-request_of (task.Sample a) = Request.Sample a.times.now (map string_bytes a.names.now)
+request_of (task.Cut from to) = Request.Cut from to
+request_of (task.Sample times names) = Request.Sample times.now (map string_bytes names.now)
 request_of (task.Edges names) = Request.Edges (map string_bytes names.now)
 
 -- the request that a machine works on

@@ -17,3 +17,10 @@ pub mod Ahead
 pub mod Step
 pub mod Next
 pub mod Quiet
+-- how a run ends
+pub use Rattle.vcd_body.specs.Answer
+pub use Rattle.vcd_body.specs.declared.answer.Done
+pub use Rattle.vcd_body.specs.declared.answer.More
+pub use Rattle.vcd_body.specs.declared.answer.Stop
+-- the definitions that the clauses cite
+pub use Rattle.vcd_model.specs as Model

@@ -23,24 +23,24 @@ use Rattle.vcd_tools.specs.declared.task.Task.TheVariants.{Check, Pick, Cut, Sam
 abbrev pub values_for : Task → HeadView → ℕ
 values_for Check v = 0
 values_for (Pick names) v = length v.codes.now
-values_for (Cut s) v = table_bytes v
-values_for (Sample a) v = table_bytes v
+values_for (Cut from to) v = table_bytes v
+values_for (Sample times names) v = table_bytes v
 values_for (Edges names) v = table_bytes v
 
 -- how many marks
 abbrev pub marks_for : Task → HeadView → ℕ
 marks_for Check v = 0
 marks_for (Pick names) v = length v.rows.now
-marks_for (Cut s) v = length v.rows.now
-marks_for (Sample a) v = length v.rows.now
+marks_for (Cut from to) v = length v.rows.now
+marks_for (Sample times names) v = length v.rows.now
 marks_for (Edges names) v = length v.rows.now
 
 -- how many places for codes, and how many shares
 abbrev pub slots_for : Task → HeadView → ℕ
 slots_for Check v = 0
 slots_for (Pick names) v = 0
-slots_for (Cut s) v = length v.codes.now
-slots_for (Sample a) v = length v.codes.now
+slots_for (Cut from to) v = length v.codes.now
+slots_for (Sample times names) v = length v.codes.now
 slots_for (Edges names) v = length v.codes.now
 
 -- the room is large enough for the task over the header that is shown

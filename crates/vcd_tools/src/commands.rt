@@ -1,5 +1,6 @@
 //! The commands over items: each is its task.
-ghost use Rattle.std.specs.Prelude.{◌≡◌, ℕ, ◌+◌, ◌-◌, ◌^◌, ◌<◌, List, IfOk, map, string_bytes};
+ghost use Rattle.std.specs.Prelude.{◌≡◌, ◌≢◌, ℕ, ◌+◌, ◌-◌, ◌^◌, ◌<◌, ◌≤◌, [], List, IfOk, map, string_bytes};
+ghost use Rattle.std.specs.List.Sorted.{IsStrictlyIncreasing};
 ghost use Rattle.vcd_model.specs.Header.{Header};
 ghost use Rattle.vcd_model.specs.Input.{Input};
 ghost use Rattle.vcd_model.specs.Outcome.{Request};
@@ -14,8 +15,6 @@ ghost use Rattle.vcd_tools.specs.Room.{AreWithinBound, HasRoomFor, room_size};
 ghost use Rattle.vcd_body.specs.declared.answer.Done.TheVariants.{Whole};
 
 use crate::engine::run_task;
-use crate::samples::Samples;
-use crate::span::Span;
 use crate::task::{Room, Task};
 use vcd_body::{Done, Stop};
 use vcd_text::{Feed, Sink, Source};
@@ -114,24 +113,27 @@ pub fn edges<S: Source, W: Sink>(
     run_task(Task::Edges(names), view, feed, room, out)
 }
 
-/// Writes the header of all variables and, from the first time mark of the span on, a section with the values that stood before
-/// it and the items in it, each after the line of its time. A time mark above the span ends the run.
+/// Writes the header of all variables and, from the first time mark of at least `from` on, a section with the values that stood
+/// before `from`, and the items from then up to `to`, each after the line of its time. Times are in ticks. A time mark above `to`
+/// ends the run.
 pub fn cut<S: Source, W: Sink>(
     view: HeadView<'_>,
     feed: &mut Feed<'_, '_, '_, '_, S>,
     room: &mut Room<'_>,
-    span: Span,
+    from: u64,
+    to: u64,
     out: &mut W,
 ) -> Result<Done, Stop>
     requires feed_failures { S.failures (source_of feed.old) < 2 ^ 64 - 1 }
     requires out_failures { (W.device out.old).failures < 2 ^ 64 - 1 }
     requires open { HasNotFailed feed.old }
-    requires room { HasRoomFor (Task.Cut span) view room.old }
+    requires order { from ≤ to }
+    requires room { HasRoomFor (Task.Cut from to) view room.old }
     requires bound { AreWithinBound (limit_of feed.old) (chunk_len_of feed.old) view
         (room_size room.old) }
     ensures gives { (h : Header) (i : Input) (front : List Token) (name : List ℕ)
         → IsViewOf view.entry h → HasGiven i front feed.old
-        → Follows (Request.Cut span.from span.to) (limit_of feed.old)
+        → Follows (Request.Cut from to) (limit_of feed.old)
         (chunk_len_of feed.old) i front h name (supply_of feed.old) (supply_of feed.new)
         (W.device out.old) (W.device out.new) result }
     ensures devices { (S.failures (source_of feed.new)
@@ -140,28 +142,32 @@ pub fn cut<S: Source, W: Sink>(
     ensures windows { (limit_of feed.new ≡ limit_of feed.old)
         × (chunk_len_of feed.new ≡ chunk_len_of feed.old) × SameLoans feed.old feed.new }
 {
-    run_task(Task::Cut(span), view, feed, room, out)
+    run_task(Task::Cut { from, to }, view, feed, room, out)
 }
 
-/// Writes, for each of the times, the lines of the variables that the names select: the time, the path and the value, in full. A
-/// name that selects nothing is refused before anything is read or written. A time mark above the last of the times ends the run.
+/// Writes, for each of the times, the lines of the variables that the names select: the time, the path and the value, in full.
+/// There is a time, in ticks, and each is above the one before it. A name that selects nothing is refused before anything is
+/// read or written. A time mark above the last of the times ends the run.
 pub fn sample<S: Source, W: Sink>(
     view: HeadView<'_>,
     feed: &mut Feed<'_, '_, '_, '_, S>,
     room: &mut Room<'_>,
-    asked: Samples<'_>,
+    times: &[u64],
+    names: &[String],
     out: &mut W,
 ) -> Result<Done, Stop>
     requires feed_failures { S.failures (source_of feed.old) < 2 ^ 64 - 1 }
     requires out_failures { (W.device out.old).failures < 2 ^ 64 - 1 }
     requires open { HasNotFailed feed.old }
-    requires room { HasRoomFor (Task.Sample asked) view room.old }
+    requires some { times.now ≢ [] }
+    requires rising { IsStrictlyIncreasing times.now }
+    requires room { HasRoomFor (Task.Sample times names) view room.old }
     requires bound { AreWithinBound (limit_of feed.old) (chunk_len_of feed.old) view
         (room_size room.old) }
     ensures gives { (h : Header) (i : Input) (front : List Token) (name : List ℕ)
         → IsViewOf view.entry h → HasGiven i front feed.old
-        → Follows (Request.Sample asked.entry.times.now (map string_bytes asked.entry.names.now))
-        (limit_of feed.old) (chunk_len_of feed.old) i front h name
+        → Follows (Request.Sample times.now (map string_bytes names.now)) (limit_of feed.old)
+        (chunk_len_of feed.old) i front h name
         (supply_of feed.old) (supply_of feed.new) (W.device out.old) (W.device out.new) result }
     ensures devices { (S.failures (source_of feed.new)
         ≡ S.failures (source_of feed.old) + reads_failed result)
@@ -169,5 +175,5 @@ pub fn sample<S: Source, W: Sink>(
     ensures windows { (limit_of feed.new ≡ limit_of feed.old)
         × (chunk_len_of feed.new ≡ chunk_len_of feed.old) × SameLoans feed.old feed.new }
 {
-    run_task(Task::Sample(asked), view, feed, room, out)
+    run_task(Task::Sample { times, names }, view, feed, room, out)
 }

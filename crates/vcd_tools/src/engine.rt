@@ -3,6 +3,7 @@ ghost use Rattle.std.specs.Prelude.{◌≡◌, ◌≢◌, ℕ, ◌+◌, ◌-◌,
 ghost use Rattle.vcd_model.specs.Header.{Header};
 ghost use Rattle.vcd_model.specs.Input.{Input};
 ghost use Rattle.vcd_model.specs.Items.{BodyItem};
+ghost use Rattle.vcd_model.specs.Laws.{IsValid};
 ghost use Rattle.vcd_model.specs.Outcome.{close_text, open_text};
 ghost use Rattle.vcd_model.specs.Tokens.{Token};
 ghost use Rattle.vcd_text.specs.Feed.{HasGiven, SameLoans, source_of, supply_of, seen, limit_of, chunk_len_of};
@@ -67,8 +68,8 @@ pub struct Begun<'n, 'r> {
 }
 
 impl<'n, 'r> Begun<'n, 'r> {
-    /// Begins a task over the header that is shown, and writes what stands before all items. A name that selects nothing is
-    /// refused, and then nothing is written.
+    /// Begins a task, whose times are in order, over the header that is shown, and writes what stands before all items. A name
+    /// that selects nothing is refused, and then nothing is written.
     pub fn start<W: Sink>(
         task: Task<'n>,
         view: HeadView<'_>,
@@ -76,6 +77,7 @@ impl<'n, 'r> Begun<'n, 'r> {
         out: &mut W,
     ) -> Result<Begun<'n, 'r>, Stop>
         requires failures { (W.device out.old).failures < 2 ^ 64 - 1 }
+        requires valid { IsValid (request_of task) }
         requires room { HasRoomFor task view room }
         ensures starts { (h : Header) → IsViewOf view.entry h
             → Starts (λ b. HasBegun b h) (request_of task.entry) h
@@ -118,39 +120,7 @@ impl<'v, 'n, 'r> Engine<'v, 'n, 'r> {
         self.going
     }
 
-    /// Takes the next item, and writes what is due after it; at the end of the body, what is due there. Nothing is written
-    /// where the body has a fault. After any answer but `Again` the run is over.
-    #[inline(always)]
-    pub fn step<S: Source, W: Sink>(
-        &mut self,
-        feed: &mut Feed<'_, '_, '_, '_, S>,
-        out: &mut W,
-    ) -> Result<More, Stop>
-        requires feed_failures { S.failures (source_of feed.old) < 2 ^ 64 - 1 }
-        requires out_failures { (W.device out.old).failures < 2 ^ 64 - 1 }
-        requires going { is_going self.old ≡ true }
-        requires bound { AreWithinBound (limit_of feed.old) (chunk_len_of feed.old)
-            (view_in self.old) (room_in self.old) }
-        ensures gives { (h : Header) (i : Input) (front : List Token) (items : List BodyItem)
-            → Runs self.old h i front items feed.old
-            → StepGives (request_of_engine self.old) h i front items self.new feed.new
-            (W.device out.old) (W.device out.new) result }
-        ensures advances { Advances S.failures feed.old feed.new (step_end result) }
-        ensures progress { result ≡ Ok Again → seen feed.old < seen feed.new }
-        ensures bounded { seen feed.new < 2 ^ 63 }
-        ensures writes { (W.device out.new).failures
-            ≡ (W.device out.old).failures + writes_failed result }
-        ensures going { is_going self.new ≡ goes_on result }
-        ensures holds { (view_in self.new ≡ view_in self.old)
-            × (room_in self.new ≡ room_in self.old) }
-        ensures request { request_of_engine self.new ≡ request_of_engine self.old }
-        ensures answer { IfOk result
-            (λ more. more ≡ Ended Early → may_end_early (request_of_engine self.old) ≡ true) }
-    {
-        self.step_over(self.view, feed, out)
-    }
-
-    /// The same over its header, so that a loop over steps need not fetch it for each.
+    /// A step over its header, so that a loop over steps need not fetch it for each.
     #[inline(always)]
     fn step_over<S: Source, W: Sink>(
         &mut self,
@@ -342,8 +312,40 @@ impl<'v, 'n, 'r> Engine<'v, 'n, 'r> {
     }
 }
 
-/// Does a task over the body after the header that is shown: the one loop over items. A name that selects nothing is refused
-/// before anything is read or written.
+/// Takes the next item, and writes what is due after it; at the end of the body, what is due there. Nothing is written
+/// where the body has a fault. After any answer but `Again` the run is over.
+#[inline(always)]
+pub fn step<S: Source, W: Sink>(
+    engine: &mut Engine<'_, '_, '_>,
+    feed: &mut Feed<'_, '_, '_, '_, S>,
+    out: &mut W,
+) -> Result<More, Stop>
+    requires feed_failures { S.failures (source_of feed.old) < 2 ^ 64 - 1 }
+    requires out_failures { (W.device out.old).failures < 2 ^ 64 - 1 }
+    requires going { is_going engine.old ≡ true }
+    requires bound { AreWithinBound (limit_of feed.old) (chunk_len_of feed.old)
+        (view_in engine.old) (room_in engine.old) }
+    ensures gives { (h : Header) (i : Input) (front : List Token) (items : List BodyItem)
+        → Runs engine.old h i front items feed.old
+        → StepGives (request_of_engine engine.old) h i front items engine.new feed.new
+        (W.device out.old) (W.device out.new) result }
+    ensures advances { Advances S.failures feed.old feed.new (step_end result) }
+    ensures progress { result ≡ Ok Again → seen feed.old < seen feed.new }
+    ensures bounded { seen feed.new < 2 ^ 63 }
+    ensures writes { (W.device out.new).failures
+        ≡ (W.device out.old).failures + writes_failed result }
+    ensures going { is_going engine.new ≡ goes_on result }
+    ensures holds { (view_in engine.new ≡ view_in engine.old)
+        × (room_in engine.new ≡ room_in engine.old) }
+    ensures request { request_of_engine engine.new ≡ request_of_engine engine.old }
+    ensures answer { IfOk result
+        (λ more. more ≡ Ended Early → may_end_early (request_of_engine engine.old) ≡ true) }
+{
+    engine.step_over(engine.view, feed, out)
+}
+
+/// Does a task, whose times are in order, over the body after the header that is shown: the one loop over items. A name that
+/// selects nothing is refused before anything is read or written.
 pub fn run_task<S: Source, W: Sink>(
     task: Task<'_>,
     view: HeadView<'_>,
@@ -354,6 +356,7 @@ pub fn run_task<S: Source, W: Sink>(
     requires feed_failures { S.failures (source_of feed.old) < 2 ^ 64 - 1 }
     requires out_failures { (W.device out.old).failures < 2 ^ 64 - 1 }
     requires open { HasNotFailed feed.old }
+    requires valid { IsValid (request_of task) }
     requires room { HasRoomFor task view room.old }
     requires bound { AreWithinBound (limit_of feed.old) (chunk_len_of feed.old) view
         (room_size room.old) }

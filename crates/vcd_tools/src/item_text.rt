@@ -18,7 +18,7 @@ ghost use Rattle.vcd_tools.specs.ItemText.{HasWritten, LastTells, times_with};
 ghost use Rattle.vcd_tools.specs.Pieces.{IsLine, IsPart, Lies, PutsOn, held_in};
 
 use crate::pieces::{Lying, Pieces};
-use vcd_body::{Form, Item, Section, put_change, put_time_unless};
+use vcd_body::{Form, Id, Item, Section, put_change, put_time_unless};
 use vcd_text::{Sink, WriteFailed, put};
 use vcd_view::HeadView;
 
@@ -60,7 +60,7 @@ fn put_change_line<W: Sink>(
         return Ok(());
     };
     let id = view.text_at(code.start, code.len as usize);
-    put_change(code.size, code.event, form, text, id, out)
+    put_change(code.size, code.event, form, text, Id::Own(id), out)
 }
 
 /// Writes an item with its text as its line; a time mark has none of its own.

@@ -3,8 +3,8 @@
 //! `list` writes a line for each variable of a view. The other commands over one dump are each a `Task`: `run_task` does it
 //! over the items of the body, in a `Room` of the lengths that `Task::need` says; `check`, `pick`, `cut`, `sample` and `edges` are
 //! one call of it each.
-//! An `Engine`, of a task that has `Begun`, is the same run step by step, for callers that have more to do between items. None of
-//! them takes memory.
+//! An `Engine`, of a task that has `Begun`, is the same run in parts, for callers that have more to do between items: `step` takes
+//! one item. None of them takes memory.
 //!
 //! # The relations
 //!
@@ -18,7 +18,7 @@
 //!
 //! # The modules
 //!
-//! - `task`, `span`: `Task`, `Room`, `Task::need`; the times of a cut
+//! - `task`: `Task`, `Room`, `Task::need`
 //! - `engine`: `Begun`, `Engine`, and `run_task`, the one loop over items. It names no command
 //! - `machine`, and under it `check`, `pick`, `cut`, `sample`, `edges`: what each task keeps between items, and what it does at the
 //!   begin, with an item and at the end
@@ -29,10 +29,11 @@
 //! - `selection`: the variables that names select, as marks and as chosen codes
 //! - `report`, `rows`, `tally`: the seven lines of `check`; `list`; the counters of `edges`, and its rows
 //! - `values`: the values of codes, with one item more
-//! - `samples`, `sample_lines`: `Samples`, what a sample is asked for; its lines
+//! - `sample_lines`: the lines of a sample
+//! - `laws`: each function has a law on what commands and merges write as its contract
 //!
-//! In `specs/` callers read `Run` (`Follows`), `Engine`, `Step` and `Room`. How a run ends, `Done`, `More` and `Stop`, is of
-//! `vcd_body`.
+//! In `specs/` callers read `Run` (`Follows`), `Engine`, `Step` and `Room`; `Answer`, how a run ends, of `vcd_body`; and the
+//! definitions that these cite, as `Model`.
 //!
 //! # Limits
 //!
@@ -47,21 +48,19 @@ mod commands;
 mod engine;
 mod gathered;
 mod item_text;
+pub mod laws;
 mod machine;
 mod pieces;
 mod report;
 mod rows;
 mod sample_lines;
-mod samples;
 mod selection;
-mod span;
 mod tally;
 mod task;
 mod values;
 
 pub use commands::{check, cut, edges, pick, sample};
-pub use engine::{Begun, Engine, run_task};
+pub use engine::{Begun, Engine, run_task, step};
 pub use rows::list;
-pub use samples::Samples;
-pub use span::Span;
 pub use task::{Room, Task};
+pub use vcd_body::{Done, More, Stop};

@@ -3,6 +3,7 @@ ghost use Rattle.std.specs.Prelude.{◌≡◌, ℕ, ◌-◌, ◌^◌, ◌<◌, �
 ghost use Rattle.vcd_model.specs.Header.{Header};
 ghost use Rattle.vcd_model.specs.Items.{BodyItem};
 ghost use Rattle.vcd_model.specs.ItemText.{last_mark};
+ghost use Rattle.vcd_model.specs.Laws.{IsValid};
 ghost use Rattle.vcd_model.specs.Outcome.{close_text, ends_early};
 ghost use Rattle.vcd_model.specs.Tokens.{Token};
 ghost use Rattle.vcd_text.specs.Ahead.{bytes_of, longest_of, passed_of};
@@ -584,6 +585,7 @@ impl<'n, 'r> Machine<'n, 'r> {
         out: &mut W,
     ) -> Result<Machine<'n, 'r>, Stop>
         requires failures { (W.device out.old).failures < 2 ^ 64 - 1 }
+        requires valid { IsValid (request_of task) }
         requires room { HasRoomFor task view room }
         ensures starts { (h : Header) → IsViewOf view.entry h
             → Starts (λ m. Keeps m h []) (request_of task.entry) h
@@ -597,9 +599,9 @@ impl<'n, 'r> Machine<'n, 'r> {
         match task {
             Task::Check => Ok(Machine::Check(check::Check::start())),
             Task::Pick(names) => Ok(Machine::Pick(pick::Pick::start(view, room, names, out)?)),
-            Task::Cut(span) => Ok(Machine::Cut(cut::Cut::start(view, room, span, out)?)),
-            Task::Sample(asked) => {
-                Ok(Machine::Sample(sample::Sample::start(view, room, asked)?))
+            Task::Cut { from, to } => Ok(Machine::Cut(cut::Cut::start(view, room, from, to, out)?)),
+            Task::Sample { times, names } => {
+                Ok(Machine::Sample(sample::Sample::start(view, room, times, names)?))
             }
             Task::Edges(names) => Ok(Machine::Edges(edges::Edges::start(view, room, names)?)),
         }

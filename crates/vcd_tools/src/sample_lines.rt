@@ -12,7 +12,7 @@ ghost use Rattle.vcd_view.specs.Views.{IsViewOf};
 ghost use Rattle.vcd_tools.specs.Values.{AreHeld};
 
 use crate::selection::is_marked;
-use vcd_body::Table;
+use vcd_body::{Table, put_full};
 use vcd_head::put_path;
 use vcd_text::{Sink, WriteFailed, put, put_number};
 use vcd_view::{HeadView, Kind};
@@ -47,7 +47,7 @@ fn put_line<W: Sink>(
     put(out, b" ")?;
     put_path(view, row, out)?;
     put(out, b" ")?;
-    table.put_full(view, variable.code as usize, out)?;
+    put_full(view, table, variable.code as usize, out)?;
     put(out, b"\n")
 }
 

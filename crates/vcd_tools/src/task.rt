@@ -8,8 +8,6 @@ ghost use Rattle.vcd_view.specs.Views.{IsViewOf};
 ghost use Rattle.vcd_tools.specs.Room.{AreWithinBound, HasRoomFor, IsWithin, marks_for, slots_for, values_for};
 ghost use Rattle.vcd_tools.specs.declared.task.Room.{Room};
 
-use crate::samples::Samples;
-use crate::span::Span;
 use vcd_body::{Share, Slot};
 use vcd_view::{HeadView, Need, need};
 
@@ -20,10 +18,16 @@ pub enum Task<'n> {
     Check,
     /// Writes those of the variables that these names select, after their header.
     Pick(&'n [String]),
-    /// Writes the values that stand before a time, and the items from then up to another time.
-    Cut(Span),
-    /// Writes the values of the variables that names select at some times.
-    Sample(Samples<'n>),
+    /// Writes the values that stand before a time, and the items from then up to another time, in ticks. Both are in it.
+    Cut {
+        from: u64,
+        to: u64,
+    },
+    /// Writes the values of the variables that these names select, all where there is none, at these times, in ticks.
+    Sample {
+        times: &'n [u64],
+        names: &'n [String],
+    },
     /// Counts how often the values of the variables that these names select change, rise and fall, and writes it at the end.
     Edges(&'n [String]),
 }
@@ -67,7 +71,7 @@ impl<'n> Task<'n> {
                 slots: 0,
                 marks: view.rows.len(),
             },
-            Task::Cut(_) | Task::Sample(_) | Task::Edges(_) => need(view),
+            Task::Cut { .. } | Task::Sample { .. } | Task::Edges(_) => need(view),
         }
     }
 }

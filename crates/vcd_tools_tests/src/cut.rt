@@ -1,8 +1,7 @@
 // Windows of time, cut out of dumps.
 use super::over::{is_run, wrong_room};
 use std::test::Fail;
-use vcd_body::Done;
-use vcd_tools::{Span, Task};
+use vcd_tools::{Done, Task};
 
 // A value of each kind, and one that is never set.
 const KINDS: &[u8] =
@@ -24,23 +23,23 @@ const UNMARKED_CUT: &[u8] =
 #[test]
 fn cut_of_a_window(rt: HostRuntime) -> Result<(), Fail> {
     let early = Ok(Done::Early);
-    let task = Task::Cut(Span { from: 10, to: 15 });
+    let task = Task::Cut { from: 10, to: 15 };
     assert!(rt; is_run(rt.alloc(), KINDS, task, early, KINDS_CUT)?);
-    let task = Task::Cut(Span { from: 0, to: 5 });
+    let task = Task::Cut { from: 0, to: 5 };
     assert!(rt; is_run(rt.alloc(), UNMARKED, task, early, UNMARKED_CUT)?);
     Ok(())
 }
 
 #[test]
 fn cut_after_the_end_of_a_dump(rt: HostRuntime) -> Result<(), Fail> {
-    let task = Task::Cut(Span { from: 30, to: 40 });
+    let task = Task::Cut { from: 30, to: 40 };
     assert!(rt; is_run(rt.alloc(), KINDS, task, Ok(Done::Whole), KINDS_AFTER)?);
     Ok(())
 }
 
 #[test]
 fn a_cut_ends_where_a_write_fails(rt: HostRuntime) -> Result<(), Fail> {
-    let task = Task::Cut(Span { from: 10, to: 15 });
+    let task = Task::Cut { from: 10, to: 15 };
     assert_eq!(rt; wrong_room(rt.alloc(), KINDS, task, KINDS_CUT)?, None);
     Ok(())
 }

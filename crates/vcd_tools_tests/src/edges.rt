@@ -1,8 +1,7 @@
 // How often values change, rise and fall in dumps.
 use super::over::{is_run, wrong_room};
 use std::test::Fail;
-use vcd_body::{Done, Stop};
-use vcd_tools::Task;
+use vcd_tools::{Done, Stop, Task};
 
 // A clock and four bits, with unknown digits, a change to the same value, and a section at the end.
 const CLOCKED: &[u8] =

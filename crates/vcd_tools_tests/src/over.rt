@@ -1,16 +1,17 @@
 // Tasks that are run over a dump, in the room that they need.
 ghost use Rattle.std.specs.Prelude.{◌≡◌, ◌-◌, ◌^◌, ◌<◌, ◌≤◌};
+ghost use Rattle.vcd_tools.specs.Model.Laws.{IsValid};
 ghost use Rattle.vcd_text.specs.Advances.{HasNotFailed};
 ghost use Rattle.vcd_text.specs.Feed.{chunk_len_of, limit_of, source_of};
+ghost use Rattle.vcd_tools.specs.Engine.{request_of};
 ghost use Rattle.vcd_tools.specs.Room.{AreWithinBound, HasRoomFor, room_size};
 
 use std::alloc::{AllocError, Global};
-use vcd_body::{Done, Share, Slot, Stop};
-use vcd_head::{HeadFault, read_head};
+use vcd_body::{Share, Slot};
+use vcd_head::{HeadFault, HeadView, read_head};
 use vcd_text::doubles::Narrow;
 use vcd_text::{Feed, Sink, Source, Watch};
-use vcd_tools::{Room, Task, cut, edges, pick, sample};
-use vcd_view::HeadView;
+use vcd_tools::{Done, Room, Stop, Task, cut, edges, pick, sample};
 
 // Calls the function of a task. A check has no room: its tests call it themselves, and nothing is run for it here.
 fn dispatch<S: Source, W: Sink>(
@@ -23,6 +24,7 @@ fn dispatch<S: Source, W: Sink>(
     requires feed_failures { S.failures (source_of feed.old) < 2 ^ 64 - 1 }
     requires out_failures { (W.device out.old).failures < 2 ^ 64 - 1 }
     requires open { HasNotFailed feed.old }
+    requires valid { IsValid (request_of task) }
     requires room { HasRoomFor task view room.old }
     requires bound { AreWithinBound (limit_of feed.old) (chunk_len_of feed.old) view
         (room_size room.old) }
@@ -30,8 +32,8 @@ fn dispatch<S: Source, W: Sink>(
     match task {
         Task::Check => Ok(Done::Early),
         Task::Pick(names) => pick(view, feed, room, names, out),
-        Task::Cut(span) => cut(view, feed, room, span, out),
-        Task::Sample(asked) => sample(view, feed, room, asked, out),
+        Task::Cut { from, to } => cut(view, feed, room, from, to, out),
+        Task::Sample { times, names } => sample(view, feed, room, times, names, out),
         Task::Edges(names) => edges(view, feed, room, names, out),
     }
 }
@@ -47,6 +49,7 @@ fn run_behind<S: Source, W: Sink>(
     requires feed_failures { S.failures (source_of feed.old) < 2 ^ 64 - 1 }
     requires out_failures { (W.device out.old).failures < 2 ^ 64 - 1 }
     requires open { HasNotFailed feed.old }
+    requires valid { IsValid (request_of task) }
     requires chunk { chunk_len_of feed.old ≤ 65536 }
 {
     let need = task.need(view);
@@ -72,6 +75,7 @@ fn run_over<S: Source, W: Sink>(
 ) -> Result<Result<Done, Stop>, HeadFault>
     requires source { S.failures source.old ≡ 0 }
     requires out { (W.device out.old).failures ≡ 0 }
+    requires valid { IsValid (request_of task) }
 {
     let mut chunk = [0u8; 7];
     let mut token = [0u8; 64];
@@ -90,7 +94,8 @@ fn is_run_in(
     answer: Result<Done, Stop>,
     written: &[u8],
 ) -> Result<bool, HeadFault>
-    requires { room ≤ 1024 }
+    requires room { room ≤ 1024 }
+    requires valid { IsValid (request_of task) }
 {
     let mut source = Watch::new(text);
     let mut out = Watch::new(Narrow::new(room));
@@ -105,7 +110,9 @@ pub(crate) fn is_run(
     task: Task<'_>,
     answer: Result<Done, Stop>,
     written: &[u8],
-) -> Result<bool, HeadFault> {
+) -> Result<bool, HeadFault>
+    requires { IsValid (request_of task) }
+{
     is_run_in(alloc, 256, text, task, answer, written)
 }
 
@@ -115,7 +122,9 @@ pub(crate) fn wrong_room(
     text: &[u8],
     task: Task<'_>,
     written: &[u8],
-) -> Result<Option<usize>, HeadFault> {
+) -> Result<Option<usize>, HeadFault>
+    requires { IsValid (request_of task) }
+{
     for room in 0..written.len().min(1024) {
         let left = &written[..room];
         if !is_run_in(alloc, room, text, task, Err(Stop::Write), left)? {

@@ -1,11 +1,12 @@
 // Values at some times of dumps.
 ghost use Rattle.std.specs.Prelude.{◌≡◌, ◌≢◌, [], true};
-ghost use Rattle.vcd_model.specs.Job.{do_rise};
+ghost use Rattle.vcd_tools.specs.Model.Job.{do_rise};
+ghost use Rattle.vcd_tools.specs.Model.Laws.{IsValid};
+ghost use Rattle.vcd_tools.specs.Engine.{request_of};
 
 use super::over::{is_run, wrong_room};
 use std::test::Fail;
-use vcd_body::{Done, Stop};
-use vcd_tools::{Samples, Task};
+use vcd_tools::{Done, Stop, Task};
 
 // Vectors that are shorter than their variables.
 const SHORT: &[u8] =
@@ -37,9 +38,9 @@ const ALIASED_SAMPLED: &[u8] =
 fn sample_at<'n>(times: &'n [u64], names: &'n [String]) -> Task<'n>
     requires some { times.now ≢ [] }
     requires rising { do_rise times.now ≡ true }
+    ensures { IsValid (request_of result) }
 {
-    let asked = Samples { times, names };
-    Task::Sample(asked)
+    Task::Sample { times, names }
 }
 
 #[test]

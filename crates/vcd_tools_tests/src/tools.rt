@@ -1,19 +1,19 @@
 // Headers that are listed, bodies that are counted and of which some variables are picked, and devices that fail.
 ghost use Rattle.std.specs.Prelude.{◌≡◌, ◌-◌, ◌^◌, ◌<◌, ◌≤◌, true};
+ghost use Rattle.vcd_tools.specs.Model.Laws.{CutKeeps, IsValid, MergeKeeps, NothingRevised, PickKeeps};
 ghost use Rattle.vcd_text.specs.Feed.{chunk_len_of, limit_of, source_of};
 ghost use Rattle.vcd_text.specs.Watch.{failed_calls};
-ghost use Rattle.vcd_tools.specs.Engine.{is_going};
+ghost use Rattle.vcd_tools.specs.Engine.{is_going, request_of};
 ghost use Rattle.vcd_tools.specs.Room.{AreWithinBound, HasRoomFor, room_in, room_size, view_in};
 
 use super::over::{is_run, wrong_room};
 use std::alloc::Global;
 use std::test::Fail;
-use vcd_body::{Done, More, Share, Slot, Stop};
-use vcd_head::{Head, HeadFault, read_head};
+use vcd_body::{Share, Slot};
+use vcd_head::{Head, HeadFault, HeadView, read_head};
 use vcd_text::doubles::{Narrow, Pieces};
 use vcd_text::{Feed, Sink, Source, Watch};
-use vcd_tools::{Begun, Engine, Room, Task, check, list};
-use vcd_view::HeadView;
+use vcd_tools::{Begun, Done, Engine, More, Room, Stop, Task, check, laws, list, step};
 
 const NESTED: &[u8] =
     b"$var event 1 % go $end\n$scope module tb $end\n$var wire 1 ! clk $end\n$scope module u $end\n$var reg 4 \" q [3:0] $end\n$upscope $end\n$var real 1 # r $end\n$enddefinitions $end\n";
@@ -221,7 +221,7 @@ fn steps_on<S: Source>(
     ensures bound { AreWithinBound (limit_of feed.new) (chunk_len_of feed.new)
         (view_in engine.new) (room_in engine.new) }
 {
-    match engine.step(feed, out) {
+    match step(engine, feed, out) {
         Ok(More::Again) => engine.going() && out.device.held() == written,
         Ok(More::Ended(_)) | Err(_) => false,
     }
@@ -240,7 +240,7 @@ fn ends<S: Source>(
     requires bound { AreWithinBound (limit_of feed.old) (chunk_len_of feed.old)
         (view_in engine.old) (room_in engine.old) }
 {
-    let last = engine.step(feed, out);
+    let last = step(engine, feed, out);
     last == steps.last && !engine.going() && out.device.held() == steps.after_last
 }
 
@@ -274,6 +274,7 @@ fn takes_steps_in<S: Source>(
     steps: &Steps<'_>,
 ) -> Result<bool, Stop>
     requires feed_failures { S.failures (source_of feed.old) < 2 ^ 64 - 1 }
+    requires valid { IsValid (request_of task) }
     requires room { HasRoomFor task view room }
     requires bound { AreWithinBound (limit_of feed.old) (chunk_len_of feed.old) view
         (room_size room) }
@@ -297,6 +298,7 @@ fn takes_steps_behind<S: Source>(
     steps: &Steps<'_>,
 ) -> Result<bool, Fail>
     requires feed_failures { S.failures (source_of feed.old) < 2 ^ 64 - 1 }
+    requires valid { IsValid (request_of task) }
     requires chunk { chunk_len_of feed.old ≤ 65536 }
 {
     let need = task.need(view);
@@ -319,7 +321,9 @@ fn takes_steps_over(
     text: &[u8],
     task: Task<'_>,
     steps: &Steps<'_>,
-) -> Result<bool, Fail> {
+) -> Result<bool, Fail>
+    requires { IsValid (request_of task) }
+{
     let mut source = Watch::new(text);
     let mut chunk = [0u8; 7];
     let mut token = [0u8; 64];
@@ -415,4 +419,22 @@ fn steps_of_a_pick_write_what_is_due(rt: HostRuntime) -> Result<(), Fail> {
     };
     assert!(rt; takes_steps_over(rt.alloc(), CUT_SHORT, Task::Pick(&names), &steps)?);
     Ok(())
+}
+
+// The laws on what commands write, as a caller has them.
+fn laws_hold()
+    ensures pick { PickKeeps }
+    ensures cut { CutKeeps }
+    ensures merge { MergeKeeps }
+    ensures revised { NothingRevised }
+{
+    laws::pick_keeps();
+    laws::cut_keeps();
+    laws::merge_keeps();
+    laws::nothing_revised();
+}
+
+#[test]
+fn callers_have_the_laws() {
+    laws_hold();
 }

@@ -1,6 +1,7 @@
 -- The times of a cut in ticks.
-use Rattle.std.proofs.Common.{◌≡◌, ◌≢◌, ◌≤◌, ◌<◌, ℕ, Bool, true, false, nat_lt, [], ◌∷◌, Option, Some, None, Result, Ok, Err, refl, arith}
+use Rattle.std.proofs.Common.{◌≡◌, ◌≢◌, ◌≤◌, ◌<◌, ◌||◌, ℕ, Bool, true, false, nat_lt, nat_le, is_some, [], ◌∷◌, Option, Some, None, Result, Ok, Err, refl, arith}
 use Rattle.std.specs.Prelude.{ℤ, ◌^◌}
+use Rattle.std.proofs.lemmas.Bool.{leb-true}
 use Rattle.vcd_model.specs.Job as model
 use Rattle.vcd_model.specs.Job.{Want, cut_request, has_unit, is_without_scale, request_of}
 use Rattle.vcd_model.specs.Outcome.{Request}
@@ -82,3 +83,9 @@ in_order scale from to a b e f le = by_test (has_unit (from ∷ to ∷ [])) refl
     by_test : (u : Bool) → has_unit (from ∷ to ∷ []) ≡ u → cut_request (has_unit (from ∷ to ∷ [])) (moment_ticks scale from true) (moment_ticks scale to false) ≡ Ok (Request.Cut a b)
     by_test true h = rw (e, f, h, less) refl
     by_test false h = rw (e, f, h) refl
+
+-- what words may ask for is in order without units
+pub ordered : (u v : Option ℤ) (a b : ℕ) → (is_some u || is_some v || nat_le a b) ≡ true → u ≡ None → v ≡ None → a ≤ b
+ordered None None a b e h k = leb-true a b e
+ordered None (Some y) a b e h k = cc
+ordered (Some x) v a b e h k = cc

@@ -1,9 +1,11 @@
 -- The times of a sample in ticks.
-use Rattle.std.proofs.Common.{◌≡◌, ℕ, suc, zero, ◌+◌, ◌<◌, Bool, true, false, ◌||◌, nat_lt, is_some, is_ok, List, [], ◌∷◌, ◌++◌, length, replicate, vec_len, map, filter_map, get_or, set, take, drop, Option, Some, None, Result, Ok, Err, refl, sym, ap, ap₂, ◌∙◌, arith}
+use Rattle.std.proofs.Common.{◌≡◌, ℕ, suc, zero, ◌+◌, ◌<◌, Bool, true, false, not, ◌||◌, ◌&&◌, ◌==◌, nat_lt, is_some, is_ok, List, [], ◌∷◌, ◌++◌, length, replicate, vec_len, map, filter_map, get_or, set, take, drop, Option, Some, None, Result, Ok, Err, refl, sym, ap, ap₂, ◌∙◌, arith}
 use Rattle.std.specs.Prelude.{ℤ, ◌≢◌}
 use Rattle.std.specs.Global.{Vec}
 use Rattle.std.specs.List.{list_any, list_all, IsAllAdjacentAnswer}
-use Rattle.std.proofs.lemmas.Bool.{and_from}
+use Rattle.std.proofs.lemmas.Bool.{and_from, and_parts, eq-eqb, eqb-true}
+use Rattle.std.proofs.lemmas.List.{length-map}
+use Rattle.vcd_model.specs.Bytes.{is_empty}
 use Rattle.vcd_model.specs.Job as model
 use Rattle.vcd_model.specs.Job.{Want, do_rise, first_refusal, has_unit, is_without_scale, ok_of, request_of, sample_at, sample_request}
 use Rattle.vcd_model.specs.Outcome.{Request}
@@ -178,3 +180,59 @@ pub refused : (scale : Option ℤ) (ns ns' : List ℕ) (us : List (Option ℤ)) 
 refused scale ns ns' us p n u fault e l t is =
     refused_at scale (time_at ns' us p n u) (times_with ns us) (take p ns') (all_ticks scale (drop (suc p) ns') (drop (suc p) us)) fault t
     (is ∙ ap (λ rest. found (take p ns') ++ rest) (from_place scale ns' us p n u e l ∙ ap (λ r. r ∷ all_ticks scale (drop (suc p) ns') (drop (suc p) us)) t))
+
+-- ---- what words may ask for
+
+some_there : (ts : List ℕ) → not (is_empty ts) ≡ true → ts ≢ []
+some_there [] e none = cc
+some_there (t ∷ ts) e none = cc
+
+some_long : (ts : List ℕ) → not (is_empty ts) ≡ true → 0 < length ts
+some_long [] e = cc
+some_long (t ∷ ts) e = omega arith
+
+module _ (ns : List ℕ) (us : List (Option ℤ)) (e : (length us == length ns && not (is_empty ns) && (has_units us || do_rise ns)) ≡ true) where
+  parts_of : ((length us == length ns && not (is_empty ns)) ≡ true) × ((has_units us || do_rise ns) ≡ true)
+  parts_of = and_parts _ _ e
+
+  pub asked_pairs : length us ≡ length ns
+  asked_pairs = eqb-true _ _ (and_parts _ _ parts_of.0).0
+
+  pub asked_some : ns ≢ []
+  asked_some = some_there ns (and_parts _ _ parts_of.0).1
+
+  pub asked_long : 0 < length ns
+  asked_long = some_long ns (and_parts _ _ parts_of.0).1
+
+  pub asked_order : (has_units us || do_rise ns) ≡ true
+  asked_order = parts_of.1
+
+  pub asked_rises : has_units us ≡ false → do_rise ns ≡ true
+  asked_rises none = let rises = parts_of.1 in rw none at rises
+
+-- numbers and units of the same times are as many
+pub long_units : (ns : List ℕ) (us : List (Option ℤ)) (ms : List Moment) → ns ≡ map (λ (m : Moment). m.number) ms → us ≡ map (λ (m : Moment). m.unit) ms → length us ≡ length ns
+long_units ns us ms n u = rw (n, u) (length-map ms (λ (m : Moment). m.unit) ∙ sym (length-map ms (λ (m : Moment). m.number)))
+
+either : (a b : Bool) → (a ≡ false → b ≡ true) → (a || b) ≡ true
+either true b h = refl
+either false b h = h refl
+
+not_none : (ts : List ℕ) → 0 < length ts → not (is_empty ts) ≡ true
+not_none [] l = absurd (omega arith)
+not_none (t ∷ ts) l = refl
+
+-- a sample that words may ask for
+pub asked_of : (ns : Vec ℕ) (us : Vec (Option ℤ)) → length us.items ≡ length ns.items → 0 < vec_len ns → (has_units us.items ≡ false → do_rise ns.items ≡ true)
+    → (length us.items == length ns.items && not (is_empty ns.items) && (has_units us.items || do_rise ns.items)) ≡ true
+asked_of ns us long some rises =
+    let one : 0 < length ns.items = omega (arith, some, ns.ok.0) in
+    and_from _ _ (and_from _ _ (eq-eqb _ _ long) (not_none ns.items one)) (either (has_units us.items) (do_rise ns.items) rises)
+
+-- and still may once other numbers and units of as many times are in their place
+pub asked_again : (ns ms : List ℕ) (us vs : List (Option ℤ)) → (length us == length ns && not (is_empty ns) && (has_units us || do_rise ns)) ≡ true → length vs ≡ length ms → length ms ≡ length ns → (has_units vs || do_rise ms) ≡ true
+    → (length vs == length ms && not (is_empty ms) && (has_units vs || do_rise ms)) ≡ true
+asked_again ns ms us vs told paired many order =
+    let long = asked_long ns us told in
+    let one : 0 < length ms = omega (arith, long, many) in
+    and_from _ _ (and_from _ _ (eq-eqb _ _ paired) (not_none ms one)) order

@@ -3,9 +3,7 @@ use Rattle.std.specs.Prelude.{◌≡◌, ◌==◌, ℕ, List, [], ◌∷◌, map
 use Rattle.std.specs.List.{slice_split}
 use Rattle.vcd_model.specs.Job.{has_unit, do_rise}
 use Rattle.vcd_model.specs.Ticks.{Moment}
-use Rattle.vcd_words.specs.Ticks.{times_with}
 use Rattle.vcd_words.specs.declared.moment_word.Order.{Order}
-use Rattle.vcd_words.specs.declared.times.Times.{Times}
 
 -- the words between the commas of a word
 abbrev pub parts : List ℕ → List (List ℕ)
@@ -22,7 +20,3 @@ pub record IsOrderOf (times : List Moment) (o : Order) : Type 0 where
   pub has_unit_is : o.has_unit ≡ has_unit times
   pub rises_is : o.rises ≡ do_rise (map (λ m. m.number) times)
   pub last_is : o.last ≡ last_of (map (λ m. m.number) times)
-
--- the times that are asked for
-abbrev pub times_asked : Times → List Moment
-times_asked t = times_with t.numbers.items t.units.items

@@ -1,16 +1,17 @@
 //! A job: what is done, and how its input is read; and why there is none.
-ghost use Rattle.std.specs.Prelude.{◌≡◌, ◌≤◌, IfErr, IfOk, Some, None, cond, map, option_map, string_bytes};
+ghost use Rattle.std.specs.Prelude.{◌≡◌, ◌≤◌, IfErr, IfOk, Some, None, true, cond, map, option_map, string_bytes};
 ghost use Rattle.vcd_model.specs.Bytes.{decimal_value};
 ghost use Rattle.vcd_model.specs.Words.{is_limit, limit_of};
-ghost use Rattle.vcd_words.specs.Job.{model_want};
+ghost use Rattle.vcd_words.specs.Job.{is_asked, model_want};
 ghost use Rattle.vcd_words.specs.Words.{job_asked, IsFaultIn, IsFaultOf};
 
 use crate::moment_word::number_of;
 use crate::refusal::Refusal;
-use crate::times::{Period, Times};
+use crate::sample_ticks::write_times;
 use crate::words::{limit_word, want_of, words_in};
 use clap::ArgMatches;
 use std::alloc::{AllocError, Global};
+use vcd_head::Moment;
 use vcd_view::HeadView;
 
 /// What is done with the input.
@@ -22,10 +23,11 @@ pub enum Want {
     List,
     /// Writes the dump of the variables that these names select.
     Pick(Vec<String>),
-    /// Writes the dump of these times.
-    Cut(Period),
-    /// Writes the values of the variables that these names select at these times; of all without names.
-    Sample(Times, Vec<String>),
+    /// Writes the dump from the first of these times to the last.
+    Cut(Moment, Moment),
+    /// Writes the values of the variables that these names select at times with these numbers, and with these units, one a number;
+    /// of all without names. Numbers are apart from units, so that ticks can be written over them.
+    Sample(Vec<u64>, Vec<Option<i8>>, Vec<String>),
     /// Counts how often the variables that these names select change, rise and fall; all without names.
     Edges(Vec<String>),
     /// Writes the changes of all inputs in one order of time.
@@ -33,29 +35,31 @@ pub enum Want {
 }
 
 impl Want {
-    ghost use Rattle.std.specs.Prelude.{MatchResult, OnOk};
+    ghost use Rattle.std.specs.Prelude.{MatchResult, OnOk, true};
     ghost use Rattle.vcd_model.specs.Header.{Header};
     ghost use Rattle.vcd_model.specs.Job.{request_of};
     ghost use Rattle.vcd_view.specs.Views.{IsViewOf};
     ghost use Rattle.vcd_words.specs.Refusal.{model_refusal};
-    ghost use Rattle.vcd_words.specs.Job.{is_merge, model_want, names_asked, HasTicks};
+    ghost use Rattle.vcd_words.specs.Job.{is_asked, is_merge, model_want, names_asked, HasTicks};
 
     /// Writes the times of a sample in ticks of the header that is shown over their numbers: it is the same that is wanted. Where
     /// they are refused it says why, and what they are then is not said.
     pub fn write_ticks(&mut self, view: HeadView<'_>) -> Result<(), Refusal>
+        requires { is_asked self.old ≡ true }
         ensures same { (h : Header) → IsViewOf view.entry h → MatchResult result
             (λ _. request_of h.scale (model_want self.new) ≡ request_of h.scale (model_want self.old))
             (λ why. request_of h.scale (model_want self.old) ≡ Err (model_refusal why)) }
         ensures ticks { OnOk result (HasTicks self.new) }
+        ensures asked { is_asked self.new ≡ true }
         ensures names { names_asked self.new ≡ names_asked self.old }
         ensures kind { is_merge self.new ≡ is_merge self.old }
     {
         match self {
-            Want::Sample(times, _) => times.write_ticks(view),
+            Want::Sample(numbers, units, _) => write_times(numbers, units, view),
             Want::Check
             | Want::List
             | Want::Pick(_)
-            | Want::Cut(_)
+            | Want::Cut(..)
             | Want::Edges(_)
             | Want::Merge => Ok(()),
         }
@@ -73,8 +77,8 @@ impl Want {
         ensures { map string_bytes result.now ≡ names_asked self.now }
     {
         match self {
-            Want::Check | Want::List | Want::Cut(_) | Want::Merge => &[],
-            Want::Pick(names) | Want::Sample(_, names) | Want::Edges(names) => names.as_slice(),
+            Want::Check | Want::List | Want::Cut(..) | Want::Merge => &[],
+            Want::Pick(names) | Want::Sample(_, _, names) | Want::Edges(names) => names.as_slice(),
         }
     }
 }
@@ -83,11 +87,12 @@ impl Want {
 #[derive(PartialEq, Eq, Debug, Drop)]
 pub struct Job {
     /// What is done.
-    pub want: Want,
+    pub task: Want,
     /// How long a token may be, in bytes.
     pub limit: usize,
     /// How much is read at once, in bytes.
     pub chunk: usize,
+    pub ghost asked: { is_asked task ≡ true },
     pub ghost limit_in_range: { (64 ≤ limit) × (limit ≤ 16777216) },
     pub ghost chunk_in_range: { (1 ≤ chunk) × (chunk ≤ 65536) },
 }
@@ -160,7 +165,7 @@ fn limit_of<'a>(word: Option<&'a str>) -> Result<usize, UseFault<'a>>
 /// The job that the matches of the command ask for. Memory is taken for its names, once they are known to ask for a job.
 pub fn job_of<'a>(alloc: Global, matches: &ArgMatches<'a>) -> Result<Job, UseFault<'a>>
     ensures job { IfOk result (λ job. job_asked matches.now
-        ≡ Ok (record { want = model_want job.want; limit = job.limit })) }
+        ≡ Ok (record { want = model_want job.task; limit = job.limit })) }
     ensures chunk { IfOk result (λ job. job.chunk ≡ 65536) }
     ensures fault { IfErr result (λ fault. IsFaultOf fault (job_asked matches.now)) }
 {
@@ -168,9 +173,9 @@ pub fn job_of<'a>(alloc: Global, matches: &ArgMatches<'a>) -> Result<Job, UseFau
         return Err(UseFault::BadWords);
     };
     let limit = limit_of(limit_word(matches))?;
-    let want = want_of(alloc, words)?;
+    let task = want_of(alloc, words)?;
     Ok(Job {
-        want,
+        task,
         limit,
         chunk: CHUNK,
     })

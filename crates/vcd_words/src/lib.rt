@@ -10,8 +10,8 @@
 //! - `help`: what `--help` says of each command
 //! - `words`: what the words ask for, borrowed from their matches
 //! - `job`: `Job`, `Want` with its names, `UseFault`; `job_of`
-//! - `moment_word`: the times that words are, and the fault of those that are none
-//! - `times`: the times of a cut and of a sample; `sample_ticks`: ticks in place of the numbers of times
+//! - `moment_word`: the times that words are, and the fault of those that are none; a cut and a sample at such times
+//! - `sample_ticks`: ticks in place of the numbers of a sample's times
 //! - `refusal`: why times are refused, once the header is read
 //!
 //! In `specs/`: `Words`, what the command line takes and asks for; `Times` and `Ticks`, its times; `Job`; `Refusal`.
@@ -23,11 +23,9 @@ mod job;
 mod moment_word;
 mod refusal;
 mod sample_ticks;
-mod times;
 mod words;
 
 pub use command::{command_of, parse_status};
 pub use job::{Job, UseFault, Want, job_of};
 pub use refusal::Refusal;
-pub use times::{Period, Times};
 pub use words::{MOST_FILES, Words, files_of, input_of, want_of};

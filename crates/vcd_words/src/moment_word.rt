@@ -1,5 +1,5 @@
 //! Words that are numbers and times: the times behind `--from` and `--to`, and those between the commas of `--at`.
-ghost use Rattle.std.specs.Prelude.{◌≡◌, ◌&&◌, ℕ, List, None, OnOk, Some, IfErr, IfOk, cond, filter_map, length, map, option_map};
+ghost use Rattle.std.specs.Prelude.{◌≡◌, ◌&&◌, ℕ, List, None, OnOk, true, Some, IfErr, IfOk, cond, filter_map, length, map, option_map};
 ghost use Rattle.std.specs.Char.{is_ascii_digit};
 ghost use Rattle.std.specs.List.{list_all, take_while};
 ghost use Rattle.vcd_model.specs.Bytes.{decimal_value};
@@ -7,11 +7,12 @@ ghost use Rattle.vcd_model.specs.Job as model_job;
 ghost use Rattle.vcd_model.specs.Ticks as model_ticks;
 ghost use Rattle.vcd_model.specs.Words as model;
 ghost use Rattle.vcd_head.specs.Moments.{asked};
-ghost use Rattle.vcd_words.specs.Times.{parts, times_asked};
-ghost use Rattle.vcd_words.specs.Words.{IsFaultIn, IsFaultOf};
+ghost use Rattle.vcd_words.specs.Job.{is_asked, model_want};
+ghost use Rattle.vcd_words.specs.Times.{parts};
+ghost use Rattle.vcd_words.specs.Words.{some_names, IsFaultIn, IsFaultOf};
 
-use crate::job::UseFault;
-use crate::times::{Period, Times};
+use crate::job::{UseFault, Want};
+use crate::words::copied_some;
 use std::alloc::{AllocError, Global};
 use vcd_head::Moment;
 use vcd_text::decimal_of;
@@ -54,12 +55,13 @@ pub(crate) fn time_of<'a>(word: &'a str) -> Result<Moment, UseFault<'a>>
     moment_of(word).ok_or(UseFault::BadTime(word))
 }
 
-/// The times from which and to which a cut is, or the first fault of these words. Without units the first may not be above the
+/// A cut between the times that these words are, or the first fault of them. Without units the first may not be above the
 /// second; with a unit that is to be seen once the time scale is known.
-pub(crate) fn cut_of<'a>(from: &'a str, to: &'a str) -> Result<Period, UseFault<'a>>
-    ensures times { IfOk result (λ period.
+pub(crate) fn cut_of<'a>(from: &'a str, to: &'a str) -> Result<Want, UseFault<'a>>
+    ensures want { IfOk result (λ want.
         model.cut_of (model.time_of from.entry.now) (model.time_of to.entry.now)
-        ≡ Ok (model_job.Want.Cut (asked period.from) (asked period.to))) }
+        ≡ Ok (model_want want)) }
+    ensures asked { IfOk result (λ want. is_asked want ≡ true) }
     ensures fault { IfErr result (λ fault. IsFaultIn fault
         (model.cut_of (model.time_of from.entry.now) (model.time_of to.entry.now))) }
 {
@@ -68,7 +70,7 @@ pub(crate) fn cut_of<'a>(from: &'a str, to: &'a str) -> Result<Period, UseFault<
     if from.unit.is_none() && to.unit.is_none() && to.number < from.number {
         return Err(UseFault::FromAboveTo);
     }
-    Ok(Period { from, to })
+    Ok(Want::Cut(from, to))
 }
 
 /// What is known of some times.
@@ -154,17 +156,23 @@ fn units_in(alloc: Global, at: &str) -> Result<Vec<Option<i8>>, AllocError>
         .collect(alloc)
 }
 
-/// The times of a sample, which stand between commas, or the first fault of these words. Memory is taken for them, once they are
-/// known to be times that a sample may have.
-pub(crate) fn sample_times<'a>(alloc: Global, at: &'a str) -> Result<Times, UseFault<'a>>
-    ensures times { IfOk result (λ times. (names : List (List ℕ))
-        → model.sample_of names (model.times_of (parts at.entry.now))
-        ≡ Ok (model_job.Want.Sample (times_asked times) names)) }
-    ensures fault { IfErr result (λ fault. (names : List (List ℕ))
-        → IsFaultOf fault (model.sample_of names (model.times_of (parts at.entry.now)))) }
+/// A sample of these names at the times that stand between commas, or the first fault of these words. Memory is taken once they
+/// are known to be times that a sample may have.
+pub(crate) fn sample_of<'a>(
+    alloc: Global,
+    at: &'a str,
+    names: Option<&[&str]>,
+) -> Result<Want, UseFault<'a>>
+    ensures want { IfOk result (λ want.
+        model.sample_of (some_names names.entry) (model.times_of (parts at.entry.now))
+        ≡ Ok (model_want want)) }
+    ensures asked { IfOk result (λ want. is_asked want ≡ true) }
+    ensures fault { IfErr result (λ fault. IsFaultOf fault
+        (model.sample_of (some_names names.entry) (model.times_of (parts at.entry.now)))) }
 {
     check_times(at)?;
     let numbers = numbers_in(alloc, at)?;
     let units = units_in(alloc, at)?;
-    Ok(Times { numbers, units })
+    let names = copied_some(alloc, names)?;
+    Ok(Want::Sample(numbers, units, names))
 }

@@ -1,23 +1,24 @@
 // The times of a sample in ticks: over their numbers, so that no memory is taken.
-ghost use Rattle.std.specs.Prelude.{◌≡◌, length, MatchResult};
+ghost use Rattle.std.specs.Prelude.{◌≡◌, ◌||◌, ℕ, List, true, false, length, MatchResult, OnOk};
 ghost use Rattle.vcd_model.specs.Header.{Header};
-ghost use Rattle.vcd_model.specs.Job.{do_rise};
+ghost use Rattle.vcd_model.specs.Job.{Want, do_rise, request_of};
 ghost use Rattle.vcd_view.specs.Views.{IsViewOf};
-ghost use Rattle.vcd_words.specs.Ticks.{all_ticks, has_units, AreTicks, AreRefused};
+ghost use Rattle.vcd_words.specs.Refusal.{model_refusal};
+ghost use Rattle.vcd_words.specs.Ticks.{all_ticks, has_units, times_with, AreTicks, AreRefused};
 
 use crate::refusal::Refusal;
 use vcd_head::{Moment, ticks};
 use vcd_view::HeadView;
 
 /// Whether some time has a unit.
-pub(crate) fn has_units(units: &[Option<i8>]) -> bool
+fn has_units(units: &[Option<i8>]) -> bool
     ensures { result ≡ has_units units.now }
 {
     units.iter().any(|unit| unit.is_some())
 }
 
 /// Whether each time is above the one before it.
-pub(crate) fn do_rise(times: &[u64]) -> bool
+fn do_rise(times: &[u64]) -> bool
     ensures { result ≡ do_rise times.now }
 {
     times.is_sorted_by(|first, second| first < second)
@@ -25,11 +26,7 @@ pub(crate) fn do_rise(times: &[u64]) -> bool
 
 /// Writes times with these units in ticks of the header that is shown over their numbers, each rounded down, up to the first that
 /// has no ticks, of which it says why.
-pub(crate) fn write_ticks(
-    numbers: &mut [u64],
-    units: &[Option<i8>],
-    view: HeadView<'_>,
-) -> Result<(), Refusal>
+fn write_ticks(numbers: &mut [u64], units: &[Option<i8>], view: HeadView<'_>) -> Result<(), Refusal>
     requires { length units.now ≡ length numbers.old }
     ensures { (h : Header) → IsViewOf view.entry h → MatchResult result
         (λ _. AreTicks (all_ticks h.scale numbers.old units.now) numbers.new)
@@ -42,5 +39,36 @@ pub(crate) fn write_ticks(
         };
         *number = ticks(view, time, false)?;
     }
+    Ok(())
+}
+
+/// Writes the times of a sample, with these numbers and units, in ticks of the header that is shown over their numbers, each
+/// rounded down, and leaves them without units: they are the same times. Where they are refused it says why, and what they are
+/// then is not said.
+pub(crate) fn write_times(
+    numbers: &mut Vec<u64>,
+    units: &mut Vec<Option<i8>>,
+    view: HeadView<'_>,
+) -> Result<(), Refusal>
+    requires paired { length units.old.items ≡ length numbers.old.items }
+    requires order { (has_units units.old.items || do_rise numbers.old.items) ≡ true }
+    ensures same { (h : Header) (names : List (List ℕ)) → IsViewOf view.entry h → MatchResult result
+        (λ _. request_of h.scale (Want.Sample (times_with numbers.new.items units.new.items) names)
+        ≡ request_of h.scale (Want.Sample (times_with numbers.old.items units.old.items) names))
+        (λ why. request_of h.scale (Want.Sample (times_with numbers.old.items units.old.items) names)
+        ≡ Err (model_refusal why)) }
+    ensures no_units { OnOk result (has_units units.new.items ≡ false) }
+    ensures paired { length units.new.items ≡ length numbers.new.items }
+    ensures many { length numbers.new.items ≡ length numbers.old.items }
+    ensures order { (has_units units.new.items || do_rise numbers.new.items) ≡ true }
+{
+    if !has_units(units) {
+        return Ok(());
+    }
+    write_ticks(numbers, units, view)?;
+    if !do_rise(numbers) {
+        return Err(Refusal::NotRising);
+    }
+    units.fill(None);
     Ok(())
 }

@@ -1,11 +1,11 @@
 //! What the words of the command line ask for, borrowed from their matches.
-ghost use Rattle.std.specs.Prelude.{◌≡◌, IfErr, IfOk, codes, map, option_map, string_bytes};
+ghost use Rattle.std.specs.Prelude.{◌≡◌, IfErr, IfOk, true, codes, map, option_map, string_bytes};
 ghost use Rattle.vcd_model.specs.Words.{Command, want_of};
-ghost use Rattle.vcd_words.specs.Job.{model_want};
+ghost use Rattle.vcd_words.specs.Job.{is_asked, model_want};
 ghost use Rattle.vcd_words.specs.Words.{command_named, command_used, complete, files_asked, input_asked, some_names, some_of, values_after, word_after, words_command, IsFaultOf};
 
 use crate::job::{UseFault, Want};
-use crate::moment_word::{cut_of, sample_times};
+use crate::moment_word::{cut_of, sample_of};
 use clap::ArgMatches;
 use std::alloc::{AllocError, Global};
 
@@ -108,7 +108,7 @@ fn copied(alloc: Global, names: &[&str]) -> Result<Vec<String>, AllocError>
 }
 
 /// A copy of names, where there are some.
-fn copied_some(alloc: Global, names: Option<&[&str]>) -> Result<Vec<String>, AllocError>
+pub(crate) fn copied_some(alloc: Global, names: Option<&[&str]>) -> Result<Vec<String>, AllocError>
     ensures { IfOk result (λ copies. map string_bytes copies.items ≡ some_names names.entry) }
 {
     match names {
@@ -121,6 +121,7 @@ fn copied_some(alloc: Global, names: Option<&[&str]>) -> Result<Vec<String>, All
 fn merge_of<'a>(files: &[&str]) -> Result<Want, UseFault<'a>>
     ensures want { IfOk result (λ want. want_of (Command.Merge (map (λ file. file.now) files.now))
         ≡ Ok (model_want want)) }
+    ensures asked { IfOk result (λ want. is_asked want ≡ true) }
     ensures fault { IfErr result (λ fault.
         IsFaultOf fault (want_of (Command.Merge (map (λ file. file.now) files.now)))) }
 {
@@ -133,16 +134,15 @@ fn merge_of<'a>(files: &[&str]) -> Result<Want, UseFault<'a>>
 /// What these words ask for, or the first fault of them. Their names are copied.
 pub fn want_of<'a>(alloc: Global, words: Words<'_, 'a>) -> Result<Want, UseFault<'a>>
     ensures want { IfOk result (λ want. want_of (words_command words.entry) ≡ Ok (model_want want)) }
+    ensures asked { IfOk result (λ want. is_asked want ≡ true) }
     ensures fault { IfErr result (λ fault. IsFaultOf fault (want_of (words_command words.entry))) }
 {
     Ok(match words {
         Words::Check => Want::Check,
         Words::List => Want::List,
         Words::Pick(names) => Want::Pick(copied(alloc, names)?),
-        Words::Cut(from, to) => Want::Cut(cut_of(from, to)?),
-        Words::Sample(at, names) => {
-            Want::Sample(sample_times(alloc, at)?, copied_some(alloc, names)?)
-        }
+        Words::Cut(from, to) => cut_of(from, to)?,
+        Words::Sample(at, names) => sample_of(alloc, at, names)?,
         Words::Edges(names) => Want::Edges(copied_some(alloc, names)?),
         Words::Merge(files) => merge_of(files)?,
     })

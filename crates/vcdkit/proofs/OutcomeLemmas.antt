@@ -20,7 +20,7 @@ use Rattle.vcd_words.specs.declared.job.Want.{Want}
 use Rattle.vcd_words.specs.declared.job.Want.TheVariants as want
 use Rattle.vcd_words.specs.Job.{is_merge, model_want, names_asked}
 use Rattle.vcdkit.specs.Tasks.{taskless}
-use Rattle.vcd_words.specs.Times.{times_asked}
+use Rattle.vcd_words.specs.Ticks.{times_with}
 
 -- the header is read
 abbrev head_of : ℕ → Input → Reading HeaderPhrase
@@ -99,15 +99,15 @@ unfolding request_of
 of_one want.Check scale task one e = let same : Request.Check ≡ task = cc in subst (IsOfOne want.Check) same (refl, λ names o. refl)
 of_one want.List scale task one e = let same : Request.Listing ≡ task = cc in subst (IsOfOne want.List) same (refl, λ names o. refl)
 of_one (want.Pick asked) scale task one e = let same : Request.Pick (map string_bytes asked.items) ≡ task = cc in subst (IsOfOne (want.Pick asked)) same (refl, λ names o. refl)
-of_one (want.Cut period) scale task one e =
-    let from = moment_ticks scale (asked period.from) true in
-    let to = moment_ticks scale (asked period.to) false in
-    let cut = cut_is (model.has_unit (asked period.from ∷ asked period.to ∷ [])) from to task e in
-    subst (IsOfOne (want.Cut period)) (sym cut.2) (refl, λ names o. refl)
-of_one (want.Sample times names) scale task one e =
-    let asked = times_asked times in
+of_one (want.Cut from to) scale task one e =
+    let first = moment_ticks scale (asked from) true in
+    let last = moment_ticks scale (asked to) false in
+    let cut = cut_is (model.has_unit (asked from ∷ asked to ∷ [])) first last task e in
+    subst (IsOfOne (want.Cut from to)) (sym cut.2) (refl, λ names o. refl)
+of_one (want.Sample numbers units names) scale task one e =
+    let asked = times_with numbers.items units.items in
     let sample = sample_is (model.has_unit asked) (map (λ m. moment_ticks scale m false) asked) (map string_bytes names.items) task e in
-    subst (IsOfOne (want.Sample times names)) (sym sample.1) (refl, λ names o. refl)
+    subst (IsOfOne (want.Sample numbers units names)) (sym sample.1) (refl, λ names o. refl)
 of_one (want.Edges names) scale task one e = let same : Request.Edges (map string_bytes names.items) ≡ task = cc in subst (IsOfOne (want.Edges names)) same (refl, λ names o. refl)
 of_one want.Merge scale task one e = cc
 
@@ -116,8 +116,8 @@ pub listing_due : (wanted : Want) → is_merge wanted ≡ false → taskless wan
 listing_due want.Check one = refl
 listing_due want.List one = refl
 listing_due (want.Pick asked) one = refl
-listing_due (want.Cut period) one = refl
-listing_due (want.Sample times names) one = refl
+listing_due (want.Cut from to) one = refl
+listing_due (want.Sample numbers units names) one = refl
 listing_due (want.Edges names) one = refl
 listing_due want.Merge one = cc
 

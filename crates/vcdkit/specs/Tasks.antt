@@ -3,17 +3,16 @@ use Rattle.std.specs.Prelude.{Option, Some, None, Result, Ok, Err}
 use Rattle.vcd_model.specs.Job as model
 use Rattle.vcd_model.specs.Outcome.{Request}
 use Rattle.vcd_tools.specs.Engine.{request_of}
-use Rattle.vcd_tools.specs.declared.span.Span.{Span}
 use Rattle.vcd_tools.specs.declared.task.Task.{Task}
 use Rattle.vcd_words.specs.Refusal.{model_refusal}
 use Rattle.vcd_words.specs.declared.job.Want.{Want}
 use Rattle.vcd_words.specs.declared.job.Want.TheVariants as want
 use Rattle.vcd_words.specs.declared.refusal.Refusal.{Refusal}
 
--- the request of a cut over these ticks, or why it is refused
-abbrev pub span_request : Result Span Refusal → Result Request model.Refusal
-span_request (Ok span) = Ok (Request.Cut span.from span.to)
-span_request (Err why) = Err (model_refusal why)
+-- the request of a cut in ticks, or why it is refused
+abbrev pub cut_request : Result Task Refusal → Result Request model.Refusal
+cut_request (Ok task) = Ok (request_of task)
+cut_request (Err why) = Err (model_refusal why)
 
 -- the request where there is no task over the items of one body
 abbrev pub taskless : Want → Request

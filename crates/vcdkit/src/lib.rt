@@ -1,9 +1,9 @@
 //! A job to its outcome: the commands of `vcdkit`, over any readers and sinks.
 //!
 //! `run` does a job, and its contract says what is left on readers and sinks: output, message and status are those of the
-//! definitions' outcome (`HasRun`), or a prefix of the output where a write failed, or none of it where out of memory. Where words
-//! ask for no job (`vcd_words`), `use_fault` says so. Words, files and the devices themselves are those of `vcdkit_main`, the
-//! program.
+//! definitions' outcome (`HasRun`), or a prefix of the output where a write failed, or none of it where out of memory. The words
+//! that are taken (`command_of`), and the `Job` that they ask for (`job_of`), are of `vcd_words`; a caller finds them here. Where
+//! words ask for no job, `use_fault` says so. The words themselves, files and devices are those of `vcdkit_main`, the program.
 //!
 //! # The modules
 //!
@@ -15,7 +15,8 @@
 //! - `failure`: why a run ends before it is done
 //! - `message`: the lines on the error stream, and the statuses
 //!
-//! In `specs/`: `Run`, what a run leaves; `Inputs`, how far its inputs were read; `Tasks`; `Failure`; `Message`.
+//! In `specs/`: `Run`, what a run leaves; `Inputs`, how far its inputs were read; `Tasks`; `Failure`; `Message`; of the words
+//! `Job`, `Words`, `Ticks` and `Refusal`; and the definitions that these cite, as `Model`.
 //!
 //! # Limits
 //!
@@ -32,4 +33,7 @@ mod whole_run;
 
 pub use again::Again;
 pub use message::{open_fault, use_fault, write_fault};
+pub use vcd_words::{
+    Job, MOST_FILES, UseFault, Want, command_of, files_of, input_of, job_of, parse_status,
+};
 pub use whole_run::run;

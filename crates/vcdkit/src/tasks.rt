@@ -1,57 +1,53 @@
 //! What is wanted, as a task over the items of a body.
-ghost use Rattle.std.specs.Prelude.{◌≡◌, false};
+ghost use Rattle.std.specs.Prelude.{◌≡◌, IfOk, IfSome, true};
 ghost use Rattle.vcd_model.specs.Header.{Header};
 ghost use Rattle.vcd_model.specs.Job.{Want as ModelWant, request_of};
+ghost use Rattle.vcd_model.specs.Laws.{IsValid};
+ghost use Rattle.vcd_tools.specs.Engine.{request_of as task_request_of};
 ghost use Rattle.vcd_head.specs.Moments.{asked};
 ghost use Rattle.vcd_view.specs.Views.{IsViewOf};
-ghost use Rattle.vcd_words.specs.Job.{model_want, HasTicks};
-ghost use Rattle.vcd_words.specs.Ticks.{has_units};
-ghost use Rattle.vcdkit.specs.Tasks.{span_request, task_request};
+ghost use Rattle.vcd_words.specs.Job.{is_asked, model_want, HasTicks};
+ghost use Rattle.vcdkit.specs.Tasks.{cut_request, task_request};
 
-use vcd_head::ticks;
-use vcd_tools::{Samples, Span, Task};
+use vcd_head::{Moment, ticks};
+use vcd_tools::Task;
 use vcd_view::HeadView;
-use vcd_words::{Period, Refusal, Times, Want};
+use vcd_words::{Refusal, Want};
 
-/// The times of a cut in ticks of the header that is shown: the first rounded up, the last down.
-fn span_of(period: Period, view: HeadView<'_>) -> Result<Span, Refusal>
-    ensures { (h : Header) → IsViewOf view.entry h
-        → request_of h.scale (ModelWant.Cut (asked period.from) (asked period.to)) ≡ span_request result }
+/// The cut between these times, in ticks of the header that is shown: the first rounded up, the last down.
+fn cut_of<'w>(from: Moment, to: Moment, view: HeadView<'_>) -> Result<Task<'w>, Refusal>
+    requires { is_asked (Want.Cut from to) ≡ true }
+    ensures request { (h : Header) → IsViewOf view.entry h
+        → request_of h.scale (ModelWant.Cut (asked from) (asked to)) ≡ cut_request result }
+    ensures valid { IfOk result (λ task. IsValid (task_request_of task)) }
 {
-    let from = ticks(view, period.from, true)?;
-    let to = ticks(view, period.to, false)?;
+    let from = ticks(view, from, true)?;
+    let to = ticks(view, to, false)?;
     if to < from {
         return Err(Refusal::FromAboveTo);
     }
-    Ok(Span { from, to })
-}
-
-/// A sample of these names at the times, which are ticks.
-fn samples_of<'t>(times: &'t Times, names: &'t [String]) -> Samples<'t>
-    requires { has_units times.now.units.items ≡ false }
-    ensures times { result.times.now ≡ times.now.numbers.items }
-    ensures names { result.names ≡ names.entry }
-{
-    Samples {
-        times: times.numbers.as_slice(),
-        names,
-    }
+    Ok(Task::Cut { from, to })
 }
 
 /// The task over the items of a body, its times in ticks of the header that is shown; those of a sample are ticks already. A
 /// list is none, since it reads no body, nor is a merge, which reads several.
 pub(crate) fn task_of<'w>(want: &'w Want, view: HeadView<'_>) -> Result<Option<Task<'w>>, Refusal>
-    requires { HasTicks want.now }
-    ensures { (h : Header) → IsViewOf view.entry h
+    requires asked { is_asked want.now ≡ true }
+    requires ticks { HasTicks want.now }
+    ensures request { (h : Header) → IsViewOf view.entry h
         → request_of h.scale (model_want want.now) ≡ task_request want.now result }
+    ensures valid { IfOk result (λ task. IfSome task (λ some. IsValid (task_request_of some))) }
 {
     match want {
         Want::Check => Ok(Some(Task::Check)),
         Want::List => Ok(None),
         Want::Merge => Ok(None),
         Want::Pick(names) => Ok(Some(Task::Pick(names.as_slice()))),
-        Want::Cut(period) => Ok(Some(Task::Cut(span_of(*period, view)?))),
-        Want::Sample(times, names) => Ok(Some(Task::Sample(samples_of(times, names.as_slice())))),
+        Want::Cut(from, to) => Ok(Some(cut_of(*from, *to, view)?)),
+        Want::Sample(numbers, _, names) => Ok(Some(Task::Sample {
+            times: numbers.as_slice(),
+            names: names.as_slice(),
+        })),
         Want::Edges(names) => Ok(Some(Task::Edges(names.as_slice()))),
     }
 }

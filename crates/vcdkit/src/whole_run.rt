@@ -12,7 +12,7 @@ ghost use Rattle.vcd_text.specs.Feed.{HasGiven, SameLoans, source_of, supply_of,
 ghost use Rattle.vcd_view.specs.Views.{IsViewOf};
 ghost use Rattle.vcd_text.specs.Advances.{HasNotFailed};
 ghost use Rattle.vcdkit.specs.Failure.{end_of, failure_of, merge_end, writes_failed, CountsRead, CountsReads};
-ghost use Rattle.vcd_words.specs.Job.{is_merge, model_want, names_asked};
+ghost use Rattle.vcd_words.specs.Job.{is_asked, is_merge, model_want, names_asked};
 ghost use Rattle.vcdkit.specs.Message.{end_message, end_status, Shows};
 ghost use Rattle.vcdkit.specs.Run.{Ends, EndsAll, HasRun, IsAfter, IsOfJob, settled_for};
 ghost use Rattle.vcdkit.specs.declared.failure.Failure.{Failure};
@@ -58,6 +58,7 @@ fn run_want<S: Source, W: Sink>(
     out: &mut W,
 ) -> Result<Done, Failure>
     requires one { is_merge want.old ≡ false }
+    requires asked { is_asked want.old ≡ true }
     requires feed_failures { S.failures (source_of feed.old) < 2 ^ 64 - 1 }
     requires out_failures { (W.device out.old).failures < 2 ^ 64 - 1 }
     requires open { HasNotFailed feed.old }
@@ -75,6 +76,7 @@ fn run_want<S: Source, W: Sink>(
         ≡ (W.device out.old).failures + writes_failed (failure_of result) }
     ensures loans { SameLoans feed.old feed.new }
     ensures names { names_asked want.new ≡ names_asked want.old }
+    ensures asked { is_asked want.new ≡ true }
 {
     want.write_ticks(view)?;
     let Some(task) = task_of(want, view)? else {
@@ -101,13 +103,13 @@ fn run_input<S: Source, W: Sink>(
     reader: &mut S,
     out: &mut W,
 ) -> Result<Done, Failure>
-    requires one { is_merge job.old.want ≡ false }
+    requires one { is_merge job.old.task ≡ false }
     requires reader_failures { S.failures reader.old < 2 ^ 64 - 1 }
     requires out_failures { (W.device out.old).failures < 2 ^ 64 - 1 }
     ensures ends { (text name : List ℕ) → S.rest reader.old ≡ Some text
-        → Ends (names_asked job.old.want) (IsOfJob (model_want job.old.want) job.old.limit name)
+        → Ends (names_asked job.old.task) (IsOfJob (model_want job.old.task) job.old.limit name)
         job.old.limit job.old.chunk (whole text) name []
-        (settled_for result (is_settled (model_want job.old.want) declarations_allowed)
+        (settled_for result (is_settled (model_want job.old.task) declarations_allowed)
         (is_header_over declarations_allowed))
         (supply S.rest S.failures reader.old) (supply S.rest S.failures reader.new)
         (W.device out.old) (W.device out.new) result }
@@ -115,7 +117,7 @@ fn run_input<S: Source, W: Sink>(
         (failure_of result) }
     ensures writes { (W.device out.new).failures
         ≡ (W.device out.old).failures + writes_failed (failure_of result) }
-    ensures names { names_asked job.new.want ≡ names_asked job.old.want }
+    ensures names { names_asked job.new.task ≡ names_asked job.old.task }
 {
     let mut memory = windows_for(alloc, job, 1)?;
     let mut feed = Feed::new(
@@ -125,7 +127,7 @@ fn run_input<S: Source, W: Sink>(
         &mut memory.values,
     );
     let head = open_input(alloc, 0, &mut feed, MOST_DECLARATIONS)?;
-    run_want(alloc, &mut job.want, head.view(), &mut feed, out)
+    run_want(alloc, &mut job.task, head.view(), &mut feed, out)
 }
 
 /// A merge over several inputs: their windows, their headers in order, and then the merge.
@@ -175,12 +177,12 @@ fn run_readers<S: Source, W: Sink>(
 ) -> Result<Done, Failure>
     requires some { 0 < length readers.old }
     requires few { length readers.old ≤ 64 }
-    requires alone { is_merge job.old.want ≡ false → length readers.old ≡ 1 }
+    requires alone { is_merge job.old.task ≡ false → length readers.old ≡ 1 }
     requires reader_failures { All (λ r. S.failures r < 2 ^ 64 - 1) readers.old }
     requires out_failures { (W.device out.old).failures < 2 ^ 64 - 1 }
     ensures ends { (texts names : List (List ℕ)) → map S.rest readers.old ≡ map (λ text. Some text) texts
         → length names ≡ length readers.old
-        → EndsAll (model_want job.old.want) (names_asked job.old.want) job.old.limit job.old.chunk
+        → EndsAll (model_want job.old.task) (names_asked job.old.task) job.old.limit job.old.chunk
         names texts
         (map (supply S.rest S.failures) readers.old) (map (supply S.rest S.failures) readers.new)
         (W.device out.old) (W.device out.new) result }
@@ -188,9 +190,9 @@ fn run_readers<S: Source, W: Sink>(
         (failure_of result) }
     ensures writes { (W.device out.new).failures
         ≡ (W.device out.old).failures + writes_failed (failure_of result) }
-    ensures names { names_asked job.new.want ≡ names_asked job.old.want }
+    ensures names { names_asked job.new.task ≡ names_asked job.old.task }
 {
-    if job.want.is_merge() {
+    if job.task.is_merge() {
         return run_merge(alloc, job, readers, out);
     }
     run_input(alloc, job, &mut readers[0], out)
@@ -214,7 +216,7 @@ pub fn run<S: Source, W: Sink, E: Sink>(
     requires names { length names.now ≡ length readers.old }
     requires some { 0 < length readers.old }
     requires few { length readers.old ≤ 64 }
-    requires alone { is_merge job.want ≡ false → length readers.old ≡ 1 }
+    requires alone { is_merge job.task ≡ false → length readers.old ≡ 1 }
     requires reader_failures { All (λ r. S.failures r < 2 ^ 64 - 1) readers.old }
     requires out_failures { (W.device out.old).failures < 2 ^ 64 - 1 }
     requires err_failures { (E.device err.old).failures < 2 ^ 64 - 1 }
@@ -228,16 +230,16 @@ pub fn run<S: Source, W: Sink, E: Sink>(
         × ((W.device out.new).failures ≡ (W.device out.old).failures + writes_failed why)
         × (result ≡ end_status why)
         × Shows (E.device err.old) (E.device err.new)
-        (end_message (map string_bytes names.now) (names_asked job.want) why) }
+        (end_message (map string_bytes names.now) (names_asked job.task) why) }
 
     // Over readers that tell their bytes: it is the outcome of the definitions, and no more was read than what settles it.
     ensures gives { (texts : List (List ℕ)) → map S.rest readers.old ≡ map (λ text. Some text) texts
-        → HasRun (model_want job.want) job.limit job.chunk (map string_bytes names.now) texts
+        → HasRun (model_want job.task) job.limit job.chunk (map string_bytes names.now) texts
         (map (supply S.rest S.failures) readers.old) (map (supply S.rest S.failures) readers.new)
         (W.device out.old) (W.device out.new) (E.device err.old) (E.device err.new) result }
 {
     match run_readers(alloc, &mut job, readers, out) {
         Ok(_) => 0,
-        Err(failure) => report(failure, names, job.want.names(), err),
+        Err(failure) => report(failure, names, job.task.names(), err),
     }
 }

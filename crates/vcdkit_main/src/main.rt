@@ -48,7 +48,7 @@ fn run_job<S: Source, W: Write + Drop, E: Sink>(
     requires names { length names.now ≡ length readers.old }
     requires some { 0 < length readers.old }
     requires few { length readers.old ≤ 64 }
-    requires alone { is_merge job.want ≡ false → length readers.old ≡ 1 }
+    requires alone { is_merge job.task ≡ false → length readers.old ≡ 1 }
     requires reader_failures { All (λ r. S.failures r < 2 ^ 64 - 1) readers.old }
     requires err_failures { (E.device err.old).failures < 2 ^ 64 - 2 }
 {
@@ -105,7 +105,7 @@ fn run_over_file(rt: &HostRuntime, job: Job, name: &str) -> Result<u8, AllocErro
 
 /// Opens the files of these names in order, at most 64 as a merge has, and runs the job over them.
 fn run_over_files(rt: &HostRuntime, job: Job, files: &[&str]) -> Result<u8, AllocError>
-    requires merge { is_merge job.want ≡ true }
+    requires merge { is_merge job.task ≡ true }
     requires some { 0 < length files.now }
 {
     let alloc = rt.alloc();
@@ -138,7 +138,7 @@ fn run_words<'a>(rt: &HostRuntime, words: &'a [String]) -> Result<u8, UseFault<'
     };
     let job = job_of(alloc, &matches)?;
     let status = match (files_of(&matches), input_of(&matches)) {
-        (Some(files), _) if job.want.is_merge() && !files.is_empty() => {
+        (Some(files), _) if job.task.is_merge() && !files.is_empty() => {
             run_over_files(rt, job, files)
         }
         (_, Some(name)) => run_over_file(rt, job, name),

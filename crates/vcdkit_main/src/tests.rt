@@ -8,7 +8,7 @@ use vcd_words::{Job, Want};
 // Whether a job whose output cannot be flushed is said to have a failed write.
 fn is_flush_said(alloc: Global) -> Result<bool, AllocError> {
     let job = Job {
-        want: Want::Check,
+        task: Want::Check,
         limit: 64,
         chunk: 16,
     };

@@ -8,8 +8,7 @@ use std::io;
 use std::io::{ErrorKind, Read, Write};
 use vcd_text::Watch;
 use vcd_text::doubles::{Narrow, Pieces};
-use vcd_words::{Job, Want};
-use vcdkit::{Again, run};
+use vcdkit::{Again, Job, Want, run};
 
 // Its first call is interrupted, and each second one after it.
 #[derive(Drop)]
@@ -67,7 +66,7 @@ fn check(alloc: Global, out: &mut Sink, err: &mut Sink) -> Result<u8, AllocError
 {
     let names = [String::from_str(alloc, "a.vcd")?];
     let job = Job {
-        want: Want::Check,
+        task: Want::Check,
         limit: 64,
         chunk: 16,
     };

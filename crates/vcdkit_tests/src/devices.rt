@@ -8,8 +8,8 @@ use std::io::{ErrorKind, Write};
 use std::process::Abort;
 use vcd_text::Watch;
 use vcd_text::doubles::{MOST_HELD, Narrow, Pieces};
-use vcd_words::{Job, Want, Words};
-use vcdkit::run;
+use vcd_words::Words;
+use vcdkit::{Job, Want, run};
 
 // No device is called more often in a run.
 const MOST_CALLS: u64 = 1000;
@@ -152,7 +152,7 @@ fn run_alone(
 {
     let want = wanted(alloc, words)?;
     let job = Job {
-        want,
+        task: want,
         limit: 64,
         chunk: plan.chunk,
     };
@@ -190,7 +190,7 @@ fn run_merge(
     let mut out = Watch::new(Sparing::new(plan.most, plan.out));
     let mut err = Watch::new(Sparing::new(plan.most, plan.err));
     let job = Job {
-        want: Want::Merge,
+        task: Want::Merge,
         limit: 64,
         chunk: plan.chunk,
     };

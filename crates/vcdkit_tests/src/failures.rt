@@ -6,7 +6,8 @@ use super::runs::{
     wanted, whole,
 };
 use std::alloc::{AllocError, Global};
-use vcd_words::{Job, Words};
+use vcd_words::Words;
+use vcdkit::Job;
 
 // The commands over one input.
 const COMMANDS: [Words<'static, 'static>; 6] = [
@@ -47,7 +48,7 @@ fn is_left_in(
 {
     let want = wanted(alloc, words)?;
     let job = Job {
-        want,
+        task: want,
         limit: 64,
         chunk: 64,
     };

@@ -6,8 +6,7 @@ use std::alloc::{AllocError, Global};
 use std::process::Abort;
 use vcd_text::Watch;
 use vcd_text::doubles::Narrow;
-use vcd_words::{Job, Want};
-use vcdkit::run;
+use vcdkit::{Job, Want, run};
 
 // Both inputs, the output, the message and the status.
 const MERGES: [(&[u8], &[u8], &[u8], &[u8], u8); 4] = [
@@ -54,7 +53,7 @@ fn merge_on(alloc: Global, first: &[u8], second: &[u8], chunk: usize) -> Result<
     let mut out = Watch::new(Narrow::new(1024));
     let mut err = Watch::new(Narrow::new(80));
     let job = Job {
-        want: Want::Merge,
+        task: Want::Merge,
         limit: 1_048_576,
         chunk,
     };

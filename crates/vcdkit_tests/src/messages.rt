@@ -5,8 +5,7 @@ use super::runs::{failing, run_named, whole};
 use std::alloc::{AllocError, Global};
 use vcd_text::doubles::Narrow;
 use vcd_text::{Sink, Watch};
-use vcd_words::{Job, UseFault, Want};
-use vcdkit::{open_fault, use_fault, write_fault};
+use vcdkit::{Job, UseFault, Want, open_fault, use_fault, write_fault};
 
 // Whether this stands there, with so many failed writes.
 fn is_held(err: &Watch<Narrow>, text: &[u8], failures: u64) -> bool {
@@ -33,7 +32,7 @@ fn is_told(
     requires { room ≤ 1024 }
 {
     let job = Job {
-        want: Want::Check,
+        task: Want::Check,
         limit: 64,
         chunk: 64,
     };

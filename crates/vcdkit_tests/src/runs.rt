@@ -1,12 +1,13 @@
 // Runs over texts, and dumps that several tests have.
-ghost use Rattle.std.specs.Prelude.{◌≤◌};
+ghost use Rattle.std.specs.Prelude.{◌≡◌, ◌≤◌, IfOk, true};
+ghost use Rattle.vcdkit.specs.Job.{is_asked};
 
 use std::alloc::{AllocError, Global};
 use std::process::Abort;
 use vcd_text::Watch;
 use vcd_text::doubles::{Narrow, Pieces};
-use vcd_words::{Job, Want, Words, want_of};
-use vcdkit::run;
+use vcd_words::{Words, want_of};
+use vcdkit::{Job, Want, run};
 
 // A dump with two times and two changes, and its report.
 pub const DUMP: &[u8] =
@@ -68,7 +69,9 @@ pub(crate) fn failing(bytes: &[u8]) -> Pieces<'_> {
 }
 
 // What good words ask for.
-pub(crate) fn wanted(alloc: Global, words: Words<'_, '_>) -> Result<Want, AllocError> {
+pub(crate) fn wanted(alloc: Global, words: Words<'_, '_>) -> Result<Want, AllocError>
+    ensures { IfOk result (λ want. is_asked want ≡ true) }
+{
     match want_of(alloc, words) {
         Ok(want) => Ok(want),
         Err(_) => Err(AllocError),
@@ -129,7 +132,11 @@ pub(crate) fn run_on(
     requires chunk { (1 ≤ chunk) × (chunk ≤ 65536) }
 {
     let want = wanted(alloc, words)?;
-    let job = Job { want, limit, chunk };
+    let job = Job {
+        task: want,
+        limit,
+        chunk,
+    };
     run_named(alloc, "(stdin)", job, input, 1024, 80)
 }
 

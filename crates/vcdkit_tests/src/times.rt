@@ -1,21 +1,13 @@
 // Words that are times, and words that are none.
 use std::alloc::Global;
 use vcd_head::Moment;
-use vcd_words::{Period, Times, UseFault, Want, Words, want_of};
+use vcd_words::{Words, want_of};
+use vcdkit::{UseFault, Want};
 
 // The times of a cut between these words, or their fault.
-fn cut_of<'a>(alloc: Global, from: &'a str, to: &'a str) -> Result<Period, UseFault<'a>> {
+fn cut_of<'a>(alloc: Global, from: &'a str, to: &'a str) -> Result<[Moment; 2], UseFault<'a>> {
     match want_of(alloc, Words::Cut(from, to)) {
-        Ok(Want::Cut(period)) => Ok(period),
-        Ok(_) => Err(UseFault::BadWords),
-        Err(fault) => Err(fault),
-    }
-}
-
-// The times of a sample of this word, or their fault.
-fn sample_times<'a>(alloc: Global, at: &'a str) -> Result<Times, UseFault<'a>> {
-    match want_of(alloc, Words::Sample(at, None)) {
-        Ok(Want::Sample(times, _)) => Ok(times),
+        Ok(Want::Cut(first, last)) => Ok([first, last]),
         Ok(_) => Err(UseFault::BadWords),
         Err(fault) => Err(fault),
     }
@@ -23,7 +15,8 @@ fn sample_times<'a>(alloc: Global, at: &'a str) -> Result<Times, UseFault<'a>> {
 
 // The time that a word is, or that it is none.
 fn time_of<'a>(alloc: Global, word: &'a str) -> Result<Moment, UseFault<'a>> {
-    Ok(cut_of(alloc, word, word)?.to)
+    let [_, last] = cut_of(alloc, word, word)?;
+    Ok(last)
 }
 
 // Words, and the number and the unit of the time that they are.
@@ -89,13 +82,8 @@ type Told<'a> = Result<(u64, Option<i8>, u64, Option<i8>), UseFault<'a>>;
 
 // What the words of a cut tell.
 fn told<'a>(alloc: Global, from: &'a str, to: &'a str) -> Told<'a> {
-    let period = cut_of(alloc, from, to)?;
-    Ok((
-        period.from.number,
-        period.from.unit,
-        period.to.number,
-        period.to.unit,
-    ))
+    let [first, last] = cut_of(alloc, from, to)?;
+    Ok((first.number, first.unit, last.number, last.unit))
 }
 
 const CUTS: [(&str, &str, Told<'static>); 7] = [
@@ -117,9 +105,9 @@ fn a_cut_ends_no_earlier_than_it_begins(rt: HostRuntime) {
 
 // Whether the word behind `--at` has these numbers and units.
 fn has_times(alloc: Global, at: &str, numbers: &[u64], units: &[Option<i8>]) -> bool {
-    match sample_times(alloc, at) {
-        Ok(times) => times.numbers.as_slice() == numbers && times.units.as_slice() == units,
-        Err(_) => false,
+    match want_of(alloc, Words::Sample(at, None)) {
+        Ok(Want::Sample(given, of, _)) => given.as_slice() == numbers && of.as_slice() == units,
+        Ok(_) | Err(_) => false,
     }
 }
 
@@ -139,7 +127,7 @@ fn the_times_of_a_sample_stand_between_commas(rt: HostRuntime) {
 
 // Why the word behind `--at` is refused.
 fn fault_of<'a>(alloc: Global, at: &'a str) -> Option<UseFault<'a>> {
-    match sample_times(alloc, at) {
+    match want_of(alloc, Words::Sample(at, None)) {
         Ok(_) => None,
         Err(fault) => Some(fault),
     }

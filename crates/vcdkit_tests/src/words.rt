@@ -6,7 +6,8 @@ use clap::error::ErrorKind;
 use clap::{Arg, ArgMatches, Command, Error};
 use std::alloc::{AllocError, Global};
 use std::process::Abort;
-use vcd_words::{Job, UseFault, Want, Words, command_of, input_of, job_of, parse_status};
+use vcd_words::Words;
+use vcdkit::{Job, UseFault, Want, command_of, input_of, job_of, parse_status};
 
 // The token limit where none is asked for.
 const LIMIT: usize = 1_048_576;
@@ -166,7 +167,7 @@ fn is_job<'a>(
 {
     let want = wanted(alloc, want)?;
     let job = Job {
-        want,
+        task: want,
         limit,
         chunk: 65_536,
     };
@@ -195,7 +196,7 @@ fn refuse<'a, R: Abort + AllocGlobal>(rt: &R, words: &'a [&'a str], fault: UseFa
 #[test]
 fn a_command_asks_for_its_job(rt: HostRuntime) {
     let job = Job {
-        want: Want::Check,
+        task: Want::Check,
         limit: LIMIT,
         chunk: 65_536,
     };

@@ -28,10 +28,9 @@ ghost use Rattle.vcd_tools.specs.declared.task.Task.TheVariants as task;
 use crate::item_text::ItemText;
 use crate::machine::last_of;
 use crate::pieces::{Lying, Pieces};
-use crate::span::Span;
 use crate::task::Room;
 use crate::values::set_plain;
-use vcd_body::{Item, Plain, Regs, Stop, Table, put_time};
+use vcd_body::{Item, Plain, Regs, Stop, Table, put_short, put_time};
 use vcd_head::{put_head, select};
 use vcd_text::{Sink, WriteFailed, put};
 use vcd_view::HeadView;
@@ -60,7 +59,7 @@ fn put_values<W: Sink>(
 {
     for (code, declared) in view.codes.iter().enumerate() {
         if !declared.event {
-            table.put_short(view, code, out)?;
+            put_short(view, table, code, out)?;
         }
     }
     Ok(())
@@ -100,19 +99,21 @@ fn may_keep(view: HeadView<'_>, regs: Regs, item: Item) -> bool
 }
 
 impl<'r> Cut<'r> {
-    /// Writes the header, and the start section where nothing is before it.
+    /// Writes the header, and the start section where nothing is before it. The first time is not above the last.
     pub(crate) fn start<W: Sink>(
         view: HeadView<'_>,
         room: Room<'r>,
-        span: Span,
+        from: u64,
+        to: u64,
         out: &mut W,
     ) -> Result<Cut<'r>, Stop>
         requires failures { (W.device out.old).failures < 2 ^ 64 - 1 }
-        requires room { HasRoomFor (task.Cut span) view room }
+        requires order { from ≤ to }
+        requires room { HasRoomFor (task.Cut from to) view room }
         ensures starts { (h : Header) → IsViewOf view.entry h
-            → Starts (λ m. AreCut m h []) (Request.Cut span.from span.to) h
+            → Starts (λ m. AreCut m h []) (Request.Cut from to) h
             (W.device out.old) (W.device out.new) result }
-        ensures span { MatchResult result (λ m. span_in m ≡ Request.Cut span.from span.to) StopsUnread }
+        ensures span { MatchResult result (λ m. span_in m ≡ Request.Cut from to) StopsUnread }
         ensures room { IfOk result (λ m. IsWithin (lent_to m) (room_size room.entry)) }
         ensures failures { (W.device out.new).failures
             ≡ (W.device out.old).failures + writes_failed result }
@@ -129,13 +130,13 @@ impl<'r> Cut<'r> {
         }
         put_head(view, marks, out)?;
         let mut cut = Cut {
-            from: span.from,
-            to: span.to,
+            from,
+            to,
             table: Table::new(view, values, slots, shares),
             text: ItemText::new(),
             started: false,
         };
-        if span.from == 0 {
+        if from == 0 {
             cut.begin(view, out)?;
         }
         Ok(cut)

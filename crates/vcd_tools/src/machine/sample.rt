@@ -1,6 +1,7 @@
 //! `sample`: the values of selected variables at some times.
-ghost use Rattle.std.specs.Prelude.{◌≡◌, ◌≤◌, ◌-◌, ◌^◌, ◌<◌, ◌+◌, ◌∷◌, ◌++◌, [], List, ℕ, length, nat_le, None, false, IfOk, MatchResult, map, string_bytes};
+ghost use Rattle.std.specs.Prelude.{◌≡◌, ◌≢◌, ◌≤◌, ◌-◌, ◌^◌, ◌<◌, ◌+◌, ◌∷◌, ◌++◌, [], List, ℕ, length, nat_le, None, false, IfOk, MatchResult, map, string_bytes};
 ghost use Rattle.std.specs.List.{position_or_len};
+ghost use Rattle.std.specs.List.Sorted.{IsStrictlyIncreasing};
 ghost use Rattle.vcd_model.specs.Header.{Header};
 ghost use Rattle.vcd_model.specs.Items.{BodyItem};
 ghost use Rattle.vcd_model.specs.Outcome.{Request, close_text};
@@ -20,7 +21,6 @@ ghost use Rattle.vcd_tools.specs.Selection.{IsFirstUnmatched, IsUnmatched};
 ghost use Rattle.vcd_tools.specs.declared.task.Task.TheVariants as task;
 
 use crate::sample_lines::put_samples;
-use crate::samples::Samples;
 use crate::task::Room;
 use crate::values::set_plain;
 use vcd_body::{Item, Plain, Stop, Table};
@@ -51,19 +51,22 @@ fn count_below(times: &[u64], time: u64) -> usize
 }
 
 impl<'n, 'r> Sample<'n, 'r> {
-    /// Selects the variables. Nothing is written.
+    /// Selects the variables. Nothing is written. There is a time, and each is above the one before it.
     pub(crate) fn start(
         view: HeadView<'_>,
         room: Room<'r>,
-        asked: Samples<'n>,
+        times: &'n [u64],
+        names: &'n [String],
     ) -> Result<Sample<'n, 'r>, Stop>
-        requires { HasRoomFor (task.Sample asked) view room }
+        requires some { times.now ≢ [] }
+        requires rising { IsStrictlyIncreasing times.now }
+        requires room { HasRoomFor (task.Sample times names) view room }
         ensures starts { (h : Header) → IsViewOf view.entry h
             → MatchResult result (λ s. AreSampled s h []
-            × (first_unmatched (map string_bytes asked.entry.names.now) h.declarations ≡ None))
-            (IsFirstUnmatched (map string_bytes asked.entry.names.now) h) }
+            × (first_unmatched (map string_bytes names.now) h.declarations ≡ None))
+            (IsFirstUnmatched (map string_bytes names.now) h) }
         ensures asked { MatchResult result (λ s. asked_in s
-            ≡ Request.Sample asked.entry.times.now (map string_bytes asked.entry.names.now)) IsUnmatched }
+            ≡ Request.Sample times.now (map string_bytes names.now)) IsUnmatched }
         ensures room { IfOk result (λ s. IsWithin (lent_to s) (room_size room.entry)) }
     {
         let Room {
@@ -73,13 +76,13 @@ impl<'n, 'r> Sample<'n, 'r> {
             marks,
         } = room;
         let marks = &mut marks[..view.rows.len()];
-        if let Err(name) = select(view, asked.names, marks) {
+        if let Err(name) = select(view, names, marks) {
             return Err(Stop::Unmatched { name });
         }
         Ok(Sample {
-            times: asked.times,
-            names: asked.names,
-            rest: asked.times,
+            times,
+            names,
+            rest: times,
             table: Table::new(view, values, slots, shares),
             marks,
         })

@@ -1,5 +1,5 @@
 use Rattle.std.proofs.Common.{◌≤◌, ◌-◌, ℕ, List, length}
-use Rattle.vcd_model.specs.Tokens.{Token}
+use Rattle.vcd_head.specs.Model.Tokens.{Token}
 use Rattle.vcd_text.specs.Ahead.{bytes_of, passed_of}
 use Rattle.vcd_text.specs.Passed.{Passed}
 use Rattle.vcd_body.specs.Ahead.{LooksOver}

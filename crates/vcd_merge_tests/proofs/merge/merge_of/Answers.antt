@@ -29,16 +29,16 @@ begin_all-requires c =
           (c.deref_mut.ensures.len ∙ c.in_ok-chunks.ensures.len) (c.deref_mut-2.ensures.len ∙ c.in_ok-tokens.ensures.len) (c.deref_mut-3.ensures.len ∙ c.in_ok-values.ensures.len);
     }
 
-pub merge-answer-requires-clause-parts : goal.merge-answer-requires-clause-parts
-merge-answer-requires-clause-parts c =
+pub merge_as-answer-requires-clause-parts : goal.merge_as-answer-requires-clause-parts
+merge_as-answer-requires-clause-parts c =
     let same = c.in_ok-heads.ensures.lengths in
     let many : length c.deref_mut-4.result.now ≡ length c.args.texts.now = search rules in
     let parts = parts_of (length c.args.texts.now) c.args.chunk _ _ _ (omega (arith, c.requires.texts)) (omega (arith, c.requires.chunk))
     (c.deref_mut.ensures.len ∙ c.in_ok-chunks.ensures.len) (c.deref_mut-2.ensures.len ∙ c.in_ok-tokens.ensures.len) (c.deref_mut-3.ensures.len ∙ c.in_ok-values.ensures.len) in
     parts_same (length c.args.texts.now) _ _ _ _ _ _ _ parts many same.chunks same.tokens same.values
 
-pub merge-answer-requires-clause-bound : goal.merge-answer-requires-clause-bound
-merge-answer-requires-clause-bound c =
+pub merge_as-answer-requires-clause-bound : goal.merge_as-answer-requires-clause-bound
+merge_as-answer-requires-clause-bound c =
     let n = length c.args.texts.now in
     let same = c.in_ok-heads.ensures.lengths in
     let some : 0 < n = omega (arith, c.requires.texts) in

@@ -18,15 +18,15 @@ returns-in_err-limit-clause-fault c =
     let fault = subst (λ (asked : Result ℕ model.UseFault). IsFaultIn c.in_err-limit.field-0.0 asked) (ap model.limit_of c.limit_word.ensures) c.in_err-limit.ensures.fault in
     rw same (limit-fault (command_used c.args.matches.now) (word_after c.args.matches.now (codes "token-limit")) c.in-Some.words c.in_err-limit.field-0.0 found fault)
 
-pub returns-in_err-want-clause-fault : goal.returns-in_err-want-clause-fault
-returns-in_err-want-clause-fault c =
+pub returns-in_err-task-clause-fault : goal.returns-in_err-task-clause-fault
+returns-in_err-task-clause-fault c =
     let found : Some (words_command c.in-Some.words) ≡ complete (command_used c.args.matches.now) = ap (option_map words_command) (sym c.in-Some.is) ∙ c.words_in.ensures in
-    let same : c.from_residual-in_err-want.result ≡ Err c.in_err-want.field-0.0 = search rules in
-    rw same (want-fault (command_used c.args.matches.now) (word_after c.args.matches.now (codes "token-limit")) c.in-Some.words c.in_ok-limit.limit c.in_err-want.field-0.0 found
-    (ap model.limit_of (sym c.limit_word.ensures) ∙ c.in_ok-limit.ensures.limit) c.in_err-want.ensures.fault)
+    let same : c.from_residual-in_err-task.result ≡ Err c.in_err-task.field-0.0 = search rules in
+    rw same (want-fault (command_used c.args.matches.now) (word_after c.args.matches.now (codes "token-limit")) c.in-Some.words c.in_ok-limit.limit c.in_err-task.field-0.0 found
+    (ap model.limit_of (sym c.limit_word.ensures) ∙ c.in_ok-limit.ensures.limit) c.in_err-task.ensures.fault)
 
 pub returns-clause-job : goal.returns-clause-job
 returns-clause-job c =
     let found : Some (words_command c.in-Some.words) ≡ complete (command_used c.args.matches.now) = ap (option_map words_command) (sym c.in-Some.is) ∙ c.words_in.ensures in
-    job-is (command_used c.args.matches.now) (word_after c.args.matches.now (codes "token-limit")) c.in-Some.words (model_want c.in_ok-want.want) c.in_ok-limit.limit found
-    (ap model.limit_of (sym c.limit_word.ensures) ∙ c.in_ok-limit.ensures.limit) c.in_ok-want.ensures.want
+    job-is (command_used c.args.matches.now) (word_after c.args.matches.now (codes "token-limit")) c.in-Some.words (model_want c.in_ok-task.task) c.in_ok-limit.limit found
+    (ap model.limit_of (sym c.limit_word.ensures) ∙ c.in_ok-limit.ensures.limit) c.in_ok-task.ensures.want

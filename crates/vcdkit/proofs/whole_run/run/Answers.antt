@@ -8,11 +8,11 @@ use Rattle.vcdkit.proofs.whole_run.run.Goals as goal
 pub returns-in-Ok-clause-gives : goal.returns-in-Ok-clause-gives
 returns-in-Ok-clause-gives g c = λ texts h.
     let many : length (map string_bytes c.args.names.now) ≡ length c.args.readers.now = length-map c.args.names.now string_bytes ∙ c.requires.names in
-    has_run (model_want c.args.job.want) (names_asked c.args.job.want) c.args.job.limit c.args.job.chunk (map string_bytes c.args.names.now) texts _ _ _ _ _ _ 0 (Ok c.in-Ok.field-0)
+    has_run (model_want c.args.job.task) (names_asked c.args.job.task) c.args.job.limit c.args.job.chunk (map string_bytes c.args.names.now) texts _ _ _ _ _ _ 0 (Ok c.in-Ok.field-0)
     (c.in-Ok.ensures.ends texts (map string_bytes c.args.names.now) h many) refl (shows_nothing _)
 
 pub returns-clause-gives : goal.returns-clause-gives
 returns-clause-gives g c = λ texts h.
     let many : length (map string_bytes c.args.names.now) ≡ length c.args.readers.now = length-map c.args.names.now string_bytes ∙ c.requires.names in
-    has_run (model_want c.args.job.want) (names_asked c.args.job.want) c.args.job.limit c.args.job.chunk (map string_bytes c.args.names.now) texts _ _ _ _ _ _ c.report.result (Err c.in-Err.failure)
+    has_run (model_want c.args.job.task) (names_asked c.args.job.task) c.args.job.limit c.args.job.chunk (map string_bytes c.args.names.now) texts _ _ _ _ _ _ c.report.result (Err c.in-Err.failure)
     (c.in-Err.ensures.ends texts (map string_bytes c.args.names.now) h many) c.report.ensures.status (rw (c.names.ensures, c.run_readers.ensures.names) at c.report.ensures.line)

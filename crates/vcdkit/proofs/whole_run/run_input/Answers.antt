@@ -18,7 +18,7 @@ use Rattle.vcdkit.proofs.whole_run.run_input.Goals as goal
 pub returns-in_err-memory-clause-ends : goal.returns-in_err-memory-clause-ends
 returns-in_err-memory-clause-ends g c = λ text name h.
     let e : c.from_residual.result ≡ Err OutOfMemory = search rules in
-    rw e (no_memory c.args.job.now.want c.args.job.now.limit c.args.job.now.chunk (whole text) name _ _)
+    rw e (no_memory c.args.job.now.task c.args.job.now.limit c.args.job.now.chunk (whole text) name _ _)
 
 pub returns-in_err-head-clause-ends : goal.returns-in_err-head-clause-ends
 returns-in_err-head-clause-ends g c = λ text name h.
@@ -30,7 +30,7 @@ returns-in_err-head-clause-ends g c = λ text name h.
     let gone : c.in_err-head.reader-1-own.given.0 ≡ source_of c.open_input.new.feed = search rules in
     let before : Supply = supply g.S.Source.rest g.S.Source.failures c.args.reader.now in
     let counted = subst (λ (n : ℕ). CountsRead 0 n (g.S.Source.failures (source_of c.open_input.new.feed)) (Some why)) (ap g.S.Source.failures c.new-feed.ensures.source) c.in_err-head.ensures.failures in
-    rw (e, gone) (refused c.args.job.now.want c.args.job.now.limit c.args.job.now.chunk (whole text) name before _ _ why
+    rw (e, gone) (refused c.args.job.now.task c.args.job.now.limit c.args.job.now.chunk (whole text) name before _ _ why
     (failed declarations_allowed c.args.job.now.limit c.args.job.now.chunk (whole text) before c.open_input.new.feed limit chunk 0 why counted (c.in_err-head.ensures.reads (whole text) stands)))
 
 pub returns-clause-ends : goal.returns-clause-ends
@@ -45,6 +45,6 @@ returns-clause-ends g c = λ text name h.
     let head = c.in_ok-head.ensures.reads (whole text) stands in
     let views = subst (λ (s : HeadShown). Views s (header_of (phrases_of head.placed))) (sym c.view.ensures) head.views in
     rw gone
-    (read_on c.args.job.now.want c.args.job.now.limit c.args.job.now.chunk (limit_of feed) (chunk_len_of feed) (whole text) (record { header = header_of (phrases_of head.placed); input = whole text; front = head.given }) name before _ _ _ _ c.run_want.result limit chunk
+    (read_on c.args.job.now.task c.args.job.now.limit c.args.job.now.chunk (limit_of feed) (chunk_len_of feed) (whole text) (record { header = header_of (phrases_of head.placed); input = whole text; front = head.given }) name before _ _ _ _ c.run_want.result limit chunk
     (begun declarations_allowed c.args.job.now.limit c.args.job.now.chunk (whole text) before feed limit chunk (shown c.in_ok-head.head) same head)
     (c.run_want.ensures.ends (header_of (phrases_of head.placed)) (whole text) head.given name views head.stands))

@@ -19,12 +19,12 @@ returns-in_err-write_ticks-clause-ends g c = λ h i front name v st.
 pub returns-in_err-task-clause-ends : goal.returns-in_err-task-clause-ends
 returns-in_err-task-clause-ends g c = λ h i front name v st.
     let e : c.from_residual-in_err-task.result ≡ Err (Refused c.in_err-task.field-0.0) = search rules in
-    let why : request_of h.scale (model_want c.args.want.now) ≡ Err (model_refusal c.in_err-task.field-0.0) = sym (c.in_ok-write_ticks.ensures.same h v) ∙ c.in_err-task.ensures h v in
+    let why : request_of h.scale (model_want c.args.want.now) ≡ Err (model_refusal c.in_err-task.field-0.0) = sym (c.in_ok-write_ticks.ensures.same h v) ∙ c.in_err-task.ensures.request h v in
     rw e (no_ticks c.args.want.now _ _ i front h name _ c.args.feed.now _ refl st c.in_err-task.field-0.0 why)
 
 pub returns-in_default-clause-ends : goal.returns-in_default-clause-ends
 returns-in_default-clause-ends g c = λ h i front name v st.
-    let listing : request_of h.scale (model_want c.args.want.now) ≡ Ok Request.Listing = sym (c.in_ok-write_ticks.ensures.same h v) ∙ c.in_ok-task.ensures h v ∙ ap (λ task. task_request c.write_ticks.new.self (Ok task)) c.in_default.is ∙ ap (λ r. Ok r) (listing_due c.write_ticks.new.self (c.write_ticks.ensures.kind ∙ c.requires.one)) in
+    let listing : request_of h.scale (model_want c.args.want.now) ≡ Ok Request.Listing = sym (c.in_ok-write_ticks.ensures.same h v) ∙ c.in_ok-task.ensures.request h v ∙ ap (λ task. task_request c.write_ticks.new.self (Ok task)) c.in_default.is ∙ ap (λ r. Ok r) (listing_due c.write_ticks.new.self (c.write_ticks.ensures.kind ∙ c.requires.one)) in
     rw (c.ended.ensures)
     (followed c.args.want.now Request.Listing _ _ i front h name _ _ _ _ c.list.result c.requires.one listing
     (listed _ _ i front h name _ c.args.feed.now _ _ c.list.result refl st (c.list.ensures.takes h v) c.list.ensures.counts c.list.ensures.answer))
@@ -51,7 +51,7 @@ returns-in_err-shares-clause-ends g c = λ h i front name v st.
 
 pub returns-clause-ends : goal.returns-clause-ends
 returns-clause-ends g c = λ h i front name v st.
-    let same : request_of h.scale (model_want c.args.want.now) ≡ Ok (request_of_task c.in-Some.task) = sym (c.in_ok-write_ticks.ensures.same h v) ∙ c.in_ok-task.ensures h v ∙ ap (λ task. task_request c.write_ticks.new.self (Ok task)) c.in-Some.is in
+    let same : request_of h.scale (model_want c.args.want.now) ≡ Ok (request_of_task c.in-Some.task) = sym (c.in_ok-write_ticks.ensures.same h v) ∙ c.in_ok-task.ensures.request h v ∙ ap (λ task. task_request c.write_ticks.new.self (Ok task)) c.in-Some.is in
     rw (c.ended-2.ensures) (followed c.args.want.now _ _ _ i front h name _ _ _ _ c.run_task.result c.requires.one same (c.run_task.ensures.gives h i front name v st))
 
 pub run_task-requires-clause-bound : goal.run_task-requires-clause-bound

@@ -5,14 +5,14 @@ use Rattle.vcd_body.specs.Contents.{shown_code}
 use Rattle.vcd_body.specs.Kept.{value_at_size}
 use Rattle.vcd_body.specs.Stored.{held_by}
 use Rattle.vcd_body.proofs.TableLemmas.{line_there, share_there}
-use Rattle.vcd_body.proofs.table.Table.put_short.Goals as goal
+use Rattle.vcd_body.proofs.table_text.put_short.Goals as goal
 
 pub returns-clause-takes : goal.returns-clause-takes
 returns-clause-takes g c = λ laid.
     let holding = c.in-Some-holding_at.holding in
     let declared = c.in-Some.declared in
     let share = c.in-Some-share_in.share in
-    let line = line_there c.args.view c.args.self.now c.args.code declared holding (sym c.code_at.ensures ∙ c.in-Some.is) (sym c.holding_at.ensures ∙ c.in-Some-holding_at.is) in
+    let line = line_there c.args.view c.args.table.now c.args.code declared holding (sym c.code_at.ensures ∙ c.in-Some.is) (sym c.holding_at.ensures ∙ c.in-Some-holding_at.is) in
     subst (λ l. Takes (g.W.Sink.device c.args.w.now) (g.W.Sink.device c.put_value_line.new.w) l c.put_value_line.result)
     (ap (λ (t : List ℕ). line_if_set (record { text = t; size = declared.size; event = declared.event }) (value_at_size declared.size (held_by holding.state holding.len share.now))) c.text_at-id.ensures
     ∙ ap (λ (l : List ℕ). line_if_set (shown_code c.args.view.text.now declared) (value_at_size declared.size (held_by holding.state holding.len l))) c.in-Some-share_in.ensures.share
@@ -26,5 +26,5 @@ pub returns-in_default-share_in-clause-takes : goal.returns-in_default-share_in-
 returns-in_default-share_in-clause-takes g c = λ laid.
     let holding = c.in-Some-holding_at.holding in
     let at = sym c.holding_at.ensures ∙ c.in-Some-holding_at.is in
-    let p = share_there c.args.self.now c.args.code holding laid at in
+    let p = share_there c.args.table.now c.args.code holding laid at in
     absurd (c.share_in.ensures.there p.0 p.1 p.2 c.in_default-share_in.is)

@@ -1,7 +1,7 @@
 use Rattle.std.proofs.Common.{[], ◌∷◌, ◌++◌, sym, ap, ◌∙◌, subst}
 use Rattle.vcd_text.specs.Device.{Puts}
 use Rattle.vcd_body.proofs.ChangeLine.{bit_line}
-use Rattle.vcd_body.proofs.change.put_change.Goals as goal
+use Rattle.vcd_body.proofs.change.put_own_change.Goals as goal
 
 pub returns-in-len1 : goal.returns-in-len1
 returns-in-len1 g c =

@@ -1,0 +1,46 @@
+// Changes as they are written, under a code of a header or a new one.
+ghost use Rattle.std.specs.Prelude.{◌≡◌, ◌≢◌, ◌-◌, ◌^◌, ◌<◌, false, length};
+ghost use Rattle.vcd_model.specs.Values.{change_line};
+ghost use Rattle.vcd_text.specs.Device.{Puts, failures_after};
+ghost use Rattle.vcd_body.specs.Id.{id_text};
+ghost use Rattle.vcd_body.specs.Items.{model_form};
+
+use crate::change::put_own_change;
+use crate::item::Form;
+use crate::renamed::put_renamed_bits;
+use vcd_text::{Sink, WriteFailed};
+
+/// Under which code a change is written.
+#[derive(Clone, Copy, PartialEq, Eq, Debug)]
+pub enum Id<'a> {
+    /// The code with these bytes.
+    Own(&'a [u8]),
+    /// The new code of this number, as a merge gives them.
+    Number(u64),
+}
+
+/// Writes a change of a code of this size, or of an event, as its line. A bad text of an event is not looked at. Where a write
+/// fails, a prefix was written.
+#[inline(always)]
+pub fn put_change<W: Sink>(
+    size: usize,
+    event: bool,
+    form: Form,
+    text: &[u8],
+    id: Id<'_>,
+    w: &mut W,
+) -> Result<(), WriteFailed>
+    requires failures { (W.device w.old).failures < 2 ^ 64 - 1 }
+    requires digits { event ≡ false → form ≢ Form.RealText → 0 < length text.now }
+    ensures { Puts (W.device w.old) (W.device w.new)
+        (change_line (record {
+          code = record { text = id_text id.entry; size = size; event = event };
+          form = model_form form;
+          text = text.now;
+        })) result }
+{
+    match id {
+        Id::Own(code) => put_own_change(size, event, form, text, code, w),
+        Id::Number(number) => put_renamed_bits(size, event, form, text, None, number, w),
+    }
+}

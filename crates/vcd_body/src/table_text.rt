@@ -1,0 +1,62 @@
+//! The values of a table as they are written.
+ghost use Rattle.std.specs.Prelude.{◌-◌, ◌^◌, ◌<◌};
+ghost use Rattle.vcd_model.specs.Sample.{shown};
+ghost use Rattle.vcd_text.specs.Device.{Counts, Takes, failures_after};
+ghost use Rattle.vcd_body.specs.Contents.{IsLaidOut, codes_shown, line_of, value_in};
+
+use crate::held_text::{put_value, put_value_line};
+use crate::store::{holding_at, share_in};
+use crate::table::Table;
+use vcd_text::{Sink, WriteFailed, put};
+use vcd_view::HeadView;
+
+/// Writes the line of a change that gives the code at a place its value, with the shortest digits; nothing where it has no
+/// value. Where a write fails, a prefix was written.
+pub fn put_short<W: Sink>(
+    view: HeadView<'_>,
+    table: &Table<'_>,
+    code: usize,
+    w: &mut W,
+) -> Result<(), WriteFailed>
+    requires { (W.device w.old).failures < 2 ^ 64 - 1 }
+    ensures takes { IsLaidOut table.now → Takes (W.device w.old) (W.device w.new)
+        (line_of (codes_shown view.entry) table.now code) result }
+    ensures counts { Counts (W.device w.old) (W.device w.new) result }
+{
+    let Some(declared) = view.code_at(code) else {
+        return Ok(());
+    };
+    let Some(holding) = holding_at(table.slots, table.shares, code) else {
+        return Ok(());
+    };
+    let Some(share) = share_in(table.values, table.shares, code, holding) else {
+        return Ok(());
+    };
+    let id = view.text_at(declared.start, declared.len as usize);
+    put_value_line(holding, share, declared.size, id, w)
+}
+
+/// Writes the value of the code at a place in full: all its digits, or `r` and the text of a real number; `-` where it has no
+/// value. Where a write fails, a prefix was written.
+pub fn put_full<W: Sink>(
+    view: HeadView<'_>,
+    table: &Table<'_>,
+    code: usize,
+    w: &mut W,
+) -> Result<(), WriteFailed>
+    requires { (W.device w.old).failures < 2 ^ 64 - 1 }
+    ensures takes { IsLaidOut table.now → Takes (W.device w.old) (W.device w.new)
+        (shown (value_in (codes_shown view.entry) table.now code)) result }
+    ensures counts { Counts (W.device w.old) (W.device w.new) result }
+{
+    let Some(declared) = view.code_at(code) else {
+        return put(w, b"-");
+    };
+    let Some(holding) = holding_at(table.slots, table.shares, code) else {
+        return put(w, b"-");
+    };
+    let Some(share) = share_in(table.values, table.shares, code, holding) else {
+        return put(w, b"-");
+    };
+    put_value(holding, share, declared.size, w)
+}

@@ -1,0 +1,49 @@
+use Rattle.std.proofs.Common.{◌≡◌, [], List, ℕ, map, Ok, Err, ap, ap₂, sym, ◌∙◌, rules, length, true, false, ◌||◌, Bool}
+use Rattle.vcd_model.specs.Job.{Want, do_rise}
+use Rattle.vcd_model.specs.Ticks.{Moment}
+use Rattle.vcd_model.specs.Words as model
+use Rattle.vcd_words.specs.declared.job.UseFault.TheVariants.{OutOfMemory}
+use Rattle.vcd_words.specs.Ticks.{has_units, times_with}
+use Rattle.vcd_words.specs.Times.{parts}
+use Rattle.vcd_words.specs.Words.{some_names}
+use Rattle.vcd_words.proofs.SampleLemmas.{asked_of, long_units}
+use Rattle.vcd_words.proofs.TimesLemmas.{good_rises, put_together, some_times, times_kept}
+use Rattle.vcd_words.proofs.moment_word.sample_of.Goals as goal
+
+pub returns-in_err-numbers-clause-fault : goal.returns-in_err-numbers-clause-fault
+returns-in_err-numbers-clause-fault c =
+    let same : c.from_residual-in_err-numbers.result ≡ Err OutOfMemory = search rules in
+    let names = some_names c.args.names in
+    let found = c.in_ok-check_times.ensures.times names in
+    rw same (Want.Sample found.0 names, ap (model.sample_of names) found.1 ∙ found.2)
+
+pub returns-in_err-units-clause-fault : goal.returns-in_err-units-clause-fault
+returns-in_err-units-clause-fault c =
+    let same : c.from_residual-in_err-units.result ≡ Err OutOfMemory = search rules in
+    let names = some_names c.args.names in
+    let found = c.in_ok-check_times.ensures.times names in
+    rw same (Want.Sample found.0 names, ap (model.sample_of names) found.1 ∙ found.2)
+
+pub returns-in_err-names-clause-fault : goal.returns-in_err-names-clause-fault
+returns-in_err-names-clause-fault c =
+    let same : c.from_residual-in_err-names.result ≡ Err OutOfMemory = search rules in
+    let names = some_names c.args.names in
+    let found = c.in_ok-check_times.ensures.times names in
+    rw same (Want.Sample found.0 names, ap (model.sample_of names) found.1 ∙ found.2)
+
+pub returns-clause-want : goal.returns-clause-want
+returns-clause-want c =
+    let names = some_names c.args.names in
+    let found = c.in_ok-check_times.ensures.times names in
+    let kept = times_kept (parts c.args.at.now) found.0 found.1 in
+    let times = ap₂ times_with (c.in_ok-numbers.ensures ∙ ap (map (λ (m : Moment). m.number)) kept) (c.in_ok-units.ensures ∙ ap (map (λ (m : Moment). m.unit)) kept) ∙ put_together found.0 in
+    ap (model.sample_of names) found.1 ∙ found.2 ∙ ap₂ (λ (ms : List Moment) (ns : List (List ℕ)). Ok (Want.Sample ms ns)) (sym times) (sym c.in_ok-names.ensures)
+
+pub returns-clause-asked : goal.returns-clause-asked
+returns-clause-asked c =
+    let found = c.in_ok-check_times.ensures.times [] in
+    let kept = times_kept (parts c.args.at.now) found.0 found.1 in
+    let numbers = c.in_ok-numbers.ensures ∙ ap (map (λ (m : Moment). m.number)) kept in
+    let units = c.in_ok-units.ensures ∙ ap (map (λ (m : Moment). m.unit)) kept in
+    let some = some_times c.args.at.now found.0 c.in_ok-numbers.numbers found.1 numbers in
+    asked_of c.in_ok-numbers.numbers c.in_ok-units.units (long_units _ _ found.0 numbers units) some (λ none. ap do_rise numbers ∙ good_rises [] found.0 found.2 (ap has_units (sym units) ∙ none))
