@@ -1,18 +1,17 @@
 // Merges of one input and of several, so many bytes at a time.
 ghost use Rattle.std.specs.Prelude.{◌≡◌, ◌-◌, ◌^◌, ◌<◌, ◌≤◌, ℕ, All, IfOk, length};
 ghost use Rattle.vcd_text.specs.Watch.{failed_calls};
-ghost use Rattle.vcd_merge.specs.MergeParts.{AreParts, SameLengths, part_len};
-ghost use Rattle.vcd_merge.specs.MergeRoom.{kept_in};
-ghost use Rattle.vcd_merge.specs.Seat.{IsSeated};
+ghost use Rattle.vcd_tools.specs.MergeParts.{AreParts, SameLengths, part_len};
+ghost use Rattle.vcd_tools.specs.MergeRoom.{kept_in};
+ghost use Rattle.vcd_tools.specs.Seat.{IsSeated};
 
 use super::steps::merge_as;
 use std::alloc::{AllocError, Global};
 use std::process::Abort;
 use std::test::Fail;
-use vcd_body::{Done, Stop};
 use vcd_head::{Head, HeadFault, read_head};
-use vcd_merge::{Seat, Windows};
 use vcd_text::{Feed, Source, Watch};
+use vcd_tools::{Done, Seat, Stop, Windows};
 
 // An input whose header was read.
 #[derive(Drop)]

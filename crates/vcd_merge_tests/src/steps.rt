@@ -1,14 +1,13 @@
 // Merges that are taken item by item.
 ghost use Rattle.std.specs.Prelude.{◌≡◌, ◌-◌, ◌^◌, ◌<◌, ◌≤◌, All, length, true};
-ghost use Rattle.vcd_merge.specs.MergeParts.{AreParts, AreSeated, part_len};
-ghost use Rattle.vcd_merge.specs.MergeRoom.{MergeIsWithinBound, windows_size};
-ghost use Rattle.vcd_merge.specs.MergeStep.{IsReady, is_going, standing_of};
+ghost use Rattle.vcd_tools.specs.MergeParts.{AreParts, AreSeated, part_len};
+ghost use Rattle.vcd_tools.specs.MergeRoom.{MergeIsWithinBound, windows_size};
+ghost use Rattle.vcd_tools.specs.MergeStep.{IsReady, is_going, standing_of};
 ghost use Rattle.vcd_text.specs.Device.{failures_after};
 
-use vcd_body::{Done, More, Stop};
 use vcd_head::Head;
-use vcd_merge::{Merge, Seat, Windows, merge, merge_step};
 use vcd_text::{Sink, Source};
+use vcd_tools::{Done, Merge, More, Seat, Stop, Windows, merge, merge_step};
 
 // Takes all items of a merge, one a step.
 fn take_steps<S: Source, W: Sink>(

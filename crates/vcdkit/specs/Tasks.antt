@@ -2,8 +2,8 @@
 use Rattle.std.specs.Prelude.{Option, Some, None, Result, Ok, Err}
 use Rattle.vcd_model.specs.Job as model
 use Rattle.vcd_model.specs.Outcome.{Request}
-use Rattle.vcd_tools.specs.Engine.{request_of}
-use Rattle.vcd_tools.specs.declared.task.Task.{Task}
+use Rattle.vcd_engine.specs.Engine.{request_of}
+use Rattle.vcd_engine.specs.declared.task.Task.{Task}
 use Rattle.vcd_words.specs.Refusal.{model_refusal}
 use Rattle.vcd_words.specs.declared.job.Want.{Want}
 use Rattle.vcd_words.specs.declared.job.Want.TheVariants as want

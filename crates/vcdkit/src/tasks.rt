@@ -3,14 +3,14 @@ ghost use Rattle.std.specs.Prelude.{◌≡◌, IfOk, IfSome, true};
 ghost use Rattle.vcd_model.specs.Header.{Header};
 ghost use Rattle.vcd_model.specs.Job.{Want as ModelWant, request_of};
 ghost use Rattle.vcd_model.specs.Laws.{IsValid};
-ghost use Rattle.vcd_tools.specs.Engine.{request_of as task_request_of};
+ghost use Rattle.vcd_engine.specs.Engine.{request_of as task_request_of};
 ghost use Rattle.vcd_head.specs.Moments.{asked};
 ghost use Rattle.vcd_view.specs.Views.{IsViewOf};
 ghost use Rattle.vcd_words.specs.Job.{is_asked, model_want, HasTicks};
 ghost use Rattle.vcdkit.specs.Tasks.{cut_request, task_request};
 
+use vcd_engine::Task;
 use vcd_head::{Moment, ticks};
-use vcd_tools::Task;
 use vcd_view::HeadView;
 use vcd_words::{Refusal, Want};
 

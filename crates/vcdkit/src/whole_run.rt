@@ -23,9 +23,9 @@ use crate::message::report;
 use crate::tasks::task_of;
 use std::alloc::Global;
 use vcd_body::{Done, Share, Slot, Stop};
+use vcd_engine::{Room, list, run_task};
 use vcd_merge::{Windows, merge};
 use vcd_text::{Feed, Sink, Source};
-use vcd_tools::{Room, list, run_task};
 use vcd_view::HeadView;
 use vcd_words::{Job, Want};
 

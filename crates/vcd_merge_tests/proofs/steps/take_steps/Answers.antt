@@ -1,7 +1,7 @@
 use Rattle.std.proofs.Common.{◌≡◌, ◌∙◌, ◌+◌, map, length, ap, add-zero, Ok, Result}
-use Rattle.vcd_body.specs.Answer.{goes_on, writes_failed}
-use Rattle.vcd_body.specs.declared.answer.More.{More}
-use Rattle.vcd_body.specs.declared.answer.Stop.{Stop}
+use Rattle.vcd_tools.specs.Answer.{goes_on, writes_failed}
+use Rattle.vcd_tools.specs.More.{More}
+use Rattle.vcd_tools.specs.Stop.{Stop}
 use Rattle.vcd_merge.specs.MergeParts.{SameLengths}
 use Rattle.vcd_merge.specs.declared.windows.Windows.{Windows}
 use Rattle.vcd_merge.proofs.MergeRoomLemmas.{still_within}

@@ -1,5 +1,5 @@
 use Rattle.std.proofs.Common.{arith}
-use Rattle.vcd_tools.proofs.RoomLemmas.{no_room_within}
+use Rattle.vcd_engine.proofs.RoomLemmas.{no_room_within}
 use Rattle.vcd_tools_tests.proofs.tools.check_over.Goals as goal
 
 pub check-requires-clause-bound : goal.check-requires-clause-bound

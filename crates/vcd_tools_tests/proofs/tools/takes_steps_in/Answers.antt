@@ -1,4 +1,4 @@
-use Rattle.vcd_tools.proofs.RoomLemmas.{lent_within, same_within}
+use Rattle.vcd_engine.proofs.RoomLemmas.{lent_within, same_within}
 use Rattle.vcd_tools_tests.proofs.tools.takes_steps_in.Goals as goal
 
 pub takes_steps-requires-clause-bound : goal.takes_steps-requires-clause-bound

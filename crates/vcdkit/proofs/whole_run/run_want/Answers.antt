@@ -1,7 +1,7 @@
 use Rattle.std.proofs.Common.{◌≡◌, ◌∙◌, ap, Ok, Err, refl, rules, sym}
 use Rattle.vcd_model.specs.Job.{request_of}
 use Rattle.vcd_model.specs.Outcome.{Request}
-use Rattle.vcd_tools.specs.Engine.{request_of as request_of_task}
+use Rattle.vcd_engine.specs.Engine.{request_of as request_of_task}
 use Rattle.vcd_words.specs.Refusal.{model_refusal}
 use Rattle.vcd_words.specs.Job.{model_want}
 use Rattle.vcdkit.specs.Tasks.{task_request}

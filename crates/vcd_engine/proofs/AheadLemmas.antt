@@ -1,0 +1,162 @@
+-- Items that a machine takes ahead in a feed's chunk, one after the other.
+use Rattle.std.proofs.Common.{◌≡◌, ℕ, ◌+◌, ◌^◌, ◌<◌, ◌≤◌, false, List, [], ◌∷◌, ◌++◌, length, sym, ap, subst, ◌∙◌, append-nil, append_assoc, arith, Bool, true, Result, Ok, Err, inl, inr, ◌⊎◌, ◌||◌, refl}
+use Rattle.std.specs.List.{list_any}
+use Rattle.std.proofs.lemmas.List.{length-append}
+use Rattle.vcd_model.specs.Declarations.{IdCode}
+use Rattle.vcd_model.specs.Header.{Header}
+use Rattle.vcd_model.specs.Input.{Input}
+use Rattle.vcd_model.specs.Items.{BodyItem}
+use Rattle.vcd_model.specs.ItemText.{last_mark}
+use Rattle.vcd_model.specs.Outcome.{Request, ends_early, open_text}
+use Rattle.vcd_model.specs.Tokens.{Token}
+use Rattle.vcd_text.specs.Device.{Device}
+use Rattle.vcd_text.specs.Feed.{seen}
+use Rattle.vcd_text.specs.declared.device.Source.{Ghosts}
+use Rattle.vcd_text.specs.declared.feed.Feed.{Feed}
+use Rattle.vcd_text.proofs.Writes.{both-written, some-behind}
+use Rattle.vcd_body.proofs.CallerLemmas.{gave_none_ahead}
+use Rattle.vcd_body.specs.Ahead.{GaveAhead}
+use Rattle.vcd_body.specs.Given.{IsItem}
+use Rattle.vcd_body.specs.Items.{AreRegsAfter, regs_after}
+use Rattle.vcd_body.specs.Reads.{GaveItems}
+use Rattle.vcd_body.specs.declared.item.Item.{Item}
+use Rattle.vcd_body.specs.declared.item.Regs.{Regs}
+use Rattle.vcd_engine.specs.Ahead.{StandsAhead}
+use Rattle.vcd_body.specs.Device.{Grows, GrowsSome}
+use Rattle.vcd_engine.specs.Engine.{CanRun, Keeps, Runs, last_of, request_of_engine}
+use Rattle.vcd_engine.specs.declared.engine.Engine.{Engine}
+use Rattle.vcd_engine.specs.declared.machine.Machine.{Machine}
+use Rattle.vcd_engine.specs.Ahead.{GaveOneAhead, RunsAhead}
+use Rattle.vcd_engine.specs.Pieces.{GrowsBut, held_in}
+use Rattle.vcd_engine.specs.declared.pieces.Pieces.{Pieces}
+use Rattle.vcd_body.proofs.AskedLemmas.{split_last}
+use Rattle.vcd_engine.proofs.PieceLemmas.{but_some, but_written}
+use Rattle.vcd_text.specs.Device.{Puts, WritesSome}
+use Rattle.std.specs.Prelude.{IfErr, IfOk}
+use Rattle.vcd_engine.proofs.EngineLemmas.{last_more, none_at}
+use Rattle.vcd_body.proofs.Results.{writes-none}
+
+-- nothing is due with no item
+pub grows-none : (out : Device) (text : List ℕ) → Grows out out text text
+grows-none out text = ([], sym (append-nil text), writes-none out)
+
+-- what is due grows with each item
+pub grows_on : (out mid new : Device) (a b c : List ℕ) → Grows out mid a b → Grows mid new b c → Grows out new a c
+grows_on out mid new a b c first then = (first.0 ++ then.0, then.1 ∙ ap (λ l. l ++ then.0) first.1 ∙ append_assoc a first.0 then.0, both-written out mid new first.0 then.0 first.2 then.2)
+
+-- or of the last a prefix
+pub some_on : (out mid new : Device) (a b c : List ℕ) → Grows out mid a b → GrowsSome mid new b c → GrowsSome out new a c
+some_on out mid new a b c first then = (first.0 ++ then.0, then.1 ∙ ap (λ l. l ++ then.0) first.1 ∙ append_assoc a first.0 then.0, some-behind out mid new first.0 then.0 first.2 then.2)
+
+module _ (t : Request) (h : Header) (limit lines : ℕ) (bytes : List ℕ) (before : List BodyItem) where
+  module _ (n : ℕ) (items : List BodyItem) (m : Machine) (r : Regs) (s : StandsAhead t h limit lines bytes before n items m r) where
+    -- there are fewer items than a counter can count
+    pub few_ahead : n ≤ length bytes → length before + length bytes < 2 ^ 63 → length (before ++ items) < 2 ^ 63
+    few_ahead within few = let each = s.gave.few in omega (arith, length-append before items)
+
+    -- one item more, after which the run goes on
+    pub stands_on : (n' : ℕ) (m' : Machine) (r' : Regs) (text : List ℕ) (item : Item) (x : BodyItem) → IsItem h.codes text item x → GaveAhead h.codes limit lines bytes n' before (items ++ x ∷ []) → AreRegsAfter (before ++ (items ++ x ∷ [])) r' → r' ≡ regs_after r item
+        → Keeps m' h ((before ++ items) ++ x ∷ []) → ends_early t x ≡ false → StandsAhead t h limit lines bytes before n' (items ++ x ∷ []) m' r'
+    stands_on n' m' r' text item x is gave known regs keeps stays =
+        let e = append_assoc before items (x ∷ []) in
+        record {
+          gave = gave;
+          known = known;
+          last = subst (λ l. last_of r' ≡ last_mark l) e (ap last_of regs ∙ last_more h.codes text (before ++ items) r item x is s.last);
+          keeps = subst (Keeps m' h) e keeps;
+          on = subst (λ l. list_any (ends_early t) l ≡ false) e (none_at (ends_early t) (before ++ items) x s.on stays);
+        }
+
+    -- what is due with it
+    pub due_on : (x : BodyItem) (out mid new : Device) → Grows out mid (open_text t h before) (open_text t h (before ++ items)) → Grows mid new (open_text t h (before ++ items)) (open_text t h ((before ++ items) ++ x ∷ []))
+        → Grows out new (open_text t h before) (open_text t h (before ++ (items ++ x ∷ [])))
+    due_on x out mid new first then =
+        subst (λ l. Grows out new (open_text t h before) (open_text t h l)) (append_assoc before items (x ∷ [])) (grows_on out mid new (open_text t h before) (open_text t h (before ++ items)) (open_text t h ((before ++ items) ++ x ∷ [])) first then)
+
+-- where none of some items does, none of the first does
+none_first : (test : BodyItem → Bool) (p q : List BodyItem) → list_any test (p ++ q) ≡ false → list_any test p ≡ false
+none_first test [] q h = refl
+none_first test (y ∷ p) q h = by_first (test y) (none_first test p q) h
+  where
+    by_first : (b : Bool) → (list_any test (p ++ q) ≡ false → list_any test p ≡ false) → (b || list_any test (p ++ q)) ≡ false → (b || list_any test p) ≡ false
+    by_first true rest h = cc
+    by_first false rest h = rest h
+
+-- a text that is no longer than its first part has no other part
+none_behind : (text due : List ℕ) → text ≡ text ++ due → length due ≡ 0
+none_behind text due e = omega (arith, length-append text due, ap length e)
+
+module _ (t : Request) (h : Header) (limit lines : ℕ) (bytes : List ℕ) (before : List BodyItem) (p : Pieces) (out mid out' : Device) {E : Type 0} (result : Result Bool E) (some : IfErr result (λ _. 0 < length (held_in bytes p))) (puts : Puts mid out' (held_in bytes p) result) where
+  abbrev Stands : ℕ → Regs → List BodyItem → Type 0
+  Stands n r l = GaveAhead h.codes limit lines bytes n before l × AreRegsAfter (before ++ l) r × (list_any (ends_early t) (before ++ l) ≡ false) × GrowsBut out mid (held_in bytes p) (open_text t h before) (open_text t h (before ++ l))
+
+  -- how the items end where no other is taken, and what is held is written
+  pub ends_before : (n : ℕ) (items : List BodyItem) (m : Machine) (r : Regs) → StandsAhead t h limit lines bytes before n items m r → GrowsBut out mid (held_in bytes p) (open_text t h before) (open_text t h (before ++ items)) → IfOk result (λ e. e ≡ false)
+      → RunsAhead t h limit lines bytes before n m r out out' result
+  ends_before n items m r s g ok = by_result result some puts ok
+    where
+      by_last : (e : E) → WritesSome mid out' (held_in bytes p) → 0 < length (held_in bytes p) → (items ≡ []) ⊎ ((front : List BodyItem) × (x : BodyItem) × (items ≡ front ++ x ∷ [])) → RunsAhead t h limit lines bytes before n m r out out' (Err e)
+      by_last e w more (inl none) =
+          let none_is = subst (Stands n r) none (s.gave, s.known, s.on, g) in
+          let grown = none_is.3 in
+          let long : length (grown.0 ++ held_in bytes p) ≡ 0 = none_behind (open_text t h before) (grown.0 ++ held_in bytes p) (ap (open_text t h) (sym (append-nil before)) ∙ grown.1) in
+          absurd (omega (arith, long, length-append grown.0 (held_in bytes p), more))
+      by_last e w more (inr l) =
+          let front = l.0 in
+          let x = l.1 in
+          let all = subst (Stands n r) l.2 (s.gave, s.known, s.on, g) in
+          let assoc = append_assoc before front (x ∷ []) in
+          let on = none_first (ends_early t) (before ++ front) (x ∷ []) (subst (λ l. list_any (ends_early t) l ≡ false) (sym assoc) all.2) in
+          let due = but_some out mid out' (held_in bytes p) (open_text t h before) (open_text t h (before ++ (front ++ x ∷ []))) all.3 w in
+          record { more = front; on = on; last = (x, record { gave = all.0; known = all.1 }, subst (λ l. GrowsSome out out' (open_text t h before) (open_text t h l)) (sym assoc) due) }
+
+      by_result : (q : Result Bool E) → IfErr q (λ _. 0 < length (held_in bytes p)) → Puts mid out' (held_in bytes p) q → IfOk q (λ e. e ≡ false) → RunsAhead t h limit lines bytes before n m r out out' q
+      by_result (Ok false) some puts ok = record { more = items; on = s.on; last = (s, but_written out mid out' (held_in bytes p) (open_text t h before) (open_text t h (before ++ items)) g puts) }
+      by_result (Ok true) some puts ok = cc
+      by_result (Err e) some puts ok = by_last e puts some (split_last items)
+
+  -- and where one more has ended the run
+  pub ends_with : (n : ℕ) (items : List BodyItem) (x : BodyItem) (m : Machine) (r : Regs) → list_any (ends_early t) (before ++ items) ≡ false → ends_early t x ≡ true → GaveOneAhead t h limit lines bytes before n items x r
+      → GrowsBut out mid (held_in bytes p) (open_text t h before) (open_text t h ((before ++ items) ++ x ∷ [])) → IfOk result (λ e. e ≡ true) → RunsAhead t h limit lines bytes before n m r out out' result
+  ends_with n items x m r on ends one g ok = by_result result puts ok
+    where
+      by_result : (q : Result Bool E) → Puts mid out' (held_in bytes p) q → IfOk q (λ e. e ≡ true) → RunsAhead t h limit lines bytes before n m r out out' q
+      by_result (Ok true) puts ok = record { more = items; on = on; last = (x, ends, one, but_written out mid out' (held_in bytes p) (open_text t h before) (open_text t h ((before ++ items) ++ x ∷ [])) g puts) }
+      by_result (Ok false) puts ok = cc
+      by_result (Err e) puts ok = record { more = items; on = on; last = (x, one, but_some out mid out' (held_in bytes p) (open_text t h before) (open_text t h ((before ++ items) ++ x ∷ [])) g puts) }
+
+-- at first none is taken
+pub stands_first : {X : Type 0} {g : Ghosts X} (e : Engine) (h : Header) (i : Input) (front : List Token) (items : List BodyItem) (f : Feed X g) (limit lines : ℕ) (bytes : List ℕ) → Runs e h i front items f
+    → StandsAhead (request_of_engine e) h limit lines bytes items 0 [] e.machine e.regs
+stands_first e h i front items f limit lines bytes s =
+    let nil = sym (append-nil items) in
+    record {
+      gave = gave_none_ahead h.codes limit lines bytes items;
+      known = subst (λ l. AreRegsAfter l e.regs) nil s.holds.known;
+      last = subst (λ l. last_of e.regs ≡ last_mark l) nil s.holds.last;
+      keeps = subst (Keeps e.machine h) nil s.holds.keeps;
+      on = subst (λ l. list_any (ends_early (request_of_engine e)) l ≡ false) nil s.on;
+    }
+
+-- the same over bytes and a limit that are these
+pub gave_over : (codes : List IdCode) (limit limit' lines : ℕ) (bytes bytes' : List ℕ) (n : ℕ) (before items : List BodyItem) → limit ≡ limit' → bytes ≡ bytes' → GaveAhead codes limit lines bytes n before items → GaveAhead codes limit' lines bytes' n before items
+gave_over codes limit limit' lines bytes bytes' n before items l b s = subst (λ bs. GaveAhead codes limit' lines bs n before items) b (subst (λ k. GaveAhead codes k lines bytes n before items) l s)
+
+-- ---- an engine that has taken them
+
+module _ {X : Type 0} {g : Ghosts X} (h : Header) (i : Input) (front : List Token) (items : List BodyItem) (e e' : Engine) (old new : Feed X g) (limit lines : ℕ) (bytes : List ℕ) (n : ℕ) (s : Runs e h i front items old) where
+  -- it goes on
+  pub runs_behind : (more : List BodyItem) → StandsAhead (request_of_engine e) h limit lines bytes items n more e'.machine e'.regs → GaveItems h.codes i front (items ++ more) new e'.regs → e'.view ≡ e.view → request_of_engine e' ≡ request_of_engine e → seen new ≡ seen old + n
+      → Runs e' h i front (items ++ more) new
+  runs_behind more stands gave view same looked = record {
+    holds = record {
+      views = rw view s.holds.views;
+      can = subst (λ (t : Request). CanRun t h) (sym same) s.holds.can;
+      known = stands.known;
+      last = stands.last;
+      keeps = stands.keeps;
+    };
+    gave = gave;
+    on = subst (λ (t : Request). list_any (ends_early t) (items ++ more) ≡ false) (sym same) stands.on;
+    few = let each = stands.gave.few in let before = s.few in omega (arith, length-append items more, looked);
+  }

@@ -1,0 +1,71 @@
+-- The line of the item that was read last, and the text with it.
+use Rattle.std.proofs.Common.{◌≡◌, ℕ, ◌<◌, List, [], ◌∷◌, ◌++◌, length, map, slice_get, Some, None, is_some, refl, sym, ap, subst, ◌∙◌, append-nil, append_assoc, arith}
+use Rattle.std.specs.List.{last_or}
+use Rattle.std.proofs.lemmas.List.{map-append}
+use Rattle.vcd_model.specs.Declarations.{IdCode}
+use Rattle.vcd_model.specs.Header.{Header}
+use Rattle.vcd_model.specs.Items.{BodyItem, Entry, leaves_open, time_after}
+use Rattle.vcd_model.specs.ItemText.{item_line, text_after, time_unless}
+use Rattle.vcd_model.proofs.Growing.{text_after-append}
+use Rattle.vcd_model.proofs.ItemStates.{leaves_open_is}
+use Rattle.vcd_model.specs.Values.{change_line}
+use Rattle.vcd_view.specs.Shown.{HeadShown, text_in}
+use Rattle.vcd_view.specs.Views.{IsCode, Views}
+use Rattle.vcd_view.specs.declared.view.Code.{Code}
+use Rattle.vcd_view.proofs.RowLemmas.{code_at, text_within}
+use Rattle.vcd_body.specs.Given.{IsText}
+use Rattle.vcd_body.specs.Items.{AreRegsAfter, model_form}
+use Rattle.vcd_body.specs.declared.item.Regs.{Regs}
+use Rattle.vcd_body.specs.declared.item.Form.{Form}
+use Rattle.vcd_body.specs.declared.item.Form.TheVariants.{Scalar, Vector, RealText}
+use Rattle.vcd_body.specs.declared.item.Item.TheVariants.{Change}
+use Rattle.vcd_model.specs.ItemText.{time_due}
+use Rattle.vcd_body.specs.Given.{IsItem}
+use Rattle.vcd_engine.specs.ItemText.{HasWritten, LastTells, times_with}
+use Rattle.vcd_engine.specs.declared.item_text.ItemText.{ItemText}
+use Rattle.vcd_model.proofs.KeptLines.{last_or-snoc}
+
+-- the text of a sound change is not empty
+pub some_text : (form : Form) (code : Code) (text : List ℕ) → IsText form code text → 0 < length text
+some_text Scalar code text t = let e = ap length t.2 in omega arith
+some_text Vector code text t = t.0
+some_text RealText code text t = t.0
+
+-- the code that the view has at this place is the header's
+code_is : (s : HeadShown) (h : Header) (place : ℕ) (c : IdCode) (code : Code) → Views s h → slice_get h.codes place ≡ Some c → slice_get s.codes place ≡ Some code → IsCode s.text code c
+code_is s h place c code views declared there =
+    let m = code_at s.text s.codes h.codes place c views.codes declared in
+    let known = m.1 in
+    let same : m.0 ≡ code = cc in
+    subst (λ (y : Code). IsCode s.text y c) same m.2
+
+-- so what is written for a change is the line of its item
+pub change_is : (s : HeadShown) (h : Header) (place : ℕ) (form : Form) (x : BodyItem) (code : Code) (id text : List ℕ) → Views s h → IsItem h.codes text (Change place form) x → slice_get s.codes place ≡ Some code
+    → id ≡ text_in s.text code.start code.len
+    → change_line (record { code = record { text = id; size = code.size; event = code.event }; form = model_form form; text = text }) ≡ item_line x
+change_is s h place form x code id text views is there ids =
+    let k = code_is s h place is.0 code views is.1 there in
+    let name : id ≡ is.0.text = ids ∙ text_within s.text code.start code.len k.within ∙ k.text_is in
+    let same : record { text = id; size = code.size; event = code.event } ≡ is.0 = rw (name, k.size_is, k.event_is) refl in
+    ap (λ (c : IdCode). change_line (record { code = c; form = model_form form; text = text })) same ∙ ap item_line (sym is.2)
+
+-- ---- the text with one entry more
+
+-- the line of its time, where that is due, and its own line
+pub text_with : (before : List ℕ) (kept : List Entry) (e : Entry) (time : ℕ) (t : ItemText) → e.time ≡ time → HasWritten before kept t → LastTells (times_with before kept) time → text_after before (kept ++ e ∷ []) ≡ text_after before kept ++ (time_due t.written time ++ item_line e.item)
+text_with before kept e time t is has tells =
+    text_after-append before kept (e ∷ [])
+    ∙ ap (λ l. text_after before kept ++ l)
+    (append-nil (time_unless (times_with before kept) e.time ++ item_line e.item) ∙ ap (λ l. l ++ item_line e.item) (ap (time_unless (times_with before kept)) is ∙ tells ∙ ap (λ o. time_due o time) (sym has.last)))
+
+-- and then its time was written last
+pub written_with : (before : List ℕ) (kept : List Entry) (e : Entry) (time : ℕ) → e.time ≡ time → HasWritten before (kept ++ e ∷ []) (record { written = Some time })
+written_with before kept e time is = record {
+  last = ap (λ t. Some t) (sym is) ∙ sym (ap (last_or None) (ap (λ l. before ++ l) (map-append (λ (x : Entry). x.time) kept (e ∷ [])) ∙ sym (append_assoc before (map (λ x. x.time) kept) (e.time ∷ []))) ∙ last_or-snoc None (times_with before kept) e.time);
+}
+
+-- ---- the registers
+
+-- a section is open
+pub section_is : (items : List BodyItem) (r : Regs) → AreRegsAfter items r → is_some r.section ≡ leaves_open items
+section_is items r known = sym (leaves_open_is items (time_after items) (is_some r.section) (record { time = refl; opens = known.ended }))

@@ -1,0 +1,192 @@
+-- What is written and what is held, where text is due.
+use Rattle.std.proofs.Common.{◌≡◌, ℕ, ◌+◌, ◌-◌, ◌≤◌, length, refl, List, [], ◌++◌, slice_range, Result, Ok, Err, sym, ap, subst, ◌∙◌, append-nil, append_assoc, arith, take, drop, IfOk, ap₂}
+use Rattle.std.proofs.lemmas.List.{length-append, length-take-le, take-take}
+use Rattle.std.proofs.Math.Seq.{take-append-add}
+use Rattle.vcd_text.specs.Device.{Device, Puts, Writes, WritesSome}
+use Rattle.vcd_text.proofs.AheadLemmas.{length-ahead, slice_range-append}
+use Rattle.vcd_text.proofs.Writes.{both-written, some-behind, some-first}
+use Rattle.vcd_body.specs.Device.{Grows, GrowsSome}
+use Rattle.std.specs.Borrow.{Bor}
+use Rattle.vcd_text.specs.Ahead.{bytes_of, passed_of}
+use Rattle.vcd_text.specs.declared.ahead.Ahead.{Ahead}
+use Rattle.vcd_view.specs.declared.view.HeadView.{HeadView}
+use Rattle.vcd_body.specs.Ahead.{IsPlain}
+use Rattle.vcd_body.specs.Spelled.{HasSpelled}
+use Rattle.vcd_body.specs.Taken.{TakesItem}
+use Rattle.vcd_body.specs.declared.ahead.Plain.{Plain}
+use Rattle.vcd_body.specs.Items.{regs_after}
+use Rattle.vcd_body.specs.declared.item.Form.{Form}
+use Rattle.vcd_body.specs.declared.item.Item.{Item}
+use Rattle.vcd_body.specs.declared.item.Item.TheVariants.{Time, Begin, End, Change, Finish}
+use Rattle.vcd_body.specs.declared.item.Regs.{Regs}
+use Rattle.vcd_engine.specs.Pieces.{GrowsBut, IsLine, Lies, PutsAll, PutsOn, IsPart, held_in}
+use Rattle.vcd_engine.specs.declared.pieces.Pieces.{Pieces}
+use Rattle.vcd_body.proofs.Results.{writes-none}
+
+-- a part that begins where another ends
+pub joined : (bytes : List ℕ) (a b from to : ℕ) → a ≤ b → from ≡ b → from ≤ to → slice_range bytes a b ++ slice_range bytes from to ≡ slice_range bytes a to
+joined bytes a b from to le e on =
+    let all : b + (to - b) ≡ to = omega (arith, e) in
+    ap (λ n. slice_range bytes a b ++ slice_range bytes n to) e ∙ subst (λ n. slice_range bytes a b ++ slice_range bytes b n ≡ slice_range bytes a n) all (slice_range-append bytes a b (to - b) le)
+
+-- of which nothing is left
+pub none_between : (bytes : List ℕ) (from to : ℕ) → to ≤ from → slice_range bytes from to ≡ []
+none_between bytes from to e = let none : to - from ≡ 0 = omega arith in ap (λ n. take n (drop from bytes)) none
+
+-- ---- what is held
+
+-- how long it is
+pub held_long : (bytes : List ℕ) (p : Pieces) → IsPart bytes p → length (held_in bytes p) ≡ p.gathered.now.len + (p.to - p.from)
+held_long bytes p part =
+    let g = p.gathered.now in
+    let room = g.room in
+    let size = g.size in
+    let front = length-take-le g.len g.bytes (omega (arith, room, size)) in
+    let last = length-ahead bytes p.from p.to part.1 in
+    omega (arith, length-append (take g.len g.bytes) (slice_range bytes p.from p.to), front, last)
+
+-- nothing
+pub held_none : (bytes : List ℕ) (p : Pieces) → p.gathered.now.len ≡ 0 → p.to ≤ p.from → held_in bytes p ≡ []
+held_none bytes p none e = ap₂ (λ n l. take n p.gathered.now.bytes ++ l) none (none_between bytes p.from p.to e)
+
+-- the last piece grows
+pub held_grown : (g bytes : List ℕ) (n a b from to : ℕ) → a ≤ b → from ≡ b → from ≤ to → (take n g ++ slice_range bytes a b) ++ slice_range bytes from to ≡ take n g ++ slice_range bytes a to
+held_grown g bytes n a b from to le e on = append_assoc (take n g) (slice_range bytes a b) (slice_range bytes from to) ∙ ap (λ l. take n g ++ l) (joined bytes a b from to le e on)
+
+-- a piece begins where the one before is no more
+pub held_begun : (g bytes : List ℕ) (n a b from to : ℕ) → a ≡ b → (take n g ++ slice_range bytes a b) ++ slice_range bytes from to ≡ take n g ++ slice_range bytes from to
+held_begun g bytes n a b from to e = ap (λ l. (take n g ++ l) ++ slice_range bytes from to) (none_between bytes a b (omega (arith, e))) ∙ ap (λ l. l ++ slice_range bytes from to) (append-nil (take n g))
+
+-- some bytes of those that were copied behind what was gathered
+pub copied : (g g' bytes : List ℕ) (n a b k : ℕ) → n ≤ length g → a + k ≤ length bytes → a ≤ b → b ≤ a + k → take (n + k) g' ≡ take n g ++ slice_range bytes a (a + k) → take (n + (b - a)) g' ≡ take n g ++ slice_range bytes a b
+copied g g' bytes n a b k room there le few e =
+    let m = b - a in
+    let size : length (take n g) ≡ n = length-take-le n g room in
+    let all : a + k - a ≡ k = omega arith in
+    sym (take-take (n + m) (n + k) g' (omega arith))
+    ∙ ap (take (n + m)) e
+    ∙ ap (λ i. take (i + m) (take n g ++ slice_range bytes a (a + k))) (sym size)
+    ∙ take-append-add (take n g) (slice_range bytes a (a + k)) m
+    ∙ ap (λ l. take n g ++ l) (ap (λ i. take m (take i (drop a bytes))) all ∙ take-take m k (drop a bytes) (omega arith))
+
+-- the last piece was gathered
+pub held_gathered : (g g' bytes : List ℕ) (n n' a b : ℕ) → take n' g' ≡ take n g ++ slice_range bytes a b → (take n g ++ slice_range bytes a b) ++ [] ≡ take n' g' ++ slice_range bytes b b
+held_gathered g g' bytes n n' a b e =
+    append-nil (take n g ++ slice_range bytes a b)
+    ∙ sym e
+    ∙ sym (append-nil (take n' g'))
+    ∙ ap (λ l. take n' g' ++ l) (sym (none_between bytes b b (omega arith)))
+
+-- the last piece was gathered with the byte behind it, and another one begins
+pub held_apart : (g g' bytes : List ℕ) (n n' a b from k to : ℕ) → a ≤ b → from ≡ b → take n' g' ≡ take n g ++ slice_range bytes a (from + 1)
+    → (take n g ++ slice_range bytes a b) ++ (slice_range bytes from (from + 1) ++ slice_range bytes k to) ≡ take n' g' ++ slice_range bytes k to
+held_apart g g' bytes n n' a b from k to le e pushed =
+    sym (append_assoc (take n g ++ slice_range bytes a b) (slice_range bytes from (from + 1)) (slice_range bytes k to))
+    ∙ ap (λ l. l ++ slice_range bytes k to) (held_grown g bytes n a b from (from + 1) le e (omega arith) ∙ sym pushed)
+
+-- ---- one call
+
+-- the last piece was gathered behind what was held before it
+pub gathered_on : (g g' bytes : List ℕ) (n n' a b : ℕ) (out out' : Device) → PutsAll (take n g) (take n' g') out out' (slice_range bytes a b) → PutsAll (take n g ++ slice_range bytes a b) (take n' g' ++ slice_range bytes b b) out out' []
+gathered_on g g' bytes n n' a b out out' (written, e, w) =
+    (written, append-nil (take n g ++ slice_range bytes a b) ∙ e ∙ ap (λ l. written ++ l) (sym (append-nil (take n' g')) ∙ ap (λ l. take n' g' ++ l) (sym (none_between bytes b b (omega arith)))), w)
+
+-- nothing is written, and what is held grows
+pub held_on : (held held' due : List ℕ) (out : Device) → held ++ due ≡ held' → PutsAll held held' out out due
+held_on held held' due out e = ([], e, writes-none out)
+
+-- nothing is due
+pub none_on : (held : List ℕ) (out : Device) → PutsAll held held out out []
+none_on held out = held_on held held [] out (append-nil held)
+
+-- what was held was written, and then nothing is held; then this was put
+pub put_on : {A E : Type 0} (held held' due : List ℕ) (out mid out' : Device) (r : Result A E) → Writes out mid held → held' ≡ [] → Puts mid out' due r → PutsOn held held' out out' due r
+put_on held held' due out mid out' (Ok v) w e puts = (held ++ due, sym (ap (λ l. (held ++ due) ++ l) e ∙ append-nil (held ++ due)), both-written out mid out' held due w puts)
+put_on held held' due out mid out' (Err v) w e puts = some-behind out mid out' held due w puts
+
+-- the same, and nothing more is due
+pub flushed_on : {A E : Type 0} (held held' : List ℕ) (out out' : Device) (r : Result A E) → Puts out out' held r → IfOk r (λ v. held' ≡ []) → PutsOn held held' out out' [] r
+flushed_on held held' out out' (Ok v) w e = (held, ap (λ l. held ++ l) (sym e), w)
+flushed_on held held' out out' (Err v) w e = some-first out out' held [] w
+
+-- the same, and then a piece began
+pub begun_on : (held mid held' due : List ℕ) (out out' : Device) → PutsAll held mid out out' [] → mid ++ due ≡ held' → PutsAll held held' out out' due
+begun_on held mid held' due out out' (written, e, w) begun = (written, ap (λ l. l ++ due) (sym (append-nil held) ∙ e) ∙ append_assoc written mid due ∙ ap (λ l. written ++ l) begun, w)
+
+-- ---- two calls
+
+-- the first one failed
+pub first_on : (held a b : List ℕ) (out out' : Device) → WritesSome out out' (held ++ a) → WritesSome out out' (held ++ (a ++ b))
+first_on held a b out out' some = subst (WritesSome out out') (append_assoc held a b) (some-first out out' (held ++ a) b some)
+
+-- one text is due, and then another
+pub twice_on : {A E : Type 0} (held mid held' a b : List ℕ) (out between out' : Device) (r : Result A E) → PutsAll held mid out between a → PutsOn mid held' between out' b r → PutsOn held held' out out' (a ++ b) r
+twice_on held mid held' a b out between out' (Ok w) first then =
+    (first.0 ++ then.0, sym (append_assoc held a b) ∙ ap (λ l. l ++ b) first.1 ∙ append_assoc first.0 mid b ∙ ap (λ l. first.0 ++ l) then.1 ∙ sym (append_assoc first.0 then.0 held'), both-written out between out' first.0 then.0 first.2 then.2)
+twice_on held mid held' a b out between out' (Err f) first then =
+    subst (WritesSome out out') (sym (append_assoc first.0 mid b) ∙ sym (ap (λ l. l ++ b) first.1) ∙ append_assoc held a b) (some-behind out between out' first.0 (mid ++ b) first.2 then)
+
+-- ---- several calls, of which the text is some text with each item
+
+module _ (out mid out' : Device) (held text some : List ℕ) (g : GrowsBut out mid held text some) where
+  -- one more
+  pub but_on : (held' due more : List ℕ) → more ≡ some ++ due → PutsAll held held' mid out' due → GrowsBut out out' held' text more
+  but_on held' due more is p = (
+    g.0 ++ p.0,
+    is ∙ ap (λ l. l ++ due) g.1 ∙ append_assoc text (g.0 ++ held) due ∙ ap (λ l. text ++ l) (append_assoc g.0 held due ∙ ap (λ l. g.0 ++ l) p.1 ∙ sym (append_assoc g.0 p.0 held')),
+    both-written out mid out' g.0 p.0 g.2 p.2,
+  )
+
+  -- a write failed
+  pub but_failed : (due more : List ℕ) → more ≡ some ++ due → WritesSome mid out' (held ++ due) → GrowsSome out out' text more
+  but_failed due more is p = (
+    g.0 ++ (held ++ due),
+    is ∙ ap (λ l. l ++ due) g.1 ∙ append_assoc text (g.0 ++ held) due ∙ ap (λ l. text ++ l) (append_assoc g.0 held due),
+    some-behind out mid out' g.0 (held ++ due) g.2 p,
+  )
+
+  -- what is held was written
+  pub but_written : Writes mid out' held → Grows out out' text some
+  but_written w = (g.0 ++ held, g.1, both-written out mid out' g.0 held g.2 w)
+
+  -- or a prefix of it
+  pub but_some : WritesSome mid out' held → GrowsSome out out' text some
+  but_some w = (g.0 ++ held, g.1, some-behind out mid out' g.0 held g.2 w)
+
+-- nothing is held
+pub but_none : (out : Device) (held text : List ℕ) → held ≡ [] → GrowsBut out out held text text
+but_none out held text e = ([], sym (ap (λ l. text ++ l) e ∙ append-nil text), writes-none out)
+
+-- ---- the line of a time
+
+-- that of the next item's time, where the bytes are these
+pub next_line_is : (bytes bytes' : List ℕ) (line to to' time time' : ℕ) → bytes ≡ bytes' → to ≡ to' → time ≡ time' → IsLine bytes line to time → IsLine bytes' line to' time'
+next_line_is bytes bytes' line to to' time time' e f g i = subst (λ bs. IsLine bs line to' time') e (subst (λ n. IsLine bytes line n time') f (subst (λ t. IsLine bytes line to t) g i))
+
+-- that of an item's own time: a change has the time before it, and nothing is said to stand before a mark
+pub line_here : (bytes bytes' : List ℕ) (from from' line : ℕ) (before after : Regs) (it : Item) (text : List ℕ) (here : ℕ) → bytes' ≡ bytes → from' ≡ from → IsPlain text it → after ≡ regs_after before it → ((t : ℕ) → it ≡ Time t → here ≡ from')
+    → ((place : ℕ) (f : Form) → it ≡ Change place f → here ≡ line) → IsLine bytes line from before.time → IsLine bytes' here from' after.time
+line_here bytes bytes' from from' line before after (Time t) text here e f plain re mark change i = let h = mark t refl in (omega arith, λ less. absurd (omega arith))
+line_here bytes bytes' from from' line before after (Change place form) text here e f plain re mark change i =
+    let h = change place form refl in
+    subst (λ n. IsLine bytes' n from' after.time) (sym h) (next_line_is bytes bytes' line from from' before.time after.time (sym e) (sym f) (ap (λ (r : Regs). r.time) (sym re)) i)
+line_here bytes bytes' from from' line before after (Begin s) text here e f plain re mark change i = absurd plain
+line_here bytes bytes' from from' line before after End text here e f plain re mark change i = absurd plain
+line_here bytes bytes' from from' line before after Finish text here e f plain re mark change i = absurd plain
+
+-- ---- an item that was taken ahead
+
+pub lies_there : (v : HeadView) (a a' : Ahead) (r : Regs) (p : Plain) (bytes : Bor (List ℕ)) (from to line : ℕ) → TakesItem v a a' r p → bytes.now ≡ bytes_of a' → from ≡ passed_of a → to ≡ passed_of a' → Lies v (record { plain = p; bytes = bytes; from = from; to = to; line = line })
+lies_there v a a' r p bytes from to line item e f g =
+    let further = item.further in
+    let within = item.within in
+    let here : to ≤ length bytes.now = subst (λ (bs : List ℕ). to ≤ length bs) (sym e) (omega (arith, g, within)) in
+    record {
+      within = (omega (arith, f, g, further), here);
+      good = item.sound;
+      sized = item.sized;
+      bits = item.bits;
+      spelled =
+          subst (λ (bs : List ℕ). HasSpelled v bs from to p.at p.code_at p.text.now p.item) (sym (e ∙ item.same.0))
+          (subst (λ n. HasSpelled v (bytes_of a) n to p.at p.code_at p.text.now p.item) (sym f) (subst (λ n. HasSpelled v (bytes_of a) (passed_of a) n p.at p.code_at p.text.now p.item) (sym g) item.spelled));
+    }

@@ -1,0 +1,61 @@
+-- What is lent to a run counts at most the bound, and less room less.
+use Rattle.std.proofs.Common.{◌≡◌, ℕ, ◌≤◌, List, [], ◌∷◌, length, sum_by, sym, subst, arith}
+use Rattle.std.proofs.lemmas.List.Sums.{sum_by-append}
+use Rattle.vcd_model.specs.Bound.{AreWindows, FitsInput, RoomSize, ViewSize, WindowSize, no_room, value_room}
+use Rattle.vcd_model.specs.Declarations.{IdCode}
+use Rattle.vcd_model.proofs.BoundLemmas.{room_fits}
+use Rattle.vcd_view.proofs.RoomLemmas.{is_view}
+use Rattle.vcd_view.specs.Needs.{view_size}
+use Rattle.vcd_view.specs.Shown.{parts}
+use Rattle.vcd_view.specs.Views.{IsViewOf}
+use Rattle.vcd_model.specs.Header.{Header}
+use Rattle.vcd_view.specs.declared.view.HeadView.{HeadView}
+use Rattle.vcd_engine.specs.Room.{AreWithinBound, IsWithin}
+
+pub less_room : (limit : ℕ) (h : Header) (w : WindowSize) (v : ViewSize) (r most : RoomSize) → IsWithin r most → FitsInput limit h w v most → FitsInput limit h w v r
+less_room limit h w v r most within fits = omega (arith, within.values, within.slots, within.marks, fits)
+
+pub still_within : (limit chunk : ℕ) (v : HeadView) (r most : RoomSize) → IsWithin r most → AreWithinBound limit chunk v most → AreWithinBound limit chunk v r
+still_within limit chunk v r most within bound = λ h views. less_room limit h _ _ r most within (bound h views)
+
+-- ---- windows alone, and with the room of a pick
+
+pub windows : (limit chunk : ℕ) → chunk ≤ 65536 → AreWindows limit (record { chunk = chunk; token = limit; value = limit })
+windows limit chunk le = record { chunk = le; token = omega arith; value = omega arith }
+
+pub no_room_fits : (limit : ℕ) (h : Header) (w : WindowSize) (v : HeadView) → IsViewOf v h → AreWindows limit w → FitsInput limit h w (view_size (parts v)) no_room
+no_room_fits limit h w v views are = room_fits limit h w (view_size (parts v)) no_room are (is_view (parts v) h views) (record { values = omega arith; slots = omega arith; marks = omega arith })
+
+pub no_room_within : (limit chunk : ℕ) (v : HeadView) → chunk ≤ 65536 → AreWithinBound limit chunk v no_room
+no_room_within limit chunk v le = λ h views. no_room_fits limit h (record { chunk = chunk; token = limit; value = limit }) v views (windows limit chunk le)
+
+-- a code has a byte of values at least
+byte_each : (cs : List IdCode) → length cs ≤ sum_by value_room cs
+byte_each [] = omega arith
+byte_each (c ∷ cs) =
+    let all = sum_by-append value_room (c ∷ []) cs in
+    let one : 1 ≤ sum_by value_room (c ∷ []) = omega arith in
+    omega (arith, all, one, byte_each cs)
+
+-- a byte for each code, and a mark for each declaration
+abbrev pub pick_room : HeadView → RoomSize
+pick_room v = record { values = length v.codes.now; slots = 0; marks = length v.rows.now }
+
+pub pick_room_fits : (limit : ℕ) (h : Header) (w : WindowSize) (v : HeadView) → IsViewOf v h → AreWindows limit w → FitsInput limit h w (view_size (parts v)) (pick_room v)
+pick_room_fits limit h w v views are =
+    let is = is_view (parts v) h views in
+    room_fits limit h w (view_size (parts v)) (pick_room v) are is (record { values = omega (arith, is.codes, byte_each h.codes); slots = omega arith; marks = is.rows })
+
+pub pick_room_within : (limit chunk : ℕ) (v : HeadView) → chunk ≤ 65536 → AreWithinBound limit chunk v (pick_room v)
+pick_room_within limit chunk v le = λ h views. pick_room_fits limit h (record { chunk = chunk; token = limit; value = limit }) v views (windows limit chunk le)
+
+-- the same room is no more
+pub same_within : (r r' most : RoomSize) → r' ≡ r → IsWithin r most → IsWithin r' most
+same_within r r' most same within = subst (λ x. IsWithin x most) (sym same) within
+
+-- what an engine holds, after its begin and after a step
+pub lent_within : (limit chunk : ℕ) (v v' : HeadView) (r most : RoomSize) → v' ≡ v → IsWithin r most → AreWithinBound limit chunk v most → AreWithinBound limit chunk v' r
+lent_within limit chunk v v' r most same within bound = subst (λ w. AreWithinBound limit chunk w r) (sym same) (still_within limit chunk v r most within bound)
+
+pub still_lent : (limit chunk limit' chunk' : ℕ) (v v' : HeadView) (r r' : RoomSize) → limit' ≡ limit → chunk' ≡ chunk → v' ≡ v → r' ≡ r → AreWithinBound limit chunk v r → AreWithinBound limit' chunk' v' r'
+still_lent limit chunk limit' chunk' v v' r r' l n s t bound = rw (l, n, s, t) bound

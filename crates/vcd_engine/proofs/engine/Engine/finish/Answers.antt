@@ -1,0 +1,73 @@
+use Rattle.std.proofs.Common.{◌≡◌, ◌+◌, ◌∙◌, Ok, Err, [], add-zero, refl, ap, rules, subst}
+use Rattle.vcd_body.specs.Answer.{goes_on, reads_failed}
+use Rattle.vcd_text.specs.Device.{Device}
+use Rattle.vcd_engine.specs.Engine.{request_of_engine}
+use Rattle.vcd_engine.specs.Step.{step_end}
+use Rattle.vcd_text.specs.Advances.{Advances, CallEnd}
+use Rattle.vcd_text.proofs.AdvancesLemmas.{advances_nowhere, advances_on}
+use Rattle.vcd_body.specs.declared.answer.More.{More}
+use Rattle.vcd_body.specs.declared.answer.Done.{Done}
+use Rattle.vcd_body.specs.declared.answer.More.TheVariants.{Again, Ended}
+use Rattle.vcd_engine.proofs.RunLemmas.{runs_first, steps_end, steps_stop, steps_go_on, asked, can_run, step_reads}
+use Rattle.vcd_engine.proofs.engine.Engine.finish.Goals as goal
+
+pub items-init : goal.items-init
+items-init g c = (
+  advances_nowhere g.S.Source.failures c.args.feed.now,
+  c.requires.going,
+  refl,
+  refl,
+  (refl, refl),
+  λ h i front begin holds st w. ([], runs_first c.args.self.now h i front c.args.feed.now holds st, w),
+)
+
+pub advance-requires-clause-bound : goal.advance-requires-clause-bound
+advance-requires-clause-bound g c =
+    let since = c.items.invariant.0 in
+    rw (since.limit, since.chunk, c.items.invariant.4.0, c.items.invariant.4.1) c.requires.bound
+
+pub returns-in_err-advance-clause-gives : goal.returns-in_err-advance-clause-gives
+returns-in_err-advance-clause-gives g c = λ h i front name begin holds st w.
+    let t = request_of_engine c.args.self.now in
+    let s = c.items.invariant.5 h i front begin holds st w in
+    let since = c.items.invariant.0 in
+    let same = c.items.invariant.2 in
+    let stop = c.in_err-advance.field-0.0 in
+    let e : c.from_residual.result ≡ Err stop = search rules in
+    let out : Device = (g.W.Sink.device c.items.out) in
+    let new : Device = (g.W.Sink.device c.advance.new.out) in
+    let gives = asked (request_of_engine c.items.self) t h i front s.0 c.advance.new.self c.advance.new.feed out new _ (Err stop) same refl (c.in_err-advance.ensures.gives h i front s.0 s.1) in
+    let unfailed = since.goes refl c.requires.open in
+    let failed = step_reads g.S.Source.failures c.items.feed c.advance.new.feed (Err stop) unfailed c.in_err-advance.ensures.advances ∙ ap (λ n. n + reads_failed {A = Done} (Err stop)) (since.same (λ x. cc)) in
+    rw e (steps_stop t h i front s.0 begin out new s.2 c.advance.new.self c.advance.new.feed name _ _ _ (can_run t c.items.self h i front s.0 c.items.feed same s.1) (c.in_err-advance.ensures.advances.limit ∙ since.limit) (c.in_err-advance.ensures.advances.chunk ∙ since.chunk) stop failed gives)
+
+pub returns-in-Ended-clause-gives : goal.returns-in-Ended-clause-gives
+returns-in-Ended-clause-gives g c = λ h i front name begin holds st w.
+    let t = request_of_engine c.args.self.now in
+    let s = c.items.invariant.5 h i front begin holds st w in
+    let since = c.items.invariant.0 in
+    let same = c.items.invariant.2 in
+    let done = c.in-Ended.done in
+    let out : Device = (g.W.Sink.device c.items.out) in
+    let new : Device = (g.W.Sink.device c.advance.new.out) in
+    let gives = asked (request_of_engine c.items.self) t h i front s.0 c.advance.new.self c.advance.new.feed out new _ (Ok (Ended done)) same (ap (λ a. Ok a) c.in-Ended.is) (c.in_ok-advance.ensures.gives h i front s.0 s.1) in
+    let ended = subst (λ (a : More). Advances g.S.Source.failures c.items.feed c.advance.new.feed (step_end (Ok a))) c.in-Ended.is c.in_ok-advance.ensures.advances in
+    steps_end t h i front s.0 begin out new s.2 c.advance.new.self c.advance.new.feed name _ _ _ (can_run t c.items.self h i front s.0 c.items.feed same s.1) (c.in_ok-advance.ensures.advances.limit ∙ since.limit) (c.in_ok-advance.ensures.advances.chunk ∙ since.chunk) done
+    (step_reads g.S.Source.failures c.items.feed c.advance.new.feed (Ok (Ended done)) (since.goes refl c.requires.open) ended ∙ add-zero _ ∙ since.same (λ x. cc)) gives
+
+pub items-preserved : goal.items-preserved
+items-preserved g c =
+    let t = request_of_engine c.args.self.now in
+    let again = ap (λ a. Ok a) c.in-Again.is in
+    let same = c.items.invariant.2 in
+    let out : Device = (g.W.Sink.device c.items.out) in
+    let new : Device = (g.W.Sink.device c.advance.new.out) in (
+      advances_on g.S.Source.failures c.args.feed.now c.items.feed c.advance.new.feed CallEnd.GoesOn c.items.invariant.0 (subst (λ (a : More). Advances g.S.Source.failures c.items.feed c.advance.new.feed (step_end (Ok a))) c.in-Again.is c.in_ok-advance.ensures.advances),
+      c.in_ok-advance.ensures.going ∙ ap goes_on again,
+      c.in_ok-advance.ensures.request ∙ same,
+      c.in_ok-advance.ensures.writes ∙ add-zero _ ∙ c.items.invariant.3,
+      (c.in_ok-advance.ensures.holds.0 ∙ c.items.invariant.4.0, c.in_ok-advance.ensures.holds.1 ∙ c.items.invariant.4.1),
+      λ h i front begin holds st w.
+          let s = c.items.invariant.5 h i front begin holds st w in
+          steps_go_on t h i front s.0 begin out new s.2 c.advance.new.self c.advance.new.feed (asked (request_of_engine c.items.self) t h i front s.0 c.advance.new.self c.advance.new.feed out new _ (Ok Again) same again (c.in_ok-advance.ensures.gives h i front s.0 s.1)),
+    )

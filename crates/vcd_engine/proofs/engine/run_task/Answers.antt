@@ -1,0 +1,13 @@
+use Rattle.std.proofs.Common.{◌≡◌, Err, refl, rules}
+use Rattle.vcd_text.specs.Device.{Device}
+use Rattle.vcd_engine.specs.Engine.{request_of}
+use Rattle.vcd_engine.proofs.RunLemmas.{never_begun}
+use Rattle.vcd_engine.proofs.engine.run_task.Goals as goal
+
+pub returns-in_err-begun-clause-gives : goal.returns-in_err-begun-clause-gives
+returns-in_err-begun-clause-gives g c = λ h i front name views st.
+    let stop = c.in_err-begun.field-0.0 in
+    let e : c.from_residual.result ≡ Err stop = search rules in
+    let out : Device = (g.W.Sink.device c.args.out.now) in
+    let new : Device = (g.W.Sink.device c.start.new.out) in
+    rw e (never_begun (request_of c.args.task) _ i front h name _ _ out new c.args.feed.now stop refl st (c.in_err-begun.ensures.starts h views))

@@ -1,0 +1,19 @@
+use Rattle.std.proofs.Common.{sym, subst, ◌∙◌}
+use Rattle.vcd_text.specs.Device.{Takes}
+use Rattle.vcd_view.specs.Shown.{parts}
+use Rattle.vcd_engine.proofs.ItemTextLemmas.{some_text, change_is}
+use Rattle.vcd_engine.proofs.item_text.put_change_line.Goals as goal
+
+pub put_change-requires-clause-digits : goal.put_change-requires-clause-digits
+put_change-requires-clause-digits g c = λ event real.
+    let s = c.requires.sound in
+    some_text c.args.form s.0 _ s.2
+
+pub returns-in_default-clause-takes : goal.returns-in_default-clause-takes
+returns-in_default-clause-takes g c = let s = c.requires.sound in let there = s.1 in let none = sym c.code_at.ensures ∙ c.in_default.is in absurd (cc)
+
+pub returns-clause-takes : goal.returns-clause-takes
+returns-clause-takes g c = λ h x views is.
+    subst (λ l. Takes (g.W.Sink.device c.args.out.now) (g.W.Sink.device c.put_change.new.w) l c.put_change.result)
+    (change_is (parts c.args.view) h c.args.code c.args.form x c.in-Some.code c.text_at-id.result.now c.args.text.now views is (sym c.code_at.ensures ∙ c.in-Some.is) c.text_at-id.ensures)
+    c.put_change.ensures.0

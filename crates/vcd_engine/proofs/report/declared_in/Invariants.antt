@@ -1,0 +1,7 @@
+use Rattle.std.proofs.Common.{◌≡◌, take, count_by}
+use Rattle.vcd_engine.specs.Report.{declares_variable, opens_scope}
+use Rattle.vcd_engine.proofs.report.declared_in.Given as goal
+
+abbrev pub invariant-loop-row : goal.invariant-loop-row
+invariant-loop-row l = (l.scopes ≡ count_by (λ r. opens_scope r.kind) (take l.row-index l.rows))
+    × (l.variables ≡ count_by (λ r. declares_variable r.kind) (take l.row-index l.rows))

@@ -1,0 +1,11 @@
+use Rattle.std.proofs.Common.{◌≡◌, [], take}
+use Rattle.std.specs.Io.KnownBytes.{Appends}
+use Rattle.vcd_model.specs.Header.{Header}
+use Rattle.vcd_view.specs.Shown.{parts}
+use Rattle.vcd_view.specs.Views.{Views}
+use Rattle.vcd_engine.proofs.ListLemmas.{lines_after}
+use Rattle.vcd_engine.proofs.rows.list.Given as goal
+
+abbrev pub invariant-loop-row : goal.invariant-loop-row
+invariant-loop-row g l = ((g.W.Sink.device l.out).failures ≡ (g.W.Sink.device l.fn.out).failures)
+    × ((h : Header) → Views (parts l.view) h → Appends (g.W.Sink.device l.fn.out).held (g.W.Sink.device l.out).held (lines_after [] (take l.row h.declarations)))

@@ -1,0 +1,6 @@
+use Rattle.std.proofs.Common.{[], ◌∷◌}
+use Rattle.vcd_text.proofs.Writes.{puts-twice}
+use Rattle.vcd_engine.proofs.rows.put_word.Goals as goal
+
+pub returns : goal.returns
+returns g c = puts-twice _ _ _ (32 ∷ []) c.args.word.now c.put-2.result c.in_ok-put.ensures c.put-2.ensures

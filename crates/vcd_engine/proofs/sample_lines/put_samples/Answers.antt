@@ -1,0 +1,19 @@
+use Rattle.std.proofs.Common.{◌≡◌, ℕ, false, List, Err, flat_map, subst, ap, arith, rules}
+use Rattle.std.specs.Io.KnownBytes.{Appends}
+use Rattle.std.proofs.lemmas.List.{take_all}
+use Rattle.vcd_model.specs.Sample.{is_settled, sample_lines}
+use Rattle.vcd_model.specs.Selection.{selected}
+use Rattle.vcd_engine.proofs.Lines.{all-at, lines-some}
+use Rattle.vcd_engine.proofs.sample_lines.put_samples.Goals as goal
+
+pub returns-in_err-put_lines-clause-takes : goal.returns-in_err-put_lines-clause-takes
+returns-in_err-put_lines-clause-takes g c = λ h items names views marked held late.
+    let e : c.from_residual.result ≡ Err c.in_err-put_lines.field-0.0 = search rules in
+    rw e
+    (lines-some _ _ _ (sample_lines (selected names h.declarations) items) c.args.times.now c.loop-time.time-index _ (omega arith) (c.loop-time.invariant.1 h items names views marked held late)
+    (c.in_err-put_lines.ensures.takes h items names views marked held (all-at (λ t. is_settled items t ≡ false) c.args.times.now c.loop-time.time-index _ (omega arith) late)))
+
+pub returns-clause-takes : goal.returns-clause-takes
+returns-clause-takes g c = λ h items names views marked held late.
+    let end = take_all c.loop-time.time-index c.args.times.now (omega (arith, c.loop-time-test.false)) in
+    subst (λ (l : List ℕ). Appends (g.W.Sink.device c.args.out.now).held (g.W.Sink.device c.loop-time.out).held l) (ap (flat_map (sample_lines (selected names h.declarations) items)) end) (c.loop-time.invariant.1 h items names views marked held late)

@@ -1,0 +1,12 @@
+use Rattle.std.proofs.Common.{◌||◌, map, string_bytes, ap, ◌∙◌}
+use Rattle.vcd_model.specs.Selection.{selected, selects_code}
+use Rattle.vcd_engine.proofs.selection.select_codes.Goals as goal
+
+pub returns-clause-selects : goal.returns-clause-selects
+returns-clause-selects c = λ h views.
+    let names = map string_bytes c.args.names.now in
+    let marks = c.in_default.ensures.marks h views in record {
+      matched = c.in_default.ensures.names h views;
+      marks_are = marks;
+      chosen = λ place k there. c.choose_marked.ensures.chosen h names views marks place k there ∙ ap (λ b. b || selects_code (selected names h.declarations) k) (c.requires.new place);
+    }

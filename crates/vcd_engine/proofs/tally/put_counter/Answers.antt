@@ -1,0 +1,6 @@
+use Rattle.std.proofs.Common.{[], ◌∷◌, decimal}
+use Rattle.vcd_text.proofs.Writes.{puts-twice}
+use Rattle.vcd_engine.proofs.tally.put_counter.Goals as goal
+
+pub returns : goal.returns
+returns g c = puts-twice _ _ _ (32 ∷ []) (decimal c.args.number) c.put_number.result c.in_ok-put.ensures c.put_number.ensures

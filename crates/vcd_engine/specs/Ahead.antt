@@ -1,0 +1,39 @@
+-- What is left where a machine takes items that lie ahead in a feed's chunk, one after the other.
+use Rattle.std.specs.Prelude.{◌≡◌, ℕ, Bool, true, false, List, [], ◌∷◌, ◌++◌, Result, Ok, Err}
+use Rattle.std.specs.List.{list_any}
+use Rattle.vcd_model.specs.Header.{Header}
+use Rattle.vcd_model.specs.Items.{BodyItem}
+use Rattle.vcd_model.specs.ItemText.{last_mark}
+use Rattle.vcd_model.specs.Outcome.{Request, ends_early, open_text}
+use Rattle.vcd_text.specs.Device.{Device}
+use Rattle.vcd_body.specs.Ahead.{GaveAhead}
+use Rattle.vcd_body.specs.Items.{AreRegsAfter}
+use Rattle.vcd_body.specs.declared.item.Regs.{Regs}
+use Rattle.vcd_body.specs.Device.{Grows, GrowsSome}
+use Rattle.vcd_engine.specs.Engine.{Keeps, last_of}
+use Rattle.vcd_engine.specs.Several.{TakesSeveral}
+use Rattle.vcd_engine.specs.declared.machine.Machine.{Machine}
+
+module _ (task : Request) (h : Header) (limit lines : ℕ) (bytes : List ℕ) (before : List BodyItem) where
+  -- behind the items before, these lie in the first n bytes ahead; none of them ends the run, and the machine and the registers stand after them
+  pub record StandsAhead (n : ℕ) (items : List BodyItem) (m : Machine) (r : Regs) : Type 0 where
+    pub gave : GaveAhead h.codes limit lines bytes n before items
+    pub known : AreRegsAfter (before ++ items) r
+    pub last : last_of r ≡ last_mark (before ++ items)
+    pub keeps : Keeps m h (before ++ items)
+    pub on : list_any (ends_early task) (before ++ items) ≡ false
+
+  -- and then one more
+  pub record GaveOneAhead (n : ℕ) (items : List BodyItem) (x : BodyItem) (r : Regs) : Type 0 where
+    pub gave : GaveAhead h.codes limit lines bytes n before (items ++ x ∷ [])
+    pub known : AreRegsAfter (before ++ (items ++ x ∷ [])) r
+
+  -- how that ends behind these items: no other was taken; one more has ended the run; or a write of what is due with these or with one more failed
+  abbrev pub EndsAhead : {E : Type 0} → ℕ → Machine → Regs → Device → Device → Result Bool E → List BodyItem → Type 0
+  EndsAhead n m r out out' (Ok false) items = StandsAhead n items m r × Grows out out' (open_text task h before) (open_text task h (before ++ items))
+  EndsAhead n m r out out' (Ok true) items = (x : BodyItem) × (ends_early task x ≡ true) × GaveOneAhead n items x r × Grows out out' (open_text task h before) (open_text task h ((before ++ items) ++ x ∷ []))
+  EndsAhead n m r out out' (Err e) items = (x : BodyItem) × GaveOneAhead n items x r × GrowsSome out out' (open_text task h before) (open_text task h ((before ++ items) ++ x ∷ []))
+
+  -- some of the items were taken, and what is due with them was written, or a prefix of it where a write failed
+  abbrev pub RunsAhead : {E : Type 0} → ℕ → Machine → Regs → Device → Device → Result Bool E → Type 0
+  RunsAhead n m r out out' result = TakesSeveral task before (EndsAhead n m r out out' result)

@@ -1,0 +1,38 @@
+-- What `edges` keeps.
+use Rattle.std.specs.Prelude.{◌≡◌, ℕ, List, [], ◌∷◌, length, map, string_bytes, slice_get, Some}
+use Rattle.vcd_model.specs.Bound.{RoomSize}
+use Rattle.vcd_model.specs.Declarations.{IdCode}
+use Rattle.vcd_model.specs.Edges.{Counts, counts_for}
+use Rattle.vcd_model.specs.Header.{Header}
+use Rattle.vcd_model.specs.Items.{BodyItem}
+use Rattle.vcd_head.specs.Marks.{marks_of}
+use Rattle.vcd_body.specs.Contents.{bytes_in, codes_in, counts_at}
+use Rattle.vcd_body.specs.declared.table.Table.{Table}
+use Rattle.vcd_engine.specs.Values.{AreHeld}
+use Rattle.vcd_engine.specs.declared.machine.edges.Edges.{Edges}
+
+-- ---- counters
+
+-- three counters, as they are kept
+abbrev pub numbers : Counts → List ℕ
+numbers n = n.changes ∷ n.rises ∷ n.falls ∷ []
+
+-- after these items the table holds the values of the codes, and the counters of each are its counts
+pub record AreTallied (t : Table) (h : Header) (items : List BodyItem) : Type 0 where
+  pub held : AreHeld t h items
+  pub counted : (place : ℕ) (c : IdCode) → slice_get h.codes place ≡ Some c → counts_at t place ≡ numbers (counts_for items c)
+
+-- ---- what the machine keeps
+
+-- the names that were asked for
+abbrev pub names_counted : Edges → List (List ℕ)
+names_counted e = map string_bytes e.names.now
+
+-- what it is lent
+abbrev pub room_in_edges : Edges → RoomSize
+room_in_edges e = record { values = bytes_in e.table; slots = codes_in e.table; marks = length e.marks.now }
+
+-- over this header and after these items the selected variables are marked, and the table tells what is to be written of them
+pub record AreEdges (e : Edges) (h : Header) (items : List BodyItem) : Type 0 where
+  pub marks_are : e.marks.now ≡ marks_of (names_counted e) h.declarations
+  pub tallied : AreTallied e.table h items

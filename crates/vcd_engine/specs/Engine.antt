@@ -1,0 +1,145 @@
+-- Which request an engine runs, what it keeps, and what it holds after items.
+use Rattle.std.specs.Prelude.{◌≡◌, ℕ, ◌≤◌, ◌∷◌, ◌++◌, Bool, true, false, cond, List, [], length, map, Option, Some, None, Result, Ok, IfOk, MatchResult, string_bytes}
+use Rattle.std.specs.List.{list_any}
+use Rattle.vcd_model.specs.Header.{Header}
+use Rattle.vcd_model.specs.Input.{Input}
+use Rattle.vcd_model.specs.Items.{BodyItem}
+use Rattle.vcd_model.specs.ItemText.{last_mark}
+use Rattle.vcd_model.specs.Laws.{IsValid}
+use Rattle.vcd_model.specs.Outcome.{Request, ends_early, names_of, open_text}
+use Rattle.vcd_model.specs.Selection.{first_unmatched}
+use Rattle.vcd_model.specs.Tokens.{Token}
+use Rattle.vcd_text.specs.Feed.{seen}
+use Rattle.vcd_text.specs.declared.device.Source.{Ghosts}
+use Rattle.vcd_text.specs.declared.feed.Feed.{Feed}
+use Rattle.vcd_view.specs.Views.{IsViewOf}
+use Rattle.vcd_body.specs.Items.{AreRegsAfter}
+use Rattle.vcd_body.specs.Reads.{GaveItems}
+use Rattle.vcd_body.specs.declared.item.Regs.{Regs}
+use Rattle.vcd_engine.specs.Check.{AreCounted}
+use Rattle.vcd_text.specs.Device.{Device, Takes, Writes, WritesSome}
+use Rattle.vcd_body.specs.Device.{DueBy}
+use Rattle.vcd_engine.specs.Cut.{AreCut, span_in}
+use Rattle.vcd_engine.specs.Edges.{AreEdges, names_counted}
+use Rattle.vcd_engine.specs.Pick.{ArePicked, names_in}
+use Rattle.vcd_engine.specs.Sample.{AreSampled, asked_in}
+use Rattle.vcd_body.specs.declared.answer.Stop.{Stop}
+use Rattle.vcd_body.specs.declared.answer.Stop.TheVariants.{Write, Unmatched}
+use Rattle.vcd_engine.specs.declared.engine.Begun.{Begun}
+use Rattle.vcd_engine.specs.declared.engine.Engine.{Engine}
+use Rattle.vcd_engine.specs.declared.machine.Machine.{Machine}
+use Rattle.vcd_engine.specs.declared.machine.Machine.TheVariants as machine
+use Rattle.vcd_engine.specs.declared.task.Task.{Task}
+use Rattle.vcd_engine.specs.declared.task.Task.TheVariants as task
+
+-- ---- one case a command
+
+-- the definitions' request for a task
+abbrev pub request_of : Task → Request
+request_of task.Check = Request.Check
+request_of (task.Pick names) = Request.Pick (map string_bytes names.now)
+request_of (task.Cut from to) = Request.Cut from to
+request_of (task.Sample times names) = Request.Sample times.now (map string_bytes names.now)
+request_of (task.Edges names) = Request.Edges (map string_bytes names.now)
+
+-- the request that a machine works on
+abbrev pub request_in : Machine → Request
+request_in (machine.Check c) = Request.Check
+request_in (machine.Pick p) = Request.Pick (names_in p)
+request_in (machine.Cut m) = span_in m
+request_in (machine.Sample s) = asked_in s
+request_in (machine.Edges e) = Request.Edges (names_counted e)
+
+-- what a machine keeps over this header and after these items
+abbrev pub Keeps : Machine → Header → List BodyItem → Type 0
+Keeps (machine.Check c) h items = AreCounted items c
+Keeps (machine.Pick p) h items = ArePicked p h items
+Keeps (machine.Cut m) h items = AreCut m h items
+Keeps (machine.Sample s) h items = AreSampled s h items
+Keeps (machine.Edges e) h items = AreEdges e h items
+
+-- ---- requests
+
+-- the request of a task that has begun
+abbrev pub request_of_begun : Begun → Request
+request_of_begun b = request_in b.machine
+
+-- the request that an engine runs
+abbrev pub request_of_engine : Engine → Request
+request_of_engine e = request_in e.machine
+
+-- a time mark may end the run
+abbrev pub may_end_early : Request → Bool
+may_end_early (Request.Cut from to) = true
+may_end_early (Request.Sample times names) = true
+may_end_early task = false
+
+-- the request is one over a body
+abbrev pub reads_body : Request → Bool
+reads_body Request.Listing = false
+reads_body task = true
+
+-- it can be run over this header: its times are in order, and each of its names selects something
+pub record CanRun (task : Request) (h : Header) : Type 0 where
+  pub body : reads_body task ≡ true
+  pub valid : IsValid task
+  pub matched : first_unmatched (names_of task) h.declarations ≡ None
+
+-- ---- the begin
+
+-- a run that stops at its begin has a failed write, or a name that selects nothing
+abbrev pub StopsUnread : Stop → Type 0
+StopsUnread Write = Unit {0}
+StopsUnread (Unmatched place) = Unit {0}
+StopsUnread stop = ⊥
+
+-- and this is what it leaves
+abbrev pub StopsAtStart : Request → Header → Device → Device → Stop → Type 0
+StopsAtStart task h out out' Write = CanRun task h × WritesSome out out' (open_text task h [])
+StopsAtStart task h out out' (Unmatched place) = (first_unmatched (names_of task) h.declarations ≡ Some place) × Writes out out' []
+StopsAtStart task h out out' stop = ⊥
+
+-- what stands before all items was written, and this holds of what begins; or why it stops
+abbrev pub Starts : {A : Type 0} → (A → Type 0) → Request → Header → Device → Device → Result A Stop → Type 0
+Starts holds task h out out' result = MatchResult result (λ a. CanRun task h × holds a × Writes out out' (open_text task h [])) (StopsAtStart task h out out')
+
+-- ---- items
+
+-- the last time mark, by the registers
+abbrev pub last_of : Regs → Option ℕ
+last_of r = cond r.marked (Some r.time) None
+
+-- what is due with one item more was taken so, and it was returned whether the item ends the run; if not, this holds
+pub record TakesOneBy {E : Type 0} (takes : List ℕ → Type 0) (holds : Type 0) (task : Request) (h : Header) (items : List BodyItem) (x : BodyItem) (result : Result Bool E) : Type 0 where
+  pub due : DueBy takes (open_text task h items) (open_text task h (items ++ x ∷ []))
+  pub ends : IfOk result (λ ended. ended ≡ ends_early task x)
+  pub keeps : result ≡ Ok false → holds
+
+-- what is due with one item more was written
+abbrev pub TakesOne : {E : Type 0} → Type 0 → Request → Header → List BodyItem → BodyItem → Device → Device → Result Bool E → Type 0
+TakesOne holds task h items x out out' result = TakesOneBy (λ due. Takes out out' due result) holds task h items x result
+
+-- a task has begun over this header
+abbrev pub HasBegun : Begun → Header → Type 0
+HasBegun b h = Keeps b.machine h []
+
+-- the engine has begun, and no step of it has ended the run
+abbrev pub is_going : Engine → Bool
+is_going e = e.going
+
+-- an engine over this header holds what is due after these items
+pub record Holds (e : Engine) (h : Header) (items : List BodyItem) : Type 0 where
+  pub views : IsViewOf e.view h
+  pub can : CanRun (request_of_engine e) h
+  pub known : AreRegsAfter items e.regs
+  pub last : last_of e.regs ≡ last_mark items
+  pub keeps : Keeps e.machine h items
+
+-- after these tokens, those of the header, the feed has given these items, and the engine holds them
+pub record Runs {X : Type 0} {g : Ghosts X} (e : Engine) (h : Header) (i : Input) (front : List Token) (items : List BodyItem) (f : Feed X g) : Type 0 where
+  pub holds : Holds e h items
+  pub gave : GaveItems h.codes i front items f e.regs
+  -- none of them ends the run
+  pub on : list_any (ends_early (request_of_engine e)) items ≡ false
+  -- there are no more of them than bytes
+  pub few : length items ≤ seen f

@@ -1,0 +1,28 @@
+-- The text of kept items, and the item that was read last.
+use Rattle.std.specs.Prelude.{◌≡◌, ℕ, ◌++◌, List, map, None}
+use Rattle.std.specs.List.{last_or}
+use Rattle.vcd_model.specs.Declarations.{IdCode}
+use Rattle.vcd_model.specs.Items.{BodyItem, Entry}
+use Rattle.vcd_model.specs.ItemText.{time_due, time_unless}
+use Rattle.vcd_text.specs.declared.device.Source.{Ghosts}
+use Rattle.vcd_text.specs.declared.feed.Feed.{Feed}
+use Rattle.vcd_body.specs.Given.{IsItem}
+use Rattle.vcd_body.specs.Given.{item_text}
+use Rattle.vcd_body.specs.declared.item.Item.{Item}
+use Rattle.vcd_engine.specs.declared.item_text.ItemText.{ItemText}
+
+-- the times whose lines stand: these, and then those of kept entries
+abbrev pub times_with : List ℕ → List Entry → List ℕ
+times_with before kept = before ++ map (λ e. e.time) kept
+
+-- the text of these kept entries, which stands after the lines of these times, was written: the time whose line was written last is known
+pub record HasWritten (before : List ℕ) (kept : List Entry) (t : ItemText) : Type 0 where
+  pub last : t.written ≡ last_or None (times_with before kept)
+
+-- a look at the time that was written last tells whether the line of this time stands
+abbrev pub LastTells : List ℕ → ℕ → Type 0
+LastTells written t = time_unless written t ≡ time_due (last_or None written) t
+
+-- the one that the item is which was read last
+abbrev pub AsItem : {X : Type 0} {g : Ghosts X} → List IdCode → Feed X g → Item → BodyItem → Type 0
+AsItem codes f item x = IsItem codes (item_text f item) item x

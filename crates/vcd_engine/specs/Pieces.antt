@@ -1,0 +1,43 @@
+-- Text that is due, and of which the last pieces are not yet written.
+use Rattle.std.specs.Prelude.{◌≡◌, ℕ, ◌<◌, ◌≤◌, List, ◌++◌, length, take, slice_range, Result, Ok, Err}
+use Rattle.vcd_model.specs.ItemText.{time_line}
+use Rattle.vcd_text.specs.Device.{Device, Writes, WritesSome}
+use Rattle.vcd_view.specs.declared.view.HeadView.{HeadView}
+use Rattle.vcd_body.specs.Given.{HasGoodText}
+use Rattle.vcd_body.specs.Ahead.{HasBits, IsSizedItem}
+use Rattle.vcd_body.specs.Spelled.{HasSpelled}
+use Rattle.vcd_engine.specs.declared.pieces.Lying.{Lying}
+use Rattle.vcd_engine.specs.declared.pieces.Pieces.{Pieces}
+
+-- an item lies at a place of these bytes
+pub record Lies (v : HeadView) (l : Lying) : Type 0 where
+  pub within : (l.from ≤ l.to) × (l.to ≤ length l.bytes.now)
+  pub good : HasGoodText v.codes.now l.plain.text.now l.plain.item
+  pub sized : IsSizedItem v.codes.now l.plain.item l.plain.most
+  pub bits : HasBits l.plain.item l.plain.text.now l.plain.bits
+  pub spelled : HasSpelled v l.bytes.now l.from l.to l.plain.at l.plain.code_at l.plain.text.now l.plain.item
+
+-- from one place of these bytes up to another the line of this time stands, or nothing
+abbrev pub IsLine : List ℕ → ℕ → ℕ → ℕ → Type 0
+IsLine bytes line from time = (line ≤ from) × (line < from → slice_range bytes line from ≡ time_line time)
+
+-- the last piece is a part of these bytes
+abbrev pub IsPart : List ℕ → Pieces → Type 0
+IsPart bytes p = (p.from ≤ p.to) × (p.to ≤ length bytes)
+
+-- the text that is held: what was gathered, and the last piece
+abbrev pub held_in : List ℕ → Pieces → List ℕ
+held_in bytes p = take p.gathered.now.len p.gathered.now.bytes ++ slice_range bytes p.from p.to
+
+-- what was written and what is held make the text that was held and then what is due
+abbrev pub PutsAll : List ℕ → List ℕ → Device → Device → List ℕ → Type 0
+PutsAll held held' out out' due = (written : List ℕ) × (held ++ due ≡ written ++ held') × Writes out out' written
+
+-- the same; or a prefix of that text was written, where a write failed
+abbrev pub PutsOn : {A E : Type 0} → List ℕ → List ℕ → Device → Device → List ℕ → Result A E → Type 0
+PutsOn held held' out out' due (Ok v) = PutsAll held held' out out' due
+PutsOn held held' out out' due (Err e) = WritesSome out out' (held ++ due)
+
+-- what one text has more than the other was written, but for what is held at its end
+abbrev pub GrowsBut : Device → Device → List ℕ → List ℕ → List ℕ → Type 0
+GrowsBut out out' held text more = (due : List ℕ) × (more ≡ text ++ (due ++ held)) × Writes out out' due

@@ -1,0 +1,85 @@
+-- Whether room is large enough for a task, and small enough for the bound.
+use Rattle.std.specs.Prelude.{ℕ, ◌≤◌, length, max}
+use Rattle.vcd_model.specs.Bound.{FitsInput, RoomSize, no_room}
+use Rattle.vcd_model.specs.Header.{Header}
+use Rattle.vcd_view.specs.Needs.{view_size}
+use Rattle.vcd_view.specs.Shown.{parts}
+use Rattle.vcd_view.specs.Views.{IsViewOf}
+use Rattle.vcd_engine.specs.Pick.{flags_in}
+use Rattle.vcd_engine.specs.declared.engine.Begun.{Begun}
+use Rattle.vcd_engine.specs.declared.engine.Engine.{Engine}
+use Rattle.vcd_engine.specs.declared.machine.Machine.{Machine}
+use Rattle.vcd_engine.specs.declared.machine.Machine.TheVariants as machine
+use Rattle.vcd_view.specs.declared.view.HeadView.{HeadView}
+use Rattle.vcd_engine.specs.declared.task.Room.{Room}
+use Rattle.vcd_engine.specs.declared.task.Task.{Task}
+use Rattle.vcd_engine.specs.Cut.{lent_to}
+use Rattle.vcd_engine.specs.Edges.{room_in_edges}
+use Rattle.vcd_engine.specs.Sample.{lent_to as lent_to_sample}
+use Rattle.vcd_engine.specs.Values.{table_bytes}
+use Rattle.vcd_engine.specs.declared.task.Task.TheVariants.{Check, Pick, Cut, Sample, Edges}
+
+-- how many bytes of values a task works with
+abbrev pub values_for : Task → HeadView → ℕ
+values_for Check v = 0
+values_for (Pick names) v = length v.codes.now
+values_for (Cut from to) v = table_bytes v
+values_for (Sample times names) v = table_bytes v
+values_for (Edges names) v = table_bytes v
+
+-- how many marks
+abbrev pub marks_for : Task → HeadView → ℕ
+marks_for Check v = 0
+marks_for (Pick names) v = length v.rows.now
+marks_for (Cut from to) v = length v.rows.now
+marks_for (Sample times names) v = length v.rows.now
+marks_for (Edges names) v = length v.rows.now
+
+-- how many places for codes, and how many shares
+abbrev pub slots_for : Task → HeadView → ℕ
+slots_for Check v = 0
+slots_for (Pick names) v = 0
+slots_for (Cut from to) v = length v.codes.now
+slots_for (Sample times names) v = length v.codes.now
+slots_for (Edges names) v = length v.codes.now
+
+-- the room is large enough for the task over the header that is shown
+pub record HasRoomFor (t : Task) (v : HeadView) (r : Room) : Type 0 where
+  pub values : values_for t v ≤ length r.values.now
+  pub marks : marks_for t v ≤ length r.marks.now
+  pub slots : slots_for t v ≤ length r.slots.now
+  pub shares : slots_for t v ≤ length r.shares.now
+
+-- ---- what is lent
+
+-- the lengths of room; a slot and its share count as one
+abbrev pub room_size : Room → RoomSize
+room_size r = record { values = length r.values.now; slots = max (length r.slots.now) (length r.shares.now); marks = length r.marks.now }
+
+-- those of the room that a machine holds
+abbrev pub room_of : Machine → RoomSize
+room_of (machine.Check c) = no_room
+room_of (machine.Pick p) = record { values = flags_in p; slots = 0; marks = 0 }
+room_of (machine.Cut m) = lent_to m
+room_of (machine.Sample s) = lent_to_sample s
+room_of (machine.Edges e) = room_in_edges e
+
+-- what an engine holds beside its registers: a view, and room
+abbrev pub view_in : Engine → HeadView
+view_in e = e.view
+
+abbrev pub room_of_begun : Begun → RoomSize
+room_of_begun b = room_of b.machine
+
+abbrev pub room_in : Engine → RoomSize
+room_in e = room_of e.machine
+
+-- no more room than this
+pub record IsWithin (r most : RoomSize) : Type 0 where
+  pub values : r.values ≤ most.values
+  pub slots : r.slots ≤ most.slots
+  pub marks : r.marks ≤ most.marks
+
+-- windows of these lengths, the view and room of this size count at most the bound of the header that is shown, with 512 bytes to spare
+abbrev pub AreWithinBound : (limit chunk : ℕ) → HeadView → RoomSize → Type 0
+AreWithinBound limit chunk v r = (h : Header) → IsViewOf v h → FitsInput limit h (record { chunk = chunk; token = limit; value = limit }) (view_size (parts v)) r

@@ -1,0 +1,68 @@
+-- What a step of an engine leaves.
+use Rattle.std.specs.Prelude.{◌≡◌, List, ◌++◌, Result, ◌==◌, ◌⊎◌, true, false, [], ◌∷◌, Ok, Err}
+use Rattle.vcd_model.specs.Items.{BodyItem}
+use Rattle.vcd_model.specs.Input.{Input}
+use Rattle.vcd_model.specs.Tokens.{Token}
+use Rattle.vcd_model.specs.Header.{Header}
+use Rattle.vcd_model.specs.Outcome.{Request, ends_early, open_text, close_text}
+use Rattle.vcd_text.specs.declared.device.Source.{Ghosts}
+use Rattle.vcd_text.specs.declared.feed.Feed.{Feed}
+use Rattle.vcd_text.specs.Answer.{failed_after}
+use Rattle.vcd_text.specs.Feed.{GaveOnlySeen, seen, token_of}
+use Rattle.vcd_text.specs.Advances.{CallEnd}
+use Rattle.vcd_body.specs.Ahead.{GaveLast}
+use Rattle.vcd_body.specs.Reads.{FailsOver, GaveAll, GaveItem}
+use Rattle.vcd_body.specs.declared.answer.Stop.{Stop}
+use Rattle.vcd_body.specs.declared.answer.Stop.TheVariants.{Dump, Read, Write, Unmatched}
+use Rattle.vcd_text.specs.Device.{Device, Writes}
+use Rattle.vcd_body.specs.Device.{Grows, GrowsSome}
+use Rattle.vcd_body.specs.declared.answer.Done.TheVariants.{Whole, Early}
+use Rattle.vcd_body.specs.declared.answer.More.{More}
+use Rattle.vcd_body.specs.declared.answer.More.TheVariants.{Again, Ended}
+use Rattle.vcd_engine.specs.declared.engine.Engine.{Engine}
+use Rattle.vcd_engine.specs.Engine.{Runs}
+use Rattle.vcd_engine.specs.Several.{TakesSeveral}
+
+-- what a step after these items returns, by the engine, the feed and the output that it leaves
+abbrev pub StepGives : {X : Type 0} {g : Ghosts X} → Request → Header → Input → List Token → List BodyItem → Engine → Feed X g → Device → Device → Result More Stop → Type 0
+StepGives task h i front items e f out out' (Ok Again) =
+    (x : BodyItem) × Runs e h i front (items ++ x ∷ []) f × Grows out out' (open_text task h items) (open_text task h (items ++ x ∷ [])) × GaveItem h.codes i front items x f e.regs
+StepGives task h i front items e f out out' (Ok (Ended Whole)) = GaveAll h.codes i front items f e.regs × Writes out out' (close_text task h items)
+StepGives task h i front items e f out out' (Ok (Ended Early)) =
+    (x : BodyItem) × (ends_early task x ≡ true) × GaveItem h.codes i front items x f e.regs × Grows out out' (open_text task h items) (open_text task h (items ++ x ∷ []))
+StepGives task h i front items e f out out' (Err (Dump input line fault)) =
+    (input ≡ 0) × ((fault == 31) ≡ false) × (line ≡ (token_of f).line) × FailsOver h.codes i front items fault f × Writes out out' []
+StepGives task h i front items e f out out' (Err (Read input)) =
+    (input ≡ 0) × FailsOver h.codes (failed_after (seen f) i) front items 31 f × GaveOnlySeen i f × Writes out out' []
+StepGives task h i front items e f out out' (Err Write) =
+    ((x : BodyItem) × GaveItem h.codes i front items x f e.regs × GrowsSome out out' (open_text task h items) (open_text task h (items ++ x ∷ [])))
+    ⊎ (GaveAll h.codes i front items f e.regs × GrowsSome out out' [] (close_text task h items))
+StepGives task h i front items e f out out' (Err (Unmatched name)) = ⊥
+
+-- What several steps leave behind these items and some more, by all that they wrote: the last one is a step behind those. Where it takes an item after which the run is over, it is not said on which line that stands; and a write that failed may be of any item that was not there before.
+abbrev pub LastGives : {X : Type 0} {g : Ghosts X} → Request → Header → Input → List Token → List BodyItem → Engine → Feed X g → Device → Device → Result More Stop → List BodyItem → Type 0
+LastGives task h i front items e f out out' (Ok (Ended Early)) more =
+    (x : BodyItem) × (ends_early task x ≡ true) × GaveLast h.codes i front (items ++ more) x f e.regs × Grows out out' (open_text task h items) (open_text task h ((items ++ more) ++ x ∷ []))
+LastGives task h i front items e f out out' (Err Write) more =
+    ((x : BodyItem) × GaveLast h.codes i front (items ++ more) x f e.regs × GrowsSome out out' (open_text task h items) (open_text task h ((items ++ more) ++ x ∷ [])))
+    ⊎ (GaveAll h.codes i front (items ++ more) f e.regs × GrowsSome out out' (open_text task h items) (open_text task h (items ++ more) ++ close_text task h (items ++ more)))
+LastGives task h i front items e f out out' result more = (mid : Device) × Grows out mid (open_text task h items) (open_text task h (items ++ more)) × StepGives task h i front (items ++ more) e f mid out' result
+
+-- what several steps leave: items were given and taken, of which none ends the run, and then a last step
+abbrev pub StepsGive : {X : Type 0} {g : Ghosts X} → Request → Header → Input → List Token → List BodyItem → Engine → Feed X g → Device → Device → Result More Stop → Type 0
+StepsGive task h i front items e f out out' result = TakesSeveral task items (LastGives task h i front items e f out out' result)
+
+-- what the items that lie ahead leave: all of them were taken; or the last of them ended the run, or a write of what is due with them failed
+abbrev pub AheadGives : {X : Type 0} {g : Ghosts X} → Request → Header → Input → List Token → List BodyItem → Engine → Feed X g → Device → Device → Result More Stop → List BodyItem → Type 0
+AheadGives task h i front items e f out out' (Ok Again) more = Runs e h i front (items ++ more) f × Grows out out' (open_text task h items) (open_text task h (items ++ more))
+AheadGives task h i front items e f out out' result more = LastGives task h i front items e f out out' result more
+
+-- some items were taken, and then this
+abbrev pub TakesAhead : {X : Type 0} {g : Ghosts X} → Request → Header → Input → List Token → List BodyItem → Engine → Feed X g → Device → Device → Result More Stop → Type 0
+TakesAhead task h i front items e f out out' result = TakesSeveral task items (AheadGives task h i front items e f out out' result)
+
+-- how a step ends for the feed that it reads
+abbrev pub step_end : Result More Stop → CallEnd
+step_end (Ok Again) = CallEnd.GoesOn
+step_end (Err (Read input)) = CallEnd.Fails
+step_end result = CallEnd.Ends

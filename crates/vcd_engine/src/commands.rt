@@ -1,0 +1,179 @@
+//! The commands over items: each is its task.
+ghost use Rattle.std.specs.Prelude.{◌≡◌, ◌≢◌, ℕ, ◌+◌, ◌-◌, ◌^◌, ◌<◌, ◌≤◌, [], List, IfOk, map, string_bytes};
+ghost use Rattle.std.specs.List.Sorted.{IsStrictlyIncreasing};
+ghost use Rattle.vcd_model.specs.Header.{Header};
+ghost use Rattle.vcd_model.specs.Input.{Input};
+ghost use Rattle.vcd_model.specs.Outcome.{Request};
+ghost use Rattle.vcd_model.specs.Tokens.{Token};
+ghost use Rattle.vcd_text.specs.Feed.{HasGiven, SameLoans, source_of, supply_of, limit_of, chunk_len_of};
+ghost use Rattle.vcd_view.specs.Views.{IsViewOf};
+ghost use Rattle.vcd_text.specs.Advances.{HasNotFailed};
+ghost use Rattle.vcd_engine.specs.Run.{Follows};
+ghost use Rattle.vcd_body.specs.Answer.{reads_failed, writes_failed};
+ghost use Rattle.vcd_model.specs.Bound.{no_room};
+ghost use Rattle.vcd_engine.specs.Room.{AreWithinBound, HasRoomFor, room_size};
+ghost use Rattle.vcd_body.specs.declared.answer.Done.TheVariants.{Whole};
+
+use crate::engine::run_task;
+use crate::task::{Room, Task};
+use vcd_body::{Done, Stop};
+use vcd_text::{Feed, Sink, Source};
+use vcd_view::HeadView;
+
+/// Reads the body after the header that is shown, and writes the seven lines.
+pub fn check<S: Source, W: Sink>(
+    view: HeadView<'_>,
+    feed: &mut Feed<'_, '_, '_, '_, S>,
+    out: &mut W,
+) -> Result<Done, Stop>
+    requires feed_failures { S.failures (source_of feed.old) < 2 ^ 64 - 1 }
+    requires out_failures { (W.device out.old).failures < 2 ^ 64 - 1 }
+    requires open { HasNotFailed feed.old }
+    requires bound { AreWithinBound (limit_of feed.old) (chunk_len_of feed.old) view no_room }
+    ensures gives { (h : Header) (i : Input) (front : List Token) (name : List ℕ)
+        → IsViewOf view.entry h → HasGiven i front feed.old
+        → Follows Request.Check (limit_of feed.old) (chunk_len_of feed.old) i front h name
+        (supply_of feed.old) (supply_of feed.new)
+        (W.device out.old) (W.device out.new) result }
+    ensures devices { (S.failures (source_of feed.new)
+        ≡ S.failures (source_of feed.old) + reads_failed result)
+        × ((W.device out.new).failures ≡ (W.device out.old).failures + writes_failed result) }
+    ensures answer { IfOk result (λ done. done ≡ Whole) }
+    ensures windows { (limit_of feed.new ≡ limit_of feed.old)
+        × (chunk_len_of feed.new ≡ chunk_len_of feed.old) × SameLoans feed.old feed.new }
+{
+    let mut room = Room {
+        values: &mut [],
+        slots: &mut [],
+        shares: &mut [],
+        marks: &mut [],
+    };
+    run_task(Task::Check, view, feed, &mut room, out)
+}
+
+/// Writes the header of the variables that the names select and of the scopes around them, and then reads the body after the
+/// header that is shown, and writes its sections and the changes of these variables, each after the line of its time. A name
+/// that selects nothing is refused before anything is read or written.
+pub fn pick<S: Source, W: Sink>(
+    view: HeadView<'_>,
+    feed: &mut Feed<'_, '_, '_, '_, S>,
+    room: &mut Room<'_>,
+    names: &[String],
+    out: &mut W,
+) -> Result<Done, Stop>
+    requires feed_failures { S.failures (source_of feed.old) < 2 ^ 64 - 1 }
+    requires out_failures { (W.device out.old).failures < 2 ^ 64 - 1 }
+    requires open { HasNotFailed feed.old }
+    requires room { HasRoomFor (Task.Pick names) view room.old }
+    requires bound { AreWithinBound (limit_of feed.old) (chunk_len_of feed.old) view
+        (room_size room.old) }
+    ensures gives { (h : Header) (i : Input) (front : List Token) (name : List ℕ)
+        → IsViewOf view.entry h → HasGiven i front feed.old
+        → Follows (Request.Pick (map string_bytes names.now)) (limit_of feed.old)
+        (chunk_len_of feed.old) i front h name (supply_of feed.old) (supply_of feed.new)
+        (W.device out.old) (W.device out.new) result }
+    ensures devices { (S.failures (source_of feed.new)
+        ≡ S.failures (source_of feed.old) + reads_failed result)
+        × ((W.device out.new).failures ≡ (W.device out.old).failures + writes_failed result) }
+    ensures answer { IfOk result (λ done. done ≡ Whole) }
+    ensures windows { (limit_of feed.new ≡ limit_of feed.old)
+        × (chunk_len_of feed.new ≡ chunk_len_of feed.old) × SameLoans feed.old feed.new }
+{
+    run_task(Task::Pick(names), view, feed, room, out)
+}
+
+/// Reads the body after the header that is shown, and then writes a row for each variable that the names select: its path, and
+/// how often its value changes, rises and falls. At a fault nothing is written. A name that selects nothing is refused before
+/// anything is read.
+pub fn edges<S: Source, W: Sink>(
+    view: HeadView<'_>,
+    feed: &mut Feed<'_, '_, '_, '_, S>,
+    room: &mut Room<'_>,
+    names: &[String],
+    out: &mut W,
+) -> Result<Done, Stop>
+    requires feed_failures { S.failures (source_of feed.old) < 2 ^ 64 - 1 }
+    requires out_failures { (W.device out.old).failures < 2 ^ 64 - 1 }
+    requires open { HasNotFailed feed.old }
+    requires room { HasRoomFor (Task.Edges names) view room.old }
+    requires bound { AreWithinBound (limit_of feed.old) (chunk_len_of feed.old) view
+        (room_size room.old) }
+    ensures gives { (h : Header) (i : Input) (front : List Token) (name : List ℕ)
+        → IsViewOf view.entry h → HasGiven i front feed.old
+        → Follows (Request.Edges (map string_bytes names.now)) (limit_of feed.old)
+        (chunk_len_of feed.old) i front h name (supply_of feed.old) (supply_of feed.new)
+        (W.device out.old) (W.device out.new) result }
+    ensures devices { (S.failures (source_of feed.new)
+        ≡ S.failures (source_of feed.old) + reads_failed result)
+        × ((W.device out.new).failures ≡ (W.device out.old).failures + writes_failed result) }
+    ensures answer { IfOk result (λ done. done ≡ Whole) }
+    ensures windows { (limit_of feed.new ≡ limit_of feed.old)
+        × (chunk_len_of feed.new ≡ chunk_len_of feed.old) × SameLoans feed.old feed.new }
+{
+    run_task(Task::Edges(names), view, feed, room, out)
+}
+
+/// Writes the header of all variables and, from the first time mark of at least `from` on, a section with the values that stood
+/// before `from`, and the items from then up to `to`, each after the line of its time. Times are in ticks. A time mark above `to`
+/// ends the run.
+pub fn cut<S: Source, W: Sink>(
+    view: HeadView<'_>,
+    feed: &mut Feed<'_, '_, '_, '_, S>,
+    room: &mut Room<'_>,
+    from: u64,
+    to: u64,
+    out: &mut W,
+) -> Result<Done, Stop>
+    requires feed_failures { S.failures (source_of feed.old) < 2 ^ 64 - 1 }
+    requires out_failures { (W.device out.old).failures < 2 ^ 64 - 1 }
+    requires open { HasNotFailed feed.old }
+    requires order { from ≤ to }
+    requires room { HasRoomFor (Task.Cut from to) view room.old }
+    requires bound { AreWithinBound (limit_of feed.old) (chunk_len_of feed.old) view
+        (room_size room.old) }
+    ensures gives { (h : Header) (i : Input) (front : List Token) (name : List ℕ)
+        → IsViewOf view.entry h → HasGiven i front feed.old
+        → Follows (Request.Cut from to) (limit_of feed.old)
+        (chunk_len_of feed.old) i front h name (supply_of feed.old) (supply_of feed.new)
+        (W.device out.old) (W.device out.new) result }
+    ensures devices { (S.failures (source_of feed.new)
+        ≡ S.failures (source_of feed.old) + reads_failed result)
+        × ((W.device out.new).failures ≡ (W.device out.old).failures + writes_failed result) }
+    ensures windows { (limit_of feed.new ≡ limit_of feed.old)
+        × (chunk_len_of feed.new ≡ chunk_len_of feed.old) × SameLoans feed.old feed.new }
+{
+    run_task(Task::Cut { from, to }, view, feed, room, out)
+}
+
+/// Writes, for each of the times, the lines of the variables that the names select: the time, the path and the value, in full.
+/// There is a time, in ticks, and each is above the one before it. A name that selects nothing is refused before anything is
+/// read or written. A time mark above the last of the times ends the run.
+pub fn sample<S: Source, W: Sink>(
+    view: HeadView<'_>,
+    feed: &mut Feed<'_, '_, '_, '_, S>,
+    room: &mut Room<'_>,
+    times: &[u64],
+    names: &[String],
+    out: &mut W,
+) -> Result<Done, Stop>
+    requires feed_failures { S.failures (source_of feed.old) < 2 ^ 64 - 1 }
+    requires out_failures { (W.device out.old).failures < 2 ^ 64 - 1 }
+    requires open { HasNotFailed feed.old }
+    requires some { times.now ≢ [] }
+    requires rising { IsStrictlyIncreasing times.now }
+    requires room { HasRoomFor (Task.Sample times names) view room.old }
+    requires bound { AreWithinBound (limit_of feed.old) (chunk_len_of feed.old) view
+        (room_size room.old) }
+    ensures gives { (h : Header) (i : Input) (front : List Token) (name : List ℕ)
+        → IsViewOf view.entry h → HasGiven i front feed.old
+        → Follows (Request.Sample times.now (map string_bytes names.now)) (limit_of feed.old)
+        (chunk_len_of feed.old) i front h name
+        (supply_of feed.old) (supply_of feed.new) (W.device out.old) (W.device out.new) result }
+    ensures devices { (S.failures (source_of feed.new)
+        ≡ S.failures (source_of feed.old) + reads_failed result)
+        × ((W.device out.new).failures ≡ (W.device out.old).failures + writes_failed result) }
+    ensures windows { (limit_of feed.new ≡ limit_of feed.old)
+        × (chunk_len_of feed.new ≡ chunk_len_of feed.old) × SameLoans feed.old feed.new }
+{
+    run_task(Task::Sample { times, names }, view, feed, room, out)
+}

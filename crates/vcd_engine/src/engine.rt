@@ -1,0 +1,385 @@
+//! A run over the items of a body, one item a step. It names no command.
+ghost use Rattle.std.specs.Prelude.{◌≡◌, ◌≢◌, ℕ, ◌+◌, ◌-◌, ◌^◌, ◌<◌, [], List, true, IfErr, IfOk, MatchBool, Ok, MatchResult};
+ghost use Rattle.vcd_model.specs.Header.{Header};
+ghost use Rattle.vcd_model.specs.Input.{Input};
+ghost use Rattle.vcd_model.specs.Items.{BodyItem};
+ghost use Rattle.vcd_model.specs.Laws.{IsValid};
+ghost use Rattle.vcd_model.specs.Outcome.{close_text, open_text};
+ghost use Rattle.vcd_model.specs.Tokens.{Token};
+ghost use Rattle.vcd_text.specs.Feed.{HasGiven, SameLoans, source_of, supply_of, seen, limit_of, chunk_len_of};
+ghost use Rattle.vcd_view.specs.Shown.{parts};
+ghost use Rattle.vcd_view.specs.Views.{IsViewOf};
+ghost use Rattle.vcd_text.specs.Advances.{Advances, CallEnd, HasNotFailed};
+ghost use Rattle.vcd_body.specs.Given.{item_text};
+ghost use Rattle.vcd_body.specs.declared.item.Item.TheVariants.{Finish};
+ghost use Rattle.vcd_body.specs.Answer.{goes_on, reads_failed, writes_failed};
+ghost use Rattle.vcd_text.specs.Device.{Counts, Device, Takes, Writes, failures_after};
+ghost use Rattle.vcd_engine.specs.Engine.{CanRun, HasBegun, Holds, Runs, Starts, StopsUnread, is_going, may_end_early, request_of, request_of_begun, request_of_engine};
+ghost use Rattle.vcd_engine.specs.Room.{AreWithinBound, HasRoomFor, IsWithin, room_in, room_of_begun, room_size, view_in};
+ghost use Rattle.vcd_engine.specs.Run.{Follows};
+ghost use Rattle.vcd_engine.specs.Step.{StepGives, StepsGive, TakesAhead, step_end};
+ghost use Rattle.vcd_body.specs.declared.answer.Done.TheVariants.{Early};
+ghost use Rattle.vcd_body.specs.declared.answer.More.TheVariants.{Again, Ended};
+ghost use Rattle.vcd_body.specs.declared.answer.Stop.TheVariants.{Write};
+
+use crate::gathered::Gathered;
+use crate::machine::Machine;
+use crate::task::{Room, Task};
+use vcd_body::{Done, Item, More, Regs, Stop, change_text, next_item, pass_items};
+use vcd_text::{Feed, Sink, Source, WriteFailed};
+use vcd_view::HeadView;
+
+/// A task that goes on over a body.
+#[derive(Drop)]
+// Each loan has a lifetime of its own, as in a feed.
+pub struct Engine<'v, 'n, 'r> {
+    view: HeadView<'v>,
+    regs: Regs,
+    machine: Machine<'n, 'r>,
+    going: bool,
+}
+
+/// There is no item any more.
+#[inline(always)]
+fn is_finish(item: Item) -> bool
+    ensures { MatchBool result (item ≡ Finish) (item ≢ Finish) }
+{
+    match item {
+        Item::Finish => true,
+        Item::Time(_) | Item::Begin(_) | Item::End | Item::Change { .. } => false,
+    }
+}
+
+/// The text of the item that was read last; a change alone has one.
+#[inline(always)]
+fn text_of_item<'f, S: Source>(feed: &'f Feed<'_, '_, '_, '_, S>, item: Item) -> &'f [u8]
+    ensures { result.now ≡ item_text feed.now item }
+{
+    match item {
+        Item::Change { form, .. } => change_text(feed, form),
+        Item::Time(_) | Item::Begin(_) | Item::End | Item::Finish => &[],
+    }
+}
+
+/// A task that has begun. With its view it is an engine.
+#[derive(Drop)]
+pub struct Begun<'n, 'r> {
+    machine: Machine<'n, 'r>,
+}
+
+impl<'n, 'r> Begun<'n, 'r> {
+    /// Begins a task, whose times are in order, over the header that is shown, and writes what stands before all items. A name
+    /// that selects nothing is refused, and then nothing is written.
+    pub fn start<W: Sink>(
+        task: Task<'n>,
+        view: HeadView<'_>,
+        room: Room<'r>,
+        out: &mut W,
+    ) -> Result<Begun<'n, 'r>, Stop>
+        requires failures { (W.device out.old).failures < 2 ^ 64 - 1 }
+        requires valid { IsValid (request_of task) }
+        requires room { HasRoomFor task view room }
+        ensures starts { (h : Header) → IsViewOf view.entry h
+            → Starts (λ b. HasBegun b h) (request_of task.entry) h
+            (W.device out.old) (W.device out.new) result }
+        ensures answer { MatchResult result
+            (λ b. request_of_begun b ≡ request_of task.entry) StopsUnread }
+        ensures room { IfOk result (λ b. IsWithin (room_of_begun b) (room_size room.entry)) }
+        ensures failures { (W.device out.new).failures
+            ≡ (W.device out.old).failures + writes_failed result }
+    {
+        let machine = Machine::start(task, view, room, out)?;
+        Ok(Begun { machine })
+    }
+}
+
+impl<'v, 'n, 'r> Engine<'v, 'n, 'r> {
+    /// The engine of a task that has begun over the same header.
+    pub fn new(begun: Begun<'n, 'r>, view: HeadView<'v>) -> Engine<'v, 'n, 'r>
+        ensures holds { (h : Header) → IsViewOf view.entry h
+            → CanRun (request_of_begun begun.entry) h → HasBegun begun.entry h
+            → Holds result h [] }
+        ensures going { is_going result ≡ true }
+        ensures request { request_of_engine result ≡ request_of_begun begun.entry }
+        ensures loans { (view_in result ≡ view.entry)
+            × (room_in result ≡ room_of_begun begun.entry) }
+    {
+        Engine {
+            view,
+            regs: Regs::new(),
+            machine: begun.machine,
+            going: true,
+        }
+    }
+
+    /// Neither the body nor a step has ended the run.
+    #[inline]
+    pub fn going(&self) -> bool
+        ensures { result ≡ is_going self.now }
+    {
+        self.going
+    }
+
+    /// A step over its header, so that a loop over steps need not fetch it for each.
+    #[inline(always)]
+    fn step_over<S: Source, W: Sink>(
+        &mut self,
+        view: HeadView<'_>,
+        feed: &mut Feed<'_, '_, '_, '_, S>,
+        out: &mut W,
+    ) -> Result<More, Stop>
+        requires feed_failures { S.failures (source_of feed.old) < 2 ^ 64 - 1 }
+        requires out_failures { (W.device out.old).failures < 2 ^ 64 - 1 }
+        requires going { is_going self.old ≡ true }
+        requires bound { AreWithinBound (limit_of feed.old) (chunk_len_of feed.old)
+            (view_in self.old) (room_in self.old) }
+        requires view { parts view ≡ parts self.old.view }
+        ensures gives { (h : Header) (i : Input) (front : List Token) (items : List BodyItem)
+            → Runs self.old h i front items feed.old
+            → StepGives (request_of_engine self.old) h i front items self.new feed.new
+            (W.device out.old) (W.device out.new) result }
+        ensures advances { Advances S.failures feed.old feed.new (step_end result) }
+        ensures progress { result ≡ Ok Again → seen feed.old < seen feed.new }
+        ensures bounded { seen feed.new < 2 ^ 63 }
+        ensures writes { (W.device out.new).failures
+            ≡ (W.device out.old).failures + writes_failed result }
+        ensures going { is_going self.new ≡ goes_on result }
+        ensures request { request_of_engine self.new ≡ request_of_engine self.old }
+        ensures holds { (view_in self.new ≡ view_in self.old)
+            × (room_in self.new ≡ room_in self.old) }
+        ensures answer { IfOk result
+            (λ more. more ≡ Ended Early → may_end_early (request_of_engine self.old) ≡ true) }
+    {
+        let item = match next_item(feed, view, &mut self.regs) {
+            Ok(item) => item,
+            Err(fault) => {
+                self.going = false;
+                return Err(Stop::of_body(fault, 0, feed.line()));
+            }
+        };
+        if is_finish(item) {
+            self.going = false;
+            self.close(out)?;
+            return Ok(More::Ended(Done::Whole));
+        }
+        let text = text_of_item(feed, item);
+        match self.machine.take(view, self.regs, item, text, out) {
+            Ok(false) => Ok(More::Again),
+            Ok(true) => {
+                self.going = false;
+                Ok(More::Ended(Done::Early))
+            }
+            Err(failed) => {
+                self.going = false;
+                Err(failed.into())
+            }
+        }
+    }
+
+    /// Takes the items that lie whole ahead in the feed's chunk, and writes what is due after each: nothing else is looked at, and
+    /// the feed goes on after them at once.
+    #[inline(never)]
+    fn take_ahead<S: Source, W: Sink>(
+        &mut self,
+        view: HeadView<'_>,
+        feed: &mut Feed<'_, '_, '_, '_, S>,
+        gathered: &mut Gathered,
+        out: &mut W,
+    ) -> Result<More, Stop>
+        requires out_failures { (W.device out.old).failures < 2 ^ 64 - 1 }
+        requires going { is_going self.old ≡ true }
+        requires view { parts view ≡ parts self.old.view }
+        ensures gives { (h : Header) (i : Input) (front : List Token) (items : List BodyItem)
+            → Runs self.old h i front items feed.old
+            → TakesAhead (request_of_engine self.old) h i front items self.new feed.new
+            (W.device out.old) (W.device out.new) result }
+        ensures advances { Advances S.failures feed.old feed.new CallEnd.GoesOn }
+        ensures bounded { seen feed.new < 2 ^ 63 }
+        ensures writes { (W.device out.new).failures
+            ≡ (W.device out.old).failures + writes_failed result }
+        ensures going { is_going self.new ≡ goes_on result }
+        ensures request { request_of_engine self.new ≡ request_of_engine self.old }
+        ensures holds { (view_in self.new ≡ view_in self.old)
+            × (room_in self.new ≡ room_in self.old)
+            × (parts self.new.view ≡ parts self.old.view) }
+        ensures answer { IfOk result
+            (λ more. more ≡ Ended Early → may_end_early (request_of_engine self.old) ≡ true) }
+        ensures stops { IfErr result (λ stop. stop ≡ Write) }
+    {
+        let taken = self
+            .machine
+            .take_ahead(view, self.regs, feed.ahead(), gathered, out);
+        self.regs = taken.regs;
+        pass_items(feed, taken.passed);
+        match taken.ended {
+            Ok(false) => Ok(More::Again),
+            Ok(true) => {
+                self.going = false;
+                Ok(More::Ended(Done::Early))
+            }
+            Err(failed) => {
+                self.going = false;
+                Err(failed.into())
+            }
+        }
+    }
+
+    /// Takes the items that lie whole ahead, and then the next one, which may need more of the input.
+    #[inline(always)]
+    fn advance<S: Source, W: Sink>(
+        &mut self,
+        view: HeadView<'_>,
+        feed: &mut Feed<'_, '_, '_, '_, S>,
+        gathered: &mut Gathered,
+        out: &mut W,
+    ) -> Result<More, Stop>
+        requires feed_failures { S.failures (source_of feed.old) < 2 ^ 64 - 1 }
+        requires out_failures { (W.device out.old).failures < 2 ^ 64 - 1 }
+        requires going { is_going self.old ≡ true }
+        requires bound { AreWithinBound (limit_of feed.old) (chunk_len_of feed.old)
+            (view_in self.old) (room_in self.old) }
+        requires view { parts view ≡ parts self.old.view }
+        ensures gives { (h : Header) (i : Input) (front : List Token) (items : List BodyItem)
+            → Runs self.old h i front items feed.old
+            → StepsGive (request_of_engine self.old) h i front items self.new feed.new
+            (W.device out.old) (W.device out.new) result }
+        ensures advances { Advances S.failures feed.old feed.new (step_end result) }
+        ensures progress { result ≡ Ok Again → seen feed.old < seen feed.new }
+        ensures bounded { seen feed.new < 2 ^ 63 }
+        ensures writes { (W.device out.new).failures
+            ≡ (W.device out.old).failures + writes_failed result }
+        ensures going { is_going self.new ≡ goes_on result }
+        ensures request { request_of_engine self.new ≡ request_of_engine self.old }
+        ensures holds { (view_in self.new ≡ view_in self.old)
+            × (room_in self.new ≡ room_in self.old) }
+        ensures answer { IfOk result
+            (λ more. more ≡ Ended Early → may_end_early (request_of_engine self.old) ≡ true) }
+    {
+        match self.take_ahead(view, feed, gathered, out)? {
+            More::Again => self.step_over(view, feed, out),
+            More::Ended(done) => Ok(More::Ended(done)),
+        }
+    }
+
+    /// Writes what stands at the clean end. It is no part of the loop over steps, so that the loop lends no view for it.
+    #[inline(never)]
+    fn close<W: Sink>(&self, out: &mut W) -> Result<(), WriteFailed>
+        requires { (W.device out.old).failures < 2 ^ 64 - 1 }
+        ensures takes { (h : Header) (items : List BodyItem) → Holds self.now h items
+            → Takes (W.device out.old) (W.device out.new)
+            (close_text (request_of_engine self.now) h items) result }
+        ensures counts { Counts (W.device out.old) (W.device out.new) result }
+    {
+        self.machine.close(self.view, self.regs, out)
+    }
+
+    /// Takes all items that are left, to the end of the run.
+    fn finish<S: Source, W: Sink>(
+        &mut self,
+        feed: &mut Feed<'_, '_, '_, '_, S>,
+        out: &mut W,
+    ) -> Result<Done, Stop>
+        requires feed_failures { S.failures (source_of feed.old) < 2 ^ 64 - 1 }
+        requires out_failures { (W.device out.old).failures < 2 ^ 64 - 1 }
+        requires open { HasNotFailed feed.old }
+        requires going { is_going self.old ≡ true }
+        requires bound { AreWithinBound (limit_of feed.old) (chunk_len_of feed.old)
+            (view_in self.old) (room_in self.old) }
+
+        // Where the engine was begun over an output that has what stands before all items, it is the run of its task.
+        ensures gives { (h : Header) (i : Input) (front : List Token) (name : List ℕ)
+            (begin : Device) → Holds self.old h [] → HasGiven i front feed.old
+            → Writes begin (W.device out.old) (open_text (request_of_engine self.old) h [])
+            → Follows (request_of_engine self.old) (limit_of feed.old) (chunk_len_of feed.old)
+            i front h name (supply_of feed.old) (supply_of feed.new)
+            begin (W.device out.new) result }
+        ensures devices { (S.failures (source_of feed.new)
+            ≡ S.failures (source_of feed.old) + reads_failed result)
+            × ((W.device out.new).failures ≡ (W.device out.old).failures + writes_failed result) }
+        ensures answer { IfOk result
+            (λ done. done ≡ Early → may_end_early (request_of_engine self.old) ≡ true) }
+        ensures windows { (limit_of feed.new ≡ limit_of feed.old)
+            × (chunk_len_of feed.new ≡ chunk_len_of feed.old) × SameLoans feed.old feed.new }
+    {
+        let view = self.view;
+        let mut gathered = Gathered::new();
+        'items: loop {
+            match self.advance(view, feed, &mut gathered, out)? {
+                More::Again => {}
+                More::Ended(done) => return Ok(done),
+            }
+        }
+    }
+}
+
+/// Takes the next item, and writes what is due after it; at the end of the body, what is due there. Nothing is written
+/// where the body has a fault. After any answer but `Again` the run is over.
+#[inline(always)]
+pub fn step<S: Source, W: Sink>(
+    engine: &mut Engine<'_, '_, '_>,
+    feed: &mut Feed<'_, '_, '_, '_, S>,
+    out: &mut W,
+) -> Result<More, Stop>
+    requires feed_failures { S.failures (source_of feed.old) < 2 ^ 64 - 1 }
+    requires out_failures { (W.device out.old).failures < 2 ^ 64 - 1 }
+    requires going { is_going engine.old ≡ true }
+    requires bound { AreWithinBound (limit_of feed.old) (chunk_len_of feed.old)
+        (view_in engine.old) (room_in engine.old) }
+    ensures gives { (h : Header) (i : Input) (front : List Token) (items : List BodyItem)
+        → Runs engine.old h i front items feed.old
+        → StepGives (request_of_engine engine.old) h i front items engine.new feed.new
+        (W.device out.old) (W.device out.new) result }
+    ensures advances { Advances S.failures feed.old feed.new (step_end result) }
+    ensures progress { result ≡ Ok Again → seen feed.old < seen feed.new }
+    ensures bounded { seen feed.new < 2 ^ 63 }
+    ensures writes { (W.device out.new).failures
+        ≡ (W.device out.old).failures + writes_failed result }
+    ensures going { is_going engine.new ≡ goes_on result }
+    ensures holds { (view_in engine.new ≡ view_in engine.old)
+        × (room_in engine.new ≡ room_in engine.old) }
+    ensures request { request_of_engine engine.new ≡ request_of_engine engine.old }
+    ensures answer { IfOk result
+        (λ more. more ≡ Ended Early → may_end_early (request_of_engine engine.old) ≡ true) }
+{
+    engine.step_over(engine.view, feed, out)
+}
+
+/// Does a task, whose times are in order, over the body after the header that is shown: the one loop over items. A name that
+/// selects nothing is refused before anything is read or written.
+pub fn run_task<S: Source, W: Sink>(
+    task: Task<'_>,
+    view: HeadView<'_>,
+    feed: &mut Feed<'_, '_, '_, '_, S>,
+    room: &mut Room<'_>,
+    out: &mut W,
+) -> Result<Done, Stop>
+    requires feed_failures { S.failures (source_of feed.old) < 2 ^ 64 - 1 }
+    requires out_failures { (W.device out.old).failures < 2 ^ 64 - 1 }
+    requires open { HasNotFailed feed.old }
+    requires valid { IsValid (request_of task) }
+    requires room { HasRoomFor task view room.old }
+    requires bound { AreWithinBound (limit_of feed.old) (chunk_len_of feed.old) view
+        (room_size room.old) }
+    ensures gives { (h : Header) (i : Input) (front : List Token) (name : List ℕ)
+        → IsViewOf view.entry h → HasGiven i front feed.old
+        → Follows (request_of task.entry) (limit_of feed.old) (chunk_len_of feed.old)
+        i front h name (supply_of feed.old) (supply_of feed.new)
+        (W.device out.old) (W.device out.new) result }
+    ensures devices { (S.failures (source_of feed.new)
+        ≡ S.failures (source_of feed.old) + reads_failed result)
+        × ((W.device out.new).failures ≡ (W.device out.old).failures + writes_failed result) }
+    ensures answer { IfOk result
+        (λ done. done ≡ Early → may_end_early (request_of task.entry) ≡ true) }
+    ensures windows { (limit_of feed.new ≡ limit_of feed.old)
+        × (chunk_len_of feed.new ≡ chunk_len_of feed.old) × SameLoans feed.old feed.new }
+{
+    let room = Room {
+        values: &mut *room.values,
+        slots: &mut *room.slots,
+        shares: &mut *room.shares,
+        marks: &mut *room.marks,
+    };
+    let begun = Begun::start(task, view, room, out)?;
+    let mut engine = Engine::new(begun, view);
+    engine.finish(feed, out)
+}

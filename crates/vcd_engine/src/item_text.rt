@@ -1,0 +1,241 @@
+//! The text of kept items: each as its line, after the line of its time where that does not stand yet.
+ghost use Rattle.std.specs.Prelude.{◌≡◌, ℕ, ◌+◌, ◌-◌, ◌^◌, ◌<◌, ◌≤◌, ◌∷◌, ◌++◌, [], List, length, Some, IfOk};
+ghost use Rattle.vcd_model.specs.Bytes.{as_line};
+ghost use Rattle.vcd_model.specs.BodyPhrases.{section_keyword};
+ghost use Rattle.vcd_model.specs.Header.{Header};
+ghost use Rattle.vcd_model.specs.Items.{BodyItem, Entry};
+ghost use Rattle.vcd_model.specs.ItemText.{closing, item_line, text_after};
+ghost use Rattle.vcd_model.specs.ItemText.{time_due};
+ghost use Rattle.vcd_model.specs.Keywords.{keyword_text};
+ghost use Rattle.vcd_text.specs.Device.{Counts, Takes, failures_after};
+ghost use Rattle.vcd_view.specs.Views.{IsViewOf};
+ghost use Rattle.vcd_body.specs.Given.{HasGoodText};
+ghost use Rattle.vcd_body.specs.Items.{model_section};
+ghost use Rattle.vcd_body.specs.Device.{DueBy, TakesDue};
+ghost use Rattle.vcd_body.specs.Given.{IsItem};
+ghost use Rattle.vcd_body.specs.Spelled.{bytes_without};
+ghost use Rattle.vcd_engine.specs.ItemText.{HasWritten, LastTells, times_with};
+ghost use Rattle.vcd_engine.specs.Pieces.{IsLine, IsPart, Lies, PutsOn, held_in};
+
+use crate::pieces::{Lying, Pieces};
+use vcd_body::{Form, Id, Item, Section, put_change, put_time_unless};
+use vcd_text::{Sink, WriteFailed, put};
+use vcd_view::HeadView;
+
+/// The text of kept items, as far as it goes on from here: the time whose line was written last.
+#[derive(Clone, Copy)]
+pub(crate) struct ItemText {
+    written: Option<u64>,
+}
+
+/// The keyword that begins a section, as its line.
+fn begin_line(section: Section) -> &'static [u8]
+    ensures { result.now ≡ as_line (keyword_text (section_keyword (model_section section))) }
+{
+    match section {
+        Section::Vars => b"$dumpvars\n",
+        Section::Off => b"$dumpoff\n",
+        Section::On => b"$dumpon\n",
+        Section::All => b"$dumpall\n",
+    }
+}
+
+/// Writes a change with this text as its line.
+#[inline(always)]
+fn put_change_line<W: Sink>(
+    view: HeadView<'_>,
+    code: usize,
+    form: Form,
+    text: &[u8],
+    out: &mut W,
+) -> Result<(), WriteFailed>
+    requires failures { (W.device out.old).failures < 2 ^ 64 - 1 }
+    requires sound { HasGoodText view.codes.now text.now (Item.Change code form) }
+    ensures takes { (h : Header) (x : BodyItem) → IsViewOf view.entry h
+        → IsItem h.codes text.now (Item.Change code form) x
+        → Takes (W.device out.old) (W.device out.new) (item_line x) result }
+    ensures counts { Counts (W.device out.old) (W.device out.new) result }
+{
+    let Some(code) = view.code_at(code) else {
+        return Ok(());
+    };
+    let id = view.text_at(code.start, code.len as usize);
+    put_change(code.size, code.event, form, text, Id::Own(id), out)
+}
+
+/// Writes an item with its text as its line; a time mark has none of its own.
+#[inline(always)]
+fn put_item<W: Sink>(
+    view: HeadView<'_>,
+    item: Item,
+    text: &[u8],
+    out: &mut W,
+) -> Result<(), WriteFailed>
+    requires failures { (W.device out.old).failures < 2 ^ 64 - 1 }
+    requires sound { HasGoodText view.codes.now text.now item }
+    ensures takes { (h : Header) (x : BodyItem) → IsViewOf view.entry h
+        → IsItem h.codes text.now item x
+        → Takes (W.device out.old) (W.device out.new) (item_line x) result }
+    ensures counts { Counts (W.device out.old) (W.device out.new) result }
+{
+    match item {
+        Item::Time(_) | Item::Finish => Ok(()),
+        Item::Begin(section) => put(out, begin_line(section)),
+        Item::End => put(out, b"$end\n"),
+        Item::Change { code, form } => put_change_line(view, code, form, text, out),
+    }
+}
+
+impl ItemText {
+    /// Before all items.
+    pub(crate) fn new() -> ItemText
+        ensures { HasWritten [] [] result }
+    {
+        ItemText { written: None }
+    }
+
+    /// After the line of this time.
+    pub(crate) fn after(time: u64) -> ItemText
+        ensures { HasWritten (time ∷ []) [] result }
+    {
+        ItemText {
+            written: Some(time),
+        }
+    }
+
+    /// Writes an item with its text as an entry at this time. A time mark has no line of its own.
+    #[inline(always)]
+    pub(crate) fn put<W: Sink>(
+        &mut self,
+        view: HeadView<'_>,
+        time: u64,
+        item: Item,
+        text: &[u8],
+        out: &mut W,
+    ) -> Result<(), WriteFailed>
+        requires failures { (W.device out.old).failures < 2 ^ 64 - 1 }
+        requires sound { HasGoodText view.codes.now text.now item }
+        ensures text { (h : Header) (before : List ℕ) (kept : List Entry) (e : Entry)
+            → IsViewOf view.entry h → IsItem h.codes text.now item e.item → e.time ≡ time
+            → HasWritten before kept self.old → LastTells (times_with before kept) time
+            → TakesDue (W.device out.old) (W.device out.new) (text_after before kept)
+            (text_after before (kept ++ e ∷ [])) result
+            × IfOk result (λ _. HasWritten before (kept ++ e ∷ []) self.new) }
+        ensures counts { Counts (W.device out.old) (W.device out.new) result }
+    {
+        put_time_unless(self.written, time, out)?;
+        self.written = Some(time);
+        put_item(view, item, text, out)
+    }
+
+    /// Writes an item that lies ahead as an entry at this time, behind what is held. Where its line stands there, that is held.
+    #[inline(always)]
+    pub(crate) fn put_lying<W: Sink>(
+        &mut self,
+        view: HeadView<'_>,
+        time: u64,
+        lying: Lying<'_>,
+        pieces: &mut Pieces<'_>,
+        out: &mut W,
+    ) -> Result<(), WriteFailed>
+        requires failures { (W.device out.old).failures < 2 ^ 64 - 1 }
+        requires lies { Lies view lying }
+        requires line { IsLine lying.bytes.now lying.line lying.from time }
+        requires part { IsPart lying.bytes.now pieces.old }
+        ensures text { (h : Header) (before : List ℕ) (kept : List Entry) (e : Entry)
+            → IsViewOf view.entry h
+            → IsItem h.codes lying.entry.plain.text.now lying.entry.plain.item e.item
+            → e.time ≡ time → HasWritten before kept self.old
+            → LastTells (times_with before kept) time
+            → DueBy (λ due. PutsOn (held_in lying.entry.bytes.now pieces.old)
+            (held_in lying.entry.bytes.now pieces.new)
+            (W.device out.old) (W.device out.new) due result)
+            (text_after before kept) (text_after before (kept ++ e ∷ []))
+            × IfOk result (λ _. HasWritten before (kept ++ e ∷ []) self.new) }
+        ensures counts { Counts (W.device out.old) (W.device out.new) result }
+        ensures part { IfOk result (λ _. IsPart lying.entry.bytes.now pieces.new) }
+    {
+        let Some(n) = lying.left_out() else {
+            pieces.flush(lying.bytes, out)?;
+            return self.put(view, time, lying.plain.item, lying.plain.text, out);
+        };
+        self.put_line(time, lying, n, pieces, out)
+    }
+
+    /// Writes the line of the time of an item that lies ahead, unless it was written last, behind what is held.
+    #[inline(always)]
+    fn put_time_behind<W: Sink>(
+        &mut self,
+        time: u64,
+        lying: Lying<'_>,
+        pieces: &mut Pieces<'_>,
+        out: &mut W,
+    ) -> Result<(), WriteFailed>
+        requires failures { (W.device out.old).failures < 2 ^ 64 - 1 }
+        requires within { (lying.from ≤ lying.to) × (lying.to ≤ length lying.bytes.now) }
+        requires line { IsLine lying.bytes.now lying.line lying.from time }
+        requires part { IsPart lying.bytes.now pieces.old }
+        ensures puts { PutsOn (held_in lying.entry.bytes.now pieces.old)
+            (held_in lying.entry.bytes.now pieces.new)
+            (W.device out.old) (W.device out.new) (time_due self.old.written time) result }
+        ensures counts { Counts (W.device out.old) (W.device out.new) result }
+        ensures part { IfOk result (λ _. IsPart lying.entry.bytes.now pieces.new) }
+        ensures written { IfOk result (λ _. self.new.written ≡ Some time) }
+    {
+        if self.written == Some(time) {
+            return Ok(());
+        }
+        self.written = Some(time);
+        pieces.append_time(time, lying, out)
+    }
+
+    /// Writes the line of a time, unless it was written last, and then the bytes of an item that lies ahead without so many behind the
+    /// first one, behind what is held.
+    #[inline(always)]
+    fn put_line<W: Sink>(
+        &mut self,
+        time: u64,
+        lying: Lying<'_>,
+        n: usize,
+        pieces: &mut Pieces<'_>,
+        out: &mut W,
+    ) -> Result<(), WriteFailed>
+        requires failures { (W.device out.old).failures < 2 ^ 64 - 1 }
+        requires within { (lying.from + 1 + n ≤ lying.to) × (lying.to ≤ length lying.bytes.now) }
+        requires line { IsLine lying.bytes.now lying.line lying.from time }
+        requires part { IsPart lying.bytes.now pieces.old }
+        ensures puts { PutsOn (held_in lying.entry.bytes.now pieces.old)
+            (held_in lying.entry.bytes.now pieces.new)
+            (W.device out.old) (W.device out.new) (time_due self.old.written time
+            ++ bytes_without lying.entry.bytes.now lying.entry.from lying.entry.to n) result }
+        ensures counts { Counts (W.device out.old) (W.device out.new) result }
+        ensures part { IfOk result (λ _. IsPart lying.entry.bytes.now pieces.new) }
+        ensures written { IfOk result (λ _. self.new.written ≡ Some time) }
+    {
+        self.put_time_behind(time, lying, pieces, out)?;
+        // A vector alone may leave digits out.
+        if let Item::Change {
+            form: Form::Vector,
+            ..
+        } = lying.plain.item
+        {
+            return pieces.append_without(lying.bytes, lying.from, lying.to, n, out);
+        }
+        pieces.append_parts(lying.bytes, lying.from, lying.to, n, out)
+    }
+
+    /// Writes what closes the text where this is the last time mark: its line, where it does not stand yet.
+    pub(crate) fn close<W: Sink>(&self, last: Option<u64>, out: &mut W) -> Result<(), WriteFailed>
+        requires { (W.device out.old).failures < 2 ^ 64 - 1 }
+        ensures takes { (before : List ℕ) (kept : List Entry) → HasWritten before kept self.now
+            → ((t : ℕ) → last ≡ Some t → LastTells (times_with before kept) t)
+            → Takes (W.device out.old) (W.device out.new)
+            (closing (times_with before kept) last) result }
+        ensures counts { Counts (W.device out.old) (W.device out.new) result }
+    {
+        match last {
+            Some(time) => put_time_unless(self.written, time, out),
+            None => Ok(()),
+        }
+    }
+}

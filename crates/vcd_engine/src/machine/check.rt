@@ -1,0 +1,79 @@
+//! `check`: counts of what stands in a dump.
+ghost use Rattle.std.specs.Prelude.{◌≡◌, ◌-◌, ◌^◌, ◌<◌, ◌∷◌, ◌++◌, [], List, length};
+ghost use Rattle.vcd_model.specs.CheckAndList.{check_close};
+ghost use Rattle.vcd_model.specs.Header.{Header};
+ghost use Rattle.vcd_model.specs.Items.{BodyItem};
+ghost use Rattle.vcd_model.specs.ItemText.{last_mark};
+ghost use Rattle.vcd_text.specs.Device.{Counts, Takes, failures_after};
+ghost use Rattle.vcd_view.specs.Views.{IsViewOf};
+ghost use Rattle.vcd_engine.specs.Check.{AreCounted, IsOfKind};
+ghost use Rattle.vcd_engine.specs.Engine.{last_of};
+
+use crate::machine::last_of;
+use crate::report::{Report, declared_in, put_report};
+use vcd_body::{Item, Regs};
+use vcd_text::{Sink, WriteFailed};
+use vcd_view::HeadView;
+
+/// How many time marks, sections and changes there were.
+#[derive(Clone, Copy)]
+pub(crate) struct Check {
+    times: u64,
+    sections: u64,
+    changes: u64,
+}
+
+impl Check {
+    /// Before all items.
+    pub(crate) fn start() -> Check
+        ensures { AreCounted [] result }
+    {
+        Check {
+            times: 0,
+            sections: 0,
+            changes: 0,
+        }
+    }
+
+    /// Counts one item more.
+    // An input is shorter than 2^63 bytes, so no count wraps.
+    #[inline(always)]
+    pub(crate) fn take(&mut self, item: Item)
+        ensures { (items : List BodyItem) (x : BodyItem) → IsOfKind item x → length items < 2 ^ 63
+            → AreCounted items self.old → AreCounted (items ++ x ∷ []) self.new }
+    {
+        match item {
+            Item::Time(_) => self.times = self.times.wrapping_add(1),
+            Item::Begin(_) => self.sections = self.sections.wrapping_add(1),
+            Item::Change { .. } => self.changes = self.changes.wrapping_add(1),
+            Item::End => {}
+            Item::Finish => {}
+        }
+    }
+
+    /// Writes the report.
+    pub(crate) fn close<W: Sink>(
+        &self,
+        view: HeadView<'_>,
+        regs: Regs,
+        out: &mut W,
+    ) -> Result<(), WriteFailed>
+        requires { (W.device out.old).failures < 2 ^ 64 - 1 }
+        ensures takes { (h : Header) (items : List BodyItem) → IsViewOf view.entry h
+            → last_of regs ≡ last_mark items → AreCounted items self.now
+            → Takes (W.device out.old) (W.device out.new) (check_close h items) result }
+        ensures counts { Counts (W.device out.old) (W.device out.new) result }
+    {
+        let declared = declared_in(view.rows);
+        let report = Report {
+            scopes: declared.scopes as u64,
+            variables: declared.variables as u64,
+            codes: view.codes.len() as u64,
+            times: self.times,
+            sections: self.sections,
+            changes: self.changes,
+            last: last_of(regs),
+        };
+        put_report(out, &report)
+    }
+}

@@ -1,0 +1,155 @@
+//! `edges`: how often the values of the selected variables change, rise and fall.
+ghost use Rattle.std.specs.Prelude.{◌≡◌, ℕ, ◌-◌, ◌^◌, ◌<◌, ◌∷◌, ◌++◌, [], List, Some, length, map, slice_get, string_bytes, IfOk, MatchResult};
+ghost use Rattle.vcd_model.specs.Edges.{edges_close};
+ghost use Rattle.vcd_model.specs.Header.{Header};
+ghost use Rattle.vcd_model.specs.Items.{BodyItem, leaves_open};
+ghost use Rattle.vcd_model.specs.Declarations.{IdCode};
+ghost use Rattle.vcd_model.specs.Outcome.{Request};
+ghost use Rattle.vcd_text.specs.Device.{Counts, Device, Takes, failures_after};
+ghost use Rattle.vcd_view.specs.Views.{IsViewOf};
+ghost use Rattle.vcd_body.specs.Ahead.{HasBits, IsSizedItem};
+ghost use Rattle.vcd_body.specs.Given.{HasGoodText, IsGoodText};
+ghost use Rattle.vcd_body.specs.Items.{AreRegsAfter, model_form, regs_after};
+ghost use Rattle.vcd_engine.specs.Edges.{AreEdges, names_counted, room_in_edges};
+ghost use Rattle.vcd_engine.specs.Engine.{Starts};
+ghost use Rattle.vcd_body.specs.Given.{IsItem};
+ghost use Rattle.vcd_engine.specs.Room.{HasRoomFor, IsWithin, room_size};
+ghost use Rattle.vcd_engine.specs.Selection.{IsUnmatched};
+ghost use Rattle.vcd_engine.specs.declared.task.Task.TheVariants as task;
+
+use crate::tally::{put_rows, take_bits, take_mark, take_value};
+use crate::task::Room;
+use vcd_body::{Form, Item, Plain, Regs, Stop, Table};
+use vcd_head::select;
+use vcd_text::{Sink, WriteFailed};
+use vcd_view::HeadView;
+
+/// The names that were asked for, the marks of the variables that they select, and the values and counters of all codes.
+#[derive(Drop)]
+pub(crate) struct Edges<'n, 'r> {
+    names: &'n [String],
+    marks: &'r mut [u8],
+    table: Table<'r>,
+}
+
+impl<'n, 'r> Edges<'n, 'r> {
+    /// Selects the variables. Nothing is written before the end.
+    pub(crate) fn start(
+        view: HeadView<'_>,
+        room: Room<'r>,
+        names: &'n [String],
+    ) -> Result<Edges<'n, 'r>, Stop>
+        requires room { HasRoomFor (task.Edges names) view room }
+        ensures starts { (h : Header) (out : Device) → IsViewOf view.entry h
+            → Starts (λ e. AreEdges e h []) (Request.Edges (map string_bytes names.entry.now)) h
+            out out result }
+        ensures names { MatchResult result
+            (λ e. names_counted e ≡ map string_bytes names.entry.now) IsUnmatched }
+        ensures room { IfOk result (λ e. IsWithin (room_in_edges e) (room_size room.entry)) }
+    {
+        let Room {
+            values,
+            slots,
+            shares,
+            marks,
+        } = room;
+        let marks = &mut marks[..view.rows.len()];
+        if let Err(name) = select(view, names, marks) {
+            return Err(Stop::Unmatched { name });
+        }
+        let table = Table::new(view, values, slots, shares);
+        Ok(Edges {
+            names,
+            marks,
+            table,
+        })
+    }
+
+    /// Counts an item that lies ahead. The registers are those after it.
+    #[inline(always)]
+    pub(crate) fn take_plain(&mut self, view: HeadView<'_>, regs: Regs, plain: Plain<'_>)
+        requires sound { HasGoodText view.codes.now plain.text.now plain.item }
+        requires sized { IsSizedItem view.codes.now plain.item plain.most }
+        requires bits { HasBits plain.item plain.text.now plain.bits }
+        ensures takes { (h : Header) (items : List BodyItem) (before : Regs) (x : BodyItem)
+            → IsViewOf view.entry h → AreRegsAfter items before
+            → regs ≡ regs_after before plain.entry.item
+            → IsItem h.codes plain.entry.text.now plain.entry.item x → length items < 2 ^ 63
+            → AreEdges self.old h items → AreEdges self.new h (items ++ x ∷ []) }
+        ensures names { names_counted self.new ≡ names_counted self.old }
+        ensures room { room_in_edges self.new ≡ room_in_edges self.old }
+    {
+        let Item::Change { code, form } = plain.item else {
+            return;
+        };
+        if plain.most == 0 {
+            return self.take_change(view, regs.section.is_some(), code, form, plain.text);
+        }
+        match plain.bits {
+            Some(bits) => take_bits(&mut self.table, code, plain.most, bits),
+            None => take_value(&mut self.table, code, plain.most, form, plain.text),
+        }
+    }
+
+    /// Counts an item with its text. The registers are those after it.
+    #[inline(always)]
+    pub(crate) fn take(&mut self, view: HeadView<'_>, regs: Regs, item: Item, text: &[u8])
+        requires sound { HasGoodText view.codes.now text.now item }
+        ensures takes { (h : Header) (items : List BodyItem) (before : Regs) (x : BodyItem)
+            → IsViewOf view.entry h → AreRegsAfter items before → regs ≡ regs_after before item
+            → IsItem h.codes text.now item x → length items < 2 ^ 63 → AreEdges self.old h items
+            → AreEdges self.new h (items ++ x ∷ []) }
+        ensures names { names_counted self.new ≡ names_counted self.old }
+        ensures room { room_in_edges self.new ≡ room_in_edges self.old }
+    {
+        let Item::Change { code, form } = item else {
+            return;
+        };
+        self.take_change(view, regs.section.is_some(), code, form, text);
+    }
+
+    /// Counts a change of the code at a place, which stands inside a section or not.
+    #[cold]
+    #[inline(never)]
+    fn take_change(
+        &mut self,
+        view: HeadView<'_>,
+        inside: bool,
+        code: usize,
+        form: Form,
+        text: &[u8],
+    )
+        requires sound { IsGoodText view.codes.now code form text.now }
+        ensures takes { (h : Header) (items : List BodyItem) (c : IdCode) → IsViewOf view.entry h
+            → slice_get h.codes code ≡ Some c → inside ≡ leaves_open items
+            → length items < 2 ^ 63 → AreEdges self.old h items
+            → AreEdges self.new h (items ++ BodyItem.Changes (record {
+              code = c;
+              form = model_form form;
+              text = text.now;
+            }) ∷ []) }
+        ensures names { names_counted self.new ≡ names_counted self.old }
+        ensures room { room_in_edges self.new ≡ room_in_edges self.old }
+    {
+        let Some(declared) = view.code_at(code) else {
+            return;
+        };
+        if declared.event {
+            take_mark(&mut self.table, code, inside);
+        } else {
+            take_value(&mut self.table, code, declared.size, form, text);
+        }
+    }
+
+    /// Writes the rows of the selected variables.
+    pub(crate) fn close<W: Sink>(&self, view: HeadView<'_>, out: &mut W) -> Result<(), WriteFailed>
+        requires { (W.device out.old).failures < 2 ^ 64 - 1 }
+        ensures takes { (h : Header) (items : List BodyItem) → IsViewOf view.entry h
+            → AreEdges self.now h items
+            → Takes (W.device out.old) (W.device out.new)
+            (edges_close h (names_counted self.now) items) result }
+        ensures counts { Counts (W.device out.old) (W.device out.new) result }
+    {
+        put_rows(&self.table, view, self.marks, out)
+    }
+}

@@ -1,0 +1,312 @@
+//! Text that is due and stands in the chunk: pieces of it that follow each other are one, and short ones are written together.
+ghost use Rattle.std.specs.Prelude.{◌≡◌, ℕ, ◌+◌, ◌-◌, ◌^◌, ◌<◌, ◌≤◌, List, [], ◌++◌, true, false, length, take, slice_range, IfErr, IfOk, IfSome};
+ghost use Rattle.vcd_model.specs.Header.{Header};
+ghost use Rattle.vcd_model.specs.Items.{BodyItem};
+ghost use Rattle.vcd_model.specs.ItemText.{item_line, time_line};
+ghost use Rattle.vcd_text.specs.Device.{Counts, Puts};
+ghost use Rattle.vcd_view.specs.Views.{IsViewOf};
+ghost use Rattle.vcd_view.specs.declared.view.HeadView.{HeadView};
+ghost use Rattle.vcd_body.specs.Given.{IsItem};
+ghost use Rattle.vcd_body.specs.Spelled.{bytes_without};
+ghost use Rattle.vcd_body.specs.Items.{regs_after};
+ghost use Rattle.vcd_body.specs.declared.item.Item.TheVariants as kind;
+ghost use Rattle.vcd_engine.specs.Pieces.{IsLine, IsPart, Lies, PutsOn, held_in};
+
+use crate::gathered::{GATHERED, Gathered};
+use vcd_body::{Form, Item, Plain, Regs, is_mark_line, left_out, put_time};
+use vcd_text::{Sink, WriteFailed, put};
+
+/// An item that lies ahead: its tokens are passed from one place of these bytes up to another. Where the line of its time stands just
+/// before it, that begins at a third place; else the third one is the first.
+#[derive(Clone, Copy)]
+pub(crate) struct Lying<'a> {
+    pub(crate) plain: Plain<'a>,
+    pub(crate) bytes: &'a [u8],
+    pub(crate) from: usize,
+    pub(crate) to: usize,
+    pub(crate) line: usize,
+}
+
+/// Where the line of an item's time begins, by where that of the time before it does: a mark has none before it.
+#[inline(always)]
+pub(crate) fn line_before(item: Item, line: usize, from: usize) -> usize
+    ensures mark { (time : ℕ) → item ≡ kind.Time time → result ≡ from }
+    ensures change { (place : ℕ) (form : Form) → item ≡ kind.Change place form → result ≡ line }
+{
+    match item {
+        Item::Time(_) => from,
+        Item::Begin(_) | Item::End | Item::Change { .. } | Item::Finish => line,
+    }
+}
+
+impl Lying<'_> {
+    /// How many of its bytes behind the first one are left out, so that the others are its line as it would be written.
+    #[inline(always)]
+    pub(crate) fn left_out(&self) -> Option<usize>
+        requires { (v : HeadView) × Lies v self.now }
+        ensures { IfSome result (λ n. (self.now.from + 1 + n ≤ self.now.to)
+            × ((v : HeadView) (h : Header) (x : BodyItem) → Lies v self.now → IsViewOf v h
+            → IsItem h.codes self.now.plain.text.now self.now.plain.item x
+            → bytes_without self.now.bytes.now self.now.from self.now.to n ≡ item_line x)) }
+    {
+        left_out(self.plain, self.bytes, self.from, self.to)
+    }
+
+    /// Where the line of the time begins that stands just before the next item: at a mark that is spelled as its line, else nowhere.
+    #[inline(always)]
+    pub(crate) fn next_line(&self) -> usize
+        requires { (v : HeadView) × Lies v self.now }
+        ensures { (before : Regs) → IsLine self.now.bytes.now result self.now.to
+            (regs_after before self.now.plain.item).time }
+    {
+        if let Item::Time(_) = self.plain.item
+            && is_mark_line(self.bytes, self.from, self.to, self.plain.at)
+        {
+            return self.from;
+        }
+        self.to
+    }
+}
+
+/// A piece of at most so many bytes is gathered too; a longer one is written from the chunk.
+const LONG: usize = 1024;
+
+/// Gathers a part of the bytes behind the others, which are written where it has no room beside them; a long part is written too.
+#[cold]
+#[inline(never)]
+fn gather_slowly<W: Sink>(
+    gathered: &mut Gathered,
+    bytes: &[u8],
+    from: usize,
+    to: usize,
+    out: &mut W,
+) -> Result<(), WriteFailed>
+    requires failures { (W.device out.old).failures < 2 ^ 64 - 1 }
+    requires within { (from ≤ to) × (to ≤ length bytes.now) }
+    ensures puts { PutsOn (take gathered.old.len gathered.old.bytes)
+        (take gathered.new.len gathered.new.bytes)
+        (W.device out.old) (W.device out.new) (slice_range bytes.now from to) result }
+    ensures counts { Counts (W.device out.old) (W.device out.new) result }
+{
+    if to - from > LONG {
+        gathered.empty(out)?;
+        return put(out, &bytes[from..to]);
+    }
+    if GATHERED - gathered.len < to - from {
+        gathered.empty(out)?;
+    }
+    gathered.push_long(bytes, from, to);
+    Ok(())
+}
+
+/// The text that is due and not yet written: short pieces of it, which were gathered, and then a part of the chunk. Beside the loan it
+/// holds numbers alone, so that a loop keeps it out of memory.
+#[derive(Drop)]
+pub(crate) struct Pieces<'a> {
+    gathered: &'a mut Gathered,
+    from: usize,
+    to: usize,
+}
+
+/// Writes the gathered bytes, of which none are left then, and then the part of others.
+#[cold]
+#[inline(never)]
+fn put_both<W: Sink>(
+    gathered: &mut Gathered,
+    bytes: &[u8],
+    from: usize,
+    to: usize,
+    out: &mut W,
+) -> Result<(), WriteFailed>
+    requires failures { (W.device out.old).failures < 2 ^ 64 - 1 }
+    requires within { (from ≤ to) × (to ≤ length bytes.now) }
+    ensures puts { Puts (W.device out.old) (W.device out.new)
+        (take gathered.old.len gathered.old.bytes ++ slice_range bytes.now from to) result }
+    ensures empty { IfOk result (λ _. gathered.new.len ≡ 0) }
+{
+    gathered.empty(out)?;
+    put(out, &bytes[from..to])
+}
+
+impl<'a> Pieces<'a> {
+    /// Nothing is held. Short pieces are gathered here; those that are there are dropped.
+    #[inline(always)]
+    pub(crate) fn new(gathered: &'a mut Gathered) -> Pieces<'a>
+        ensures part { (bytes : List ℕ) → IsPart bytes result }
+        ensures held { (bytes : List ℕ) → held_in bytes result ≡ [] }
+    {
+        gathered.len = 0;
+        Pieces {
+            gathered,
+            from: 0,
+            to: 0,
+        }
+    }
+
+    /// Writes what is held.
+    #[inline(always)]
+    pub(crate) fn flush<W: Sink>(&mut self, bytes: &[u8], out: &mut W) -> Result<(), WriteFailed>
+        requires failures { (W.device out.old).failures < 2 ^ 64 - 1 }
+        requires part { IsPart bytes.now self.old }
+        ensures puts { Puts (W.device out.old) (W.device out.new) (held_in bytes.now self.old) result }
+        ensures held { IfOk result
+            (λ _. (held_in bytes.now self.new ≡ []) × IsPart bytes.now self.new) }
+        ensures empty { IfOk result (λ _. self.new.from ≡ self.new.to) }
+        ensures some { IfErr result (λ _. 0 < length (held_in bytes.now self.old)) }
+    {
+        if self.gathered.len > 0 || self.from < self.to {
+            put_both(self.gathered, bytes, self.from, self.to, out)?;
+            self.from = self.to;
+        }
+        Ok(())
+    }
+
+    /// Writes what is held, and returns this.
+    #[inline(always)]
+    pub(crate) fn finish<W: Sink>(
+        &mut self,
+        bytes: &[u8],
+        ended: bool,
+        out: &mut W,
+    ) -> Result<bool, WriteFailed>
+        requires failures { (W.device out.old).failures < 2 ^ 64 - 1 }
+        requires part { IsPart bytes.now self.old }
+        ensures puts { Puts (W.device out.old) (W.device out.new)
+            (held_in bytes.now self.old) result }
+        ensures ended { IfOk result (λ e. e ≡ ended) }
+        ensures some { IfErr result (λ _. 0 < length (held_in bytes.now self.old)) }
+    {
+        self.flush(bytes, out)?;
+        Ok(ended)
+    }
+
+    /// Gathers the last piece, and writes what has to be written for it.
+    #[inline(always)]
+    fn gather<W: Sink>(&mut self, bytes: &[u8], out: &mut W) -> Result<(), WriteFailed>
+        requires failures { (W.device out.old).failures < 2 ^ 64 - 1 }
+        requires part { IsPart bytes.now self.old }
+        ensures puts { PutsOn (held_in bytes.now self.old) (held_in bytes.now self.new)
+            (W.device out.old) (W.device out.new) [] result }
+        ensures counts { Counts (W.device out.old) (W.device out.new) result }
+        ensures part { IfOk result (λ _. IsPart bytes.now self.new) }
+        ensures empty { IfOk result (λ _. self.new.from ≡ self.new.to) }
+    {
+        if self.gathered.has_room(bytes, self.from, self.to) {
+            self.gathered.push(bytes, self.from, self.to);
+            self.from = self.to;
+            return Ok(());
+        }
+        gather_slowly(self.gathered, bytes, self.from, self.to, out)?;
+        self.from = self.to;
+        Ok(())
+    }
+
+    /// Takes the part of the bytes that is due next: where it follows what is held, that grows, and nothing is written.
+    #[inline(always)]
+    pub(crate) fn append<W: Sink>(
+        &mut self,
+        bytes: &[u8],
+        from: usize,
+        to: usize,
+        out: &mut W,
+    ) -> Result<(), WriteFailed>
+        requires failures { (W.device out.old).failures < 2 ^ 64 - 1 }
+        requires part { IsPart bytes.now self.old }
+        requires within { (from ≤ to) × (to ≤ length bytes.now) }
+        ensures puts { PutsOn (held_in bytes.now self.old) (held_in bytes.now self.new)
+            (W.device out.old) (W.device out.new) (slice_range bytes.now from to) result }
+        ensures counts { Counts (W.device out.old) (W.device out.new) result }
+        ensures part { IfOk result (λ _. IsPart bytes.now self.new) }
+    {
+        if from == self.to {
+            self.to = to;
+            return Ok(());
+        }
+        self.gather(bytes, out)?;
+        self.from = from;
+        self.to = to;
+        Ok(())
+    }
+
+    /// Takes the part of the bytes that is due next, but for so many bytes behind its first one.
+    #[inline(always)]
+    pub(crate) fn append_without<W: Sink>(
+        &mut self,
+        bytes: &[u8],
+        from: usize,
+        to: usize,
+        n: usize,
+        out: &mut W,
+    ) -> Result<(), WriteFailed>
+        requires failures { (W.device out.old).failures < 2 ^ 64 - 1 }
+        requires part { IsPart bytes.now self.old }
+        requires within { (from + 1 + n ≤ to) × (to ≤ length bytes.now) }
+        ensures puts { PutsOn (held_in bytes.now self.old) (held_in bytes.now self.new)
+            (W.device out.old) (W.device out.new) (bytes_without bytes.now from to n) result }
+        ensures counts { Counts (W.device out.old) (W.device out.new) result }
+        ensures part { IfOk result (λ _. IsPart bytes.now self.new) }
+    {
+        // Where pieces were gathered, most such parts leave bytes out: then no branch asks whether this one does.
+        if self.gathered.len > 0
+            && from == self.to
+            && self.gathered.has_room(bytes, self.from, from + 1)
+        {
+            self.gathered.push(bytes, self.from, from + 1);
+            self.from = from + 1 + n;
+            self.to = to;
+            return Ok(());
+        }
+        self.append_parts(bytes, from, to, n, out)
+    }
+
+    /// The same, whatever is held: where nothing is left out, the last piece grows.
+    #[inline(always)]
+    pub(crate) fn append_parts<W: Sink>(
+        &mut self,
+        bytes: &[u8],
+        from: usize,
+        to: usize,
+        n: usize,
+        out: &mut W,
+    ) -> Result<(), WriteFailed>
+        requires failures { (W.device out.old).failures < 2 ^ 64 - 1 }
+        requires part { IsPart bytes.now self.old }
+        requires within { (from + 1 + n ≤ to) × (to ≤ length bytes.now) }
+        ensures puts { PutsOn (held_in bytes.now self.old) (held_in bytes.now self.new)
+            (W.device out.old) (W.device out.new) (bytes_without bytes.now from to n) result }
+        ensures counts { Counts (W.device out.old) (W.device out.new) result }
+        ensures part { IfOk result (λ _. IsPart bytes.now self.new) }
+    {
+        if n == 0 {
+            return self.append(bytes, from, to, out);
+        }
+        self.append(bytes, from, from + 1, out)?;
+        self.append(bytes, from + 1 + n, to, out)
+    }
+
+    /// Takes the line of an item's time, which is due next: where it stands just before the item, it is held; else it is written,
+    /// after what is held.
+    #[inline(always)]
+    pub(crate) fn append_time<W: Sink>(
+        &mut self,
+        time: u64,
+        lying: Lying<'_>,
+        out: &mut W,
+    ) -> Result<(), WriteFailed>
+        requires failures { (W.device out.old).failures < 2 ^ 64 - 1 }
+        requires part { IsPart lying.bytes.now self.old }
+        requires within { (lying.from ≤ lying.to) × (lying.to ≤ length lying.bytes.now) }
+        requires line { IsLine lying.bytes.now lying.line lying.from time }
+        ensures puts { PutsOn (held_in lying.entry.bytes.now self.old)
+            (held_in lying.entry.bytes.now self.new)
+            (W.device out.old) (W.device out.new) (time_line time) result }
+        ensures counts { Counts (W.device out.old) (W.device out.new) result }
+        ensures part { IfOk result (λ _. IsPart lying.entry.bytes.now self.new) }
+    {
+        if lying.line < lying.from {
+            return self.append(lying.bytes, lying.line, lying.from, out);
+        }
+        self.flush(lying.bytes, out)?;
+        put_time(time, out)
+    }
+}

@@ -1,0 +1,98 @@
+//! The lines of `sample`.
+ghost use Rattle.std.specs.Prelude.{◌≡◌, ◌-◌, ◌^◌, ◌<◌, ℕ, [], ◌∷◌, List, false, take, Some, slice_get, flat_map};
+ghost use Rattle.std.specs.List.{AllByRecursion};
+ghost use Rattle.vcd_model.specs.Declarations.{Declaration, Variable, path_of};
+ghost use Rattle.vcd_model.specs.Header.{Header};
+ghost use Rattle.vcd_model.specs.Items.{BodyItem};
+ghost use Rattle.vcd_model.specs.Sample.{is_settled, sample_lines};
+ghost use Rattle.vcd_model.specs.Selection.{selected};
+ghost use Rattle.vcd_text.specs.Device.{Counts, Takes, failures_after};
+ghost use Rattle.vcd_head.specs.Marks.{marks_of};
+ghost use Rattle.vcd_view.specs.Views.{IsViewOf};
+ghost use Rattle.vcd_engine.specs.Values.{AreHeld};
+
+use crate::selection::is_marked;
+use vcd_body::{Table, put_full};
+use vcd_head::put_path;
+use vcd_text::{Sink, WriteFailed, put, put_number};
+use vcd_view::{HeadView, Kind};
+
+/// Writes the line of a variable at a time that no item so far is later than: the time, its path and its value. An event has
+/// none.
+fn put_line<W: Sink>(
+    table: &Table<'_>,
+    view: HeadView<'_>,
+    row: usize,
+    time: u64,
+    out: &mut W,
+) -> Result<(), WriteFailed>
+    requires failures { (W.device out.old).failures < 2 ^ 64 - 1 }
+    ensures takes { (h : Header) (items : List BodyItem) (v : Variable) → IsViewOf view.entry h
+        → slice_get h.declarations row ≡ Some (Declaration.Var v)
+        → AreHeld table.now h items → is_settled items time ≡ false
+        → Takes (W.device out.old) (W.device out.new)
+        (sample_lines (record {
+          path = path_of (take row h.declarations) (Declaration.Var v);
+          variable = v;
+        } ∷ []) items time) result }
+    ensures counts { Counts (W.device out.old) (W.device out.new) result }
+{
+    let Some(variable) = view.row_at(row) else {
+        return Ok(());
+    };
+    if view.is_event(variable.code as usize) {
+        return Ok(());
+    }
+    put_number(out, time)?;
+    put(out, b" ")?;
+    put_path(view, row, out)?;
+    put(out, b" ")?;
+    put_full(view, table, variable.code as usize, out)?;
+    put(out, b"\n")
+}
+
+/// Writes the lines of a time that no item so far is later than: one for each marked variable that is no event.
+fn put_lines<W: Sink>(
+    table: &Table<'_>,
+    view: HeadView<'_>,
+    marks: &[u8],
+    time: u64,
+    out: &mut W,
+) -> Result<(), WriteFailed>
+    requires failures { (W.device out.old).failures < 2 ^ 64 - 1 }
+    ensures takes { (h : Header) (items : List BodyItem) (names : List (List ℕ))
+        → IsViewOf view.entry h → marks.now ≡ marks_of names h.declarations
+        → AreHeld table.now h items → is_settled items time ≡ false
+        → Takes (W.device out.old) (W.device out.new)
+        (sample_lines (selected names h.declarations) items time) result }
+    ensures counts { Counts (W.device out.old) (W.device out.new) result }
+{
+    for (row, declared) in view.rows.iter().enumerate() {
+        if declared.kind == Kind::Var && is_marked(marks, row) {
+            put_line(table, view, row, time, out)?;
+        }
+    }
+    Ok(())
+}
+
+/// Writes the lines of these times; no item so far is later than they.
+pub(crate) fn put_samples<W: Sink>(
+    table: &Table<'_>,
+    view: HeadView<'_>,
+    marks: &[u8],
+    times: &[u64],
+    out: &mut W,
+) -> Result<(), WriteFailed>
+    requires failures { (W.device out.old).failures < 2 ^ 64 - 1 }
+    ensures takes { (h : Header) (items : List BodyItem) (names : List (List ℕ))
+        → IsViewOf view.entry h → marks.now ≡ marks_of names h.declarations
+        → AreHeld table.now h items → AllByRecursion (λ t. is_settled items t ≡ false) times.now
+        → Takes (W.device out.old) (W.device out.new)
+        (flat_map (sample_lines (selected names h.declarations) items) times.now) result }
+    ensures counts { Counts (W.device out.old) (W.device out.new) result }
+{
+    for time in times {
+        put_lines(table, view, marks, *time, out)?;
+    }
+    Ok(())
+}

@@ -1,0 +1,77 @@
+//! What is done with the items of a body, and the slices that it works in.
+ghost use Rattle.std.specs.Prelude.{◌≡◌, ◌≤◌, ℕ, length};
+ghost use Rattle.vcd_model.specs.Bound.{AreWindows, FitsInput, RoomSize, WindowSize};
+ghost use Rattle.vcd_model.specs.Header.{Header};
+ghost use Rattle.vcd_view.specs.Needs.{room, view_size};
+ghost use Rattle.vcd_view.specs.Shown.{parts};
+ghost use Rattle.vcd_view.specs.Views.{IsViewOf};
+ghost use Rattle.vcd_engine.specs.Room.{AreWithinBound, HasRoomFor, IsWithin, marks_for, slots_for, values_for};
+ghost use Rattle.vcd_engine.specs.declared.task.Room.{Room};
+
+use vcd_body::{Share, Slot};
+use vcd_view::{HeadView, Need, need};
+
+/// What is done with the items of a body.
+#[derive(Clone, Copy)]
+pub enum Task<'n> {
+    /// Counts them, and reports at the end.
+    Check,
+    /// Writes those of the variables that these names select, after their header.
+    Pick(&'n [String]),
+    /// Writes the values that stand before a time, and the items from then up to another time, in ticks. Both are in it.
+    Cut {
+        from: u64,
+        to: u64,
+    },
+    /// Writes the values of the variables that these names select, all where there is none, at these times, in ticks.
+    Sample {
+        times: &'n [u64],
+        names: &'n [String],
+    },
+    /// Counts how often the values of the variables that these names select change, rise and fall, and writes it at the end.
+    Edges(&'n [String]),
+}
+
+/// What a run is lent beside its windows, of lengths at least as `Task::need` returns for its header. No memory is taken beyond it.
+#[derive(Drop)]
+pub struct Room<'r> {
+    /// Bytes for the values of codes; `pick` has a flag of one byte for each code there.
+    pub values: &'r mut [u8],
+    /// A slot for each code.
+    pub slots: &'r mut [Slot],
+    /// A share for each code, as many as slots.
+    pub shares: &'r mut [Share],
+    /// A mark for each declaration.
+    pub marks: &'r mut [u8],
+}
+
+impl<'n> Task<'n> {
+    /// The room that the task works in over the header that is shown.
+    pub fn need(&self, view: HeadView<'_>) -> Need
+        ensures lengths { (result.values ≡ values_for self.now view.entry)
+            × (result.slots ≡ slots_for self.now view.entry)
+            × (result.marks ≡ marks_for self.now view.entry) }
+        ensures room { (r : Room) → result.values ≤ length r.values.now
+            → result.slots ≤ length r.slots.now → result.slots ≤ length r.shares.now
+            → result.marks ≤ length r.marks.now → HasRoomFor self.now view.entry r }
+        ensures fits { (limit : ℕ) (h : Header) (w : WindowSize) → IsViewOf view.entry h
+            → AreWindows limit w
+            → FitsInput limit h w (view_size (parts view.entry)) (room result) }
+        ensures bound { (limit chunk : ℕ) (lent : RoomSize) → chunk ≤ 65536
+            → IsWithin lent (room result) → AreWithinBound limit chunk view.entry lent }
+    {
+        match self {
+            Task::Check => Need {
+                values: 0,
+                slots: 0,
+                marks: 0,
+            },
+            Task::Pick(_) => Need {
+                values: view.codes.len(),
+                slots: 0,
+                marks: view.rows.len(),
+            },
+            Task::Cut { .. } | Task::Sample { .. } | Task::Edges(_) => need(view),
+        }
+    }
+}

@@ -1,7 +1,0 @@
-use Rattle.std.proofs.Common.{◌≡◌, take, count_by}
-use Rattle.vcd_tools.specs.Report.{declares_variable, opens_scope}
-use Rattle.vcd_tools.proofs.report.declared_in.Given as goal
-
-abbrev pub invariant-loop-row : goal.invariant-loop-row
-invariant-loop-row l = (l.scopes ≡ count_by (λ r. opens_scope r.kind) (take l.row-index l.rows))
-    × (l.variables ≡ count_by (λ r. declares_variable r.kind) (take l.row-index l.rows))

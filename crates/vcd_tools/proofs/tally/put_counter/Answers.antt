@@ -1,6 +1,0 @@
-use Rattle.std.proofs.Common.{[], ◌∷◌, decimal}
-use Rattle.vcd_text.proofs.Writes.{puts-twice}
-use Rattle.vcd_tools.proofs.tally.put_counter.Goals as goal
-
-pub returns : goal.returns
-returns g c = puts-twice _ _ _ (32 ∷ []) (decimal c.args.number) c.put_number.result c.in_ok-put.ensures c.put_number.ensures
