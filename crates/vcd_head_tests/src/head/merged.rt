@@ -12,7 +12,7 @@ fn is_code(alloc: Global, number: u64, code: &[u8]) -> Result<bool, WriteFailed>
     Ok(out.device.as_slice() == code)
 }
 
-const CODES: [(u64, &[u8]); 7] = [
+const CODES: [(u64, &[u8]); 9] = [
     (0, b"!"),
     (1, b"\""),
     (93, b"~"),
@@ -20,6 +20,8 @@ const CODES: [(u64, &[u8]); 7] = [
     (95, b"\"\""),
     (187, b"~\""),
     (188, b"!#"),
+    (8_835, b"~~"),
+    (8_836, b"!!\""),
 ];
 
 #[test]
