@@ -222,7 +222,7 @@ pub(crate) fn give_refusal<R: Abort + AllocGlobal>(
 }
 
 // Whether a run is done without a message.
-fn is_done(left: &Left) -> bool {
+pub(crate) fn is_done(left: &Left) -> bool {
     left.status == 0 && left.err.device.held().is_empty()
 }
 

@@ -194,6 +194,16 @@ fn refuse<'a, R: Abort + AllocGlobal>(rt: &R, words: &'a [&'a str], fault: UseFa
 }
 
 #[test]
+fn a_merge_has_one_to_64_files(rt: HostRuntime) {
+    let mut words = ["f.vcd"; 67];
+    words[0] = "vcdkit";
+    words[1] = "merge";
+    ask(&rt, &words[..3], Words::Merge(&words[2..3]), LIMIT);
+    ask(&rt, &words[..66], Words::Merge(&words[2..66]), LIMIT);
+    refuse(&rt, &words, UseFault::TooManyFiles);
+}
+
+#[test]
 fn a_command_asks_for_its_job(rt: HostRuntime) {
     let job = Job {
         task: Want::Check,
