@@ -5,7 +5,7 @@ ghost use Rattle.vcd_text.specs.Feed.{SameLoans, chunk_len_of, limit_of, source_
 
 use itoa::Buffer;
 use std::io;
-use vcd_text::doubles::{Narrow, Pieces};
+use vcd_text::doubles::{Narrow, Pieces, parked_after};
 use vcd_text::{
     Ahead, Feed, Halt, Next, Sink, Source, Watch, WriteFailed, decimal_of, put, put_number, text_of,
 };
@@ -228,6 +228,54 @@ fn a_long_token_halts_on_its_line(rt: HostRuntime) {
     for chunk_len in 1..7 {
         let source = Watch::new(Pieces::new(b"ab\nabc\n", 2));
         assert!(rt; is_told(source, chunk_len, 2, b"ab@1 halt 1@2 "));
+    }
+}
+
+// Whether three answers over a text, where so many bytes count as looked at before it, are told so.
+fn is_told_after(counted: u64, bytes: &[u8], limit: usize, want: &[u8]) -> bool
+    requires counted { counted < 2 ^ 63 }
+    requires limit { (0 < limit) × (limit ≤ 8) }
+{
+    let mut source = Watch::new(Pieces::new(bytes, 8));
+    let mut chunk = [0; 8];
+    let mut token = [0; 8];
+    let mut value = [0; 8];
+    let mut feed = Feed::resume(
+        &mut source,
+        &mut chunk,
+        &mut token[..limit],
+        &mut value[..limit],
+        parked_after(counted),
+    );
+    let mut told = Told::new();
+    tell_next(&mut feed, &mut told);
+    tell_next(&mut feed, &mut told);
+    tell_next(&mut feed, &mut told);
+    told.text() == want
+}
+
+// Bytes that count as looked at, a text, the token limit, and what is told. Where byte number 2^63 is
+// also one too many for a token, it is too much input.
+const LAST_BYTES: [(u64, &[u8], usize, &[u8]); 4] = [
+    (
+        (1 << 63) - 3,
+        b"ab cd",
+        8,
+        b"halt 21@1 halt 21@1 halt 21@1 ",
+    ),
+    ((1 << 63) - 4, b"ab cd", 8, b"ab@1 halt 21@1 halt 21@1 "),
+    ((1 << 63) - 3, b"abc", 2, b"halt 21@1 halt 21@1 halt 21@1 "),
+    ((1 << 63) - 4, b"abc", 2, b"halt 1@1 halt 1@1 halt 1@1 "),
+];
+
+#[test]
+fn no_byte_is_looked_at_past_the_last_one(rt: HostRuntime) {
+    for (counted, bytes, limit, want) in &LAST_BYTES {
+        assert!(rt; *counted < 1 << 63 && 0 < *limit && *limit <= 8);
+        assert!(rt;
+            is_told_after(*counted, bytes, *limit, want),
+            "after {counted}"
+        );
     }
 }
 
