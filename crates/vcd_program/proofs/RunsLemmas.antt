@@ -56,8 +56,8 @@ pub merge-same : (w : job.Want) → is_merge w ≡ wants_merge (model_want w)
 merge-same asked.Check = refl
 merge-same asked.List = refl
 merge-same (asked.Pick names) = refl
-merge-same (asked.Cut period) = refl
-merge-same (asked.Sample times names) = refl
+merge-same (asked.Cut from to) = refl
+merge-same (asked.Sample numbers units names) = refl
 merge-same (asked.Edges names) = refl
 merge-same asked.Merge = refl
 
@@ -65,8 +65,8 @@ pub names-same : (w : job.Want) → names_asked w ≡ names_wanted (model_want w
 names-same asked.Check = refl
 names-same asked.List = refl
 names-same (asked.Pick names) = refl
-names-same (asked.Cut period) = refl
-names-same (asked.Sample times names) = refl
+names-same (asked.Cut from to) = refl
+names-same (asked.Sample numbers units names) = refl
 names-same (asked.Edges names) = refl
 names-same asked.Merge = refl
 

@@ -1,5 +1,6 @@
 //! The machine that a process runs on, as a host.
-ghost use Rattle.std.specs.Prelude.{⊤};
+ghost use Rattle.std.specs.Prelude.{◌≡◌, ⊤};
+ghost use Rattle.vcd_text.specs.Watch.{failed_calls};
 
 use crate::command_line::run_program;
 use crate::host::{Host, OpenFault};
@@ -43,7 +44,9 @@ struct Machine<'r> {
 
 impl Machine<'_> {
     /// Returns an input that was opened.
-    fn input(&self, stream: Stream) -> Watch<Stream> {
+    fn input(&self, stream: Stream) -> Watch<Stream>
+        ensures { failed_calls result ≡ 0 }
+    {
         if self.is_seeded {
             return Watch::new(stream);
         }
