@@ -1,4 +1,4 @@
-use Rattle.vcd_tools.proofs.RoomLemmas.{no_room_in_each}
+use Rattle.vcd_engine.proofs.RoomLemmas.{no_room_in_each}
 use Rattle.vcd_tools_tests.proofs.tools.is_listed.Goals as goal
 
 pub list-requires-clause-bound : goal.list-requires-clause-bound
