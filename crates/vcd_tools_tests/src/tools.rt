@@ -6,6 +6,7 @@ ghost use Rattle.vcd_text.specs.Watch.{failed_calls};
 ghost use Rattle.vcd_tools.specs.Engine.{is_going, request_of};
 ghost use Rattle.vcd_tools.specs.Room.{AreWithinBound, HasRoomFor, room_in, room_size, view_in};
 
+use super::cut::{KINDS, KINDS_CUT};
 use super::over::{is_run, wrong_room};
 use std::alloc::Global;
 use std::test::Fail;
@@ -194,7 +195,8 @@ fn a_report_ends_where_a_write_fails(rt: HostRuntime) -> Result<(), Fail> {
     Ok(())
 }
 
-// What is written before the first step of a task, after each step that goes on, and after the last one, and what that one returns.
+// What is written before the first step of a task, after each step that goes on, and after the last
+// one, and what that one returns; of a task that is refused as it begins, why.
 #[derive(Clone, Copy)]
 struct Steps<'a> {
     before: &'a [u8],
@@ -265,7 +267,7 @@ fn takes_steps<S: Source>(
     ends(engine, feed, out, steps)
 }
 
-// Whether a task in this room takes these steps, and no more.
+// Whether a task in this room takes these steps, and no more; or why it is refused as it begins.
 fn takes_steps_in<S: Source>(
     view: HeadView<'_>,
     feed: &mut Feed<'_, '_, '_, '_, S>,
@@ -312,7 +314,10 @@ fn takes_steps_behind<S: Source>(
         shares: &mut shares,
         marks: &mut marks,
     };
-    Ok(takes_steps_in(view, feed, room, task, steps)?)
+    Ok(match takes_steps_in(view, feed, room, task, steps) {
+        Ok(takes) => takes,
+        Err(stop) => steps.after_each.is_empty() && steps.last == Err(stop),
+    })
 }
 
 // Whether a task over a dump takes these steps, and no more.
@@ -418,6 +423,63 @@ fn steps_of_a_pick_write_what_is_due(rt: HostRuntime) -> Result<(), Fail> {
         after_last: CUT_SHORT_PICKED,
     };
     assert!(rt; takes_steps_over(rt.alloc(), CUT_SHORT, Task::Pick(&names), &steps)?);
+    Ok(())
+}
+
+// What is written of the cut of `KINDS` at first, with the mark 10, and with each change of that time.
+const CUT: &[u8] =
+    b"$var wire 1 ! a $end\n$var real 1 \" r $end\n$var event 1 # e $end\n$var wire 2 % u $end\n$enddefinitions $end\n";
+
+const CUT_BEGUN: &[u8] =
+    b"$var wire 1 ! a $end\n$var real 1 \" r $end\n$var event 1 # e $end\n$var wire 2 % u $end\n$enddefinitions $end\n#10\n$dumpvars\n0!\nr1.5 \"\n$end\n";
+
+const CUT_CHANGED: &[u8] =
+    b"$var wire 1 ! a $end\n$var real 1 \" r $end\n$var event 1 # e $end\n$var wire 2 % u $end\n$enddefinitions $end\n#10\n$dumpvars\n0!\nr1.5 \"\n$end\n1!\n";
+
+const CUT_MARKED: &[u8] =
+    b"$var wire 1 ! a $end\n$var real 1 \" r $end\n$var event 1 # e $end\n$var wire 2 % u $end\n$enddefinitions $end\n#10\n$dumpvars\n0!\nr1.5 \"\n$end\n1!\n1#\n";
+
+#[test]
+fn steps_of_a_cut_write_what_is_due(rt: HostRuntime) -> Result<(), Fail> {
+    let task = Task::Cut { from: 10, to: 15 };
+    let steps = Steps {
+        before: CUT,
+        after_each: &[CUT, CUT, CUT, CUT, CUT_BEGUN, CUT_CHANGED, CUT_MARKED],
+        last: Ok(More::Ended(Done::Early)),
+        after_last: KINDS_CUT,
+    };
+    assert!(rt; takes_steps_over(rt.alloc(), KINDS, task, &steps)?);
+    Ok(())
+}
+
+#[test]
+fn steps_of_a_sample_write_what_is_due(rt: HostRuntime) -> Result<(), Fail> {
+    let text =
+        b"$var wire 4 ! v $end\n$var wire 8 \" w $end\n$enddefinitions $end\n#1\nb1 !\n#2\n?\n";
+    let task = Task::Sample {
+        times: &[1],
+        names: &[],
+    };
+    let steps = Steps {
+        before: b"",
+        after_each: &[b"", b""],
+        last: Ok(More::Ended(Done::Early)),
+        after_last: b"1 v 0001\n1 w -\n",
+    };
+    assert!(rt; takes_steps_over(rt.alloc(), text, task, &steps)?);
+    Ok(())
+}
+
+#[test]
+fn a_task_whose_name_selects_nothing_does_not_begin(rt: HostRuntime) -> Result<(), Fail> {
+    let names = [String::from_str(rt.alloc(), "zz")?];
+    let steps = Steps {
+        before: b"",
+        after_each: &[],
+        last: Err(Stop::Unmatched { name: 0 }),
+        after_last: b"",
+    };
+    assert!(rt; takes_steps_over(rt.alloc(), KINDS, Task::Pick(&names), &steps)?);
     Ok(())
 }
 
