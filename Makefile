@@ -1,7 +1,7 @@
 # make         proves the program and the crates that it uses, builds it as ./vcdkit and shows it on a sample dump
 # make test    the merge gate: every proof from nothing, must-fail edits, tests, the program as two compilers build it
 # make hostile runs the program where memory, reads and writes fail, and on dumps that are cut off, crafted or made at random: some minutes
-# make docs-check runs the commands that README, manual and recipes show over ./vcdkit, and compares what they print: seconds
+# make docs-check runs the commands that README, manual and recipes show over ./vcdkit, and compares what they print and which must-fail edits PROOFS lists: seconds
 # make static  links ./vcdkit-static, the program without any shared library: seconds after make
 # make dist    a tarball and a Debian package of it in dist/, with documents, man page, completions and extras
 # make library ./libvcd_c.a and ./libvcd_c.so, for callers in C and Python: a minute or two after make
@@ -49,6 +49,7 @@ hostile: vcdkit
 # It takes the ./vcdkit that is there, and builds none.
 docs-check:
 	docs/check.py
+	docs/edits.py
 
 # Both link and pack what `make` built, and prove nothing.
 static:
