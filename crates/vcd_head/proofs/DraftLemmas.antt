@@ -1,5 +1,5 @@
 -- A draft that holds some declarations holds one more.
-use Rattle.std.proofs.Common.{◌≡◌, ◌≢◌, ℕ, suc, ◌+◌, ◌-◌, ◌<◌, ◌≤◌, cond, List, [], ◌∷◌, ◌++◌, length, map, reverse, take, drop, slice_range, slice_get, find, filter_map, sum_by, bytes_eq, Option, Some, None, IfSome, is_some, option_map, unwrap_or, refl, sym, ap, subst, ◌∙◌, arith}
+use Rattle.std.proofs.Common.{◌≡◌, ◌≢◌, ℕ, suc, ◌+◌, ◌-◌, ◌^◌, ◌<◌, ◌≤◌, cond, List, [], ◌∷◌, ◌++◌, length, map, reverse, take, drop, slice_range, slice_get, find, filter_map, sum_by, bytes_eq, Option, Some, None, IfSome, is_some, option_map, unwrap_or, refl, sym, ap, subst, ◌∙◌, arith}
 use Rattle.std.specs.Global.{Vec}
 use Rattle.std.specs.List.{AllByRecursion, list_any, join_with_byte, last_or}
 use Rattle.std.proofs.lemmas.List.{append_assoc, append-nil, length-append, length_push, reverse-append, length-reverse, length-map, map-append}
@@ -18,8 +18,10 @@ use Rattle.vcd_view.specs.declared.view.Code.{Code}
 use Rattle.vcd_head.specs.declared.draft.Draft.{Draft}
 use Rattle.vcd_head.specs.Texts.{spaced}
 use Rattle.vcd_head.specs.Draft.{HasCodes, Declares, IsDraftOf}
-use Rattle.vcd_model.proofs.ScopeLemmas.{enclosing-scope, enclosing-up, enclosing-var}
+use Rattle.std.proofs.lemmas.Option.{slice_get_within}
+use Rattle.vcd_model.proofs.ScopeLemmas.{enclosing-scope, enclosing-up, enclosing-var, innermost}
 use Rattle.vcd_head.proofs.DraftGrows.{are_codes_grow, are_rows_grow, are_rows_push, codes-other, codes_grown, variables_push}
+use Rattle.vcd_view.proofs.RoomLemmas.{codes_few}
 use Rattle.vcd_view.proofs.RowLemmas.{rows_len}
 use Rattle.vcd_view.proofs.ListLemmas.{slice_get-seam}
 use Rattle.vcd_head.proofs.TextSteps.{joined}
@@ -104,6 +106,32 @@ parent_is ds os e = by_cases (enclosing ds) refl e
         let l : length os - 1 ≡ length (map suc (reverse ps)) = omega (arith, ap length o, length_push (map suc (reverse ps)) (suc x)) in
         rw (l, o, p, parent, slice_get-seam (map suc (reverse ps)) (suc x) []) refl
 
+-- 32 bits hold it
+pub scope_narrow : (most : ℕ) (d : Draft) (ds : List Declaration) → Declares most d ds → unwrap_or (slice_get d.scopes.items (length d.scopes.items - 1)) 0 < 2 ^ 32
+scope_narrow most d ds h = by_cases (enclosing ds) refl
+  where
+    by_cases : (ps : List ℕ) → enclosing ds ≡ ps → unwrap_or (slice_get d.scopes.items (length d.scopes.items - 1)) 0 < 2 ^ 32
+    by_cases [] e =
+        let none : unwrap_or (slice_get d.scopes.items (length d.scopes.items - 1)) 0 ≡ 0 = parent_is ds d.scopes.items h.nested ∙ rw (e, parent) refl in
+        omega (arith, none)
+    by_cases (p ∷ ps) e =
+        let one : unwrap_or (slice_get d.scopes.items (length d.scopes.items - 1)) 0 ≡ suc p = parent_is ds d.scopes.items h.nested ∙ rw (e, parent) refl in
+        let inner = innermost ds p ps e in
+        omega (arith, one, inner.before, h.few, h.allowed)
+
+-- so they do that of the scope that is closed
+pub closed_narrow : (most : ℕ) (d : Draft) (ds : List Declaration) (others : List ℕ) (closed : ℕ) → Declares most d ds → d.scopes.items ≡ others ++ closed ∷ [] → closed < 2 ^ 32
+closed_narrow most d ds others closed h e =
+    let last : length d.scopes.items - 1 ≡ length others = omega (arith, ap length e, length_push others closed) in
+    let is : unwrap_or (slice_get d.scopes.items (length d.scopes.items - 1)) 0 ≡ closed = rw (last, e, slice_get-seam others closed []) refl in
+    subst (λ n. n < 2 ^ 32) is (scope_narrow most d ds h)
+
+-- and the place of a code
+pub code_narrow : (most : ℕ) (d : Draft) (ds : List Declaration) (v : Variable) (place : ℕ) → Declares most d ds → length ds < most → slice_get (codes_of (ds ++ Declaration.Var v ∷ [])) place ≡ Some (code_of v) → place < 2 ^ 32
+code_narrow most d ds v place h few at =
+    let within = slice_get_within (codes_of (ds ++ Declaration.Var v ∷ [])) place (code_of v) at in
+    omega (arith, within, codes_few (ds ++ Declaration.Var v ∷ []), length_push ds (Declaration.Var v), h.allowed)
+
 -- the facts of a declaration that is no variable, where only texts, rows and scopes change
 module _ (most : ℕ) (d d' : Draft) (ds : List Declaration) (x : Declaration) (more : List ℕ) (r : Row) (h : Declares most d ds) (other : variable_of x ≡ None) (few : length ds < most)
     (text : d'.text.items ≡ d.text.items ++ more) (rows : d'.rows.items ≡ d.rows.items ++ r ∷ []) (codes : d'.codes ≡ d.codes) where
@@ -149,6 +177,7 @@ scope_declared most d d' ds type name r h few text rows codes scopes is =
       balance = rw (enclosing-scope ds type name) (omega arith);
       held = held_kept most d d' ds x (type ++ name) r h refl few grown rows codes (omega (arith, length-append type name));
       few = few_kept most d d' ds x (type ++ name) r h refl few grown rows codes;
+      allowed = h.allowed;
     }
 
 last_same : (xs ys : List ℕ) (x y : ℕ) → xs ++ x ∷ [] ≡ ys ++ y ∷ [] → (xs ≡ ys) × (x ≡ y)
@@ -188,6 +217,7 @@ up_declared most d d' ds closed r h few text rows codes scopes is = by_cases (en
           balance = rw inner (omega arith);
           held = held_kept most d d' ds x [] r h refl few grown rows codes (omega arith);
           few = few_kept most d d' ds x [] r h refl few grown rows codes;
+          allowed = h.allowed;
         }
 
 -- how many scopes are open
@@ -237,7 +267,7 @@ holds_date most d ps inner v h e = record {
 }
   where
     again : {ds es : List Declaration} → ds ≡ es → Declares most d ds → Declares most (record d { date = v }) es
-    again q k = subst (Declares most (record d { date = v })) q (record { codes = k.codes; rows = k.rows; nested = k.nested; balance = k.balance; held = k.held; few = k.few })
+    again q k = subst (Declares most (record d { date = v })) q (record { codes = k.codes; rows = k.rows; nested = k.nested; balance = k.balance; held = k.held; few = k.few; allowed = k.allowed })
 
 pub holds_version : (most : ℕ) (d : Draft) (ps : List HeaderPhrase) (inner : List (List ℕ)) (v : Vec ℕ) → IsDraftOf most d ps → v.items ≡ join_with_byte 32 inner → IsDraftOf most (record d { version = v }) (ps ++ HeaderPhrase.Version inner ∷ [])
 holds_version most d ps inner v h e = record {
@@ -249,7 +279,7 @@ holds_version most d ps inner v h e = record {
 }
   where
     again : {ds es : List Declaration} → ds ≡ es → Declares most d ds → Declares most (record d { version = v }) es
-    again q k = subst (Declares most (record d { version = v })) q (record { codes = k.codes; rows = k.rows; nested = k.nested; balance = k.balance; held = k.held; few = k.few })
+    again q k = subst (Declares most (record d { version = v })) q (record { codes = k.codes; rows = k.rows; nested = k.nested; balance = k.balance; held = k.held; few = k.few; allowed = k.allowed })
 
 pub holds_scale : (most : ℕ) (d : Draft) (ps : List HeaderPhrase) (x : Scale) → IsDraftOf most d ps → IsExponent x.exponent → IsDraftOf most (record d { scale = Some x }) (ps ++ HeaderPhrase.Timescale x.exponent ∷ [])
 holds_scale most d ps x h in_range = record {
@@ -261,7 +291,7 @@ holds_scale most d ps x h in_range = record {
 }
   where
     again : {ds es : List Declaration} → ds ≡ es → Declares most d ds → Declares most (record d { scale = Some x }) es
-    again q k = subst (Declares most (record d { scale = Some x })) q (record { codes = k.codes; rows = k.rows; nested = k.nested; balance = k.balance; held = k.held; few = k.few })
+    again q k = subst (Declares most (record d { scale = Some x })) q (record { codes = k.codes; rows = k.rows; nested = k.nested; balance = k.balance; held = k.held; few = k.few; allowed = k.allowed })
 
 -- a variable
 pub var_declared : (most : ℕ) (d d' : Draft) (ds : List Declaration) (v : Variable) (r : Row) (more : List ℕ) → Declares most d ds → length ds < most → v.reference ≢ []
@@ -288,4 +318,5 @@ var_declared most d d' ds v r more h few named text short rows codes at scopes k
       balance = rw (enclosing-var ds v) (omega arith);
       held = omega (arith, ap length text, length-append d.text.items tail, length-append v.type (join_with_byte 32 v.reference ++ more), length-append (join_with_byte 32 v.reference) more, sum_by_push kept_bytes ds x);
       few = omega (arith, length_push ds x);
+      allowed = h.allowed;
     }

@@ -128,8 +128,8 @@ no_scopes_yet : enclosing [] ≡ []
 unfolding enclosing
 no_scopes_yet = refl
 
-pub holds_nothing : (most : ℕ) (d : Draft) → IsNew d → IsDraftOf most d []
-holds_nothing most d n = record {
+pub holds_nothing : (most : ℕ) (d : Draft) → most ≤ 16777216 → IsNew d → IsDraftOf most d []
+holds_nothing most d m n = record {
   declares = record {
     codes = no_codes_yet d.text.items d.codes n.no_codes;
     rows = rw n.no_rows (no_rows_yet d.text.items);
@@ -137,6 +137,7 @@ holds_nothing most d n = record {
     balance = ap (λ (l : List ℕ). length l + 0) no_scopes_yet;
     held = let t = ap length n.no_text in omega arith;
     few = omega arith;
+    allowed = m;
   };
   date = n.no_date;
   version = n.no_version;
@@ -144,10 +145,10 @@ holds_nothing most d n = record {
   scaled = subst (λ o. IfSome o (λ (x : Scale). IsExponent x.exponent)) (sym n.no_scale) tt;
 }
 
-pub carries_nothing : {X : Type 0} {g : Ghosts X} (most : ℕ) (i : Input) (d : Draft) (f : Feed X g) → IsNew d → HasGiven i [] f → DraftsBehind most i d f
-carries_nothing most i d f n s = record { given = []; stands = s; drafts = record { placed = []; so_far = so_far-nothing (header_grammar most); holds = holds_nothing most d n } }
+pub carries_nothing : {X : Type 0} {g : Ghosts X} (most : ℕ) (i : Input) (d : Draft) (f : Feed X g) → most ≤ 16777216 → IsNew d → HasGiven i [] f → DraftsBehind most i d f
+carries_nothing most i d f m n s = record { given = []; stands = s; drafts = record { placed = []; so_far = so_far-nothing (header_grammar most); holds = holds_nothing most d m n } }
 
-pub finished : {X : Type 0} {g : Ghosts X} (most : ℕ) (i : Input) (d : Draft) (f : Feed X g) (r : Result Head HeadFault) → most ≤ 16777216 → DraftsAll most i d f
-    → ((m : ℕ) (ps : List HeaderPhrase) → m ≤ 16777216 → IsDraftOf m d ps → IfOk r (λ head. Views (shown head) (header_of ps))) → IfErr r (λ fault. fault ≡ OutOfMemory) → MatchResult r (λ head. GivesHead most i f (shown head)) (λ fault. Fails most i fault f)
-finished most i d f (Ok head) h a v e = record { given = a.reads.given ++ token_of f ∷ []; placed = a.placed; stands = a.reads.stands; whole = a.reads.whole; near = read_to_shown i a.reads.given f a.reads.stands; front = a.reads.given; last = token_of f; is = refl; going = a.reads.going; views = v most (phrases_of a.placed) h a.holds }
-finished most i d f (Err fault) h a v e = subst (λ x. Fails most i x f) (sym e) (faultless_whole most i a.placed f a.reads)
+pub finished : {X : Type 0} {g : Ghosts X} (most : ℕ) (i : Input) (d : Draft) (f : Feed X g) (r : Result Head HeadFault) → DraftsAll most i d f
+    → ((m : ℕ) (ps : List HeaderPhrase) → IsDraftOf m d ps → IfOk r (λ head. Views (shown head) (header_of ps))) → IfErr r (λ fault. fault ≡ OutOfMemory) → MatchResult r (λ head. GivesHead most i f (shown head)) (λ fault. Fails most i fault f)
+finished most i d f (Ok head) a v e = record { given = a.reads.given ++ token_of f ∷ []; placed = a.placed; stands = a.reads.stands; whole = a.reads.whole; near = read_to_shown i a.reads.given f a.reads.stands; front = a.reads.given; last = token_of f; is = refl; going = a.reads.going; views = v most (phrases_of a.placed) a.holds }
+finished most i d f (Err fault) a v e = subst (λ x. Fails most i x f) (sym e) (faultless_whole most i a.placed f a.reads)

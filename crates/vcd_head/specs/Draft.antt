@@ -47,6 +47,7 @@ pub record Declares (most : ℕ) (d : Draft) (ds : List Declaration) : Type 0 wh
   pub balance : length (enclosing ds) + count_by is_up ds ≡ count_by is_scope ds
   pub held : length d.text.items ≤ sum_by kept_bytes ds
   pub few : length ds ≤ most
+  pub allowed : most ≤ 16777216
 
 -- the draft holds these phrases
 pub record IsDraftOf (most : ℕ) (d : Draft) (ps : List HeaderPhrase) : Type 0 where

@@ -7,6 +7,7 @@ ghost use Rattle.vcd_head.specs.Draft.{HasCodes, IsFound, CodeHeld};
 use crate::codes::Codes;
 use crate::draft::Found;
 use crate::fault::HeadFault;
+use crate::rows::token_len;
 use crate::sought::Sought;
 use vcd_view::Code;
 
@@ -47,9 +48,7 @@ fn add_code(
         → IfOk result (CodeHeld text.old.items text.new.items codes.new ds v) }
     ensures memory { IfErr result (λ fault. fault ≡ HeadFault.OutOfMemory) }
 {
-    let Ok(len) = u32::try_from(sought.bytes.len()) else {
-        return Err(HeadFault::OutOfMemory);
-    };
+    let len = token_len(sought.bytes.len())?;
     let code = Code {
         start: text.len(),
         len,

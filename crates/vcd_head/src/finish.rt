@@ -1,5 +1,5 @@
 // A draft becomes a head.
-ghost use Rattle.std.specs.Prelude.{◌≡◌, ℕ, ◌≤◌, List, IfOk, IfErr};
+ghost use Rattle.std.specs.Prelude.{◌≡◌, ℕ, List, IfOk, IfErr};
 ghost use Rattle.vcd_model.specs.HeaderPhrases.{HeaderPhrase};
 ghost use Rattle.vcd_model.specs.Header.{header_of};
 ghost use Rattle.vcd_head.specs.Draft.{IsDraftOf};
@@ -16,7 +16,7 @@ use std::alloc::Global;
 
 /// The head of a draft that holds all phrases of a header.
 pub(crate) fn finish(alloc: Global, draft: Draft) -> Result<Head, HeadFault>
-    ensures head { (most : ℕ) (ps : List HeaderPhrase) → most ≤ 16777216 → IsDraftOf most draft ps
+    ensures head { (most : ℕ) (ps : List HeaderPhrase) → IsDraftOf most draft ps
         → IfOk result (λ head. Views (shown head) (header_of ps)) }
     ensures memory { IfErr result (λ fault. fault ≡ HeadFault.OutOfMemory) }
 {

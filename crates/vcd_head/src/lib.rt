@@ -39,8 +39,8 @@
 //!
 //! # Limits
 //!
-//! At most 16,777,216 declarations, 1,000 open scopes, 16,777,215 bits a variable, and 4,294,967,295 bytes a token. Memory is
-//! taken by `read_head` alone.
+//! At most 16,777,216 declarations, 1,000 open scopes, 16,777,215 bits a variable, and 4,294,967,295 bytes a type, a name
+//! or a code. Memory is taken by `read_head` alone.
 //!
 //! Not promised: what a call gives over a view that is of no header, and what `select` leaves in the marks where a name selects
 //! nothing.

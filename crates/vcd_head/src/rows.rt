@@ -1,6 +1,6 @@
 // Rows as they are read, and as they are held.
-ghost use Rattle.std.specs.Prelude.{◌≡◌, ◌+◌, [], ◌∷◌, ◌++◌, IfOk, IfErr, vec_len};
-ghost use Rattle.vcd_head.specs.Rows.{row_of};
+ghost use Rattle.std.specs.Prelude.{◌≡◌, ◌+◌, ◌^◌, ◌<◌, ◌≤◌, [], ◌∷◌, ◌++◌, IfOk, IfErr, vec_len};
+ghost use Rattle.vcd_head.specs.Rows.{IsNarrow, row_of};
 
 use crate::fault::HeadFault;
 use vcd_view::{Kind, Row};
@@ -17,36 +17,44 @@ pub(crate) struct WideRow {
     pub(crate) code: usize,
 }
 
-/// Puts a row after the others. Numbers that 32 bits do not hold, as those of a type or a reference of 4 GiB, are out of memory.
+/// The length of a token in 32 bits. Only a token of 4 GiB or more has none, for which windows of as many bytes are lent: it is
+/// out of memory.
+#[inline(always)]
+pub(crate) fn token_len(len: usize) -> Result<u32, HeadFault>
+    ensures held { IfOk result (λ held. held ≡ len) }
+    ensures long { IfErr result (λ fault. (fault ≡ HeadFault.OutOfMemory) × (2 ^ 32 ≤ len)) }
+{
+    match u32::try_from(len) {
+        Ok(held) => Ok(held),
+        Err(_) => Err(HeadFault::OutOfMemory),
+    }
+}
+
+/// The number of a row or of a code in 32 bits, which hold that of each declaration that is allowed.
+#[inline(always)]
+fn in_32_bits(number: usize) -> u32
+    ensures { number < 2 ^ 32 → result ≡ number }
+{
+    u32::try_from(number).unwrap_or(u32::MAX)
+}
+
+/// Puts a row after the others.
 #[inline(always)]
 pub(crate) fn push(rows: &mut Vec<Row>, row: WideRow) -> Result<(), HeadFault>
-    ensures items { IfOk result (λ _. rows.new.items ≡ rows.old.items ++ row_of row ∷ []) }
+    ensures items { IsNarrow row → IfOk result (λ _. rows.new.items ≡ rows.old.items ++ row_of row ∷ []) }
     ensures len { IfOk result (λ _. vec_len rows.new ≡ vec_len rows.old + 1) }
     ensures memory { IfErr result (λ fault. fault ≡ HeadFault.OutOfMemory) }
 {
-    let Ok(parent) = u32::try_from(row.parent) else {
-        return Err(HeadFault::OutOfMemory);
-    };
-    let Ok(word) = u32::try_from(row.word) else {
-        return Err(HeadFault::OutOfMemory);
-    };
-    let Ok(name) = u32::try_from(row.name) else {
-        return Err(HeadFault::OutOfMemory);
-    };
-    let Ok(all) = u32::try_from(row.all) else {
-        return Err(HeadFault::OutOfMemory);
-    };
-    let Ok(code) = u32::try_from(row.code) else {
-        return Err(HeadFault::OutOfMemory);
-    };
+    let word = token_len(row.word)?;
+    let name = token_len(row.name)?;
     rows.push(Row {
         kind: row.kind,
-        parent,
+        parent: in_32_bits(row.parent),
         word,
         name,
-        all,
-        code,
+        code: in_32_bits(row.code),
         start: row.start,
+        all: row.all,
     })?;
     Ok(())
 }

@@ -23,12 +23,12 @@ pub struct Row {
     pub word: u32,
     /// The bytes of the reference's first token: a scope's name, or that of a variable.
     pub name: u32,
-    /// The bytes of the whole reference, its tokens with a space between.
-    pub all: u32,
     /// The place of a variable's code in `codes`.
     pub code: u32,
     /// Where in the text the type begins; the reference stands right after it.
     pub start: usize,
+    /// The bytes of the whole reference, its tokens with a space between.
+    pub all: usize,
 }
 
 /// An identifier code (clause 18, $var).
@@ -159,10 +159,7 @@ impl<'a> HeadView<'a> {
             → slice_get h.declarations row ≡ Some d → result.now ≡ reference_of d }
     {
         match self.row_at(row) {
-            Some(row) => self.text_at(
-                row.start.saturating_add(row.word as usize),
-                row.all as usize,
-            ),
+            Some(row) => self.text_at(row.start.saturating_add(row.word as usize), row.all),
             None => &[],
         }
     }

@@ -1,4 +1,4 @@
-use Rattle.std.proofs.Common.{◌≡◌, ◌<◌, true, [], ◌∷◌, ◌++◌, length, IfSome, List, ℕ, None, bytes_eq, codes, refl, sym, ap, subst, ◌∙◌, arith}
+use Rattle.std.proofs.Common.{◌≡◌, ◌^◌, ◌<◌, true, [], ◌∷◌, ◌++◌, length, IfSome, List, ℕ, None, bytes_eq, codes, refl, sym, ap, subst, ◌∙◌, arith}
 use Rattle.std.specs.List.{join_with_byte, list_all}
 use Rattle.std.proofs.lemmas.List.{append_assoc, map-append}
 use Rattle.vcd_model.specs.Bytes.{decimal_value, is_code_byte}
@@ -14,7 +14,7 @@ use Rattle.vcd_head.specs.declared.draft.Found.{Found}
 use Rattle.vcd_view.specs.declared.view.Kind.TheVariants as kind
 use Rattle.vcd_view.specs.declared.view.Row.{Row}
 use Rattle.vcd_head.proofs.AheadLemmas.{variable_in, variable_so_far}
-use Rattle.vcd_head.proofs.DraftLemmas.{some_token, var_declared, holds_declared, has_codes_grow}
+use Rattle.vcd_head.proofs.DraftLemmas.{code_narrow, some_token, scope_narrow, var_declared, holds_declared, has_codes_grow}
 use Rattle.vcd_head.proofs.DraftSteps.{few_enough, var_checks_pass}
 use Rattle.vcd_head.proofs.WordLemmas.{size_found, size_parts}
 use Rattle.vcd_head.proofs.ahead.declare.Goals as goal
@@ -59,7 +59,7 @@ returns-clause-declares c = λ given more a k.
       so_far = variable_so_far c.args.most given more a.placed variable k (var_checks_pass c.args.most d ps a.holds few) f.0 a.so_far;
       holds = subst (IsDraftOf c.args.most _) (sym (map-append (λ (q : Placed HeaderPhrase). q.phrase) a.placed (p ∷ [])))
           (holds_declared c.args.most d _ ps (Declaration.Var v) a.holds
-          (var_declared c.args.most d _ ds v row ch.more a.holds.declares (few_enough c.args.most d ps a.holds few) (some_token k.reference.name.bytes (texts_of k.reference.inner)) grown ch.short c.in_ok-push.ensures.items ch.held_codes ch.held_at refl
+          (var_declared c.args.most d _ ds v row ch.more a.holds.declares (few_enough c.args.most d ps a.holds few) (some_token k.reference.name.bytes (texts_of k.reference.inner)) grown ch.short (c.in_ok-push.ensures.items (record { parent = subst (λ n. n < 2 ^ 32) (sym c.parent-parent.ensures) (scope_narrow c.args.most d ds a.holds.declares); code = code_narrow c.args.most d ds v c.in_ok-place.place a.holds.declares (few_enough c.args.most d ps a.holds few) ch.held_at })) ch.held_codes ch.held_at refl
           refl c.parent-parent.ensures start refl all k.reference.name_len)
           refl refl refl);
     }

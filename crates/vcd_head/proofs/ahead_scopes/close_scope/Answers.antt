@@ -5,7 +5,7 @@ use Rattle.vcd_model.specs.HeaderPhrases.{HeaderPhrase, declarations_of}
 use Rattle.vcd_model.specs.Reading.{Placed, phrases_of}
 use Rattle.vcd_head.specs.Draft.{IsDraftOf}
 use Rattle.vcd_head.proofs.AheadScopes.{not_none, upscope_so_far}
-use Rattle.vcd_head.proofs.DraftLemmas.{up_declared, holds_declared}
+use Rattle.vcd_head.proofs.DraftLemmas.{closed_narrow, up_declared, holds_declared}
 use Rattle.vcd_head.proofs.DraftSteps.{few_enough, none_popped, up_checks_pass}
 use Rattle.vcd_head.proofs.ahead_scopes.close_scope.Goals as goal
 
@@ -26,6 +26,6 @@ returns-clause-declares c = λ given more a k.
       so_far = upscope_so_far c.args.most given more a.placed k (up_checks_pass c.args.most d ps a.holds few some) a.so_far;
       holds = subst (IsDraftOf c.args.most _) (sym (map-append (λ (q : Placed HeaderPhrase). q.phrase) a.placed (p ∷ [])))
           (holds_declared c.args.most d _ ps Declaration.Up a.holds
-          (up_declared c.args.most d _ (declarations_of ps) c.in-Some.closed _ a.holds.declares (few_enough c.args.most d ps a.holds few) refl c.in_ok-push.ensures.items refl c.in-Some.ensures.items refl)
+          (up_declared c.args.most d _ (declarations_of ps) c.in-Some.closed _ a.holds.declares (few_enough c.args.most d ps a.holds few) refl (c.in_ok-push.ensures.items (record { parent = closed_narrow c.args.most d (declarations_of ps) c.pop.new.self.items c.in-Some.closed a.holds.declares c.in-Some.ensures.items; code = omega arith })) refl c.in-Some.ensures.items refl)
           refl refl refl);
     }

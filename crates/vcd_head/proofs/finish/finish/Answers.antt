@@ -9,10 +9,11 @@ use Rattle.vcd_head.proofs.finish.finish.Goals as goal
 
 pub returns-clause-head : goal.returns-clause-head
 unfolding header_of
-returns-clause-head c = λ most ps m h.
+returns-clause-head c = λ most ps h.
     let ds = declarations_of ps in
     let held = h.declares.held in
     let few = h.declares.few in
+    let allowed = h.declares.allowed in
     let ds_codes = codes_of ds in
     let stand = h.declares.codes.held.stand in
     let list = c.args.draft.codes.list.items in

@@ -6,11 +6,11 @@ use Rattle.vcd_head.proofs.PhraseSteps.{carries_nothing, finished}
 use Rattle.vcd_head.proofs.read.read_head_with_hasher.Goals as goal
 
 pub phrases-init : goal.phrases-init
-phrases-init g c = (advances_nowhere g.S.Source.failures c.args.feed.now, λ i s. carries_nothing c.args.most i c.new-draft.result c.args.feed.now c.new-draft.ensures s)
+phrases-init g c = (advances_nowhere g.S.Source.failures c.args.feed.now, λ i s. carries_nothing c.args.most i c.new-draft.result c.args.feed.now c.requires.most c.new-draft.ensures s)
 
 pub returns-then-not-branch-clause-reads : goal.returns-then-not-branch-clause-reads
 returns-then-not-branch-clause-reads g c = λ i s.
-    finished c.args.most i c.read_phrase.new.draft c.read_phrase.new.feed c.finish.result c.requires.most (MatchBool-at_false _ _ c.if-not-branch.true (c.in_ok-read_phrase.ensures.reads i (c.phrases.invariant.1 i s))) c.finish.ensures.head c.finish.ensures.memory
+    finished c.args.most i c.read_phrase.new.draft c.read_phrase.new.feed c.finish.result (MatchBool-at_false _ _ c.if-not-branch.true (c.in_ok-read_phrase.ensures.reads i (c.phrases.invariant.1 i s))) c.finish.ensures.head c.finish.ensures.memory
 
 pub returns-in_err-read_ahead-clause-reads : goal.returns-in_err-read_ahead-clause-reads
 returns-in_err-read_ahead-clause-reads g c =

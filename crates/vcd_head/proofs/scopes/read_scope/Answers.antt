@@ -1,4 +1,4 @@
-use Rattle.std.proofs.Common.{◌≡◌, ◌≤◌, ◌<◌, length, [], ◌∷◌, ◌++◌, refl, sym, ap, ◌∙◌, arith, option_map, suc}
+use Rattle.std.proofs.Common.{◌≡◌, ◌≤◌, ◌<◌, ◌^◌, subst, length, [], ◌∷◌, ◌++◌, refl, sym, ap, ◌∙◌, arith, option_map, suc}
 use Rattle.std.proofs.lemmas.Result.{err_from_is_err_and}
 use Rattle.vcd_model.specs.Keywords.{Keyword, keyword_text}
 use Rattle.vcd_model.specs.HeaderPhrases.{HeaderPhrase, declarations_of}
@@ -8,7 +8,7 @@ use Rattle.vcd_text.specs.Feed.{token_of}
 use Rattle.vcd_head.proofs.TokenSteps.{faultless_phrase, word_some, word_none, text_taken}
 use Rattle.vcd_head.proofs.PhraseLemmas.{begun, not_begun, ended, refused_inside, scope_welcomes_type, scope_welcomes_name}
 use Rattle.vcd_head.proofs.DraftSteps.{carried, few_enough, too_many_scope, too_deep, scope_checks_pass, failed_test, passed_test, failed_not, whole_test}
-use Rattle.vcd_head.proofs.DraftLemmas.{scope_declared, holds_declared}
+use Rattle.vcd_head.proofs.DraftLemmas.{scope_declared, scope_narrow, holds_declared}
 use Rattle.vcd_view.specs.declared.view.Kind.TheVariants as kind
 use Rattle.vcd_head.proofs.scopes.read_scope.Goals as goal
 
@@ -150,6 +150,6 @@ returns-clause-reads g c = λ i b.
     let st : c.len-start.result ≡ length c.args.draft.now.text.items = omega arith in
     carried c.args.most i _ c.next_ends.new.feed b.placed (record { phrase = HeaderPhrase.Declares (Declaration.Scope type name); line = (token_of c.next_ends.new.feed).line }) r3
     (holds_declared c.args.most c.args.draft.now _ (phrases_of b.placed) (Declaration.Scope type name) b.holds
-    (scope_declared c.args.most c.args.draft.now _ (declarations_of (phrases_of b.placed)) type name _ b.holds.declares (few_enough c.args.most c.args.draft.now (phrases_of b.placed) b.holds n) (t2.0 ∙ ap (λ t. t ++ name) t1.0) c.in_ok-push.ensures.items refl (c.in_ok-push-2.ensures.items ∙ ap (λ k. c.args.draft.now.scopes.items ++ k ∷ []) len)
+    (scope_declared c.args.most c.args.draft.now _ (declarations_of (phrases_of b.placed)) type name _ b.holds.declares (few_enough c.args.most c.args.draft.now (phrases_of b.placed) b.holds n) (t2.0 ∙ ap (λ t. t ++ name) t1.0) (c.in_ok-push.ensures.items (record { parent = subst (λ n. n < 2 ^ 32) (sym c.parent-parent.ensures) (scope_narrow c.args.most c.args.draft.now (declarations_of (phrases_of b.placed)) b.holds.declares); code = omega arith })) refl (c.in_ok-push-2.ensures.items ∙ ap (λ k. c.args.draft.now.scopes.items ++ k ∷ []) len)
     (λ j. record { kind = kind.Scope; parent = c.parent-parent.ensures j; start = st j; word = t1.1 j; name = t2.1 j; all = t2.1 j; code = 0 }))
     refl refl refl)

@@ -9,7 +9,7 @@ use Rattle.vcd_text.specs.Feed.{token_of}
 use Rattle.vcd_head.proofs.TokenSteps.{faultless_phrase}
 use Rattle.vcd_head.proofs.PhraseLemmas.{begun, not_begun, ended, refused_inside}
 use Rattle.vcd_head.proofs.DraftSteps.{carried, few_enough, too_many_up, no_scope, up_checks_pass, none_popped, failed_test, passed_test, whole_test}
-use Rattle.vcd_head.proofs.DraftLemmas.{up_declared, holds_declared}
+use Rattle.vcd_head.proofs.DraftLemmas.{closed_narrow, up_declared, holds_declared}
 use Rattle.vcd_head.proofs.scopes.read_upscope.Goals as goal
 
 pub returns-then-len-most-clause-reads : goal.returns-then-len-most-clause-reads
@@ -59,5 +59,5 @@ returns-clause-reads g c = λ i b.
     let r = ended c.args.most i b.placed Keyword.Upscope c.next_ends.new.feed [] (HeaderPhrase.Declares Declaration.Up) (passed_test _ 6 e) (ap (option_map HeaderPhrase.Declares) (whole_test _ Declaration.Up e)) refl l in
     carried c.args.most i _ c.next_ends.new.feed b.placed (record { phrase = HeaderPhrase.Declares Declaration.Up; line = (token_of c.next_ends.new.feed).line }) r
     (holds_declared c.args.most c.args.draft.now _ (phrases_of b.placed) Declaration.Up b.holds
-    (up_declared c.args.most c.args.draft.now _ (declarations_of (phrases_of b.placed)) c.in-Some.closed _ b.holds.declares (few_enough c.args.most c.args.draft.now (phrases_of b.placed) b.holds n) refl c.in_ok-push.ensures.items refl c.in-Some.ensures.items refl)
+    (up_declared c.args.most c.args.draft.now _ (declarations_of (phrases_of b.placed)) c.in-Some.closed _ b.holds.declares (few_enough c.args.most c.args.draft.now (phrases_of b.placed) b.holds n) refl (c.in_ok-push.ensures.items (record { parent = closed_narrow c.args.most c.args.draft.now (declarations_of (phrases_of b.placed)) c.pop.new.self.items c.in-Some.closed b.holds.declares c.in-Some.ensures.items; code = omega arith })) refl c.in-Some.ensures.items refl)
     refl refl refl)

@@ -1,4 +1,4 @@
-use Rattle.std.proofs.Common.{◌≡◌, ◌≤◌, ◌<◌, ◌+◌, ◌-◌, length, [], ◌∷◌, ◌++◌, bytes_eq, codes, refl, sym, ap, subst, ◌∙◌, arith}
+use Rattle.std.proofs.Common.{◌≡◌, ◌≤◌, ◌<◌, ◌^◌, ◌+◌, ◌-◌, length, [], ◌∷◌, ◌++◌, bytes_eq, codes, refl, sym, ap, subst, ◌∙◌, arith}
 use Rattle.std.specs.List.{join_with_byte}
 use Rattle.std.proofs.lemmas.Result.{err_from_is_err_and}
 use Rattle.std.proofs.lemmas.List.{append_assoc, length-append}
@@ -16,7 +16,7 @@ use Rattle.vcd_head.proofs.TextSteps.{joined}
 use Rattle.vcd_head.proofs.WordLemmas.{size_found, size_parts}
 use Rattle.vcd_head.proofs.PhraseLemmas.{begun, not_begun, ended, refused_inside, var_welcomes_type, var_welcomes_reference, var_runs, var_whole}
 use Rattle.vcd_head.proofs.DraftSteps.{carried, few_enough, too_many_var, var_checks_pass, failed_not}
-use Rattle.vcd_head.proofs.DraftLemmas.{some_token, var_declared, holds_declared, has_codes_grow}
+use Rattle.vcd_head.proofs.DraftLemmas.{code_narrow, some_token, scope_narrow, var_declared, holds_declared, has_codes_grow}
 use Rattle.vcd_view.specs.declared.view.Kind.TheVariants as kind
 use Rattle.vcd_view.specs.declared.view.Row.{Row}
 use Rattle.vcd_head.proofs.variable.read_variable.Goals as goal
@@ -260,7 +260,7 @@ returns-clause-reads g c = λ i b.
     let row : Row = record { kind = kind.Var; parent = c.parent-parent.result; start = c.len-start.result; word = c.in-Some.word; name = c.in-Some-2.name; all = (c.len-2.result - c.len-start.result) - c.in-Some.word; code = c.in_ok-code.code } in
     carried c.args.most i _ c.append_to_end.new.feed b.placed (record { phrase = HeaderPhrase.Declares (Declaration.Var v); line = (token_of c.append_to_end.new.feed).line }) r5
     (holds_declared c.args.most c.args.draft.now _ (phrases_of b.placed) (Declaration.Var v) b.holds
-    (var_declared c.args.most c.args.draft.now _ (declarations_of (phrases_of b.placed)) v row ch.more b.holds.declares (few_enough c.args.most c.args.draft.now (phrases_of b.placed) b.holds n) (some_token first inner) grown ch.short c.in_ok-push.ensures.items ch.held_codes ch.held_at refl
+    (var_declared c.args.most c.args.draft.now _ (declarations_of (phrases_of b.placed)) v row ch.more b.holds.declares (few_enough c.args.most c.args.draft.now (phrases_of b.placed) b.holds n) (some_token first inner) grown ch.short (c.in_ok-push.ensures.items (record { parent = subst (λ n. n < 2 ^ 32) (sym c.parent-parent.ensures) (scope_narrow c.args.most c.args.draft.now (declarations_of (phrases_of b.placed)) b.holds.declares); code = code_narrow c.args.most c.args.draft.now (declarations_of (phrases_of b.placed)) v c.in_ok-code.code b.holds.declares (few_enough c.args.most c.args.draft.now (phrases_of b.placed) b.holds n) ch.held_at })) ch.held_codes ch.held_at refl
     refl c.parent-parent.ensures start t1.1 all t2.1)
     refl refl refl)
 
