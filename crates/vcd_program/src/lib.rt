@@ -29,5 +29,5 @@ mod opened;
 
 pub use command_line::run_program;
 pub use host::{Host, OpenFault, Output};
-pub use machine::run_on_machine;
+pub use machine::{run_on_machine, run_words_on_machine};
 pub use memory::{Bytes, Left, Memory, MemoryFile, run_in_memory};

@@ -1,5 +1,5 @@
 //! The machine that a process runs on, as a host.
-ghost use Rattle.std.specs.Prelude.{◌≡◌, ⊤};
+ghost use Rattle.std.specs.Prelude.{◌≡◌, ◌-◌, ◌^◌, ◌<◌, ⊤};
 ghost use Rattle.vcd_text.specs.Watch.{failed_calls};
 
 use crate::command_line::run_program;
@@ -9,7 +9,7 @@ use std::fs::File;
 use std::hash::{BuildHasher, BuildHasherDefault, FoldHasher, RandomState};
 use std::io::{BufWriter, ErrorKind, Read, Stdin};
 use std::{env, io};
-use vcd_text::Watch;
+use vcd_text::{Sink, Watch};
 use vcd_words::UseFault;
 use vcdkit::{Again, use_fault};
 
@@ -81,42 +81,53 @@ fn words_of<R: Env + AllocGlobal>(rt: &R) -> Result<Vec<String>, UseFault<'stati
 }
 
 /// Runs the program on these words over the files and the streams of the process, and returns the
-/// exit status.
-fn run_words<B: BuildHasher>(
+/// exit status. Messages are written on `err`.
+fn run_words<E: Sink, B: BuildHasher>(
     rt: &HostRuntime,
     words: &[String],
     is_seeded: bool,
+    err: &mut E,
     hasher: &B,
-) -> u8 {
-    let mut err = Watch::new(Again::new(rt.stderr()));
+) -> u8
+    requires { (E.device err.old).failures < 2 ^ 64 - 2 }
+{
     match BufWriter::new(rt.alloc(), Again::new(rt.stdout())) {
         Ok(output) => run_program(
             rt.alloc(),
             words,
             &mut Machine { rt, is_seeded },
             &mut Watch::new(output),
-            &mut err,
+            err,
             hasher,
         ),
-        Err(_) => use_fault(UseFault::OutOfMemory, &mut err),
+        Err(_) => use_fault(UseFault::OutOfMemory, err),
+    }
+}
+
+/// Runs the program on these words, its own name first among them, over the files, the standard
+/// input and the standard output of the process, and returns the exit status. Messages are written
+/// on `err`.
+///
+/// Identifier codes are hashed by random numbers of the machine, so that nobody can make a dump
+/// whose codes are slow to find. Where the machine gives none, the first input cannot be read.
+pub fn run_words_on_machine<E: Sink>(rt: &HostRuntime, words: &[String], err: &mut E) -> u8
+    requires { (E.device err.old).failures < 2 ^ 64 - 2 }
+{
+    match RandomState::new(rt) {
+        Ok(hasher) => run_words(rt, words, true, err, &hasher),
+        Err(_) => {
+            let hasher: BuildHasherDefault<FoldHasher> = BuildHasherDefault::new();
+            run_words(rt, words, false, err, &hasher)
+        }
     }
 }
 
 /// Runs the program on the words, the files and the streams of the process, and returns the exit
 /// status.
-///
-/// Identifier codes are hashed by random numbers of the machine, so that nobody can make a dump
-/// whose codes are slow to find. Where the machine gives none, the first input cannot be read.
 pub fn run_on_machine(rt: &HostRuntime) -> u8 {
-    let words = match words_of(rt) {
-        Ok(words) => words,
-        Err(fault) => return use_fault(fault, &mut Watch::new(Again::new(rt.stderr()))),
-    };
-    match RandomState::new(rt) {
-        Ok(hasher) => run_words(rt, words.as_slice(), true, &hasher),
-        Err(_) => {
-            let hasher: BuildHasherDefault<FoldHasher> = BuildHasherDefault::new();
-            run_words(rt, words.as_slice(), false, &hasher)
-        }
+    let mut err = Watch::new(Again::new(rt.stderr()));
+    match words_of(rt) {
+        Ok(words) => run_words_on_machine(rt, words.as_slice(), &mut err),
+        Err(fault) => use_fault(fault, &mut err),
     }
 }
