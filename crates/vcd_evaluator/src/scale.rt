@@ -1,0 +1,111 @@
+// Time scales, each a number and a unit.
+use crate::fault::{Fault, Wrong};
+use crate::reader::Reader;
+use crate::text::Text;
+use crate::token::Token;
+
+// A time scale, by its exponent: the power of ten in femtoseconds, 0 to 17.
+#[derive(Clone, Copy)]
+pub(crate) struct Scale {
+    pub(crate) exponent: u8,
+}
+
+// The scale of a dump that has none, where several are merged.
+pub(crate) const SECOND: Scale = Scale { exponent: 15 };
+
+// The exponent of a unit.
+pub(crate) fn unit_of(text: &[u8]) -> Option<u8> {
+    if text == b"s".as_slice() {
+        Some(15)
+    } else if text == b"ms".as_slice() {
+        Some(12)
+    } else if text == b"us".as_slice() {
+        Some(9)
+    } else if text == b"ns".as_slice() {
+        Some(6)
+    } else if text == b"ps".as_slice() {
+        Some(3)
+    } else if text == b"fs".as_slice() {
+        Some(0)
+    } else {
+        None
+    }
+}
+
+// The exponent of a scale's number.
+fn factor_of(text: &[u8]) -> Option<u8> {
+    if text == b"1".as_slice() {
+        Some(0)
+    } else if text == b"10".as_slice() {
+        Some(1)
+    } else if text == b"100".as_slice() {
+        Some(2)
+    } else {
+        None
+    }
+}
+
+// The digits that a text begins with, and what follows.
+pub(crate) fn split_digits(text: &[u8]) -> (&[u8], &[u8]) {
+    match text.iter().position(|byte| !byte.is_ascii_digit()) {
+        Some(place) => text.split_at(place),
+        None => text.split_at(text.len()),
+    }
+}
+
+fn fit(token: Token<'_>, exponent: Option<u8>) -> Result<u8, Fault> {
+    match exponent {
+        Some(exponent) => Ok(exponent),
+        None => Err(token.fault(Wrong::BadTimescale)),
+    }
+}
+
+// The exponent of the unit, in the token of the number or in the next one.
+fn read_unit(token: Token<'_>, unit: &[u8], reader: &mut Reader<'_>) -> Result<u8, Fault> {
+    if unit.is_empty() {
+        let next = reader.need()?;
+        fit(next, unit_of(next.text))
+    } else {
+        fit(token, unit_of(unit))
+    }
+}
+
+// Reads what follows `$timescale`.
+pub(crate) fn read_scale(reader: &mut Reader<'_>) -> Result<Scale, Fault> {
+    let token = reader.need()?;
+    let (digits, unit) = split_digits(token.text);
+    let factor = fit(token, factor_of(digits))?;
+    let unit = read_unit(token, unit, reader)?;
+    reader.need_end(Wrong::BadTimescale)?;
+    Ok(Scale {
+        exponent: unit.saturating_add(factor),
+    })
+}
+
+// The unit of a scale, and its number.
+fn unit_text(scale: Scale) -> &'static [u8] {
+    match scale.exponent / 3 {
+        0 => b"fs",
+        1 => b"ps",
+        2 => b"ns",
+        3 => b"us",
+        4 => b"ms",
+        _ => b"s",
+    }
+}
+
+fn factor_text(scale: Scale) -> &'static [u8] {
+    match scale.exponent % 3 {
+        0 => b"1",
+        1 => b"10",
+        _ => b"100",
+    }
+}
+
+// The three lines of a time scale.
+pub(crate) fn put_scale(text: &mut Text, scale: Scale) {
+    text.put(b"$timescale\n\t");
+    text.put(factor_text(scale));
+    text.put(unit_text(scale));
+    text.put(b"\n$end\n");
+}
