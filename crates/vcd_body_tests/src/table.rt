@@ -394,7 +394,7 @@ fn is_changed(
     Ok(follow(&mut table, 0, size, second.0, second.1)[0] == 1)
 }
 
-// The same of two texts of digits, whichever comes first: they are two values, or one.
+// Whether two texts of digits are different values, whichever is set first.
 fn are_two(alloc: Global, size: usize, one: &[u8], other: &[u8]) -> Result<bool, AllocError> {
     let there = is_changed(alloc, size, (Form::Vector, one), (Form::Vector, other))?;
     let back = is_changed(alloc, size, (Form::Vector, other), (Form::Vector, one))?;

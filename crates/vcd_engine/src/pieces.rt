@@ -259,7 +259,8 @@ impl<'a> Pieces<'a> {
         self.append_parts(bytes, from, to, n, out)
     }
 
-    /// The same, whatever is held: where nothing is left out, the last piece grows.
+    /// Appends the bytes from `from` to `to` without the `n` after the first, as one piece or two.
+    /// Where nothing is left out, the last piece grows.
     #[inline(always)]
     pub(crate) fn append_parts<W: Sink>(
         &mut self,

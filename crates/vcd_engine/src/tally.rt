@@ -41,7 +41,7 @@ pub(crate) fn take_value(table: &mut Table<'_>, code: usize, size: usize, form: 
     table.follow(code, size, form, text);
 }
 
-/// The same by binary digits.
+/// Counts a vector change of binary digits, which are known as a number.
 #[inline(always)]
 pub(crate) fn take_bits(table: &mut Table<'_>, code: usize, size: usize, bits: Bits)
     ensures takes { (view : HeadView) (h : Header) (items : List BodyItem) (c : IdCode)

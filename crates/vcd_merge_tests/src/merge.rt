@@ -41,7 +41,7 @@ fn begin<S: Source>(
     Ok(Begun { head, seat })
 }
 
-// The same over the parts of the windows at a place among so many inputs.
+// Reads the header of one input over its parts of the windows, and parks its feed.
 fn begin_at<S: Source>(
     alloc: Global,
     input: usize,

@@ -128,8 +128,9 @@ fn begin<S: Source, B: BuildHasher>(
     Ok(Begun { head, seat })
 }
 
-/// The same over the reader at its place among these. The parts of the windows are those at its place, and no other input's are
-/// touched.
+/// Reads the header of the input at this place among the readers, and parks its feed.
+///
+/// It uses the parts of the windows at that place, and touches no other input's.
 fn begin_at<S: Source, B: BuildHasher>(
     alloc: Global,
     input: usize,

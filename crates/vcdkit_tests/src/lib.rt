@@ -25,6 +25,8 @@ mod messages;
 #[cfg(test)]
 mod pick;
 #[cfg(test)]
+mod produced;
+#[cfg(test)]
 mod runs;
 #[cfg(test)]
 mod sample;

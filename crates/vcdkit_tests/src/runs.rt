@@ -160,7 +160,8 @@ pub(crate) fn leave<R: Abort + AllocGlobal>(
     assert_eq!(rt; (output, message, run.status), left, "of {words:?}");
 }
 
-// The same under this token limit of a run over what a text gives, and a failed read after it where that is said.
+// A run under this token limit leaves this output, message and status, whatever a read gives at
+// once. Where `fails` is set, each read after the text fails.
 pub(crate) fn leave_under<R: Abort + AllocGlobal>(
     rt: &R,
     words: Words<'_, '_>,
