@@ -17,4 +17,5 @@ pub mod SelectedLines
 pub mod TallyLines
 pub mod SelectionLemmas
 pub mod SampleLines
+pub mod LeadLemmas
 pub mod SampleLemmas

@@ -100,7 +100,7 @@ module _ (s : Sample) (h : Header) (items : List BodyItem) (x : BodyItem) (is : 
   pub samples_on : (t : Table) → AreHeld t h (items ++ x ∷ []) → AreSampled (record s { table = t }) h (items ++ x ∷ [])
   samples_on t held = record {
     held = held;
-    marks_are = is.marks_are;
+    marks_lead = is.marks_lead;
     rising = is.rising;
     done = is.done;
     times_are = is.times_are;
@@ -192,7 +192,7 @@ module _ (s : Sample) (h : Header) (items : List BodyItem) (t : ℕ) (is : AreSa
   pub samples_behind : (r : Bor (List ℕ)) → r.now ≡ later → later ≢ [] → AreSampled (record s { rest = r }) h (items ++ BodyItem.Time t ∷ [])
   samples_behind r e some = record {
     held = held_still s.table h items (BodyItem.Time t) (λ c. refl) is.held;
-    marks_are = is.marks_are;
+    marks_lead = is.marks_lead;
     rising = is.rising;
     done = is.done ++ due;
     times_are = times ∙ sym (append_assoc is.done due later) ∙ ap (λ l. (is.done ++ due) ++ l) (sym e);
@@ -237,7 +237,7 @@ quiet_item s h items text item x is read t early held = by_item item read early
           on = goes_behind s h items time is some;
           keeps = record {
             held = held;
-            marks_are = g.marks_are;
+            marks_lead = g.marks_lead;
             rising = g.rising;
             done = g.done;
             times_are = g.times_are;

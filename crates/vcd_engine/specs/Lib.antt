@@ -8,6 +8,7 @@ pub mod Report
 pub mod Check
 pub mod Pick
 pub mod Cut
+pub mod Leads
 pub mod Sample
 pub mod Edges
 pub mod Engine

@@ -7,8 +7,8 @@ use Rattle.vcd_model.specs.Header.{Header}
 use Rattle.vcd_model.specs.Items.{BodyItem}
 use Rattle.vcd_model.specs.Outcome.{Request}
 use Rattle.vcd_model.specs.Sample.{is_settled}
-use Rattle.vcd_head.specs.Marks.{marks_of}
 use Rattle.vcd_body.specs.Contents.{bytes_in, codes_in}
+use Rattle.vcd_engine.specs.Leads.{LeadOn}
 use Rattle.vcd_engine.specs.Values.{AreHeld}
 use Rattle.vcd_engine.specs.declared.machine.sample.Sample.{Sample}
 
@@ -24,10 +24,10 @@ asked_in s = Request.Sample s.times.now (names_in s)
 abbrev pub lent_to : Sample → RoomSize
 lent_to s = record { values = bytes_in s.table; slots = codes_in s.table; marks = length s.marks.now }
 
--- over this header and after these items: the table holds the values, the selected variables are marked, and the last of the times, one at least, are those that are not settled
+-- over this header and after these items: the table holds the values, the marks lead from one row with a line to the next, and the last of the times, one at least, are those that are not settled
 pub record AreSampled (s : Sample) (h : Header) (items : List BodyItem) : Type 0 where
   pub held : AreHeld s.table h items
-  pub marks_are : s.marks.now ≡ marks_of (names_in s) h.declarations
+  pub marks_lead : LeadOn (names_in s) h.declarations s.marks.now
   pub rising : IsStrictlyIncreasing s.times.now
   pub done : List ℕ
   pub times_are : s.times.now ≡ done ++ s.rest.now

@@ -29,7 +29,7 @@
 //! - `selection`: the variables that names select, as marks and as chosen codes
 //! - `report`, `rows`, `tally`: the seven lines of `check`; `list`; the counters of `edges`, and its rows
 //! - `values`: the values of codes, with one item more
-//! - `sample_lines`: the lines of a sample
+//! - `sample_lines`: the lines of a sample; `leads`: the marks that lead from one row with a line to the next
 //!
 //! In `specs/` callers read `Run` (`Follows`), `Engine`, `Step` and `Room`. How a run ends, `Done`, `More` and `Stop`, is of
 //! `vcd_body`.
@@ -47,6 +47,7 @@ mod commands;
 mod engine;
 mod gathered;
 mod item_text;
+mod leads;
 mod machine;
 mod pieces;
 mod report;

@@ -7,15 +7,15 @@ ghost use Rattle.vcd_model.specs.Items.{BodyItem};
 ghost use Rattle.vcd_model.specs.Sample.{is_settled, sample_lines};
 ghost use Rattle.vcd_model.specs.Selection.{selected};
 ghost use Rattle.vcd_text.specs.Device.{Counts, Takes, failures_after};
-ghost use Rattle.vcd_head.specs.Marks.{marks_of};
 ghost use Rattle.vcd_view.specs.Views.{IsViewOf};
+ghost use Rattle.vcd_engine.specs.Leads.{LeadOn};
 ghost use Rattle.vcd_engine.specs.Values.{AreHeld};
 
-use crate::selection::is_marked;
+use crate::leads::rows_on;
 use vcd_body::{Table, put_full};
 use vcd_head::put_path;
 use vcd_text::{Sink, WriteFailed, put, put_number};
-use vcd_view::{HeadView, Kind};
+use vcd_view::HeadView;
 
 /// Writes the line of a variable at a time that no item so far is later than: the time, its path and its value. An event has
 /// none.
@@ -51,7 +51,8 @@ fn put_line<W: Sink>(
     put(out, b"\n")
 }
 
-/// Writes the lines of a time that no item so far is later than: one for each marked variable that is no event.
+/// Writes the lines of a time that no item so far is later than: one for each marked row. Any other mark leads past rows that
+/// have none.
 fn put_lines<W: Sink>(
     table: &Table<'_>,
     view: HeadView<'_>,
@@ -61,16 +62,19 @@ fn put_lines<W: Sink>(
 ) -> Result<(), WriteFailed>
     requires failures { (W.device out.old).failures < 2 ^ 64 - 1 }
     ensures takes { (h : Header) (items : List BodyItem) (names : List (List ℕ))
-        → IsViewOf view.entry h → marks.now ≡ marks_of names h.declarations
+        → IsViewOf view.entry h → LeadOn names h.declarations marks.now
         → AreHeld table.now h items → is_settled items time ≡ false
         → Takes (W.device out.old) (W.device out.new)
         (sample_lines (selected names h.declarations) items time) result }
     ensures counts { Counts (W.device out.old) (W.device out.new) result }
 {
-    for (row, declared) in view.rows.iter().enumerate() {
-        if declared.kind == Kind::Var && is_marked(marks, row) {
+    let mut row = 0;
+    while row < marks.len() {
+        let mark = marks[row];
+        if mark == 1 {
             put_line(table, view, row, time, out)?;
         }
+        row = row.saturating_add(rows_on(mark));
     }
     Ok(())
 }
@@ -85,7 +89,7 @@ pub(crate) fn put_samples<W: Sink>(
 ) -> Result<(), WriteFailed>
     requires failures { (W.device out.old).failures < 2 ^ 64 - 1 }
     ensures takes { (h : Header) (items : List BodyItem) (names : List (List ℕ))
-        → IsViewOf view.entry h → marks.now ≡ marks_of names h.declarations
+        → IsViewOf view.entry h → LeadOn names h.declarations marks.now
         → AreHeld table.now h items → AllByRecursion (λ t. is_settled items t ≡ false) times.now
         → Takes (W.device out.old) (W.device out.new)
         (flat_map (sample_lines (selected names h.declarations) items) times.now) result }

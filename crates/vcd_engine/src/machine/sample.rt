@@ -20,6 +20,7 @@ ghost use Rattle.vcd_engine.specs.Sample.{AreSampled, asked_in, is_due, lent_to}
 ghost use Rattle.vcd_engine.specs.Selection.{IsFirstUnmatched, IsUnmatched};
 ghost use Rattle.vcd_engine.specs.declared.task.Task.TheVariants as task;
 
+use crate::leads::lead_on;
 use crate::sample_lines::put_samples;
 use crate::task::Room;
 use crate::values::set_plain;
@@ -28,8 +29,8 @@ use vcd_head::select;
 use vcd_text::{Sink, WriteFailed};
 use vcd_view::HeadView;
 
-/// The times and names that were asked for, the times that are not settled, the current values, and the marks of the selected
-/// variables.
+/// The times and names that were asked for, the times that are not settled, the current values, and the marks that lead from one
+/// row with a line to the next.
 #[derive(Drop)]
 pub(crate) struct Sample<'n, 'r> {
     times: &'n [u64],
@@ -79,6 +80,7 @@ impl<'n, 'r> Sample<'n, 'r> {
         if let Err(name) = select(view, names, marks) {
             return Err(Stop::Unmatched { name });
         }
+        lead_on(view, marks);
         Ok(Sample {
             times,
             names,

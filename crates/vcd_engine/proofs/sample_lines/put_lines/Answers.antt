@@ -1,63 +1,60 @@
-use Rattle.std.proofs.Common.{◌≡◌, ◌+◌, List, ℕ, Err, refl, sym, subst, ◌∙◌, arith, rules}
+use Rattle.std.proofs.Common.{◌≡◌, ◌+◌, ◌≤◌, List, ℕ, Err, get_or, refl, sym, ap, subst, ◌∙◌, arith, rules}
 use Rattle.std.specs.Io.KnownBytes.{Appends}
 use Rattle.vcd_model.specs.Selection.{selected}
+use Rattle.vcd_head.specs.Marks.{marks_of}
 use Rattle.vcd_text.proofs.Writes.{appends-none, appends-twice}
 use Rattle.vcd_view.specs.Shown.{parts}
+use Rattle.vcd_engine.specs.Leads.{rows_on}
+use Rattle.vcd_engine.proofs.LeadLemmas.{leads_same, leads_shown_at, lines_all}
 use Rattle.vcd_engine.proofs.SampleLines.{line_at, lines_are}
-use Rattle.vcd_engine.proofs.SelectedLines.{declared_at, rows_all, rows_before, rows_marked, rows_none, rows_other, rows_some, rows_unmarked}
-use Rattle.vcd_engine.proofs.Variables.{read_variable, read_other, is_declared}
+use Rattle.vcd_engine.proofs.SelectedLines.{declared_at, rows_before, rows_marked, rows_none, rows_some}
 use Rattle.vcd_engine.proofs.sample_lines.put_lines.Goals as goal
-use Rattle.vcd_engine.proofs.sample_lines.put_lines.Goals.{then-eq+then-is_marked+in_ok-put_line, else-eq, else-eq-via-then-eq+else-is_marked, else-eq-via-else-eq}
+use Rattle.vcd_engine.proofs.sample_lines.put_lines.Goals.{then-mark-eq1+in_ok-put_line, else-mark-eq1}
 
 pub loop-row-init : goal.loop-row-init
 loop-row-init g c = (
   refl,
-  λ h items names views marked held late.
+  λ h items names views lead held late.
       subst (Appends (g.W.Sink.device c.args.out.now).held (g.W.Sink.device c.args.out.now).held) (sym (rows_none (line_at items c.args.time) names h.declarations)) (appends-none (g.W.Sink.device c.args.out.now).held),
 )
+
+pub returns-clause-takes : goal.returns-clause-takes
+returns-clause-takes g c = λ h items names views lead held late.
+    subst (λ (l : List ℕ). Appends (g.W.Sink.device c.args.out.now).held (g.W.Sink.device c.loop-row.out).held l)
+    (lines_all names h c.args.marks.now lead items c.args.time c.loop-row.row c.loop-row-test.false) (c.loop-row.invariant.1 h items names views lead held late)
 
 pub loop-row-preserved : goal.loop-row-preserved
 loop-row-preserved g c =
     let s = parts c.args.view in
     let i = c.loop-row.row in
+    let marks = c.args.marks.now in
+    let to = c.saturating_add-row.result in
     let old = (g.W.Sink.device c.args.out.now).held in
-    elim c.if-eq.branch [
-      | then-eq+then-is_marked+in_ok-put_line w ↦
-          let is = read_variable s i _ c.eq.result c.eq.ensures w.if-eq.true c.loop-row-test.true in
+    elim c.if-mark-eq1.branch [
+      | then-mark-eq1+in_ok-put_line w ↦
+          let one : c.rows_on.result ≡ 1 = c.rows_on.ensures.passes ∙ ap rows_on w.if-mark-eq1.true in
+          let next : i + 1 ≡ to = omega (arith, c.saturating_add-row.ensures, one, c.loop-row-test.true) in
           rw w.out-is (
             w.in_ok-put_line.ensures.counts ∙ c.loop-row.invariant.0,
-            λ h items names views marked held late.
-                let v = is_declared s h i views is in
-                let mark = sym w.is_marked.ensures ∙ w.if-is_marked.true in
-                subst (λ (l : List ℕ). Appends old (g.W.Sink.device w.put_line.new.out).held l) (sym (rows_marked (line_at items c.args.time) names s h i c.args.marks.now views marked v.0 v.1 mark))
-                (appends-twice _ _ _ _ (line_at items c.args.time (declared_at h.declarations i v.0)) (c.loop-row.invariant.1 h items names views marked held late) (w.in_ok-put_line.ensures.takes h items v.0 views v.1 held late)),
+            λ h items names views lead held late.
+                let shown = leads_shown_at names h marks lead i c.loop-row-test.true w.if-mark-eq1.true in
+                subst (λ n. Appends old (g.W.Sink.device w.put_line.new.out).held (rows_before (line_at items c.args.time) names h.declarations n)) next
+                (subst (λ (l : List ℕ). Appends old (g.W.Sink.device w.put_line.new.out).held l) (sym (rows_marked (line_at items c.args.time) names s h i (marks_of names h.declarations) views refl shown.variable shown.declared shown.marked))
+                (appends-twice _ _ _ _ (line_at items c.args.time (declared_at h.declarations i shown.variable)) (c.loop-row.invariant.1 h items names views lead held late) (w.in_ok-put_line.ensures.takes h items shown.variable views shown.declared held late))),
           )
-      | else-eq w ↦
+      | else-mark-eq1 w ↦
           rw w.out-is (
             c.loop-row.invariant.0,
-            λ h items names views marked held late.
-                let same : rows_before (line_at items c.args.time) names h.declarations (i + 1) ≡ rows_before (line_at items c.args.time) names h.declarations i = elim w.else-eq.branch [
-                  | else-eq-via-then-eq+else-is_marked u ↦
-                      let v = is_declared s h i views (read_variable s i _ c.eq.result c.eq.ensures u.if-eq.true c.loop-row-test.true) in
-                      rows_unmarked (line_at items c.args.time) names s h i c.args.marks.now views marked v.0 v.1 (sym u.is_marked.ensures ∙ u.if-is_marked.false)
-                  | else-eq-via-else-eq u ↦
-                      let other = read_other s i _ c.eq.result c.eq.ensures u.if-eq.false c.loop-row-test.true in
-                      rows_other (line_at items c.args.time) names s h i c.args.marks.now views marked other.0 other.1 other.2
-                ] in
-                subst (λ (l : List ℕ). Appends old (g.W.Sink.device c.loop-row.out).held l) (sym same) (c.loop-row.invariant.1 h items names views marked held late),
+            λ h items names views lead held late.
+                let low : i ≤ to = omega (arith, c.saturating_add-row.ensures, c.loop-row-test.true) in
+                let high : to ≤ i + rows_on (get_or marks i 0) = omega (arith, c.saturating_add-row.ensures, c.rows_on.ensures.passes) in
+                subst (λ (l : List ℕ). Appends old (g.W.Sink.device c.loop-row.out).held l) (sym (leads_same names h marks lead i c.loop-row-test.true items c.args.time to w.if-mark-eq1.false low high)) (c.loop-row.invariant.1 h items names views lead held late),
           )
     ]
 
 pub returns-in_err-put_line-clause-takes : goal.returns-in_err-put_line-clause-takes
-returns-in_err-put_line-clause-takes g c = λ h items names views marked held late.
-    let s = parts c.args.view in
+returns-in_err-put_line-clause-takes g c = λ h items names views lead held late.
     let i = c.loop-row.row in
     let e : c.from_residual.result ≡ Err c.in_err-put_line.field-0.0 = search rules in
-    let v = is_declared s h i views (read_variable s i _ c.eq.result c.eq.ensures c.if-eq.true c.loop-row-test.true) in
-    rw (e, ← lines_are items c.args.time (selected names h.declarations)) (rows_some (line_at items c.args.time) names s h i c.args.marks.now views marked _ _ _ v.0 v.1 (sym c.is_marked.ensures ∙ c.if-is_marked.true) (c.loop-row.invariant.1 h items names views marked held late) (c.in_err-put_line.ensures.takes h items v.0 views v.1 held late))
-
-pub returns-clause-takes : goal.returns-clause-takes
-returns-clause-takes g c = λ h items names views marked held late.
-    let s = parts c.args.view in
-    subst (λ (l : List ℕ). Appends (g.W.Sink.device c.args.out.now).held (g.W.Sink.device c.loop-row.out).held l)
-    (rows_all (line_at items c.args.time) names s h c.loop-row.row c.args.marks.now views marked (omega (arith, c.loop-row-test.false, c.loop-row.auto.row-end)) ∙ lines_are items c.args.time (selected names h.declarations)) (c.loop-row.invariant.1 h items names views marked held late)
+    let shown = leads_shown_at names h c.args.marks.now lead i c.loop-row-test.true c.if-mark-eq1.true in
+    rw (e, ← lines_are items c.args.time (selected names h.declarations)) (rows_some (line_at items c.args.time) names (parts c.args.view) h i (marks_of names h.declarations) views refl _ _ _ shown.variable shown.declared shown.marked (c.loop-row.invariant.1 h items names views lead held late) (c.in_err-put_line.ensures.takes h items shown.variable views shown.declared held late))

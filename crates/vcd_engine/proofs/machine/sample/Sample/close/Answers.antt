@@ -8,4 +8,4 @@ pub returns-clause-takes : goal.returns-clause-takes
 returns-clause-takes g c = λ h items views is.
     let s = c.args.self.now in
     subst (λ l. Takes (g.W.Sink.device c.args.out.now) (g.W.Sink.device c.put_samples.new.out) l c.put_samples.result) (sym (closes s h items is))
-    (c.put_samples.ensures.takes h items (names_in s) views is.marks_are is.held is.others)
+    (c.put_samples.ensures.takes h items (names_in s) views is.marks_lead is.held is.others)

@@ -1,0 +1,55 @@
+#!/usr/bin/env bash
+# slow_inputs.sh [VARIABLES]   how long `vcdkit sample` takes at many times over a header of so many variables (200000), and
+# `vcdkit pick` of many names, beside `check` of the header. See README.md.
+set -eu -o pipefail
+here=$(cd "$(dirname "$0")" && pwd)
+size=${1:-200000}
+. "$here/common.sh"
+need_numbers "$size"
+
+# Sets `command` to the words that run a program: these words, or `check`.
+find_command() {
+    command=("$work/vcdkit" check)
+    [ "$1" = check ] || command=("$work/vcdkit" "${words[@]}")
+}
+
+# The best time of three runs.
+best_of() {
+    for _ in 1 2 3; do times_of "$1" "$2"; done | sort -n | awk 'NR == 1 { print $1 }'
+}
+
+# A line with the time of these words over a header, and of check of it.
+measure() {
+    local what=$1 file=$2
+    shift 2
+    words=("$@")
+    awk -v what="$what" -v time="$(best_of words "$file")" -v check="$(best_of check "$file")" \
+        'BEGIN { printf "%-48s %8.3f %8.3f\n", what, time, check }'
+}
+
+# A header of so many variables in one scope, whose names have a point.
+write_points() {
+    awk -v size="$1" 'BEGIN {
+        print "$scope module u $end"
+        for (n = 0; n < size; n++) print "$var wire 1 c" n " a." n " $end"
+        print "$upscope $end $enddefinitions $end"
+    }'
+}
+
+printf '%-48s %8s %8s\n' 'user and system s, best of three' time check
+"$here/header_dump.py" "$size" ordered > "$work/header"
+find_one "$work/header"
+for times in 1000 20000; do
+    measure "sample of one variable at $times times" "$work/header" sample --at "$(seq -s , 0 $((times - 1)))" -- "$one"
+done
+for count in 1 30000; do
+    mapfile -t names < <(yes top | head -n "$count")
+    measure "pick of the top scope, named $count times" "$work/header" pick -- "${names[@]}"
+done
+mapfile -t names < <(yes top | head -n 30000 | awk -v one="$one" 'NR % 64 == 0 { $0 = one } { print }')
+measure 'the same, and one variable in each 64 names' "$work/header" pick -- "${names[@]}"
+for count in 3000 30000; do
+    write_points "$count" > "$work/points"
+    mapfile -t names < <(seq -f u.a.%.0f 0 $((count - 1)))
+    measure "pick of $count names with a point" "$work/points" pick -- "${names[@]}"
+done
