@@ -1,4 +1,5 @@
-//! Marks that lead from one row with a line in a sample to the next, so that a time costs no look at each row.
+//! Marks that lead from one row with a line in a sample to the next, so that a time costs no look at
+//! each row.
 ghost use Rattle.std.specs.Prelude.{◌≡◌, ◌≢◌, ◌<◌, ◌≤◌, ℕ, List, length, get_or, MatchBool};
 ghost use Rattle.vcd_model.specs.Header.{Header};
 ghost use Rattle.vcd_head.specs.Marks.{marks_of};
@@ -7,7 +8,8 @@ ghost use Rattle.vcd_engine.specs.Leads.{HaveNoLine, IsSelectedAt, LeadOn, rows_
 
 use vcd_view::{HeadView, Kind};
 
-/// Whether the row with this mark has a line in a sample: it is that of a marked variable that is no event.
+/// Returns whether the row with this mark has a line in a sample: it is a marked variable's that is
+/// no event.
 fn has_line(view: HeadView<'_>, row: usize, mark: u8) -> bool
     requires { row < length view.rows.now }
     ensures { (h : Header) (names : List (List ℕ)) → IsViewOf view.entry h
@@ -22,7 +24,8 @@ fn has_line(view: HeadView<'_>, row: usize, mark: u8) -> bool
     }
 }
 
-/// Returns the mark of the first of so many rows without a line, of which there is one: it passes more than half of them.
+/// Returns the mark of the first of so many rows without a line, of which there is one: it passes
+/// more than half of them.
 fn mark_over(count: usize) -> u8
     requires { 0 < count }
     ensures other { result ≢ 1 }
@@ -39,8 +42,8 @@ pub(crate) fn rows_on(mark: u8) -> usize
     1 << mark.saturating_sub(2).min(63)
 }
 
-/// Changes the marks of what names select to marks that lead on: 1 where a row has a line in a sample, elsewhere how many rows
-/// without one to pass.
+/// Changes the marks of what names select to marks that lead on: 1 where a row has a line in a
+/// sample, elsewhere how many rows without one to pass.
 pub(crate) fn lead_on(view: HeadView<'_>, marks: &mut [u8])
     requires { length marks.old ≡ length view.rows.now }
     ensures leads { (h : Header) (names : List (List ℕ)) → IsViewOf view.entry h

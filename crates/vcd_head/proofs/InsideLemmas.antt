@@ -1,27 +1,29 @@
 -- What is left of names inside open scopes.
-use Rattle.std.proofs.Common.{◌≡◌, ℕ, zero, suc, ◌+◌, ◌-◌, ◌<◌, ◌≤◌, Bool, true, false, ◌&&◌, ◌==◌, List, [], ◌∷◌, ◌++◌, length, map, take, drop, slice_range, reverse, replicate, slice_get, Bor, Option, Some, None, option_map, refl, sym, ap, subst, ◌∙◌, arith}
+use Rattle.std.proofs.Common.{◌≡◌, ℕ, zero, suc, ◌+◌, ◌-◌, ◌<◌, ◌≤◌, Bool, true, false, ◌&&◌, ◌||◌, ◌==◌, List, [], ◌∷◌, ◌++◌, length, map, take, drop, get_or, set, slice_range, reverse, replicate, slice_get, Bor, Option, Some, None, option_map, inl, inr, refl, sym, ap, subst, ◌∙◌, arith}
 use Rattle.std.specs.List.{AllByRecursion, list_any}
-use Rattle.std.proofs.lemmas.Bool.{ne_eqb}
+use Rattle.std.proofs.lemmas.Bool.{false_from_ne_true, ne_eqb}
 use Rattle.std.proofs.lemmas.Grind.{flat_map-append}
-use Rattle.std.proofs.lemmas.List.{append-nil, reverse-append, length-drop, length-take, length-take-le, take-append-drop}
+use Rattle.std.proofs.lemmas.List.{append_assoc, append-nil, reverse-append, length-drop, length-take, length-take-le, take-append-drop}
 use Rattle.std.proofs.Math.Seq.{take-append-add}
 use Rattle.std.proofs.lemmas.List.Elements.{filter_map-append}
 use Rattle.std.proofs.lemmas.Option.{none-some, same_Some}
 use Rattle.vcd_model.specs.Bytes.{is_empty}
 use Rattle.vcd_model.specs.Declarations.{Declaration, IdCode, Variable, enclosing, name_of, names_at, parent}
-use Rattle.vcd_model.specs.Selection.{is_selected, is_variable}
+use Rattle.vcd_model.specs.Selection.{is_selected, is_variable, selects_path}
 use Rattle.vcd_model.proofs.ScopeLemmas.{enclosing_below, slice_get-take}
 use Rattle.std.specs.Option.{IfSome}
 use Rattle.vcd_head.specs.declared.inside.Inside.{Inside}
-use Rattle.vcd_head.specs.Inside.{AreLeft, front, left_selects, may_select}
+use Rattle.vcd_head.specs.Inside.{AreLeft, front, is_all, is_rest, left_in, left_selects}
 use Rattle.vcd_head.specs.declared.inside.Left.{Left}
 use Rattle.vcd_head.specs.declared.inside.Left.TheVariants.{Rest, Selected, Differs}
 use Rattle.vcd_head.specs.Paths.{names_text, scopes_text}
+use Rattle.vcd_head.specs.Sieves.{AllOrNone, RulesOut}
 use Rattle.vcd_view.specs.declared.view.Kind.TheVariants as kind
 use Rattle.vcd_view.specs.declared.view.Row.{Row}
 use Rattle.vcd_view.specs.Views.{IsRow, counted_from_one}
 use Rattle.vcd_view.proofs.ListLemmas.{all_weaker}
 use Rattle.vcd_view.proofs.ParentLemmas.{around_none, around_some}
+use Rattle.vcd_head.proofs.NamePaths.{selects-longer}
 
 -- ---- lists
 
@@ -29,6 +31,13 @@ pub same_everywhere : {X : Type 0} (n i : ℕ) (x y : X) → slice_get (replicat
 same_everywhere zero i x y e = absurd (none-some y e)
 same_everywhere (suc n) zero x y e = same_Some x y e
 same_everywhere (suc n) (suc i) x y e = same_everywhere n i x y e
+
+pub each_set : {X : Type 0} (P : X → Type 0) (xs : List X) (p : ℕ) (y : X) → ((k : ℕ) (x : X) → slice_get xs k ≡ Some x → P x) → P y → (k : ℕ) (x : X) → slice_get (set xs p y) k ≡ Some x → P x
+each_set P [] p y all one k x at = absurd (none-some x at)
+each_set P (z ∷ xs) zero y all one zero x at = subst P (same_Some y x at) one
+each_set P (z ∷ xs) zero y all one (suc k) x at = all (suc k) x at
+each_set P (z ∷ xs) (suc p) y all one zero x at = all zero x at
+each_set P (z ∷ xs) (suc p) y all one (suc k) x at = each_set P xs p y (λ j w. all (suc j) w) one k x at
 
 pub get_mapped : {X Y : Type 0} (f : X → Y) (xs : List X) (i : ℕ) (x : X) → slice_get xs i ≡ Some x → slice_get (map f xs) i ≡ Some (f x)
 get_mapped f [] i x e = absurd (none-some x e)
@@ -109,12 +118,73 @@ left_around (Some s) names ds row a b = subst (λ f. AreLeft names f s.now) (sym
 
 -- ---- what is left of a name
 
--- a scope in which some name may select, or none
-pub if_live : (live : Bool) (l : Left) (rest text : List ℕ) → (live ≡ false → may_select l ≡ false) → left_selects l rest text ≡ (live && left_selects l rest text)
-if_live true l rest text h = refl
+-- a scope in which some name of which something is left may select, or none
+pub if_live : (live : Bool) (l : Left) (rest text : List ℕ) → (live ≡ false → is_rest l ≡ false) → left_selects l rest text ≡ left_in live l rest text
+if_live true Rest rest text h = refl
 if_live false Rest rest text h = let no = h refl in cc
-if_live false Selected rest text h = let no = h refl in cc
-if_live false Differs rest text h = refl
+if_live live Selected rest text h = refl
+if_live live Differs rest text h = refl
+
+pub in_live : (live : Bool) (l : Left) (rest text : List ℕ) → live ≡ true → left_in live l rest text ≡ left_selects l rest text
+in_live live Rest rest text e = rw e refl
+in_live live Selected rest text e = refl
+in_live live Differs rest text e = refl
+
+-- what is left of a name does not select every text
+not_every : (live : Bool) (rest : List ℕ) → ((text : List ℕ) → (live && selects_path text rest) ≡ true) → ⊥
+not_every false rest all = let wrong = all [] in cc
+not_every true [] all = let wrong = all (97 ∷ []) in cc
+not_every true (x ∷ rest) all = let wrong = all [] in cc
+
+-- a path that goes on with a component and what is inside it
+pub goes_on : (f component text name : List ℕ) → selects_path ((f ++ (component ++ 46 ∷ [])) ++ text) name ≡ selects_path (f ++ (component ++ 46 ∷ text)) name
+goes_on f component text name = ap (λ l. selects_path l name) (append_assoc f (component ++ 46 ∷ []) text ∙ ap (λ l. f ++ l) (append_assoc component (46 ∷ []) text))
+
+module _ (names : List (List ℕ)) (f : List ℕ) (s : Inside) (left : AreLeft names f s) where
+  -- where nothing is left of a name that may select, each name selects all or nothing
+  pub dead_rules_out : s.live ≡ false → (component : List ℕ) → RulesOut names f component
+  dead_rules_out dead component i name at = by_left (get_or s.left i Rest) refl
+    where
+      by_left : (l : Left) → get_or s.left i Rest ≡ l → AllOrNone f component name
+      by_left Rest e = inr (λ text. left.each i name at (component ++ 46 ∷ text) ∙ (λ j. left_in (dead j) (e j) (drop s.passed name) (component ++ 46 ∷ text)))
+      by_left Selected e = inl (λ text. left.each i name at text ∙ ap (λ l. left_in s.live l (drop s.passed name) text) e)
+      by_left Differs e = inr (λ text. left.each i name at (component ++ 46 ∷ text) ∙ ap (λ l. left_in s.live l (drop s.passed name) (component ++ 46 ∷ text)) e)
+
+  module _ (component : List ℕ) (out : RulesOut names f component) (i : ℕ) (name : List ℕ) (at : slice_get names i ≡ Some name) where
+    -- a name that is ruled out selects what is inside the component where it selects all
+    pub inside_ruled_out : (text : List ℕ) → selects_path (f ++ (component ++ 46 ∷ text)) name ≡ is_all (get_or s.left i Rest)
+    inside_ruled_out text = by_left (get_or s.left i Rest) refl (out i name at)
+      where
+        by_left : (l : Left) → get_or s.left i Rest ≡ l → AllOrNone f component name → selects_path (f ++ (component ++ 46 ∷ text)) name ≡ is_all l
+        by_left Rest e (inl all) = absurd (not_every s.live (drop s.passed name) (λ t. sym (left.each i name at t ∙ ap (λ l. left_in s.live l (drop s.passed name) t) e) ∙ all t))
+        by_left Rest e (inr none) = none text
+        by_left Selected e o = left.each i name at (component ++ 46 ∷ text) ∙ ap (λ l. left_in s.live l (drop s.passed name) (component ++ 46 ∷ text)) e
+        by_left Differs e o = left.each i name at (component ++ 46 ∷ text) ∙ ap (λ l. left_in s.live l (drop s.passed name) (component ++ 46 ∷ text)) e
+
+    -- and so the component itself
+    pub ruled_out : selects_path (f ++ component) name ≡ is_all (get_or s.left i Rest)
+    ruled_out = by_left (get_or s.left i Rest) refl
+      where
+        by_left : (l : Left) → get_or s.left i Rest ≡ l → selects_path (f ++ component) name ≡ is_all l
+        by_left Rest e = false_from_ne_true (selects_path (f ++ component) name) (λ has. let more = sym (ap (λ l. selects_path l name) (append_assoc f component (46 ∷ []))) ∙ selects-longer (f ++ component) name [] has in let none = inside_ruled_out [] ∙ ap is_all e in cc)
+        by_left Selected e = left.each i name at component ∙ ap (λ l. left_in s.live l (drop s.passed name) component) e
+        by_left Differs e = left.each i name at component ∙ ap (λ l. left_in s.live l (drop s.passed name) component) e
+
+  -- so is what is left inside it
+  pub left_closed : (component : List ℕ) → RulesOut names f component → (inner : Inside) → inner.live ≡ false → inner.whole ≡ s.whole → inner.left ≡ s.left → AreLeft names (f ++ (component ++ 46 ∷ [])) inner
+  left_closed component out inner dead whole same = record {
+    each = λ i name at text. goes_on f component text name ∙ inside_ruled_out component out i name at text ∙ by_left (get_or s.left i Rest) (drop inner.passed name) text ∙ (λ j. left_in (sym dead j) (get_or (sym same j) i Rest) (drop inner.passed name) text);
+    some = λ i name at all. whole ∙ left.some i name at (ap (λ l. is_all (get_or l i Rest)) (sym same) ∙ all);
+  }
+    where
+      by_left : (l : Left) (rest text : List ℕ) → is_all l ≡ left_in false l rest text
+      by_left Rest rest text = refl
+      by_left Selected rest text = refl
+      by_left Differs rest text = refl
+
+  -- where no name selects all that is inside, a component that is ruled out is selected by none
+  pub none_whole : s.whole ≡ false → (component : List ℕ) → RulesOut names f component → (i : ℕ) (name : List ℕ) → slice_get names i ≡ Some name → selects_path (f ++ component) name ≡ false
+  none_whole none component out i name at = ruled_out component out i name at ∙ false_from_ne_true (is_all (get_or s.left i Rest)) (λ all. let some = left.some i name at all in cc)
 
 -- ---- names in groups
 

@@ -21,15 +21,26 @@ abbrev pub front : List Declaration → ℕ → List ℕ
 front ds zero = []
 front ds (suc p) = names_text ds (reverse (p ∷ enclosing (take p ds)))
 
--- it may select some path that goes on
-abbrev pub may_select : Left → Bool
-may_select Rest = true
-may_select Selected = true
-may_select Differs = false
+-- so it does where there is a name of which something is left that may select: where there is none, no such name selects
+abbrev pub left_in : Bool → Left → List ℕ → List ℕ → Bool
+left_in live Rest rest text = live && selects_path text rest
+left_in live Selected rest text = true
+left_in live Differs rest text = false
 
--- this is left of the names behind this front of a path
-abbrev pub AreLeft : List (List ℕ) → List ℕ → Inside → Type 0
-AreLeft names front s = (i : ℕ) (name : List ℕ) → slice_get names i ≡ Some name → (text : List ℕ) → selects_path (front ++ text) name ≡ (s.live && left_selects (get_or s.left i Rest) (drop s.passed name) text)
+-- something is left of the name
+abbrev pub is_rest : Left → Bool
+is_rest Rest = true
+is_rest left = false
+
+-- it selects all that is inside
+abbrev pub is_all : Left → Bool
+is_all Selected = true
+is_all left = false
+
+-- this is left of the names behind this front of a path, and it is known whether some name selects all that is inside
+pub record AreLeft (names : List (List ℕ)) (front : List ℕ) (s : Inside) : Type 0 where
+  pub each : (i : ℕ) (name : List ℕ) → slice_get names i ≡ Some name → (text : List ℕ) → selects_path (front ++ text) name ≡ left_in s.live (get_or s.left i Rest) (drop s.passed name) text
+  pub some : (i : ℕ) (name : List ℕ) → slice_get names i ≡ Some name → is_all (get_or s.left i Rest) ≡ true → s.whole ≡ true
 
 -- what is held of each scope is right
 abbrev pub AreHeld : Header → List (List ℕ) → List Inside → Type 0

@@ -3,7 +3,7 @@ ghost use Rattle.std.specs.Prelude.{◌≡◌, ◌+◌, ◌<◌, ◌≤◌, [], 
 ghost use Rattle.vcd_model.specs.Declarations.{Declaration, name_of as name_of_declaration, path_of};
 ghost use Rattle.vcd_model.specs.Header.{Header};
 ghost use Rattle.vcd_model.specs.Selection.{is_selected as is_selected_by, is_variable, selects_path};
-ghost use Rattle.vcd_head.specs.Inside.{AreHeld, AreLeft, AreOpen, front, left_selects, may_select};
+ghost use Rattle.vcd_head.specs.Inside.{AreHeld, AreLeft, AreOpen, front, is_all, is_rest, left_in, left_selects};
 ghost use Rattle.vcd_head.specs.Matched.{Matches, Matched};
 ghost use Rattle.vcd_head.specs.Paths.{scopes_text};
 ghost use Rattle.vcd_head.specs.Sieves.{RulesOut};
@@ -35,8 +35,11 @@ pub(crate) enum Left {
 pub(crate) struct Inside {
     // 1 plus the row of the scope, 0 outside of all.
     pub(crate) scope: usize,
-    // Some name may select what is inside. Where none does, what follows says nothing.
+    // Some name of which something is left may select what is inside. Where none does, what is left
+    // says nothing.
     live: bool,
+    // Some name selects all that is inside.
+    whole: bool,
     // The bytes of the scope's path and the point behind it.
     pub(crate) passed: usize,
     // Of each name.
@@ -44,14 +47,23 @@ pub(crate) struct Inside {
 }
 
 impl Left {
-    // It may select what is inside.
-    fn may_select(self) -> bool
-        ensures { result ≡ may_select self }
+    // Something is left of the name.
+    fn is_rest(self) -> bool
+        ensures { result ≡ is_rest self }
     {
         match self {
             Left::Rest => true,
+            Left::Selected | Left::Differs => false,
+        }
+    }
+
+    // The name selects all that is inside.
+    fn is_all(self) -> bool
+        ensures { result ≡ is_all self }
+    {
+        match self {
             Left::Selected => true,
-            Left::Differs => false,
+            Left::Rest | Left::Differs => false,
         }
     }
 }
@@ -65,21 +77,24 @@ impl Inside {
         Inside {
             scope: 0,
             live: true,
+            whole: false,
             passed: 0,
             left: [Left::Rest; TOGETHER],
         }
     }
 
-    // Inside a scope in which no name selects.
-    fn unselected(scope: usize) -> Self
+    // Inside a scope in this one, in which only names select that select all that is in this one.
+    fn closed(&self, scope: usize) -> Self
         ensures scope { result.scope ≡ scope }
-        ensures live { result.live ≡ false }
+        ensures left { (names : List (List ℕ)) (f component : List ℕ) → AreLeft names f self.now
+            → RulesOut names f component → AreLeft names (f ++ (component ++ 46 ∷ [])) result }
     {
         Inside {
             scope,
             live: false,
-            passed: 0,
-            left: [Left::Differs; TOGETHER],
+            whole: self.whole,
+            passed: self.passed,
+            left: self.left,
         }
     }
 
@@ -92,20 +107,23 @@ impl Inside {
             (AreLeft (map string_bytes names.now) (f ++ (component.now ++ 46 ∷ []))) }
     {
         if !self.live {
-            return Some(Inside::unselected(scope));
+            return Some(self.closed(scope));
         }
         let passed = self.passed.checked_add(component.len() + 1)?;
         let mut left = self.left;
         let mut live = false;
+        let mut whole = false;
         for place in 0..names.len() {
             let rest = behind(names[place].as_str(), self.passed);
             let inner = left_inside(self.left[place], rest, component);
             left[place] = inner;
-            live = live || inner.may_select();
+            live = live || inner.is_rest();
+            whole = whole || inner.is_all();
         }
         Some(Inside {
             scope,
             live,
+            whole,
             passed,
             left,
         })
@@ -118,7 +136,39 @@ impl Inside {
             → slice_get names place ≡ Some name.now
             → result ≡ selects_path (f ++ own.now) name.now }
     {
-        self.live && selects_own(self.left[place], behind(name, self.passed), own)
+        self.selects_own(self.left[place], behind(name, self.passed), own)
+    }
+
+    // What is left of a name selects a variable in this scope with this name.
+    fn selects_own(&self, left: Left, rest: &[u8], own: &[u8]) -> bool
+        ensures { result ≡ left_in self.now.live left rest.now own.now }
+    {
+        match left {
+            Left::Rest => self.live && is_or_goes_on(own, rest),
+            Left::Selected => true,
+            Left::Differs => false,
+        }
+    }
+
+    // Tells which names select a variable in this scope, and whether some do, where only names may
+    // that select all that is in it.
+    fn note(&self, names: &[String], matched: &mut [bool; TOGETHER]) -> bool
+        requires { length names.now ≤ 64 }
+        ensures { (f own : List ℕ) → AreLeft (map string_bytes names.now) f self.now
+            → RulesOut (map string_bytes names.now) f own
+            → Matches (selects_path (f ++ own)) (map string_bytes names.now)
+            matched.old matched.new result }
+    {
+        if !self.whole {
+            return false;
+        }
+        let mut some = false;
+        for place in 0..names.len() {
+            let all = self.left[place].is_all();
+            matched[place] = matched[place] | all;
+            some = some | all;
+        }
+        some
     }
 }
 
@@ -211,14 +261,16 @@ impl Open {
             (λ s. AreLeft (map string_bytes names.now) (front h.declarations s.scope) s) }
     {
         let scope = row.checked_add(1)?;
-        if self.rules_out(view, row, names) {
-            return Some(Inside::unselected(scope));
+        let out = self.rules_out(view, row, names);
+        let around = self.around(view, row)?;
+        if out {
+            return Some(around.closed(scope));
         }
-        self.around(view, row)?
-            .enter(names, scope, view.name_of(row))
+        around.enter(names, scope, view.name_of(row))
     }
 
-    // No name selects what a row declares, nor what is inside it, as far as is known.
+    // As far as is known, a name selects what a row declares, or what is inside it, only where it
+    // selects all that is inside the scope around.
     #[inline(always)]
     fn rules_out(&mut self, view: HeadView<'_>, row: usize, names: &[String]) -> bool
         requires { length names.now ≤ 64 }
@@ -258,7 +310,9 @@ impl Open {
             (map string_bytes names.now) matched.old matched.new result }
     {
         if self.rules_out(view, row, names) {
-            return false;
+            if let Some(inside) = self.around(view, row) {
+                return inside.note(names, matched);
+            }
         }
         self.compare(view, row, names, matched)
     }
@@ -360,17 +414,6 @@ fn left_inside(left: Left, rest: &[u8], component: &[u8]) -> Left
         },
         Left::Selected => Left::Selected,
         Left::Differs => Left::Differs,
-    }
-}
-
-// What is left of a name selects a variable with this name.
-fn selects_own(left: Left, rest: &[u8], own: &[u8]) -> bool
-    ensures { result ≡ left_selects left rest.now own.now }
-{
-    match left {
-        Left::Rest => is_or_goes_on(own, rest),
-        Left::Selected => true,
-        Left::Differs => false,
     }
 }
 

@@ -1,25 +1,28 @@
-// Names that may select a row are told by one flag, where rows of one scope are compared in turn.
+// Names that may select a row are told by flags, where rows of one scope are compared in turn.
 ghost use Rattle.std.specs.Prelude.{◌≡◌, ◌+◌, ◌<◌, ◌≤◌, ℕ, List, length, drop, map, string_bytes, get_or, true, false};
-ghost use Rattle.vcd_head.specs.Inside.{AreLeft, left_selects};
-ghost use Rattle.vcd_head.specs.Sieves.{IsSieve, RulesOut, flag_after};
+ghost use Rattle.vcd_head.specs.Inside.{AreLeft};
+ghost use Rattle.vcd_head.specs.Sieves.{Admitted, IsSieve, RulesOut, may_go_on};
+ghost use Rattle.vcd_head.specs.declared.inside.Left.TheVariants as left_of;
 
 use crate::inside::{Inside, Left, behind};
 
-// So many flags.
+// So many flags of each kind.
 const FLAGS: usize = 1024;
 
 // So many rows of a scope are compared with each name before its flags are found, which takes as long as two of them.
 const ROWS_FIRST: usize = 4;
 
-// Flags of the texts that names may go on with inside a scope.
+// Flags of the texts that are left of names inside a scope, by sums of their bytes.
 #[derive(Drop)]
 pub(crate) struct Sieve {
     // 1 plus the row of the scope, 0 outside of all.
     scope: usize,
     // So many rows of it were asked for in turn, before the flags were found.
     asked: usize,
-    // No name selects what goes on with a text whose flag is not set.
-    flags: [bool; FLAGS],
+    // What is left of some name ends after bytes of this sum.
+    ends: [bool; FLAGS],
+    // What is left of some name goes on after bytes of this sum with a point.
+    points: [bool; FLAGS],
 }
 
 impl Sieve {
@@ -31,11 +34,13 @@ impl Sieve {
         Sieve {
             scope,
             asked: 0,
-            flags: [true; FLAGS],
+            ends: [true; FLAGS],
+            points: [true; FLAGS],
         }
     }
 
-    // No name selects what goes on with this component inside the scope, as far as is known.
+    // As far as is known, a name selects this component inside the scope, or what is in it, only
+    // where it selects all that is inside the scope.
     pub(crate) fn rules_out(&mut self, inside: &Inside, names: &[String], component: &[u8]) -> bool
         requires { length names.now ≤ 64 }
         ensures kept { (fronts : ℕ → List ℕ)
@@ -49,7 +54,7 @@ impl Sieve {
     {
         self.turn_to(inside.scope);
         self.ask(inside, names);
-        !self.flags[flag_of(component)]
+        !self.may_go_on(component)
     }
 
     // Begins anew where the scope is another one.
@@ -88,38 +93,53 @@ impl Sieve {
             → AreLeft (map string_bytes names.now) (fronts self.old.scope) inside.now
             → IsSieve (map string_bytes names.now) fronts self.new }
     {
-        self.flags = [false; FLAGS];
+        self.ends = [false; FLAGS];
+        self.points = [false; FLAGS];
         for place in 0..names.len() {
             let rest = behind(names[place].as_str(), inside.passed);
-            admit(&mut self.flags, inside.left[place], rest);
+            admit(&mut self.ends, &mut self.points, inside.left[place], rest);
         }
+    }
+
+    // What is left of some name may end where the component does, or before a point in it, or go
+    // on after the component and a point.
+    fn may_go_on(&self, component: &[u8]) -> bool
+        ensures { result ≡ may_go_on self.now.ends self.now.points 0 component.now }
+    {
+        let mut sum = 0;
+        let mut found = false;
+        for byte in component {
+            found = found | ((*byte == b'.') & self.ends[sum]);
+            sum = (sum * 37 + *byte as usize) % FLAGS;
+        }
+        found | self.ends[sum] | self.points[sum]
     }
 }
 
-// Sets the flags of what is left of one more name.
-fn admit(flags: &mut [bool; FLAGS], left: Left, rest: &[u8])
-    ensures name { (text : List ℕ) → get_or flags.new (flag_after 0 text) true ≡ false
-        → left_selects left rest.now text ≡ false }
-    ensures others { (i : ℕ) → get_or flags.new i true ≡ false → get_or flags.old i true ≡ false }
+// Sets the flags of one more name, where something is left of it.
+fn admit(ends: &mut [bool; FLAGS], points: &mut [bool; FLAGS], left: Left, rest: &[u8])
+    ensures name { left ≡ left_of.Rest → Admitted ends.new points.new 0 rest.now }
+    ensures ends { (i : ℕ) → get_or ends.old i true ≡ true → get_or ends.new i true ≡ true }
+    ensures points { (i : ℕ) → get_or points.old i true ≡ true → get_or points.new i true ≡ true }
 {
     match left {
-        Left::Rest => flags[flag_of(rest)] = true,
-        Left::Selected => *flags = [true; FLAGS],
-        Left::Differs => {}
+        Left::Rest => admit_rest(ends, points, rest),
+        Left::Selected | Left::Differs => {}
     }
 }
 
-// The place of a text's flag, a sum of the bytes before its first point: a name and what it selects have the same.
-fn flag_of(text: &[u8]) -> usize
-    ensures within { result < 1024 }
-    ensures flag { result ≡ flag_after 0 text.now }
+// Sets the flags of what is left of a name: where it ends, and where it has a point.
+fn admit_rest(ends: &mut [bool; FLAGS], points: &mut [bool; FLAGS], rest: &[u8])
+    ensures name { Admitted ends.new points.new 0 rest.now }
+    ensures ends { (i : ℕ) → get_or ends.old i true ≡ true → get_or ends.new i true ≡ true }
+    ensures points { (i : ℕ) → get_or points.old i true ≡ true → get_or points.new i true ≡ true }
 {
-    let mut flag = 0;
-    for byte in text {
+    let mut sum = 0;
+    for byte in rest {
         if *byte == b'.' {
-            return flag;
+            points[sum] = true;
         }
-        flag = (flag * 37 + *byte as usize) % FLAGS;
+        sum = (sum * 37 + *byte as usize) % FLAGS;
     }
-    flag
+    ends[sum] = true;
 }

@@ -29,8 +29,8 @@ use vcd_head::select;
 use vcd_text::{Sink, WriteFailed};
 use vcd_view::HeadView;
 
-/// The times and names that were asked for, the times that are not settled, the current values, and the marks that lead from one
-/// row with a line to the next.
+/// The times and names that were asked for, the times that are not settled, the current values, and
+/// the marks that lead from one row with a line to the next.
 #[derive(Drop)]
 pub(crate) struct Sample<'n, 'r> {
     times: &'n [u64],

@@ -1,14 +1,13 @@
-use Rattle.std.proofs.Common.{◌≡◌, ◌++◌, ◌∷◌, [], ◌+◌, ◌<◌, ◌&&◌, Some, length, map, drop, get_or, set, slice_get, string_bytes, inl, inr, refl, sym, ap, ◌∙◌, arith, rules}
+use Rattle.std.proofs.Common.{◌≡◌, ℕ, List, ◌++◌, ◌∷◌, [], ◌+◌, ◌<◌, Some, length, map, drop, get_or, set, slice_get, string_bytes, inl, inr, refl, sym, ap, ◌∙◌, arith, rules}
 use Rattle.std.proofs.lemmas.Bool.{cases_eq}
-use Rattle.std.proofs.lemmas.List.{append_assoc, drop-drop, get_or-set_other, get_or-set_same, length-map, length-set}
+use Rattle.std.proofs.lemmas.List.{drop-drop, get_or-set_other, get_or-set_same, length-map, length-set}
 use Rattle.std.proofs.lemmas.Option.{same_Some, slice_get_read, slice_get_within}
-use Rattle.vcd_model.specs.Selection.{selects_path}
-use Rattle.vcd_head.specs.Inside.{left_selects, may_select}
+use Rattle.vcd_head.specs.Inside.{is_all, is_rest, left_selects}
 use Rattle.vcd_head.specs.declared.inside.Left.TheVariants.{Rest}
-use Rattle.vcd_head.proofs.InsideLemmas.{get_mapped, if_live}
+use Rattle.vcd_head.proofs.InsideLemmas.{dead_rules_out, get_mapped, goes_on, if_live, in_live}
 use Rattle.vcd_head.proofs.MatchLemmas.{before}
 use Rattle.vcd_head.proofs.inside.Inside.enter.Goals as goal
-use Rattle.vcd_head.proofs.inside.Inside.enter.Goals.{then-live, else-live}
+use Rattle.vcd_head.proofs.inside.Inside.enter.Goals.{then-live, else-live, then-whole, else-whole}
 
 pub loop-place-preserved : goal.loop-place-preserved
 loop-place-preserved c =
@@ -39,28 +38,38 @@ loop-place-preserved c =
           elim c.if-live.branch [
             | then-live w ↦ let yes = w.live-is in cc
             | else-live w ↦ elim (cases_eq i place) [
-              | inl e ↦ ap may_select (ap (λ k. get_or (set left place inner) k Rest) e ∙ here) ∙ sym w.may_select-live.ensures ∙ sym w.live-is ∙ q
-              | inr d ↦ ap may_select (get_or-set_other left place i inner Rest d) ∙ c.loop-place.invariant.none i (before i place l d) w.if-live.false
+              | inl e ↦ ap is_rest (ap (λ k. get_or (set left place inner) k Rest) e ∙ here) ∙ sym w.is_rest-live.ensures ∙ sym w.live-is ∙ q
+              | inr d ↦ ap is_rest (get_or-set_other left place i inner Rest d) ∙ c.loop-place.invariant.none i (before i place l d) w.if-live.false
+            ]
+          ];
+      all = λ i l q.
+          elim c.if-whole.branch [
+            | then-whole w ↦ w.whole-is ∙ w.if-whole.true
+            | else-whole w ↦ elim (cases_eq i place) [
+              | inl e ↦ w.whole-is ∙ w.is_all-whole.ensures ∙ sym (ap is_all (ap (λ k. get_or (set left place inner) k Rest) e ∙ here)) ∙ q
+              | inr d ↦ absurd (let yes = c.loop-place.invariant.all i (before i place l d) (sym (ap is_all (get_or-set_other left place i inner Rest d)) ∙ q) in let no = w.if-whole.false in cc)
             ]
           ];
     }
 
 pub returns-clause-left : goal.returns-clause-left
-returns-clause-left c = λ f h i name n text.
+returns-clause-left c = λ f h.
     let outer = c.args.self.now.left in
     let component = c.args.component.now in
     let passed = c.args.self.now.passed in
-    let left = get_or c.loop-place.left i Rest in
-    let last : i < c.loop-place.place = omega (arith, slice_get_within (map string_bytes c.args.names.now) i name n, length-map c.args.names.now string_bytes) in
+    let names = map string_bytes c.args.names.now in
     let new : c.in_ok-passed.passed ≡ passed + (length component + 1) = search rules in
-    ap (λ l. selects_path l name) (append_assoc f (component ++ 46 ∷ []) text ∙ ap (λ l. f ++ l) (append_assoc component (46 ∷ []) text)) ∙ h i name n (component ++ 46 ∷ text)
-    ∙ ap (λ b. b && left_selects (get_or outer i Rest) (drop passed name) (component ++ 46 ∷ text)) c.if-not-self.false
-    ∙ sym (c.loop-place.invariant.inner i name last n text) ∙ ap (λ r. left_selects left r text) (drop-drop (length component + 1) passed name ∙ ap (λ k. drop k name) (sym new))
-    ∙ if_live c.loop-place.live left (drop c.in_ok-passed.passed name) text (c.loop-place.invariant.none i last)
+    let last : (i : ℕ) (name : List ℕ) → slice_get names i ≡ Some name → i < c.loop-place.place = λ i name n. omega (arith, slice_get_within names i name n, length-map c.args.names.now string_bytes) in
+    record {
+      each = λ i name n text.
+          let left = get_or c.loop-place.left i Rest in
+          goes_on f component text name ∙ h.each i name n (component ++ 46 ∷ text) ∙ in_live c.args.self.now.live (get_or outer i Rest) (drop passed name) (component ++ 46 ∷ text) c.if-not-self.false
+          ∙ sym (c.loop-place.invariant.inner i name (last i name n) n text) ∙ ap (λ r. left_selects left r text) (drop-drop (length component + 1) passed name ∙ ap (λ k. drop k name) (sym new))
+          ∙ if_live c.loop-place.live left (drop c.in_ok-passed.passed name) text (c.loop-place.invariant.none i (last i name n));
+      some = λ i name n all. c.loop-place.invariant.all i (last i name n) all;
+    }
 
 pub returns-then-not-self-clause-left : goal.returns-then-not-self-clause-left
-returns-then-not-self-clause-left c = λ f h i name n text.
+returns-then-not-self-clause-left c = λ f h.
     let component = c.args.component.now in
-    ap (λ l. selects_path l name) (append_assoc f (component ++ 46 ∷ []) text ∙ ap (λ l. f ++ l) (append_assoc component (46 ∷ []) text)) ∙ h i name n (component ++ 46 ∷ text)
-    ∙ ap (λ b. b && left_selects (get_or c.args.self.now.left i Rest) (drop c.args.self.now.passed name) (component ++ 46 ∷ text)) c.if-not-self.true
-    ∙ sym (ap (λ b. b && left_selects (get_or c.unselected.result.left i Rest) (drop c.unselected.result.passed name) text) c.unselected.ensures.live)
+    c.closed.ensures.left (map string_bytes c.args.names.now) f component h (dead_rules_out (map string_bytes c.args.names.now) f c.args.self.now h c.if-not-self.true component)

@@ -1,6 +1,6 @@
-use Rattle.vcd_head.specs.Sieves.{flag_after}
-use Rattle.vcd_head.proofs.SieveLemmas.{all_set}
+use Rattle.std.proofs.Common.{inr}
+use Rattle.vcd_head.proofs.SieveLemmas.{all_go_on}
 use Rattle.vcd_head.proofs.sieve.Sieve.new.Goals as goal
 
 pub returns-clause-flags : goal.returns-clause-flags
-returns-clause-flags c = λ names fronts i name at text off. absurd (let yes = all_set 1024 (flag_after 0 text) in cc)
+returns-clause-flags c = λ names fronts i name at. inr (λ component off text. absurd (let yes = all_go_on 1024 component 0 in cc))
