@@ -5,7 +5,7 @@ ghost use Rattle.vcd_head.specs.Model.Laws.{ShortIsShortest};
 use std::alloc::{AllocError, Global};
 use std::test::Fail;
 use vcd_body::{Bits, Form, Share, Shown, Slot, Table, laws, put_full, put_short};
-use vcd_head::{Code, HeadView, need};
+use vcd_head::{Code, CodeSeed, HeadView, need};
 use vcd_text::doubles::Narrow;
 use vcd_text::{Sink, Watch, WriteFailed};
 
@@ -29,6 +29,7 @@ fn view_of(codes: &[Code]) -> HeadView<'_>
         codes,
         index: &[],
         entries: &[],
+        seed: CodeSeed { factor: 1, more: 0 },
         date: &[],
         version: &[],
         scale: None,

@@ -2,7 +2,7 @@
 use Rattle.std.proofs.Common.{◌≡◌, ℕ, zero, suc, ◌+◌, ◌<◌, ◌==◌, ◌||◌, not, Bool, true, false, cond, List, [], ◌∷◌, ◌++◌, length, map, take, find, bytes_eq, slice_get, position, get_or, Fits, w8, Some, None, refl, sym, ap, subst, ◌∙◌, arith, add-one}
 use Rattle.std.specs.Prelude.{nat_lt}
 use Rattle.std.specs.List.{AllByRecursion, list_any, position_or_len, prefix_len}
-use Rattle.std.proofs.lemmas.Bool.{ltb-true, ltb-false}
+use Rattle.std.proofs.lemmas.Bool.{ltb-true, ltb-false, lt-ltb, or_parts}
 use Rattle.std.proofs.lemmas.List.{length-map, map-append}
 use Rattle.std.proofs.lemmas.List.Folds.{find_at}
 use Rattle.std.proofs.lemmas.Option.{none-some, same_Some, slice_get_past}
@@ -111,6 +111,37 @@ module _ (key : CodeKey) (t : List ℕ) (s : shape_of key ≡ shape_in t) (a : A
       let last : new ≡ keys ++ key ∷ [] = made ∙ ap (λ b. cond b keys (keys ++ key ∷ [])) (none_there keys cs h e f) in
       ap (map shape_of) last ∙ map-append shape_of keys (key ∷ []) ∙ ap (λ l. l ++ shape_of key ∷ []) e
       ∙ ap (λ x. map (λ (c : IdCode). shape_in c.text) cs ++ x ∷ []) (s ∙ ap shape_in (sym same)) ∙ sym (map-append (λ (c : IdCode). shape_in c.text) cs (c ∷ []))
+
+  -- ---- a key that is inserted
+
+  -- where no key is the same, no code has these bytes
+  pub none_entered : (keys : List CodeKey) (cs : List IdCode) → AllByRecursion (λ (c : IdCode). AreBytes c.text) cs → AreKeysOf keys cs → list_any (same_shape key) keys ≡ false → find (has_text t) cs ≡ None
+  none_entered [] [] h e n = refl
+  none_entered [] (c ∷ cs) h e n = absurd (omega (arith, ap length e))
+  none_entered (k ∷ keys) [] h e n = absurd (omega (arith, ap length e))
+  none_entered (k ∷ keys) (c ∷ cs) h e n =
+      let p = or_parts (same_shape key k) (list_any (same_shape key) keys) n in
+      ap (λ b. cond b (Some c) (find (has_text t) cs)) (sym (test_same k c h.0 (ap first_of e)) ∙ p.0) ∙ none_entered keys cs h.1 (ap rest_of e) p.1
+
+  len_of : (keys : List CodeKey) (cs : List IdCode) → AreKeysOf keys cs → length keys ≡ length cs
+  len_of keys cs e = sym (length-map keys shape_of) ∙ ap length e ∙ length-map cs (λ (c : IdCode). shape_in c.text)
+
+  place_last : (keys : List CodeKey) → list_any (same_shape key) keys ≡ false → position_or_len (same_shape key) keys ≡ length keys
+  place_last [] n = refl
+  place_last (k ∷ keys) n =
+      let p = or_parts (same_shape key k) (list_any (same_shape key) keys) n in
+      ap (λ b. cond (not b) (1 + prefix_len (λ x. not (same_shape key x)) keys) 0) p.0 ∙ (let rest = place_last keys p.1 in omega (arith, rest))
+
+  -- its place is behind all codes
+  pub last_entered : (keys : List CodeKey) (cs : List IdCode) → AreKeysOf keys cs → list_any (same_shape key) keys ≡ false → position_or_len (same_shape key) keys ≡ length cs
+  last_entered keys cs e n = place_last keys n ∙ len_of keys cs e
+
+  -- one that is there is at the place of the code with these bytes
+  pub finds_entered : (keys : List CodeKey) (cs : List IdCode) (place : ℕ) → AllByRecursion (λ (c : IdCode). AreBytes c.text) cs → AreKeysOf keys cs → place ≡ position_or_len (same_shape key) keys → place < length keys → Finds cs t (Some place)
+  finds_entered keys cs place h e is l =
+      let n = position_or_len (same_shape key) keys in
+      let below : nat_lt n (length keys) ≡ true = lt-ltb n (length keys) (omega (arith, is, l)) in
+      subst (Finds cs t) (ap (λ b. cond b (Some n) None) below ∙ ap Some (sym is)) (finds_key keys cs h e)
 
 -- ---- one key after the other
 

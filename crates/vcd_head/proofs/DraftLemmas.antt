@@ -239,6 +239,24 @@ holds_declared most d d' ps x h k date version scale = record {
   scaled = subst (λ o. IfSome o (λ (s : Scale). IsExponent s.exponent)) (sym scale) h.scaled;
 }
 
+-- a draft that holds the same, of codes that may be kept otherwise
+pub holds_same : (most : ℕ) (d d' : Draft) (ps : List HeaderPhrase) → IsDraftOf most d ps → d'.text.items ≡ d.text.items → HasCodes d'.text.items d'.codes (declarations_of ps) → d'.rows.items ≡ d.rows.items → d'.scopes.items ≡ d.scopes.items
+    → d'.date.items ≡ d.date.items → d'.version.items ≡ d.version.items → d'.scale ≡ d.scale → IsDraftOf most d' ps
+holds_same most d d' ps h text codes rows scopes date version scale = record {
+  declares = record {
+    codes = codes;
+    rows = rw (text, rows) h.declares.rows;
+    nested = scopes ∙ h.declares.nested;
+    balance = h.declares.balance;
+    held = rw text h.declares.held;
+    few = h.declares.few;
+  };
+  date = date ∙ h.date;
+  version = version ∙ h.version;
+  scale = ap (option_map (λ (s : Scale). s.exponent)) scale ∙ h.scale;
+  scaled = subst (λ o. IfSome o (λ (s : Scale). IsExponent s.exponent)) (sym scale) h.scaled;
+}
+
 -- a phrase of which f has nothing to say
 pub not_said : {X : Type 0} (f : HeaderPhrase → Option X) (ps : List HeaderPhrase) (p : HeaderPhrase) → f p ≡ None → filter_map f (ps ++ p ∷ []) ≡ filter_map f ps
 not_said f ps p h = filter_map-append f ps (p ∷ []) ∙ rw h (append-nil (filter_map f ps))
@@ -293,14 +311,16 @@ holds_scale most d ps x h in_range = record {
     again : {ds es : List Declaration} → ds ≡ es → Declares most d ds → Declares most (record d { scale = Some x }) es
     again q k = subst (Declares most (record d { scale = Some x })) q (record { codes = k.codes; rows = k.rows; nested = k.nested; balance = k.balance; held = k.held; few = k.few; allowed = k.allowed })
 
--- a variable
-pub var_declared : (most : ℕ) (d d' : Draft) (ds : List Declaration) (v : Variable) (r : Row) (more : List ℕ) → Declares most d ds → length ds < most → v.reference ≢ []
-    → d'.text.items ≡ d.text.items ++ (v.type ++ (join_with_byte 32 v.reference ++ more)) → length more ≤ length v.code → d'.rows.items ≡ d.rows.items ++ r ∷ [] → HasCodes d'.text.items d'.codes (ds ++ Declaration.Var v ∷ [])
-    → slice_get (codes_of (ds ++ Declaration.Var v ∷ [])) r.code ≡ Some (code_of v) → d'.scopes.items ≡ d.scopes.items → r.kind ≡ kind.Var → r.parent ≡ unwrap_or (slice_get d.scopes.items (length d.scopes.items - 1)) 0 → r.start ≡ length d.text.items → r.word ≡ length v.type
+-- a variable, the bytes of whose code come before its own or behind them
+pub var_entered : (most : ℕ) (d d' : Draft) (ds : List Declaration) (v : Variable) (r : Row) (before more : List ℕ) → Declares most d ds → length ds < most → v.reference ≢ []
+    → d'.text.items ≡ d.text.items ++ (before ++ (v.type ++ (join_with_byte 32 v.reference ++ more))) → length before + length more ≤ length v.code → d'.rows.items ≡ d.rows.items ++ r ∷ [] → HasCodes d'.text.items d'.codes (ds ++ Declaration.Var v ∷ [])
+    → slice_get (codes_of (ds ++ Declaration.Var v ∷ [])) r.code ≡ Some (code_of v) → d'.scopes.items ≡ d.scopes.items → r.kind ≡ kind.Var → r.parent ≡ unwrap_or (slice_get d.scopes.items (length d.scopes.items - 1)) 0 → r.start ≡ length (d.text.items ++ before) → r.word ≡ length v.type
     → r.all ≡ length (join_with_byte 32 v.reference) → r.name ≡ length (first_token v.reference) → Declares most d' (ds ++ Declaration.Var v ∷ [])
-var_declared most d d' ds v r more h few named text short rows codes at scopes kind parent start word all name =
+var_entered most d d' ds v r before more h few named text short rows codes at scopes kind parent start word all name =
     let x = Declaration.Var v in
-    let tail = v.type ++ (join_with_byte 32 v.reference ++ more) in
+    let own = v.type ++ (join_with_byte 32 v.reference ++ more) in
+    let tail = before ++ own in
+    let apart : d'.text.items ≡ (d.text.items ++ before) ++ own = text ∙ sym (append_assoc d.text.items before own) in
     let grown = codes_grown ds v in
     let up = sum_by_push (λ e. cond (is_up e) 1 0) ds x in
     let down = sum_by_push (λ e. cond (is_scope e) 1 0) ds x in
@@ -312,11 +332,19 @@ var_declared most d d' ds v r more h few named text short rows codes at scopes k
           (subst (λ t. AreRows t (codes_of (ds ++ x ∷ [])) [] d.rows.items ds) (sym text) (subst (λ ks. AreRows (d.text.items ++ tail) ks [] d.rows.items ds) (sym grown.1) (are_rows_grow d.text.items tail (codes_of ds) grown.0 [] d.rows.items ds h.rows)))
           (record {
             parent_is = parent ∙ parent_is ds d.scopes.items h.nested;
-            own = (kind, subst (λ t. HasTexts t r v.type v.reference) (sym text) (texts_there d.text.items v.type v.reference more r named start word all name), at);
+            own = (kind, subst (λ t. HasTexts t r v.type v.reference) (sym apart) (texts_there (d.text.items ++ before) v.type v.reference more r named start word all name), at);
           }));
       nested = scopes ∙ h.nested ∙ ap (λ l. map suc (reverse l)) (sym (enclosing-var ds v));
       balance = rw (enclosing-var ds v) (omega arith);
-      held = omega (arith, ap length text, length-append d.text.items tail, length-append v.type (join_with_byte 32 v.reference ++ more), length-append (join_with_byte 32 v.reference) more, sum_by_push kept_bytes ds x);
+      held = omega (arith, ap length text, length-append d.text.items tail, length-append before own, length-append v.type (join_with_byte 32 v.reference ++ more), length-append (join_with_byte 32 v.reference) more, sum_by_push kept_bytes ds x);
       few = omega (arith, length_push ds x);
       allowed = h.allowed;
     }
+
+-- a variable
+pub var_declared : (most : ℕ) (d d' : Draft) (ds : List Declaration) (v : Variable) (r : Row) (more : List ℕ) → Declares most d ds → length ds < most → v.reference ≢ []
+    → d'.text.items ≡ d.text.items ++ (v.type ++ (join_with_byte 32 v.reference ++ more)) → length more ≤ length v.code → d'.rows.items ≡ d.rows.items ++ r ∷ [] → HasCodes d'.text.items d'.codes (ds ++ Declaration.Var v ∷ [])
+    → slice_get (codes_of (ds ++ Declaration.Var v ∷ [])) r.code ≡ Some (code_of v) → d'.scopes.items ≡ d.scopes.items → r.kind ≡ kind.Var → r.parent ≡ unwrap_or (slice_get d.scopes.items (length d.scopes.items - 1)) 0 → r.start ≡ length d.text.items → r.word ≡ length v.type
+    → r.all ≡ length (join_with_byte 32 v.reference) → r.name ≡ length (first_token v.reference) → Declares most d' (ds ++ Declaration.Var v ∷ [])
+var_declared most d d' ds v r more h few named text short rows codes at scopes kind parent start word all name =
+    var_entered most d d' ds v r [] more h few named text (omega (arith, short)) rows codes at scopes kind parent (start ∙ sym (ap length (append-nil d.text.items))) word all name

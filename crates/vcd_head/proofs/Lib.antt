@@ -24,6 +24,7 @@ pub mod CodeKeys
 pub mod IndexLemmas
 pub mod RankLemmas
 pub mod CodeChecks
+pub mod EnteredLemmas
 pub mod ScaleLemmas
 pub mod ScaleChecks
 pub mod ScaleTexts

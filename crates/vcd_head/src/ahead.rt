@@ -1,24 +1,18 @@
 // Variables and scopes whose phrases lie whole ahead in the chunk: their tokens cost no change of the feed.
-ghost use Rattle.std.specs.Prelude.{◌≡◌, ℕ, ◌+◌, ◌-◌, ◌<◌, ◌≤◌, List, [], ◌∷◌, ◌++◌, true, length, slice_range, codes, bytes_eq, IfSome, IfOk, IfErr, MatchBool, MatchResult};
-ghost use Rattle.std.specs.List.{list_all};
-ghost use Rattle.vcd_model.specs.Bytes.{decimal_value, is_code_byte};
-ghost use Rattle.vcd_model.specs.Checks.{first_failed};
-ghost use Rattle.vcd_model.specs.Declarations.{Declaration};
-ghost use Rattle.vcd_model.specs.HeaderChecks.{var_checks};
+ghost use Rattle.std.specs.Prelude.{◌≡◌, ℕ, ◌+◌, ◌-◌, ◌<◌, ◌≤◌, List, [], ◌∷◌, ◌++◌, true, length, slice_range, IfSome, IfOk, IfErr, MatchBool, MatchResult};
 ghost use Rattle.vcd_model.specs.Input.{Input};
 ghost use Rattle.vcd_model.specs.Tokens.{Token};
 ghost use Rattle.vcd_text.specs.Advances.{Advances};
 ghost use Rattle.vcd_text.specs.Ahead.{bytes_of, longest_of, passed_of, start_of};
 ghost use Rattle.vcd_text.specs.Passed.{Passed};
 ghost use Rattle.vcd_head.specs.Ahead.{IsReference, IsVariable, LooksOver};
-ghost use Rattle.vcd_head.specs.Draft.{DraftsBehind, DraftsOn, DraftsUpTo, HasCodes, IsFound};
+ghost use Rattle.vcd_head.specs.Draft.{DraftsBehind, DraftsOn, DraftsUpTo};
 ghost use Rattle.vcd_head.specs.Fault.{call_end};
 ghost use Rattle.vcd_head.specs.Reads.{Fails};
 
 use crate::ahead_scopes::{close_scope, open_scope, scope_ahead, upscope_ahead};
-use crate::code_place::place_of;
-use crate::codes::Codes;
-use crate::draft::{Draft, Found};
+use crate::code_ahead::enter_code;
+use crate::draft::Draft;
 use crate::fault::HeadFault;
 use crate::rows::{WideRow, push};
 use crate::sought::Sought;
@@ -164,33 +158,6 @@ fn variable_ahead<'a>(ahead: &mut Ahead<'a>) -> Option<AheadVariable<'a>>
     })
 }
 
-/// How the code of a variable of this size, which is an event or none, was found; none where it was declared with another size or
-/// kind.
-#[inline(always)]
-fn found_in(known: &Codes, code: &Sought<'_>, size: usize, event: bool) -> Option<Found>
-    ensures { (text type digits : List ℕ) (ds : List Declaration) → HasCodes text known.now ds
-        → decimal_value digits ≡ size → bytes_eq (codes "event") type ≡ event
-        → list_all is_code_byte code.now.bytes.now ≡ true → IfSome result (λ found.
-        (first_failed (var_checks ds (type ∷ digits ∷ []) code.now.bytes.now) ≡ None)
-        × ((reference : List (List ℕ)) → IsFound ds (record {
-          type = type;
-          size = decimal_value digits;
-          code = code.now.bytes.now;
-          reference = reference;
-        }) code.now.bytes.now found)) }
-{
-    let Some(coded) = known.find(code) else {
-        return Some(Found::New);
-    };
-    if coded.code.size != size {
-        return None;
-    }
-    if coded.code.event != event {
-        return None;
-    }
-    Some(Found::Declared(coded.place))
-}
-
 /// Puts type and reference of a variable to the text.
 #[inline(always)]
 fn put_texts(text: &mut Vec<u8>, variable: AheadVariable<'_>) -> Result<(), AllocError>
@@ -220,21 +187,20 @@ fn declare(
     }
     let event = is_event(variable.word);
     let code = Sought::new(alloc, variable.code)?;
-    let Some(found) = found_in(&draft.codes, &code, variable.size, event) else {
+    let Some(place) = enter_code(
+        &mut draft.text,
+        &mut draft.codes,
+        code,
+        variable.size,
+        event,
+    )?
+    else {
         return Ok(false);
     };
     let start = draft.text.len();
     put_texts(&mut draft.text, variable)?;
     let word = variable.word.len();
     let all = variable.reference.text.len();
-    let place = place_of(
-        &mut draft.text,
-        &mut draft.codes,
-        found,
-        code,
-        variable.size,
-        event,
-    )?;
     let parent = draft.parent();
     push(
         &mut draft.rows,

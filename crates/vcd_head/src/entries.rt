@@ -1,15 +1,17 @@
-// The entries by which codes are looked up: how they are filled. Any code may have any place among them, and two the same: where
-// an entry is decides only how fast a look-up is.
-ghost use Rattle.std.specs.Prelude.{◌≡◌, ◌≢◌, ◌*◌, ◌^◌, ◌≤◌, ◌<◌, ℕ, List, true, length, set, slice_get, Some, IfOk};
+// The entries by which codes are looked up: how they are filled. Any code may have any place among them, or none: where an entry
+// is decides only how fast a look-up is.
+ghost use Rattle.std.specs.Prelude.{◌≡◌, ◌*◌, ◌^◌, ◌≤◌, ◌<◌, ℕ, List, true, length, set, slice_get, Some, IfOk, IfSome};
 ghost use Rattle.vcd_view.specs.Entries.{are_right, is_right, text_in};
 ghost use Rattle.vcd_view.specs.Keys.{key_in};
 ghost use Rattle.vcd_view.specs.declared.view.Code.{Code};
 
 use std::alloc::{AllocError, Global};
-use vcd_view::{Code, Entry, entry_of, key_of, most_of, text_in};
+use vcd_view::{
+    Code, CodeSeed, Entry, MOST_LOOKS, entry_after, entry_of, key_of, long_key, most_of, text_in,
+};
 
-/// The entry of no code.
-pub(crate) const EMPTY: Entry = Entry {
+// The entry of no code.
+const EMPTY: Entry = Entry {
     key: 0,
     place: 0,
     most: 0,
@@ -20,6 +22,7 @@ pub(crate) fn entries_of(
     alloc: Global,
     text: &[u8],
     codes: &[Code],
+    seed: CodeSeed,
 ) -> Result<Vec<Entry>, AllocError>
     ensures right { IfOk result (λ entries. are_right text.now codes.now entries.items ≡ true) }
     ensures few { IfOk result (λ entries. length entries.items ≤ 3 * length codes.now) }
@@ -28,7 +31,7 @@ pub(crate) fn entries_of(
         return Ok(Vec::new(alloc));
     }
     let mut entries = vec![in alloc; EMPTY; count_for(codes.len())]?;
-    fill(&mut entries, text, codes);
+    fill(&mut entries, text, codes, seed);
     Ok(entries)
 }
 
@@ -45,35 +48,86 @@ fn count_for(codes: usize) -> usize
     }
 }
 
-// Writes the entry of each code. Where codes share one, it is that of the last.
-fn fill(entries: &mut [Entry], text: &[u8], codes: &[Code])
+// Writes the entry of each code.
+fn fill(entries: &mut [Entry], text: &[u8], codes: &[Code], seed: CodeSeed)
     ensures right { are_right text.now codes.now entries.old ≡ true
         → are_right text.now codes.now entries.new ≡ true }
     ensures len { length entries.new ≡ length entries.old }
 {
     for (place, code) in codes.iter().enumerate() {
         let bytes = text_in(text, code.start, code.len as usize);
-        let at = entry_of(bytes, entries.len());
-        put(entries, at, entry_at(place, *code, bytes));
+        enter(entries, place, *code, bytes, seed);
     }
 }
 
-/// The entry of a code with these bytes, which is at this place; an empty one where 32 bits do not hold the place.
+// Writes the entry of a code with these bytes, which is at this place: to its own or one beside it, if one of them is free, else
+// where its hash leads.
 #[inline(always)]
-pub(crate) fn entry_at(place: usize, code: Code, bytes: &[u8]) -> Entry
+fn enter(entries: &mut [Entry], place: usize, code: Code, bytes: &[u8], seed: CodeSeed)
     ensures right { (text : List ℕ) (codes : List Code) → slice_get codes place ≡ Some code
-        → bytes.now ≡ text_in text code.start code.len → is_right text codes result ≡ true }
+        → bytes.now ≡ text_in text code.start code.len → are_right text codes entries.old ≡ true
+        → are_right text codes entries.new ≡ true }
+    ensures len { length entries.new ≡ length entries.old }
 {
-    entry_with(place, code, key_of(bytes))
+    let key = key_of(bytes);
+    if key == 0 {
+        let hash = seed.hashed(0, bytes);
+        put_hashed(entries, hash, entry_with(place, code, long_key(hash)));
+        return;
+    }
+    let entry = entry_with(place, code, key);
+    match free_near(entries, entry_of(bytes, entries.len())) {
+        Some(at) => put(entries, at, entry),
+        None => put_hashed(entries, seed.mixed(0, key), entry),
+    }
 }
 
-/// The entry of a code with this key, which is at this place; an empty one where 32 bits do not hold the place.
+// The first free one of a code's own entry and the three beside it.
 #[inline(always)]
-pub(crate) fn entry_with(place: usize, code: Code, key: u64) -> Entry
-    ensures right { (text bytes : List ℕ) (codes : List Code) → slice_get codes place ≡ Some code
-        → key ≡ key_in bytes → bytes ≡ text_in text code.start code.len
+fn free_near(entries: &[Entry], own: usize) -> Option<usize>
+    ensures { IfSome result (λ at. at < length entries.now) }
+{
+    for other in 0..4 {
+        if is_free(entries, own ^ other) {
+            return Some(own ^ other);
+        }
+    }
+    None
+}
+
+// Writes an entry to the first free one to which the hash leads; to none where all that are looked at are taken.
+fn put_hashed(entries: &mut [Entry], hash: u64, entry: Entry)
+    ensures right { (text : List ℕ) (codes : List Code) → is_right text codes entry ≡ true
+        → are_right text codes entries.old ≡ true → are_right text codes entries.new ≡ true }
+    ensures len { length entries.new ≡ length entries.old }
+{
+    for looks in 0..MOST_LOOKS {
+        let at = entry_after(hash, looks, entries.len());
+        if is_free(entries, at) {
+            put(entries, at, entry);
+            return;
+        }
+    }
+}
+
+// There is such an entry, and it is that of no code.
+#[inline(always)]
+fn is_free(entries: &[Entry], at: usize) -> bool
+    ensures { result ≡ true → at < length entries.now }
+{
+    match entries.get(at) {
+        Some(entry) => entry.key == 0,
+        None => false,
+    }
+}
+
+// The entry of a code with this key, which is at this place; an empty one where 32 bits do not hold the place.
+#[inline(always)]
+fn entry_with(place: usize, code: Code, key: u64) -> Entry
+    ensures short { (text : List ℕ) (codes : List Code) → slice_get codes place ≡ Some code
+        → key ≡ key_in (text_in text code.start code.len) → is_right text codes result ≡ true }
+    ensures long { (text : List ℕ) (codes : List Code) → 2 ^ 63 ≤ key
         → is_right text codes result ≡ true }
-    ensures own { result.key ≢ 0 → (result.key ≡ key) × (result.place ≡ place) }
 {
     let Ok(place) = u32::try_from(place) else {
         return EMPTY;
@@ -85,9 +139,9 @@ pub(crate) fn entry_with(place: usize, code: Code, key: u64) -> Entry
     }
 }
 
-/// Writes one entry, if there are so many.
+// Writes one entry, if there are so many.
 #[inline(always)]
-pub(crate) fn put(entries: &mut [Entry], at: usize, entry: Entry)
+fn put(entries: &mut [Entry], at: usize, entry: Entry)
     ensures { entries.new ≡ set entries.old at entry }
 {
     if at < entries.len() {

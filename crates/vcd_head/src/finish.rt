@@ -30,15 +30,17 @@ pub(crate) fn finish(alloc: Global, draft: Draft) -> Result<Head, HeadFault>
         ..
     } = draft;
     let Codes { list: codes, keys } = codes;
+    let seed = *keys.hasher();
     drop(keys);
     let index = index_of(alloc, &text, &codes)?;
-    let entries = entries_of(alloc, &text, &codes)?;
+    let entries = entries_of(alloc, &text, &codes, seed)?;
     Ok(Head {
         text,
         rows,
         codes,
         index,
         entries,
+        seed,
         date,
         version,
         scale,

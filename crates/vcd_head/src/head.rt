@@ -2,7 +2,7 @@
 ghost use Rattle.std.specs.Prelude.{◌≡◌, true};
 ghost use Rattle.vcd_view.specs.Entries.{are_right};
 
-use vcd_view::{Code, Entry, HeadView, Row, Scale};
+use vcd_view::{Code, CodeSeed, Entry, HeadView, Row, Scale};
 
 /// A header in memory of its own.
 #[derive(Drop)]
@@ -12,6 +12,7 @@ pub struct Head {
     pub(crate) codes: Vec<Code>,
     pub(crate) index: Vec<usize>,
     pub(crate) entries: Vec<Entry>,
+    pub(crate) seed: CodeSeed,
     pub(crate) date: Vec<u8>,
     pub(crate) version: Vec<u8>,
     pub(crate) scale: Option<Scale>,
@@ -32,6 +33,7 @@ impl Head {
             codes: &self.codes,
             index: &self.index,
             entries: &self.entries,
+            seed: self.seed,
             date: &self.date,
             version: &self.version,
             scale: self.scale,

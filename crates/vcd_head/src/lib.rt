@@ -21,7 +21,8 @@
 //! - `read`, `phrases`: the whole header; one phrase of it
 //! - `tokens`, `texts`, `words`: the next token; texts up to `$end`; tests of tokens
 //! - `scopes`, `variable`, `scale`, `rows`: what a phrase declares, and its row
-//! - `ahead`, `ahead_scopes`: variables and scopes whose phrases lie whole in the chunk
+//! - `ahead`, `ahead_scopes`, `code_ahead`: variables and scopes whose phrases lie whole in the chunk; the code of such a
+//!   variable
 //! - `draft`, `codes`, `code_place`, `code_key`, `sought`, `finish`: a header while it is read, its codes, and the keys by
 //!   which a set finds them; the head that it becomes
 //! - `head`, `fault`: `Head`; `HeadFault`
@@ -48,6 +49,7 @@
 
 mod ahead;
 mod ahead_scopes;
+mod code_ahead;
 mod code_key;
 mod code_place;
 mod codes;
@@ -85,6 +87,6 @@ pub use path::put_path;
 pub use read::{read_head, read_head_with_hasher};
 pub use selection::{select, selects};
 pub use vcd_view::{
-    Code, HeadView, Kind, Need, Probes, Row, Scale, find, find_counted, need, put_code,
+    Code, CodeSeed, HeadView, Kind, Need, Probes, Row, Scale, find, find_counted, need, put_code,
 };
 pub use write::put_head;

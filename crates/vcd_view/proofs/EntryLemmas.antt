@@ -1,9 +1,9 @@
 -- The entries by which codes are looked up.
-use Rattle.std.proofs.Common.{◌≡◌, ◌≢◌, ℕ, zero, suc, ◌<◌, ◌==◌, ◌&&◌, ◌||◌, not, cond, Bool, true, false, List, [], ◌∷◌, length, set, replicate, Option, Some, None, option_map, unwrap_or, refl, sym, ap, subst, ◌∙◌, arith}
+use Rattle.std.proofs.Common.{◌≡◌, ◌≢◌, ℕ, zero, suc, ◌<◌, ◌≤◌, ◌^◌, nat_le, ◌==◌, ◌&&◌, ◌||◌, not, cond, Bool, true, false, List, [], ◌∷◌, length, set, replicate, Option, Some, None, option_map, unwrap_or, refl, sym, ap, subst, ◌∙◌, arith}
 use Rattle.std.specs.Prelude.{slice_get}
 use Rattle.std.specs.List.{AllZip, list_all}
 use Rattle.std.specs.Option.{option_or}
-use Rattle.std.proofs.lemmas.Bool.{and_parts, eqb-true, ne_eqb, eq-eqb, false≢true}
+use Rattle.std.proofs.lemmas.Bool.{and_parts, eqb-true, ne_eqb, eq-eqb, false≢true, le-leb, lt-leb}
 use Rattle.std.proofs.lemmas.Option.{none-some, same_Some, slice_get_within}
 use Rattle.vcd_view.specs.declared.view.Code.{Code}
 use Rattle.vcd_view.specs.declared.view.Entry.{Entry}
@@ -11,8 +11,8 @@ use Rattle.vcd_view.specs.Finds.{Finds}
 use Rattle.vcd_view.specs.Keys.{AreBytes, key_in}
 use Rattle.vcd_model.specs.Declarations.{IdCode}
 use Rattle.vcd_view.specs.Views.{AreHeld, IsCode}
-use Rattle.vcd_view.specs.Entries.{are_right, is_right, is_entry_of, most_of, place_told, text_in, told_by}
-use Rattle.vcd_view.proofs.KeyLemmas.{bytes_at_place, same_key}
+use Rattle.vcd_view.specs.Entries.{HasEntry, IsAt, are_right, is_right, is_entry_of, most_of, place_told, text_in, told_by}
+use Rattle.vcd_view.proofs.KeyLemmas.{bytes_at_place, key_below, same_key}
 use Rattle.vcd_view.proofs.LookUpLemmas.{first_with}
 use Rattle.vcd_view.proofs.RowLemmas.{text_within}
 
@@ -42,36 +42,44 @@ one_of_all p (y ∷ xs) (suc i) x h e = one_of_all p xs i x (and_parts (p y) (li
 
 -- ---- what an entry says
 
--- what an entry with a key says of the code at its place
-pub entry_tells : (text : List ℕ) (codes : List Code) (e : Entry) → is_right text codes e ≡ true → e.key ≢ 0
+or_true : (b : Bool) → (b || true) ≡ true
+or_true true = refl
+or_true false = refl
+
+-- the entry is that of this code
+abbrev says : List ℕ → Entry → Option Code → Bool
+says text e o = unwrap_or (option_map (is_entry_of text e) o) false
+
+-- what an entry with the key of a short code says of the code at its place
+pub entry_tells : (text : List ℕ) (codes : List Code) (e : Entry) → is_right text codes e ≡ true → e.key ≢ 0 → e.key < 2 ^ 63
     → (c : Code) × (slice_get codes e.place ≡ Some c) × (e.key ≡ key_in (text_in text c.start c.len)) × (e.most ≡ most_of c)
-entry_tells text codes e h n = by_code (slice_get codes e.place) refl
+entry_tells text codes e h n l = by_code (slice_get codes e.place) refl
   where
-    right : (e.key == 0) ≡ false
-    right = ne_eqb e.key 0 n
+    right : says text e (slice_get codes e.place) ≡ true
+    right = sym (ap (λ b. b || (nat_le (2 ^ 63) e.key || says text e (slice_get codes e.place))) (ne_eqb e.key 0 n) ∙ ap (λ b. b || says text e (slice_get codes e.place)) (lt-leb (2 ^ 63) e.key l)) ∙ h
 
     by_code : (o : Option Code) → slice_get codes e.place ≡ o → (c : Code) × (slice_get codes e.place ≡ Some c) × (e.key ≡ key_in (text_in text c.start c.len)) × (e.most ≡ most_of c)
-    by_code None s = absurd (false≢true (sym (ap (λ b. b || false) right) ∙ sym (ap (λ (o : Option Code). (e.key == 0) || unwrap_or (option_map (is_entry_of text e) o) false) s) ∙ h))
+    by_code None s = absurd (false≢true (sym (ap (says text e) s) ∙ right))
     by_code (Some c) s =
-        let b = and_parts (e.key == key_in (text_in text c.start c.len)) (e.most == most_of c) (sym (ap (λ b. b || is_entry_of text e c) right) ∙ sym (ap (λ (o : Option Code). (e.key == 0) || unwrap_or (option_map (is_entry_of text e) o) false) s) ∙ h) in
+        let b = and_parts (e.key == key_in (text_in text c.start c.len)) (e.most == most_of c) (sym (ap (says text e) s) ∙ right) in
         (c, s, eqb-true _ _ b.0, eqb-true _ _ b.1)
 
 -- an entry with the key and the size of the code at its place
 pub entry_stands : (text : List ℕ) (codes : List Code) (e : Entry) (c : Code) → slice_get codes e.place ≡ Some c → e.key ≡ key_in (text_in text c.start c.len) → e.most ≡ most_of c → is_right text codes e ≡ true
 entry_stands text codes e c s k m =
-    ap (λ (o : Option Code). (e.key == 0) || unwrap_or (option_map (is_entry_of text e) o) false) s
-    ∙ ap (λ b. (e.key == 0) || b) (both (e.key == key_in (text_in text c.start c.len)) (e.most == most_of c) (eq-eqb _ _ k) (eq-eqb _ _ m))
-    ∙ either (e.key == 0)
-  where
-    either : (b : Bool) → (b || true) ≡ true
-    either true = refl
-    either false = refl
+    ap (λ (o : Option Code). (e.key == 0) || (nat_le (2 ^ 63) e.key || unwrap_or (option_map (is_entry_of text e) o) false)) s
+    ∙ ap (λ b. (e.key == 0) || (nat_le (2 ^ 63) e.key || b)) (both (e.key == key_in (text_in text c.start c.len)) (e.most == most_of c) (eq-eqb _ _ k) (eq-eqb _ _ m))
+    ∙ ap (λ b. (e.key == 0) || b) (or_true (nat_le (2 ^ 63) e.key)) ∙ or_true (e.key == 0)
+
+-- an entry with the key of a long code
+pub entry_of_long : (text : List ℕ) (codes : List Code) (e : Entry) → 2 ^ 63 ≤ e.key → is_right text codes e ≡ true
+entry_of_long text codes e l = ap (λ b. (e.key == 0) || (b || unwrap_or (option_map (is_entry_of text e) (slice_get codes e.place)) false)) (le-leb (2 ^ 63) e.key l) ∙ or_true (e.key == 0)
 
 -- what the entry with a key says, which is among those that are right
-pub entry_found : (text : List ℕ) (codes : List Code) (es : List Entry) (i : ℕ) (e : Entry) (key : ℕ) → are_right text codes es ≡ true → slice_get es i ≡ Some e → (key ≡ 0 → ⊥) → e.key ≡ key
+pub entry_found : (text : List ℕ) (codes : List Code) (es : List Entry) (i : ℕ) (e : Entry) (key : ℕ) → are_right text codes es ≡ true → slice_get es i ≡ Some e → (key ≡ 0 → ⊥) → key < 2 ^ 63 → e.key ≡ key
     → (c : Code) × (slice_get codes e.place ≡ Some c) × (key ≡ key_in (text_in text c.start c.len)) × (e.most ≡ most_of c)
-entry_found text codes es i e key h s n k =
-    let told = entry_tells text codes e (one_of_all (is_right text codes) es i e h s) (λ z. n (sym k ∙ z)) in
+entry_found text codes es i e key h s n l k =
+    let told = entry_tells text codes e (one_of_all (is_right text codes) es i e h s) (λ z. n (sym k ∙ z)) (omega (arith, k, l)) in
     (told.0, told.1, sym k ∙ told.2, told.3)
 
 -- a code of a view is the header's at its place
@@ -97,7 +105,7 @@ told_key t e h =
 -- an entry that is right gives the place of its code
 gives : (text : List ℕ) (codes : List Code) (cs : List IdCode) (es : List Entry) (i : ℕ) (e : Entry) (t : List ℕ) → AreHeld text codes cs → are_right text codes es ≡ true → slice_get es i ≡ Some e → AreBytes t → e.key ≡ key_in t → e.key ≢ 0 → Finds cs t (Some e.place)
 gives text codes cs es i e t h right there a q n =
-    let told = entry_tells text codes e (one_of_all (is_right text codes) es i e right there) n in
+    let told = entry_tells text codes e (one_of_all (is_right text codes) es i e right there) n (omega (arith, q, key_below t a)) in
     let k = code_found text codes cs e.place told.0 h.stand told.1 in
     let read = text_within text told.0.start told.0.len k.2.within ∙ k.2.text_is in
     let equal : key_in t ≡ key_in k.0.text = sym q ∙ told.2 ∙ ap key_in read in
@@ -119,9 +127,9 @@ told_finds text codes cs es t p h right a (i ∷ is) z = by_entry (told_finds te
         by_test false q w = rest w
 
 -- what they give is the place of a code
-pub told_within : (text : List ℕ) (codes : List Code) (es : List Entry) (t : List ℕ) (p : ℕ) → are_right text codes es ≡ true → (is : List ℕ) → told_by es t is ≡ Some p → p < length codes
-told_within text codes es t p right [] z = absurd (none-some p z)
-told_within text codes es t p right (i ∷ is) z = by_entry (told_within text codes es t p right is) (slice_get es i) refl
+pub told_within : (text : List ℕ) (codes : List Code) (es : List Entry) (t : List ℕ) (p : ℕ) → are_right text codes es ≡ true → AreBytes t → (is : List ℕ) → told_by es t is ≡ Some p → p < length codes
+told_within text codes es t p right a [] z = absurd (none-some p z)
+told_within text codes es t p right a (i ∷ is) z = by_entry (told_within text codes es t p right a is) (slice_get es i) refl
   where
     by_entry : (told_by es t is ≡ Some p → p < length codes) → (o : Option Entry) → slice_get es i ≡ o → p < length codes
     by_entry rest None s = rest (sym (ap (λ o. option_or (place_told t o) (told_by es t is)) s) ∙ z)
@@ -129,6 +137,28 @@ told_within text codes es t p right (i ∷ is) z = by_entry (told_within text co
       where
         by_test : (b : Bool) → (not (key_in t == 0) && (e.key == key_in t)) ≡ b → option_or (cond b (Some e.place) None) (told_by es t is) ≡ Some p → p < length codes
         by_test true q w =
-            let told = entry_tells text codes e (one_of_all (is_right text codes) es i e right s) (told_key t e q).1 in
+            let k = told_key t e q in
+            let told = entry_tells text codes e (one_of_all (is_right text codes) es i e right s) k.1 (omega (arith, k.0, key_below t a)) in
             subst (λ x. x < length codes) (same_Some e.place p w) (slice_get_within codes e.place told.0 told.1)
         by_test false q w = rest w
+
+-- ---- what the hash of a code leads to
+
+-- an entry with the key of a short code gives its place
+pub entry_finds : (text : List ℕ) (codes : List Code) (cs : List IdCode) (es : List Entry) (t : List ℕ) (p : ℕ) → AreHeld text codes cs → are_right text codes es ≡ true → AreBytes t → key_in t ≢ 0 → HasEntry es (key_in t) p → Finds cs t (Some p)
+entry_finds text codes cs es t p h right a n has =
+    subst (λ x. Finds cs t (Some x)) has.4 (gives text codes cs es has.0 has.1 t h right has.2 a has.3 (λ z. n (sym has.3 ∙ z)))
+
+pub entry_within : (text : List ℕ) (codes : List Code) (es : List Entry) (t : List ℕ) (p : ℕ) → are_right text codes es ≡ true → AreBytes t → key_in t ≢ 0 → HasEntry es (key_in t) p → p < length codes
+entry_within text codes es t p right a n has =
+    let told = entry_found text codes es has.0 has.1 (key_in t) right has.2 n (key_below t a) has.3 in
+    subst (λ x. x < length codes) has.4 (slice_get_within codes has.1.place told.0 told.1)
+
+-- the place of a code with these bytes
+pub at_finds : (text : List ℕ) (codes : List Code) (cs : List IdCode) (t : List ℕ) (p : ℕ) → AreHeld text codes cs → IsAt text codes t p → Finds cs t (Some p)
+at_finds text codes cs t p h at =
+    let k = code_found text codes cs p at.0 h.stand at.1 in
+    (k.0, k.1, first_with cs t p k.0 h.distinct k.1 (sym at.2 ∙ text_within text at.0.start at.0.len k.2.within ∙ k.2.text_is))
+
+pub at_within : (text : List ℕ) (codes : List Code) (t : List ℕ) (p : ℕ) → IsAt text codes t p → p < length codes
+at_within text codes t p at = slice_get_within codes p at.0 at.1

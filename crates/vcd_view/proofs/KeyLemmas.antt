@@ -1,6 +1,7 @@
 -- Short codes as numbers.
 use Rattle.std.proofs.Common.{◌≡◌, ◌≢◌, ℕ, zero, suc, ◌+◌, ◌*◌, ◌/◌, ◌%◌, ◌^◌, ◌<◌, ◌≤◌, nat_le, cond, Bool, true, false, List, [], ◌∷◌, map, Some, unwrap_or, subst, length, get_or, refl, ap, ◌∙◌, arith, add-one, pow-suc}
 use Rattle.std.proofs.Math.Nat.{pow-le-pow_right}
+use Rattle.std.proofs.lemmas.Bool.{leb-true}
 use Rattle.std.proofs.lemmas.Option.{none-some, same_Some}
 use Rattle.std.specs.Prelude.{slice_get}
 use Rattle.std.specs.List.{AllByRecursion}
@@ -39,6 +40,18 @@ same_key a b f g e n = by_length (nat_le (length a) 7) (nat_le (length b) 7) f g
     by_length true true f g e n = same_packed a b f g e
     by_length true false f g e n = absurd (omega (arith, e, n))
     by_length false q f g e n = absurd (omega (arith, n))
+
+-- a key is below those of the entries of long codes
+packed_below : (bs : List ℕ) → AreBytes bs → packed bs < 33 * 256 ^ length bs
+packed_below [] h = omega arith
+packed_below (b ∷ bs) h = rw (pow-suc 256 (length bs)) (omega (arith, packed_below bs h.1, h.0))
+
+pub key_below : (t : List ℕ) → AreBytes t → key_in t < 2 ^ 63
+key_below t h = by_length (nat_le (length t) 7) refl
+  where
+    by_length : (q : Bool) → nat_le (length t) 7 ≡ q → cond q (packed t) 0 < 2 ^ 63
+    by_length true q = let most : 256 ^ length t ≤ 256 ^ 7 = pow-le-pow_right (omega arith) (leb-true _ _ q) in omega (arith, packed_below t h, most)
+    by_length false q = omega arith
 
 -- the bytes of a list of bytes
 pub are_bytes : (bs : List ℕ) → ((i d : ℕ) → i < length bs → get_or bs i d < 256) → AreBytes bs

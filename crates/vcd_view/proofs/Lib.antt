@@ -7,3 +7,4 @@ pub mod LookUpLemmas
 pub mod RoomLemmas
 pub mod KeywordLemmas
 pub mod NewCodeLemmas
+pub mod HashLemmas

@@ -1,5 +1,5 @@
 -- The entries by which codes are looked up.
-use Rattle.std.specs.Prelude.{ℕ, ◌+◌, ◌-◌, ◌*◌, ◌%◌, ◌^◌, ◌==◌, ◌&&◌, ◌||◌, nat_le, bit_and, bit_xor, not, cond, Bool, false, List, [], ◌∷◌, length, slice_get, slice_range, Option, Some, None, option_map, unwrap_or}
+use Rattle.std.specs.Prelude.{◌≡◌, ℕ, ◌+◌, ◌-◌, ◌*◌, ◌%◌, ◌^◌, ◌==◌, ◌&&◌, ◌||◌, nat_le, bit_and, bit_xor, not, cond, Bool, false, List, [], ◌∷◌, length, slice_get, slice_range, Option, Some, None, option_map, unwrap_or}
 use Rattle.std.specs.List.{list_all}
 use Rattle.std.specs.Option.{option_or}
 use Rattle.vcd_view.specs.declared.view.Code.{Code}
@@ -18,9 +18,9 @@ most_of c = cond (c.event || nat_le (2 ^ 32) c.size) 0 c.size
 abbrev pub is_entry_of : List ℕ → Entry → Code → Bool
 is_entry_of text e c = (e.key == key_in (text_in text c.start c.len)) && (e.most == most_of c)
 
--- the entry is empty, or that of the code at its place
+-- the entry is empty, or one that says nothing of the code at its place, as those of long codes do, or that of the code at its place
 abbrev pub is_right : List ℕ → List Code → Entry → Bool
-is_right text codes e = (e.key == 0) || unwrap_or (option_map (is_entry_of text e) (slice_get codes e.place)) false
+is_right text codes e = (e.key == 0) || (nat_le (2 ^ 63) e.key || unwrap_or (option_map (is_entry_of text e) (slice_get codes e.place)) false)
 
 -- each entry is
 abbrev pub are_right : List ℕ → List Code → List Entry → Bool
@@ -52,3 +52,11 @@ told_by es t (i ∷ is) = option_or (place_told t (slice_get es i)) (told_by es 
 -- the entries beside one
 abbrev pub beside : ℕ → List ℕ
 beside at = bit_xor at 1 ∷ bit_xor at 2 ∷ bit_xor at 3 ∷ []
+
+-- one of the entries has this key and this place
+abbrev pub HasEntry : List Entry → ℕ → ℕ → Type 0
+HasEntry es key place = (i : ℕ) × (e : Entry) × (slice_get es i ≡ Some e) × (e.key ≡ key) × (e.place ≡ place)
+
+-- the bytes of the code at a place are these
+abbrev pub IsAt : List ℕ → List Code → List ℕ → ℕ → Type 0
+IsAt text codes bytes place = (c : Code) × (slice_get codes place ≡ Some c) × (text_in text c.start c.len ≡ bytes)

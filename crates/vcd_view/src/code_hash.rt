@@ -1,7 +1,8 @@
 // How codes are hashed: by numbers that nobody knows who makes a dump.
 ghost use Rattle.std.specs.Prelude.{◌≡◌, ◌^◌, ◌<◌, length};
-ghost use Rattle.vcd_view.specs.CodeHash.{hashed, hashed_singly, mixed};
+ghost use Rattle.vcd_view.specs.CodeHash.{hashed, mixed};
 
+use crate::key::key_of;
 use std::hash::{BuildHasher, Hasher};
 
 /// Two numbers by which codes are hashed. Who does not know them cannot choose codes whose hashes fall together.
@@ -33,7 +34,7 @@ impl CodeSeed {
         (product >> 64) as u64
     }
 
-    /// The state after these bytes: eight of them count as one word, and else each as one.
+    /// The state after these bytes: each eight of them count as one word, and what is left as one more.
     #[inline(always)]
     pub fn hashed(self, state: u64, bytes: &[u8]) -> u64
         ensures { result ≡ hashed self state bytes.now }
@@ -42,19 +43,25 @@ impl CodeSeed {
             [a, b, c, d, e, f, g, h] => {
                 self.mixed(state, u64::from_le_bytes([*a, *b, *c, *d, *e, *f, *g, *h]))
             }
-            _ => self.hashed_singly(state, bytes),
+            _ => self.hashed_by_words(state, bytes),
         }
     }
 
-    // The state after these bytes, each as one word.
-    fn hashed_singly(self, state: u64, bytes: &[u8]) -> u64
-        ensures { result ≡ hashed_singly self state bytes.now }
+    // The state after bytes of any number.
+    fn hashed_by_words(self, state: u64, bytes: &[u8]) -> u64
+        ensures { result ≡ hashed self state bytes.now }
     {
-        let mut state = state;
-        for byte in bytes {
-            state = self.mixed(state, u64::from(*byte));
+        let mut hash = state;
+        let mut rest = bytes;
+        while let [a, b, c, d, e, f, g, h, more @ ..] = rest {
+            hash = self.mixed(hash, u64::from_le_bytes([*a, *b, *c, *d, *e, *f, *g, *h]));
+            rest = more;
         }
-        state
+        if rest.is_empty() {
+            hash
+        } else {
+            self.mixed(hash, key_of(rest))
+        }
     }
 }
 

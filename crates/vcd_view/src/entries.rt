@@ -1,10 +1,15 @@
 // The entries by which codes are looked up: where a code's entry is, and what it tells. Any code may have any place among
 // them, and two the same: where an entry is decides only how fast a look-up is.
-ghost use Rattle.std.specs.Prelude.{◌≡◌, ◌≢◌, ◌+◌, ◌-◌, ◌%◌, ◌^◌, ℕ, List, bit_and, slice_get, IfSome};
-ghost use Rattle.vcd_view.specs.Entries.{beside, place_told, told_by, above, entry_in, most_of, number_in};
+ghost use Rattle.std.specs.Prelude.{◌≡◌, ◌≢◌, ◌+◌, ◌-◌, ◌%◌, ◌^◌, ◌<◌, ◌≤◌, ℕ, List, true, bit_and, length, slice_get, Some, IfSome};
+ghost use Rattle.vcd_model.specs.Declarations.{IdCode};
+ghost use Rattle.vcd_view.specs.Entries.{HasEntry, IsAt, are_right, beside, place_told, told_by, above, entry_in, most_of, number_in};
+ghost use Rattle.vcd_view.specs.Finds.{Finds};
 ghost use Rattle.vcd_view.specs.Keys.{AreBytes, key_in};
+ghost use Rattle.vcd_view.specs.Views.{AreHeld};
 
-use crate::view::{Code, Entry};
+use crate::code_hash::CodeSeed;
+use crate::key::key_of;
+use crate::view::{Code, Entry, code_in, text_in};
 
 /// Where the entry of a code is among so many, a power of two.
 ///
@@ -112,6 +117,108 @@ pub fn place_beside(entries: &[Entry], own: usize, key: u64) -> Option<usize>
         return Some(place);
     }
     place_told(entries, own ^ 3, key)
+}
+
+// The least key of the entry of a code of 8 bytes or more.
+const LONG: u64 = 1 << 63;
+
+/// How many entries are looked at, at most, to which the hash of a code leads.
+pub const MOST_LOOKS: usize = 64;
+
+/// The entry to which a hash leads after so many looks, among so many, a power of two.
+///
+/// The lower half of the hash says where the first of them is, and the upper half how far one is
+/// from the next, so that they leave a crowded part of the entries at once.
+#[inline(always)]
+pub fn entry_after(hash: u64, looks: usize, entries: usize) -> usize {
+    let step = (hash >> 32) as usize | 1;
+    entry_for(
+        (hash as usize).wrapping_add(looks.wrapping_mul(step)),
+        entries,
+    )
+}
+
+/// The key of the entry of a code of 8 bytes or more, which has this hash. No shorter code has it.
+#[inline(always)]
+pub fn long_key(hash: u64) -> u64
+    ensures { 2 ^ 63 ≤ result }
+{
+    hash % LONG + LONG
+}
+
+/// The place of a code that an entry gives which is beside its own, or to which its hash leads. Where none does, there may be
+/// the code all the same.
+pub(crate) fn place_hashed(
+    text: &[u8],
+    codes: &[Code],
+    entries: &[Entry],
+    seed: CodeSeed,
+    code: &[u8],
+) -> Option<usize>
+    requires right { are_right text.now codes.now entries.now ≡ true }
+    ensures found { (cs : List IdCode) → AreHeld text.now codes.now cs
+        → IfSome result (λ place. Finds cs code.now (Some place)) }
+    ensures within { IfSome result (λ place. place < length codes.now) }
+{
+    let key = key_of(code);
+    if key == 0 {
+        return place_of_long(text, codes, entries, seed.hashed(0, code), code);
+    }
+    let own = entry_of(code, entries.len());
+    match place_beside(entries, own, key) {
+        Some(place) => Some(place),
+        None => place_of_short(entries, seed.mixed(0, key), key),
+    }
+}
+
+// The place that an entry gives for the code with this key, which is not 0, if the hash leads to that.
+fn place_of_short(entries: &[Entry], hash: u64, key: u64) -> Option<usize>
+    ensures { IfSome result (λ place. HasEntry entries.now key place) }
+{
+    for looks in 0..MOST_LOOKS {
+        let entry = entries.get(entry_after(hash, looks, entries.len()))?;
+        if entry.key == key {
+            return Some(entry.place as usize);
+        }
+        if entry.key == 0 {
+            return None;
+        }
+    }
+    None
+}
+
+// The place that an entry gives for this code of 8 bytes or more, if its hash leads to that. Others may have the same key, so its
+// bytes are compared.
+fn place_of_long(
+    text: &[u8],
+    codes: &[Code],
+    entries: &[Entry],
+    hash: u64,
+    code: &[u8],
+) -> Option<usize>
+    ensures { IfSome result (λ place. IsAt text.now codes.now code.now place) }
+{
+    for looks in 0..MOST_LOOKS {
+        let entry = entries.get(entry_after(hash, looks, entries.len()))?;
+        let place = entry.place as usize;
+        if entry.key == long_key(hash) && is_at(text, codes, place, code) {
+            return Some(place);
+        }
+        if entry.key == 0 {
+            return None;
+        }
+    }
+    None
+}
+
+// The code at a place has these bytes.
+fn is_at(text: &[u8], codes: &[Code], place: usize, bytes: &[u8]) -> bool
+    ensures { result ≡ true → IsAt text.now codes.now bytes.now place }
+{
+    match code_in(codes, place) {
+        Some(code) => text_in(text, code.start, code.len as usize) == bytes,
+        None => false,
+    }
 }
 
 /// The most digits that a change of the code may have: its size. It is 0 where any number is allowed, and where 32 bits do not

@@ -15,7 +15,7 @@
 //! # The modules
 //!
 //! - `view`: `HeadView` with its rows and codes, and `Need`
-//! - `look_up`, `probes`: a look at one entry, then a binary search; comparisons, counted
+//! - `look_up`, `probes`: a look at one entry, then a look by the hash, then a binary search; comparisons, counted
 //! - `entries`, `key`: where a code's entry is, and what it tells; codes as numbers
 //! - `code_hash`: codes hashed by numbers that nobody knows
 //! - `room`: `need`, the room that an engine over a header needs
@@ -40,7 +40,8 @@ mod view;
 
 pub use code_hash::{CodeHasher, CodeSeed};
 pub use entries::{
-    code_number, entry_for, entry_of, most_of, number_of_key, place_beside, place_told,
+    MOST_LOOKS, code_number, entry_after, entry_for, entry_of, long_key, most_of, number_of_key,
+    place_beside, place_told,
 };
 pub use key::key_of;
 pub use keyword::{Keyword, is, keyword_of};

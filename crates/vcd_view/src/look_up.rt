@@ -9,7 +9,8 @@ ghost use Rattle.vcd_view.specs.Keys.{AreBytes};
 ghost use Rattle.vcd_view.specs.Views.{IsCode, IsIndex, code_text, IsViewOf};
 ghost use Rattle.vcd_view.specs.Finds.{Finds, IsSized};
 
-use crate::entries::{entry_of, most_of, place_beside};
+use crate::code_hash::CodeSeed;
+use crate::entries::{entry_of, most_of, place_hashed};
 use crate::key::key_of;
 use crate::probes::Probes;
 use crate::view::{Code, Entry, HeadView, code_in, text_in};
@@ -27,7 +28,8 @@ pub struct Found {
 
 /// The place of a code among the distinct codes.
 ///
-/// A look at one entry finds nearly all codes that simulators give, a binary search the others.
+/// A look at one entry finds nearly all codes that simulators give. The others are looked for by
+/// their hash, and those that are not found so by a binary search.
 #[inline(always)]
 pub fn find(view: HeadView<'_>, code: &[u8]) -> Option<usize>
     ensures found { (h : Header) → IsViewOf view.entry h → Finds h.codes code.now result }
@@ -47,7 +49,14 @@ pub fn find_sized(view: HeadView<'_>, code: &[u8]) -> Option<Found>
     match find_at_once(view, code) {
         Some(found) => Some(found),
         None => {
-            let place = find_slowly(view.text, view.codes, view.index, view.entries, code)?;
+            let place = find_slowly(
+                view.text,
+                view.codes,
+                view.index,
+                view.entries,
+                view.seed,
+                code,
+            )?;
             let code = code_in(view.codes, place)?;
             Some(Found {
                 place,
@@ -65,8 +74,11 @@ fn find_at_once(view: HeadView<'_>, code: &[u8]) -> Option<Found>
     ensures sized { IfSome result (λ found. IsSized view.entry.codes.now found) }
 {
     let key = key_of(code);
+    if key == 0 {
+        return None;
+    }
     let entry = view.entries.get(entry_of(code, view.entries.len()))?;
-    if key != 0 && entry.key == key {
+    if entry.key == key {
         Some(Found {
             place: entry.place as usize,
             most: entry.most as usize,
@@ -76,7 +88,7 @@ fn find_at_once(view: HeadView<'_>, code: &[u8]) -> Option<Found>
     }
 }
 
-// The place of a code by a look at the entries beside its own, or else by a binary search. It takes no view, so that a look-up that
+// The place of a code that is not that of its own entry: by its hash, or else by a binary search. It takes no view, so that a look-up that
 // is done at once need not make one ready, and returns a number alone, which needs no memory.
 #[inline(never)]
 fn find_slowly(
@@ -84,6 +96,7 @@ fn find_slowly(
     codes: &[Code],
     index: &[usize],
     entries: &[Entry],
+    seed: CodeSeed,
     code: &[u8],
 ) -> Option<usize>
     requires right { are_right text.now codes.now entries.now ≡ true }
@@ -92,7 +105,7 @@ fn find_slowly(
         → IsIndex ks index.now → Finds ks code.now result }
     ensures within { IfSome result (λ place. place < length codes.now) }
 {
-    match place_beside(entries, entry_of(code, entries.len()), key_of(code)) {
+    match place_hashed(text, codes, entries, seed, code) {
         Some(place) => Some(place),
         None => search(text, codes, index, code, &mut Probes::new()),
     }

@@ -2,6 +2,8 @@
 ghost use Rattle.std.specs.Prelude.{◌≡◌, ◌<◌, true, false, length, take, Some, slice_get, option_map, unwrap_or, IfSome};
 ghost use Rattle.vcd_view.specs.Entries.{text_in, are_right};
 
+use crate::code_hash::CodeSeed;
+
 /// What a row declares.
 #[derive(Clone, Copy, PartialEq, Eq, Debug)]
 pub enum Kind {
@@ -47,7 +49,7 @@ pub struct Code {
 /// A code as a look-up finds it; with key 0 it is of no code.
 #[derive(Clone, Copy, PartialEq, Eq, Debug)]
 pub struct Entry {
-    /// The code as a number.
+    /// The code as a number; of a code that has none, its hash with the highest bit set.
     pub key: u64,
     /// Its place in `codes`.
     pub place: u32,
@@ -73,8 +75,10 @@ pub struct HeadView<'a> {
     pub codes: &'a [Code],
     /// The places of the codes, in rising order of their bytes.
     pub index: &'a [usize],
-    /// Codes by their numbers, which only serve look-ups: a power of two of entries, up to three for each code.
+    /// Codes by their numbers and hashes, which only serve look-ups: a power of two of entries, up to three for each code.
     pub entries: &'a [Entry],
+    /// What codes are hashed by among the entries.
+    pub seed: CodeSeed,
     /// The last date, its tokens with a space between; empty where there is none.
     pub date: &'a [u8],
     /// The last version, likewise.

@@ -1,5 +1,5 @@
 // Times with a unit, in ticks.
-use vcd_head::{HeadView, Moment, Scale, TickFault, ticks};
+use vcd_head::{CodeSeed, HeadView, Moment, Scale, TickFault, ticks};
 
 const TEN_NANOSECONDS: Option<i8> = Some(-8);
 
@@ -11,6 +11,7 @@ fn in_ticks(scale: Option<i8>, number: u64, unit: Option<i8>, up: bool) -> Resul
         codes: &[],
         index: &[],
         entries: &[],
+        seed: CodeSeed { factor: 1, more: 0 },
         date: &[],
         version: &[],
         scale: scale.map(|exponent| Scale { exponent }),

@@ -1,0 +1,5 @@
+use Rattle.std.proofs.Common.{◌≡◌}
+use Rattle.vcd_head.proofs.entries.put_hashed.Given as goal
+
+abbrev pub invariant-loop-looks : goal.invariant-loop-looks
+invariant-loop-looks l = l.entries ≡ l.initial.entries

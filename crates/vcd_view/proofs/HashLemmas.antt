@@ -1,0 +1,43 @@
+-- How codes are hashed.
+use Rattle.std.proofs.Common.{◌≡◌, ◌≢◌, ℕ, ◌<◌, ◌≤◌, List, [], ◌∷◌, drop, length, refl, arith}
+use Rattle.std.specs.Int.{from_le_bytes, w64}
+use Rattle.vcd_view.specs.CodeHash.{hashed, mixed}
+use Rattle.vcd_view.specs.Keys.{packed}
+use Rattle.vcd_view.specs.declared.code_hash.CodeSeed.{CodeSeed}
+
+-- eight bytes are one word
+pub word_first : (s : CodeSeed) (state : ℕ) (bytes : List ℕ) → 8 ≤ length bytes → hashed s state bytes ≡ hashed s (mixed s state (from_le_bytes w64 bytes)) (drop 8 bytes)
+word_first s state [] l = absurd (omega (arith, l))
+word_first s state (a ∷ []) l = absurd (omega (arith, l))
+word_first s state (a ∷ b ∷ []) l = absurd (omega (arith, l))
+word_first s state (a ∷ b ∷ c ∷ []) l = absurd (omega (arith, l))
+word_first s state (a ∷ b ∷ c ∷ d ∷ []) l = absurd (omega (arith, l))
+word_first s state (a ∷ b ∷ c ∷ d ∷ e ∷ []) l = absurd (omega (arith, l))
+word_first s state (a ∷ b ∷ c ∷ d ∷ e ∷ f ∷ []) l = absurd (omega (arith, l))
+word_first s state (a ∷ b ∷ c ∷ d ∷ e ∷ f ∷ g ∷ []) l = absurd (omega (arith, l))
+word_first s state (a ∷ b ∷ c ∷ d ∷ e ∷ f ∷ g ∷ h ∷ rest) l = refl
+
+-- fewer are one
+pub rest_last : (s : CodeSeed) (state : ℕ) (bytes : List ℕ) → bytes ≢ [] → length bytes < 8 → hashed s state bytes ≡ mixed s state (packed bytes)
+rest_last s state [] n l = absurd (n refl)
+rest_last s state (a ∷ []) n l = refl
+rest_last s state (a ∷ b ∷ []) n l = refl
+rest_last s state (a ∷ b ∷ c ∷ []) n l = refl
+rest_last s state (a ∷ b ∷ c ∷ d ∷ []) n l = refl
+rest_last s state (a ∷ b ∷ c ∷ d ∷ e ∷ []) n l = refl
+rest_last s state (a ∷ b ∷ c ∷ d ∷ e ∷ f ∷ []) n l = refl
+rest_last s state (a ∷ b ∷ c ∷ d ∷ e ∷ f ∷ g ∷ []) n l = refl
+rest_last s state (a ∷ b ∷ c ∷ d ∷ e ∷ f ∷ g ∷ h ∷ rest) n l = absurd (omega (arith, l))
+
+-- eight bytes alone
+pub word_alone : (s : CodeSeed) (state : ℕ) (bytes : List ℕ) → length bytes ≡ 8 → hashed s state bytes ≡ mixed s state (from_le_bytes w64 bytes)
+word_alone s state [] l = absurd (omega (arith, l))
+word_alone s state (a ∷ []) l = absurd (omega (arith, l))
+word_alone s state (a ∷ b ∷ []) l = absurd (omega (arith, l))
+word_alone s state (a ∷ b ∷ c ∷ []) l = absurd (omega (arith, l))
+word_alone s state (a ∷ b ∷ c ∷ d ∷ []) l = absurd (omega (arith, l))
+word_alone s state (a ∷ b ∷ c ∷ d ∷ e ∷ []) l = absurd (omega (arith, l))
+word_alone s state (a ∷ b ∷ c ∷ d ∷ e ∷ f ∷ []) l = absurd (omega (arith, l))
+word_alone s state (a ∷ b ∷ c ∷ d ∷ e ∷ f ∷ g ∷ []) l = absurd (omega (arith, l))
+word_alone s state (a ∷ b ∷ c ∷ d ∷ e ∷ f ∷ g ∷ h ∷ []) l = refl
+word_alone s state (a ∷ b ∷ c ∷ d ∷ e ∷ f ∷ g ∷ h ∷ i ∷ rest) l = absurd (omega (arith, l))
