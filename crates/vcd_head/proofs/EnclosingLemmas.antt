@@ -114,6 +114,17 @@ leaves_all h row e l from left held room =
     take-all [] = refl
     take-all (x ∷ xs) = ap (λ l. x ∷ l) (take-all xs)
 
+-- the innermost ones alone
+pub leaves_most : (h : Header) (row most : ℕ) (e : Enclosing) → row < length h.declarations → e.row ≡ row → e.left ≡ most → e.held ≡ 0 → length e.rows ≡ 128 → LeavesScopes h row (reverse (take most (enclosing (take row h.declarations)))) e
+leaves_most h row most e l from left held room = record {
+  from = from;
+  within = l;
+  rest_are = ap (λ n. reverse (take n (enclosing (take row h.declarations)))) (sym left);
+  holds = record { room = room; at = λ k b m. absurd (omega arith) };
+  known = λ some. absurd (omega arith);
+  few = omega arith;
+}
+
 -- the scopes that are left, of which some are held unless none is left
 pub record IsReady (h : Header) (row : ℕ) (rest rows : List ℕ) (left held : ℕ) : Type 0 where
   pub rest_are : rest ≡ reverse (take left (enclosing (take row h.declarations)))

@@ -10,6 +10,7 @@ pub mod DraftLemmas
 pub mod PathLemmas
 pub mod OpenScopes
 pub mod WriteLemmas
+pub mod PendingScopes
 pub mod MarkedHead
 pub mod MarkLemmas
 pub mod NamePaths

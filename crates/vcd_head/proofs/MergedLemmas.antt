@@ -1,5 +1,5 @@
 -- The heads of a merge, one after the other, and the lines that they are written in.
-use Rattle.std.proofs.Common.{◌≡◌, Bool, true, false, subst, ℕ, zero, suc, ◌+◌, ◌*◌, ◌^◌, ◌<◌, ◌≤◌, ℤ, pos, negsuc, cond, List, [], ◌∷◌, ◌++◌, length, map, take, get_or, slice_get, add-one, decimal, codes, Option, Some, None, Result, Ok, Err, MatchResult, IfOk, IsSome, refl, sym, ap, ◌∙◌, append_assoc, arith}
+use Rattle.std.proofs.Common.{◌≡◌, Bool, true, false, subst, ℕ, zero, suc, ◌+◌, ◌*◌, ◌^◌, ◌<◌, ◌≤◌, ℤ, pos, negsuc, cond, List, [], ◌∷◌, ◌++◌, length, map, take, get_or, slice_get, add-one, decimal, codes, Option, Some, None, refl, sym, ap, ◌∙◌, append_assoc, arith}
 use Rattle.std.specs.Prelude.{nat_lt, nat_le, nat_abs, int_le, unwrap_or, option_map, IfSome, fold, ◌-ℤ◌}
 use Rattle.std.specs.Int.{int_min}
 use Rattle.std.specs.List.{reduce}
@@ -9,15 +9,14 @@ use Rattle.std.proofs.lemmas.List.{map-append, take_all}
 use Rattle.std.proofs.lemmas.List.Sums.{fold-append, sum_by-append}
 use Rattle.std.proofs.lemmas.Slice.Zip.{AllZip-long}
 use Rattle.vcd_model.specs.Header.{Header}
-use Rattle.vcd_model.specs.HeadText.{exponent, least_exponent, first_number, input_head, renamed, rows_text, scope_line, smaller, up_line}
+use Rattle.vcd_model.specs.HeadText.{exponent, least_exponent, first_number, input_head, rows_text, scope_line, smaller, up_line}
+use Rattle.vcd_model.specs.Selection.{is_among, marked_places}
 use Rattle.vcd_head.specs.declared.head.Head.{Head}
-use Rattle.vcd_head.specs.Marks.{is_marked, marks_of}
-use Rattle.vcd_head.specs.Merged.{HaveRoom, ShowHeaders, given}
+use Rattle.vcd_head.specs.Merged.{ShowHeaders, numbered}
 use Rattle.vcd_view.specs.declared.view.Scale.{Scale}
 use Rattle.vcd_view.specs.Shown.{HeadShown}
 use Rattle.vcd_head.specs.Shown.{shown}
 use Rattle.vcd_view.specs.Views.{IsExponent, Views}
-use Rattle.vcd_head.proofs.MarkedHead.{marks_are}
 use Rattle.vcd_head.proofs.WriteLemmas.{take-next}
 
 -- ---- a head among them
@@ -33,12 +32,6 @@ header_at [] hs i d s l = absurd (omega arith)
 header_at (x ∷ heads) [] i d s l = absurd s
 header_at (x ∷ heads) (h ∷ hs) zero d s l = record { header = h; at = refl; views = s.0 }
 header_at (x ∷ heads) (h ∷ hs) (suc i) d s l = let r = header_at heads hs i d s.1 (omega arith) in record { header = r.header; at = r.at; views = r.views }
-
--- it has enough marks
-pub room_at : (n : ℕ) (hs : List Header) (i : ℕ) (h : Header) → HaveRoom n hs → slice_get hs i ≡ Some h → length h.declarations ≤ n
-room_at n [] i h room at = cc
-room_at n (x ∷ hs) zero h room at = let same : x ≡ h = cc in let r = room.0 in rw (← same) r
-room_at n (x ∷ hs) (suc i) h room at = room_at n hs i h room.1 at
 
 -- all were passed
 pub all_passed : (heads : List Head) (hs : List Header) (i : ℕ) → ShowHeaders heads hs → i ≡ length heads → take i hs ≡ hs
@@ -133,21 +126,9 @@ module_line n = simp append_assoc
 abbrev pub input_parts : ℕ → List ℕ → List ℕ
 input_parts number rows = (((codes "$scope module in" ++ decimal number) ++ codes " $end\n") ++ rows) ++ up_line
 
-pub input_text : (earlier : List Header) (h : Header) (number first : ℕ) (marks : List ℕ) → number ≡ length earlier + 1 → first ≡ first_number earlier → marks ≡ marks_of [] h.declarations
-    → input_parts number (rows_text (given (Some first) h) (is_marked marks) h.declarations) ≡ input_head earlier h
-input_text earlier h number first marks n f m =
-    let rename : given (Some first) h ≡ renamed earlier h = ap (λ x. given (Some x) h) f in
-    let places = ap is_marked m ∙ marks_are [] h.declarations in
-    ap (λ l. (l ++ rows_text (given (Some first) h) (is_marked marks) h.declarations) ++ up_line) (module_line number)
-    ∙ ap (λ x. (scope_line (codes "module") (codes "in" ++ decimal x) ++ rows_text (given (Some first) h) (is_marked marks) h.declarations) ++ up_line) n
-    ∙ ap (λ l. (scope_line (codes "module") (codes "in" ++ decimal (length earlier + 1)) ++ l) ++ up_line) (ap (λ x. rows_text x (is_marked marks) h.declarations) rename ∙ ap (λ x. rows_text (renamed earlier h) x h.declarations) places)
-
--- a call that refuses the first name of none refuses nothing
-pub unrefused : {A : Type 0} (r : Result A ℕ) (o : Option ℕ) (P : Type 0) → o ≡ None → IfOk r (λ _. P) → MatchResult r (λ _. o ≡ None) (λ name. o ≡ Some name) → P
-unrefused (Ok v) o P e p m = p
-unrefused (Err n) o P e p m = cc
-
--- what is none is not some
-pub not_both : {A : Type 0} (o : Option A) → o ≡ None → IsSome o → ⊥
-not_both (Some v) e s = cc
-not_both None e s = cc
+pub input_text : (earlier : List Header) (h : Header) (number first : ℕ) → number ≡ length earlier + 1 → first ≡ first_number earlier
+    → input_parts number (rows_text (numbered first h) (is_among (marked_places [] h.declarations)) h.declarations) ≡ input_head earlier h
+input_text earlier h number first n f =
+    let rows = λ (x : ℕ). rows_text (numbered x h) (is_among (marked_places [] h.declarations)) h.declarations in
+    ap (λ l. (l ++ rows first) ++ up_line) (module_line number) ∙ ap (λ x. (scope_line (codes "module") (codes "in" ++ decimal x) ++ rows first) ++ up_line) n
+    ∙ ap (λ x. (scope_line (codes "module") (codes "in" ++ decimal (length earlier + 1)) ++ rows x) ++ up_line) f

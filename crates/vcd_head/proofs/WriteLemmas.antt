@@ -77,7 +77,7 @@ code_there s h i r v views at is none = let there = (row_of_variable s h i r v v
 
 -- ---- the line of a row
 
-front-length : (ds : List Declaration) (i : ℕ) (d : Declaration) → slice_get ds i ≡ Some d → length (take i ds) ≡ i
+pub front-length : (ds : List Declaration) (i : ℕ) (d : Declaration) → slice_get ds i ≡ Some d → length (take i ds) ≡ i
 front-length ds i d at = let within = slice_get_within ds i d at in length-take-le i ds (omega arith)
 
 -- the line of an `$upscope`, which closes the scope that encloses it
@@ -143,7 +143,7 @@ declared_there s h i v l =
 -- ---- the lines of the rows
 
 -- the lines of the first ones, and of those behind
-lines-append : {X : Type 0} (f : List X → X → List ℕ) (xs ys : List X) → concat (each f (xs ++ ys)) ≡ concat (each f xs) ++ concat (each_after f xs ys)
+pub lines-append : {X : Type 0} (f : List X → X → List ℕ) (xs ys : List X) → concat (each f (xs ++ ys)) ≡ concat (each f xs) ++ concat (each_after f xs ys)
 lines-append f xs ys = ap concat (each_after-append f [] xs ys) ∙ concat-append (each f xs) (each_after f xs ys)
 
 pub take-next : {X : Type 0} (xs : List X) (i : ℕ) (x : X) → slice_get xs i ≡ Some x → take (suc i) xs ≡ take i xs ++ x ∷ []

@@ -1,26 +1,61 @@
--- The heads of a merge, and the codes with which their variables are written.
-use Rattle.std.specs.Prelude.{ℕ, ◌+◌, ◌^◌, ◌<◌, ◌≤◌, List, length, Option, Some, None}
-use Rattle.std.specs.List.{AllByRecursion, AllZip}
+-- The heads of a merge, and how the scopes and variables of one are written.
+use Rattle.std.specs.Prelude.{ℕ, zero, suc, ◌+◌, ◌-◌, ◌^◌, ◌<◌, List, [], ◌++◌, length, take, reverse, flat_map, slice_get, Option, Some, None}
+use Rattle.std.specs.List.{AllZip}
+use Rattle.vcd_model.specs.Declarations.{Declaration, enclosing}
 use Rattle.vcd_model.specs.Header.{Header}
-use Rattle.vcd_model.specs.HeadText.{code_place, new_code}
+use Rattle.vcd_model.specs.HeadText.{code_place, new_code, scope_line, up_line, var_line}
 use Rattle.vcd_head.specs.declared.head.Head.{Head}
 use Rattle.vcd_head.specs.Shown.{shown}
-use Rattle.vcd_view.specs.Views.{Views}
+use Rattle.vcd_view.specs.Views.{Views, reference_of, type_of}
 
--- the code that a variable is given for its own: the same, or where the codes of its header are numbered from `first` on, the new code of its number
-abbrev pub given : Option ℕ → Header → List ℕ → List ℕ
-given None h = λ code. code
-given (Some first) h = λ code. new_code (first + code_place h code)
+-- the new code of a code of a header whose codes are numbered from `first` on
+abbrev pub numbered : ℕ → Header → List ℕ → List ℕ
+numbered first h = λ code. new_code (first + code_place h code)
 
 -- the numbers of these codes fit
-abbrev pub FitNumbers : Option ℕ → Header → Type 0
-FitNumbers None h = Unit {0}
-FitNumbers (Some first) h = first + length h.codes < 2 ^ 64
+abbrev pub FitNumbers : ℕ → Header → Type 0
+FitNumbers first h = first + length h.codes < 2 ^ 64
 
 -- the heads show these headers, one by one
 abbrev pub ShowHeaders : List Head → List Header → Type 0
 ShowHeaders heads hs = AllZip (λ (head : Head) (h : Header). Views (shown head) h) heads hs
 
--- so many marks are enough for each of these headers
-abbrev pub HaveRoom : ℕ → List Header → Type 0
-HaveRoom n hs = AllByRecursion (λ (h : Header). length h.declarations ≤ n) hs
+-- ---- scopes that are written once a variable is declared inside them
+
+-- the line that opens the scope of this declaration
+abbrev pub opening_of : Option Declaration → List ℕ
+opening_of None = []
+opening_of (Some d) = scope_line (type_of d) (reference_of d)
+
+-- the line that opens the scope at a place
+abbrev pub opening : List Declaration → ℕ → List ℕ
+opening ds place = opening_of (slice_get ds place)
+
+-- the lines that open these scopes, of which the innermost is the first
+abbrev pub openings : List Declaration → List ℕ → List ℕ
+openings ds places = flat_map (opening ds) (reverse places)
+
+-- the line of an `$upscope` behind scopes of which so many, the innermost, are pending, and so many are written
+abbrev pub closing : ℕ → ℕ → List ℕ
+closing zero zero = []
+closing zero (suc written) = up_line
+closing (suc pending) written = []
+
+-- what is written at a declaration that has these before it, where so many scopes around it, the innermost, are pending, and so many are written
+abbrev pub due : Header → (first pending written : ℕ) → List Declaration → Declaration → List ℕ
+due h first pending written earlier (Declaration.Scope type name) = []
+due h first pending written earlier Declaration.Up = closing pending written
+due h first pending written earlier (Declaration.Var v) = openings h.declarations (take pending (enclosing earlier)) ++ var_line v (numbered first h v.code)
+
+-- how many are pending behind it
+abbrev pub pending_behind : Declaration → ℕ → ℕ
+pending_behind (Declaration.Scope type name) pending = suc pending
+pending_behind Declaration.Up pending = pending - 1
+pending_behind (Declaration.Var v) pending = 0
+
+-- how many are written
+abbrev pub written_behind : Declaration → ℕ → ℕ → ℕ
+written_behind (Declaration.Scope type name) pending written = written
+written_behind Declaration.Up zero written = written - 1
+written_behind Declaration.Up (suc pending) written = written
+written_behind (Declaration.Var v) pending written = written + pending

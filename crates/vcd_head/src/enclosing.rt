@@ -40,6 +40,20 @@ impl Enclosing {
         }
     }
 
+    /// So many of the innermost ones, or all where there are fewer.
+    #[inline(always)]
+    pub(crate) fn innermost(row: usize, most: usize) -> Self
+        ensures { (h : Header) → row < length h.declarations
+            → LeavesScopes h row (reverse (take most (enclosing (take row h.declarations)))) result }
+    {
+        Enclosing {
+            row,
+            rows: [0; HELD],
+            left: most,
+            held: 0,
+        }
+    }
+
     /// The row of the next scope.
     #[inline(always)]
     pub(crate) fn next(&mut self, view: HeadView<'_>) -> Option<usize>

@@ -1,18 +1,20 @@
 //! The head of a merged dump.
-ghost use Rattle.std.specs.Prelude.{◌≡◌, ℕ, ◌+◌, ◌-◌, ◌^◌, ◌<◌, ◌≤◌, List, [], ◌∷◌, ◌++◌, length, Some};
+ghost use Rattle.std.specs.Prelude.{◌≡◌, ℕ, ◌+◌, ◌-◌, ◌^◌, ◌<◌, ◌≤◌, List, [], length, take, flat_map, slice_get, Some};
 ghost use Rattle.std.specs.List.{concat};
 ghost use Rattle.vcd_model.specs.Backward.{each};
+ghost use Rattle.vcd_model.specs.Declarations.{Declaration, enclosing};
 ghost use Rattle.vcd_model.specs.Header.{Header};
-ghost use Rattle.vcd_model.specs.HeadText.{first_number, input_head, least_exponent as least_of, merged_head};
-ghost use Rattle.vcd_text.specs.Device.{Counts, Takes};
-ghost use Rattle.vcd_head.specs.Merged.{FitNumbers, HaveRoom, ShowHeaders};
+ghost use Rattle.vcd_model.specs.HeadText.{first_number, input_head, least_exponent as least_of, merged_head, rows_text, up_line};
+ghost use Rattle.vcd_model.specs.Selection.{is_among, marked_places};
+ghost use Rattle.vcd_text.specs.Device.{Counts, Puts, Takes};
+ghost use Rattle.vcd_head.specs.Merged.{FitNumbers, ShowHeaders, closing, due, numbered, openings};
 ghost use Rattle.vcd_view.specs.Views.{IsViewOf};
 
+use crate::enclosing::Enclosing;
 use crate::head::Head;
-use crate::selection::select;
-use crate::write::{put_declarations, put_lines, text_of_exponent};
+use crate::write::{put_lines, put_renamed, put_scope, text_of_exponent};
 use vcd_text::{Sink, WriteFailed, put, put_number};
-use vcd_view::HeadView;
+use vcd_view::{HeadView, Kind};
 
 /// The least power of ten of the heads' time scales, in seconds; a missing one counts as 1s, and 0 where there is no head.
 pub fn least_exponent(heads: &[Head]) -> i8
@@ -29,49 +31,180 @@ pub fn least_exponent(heads: &[Head]) -> i8
     least.unwrap_or(0)
 }
 
+// The scopes that are open at a row of an input. The line that opens one is written at the first variable inside it, so each is
+// written once, and none that has no variable.
+#[derive(Clone, Copy)]
+pub(crate) struct OpenScopes {
+    // So many, the innermost, are not written yet.
+    pub(crate) pending: usize,
+    // The others are.
+    pub(crate) written: usize,
+}
+
+impl OpenScopes {
+    ghost use Rattle.vcd_view.specs.declared.view.Kind.TheVariants.{Scope, Up, Var};
+
+    /// Those that are open behind a row of this kind.
+    fn behind(self, kind: Kind) -> OpenScopes
+        ensures scope { kind ≡ Scope → self.pending + 1 < 2 ^ 64
+            → (result.pending ≡ self.pending + 1) × (result.written ≡ self.written) }
+        ensures pending { kind ≡ Up → 0 < self.pending
+            → (result.pending ≡ self.pending - 1) × (result.written ≡ self.written) }
+        ensures written { kind ≡ Up → self.pending ≡ 0
+            → (result.pending ≡ 0) × (result.written ≡ self.written - 1) }
+        ensures variable { kind ≡ Var → self.written + self.pending < 2 ^ 64
+            → (result.pending ≡ 0) × (result.written ≡ self.written + self.pending) }
+    {
+        let OpenScopes { pending, written } = self;
+        match kind {
+            Kind::Scope => OpenScopes {
+                pending: pending.saturating_add(1),
+                written,
+            },
+            Kind::Up if pending > 0 => OpenScopes {
+                pending: pending - 1,
+                written,
+            },
+            Kind::Up => OpenScopes {
+                pending: 0,
+                written: written.saturating_sub(1),
+            },
+            Kind::Var => OpenScopes {
+                pending: 0,
+                written: written.saturating_add(pending),
+            },
+        }
+    }
+}
+
+/// Writes the lines that open so many of the innermost scopes around a row, outermost first.
+fn put_openings<W: Sink>(
+    view: HeadView<'_>,
+    row: usize,
+    count: usize,
+    w: &mut W,
+) -> Result<(), WriteFailed>
+    requires failures { (W.device w.old).failures < 2 ^ 64 - 1 }
+    ensures takes { (h : Header) → IsViewOf view.entry h → row < length h.declarations
+        → Takes (W.device w.old) (W.device w.new)
+        (openings h.declarations (take count (enclosing (take row h.declarations)))) result }
+    ensures counts { Counts (W.device w.old) (W.device w.new) result }
+{
+    let mut scopes = Enclosing::innermost(row, count);
+    while let Some(scope) = scopes.next(view) {
+        put_scope(view, scope, w)?;
+    }
+    Ok(())
+}
+
+/// Writes the line of an `$upscope` behind these open scopes: none where the line of the scope that it closes is not written.
+fn put_closing<W: Sink>(scopes: OpenScopes, w: &mut W) -> Result<(), WriteFailed>
+    requires failures { (W.device w.old).failures < 2 ^ 64 - 1 }
+    ensures { Puts (W.device w.old) (W.device w.new) (closing scopes.pending scopes.written) result }
+{
+    if scopes.pending > 0 {
+        return Ok(());
+    }
+    if scopes.written == 0 {
+        return Ok(());
+    }
+    put(w, b"$upscope $end\n")
+}
+
+/// Writes the lines that close so many scopes.
+fn put_closings<W: Sink>(count: usize, w: &mut W) -> Result<(), WriteFailed>
+    requires failures { (W.device w.old).failures < 2 ^ 64 - 1 }
+    ensures takes { (scopes : List ℕ) → length scopes ≡ count
+        → Takes (W.device w.old) (W.device w.new) (flat_map (λ scope. up_line) scopes) result }
+    ensures counts { Counts (W.device w.old) (W.device w.new) result }
+{
+    'scopes: for _ in 0..count {
+        put(w, b"$upscope $end\n")?;
+    }
+    Ok(())
+}
+
+/// Writes what is due at a row of an input, at which these scopes are open: the line of a variable, with a new code, behind those
+/// of the scopes that it is the first one in; the line of an `$upscope`. The codes are numbered from `first` on.
+fn put_input_row<W: Sink>(
+    view: HeadView<'_>,
+    row: usize,
+    first: u64,
+    scopes: OpenScopes,
+    w: &mut W,
+) -> Result<(), WriteFailed>
+    requires failures { (W.device w.old).failures < 2 ^ 64 - 1 }
+    ensures takes { (h : Header) (d : Declaration) → IsViewOf view.entry h
+        → slice_get h.declarations row ≡ Some d → FitNumbers first h
+        → Takes (W.device w.old) (W.device w.new)
+        (due h first scopes.pending scopes.written (take row h.declarations) d) result }
+    ensures counts { Counts (W.device w.old) (W.device w.new) result }
+{
+    let Some(declared) = view.row_at(row) else {
+        return Ok(());
+    };
+    match declared.kind {
+        Kind::Scope => Ok(()),
+        Kind::Up => put_closing(scopes, w),
+        Kind::Var => {
+            put_openings(view, row, scopes.pending, w)?;
+            put_renamed(view, row, first, w)
+        }
+    }
+}
+
+/// Writes the variables of an input with new codes, numbered from `first` on, and the scopes around these.
+fn put_input_rows<W: Sink>(view: HeadView<'_>, first: u64, w: &mut W) -> Result<(), WriteFailed>
+    requires failures { (W.device w.old).failures < 2 ^ 64 - 1 }
+    ensures takes { (h : Header) → IsViewOf view.entry h → FitNumbers first h
+        → Takes (W.device w.old) (W.device w.new) (rows_text (numbered first h)
+        (is_among (marked_places [] h.declarations)) h.declarations) result }
+    ensures counts { Counts (W.device w.old) (W.device w.new) result }
+{
+    let mut scopes = OpenScopes {
+        pending: 0,
+        written: 0,
+    };
+    for row in 0..view.rows.len() {
+        put_input_row(view, row, first, scopes, w)?;
+        scopes = scopes.behind(view.rows[row].kind);
+    }
+    put_closings(scopes.written, w)
+}
+
 /// Writes the head of an input, by its number from 1: its scope, and in it the variables with new codes, numbered from `first`
-/// on, and the scopes around these. Nothing where there are fewer marks than rows.
+/// on, and the scopes around these.
 fn put_input_head<W: Sink>(
     view: HeadView<'_>,
     number: u64,
     first: u64,
-    marks: &mut [u8],
     w: &mut W,
 ) -> Result<(), WriteFailed>
     requires failures { (W.device w.old).failures < 2 ^ 64 - 1 }
     ensures takes { (earlier : List Header) (h : Header) → IsViewOf view.entry h
-        → length h.declarations ≤ length marks.old → number ≡ length earlier + 1
-        → first ≡ first_number earlier → FitNumbers (Some first) h
+        → number ≡ length earlier + 1 → first ≡ first_number earlier → FitNumbers first h
         → Takes (W.device w.old) (W.device w.new) (input_head earlier h) result }
     ensures counts { Counts (W.device w.old) (W.device w.new) result }
-    ensures marks { length marks.new ≡ length marks.old }
 {
-    let Some(marks) = marks.get_mut(..view.rows.len()) else {
-        return Ok(());
-    };
-    // No names refuse nothing.
-    let _ = select(view, &[], marks);
     put(w, b"$scope module in")?;
     put_number(w, number)?;
     put(w, b" $end\n")?;
-    put_declarations(view, marks, Some(first), w)?;
+    put_input_rows(view, first, w)?;
     put(w, b"$upscope $end\n")
 }
 
 /// Writes the heads of all inputs.
-fn put_input_heads<W: Sink>(heads: &[Head], marks: &mut [u8], w: &mut W) -> Result<(), WriteFailed>
+fn put_input_heads<W: Sink>(heads: &[Head], w: &mut W) -> Result<(), WriteFailed>
     requires heads { length heads.now ≤ 64 }
     requires failures { (W.device w.old).failures < 2 ^ 64 - 1 }
     ensures takes { (hs : List Header) → ShowHeaders heads.now hs
-        → HaveRoom (length marks.old) hs
         → Takes (W.device w.old) (W.device w.new) (concat (each input_head hs)) result }
     ensures counts { Counts (W.device w.old) (W.device w.new) result }
-    ensures marks { length marks.new ≡ length marks.old }
 {
     let mut first: u64 = 0;
     for (place, head) in heads.iter().enumerate() {
         let view = head.view();
-        put_input_head(view, place as u64 + 1, first, marks, w)?;
+        put_input_head(view, place as u64 + 1, first, w)?;
         first = first.saturating_add(view.codes.len() as u64);
     }
     Ok(())
@@ -79,22 +212,15 @@ fn put_input_heads<W: Sink>(heads: &[Head], marks: &mut [u8], w: &mut W) -> Resu
 
 /// Writes the head of the merged dump of inputs with these heads, at most 64: the least of their time scales, for each input a
 /// scope with its variables and the scopes around these, and `$enddefinitions`. The codes are new ones, in the order of the
-/// inputs. In the marks, of which each head needs one a row, anything may stand before and after. Where a write fails, a prefix
-/// was written.
-pub fn put_merged_head<W: Sink>(
-    heads: &[Head],
-    marks: &mut [u8],
-    w: &mut W,
-) -> Result<(), WriteFailed>
+/// inputs. Where a write fails, a prefix was written.
+pub fn put_merged_head<W: Sink>(heads: &[Head], w: &mut W) -> Result<(), WriteFailed>
     requires heads { length heads.now ≤ 64 }
     requires failures { (W.device w.old).failures < 2 ^ 64 - 1 }
     ensures takes { (hs : List Header) → ShowHeaders heads.now hs
-        → HaveRoom (length marks.old) hs
         → Takes (W.device w.old) (W.device w.new) (merged_head hs) result }
     ensures counts { Counts (W.device w.old) (W.device w.new) result }
-    ensures marks { length marks.new ≡ length marks.old }
 {
     put_lines(w, b"$timescale", text_of_exponent(least_exponent(heads)))?;
-    put_input_heads(heads, marks, w)?;
+    put_input_heads(heads, w)?;
     put(w, b"$enddefinitions $end\n")
 }

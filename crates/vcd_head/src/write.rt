@@ -9,8 +9,7 @@ ghost use Rattle.vcd_model.specs.Keywords.{Keyword, keyword_text};
 ghost use Rattle.vcd_model.specs.Scales.{scale_text};
 ghost use Rattle.vcd_text.specs.Device.{Counts, Puts, Takes, failures_after};
 ghost use Rattle.vcd_head.specs.Marks.{is_marked, marks_of};
-ghost use Rattle.vcd_head.specs.Merged.{FitNumbers, given};
-ghost use Rattle.vcd_view.specs.Views.{IsViewOf};
+ghost use Rattle.vcd_view.specs.Views.{IsViewOf, reference_of, type_of};
 
 use vcd_text::{Sink, WriteFailed, put, put_number};
 use vcd_view::{HeadView, Kind, NewCode, Scale};
@@ -96,11 +95,15 @@ fn has_mark(marks: &[u8], row: usize) -> bool
 }
 
 /// Writes the line that opens the scope of a row.
-fn put_scope<W: Sink>(view: HeadView<'_>, row: usize, w: &mut W) -> Result<(), WriteFailed>
+pub(crate) fn put_scope<W: Sink>(
+    view: HeadView<'_>,
+    row: usize,
+    w: &mut W,
+) -> Result<(), WriteFailed>
     requires failures { (W.device w.old).failures < 2 ^ 64 - 1 }
-    ensures takes { (h : Header) (type name : List ℕ) → IsViewOf view.entry h
-        → slice_get h.declarations row ≡ Some (Declaration.Scope type name)
-        → Takes (W.device w.old) (W.device w.new) (scope_line type name) result }
+    ensures takes { (h : Header) (d : Declaration) → IsViewOf view.entry h
+        → slice_get h.declarations row ≡ Some d → Takes (W.device w.old) (W.device w.new)
+        (scope_line (type_of d) (reference_of d)) result }
     ensures counts { Counts (W.device w.old) (W.device w.new) result }
 {
     let type_text = view.type_of(row);
@@ -153,7 +156,7 @@ fn put_own<W: Sink>(view: HeadView<'_>, row: usize, w: &mut W) -> Result<(), Wri
 }
 
 /// Writes the line of the variable of a row, with a new code: the codes of its header are numbered from `first` on.
-fn put_renamed<W: Sink>(
+pub(crate) fn put_renamed<W: Sink>(
     view: HeadView<'_>,
     row: usize,
     first: u64,
@@ -178,27 +181,6 @@ fn put_renamed<W: Sink>(
     }
 }
 
-/// Writes the line of the variable of a row: with its own code, or with a new one where its header's are numbered from `first`
-/// on.
-fn put_declared<W: Sink>(
-    view: HeadView<'_>,
-    row: usize,
-    first: Option<u64>,
-    w: &mut W,
-) -> Result<(), WriteFailed>
-    requires failures { (W.device w.old).failures < 2 ^ 64 - 1 }
-    ensures takes { (h : Header) (v : Variable) → IsViewOf view.entry h
-        → slice_get h.declarations row ≡ Some (Declaration.Var v)
-        → FitNumbers first h → Takes (W.device w.old) (W.device w.new)
-        (var_line v (given first h v.code)) result }
-    ensures counts { Counts (W.device w.old) (W.device w.new) result }
-{
-    match first {
-        Some(first) => put_renamed(view, row, first, w),
-        None => put_own(view, row, w),
-    }
-}
-
 /// Writes the line that closes the scope of a row, where that is marked.
 fn put_up<W: Sink>(marks: &[u8], scope: usize, w: &mut W) -> Result<(), WriteFailed>
     requires failures { (W.device w.old).failures < 2 ^ 64 - 1 }
@@ -212,19 +194,17 @@ fn put_up<W: Sink>(marks: &[u8], scope: usize, w: &mut W) -> Result<(), WriteFai
 }
 
 /// Writes the line of the declaration of a row: a scope or a variable where it is marked, an `$upscope` where the scope that it
-/// closes is. A variable has its own code, or a new one where its header's are numbered from `first` on.
+/// closes is. A variable has its own code.
 fn put_row<W: Sink>(
     view: HeadView<'_>,
     marks: &[u8],
     row: usize,
-    first: Option<u64>,
     w: &mut W,
 ) -> Result<(), WriteFailed>
     requires failures { (W.device w.old).failures < 2 ^ 64 - 1 }
     ensures takes { (h : Header) (d : Declaration) → IsViewOf view.entry h
-        → slice_get h.declarations row ≡ Some d → FitNumbers first h
-        → Takes (W.device w.old) (W.device w.new)
-        (row_line (given first h) (is_marked marks.now) (take row h.declarations) d) result }
+        → slice_get h.declarations row ≡ Some d → Takes (W.device w.old) (W.device w.new)
+        (row_line (λ code. code) (is_marked marks.now) (take row h.declarations) d) result }
     ensures counts { Counts (W.device w.old) (W.device w.new) result }
 {
     let Some(declared) = view.row_at(row) else {
@@ -236,26 +216,21 @@ fn put_row<W: Sink>(
             None => Ok(()),
         },
         Kind::Scope if has_mark(marks, row) => put_scope(view, row, w),
-        Kind::Var if has_mark(marks, row) => put_declared(view, row, first, w),
+        Kind::Var if has_mark(marks, row) => put_own(view, row, w),
         _ => Ok(()),
     }
 }
 
 /// Writes the lines of the rows, in order.
-fn put_rows<W: Sink>(
-    view: HeadView<'_>,
-    marks: &[u8],
-    first: Option<u64>,
-    w: &mut W,
-) -> Result<(), WriteFailed>
+fn put_rows<W: Sink>(view: HeadView<'_>, marks: &[u8], w: &mut W) -> Result<(), WriteFailed>
     requires failures { (W.device w.old).failures < 2 ^ 64 - 1 }
-    ensures takes { (h : Header) → IsViewOf view.entry h → FitNumbers first h
+    ensures takes { (h : Header) → IsViewOf view.entry h
         → Takes (W.device w.old) (W.device w.new)
-        (concat (each (row_line (given first h) (is_marked marks.now)) h.declarations)) result }
+        (concat (each (row_line (λ code. code) (is_marked marks.now)) h.declarations)) result }
     ensures counts { Counts (W.device w.old) (W.device w.new) result }
 {
     for row in 0..view.rows.len() {
-        put_row(view, marks, row, first, w)?;
+        put_row(view, marks, row, w)?;
     }
     Ok(())
 }
@@ -288,21 +263,15 @@ fn put_open<W: Sink>(view: HeadView<'_>, marks: &[u8], w: &mut W) -> Result<(), 
     Ok(())
 }
 
-/// Writes the marked declarations in order, and an `$upscope` for each marked scope that is still open. The codes are their own,
-/// or new ones where they are numbered from `first` on.
-pub(crate) fn put_declarations<W: Sink>(
-    view: HeadView<'_>,
-    marks: &[u8],
-    first: Option<u64>,
-    w: &mut W,
-) -> Result<(), WriteFailed>
+/// Writes the marked declarations in order, and an `$upscope` for each marked scope that is still open.
+fn put_declarations<W: Sink>(view: HeadView<'_>, marks: &[u8], w: &mut W) -> Result<(), WriteFailed>
     requires failures { (W.device w.old).failures < 2 ^ 64 - 1 }
-    ensures takes { (h : Header) → IsViewOf view.entry h → FitNumbers first h
+    ensures takes { (h : Header) → IsViewOf view.entry h
         → Takes (W.device w.old) (W.device w.new)
-        (rows_text (given first h) (is_marked marks.now) h.declarations) result }
+        (rows_text (λ code. code) (is_marked marks.now) h.declarations) result }
     ensures counts { Counts (W.device w.old) (W.device w.new) result }
 {
-    put_rows(view, marks, first, w)?;
+    put_rows(view, marks, w)?;
     put_open(view, marks, w)
 }
 
@@ -322,6 +291,6 @@ pub fn put_head<W: Sink>(view: HeadView<'_>, marks: &[u8], w: &mut W) -> Result<
     put_section(w, b"$date", view.date)?;
     put_section(w, b"$version", view.version)?;
     put_section(w, b"$timescale", text_of_scale(view.scale))?;
-    put_declarations(view, marks, None, w)?;
+    put_declarations(view, marks, w)?;
     put(w, b"$enddefinitions $end\n")
 }

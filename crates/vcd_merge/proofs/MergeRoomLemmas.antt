@@ -1,5 +1,5 @@
 -- What a merge is lent counts at most the bound.
-use Rattle.std.proofs.Common.{◌≡◌, ℕ, ◌+◌, ◌*◌, ◌≤◌, List, [], ◌∷◌, length, sym, subst, ap, arith}
+use Rattle.std.proofs.Common.{◌≡◌, ℕ, ◌+◌, ◌*◌, List, [], ◌∷◌, length, sym, subst, ap, arith}
 use Rattle.std.proofs.lemmas.List.Sums.{sum_by-cons}
 use Rattle.std.proofs.lemmas.Slice.Zip.{AllZip-long}
 use Rattle.vcd_model.specs.Bound.{AreAllWindows, AreViews, WindowSize, text_bytes}
@@ -50,24 +50,19 @@ are_views (head ∷ heads) (h ∷ hs) show =
 
 -- ---- what a merge is lent
 
--- windows of as many inputs as there are heads, and no more marks than these have rows
-pub merge_within : (limit : ℕ) (heads : List Head) (w : WindowSize) (marks : ℕ) → AreAllWindows limit (length heads) w → marks ≤ (kept_in heads).rows → MergeIsWithinBound limit heads w marks
-merge_within limit heads w marks are few = λ hs show.
+-- windows of as many inputs as there are heads
+pub merge_within : (limit : ℕ) (heads : List Head) (w : WindowSize) → AreAllWindows limit (length heads) w → MergeIsWithinBound limit heads w
+merge_within limit heads w are = λ hs show.
     let long = AllZip-long _ heads hs show in
-    let views = are_views heads hs show in
-    merge_fits limit hs w (kept_in heads) marks (subst (λ n. AreAllWindows limit n w) (sym long) are) views (omega (arith, few, views.rows))
+    merge_fits limit hs w (kept_in heads) 0 (subst (λ n. AreAllWindows limit n w) (sym long) are) (are_views heads hs show) (omega arith)
 
 -- windows whose tokens and values are as long as the limit says, and then none, whatever the limit
-pub without_windows : (limit : ℕ) (heads : List Head) (w : WindowSize) (marks : ℕ) → w.token ≡ length heads * limit → w.value ≡ w.token → MergeIsWithinBound limit heads w marks → (other : ℕ) → MergeIsWithinBound other heads no_windows marks
-without_windows limit heads w marks token value within other = λ hs show.
+pub without_windows : (limit : ℕ) (heads : List Head) (w : WindowSize) → w.token ≡ length heads * limit → w.value ≡ w.token → MergeIsWithinBound limit heads w → (other : ℕ) → MergeIsWithinBound other heads no_windows
+without_windows limit heads w token value within other = λ hs show.
     let long = ap (λ n. n * limit) (AllZip-long _ heads hs show) in
     omega (arith, within hs show, token, value, long, bound_of_limit limit hs, bound_of_limit other hs)
 
--- the same windows, and no marks
-pub without_marks : (limit : ℕ) (heads : List Head) (w : WindowSize) (marks : ℕ) → MergeIsWithinBound limit heads w marks → MergeIsWithinBound limit heads w 0
-without_marks limit heads w marks within = λ hs show. omega (arith, within hs show)
-
 -- as many seats, the same heads and windows that are as long
-pub still_within : (n n' : ℕ) (heads heads' : List Head) (w w' : Windows) (marks : ℕ) → n' ≡ n → heads' ≡ heads → SameLengths w w' → MergeIsWithinBound (part_len n w.tokens.now) heads (windows_size w) marks → MergeIsWithinBound (part_len n' w'.tokens.now) heads' (windows_size w') marks
-still_within n n' heads heads' w w' marks many same lengths within =
+pub still_within : (n n' : ℕ) (heads heads' : List Head) (w w' : Windows) → n' ≡ n → heads' ≡ heads → SameLengths w w' → MergeIsWithinBound (part_len n w.tokens.now) heads (windows_size w) → MergeIsWithinBound (part_len n' w'.tokens.now) heads' (windows_size w')
+still_within n n' heads heads' w w' many same lengths within =
     rw (many, same, lengths.chunks, lengths.tokens, lengths.values) within

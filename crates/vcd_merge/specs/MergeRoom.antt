@@ -1,6 +1,6 @@
 -- What is lent to a merge counts at most the bound.
 use Rattle.std.specs.Prelude.{ℕ, List, length, sum_by}
-use Rattle.vcd_model.specs.Bound.{FitsBound, ViewSize, WindowSize, marks_alone}
+use Rattle.vcd_model.specs.Bound.{FitsBound, ViewSize, WindowSize, no_room}
 use Rattle.vcd_model.specs.Header.{Header}
 use Rattle.vcd_head.specs.Merged.{ShowHeaders}
 use Rattle.vcd_view.specs.Needs.{view_size}
@@ -30,6 +30,6 @@ windows_size w = record { chunk = length w.chunks.now; token = length w.tokens.n
 abbrev pub no_windows : WindowSize
 no_windows = record { chunk = 0; token = 0; value = 0 }
 
--- what these heads keep, windows of these lengths and so many marks count at most the bound of the headers that are shown, with 512 bytes an input to spare
-abbrev pub MergeIsWithinBound : (limit : ℕ) → List Head → WindowSize → (marks : ℕ) → Type 0
-MergeIsWithinBound limit heads w marks = (hs : List Header) → ShowHeaders heads hs → FitsBound limit hs w (kept_in heads) (marks_alone marks)
+-- what these heads keep and windows of these lengths count at most the bound of the headers that are shown, with 512 bytes an input to spare
+abbrev pub MergeIsWithinBound : (limit : ℕ) → List Head → WindowSize → Type 0
+MergeIsWithinBound limit heads w = (hs : List Header) → ShowHeaders heads hs → FitsBound limit hs w (kept_in heads) no_room

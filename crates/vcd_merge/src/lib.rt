@@ -29,8 +29,8 @@
 //!
 //! # Limits
 //!
-//! At most 64 inputs. A call asks for fewer than 2^64 - 1 failures of its devices so far, and for windows and marks within the
-//! bound of the definitions (`MergeIsWithinBound`). A time that is 2^64 or more once it is scaled is a fault.
+//! At most 64 inputs. A call asks for fewer than 2^64 - 1 failures of its devices so far, and for windows within the bound of the
+//! definitions (`MergeIsWithinBound`). A time that is 2^64 or more once it is scaled is a fault.
 //!
 //! Not promised: how many bytes of the output were written where a write failed.
 #![tactic(auto)]

@@ -14,7 +14,7 @@ ghost use Rattle.vcd_merge.specs.MergeTrail.{RunGives, TurnsAt};
 ghost use Rattle.vcd_merge.specs.MergeRun.{Follows};
 ghost use Rattle.vcd_model.specs.Header.{Header};
 ghost use Rattle.vcd_model.specs.HeadText.{merged_head};
-ghost use Rattle.vcd_head.specs.Merged.{HaveRoom, ShowHeaders};
+ghost use Rattle.vcd_head.specs.Merged.{ShowHeaders};
 ghost use Rattle.vcd_merge.specs.MergeRoom.{MergeIsWithinBound, no_windows, windows_size};
 ghost use Rattle.vcd_merge.specs.MergeStart.{AreBegun, HasBegun};
 ghost use Rattle.vcd_merge.specs.MergeStep.{AreMarked, Gives, Holds, IsReady, failures_with, is_going, last_written, left_of, standing_of};
@@ -128,7 +128,7 @@ fn turn<S: Source, W: Sink>(
 
 impl<'h, 's> Merge<'h, 's> {
     /// Begins a merge of at most 64 inputs with these heads, and writes its header. Each seat's feed stands after its header;
-    /// where it stands is left alone. In the marks, of which each head needs one a row, anything may stand before and after.
+    /// where it stands is left alone.
     ///
     /// # Errors
     ///
@@ -136,25 +136,21 @@ impl<'h, 's> Merge<'h, 's> {
     pub fn start<W: Sink>(
         heads: &'h [Head],
         seats: &'s mut [Seat],
-        marks: &mut [u8],
         out: &mut W,
     ) -> Result<Merge<'h, 's>, Stop>
         requires many { length heads.now ≤ 64 }
         requires heads { length heads.now ≡ length seats.old }
         requires failures { (W.device out.old).failures < 2 ^ 64 - 1 }
-        requires bound { (limit : ℕ) → MergeIsWithinBound limit heads.now no_windows
-            (length marks.old) }
+        requires bound { (limit : ℕ) → MergeIsWithinBound limit heads.now no_windows }
         ensures takes { (hs : List Header) → ShowHeaders heads.now hs
-            → HaveRoom (length marks.old) hs
             → Takes (W.device out.old) (W.device out.new) (merged_head hs) result }
         ensures counts { Counts (W.device out.old) (W.device out.new) result }
         ensures begun { IfOk result (HasBegun heads.now seats.old) }
         ensures seats { (hs : List Header) → ShowHeaders heads.now hs
             → IfOk result (λ merge. AreBegun hs seats.old merge.seats.now) }
         ensures stops { IfErr result (λ stop. stop ≡ Stop.Write) }
-        ensures marks { length marks.new ≡ length marks.old }
     {
-        put_merged_head(heads, marks, out)?;
+        put_merged_head(heads, out)?;
         set_seats(heads, seats);
         Ok(Merge {
             heads,
@@ -475,7 +471,7 @@ pub fn merge_step<S: Source, W: Sink>(
     requires ready { IsReady (standing_of merge.old sources.old windows.old) }
     requires bound { MergeIsWithinBound
         (part_len (length merge.old.seats.now) windows.old.tokens.now) merge.old.heads.now
-        (windows_size windows.old) 0 }
+        (windows_size windows.old) }
     ensures gives { (hs : List Header) (lanes : List Lane) (ds : List Dump)
         → Holds S.rest hs lanes ds (standing_of merge.old sources.old windows.old)
         → Gives S.rest hs lanes ds (standing_of merge.old sources.old windows.old)
@@ -531,7 +527,7 @@ fn run_step<S: Source, W: Sink>(
         (length merge.old.seats.now) order.old.inputs order.old.len }
     requires bound { MergeIsWithinBound
         (part_len (length merge.old.seats.now) windows.old.tokens.now) merge.old.heads.now
-        (windows_size windows.old) 0 }
+        (windows_size windows.old) }
     ensures runs { (hs : List Header) (lanes : List Lane) (ds : List Dump)
         → Holds S.rest hs lanes ds (standing_of merge.old sources.old windows.old)
         → RunGives S.rest S.failures hs lanes false ds
@@ -592,7 +588,7 @@ impl<'h, 's> Merge<'h, 's> {
         requires ready { IsReady (standing_of self.old sources.old windows.old) }
         requires bound { MergeIsWithinBound
             (part_len (length self.old.seats.now) windows.old.tokens.now) self.old.heads.now
-            (windows_size windows.old) 0 }
+            (windows_size windows.old) }
 
         // Where the merge holds these items, and the output has what is due with them, it is the merge of its inputs.
         ensures gives { (hs : List Header) (lanes : List Lane) (ds : List Dump)

@@ -2,7 +2,7 @@
 ghost use Rattle.std.specs.Prelude.{◌≡◌, ℕ, ◌+◌, ◌-◌, ◌^◌, ◌<◌, ◌≤◌, List, length, map, All};
 ghost use Rattle.vcd_model.specs.Header.{Header};
 ghost use Rattle.vcd_text.specs.Device.{supply};
-ghost use Rattle.vcd_head.specs.Merged.{HaveRoom, ShowHeaders};
+ghost use Rattle.vcd_head.specs.Merged.{ShowHeaders};
 ghost use Rattle.vcd_body.specs.Answer.{NamesInput, writes_failed};
 ghost use Rattle.vcd_merge.specs.MergeParts.{AreParts, AreSeated, SameLengths, part_len};
 ghost use Rattle.vcd_merge.specs.MergeRoom.{MergeIsWithinBound, windows_size};
@@ -19,8 +19,7 @@ use vcd_head::Head;
 use vcd_text::{Sink, Source};
 
 /// Merges 1 to 64 inputs, whose headers were read: their changes in one order of time, under one header. Each seat is as
-/// `Seat::new` makes it from its input's feed after its header. In the marks, of which each head needs one a row, anything may
-/// stand before and after.
+/// `Seat::new` makes it from its input's feed after its header.
 ///
 /// # Errors
 ///
@@ -28,10 +27,9 @@ use vcd_text::{Sink, Source};
 /// failed, after a prefix.
 pub fn merge<S: Source, W: Sink>(
     heads: &[Head],
-    seats: &mut [Seat],
-    marks: &mut [u8],
     sources: &mut [S],
     windows: &mut Windows<'_>,
+    seats: &mut [Seat],
     out: &mut W,
 ) -> Result<Done, Stop>
     requires some { 0 < length heads.now }
@@ -44,10 +42,9 @@ pub fn merge<S: Source, W: Sink>(
     requires reads { All (λ s. S.failures s < 2 ^ 64 - 1) sources.old }
     requires out_failures { (W.device out.old).failures < 2 ^ 64 - 1 }
     requires bound { MergeIsWithinBound (part_len (length seats.old) windows.old.tokens.now)
-        heads.now (windows_size windows.old) (length marks.old) }
+        heads.now (windows_size windows.old) }
     ensures follows { (hs : List Header) (lanes : List Lane) (names : List (List ℕ))
         → ShowHeaders heads.now hs → map (λ (l : Lane). l.header) lanes ≡ hs
-        → HaveRoom (length marks.old) hs
         → HaveNoItems S.rest lanes seats.old sources.old windows.old.chunks.now windows.old.tokens.now
         → Follows (part_len (length seats.old) windows.old.tokens.now)
         (part_len (length seats.old) windows.old.chunks.now) lanes names
@@ -60,8 +57,7 @@ pub fn merge<S: Source, W: Sink>(
         × NamesInput k result }
     ensures writes { (W.device out.new).failures
         ≡ (W.device out.old).failures + writes_failed result }
-    ensures marks { length marks.new ≡ length marks.old }
 {
-    let mut merge = Merge::start(heads, seats, marks, out)?;
+    let mut merge = Merge::start(heads, seats, out)?;
     merge.finish(sources, windows, out)
 }

@@ -2,7 +2,6 @@
 ghost use Rattle.std.specs.Prelude.{◌≡◌, ◌-◌, ◌^◌, ◌<◌, ◌≤◌, ℕ, All, IfOk, length};
 ghost use Rattle.vcd_text.specs.Watch.{failed_calls};
 ghost use Rattle.vcd_tools.specs.MergeParts.{AreParts, SameLengths, part_len};
-ghost use Rattle.vcd_tools.specs.MergeRoom.{kept_in};
 ghost use Rattle.vcd_tools.specs.Seat.{IsSeated};
 
 use super::steps::merge_as;
@@ -70,27 +69,23 @@ fn begin_at<S: Source>(
     )
 }
 
-// Inputs whose headers were read, and how many marks each of their heads has enough of.
+// Inputs whose headers were read.
 #[derive(Drop)]
 struct Inputs<'t> {
     heads: Vec<Head>,
     seats: Vec<Seat>,
     sources: Vec<Watch<&'t [u8]>>,
-    marks: usize,
 }
 
 impl<'t> Inputs<'t> {
-    ghost use Rattle.std.specs.Prelude.{◌++◌, ◌∷◌, [], max};
-    ghost use Rattle.vcd_head.specs.Shown.{shown};
+    ghost use Rattle.std.specs.Prelude.{◌++◌, ◌∷◌, []};
 
     fn push(&mut self, begun: Begun, source: Watch<&'t [u8]>) -> Result<(), AllocError>
         ensures { IfOk result
             (λ _. (self.new.heads.items ≡ self.old.heads.items ++ begun.head ∷ [])
             × (self.new.seats.items ≡ self.old.seats.items ++ begun.seat ∷ [])
-            × (self.new.sources.items ≡ self.old.sources.items ++ source.entry ∷ [])
-            × (self.new.marks ≡ max self.old.marks (length (shown begun.head).rows))) }
+            × (self.new.sources.items ≡ self.old.sources.items ++ source.entry ∷ [])) }
     {
-        self.marks = self.marks.max(begun.head.view().rows.len());
         self.heads.push(begun.head)?;
         self.seats.push(begun.seat)?;
         self.sources.push(source)?;
@@ -115,13 +110,11 @@ fn begin_all<'t>(
         (part_len (length texts.now) windows.old.tokens.now)) inputs.seats.items) }
     ensures reads { IfOk result (λ inputs.
         All (λ s. failed_calls s < 2 ^ 64 - 1) inputs.sources.items) }
-    ensures marks { IfOk result (λ inputs. inputs.marks ≤ (kept_in inputs.heads.items).rows) }
 {
     let mut inputs = Inputs {
         heads: Vec::new(alloc),
         seats: Vec::new(alloc),
         sources: Vec::new(alloc),
-        marks: 0,
     };
     for input in 0..texts.len() {
         let mut source = Watch::new(texts[input]);
@@ -156,17 +149,14 @@ fn merge_of(
         heads,
         mut seats,
         mut sources,
-        marks,
     } = begin_all(alloc, texts, &mut windows)?;
-    let mut marks = vec![in alloc; 0u8; marks]?;
     let mut out = Watch::new(Vec::with_capacity(alloc, 8192)?);
     let answer = merge_as(
         by_steps,
         &heads,
-        &mut seats,
-        &mut marks,
         &mut sources,
         &mut windows,
+        &mut seats,
         &mut out,
     );
     Ok((answer, out.device))

@@ -22,7 +22,7 @@ fn take_steps<S: Source, W: Sink>(
     requires ready { IsReady (standing_of merge.old sources.old windows.old) }
     requires bound { MergeIsWithinBound
         (part_len (length merge.old.seats.now) windows.old.tokens.now) merge.old.heads.now
-        (windows_size windows.old) 0 }
+        (windows_size windows.old) }
 {
     'items: loop {
         match merge_step(merge, sources, windows, out)? {
@@ -35,10 +35,9 @@ fn take_steps<S: Source, W: Sink>(
 // Merges these inputs item by item.
 fn merge_by_steps<S: Source, W: Sink>(
     heads: &[Head],
-    seats: &mut [Seat],
-    marks: &mut [u8],
     sources: &mut [S],
     windows: &mut Windows<'_>,
+    seats: &mut [Seat],
     out: &mut W,
 ) -> Result<Done, Stop>
     requires some { 0 < length heads.now }
@@ -51,9 +50,9 @@ fn merge_by_steps<S: Source, W: Sink>(
     requires reads { All (λ s. S.failures s < 2 ^ 64 - 1) sources.old }
     requires out_failures { (W.device out.old).failures < 2 ^ 64 - 1 }
     requires bound { MergeIsWithinBound (part_len (length seats.old) windows.old.tokens.now)
-        heads.now (windows_size windows.old) (length marks.old) }
+        heads.now (windows_size windows.old) }
 {
-    let mut merge = Merge::start(heads, seats, marks, out)?;
+    let mut merge = Merge::start(heads, seats, out)?;
     take_steps(&mut merge, sources, windows, out)
 }
 
@@ -61,10 +60,9 @@ fn merge_by_steps<S: Source, W: Sink>(
 pub(crate) fn merge_as<S: Source, W: Sink>(
     by_steps: bool,
     heads: &[Head],
-    seats: &mut [Seat],
-    marks: &mut [u8],
     sources: &mut [S],
     windows: &mut Windows<'_>,
+    seats: &mut [Seat],
     out: &mut W,
 ) -> Result<Done, Stop>
     requires some { 0 < length heads.now }
@@ -77,10 +75,10 @@ pub(crate) fn merge_as<S: Source, W: Sink>(
     requires reads { All (λ s. S.failures s < 2 ^ 64 - 1) sources.old }
     requires out_failures { (W.device out.old).failures < 2 ^ 64 - 1 }
     requires bound { MergeIsWithinBound (part_len (length seats.old) windows.old.tokens.now)
-        heads.now (windows_size windows.old) (length marks.old) }
+        heads.now (windows_size windows.old) }
 {
     if by_steps {
-        return merge_by_steps(heads, seats, marks, sources, windows, out);
+        return merge_by_steps(heads, sources, windows, seats, out);
     }
-    merge(heads, seats, marks, sources, windows, out)
+    merge(heads, sources, windows, seats, out)
 }

@@ -2,12 +2,8 @@
 use Rattle.std.proofs.Common.{◌≡◌, ◌==◌, ℕ, ◌+◌, ◌*◌, ◌/◌, ◌<◌, ◌≤◌, Bool, true, false, inl, List, [], length, map, Option, Some, Result, Ok, Err, refl, sym, ap, subst, ◌∙◌, arith, add-zero}
 use Rattle.std.specs.Prelude.{get_or, slice_set}
 use Rattle.std.proofs.lemmas.List.{set-get_or}
-use Rattle.std.specs.List.{AllByRecursion, AllZip}
 use Rattle.std.proofs.Math.Nat.{mul-div_cancel_left}
 use Rattle.std.proofs.lemmas.Nat.{mul-le}
-use Rattle.vcd_model.specs.Header.{Header}
-use Rattle.vcd_head.specs.Shown.{shown}
-use Rattle.vcd_view.specs.Views.{Views}
 use Rattle.vcd_head.specs.declared.head.Head.{Head}
 use Rattle.vcd_merge.specs.MergeParts.{AreParts, part_len}
 use Rattle.vcd_merge.specs.declared.seat.Seat.{Seat}
@@ -20,7 +16,7 @@ use Rattle.vcd_text.specs.Answer.{whole}
 use Rattle.vcd_text.specs.Device.{Device, Supply, Writes, supply}
 use Rattle.vcd_text.proofs.Writes.{appends-none}
 use Rattle.vcd_body.specs.Answer.{NamesInput}
-use Rattle.vcd_merge.specs.MergeRoom.{MergeIsWithinBound, kept_in, windows_size}
+use Rattle.vcd_merge.specs.MergeRoom.{MergeIsWithinBound, windows_size}
 use Rattle.vcd_merge.specs.MergeRun.{Belongs, Follows}
 use Rattle.vcd_merge.specs.MergeStep.{failures_with}
 use Rattle.vcd_merge.specs.Seat.{Lane}
@@ -36,7 +32,7 @@ use Rattle.vcd_words.specs.declared.refusal.Refusal.{Refusal}
 use Rattle.vcd_words.specs.declared.refusal.Refusal.TheVariants as refusal
 use Rattle.vcdkit.specs.Failure.{failure_of, merge_end, CountsReads}
 use Rattle.vcd_words.specs.Refusal.{model_refusal}
-use Rattle.vcdkit.specs.Inputs.{AreBegun, AreParked, AreShown, HaveBegun, Stops, headers_in}
+use Rattle.vcdkit.specs.Inputs.{AreBegun, AreParked, AreShown, HaveBegun, Stops}
 use Rattle.vcdkit.specs.Message.{end_message, end_status, refusal_status, Shows}
 use Rattle.vcdkit.specs.Run.{EndsAll, HasRun, LeavesAll}
 use Rattle.vcdkit.specs.Run.HasRun.{WithOutcome, NoMemory}
@@ -169,27 +165,19 @@ module _ (limit chunk : ℕ) (names texts : List (List ℕ)) (old mid new : List
       record { lefts = f.lefts; read = r.0; leaves = merge_leaves names _ (outcome Want.Merge limit names f.lefts) out out' (Err stop) (merge_due limit names f.lefts f.opened r.1) f.belongs }
 
 -- over readers with these texts
-pub merge_ends : {X : Type 0} (n n' limit limit1 limit2 chunk chunk1 chunk2 marks : ℕ) (rest : X → Option (List ℕ)) (failures : X → ℕ) (names texts : List (List ℕ)) (old mid new : List X) (heads : List Head) (seats : List Seat) (chunks tokens : List ℕ) (out out' : Device) (result : Result Done Stop)
+pub merge_ends : {X : Type 0} (n n' limit limit1 limit2 chunk chunk1 chunk2 : ℕ) (rest : X → Option (List ℕ)) (failures : X → ℕ) (names texts : List (List ℕ)) (old mid new : List X) (heads : List Head) (seats : List Seat) (chunks tokens : List ℕ) (out out' : Device) (result : Result Done Stop)
     → n' ≡ n → limit1 ≡ limit → limit2 ≡ limit → chunk1 ≡ chunk → chunk2 ≡ chunk
     → HaveBegun limit1 chunk1 n rest failures texts old mid heads seats chunks tokens
-    → ((hs : List Header) → AllZip (λ (head : Head) (h : Header). Views (shown head) h) heads hs → AllByRecursion (λ (h : Header). length h.declarations ≤ marks) hs)
-    → ((lanes : List Lane) (names : List (List ℕ)) → AreShown heads lanes → AllByRecursion (λ (h : Header). length h.declarations ≤ marks) (headers_in lanes) → AreParked n' rest lanes seats mid chunks tokens
+    → ((lanes : List Lane) (names : List (List ℕ)) → AreShown heads lanes → AreParked n' rest lanes seats mid chunks tokens
     → Follows limit2 chunk2 lanes names (map (supply rest failures) mid) (map (supply rest failures) new) out out' result)
     → EndsAll Want.Merge [] limit chunk names texts (map (supply rest failures) old) (map (supply rest failures) new) out out' (merge_end result)
-merge_ends n n' limit limit1 limit2 chunk chunk1 chunk2 marks rest failures names texts old mid new heads seats chunks tokens out out' result e l1 l2 c1 c2 b enough follows =
+merge_ends n n' limit limit1 limit2 chunk chunk1 chunk2 rest failures names texts old mid new heads seats chunks tokens out out' result e l1 l2 c1 c2 b follows =
     let f = supply rest failures in
     let parked = subst (λ (m : ℕ). AreParked m rest b.lanes seats mid chunks tokens) (sym e) b.parked in
-    let followed = follows b.lanes names b.views (enough (headers_in b.lanes) b.views) parked in
+    let followed = follows b.lanes names b.views parked in
     let begun = subst (λ (m : ℕ). AreBegun m chunk [] texts (map f old) (map f mid) b.lanes) l1 (subst (λ (m : ℕ). AreBegun limit1 m [] texts (map f old) (map f mid) b.lanes) c1 b.begun) in
     let due = subst (λ (m : ℕ). Follows m chunk b.lanes names (map f mid) (map f new) out out' result) l2 (subst (λ (m : ℕ). Follows limit2 m b.lanes names (map f mid) (map f new) out out' result) c2 followed) in
     merged limit chunk names texts (map f old) (map f mid) (map f new) b.lanes out out' begun result due
-
-pub no_marks : {X : Type 0} (n limit limit1 chunk chunk1 : ℕ) (rest : X → Option (List ℕ)) (failures : X → ℕ) (names texts : List (List ℕ)) (old mid : List X) (heads : List Head) (seats : List Seat) (chunks tokens : List ℕ) (out : Device) → limit1 ≡ limit → chunk1 ≡ chunk
-    → HaveBegun limit1 chunk1 n rest failures texts old mid heads seats chunks tokens → EndsAll Want.Merge [] limit chunk names texts (map (supply rest failures) old) (map (supply rest failures) mid) out out (Err OutOfMemory)
-no_marks n limit limit1 chunk chunk1 rest failures names texts old mid heads seats chunks tokens out l1 c1 b =
-    let f = supply rest failures in
-    no_room Want.Merge [] limit chunk names texts (map f old) (map f mid) out b.lanes
-    (subst (λ (m : ℕ). AreBegun m chunk [] texts (map f old) (map f mid) b.lanes) l1 (subst (λ (m : ℕ). AreBegun limit1 m [] texts (map f old) (map f mid) b.lanes) c1 b.begun))
 
 -- ---- windows in parts
 
@@ -210,16 +198,16 @@ parts_of n chunk limit cs ts vs some c l ec et ev = record {
 
 -- ---- what a merge is lent
 
--- windows of n inputs under these limits, and no more marks than these n heads have rows
-pub lends_within : (n chunk limit seats : ℕ) (heads : List Head) (w : Windows) (marks : ℕ) → 0 < n → chunk ≤ 65536 → length w.chunks.now ≡ n * chunk → length w.tokens.now ≡ n * limit → length w.values.now ≡ n * limit → length heads ≡ n → seats ≡ n → marks ≤ (kept_in heads).rows
-    → MergeIsWithinBound (part_len seats w.tokens.now) heads (windows_size w) marks
-lends_within n chunk limit seats heads w marks some small lc lt lv many alike few =
+-- windows of n inputs under these limits
+pub lends_within : (n chunk limit seats : ℕ) (heads : List Head) (w : Windows) → 0 < n → chunk ≤ 65536 → length w.chunks.now ≡ n * chunk → length w.tokens.now ≡ n * limit → length w.values.now ≡ n * limit → length heads ≡ n → seats ≡ n
+    → MergeIsWithinBound (part_len seats w.tokens.now) heads (windows_size w)
+lends_within n chunk limit seats heads w some small lc lt lv many alike =
     let here = part_is n limit w.tokens.now some lt in
-    rw (alike, here) (merge_within limit heads (windows_size w) marks (record {
+    rw (alike, here) (merge_within limit heads (windows_size w) (record {
       chunk = all_chunks;
       token = omega (arith, lt, alone limit);
       value = omega (arith, lv, alone limit);
-    }) few)
+    }))
   where
     all_chunks : length w.chunks.now ≤ length heads * 65536
     all_chunks = rw (lc, many) (mul-le n chunk n 65536 (omega arith) small)

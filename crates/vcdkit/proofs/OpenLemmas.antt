@@ -2,8 +2,8 @@
 use Rattle.std.proofs.Common.{◌≡◌, ◌≢◌, ℕ, zero, suc, ◌+◌, ◌-◌, ◌/◌, ◌<◌, ◌≤◌, ◌⊎◌, inl, inr, List, [], ◌∷◌, ◌++◌, length, map, slice_get, slice_set, Option, Some, None, Result, Ok, Err, refl, sym, ap, ap₂, subst, ◌∙◌, arith, append_assoc}
 use Rattle.std.specs.Prelude.{All, MatchResult, get_or, slice_index, sum_by}
 use Rattle.std.proofs.lemmas.List.{append-nil, length-append, length-map, map-append}
-use Rattle.std.specs.List.{AllByRecursion, AllZip}
-use Rattle.std.proofs.lemmas.List.Elements.{All-head, All-push, All-tail}
+use Rattle.std.specs.List.{AllZip}
+use Rattle.std.proofs.lemmas.List.Elements.{All-push}
 use Rattle.std.proofs.lemmas.List.Sums.{sum_by-append}
 use Rattle.std.proofs.Math.ListN.{get_or-map, length-set}
 use Rattle.std.proofs.Math.Seq.{set-append_seam}
@@ -407,15 +407,3 @@ nothing_stops limit chunk rest failures (r ∷ old) [] some h = cc
 nothing_stops limit chunk rest failures (r ∷ old) (text ∷ texts) some h =
     let behind : map rest old ≡ map (λ text. Some text) texts = cc in
     inl (none_read (allowed_after []) limit chunk 0 (whole text) (supply rest failures r), refl, length-map old (supply rest failures) ∙ sym (length-map old rest) ∙ ap length behind ∙ length-map texts (λ text. Some text))
-
--- ---- marks
-
--- marks for each row are enough for each declaration
-pub marks_enough : (most : ℕ) (heads : List Head) (hs : List Header) → All (λ (head : Head). length (shown head).rows ≤ most) heads → AllZip (λ (head : Head) (h : Header). Views (shown head) h) heads hs → AllByRecursion (λ (h : Header). length h.declarations ≤ most) hs
-marks_enough most [] [] all shows = tt
-marks_enough most [] (h ∷ hs) all shows = absurd shows
-marks_enough most (head ∷ heads) [] all shows = absurd shows
-marks_enough most (head ∷ heads) (h ∷ hs) all shows =
-    let rows = rows_len _ _ [] (shown head).rows h.declarations shows.0.rows in
-    let here = All-head (λ (x : Head). length (shown x).rows ≤ most) head heads all in
-    (omega (arith, rows, here), marks_enough most heads hs (All-tail (λ (x : Head). length (shown x).rows ≤ most) head heads all) shows.1)

@@ -1,18 +1,14 @@
 //! The inputs of a job: the memory of their windows, and their headers.
 ghost use Rattle.std.specs.Prelude.{◌≡◌, ◌≢◌, ◌*◌, ◌-◌, ◌^◌, ◌<◌, ◌≤◌, ℕ, List, [], All, IfOk, MatchResult, OnOk, Some, map, length, slice_get, slice_set, vec_len};
-ghost use Rattle.std.specs.List.{AllByRecursion, AllZip};
-ghost use Rattle.vcd_model.specs.Header.{Header};
 ghost use Rattle.vcd_model.specs.Input.{Input};
 ghost use Rattle.vcd_text.specs.Answer.{whole};
 ghost use Rattle.vcd_text.specs.Device.{supply};
 ghost use Rattle.vcd_text.specs.Feed.{HasGiven, SameLoans, source_of, limit_of, chunk_len_of, token_of};
 ghost use Rattle.vcd_head.specs.Reads.{Fails, GivesHead};
 ghost use Rattle.vcd_head.specs.Shown.{shown};
-ghost use Rattle.vcd_view.specs.Views.{Views};
 ghost use Rattle.vcd_text.specs.Advances.{HasNotFailed};
 ghost use Rattle.vcd_head.specs.declared.fault.HeadFault.{HeadFault};
 ghost use Rattle.vcd_merge.specs.MergeParts.{AreParts, SameLengths, part, part_len};
-ghost use Rattle.vcd_merge.specs.MergeRoom.{kept_in};
 ghost use Rattle.vcd_merge.specs.Seat.{IsSeated};
 ghost use Rattle.vcdkit.specs.Failure.{failure_of, head_failure, writes_failed, CountsRead, CountsReads};
 ghost use Rattle.vcdkit.specs.Inputs.{Begins, BeginsAt, HasFailed, HaveBegun, IsNew, SameParts, Stops};
@@ -235,17 +231,4 @@ pub(crate) fn open_inputs<S: Source, B: BuildHasher>(
         inputs.push(begun)?;
     }
     Ok(inputs)
-}
-
-/// How many marks are enough for the header of each of these heads.
-pub(crate) fn marks_for(heads: &[Head]) -> usize
-    ensures enough { (hs : List Header) → AllZip (λ (head : Head) (h : Header). Views (shown head) h) heads.now hs
-        → AllByRecursion (λ (h : Header). length h.declarations ≤ result) hs }
-    ensures few { result ≤ (kept_in heads.now).rows }
-{
-    let mut most = 0;
-    for head in heads {
-        most = head.view().rows.len().max(most);
-    }
-    most
 }

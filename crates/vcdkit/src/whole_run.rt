@@ -24,7 +24,7 @@ ghost use Rattle.vcdkit.specs.Run.{Ends, EndsAll, HasRun, IsAfter, IsOfJob, sett
 ghost use Rattle.vcdkit.specs.declared.failure.Failure.{Failure};
 
 use crate::failure::Failure;
-use crate::inputs::{MOST_DECLARATIONS, marks_for, open_input, open_inputs, windows_for};
+use crate::inputs::{MOST_DECLARATIONS, open_input, open_inputs, windows_for};
 use crate::message::report;
 use crate::tasks::{need_of, task_of};
 use std::alloc::Global;
@@ -197,15 +197,7 @@ fn run_merge<S: Source, W: Sink, B: BuildHasher>(
         values: &mut memory.values,
     };
     let mut inputs = open_inputs(alloc, readers, &mut windows, hasher)?;
-    let mut marks = vec![in alloc; 0u8; marks_for(&inputs.heads)]?;
-    merged(merge(
-        &inputs.heads,
-        &mut inputs.seats,
-        &mut marks,
-        readers,
-        &mut windows,
-        out,
-    ))
+    merged(merge(&inputs.heads, readers, &mut windows, &mut inputs.seats, out))
 }
 
 /// A job over its readers: all of them for a merge, else the one that there is.

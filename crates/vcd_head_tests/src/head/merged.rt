@@ -39,9 +39,8 @@ const SMALL_TWICE: &[u8] =
 fn the_same_head_twice(rt: HostRuntime) -> Result<(), Fail> {
     let alloc = rt.alloc();
     let heads = [read_good(alloc, SMALL)?, read_good(alloc, SMALL)?];
-    let mut marks = [7u8; 9];
     let mut out = Watch::new(Vec::new(alloc));
-    put_merged_head(&heads, &mut marks, &mut out)?;
+    put_merged_head(&heads, &mut out)?;
     assert_eq!(rt; out.device.as_slice(), SMALL_TWICE);
     Ok(())
 }
@@ -61,9 +60,8 @@ const BOTH: &[u8] =
 fn two_scales(rt: HostRuntime) -> Result<(), Fail> {
     let alloc = rt.alloc();
     let heads = [read_good(alloc, FIRST)?, read_good(alloc, SECOND)?];
-    let mut marks = [1u8; 5];
     let mut out = Watch::new(Vec::new(alloc));
-    put_merged_head(&heads, &mut marks, &mut out)?;
+    put_merged_head(&heads, &mut out)?;
     assert_eq!(rt; out.device.as_slice(), BOTH);
     Ok(())
 }

@@ -1,4 +1,4 @@
-use Rattle.std.proofs.Common.{◌≡◌, List, ℕ, Err, length, take, subst, sym, ap, ◌∙◌, arith, rules}
+use Rattle.std.proofs.Common.{◌≡◌, List, ℕ, Err, take, subst, sym, ap, ◌∙◌, arith, rules}
 use Rattle.std.specs.List.{concat}
 use Rattle.std.specs.Io.KnownBytes.{Appends}
 use Rattle.std.proofs.lemmas.List.{length-take-le}
@@ -8,7 +8,7 @@ use Rattle.vcd_model.specs.HeadText.{input_head}
 use Rattle.vcd_text.proofs.Writes.{appends-twice}
 use Rattle.vcd_view.specs.Views.{Views}
 use Rattle.vcd_view.proofs.LookUpLemmas.{codes_len}
-use Rattle.vcd_head.proofs.MergedLemmas.{HeaderAt, all_passed, header_at, number_more, numbers_fit, room_at}
+use Rattle.vcd_head.proofs.MergedLemmas.{HeaderAt, all_passed, header_at, number_more, numbers_fit}
 use Rattle.vcd_head.proofs.WriteLemmas.{lines-next, lines-some}
 use Rattle.vcd_head.proofs.merged.put_input_heads.Goals as goal
 
@@ -25,7 +25,7 @@ loop-place-preserved g c =
           let codes = codes_len c.view-view.result.text.now c.view-view.result.codes.now at.header.codes v.codes in
           let first = c.loop-place.invariant.first hs s in
           omega (arith, c.saturating_add-first.ensures, fits, codes, first, number_more hs i at.header at.at);
-      lines = λ hs s room.
+      lines = λ hs s.
           let at = subst (HeaderAt hs i) (sym c.index-heads-place.is) (header_at heads hs i c.index-heads-place.result s (omega arith)) in
           let v = subst (λ x. Views x at.header) (sym c.view-view.ensures) at.views in
           let first = c.loop-place.invariant.first hs s in
@@ -33,12 +33,12 @@ loop-place-preserved g c =
           let number = length-take-le i hs (omega (arith, long)) in
           let fits = numbers_fit heads hs i at.header c.index-heads-place.result s (omega arith) at.views in
           subst (λ (l : List ℕ). Appends (g.W.Sink.device c.args.w.now).held (g.W.Sink.device c.put_input_head.new.w).held l) (sym (lines-next input_head hs i at.header at.at))
-          (appends-twice _ _ _ _ (input_head (take i hs) at.header) (c.loop-place.invariant.lines hs s room)
-          (c.in_ok-put_input_head.ensures.takes (take i hs) at.header v (omega (arith, room_at (length c.args.marks.now) hs i at.header room at.at)) (omega (arith, number)) first (omega (arith, first, fits))));
+          (appends-twice _ _ _ _ (input_head (take i hs) at.header) (c.loop-place.invariant.lines hs s)
+          (c.in_ok-put_input_head.ensures.takes (take i hs) at.header v (omega (arith, number)) first (omega (arith, first, fits))));
     }
 
 pub returns-in_err-put_input_head-clause-takes : goal.returns-in_err-put_input_head-clause-takes
-returns-in_err-put_input_head-clause-takes g c = λ hs s room.
+returns-in_err-put_input_head-clause-takes g c = λ hs s.
     let e : c.from_residual.result ≡ Err c.in_err-put_input_head.field-0.0 = search rules in
     let heads = c.args.heads.now in
     let i = c.loop-place.place in
@@ -48,10 +48,10 @@ returns-in_err-put_input_head-clause-takes g c = λ hs s room.
     let long = AllZip-long _ heads hs s in
     let number = length-take-le i hs (omega (arith, long)) in
     let fits = numbers_fit heads hs i at.header c.index-heads-place.result s (omega arith) at.views in
-    rw e (lines-some input_head _ _ _ hs i at.header at.at (c.loop-place.invariant.lines hs s room)
-    (c.in_err-put_input_head.ensures.takes (take i hs) at.header v (omega (arith, room_at (length c.args.marks.now) hs i at.header room at.at)) (omega (arith, number)) first (omega (arith, first, fits))))
+    rw e (lines-some input_head _ _ _ hs i at.header at.at (c.loop-place.invariant.lines hs s)
+    (c.in_err-put_input_head.ensures.takes (take i hs) at.header v (omega (arith, number)) first (omega (arith, first, fits))))
 
 pub returns-clause-takes : goal.returns-clause-takes
-returns-clause-takes g c = λ hs s room.
+returns-clause-takes g c = λ hs s.
     subst (λ (l : List ℕ). Appends (g.W.Sink.device c.args.w.now).held (g.W.Sink.device c.loop-place.w).held l)
-    (ap (λ l. concat (each input_head l)) (all_passed c.args.heads.now hs c.loop-place.place s (omega arith))) (c.loop-place.invariant.lines hs s room)
+    (ap (λ l. concat (each input_head l)) (all_passed c.args.heads.now hs c.loop-place.place s (omega arith))) (c.loop-place.invariant.lines hs s)

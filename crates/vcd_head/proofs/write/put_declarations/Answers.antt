@@ -5,16 +5,15 @@ use Rattle.vcd_model.specs.Declarations.{enclosing}
 use Rattle.vcd_model.specs.HeadText.{rows_text, row_line, up_lines_at}
 use Rattle.vcd_text.proofs.Writes.{appends-first, takes-twice}
 use Rattle.vcd_head.specs.Marks.{is_marked}
-use Rattle.vcd_head.specs.Merged.{given}
 use Rattle.vcd_head.proofs.write.put_declarations.Goals as goal
 
 pub returns-in_err-put_rows-clause-takes : goal.returns-in_err-put_rows-clause-takes
 unfolding rows_text
-returns-in_err-put_rows-clause-takes g c = λ h v fits.
+returns-in_err-put_rows-clause-takes g c = λ h v.
     let e : c.from_residual.result ≡ Err c.in_err-put_rows.field-0.0 = search rules in
-    rw e (appends-first _ _ _ (up_lines_at (is_marked c.args.marks.now) (enclosing h.declarations)) (c.in_err-put_rows.ensures.takes h v fits))
+    rw e (appends-first _ _ _ (up_lines_at (is_marked c.args.marks.now) (enclosing h.declarations)) (c.in_err-put_rows.ensures.takes h v))
 
 pub returns-clause-takes : goal.returns-clause-takes
 unfolding rows_text
-returns-clause-takes g c = λ h v fits.
-    takes-twice _ _ _ (concat (each (row_line (given c.args.first h) (is_marked c.args.marks.now)) h.declarations)) (up_lines_at (is_marked c.args.marks.now) (enclosing h.declarations)) c.put_open.result (c.in_ok-put_rows.ensures.takes h v fits) (c.put_open.ensures.takes h v)
+returns-clause-takes g c = λ h v.
+    takes-twice _ _ _ (concat (each (row_line (λ code. code) (is_marked c.args.marks.now)) h.declarations)) (up_lines_at (is_marked c.args.marks.now) (enclosing h.declarations)) c.put_open.result (c.in_ok-put_rows.ensures.takes h v) (c.put_open.ensures.takes h v)

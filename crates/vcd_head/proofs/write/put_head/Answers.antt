@@ -44,7 +44,7 @@ pub returns-in_err-put_declarations-clause-takes : goal.returns-in_err-put_decla
 returns-in_err-put_declarations-clause-takes g c = λ h v.
     let e : c.from_residual-in_err-put_declarations.result ≡ Err c.in_err-put_declarations.field-0.0 = search rules in
     let whole = head_of_parts (parts c.args.view) h (is_marked c.args.marks.now) c.text_of_scale.result.now v c.text_of_scale.ensures in
-    rw e (subst (AppendsSome (g.W.Sink.device c.args.w.now).held (g.W.Sink.device c.put_declarations.new.w).held) whole (appends-first _ _ _ end_line (appends-some _ _ _ _ (rows_text (λ code. code) (is_marked c.args.marks.now) h.declarations) (appends-twice _ _ _ _ (three_lines_of Keyword.Timescale c.text_of_scale.result.now) (appends-twice _ _ _ _ (three_lines_of Keyword.Version c.args.view.version.now) (c.in_ok-put_section.ensures.takes Keyword.Date refl) (c.in_ok-put_section-2.ensures.takes Keyword.Version refl)) (c.in_ok-put_section-3.ensures.takes Keyword.Timescale refl)) (c.in_err-put_declarations.ensures.takes h v tt))))
+    rw e (subst (AppendsSome (g.W.Sink.device c.args.w.now).held (g.W.Sink.device c.put_declarations.new.w).held) whole (appends-first _ _ _ end_line (appends-some _ _ _ _ (rows_text (λ code. code) (is_marked c.args.marks.now) h.declarations) (appends-twice _ _ _ _ (three_lines_of Keyword.Timescale c.text_of_scale.result.now) (appends-twice _ _ _ _ (three_lines_of Keyword.Version c.args.view.version.now) (c.in_ok-put_section.ensures.takes Keyword.Date refl) (c.in_ok-put_section-2.ensures.takes Keyword.Version refl)) (c.in_ok-put_section-3.ensures.takes Keyword.Timescale refl)) (c.in_err-put_declarations.ensures.takes h v))))
 
 pub returns-in_err-put_declarations-clause-selected : goal.returns-in_err-put_declarations-clause-selected
 returns-in_err-put_declarations-clause-selected g c = λ h names v marks.
@@ -54,7 +54,7 @@ pub returns-clause-takes : goal.returns-clause-takes
 returns-clause-takes g c = λ h v.
     let whole = head_of_parts (parts c.args.view) h (is_marked c.args.marks.now) c.text_of_scale.result.now v c.text_of_scale.ensures in
     subst (λ (l : List ℕ). Takes (g.W.Sink.device c.args.w.now) (g.W.Sink.device c.put.new.w) l c.put.result) whole
-    (takes-twice _ _ _ _ end_line c.put.result (appends-twice _ _ _ _ (rows_text (λ code. code) (is_marked c.args.marks.now) h.declarations) (appends-twice _ _ _ _ (three_lines_of Keyword.Timescale c.text_of_scale.result.now) (appends-twice _ _ _ _ (three_lines_of Keyword.Version c.args.view.version.now) (c.in_ok-put_section.ensures.takes Keyword.Date refl) (c.in_ok-put_section-2.ensures.takes Keyword.Version refl)) (c.in_ok-put_section-3.ensures.takes Keyword.Timescale refl)) (c.in_ok-put_declarations.ensures.takes h v tt)) c.put.ensures.0)
+    (takes-twice _ _ _ _ end_line c.put.result (appends-twice _ _ _ _ (rows_text (λ code. code) (is_marked c.args.marks.now) h.declarations) (appends-twice _ _ _ _ (three_lines_of Keyword.Timescale c.text_of_scale.result.now) (appends-twice _ _ _ _ (three_lines_of Keyword.Version c.args.view.version.now) (c.in_ok-put_section.ensures.takes Keyword.Date refl) (c.in_ok-put_section-2.ensures.takes Keyword.Version refl)) (c.in_ok-put_section-3.ensures.takes Keyword.Timescale refl)) (c.in_ok-put_declarations.ensures.takes h v)) c.put.ensures.0)
 
 pub returns-clause-selected : goal.returns-clause-selected
 returns-clause-selected g c = λ h names v marks.

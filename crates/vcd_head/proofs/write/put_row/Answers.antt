@@ -4,42 +4,42 @@ use Rattle.std.proofs.lemmas.Option.{slice_get_within}
 use Rattle.vcd_text.specs.Device.{Takes}
 use Rattle.vcd_text.proofs.Writes.{appends-none}
 use Rattle.vcd_head.specs.Marks.{is_marked}
-use Rattle.vcd_head.specs.Merged.{given}
+use Rattle.vcd_model.specs.Declarations.{Declaration}
 use Rattle.vcd_view.specs.Shown.{parts}
 use Rattle.vcd_head.proofs.WriteLemmas.{up_some, up_none, scope_row, variable_row, unmarked_row, row_there}
 use Rattle.vcd_head.proofs.write.put_row.Goals as goal
 
 pub returns-in_default-clause-takes : goal.returns-in_default-clause-takes
-returns-in_default-clause-takes g c = λ h d v is fits. absurd (row_there (parts c.args.view) h c.args.row d v is (sym c.row_at.ensures ∙ c.in_default.is))
+returns-in_default-clause-takes g c = λ h d v is. absurd (row_there (parts c.args.view) h c.args.row d v is (sym c.row_at.ensures ∙ c.in_default.is))
 
 pub returns-in-Scope-clause-takes : goal.returns-in-Scope-clause-takes
-returns-in-Scope-clause-takes g c = λ h d v is fits.
-    scope_row (λ (l : List ℕ). Takes (g.W.Sink.device c.args.w.now) (g.W.Sink.device c.put_scope.new.w) l c.put_scope.result) (given c.args.first h) (is_marked c.args.marks.now) (parts c.args.view) h c.args.row c.in-Some.declared d v
-    (sym c.row_at.ensures ∙ c.in-Some.is) is c.in-Scope.is (sym c.has_mark.ensures ∙ c.if-has_mark.true) (λ type name q. c.put_scope.ensures.takes h type name v q)
+returns-in-Scope-clause-takes g c = λ h d v is.
+    scope_row (λ (l : List ℕ). Takes (g.W.Sink.device c.args.w.now) (g.W.Sink.device c.put_scope.new.w) l c.put_scope.result) (λ code. code) (is_marked c.args.marks.now) (parts c.args.view) h c.args.row c.in-Some.declared d v
+    (sym c.row_at.ensures ∙ c.in-Some.is) is c.in-Scope.is (sym c.has_mark.ensures ∙ c.if-has_mark.true) (λ type name q. c.put_scope.ensures.takes h (Declaration.Scope type name) v q)
 
 pub returns-in-Var-clause-takes : goal.returns-in-Var-clause-takes
-returns-in-Var-clause-takes g c = λ h d v is fits.
-    variable_row (λ (l : List ℕ). Takes (g.W.Sink.device c.args.w.now) (g.W.Sink.device c.put_declared.new.w) l c.put_declared.result) (given c.args.first h) (is_marked c.args.marks.now) (parts c.args.view) h c.args.row c.in-Some.declared d v
-    (sym c.row_at.ensures ∙ c.in-Some.is) is c.in-Var.is (sym c.if-has_mark-2.ensures) (λ u q. c.put_declared.ensures.takes h u v q fits)
+returns-in-Var-clause-takes g c = λ h d v is.
+    variable_row (λ (l : List ℕ). Takes (g.W.Sink.device c.args.w.now) (g.W.Sink.device c.put_own.new.w) l c.put_own.result) (λ code. code) (is_marked c.args.marks.now) (parts c.args.view) h c.args.row c.in-Some.declared d v
+    (sym c.row_at.ensures ∙ c.in-Some.is) is c.in-Var.is (sym c.if-has_mark-2.ensures) (λ u q. c.put_own.ensures.takes h u v q)
 
 pub returns-in_default-kind-clause-takes : goal.returns-in_default-kind-clause-takes
-returns-in_default-kind-clause-takes g c = λ h d v is fits.
-    let none = unmarked_row (given c.args.first h) (is_marked c.args.marks.now) (parts c.args.view) h c.args.row c.in-Some.declared d v (sym c.row_at.ensures ∙ c.in-Some.is) is c.in_default-kind.not-Up (sym c.has_mark.ensures ∙ c.if-has_mark.false) in
+returns-in_default-kind-clause-takes g c = λ h d v is.
+    let none = unmarked_row (λ code. code) (is_marked c.args.marks.now) (parts c.args.view) h c.args.row c.in-Some.declared d v (sym c.row_at.ensures ∙ c.in-Some.is) is c.in_default-kind.not-Up (sym c.has_mark.ensures ∙ c.if-has_mark.false) in
     subst (λ (l : List ℕ). Appends (g.W.Sink.device c.args.w.now).held (g.W.Sink.device c.args.w.now).held l) none (appends-none (g.W.Sink.device c.args.w.now).held)
 
 pub returns-in_default-kind-2-clause-takes : goal.returns-in_default-kind-2-clause-takes
-returns-in_default-kind-2-clause-takes g c = λ h d v is fits.
-    let none = unmarked_row (given c.args.first h) (is_marked c.args.marks.now) (parts c.args.view) h c.args.row c.in-Some.declared d v (sym c.row_at.ensures ∙ c.in-Some.is) is c.in_default-kind.not-Up (sym c.if-has_mark-2.ensures) in
+returns-in_default-kind-2-clause-takes g c = λ h d v is.
+    let none = unmarked_row (λ code. code) (is_marked c.args.marks.now) (parts c.args.view) h c.args.row c.in-Some.declared d v (sym c.row_at.ensures ∙ c.in-Some.is) is c.in_default-kind.not-Up (sym c.if-has_mark-2.ensures) in
     subst (λ (l : List ℕ). Appends (g.W.Sink.device c.args.w.now).held (g.W.Sink.device c.args.w.now).held l) none (appends-none (g.W.Sink.device c.args.w.now).held)
 
 pub returns-in-Some-scope_of-clause-takes : goal.returns-in-Some-scope_of-clause-takes
-returns-in-Some-scope_of-clause-takes g c = λ h d v is fits.
+returns-in-Some-scope_of-clause-takes g c = λ h d v is.
     let around = c.in-Some-scope_of.ensures.scope h v (slice_get_within h.declarations c.args.row d is) in
-    let line = up_some (given c.args.first h) (is_marked c.args.marks.now) (parts c.args.view) h c.args.row c.in-Some-scope_of.scope c.in-Some.declared d v (sym c.row_at.ensures ∙ c.in-Some.is) is c.in-Up.is around in
+    let line = up_some (λ code. code) (is_marked c.args.marks.now) (parts c.args.view) h c.args.row c.in-Some-scope_of.scope c.in-Some.declared d v (sym c.row_at.ensures ∙ c.in-Some.is) is c.in-Up.is around in
     subst (λ (l : List ℕ). Takes (g.W.Sink.device c.args.w.now) (g.W.Sink.device c.put_up.new.w) l c.put_up.result) line c.put_up.ensures.0
 
 pub returns-in-None-clause-takes : goal.returns-in-None-clause-takes
-returns-in-None-clause-takes g c = λ h d v is fits.
+returns-in-None-clause-takes g c = λ h d v is.
     let around = c.in-None.ensures.scope h v (slice_get_within h.declarations c.args.row d is) in
-    let line = up_none (given c.args.first h) (is_marked c.args.marks.now) (parts c.args.view) h c.args.row c.in-Some.declared d v (sym c.row_at.ensures ∙ c.in-Some.is) is c.in-Up.is around in
+    let line = up_none (λ code. code) (is_marked c.args.marks.now) (parts c.args.view) h c.args.row c.in-Some.declared d v (sym c.row_at.ensures ∙ c.in-Some.is) is c.in-Up.is around in
     subst (λ (l : List ℕ). Appends (g.W.Sink.device c.args.w.now).held (g.W.Sink.device c.args.w.now).held l) line (appends-none (g.W.Sink.device c.args.w.now).held)

@@ -10,14 +10,14 @@ use Rattle.vcd_merge.specs.MergeRun.{Follows}
 use Rattle.vcd_merge.specs.MergeStart.{no_items}
 use Rattle.vcd_merge.specs.Seat.{Lane}
 use Rattle.vcd_body.specs.declared.answer.Stop.TheVariants.{Write}
-use Rattle.vcd_merge.proofs.MergeRoomLemmas.{still_within, without_marks, without_windows}
+use Rattle.vcd_merge.proofs.MergeRoomLemmas.{still_within, without_windows}
 use Rattle.vcd_merge.proofs.MergeRuns.{unwritten_head}
 use Rattle.vcd_merge.proofs.MergeStart.{heads_given, holds_begun, opens, opens_with, ready_begun}
 use Rattle.vcd_merge.proofs.MergeSteps.{len_map}
 use Rattle.vcd_merge.proofs.whole_merge.merge.Goals as goal
 
 pub returns-in_err-merge-clause-follows : goal.returns-in_err-merge-clause-follows
-returns-in_err-merge-clause-follows g c = λ hs lanes names show lanes_are room none.
+returns-in_err-merge-clause-follows g c = λ hs lanes names show lanes_are none.
     let seats = c.args.seats.now in
     let sources = c.args.sources.now in
     let chunks = c.args.windows.now.chunks.now in
@@ -33,7 +33,7 @@ returns-in_err-merge-clause-follows g c = λ hs lanes names show lanes_are room 
     let supplied = len_map (supply g.S.Source.rest g.S.Source.failures) sources in
     let lanes_many : length lanes ≡ length seats = omega (arith, shown, mapped, headers) in
     let given = heads_given g.S.Source.rest lanes seats sources chunks tokens c.args.windows.now.values.now c.requires.parts lanes_many c.requires.sources none in
-    let some : WritesSome out new (merged_head hs) = (c.in_err-merge.ensures.takes hs show room, c.in_err-merge.ensures.counts) in
+    let some : WritesSome out new (merged_head hs) = (c.in_err-merge.ensures.takes hs show, c.in_err-merge.ensures.counts) in
     rw (is, stop)
     (unwritten_head hs lanes (part_len (length seats) tokens) (part_len (length seats) chunks) lanes_are given names olds out new (omega (arith, lanes_many, supplied)) (subst (WritesSome out new) (sym (opens_with hs)) some))
 
@@ -47,25 +47,25 @@ returns-in_err-merge-clause-reads g c =
 pub start-requires-clause-bound : goal.start-requires-clause-bound
 start-requires-clause-bound g c =
     let parts = c.requires.parts in
-    without_windows (part_len (length c.args.seats.now) c.args.windows.now.tokens.now) c.args.heads.now (windows_size c.args.windows.now) (length c.args.marks.now) (sym parts.tokens_are ∙ ap (λ n. n * part_len (length c.args.seats.now) c.args.windows.now.tokens.now) (sym c.requires.heads)) parts.values_are c.requires.bound
+    without_windows (part_len (length c.args.seats.now) c.args.windows.now.tokens.now) c.args.heads.now (windows_size c.args.windows.now) (sym parts.tokens_are ∙ ap (λ n. n * part_len (length c.args.seats.now) c.args.windows.now.tokens.now) (sym c.requires.heads)) parts.values_are c.requires.bound
 
 pub finish-requires-clause-bound : goal.finish-requires-clause-bound
 finish-requires-clause-bound g c =
     let begun = c.in_ok-merge.ensures.begun in
-    still_within (length c.args.seats.now) _ c.args.heads.now _ c.args.windows.now c.args.windows.now 0 begun.many begun.heads_are (record { chunks = refl; tokens = refl; values = refl }) (without_marks _ c.args.heads.now (windows_size c.args.windows.now) (length c.args.marks.now) c.requires.bound)
+    still_within (length c.args.seats.now) _ c.args.heads.now _ c.args.windows.now c.args.windows.now begun.many begun.heads_are (record { chunks = refl; tokens = refl; values = refl }) c.requires.bound
 
 pub finish-requires-clause-ready : goal.finish-requires-clause-ready
 finish-requires-clause-ready g c =
     ready_begun c.args.heads.now c.args.seats.now c.in_ok-merge.merge c.args.sources.now c.args.windows.now (omega arith) c.requires.heads c.requires.sources c.in_ok-merge.ensures.begun c.requires.parts c.requires.seated
 
 pub returns-clause-follows : goal.returns-clause-follows
-returns-clause-follows g c = λ hs lanes names show lanes_are room none.
+returns-clause-follows g c = λ hs lanes names show lanes_are none.
     let st = c.in_ok-merge.ensures in
     let m = c.in_ok-merge.merge in
     let w = c.args.windows.now in
     let out : Device = g.W.Sink.device c.args.out.now in
     let mid : Device = g.W.Sink.device c.start.new.out in
     let holds = holds_begun g.S.Source.rest hs lanes c.args.heads.now c.args.seats.now m c.args.sources.now w show c.requires.many lanes_are c.requires.heads c.requires.sources st.begun (st.seats hs show) none in
-    let head : Writes out mid (merged_head hs) = (st.takes hs show room, st.counts) in
+    let head : Writes out mid (merged_head hs) = (st.takes hs show, st.counts) in
     subst (λ n. Follows (part_len n w.tokens.now) (part_len n w.chunks.now) lanes names (map (supply g.S.Source.rest g.S.Source.failures) c.args.sources.now) (map (supply g.S.Source.rest g.S.Source.failures) c.finish.new.sources) out (g.W.Sink.device c.finish.new.out) c.finish.result) st.begun.many
     (c.finish.ensures.gives hs lanes (no_items lanes) names out holds (subst (Writes out mid) (sym (opens hs lanes lanes_are)) head))

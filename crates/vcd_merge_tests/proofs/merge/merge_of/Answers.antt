@@ -2,7 +2,6 @@ use Rattle.std.proofs.Common.{◌≡◌, ◌∙◌, ℕ, ◌*◌, ◌/◌, ◌<�
 use Rattle.std.proofs.lemmas.Nat.{mul-le}
 use Rattle.std.proofs.Math.Nat.{mul-div_cancel_left}
 use Rattle.vcd_merge.specs.MergeParts.{AreParts, part_len}
-use Rattle.vcd_merge.specs.MergeRoom.{kept_in}
 use Rattle.vcd_merge.proofs.MergeRoomLemmas.{merge_within}
 use Rattle.vcd_merge.proofs.PartLemmas.{parts_same}
 use Rattle.vcd_merge_tests.proofs.merge.merge_of.Goals as goal
@@ -32,7 +31,7 @@ begin_all-requires c =
 pub merge_as-answer-requires-clause-parts : goal.merge_as-answer-requires-clause-parts
 merge_as-answer-requires-clause-parts c =
     let same = c.in_ok-heads.ensures.lengths in
-    let many : length c.deref_mut-4.result.now ≡ length c.args.texts.now = search rules in
+    let many : length c.deref_mut-5.result.now ≡ length c.args.texts.now = search rules in
     let parts = parts_of (length c.args.texts.now) c.args.chunk _ _ _ (omega (arith, c.requires.texts)) (omega (arith, c.requires.chunk))
     (c.deref_mut.ensures.len ∙ c.in_ok-chunks.ensures.len) (c.deref_mut-2.ensures.len ∙ c.in_ok-tokens.ensures.len) (c.deref_mut-3.ensures.len ∙ c.in_ok-values.ensures.len) in
     parts_same (length c.args.texts.now) _ _ _ _ _ _ _ parts many same.chunks same.tokens same.values
@@ -42,12 +41,11 @@ merge_as-answer-requires-clause-bound c =
     let n = length c.args.texts.now in
     let same = c.in_ok-heads.ensures.lengths in
     let some : 0 < n = omega (arith, c.requires.texts) in
-    let many : length c.deref_mut-4.result.now ≡ n = search rules in
+    let many : length c.deref_mut-5.result.now ≡ n = search rules in
     let heads : length c.deref.result.now ≡ n = search rules in
-    let few : length c.deref_mut-5.result.now ≤ (kept_in c.deref.result.now).rows = search rules in
     let lc : length c.begin_all.new.windows.chunks.now ≡ n * c.args.chunk = same.chunks ∙ c.deref_mut.ensures.len ∙ c.in_ok-chunks.ensures.len in
     let lt : length c.begin_all.new.windows.tokens.now ≡ n * 64 = same.tokens ∙ c.deref_mut-2.ensures.len ∙ c.in_ok-tokens.ensures.len in
     let lv : length c.begin_all.new.windows.values.now ≡ n * 64 = same.values ∙ c.deref_mut-3.ensures.len ∙ c.in_ok-values.ensures.len in
     let chunks : n * c.args.chunk ≤ n * 65536 = mul-le n c.args.chunk n 65536 (omega arith) c.requires.chunk.1 in
-    rw (many, part_is n 64 c.begin_all.new.windows.tokens.now some lt) (merge_within 64 c.deref.result.now (record { chunk = length c.begin_all.new.windows.chunks.now; token = length c.begin_all.new.windows.tokens.now; value = length c.begin_all.new.windows.values.now }) (length c.deref_mut-5.result.now)
-    (rw heads (record { chunk = omega (arith, lc, chunks); token = omega (arith, lt); value = omega (arith, lv) })) few)
+    rw (many, part_is n 64 c.begin_all.new.windows.tokens.now some lt) (merge_within 64 c.deref.result.now (record { chunk = length c.begin_all.new.windows.chunks.now; token = length c.begin_all.new.windows.tokens.now; value = length c.begin_all.new.windows.values.now })
+    (rw heads (record { chunk = omega (arith, lc, chunks); token = omega (arith, lt); value = omega (arith, lv) })))

@@ -1,19 +1,19 @@
 use Rattle.std.proofs.Common.{◌*◌, ◌∙◌, length, refl, sym, ap, arith}
 use Rattle.vcd_merge.specs.MergeParts.{part_len}
 use Rattle.vcd_merge.specs.MergeRoom.{windows_size}
-use Rattle.vcd_merge.proofs.MergeRoomLemmas.{still_within, without_marks, without_windows}
+use Rattle.vcd_merge.proofs.MergeRoomLemmas.{still_within, without_windows}
 use Rattle.vcd_merge.proofs.MergeStart.{ready_begun}
 use Rattle.vcd_merge_tests.proofs.steps.merge_by_steps.Goals as goal
 
 pub start-requires-clause-bound : goal.start-requires-clause-bound
 start-requires-clause-bound g c =
     let parts = c.requires.parts in
-    without_windows (part_len (length c.args.seats.now) c.args.windows.now.tokens.now) c.args.heads.now (windows_size c.args.windows.now) (length c.args.marks.now) (sym parts.tokens_are ∙ ap (λ n. n * part_len (length c.args.seats.now) c.args.windows.now.tokens.now) (sym c.requires.heads)) parts.values_are c.requires.bound
+    without_windows (part_len (length c.args.seats.now) c.args.windows.now.tokens.now) c.args.heads.now (windows_size c.args.windows.now) (sym parts.tokens_are ∙ ap (λ n. n * part_len (length c.args.seats.now) c.args.windows.now.tokens.now) (sym c.requires.heads)) parts.values_are c.requires.bound
 
 pub take_steps-requires-clause-bound : goal.take_steps-requires-clause-bound
 take_steps-requires-clause-bound g c =
     let begun = c.in_ok-merge.ensures.begun in
-    still_within (length c.args.seats.now) _ c.args.heads.now _ c.args.windows.now c.args.windows.now 0 begun.many begun.heads_are (record { chunks = refl; tokens = refl; values = refl }) (without_marks _ c.args.heads.now (windows_size c.args.windows.now) (length c.args.marks.now) c.requires.bound)
+    still_within (length c.args.seats.now) _ c.args.heads.now _ c.args.windows.now c.args.windows.now begun.many begun.heads_are (record { chunks = refl; tokens = refl; values = refl }) c.requires.bound
 
 pub take_steps-requires-clause-ready : goal.take_steps-requires-clause-ready
 take_steps-requires-clause-ready g c =

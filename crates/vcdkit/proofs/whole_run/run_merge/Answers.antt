@@ -1,14 +1,12 @@
-use Rattle.std.proofs.Common.{◌≡◌, ◌∙◌, ◌*◌, ◌/◌, ◌≤◌, List, [], length, Err, refl, sym, ap, ap₂, subst, arith, rules}
+use Rattle.std.proofs.Common.{◌≡◌, ◌∙◌, ◌*◌, ◌/◌, List, [], length, Err, refl, sym, ap, ap₂, subst, arith, rules}
 use Rattle.std.proofs.lemmas.List.{length-map}
 use Rattle.vcd_model.specs.Job.{Want}
-use Rattle.vcd_head.specs.declared.head.Head.{Head}
-use Rattle.vcd_merge.specs.MergeRoom.{kept_in}
 use Rattle.vcd_merge.specs.declared.seat.Seat.{Seat}
 use Rattle.vcd_merge.proofs.PartLemmas.{parts_same}
 use Rattle.vcdkit.specs.declared.failure.Failure.TheVariants.{OutOfMemory}
 use Rattle.vcdkit.specs.Inputs.{AreParked, headers_in}
 use Rattle.vcdkit.proofs.OpenLemmas.{nothing_stops, still_low}
-use Rattle.vcdkit.proofs.EndLemmas.{counts_merge, lends_within, merge_ends, no_marks, part_is, parts_of, stopped}
+use Rattle.vcdkit.proofs.EndLemmas.{counts_merge, lends_within, merge_ends, part_is, parts_of, stopped}
 use Rattle.vcdkit.proofs.whole_run.run_merge.Goals as goal
 
 pub returns-in_err-memory-clause-ends : goal.returns-in_err-memory-clause-ends
@@ -31,13 +29,6 @@ returns-in_err-inputs-clause-ends g c = λ texts names h.
     let limit = part_is (length c.args.readers.now) c.args.job.now.limit c.deref_mut-2.result.now c.requires.some (c.deref_mut-2.ensures.len ∙ c.in_ok-memory.ensures.1) in
     rw e (stopped Want.Merge [] c.args.job.now.limit c.args.job.now.chunk names texts _ _ _ why (rw (limit, chunk) at (c.in_err-inputs.ensures.begins texts h)))
 
-pub returns-in_err-marks-clause-ends : goal.returns-in_err-marks-clause-ends
-returns-in_err-marks-clause-ends g c = λ texts names h.
-    let e : c.from_residual-in_err-marks.result ≡ Err OutOfMemory = search rules in
-    let chunk = part_is (length c.args.readers.now) c.args.job.now.chunk c.deref_mut.result.now c.requires.some (c.deref_mut.ensures.len ∙ c.in_ok-memory.ensures.0) in
-    let limit = part_is (length c.args.readers.now) c.args.job.now.limit c.deref_mut-2.result.now c.requires.some (c.deref_mut-2.ensures.len ∙ c.in_ok-memory.ensures.1) in
-    rw e (no_marks _ c.args.job.now.limit _ c.args.job.now.chunk _ g.S.Source.rest g.S.Source.failures names texts c.args.readers.now _ _ _ _ _ _ limit chunk (c.in_ok-inputs.ensures.begins texts h))
-
 pub merge-requires-clause-parts : goal.merge-requires-clause-parts
 merge-requires-clause-parts g c =
     let lc = c.deref_mut.ensures.len ∙ c.in_ok-memory.ensures.0 in
@@ -55,11 +46,9 @@ merge-requires-clause-bound g c =
     let lc = same.chunks ∙ c.deref_mut.ensures.len ∙ c.in_ok-memory.ensures.0 in
     let lt = same.tokens ∙ c.deref_mut-2.ensures.len ∙ c.in_ok-memory.ensures.1 in
     let lv = same.values ∙ c.deref_mut-3.ensures.len ∙ c.in_ok-memory.ensures.2 in
-    let heads : length c.deref-2.result.now ≡ n = ap length c.deref-2.ensures.value ∙ c.in_ok-inputs.ensures.many.0 in
+    let heads : length c.deref.result.now ≡ n = ap length c.deref.ensures.value ∙ c.in_ok-inputs.ensures.many.0 in
     let seats : length c.deref_mut-4.result.now ≡ n = ap length c.deref_mut-4.ensures.value ∙ c.in_ok-inputs.ensures.many.1 in
-    let marks = c.deref_mut-5.ensures.len ∙ c.in_ok-marks.ensures.len in
-    let few = subst (λ (l : List Head). c.marks_for.result ≤ (kept_in l).rows) (c.deref.ensures.value ∙ sym c.deref-2.ensures.value) c.marks_for.ensures.few in
-    lends_within n c.args.job.now.chunk c.args.job.now.limit (length c.deref_mut-4.result.now) c.deref-2.result.now c.open_inputs.new.windows (length c.deref_mut-5.result.now) c.requires.some c.args.job.now.chunk_in_range.1 lc lt lv heads seats (omega (arith, marks, few))
+    lends_within n c.args.job.now.chunk c.args.job.now.limit (length c.deref_mut-4.result.now) c.deref.result.now c.open_inputs.new.windows c.requires.some c.args.job.now.chunk_in_range.1 lc lt lv heads seats
 
 pub merge-requires-clause-reads : goal.merge-requires-clause-reads
 merge-requires-clause-reads g c = still_low g.S.Source.failures _ c.args.readers.now c.open_inputs.new.readers c.in_ok-inputs.ensures.reads c.requires.reader_failures
@@ -73,12 +62,10 @@ returns-clause-ends g c = λ texts names h.
     let chunk = part_is (length c.args.readers.now) c.args.job.now.chunk c.deref_mut.result.now c.requires.some lc in
     let limit = part_is (length c.args.readers.now) c.args.job.now.limit c.deref_mut-2.result.now c.requires.some lt in
     let seats : c.deref_mut-4.result.now ≡ c.in_ok-inputs.inputs.seats.items = c.deref_mut-4.ensures.value in
-    let marks : length c.deref_mut-5.result.now ≡ c.marks_for.result = c.deref_mut-5.ensures.len ∙ c.in_ok-marks.ensures.len in
     rw c.merged.ensures
-    (merge_ends (length c.args.readers.now) (length c.deref_mut-4.result.now) c.args.job.now.limit _ _ c.args.job.now.chunk _ _ c.marks_for.result g.S.Source.rest g.S.Source.failures names texts c.args.readers.now c.open_inputs.new.readers c.merge.new.sources
+    (merge_ends (length c.args.readers.now) (length c.deref_mut-4.result.now) c.args.job.now.limit _ _ c.args.job.now.chunk _ _ g.S.Source.rest g.S.Source.failures names texts c.args.readers.now c.open_inputs.new.readers c.merge.new.sources
     _ _ _ _ _ _ c.merge.result many limit (ap₂ (λ a b. a / b) same.tokens many ∙ limit) chunk (ap₂ (λ a b. a / b) same.chunks many ∙ chunk) (c.in_ok-inputs.ensures.begins texts h)
-    (λ hs shows. c.marks_for.ensures.enough hs (rw c.deref.ensures.value shows))
-    (λ lanes names shows enough parked. c.merge.ensures.follows (headers_in lanes) lanes names (rw c.deref-2.ensures.value shows) refl (rw marks enough)
+    (λ lanes names shows parked. c.merge.ensures.follows (headers_in lanes) lanes names (rw c.deref.ensures.value shows) refl
     (subst (λ (l : List Seat). AreParked (length c.deref_mut-4.result.now) g.S.Source.rest lanes l c.open_inputs.new.readers c.open_inputs.new.windows.chunks.now c.open_inputs.new.windows.tokens.now) (sym seats) parked)))
 
 pub returns-clause-reads : goal.returns-clause-reads

@@ -31,7 +31,7 @@ run_step-requires-clause-reads g c = still_low g.S.Source.failures c.args.source
 pub run_step-requires-clause-bound : goal.run_step-requires-clause-bound
 run_step-requires-clause-bound g c =
     let v = c.items.invariant in
-    still_within (length c.args.self.now.seats.now) (length c.items.self.seats.now) c.args.self.now.heads.now c.items.self.heads.now c.args.windows.now c.items.windows 0 v.seats v.heads v.windows c.requires.bound
+    still_within (length c.args.self.now.seats.now) (length c.items.self.seats.now) c.args.self.now.heads.now c.items.self.heads.now c.args.windows.now c.items.windows v.seats v.heads v.windows c.requires.bound
 
 pub items-preserved : goal.items-preserved
 items-preserved g c =
