@@ -1,6 +1,6 @@
 -- A mask of lanes says which bytes are white.
 use Rattle.std.proofs.Common.{◌≡◌, ◌≢◌, ℕ, ◌+◌, ◌-◌, ◌%◌, ◌^◌, ◌<◌, ◌≤◌, inl, inr, Bool, true, false, cond, List, [], ◌∷◌, map, length, get_or, Fits, w8, refl, sym, ap, ap₂, subst, ◌∙◌, arith}
-use Rattle.std.specs.Prelude.{slice_index, ◌==◌, if◌then◌else◌}
+use Rattle.std.specs.Prelude.{slice_index}
 use Rattle.std.proofs.lemmas.Bool.{agree_below, agree_below_at, cases_lt, cases_order}
 use Rattle.std.proofs.lemmas.Simd.{mask_l-mod, bit_mask_l, length-chunk, get_or-chunk}
 use Rattle.std.proofs.lemmas.List.{length-map, get_or-map, get_or_past}
@@ -9,10 +9,7 @@ use Rattle.std.proofs.lemmas.Nat.Bits.{bit_at-zero}
 use lib.Lanes.{chunk, mask_l, top, Each1}
 use Rattle.vcd_model.specs.Bytes.{is_white_space}
 use Rattle.vcd_text.specs.Masks.{TellsWhite, Marks}
-use Rattle.vcd_text.specs.Window.{passed}
-use Rattle.vcd_text.specs.declared.registers.White.{White}
-use Rattle.vcd_text.specs.declared.registers.Parked.{Parked}
-use Rattle.vcd_text.specs.declared.registers.Place.TheVariants.{Chunk}
+use Rattle.vcd_text.specs.declared.ahead.White.{White}
 
 each_byte : (f : ℕ → ℕ) (p : ℕ → Bool) → agree_below (λ x. top 7 (f x)) p 256 ≡ true → (v : List ℕ) → Each1 (Fits w8) v → map (top 7) (map f v) ≡ map p v
 each_byte f p all [] fits = refl
@@ -69,14 +66,7 @@ others_before xs i n mask r front t le none k lt = elim (cases_lt k i) [
       subst (λ j. is_white_space (get_or xs j 0) ≡ false) back (t.other (k - i) (omega arith) (none (k - i) (omega arith))))
 ]
 
--- the same from the front on
-pub others_first : (xs : List ℕ) (n mask r : ℕ) → TellsWhite xs 0 n mask → r ≤ n → ((k : ℕ) → k < r → bit_at mask k ≡ 0) → (k : ℕ) → k < r → is_white_space (get_or xs k 0) ≡ false
-others_first xs n mask r t le none k lt = others_before xs 0 n mask r (λ j h. absurd (omega arith)) t le none k (omega arith)
-
-pub white_first : (xs : List ℕ) (n mask r : ℕ) → TellsWhite xs 0 n mask → bit_at mask r ≡ 1 → is_white_space (get_or xs r 0) ≡ true
-white_first xs n mask r t set = let e : 0 + r ≡ r = omega arith in subst (λ j. is_white_space (get_or xs j 0) ≡ true) e (t.white r set)
-
--- ---- the marks of a feed
+-- ---- the marks of a look ahead
 
 abbrev marks-of : ℕ → ℕ → White
 marks-of bits next = record { bits = bits; next = next }
@@ -126,7 +116,3 @@ tells-none chunk at next mask front t e j le lt = elim (cases_lt j next) [
   | inr late ↦ (let back : next + (j - next) ≡ j = omega arith in
       subst (λ i. is_white_space (get_or chunk i 0) ≡ false) back (t.other (j - next) (omega arith) (no_bits mask (j - next) e)))
 ]
-
--- the registers behind a token that ends at e
-pub passed-at : (chunk : List ℕ) (p new : Parked) (e d : ℕ) → e ≡ p.at + d → new ≡ record p { at = e + 1; size = d; place = Chunk p.at; line_feeds = p.line_feeds + (if slice_index chunk e == 10 then 1 else 0) } → new ≡ passed chunk p d
-passed-at chunk p new e d is h = h ∙ ap (λ k. record p { at = k + 1; size = d; place = Chunk p.at; line_feeds = p.line_feeds + (if slice_index chunk k == 10 then 1 else 0) }) is

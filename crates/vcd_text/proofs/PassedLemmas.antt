@@ -9,7 +9,7 @@ use Rattle.vcd_model.specs.Input.{Input}
 use Rattle.vcd_model.specs.Tokens.{Token, end_of_tokens, line_at}
 use Rattle.std.specs.Int.{bit_at}
 use Rattle.vcd_text.specs.Masks.{Marks}
-use Rattle.vcd_text.specs.declared.registers.White.{White}
+use Rattle.vcd_text.specs.declared.ahead.White.{White}
 use Rattle.vcd_text.proofs.Masks.{marks-before, marks-at}
 use Rattle.vcd_text.specs.LookedAt.{HasLookedAt}
 use Rattle.vcd_text.specs.Passed.{AreWhite, IsRun, StandsAt, PassedFrom, Passed, line_ahead}
@@ -168,9 +168,7 @@ gone_fits chunk p limit n f le = record {
   counted = f.counted;
   line_feeds = omega (arith, f.line_feeds, line_feeds_in-few (slice_range chunk p.at (p.at + n)), length-slice_range chunk p.at (p.at + n) (omega (arith, f.stop, f.end)));
   size = omega arith;
-  reach_in = omega arith;
   kept = f.kept;
-  kept_in = f.kept_in;
 }
 
 gone_nowhere : (chunk : List ℕ) (p : Parked) → gone_on chunk p 0 ≡ cleared p

@@ -7,16 +7,14 @@ use Rattle.std.specs.Io.KnownBytes.{Consumes, IsAtEnd, Keeps}
 use Rattle.vcd_model.specs.Bytes.{is_white_space}
 use Rattle.vcd_model.specs.Input.{Input, Mark, Clean, Failed}
 use Rattle.vcd_model.specs.Tokens.{Token, end_of_tokens, line_at, stream_of}
-use Rattle.vcd_text.specs.Window.{line_feeds_in, skipped, gathered, ended, refilled, Whites, Gathers, Skips, IsNext, TakesInPlace, Collects, Fills, Finishes, Halts}
-use Rattle.vcd_text.specs.Registers.{looked, Fits, halt_number, bytes_at}
+use Rattle.vcd_text.specs.Window.{line_feeds_in, skipped, gathered, ended, refilled, Whites, Gathers, Skips, Collects, Fills, Finishes, Halts}
+use Rattle.vcd_text.specs.Registers.{looked, Fits, halt_number}
 use Rattle.vcd_text.specs.Answer.{whole, failed_after, Ends, NextGives}
 use Rattle.vcd_text.specs.ReadAhead.{Near, HasRest}
 use Rattle.vcd_text.specs.Given.{AtPlace, At, Marks, NoHaltBefore, InPhase, HasGivenAt}
 use Rattle.vcd_text.specs.declared.registers.Parked.{Parked}
-use Rattle.vcd_text.specs.declared.registers.Kept.{Kept}
 use Rattle.vcd_text.specs.declared.registers.Phase.{Phase}
 use Rattle.vcd_text.specs.declared.registers.Phase.TheVariants.{Going, Ended, Halted}
-use Rattle.vcd_text.specs.declared.registers.Place.TheVariants.{Window}
 use Rattle.vcd_text.specs.declared.answer.Halt.{Halt}
 use Rattle.vcd_text.specs.declared.window.Collected.TheVariants.{Whole, Part, TooLong}
 use Rattle.vcd_text.specs.declared.window.Filled.TheVariants.{More, Failed as fill-failed}
@@ -261,7 +259,7 @@ near-short chunk None n i le = tt
 near-short chunk (Some more) n i le = omega arith
 
 -- a new turn begins with an empty window
-pub begin-within : (limit : ℕ) (rest : Option (List ℕ)) (chunk token : List ℕ) (p : Parked) (text : List ℕ) (given : List Token) → At limit rest chunk p text given 0 → Within limit rest chunk token (record p { size = 0; place = Window }) text given
+pub begin-within : (limit : ℕ) (rest : Option (List ℕ)) (chunk token : List ℕ) (p : Parked) (text : List ℕ) (given : List Token) → At limit rest chunk p text given 0 → Within limit rest chunk token (record p { size = 0 }) text given
 begin-within limit rest chunk token p text given a =
     let zeroth : looked p - 0 ≡ looked p = omega arith in
     let none : looked p - looked p ≡ 0 = omega arith in
@@ -339,7 +337,7 @@ finish-stands limit rest rest' chunk chunk' token old new i given Finish clean u
 
 -- what is answered again after a halt
 pub again-gives : (limit : ℕ) (rest : Option (List ℕ)) (chunk token : List ℕ) (p : Parked) (i : Input) (given : List Token) (h : Halt) → p.phase ≡ Halted h → HasGivenAt limit rest chunk p i given
-    → NextGives (HasGivenAt limit rest chunk (record p { size = 0; place = Window })) limit i given (Err h) (record { bytes = []; line = p.line }) (looked p)
+    → NextGives (HasGivenAt limit rest chunk (record p { size = 0 })) limit i given (Err h) (record { bytes = []; line = p.line }) (looked p)
 again-gives limit rest chunk token p i given TokenTooLong phase st = let e = rw phase at st in (rw phase e, refl, e.2)
 again-gives limit rest chunk token p i given InputTooLong phase st = let e = rw phase at st in (rw phase e, refl, e.2)
 again-gives limit rest chunk token p i given ReadFailed phase st =
@@ -381,86 +379,16 @@ fail-gives limit rest rest' chunk chunk' token old mid last i given r clean fill
 
 -- the registers, where the last token is let go
 abbrev pub cleared : Parked → Parked
-cleared p = record p { size = 0; place = Window }
-
-pub cleared-fits : (p : Parked) (chunk limit : ℕ) → Fits p chunk limit → Fits (cleared p) chunk limit
-cleared-fits p chunk limit f = record {
-  at = f.at;
-  stop = f.stop;
-  end = f.end;
-  stops = f.stops;
-  counted = f.counted;
-  line_feeds = f.line_feeds;
-  size = omega arith;
-  reach_in = omega arith;
-  kept = f.kept;
-  kept_in = f.kept_in;
-}
+cleared p = record p { size = 0 }
 
 -- another token is kept
-pub kept-stands : (limit : ℕ) (rest : Option (List ℕ)) (chunk : List ℕ) (p : Parked) (k : Kept) (i : Input) (given : List Token) (phase : Phase) → InPhase phase limit rest chunk p i given → InPhase phase limit rest chunk (record p { kept = k }) i given
+pub kept-stands : (limit : ℕ) (rest : Option (List ℕ)) (chunk : List ℕ) (p : Parked) (k : ℕ) (i : Input) (given : List Token) (phase : Phase) → InPhase phase limit rest chunk p i given → InPhase phase limit rest chunk (record p { kept = k }) i given
 kept-stands limit rest chunk p k i given Going st = (st.0, record { place = st.1.place; begun = st.1.begun })
 kept-stands limit rest chunk p k i given Ended st = st
 kept-stands limit rest chunk p k i given (Halted h) st = st
 
-cleared-skips : (chunk : List ℕ) (old new : Parked) → Skips chunk old new → Skips chunk (cleared old) (cleared new)
-cleared-skips chunk old new s = (record { to = s.0.to; white = s.0.white; after = s.0.after }, ap cleared s.1)
-
--- a turn in which white space was passed over
-pub skipped-ready : (limit : ℕ) (rest : Option (List ℕ)) (chunk token : List ℕ) (old new : Parked) (text : List ℕ) (given : List Token) → Fits old (length chunk) limit → Skips chunk old new → At limit rest chunk old text given 0
-    → Ready limit rest chunk token (cleared new) text given
-skipped-ready limit rest chunk token old new text given r skips a =
-    skip-ready limit rest chunk token (cleared old) (cleared new) text given (cleared-fits old (length chunk) limit r) (λ h. absurd (omega arith)) (λ _. cleared-skips chunk old new skips) (begin-within limit rest chunk token old text given a)
-
-pub skipped-stands : (limit : ℕ) (rest : Option (List ℕ)) (chunk token : List ℕ) (old new : Parked) (i : Input) (given : List Token) → Fits old (length chunk) limit → new.phase ≡ Going → Skips chunk old new → i.mark ≡ Clean → At limit rest chunk old i.bytes given 0
-    → HasGivenAt limit rest chunk new i given
-skipped-stands limit rest chunk token old new i given r phase skips clean a =
-    let at = (skipped-ready limit rest chunk token old new i.bytes given r skips a).within.at in
-    let b : InPhase Going limit rest chunk new i given = (clean, record { place = at.place; begun = at.begun }) in
-    subst (λ q. InPhase q limit rest chunk new i given) (sym phase) b
-
--- a token that lies in the chunk, as one that was gathered there
-taken-gathers : (chunk token : List ℕ) (limit : ℕ) (mid : Parked) (d : ℕ) → IsNext chunk limit mid d → length token ≡ limit → Gathers chunk token (drop mid.at chunk) (cleared mid) d
-taken-gathers chunk token limit mid d s full =
-    let e : mid.at + d - mid.at ≡ d = omega arith in
-    record {
-      to = omega (arith, s.to);
-      room = omega (arith, s.room);
-      other = s.other;
-      bytes = rw (zero-add, e) refl;
-    }
-
--- a token is given where it lies in the chunk
-pub taken-stands : (limit : ℕ) (rest : Option (List ℕ)) (chunk token : List ℕ) (mid new : Parked) (i : Input) (given : List Token) → i.mark ≡ Clean → Fits mid (length chunk) limit → length token ≡ limit → new.phase ≡ Going → TakesInPlace chunk limit mid new true → Ready limit rest chunk token (cleared mid) i.bytes given
-    → HasGivenAt limit rest chunk new i (given ++ (record { bytes = take new.size (bytes_at new.place chunk token); line = new.line }) ∷ [])
-taken-stands limit rest chunk token mid new i given clean r full phase ps w =
-    let d : ℕ = ps.0 in
-    let s = ps.1 in
-    let puts = taken-gathers chunk token limit mid d s full in
-    let a = end-at limit rest chunk token (drop mid.at chunk) (cleared mid) i.bytes given d (cleared-fits mid (length chunk) limit r) full puts s.to s.white w in
-    let same : 0 + d ≡ d = omega arith in
-    let text : List Token = given ++ (record { bytes = take d (drop mid.at chunk); line = mid.line }) ∷ [] in
-    let place : At limit rest chunk (ended chunk (cleared mid) d) i.bytes text 0 =
-    subst (λ n. At limit rest chunk (ended chunk (cleared mid) d) i.bytes (given ++ (record { bytes = take n (drop mid.at chunk); line = mid.line }) ∷ []) 0) same a in
-    let b : InPhase Going limit rest chunk new i (given ++ (record { bytes = take new.size (bytes_at new.place chunk token); line = new.line }) ∷ []) =
-    subst (λ p. InPhase Going limit rest chunk p i (given ++ (record { bytes = take p.size (bytes_at p.place chunk token); line = p.line }) ∷ [])) (sym ps.2)
-    (clean, record { place = place.place; begun = place.begun }) in
-    subst (λ q. InPhase q limit rest chunk new i (given ++ (record { bytes = take new.size (bytes_at new.place chunk token); line = new.line }) ∷ [])) (sym phase) b
-
-pub going-stands : (limit : ℕ) (rest : Option (List ℕ)) (chunk : List ℕ) (p : Parked) (i : Input) (given : List Token) → p.phase ≡ Going → HasGivenAt limit rest chunk p i given → (i.mark ≡ Clean) × At limit rest chunk p i.bytes given 0
-going-stands limit rest chunk p i given going st = subst (λ q. InPhase q limit rest chunk p i given) going st
-
--- an answer, where the token lies in its window
-pub in-window : (limit : ℕ) (rest : Option (List ℕ)) (chunk token : List ℕ) (p : Parked) (i : Input) (given : List Token) (r : Result Next Halt) → p.place ≡ Window
-    → NextGives (HasGivenAt limit rest chunk p) limit i given r (record { bytes = take p.size token; line = p.line }) (looked p)
-    → NextGives (HasGivenAt limit rest chunk p) limit i given r (record { bytes = take p.size (bytes_at p.place chunk token); line = p.line }) (looked p)
-in-window limit rest chunk token p i given r e g =
-    let same : bytes_at p.place chunk token ≡ token = rw e refl in
-    subst (λ bs. NextGives (HasGivenAt limit rest chunk p) limit i given r (record { bytes = take p.size bs; line = p.line }) (looked p)) (sym same) g
-
 -- ---- how far was read
 
--- a token that has ended in the chunk
 ended-near : (limit : ℕ) (rest : Option (List ℕ)) (chunk token token' : List ℕ) (p : Parked) (i : Input) (given : List Token) (d : ℕ) → Fits p (length chunk) limit → length token ≡ limit → Gathers chunk token token' p d → p.at + d < p.stop → is_white_space (slice_index chunk (p.at + d)) ≡ true → Ready limit rest chunk token p i.bytes given
     → Near (length chunk) rest (end_of_tokens i.bytes (suc (length given))) i
 ended-near limit rest chunk token token' p i given d r full s lt white w =
@@ -476,11 +404,6 @@ ended-near limit rest chunk token token' p i given d r full s lt white w =
 pub whole-near : (limit : ℕ) (rest : Option (List ℕ)) (chunk token token' : List ℕ) (mid new : Parked) (i : Input) (given : List Token) → Fits mid (length chunk) limit → length token ≡ limit → Collects chunk token token' mid new Whole → Ready limit rest chunk token mid i.bytes given
     → Near (length chunk) rest (end_of_tokens i.bytes (suc (length given))) i
 whole-near limit rest chunk token token' mid new i given r full cs w = ended-near limit rest chunk token token' mid i given cs.0 r full cs.1 cs.2 cs.3 w
-
-pub taken-near : (limit : ℕ) (rest : Option (List ℕ)) (chunk token : List ℕ) (mid new : Parked) (i : Input) (given : List Token) → Fits mid (length chunk) limit → length token ≡ limit → TakesInPlace chunk limit mid new true → Ready limit rest chunk token (cleared mid) i.bytes given
-    → Near (length chunk) rest (end_of_tokens i.bytes (suc (length given))) i
-taken-near limit rest chunk token mid new i given r full ps w =
-    ended-near limit rest chunk token (drop mid.at chunk) (cleared mid) i given ps.0 (cleared-fits mid (length chunk) limit r) full (taken-gathers chunk token limit mid ps.0 ps.1 full) ps.1.to ps.1.white w
 
 -- a token that ends with the input
 pub finish-near : (limit : ℕ) (rest rest' : Option (List ℕ)) (chunk chunk' token : List ℕ) (p : Parked) (i : Input) (given : List Token) → p.end ≤ p.at → IsAtEnd rest → 0 < p.size → Within limit rest chunk token p i.bytes given

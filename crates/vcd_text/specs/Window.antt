@@ -1,12 +1,11 @@
 -- What the steps of a feed do to its registers and windows.
-use Rattle.std.specs.Prelude.{◌≡◌, ℕ, ◌+◌, ◌-◌, ◌^◌, ◌≤◌, ◌<◌, Bool, true, false, ◌==◌, List, ◌++◌, length, take, slice_index, slice_range, count_by, if◌then◌else◌, min, Option}
+use Rattle.std.specs.Prelude.{◌≡◌, ℕ, ◌+◌, ◌-◌, ◌^◌, ◌≤◌, ◌<◌, true, false, ◌==◌, List, ◌++◌, length, take, slice_index, slice_range, count_by, if◌then◌else◌, min, Option}
 use Rattle.std.specs.Io.KnownBytes.{Consumes, IsAtEnd, Keeps}
 use Rattle.vcd_model.specs.Bytes.{is_white_space}
 use Rattle.vcd_text.specs.declared.registers.Parked.{Parked}
 use Rattle.vcd_text.specs.declared.answer.Halt.{Halt}
 use Rattle.vcd_text.specs.declared.answer.Halt.TheVariants.{TokenTooLong, InputTooLong, ReadFailed}
 use Rattle.vcd_text.specs.declared.registers.Phase.TheVariants.{Ended, Halted}
-use Rattle.vcd_text.specs.declared.registers.Place.TheVariants.{Window, Chunk}
 use Rattle.vcd_text.specs.declared.window.Collected.{Collected}
 use Rattle.vcd_text.specs.declared.window.Collected.TheVariants.{Whole, Part, TooLong}
 use Rattle.vcd_text.specs.declared.window.Filled.{Filled}
@@ -30,13 +29,9 @@ gathered p d = record p { at = p.at + d; size = p.size + d }
 abbrev pub ended : List ℕ → Parked → ℕ → Parked
 ended chunk p d = record p { at = p.at + d + 1; size = p.size + d; line_feeds = p.line_feeds + (if slice_index chunk (p.at + d) == 10 then 1 else 0) }
 
--- the registers after a token of d bytes that stays in the chunk, and a byte of white space
-abbrev pub passed : List ℕ → Parked → ℕ → Parked
-passed chunk p d = record p { at = p.at + d + 1; size = d; place = Chunk p.at; line_feeds = p.line_feeds + (if slice_index chunk (p.at + d) == 10 then 1 else 0) }
-
 -- the registers after n bytes that were looked over ahead, and no token is shown
 abbrev pub gone_on : List ℕ → Parked → ℕ → Parked
-gone_on chunk p n = record p { at = p.at + n; size = 0; place = Window; line_feeds = p.line_feeds + line_feeds_in (slice_range chunk p.at (p.at + n)) }
+gone_on chunk p n = record p { at = p.at + n; size = 0; line_feeds = p.line_feeds + line_feeds_in (slice_range chunk p.at (p.at + n)) }
 
 -- the registers after a read of n bytes
 abbrev pub refilled : Parked → ℕ → Parked
@@ -58,18 +53,6 @@ pub record Gathers (chunk token token' : List ℕ) (p : Parked) (d : ℕ) : Type
 -- white space was passed over
 abbrev pub Skips : List ℕ → Parked → Parked → Type 0
 Skips chunk old new = Whites chunk old (new.at - old.at) × (new ≡ skipped chunk old (new.at - old.at))
-
--- a token of d bytes and a byte of white space stand next in the chunk
-pub record IsNext (chunk : List ℕ) (limit : ℕ) (p : Parked) (d : ℕ) : Type 0 where
-  pub to : p.at + d < p.stop
-  pub room : d ≤ limit
-  pub other : (k : ℕ) → k < d → is_white_space (slice_index chunk (p.at + k)) ≡ false
-  pub white : is_white_space (slice_index chunk (p.at + d)) ≡ true
-
--- such a token was taken where it lies, or nothing was done
-abbrev pub TakesInPlace : List ℕ → ℕ → Parked → Parked → Bool → Type 0
-TakesInPlace chunk limit old new true = (d : ℕ) × IsNext chunk limit old d × (new ≡ passed chunk old d)
-TakesInPlace chunk limit old new false = new ≡ old
 
 abbrev pub Collects : List ℕ → List ℕ → List ℕ → Parked → Parked → Collected → Type 0
 Collects chunk token token' old new Part = Gathers chunk token token' old (old.stop - old.at)

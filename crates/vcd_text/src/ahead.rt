@@ -5,8 +5,29 @@ ghost use Rattle.vcd_model.specs.Bytes.{is_white_space};
 ghost use Rattle.vcd_text.specs.Masks.{Marks};
 ghost use Rattle.vcd_text.specs.Passed.{AreWhite};
 
-use crate::registers::White;
 use crate::scan::{is_white_space, lowest, white_64, without};
+
+// White space that was seen ahead.
+#[derive(Clone, Copy)]
+pub(crate) struct White {
+    // Bit k is set where byte `next - 64 + k` is white and was not passed.
+    pub(crate) bits: u64,
+    // The bytes before it were looked over.
+    pub(crate) next: usize,
+}
+
+impl White {
+    ghost use Rattle.std.specs.Prelude.{◌≡◌, ℕ, List};
+    ghost use Rattle.vcd_text.specs.Masks.{Marks};
+
+    /// Nothing was looked over.
+    #[inline(always)]
+    pub(crate) fn unknown() -> Self
+        ensures { (chunk : List ℕ) (at stop : ℕ) → Marks chunk at stop result }
+    {
+        White { bits: 0, next: 0 }
+    }
+}
 
 /// The tokens that stand ahead in a feed's chunk, up to a place that needs the feed itself. A copy of it is a place to go back to.
 #[derive(Clone, Copy)]

@@ -8,8 +8,7 @@ use Rattle.vcd_text.specs.declared.answer.Next.{Next}
 use Rattle.vcd_text.specs.declared.answer.Halt.{Halt}
 use Rattle.vcd_text.specs.declared.answer.Halt.TheVariants.{ReadFailed}
 use Rattle.vcd_text.specs.declared.registers.Phase.TheVariants.{Halted}
-use Rattle.vcd_text.specs.declared.registers.Place.TheVariants.{Window}
-use Rattle.vcd_text.proofs.WindowLemmas.{after-skip, whole-stands, part-within, more-within, again-gives, long-gives, input-gives, fail-gives, finish-stands, in-window, whole-near, finish-near, fail-rest, failed-marked}
+use Rattle.vcd_text.proofs.WindowLemmas.{after-skip, whole-stands, part-within, more-within, again-gives, long-gives, input-gives, fail-gives, finish-stands, whole-near, finish-near, fail-rest, failed-marked}
 use Rattle.vcd_text.proofs.feed.gather.Goals as goal
 
 err-is : (h : Halt) → ◌≡◌ {A = Result Next Halt} (Err h) (Err ReadFailed) → h ≡ ReadFailed
@@ -25,9 +24,8 @@ returns-in-Whole-clause-gives g c = λ i given st.
     let full : length c.loop-parked.token ≡ length c.args.token.now = omega arith in
     let range = c.skip.ensures.fits (length c.args.token.now) (rw fits t.fits) in
     let phase = c.in-Whole.ensures.phase ∙ (c.skip.ensures.phase ∙ t.going) in
-    let place : c.collect.new.parked.place ≡ Window = c.in-Whole.ensures.place ∙ (c.skip.ensures.place ∙ c.loop-parked.invariant.4) in
-    in-window (length c.args.token.now) (g.S.Source.rest c.loop-parked.source) c.loop-parked.chunk c.collect.new.token c.collect.new.parked i given (Ok Token) place (whole-stands _ _ _ _ _ _ _ i given (t.clean i given st) range full phase c.in-Whole.ensures.collects
-    (after-skip _ _ _ _ _ _ _ _ t fits c.skip.ensures.begun c.skip.ensures.skips i given st))
+    whole-stands _ _ _ _ _ _ _ i given (t.clean i given st) range full phase c.in-Whole.ensures.collects
+    (after-skip _ _ _ _ _ _ _ _ t fits c.skip.ensures.begun c.skip.ensures.skips i given st)
 
 pub returns-in-TooLong-clause-gives : goal.returns-in-TooLong-clause-gives
 returns-in-TooLong-clause-gives g c = λ i given st.
@@ -35,9 +33,8 @@ returns-in-TooLong-clause-gives g c = λ i given st.
     let fits : length c.loop-parked.chunk ≡ length c.args.chunk.now = omega arith in
     let full : length c.loop-parked.token ≡ length c.args.token.now = omega arith in
     let range = c.skip.ensures.fits (length c.args.token.now) (rw fits t.fits) in
-    let place : c.halted.new.parked.place ≡ Window = c.halted.ensures.place ∙ (c.in-TooLong.ensures.place ∙ (c.skip.ensures.place ∙ c.loop-parked.invariant.4)) in
-    in-window (length c.args.token.now) (g.S.Source.rest c.loop-parked.source) c.loop-parked.chunk c.collect.new.token c.halted.new.parked i given (Err c.halted.result) place (long-gives _ _ _ _ _ _ _ _ i given _ (t.clean i given st) range full c.in-TooLong.ensures.collects
-    (after-skip _ _ _ _ _ _ _ _ t fits c.skip.ensures.begun c.skip.ensures.skips i given st) c.halted.ensures.result c.halted.ensures.halts)
+    long-gives _ _ _ _ _ _ _ _ i given _ (t.clean i given st) range full c.in-TooLong.ensures.collects
+    (after-skip _ _ _ _ _ _ _ _ t fits c.skip.ensures.begun c.skip.ensures.skips i given st) c.halted.ensures.result c.halted.ensures.halts
 
 pub returns-then-parked-clause-gives : goal.returns-then-parked-clause-gives
 returns-then-parked-clause-gives g c = λ i given st.
@@ -49,8 +46,7 @@ returns-then-parked-clause-gives g c = λ i given st.
     let range' = rw full at (c.in-Part.ensures.fits (rw full range)) in
     let w = part-within _ _ _ _ _ _ _ i.bytes given range full c.in-Part.ensures.collects
     (after-skip _ _ _ _ _ _ _ _ t fits c.skip.ensures.begun c.skip.ensures.skips i given st) in
-    let place : c.halted-then-parked.new.parked.place ≡ Window = c.halted-then-parked.ensures.place ∙ (c.in-Part.ensures.place ∙ (c.skip.ensures.place ∙ c.loop-parked.invariant.4)) in
-    in-window (length c.args.token.now) (g.S.Source.rest c.loop-parked.source) c.loop-parked.chunk c.collect.new.token c.halted-then-parked.new.parked i given (Err c.halted-then-parked.result) place (input-gives _ _ _ _ _ _ i given _ (t.clean i given st) range' (c.in-Part.ensures.part refl) c.if-parked.true w c.halted-then-parked.ensures.result c.halted-then-parked.ensures.halts)
+    input-gives _ _ _ _ _ _ i given _ (t.clean i given st) range' (c.in-Part.ensures.part refl) c.if-parked.true w c.halted-then-parked.ensures.result c.halted-then-parked.ensures.halts
 
 pub loop-parked-preserved : goal.loop-parked-preserved
 loop-parked-preserved g c =
@@ -71,7 +67,6 @@ loop-parked-preserved g c =
       },
       c.in-More.ensures.kept ∙ (c.in-Part.ensures.kept ∙ (c.skip.ensures.kept ∙ c.loop-parked.invariant.2)),
       omega (arith, c.in-More.ensures.looked.0, c.in-More.ensures.looked.1, c.in-Part.ensures.looked, c.skip.ensures.looked, c.loop-parked.invariant.3),
-      c.in-More.ensures.place ∙ (c.in-Part.ensures.place ∙ (c.skip.ensures.place ∙ c.loop-parked.invariant.4)),
     )
 
 pub returns-in-End-clause-gives : goal.returns-in-End-clause-gives
@@ -83,8 +78,7 @@ returns-in-End-clause-gives g c = λ i given st.
     let used : c.collect.new.parked.end ≤ c.collect.new.parked.at = omega (arith, c.in-Part.ensures.part refl, c.if-parked.false) in
     let w = part-within _ _ _ _ _ _ _ i.bytes given range full c.in-Part.ensures.collects
     (after-skip _ _ _ _ _ _ _ _ t fits c.skip.ensures.begun c.skip.ensures.skips i given st) in
-    let place : c.finish.new.parked.place ≡ Window = c.finish.ensures.place ∙ (c.in-End.ensures.place ∙ (c.in-Part.ensures.place ∙ (c.skip.ensures.place ∙ c.loop-parked.invariant.4))) in
-    in-window (length c.args.token.now) (g.S.Source.rest c.fill.new.source) c.fill.new.chunk c.collect.new.token c.finish.new.parked i given (Ok c.finish.result) place (finish-stands _ _ _ _ _ _ _ _ i given _ (t.clean i given st) used c.in-End.ensures.fills.1 (rw c.in-End.ensures.fills.0 at c.finish.ensures.finishes) w)
+    finish-stands _ _ _ _ _ _ _ _ i given _ (t.clean i given st) used c.in-End.ensures.fills.1 (rw c.in-End.ensures.fills.0 at c.finish.ensures.finishes) w
 
 pub returns-in-Failed-clause-gives : goal.returns-in-Failed-clause-gives
 returns-in-Failed-clause-gives g c = λ i given st.
@@ -94,8 +88,7 @@ returns-in-Failed-clause-gives g c = λ i given st.
     let range = c.skip.ensures.fits (length c.args.token.now) (rw fits t.fits) in
     let w = part-within _ _ _ _ _ _ _ i.bytes given range full c.in-Part.ensures.collects
     (after-skip _ _ _ _ _ _ _ _ t fits c.skip.ensures.begun c.skip.ensures.skips i given st) in
-    let place : c.halted-in-Failed.new.parked.place ≡ Window = c.halted-in-Failed.ensures.place ∙ (c.in-Failed.ensures.place ∙ (c.in-Part.ensures.place ∙ (c.skip.ensures.place ∙ c.loop-parked.invariant.4))) in
-    in-window (length c.args.token.now) (g.S.Source.rest c.fill.new.source) c.fill.new.chunk c.collect.new.token c.halted-in-Failed.new.parked i given (Err c.halted-in-Failed.result) place (fail-gives _ _ _ _ _ _ _ _ _ i given _ (t.clean i given st) c.in-Failed.ensures.fills w c.halted-in-Failed.ensures.result c.halted-in-Failed.ensures.halts)
+    fail-gives _ _ _ _ _ _ _ _ _ i given _ (t.clean i given st) c.in-Failed.ensures.fills w c.halted-in-Failed.ensures.result c.halted-in-Failed.ensures.halts
 
 pub returns-in-Whole-clause-near : goal.returns-in-Whole-clause-near
 returns-in-Whole-clause-near g c = λ _ i given st.

@@ -17,9 +17,6 @@ go_on-requires-clause-counted g c =
     let within = ahead_fits f.parked.phase f.chunk.now f.parked (length f.token.now) c.args.n f.fits (passed_within _ _ _ 0 c.args.n c.requires.0 (omega arith) c.requires.1) in
     omega (arith, f.fits.counted, f.fits.line_feeds, within)
 
-pub invariant_of-self-clause-marks : goal.invariant_of-self-clause-marks
-invariant_of-self-clause-marks g c = c.unknown-self.ensures _ _ _
-
 pub returns-clause-stands : goal.returns-clause-stands
 returns-clause-stands g c = λ ts passed i given st.
     let f = c.args.self.now in

@@ -4,7 +4,7 @@ use Rattle.std.proofs.lemmas.List.{take-take, length-take-le, get_or-take, get_o
 use Rattle.vcd_model.specs.Bytes.{is_white_space}
 use Rattle.vcd_text.specs.Window.{Whites, skipped, line_feeds_in}
 use Rattle.vcd_text.specs.declared.registers.Parked.{Parked}
-use Rattle.vcd_text.proofs.window.skip_run.Goals as goal
+use Rattle.vcd_text.proofs.window.skip.Goals as goal
 
 index : (chunk : List ℕ) (at stop k : ℕ) → k < stop - at → get_or (slice_range chunk at stop) k 0 ≡ get_or chunk (at + k) 0
 index chunk at stop k lt = get_or-take (stop - at) (drop at chunk) k 0 lt ∙ get_or-drop at chunk k 0
@@ -27,6 +27,6 @@ skips chunk p d e f is order within fits white stops line_feeds =
     )
 
 pub returns-clause-skips : goal.returns-clause-skips
-returns-clause-skips c =
+returns-clause-skips c = λ _.
     skips c.args.chunk.now c.args.parked.now c.white_len-white.result.0 (c.args.parked.now.at + c.white_len-white.result.0 - c.args.parked.now.at) c.white_len-white.result.1 (omega arith) c.requires.order c.requires.within
     c.white_len-white.ensures.within c.white_len-white.ensures.white c.white_len-white.ensures.stops c.white_len-white.ensures.line_feeds
