@@ -37,6 +37,13 @@ pub changed_to : (s : Step) (size l n : ℕ) (k : Kept) → IsStep s (value_at_s
     → with_number_change size l n k ≡ cond s.differs (with_step s.rises s.falls (with_number l n k)) (with_number l n k)
 changed_to s size l n k is = rw (is.0, is.1, is.2) refl
 
+-- the step to binary digits that were put as a text
+pub step_put : (old : Option Value) (s : Step) (l n size : ℕ) (text : List ℕ) → text ≡ binary_digits l n → 1 ≤ l → (0 < length text → IsStep s old (value_with size (model_form form.Vector) text)) → IsStep s old (value_with size (model_form form.Vector) (binary_digits l n))
+step_put old s l n size text is some step =
+    let count = length_binary l n in
+    let long = ap length is in
+    subst (λ (t : List ℕ). IsStep s old (value_with size (model_form form.Vector) t)) is (step (omega (arith, count, long, some)))
+
 -- one change after another of the same code
 pub change_twice : (code : ℕ) (f g : Kept → Kept) (v1 v2 v3 : List ℕ) (s1 s2 s3 : List Slot) (h1 h2 h3 : List Share) → ChangesAt code f v1 s1 h1 v2 s2 h2 → ChangesAt code g v2 s2 h2 v3 s3 h3 → ChangesAt code (λ k. g (f k)) v1 s1 h1 v3 s3 h3
 change_twice code f g v1 v2 v3 s1 s2 s3 h1 h2 h3 a b = λ p. b p ∙ ap (λ (o : Option Kept). cond (p == code) (option_map g o) o) (a p) ∙ by_case (p == code) (kept_in v1 s1 h1 p)

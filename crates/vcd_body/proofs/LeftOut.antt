@@ -54,29 +54,9 @@ module _ (l rest : List ℕ) (s : (size : ℕ) → str_to_ascii_lowercase rest �
         λ z. sym (drop-map to_ascii_lowercase (length l - length rest) l) ∙ ap (λ m. drop m low) (sym n) ∙ p.1 ∙ sym e ∙ s z,
       )
 
--- so are those of last digits that suffice
-pub shortest_on : (rest digits l : List ℕ) → Suffices rest digits → ((size : ℕ) → l ≡ short (extend (str_to_ascii_lowercase rest) size)) → (size : ℕ) → l ≡ short (extend (str_to_ascii_lowercase digits) size)
-shortest_on rest digits l s e size =
-    let n = max size (length digits) in
-    e n ∙ ap short (s.2 n (omega arith) ∙ sym (extend_where_fits (str_to_ascii_lowercase digits) size n (let m = length-map digits to_ascii_lowercase in omega arith)))
-
 -- a slice from there on
 pub end_is : (l : List ℕ) (k : ℕ) → take (length l - k) (drop k l) ≡ drop k l
 end_is l k = ap (λ m. take m (drop k l)) (sym (length-drop k l)) ∙ take-length (drop k l)
-
--- an end of an end, as a slice of it
-pub end_on : (n : ℕ) (rest digits : List ℕ) → n < length rest → length rest ≤ length digits → rest ≡ drop (length digits - length rest) digits → take (length rest - n) (drop n rest) ≡ drop (length digits - length (take (length rest - n) (drop n rest))) digits
-end_on n rest digits less few e =
-    let k = length digits - length rest in
-    let size : length (take (length rest - n) (drop n rest)) ≡ length rest - n = ap length (end_is rest n) ∙ length-drop n rest in
-    let all : k + n ≡ length digits - length (take (length rest - n) (drop n rest)) = omega arith in
-    end_is rest n ∙ ap (drop n) e ∙ drop-drop n k digits ∙ ap (λ m. drop m digits) all
-
--- so many last digits of an end are those of all
-pub end_of_end : (m : ℕ) (rest digits : List ℕ) → m ≤ length rest → length rest ≤ length digits → rest ≡ drop (length digits - length rest) digits → drop (length rest - m) rest ≡ drop (length digits - m) digits
-end_of_end m rest digits some few e =
-    let all : (length digits - length rest) + (length rest - m) ≡ length digits - m = omega arith in
-    ap (drop (length rest - m)) e ∙ drop-drop (length rest - m) (length digits - length rest) digits ∙ ap (λ k. drop k digits) all
 
 -- it stands there too
 pub end_place : (bytes l : List ℕ) (at k : ℕ) → k ≤ length l → l ≡ slice_range bytes at (at + length l) → take (length l - k) (drop k l) ≡ slice_range bytes (at + k) (at + k + length (take (length l - k) (drop k l)))
@@ -86,13 +66,6 @@ end_place bytes l at k few place =
     let all : at + length l - at ≡ k + rest = omega arith in
     let some : at + k + length (take rest (drop k l)) - (at + k) ≡ rest = omega arith in
     end_is l k ∙ ap (drop k) place ∙ ap (λ n. drop k (take n (drop at bytes))) all ∙ drop-take k rest (drop at bytes) ∙ ap (take rest) (drop-drop k at bytes) ∙ ap (λ n. take n (drop (at + k) bytes)) (sym some)
-
--- and so does an end that is no slice
-pub rest_place : (bytes rest l : List ℕ) (at : ℕ) → length rest ≤ length l → rest ≡ drop (length l - length rest) l → l ≡ slice_range bytes at (at + length l) → rest ≡ slice_range bytes (at + (length l - length rest)) (at + (length l - length rest) + length rest)
-rest_place bytes rest l at few e place =
-    let k = length l - length rest in
-    let same : take (length l - k) (drop k l) ≡ rest = end_is l k ∙ sym e in
-    subst (λ r. r ≡ slice_range bytes (at + k) (at + k + length r)) same (end_place bytes l at k (omega arith) place)
 
 -- ---- bytes
 

@@ -27,77 +27,13 @@ pub(crate) fn extended_by(digit: u8) -> u8
     extension_of(digit.to_ascii_lowercase())
 }
 
-// Whether a digit is not a zero.
-#[inline(always)]
-fn has_other(digits: &[u8]) -> bool
-    ensures { result ≡ false → (k : ℕ) → k < length digits.now → slice_index digits.now k ≡ 48 }
-{
-    let mut found = false;
-    for digit in digits {
-        found |= *digit != b'0';
-    }
-    found
-}
-
-// The digits without zeros that stand before other zeros, 32 at a time.
-#[inline(always)]
-pub(crate) fn cut_long_blocks(digits: &[u8]) -> &[u8]
-    requires { 0 < length digits.now }
-    ensures some { 0 < length result.now }
-    ensures fewer { length result.now ≤ length digits.now }
-    ensures end { result.now ≡ drop (length digits.now - length result.now) digits.now }
-    ensures value { (size : ℕ) → length digits.now ≤ size
-        → extend (str_to_ascii_lowercase result.now) size
-        ≡ extend (str_to_ascii_lowercase digits.now) size }
-{
-    let mut rest = digits;
-    'long: while rest.len() > 32 && rest[32] == b'0' && !has_other(&rest[..32]) {
-        rest = &rest[32..];
-    }
-    rest
-}
-
-// The digits without zeros that stand before other zeros, eight at a time.
-fn cut_blocks(digits: &[u8]) -> &[u8]
-    requires { 0 < length digits.now }
-    ensures some { 0 < length result.now }
-    ensures fewer { length result.now ≤ length digits.now }
-    ensures value { (size : ℕ) → length digits.now ≤ size
-        → extend (str_to_ascii_lowercase result.now) size
-        ≡ extend (str_to_ascii_lowercase digits.now) size }
-{
-    let mut rest = digits;
-    'eights: while rest.len() > 8 && rest[8] == b'0' && !has_other(&rest[..8]) {
-        rest = &rest[8..];
-    }
-    rest
-}
-
-// The digits without the zeros that stand before another zero.
-fn cut_zeros(digits: &[u8]) -> &[u8]
-    requires { 0 < length digits.now }
-    ensures some { 0 < length result.now }
-    ensures fewer { length result.now ≤ length digits.now }
-    ensures value { (size : ℕ) → length digits.now ≤ size
-        → extend (str_to_ascii_lowercase result.now) size
-        ≡ extend (str_to_ascii_lowercase digits.now) size }
-{
-    // Values in full width have many.
-    let mut rest = cut_blocks(digits);
-    'zeros: while rest.len() > 1 && rest[0] == b'0' && rest[1] == b'0' {
-        rest = rest_of(rest);
-    }
-    rest
-}
-
 // The shortest digits that extend to the same value.
 pub(crate) fn shortest(digits: &[u8]) -> &[u8]
     requires { 0 < length digits.now }
     ensures { (size : ℕ) → str_to_ascii_lowercase result.now
         ≡ short (extend (str_to_ascii_lowercase digits.now) size) }
 {
-    // Most digits that can be left out are zeros.
-    let mut rest = cut_zeros(digits);
+    let mut rest = digits;
     'digits: while rest.len() > 1 {
         if rest[0].to_ascii_lowercase() != extended_by(rest[1]) {
             return rest;

@@ -4,8 +4,6 @@ ghost use Rattle.std.specs.Prelude.{◌≡◌, ◌⊎◌, ◌==◌, ℕ, ◌<◌
 ghost use Rattle.vcd_body.specs.Counters.{count_of, counts_of};
 ghost use Rattle.vcd_body.specs.Kept.{counts_if, counts_with};
 
-use crate::slot::number_of_bit;
-
 /// The counters.
 #[inline(always)]
 pub(crate) fn counts_of(low: [u8; 3], middle: [u32; 3], high: [u16; 3], top: [u8; 3]) -> [u64; 3]
@@ -83,28 +81,6 @@ pub(crate) fn step_low(low: &mut [u8; 3], rises: bool, falls: bool) -> bool
         return false;
     };
     let Some(turns) = low[turned].checked_add(u8::from(rises | falls)) else {
-        return false;
-    };
-    low[0] = changes;
-    low[turned] = turns;
-    true
-}
-
-/// Adds one to the first of the lowest parts, and to that of rises or of falls, the steps to the digit 1 or 0: it takes no branches by
-/// which. Returns whether both had room; else nothing changes.
-#[inline(always)]
-pub(crate) fn turn_low(low: &mut [u8; 3], digit: u8) -> bool
-    requires { (digit ≡ 48) ⊎ (digit ≡ 49) }
-    ensures more { result ≡ true → (middle high top : List ℕ) → counts_of low.new middle high top
-        ≡ counts_if (not (digit == 49)) (counts_if (digit == 49)
-        (counts_with (counts_of low.old middle high top) 0) 1) 2 }
-    ensures same { result ≡ false → low.new ≡ low.old }
-{
-    let turned = usize::from(number_of_bit(digit));
-    let Some(changes) = low[0].checked_add(1) else {
-        return false;
-    };
-    let Some(turns) = low[turned].checked_add(1) else {
         return false;
     };
     low[0] = changes;

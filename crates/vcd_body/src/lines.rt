@@ -18,9 +18,9 @@ ghost use Rattle.vcd_body.specs.declared.item.Form.TheVariants as form;
 
 use crate::ahead::Plain;
 use crate::bits::Bits;
-use crate::change::{cut_long_blocks, extension_of, has_capital, needed, shortest};
+use crate::change::{extension_of, has_capital, needed, shortest};
 use crate::item::{Form, Item};
-use crate::words::{are_binary_at, bits_at, other_32};
+use crate::words::{are_binary_at, other_32};
 use std::simd::prelude::*;
 
 /// Bit k is set where byte `at + k` may be a capital letter: of letters and digits just the capital letters have bit 5 clear.
@@ -193,7 +193,8 @@ fn needless(bytes: &[u8], at: usize, digits: &[u8]) -> Option<usize>
     needless_slowly(bytes, at, digits)
 }
 
-/// The same of any digits. Of many those that lead are mostly zeros, and then the others are few.
+/// Returns how many digits on the left the shortest ones leave out, or `None` where these are not in lower case or there is no
+/// digit. It looks at the digits one by one.
 #[inline(never)]
 fn needless_slowly(bytes: &[u8], at: usize, digits: &[u8]) -> Option<usize>
     requires within { at ≤ length bytes.now }
@@ -205,11 +206,7 @@ fn needless_slowly(bytes: &[u8], at: usize, digits: &[u8]) -> Option<usize>
     if digits.is_empty() {
         return None;
     }
-    let rest = cut_long_blocks(digits);
-    if let Some(bits) = bits_at(bytes, at + (digits.len() - rest.len()), rest) {
-        return Some(digits.len() - needed(bits));
-    }
-    let k = digits.len() - shortest(rest).len();
+    let k = digits.len() - shortest(digits).len();
     if !are_lower(bytes, at + k, &digits[k..]) {
         return None;
     }

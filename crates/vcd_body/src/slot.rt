@@ -135,13 +135,11 @@ pub(crate) fn is_bit(digit: u8) -> bool
     digit.wrapping_sub(b'0') < 2
 }
 
-/// The number that tells the state of the digit 1 or 0: as well the place of the counter of rises or of falls, the steps to that digit.
-/// It takes no branches.
+/// Returns the number that tells the state of the digit 0 or 1. It takes no branches.
 #[inline(always)]
 pub(crate) fn number_of_bit(digit: u8) -> u8
     requires { (digit ≡ 48) ⊎ (digit ≡ 49) }
-    ensures state { result ≡ number_of (cond (digit == 49) State.One State.Zero) }
-    ensures counter { result ≡ cond (digit == 49) 1 2 }
+    ensures { result ≡ number_of (cond (digit == 49) State.One State.Zero) }
 {
     b'2' - digit
 }

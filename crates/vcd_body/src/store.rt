@@ -7,7 +7,7 @@ ghost use Rattle.vcd_body.specs.Packed.{held_digit};
 ghost use Rattle.vcd_body.specs.Stored.{AreLaidOut, ChangesAt, IsUnset, end_at, held_by, holding_at, one_digit, set_whole, share_from, share_of, some_by, start_in, start_of, state_in, used, used_by, whole};
 
 use crate::bits::{Bits, held_bits, is_number_step, is_proper, number_in};
-use crate::counters::{carry_step, count_one, step_low, turn_low};
+use crate::counters::{carry_step, count_one, step_low};
 use crate::item::Form;
 use crate::packed::pack;
 use crate::slot::{
@@ -45,9 +45,6 @@ pub(crate) fn end_of(shares: &[Share], values: usize, code: usize) -> usize
 fn used_by(holding: Holding) -> usize
     ensures { result ≡ used holding }
 {
-    if holding.state == State::Plain {
-        return holding.len;
-    }
     match holding.state {
         State::Digits => holding.len.div_ceil(4),
         State::Plain | State::Real => holding.len,
@@ -263,8 +260,7 @@ pub(crate) fn set_at(
 {
     match form {
         Form::RealText => set_real(slots, shares, values, code, text),
-        Form::Scalar => set_text(slots, shares, values, code, text),
-        Form::Vector => set_text(slots, shares, values, code, text),
+        Form::Scalar | Form::Vector => set_text(slots, shares, values, code, text),
     }
 }
 
@@ -351,23 +347,6 @@ fn count_in_slot(slots: &mut [Slot], code: usize, rises: bool, falls: bool) -> b
     step_low(&mut slots[code].low, rises, falls)
 }
 
-/// Adds one to the first counter of a code, and to that of rises or of falls, the steps to the digit 1 or 0, as `count_in_slot` does.
-#[inline(always)]
-fn count_turn_in(slots: &mut [Slot], code: usize, digit: u8) -> bool
-    requires { (digit ≡ 48) ⊎ (digit ≡ 49) }
-    ensures counts { result ≡ true → (shares : List Share) (values : List ℕ)
-        → ChangesAt code (with_step (digit == 49) (not (digit == 49))) values slots.old shares values
-        slots.new shares }
-    ensures same { result ≡ false → slots.new ≡ slots.old }
-    ensures laid { (shares : List Share) (n : ℕ) → AreLaidOut slots.old shares n
-        → AreLaidOut slots.new shares n }
-{
-    if code >= slots.len() {
-        return false;
-    }
-    turn_low(&mut slots[code].low, digit)
-}
-
 /// Adds one to the first counter of a code, and to the others where the tests hold. A full one stays. Most steps touch the slot alone.
 #[inline(always)]
 pub(crate) fn count_at(
@@ -427,12 +406,13 @@ pub(crate) fn turn_at(slots: &mut [Slot], code: usize, digit: u8) -> Stepped
         };
     }
     set_how(slots, code, how);
-    if count_turn_in(slots, code, digit) {
+    let rises = digit == b'1';
+    if count_in_slot(slots, code, rises, !rises) {
         return Stepped::Counted;
     }
     Stepped::Uncounted {
-        rises: digit == b'1',
-        falls: digit != b'1',
+        rises,
+        falls: !rises,
     }
 }
 

@@ -10,8 +10,8 @@ use crate::counters::counts_of;
 use crate::held::{digit_shown, last_held};
 use crate::item::Form;
 use crate::several::change_at;
-use crate::slot::{Holding, Share, Shown, Slot, State, state_in};
-use crate::step::{Step, is_digit_step, step_by_digit, step_to_text};
+use crate::slot::{Share, Shown, Slot, State, state_in};
+use crate::step::{Step, step_to_text};
 use crate::store::{
     Stepped, bump_at, carry_at, choose_at, count_at, holding_at, lay_out, set_at, set_bits,
     share_in, step_at, turn_at,
@@ -110,54 +110,8 @@ impl<'a> Table<'a> {
         set_bits(self.slots, code, bits);
     }
 
-    /// Sets the value of the code at a place as `set` does, and tells what becomes of it at this size: the step from what it was
-    /// to that of the text. One digit over another touches the code's slot alone, and takes no branches by what they are.
-    #[inline(always)]
-    pub fn replace(&mut self, code: usize, size: usize, form: Form, text: &[u8]) -> Step
-        ensures laid { IsLaidOut self.old → IsLaidOut self.new }
-        ensures changes { IsLaidOut self.old
-            → ChangesCode code (with_text form text.now) self.old self.new }
-        ensures value { IsLaidOut self.old → (c : Code) (k : Kept) → IsText form c text.now
-            → c.event ≡ false → kept_at self.old code ≡ Some k → share_of c.size ≤ k.room
-            → value_at_size c.size (held_at self.new code)
-            ≡ Some (value_with c.size (model_form form) text.now) }
-        ensures step { IsLaidOut self.old → 0 < length text.now
-            → IsStep result (value_at_size size (held_at self.old code))
-            (value_with size (model_form form) text.now) }
-        ensures codes { codes_in self.new ≡ codes_in self.old }
-        ensures bytes { bytes_in self.new ≡ bytes_in self.old }
-    {
-        match (text, self.holding(code)) {
-            ([digit], Some(holding)) if is_digit_step(form, holding.state) => {
-                self.set(code, form, text);
-                step_by_digit(holding.state, *digit)
-            }
-            _ => self.replace_any(code, size, form, text),
-        }
-    }
-
-    /// Sets the value of the code at a place by binary digits, and tells what becomes of it at this size, as `replace` does by
-    /// their text.
-    #[inline(never)]
-    fn replace_bits(&mut self, code: usize, size: usize, bits: Bits) -> Step
-        ensures laid { IsLaidOut self.old → IsLaidOut self.new }
-        ensures changes { ChangesCode code (with_number bits.len bits.number) self.old self.new }
-        ensures step { IsLaidOut self.old
-            → IsStep result (value_at_size size (held_at self.old code)) (value_with size
-            (model_form Form.Vector) (binary_digits bits.len bits.number)) }
-        ensures codes { codes_in self.new ≡ codes_in self.old }
-        ensures bytes { bytes_in self.new ≡ bytes_in self.old }
-    {
-        let mut block = [0u8; 32];
-        let text = &mut block[..bits.len];
-        put_digits(bits, text);
-        let step = self.step_to(code, size, Form::Vector, text);
-        self.set_bits(code, bits);
-        step
-    }
-
-    /// Sets the value of the code at a place by the text of a change as `set` does, and counts its step at this size as `replace`
-    /// and `count` do, where it differs. A text that is empty is passed over. One of the digits 0 and 1 over another touches the
+    /// Sets the value of the code at a place by the text of a change as `set` does, and counts its step at this size as `count`
+    /// does, where it differs. A text that is empty is passed over. One of the digits 0 and 1 over another touches the
     /// code's slot alone.
     #[inline(always)]
     pub fn follow(&mut self, code: usize, size: usize, form: Form, text: &[u8])
@@ -236,7 +190,8 @@ impl<'a> Table<'a> {
         if text.is_empty() {
             return;
         }
-        let step = self.replace(code, size, form, text);
+        let step = self.step_to(code, size, form, text);
+        self.set(code, form, text);
         if step.differs {
             self.count(code, step.rises, step.falls);
         }
@@ -251,39 +206,14 @@ impl<'a> Table<'a> {
         ensures codes { codes_in self.new ≡ codes_in self.old }
         ensures bytes { bytes_in self.new ≡ bytes_in self.old }
     {
-        let told = self.replace_bits(code, size, bits);
-        if told.differs {
-            self.count(code, told.rises, told.falls);
+        let mut block = [0u8; 32];
+        let text = &mut block[..bits.len];
+        put_digits(bits, text);
+        let step = self.step_to(code, size, Form::Vector, text);
+        self.set_bits(code, bits);
+        if step.differs {
+            self.count(code, step.rises, step.falls);
         }
-    }
-
-    /// How the value of the code at a place is held.
-    #[inline(always)]
-    fn holding(&self, code: usize) -> Option<Holding>
-        ensures { result ≡ holding_at self.now.slots.now self.now.shares.now code }
-    {
-        holding_at(self.slots, self.shares, code)
-    }
-
-    /// The same of any value and text. It takes as long as what is held and the text are, whatever the size is.
-    #[inline(never)]
-    fn replace_any(&mut self, code: usize, size: usize, form: Form, text: &[u8]) -> Step
-        ensures laid { IsLaidOut self.old → IsLaidOut self.new }
-        ensures changes { IsLaidOut self.old
-            → ChangesCode code (with_text form text.now) self.old self.new }
-        ensures value { IsLaidOut self.old → (c : Code) (k : Kept) → IsText form c text.now
-            → c.event ≡ false → kept_at self.old code ≡ Some k → share_of c.size ≤ k.room
-            → value_at_size c.size (held_at self.new code)
-            ≡ Some (value_with c.size (model_form form) text.now) }
-        ensures step { IsLaidOut self.old → 0 < length text.now
-            → IsStep result (value_at_size size (held_at self.old code))
-            (value_with size (model_form form) text.now) }
-        ensures codes { codes_in self.new ≡ codes_in self.old }
-        ensures bytes { bytes_in self.new ≡ bytes_in self.old }
-    {
-        let step = self.step_to(code, size, form, text);
-        self.set(code, form, text);
-        step
     }
 
     /// The step from the value of the code at a place to that of a text. Where there is no value it does not differ.

@@ -4,7 +4,7 @@ ghost use Rattle.vcd_head.specs.Model.Laws.{ShortIsShortest};
 
 use std::alloc::{AllocError, Global};
 use std::test::Fail;
-use vcd_body::{Bits, Form, Share, Shown, Slot, Step, Table, laws, put_full, put_short};
+use vcd_body::{Bits, Form, Share, Shown, Slot, Table, laws, put_full, put_short};
 use vcd_head::{Code, HeadView, need};
 use vcd_text::doubles::Narrow;
 use vcd_text::{Sink, Watch, WriteFailed};
@@ -53,9 +53,16 @@ fn set(table: &mut Table<'_>, code: usize, form: Form, text: &[u8]) {
     table.set(code, form, text);
 }
 
-// Sets a code, and returns the step of its value, of which no more is told.
-fn replace(table: &mut Table<'_>, code: usize, size: usize, form: Form, text: &[u8]) -> Step {
-    table.replace(code, size, form, text)
+// Sets a code, and returns what is counted of that: a step, a rise and a fall.
+fn follow(table: &mut Table<'_>, code: usize, size: usize, form: Form, text: &[u8]) -> [u64; 3] {
+    let before = table.tally(code);
+    table.follow(code, size, form, text);
+    let after = table.tally(code);
+    [
+        after[0].wrapping_sub(before[0]),
+        after[1].wrapping_sub(before[1]),
+        after[2].wrapping_sub(before[2]),
+    ]
 }
 
 // So many of a digit, and then these.
@@ -384,7 +391,7 @@ fn is_changed(
     let mut shares = [Share::new()];
     let mut table = table_in(view, &mut values, &mut slots, &mut shares);
     set(&mut table, 0, first.0, first.1);
-    Ok(replace(&mut table, 0, size, second.0, second.1).differs)
+    Ok(follow(&mut table, 0, size, second.0, second.1)[0] == 1)
 }
 
 // The same of two texts of digits, whichever comes first: they are two values, or one.
@@ -516,19 +523,15 @@ fn value_of_no_code_never_differs(rt: HostRuntime) {
     let mut table = table_in(view_of(&codes), &mut [], &mut slots, &mut shares);
     for (code, text) in [(0, b"1"), (1, b"1"), (1, b"0")] {
         assert_eq!(rt;
-            replace(&mut table, code, 4, Form::Scalar, text),
+            follow(&mut table, code, 4, Form::Scalar, text),
             step_of(false, 0)
         );
     }
 }
 
-// A step that differs or not, and goes up, down, or neither.
-fn step_of(differs: bool, way: i8) -> Step {
-    Step {
-        differs,
-        rises: way > 0,
-        falls: way < 0,
-    }
+// What is counted of a step that differs or not, and goes up, down, or neither.
+fn step_of(differs: bool, way: i8) -> [u64; 3] {
+    [u64::from(differs), u64::from(way > 0), u64::from(way < 0)]
 }
 
 // Texts that set a code of 9 bits one after another, whether its value differs by each, and whether its last digit goes up (1) or down (-1).
@@ -557,10 +560,7 @@ fn steps_of_values(rt: HostRuntime) -> Result<(), Fail> {
     let mut shares = [Share::new()];
     let mut table = table_in(view, &mut values, &mut slots, &mut shares);
     for (form, text, differs, way) in STEPS {
-        assert_eq!(rt;
-            replace(&mut table, 0, 9, form, text),
-            step_of(differs, way)
-        );
+        assert_eq!(rt; follow(&mut table, 0, 9, form, text), step_of(differs, way));
     }
     Ok(())
 }

@@ -18,28 +18,28 @@ returns-then-before-how-clause-counted c = λ _ form digits size shares values.
     let bit = bit_is c.args.digit (c.if-not-is_bit.ensures.yes refl) in
     subst (λ d. ChangesAt code (with_change size form (d ∷ [])) values slots shares values slots shares) bit
     (change_as code (λ (k : Kept). k) (with_change size form (cond one 49 48 ∷ [])) values values slots slots shares shares
-    (λ k kept. kept_stays values slots shares code slot at k kept one (same_bit slot.how one (c.if-before-how.true ∙ c.number_of_bit-how.ensures.state)) form digits size)
+    (λ k kept. kept_stays values slots shares code slot at k kept one (same_bit slot.how one (c.if-before-how.true ∙ c.number_of_bit-how.ensures)) form digits size)
     (nothing_changes code values slots shares))
 
 -- the other digit, with its step
-pub returns-then-count_turn_in-clause-counted : goal.returns-then-count_turn_in-clause-counted
-returns-then-count_turn_in-clause-counted c = λ _ form digits size shares values.
+pub returns-then-count_in_slot-clause-counted : goal.returns-then-count_in_slot-clause-counted
+returns-then-count_in_slot-clause-counted c = λ _ form digits size shares values.
     let slots = c.args.slots.now in
     let code = c.args.code in
     let slot = get_or slots code blank in
     let at = slice_get-get_or slots code blank c.if-code-slots.false in
     let one = c.args.digit == 49 in
-    let set = c.set_how.ensures.changes (cond one 49 48) (bit_digit one c.number_of_bit-how.result c.number_of_bit-how.ensures.state) shares values in
+    let set = c.set_how.ensures.changes (cond one 49 48) (bit_digit one c.number_of_bit-how.result c.number_of_bit-how.ensures) shares values in
     let bit = bit_is c.args.digit (c.if-not-is_bit.ensures.yes refl) in
-    subst (λ d. ChangesAt code (with_change size form (d ∷ [])) values slots shares values c.count_turn_in.new.slots shares) bit
-    (change_as code (λ k. with_step one (not one) (with_held (Held.Digits (cond one 49 48 ∷ [])) k)) (with_change size form (cond one 49 48 ∷ [])) values values slots c.count_turn_in.new.slots shares shares
+    subst (λ d. ChangesAt code (with_change size form (d ∷ [])) values slots shares values c.count_in_slot.new.slots shares) bit
+    (change_as code (λ k. with_step one (not one) (with_held (Held.Digits (cond one 49 48 ∷ [])) k)) (with_change size form (cond one 49 48 ∷ [])) values values slots c.count_in_slot.new.slots shares shares
     (λ k kept. kept_turns values slots shares code slot at k kept one (other_bit slot.how one (c.if-before-number_of_turned.false ∙ c.number_of_turned.ensures)) form digits size)
-    (change_twice code (with_held (Held.Digits (cond one 49 48 ∷ []))) (with_step one (not one)) values values values slots c.set_how.new.slots c.count_turn_in.new.slots shares shares shares set (c.if-count_turn_in.ensures.counts refl shares values)))
+    (change_twice code (with_held (Held.Digits (cond one 49 48 ∷ []))) (with_step one (not one)) values values values slots c.set_how.new.slots c.count_in_slot.new.slots shares shares shares set (c.if-count_in_slot.ensures.counts refl shares values)))
 
-pub returns-then-count_turn_in-clause-laid : goal.returns-then-count_turn_in-clause-laid
-returns-then-count_turn_in-clause-laid c = λ shares n laid.
+pub returns-then-count_in_slot-clause-laid : goal.returns-then-count_in_slot-clause-laid
+returns-then-count_in_slot-clause-laid c = λ shares n laid.
     let one = c.args.digit == 49 in
-    c.count_turn_in.ensures.laid shares n (c.set_how.ensures.laid (cond one 49 48) (bit_digit one c.number_of_bit-how.result c.number_of_bit-how.ensures.state) shares n laid)
+    c.count_in_slot.ensures.laid shares n (c.set_how.ensures.laid (cond one 49 48) (bit_digit one c.number_of_bit-how.result c.number_of_bit-how.ensures) shares n laid)
 
 -- the slot had no room, and stayed
 pub returns-clause-uncounted : goal.returns-clause-uncounted
@@ -51,10 +51,10 @@ returns-clause-uncounted c = λ rises falls is form digits size shares values af
     let one = c.args.digit == 49 in
     let rise : rises ≡ one = cc in
     let fall : falls ≡ not one = cc in
-    let set = c.set_how.ensures.changes (cond one 49 48) (bit_digit one c.number_of_bit-how.result c.number_of_bit-how.ensures.state) shares values in
-    let step = subst (λ (s : List Slot). ChangesAt code (with_step one (not one)) values s shares after counted with) (c.if-count_turn_in.ensures.same refl)
-    (subst (λ (b : Bool). ChangesAt code (with_step one b) values c.count_turn_in.new.slots shares after counted with) fall
-    (subst (λ (b : Bool). ChangesAt code (with_step b falls) values c.count_turn_in.new.slots shares after counted with) rise counts)) in
+    let set = c.set_how.ensures.changes (cond one 49 48) (bit_digit one c.number_of_bit-how.result c.number_of_bit-how.ensures) shares values in
+    let step = subst (λ (s : List Slot). ChangesAt code (with_step one (not one)) values s shares after counted with) (c.if-count_in_slot.ensures.same refl)
+    (subst (λ (b : Bool). ChangesAt code (with_step one b) values c.count_in_slot.new.slots shares after counted with) fall
+    (subst (λ (b : Bool). ChangesAt code (with_step b falls) values c.count_in_slot.new.slots shares after counted with) rise counts)) in
     let bit = bit_is c.args.digit (c.if-not-is_bit.ensures.yes refl) in
     subst (λ d. ChangesAt code (with_change size form (d ∷ [])) values slots shares after counted with) bit
     (change_as code (λ k. with_step one (not one) (with_held (Held.Digits (cond one 49 48 ∷ [])) k)) (with_change size form (cond one 49 48 ∷ [])) values after slots counted shares with
@@ -64,4 +64,4 @@ returns-clause-uncounted c = λ rises falls is form digits size shares values af
 pub returns-clause-laid : goal.returns-clause-laid
 returns-clause-laid c = λ shares n laid.
     let one = c.args.digit == 49 in
-    c.count_turn_in.ensures.laid shares n (c.set_how.ensures.laid (cond one 49 48) (bit_digit one c.number_of_bit-how.result c.number_of_bit-how.ensures.state) shares n laid)
+    c.count_in_slot.ensures.laid shares n (c.set_how.ensures.laid (cond one 49 48) (bit_digit one c.number_of_bit-how.result c.number_of_bit-how.ensures) shares n laid)

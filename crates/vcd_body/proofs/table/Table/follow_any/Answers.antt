@@ -5,6 +5,5 @@ use Rattle.vcd_body.proofs.table.Table.follow_any.Goals as goal
 
 pub returns-then-step-clause-changes : goal.returns-then-step-clause-changes
 returns-then-step-clause-changes c = λ laid.
-    let is = c.replace-step.ensures in
     let some = some_text c.args.text.now (sym c.is_empty.ensures ∙ c.if-is_empty.false) in
-    set_and_counted c.args.self.now c.replace-step.new.self c.count.new.self c.args.code c.args.size c.args.form c.args.text.now c.replace-step.result (is.changes laid) some (is.step laid some) c.if-step.true c.count.ensures.changes
+    set_and_counted c.args.self.now c.set.new.self c.count.new.self c.args.code c.args.size c.args.form c.args.text.now c.step_to-step.result (c.set.ensures.changes laid) some (c.step_to-step.ensures laid some) c.if-step.true c.count.ensures.changes

@@ -1,14 +1,12 @@
-use Rattle.vcd_body.proofs.FollowLemmas.{number_alone, number_and_counted}
+use Rattle.vcd_body.proofs.FollowLemmas.{number_alone, number_and_counted, step_put}
 use Rattle.vcd_body.proofs.table.Table.follow_bits_any.Goals as goal
 
-pub returns-then-told-clause-changes : goal.returns-then-told-clause-changes
-returns-then-told-clause-changes c = λ laid.
-    let told = c.replace_bits-told in
+pub returns-then-step-clause-changes : goal.returns-then-step-clause-changes
+returns-then-step-clause-changes c = λ laid.
     let bits = c.args.bits in
-    number_and_counted c.args.self.now told.new.self c.count.new.self c.args.code c.args.size bits.len bits.number told.result told.ensures.changes (told.ensures.step laid) c.if-told.true c.count.ensures.changes
+    number_and_counted c.args.self.now c.set_bits.new.self c.count.new.self c.args.code c.args.size bits.len bits.number c.step_to-step.result c.set_bits.ensures.changes (step_put _ _ bits.len bits.number c.args.size _ c.put_digits.ensures bits.some (c.step_to-step.ensures laid)) c.if-step.true c.count.ensures.changes
 
-pub returns-else-told-clause-changes : goal.returns-else-told-clause-changes
-returns-else-told-clause-changes c = λ laid.
-    let told = c.replace_bits-told in
+pub returns-else-step-clause-changes : goal.returns-else-step-clause-changes
+returns-else-step-clause-changes c = λ laid.
     let bits = c.args.bits in
-    number_alone c.args.self.now told.new.self c.args.code c.args.size bits.len bits.number told.result told.ensures.changes (told.ensures.step laid) c.if-told.false
+    number_alone c.args.self.now c.set_bits.new.self c.args.code c.args.size bits.len bits.number c.step_to-step.result c.set_bits.ensures.changes (step_put _ _ bits.len bits.number c.args.size _ c.put_digits.ensures bits.some (c.step_to-step.ensures laid)) c.if-step.false
