@@ -39,13 +39,16 @@ pub struct Plain<'a> {
     pub item: Item,
     /// The text of a change; none for a mark.
     pub text: &'a [u8],
-    /// The size of a change's code; 0 where it is an event, and where 32 bits do not hold the size, and for a mark.
+    /// The size of a change's code; 0 where it is an event, and where 32 bits do not hold the size,
+    /// and for a mark.
     pub most: usize,
-    /// Where the text of a change begins in the bytes that are looked over; where the digits of a mark begin.
+    /// Where the text of a change begins in the bytes that are looked over; where the digits of a
+    /// mark begin.
     pub at: usize,
     /// Where a change's code begins; it ends one byte before the last one that is passed.
     pub code_at: usize,
-    /// The digits of a vector as a number, where they are few, and `0` and `1` alone. None says nothing.
+    /// The digits of a vector as a number, where they are few, and `0` and `1` alone. None says
+    /// nothing.
     pub bits: Option<Bits>,
 }
 
@@ -100,7 +103,8 @@ fn mark_of<'a>(time: u64, at: usize) -> Plain<'a>
     }
 }
 
-/// The code that stands after the digits of a vector, where there are digits, and the code has room for them.
+/// The code that stands after the digits of a vector, where there are digits, and the code has room
+/// for them.
 #[inline(always)]
 fn vector_code(token: &[u8], code: &[u8], view: HeadView<'_>, bits: Option<Bits>) -> Option<Found>
     requires begins { Begins token.now first.Vector }
@@ -186,7 +190,8 @@ pub fn opening_ahead<'a>(ahead: &mut Ahead<'a>) -> Option<Opening<'a>>
     })
 }
 
-/// The change that a digit begins, with its code at once. The place is that after the token; none where it is no such change.
+/// The change that a digit begins, with its code at once. The place is that after the token; none
+/// where it is no such change.
 #[inline(always)]
 pub fn scalar_ahead<'a>(
     opening: Opening<'a>,
@@ -206,7 +211,8 @@ pub fn scalar_ahead<'a>(
     Some(change_of(found, Form::Scalar, text, None, at, at + 1))
 }
 
-/// The tokens of a vector's change, which were taken ahead: one that a `b` and digits begin, and the code.
+/// The tokens of a vector's change, which were taken ahead: one that a `b` and digits begin, and
+/// the code.
 #[derive(Clone, Copy)]
 pub struct VectorTokens<'a> {
     /// The digits as a number, where they are few, and `0` and `1` alone. None says nothing.
@@ -218,8 +224,8 @@ pub struct VectorTokens<'a> {
     pub(crate) code_at: usize,
 }
 
-/// The token that a `b` and digits begin, with the code that is the next one. The place is that after the digits, and then that after
-/// the code; none where `item_ahead` gives none.
+/// The token that a `b` and digits begin, with the code that is the next one. The place is that
+/// after the digits, and then that after the code; none where `item_ahead` gives none.
 #[inline(always)]
 pub fn vector_tokens_ahead<'a>(
     opening: Opening<'a>,
@@ -245,8 +251,8 @@ pub fn vector_tokens_ahead<'a>(
     })
 }
 
-/// The change that these tokens are, where the number of its digits is known or not. The place is that after them; none where they are no
-/// such change.
+/// The change that these tokens are, where the number of its digits is known or not. The place is
+/// that after them; none where they are no such change.
 // What is known is asked before it, so that what is done with the change need not ask again.
 #[inline(always)]
 pub fn vector_ahead<'a>(
@@ -273,7 +279,8 @@ pub fn vector_ahead<'a>(
     ))
 }
 
-/// The change that an `r` and the text of a real number begin, as `vector_tokens_ahead` and `vector_ahead` do.
+/// The change that an `r` and the text of a real number begin, as `vector_tokens_ahead` and
+/// `vector_ahead` do.
 #[inline(always)]
 pub fn real_ahead<'a>(
     opening: Opening<'a>,
@@ -303,8 +310,8 @@ pub fn time_ahead(opening: Opening<'_>) -> Option<u64>
     decimal_of(rest_of(opening.token))
 }
 
-/// The mark of the time that a token spells, and the registers after it. The place is that after it; none where it may not stand here,
-/// and then nothing has changed.
+/// The mark of the time that a token spells, and the registers after it. The place is that after
+/// it; none where it may not stand here, and then nothing has changed.
 #[inline(always)]
 pub fn mark_ahead<'a>(
     opening: Opening<'a>,
@@ -330,8 +337,8 @@ pub fn mark_ahead<'a>(
     Some(mark_of(time, at + 1))
 }
 
-/// The next item, where it is a time mark or a change, and its tokens lie whole ahead. Else none, and then nothing has changed:
-/// `next_item` gives it, or its fault.
+/// The next item, where it is a time mark or a change, and its tokens lie whole ahead. Else none,
+/// and then nothing has changed: `next_item` gives it, or its fault.
 #[inline(always)]
 pub fn item_ahead<'a>(
     ahead: &mut Ahead<'a>,
@@ -362,7 +369,8 @@ pub fn item_ahead<'a>(
     // The text of a vector may be told as a number too.
     ensures bits { IfSome result (λ plain. HasBits plain.item plain.text.now plain.bits) }
 
-    // It is spelled by the bytes that were passed with it: the text of a change and its code, or the digits of a mark.
+    // It is spelled by the bytes that were passed with it: the text of a change and its code, or
+    // the digits of a mark.
     ensures spelled { IfSome result (λ plain. HasSpelled view.entry (bytes_of ahead.old)
         (passed_of ahead.old) (passed_of ahead.new) plain.at plain.code_at plain.text.now
         plain.item) }

@@ -19,7 +19,8 @@ pub struct Bits {
 impl Bits {
     ghost use Rattle.std.specs.Prelude.{IfSome, None, ◌≢◌};
 
-    /// So many digits of this number. None where they are none or more than 32, or the number has more.
+    /// So many digits of this number. None where they are none or more than 32, or the number has
+    /// more.
     #[inline(always)]
     #[tactic(auto, using(crate::proofs::NumberLemmas::small_number, crate::proofs::NumberLemmas::small_rest))]
     pub fn new(len: usize, number: usize) -> Option<Bits>
@@ -114,7 +115,8 @@ pub(crate) fn put_digits(bits: Bits, to: &mut [u8])
     }
 }
 
-/// Whether a slot holds binary digits, and neither these nor those are more than the size: so both make values of as many digits.
+/// Whether a slot holds binary digits, and neither these nor those are more than the size: so both
+/// make values of as many digits.
 #[inline(always)]
 #[tactic(auto, using(crate::proofs::StoreLemmas::many_bits))]
 pub(crate) fn is_number_step(slot: &Slot, size: usize, bits: Bits) -> bool

@@ -105,7 +105,8 @@ fn put_long_end<W: Sink>(w: &mut W, first: u8, id: &[u8]) -> Result<(), WriteFai
     put(w, b"\n")
 }
 
-// The same bytes, brought together in a number, so that a copy of some of them is not delayed by writes of single ones.
+// Returns these bytes, brought together in a number, so that a copy of some of them is not delayed
+// by writes of single ones.
 #[inline(always)]
 fn together(bytes: [u8; 8]) -> [u8; 8]
     ensures { result ≡ bytes }

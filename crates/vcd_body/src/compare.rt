@@ -39,7 +39,8 @@ fn text_digit(text: &[u8], size: usize, place: usize) -> u8
     }
 }
 
-// The same of the digits that are held.
+// Returns the digit at a place of the held digits, which are extended to a size; 0 where there is
+// none.
 #[inline(always)]
 fn shown_digit(holding: Holding, share: &[u8], size: usize, place: usize) -> u8
     requires used { used holding ≤ length share.now }
@@ -53,8 +54,8 @@ fn shown_digit(holding: Holding, share: &[u8], size: usize, place: usize) -> u8
     }
 }
 
-// Whether the digits that are held and a text are the same, both extended to a size that is no less than their lengths. It
-// looks from the right, where they mostly differ.
+// Whether the digits that are held and a text are the same, both extended to a size that is no less
+// than their lengths. It looks from the right, where they mostly differ.
 fn are_same(holding: Holding, share: &[u8], text: &[u8], size: usize) -> bool
     requires used { used holding ≤ length share.now }
     requires some { 1 ≤ some_by holding.state holding.len }
@@ -74,7 +75,8 @@ fn are_same(holding: Holding, share: &[u8], text: &[u8], size: usize) -> bool
     true
 }
 
-// Whether digits that are held a byte each and a text of as many are the same. It looks from the right too.
+// Whether digits that are held a byte each and a text of as many are the same. It looks from the
+// right too.
 fn are_same_plain(share: &[u8], text: &[u8]) -> bool
     requires { length share.now ≡ length text.now }
     ensures { Decides result (map held_digit share.now ≡ str_to_ascii_lowercase text.now) }
@@ -89,7 +91,8 @@ fn are_same_plain(share: &[u8], text: &[u8]) -> bool
     true
 }
 
-// Whether a digit of those that are held a byte each and one of a text differ, each so many places before the last.
+// Whether a digit of those that are held a byte each and one of a text differ, each so many places
+// before the last.
 #[inline(always)]
 fn differ_at(share: &[u8], text: &[u8], back: usize) -> bool
     requires share { back < length share.now }
@@ -100,8 +103,9 @@ fn differ_at(share: &[u8], text: &[u8], back: usize) -> bool
     held_digit(share[share.len() - 1 - back]) != text[text.len() - 1 - back].to_ascii_lowercase()
 }
 
-// Whether the last four digits of those that are held a byte each and of a text differ; false where either are fewer. Most
-// values that differ do so there, and it takes no branches by what the digits are.
+// Whether the last four digits of those that are held a byte each and of a text differ; false where
+// either are fewer. Most values that differ do so there, and it takes no branches by what the
+// digits are.
 #[inline(always)]
 fn ends_differ(share: &[u8], text: &[u8]) -> bool
     ensures { result ≡ true → (size : ℕ) → extend (map held_digit share.now) size
@@ -115,8 +119,8 @@ fn ends_differ(share: &[u8], text: &[u8]) -> bool
     last | others
 }
 
-// Whether a digit of those that are held and one of a text differ, each so many places before the last; false where either has
-// fewer.
+// Whether a digit of those that are held and one of a text differ, each so many places before the
+// last; false where either has fewer.
 #[inline(always)]
 fn held_differs_at(holding: Holding, share: &[u8], text: &[u8], back: usize) -> bool
     requires used { used holding ≤ length share.now }
@@ -133,8 +137,8 @@ fn held_differs_at(holding: Holding, share: &[u8], text: &[u8], back: usize) -> 
     }
 }
 
-// Whether one of the last eight digits of those that are held and of a text differs, where both have it. It looks from the right,
-// where they mostly differ.
+// Whether one of the last eight digits of those that are held and of a text differs, where both
+// have it. It looks from the right, where they mostly differ.
 #[inline(always)]
 fn lasts_differ(holding: Holding, share: &[u8], text: &[u8]) -> bool
     requires used { used holding ≤ length share.now }
@@ -149,8 +153,8 @@ fn lasts_differ(holding: Holding, share: &[u8], text: &[u8]) -> bool
     false
 }
 
-// Whether the last 16 digits of several that are held and of a text tell that the values differ, where both have as many. Most
-// values that differ do so there.
+// Whether the last 16 digits of several that are held and of a text tell that the values differ,
+// where both have as many. Most values that differ do so there.
 #[inline(always)]
 fn ends_tell(holding: Holding, share: &[u8], text: &[u8]) -> bool
     requires used { used holding ≤ length share.now }
@@ -164,7 +168,8 @@ fn ends_tell(holding: Holding, share: &[u8], text: &[u8]) -> bool
     }
 }
 
-// The same of some last digits, where there are fewer.
+// Returns whether some of the last digits tell that the values differ, where one has fewer than 16
+// digits.
 #[inline(always)]
 fn few_tell(holding: Holding, share: &[u8], text: &[u8]) -> bool
     requires used { used holding ≤ length share.now }
@@ -178,8 +183,8 @@ fn few_tell(holding: Holding, share: &[u8], text: &[u8]) -> bool
     }
 }
 
-// Whether a text gives a code of this size other digits than several that are held, or is itself of several. It takes as long
-// as these digits and the text are, whatever the size is.
+// Whether a text gives a code of this size other digits than several that are held, or is itself of
+// several. It takes as long as these digits and the text are, whatever the size is.
 #[inline(never)]
 fn all_differ(holding: Holding, share: &[u8], size: usize, text: &[u8]) -> bool
     requires used { used holding ≤ length share.now }
@@ -201,7 +206,8 @@ fn all_differ(holding: Holding, share: &[u8], size: usize, text: &[u8]) -> bool
     }
 }
 
-// The same, after a look at the last digits.
+// Returns whether a text gives a code of this size other digits than several that are held. It
+// looks at the last digits first.
 #[inline(always)]
 fn several_differ(holding: Holding, share: &[u8], size: usize, text: &[u8]) -> bool
     requires used { used holding ≤ length share.now }
@@ -213,7 +219,8 @@ fn several_differ(holding: Holding, share: &[u8], size: usize, text: &[u8]) -> b
     ends_tell(holding, share, text) || all_differ(holding, share, size, text)
 }
 
-// Whether a text gives a code of this size other digits than those that are held. Most are one digit.
+// Whether a text gives a code of this size other digits than those that are held. Most are one
+// digit.
 #[inline(always)]
 fn digits_differ(holding: Holding, share: &[u8], size: usize, text: &[u8]) -> bool
     requires used { used holding ≤ length share.now }

@@ -1,5 +1,5 @@
-// The three counters of a code, of 64 bits each. The lowest 8 bits of each lie in the code's slot, beside its value, and the others in its
-// share: so most steps touch the slot alone.
+// The three counters of a code, of 64 bits each. The lowest 8 bits of each lie in the code's slot,
+// beside its value, and the others in its share: so most steps touch the slot alone.
 ghost use Rattle.std.specs.Prelude.{◌≡◌, ◌⊎◌, ◌==◌, ℕ, ◌<◌, List, IfSome, not, true, false};
 ghost use Rattle.vcd_body.specs.Counters.{count_of, counts_of};
 ghost use Rattle.vcd_body.specs.Kept.{counts_if, counts_with};
@@ -65,8 +65,9 @@ pub(crate) fn count_one(
     }
 }
 
-/// Adds one to the first of the lowest parts, and to that of rises or of falls where one of the tests holds: it takes no branches by
-/// which. Returns whether these parts had room; else, or where both tests hold, nothing changes.
+/// Adds one to the first of the lowest parts, and to that of rises or of falls where one of the
+/// tests holds: it takes no branches by which. Returns whether these parts had room; else, or where
+/// both tests hold, nothing changes.
 #[inline(always)]
 pub(crate) fn step_low(low: &mut [u8; 3], rises: bool, falls: bool) -> bool
     ensures more { result ≡ true → (middle high top : List ℕ) → counts_of low.new middle high top
@@ -88,7 +89,8 @@ pub(crate) fn step_low(low: &mut [u8; 3], rises: bool, falls: bool) -> bool
     true
 }
 
-/// Adds one to the first counter, and to the others where the tests hold, whatever the lowest parts are. A full one stays.
+/// Adds one to the first counter, and to the others where the tests hold, whatever the lowest parts
+/// are. A full one stays.
 pub(crate) fn carry_step(
     low: &mut [u8; 3],
     middle: &mut [u32; 3],

@@ -19,8 +19,8 @@ pub enum Id<'a> {
     Number(u64),
 }
 
-/// Writes a change of a code of this size, or of an event, as its line. A bad text of an event is not looked at. Where a write
-/// fails, a prefix was written.
+/// Writes a change of a code of this size, or of an event, as its line. A bad text of an event is
+/// not looked at. Where a write fails, a prefix was written.
 #[inline(always)]
 pub fn put_change<W: Sink>(
     size: usize,

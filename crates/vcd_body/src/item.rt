@@ -33,7 +33,8 @@ pub enum Item {
     Begin(Section),
     /// The section ends.
     End,
-    /// A value change of the code at this place among the header's codes. `change_text` gives its text.
+    /// A value change of the code at this place among the header's codes. `change_text` gives its
+    /// text.
     Change { code: usize, form: Form },
     /// The body has ended, outside a section.
     Finish,
@@ -67,8 +68,8 @@ impl Regs {
         }
     }
 
-    /// Takes a time mark, and returns whether one may stand here: outside a section, and at no time before the last one. Where it may not,
-    /// nothing changes.
+    /// Takes a time mark, and returns whether one may stand here: outside a section, and at no time
+    /// before the last one. Where it may not, nothing changes.
     // Out of line, so that a loop over items keeps neither time nor mark at hand for it.
     #[inline(never)]
     pub(crate) fn take_mark(&mut self, time: u64) -> bool

@@ -98,7 +98,8 @@ fn pack_few(share: &mut [u8], text: &[u8], quarter: usize)
     }
 }
 
-/// The codes of 16 digits. Of a byte that is neither `0` nor `1` it is 2, and one more where it is an x.
+/// The codes of 16 digits. Of a byte that is neither `0` nor `1` it is 2, and one more where it is
+/// an x.
 #[inline(always)]
 fn codes_16(bytes: &[u8], at: usize) -> u8x16
     requires { at + 16 ≤ length bytes.now }
@@ -118,8 +119,8 @@ fn codes_differ(first: u8x16, second: u8x16) -> bool
     first.simd_ne(second).to_bitmask() != 0
 }
 
-/// Whether the last 16 digits of a share that holds a byte a digit and those of a text tell that the values differ; false where
-/// either has fewer.
+/// Whether the last 16 digits of a share that holds a byte a digit and those of a text tell that
+/// the values differ; false where either has fewer.
 #[inline(always)]
 pub(crate) fn plain_ends_differ(share: &[u8], text: &[u8]) -> bool
     ensures differ { result ≡ true → (size : ℕ) → extend (map held_digit share.now) size
@@ -144,7 +145,9 @@ fn last_codes_16(bytes: &[u8], at: usize) -> u8x16
     u8x16::from_slice(&bytes[at..]) >> u8x16::splat(6)
 }
 
-/// The same of `len` packed digits: the last 16 are in the bytes of the last places.
+/// Returns whether the last 16 of `len` packed digits and those of a text tell that the values
+/// differ; false where either has fewer. The last 16 packed digits are in the last bytes that are
+/// in use.
 #[inline(always)]
 pub(crate) fn packed_ends_differ(share: &[u8], len: usize, text: &[u8]) -> bool
     ensures differ { result ≡ true → (size : ℕ) → extend (digits_in len share.now) size
@@ -190,7 +193,8 @@ fn pack_16(share: &mut [u8], text: &[u8], quarter: usize, at: usize)
     with_4_times(codes_16(text, at), both).copy_to_slice(&mut share[at..]);
 }
 
-/// 16 digits without what `0` and `1` share: of these it is their code, and more than 1 of all others.
+/// 16 digits without what `0` and `1` share: of these it is their code, and more than 1 of all
+/// others.
 #[inline(always)]
 fn bits_16(bytes: &[u8], at: usize) -> u8x16
     requires { at + 16 ≤ length bytes.now }
@@ -221,7 +225,8 @@ fn are_bits(seen: u8x16) -> bool
     seen.simd_gt(u8x16::splat(1)).to_bitmask() == 0
 }
 
-/// Packs the digits of 16 places of each quarter as if they were 0 and 1. Returns what tells by `are_bits` that they were.
+/// Packs the digits of 16 places of each quarter as if they were 0 and 1. Returns what tells by
+/// `are_bits` that they were.
 #[inline(always)]
 fn pack_bits_16(share: &mut [u8], text: &[u8], quarter: usize, at: usize) -> u8x16
     requires within { at + 16 ≤ quarter }
@@ -241,8 +246,8 @@ fn pack_bits_16(share: &mut [u8], text: &[u8], quarter: usize, at: usize) -> u8x
     either(either(first, second), either(third, last))
 }
 
-/// The same as `pack_few`, of 16 places at a time, where the digits are 0 and 1 alone. Returns whether they are. Of the last 16
-/// places some may have been packed before.
+/// Packs the digits of each quarter, 16 places at a time, where the digits are 0 and 1 alone.
+/// Returns whether they are. Of the last 16 places some may have been packed before.
 fn pack_bits(share: &mut [u8], text: &[u8], quarter: usize) -> bool
     requires room { quarter ≤ length share.old }
     requires many { 16 ≤ quarter }
@@ -260,7 +265,7 @@ fn pack_bits(share: &mut [u8], text: &[u8], quarter: usize) -> bool
     are_bits(either(seen, pack_bits_16(share, text, quarter, last)))
 }
 
-/// The same of any digits.
+/// Packs the digits of each quarter, 16 places at a time, whatever digits they are.
 #[inline(never)]
 fn pack_any(share: &mut [u8], text: &[u8], quarter: usize)
     requires room { quarter ≤ length share.old }
@@ -278,7 +283,7 @@ fn pack_any(share: &mut [u8], text: &[u8], quarter: usize)
     pack_16(share, text, quarter, last);
 }
 
-/// The same as `pack_few`, where the digits are many. Most are 0 and 1 alone.
+/// Packs the digits of each quarter, where a quarter has 16 or more. Most digits are 0 and 1 alone.
 fn pack_many(share: &mut [u8], text: &[u8], quarter: usize)
     requires room { quarter ≤ length share.old }
     requires many { 16 ≤ quarter }
@@ -346,7 +351,8 @@ pub(crate) fn last_packed(share: &[u8], len: usize) -> u8
     b'0' + share[len.div_ceil(4) - 1] / 64
 }
 
-/// The code of one. The last quarter ends where the digits do, and may hold some of the third one again.
+/// The code of one. The last quarter ends where the digits do, and may hold some of the third one
+/// again.
 #[inline(always)]
 fn code_among(share: &[u8], len: usize, place: usize) -> u8
     requires { place < len }

@@ -138,8 +138,8 @@ fn read_code<S: Source>(
     }
 }
 
-/// The code that was found has room for so many digits, or is an event. Its size mostly tells; the code is read only where it
-/// does not.
+/// The code that was found has room for so many digits, or is an event. Its size mostly tells; the
+/// code is read only where it does not.
 #[inline(always)]
 pub(crate) fn takes(codes: &[Code], found: Found, digits: usize) -> bool
     requires { IsSized codes.now found }

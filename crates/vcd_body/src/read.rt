@@ -126,8 +126,8 @@ fn read_phrase<S: Source>(
     Ok(Some(item))
 }
 
-/// Reads the next item of the body of the header that is shown, or finds the end. The feed stands after the header at first, and
-/// `regs` is new then. After a fault neither is to be used again.
+/// Reads the next item of the body of the header that is shown, or finds the end. The feed stands
+/// after the header at first, and `regs` is new then. After a fault neither is to be used again.
 #[inline(always)]
 pub fn next_item<S: Source>(
     feed: &mut Feed<'_, '_, '_, '_, S>,
@@ -136,8 +136,8 @@ pub fn next_item<S: Source>(
 ) -> Result<Item, BodyFault>
     requires failures { S.failures (source_of feed.old) < 2 ^ 64 - 1 }
 
-    // After the items given so far comes this one; at the end they are all of the body's, and it has no fault. A fault is the
-    // body's, after exactly these items.
+    // After the items given so far comes this one; at the end they are all of the body's, and it
+    // has no fault. A fault is the body's, after exactly these items.
     ensures reads { (h : Header) (i : Input) (front : List Token) (items : List BodyItem)
         → IsViewOf view.entry h → GaveItems h.codes i front items feed.old regs.old
         → MatchResult result (GivesItem h.codes i front items feed.new regs.new)
@@ -158,8 +158,8 @@ pub fn next_item<S: Source>(
     }
 }
 
-/// The text of a change, right after `next_item` has given it, in the form that it gave: its digits, or the text of the real
-/// number.
+/// The text of a change, right after `next_item` has given it, in the form that it gave: its
+/// digits, or the text of the real number.
 pub fn change_text<'f, S: Source>(feed: &'f Feed<'_, '_, '_, '_, S>, form: Form) -> &'f [u8]
     ensures { result.now ≡ text_of form feed.now }
 {

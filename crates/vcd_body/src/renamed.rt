@@ -43,7 +43,7 @@ fn put_one<W: Sink>(first: u8, low: u8, w: &mut W) -> Result<(), WriteFailed>
     put(w, &[first, low, b'\n'])
 }
 
-/// The same of a code of two bytes.
+/// Writes a byte, a code of two bytes and a line feed.
 #[inline(always)]
 fn put_two<W: Sink>(first: u8, low: u8, high: u8, w: &mut W) -> Result<(), WriteFailed>
     requires { (W.device w.old).failures < 2 ^ 64 - 1 }
@@ -52,7 +52,7 @@ fn put_two<W: Sink>(first: u8, low: u8, high: u8, w: &mut W) -> Result<(), Write
     put(w, &[first, low, high, b'\n'])
 }
 
-/// The same of a code of three bytes.
+/// Writes a byte, a code of three bytes and a line feed.
 #[inline(always)]
 fn put_three<W: Sink>(
     first: u8,
@@ -68,8 +68,8 @@ fn put_three<W: Sink>(
     put(w, &[first, low, middle, high, b'\n'])
 }
 
-/// Writes a byte, the code of a number and a line feed. A code of up to three bytes, as most are, is written by one write of a
-/// known length.
+/// Writes a byte, the code of a number and a line feed. A code of up to three bytes, as most are,
+/// is written by one write of a known length.
 #[inline(always)]
 fn put_code_line<W: Sink>(first: u8, number: u64, w: &mut W) -> Result<(), WriteFailed>
     requires { (W.device w.old).failures < 2 ^ 64 - 1 }
@@ -117,7 +117,8 @@ fn put_short_vector<W: Sink>(digits: &[u8], number: u64, w: &mut W) -> Result<()
     put_code_line(b' ', number, w)
 }
 
-/// Writes a change of digits after `b`, the shortest ones. Where their number is known, none of them is looked at.
+/// Writes a change of digits after `b`, the shortest ones. Where their number is known, none of
+/// them is looked at.
 // What is called is given no bits, so that these stay out of memory.
 #[inline(always)]
 fn put_vector_bits<W: Sink>(
@@ -140,7 +141,8 @@ fn put_vector_bits<W: Sink>(
     }
 }
 
-/// A change of digits of a code that has several bits, as most that are of no bit are. One branch tells.
+/// A change of digits of a code that has several bits, as most that are of no bit are. One branch
+/// tells.
 #[inline(always)]
 fn is_vector(size: usize, event: bool, form: Form) -> bool
     ensures { result ≡ true → (size ≢ 1) × (event ≡ false) × (form ≡ Form.Vector) }
@@ -148,7 +150,7 @@ fn is_vector(size: usize, event: bool, form: Form) -> bool
     (size != 1) & !event & (form == Form::Vector)
 }
 
-/// The same of any change.
+/// Writes any change as its line, under the new code of this number.
 #[inline(never)]
 fn put_any<W: Sink>(
     size: usize,
@@ -170,8 +172,8 @@ fn put_any<W: Sink>(
     put_own_change(size, event, form, text, NewCode::of(number).text(), w)
 }
 
-/// Writes a change as `put_change` does, under the new code of this number. The number of the text's digits may be known: then
-/// none of them is looked at.
+/// Writes a change as `put_change` does, under the new code of this number. The number of the
+/// text's digits may be known: then none of them is looked at.
 #[inline(always)]
 pub fn put_renamed_bits<W: Sink>(
     size: usize,

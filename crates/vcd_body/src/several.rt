@@ -12,8 +12,8 @@ use crate::slot::{Holding, Share, Slot, State, holding_of};
 use crate::step::Step;
 use crate::store::{count_at, end_of, set_digits_in};
 
-// The step from digits whose last one is 0 or 1 where a byte is, to those of a text that ends with this one, where they differ. It
-// takes no branches.
+// The step from digits whose last one is 0 or 1 where a byte is, to those of a text that ends with
+// this one, where they differ. It takes no branches.
 #[inline(always)]
 fn step_over(before: u8, after: u8) -> Step
     ensures differs { result.differs ≡ true }
@@ -27,7 +27,8 @@ fn step_over(before: u8, after: u8) -> Step
     }
 }
 
-// The step from digits that are held a byte each to those of a text, where the last 16 of both tell that they differ.
+// The step from digits that are held a byte each to those of a text, where the last 16 of both tell
+// that they differ.
 #[inline(always)]
 fn plain_step(share: &[u8], text: &[u8]) -> Option<Step>
     ensures many { IfSome result (λ _. 16 ≤ length text.now) }
@@ -42,7 +43,8 @@ fn plain_step(share: &[u8], text: &[u8]) -> Option<Step>
     Some(step_over(share[share.len() - 1], text[text.len() - 1]))
 }
 
-// The same of `len` packed digits, in the first bytes of a share.
+// Returns the step from `len` packed digits, in the first bytes of a share, to those of a text,
+// where the last 16 of both tell that they differ.
 #[inline(always)]
 fn packed_step(share: &[u8], len: usize, text: &[u8]) -> Option<Step>
     ensures room { IfSome result (λ _. bytes_for len ≤ length share.now) }
@@ -66,8 +68,8 @@ fn part_of(values: &[u8], start: usize, end: usize) -> Option<&[u8]>
     values.get(start..end)
 }
 
-// The step from several digits that are held so, in a share that begins and ends here, to those of a text, where the last 16 of both tell that they
-// differ. How they are held is asked once.
+// The step from several digits that are held so, in a share that begins and ends here, to those of
+// a text, where the last 16 of both tell that they differ. How they are held is asked once.
 #[inline(always)]
 fn step_told(values: &[u8], holding: Holding, start: usize, end: usize, text: &[u8]) -> Option<Step>
     ensures many { IfSome result (λ _. 16 ≤ length text.now) }
@@ -84,8 +86,9 @@ fn step_told(values: &[u8], holding: Holding, start: usize, end: usize, text: &[
     }
 }
 
-/// Sets the value of a code to several digits over several others, where the last 16 of both tell that it differs at each size, and
-/// counts the step. Returns whether it did; else nothing changes. Most that are set are so.
+/// Sets the value of a code to several digits over several others, where the last 16 of both tell
+/// that it differs at each size, and counts the step. Returns whether it did; else nothing changes.
+/// Most that are set are so.
 #[inline(never)]
 pub(crate) fn change_at(
     slots: &mut [Slot],

@@ -3,7 +3,8 @@ ghost use Rattle.std.specs.Prelude.{◌≡◌, ◌≢◌, ◌⊎◌, ◌==◌, c
 ghost use Rattle.vcd_body.specs.Packed.{held_digit};
 ghost use Rattle.vcd_body.specs.Stored.{IsUncounted, IsUnset, holding_of, number_of, one_digit, share_from, state_in};
 
-/// How the value of a code is held. Each digit has a state of its own, so that a value of one digit is in the slot alone.
+/// How the value of a code is held. Each digit has a state of its own, so that a value of one digit
+/// is in the slot alone.
 // In the order of the numbers that tell them, so that none has to be looked up.
 #[derive(Clone, Copy, PartialEq, Eq, Debug)]
 pub(crate) enum State {
@@ -17,7 +18,8 @@ pub(crate) enum State {
     Unknown,
     /// By the digit z.
     High,
-    /// By several digits as they were written, a byte each, where its share of the values has room for them.
+    /// By several digits as they were written, a byte each, where its share of the values has room
+    /// for them.
     Plain,
     /// By several digits, packed four to a byte, where it has not.
     Digits,
@@ -27,19 +29,23 @@ pub(crate) enum State {
     Bits,
 }
 
-/// What a change of a code looks at: its value where it is short, and how it is held. It stands apart from what few changes look at, and
-/// takes 8 bytes, so that as many slots as can be lie in the first caches.
+/// What a change of a code looks at: its value where it is short, and how it is held. It stands
+/// apart from what few changes look at, and takes 8 bytes, so that as many slots as can be lie in
+/// the first caches.
 #[derive(Clone, Copy, PartialEq, Eq, Debug)]
 pub struct Slot {
-    // The number of binary digits; else the lowest 32 bits of how many digits, or bytes of a text, are held in the share.
+    // The number of binary digits; else the lowest 32 bits of how many digits, or bytes of a text,
+    // are held in the share.
     pub(crate) number: u32,
-    // The number of the state that holds the value; and from 8 on, by how many binary digits it is above 8.
+    // The number of the state that holds the value; and from 8 on, by how many binary digits it is
+    // above 8.
     pub(crate) how: u8,
     // The lowest 8 bits of each counter, so that most steps are counted here.
     pub(crate) low: [u8; 3],
 }
 
-/// What else is kept of a code: its share of the bytes of values, the upper parts of its counters, and whether it is chosen.
+/// What else is kept of a code: its share of the bytes of values, the upper parts of its counters,
+/// and whether it is chosen.
 #[derive(Clone, Copy, PartialEq, Eq, Debug)]
 pub struct Share {
     // Where the share begins. It ends where the next one begins.
@@ -57,7 +63,8 @@ pub struct Share {
 #[derive(Clone, Copy, PartialEq, Eq, Debug)]
 pub(crate) struct Holding {
     pub(crate) state: State,
-    /// How many digits, or bytes of a text, are held in the share; or binary digits, as `bits` packs them.
+    /// How many digits, or bytes of a text, are held in the share; or binary digits, as `bits`
+    /// packs them.
     pub(crate) len: usize,
 }
 
@@ -93,7 +100,7 @@ impl Share {
         Share::at(0)
     }
 
-    /// The same, where its share of the bytes begins here.
+    /// Nothing was counted of the code, it is not chosen, and its share of the bytes begins here.
     pub(crate) fn at(start: usize) -> Share
         ensures { result ≡ share_from start }
     {
@@ -198,8 +205,8 @@ pub(crate) fn number_of_digit(digit: u8) -> u8
     number_of_other(digit)
 }
 
-/// The same of a digit that is neither 0 nor 1.
-// Out of line, so that it is no work for the digits that most are.
+/// Returns the number of the state that holds a digit other than 0 and 1.
+// Not inlined, since most digits are 0 or 1.
 #[cold]
 #[inline(never)]
 fn number_of_other(digit: u8) -> u8

@@ -67,9 +67,9 @@ fn holds_some(holding: Holding) -> bool
     }
 }
 
-/// The bytes that are in use of the share of the code whose value is held so. None where there is no share, where they would not lie
-/// within the values, or where the holding says that several digits are held, and how many is 0. No code of a table that is laid out
-/// is so.
+/// The bytes that are in use of the share of the code whose value is held so. None where there is
+/// no share, where they would not lie within the values, or where the holding says that several
+/// digits are held, and how many is 0. No code of a table that is laid out is so.
 #[inline(always)]
 pub(crate) fn share_in<'a>(
     values: &'a [u8],
@@ -93,7 +93,8 @@ pub(crate) fn share_in<'a>(
     values.get(start..end)
 }
 
-/// Sets the value of a code to the one digit that a state holds, by its number. Its share is left alone, and need not be looked at.
+/// Sets the value of a code to the one digit that a state holds, by its number. Its share is left
+/// alone, and need not be looked at.
 #[inline(always)]
 fn set_how(slots: &mut [Slot], code: usize, how: u8)
     ensures changes { (d : ℕ) → one_digit (state_in how) ≡ Some d → (shares : List Share)
@@ -119,7 +120,8 @@ fn set_digit(slots: &mut [Slot], code: usize, digit: u8)
     set_how(slots, code, number_of_digit(digit));
 }
 
-/// Holds digits in a share: a byte each where it has room for them, and else four to a byte. Says how they are held.
+/// Holds digits in a share: a byte each where it has room for them, and else four to a byte. Says
+/// how they are held.
 #[inline(always)]
 fn hold(share: &mut [u8], text: &[u8]) -> State
     requires room { length text.now ≤ 4 * length share.old }
@@ -180,7 +182,7 @@ pub(crate) fn set_digits_in(
     hold_text(&mut slots[code], &mut shares[code], state, text.len());
 }
 
-/// The same, wherever its share ends.
+/// Sets the value of a code to digits, where they fit its share.
 #[inline(never)]
 fn set_digits(slots: &mut [Slot], shares: &mut [Share], values: &mut [u8], code: usize, text: &[u8])
     requires several { length text.now ≢ 1 }
@@ -264,7 +266,8 @@ pub(crate) fn set_at(
     }
 }
 
-/// Sets the value of a code to binary digits. Its slot is written alone, and neither it nor the share need be looked at.
+/// Sets the value of a code to binary digits. Its slot is written alone, and neither it nor the
+/// share need be looked at.
 #[inline(always)]
 pub(crate) fn set_bits(slots: &mut [Slot], code: usize, bits: Bits)
     ensures changes { (shares : List Share) (values : List ℕ)
@@ -302,7 +305,8 @@ pub(crate) fn bump_at(slots: &mut [Slot], shares: &mut [Share], code: usize, whi
     );
 }
 
-/// Adds one to the first counter of a code, and to the others where the tests hold, whatever is in the slot.
+/// Adds one to the first counter of a code, and to the others where the tests hold, whatever is in
+/// the slot.
 #[cold]
 #[inline(never)]
 pub(crate) fn carry_at(
@@ -331,8 +335,8 @@ pub(crate) fn carry_at(
     );
 }
 
-/// Adds one to the first counter of a code, and to the others where the tests hold, where its slot has room for that. Returns whether it
-/// has; else nothing changes.
+/// Adds one to the first counter of a code, and to the others where the tests hold, where its slot
+/// has room for that. Returns whether it has; else nothing changes.
 #[inline(always)]
 fn count_in_slot(slots: &mut [Slot], code: usize, rises: bool, falls: bool) -> bool
     ensures counts { result ≡ true → (shares : List Share) (values : List ℕ)
@@ -347,7 +351,8 @@ fn count_in_slot(slots: &mut [Slot], code: usize, rises: bool, falls: bool) -> b
     step_low(&mut slots[code].low, rises, falls)
 }
 
-/// Adds one to the first counter of a code, and to the others where the tests hold. A full one stays. Most steps touch the slot alone.
+/// Adds one to the first counter of a code, and to the others where the tests hold. A full one
+/// stays. Most steps touch the slot alone.
 #[inline(always)]
 pub(crate) fn count_at(
     slots: &mut [Slot],
@@ -372,12 +377,13 @@ pub(crate) enum Stepped {
     Not,
     /// The value was set, and its step was counted where it differs.
     Counted,
-    /// The value was set. Its step, which rises or falls where a test holds, is left to count, since the slot has no room for it.
+    /// The value was set. Its step, which rises or falls where a test holds, is left to count,
+    /// since the slot has no room for it.
     Uncounted { rises: bool, falls: bool },
 }
 
-/// Sets the value of a code to the digit 0 or 1 over such a digit, and counts the step. Most changes are of this kind, and touch one
-/// slot alone.
+/// Sets the value of a code to the digit 0 or 1 over such a digit, and counts the step. Most
+/// changes are of this kind, and touch one slot alone.
 #[inline(always)]
 pub(crate) fn turn_at(slots: &mut [Slot], code: usize, digit: u8) -> Stepped
     ensures counted { result ≡ Stepped.Counted → (form : Form) → form ≢ Form.RealText → (size : ℕ)
@@ -416,8 +422,8 @@ pub(crate) fn turn_at(slots: &mut [Slot], code: usize, digit: u8) -> Stepped
     }
 }
 
-/// Sets the value of a code to binary digits over such digits, where they make values of as many at this size, and counts the
-/// step.
+/// Sets the value of a code to binary digits over such digits, where they make values of as many at
+/// this size, and counts the step.
 #[inline(always)]
 pub(crate) fn step_at(slots: &mut [Slot], code: usize, size: usize, bits: Bits) -> Stepped
     ensures counted { result ≡ Stepped.Counted → (shares : List Share) (values : List ℕ)
@@ -469,7 +475,7 @@ fn share_of(size: usize) -> usize
     size.div_ceil(4).max(64)
 }
 
-/// The same of the code at a place.
+/// Returns how many bytes the value of the code at a place takes at most.
 #[inline(always)]
 fn share_at(codes: &[Code], place: usize) -> usize
     requires { place < length codes.now }
@@ -478,8 +484,8 @@ fn share_at(codes: &[Code], place: usize) -> usize
     share_of(codes[place].size)
 }
 
-/// Gives each code its share of the values, one after the other, and unsets all. Where the values have no room for all shares,
-/// the last ones are cut. Returns where the last share ends.
+/// Gives each code its share of the values, one after the other, and unsets all. Where the values
+/// have no room for all shares, the last ones are cut. Returns where the last share ends.
 pub(crate) fn lay_out(
     codes: &[Code],
     slots: &mut [Slot],

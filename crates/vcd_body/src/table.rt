@@ -18,9 +18,9 @@ use crate::store::{
 };
 use vcd_view::HeadView;
 
-/// What is kept of the codes of a header, by their places: the value of each, as it was last written, three counters, and
-/// whether it is chosen. A call changes what it names and nothing else. It is total: of a place that is no code's nothing is
-/// kept, and nothing changes.
+/// What is kept of the codes of a header, by their places: the value of each, as it was last
+/// written, three counters, and whether it is chosen. A call changes what it names and nothing
+/// else. It is total: of a place that is no code's nothing is kept, and nothing changes.
 #[derive(Drop)]
 pub struct Table<'a> {
     pub(crate) values: &'a mut [u8],
@@ -38,9 +38,10 @@ impl<'a> Table<'a> {
     ghost use Rattle.vcd_body.specs.Stored.{holding_at, share_of};
     ghost use Rattle.vcd_body.specs.Contents.{ChangesCode, IsLaidOut, bytes_in, codes_in, codes_shown, counts_at, held_at, is_chosen, kept_at, new_at, shown_as, value_in};
 
-    /// A table of the codes of the header that is shown: each is unset, its counters are 0, and it is not chosen. A code's value
-    /// has a quarter of its size of the bytes of `values`, rounded up, and at least 64; where there are fewer, the last codes go
-    /// short. Slots, shares and bytes beyond these are left alone.
+    /// A table of the codes of the header that is shown: each is unset, its counters are 0, and it
+    /// is not chosen. A code's value has a quarter of its size of the bytes of `values`, rounded
+    /// up, and at least 64; where there are fewer, the last codes go short. Slots, shares and bytes
+    /// beyond these are left alone.
     pub fn new(
         view: HeadView<'_>,
         values: &'a mut [u8],
@@ -69,9 +70,9 @@ impl<'a> Table<'a> {
         }
     }
 
-    /// Sets the value of the code at a place by the text of a change: digits, or that of a real number, as `change_text` gives
-    /// it. A text that is empty or has no room is passed over. It takes as long as the text is, and one digit touches the
-    /// code's slot alone.
+    /// Sets the value of the code at a place by the text of a change: digits, or that of a real
+    /// number, as `change_text` gives it. A text that is empty or has no room is passed over. It
+    /// takes as long as the text is, and one digit touches the code's slot alone.
     #[inline(always)]
     pub fn set(&mut self, code: usize, form: Form, text: &[u8])
         ensures laid { IsLaidOut self.old → IsLaidOut self.new }
@@ -90,8 +91,9 @@ impl<'a> Table<'a> {
         set_at(slots, shares, values, code, form, text);
     }
 
-    /// Sets the value of the code at a place by binary digits, as `set` does by their text where that has room; they need none. It
-    /// writes the code's slot alone, looks at nothing, and takes the same time for all.
+    /// Sets the value of the code at a place by binary digits, as `set` does by their text where
+    /// that has room; they need none. It writes the code's slot alone, looks at nothing, and takes
+    /// the same time for all.
     #[inline(always)]
     pub fn set_bits(&mut self, code: usize, bits: Bits)
         ensures laid { IsLaidOut self.old → IsLaidOut self.new }
@@ -110,9 +112,9 @@ impl<'a> Table<'a> {
         set_bits(self.slots, code, bits);
     }
 
-    /// Sets the value of the code at a place by the text of a change as `set` does, and counts its step at this size as `count`
-    /// does, where it differs. A text that is empty is passed over. One of the digits 0 and 1 over another touches the
-    /// code's slot alone.
+    /// Sets the value of the code at a place by the text of a change as `set` does, and counts its
+    /// step at this size as `count` does, where it differs. A text that is empty is passed over.
+    /// One of the digits 0 and 1 over another touches the code's slot alone.
     #[inline(always)]
     pub fn follow(&mut self, code: usize, size: usize, form: Form, text: &[u8])
         ensures laid { IsLaidOut self.old → IsLaidOut self.new }
@@ -140,8 +142,9 @@ impl<'a> Table<'a> {
         }
     }
 
-    /// Sets the value of the code at a place by binary digits, and counts its step at this size, as `follow` does by their text
-    /// where that has room; they need none. Over others that were set so it touches the code's slot alone.
+    /// Sets the value of the code at a place by binary digits, and counts its step at this size, as
+    /// `follow` does by their text where that has room; they need none. Over others that were set
+    /// so it touches the code's slot alone.
     #[inline(always)]
     pub fn follow_bits(&mut self, code: usize, size: usize, bits: Bits)
         ensures laid { IsLaidOut self.old → IsLaidOut self.new }
@@ -165,8 +168,9 @@ impl<'a> Table<'a> {
         }
     }
 
-    /// As `count`, where the slot has no room.
-    // It is given the table, and no parts of it, so that none is made ready for it where it is not called.
+    /// Counts a step of the value of the code at a place, where its slot has no room for it.
+    // It is given the table, and no parts of it, so that none is made ready for it where it is not
+    // called.
     #[cold]
     #[inline(never)]
     fn carry(&mut self, code: usize, rises: bool, falls: bool)
@@ -178,7 +182,8 @@ impl<'a> Table<'a> {
         carry_at(self.slots, self.shares, code, rises, falls);
     }
 
-    /// As `follow`, over any value.
+    /// Sets the value of the code at a place by the text of a change, and counts its step where it
+    /// differs, whatever the value was.
     #[inline(never)]
     fn follow_any(&mut self, code: usize, size: usize, form: Form, text: &[u8])
         ensures laid { IsLaidOut self.old → IsLaidOut self.new }
@@ -197,7 +202,8 @@ impl<'a> Table<'a> {
         }
     }
 
-    /// As `follow_bits`, over any value.
+    /// Sets the value of the code at a place by binary digits, and counts its step where it differs,
+    /// whatever the value was.
     #[inline(never)]
     fn follow_bits_any(&mut self, code: usize, size: usize, bits: Bits)
         ensures laid { IsLaidOut self.old → IsLaidOut self.new }
@@ -216,7 +222,8 @@ impl<'a> Table<'a> {
         }
     }
 
-    /// The step from the value of the code at a place to that of a text. Where there is no value it does not differ.
+    /// The step from the value of the code at a place to that of a text. Where there is no value it
+    /// does not differ.
     #[inline(always)]
     fn step_to(&self, code: usize, size: usize, form: Form, text: &[u8]) -> Step
         ensures { IsLaidOut self.now → 0 < length text.now
@@ -249,8 +256,8 @@ impl<'a> Table<'a> {
         }
     }
 
-    /// The digit at a place of the value of a code, extended to the code's size, from the left and in lower case. None where the
-    /// value has no digits, or fewer.
+    /// The digit at a place of the value of a code, extended to the code's size, from the left and
+    /// in lower case. None where the value has no digits, or fewer.
     #[inline]
     pub fn digit(&self, view: HeadView<'_>, code: usize, place: usize) -> Option<u8>
         ensures { IsLaidOut self.now
@@ -268,7 +275,8 @@ impl<'a> Table<'a> {
         digit_shown(holding, share, declared.size, place)
     }
 
-    /// The text of the real number that is the value of the code at a place; empty where it has no such value.
+    /// The text of the real number that is the value of the code at a place; empty where it has no
+    /// such value.
     #[inline]
     pub fn real(&self, code: usize) -> &[u8]
         ensures { IsLaidOut self.now → result.now ≡ real_text (held_at self.now code) }
@@ -305,8 +313,8 @@ impl<'a> Table<'a> {
         bump_at(self.slots, self.shares, code, which);
     }
 
-    /// Counts a step of the value of the code at a place: adds one to the first counter, to the second where it rises, and to the
-    /// third where it falls. A full one stays.
+    /// Counts a step of the value of the code at a place: adds one to the first counter, to the
+    /// second where it rises, and to the third where it falls. A full one stays.
     #[inline(always)]
     pub fn count(&mut self, code: usize, rises: bool, falls: bool)
         ensures laid { IsLaidOut self.old → IsLaidOut self.new }

@@ -178,7 +178,8 @@ fn are_few_binary(digits: &[u8]) -> bool
     most <= 1
 }
 
-/// The same, 32 at a time where there are so many. Of the last 32 some may have been looked at before.
+/// Returns true only where the digits are `0` and `1` alone. It looks at 32 at a time where there
+/// are so many, and at some of the last 32 twice.
 fn are_binary(digits: &[u8]) -> bool
     ensures { result ≡ true → list_all is_digit digits.now ≡ true }
 {
@@ -211,7 +212,8 @@ pub(crate) fn are_value_digits(digits: &[u8]) -> bool
     !digits.is_empty() && all_are_digits(digits)
 }
 
-/// The same, where some digits are known as a number: then they are digits.
+/// Returns whether these are one or more digits of a value. Where their number is known they are,
+/// and none is looked at.
 #[inline(always)]
 pub(crate) fn are_digits_or_known(digits: &[u8], bits: Option<Bits>) -> bool
     requires bits { IfSome bits (λ b. digits.now ≡ binary_digits b.len b.number) }
@@ -247,7 +249,8 @@ fn number_at(bytes: &[u8], at: usize, n: usize) -> usize
     (ones_32(bytes, at) >> (32 - n)) as usize
 }
 
-/// Digits that begin at a place of these bytes as a number, where they are few, and `0` and `1` alone.
+/// Digits that begin at a place of these bytes as a number, where they are few, and `0` and `1`
+/// alone.
 #[inline(always)]
 pub(crate) fn bits_at(bytes: &[u8], at: usize, digits: &[u8]) -> Option<Bits>
     requires within { at ≤ length bytes.now }

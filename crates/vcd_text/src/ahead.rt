@@ -1,4 +1,5 @@
-//! A look ahead over the bytes of a chunk, in a caller's loop: most tokens cost no change of the feed.
+//! A look ahead over the bytes of a chunk, in a caller's loop: most tokens cost no change of the
+//! feed.
 ghost use Rattle.std.specs.Prelude.{◌≡◌, ◌≢◌, ℕ, ◌+◌, ◌-◌, ◌^◌, ◌<◌, ◌≤◌, true, false, length, slice_index, IfSome, None};
 ghost use Rattle.std.specs.Int.{bit_at};
 ghost use Rattle.vcd_model.specs.Bytes.{is_white_space};
@@ -29,7 +30,8 @@ impl White {
     }
 }
 
-/// The tokens that stand ahead in a feed's chunk, up to a place that needs the feed itself. A copy of it is a place to go back to.
+/// The tokens that stand ahead in a feed's chunk, up to a place that needs the feed itself. A copy
+/// of it is a place to go back to.
 #[derive(Clone, Copy)]
 pub struct Ahead<'a> {
     bytes: &'a [u8],
@@ -79,8 +81,8 @@ impl<'a> Ahead<'a> {
         self.bytes
     }
 
-    /// The next token, if it is whole. White bytes before it are passed with it. Where it is not whole, `Feed::next` goes on.
-    /// Near the end of the bytes none is given either.
+    /// The next token, if it is whole. White bytes before it are passed with it. Where it is not
+    /// whole, `Feed::next` goes on. Near the end of the bytes none is given either.
     #[inline(always)]
     pub fn next(&mut self) -> Option<&'a [u8]>
         ensures gives { IfSome result (λ token. (lines : ℕ) (ts : List Token)
@@ -104,7 +106,8 @@ impl<'a> Ahead<'a> {
         ensures within { passed_of self.new ≤ length (bytes_of self.old) }
         ensures none { result ≡ None → self.new ≡ self.old }
 
-        // None is given only where none stands behind the white bytes, or fewer than 64 bytes from its end on.
+        // None is given only where none stands behind the white bytes, or fewer than 64 bytes from
+        // its end on.
         ensures needed { result ≡ None → (start n : ℕ)
             → AreWhite (bytes_of self.old) (passed_of self.old) start
             → IsRun (longest_of self.old) (bytes_of self.old) start n
@@ -187,7 +190,8 @@ fn stands_at(white: White, at: usize) -> bool
 }
 
 /// Where the white bytes from a place on end.
-// Out of line, as is `look_ahead`, and both return numbers alone: what is returned through memory would be cleared for each token.
+// Out of line, as is `look_ahead`, and both return numbers alone: what is returned through memory
+// would be cleared for each token.
 #[inline(never)]
 fn past_white(bytes: &[u8], from: usize) -> usize
     requires { from ≤ length bytes.now }
@@ -203,7 +207,8 @@ fn past_white(bytes: &[u8], from: usize) -> usize
     at
 }
 
-/// The white space that is known ahead, or else stands next. None where there is none, or fewer than 64 bytes from it on.
+/// The white space that is known ahead, or else stands next. None where there is none, or fewer
+/// than 64 bytes from it on.
 // What is known is asked once: it is so for most tokens.
 #[inline(always)]
 fn white_ahead(bytes: &[u8], known: White) -> Option<White>

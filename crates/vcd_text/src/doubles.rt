@@ -1,5 +1,5 @@
-//! Devices for tests, of this crate and of those above: a reader that gives its bytes in pieces and may fail, and a writer that
-//! holds so much and no more.
+//! Devices for tests, of this crate and of those above: a reader that gives its bytes in pieces and
+//! may fail, and a writer that holds so much and no more.
 ghost use Rattle.std.specs.Prelude.{◌≡◌, ◌≤◌, ◌<◌, ◌^◌, ℕ, None};
 ghost use Rattle.vcd_text.specs.Feed.{parked_answer, parked_seen};
 ghost use Rattle.vcd_text.specs.Registers.{Fits};
@@ -7,9 +7,9 @@ ghost use Rattle.vcd_text.specs.Registers.{Fits};
 use crate::registers::Parked;
 use std::io;
 
-/// A parked feed that counts so many bytes as looked at already. It shows no token of them, and they
-/// have no line feed. A feed that goes on from it comes to the last byte that an input may have
-/// without a reader of so many bytes.
+/// A parked feed that counts so many bytes as looked at already. It shows no token of them, and
+/// they have no line feed. A feed that goes on from it comes to the last byte that an input may
+/// have without a reader of so many bytes.
 pub fn parked_after(bytes: u64) -> Parked
     requires { bytes < 2 ^ 63 }
     ensures seen { parked_seen result ≡ bytes }
@@ -22,7 +22,8 @@ pub fn parked_after(bytes: u64) -> Parked
     }
 }
 
-/// Gives its bytes, so many a call at most, and then is at its end; or fails at one call, or from its end on.
+/// Gives its bytes, so many a call at most, and then is at its end; or fails at one call, or from
+/// its end on.
 #[derive(Drop)]
 pub struct Pieces<'a> {
     /// What it has still to give.
