@@ -9,6 +9,9 @@ returns-in_err-next_ends-clause-reads g c =
     let p = err_from_is_err_and c.from_residual.result c.from_residual.ensures.1 in
     rw (p.1, p.2) (λ most i placed before w r. c.in_err-next_ends.ensures.reads most i placed before r)
 
+pub returns-then-branch-clause-reads : goal.returns-then-branch-clause-reads
+returns-then-branch-clause-reads g c = λ most i placed before w r. (c.in_ok-next_ends.ensures.reads most i placed before r, sym c.in_ok-next_ends.ensures.end ∙ c.if-branch.true)
+
 pub returns-in_err-extend_from_slice-clause-reads : goal.returns-in_err-extend_from_slice-clause-reads
 returns-in_err-extend_from_slice-clause-reads g c =
     let p = err_from_is_err_and c.from_residual-in_err-extend_from_slice.result c.from_residual-in_err-extend_from_slice.ensures.1 in
