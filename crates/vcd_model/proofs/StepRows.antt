@@ -81,6 +81,19 @@ one_item_more : map (λ d. d.items) (with_item two_dumps 0 (record { header = wi
 unfolding model
 one_item_more = refl
 
+-- a dump with three codes and a fault
+abbrev faulty : Dump
+faulty = record { header = with_codes ("a" ∷ "b" ∷ "c" ∷ []) None; items = []; fault = Some (record { number = 3; line = 7 }) }
+
+-- with one item more its fault and its header are as they were
+fault_stays : map (λ d. d.fault) (with_item two_dumps 1 faulty BodyItem.End) ≡ None ∷ Some (record { number = 3; line = 7 }) ∷ []
+unfolding model
+fault_stays = refl
+
+header_stays : map (λ d. length d.header.codes) (with_item two_dumps 1 faulty BodyItem.End) ≡ 2 ∷ 3 ∷ []
+unfolding model
+header_stays = refl
+
 entry_of_an_item : entry_for 10 5 (with_codes ("!" ∷ "\"" ∷ []) None) (BodyItem.Time 2 ∷ BodyItem.Begin SectionKind.Off ∷ []) (digit false "\"" "x") ≡ record { time = 20; inside = true; item = digit false "'" "x" }
 unfolding model
 entry_of_an_item = refl
