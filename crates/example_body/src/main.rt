@@ -1,8 +1,8 @@
-//! Prints how many value changes of each kind the dump on standard input has: a caller of `vcd_body`, over a header that
-//! `vcd_head` has read.
+//! Prints how many value changes of each kind the dump on standard input has: a caller of
+//! `vcd_body`, over a header that `vcd_head` has read.
 //!
-//! `count` is the loop over items. Its contract says that the counts are those of the items of the whole body, over every
-//! feed that stands behind the header.
+//! `count` is the loop over items. Its contract says that the counts are those of the items of the
+//! whole body, over every feed that stands behind the header.
 #![tactic(auto)]
 
 ghost use Rattle.std.specs.Prelude.{◌≡◌, ◌+◌, ◌-◌, ◌^◌, ◌<◌, ℕ, List, IfOk, Some};

@@ -1,7 +1,9 @@
-//! Prints how many variables the dump on standard input declares: a caller of `vcd_head`, and of `vcd_text` below it.
+//! Prints how many variables the dump on standard input declares: a caller of `vcd_head`, and of
+//! `vcd_text` below it.
 //!
-//! `variables` lends a feed its memory, reads the header, and looks at its view. Its contract is over every reader whose bytes
-//! are known; standard input is read by the same code, but no contract says what it gives.
+//! `variables` lends a feed its memory, reads the header, and looks at its view. Its contract is
+//! over every reader whose bytes are known; standard input is read by the same code, but no
+//! contract says what it gives.
 #![tactic(auto)]
 
 ghost use Rattle.std.specs.Prelude.{◌≡◌, ◌-◌, ◌^◌, ◌<◌, List, ℕ, IfOk, Some, length, count_by};

@@ -34,7 +34,8 @@ use Rattle.vcd_body.specs.Binary.{binary_digits}
 use Rattle.vcd_body.specs.declared.bits.Bits.{Bits}
 use Rattle.vcd_body.proofs.ReadLemmas.{known_change, known_time}
 
--- a look ahead that was at one place passes one token more, which stands on this line, and is at place n
+-- a look ahead that was at one place passes one token more, which stands on this line, and is at
+-- place n
 abbrev PassesOne : ℕ → ℕ → List ℕ → ℕ → ℕ → List ℕ → ℕ → Type 0
 PassesOne limit lines bytes at n token line = (ts : List Token) → Passed limit lines bytes at ts → Passed limit lines bytes n (ts ++ record { bytes = token; line = line } ∷ [])
 

@@ -1,4 +1,5 @@
--- How much a run has read of its input: what it has asked for had not settled it before the last token.
+-- How much a run has read of its input: what it has asked for had not settled it before the last
+-- token.
 use Rattle.std.proofs.Common.{◌≡◌, ℕ, false, List, [], ◌∷◌, ◌++◌, length, inl, inr, ◌⊎◌, refl, sym, ap, subst, ◌∙◌}
 use Rattle.std.specs.Prelude.{IfSome}
 use Rattle.std.specs.List.{list_any}

@@ -100,7 +100,8 @@ first_out [] size more e h = absurd (omega arith)
 first_out (x ∷ []) size more e h = absurd (omega arith)
 first_out (x ∷ y ∷ l) size more e h = left_out (to_ascii_lowercase x) (str_to_ascii_lowercase (y ∷ l)) size e (let n = length-map (x ∷ y ∷ l) to_ascii_lowercase in omega arith)
 
--- bare digits that extend to the same as some digits, wherever these fit, are the shortest of these at each size
+-- bare digits that extend to the same as some digits, wherever these fit, are the shortest of these
+-- at each size
 pub shortest_of : (l digits : List ℕ) → IsBare (str_to_ascii_lowercase l) → length l ≤ length digits → ((n : ℕ) → length digits ≤ n → extend (str_to_ascii_lowercase l) n ≡ extend (str_to_ascii_lowercase digits) n) → (size : ℕ) → str_to_ascii_lowercase l ≡ short (extend (str_to_ascii_lowercase digits) size)
 shortest_of l digits b few e size =
     let n = max size (length digits) in

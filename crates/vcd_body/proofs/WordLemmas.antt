@@ -139,7 +139,8 @@ tops : (p : ℕ → Bool) (f : ℕ → ℕ) (v : List ℕ) → agree_below (λ x
 tops p f [] all fits = refl
 tops p f (x ∷ v) all fits = ap₂ (λ a b. a ∷ b) (agree_below_at (λ y. top 7 (f y)) p 256 x all fits.0.fits) (tops p f v all fits.1)
 
--- lanes that were computed from a load by f, whose top bits tell which bytes pass a test: of a bit that is not set, the byte does not
+-- lanes that were computed from a load by f, whose top bits tell which bytes pass a test: of a bit
+-- that is not set, the byte does not
 pub mask_tells : (p : ℕ → Bool) (xs : List ℕ) (i n : ℕ) (f : ℕ → ℕ) (z : List ℕ) → i + n ≤ length xs → n ≤ 64 → Each1 (Fits w8) (chunk i n xs) → z ≡ map f (chunk i n xs) → agree_below (λ x. top 7 (f x)) p 256 ≡ true
     → (k : ℕ) → k < n → bit_at (mask_l (map (top 7) z) % 2 ^ 64) k ≡ 0 → (slice_index xs (i + k) < 256) × (p (slice_index xs (i + k)) ≡ false)
 mask_tells p xs i n f z room few fits e all k less none =

@@ -51,7 +51,8 @@ pub record PassBoth (codes : List IdCode) (earlier : List BodyPhrase) (first sec
   pub goes_on : body_fault codes earlier (first ∷ []) second ≡ None
   pub whole : body_phrase codes (first ∷ second ∷ []) ≡ Some (BodyPhrase.Gives x)
 
--- The first n bytes ahead are whole phrases, each with one of these items, where the items before them are these. Whatever was given with those, the reading goes on with these.
+-- The first n bytes ahead are whole phrases, each with one of these items, where the items before
+-- them are these. Whatever was given with those, the reading goes on with these.
 pub record GaveAhead (codes : List IdCode) (limit lines : ℕ) (bytes : List ℕ) (n : ℕ) (before items : List BodyItem) : Type 0 where
   pub tokens : List Token
   pub passed : Passed limit lines bytes n tokens
@@ -61,7 +62,8 @@ pub record GaveAhead (codes : List IdCode) (limit lines : ℕ) (bytes : List ℕ
   -- there are no more of them than bytes
   pub few : length items ≤ n
 
--- Behind these items one more was given; its phrase ends with the last token given, and at most a chunk was read past that.
+-- Behind these items one more was given; its phrase ends with the last token given, and at most a
+-- chunk was read past that.
 pub record GaveLast {X : Type 0} {g : Ghosts X} (codes : List IdCode) (i : Input) (front : List Token) (items : List BodyItem) (x : BodyItem) (f : Feed X g) (r : Regs) : Type 0 where
   pub gave : GaveItems codes i front (items ++ x ∷ []) f r
   pub before : List (Placed BodyPhrase)

@@ -1,4 +1,5 @@
--- What an answer says: the fault of a body, which calls failed, and whether the run goes on; and what is left of an input.
+-- What an answer says: the fault of a body, which calls failed, and whether the run goes on; and
+-- what is left of an input.
 use Rattle.std.specs.Prelude.{◌≡◌, ℕ, ◌+◌, ◌⊎◌, Bool, true, false, Result, Ok, Err}
 use Rattle.vcd_model.specs.Input.{Clean, Input}
 use Rattle.vcd_text.specs.Answer.{failed_after}
@@ -37,6 +38,7 @@ abbrev pub goes_on : Result More Stop → Bool
 goes_on (Ok Again) = true
 goes_on result = false
 
--- what is left of an input: all of it; or, where a read failed, what its source gave until then, which has the others still
+-- what is left of an input: all of it; or, where a read failed, what its source gave until then,
+-- which has the others still
 abbrev pub IsLeft : Input → (old new : Supply) → Input → Type 0
 IsLeft i old new left = ((new.failures ≡ old.failures) × (left ≡ i)) ⊎ ((new.failures ≡ old.failures + 1) × (n : ℕ) × (left ≡ failed_after n i) × (i.mark ≡ Clean → HasRest new.rest n i))

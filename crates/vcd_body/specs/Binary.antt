@@ -1,4 +1,5 @@
--- Binary digits as a number, the first one in its highest bit; and how many they are beside it, as a slot holds them.
+-- Binary digits as a number, the first one in its highest bit; and how many they are beside it, as
+-- a slot holds them.
 use Rattle.std.specs.Prelude.{ℕ, zero, suc, ◌+◌, ◌/◌, ◌%◌, ◌^◌, ◌==◌, ◌&&◌, cond, nat_lt, min, Bool, List, [], ◌∷◌}
 use Rattle.std.specs.Str.{byte}
 

@@ -20,7 +20,8 @@ codes_in t = min (length t.slots.now) (length t.shares.now)
 abbrev pub bytes_in : Table → ℕ
 bytes_in t = length t.values.now
 
--- each code has a share of its own, large enough for what it holds: so it is of every table that `new` made, after any calls
+-- each code has a share of its own, large enough for what it holds: so it is of every table that
+-- `new` made, after any calls
 abbrev pub IsLaidOut : Table → Type 0
 IsLaidOut t = AreLaidOut t.slots.now t.shares.now (length t.values.now)
 
@@ -28,7 +29,8 @@ IsLaidOut t = AreLaidOut t.slots.now t.shares.now (length t.values.now)
 abbrev pub kept_at : Table → ℕ → Option Kept
 kept_at t code = kept_in t.values.now t.slots.now t.shares.now code
 
--- a call changes what is kept of the code at a place, and nothing else; where there is no code it changes nothing
+-- a call changes what is kept of the code at a place, and nothing else; where there is no code it
+-- changes nothing
 abbrev pub ChangesCode : ℕ → (Kept → Kept) → Table → Table → Type 0
 ChangesCode code f old new = ChangesAt code f old.values.now old.slots.now old.shares.now new.values.now new.slots.now new.shares.now
 

@@ -1,4 +1,5 @@
--- Counters in parts: of 64 bits the lowest 8, the 32 above them, the 16 above these, and the highest 8.
+-- Counters in parts: of 64 bits the lowest 8, the 32 above them, the 16 above these, and the
+-- highest 8.
 use Rattle.std.specs.Prelude.{ℕ, ◌+◌, ◌-◌, ◌*◌, ◌^◌, min, List, [], ◌∷◌, get_or}
 
 -- a counter of these parts; no parts make more than a full one

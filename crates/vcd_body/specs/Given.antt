@@ -41,7 +41,8 @@ IsItem codes text End x = x ≡ BodyItem.End
 IsItem codes text (Change code form) x = (c : IdCode) × (slice_get codes code ≡ Some c) × (x ≡ BodyItem.Changes (record { code = c; form = model_form form; text = text }))
 IsItem codes text Finish x = ⊥
 
--- a text that a change may give this code: a digit; one or more digits, of which no more than its size unless it is an event; or 1 to 64 bytes
+-- a text that a change may give this code: a digit; one or more digits, of which no more than its
+-- size unless it is an event; or 1 to 64 bytes
 abbrev pub IsText : Form → Code → List ℕ → Type 0
 IsText Scalar code text = (d : ℕ) × IsTrue (is_value_digit d) × (text ≡ d ∷ [])
 IsText Vector code text = (0 < length text) × IsTrue (list_all is_value_digit text) × (code.event ≡ false → length text ≤ code.size)

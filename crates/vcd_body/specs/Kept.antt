@@ -127,7 +127,8 @@ with_step rises falls k = record { held = k.held; counts = counts_if falls (coun
 abbrev pub with_counted : Option Value → Value → Kept → Kept
 with_counted old new k = cond (differs old new) (with_step (goes_from (byte "0") (byte "1") (last_digit_in old) (last_digit_in (Some new))) (goes_from (byte "1") (byte "0") (last_digit_in old) (last_digit_in (Some new))) k) k
 
--- the value is that of the text, where it is held, and its step at this size is counted; an empty text is passed over
+-- the value is that of the text, where it is held, and its step at this size is counted; an empty
+-- text is passed over
 abbrev pub with_change : ℕ → Form → List ℕ → Kept → Kept
 with_change size f text k = cond (nat_lt 0 (length text)) (with_counted (value_at_size size k.held) (value_with size (model_form f) text) (with_text f text k)) k
 

@@ -1,5 +1,5 @@
--- Digits, four to a byte: one of each quarter of the text, that of the first quarter in the lowest bits. The last quarter ends
--- where the text does: it may begin with digits of the third one.
+-- Digits, four to a byte: one of each quarter of the text, that of the first quarter in the lowest
+-- bits. The last quarter ends where the text does: it may begin with digits of the third one.
 use Rattle.std.specs.Prelude.{ℕ, ◌/◌, ◌%◌, ◌+◌, ◌-◌, ◌*◌, ◌==◌, ◌||◌, nat_lt, min, cond, List, length, map, get_or}
 use Rattle.std.specs.List.{range_with_len}
 use Rattle.std.specs.Str.{byte}

@@ -27,7 +27,8 @@ pub record BodyHas (codes : List IdCode) (i : Input) (front : List Token) (limit
   pub fault_is : body_fault_of (stream_of limit i) (read_body codes rest) ≡ fault
 
 module _ {X : Type 0} {g : Ghosts X} (codes : List IdCode) (i : Input) (front : List Token) where
-  -- After these tokens, those of the header, the feed has given whole phrases with these items, and the registers tell what is known of them.
+  -- After these tokens, those of the header, the feed has given whole phrases with these items, and
+  -- the registers tell what is known of them.
   pub record GaveItems (items : List BodyItem) (f : Feed X g) (r : Regs) : Type 0 where
     pub given : List Token
     pub placed : List (Placed BodyPhrase)
@@ -36,7 +37,8 @@ module _ {X : Type 0} {g : Ghosts X} (codes : List IdCode) (i : Input) (front : 
     pub items_are : items_of (phrases_of placed) ≡ items
     pub known : AreRegsAfter items r
 
-  -- The last of these phrases is an item that ends with the feed's last token, at its line, and at most a chunk was read past it.
+  -- The last of these phrases is an item that ends with the feed's last token, at its line, and at
+  -- most a chunk was read past it.
   pub record GaveItem (items : List BodyItem) (x : BodyItem) (f : Feed X g) (r : Regs) : Type 0 where
     pub gave : GaveItems (items ++ x ∷ []) f r
     pub before : List (Placed BodyPhrase)
@@ -52,7 +54,8 @@ module _ {X : Type 0} {g : Ghosts X} (codes : List IdCode) (i : Input) (front : 
 
   -- ---- within a phrase
 
-  -- after the first tokens those given are these good phrases, and then these first tokens of the next one
+  -- after the first tokens those given are these good phrases, and then these first tokens of the
+  -- next one
   pub record Reads (placed : List (Placed BodyPhrase)) (before : List (List ℕ)) (f : Feed X g) : Type 0 where
     pub given : List Token
     pub stands : HasGiven i (front ++ given) f
@@ -81,7 +84,8 @@ module _ {X : Type 0} {g : Ghosts X} (codes : List IdCode) (i : Input) (front : 
     pub reads : Reads (placed ++ record { phrase = p; line = (token_of f).line } ∷ []) [] f
     pub near : HasReadTo i (front ++ reads.given) f
 
-  -- where a body is refused behind these items: at the feed's token, which was not looked at, or where no token is left
+  -- where a body is refused behind these items: at the feed's token, which was not looked at, or
+  -- where no token is left
   pub data StopsAt (items : List BodyItem) (f : Feed X g) : Type 0 where
     AtToken : (placed : List (Placed BodyPhrase)) (before : List (List ℕ)) (items_are : items_of (phrases_of placed) ≡ items) (looks : Looks placed before f)
         (near : HasReadTo i (front ++ looks.given ++ token_of f ∷ []) f) → StopsAt items f
@@ -94,7 +98,8 @@ pub record Begun {X : Type 0} {g : Ghosts X} (codes : List IdCode) (i : Input) (
   pub items_are : items_of (phrases_of placed) ≡ items
   pub known : AreRegsAfter items r
 
--- over this input the body has these items and then this fault, at the feed's line, and the reading stopped there
+-- over this input the body has these items and then this fault, at the feed's line, and the reading
+-- stopped there
 abbrev pub FailsOver : {X : Type 0} {g : Ghosts X} → List IdCode → Input → List Token → List BodyItem → ℕ → Feed X g → Type 0
 FailsOver codes i front items number f = BodyHas codes i front (limit_of f) items (Some (record { number = number; line = (token_of f).line })) × StopsAt codes i front items f
 

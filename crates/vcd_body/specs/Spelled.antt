@@ -11,7 +11,8 @@ use Rattle.vcd_body.specs.declared.item.Form.TheVariants.{Scalar, Vector, RealTe
 use Rattle.vcd_body.specs.declared.item.Item.{Item}
 use Rattle.vcd_body.specs.declared.item.Item.TheVariants.{Time, Change}
 
--- from one place up to another stand white bytes, none or more, then this token, and one byte after it
+-- from one place up to another stand white bytes, none or more, then this token, and one byte after
+-- it
 pub record HasToken (bytes : List ℕ) (from to : ℕ) (token : List ℕ) : Type 0 where
   pub start : ℕ
   pub before : AreWhite bytes from start
@@ -19,7 +20,8 @@ pub record HasToken (bytes : List ℕ) (from to : ℕ) (token : List ℕ) : Type
   pub within : to ≤ length bytes
   pub token_is : token ≡ slice_range bytes start (to - 1)
 
--- there stands a change of this form with this text and this code: a digit and the code at once, or a letter and the text, and then the code
+-- there stands a change of this form with this text and this code: a digit and the code at once, or
+-- a letter and the text, and then the code
 abbrev pub HasChange : List ℕ → ℕ → ℕ → Form → List ℕ → List ℕ → Type 0
 HasChange bytes from to Scalar text code = (digit : ℕ) × (text ≡ digit ∷ []) × HasToken bytes from to (digit ∷ code)
 HasChange bytes from to Vector text code = (letter : ℕ) × (middle : ℕ) × HasToken bytes from middle (letter ∷ text) × HasToken bytes middle to code
@@ -29,7 +31,8 @@ HasChange bytes from to RealText text code = (letter : ℕ) × (middle : ℕ) ×
 abbrev pub Names : HeadView → ℕ → List ℕ → Type 0
 Names v place text = (h : Header) (c : IdCode) → IsViewOf v h → slice_get h.codes place ≡ Some c → c.text ≡ text
 
--- the text of the change stands at one place, and its code behind it at another, up to the last byte
+-- the text of the change stands at one place, and its code behind it at another, up to the last
+-- byte
 pub record HasPlaces (bytes : List ℕ) (from to at code_at : ℕ) (text code : List ℕ) : Type 0 where
   pub after : from ≤ at
   pub apart : at + length text ≤ code_at

@@ -1,4 +1,5 @@
--- How a table keeps it: a slot for each code, with the lowest parts of its counters, and a share of the bytes of values, with the others.
+-- How a table keeps it: a slot for each code, with the lowest parts of its counters, and a share of
+-- the bytes of values, with the others.
 use Rattle.std.specs.Prelude.{◌≡◌, ℕ, zero, suc, ◌+◌, ◌-◌, ◌*◌, ◌%◌, ◌≤◌, ◌==◌, nat_le, min, max, cond, List, [], ◌∷◌, ◌++◌, length, take, drop, map, sum_by, Bool, false, slice_get, Option, Some, None, option_map, option_and_then}
 use Rattle.std.specs.Str.{byte}
 use Rattle.vcd_view.specs.declared.view.Code.{Code}
@@ -71,7 +72,8 @@ held_line size ds id = cond (size == 1) (ds ++ (id ++ 10 ∷ [])) (byte "b" ∷ 
 
 -- ---- what a slot and its share tell
 
--- the number that tells a state, and the state that a number tells; from 8 on it tells how many binary digits there are
+-- the number that tells a state, and the state that a number tells; from 8 on it tells how many
+-- binary digits there are
 abbrev pub number_of : State → ℕ
 number_of state.Unset = 0
 number_of state.One = 1
@@ -129,7 +131,8 @@ held_from values start v = held_by v.state v.len (take (used v) (drop start valu
 abbrev pub held_of : List ℕ → Whole → Held
 held_of values w = held_by w.state w.len (take (used_by w.state w.len) (drop w.start values))
 
--- where the share at a place begins, and where it ends: where the next begins, or where the values end
+-- where the share at a place begins, and where it ends: where the next begins, or where the values
+-- end
 abbrev pub start_or : ℕ → Option Share → ℕ
 start_or n None = n
 start_or n (Some h) = h.start
@@ -177,7 +180,8 @@ AreLaidOut slots shares n = (k : ℕ) (s : Slot) → slice_get slots k ≡ Some 
 
 -- ---- shares
 
--- how many bytes the value of a code of this size takes at most: its digits, or a real text of 64 bytes
+-- how many bytes the value of a code of this size takes at most: its digits, or a real text of 64
+-- bytes
 abbrev pub share_of : ℕ → ℕ
 share_of size = max (bytes_for size) 64
 

@@ -202,8 +202,8 @@ impl<'a> Table<'a> {
         }
     }
 
-    /// Sets the value of the code at a place by binary digits, and counts its step where it differs,
-    /// whatever the value was.
+    /// Sets the value of the code at a place by binary digits, and counts its step where it
+    /// differs, whatever the value was.
     #[inline(never)]
     fn follow_bits_any(&mut self, code: usize, size: usize, bits: Bits)
         ensures laid { IsLaidOut self.old → IsLaidOut self.new }

@@ -1,4 +1,5 @@
-// Bodies that are read to their end, bodies that are refused, a source that fails, and changes that are written.
+// Bodies that are read to their end, bodies that are refused, a source that fails, and changes that
+// are written.
 ghost use Rattle.std.specs.Prelude.{◌≡◌, ◌+◌, ◌<◌, ◌≤◌, IfOk, OnOk, true};
 ghost use Rattle.vcd_text.specs.Feed.{source_of};
 
@@ -98,7 +99,8 @@ fn items_from<S: Source>(
     Ok(items)
 }
 
-// The items of the body after the header, and then the end, or the fault's number and line. A token has at most 72 bytes.
+// The items of the body after the header, and then the end, or the fault's number and line. A token
+// has at most 72 bytes.
 fn transcript(alloc: Global, header: &[u8], body: &[u8], fails: bool) -> Result<String, Fail> {
     let text = joined(alloc, [header, body, b""])?;
     let mut pieces = Pieces::new(&text, 5);
@@ -230,7 +232,8 @@ fn taken_from<S: Source>(
     Ok(items)
 }
 
-// The items that are taken ahead of the body's first, and then the next one. The whole input is in the chunk.
+// The items that are taken ahead of the body's first, and then the next one. The whole input is in
+// the chunk.
 fn taken_ahead(alloc: Global, body: &[u8]) -> Result<String, Fail> {
     let text = joined(alloc, [HEAD, body, b""])?;
     let mut source = Watch::new(Pieces::new(&text, 512));
@@ -257,7 +260,8 @@ fn plain_items_taken_ahead(rt: HostRuntime) -> Result<(), Fail> {
 const CODES: &[u8] =
     b"$var wire 1 ! clk $end $var reg 4 \" q $end $var reg 40 & w $end $var event 1 % go $end $enddefinitions $end\n";
 
-// Which of the items that are taken ahead stand as their lines (`=`), which but for so many digits, and which do not (`.`).
+// Which of the items that are taken ahead stand as their lines (`=`), which but for so many digits,
+// and which do not (`.`).
 fn standing_from<S: Source>(
     alloc: Global,
     feed: &mut Feed<'_, '_, '_, '_, S>,
@@ -291,8 +295,9 @@ fn standing(alloc: Global, body: &[u8]) -> Result<String, Fail> {
     Ok(standing_from(alloc, &mut feed, head.view())?)
 }
 
-// Changes, and which of them stand as their lines: single digits, vectors of a few digits, vectors with digits that are left out, vectors of more
-// than 30 digits that are left out and that are not, and real numbers.
+// Changes, and which of them stand as their lines: single digits, vectors of a few digits, vectors
+// with digits that are left out, vectors of more than 30 digits that are left out and that are not,
+// and real numbers.
 const STANDING: [(&[u8], &str); 6] = [
     (b"1!\nZ!\n 0!\nx! 1!\n1\"\n1%\n#5\n0!\n", "=...=...="),
     (

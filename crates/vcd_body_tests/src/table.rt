@@ -1,4 +1,5 @@
-// Tables with room of exactly `need`: what is held, how it is written, counters, and codes that are chosen.
+// Tables with room of exactly `need`: what is held, how it is written, counters, and codes that are
+// chosen.
 ghost use Rattle.std.specs.Prelude.{◌≡◌, ◌<◌, ◌≤◌, length};
 ghost use Rattle.vcd_head.specs.Model.Laws.{ShortIsShortest};
 
@@ -36,7 +37,8 @@ fn view_of(codes: &[Code]) -> HeadView<'_>
     }
 }
 
-// A table in this room, of which no more is told than that it stands: what is proved of a table is proved where it is made.
+// A table in this room, of which no more is told than that it stands: what is proved of a table is
+// proved where it is made.
 fn table_in<'a>(
     view: HeadView<'_>,
     values: &'a mut [u8],
@@ -135,7 +137,8 @@ fn are_shown(
     is_shown(alloc, size, Form::Vector, text, &line, full)
 }
 
-// Digits of a code of some size: these alone, one for each place, `1` at the last place and `0` before it, and `z x 0 1` over and over.
+// Digits of a code of some size: these alone, one for each place, `1` at the last place and `0`
+// before it, and `z x 0 1` over and over.
 #[derive(Clone, Copy)]
 enum Digits {
     Alone(u8),
@@ -323,7 +326,8 @@ fn is_nothing(table: &Table<'_>, view: HeadView<'_>) -> bool {
         && !table.chosen(1)
 }
 
-// A text that sets a code of 6 bits, what is shown then, the digits by their places, and the text of a real number.
+// A text that sets a code of 6 bits, what is shown then, the digits by their places, and the text
+// of a real number.
 const PLACES: [(Form, &[u8], Shown, [Option<u8>; 7], &[u8]); 3] = [
     (
         Form::Vector,
@@ -535,7 +539,8 @@ fn step_of(differs: bool, way: i8) -> [u64; 3] {
     [u64::from(differs), u64::from(way > 0), u64::from(way < 0)]
 }
 
-// Texts that set a code of 9 bits one after another, whether its value differs by each, and whether its last digit goes up (1) or down (-1).
+// Texts that set a code of 9 bits one after another, whether its value differs by each, and whether
+// its last digit goes up (1) or down (-1).
 const STEPS: [(Form, &[u8], bool, i8); 12] = [
     (Form::Scalar, b"Z", false, 0),
     (Form::Scalar, b"z", false, 0),

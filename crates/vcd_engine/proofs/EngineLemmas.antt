@@ -1,4 +1,5 @@
--- What an engine holds after one item more, and what it answers at the end of a body and at a fault of it.
+-- What an engine holds after one item more, and what it answers at the end of a body and at a fault
+-- of it.
 use Rattle.std.proofs.Common.{◌≡◌, ◌≢◌, ℕ, ◌^◌, ◌<◌, ◌||◌, Bool, true, false, List, [], ◌∷◌, ◌++◌, length, None, Err, refl, sym, ap, subst, ◌∙◌, append-nil, arith}
 use Rattle.std.specs.List.{last_or, list_any}
 use Rattle.std.proofs.lemmas.List.{length_push}

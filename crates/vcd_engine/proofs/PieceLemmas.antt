@@ -163,7 +163,8 @@ but_none out held text e = ([], sym (ap (λ l. text ++ l) e ∙ append-nil text)
 pub next_line_is : (bytes bytes' : List ℕ) (line to to' time time' : ℕ) → bytes ≡ bytes' → to ≡ to' → time ≡ time' → IsLine bytes line to time → IsLine bytes' line to' time'
 next_line_is bytes bytes' line to to' time time' e f g i = subst (λ bs. IsLine bs line to' time') e (subst (λ n. IsLine bytes line n time') f (subst (λ t. IsLine bytes line to t) g i))
 
--- that of an item's own time: a change has the time before it, and nothing is said to stand before a mark
+-- that of an item's own time: a change has the time before it, and nothing is said to stand before
+-- a mark
 pub line_here : (bytes bytes' : List ℕ) (from from' line : ℕ) (before after : Regs) (it : Item) (text : List ℕ) (here : ℕ) → bytes' ≡ bytes → from' ≡ from → IsPlain text it → after ≡ regs_after before it → ((t : ℕ) → it ≡ Time t → here ≡ from')
     → ((place : ℕ) (f : Form) → it ≡ Change place f → here ≡ line) → IsLine bytes line from before.time → IsLine bytes' here from' after.time
 line_here bytes bytes' from from' line before after (Time t) text here e f plain re mark change i = let h = mark t refl in (omega arith, λ less. absurd (omega arith))

@@ -32,7 +32,8 @@ no_room_within limit chunk v le = λ h views. no_room_fits limit h (record { chu
 pub no_room_in_each : (v : HeadView) → IsWithinEachBound v no_room
 no_room_in_each v = λ limit. no_room_within limit 0 v (omega arith)
 
--- the token limit counts as much in the bound as in the windows, so what is within one is within each
+-- the token limit counts as much in the bound as in the windows, so what is within one is within
+-- each
 pub within_each : (limit chunk : ℕ) (v : HeadView) (r : RoomSize) → AreWithinBound limit chunk v r → IsWithinEachBound v r
 within_each limit chunk v r bound = λ other h views. omega (arith, bound h views)
 

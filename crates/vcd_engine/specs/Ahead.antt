@@ -15,7 +15,8 @@ use Rattle.vcd_engine.specs.Several.{TakesSeveral}
 use Rattle.vcd_engine.specs.declared.machine.Machine.{Machine}
 
 module _ (task : Request) (h : Header) (limit lines : ℕ) (bytes : List ℕ) (before : List BodyItem) where
-  -- behind the items before, these lie in the first n bytes ahead; none of them ends the run, and the machine and the registers stand after them
+  -- behind the items before, these lie in the first n bytes ahead; none of them ends the run, and
+  -- the machine and the registers stand after them
   pub record StandsAhead (n : ℕ) (items : List BodyItem) (m : Machine) (r : Regs) : Type 0 where
     pub gave : GaveAhead h.codes limit lines bytes n before items
     pub known : AreRegsAfter (before ++ items) r
@@ -28,12 +29,14 @@ module _ (task : Request) (h : Header) (limit lines : ℕ) (bytes : List ℕ) (b
     pub gave : GaveAhead h.codes limit lines bytes n before (items ++ x ∷ [])
     pub known : AreRegsAfter (before ++ (items ++ x ∷ [])) r
 
-  -- how that ends behind these items: no other was taken; one more has ended the run; or a write of what is due with these or with one more failed
+  -- how that ends behind these items: no other was taken; one more has ended the run; or a write of
+  -- what is due with these or with one more failed
   abbrev pub EndsAhead : {E : Type 0} → ℕ → Machine → Regs → Device → Device → Result Bool E → List BodyItem → Type 0
   EndsAhead n m r out out' (Ok false) items = StandsAhead n items m r × Grows out out' (open_text task h before) (open_text task h (before ++ items))
   EndsAhead n m r out out' (Ok true) items = (x : BodyItem) × (ends_early task x ≡ true) × GaveOneAhead n items x r × Grows out out' (open_text task h before) (open_text task h ((before ++ items) ++ x ∷ []))
   EndsAhead n m r out out' (Err e) items = (x : BodyItem) × GaveOneAhead n items x r × GrowsSome out out' (open_text task h before) (open_text task h ((before ++ items) ++ x ∷ []))
 
-  -- some of the items were taken, and what is due with them was written, or a prefix of it where a write failed
+  -- some of the items were taken, and what is due with them was written, or a prefix of it where a
+  -- write failed
   abbrev pub RunsAhead : {E : Type 0} → ℕ → Machine → Regs → Device → Device → Result Bool E → Type 0
   RunsAhead n m r out out' result = TakesSeveral task before (EndsAhead n m r out out' result)

@@ -12,7 +12,8 @@ pub record AreCounted (items : List BodyItem) (c : Check) : Type 0 where
   pub sections : c.sections ≡ count_by is_begin items
   pub changes : c.changes ≡ length (filter_map change_of items)
 
--- the item is one like the definitions': both are time marks, begins of a section, ends of one, or changes
+-- the item is one like the definitions': both are time marks, begins of a section, ends of one, or
+-- changes
 abbrev pub IsOfKind : Item → BodyItem → Type 0
 IsOfKind (Time t) x = x ≡ BodyItem.Time t
 IsOfKind (Begin s) x = x ≡ BodyItem.Begin (model_section s)

@@ -24,7 +24,8 @@ use Rattle.vcd_engine.specs.declared.machine.cut.Cut.{Cut}
 abbrev pub values_text : List IdCode → List BodyItem → ℕ → List ℕ
 values_text cs items time = flat_map (λ c. line_if_set c (value_before items c time)) (filter (λ c. not c.event) cs)
 
--- an item, after which the registers are these, may be kept: a section's begin or end, or a change that is no event's inside a section
+-- an item, after which the registers are these, may be kept: a section's begin or end, or a change
+-- that is no event's inside a section
 abbrev pub may_be_kept : HeadView → Regs → Item → Bool
 may_be_kept v r (Time t) = false
 may_be_kept v r (Begin s) = true
@@ -68,7 +69,8 @@ lent_to m = record { values = bytes_in m.table; slots = codes_in m.table; marks 
 abbrev pub kept_from : ℕ → List BodyItem → List Entry
 kept_from from items = kept_by (λ e. nat_le from e.time) (entries items)
 
--- over this header and after these items, none of which ends it: until the start section stands the table holds the values, and then the text is that of the kept items
+-- over this header and after these items, none of which ends it: until the start section stands the
+-- table holds the values, and then the text is that of the kept items
 pub record AreCut (m : Cut) (h : Header) (items : List BodyItem) : Type 0 where
   pub ordered : m.from ≤ m.to
   pub on : ends_cut m.to items ≡ false

@@ -17,7 +17,8 @@ use Rattle.vcd_engine.specs.declared.machine.edges.Edges.{Edges}
 abbrev pub numbers : Counts → List ℕ
 numbers n = n.changes ∷ n.rises ∷ n.falls ∷ []
 
--- after these items the table holds the values of the codes, and the counters of each are its counts
+-- after these items the table holds the values of the codes, and the counters of each are its
+-- counts
 pub record AreTallied (t : Table) (h : Header) (items : List BodyItem) : Type 0 where
   pub held : AreHeld t h items
   pub counted : (place : ℕ) (c : IdCode) → slice_get h.codes place ≡ Some c → counts_at t place ≡ numbers (counts_for items c)
@@ -32,7 +33,8 @@ names_counted e = map string_bytes e.names.now
 abbrev pub room_in_edges : Edges → RoomSize
 room_in_edges e = record { values = bytes_in e.table; slots = codes_in e.table; marks = length e.marks.now }
 
--- over this header and after these items the selected variables are marked, and the table tells what is to be written of them
+-- over this header and after these items the selected variables are marked, and the table tells
+-- what is to be written of them
 pub record AreEdges (e : Edges) (h : Header) (items : List BodyItem) : Type 0 where
   pub marks_are : e.marks.now ≡ marks_of (names_counted e) h.declarations
   pub tallied : AreTallied e.table h items

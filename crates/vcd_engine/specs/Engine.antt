@@ -109,7 +109,8 @@ Starts holds task h out out' result = MatchResult result (λ a. CanRun task h ×
 abbrev pub last_of : Regs → Option ℕ
 last_of r = cond r.marked (Some r.time) None
 
--- what is due with one item more was taken so, and it was returned whether the item ends the run; if not, this holds
+-- what is due with one item more was taken so, and it was returned whether the item ends the run;
+-- if not, this holds
 pub record TakesOneBy {E : Type 0} (takes : List ℕ → Type 0) (holds : Type 0) (task : Request) (h : Header) (items : List BodyItem) (x : BodyItem) (result : Result Bool E) : Type 0 where
   pub due : DueBy takes (open_text task h items) (open_text task h (items ++ x ∷ []))
   pub ends : IfOk result (λ ended. ended ≡ ends_early task x)
@@ -135,7 +136,8 @@ pub record Holds (e : Engine) (h : Header) (items : List BodyItem) : Type 0 wher
   pub last : last_of e.regs ≡ last_mark items
   pub keeps : Keeps e.machine h items
 
--- after these tokens, those of the header, the feed has given these items, and the engine holds them
+-- after these tokens, those of the header, the feed has given these items, and the engine holds
+-- them
 pub record Runs {X : Type 0} {g : Ghosts X} (e : Engine) (h : Header) (i : Input) (front : List Token) (items : List BodyItem) (f : Feed X g) : Type 0 where
   pub holds : Holds e h items
   pub gave : GaveItems h.codes i front items f e.regs

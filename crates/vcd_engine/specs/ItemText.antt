@@ -15,7 +15,8 @@ use Rattle.vcd_engine.specs.declared.item_text.ItemText.{ItemText}
 abbrev pub times_with : List ℕ → List Entry → List ℕ
 times_with before kept = before ++ map (λ e. e.time) kept
 
--- the text of these kept entries, which stands after the lines of these times, was written: the time whose line was written last is known
+-- the text of these kept entries, which stands after the lines of these times, was written: the
+-- time whose line was written last is known
 pub record HasWritten (before : List ℕ) (kept : List Entry) (t : ItemText) : Type 0 where
   pub last : t.written ≡ last_or None (times_with before kept)
 

@@ -16,7 +16,8 @@ use Rattle.vcd_engine.specs.Sample.{is_due}
 use Rattle.vcd_engine.specs.declared.machine.Machine.{Machine}
 use Rattle.vcd_engine.specs.declared.machine.Machine.TheVariants as machine
 
--- the items that lie ahead are taken with what is due after each: before its start section a cut takes them so, as none is due then
+-- the items that lie ahead are taken with what is due after each: before its start section a cut
+-- takes them so, as none is due then
 abbrev pub takes_each : Machine → Bool
 takes_each (machine.Cut m) = not m.started
 takes_each m = true
@@ -32,7 +33,8 @@ abbrev pub copies_each : Machine → Bool
 copies_each (machine.Cut m) = m.started
 copies_each m = true
 
--- one item more was taken ahead, and so what is due with it; it was returned whether it ends the run
+-- one item more was taken ahead, and so what is due with it; it was returned whether it ends the
+-- run
 pub record TakesNext {E : Type 0} (takes : List ℕ → Type 0) (v : HeadView) (a a' : Ahead) (r r' : Regs) (m m' : Machine) (result : Result Bool E) : Type 0 where
   pub plain : Plain
   pub item : TakesItem v a a' r plain

@@ -22,7 +22,8 @@ names_in p = map string_bytes p.names.now
 abbrev pub flags_in : Pick → ℕ
 flags_in p = codes_in p.choice
 
--- over this header and after these items: the codes of the selected variables are chosen, and the text is that of the kept items
+-- over this header and after these items: the codes of the selected variables are chosen, and the
+-- text is that of the kept items
 pub record ArePicked (p : Pick) (h : Header) (items : List BodyItem) : Type 0 where
   pub chosen : AreChosen (names_in p) h p.choice
   pub written : HasWritten [] (pick_kept h (names_in p) items) p.text
@@ -31,7 +32,8 @@ pub record ArePicked (p : Pick) (h : Header) (items : List BodyItem) : Type 0 wh
 abbrev pub is_event_at : HeadView → ℕ → Bool
 is_event_at v place = unwrap_or (option_map (λ (c : Code). c.event) (slice_get v.codes.now place)) false
 
--- an item, after which the registers are these, is kept: a section's begin or end, or a change of a chosen code that is no event inside a section
+-- an item, after which the registers are these, is kept: a section's begin or end, or a change of a
+-- chosen code that is no event inside a section
 abbrev pub is_kept : Choice → HeadView → Regs → Item → Bool
 is_kept choice v r (Time t) = false
 is_kept choice v r (Begin s) = true

@@ -80,7 +80,8 @@ pub record IsWithin (r most : RoomSize) : Type 0 where
   pub slots : r.slots ≤ most.slots
   pub marks : r.marks ≤ most.marks
 
--- windows of these lengths, the view and room of this size count at most the bound of the header that is shown, with 512 bytes to spare
+-- windows of these lengths, the view and room of this size count at most the bound of the header
+-- that is shown, with 512 bytes to spare
 abbrev pub AreWithinBound : (limit chunk : ℕ) → HeadView → RoomSize → Type 0
 AreWithinBound limit chunk v r = (h : Header) → IsViewOf v h → FitsInput limit h (record { chunk = chunk; token = limit; value = limit }) (view_size (parts v)) r
 

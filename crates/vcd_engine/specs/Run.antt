@@ -1,4 +1,5 @@
--- What a run over a body leaves: what is left of the input, how much of it was read, and what stands on the output.
+-- What a run over a body leaves: what is left of the input, how much of it was read, and what
+-- stands on the output.
 use Rattle.std.specs.Prelude.{◌≡◌, ℕ, List, ◌++◌, Result, IfOk, IfErr, ◌==◌, Bool, true, false, Some, Ok, Err}
 use Rattle.std.specs.List.{list_any}
 use Rattle.vcd_model.specs.BodyReading.{read_body, body_items}
@@ -16,7 +17,8 @@ use Rattle.vcd_body.specs.declared.answer.Stop.TheVariants.{Dump, Read, Write, U
 use Rattle.vcd_body.specs.declared.answer.Done.{Done}
 use Rattle.vcd_body.specs.declared.answer.Done.TheVariants.{Whole, Early}
 
--- the answer and the output of a run of this task over the one input, which has this name and this outcome; a failed write leaves a prefix of the output
+-- the answer and the output of a run of this task over the one input, which has this name and this
+-- outcome; a failed write leaves a prefix of the output
 abbrev pub Belongs : Request → Outcome → List ℕ → Device → Device → Result Done Stop → Type 0
 Belongs task o name out out' (Ok done) = (o ≡ clean_outcome o.output) × Writes out out' o.output
 Belongs task o name out out' (Err (Dump input line fault)) = (input ≡ 0) × (o ≡ fault_outcome o.output name (record { number = fault; line = line })) × ((fault == 31) ≡ false) × Writes out out' o.output

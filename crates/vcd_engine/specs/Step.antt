@@ -39,7 +39,9 @@ StepGives task h i front items e f out out' (Err Write) =
     ⊎ (GaveAll h.codes i front items f e.regs × GrowsSome out out' [] (close_text task h items))
 StepGives task h i front items e f out out' (Err (Unmatched name)) = ⊥
 
--- What several steps leave behind these items and some more, by all that they wrote: the last one is a step behind those. Where it takes an item after which the run is over, it is not said on which line that stands; and a write that failed may be of any item that was not there before.
+-- What several steps leave behind these items and some more, by all that they wrote: the last one
+-- is a step behind those. Where it takes an item after which the run is over, it is not said on
+-- which line that stands; and a write that failed may be of any item that was not there before.
 abbrev pub LastGives : {X : Type 0} {g : Ghosts X} → Request → Header → Input → List Token → List BodyItem → Engine → Feed X g → Device → Device → Result More Stop → List BodyItem → Type 0
 LastGives task h i front items e f out out' (Ok (Ended Early)) more =
     (x : BodyItem) × (ends_early task x ≡ true) × GaveLast h.codes i front (items ++ more) x f e.regs × Grows out out' (open_text task h items) (open_text task h ((items ++ more) ++ x ∷ []))
@@ -48,11 +50,13 @@ LastGives task h i front items e f out out' (Err Write) more =
     ⊎ (GaveAll h.codes i front (items ++ more) f e.regs × GrowsSome out out' (open_text task h items) (open_text task h (items ++ more) ++ close_text task h (items ++ more)))
 LastGives task h i front items e f out out' result more = (mid : Device) × Grows out mid (open_text task h items) (open_text task h (items ++ more)) × StepGives task h i front (items ++ more) e f mid out' result
 
--- what several steps leave: items were given and taken, of which none ends the run, and then a last step
+-- what several steps leave: items were given and taken, of which none ends the run, and then a last
+-- step
 abbrev pub StepsGive : {X : Type 0} {g : Ghosts X} → Request → Header → Input → List Token → List BodyItem → Engine → Feed X g → Device → Device → Result More Stop → Type 0
 StepsGive task h i front items e f out out' result = TakesSeveral task items (LastGives task h i front items e f out out' result)
 
--- what the items that lie ahead leave: all of them were taken; or the last of them ended the run, or a write of what is due with them failed
+-- what the items that lie ahead leave: all of them were taken; or the last of them ended the run,
+-- or a write of what is due with them failed
 abbrev pub AheadGives : {X : Type 0} {g : Ghosts X} → Request → Header → Input → List Token → List BodyItem → Engine → Feed X g → Device → Device → Result More Stop → List BodyItem → Type 0
 AheadGives task h i front items e f out out' (Ok Again) more = Runs e h i front (items ++ more) f × Grows out out' (open_text task h items) (open_text task h (items ++ more))
 AheadGives task h i front items e f out out' result more = LastGives task h i front items e f out out' result more

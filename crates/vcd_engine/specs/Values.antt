@@ -25,7 +25,8 @@ pub record HasValues (t : Table) (h : Header) (value : IdCode → Option Value) 
 abbrev pub HasShares : Table → Header → Type 0
 HasShares t h = (place : ℕ) (c : IdCode) → slice_get h.codes place ≡ Some c → (k : Kept) × (kept_at t place ≡ Some k) × (share_of c.size ≤ k.room)
 
--- the table holds the value of each code that is no event after these items, and has room for its next ones
+-- the table holds the value of each code that is no event after these items, and has room for its
+-- next ones
 pub record AreHeld (t : Table) (h : Header) (items : List BodyItem) : Type 0 where
   pub values : HasValues t h (final_value items)
   pub shares : HasShares t h

@@ -11,7 +11,8 @@ pub(crate) struct Choice<'a> {
 }
 
 impl<'a> Choice<'a> {
-    /// A choice of the codes of the header that is shown; none of them is chosen. Bytes beyond the codes are left alone.
+    /// A choice of the codes of the header that is shown; none of them is chosen. Bytes beyond the
+    /// codes are left alone.
     pub(crate) fn new(view: HeadView<'_>, flags: &'a mut [u8]) -> Choice<'a>
         requires room { length view.codes.now ≤ length flags.old }
         ensures codes { codes_in result ≡ length view.entry.codes.now }
@@ -32,7 +33,8 @@ impl<'a> Choice<'a> {
         self.flags[code] = 1;
     }
 
-    /// Whether the code at a place is chosen; where there is no code, none is. It takes the same time for every choice.
+    /// Whether the code at a place is chosen; where there is no code, none is. It takes the same
+    /// time for every choice.
     #[inline]
     pub(crate) fn chosen(&self, code: usize) -> bool
         ensures { result ≡ is_chosen self.now code }

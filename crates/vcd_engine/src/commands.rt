@@ -51,9 +51,10 @@ pub fn check<S: Source, W: Sink>(
     run_task(Task::Check, view, feed, &mut room, out)
 }
 
-/// Writes the header of the variables that the names select and of the scopes around them, and then reads the body after the
-/// header that is shown, and writes its sections and the changes of these variables, each after the line of its time. A name
-/// that selects nothing is refused before anything is read or written.
+/// Writes the header of the variables that the names select and of the scopes around them, and then
+/// reads the body after the header that is shown, and writes its sections and the changes of these
+/// variables, each after the line of its time. A name that selects nothing is refused before
+/// anything is read or written.
 pub fn pick<S: Source, W: Sink>(
     view: HeadView<'_>,
     feed: &mut Feed<'_, '_, '_, '_, S>,
@@ -82,9 +83,9 @@ pub fn pick<S: Source, W: Sink>(
     run_task(Task::Pick(names), view, feed, room, out)
 }
 
-/// Reads the body after the header that is shown, and then writes a row for each variable that the names select: its path, and
-/// how often its value changes, rises and falls. At a fault nothing is written. A name that selects nothing is refused before
-/// anything is read.
+/// Reads the body after the header that is shown, and then writes a row for each variable that the
+/// names select: its path, and how often its value changes, rises and falls. At a fault nothing is
+/// written. A name that selects nothing is refused before anything is read.
 pub fn edges<S: Source, W: Sink>(
     view: HeadView<'_>,
     feed: &mut Feed<'_, '_, '_, '_, S>,
@@ -113,9 +114,9 @@ pub fn edges<S: Source, W: Sink>(
     run_task(Task::Edges(names), view, feed, room, out)
 }
 
-/// Writes the header of all variables and, from the first time mark of at least `from` on, a section with the values that stood
-/// before `from`, and the items from then up to `to`, each after the line of its time. Times are in ticks. A time mark above `to`
-/// ends the run.
+/// Writes the header of all variables and, from the first time mark of at least `from` on, a
+/// section with the values that stood before `from`, and the items from then up to `to`, each after
+/// the line of its time. Times are in ticks. A time mark above `to` ends the run.
 pub fn cut<S: Source, W: Sink>(
     view: HeadView<'_>,
     feed: &mut Feed<'_, '_, '_, '_, S>,
@@ -145,9 +146,10 @@ pub fn cut<S: Source, W: Sink>(
     run_task(Task::Cut { from, to }, view, feed, room, out)
 }
 
-/// Writes, for each of the times, the lines of the variables that the names select: the time, the path and the value, in full.
-/// There is a time, in ticks, and each is above the one before it. A name that selects nothing is refused before anything is
-/// read or written. A time mark above the last of the times ends the run.
+/// Writes, for each of the times, the lines of the variables that the names select: the time, the
+/// path and the value, in full. There is a time, in ticks, and each is above the one before it. A
+/// name that selects nothing is refused before anything is read or written. A time mark above the
+/// last of the times ends the run.
 pub fn sample<S: Source, W: Sink>(
     view: HeadView<'_>,
     feed: &mut Feed<'_, '_, '_, '_, S>,

@@ -68,8 +68,9 @@ pub struct Begun<'n, 'r> {
 }
 
 impl<'n, 'r> Begun<'n, 'r> {
-    /// Begins a task, whose times are in order, over the header that is shown, and writes what stands before all items. A name
-    /// that selects nothing is refused, and then nothing is written.
+    /// Begins a task, whose times are in order, over the header that is shown, and writes what
+    /// stands before all items. A name that selects nothing is refused, and then nothing is
+    /// written.
     pub fn start<W: Sink>(
         task: Task<'n>,
         view: HeadView<'_>,
@@ -177,8 +178,8 @@ impl<'v, 'n, 'r> Engine<'v, 'n, 'r> {
         }
     }
 
-    /// Takes the items that lie whole ahead in the feed's chunk, and writes what is due after each: nothing else is looked at, and
-    /// the feed goes on after them at once.
+    /// Takes the items that lie whole ahead in the feed's chunk, and writes what is due after each:
+    /// nothing else is looked at, and the feed goes on after them at once.
     #[inline(never)]
     fn take_ahead<S: Source, W: Sink>(
         &mut self,
@@ -225,7 +226,8 @@ impl<'v, 'n, 'r> Engine<'v, 'n, 'r> {
         }
     }
 
-    /// Takes the items that lie whole ahead, and then the next one, which may need more of the input.
+    /// Takes the items that lie whole ahead, and then the next one, which may need more of the
+    /// input.
     #[inline(always)]
     fn advance<S: Source, W: Sink>(
         &mut self,
@@ -262,7 +264,8 @@ impl<'v, 'n, 'r> Engine<'v, 'n, 'r> {
         }
     }
 
-    /// Writes what stands at the clean end. It is no part of the loop over steps, so that the loop lends no view for it.
+    /// Writes what stands at the clean end. It is no part of the loop over steps, so that the loop
+    /// lends no view for it.
     #[inline(never)]
     fn close<W: Sink>(&self, out: &mut W) -> Result<(), WriteFailed>
         requires { (W.device out.old).failures < 2 ^ 64 - 1 }
@@ -287,7 +290,8 @@ impl<'v, 'n, 'r> Engine<'v, 'n, 'r> {
         requires bound { AreWithinBound (limit_of feed.old) (chunk_len_of feed.old)
             (view_in self.old) (room_in self.old) }
 
-        // Where the engine was begun over an output that has what stands before all items, it is the run of its task.
+        // Where the engine was begun over an output that has what stands before all items, it is
+        // the run of its task.
         ensures gives { (h : Header) (i : Input) (front : List Token) (name : List ℕ)
             (begin : Device) → Holds self.old h [] → HasGiven i front feed.old
             → Writes begin (W.device out.old) (open_text (request_of_engine self.old) h [])
@@ -313,8 +317,8 @@ impl<'v, 'n, 'r> Engine<'v, 'n, 'r> {
     }
 }
 
-/// Takes the next item, and writes what is due after it; at the end of the body, what is due there. Nothing is written
-/// where the body has a fault. After any answer but `Again` the run is over.
+/// Takes the next item, and writes what is due after it; at the end of the body, what is due there.
+/// Nothing is written where the body has a fault. After any answer but `Again` the run is over.
 #[inline(always)]
 pub fn step<S: Source, W: Sink>(
     engine: &mut Engine<'_, '_, '_>,
@@ -345,8 +349,8 @@ pub fn step<S: Source, W: Sink>(
     engine.step_over(engine.view, feed, out)
 }
 
-/// Does a task, whose times are in order, over the body after the header that is shown: the one loop over items. A name that
-/// selects nothing is refused before anything is read or written.
+/// Does a task, whose times are in order, over the body after the header that is shown: the one
+/// loop over items. A name that selects nothing is refused before anything is read or written.
 pub fn run_task<S: Source, W: Sink>(
     task: Task<'_>,
     view: HeadView<'_>,

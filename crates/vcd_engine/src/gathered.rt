@@ -8,10 +8,12 @@ use vcd_text::{Sink, WriteFailed, put};
 /// So many bytes of short pieces are gathered.
 pub(crate) const GATHERED: usize = 8_448;
 
-/// A piece of at most so many bytes is short: it is copied by a copy of so many, whatever its length.
+/// A piece of at most so many bytes is short: it is copied by a copy of so many, whatever its
+/// length.
 const SHORT: usize = 64;
 
-/// Short pieces that are due, one after the other. They are gathered in the same memory all along a run.
+/// Short pieces that are due, one after the other. They are gathered in the same memory all along a
+/// run.
 #[derive(Drop)]
 pub(crate) struct Gathered {
     pub(crate) bytes: [u8; GATHERED],

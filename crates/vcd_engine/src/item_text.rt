@@ -1,4 +1,5 @@
-//! The text of kept items: each as its line, after the line of its time where that does not stand yet.
+//! The text of kept items: each as its line, after the line of its time where that does not stand
+//! yet.
 ghost use Rattle.std.specs.Prelude.{◌≡◌, ℕ, ◌+◌, ◌-◌, ◌^◌, ◌<◌, ◌≤◌, ◌∷◌, ◌++◌, [], List, length, Some, IfOk};
 ghost use Rattle.vcd_model.specs.Bytes.{as_line};
 ghost use Rattle.vcd_model.specs.BodyPhrases.{section_keyword};
@@ -128,7 +129,8 @@ impl ItemText {
         put_item(view, item, text, out)
     }
 
-    /// Writes an item that lies ahead as an entry at this time, behind what is held. Where its line stands there, that is held.
+    /// Writes an item that lies ahead as an entry at this time, behind what is held. Where its line
+    /// stands there, that is held.
     #[inline(always)]
     pub(crate) fn put_lying<W: Sink>(
         &mut self,
@@ -162,7 +164,8 @@ impl ItemText {
         self.put_line(time, lying, n, pieces, out)
     }
 
-    /// Writes the line of the time of an item that lies ahead, unless it was written last, behind what is held.
+    /// Writes the line of the time of an item that lies ahead, unless it was written last, behind
+    /// what is held.
     #[inline(always)]
     fn put_time_behind<W: Sink>(
         &mut self,
@@ -189,8 +192,8 @@ impl ItemText {
         pieces.append_time(time, lying, out)
     }
 
-    /// Writes the line of a time, unless it was written last, and then the bytes of an item that lies ahead without so many behind the
-    /// first one, behind what is held.
+    /// Writes the line of a time, unless it was written last, and then the bytes of an item that
+    /// lies ahead without so many behind the first one, behind what is held.
     #[inline(always)]
     fn put_line<W: Sink>(
         &mut self,
@@ -224,7 +227,8 @@ impl ItemText {
         pieces.append_parts(lying.bytes, lying.from, lying.to, n, out)
     }
 
-    /// Writes what closes the text where this is the last time mark: its line, where it does not stand yet.
+    /// Writes what closes the text where this is the last time mark: its line, where it does not
+    /// stand yet.
     pub(crate) fn close<W: Sink>(&self, last: Option<u64>, out: &mut W) -> Result<(), WriteFailed>
         requires { (W.device out.old).failures < 2 ^ 64 - 1 }
         ensures takes { (before : List ℕ) (kept : List Entry) → HasWritten before kept self.now

@@ -1,45 +1,50 @@
 //! What is done with a dump whose header was read.
 //!
-//! `list` writes a line for each variable of a view. The other commands over one dump are each a `Task`: `run_task` does it
-//! over the items of the body, in a `Room` of the lengths that `Task::need` says; `check`, `pick`, `cut`, `sample` and `edges` are
-//! one call of it each.
-//! An `Engine`, of a task that has `Begun`, is the same run in parts, for callers that have more to do between items: `step` takes
-//! one item. None of them takes memory.
+//! `list` writes a line for each variable of a view. The other commands over one dump are each a
+//! `Task`: `run_task` does it over the items of the body, in a `Room` of the lengths that
+//! `Task::need` says; `check`, `pick`, `cut`, `sample` and `edges` are one call of it each. An
+//! `Engine`, of a task that has `Begun`, is the same run in parts, for callers that have more to do
+//! between items: `step` takes one item. None of them takes memory.
 //!
 //! # The relations
 //!
-//! `Follows task .. result` says what a run leaves: an input, whole, or what its source gave until a read failed; that no more of
-//! it was read than settles the task; and that output and result belong to the definitions' outcome for it. Between steps an
-//! engine `Runs`: the feed has given these items, and the engine `Holds` what is due after them. A step (`StepGives`) takes one
-//! item more, and the output grows by exactly what is due with it; or it ends the run: at the end of the body, where it writes
-//! what is due there, at an item that ends the run early,
-//! or at a fault, where it writes nothing. Where a write fails, a prefix was written. What a command keeps is one case of
-//! `Keeps`.
+//! `Follows task .. result` says what a run leaves: an input, whole, or what its source gave until
+//! a read failed; that no more of it was read than settles the task; and that output and result
+//! belong to the definitions' outcome for it. Between steps an engine `Runs`: the feed has given
+//! these items, and the engine `Holds` what is due after them. A step (`StepGives`) takes one item
+//! more, and the output grows by exactly what is due with it; or it ends the run: at the end of the
+//! body, where it writes what is due there, at an item that ends the run early, or at a fault,
+//! where it writes nothing. Where a write fails, a prefix was written. What a command keeps is one
+//! case of `Keeps`.
 //!
 //! # The modules
 //!
 //! - `task`: `Task`, `Room`, `Task::need`
 //! - `engine`: `Begun`, `Engine`, and `run_task`, the one loop over items. It names no command
-//! - `machine`, and under it `check`, `pick`, `cut`, `sample`, `edges`: what each task keeps between items, and what it does at the
-//!   begin, with an item and at the end
+//! - `machine`, and under it `check`, `pick`, `cut`, `sample`, `edges`: what each task keeps
+//!   between items, and what it does at the begin, with an item and at the end
 //! - `commands`: `check`, `pick`, `cut`, `sample`, `edges`
 //! - `choice`: which codes are chosen, a byte a code
 //! - `item_text`: kept items as lines, each after the line of its time
-//! - `pieces`: text that is due and stands in the chunk, which is written at once; `gathered`: short pieces of it, copied together
+//! - `pieces`: text that is due and stands in the chunk, which is written at once; `gathered`:
+//!   short pieces of it, copied together
 //! - `selection`: the variables that names select, as marks and as chosen codes
-//! - `report`, `rows`, `tally`: the seven lines of `check`; `list`; the counters of `edges`, and its rows
+//! - `report`, `rows`, `tally`: the seven lines of `check`; `list`; the counters of `edges`, and
+//!   its rows
 //! - `values`: the values of codes, with one item more
-//! - `sample_lines`: the lines of a sample; `leads`: the marks that lead from one row with a line to the next
+//! - `sample_lines`: the lines of a sample; `leads`: the marks that lead from one row with a line
+//!   to the next
 //!
-//! In `specs/` callers read `Run` (`Follows`), `Engine`, `Step` and `Room`. How a run ends, `Done`, `More` and `Stop`, is of
-//! `vcd_body`.
+//! In `specs/` callers read `Run` (`Follows`), `Engine`, `Step` and `Room`. How a run ends, `Done`,
+//! `More` and `Stop`, is of `vcd_body`.
 //!
 //! # Limits
 //!
-//! One dump a task. A call asks for fewer than 2^64 - 1 failures of its devices so far, and `run_task` for a feed of which no
-//! failed read was returned (`HasNotFailed`).
+//! One dump a task. A call asks for fewer than 2^64 - 1 failures of its devices so far, and
+//! `run_task` for a feed of which no failed read was returned (`HasNotFailed`).
 //!
-//! Not promised: how many bytes of the output were written where a write failed, and what room holds after a run.
+//! Not promised: how many bytes of the output were written where a write failed, and what room
+//! holds after a run.
 #![tactic(auto)]
 
 mod choice;

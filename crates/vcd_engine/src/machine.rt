@@ -82,12 +82,13 @@ trait Taker {
     // The machine that it is.
     ghost machine: { Self → Machine };
 
-    /// Whether a mark of this time is left to `Machine::take`, since more is due with it than `take_one` does.
+    /// Whether a mark of this time is left to `Machine::take`, since more is due with it than
+    /// `take_one` does.
     fn leaves(&self, time: u64) -> bool
         ensures { result ≡ is_left (machine self.now) time };
 
-    /// Takes an item that lies ahead, writes what is due after it, and returns whether it ended the run. The registers are those
-    /// after it.
+    /// Takes an item that lies ahead, writes what is due after it, and returns whether it ended the
+    /// run. The registers are those after it.
     fn take_one<W: Sink>(
         &mut self,
         view: HeadView<'_>,
@@ -209,9 +210,10 @@ impl<'n, 'r> Taker for edges::Edges<'n, 'r> {
     }
 }
 
-/// Takes the next item that lies ahead, with what is due after it: returns whether it ended the run. None where it takes none, and then
-/// nothing has changed.
-// What begins the item, and whether its digits are known to be 0 and 1, is asked once: what is done with it follows in each arm.
+/// Takes the next item that lies ahead, with what is due after it: returns whether it ended the
+/// run. None where it takes none, and then nothing has changed.
+// What begins the item, and whether its digits are known to be 0 and 1, is asked once: what is done
+// with it follows in each arm.
 #[inline(always)]
 fn take_next<T: Taker, W: Sink>(
     taker: &mut T,
@@ -273,9 +275,10 @@ fn take_next<T: Taker, W: Sink>(
     Some(taken)
 }
 
-/// Takes the items that lie ahead, one after the other, up to one that ends the run, each with what is due after it.
-// Registers and place come and go by value, so that the loop keeps them out of memory; and the loop of each task is a function, so that
-// none has less registers for what another one does.
+/// Takes the items that lie ahead, one after the other, up to one that ends the run, each with what
+/// is due after it.
+// Registers and place come and go by value, so that the loop keeps them out of memory; and the loop
+// of each task is a function, so that none has less registers for what another one does.
 #[inline(never)]
 fn take_each<T: Taker, W: Sink>(
     taker: &mut T,
@@ -323,8 +326,8 @@ trait Copier {
     // The machine that it is.
     ghost machine: { Self → Machine };
 
-    /// Takes an item that lies ahead, writes what is due after it behind what is held, and returns whether it ended the run. The
-    /// registers are those after it.
+    /// Takes an item that lies ahead, writes what is due after it behind what is held, and returns
+    /// whether it ended the run. The registers are those after it.
     fn take_one_lying<W: Sink>(
         &mut self,
         view: HeadView<'_>,
@@ -394,8 +397,9 @@ impl<'r> Copier for cut::Cut<'r> {
     }
 }
 
-/// Takes an item that was taken ahead from this place on, and what is due after it behind what is held. A line of a time may stand
-/// just before it; then that of the next item's time may stand just before the place after it.
+/// Takes an item that was taken ahead from this place on, and what is due after it behind what is
+/// held. A line of a time may stand just before it; then that of the next item's time may stand
+/// just before the place after it.
 #[inline(always)]
 fn take_found<T: Copier, W: Sink>(
     copier: &mut T,
@@ -444,7 +448,8 @@ fn take_found<T: Copier, W: Sink>(
     copier.take_one_lying(view, regs, lying, pieces, out)
 }
 
-/// Takes the next item that lies ahead as `take_next` does, with what is due after it behind what is held.
+/// Takes the next item that lies ahead as `take_next` does, with what is due after it behind what
+/// is held.
 #[inline(always)]
 fn take_next_lying<T: Copier, W: Sink>(
     copier: &mut T,
@@ -511,8 +516,8 @@ fn take_next_lying<T: Copier, W: Sink>(
     Some(taken)
 }
 
-/// Takes the items that lie ahead as `take_each` does, with pieces of the chunk where what is due stands there. Short pieces are gathered in
-/// memory that is lent.
+/// Takes the items that lie ahead as `take_each` does, with pieces of the chunk where what is due
+/// stands there. Short pieces are gathered in memory that is lent.
 #[inline(never)]
 fn take_each_lying<T: Copier, W: Sink>(
     copier: &mut T,
@@ -576,8 +581,8 @@ pub(crate) fn last_of(regs: Regs) -> Option<u64>
 }
 
 impl<'n, 'r> Machine<'n, 'r> {
-    /// Begins a task, and writes what stands before all items. A name that selects nothing is refused, and then nothing is
-    /// written.
+    /// Begins a task, and writes what stands before all items. A name that selects nothing is
+    /// refused, and then nothing is written.
     pub(crate) fn start<W: Sink>(
         task: Task<'n>,
         view: HeadView<'_>,
@@ -607,8 +612,9 @@ impl<'n, 'r> Machine<'n, 'r> {
         }
     }
 
-    /// Takes an item with its text, writes what is due after it, and returns whether it ended the run. The text is that of a change,
-    /// and any bytes for other items; the registers are those after the item.
+    /// Takes an item with its text, writes what is due after it, and returns whether it ended the
+    /// run. The text is that of a change, and any bytes for other items; the registers are those
+    /// after the item.
     #[inline(always)]
     pub(crate) fn take<W: Sink>(
         &mut self,
@@ -641,9 +647,10 @@ impl<'n, 'r> Machine<'n, 'r> {
         Ok(false)
     }
 
-    /// Takes the items that lie ahead, one after the other, up to one that ends the run, and writes what is due after each. Short pieces
-    /// of that are gathered in memory that is lent.
-    // A loop for each task, so that none asks for each item what the task is; and what copies nothing holds no pieces.
+    /// Takes the items that lie ahead, one after the other, up to one that ends the run, and writes
+    /// what is due after each. Short pieces of that are gathered in memory that is lent.
+    // A loop for each task, so that none asks for each item what the task is; and what copies
+    // nothing holds no pieces.
     pub(crate) fn take_ahead<W: Sink>(
         &mut self,
         view: HeadView<'_>,

@@ -1,4 +1,5 @@
-//! Text that is due and stands in the chunk: pieces of it that follow each other are one, and short ones are written together.
+//! Text that is due and stands in the chunk: pieces of it that follow each other are one, and short
+//! ones are written together.
 ghost use Rattle.std.specs.Prelude.{◌≡◌, ℕ, ◌+◌, ◌-◌, ◌^◌, ◌<◌, ◌≤◌, List, [], ◌++◌, true, false, length, take, slice_range, IfErr, IfOk, IfSome};
 ghost use Rattle.vcd_model.specs.Header.{Header};
 ghost use Rattle.vcd_model.specs.Items.{BodyItem};
@@ -16,8 +17,9 @@ use crate::gathered::{GATHERED, Gathered};
 use vcd_body::{Form, Item, Plain, Regs, is_mark_line, left_out, put_time};
 use vcd_text::{Sink, WriteFailed, put};
 
-/// An item that lies ahead: its tokens are passed from one place of these bytes up to another. Where the line of its time stands just
-/// before it, that begins at a third place; else the third one is the first.
+/// An item that lies ahead: its tokens are passed from one place of these bytes up to another.
+/// Where the line of its time stands just before it, that begins at a third place; else the third
+/// one is the first.
 #[derive(Clone, Copy)]
 pub(crate) struct Lying<'a> {
     pub(crate) plain: Plain<'a>,
@@ -27,7 +29,8 @@ pub(crate) struct Lying<'a> {
     pub(crate) line: usize,
 }
 
-/// Where the line of an item's time begins, by where that of the time before it does: a mark has none before it.
+/// Where the line of an item's time begins, by where that of the time before it does: a mark has
+/// none before it.
 #[inline(always)]
 pub(crate) fn line_before(item: Item, line: usize, from: usize) -> usize
     ensures mark { (time : ℕ) → item ≡ kind.Time time → result ≡ from }
@@ -40,7 +43,8 @@ pub(crate) fn line_before(item: Item, line: usize, from: usize) -> usize
 }
 
 impl Lying<'_> {
-    /// How many of its bytes behind the first one are left out, so that the others are its line as it would be written.
+    /// How many of its bytes behind the first one are left out, so that the others are its line as
+    /// it would be written.
     #[inline(always)]
     pub(crate) fn left_out(&self) -> Option<usize>
         requires { (v : HeadView) × Lies v self.now }
@@ -52,7 +56,8 @@ impl Lying<'_> {
         left_out(self.plain, self.bytes, self.from, self.to)
     }
 
-    /// Where the line of the time begins that stands just before the next item: at a mark that is spelled as its line, else nowhere.
+    /// Where the line of the time begins that stands just before the next item: at a mark that is
+    /// spelled as its line, else nowhere.
     #[inline(always)]
     pub(crate) fn next_line(&self) -> usize
         requires { (v : HeadView) × Lies v self.now }
@@ -71,7 +76,8 @@ impl Lying<'_> {
 /// A piece of at most so many bytes is gathered too; a longer one is written from the chunk.
 const LONG: usize = 1024;
 
-/// Gathers a part of the bytes behind the others, which are written where it has no room beside them; a long part is written too.
+/// Gathers a part of the bytes behind the others, which are written where it has no room beside
+/// them; a long part is written too.
 #[cold]
 #[inline(never)]
 fn gather_slowly<W: Sink>(
@@ -99,8 +105,9 @@ fn gather_slowly<W: Sink>(
     Ok(())
 }
 
-/// The text that is due and not yet written: short pieces of it, which were gathered, and then a part of the chunk. Beside the loan it
-/// holds numbers alone, so that a loop keeps it out of memory.
+/// The text that is due and not yet written: short pieces of it, which were gathered, and then a
+/// part of the chunk. Beside the loan it holds numbers alone, so that a loop keeps it out of
+/// memory.
 #[derive(Drop)]
 pub(crate) struct Pieces<'a> {
     gathered: &'a mut Gathered,
@@ -201,7 +208,8 @@ impl<'a> Pieces<'a> {
         Ok(())
     }
 
-    /// Takes the part of the bytes that is due next: where it follows what is held, that grows, and nothing is written.
+    /// Takes the part of the bytes that is due next: where it follows what is held, that grows, and
+    /// nothing is written.
     #[inline(always)]
     pub(crate) fn append<W: Sink>(
         &mut self,
@@ -246,7 +254,8 @@ impl<'a> Pieces<'a> {
         ensures counts { Counts (W.device out.old) (W.device out.new) result }
         ensures part { IfOk result (λ _. IsPart bytes.now self.new) }
     {
-        // Where pieces were gathered, most such parts leave bytes out: then no branch asks whether this one does.
+        // Where pieces were gathered, most such parts leave bytes out: then no branch asks whether
+        // this one does.
         if self.gathered.len > 0
             && from == self.to
             && self.gathered.has_room(bytes, self.from, from + 1)
@@ -285,8 +294,8 @@ impl<'a> Pieces<'a> {
         self.append(bytes, from + 1 + n, to, out)
     }
 
-    /// Takes the line of an item's time, which is due next: where it stands just before the item, it is held; else it is written,
-    /// after what is held.
+    /// Takes the line of an item's time, which is due next: where it stands just before the item,
+    /// it is held; else it is written, after what is held.
     #[inline(always)]
     pub(crate) fn append_time<W: Sink>(
         &mut self,

@@ -17,8 +17,8 @@ use vcd_head::put_path;
 use vcd_text::{Sink, WriteFailed, put, put_number};
 use vcd_view::HeadView;
 
-/// Writes the line of a variable at a time that no item so far is later than: the time, its path and its value. An event has
-/// none.
+/// Writes the line of a variable at a time that no item so far is later than: the time, its path
+/// and its value. An event has none.
 fn put_line<W: Sink>(
     table: &Table<'_>,
     view: HeadView<'_>,

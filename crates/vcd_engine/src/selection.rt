@@ -38,8 +38,9 @@ fn choose_marked(view: HeadView<'_>, marks: &[u8], choice: &mut Choice<'_>)
     }
 }
 
-/// Marks the variables that the names select, all where there are no names, and the scopes around them, and chooses the codes
-/// of these variables in a choice where none is chosen. A name that selects nothing is refused by its place, the first one.
+/// Marks the variables that the names select, all where there are no names, and the scopes around
+/// them, and chooses the codes of these variables in a choice where none is chosen. A name that
+/// selects nothing is refused by its place, the first one.
 pub(crate) fn select_codes(
     view: HeadView<'_>,
     names: &[String],

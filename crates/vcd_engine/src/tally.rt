@@ -22,8 +22,8 @@ use vcd_head::put_path;
 use vcd_text::{Sink, WriteFailed, put, put_number};
 use vcd_view::{HeadView, Kind};
 
-/// Sets the value of the code at a place, which has this size and is no event, by the text of a change, and counts it where it
-/// differs from the one before it.
+/// Sets the value of the code at a place, which has this size and is no event, by the text of a
+/// change, and counts it where it differs from the one before it.
 #[inline(always)]
 pub(crate) fn take_value(table: &mut Table<'_>, code: usize, size: usize, form: Form, text: &[u8])
     ensures takes { (view : HeadView) (h : Header) (items : List BodyItem) (c : IdCode)

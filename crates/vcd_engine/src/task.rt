@@ -18,21 +18,25 @@ pub enum Task<'n> {
     Check,
     /// Writes those of the variables that these names select, after their header.
     Pick(&'n [String]),
-    /// Writes the values that stand before a time, and the items from then up to another time, in ticks. Both are in it.
+    /// Writes the values that stand before a time, and the items from then up to another time, in
+    /// ticks. Both are in it.
     Cut {
         from: u64,
         to: u64,
     },
-    /// Writes the values of the variables that these names select, all where there is none, at these times, in ticks.
+    /// Writes the values of the variables that these names select, all where there is none, at
+    /// these times, in ticks.
     Sample {
         times: &'n [u64],
         names: &'n [String],
     },
-    /// Counts how often the values of the variables that these names select change, rise and fall, and writes it at the end.
+    /// Counts how often the values of the variables that these names select change, rise and fall,
+    /// and writes it at the end.
     Edges(&'n [String]),
 }
 
-/// What a run is lent beside its windows, of lengths at least as `Task::need` returns for its header. No memory is taken beyond it.
+/// What a run is lent beside its windows, of lengths at least as `Task::need` returns for its
+/// header. No memory is taken beyond it.
 #[derive(Drop)]
 pub struct Room<'r> {
     /// Bytes for the values of codes; `pick` has a flag of one byte for each code there.

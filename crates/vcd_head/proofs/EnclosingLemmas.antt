@@ -1,4 +1,5 @@
--- The scopes around a declaration: what rows say of them, and a walk outwards that holds the last ones.
+-- The scopes around a declaration: what rows say of them, and a walk outwards that holds the last
+-- ones.
 use Rattle.std.proofs.Common.{◌≡◌, ◌≢◌, ℕ, zero, suc, ◌+◌, ◌-◌, ◌%◌, ◌<◌, ◌≤◌, List, [], ◌∷◌, ◌++◌, length, take, reverse, set, get_or, slice_get, min, Some, None, inl, inr, refl, sym, ap, subst, ◌∙◌, arith}
 use Rattle.std.specs.List.{AllByRecursion}
 use Rattle.std.proofs.Math.Seq.{take-append_seam}

@@ -94,7 +94,8 @@ behind_component component name rest e = sym (ap (drop (length component + 1)) e
 
 -- ---- one scope after the other
 
--- the outer scopes are matched: what is left of the name decides by the scopes that are left and the declaration's own name
+-- the outer scopes are matched: what is left of the name decides by the scopes that are left and
+-- the declaration's own name
 pub record HasMatched (h : Header) (row : ℕ) (d : Declaration) (e : Enclosing) (name left : List ℕ) : Type 0 where
   pub rest : List ℕ
   pub leaves : LeavesScopes h row rest e

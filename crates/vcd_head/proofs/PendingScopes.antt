@@ -156,7 +156,8 @@ is_kept h = is_among (marked_places [] h.declarations)
 abbrev pub line_in : ℕ → Header → List Declaration → Declaration → List ℕ
 line_in first h = row_line (numbered first h) (is_among (marked_places [] h.declarations))
 
--- behind so many rows this text is written, and these scopes are open, of which so many are pending and so many written
+-- behind so many rows this text is written, and these scopes are open, of which so many are pending
+-- and so many written
 pub record IsWritten (first : ℕ) (h : Header) (i pending written : ℕ) (text : List ℕ) : Type 0 where
   pub scopes : List ℕ
   pub are : enclosing (take i h.declarations) ≡ scopes

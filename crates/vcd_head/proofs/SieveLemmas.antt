@@ -103,7 +103,8 @@ unset false h = refl
 
 -- ---- what the flags tell
 
--- a name of which nothing is left selects all or nothing, and of the others the flags tell where one may go on
+-- a name of which nothing is left selects all or nothing, and of the others the flags tell where
+-- one may go on
 pub told_by_flags : (names : List (List ℕ)) (f : List ℕ) (s : Inside) → AreLeft names f s → (ends points : List Bool) (i : ℕ) (name : List ℕ) → slice_get names i ≡ Some name → (get_or s.left i Rest ≡ Rest → Admitted ends points 0 (drop s.passed name))
     → SelectsAll f name ⊎ ((component : List ℕ) → may_go_on ends points 0 component ≡ false → (text : List ℕ) → selects_path (f ++ (component ++ 46 ∷ text)) name ≡ false)
 told_by_flags names f s left ends points i name at admitted = by_left (get_or s.left i Rest) refl

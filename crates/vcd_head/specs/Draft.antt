@@ -34,7 +34,8 @@ pub record HasCodes (text : List ℕ) (c : Codes) (ds : List Declaration) : Type
   pub seen : (t : List ℕ) → list_any (λ u. bytes_eq u.code t) (variables_of ds) ≡ is_some (find (has_text t) (codes_of ds))
   pub sizes : AllByRecursion (λ (c : IdCode). IsSize c.size) (codes_of ds)
 
--- the code of a variable after these declarations was found among theirs, or is new and has these bytes
+-- the code of a variable after these declarations was found among theirs, or is new and has these
+-- bytes
 abbrev pub IsFound : List Declaration → Variable → List ℕ → Found → Type 0
 IsFound ds v bytes (found.Declared place) = (slice_get (codes_of ds) place ≡ Some (code_of v)) × (find (has_text v.code) (codes_of ds) ≡ Some (code_of v))
 IsFound ds v bytes found.New = (bytes ≡ v.code) × (find (has_text v.code) (codes_of ds) ≡ None)
@@ -75,7 +76,8 @@ pub record IsNew (d : Draft) : Type 0 where
   pub no_scale : d.scale ≡ None
   pub no_scopes : d.scopes.items ≡ []
 
--- the draft holds the phrases that were read, of which there is one at least, and the feed shows the last token of them
+-- the draft holds the phrases that were read, of which there is one at least, and the feed shows
+-- the last token of them
 pub record DraftsUpTo {X : Type 0} {g : Ghosts X} (most : ℕ) (i : Input) (d : Draft) (f : Feed X g) : Type 0 where
   pub placed : List (Placed HeaderPhrase)
   pub reads : Reads most i placed [] f
@@ -94,7 +96,8 @@ pub record DraftsBehind {X : Type 0} {g : Ghosts X} (most : ℕ) (i : Input) (d 
   pub stands : HasGiven i given f
   pub drafts : DraftsOn most given d
 
--- the draft holds the phrases that were read, and the feed stands after the keyword that begins the next one
+-- the draft holds the phrases that were read, and the feed stands after the keyword that begins the
+-- next one
 pub record AtKeyword {X : Type 0} {g : Ghosts X} (most : ℕ) (i : Input) (k : Keyword) (d : Draft) (f : Feed X g) : Type 0 where
   pub placed : List (Placed HeaderPhrase)
   pub token_read : ReadsToken most i placed [] f

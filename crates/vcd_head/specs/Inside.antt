@@ -21,7 +21,8 @@ abbrev pub front : List Declaration → ℕ → List ℕ
 front ds zero = []
 front ds (suc p) = names_text ds (reverse (p ∷ enclosing (take p ds)))
 
--- so it does where there is a name of which something is left that may select: where there is none, no such name selects
+-- so it does where there is a name of which something is left that may select: where there is none,
+-- no such name selects
 abbrev pub left_in : Bool → Left → List ℕ → List ℕ → Bool
 left_in live Rest rest text = live && selects_path text rest
 left_in live Selected rest text = true
@@ -37,7 +38,8 @@ abbrev pub is_all : Left → Bool
 is_all Selected = true
 is_all left = false
 
--- this is left of the names behind this front of a path, and it is known whether some name selects all that is inside
+-- this is left of the names behind this front of a path, and it is known whether some name selects
+-- all that is inside
 pub record AreLeft (names : List (List ℕ)) (front : List ℕ) (s : Inside) : Type 0 where
   pub each : (i : ℕ) (name : List ℕ) → slice_get names i ≡ Some name → (text : List ℕ) → selects_path (front ++ text) name ≡ left_in s.live (get_or s.left i Rest) (drop s.passed name) text
   pub some : (i : ℕ) (name : List ℕ) → slice_get names i ≡ Some name → is_all (get_or s.left i Rest) ≡ true → s.whole ≡ true

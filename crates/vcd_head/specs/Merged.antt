@@ -35,13 +35,15 @@ opening ds place = opening_of (slice_get ds place)
 abbrev pub openings : List Declaration → List ℕ → List ℕ
 openings ds places = flat_map (opening ds) (reverse places)
 
--- the line of an `$upscope` behind scopes of which so many, the innermost, are pending, and so many are written
+-- the line of an `$upscope` behind scopes of which so many, the innermost, are pending, and so many
+-- are written
 abbrev pub closing : ℕ → ℕ → List ℕ
 closing zero zero = []
 closing zero (suc written) = up_line
 closing (suc pending) written = []
 
--- what is written at a declaration that has these before it, where so many scopes around it, the innermost, are pending, and so many are written
+-- what is written at a declaration that has these before it, where so many scopes around it, the
+-- innermost, are pending, and so many are written
 abbrev pub due : Header → (first pending written : ℕ) → List Declaration → Declaration → List ℕ
 due h first pending written earlier (Declaration.Scope type name) = []
 due h first pending written earlier Declaration.Up = closing pending written

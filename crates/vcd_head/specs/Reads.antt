@@ -22,20 +22,23 @@ use Rattle.vcd_model.specs.Header.{header_of}
 abbrev pub IsGoing : ℕ → List Token → Type 0
 IsGoing most given = (reading_of (header_grammar most) given).ending ≡ AtEnd
 
--- the tokens given are these good phrases, and then these first tokens of the next one; the feed shows the last
+-- the tokens given are these good phrases, and then these first tokens of the next one; the feed
+-- shows the last
 pub record Reads {X : Type 0} {g : Ghosts X} (most : ℕ) (i : Input) (placed : List (Placed HeaderPhrase)) (before : List (List ℕ)) (f : Feed X g) : Type 0 where
   pub given : List Token
   pub stands : HasGiven i given f
   pub so_far : IsSoFar (header_grammar most) given placed before
   pub last : given ≢ [] → (front : List Token) × (given ≡ front ++ token_of f ∷ [])
 
--- the tokens given but the last are these good phrases, and then these first tokens of the next one; the last one was not looked at
+-- the tokens given but the last are these good phrases, and then these first tokens of the next
+-- one; the last one was not looked at
 pub record ReadsToken {X : Type 0} {g : Ghosts X} (most : ℕ) (i : Input) (placed : List (Placed HeaderPhrase)) (before : List (List ℕ)) (f : Feed X g) : Type 0 where
   pub given : List Token
   pub stands : HasGiven i (given ++ token_of f ∷ []) f
   pub so_far : IsSoFar (header_grammar most) given placed before
 
--- the tokens given are these good phrases, of which the last one ends the header; the feed shows the last token
+-- the tokens given are these good phrases, of which the last one ends the header; the feed shows
+-- the last token
 pub record ReadsWhole {X : Type 0} {g : Ghosts X} (most : ℕ) (i : Input) (placed : List (Placed HeaderPhrase)) (f : Feed X g) : Type 0 where
   pub given : List Token
   pub stands : HasGiven i (given ++ token_of f ∷ []) f
@@ -60,21 +63,25 @@ HasFault most limit i number line = header_fault_of (stream_of limit i) (read_he
 abbrev pub HasReadToShown : {X : Type 0} {g : Ghosts X} → Input → List Token → Feed X g → Type 0
 HasReadToShown i given f = HasGiven i (given ++ token_of f ∷ []) f × HasReadTo i (given ++ token_of f ∷ []) f
 
--- the header has this fault at the last token given, which the feed shows; no token before it has one
+-- the header has this fault at the last token given, which the feed shows; no token before it has
+-- one
 abbrev pub FailsAtToken : {X : Type 0} {g : Ghosts X} → ℕ → Input → ℕ → Feed X g → Type 0
 FailsAtToken most i number f = HasFault most (limit_of f) i number (token_of f).line × (given : List Token) × HasReadToShown i given f × IsGoing most given
 
--- the header has this fault where no token is left, and the feed shows none; no token before has one
+-- the header has this fault where no token is left, and the feed shows none; no token before has
+-- one
 abbrev pub FailsAtEnd : {X : Type 0} {g : Ghosts X} → ℕ → Input → ℕ → Feed X g → Type 0
 FailsAtEnd most i number f =
     HasFault most (limit_of f) i number (token_of f).line × ((token_of f).bytes ≡ [])
     × (given : List Token) × HasGiven i given f × ((stream_of (limit_of f) i).tokens ≡ given) × IsGoing most given
 
--- no token given so far has a fault, and the feed shows the last; without it the header is not whole
+-- no token given so far has a fault, and the feed shows the last; without it the header is not
+-- whole
 abbrev pub IsGoodSoFar : {X : Type 0} {g : Ghosts X} → ℕ → Input → Feed X g → Type 0
 IsGoodSoFar most i f = (given : List Token) × HasReadToShown i given f × IsGoing most given × IsFaultless most (given ++ token_of f ∷ [])
 
--- Why a header is refused: its fault, where a source that failed ends the input there. Where memory is refused, no token given so far has a fault.
+-- Why a header is refused: its fault, where a source that failed ends the input there. Where memory
+-- is refused, no token given so far has a fault.
 abbrev pub Fails : {X : Type 0} {g : Ghosts X} → ℕ → Input → HeadFault → Feed X g → Type 0
 Fails most i OutOfMemory f = IsGoodSoFar most i f
 Fails most i ReadFailed f = FailsAtEnd most (failed_after (seen f) i) 31 f × GaveOnlySeen i f

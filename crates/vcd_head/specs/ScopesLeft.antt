@@ -9,7 +9,8 @@ pub record IsHeld (places rows : List ℕ) (held : ℕ) : Type 0 where
   pub room : length rows ≡ 128
   pub at : (k : ℕ) → k < length places → length places ≤ k + held → slice_get places k ≡ Some (slice_index rows (k % 128))
 
--- so many of the innermost scopes around the declaration of a row, or all of them, were passed, and the last ones are held
+-- so many of the innermost scopes around the declaration of a row, or all of them, were passed, and
+-- the last ones are held
 pub record Walks (h : Header) (row most : ℕ) (rows : List ℕ) (passed : ℕ) : Type 0 where
   pub count : passed ≡ min most (length (enclosing (take row h.declarations)))
   pub holds : IsHeld (take passed (enclosing (take row h.declarations))) rows 128

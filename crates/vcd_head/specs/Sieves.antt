@@ -7,7 +7,8 @@ use Rattle.vcd_head.specs.declared.sieve.Sieve.{Sieve}
 abbrev pub next_sum : ℕ → ℕ → ℕ
 next_sum sum byte = (sum * 37 + byte) % 1024
 
--- behind bytes of this sum, by the flags a text may end where the component does, or before a point in it, or go on behind it with a point
+-- behind bytes of this sum, by the flags a text may end where the component does, or before a point
+-- in it, or go on behind it with a point
 abbrev pub may_go_on : (ends points : List Bool) → ℕ → List ℕ → Bool
 may_go_on ends points sum [] = get_or ends sum true || get_or points sum true
 may_go_on ends points sum (byte ∷ component) = ((byte == 46) && get_or ends sum true) || may_go_on ends points (next_sum sum byte) component

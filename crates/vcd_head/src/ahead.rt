@@ -1,4 +1,5 @@
-// Variables and scopes whose phrases lie whole ahead in the chunk: their tokens cost no change of the feed.
+// Variables and scopes whose phrases lie whole ahead in the chunk: their tokens cost no change of
+// the feed.
 ghost use Rattle.std.specs.Prelude.{◌≡◌, ℕ, ◌+◌, ◌-◌, ◌<◌, ◌≤◌, List, [], ◌∷◌, ◌++◌, true, length, slice_range, IfSome, IfOk, IfErr, MatchBool, MatchResult};
 ghost use Rattle.vcd_model.specs.Input.{Input};
 ghost use Rattle.vcd_model.specs.Tokens.{Token};
@@ -60,7 +61,8 @@ pub(crate) fn token_ahead<'a>(ahead: &mut Ahead<'a>) -> Option<&'a [u8]>
     ahead.next()
 }
 
-/// Two tokens as they stand in these bytes, if there is one space between. One white byte was passed behind each.
+/// Two tokens as they stand in these bytes, if there is one space between. One white byte was
+/// passed behind each.
 #[inline(always)]
 fn joined<'a>(
     bytes: &'a [u8],
@@ -86,7 +88,8 @@ fn joined<'a>(
     Some(&bytes[start..behind - 1])
 }
 
-/// The reference that comes next, with the `$end` behind it, if it has one token, or two with one space between.
+/// The reference that comes next, with the `$end` behind it, if it has one token, or two with one
+/// space between.
 #[inline(always)]
 fn reference_ahead<'a>(ahead: &mut Ahead<'a>) -> Option<AheadReference<'a>>
     ensures gives { IfSome result (λ reference. (limit lines : ℕ) (bytes : List ℕ)
@@ -122,7 +125,8 @@ fn reference_ahead<'a>(ahead: &mut Ahead<'a>) -> Option<AheadReference<'a>>
     })
 }
 
-/// The variable whose phrase comes next, if it lies whole ahead, and its reference has at most two tokens.
+/// The variable whose phrase comes next, if it lies whole ahead, and its reference has at most two
+/// tokens.
 #[inline(always)]
 fn variable_ahead<'a>(ahead: &mut Ahead<'a>) -> Option<AheadVariable<'a>>
     ensures gives { IfSome result (λ variable. (limit lines : ℕ) (bytes : List ℕ)
@@ -169,7 +173,8 @@ fn put_texts(text: &mut Vec<u8>, variable: AheadVariable<'_>) -> Result<(), Allo
     Ok(())
 }
 
-/// Declares a variable that lies ahead, and tells whether it may stand there: else `read_variable` says why not.
+/// Declares a variable that lies ahead, and tells whether it may stand there: else `read_variable`
+/// says why not.
 fn declare(
     alloc: Global,
     most: u64,
@@ -217,7 +222,8 @@ fn declare(
     Ok(true)
 }
 
-/// Takes the next phrase, if it lies whole ahead and declares a variable or a scope, or closes one; tells whether it did.
+/// Takes the next phrase, if it lies whole ahead and declares a variable or a scope, or closes one;
+/// tells whether it did.
 #[inline(always)]
 fn declare_next(
     alloc: Global,
@@ -260,7 +266,8 @@ fn declare_next(
     Ok(false)
 }
 
-/// Declares the variables and scopes that come next and lie whole ahead, and returns how many bytes were passed.
+/// Declares the variables and scopes that come next and lie whole ahead, and returns how many bytes
+/// were passed.
 fn declare_ahead(
     alloc: Global,
     ahead: Ahead<'_>,
@@ -286,7 +293,8 @@ fn declare_ahead(
     }
 }
 
-/// Reads the variables and scopes that come next and lie whole in the chunk, behind a phrase. The feed then shows no token.
+/// Reads the variables and scopes that come next and lie whole in the chunk, behind a phrase. The
+/// feed then shows no token.
 pub(crate) fn read_ahead<S: Source>(
     alloc: Global,
     feed: &mut Feed<'_, '_, '_, '_, S>,

@@ -77,7 +77,8 @@ pub(crate) fn upscope_ahead(ahead: &mut Ahead<'_>) -> Option<()>
     Some(())
 }
 
-/// Opens a scope that lies ahead, and tells whether it may stand there: else `read_scope` says why not.
+/// Opens a scope that lies ahead, and tells whether it may stand there: else `read_scope` says why
+/// not.
 #[inline(always)]
 pub(crate) fn open_scope(
     most: u64,
@@ -116,7 +117,8 @@ pub(crate) fn open_scope(
     Ok(true)
 }
 
-/// Closes a scope by a phrase that lies ahead, and tells whether it may stand there: else `read_upscope` says why not.
+/// Closes a scope by a phrase that lies ahead, and tells whether it may stand there: else
+/// `read_upscope` says why not.
 #[inline(always)]
 pub(crate) fn close_scope(most: u64, draft: &mut Draft) -> Result<bool, HeadFault>
     ensures declares { (given more : List Token) → DraftsOn most given draft.old

@@ -14,8 +14,9 @@ use crate::rows::token_len;
 use crate::sought::Sought;
 use vcd_view::{Code, code_in};
 
-/// The place of the code of a variable, which is added where it is new, at the end of the text; none where it was declared with
-/// another size, or where one of them is an event and the other is not.
+/// The place of the code of a variable, which is added where it is new, at the end of the text;
+/// none where it was declared with another size, or where one of them is an event and the other is
+/// not.
 #[inline(always)]
 pub(crate) fn enter_code(
     text: &mut Vec<u8>,

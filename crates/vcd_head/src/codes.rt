@@ -50,7 +50,8 @@ impl Codes {
         Some(Coded { place, code })
     }
 
-    /// The code with these bytes. It takes memory for the key of a long one; where that is refused, all keys are looked through.
+    /// The code with these bytes. It takes memory for the key of a long one; where that is refused,
+    /// all keys are looked through.
     pub(crate) fn find_bytes(&self, alloc: Global, bytes: &[u8]) -> Option<Coded>
         ensures { (text : List ℕ) (cs : List IdCode) → AreHeld text self.now.list.items cs
             → AreKeysOf self.now.keys.keys cs → IsKnown cs bytes.now result }

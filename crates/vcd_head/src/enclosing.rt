@@ -12,13 +12,15 @@ const HELD: usize = 128;
 
 /// The scopes around the declaration of a row, given outermost first.
 ///
-/// Rows tell of the scope around them alone. So it walks outwards, holds the last rows that it passes, gives them, and walks
-/// again where more are left: once where at most 128 scopes enclose the declaration, at most eight times in a header. It takes
-/// 1 KB of stack, whatever the depth, and no memory.
+/// Rows tell of the scope around them alone. So it walks outwards, holds the last rows that it
+/// passes, gives them, and walks again where more are left: once where at most 128 scopes enclose
+/// the declaration, at most eight times in a header. It takes 1 KB of stack, whatever the depth,
+/// and no memory.
 #[derive(Drop)]
 pub(crate) struct Enclosing {
     row: usize,
-    // The rows that were passed last, each at its number, counted outwards from 0, modulo their number.
+    // The rows that were passed last, each at its number, counted outwards from 0, modulo their
+    // number.
     rows: [usize; HELD],
     // At most so many scopes are left.
     left: usize,
@@ -72,7 +74,8 @@ impl Enclosing {
     }
 }
 
-// Walks outwards from a row by at most so many scopes, and holds the last ones; tells how many it passed.
+// Walks outwards from a row by at most so many scopes, and holds the last ones; tells how many it
+// passed.
 fn walk(view: HeadView<'_>, row: usize, most: usize, rows: &mut [usize; HELD]) -> usize
     ensures walks { (h : Header) → IsViewOf view.entry h → row < length h.declarations
         → Walks h row most rows.new result }

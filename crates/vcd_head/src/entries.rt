@@ -1,5 +1,5 @@
-// The entries by which codes are looked up: how they are filled. Any code may have any place among them, or none: where an entry
-// is decides only how fast a look-up is.
+// The entries by which codes are looked up: how they are filled. Any code may have any place among
+// them, or none: where an entry is decides only how fast a look-up is.
 ghost use Rattle.std.specs.Prelude.{◌≡◌, ◌*◌, ◌^◌, ◌≤◌, ◌<◌, ℕ, List, true, length, set, slice_get, Some, IfOk, IfSome};
 ghost use Rattle.vcd_view.specs.Entries.{are_right, is_right, text_in};
 ghost use Rattle.vcd_view.specs.Keys.{key_in};
@@ -17,7 +17,8 @@ const EMPTY: Entry = Entry {
     most: 0,
 };
 
-/// The entries of these codes, whose bytes lie in the text: a power of two of them, as many as three for each code allow.
+/// The entries of these codes, whose bytes lie in the text: a power of two of them, as many as
+/// three for each code allow.
 pub(crate) fn entries_of(
     alloc: Global,
     text: &[u8],
@@ -35,7 +36,8 @@ pub(crate) fn entries_of(
     Ok(entries)
 }
 
-// How many entries so many codes have: the greatest power of two that is at most three times as many.
+// How many entries so many codes have: the greatest power of two that is at most three times as
+// many.
 fn count_for(codes: usize) -> usize
     requires { (0 < codes) × (codes < 2 ^ 60) }
     ensures { result ≤ 3 * codes }
@@ -60,8 +62,8 @@ fn fill(entries: &mut [Entry], text: &[u8], codes: &[Code], seed: CodeSeed)
     }
 }
 
-// Writes the entry of a code with these bytes, which is at this place: to its own or one beside it, if one of them is free, else
-// where its hash leads.
+// Writes the entry of a code with these bytes, which is at this place: to its own or one beside it,
+// if one of them is free, else where its hash leads.
 #[inline(always)]
 fn enter(entries: &mut [Entry], place: usize, code: Code, bytes: &[u8], seed: CodeSeed)
     ensures right { (text : List ℕ) (codes : List Code) → slice_get codes place ≡ Some code
@@ -95,7 +97,8 @@ fn free_near(entries: &[Entry], own: usize) -> Option<usize>
     None
 }
 
-// Writes an entry to the first free one to which the hash leads; to none where all that are looked at are taken.
+// Writes an entry to the first free one to which the hash leads; to none where all that are looked
+// at are taken.
 fn put_hashed(entries: &mut [Entry], hash: u64, entry: Entry)
     ensures right { (text : List ℕ) (codes : List Code) → is_right text codes entry ≡ true
         → are_right text codes entries.old ≡ true → are_right text codes entries.new ≡ true }
@@ -121,7 +124,8 @@ fn is_free(entries: &[Entry], at: usize) -> bool
     }
 }
 
-// The entry of a code with this key, which is at this place; an empty one where 32 bits do not hold the place.
+// The entry of a code with this key, which is at this place; an empty one where 32 bits do not hold
+// the place.
 #[inline(always)]
 fn entry_with(place: usize, code: Code, key: u64) -> Entry
     ensures short { (text : List ℕ) (codes : List Code) → slice_get codes place ≡ Some code

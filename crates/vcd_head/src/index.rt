@@ -17,7 +17,8 @@ const RANK_BYTES: usize = 4;
 // How many places ranks tell apart.
 const PLACES: usize = 16_777_216;
 
-// The first bytes of a code as a number, which is less where they come before others, and its place.
+// The first bytes of a code as a number, which is less where they come before others, and its
+// place.
 #[derive(Clone, Copy)]
 pub(crate) struct Front {
     pub(crate) number: u64,
@@ -35,8 +36,8 @@ pub(crate) fn index_of(alloc: Global, text: &[u8], codes: &[Code]) -> Result<Vec
     }
 }
 
-// The same of short codes, none where some are long. Their ranks are sorted, and then left with their places alone: so nothing
-// else is held beside the index.
+// The same of short codes, none where some are long. Their ranks are sorted, and then left with
+// their places alone: so nothing else is held beside the index.
 fn index_by_ranks(
     alloc: Global,
     text: &[u8],
@@ -54,7 +55,8 @@ fn index_by_ranks(
     Ok(Some(index))
 }
 
-// The ranks of the codes, in their order of declaration, if a rank has all of the bytes and the place of each.
+// The ranks of the codes, in their order of declaration, if a rank has all of the bytes and the
+// place of each.
 fn ranks_of(alloc: Global, text: &[u8], codes: &[Code]) -> Result<Option<Vec<usize>>, AllocError>
     ensures { IfOk result (λ found. IfSome found (λ ranks.
         AreRanks text.now codes.now ranks.items)) }
@@ -73,7 +75,8 @@ fn ranks_of(alloc: Global, text: &[u8], codes: &[Code]) -> Result<Option<Vec<usi
     Ok(Some(ranks))
 }
 
-// The bytes of a code, their number and its place as one number, which is less where the bytes come before others.
+// The bytes of a code, their number and its place as one number, which is less where the bytes come
+// before others.
 #[inline(always)]
 fn rank_of(bytes: &[u8], place: usize) -> usize
     requires short { length bytes.now ≤ 4 }

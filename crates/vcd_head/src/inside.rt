@@ -1,4 +1,5 @@
-// What is left of names inside the scopes that are open, so that a row is compared by its own name alone.
+// What is left of names inside the scopes that are open, so that a row is compared by its own name
+// alone.
 ghost use Rattle.std.specs.Prelude.{◌≡◌, ◌+◌, ◌<◌, ◌≤◌, [], ◌∷◌, ◌++◌, ℕ, List, length, drop, map, string_bytes, slice_get, take, true, false, Some, IfSome};
 ghost use Rattle.vcd_model.specs.Declarations.{Declaration, name_of as name_of_declaration, path_of};
 ghost use Rattle.vcd_model.specs.Header.{Header};
@@ -172,8 +173,8 @@ impl Inside {
     }
 }
 
-// The scopes that are open, the innermost last. What it holds of a scope is right whatever order rows are taken in, and is looked
-// at where it is of the scope around the row that is taken.
+// The scopes that are open, the innermost last. What it holds of a scope is right whatever order
+// rows are taken in, and is looked at where it is of the scope around the row that is taken.
 #[derive(Drop)]
 pub(crate) struct Open {
     inside: [Inside; MOST_HELD],
@@ -193,8 +194,8 @@ impl Open {
         }
     }
 
-    // Takes the next row; tells whether it is a variable's that some name selects, any variable's where there are no names, and
-    // which names select it, beside those that had matched before.
+    // Takes the next row; tells whether it is a variable's that some name selects, any variable's
+    // where there are no names, and which names select it, beside those that had matched before.
     #[inline(always)]
     pub(crate) fn take(
         &mut self,

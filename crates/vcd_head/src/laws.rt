@@ -8,7 +8,8 @@ pub fn codes_differ()
     vcd_model::laws::codes_differ();
 }
 
-/// The ticks of a time with a unit are the least that reach it, or the greatest that do not pass it.
+/// The ticks of a time with a unit are the least that reach it, or the greatest that do not pass
+/// it.
 pub fn ticks_are_rounded()
     ensures { TicksAreRounded }
 {

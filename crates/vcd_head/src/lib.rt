@@ -1,50 +1,56 @@
-//! Reading the header of a dump, and all that is made of it: what names select, paths, headers as they are written.
+//! Reading the header of a dump, and all that is made of it: what names select, paths, headers as
+//! they are written.
 //!
-//! `read_head` reads a header from a feed, up to the `$end` of `$enddefinitions`, into a `Head`, which owns its memory;
-//! `read_head_with_hasher` hashes its codes by what the caller chooses, against crafted ones. All else works on its
-//! `HeadView`: the path of a variable (`put_path`), the variables that names select (`select`, as marks), the header of
-//! marked declarations (`put_head`), and, over the heads themselves, the header of a merged dump (`put_merged_head`). The
-//! view and its rows, the look-up of codes (`find`), the room that an engine needs (`need`) and the codes of a merge
-//! (`put_code`) are of `vcd_view`, so that who reads a body needs no more; a caller finds them here.
+//! `read_head` reads a header from a feed, up to the `$end` of `$enddefinitions`, into a `Head`,
+//! which owns its memory; `read_head_with_hasher` hashes its codes by what the caller chooses,
+//! against crafted ones. All else works on its `HeadView`: the path of a variable (`put_path`), the
+//! variables that names select (`select`, as marks), the header of marked declarations
+//! (`put_head`), and, over the heads themselves, the header of a merged dump (`put_merged_head`).
+//! The view and its rows, the look-up of codes (`find`), the room that an engine needs (`need`) and
+//! the codes of a merge (`put_code`) are of `vcd_view`, so that who reads a body needs no more; a
+//! caller finds them here.
 //!
 //! # The relations
 //!
-//! While a header is read, `Reads most input placed before feed` says how far: the tokens given are these good phrases, and
-//! then these first tokens of the next one. In the end `GivesHead`: the tokens of a whole header were given, and the head shows
-//! it. Else `Fails`: the header's fault, at its line; out of memory, that no token given so far has a fault.
+//! While a header is read, `Reads most input placed before feed` says how far: the tokens given are
+//! these good phrases, and then these first tokens of the next one. In the end `GivesHead`: the
+//! tokens of a whole header were given, and the head shows it. Else `Fails`: the header's fault, at
+//! its line; out of memory, that no token given so far has a fault.
 //!
-//! Each function over a view takes any view, and its result is that of the definitions where the view is of a header of them
-//! (`IsViewOf view h`). What the entries of a head say of its codes is always so (`right`).
+//! Each function over a view takes any view, and its result is that of the definitions where the
+//! view is of a header of them (`IsViewOf view h`). What the entries of a head say of its codes is
+//! always so (`right`).
 //!
 //! # The modules
 //!
 //! - `read`, `phrases`: the whole header; one phrase of it
 //! - `tokens`, `texts`, `words`: the next token; texts up to `$end`; tests of tokens
 //! - `scopes`, `variable`, `scale`, `rows`: what a phrase declares, and its row
-//! - `ahead`, `ahead_scopes`, `code_ahead`: variables and scopes whose phrases lie whole in the chunk; the code of such a
-//!   variable
-//! - `draft`, `codes`, `code_place`, `code_key`, `sought`, `finish`: a header while it is read, its codes, and the keys by
-//!   which a set finds them; the head that it becomes
+//! - `ahead`, `ahead_scopes`, `code_ahead`: variables and scopes whose phrases lie whole in the
+//!   chunk; the code of such a variable
+//! - `draft`, `codes`, `code_place`, `code_key`, `sought`, `finish`: a header while it is read, its
+//!   codes, and the keys by which a set finds them; the head that it becomes
 //! - `head`, `fault`: `Head`; `HeadFault`
 //! - `entries`, `index`: how the entries are filled; the order of the codes by their bytes
 //! - `enclosing`, `path`: the scopes around a declaration, outermost first; paths
-//! - `selection`, `inside`, `sieve`: which variables names select; what is left of names inside open scopes; the rows of a scope
-//!   that no name selects, told by a flag
+//! - `selection`, `inside`, `sieve`: which variables names select; what is left of names inside
+//!   open scopes; the rows of a scope that no name selects, told by a flag
 //! - `write`: headers as they are written
 //! - `moment`: `ticks`, a time with a unit in ticks of the header's scale
 //! - `merged`: the header of a merged dump
 //! - `laws`: each function has a law over headers and codes as its contract
 //!
-//! In `specs/` callers read `Shown`, `Reads`, `Fault`, `Marks`, `Merged` and `Moments`; of the view `Views`, `ViewShown`, `Finds`,
-//! `Needs` and `NewCode`; and the definitions that these cite, as `Model`.
+//! In `specs/` callers read `Shown`, `Reads`, `Fault`, `Marks`, `Merged` and `Moments`; of the view
+//! `Views`, `ViewShown`, `Finds`, `Needs` and `NewCode`; and the definitions that these cite, as
+//! `Model`.
 //!
 //! # Limits
 //!
-//! At most 16,777,216 declarations, 1,000 open scopes, 16,777,215 bits a variable, and 4,294,967,295 bytes a type, a name
-//! or a code. Memory is taken by `read_head` alone.
+//! At most 16,777,216 declarations, 1,000 open scopes, 16,777,215 bits a variable, and
+//! 4,294,967,295 bytes a type, a name or a code. Memory is taken by `read_head` alone.
 //!
-//! Not promised: what a call gives over a view that is of no header, and what `select` leaves in the marks where a name selects
-//! nothing.
+//! Not promised: what a call gives over a view that is of no header, and what `select` leaves in
+//! the marks where a name selects nothing.
 #![tactic(auto)]
 
 mod ahead;

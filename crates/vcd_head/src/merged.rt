@@ -16,7 +16,8 @@ use crate::write::{put_lines, put_renamed, put_scope, text_of_exponent};
 use vcd_text::{Sink, WriteFailed, put, put_number};
 use vcd_view::{HeadView, Kind};
 
-/// The least power of ten of the heads' time scales, in seconds; a missing one counts as 1s, and 0 where there is no head.
+/// The least power of ten of the heads' time scales, in seconds; a missing one counts as 1s, and 0
+/// where there is no head.
 pub fn least_exponent(heads: &[Head]) -> i8
     ensures { (hs : List Header) → ShowHeaders heads.now hs → result ≡ least_of hs }
 {
@@ -31,8 +32,8 @@ pub fn least_exponent(heads: &[Head]) -> i8
     least.unwrap_or(0)
 }
 
-// The scopes that are open at a row of an input. The line that opens one is written at the first variable inside it, so each is
-// written once, and none that has no variable.
+// The scopes that are open at a row of an input. The line that opens one is written at the first
+// variable inside it, so each is written once, and none that has no variable.
 #[derive(Clone, Copy)]
 pub(crate) struct OpenScopes {
     // So many, the innermost, are not written yet.
@@ -97,7 +98,8 @@ fn put_openings<W: Sink>(
     Ok(())
 }
 
-/// Writes the line of an `$upscope` behind these open scopes: none where the line of the scope that it closes is not written.
+/// Writes the line of an `$upscope` behind these open scopes: none where the line of the scope that
+/// it closes is not written.
 fn put_closing<W: Sink>(scopes: OpenScopes, w: &mut W) -> Result<(), WriteFailed>
     requires failures { (W.device w.old).failures < 2 ^ 64 - 1 }
     ensures { Puts (W.device w.old) (W.device w.new) (closing scopes.pending scopes.written) result }
@@ -124,8 +126,9 @@ fn put_closings<W: Sink>(count: usize, w: &mut W) -> Result<(), WriteFailed>
     Ok(())
 }
 
-/// Writes what is due at a row of an input, at which these scopes are open: the line of a variable, with a new code, behind those
-/// of the scopes that it is the first one in; the line of an `$upscope`. The codes are numbered from `first` on.
+/// Writes what is due at a row of an input, at which these scopes are open: the line of a variable,
+/// with a new code, behind those of the scopes that it is the first one in; the line of an
+/// `$upscope`. The codes are numbered from `first` on.
 fn put_input_row<W: Sink>(
     view: HeadView<'_>,
     row: usize,
@@ -153,7 +156,8 @@ fn put_input_row<W: Sink>(
     }
 }
 
-/// Writes the variables of an input with new codes, numbered from `first` on, and the scopes around these.
+/// Writes the variables of an input with new codes, numbered from `first` on, and the scopes around
+/// these.
 fn put_input_rows<W: Sink>(view: HeadView<'_>, first: u64, w: &mut W) -> Result<(), WriteFailed>
     requires failures { (W.device w.old).failures < 2 ^ 64 - 1 }
     ensures takes { (h : Header) → IsViewOf view.entry h → FitNumbers first h
@@ -172,8 +176,8 @@ fn put_input_rows<W: Sink>(view: HeadView<'_>, first: u64, w: &mut W) -> Result<
     put_closings(scopes.written, w)
 }
 
-/// Writes the head of an input, by its number from 1: its scope, and in it the variables with new codes, numbered from `first`
-/// on, and the scopes around these.
+/// Writes the head of an input, by its number from 1: its scope, and in it the variables with new
+/// codes, numbered from `first` on, and the scopes around these.
 fn put_input_head<W: Sink>(
     view: HeadView<'_>,
     number: u64,
@@ -210,9 +214,10 @@ fn put_input_heads<W: Sink>(heads: &[Head], w: &mut W) -> Result<(), WriteFailed
     Ok(())
 }
 
-/// Writes the head of the merged dump of inputs with these heads, at most 64: the least of their time scales, for each input a
-/// scope with its variables and the scopes around these, and `$enddefinitions`. The codes are new ones, in the order of the
-/// inputs. Where a write fails, a prefix was written.
+/// Writes the head of the merged dump of inputs with these heads, at most 64: the least of their
+/// time scales, for each input a scope with its variables and the scopes around these, and
+/// `$enddefinitions`. The codes are new ones, in the order of the inputs. Where a write fails, a
+/// prefix was written.
 pub fn put_merged_head<W: Sink>(heads: &[Head], w: &mut W) -> Result<(), WriteFailed>
     requires heads { length heads.now ≤ 64 }
     requires failures { (W.device w.old).failures < 2 ^ 64 - 1 }

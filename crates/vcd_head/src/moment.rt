@@ -24,8 +24,8 @@ impl Moment {
     ghost use Rattle.std.specs.Prelude.{◌≡◌, option_map};
     ghost use Rattle.vcd_head.specs.Moments.{asked, with_unit};
 
-    /// So many units of this name, or so many ticks where the name is empty; none where it is no unit: `s`, `ms`, `us`, `ns`,
-    /// `ps` or `fs`.
+    /// So many units of this name, or so many ticks where the name is empty; none where it is no
+    /// unit: `s`, `ms`, `us`, `ns`, `ps` or `fs`.
     pub fn from_parts(number: u64, unit: &[u8]) -> Option<Moment>
         ensures { option_map asked result ≡ with_unit number unit.now }
     {
@@ -64,13 +64,14 @@ impl TickFault {
     }
 }
 
-/// A moment in ticks of the header's time scale: where it is between two ticks, the later one if `up`, else the earlier one. It
-/// is exact for every unit and every scale. Without a unit the number is that of the ticks, whatever the scale.
+/// A moment in ticks of the header's time scale: where it is between two ticks, the later one if
+/// `up`, else the earlier one. It is exact for every unit and every scale. Without a unit the
+/// number is that of the ticks, whatever the scale.
 ///
 /// # Errors
 ///
-/// `NoTimescale` where there is a unit and the header declares no time scale, else `OutOfRange` where there would be 2^64 ticks
-/// or more.
+/// `NoTimescale` where there is a unit and the header declares no time scale, else `OutOfRange`
+/// where there would be 2^64 ticks or more.
 pub fn ticks(view: HeadView<'_>, moment: Moment, up: bool) -> Result<u64, TickFault>
     ensures ticks { told result
         ≡ moment_ticks (option_map (λ (s : Scale). s.exponent) view.entry.scale) (asked moment) up }

@@ -18,13 +18,14 @@ use std::hash::{BuildHasher, BuildHasherDefault, FoldHasher};
 use vcd_text::{Feed, Source};
 use vcd_view::CodeSeed;
 
-/// Reads a header up to the `$end` of `$enddefinitions`, with at most `most` declarations (at most 16,777,216). The feed then
-/// stands after that token. After a fault nothing of the head is left, and the feed's token is the last one given: empty where
-/// the input or its source ended the reading, else the one at which the fault stands. Over windows of 4 GiB or more a type, a
-/// name or a code of as many bytes is out of memory.
+/// Reads a header up to the `$end` of `$enddefinitions`, with at most `most` declarations (at most
+/// 16,777,216). The feed then stands after that token. After a fault nothing of the head is left,
+/// and the feed's token is the last one given: empty where the input or its source ended the
+/// reading, else the one at which the fault stands. Over windows of 4 GiB or more a type, a name or
+/// a code of as many bytes is out of memory.
 ///
-/// Codes are hashed by numbers that all may know, so that codes can be crafted which take long to find: a dump that is not
-/// trusted is read by `read_head_with_hasher`.
+/// Codes are hashed by numbers that all may know, so that codes can be crafted which take long to
+/// find: a dump that is not trusted is read by `read_head_with_hasher`.
 pub fn read_head<S: Source>(
     alloc: Global,
     feed: &mut Feed<'_, '_, '_, '_, S>,
@@ -33,8 +34,9 @@ pub fn read_head<S: Source>(
     requires failures { S.failures (source_of feed.old) < 2 ^ 64 - 1 }
     requires most { most ≤ 16777216 }
 
-    // A head shows the header of the phrases that were read. A fault is the header's, at the feed's line and token, the first
-    // token given that has one, or empty where none was left; where memory is refused, no token given so far has a fault.
+    // A head shows the header of the phrases that were read. A fault is the header's, at the feed's
+    // line and token, the first token given that has one, or empty where none was left; where
+    // memory is refused, no token given so far has a fault.
     ensures reads { (i : Input) → HasGiven i [] feed.old
         → MatchResult result (λ head. GivesHead most i feed.new (shown head))
         (λ fault. Fails most i fault feed.new) }
@@ -53,13 +55,15 @@ pub fn read_head<S: Source>(
     read_head_with_hasher(alloc, feed, most, &hasher)
 }
 
-/// Reads a header up to the `$end` of `$enddefinitions`, with at most `most` declarations (at most 16,777,216). The feed then
-/// stands after that token. After a fault nothing of the head is left, and the feed's token is the last one given: empty where
-/// the input or its source ended the reading, else the one at which the fault stands. Over windows of 4 GiB or more a type, a
-/// name or a code of as many bytes is out of memory.
+/// Reads a header up to the `$end` of `$enddefinitions`, with at most `most` declarations (at most
+/// 16,777,216). The feed then stands after that token. After a fault nothing of the head is left,
+/// and the feed's token is the last one given: empty where the input or its source ended the
+/// reading, else the one at which the fault stands. Over windows of 4 GiB or more a type, a name or
+/// a code of as many bytes is out of memory.
 ///
-/// Codes are hashed by numbers that the hasher gives; what is read is the same by each. Where nobody knows these numbers who
-/// made the dump, as with `RandomState`, no choice of codes takes long to find.
+/// Codes are hashed by numbers that the hasher gives; what is read is the same by each. Where
+/// nobody knows these numbers who made the dump, as with `RandomState`, no choice of codes takes
+/// long to find.
 pub fn read_head_with_hasher<S: Source, B: BuildHasher>(
     alloc: Global,
     feed: &mut Feed<'_, '_, '_, '_, S>,
@@ -69,8 +73,9 @@ pub fn read_head_with_hasher<S: Source, B: BuildHasher>(
     requires failures { S.failures (source_of feed.old) < 2 ^ 64 - 1 }
     requires most { most ≤ 16777216 }
 
-    // A head shows the header of the phrases that were read. A fault is the header's, at the feed's line and token, the first
-    // token given that has one, or empty where none was left; where memory is refused, no token given so far has a fault.
+    // A head shows the header of the phrases that were read. A fault is the header's, at the feed's
+    // line and token, the first token given that has one, or empty where none was left; where
+    // memory is refused, no token given so far has a fault.
     ensures reads { (i : Input) → HasGiven i [] feed.old
         → MatchResult result (λ head. GivesHead most i feed.new (shown head))
         (λ fault. Fails most i fault feed.new) }

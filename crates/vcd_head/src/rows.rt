@@ -17,8 +17,8 @@ pub(crate) struct WideRow {
     pub(crate) code: usize,
 }
 
-/// The length of a token in 32 bits. Only a token of 4 GiB or more has none, for which windows of as many bytes are lent: it is
-/// out of memory.
+/// The length of a token in 32 bits. Only a token of 4 GiB or more has none, for which windows of
+/// as many bytes are lent: it is out of memory.
 #[inline(always)]
 pub(crate) fn token_len(len: usize) -> Result<u32, HeadFault>
     ensures held { IfOk result (λ held. held ≡ len) }
@@ -30,7 +30,8 @@ pub(crate) fn token_len(len: usize) -> Result<u32, HeadFault>
     }
 }
 
-/// The number of a row or of a code in 32 bits, which hold that of each declaration that is allowed.
+/// The number of a row or of a code in 32 bits, which hold that of each declaration that is
+/// allowed.
 #[inline(always)]
 fn in_32_bits(number: usize) -> u32
     ensures { number < 2 ^ 32 → result ≡ number }

@@ -22,7 +22,8 @@ pub(crate) enum Match<'n> {
     Differs,
 }
 
-// A byte of the front stands in the text too. Where it does not, the text does not begin with the front.
+// A byte of the front stands in the text too. Where it does not, the text does not begin with the
+// front.
 #[inline(always)]
 fn same_at(text: &[u8], front: &[u8], place: usize) -> bool
     requires { place < length front.now }
@@ -31,8 +32,9 @@ fn same_at(text: &[u8], front: &[u8], place: usize) -> bool
     place < text.len() && text[place] == front[place]
 }
 
-// A quick test, which is false only where the text does not begin with the front: whether the last two bytes of the front stand in
-// their places. Names that stand together often differ in a number at their end, which a bracket may close.
+// A quick test, which is false only where the text does not begin with the front: whether the last
+// two bytes of the front stand in their places. Names that stand together often differ in a number
+// at their end, which a bracket may close.
 #[inline(always)]
 fn may_begin(text: &[u8], front: &[u8]) -> bool
     ensures { result ≡ false → (rest : List ℕ) → text.now ≢ front.now ++ rest }
@@ -77,7 +79,8 @@ pub(crate) fn after_component<'n>(name: &'n [u8], component: &[u8]) -> Match<'n>
     }
 }
 
-/// A name selects the variable of a row: the variable's path is the name, or begins with it and a point.
+/// A name selects the variable of a row: the variable's path is the name, or begins with it and a
+/// point.
 pub fn selects(view: HeadView<'_>, row: usize, name: &str) -> bool
     ensures { (h : Header) (v : Variable) → IsViewOf view.entry h
         → slice_get h.declarations row ≡ Some (Declaration.Var v)
@@ -108,7 +111,8 @@ fn mark(view: HeadView<'_>, row: usize, marks: &mut [u8])
     }
 }
 
-// The same, where a scope, counted from 1, is marked with those around it; gives the scope around the row.
+// The same, where a scope, counted from 1, is marked with those around it; gives the scope around
+// the row.
 fn mark_behind(view: HeadView<'_>, row: usize, marked: usize, marks: &mut [u8]) -> usize
     requires { row < length marks.old }
     ensures marks { (h : Header) → IsViewOf view.entry h → row < length h.declarations
@@ -139,8 +143,8 @@ fn parent_of(view: HeadView<'_>, row: usize) -> usize
     }
 }
 
-// Sets the marks of the variables that some name selects, of all where there are no names, and of the scopes around them; gives
-// the place of the first name that selects nothing.
+// Sets the marks of the variables that some name selects, of all where there are no names, and of
+// the scopes around them; gives the place of the first name that selects nothing.
 fn mark_selected(view: HeadView<'_>, names: &[String], marks: &mut [u8]) -> Option<usize>
     requires len { length marks.old ≡ length view.rows.now }
     requires few { length names.now ≤ 64 }
@@ -176,8 +180,9 @@ fn first_false(flags: &[bool], count: usize) -> Option<usize>
     None
 }
 
-/// Marks the variables that the names select, all where there are no names, and the scopes around them: a mark is 1 there and 0
-/// elsewhere. A name that selects nothing is refused by its place, the first one; the marks then hold anything.
+/// Marks the variables that the names select, all where there are no names, and the scopes around
+/// them: a mark is 1 there and 0 elsewhere. A name that selects nothing is refused by its place,
+/// the first one; the marks then hold anything.
 pub fn select(view: HeadView<'_>, names: &[String], marks: &mut [u8]) -> Result<(), usize>
     requires marks { length marks.old ≡ length view.rows.now }
     ensures marks { (h : Header) → IsViewOf view.entry h

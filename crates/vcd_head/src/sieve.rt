@@ -9,7 +9,8 @@ use crate::inside::{Inside, Left, behind};
 // So many flags of each kind.
 const FLAGS: usize = 1024;
 
-// So many rows of a scope are compared with each name before its flags are found, which takes as long as two of them.
+// So many rows of a scope are compared with each name before its flags are found, which takes as
+// long as two of them.
 const ROWS_FIRST: usize = 4;
 
 // Flags of the texts that are left of names inside a scope, by sums of their bytes.

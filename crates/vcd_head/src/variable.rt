@@ -41,7 +41,8 @@ fn read_size<S: Source>(feed: &mut Feed<'_, '_, '_, '_, S>) -> Result<usize, Hea
     }
 }
 
-/// The code of a variable of this size, which is an event or none. Its bytes are held where it is new.
+/// The code of a variable of this size, which is an event or none. Its bytes are held where it is
+/// new.
 fn read_code<S: Source>(
     alloc: Global,
     feed: &mut Feed<'_, '_, '_, '_, S>,

@@ -155,7 +155,8 @@ fn put_own<W: Sink>(view: HeadView<'_>, row: usize, w: &mut W) -> Result<(), Wri
     }
 }
 
-/// Writes the line of the variable of a row, with a new code: the codes of its header are numbered from `first` on.
+/// Writes the line of the variable of a row, with a new code: the codes of its header are numbered
+/// from `first` on.
 pub(crate) fn put_renamed<W: Sink>(
     view: HeadView<'_>,
     row: usize,
@@ -193,8 +194,8 @@ fn put_up<W: Sink>(marks: &[u8], scope: usize, w: &mut W) -> Result<(), WriteFai
     Ok(())
 }
 
-/// Writes the line of the declaration of a row: a scope or a variable where it is marked, an `$upscope` where the scope that it
-/// closes is. A variable has its own code.
+/// Writes the line of the declaration of a row: a scope or a variable where it is marked, an
+/// `$upscope` where the scope that it closes is. A variable has its own code.
 fn put_row<W: Sink>(
     view: HeadView<'_>,
     marks: &[u8],
@@ -263,7 +264,8 @@ fn put_open<W: Sink>(view: HeadView<'_>, marks: &[u8], w: &mut W) -> Result<(), 
     Ok(())
 }
 
-/// Writes the marked declarations in order, and an `$upscope` for each marked scope that is still open.
+/// Writes the marked declarations in order, and an `$upscope` for each marked scope that is still
+/// open.
 fn put_declarations<W: Sink>(view: HeadView<'_>, marks: &[u8], w: &mut W) -> Result<(), WriteFailed>
     requires failures { (W.device w.old).failures < 2 ^ 64 - 1 }
     ensures takes { (h : Header) → IsViewOf view.entry h
@@ -275,8 +277,9 @@ fn put_declarations<W: Sink>(view: HeadView<'_>, marks: &[u8], w: &mut W) -> Res
     put_open(view, marks, w)
 }
 
-/// Writes the header of the marked declarations: date, version and time scale where there are some, the marked scopes and
-/// variables in order, an `$upscope` for each marked scope, and `$enddefinitions`. Where a write fails, a prefix was written.
+/// Writes the header of the marked declarations: date, version and time scale where there are some,
+/// the marked scopes and variables in order, an `$upscope` for each marked scope, and
+/// `$enddefinitions`. Where a write fails, a prefix was written.
 pub fn put_head<W: Sink>(view: HeadView<'_>, marks: &[u8], w: &mut W) -> Result<(), WriteFailed>
     requires failures { (W.device w.old).failures < 2 ^ 64 - 1 }
     ensures takes { (h : Header) → IsViewOf view.entry h

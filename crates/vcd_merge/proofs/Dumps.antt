@@ -1,4 +1,5 @@
--- The dump that an input is in a merge: its items up to its first time mark that is too large, or up to its own fault.
+-- The dump that an input is in a merge: its items up to its first time mark that is too large, or
+-- up to its own fault.
 use Rattle.std.proofs.Common.{◌≡◌, ℕ, true, false, List, [], ◌∷◌, ◌++◌, Option, Some, sym, ap, subst, ◌∙◌, append_assoc}
 use Rattle.std.specs.List.{AllByRecursion}
 use Rattle.vcd_model.specs.Input.{Input}

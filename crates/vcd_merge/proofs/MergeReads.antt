@@ -52,7 +52,8 @@ module _ {X : Type 0} (rest : X → Option (List ℕ)) (failures : X → ℕ) (l
   abbrev pub IsRead : Lane → (old new : Supply) → Input → Type 0
   IsRead l old new left = IsLeft l.input old new left × ReadsAsNeeded limit chunk old new left l.front (is_settled_behind Request.Merge l.header)
 
-  -- the sources were these olds before the merge: none of their reads has failed in it, and no more was read of any than what settles it
+  -- the sources were these olds before the merge: none of their reads has failed in it, and no more
+  -- was read of any than what settles it
   pub record AreReadSoFar (xs : List X) : Type 0 where
     pub each : (j : ℕ) (l : Lane) (old new : Supply) → slice_get lanes j ≡ Some l → slice_get olds j ≡ Some old → slice_get (supplies xs) j ≡ Some new
         → (new.failures ≡ old.failures) × ReadsAsNeeded limit chunk old new l.input l.front (is_settled_behind Request.Merge l.header)

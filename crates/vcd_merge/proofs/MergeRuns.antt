@@ -218,7 +218,8 @@ module _ {X : Type 0} (rest : X → _) (failures : X → ℕ) (hs : List Header)
           all_whole (EndFits rest hs lanes es s s' limit is_limit ready seats tokens t.given) es ws (Err Write) (new_many {A = More} k (Err Write) counts) (read_on {A = More} k t.input (Err Write) refl counts t.reads) (λ j x p. p.left)
           (subst (λ (o : Outcome). WritesSome begin new o.output) (sym outcome) some)
 
-      -- it has stopped: the fault is the first of the merged inputs, and what stands is what comes before it; or a write failed
+      -- it has stopped: the fault is the first of the merged inputs, and what stands is what comes
+      -- before it; or a write failed
       pub stopped_merge : (stop : Stop) (k : ℕ) → IsNext s.seats k → map failures s'.sources ≡ failures_with {A = More} (map failures s.sources) k (Err stop) → Gives rest hs lanes es s s' out new (Err stop) → IsFollowed (Err stop)
       stopped_merge (Faulty input line fault) k next counts gives = faulty_merge input line fault k counts gives
       stopped_merge (Read input) k next counts gives = cut_merge input k next counts gives

@@ -1,4 +1,5 @@
--- Where a merge begins: its seats are set one after the other, and it holds the dumps of inputs that have given no item.
+-- Where a merge begins: its seats are set one after the other, and it holds the dumps of inputs
+-- that have given no item.
 use Rattle.std.proofs.Common.{◌≡◌, ℕ, zero, suc, ◌+◌, ◌<◌, ◌≤◌, true, false, List, [], ◌∷◌, ◌++◌, ◌^◌, length, take, map, slice_get, slice_set, get_or, Option, Some, None, refl, sym, ap, subst, ◌∙◌, arith, inl, inr, append-nil, append_assoc}
 use Rattle.std.specs.Prelude.{All, SomeIff, ℤ, nat_abs, option_map, unwrap_or, ◌-ℤ◌}
 use Rattle.std.specs.List.{AllByRecursion}

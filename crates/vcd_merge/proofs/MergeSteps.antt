@@ -1,4 +1,5 @@
--- What a merge holds behind one item more of the input whose turn it is, and where that input has finished.
+-- What a merge holds behind one item more of the input whose turn it is, and where that input has
+-- finished.
 use Rattle.std.proofs.Common.{◌≡◌, ◌≢◌, ℕ, zero, suc, ◌*◌, ◌<◌, ◌≤◌, true, false, List, [], ◌∷◌, ◌++◌, length, take, map, slice_get, Option, Some, None, refl, sym, ap, subst, ◌∙◌, arith, ◌⊎◌, inl, inr}
 use Rattle.std.specs.Prelude.{option_map}
 use Rattle.std.specs.List.{AllByRecursion}

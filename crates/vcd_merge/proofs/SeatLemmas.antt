@@ -1,4 +1,5 @@
--- Where an input of a merge stands behind one item more, at its end, and at a fault, and how much of it was read.
+-- Where an input of a merge stands behind one item more, at its end, and at a fault, and how much
+-- of it was read.
 use Rattle.std.proofs.Common.{◌≡◌, ℕ, ◌+◌, ◌*◌, ◌^◌, ◌<◌, ◌≤◌, Bool, true, false, List, [], ◌∷◌, ◌++◌, Option, None, Err, refl, sym, ap, ◌∙◌, arith}
 use Rattle.std.specs.List.{list_any}
 use Rattle.std.proofs.lemmas.Bool.{le-leb, lt-leb}

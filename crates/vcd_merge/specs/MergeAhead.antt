@@ -15,7 +15,8 @@ use Rattle.vcd_merge.specs.declared.seat.Seat.{Seat}
 abbrev pub seat_with : Seat → Regs → ℕ → Seat
 seat_with s r time = record { parked = s.parked; regs = r; factor = s.factor; time = time; first = s.first; finished = s.finished }
 
--- behind some of the items ahead: the bytes in which they lie, what is known after them, the time of the input, and the output
+-- behind some of the items ahead: the bytes in which they lie, what is known after them, the time
+-- of the input, and the output
 pub record StageAhead : Type 0 where
   pub at : ℕ
   pub items : List BodyItem
@@ -24,7 +25,8 @@ pub record StageAhead : Type 0 where
   pub written : Option ℕ
   pub out : Device
 
--- behind the items before, these lie in the first n bytes ahead; this is known after them, and no time is too large
+-- behind the items before, these lie in the first n bytes ahead; this is known after them, and no
+-- time is too large
 pub record IsAhead (scale : ℕ) (h : Header) (limit lines : ℕ) (bytes : List ℕ) (behind : List BodyItem) (n : ℕ) (items : List BodyItem) (r : Regs) (time : ℕ) : Type 0 where
   pub gave : GaveAhead h.codes limit lines bytes n behind items
   pub known : AreRegsAfter (behind ++ items) r
@@ -43,7 +45,8 @@ module _ (scale first : ℕ) (h : Header) (limit lines : ℕ) (bytes : List ℕ)
     Stands : TrailAhead before a a
     Further : (b c : StageAhead) (x : BodyItem) (so_far : TrailAhead before a b) (items_are : c.items ≡ b.items ++ x ∷ []) (one : OneAhead b x c.at c.regs c.time c.written c.out) (early : c.time < before) → TrailAhead before a c
 
-  -- how that ends: no other was taken; after one more the time is no longer early; or a write of what is due with one more failed
+  -- how that ends: no other was taken; after one more the time is no longer early; or a write of
+  -- what is due with one more failed
   abbrev pub EndsAhead : {E : Type 0} → StageAhead → ℕ → Regs → ℕ → Option ℕ → Device → Result Bool E → Type 0
   EndsAhead m n r time written out (Ok false) = IsAhead scale h limit lines bytes behind n m.items r time × (written ≡ m.written) × (out ≡ m.out)
   EndsAhead m n r time written out (Ok true) = (x : BodyItem) × OneAhead m x n r time written out

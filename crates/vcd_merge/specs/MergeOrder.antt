@@ -2,7 +2,8 @@
 use Rattle.std.specs.Prelude.{◌≡◌, ℕ, ◌<◌, ◌≤◌, ◌⊎◌, false, cond, max, List, [], ◌∷◌, slice_get, Option, Some, None}
 use Rattle.vcd_merge.specs.declared.seat.Seat.{Seat}
 
--- whose turn it is: no input that has not finished has a lesser time, nor the same time and a smaller number
+-- whose turn it is: no input that has not finished has a lesser time, nor the same time and a
+-- smaller number
 pub record IsNext (seats : List Seat) (k : ℕ) : Type 0 where
   pub seat : Seat
   pub there : slice_get seats k ≡ Some seat

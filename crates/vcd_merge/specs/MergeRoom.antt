@@ -30,6 +30,7 @@ windows_size w = record { chunk = length w.chunks.now; token = length w.tokens.n
 abbrev pub no_windows : WindowSize
 no_windows = record { chunk = 0; token = 0; value = 0 }
 
--- what these heads keep and windows of these lengths count at most the bound of the headers that are shown, with 512 bytes an input to spare
+-- what these heads keep and windows of these lengths count at most the bound of the headers that
+-- are shown, with 512 bytes an input to spare
 abbrev pub MergeIsWithinBound : (limit : ℕ) → List Head → WindowSize → Type 0
 MergeIsWithinBound limit heads w = (hs : List Header) → ShowHeaders heads hs → FitsBound limit hs w (kept_in heads) no_room

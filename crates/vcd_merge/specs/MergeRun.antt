@@ -1,4 +1,5 @@
--- What a whole merge leaves: what is left of its inputs, how much of each was read, and what stands on the output.
+-- What a whole merge leaves: what is left of its inputs, how much of each was read, and what stands
+-- on the output.
 use Rattle.std.specs.Prelude.{◌≡◌, ◌==◌, false, ℕ, List, [], ◌∷◌, ◌++◌, Result, Ok, Err}
 use Rattle.vcd_model.specs.Input.{Input}
 use Rattle.vcd_model.specs.Tokens.{stream_of}
@@ -13,7 +14,8 @@ use Rattle.vcd_body.specs.declared.answer.Done.TheVariants.{Whole, Early}
 use Rattle.vcd_body.specs.declared.answer.Stop.{Stop}
 use Rattle.vcd_body.specs.declared.answer.Stop.TheVariants.{Dump as Faulty, Read, Write, Unmatched}
 
--- the inputs after their headers, one by one: what is left of each, and that no more was read of it than what settles it
+-- the inputs after their headers, one by one: what is left of each, and that no more was read of it
+-- than what settles it
 abbrev pub AreLeft : (limit chunk : ℕ) → List Lane → (old new : List Supply) → List Input → Type 0
 AreLeft limit chunk [] old new lefts = lefts ≡ []
 AreLeft limit chunk (l ∷ ls) [] new lefts = ⊥
@@ -28,7 +30,8 @@ AreOpened limit (l ∷ ls) [] os = ⊥
 AreOpened limit (l ∷ ls) (i ∷ is) [] = ⊥
 AreOpened limit (l ∷ ls) (i ∷ is) (o ∷ os) = (o ≡ record { header = l.header; stream = stream_of limit i; rest = o.rest }) × ((stream_of limit i).tokens ≡ l.front ++ o.rest) × AreOpened limit ls is os
 
--- the answer and the output of a merge of inputs with these names that has this outcome; a failed write leaves a prefix of the output
+-- the answer and the output of a merge of inputs with these names that has this outcome; a failed
+-- write leaves a prefix of the output
 abbrev pub Belongs : Outcome → List (List ℕ) → Device → Device → Result Done Stop → Type 0
 Belongs o names out out' (Ok Whole) = (o ≡ clean_outcome o.output) × Writes out out' o.output
 Belongs o names out out' (Ok Early) = ⊥
@@ -37,7 +40,8 @@ Belongs o names out out' (Err (Read input)) = ((line : ℕ) × (o ≡ fault_outc
 Belongs o names out out' (Err Write) = WritesSome out out' o.output
 Belongs o names out out' (Err (Unmatched place)) = ⊥
 
--- after these headers and their tokens, a merge over these inputs has this outcome; `old` and `new` are their sources before and after it
+-- after these headers and their tokens, a merge over these inputs has this outcome; `old` and `new`
+-- are their sources before and after it
 pub record Follows (limit chunk : ℕ) (lanes : List Lane) (names : List (List ℕ)) (old new : List Supply) (out out' : Device) (result : Result Done Stop) : Type 0 where
   pub lefts : List Input
   pub are_left : AreLeft limit chunk lanes old new lefts

@@ -58,7 +58,8 @@ pub record Standing (X : Type 0) : Type 0 where
 abbrev pub standing_of : {X : Type 0} → Merge → List X → Windows → Standing X
 standing_of m sources w = record { heads = m.heads.now; seats = m.seats.now; written = m.written; sources = sources; chunks = w.chunks.now; tokens = w.tokens.now; values = w.values.now }
 
--- whatever the inputs are: there are as many heads and sources as seats, some input has not finished, and each feed fits its parts
+-- whatever the inputs are: there are as many heads and sources as seats, some input has not
+-- finished, and each feed fits its parts
 pub record IsReady {X : Type 0} (s : Standing X) : Type 0 where
   pub heads : length s.heads ≡ length s.seats
   pub sources : length s.sources ≡ length s.seats
@@ -71,7 +72,9 @@ abbrev pub cut_at : Option ℕ → Input → Input
 cut_at None i = i
 cut_at (Some n) i = failed_after n i
 
--- What a step from s to s' has read. It is the turn of the input at this place: no more of it was read than what settles it, and a chunk; where a read failed after n bytes, its source has the others still. The other sources stay.
+-- What a step from s to s' has read. It is the turn of the input at this place: no more of it was
+-- read than what settles it, and a chunk; where a read failed after n bytes, its source has the
+-- others still. The other sources stay.
 pub record ReadsOne {X : Type 0} (rest : X → Option (List ℕ)) (lanes : List Lane) (s s' : Standing X) (k : ℕ) (cut : Option ℕ) : Type 0 where
   pub next : IsNext s.seats k
   pub lane : Lane
@@ -91,7 +94,8 @@ pub record Finishes (old new : List Seat) (k : ℕ) : Type 0 where
   pub unfinished : before.finished ≡ false
   pub finished : after.finished ≡ true
 
--- an item may come after these: those of the merged list go before the place after the items of each input that has not finished
+-- an item may come after these: those of the merged list go before the place after the items of
+-- each input that has not finished
 abbrev pub GoBefore : List Header → List Dump → List Seat → Type 0
 GoBefore hs ds seats = (k : ℕ) (d : Dump) (s : Seat) → slice_get ds k ≡ Some d → slice_get seats k ≡ Some s → s.finished ≡ false
     → AllByRecursion (λ y. key_lt y.key (key_after (factor hs d.header) k d.items) ≡ true) (keyed_rest hs 0 [] ds)
@@ -104,7 +108,8 @@ pub record AreMarked (hs : List Header) (ds : List Dump) (seats : List Seat) : T
   pub marked : (k : ℕ) (d : Dump) (s : Seat) → slice_get ds k ≡ Some d → slice_get seats k ≡ Some s → s.regs.marked ≡ not (is_empty (marks d.items))
 
 module _ {X : Type 0} (rest : X → Option (List ℕ)) (hs : List Header) (lanes : List Lane) where
-  -- each input, with its header, has given the items of its dump, and its seat tells where it stands
+  -- each input, with its header, has given the items of its dump, and its seat tells where it
+  -- stands
   pub record AreGiven (ds : List Dump) (s : Standing X) : Type 0 where
     pub lanes_are : map (λ l. l.header) lanes ≡ hs
     pub dumps_are : headers_of ds ≡ hs
@@ -124,7 +129,8 @@ module _ {X : Type 0} (rest : X → Option (List ℕ)) (hs : List Header) (lanes
   abbrev pub next_item : ℕ → Dump → BodyItem → Keyed
   next_item k d x = keyed_after (factor hs d.header) k (renamed (take k hs) d.header) d.items x
 
-  -- it is the turn of the input at this place, and after its items it has this fault; where a read failed, what is left of it is cut
+  -- it is the turn of the input at this place, and after its items it has this fault; where a read
+  -- failed, what is left of it is cut
   pub record HasFault (ds : List Dump) (s : Standing X) (input line fault : ℕ) (cut : Option ℕ) : Type 0 where
     pub next : IsNext s.seats input
     pub lane : Lane
@@ -147,7 +153,8 @@ module _ {X : Type 0} (rest : X → Option (List ℕ)) (hs : List Header) (lanes
     pub finishes : Finishes s.seats s'.seats input
     pub reads : ReadsOne rest lanes s s' input None
 
-  -- all inputs have finished, after an item more or after these; and what follows was written, all of it or a prefix
+  -- all inputs have finished, after an item more or after these; and what follows was written, all
+  -- of it or a prefix
   pub record IsEnd (ds : List Dump) (s s' : Standing X) (out out' : Device) : Type 0 where
     pub given : AreGiven ds s'
     pub finished : All (λ (x : Seat). x.finished ≡ true) s'.seats
@@ -162,7 +169,8 @@ module _ {X : Type 0} (rest : X → Option (List ℕ)) (hs : List Header) (lanes
     pub input : ℕ
     pub reads : ReadsOne rest lanes s s' input None
 
-  -- What a step from s after these items returns, by what it leaves. Where the merge goes on, an item was taken, or an input has finished that had not.
+  -- What a step from s after these items returns, by what it leaves. Where the merge goes on, an
+  -- item was taken, or an input has finished that had not.
   abbrev pub Gives : List Dump → Standing X → Standing X → Device → Device → Result More Stop → Type 0
   Gives ds s s' out out' (Ok Again) =
       ((k : ℕ) × (d : Dump) × (x : BodyItem) × Takes ds s' k d x × (s'.written ≡ last_written (merged_items (with_item ds k d x)))

@@ -51,7 +51,8 @@ pub data Trail {X : Type 0} (rest : X → Option (List ℕ)) (failures : X → �
   Stands : Trail rest failures scale first l before a a
   Further : (b c : Stage X) (so_far : Trail rest failures scale first l before a b) (on : TakesOn rest failures scale first l before b c) → Trail rest failures scale first l before a c
 
--- such items lead to a stage like this one: behind the same items, with the same output, source and windows
+-- such items lead to a stage like this one: behind the same items, with the same output, source and
+-- windows
 pub record Reaches {X : Type 0} (rest : X → Option (List ℕ)) (failures : X → ℕ) (scale first : ℕ) (l : Lane) (before : ℕ) (a b : Stage X) : Type 0 where
   pub mid : Stage X
   pub trail : Trail rest failures scale first l before a mid
@@ -68,7 +69,8 @@ pub record RunTurns {X A : Type 0} (rest : X → Option (List ℕ)) (failures : 
   pub trail : Trail rest failures scale first l before a mid
   pub last : Turns k scale first l mid.items mid.written written s mid.out out result
 
--- what the items that lie ahead leave: all of them were taken; or, with the last of them, the run has ended, or a write failed
+-- what the items that lie ahead leave: all of them were taken; or, with the last of them, the run
+-- has ended, or a write failed
 abbrev pub AheadTurns : {X E : Type 0} {g : Ghosts X} → (X → Option (List ℕ)) → (X → ℕ) → (k scale first : ℕ) → Lane → ℕ → Stage X → Option ℕ → Seat → Feed X g → Device → Result Bool E → Type 0
 AheadTurns rest failures k scale first l before a written s f out (Ok false) = (xs : List BodyItem) × AtSeat scale first l xs (spot_with s f) × Reaches rest failures scale first l before a (stage_with xs written s f out)
 AheadTurns rest failures k scale first l before a written s f out (Ok true) = RunTurns {A = Bool} rest failures k scale first l before a written (spot_with s f) out (Ok true)
@@ -84,7 +86,8 @@ pub record TurnsAt {X A : Type 0} (rest : X → Option (List ℕ)) (failures : X
   pub source_at : slice_get sources k ≡ Some source
   pub turns : RunTurns rest failures k scale first l before (record { items = items; written = written; seat = seat; source = source; chunk = chunk; token = token; out = out }) written' s' out' result
 
--- What a run of steps of one input leaves: it has gone on for some items, to `mid`, and the last step gives this. With one item alone there is that step and no other.
+-- What a run of steps of one input leaves: it has gone on for some items, to `mid`, and the last
+-- step gives this. With one item alone there is that step and no other.
 pub record RunGives {X : Type 0} (rest : X → Option (List ℕ)) (failures : X → ℕ) (hs : List Header) (lanes : List Lane) (alone : Bool) (ds : List Dump) (s s' : Standing X) (out out' : Device) (result : Result More Stop) : Type 0 where
   pub dumps : List Dump
   pub mid : Standing X

@@ -2,7 +2,8 @@
 use Rattle.std.specs.Prelude.{◌≡◌, ◌≢◌, ℕ, ◌<◌, ◌≤◌, ◌⊎◌, false, List, map, get_or, slice_get, Some}
 use Rattle.vcd_merge.specs.declared.seat.Seat.{Seat}
 
--- an input with this time comes before the other one: by the times, and of equal times by the numbers
+-- an input with this time comes before the other one: by the times, and of equal times by the
+-- numbers
 abbrev pub ComesBefore : (time input other_time other : ℕ) → Type 0
 ComesBefore t j u k = (t < u) ⊎ ((t ≡ u) × (j < k))
 

@@ -35,7 +35,8 @@ pub record Lane : Type 0 where
   pub input : Input
   pub front : List Token
 
--- what a merge keeps of an input: its seat, what its source still gives, and its parts of the windows
+-- what a merge keeps of an input: its seat, what its source still gives, and its parts of the
+-- windows
 pub record Spot : Type 0 where
   pub seat : Seat
   pub rest : Option (List ℕ)
@@ -46,7 +47,8 @@ pub record Spot : Type 0 where
 abbrev pub spot_with : {X : Type 0} {g : Ghosts X} → Seat → Feed X g → Spot
 spot_with {X} {g} s f = record { seat = record s { parked = f.parked }; rest = g.rest f.source.now; chunk = f.chunk.now; token = f.token.now }
 
--- after the tokens of its header an input has given whole phrases with these items, and the registers tell what is known of them
+-- after the tokens of its header an input has given whole phrases with these items, and the
+-- registers tell what is known of them
 pub record GaveParked (codes : List IdCode) (i : Input) (front : List Token) (items : List BodyItem) (rest : Option (List ℕ)) (chunk token : List ℕ) (p : Parked) (r : Regs) : Type 0 where
   pub given : List Token
   pub placed : List (Placed BodyPhrase)
@@ -55,13 +57,15 @@ pub record GaveParked (codes : List IdCode) (i : Input) (front : List Token) (it
   pub items_are : items_of (phrases_of placed) ≡ items
   pub known : AreRegsAfter items r
 
--- an input is this dump: its items up to its first time mark that is too large, or up to its own fault
+-- an input is this dump: its items up to its first time mark that is too large, or up to its own
+-- fault
 pub record HasDump (scale limit : ℕ) (h : Header) (front : List Token) (i : Input) (items : List BodyItem) (fault : Option Fault) : Type 0 where
   pub rest : List Token
   pub tokens : (stream_of limit i).tokens ≡ front ++ rest
   pub is : dump_of scale h (body_fault_of (stream_of limit i) (read_body h.codes rest)) (read_body h.codes rest) ≡ record { header = h; items = items; fault = fault }
 
--- after these items the input stands so: `scale` is the factor of its times, `first` the number of its first code
+-- after these items the input stands so: `scale` is the factor of its times, `first` the number of
+-- its first code
 pub record AtSeat (scale first : ℕ) (l : Lane) (items : List BodyItem) (s : Spot) : Type 0 where
   pub gave : GaveParked l.header.codes l.input l.front items s.rest s.chunk s.token s.seat.parked s.seat.regs
   pub small : AllByRecursion (λ x. is_too_large scale x ≡ false) items
@@ -85,7 +89,8 @@ pub record SameSeat (old new : Seat) : Type 0 where
   pub factor : new.factor ≡ old.factor
   pub first : new.first ≡ old.first
 
--- Of an input, of which this is left, no more was read than what settles it, and a chunk, where its source has this rest: whatever that was before, and however many of its reads have failed.
+-- Of an input, of which this is left, no more was read than what settles it, and a chunk, where its
+-- source has this rest: whatever that was before, and however many of its reads have failed.
 abbrev pub ReadsNoMore : (limit chunk : ℕ) → Lane → Input → Option (List ℕ) → Type 0
 ReadsNoMore limit chunk l left rest = (old : Supply) (failures : ℕ) → ReadsAsNeeded limit chunk old (record { rest = rest; failures = failures }) left l.front (is_settled_behind Request.Merge l.header)
 
@@ -97,7 +102,8 @@ HasReadNoMore l left s = ReadsNoMore (length s.token) (length s.chunk) l left s.
 abbrev pub GivesOne : ℕ → ℕ → Lane → List BodyItem → Option ℕ → Option ℕ → Spot → BodyItem → Type 0
 GivesOne scale first l items written written' s x = (s.seat.finished ≡ false) × AtSeat scale first l (items ++ x ∷ []) s × (written' ≡ written_with written (entry_for scale first l.header items x)) × HasReadNoMore l l.input s
 
--- what the step of input number k after these items leaves: an item more, or that it has finished; or why the merge stops
+-- what the step of input number k after these items leaves: an item more, or that it has finished;
+-- or why the merge stops
 abbrev pub Turns : {A : Type 0} → ℕ → ℕ → ℕ → Lane → List BodyItem → Option ℕ → Option ℕ → Spot → Device → Device → Result A Stop → Type 0
 Turns k scale first l items written written' s out out' (Ok u) =
     ((x : BodyItem) × GivesOne scale first l items written written' s x × Writes out out' (due_with written (entry_for scale first l.header items x)))

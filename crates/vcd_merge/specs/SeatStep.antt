@@ -8,7 +8,8 @@ use Rattle.vcd_body.specs.Answer.{reads_failed}
 use Rattle.vcd_body.specs.declared.answer.Stop.{Stop}
 use Rattle.vcd_merge.specs.declared.seat.Seat.{Seat}
 
--- the loans and lengths stay; a failed read is returned where the source failed; and the feed has moved on, or it has finished
+-- the loans and lengths stay; a failed read is returned where the source failed; and the feed has
+-- moved on, or it has finished
 pub record Moved {X : Type 0} {g : Ghosts X} {A : Type 0} (failures : X → ℕ) (old new : Feed X g) (s : Seat) (result : Result A Stop) : Type 0 where
   pub loans : SameLoans old new
   pub limit : limit_of new ≡ limit_of old

@@ -1,18 +1,21 @@
 //! The dumps of several inputs, whose headers were read, as one.
 //!
-//! `merge` writes the header of all inputs and then their items in the order of their times, each under the new code of its
-//! input's. A `Merge` is the same run in parts: `Merge::start` writes the header, `merge_step` takes one item of the input whose
-//! turn it is, and `Merge::finish` takes all that are left. A `Seat` is where an input stands between two of its items; the
-//! `Windows` of all inputs are lent as three slices, in equal parts. None of them takes memory.
+//! `merge` writes the header of all inputs and then their items in the order of their times, each
+//! under the new code of its input's. A `Merge` is the same run in parts: `Merge::start` writes the
+//! header, `merge_step` takes one item of the input whose turn it is, and `Merge::finish` takes all
+//! that are left. A `Seat` is where an input stands between two of its items; the `Windows` of all
+//! inputs are lent as three slices, in equal parts. None of them takes memory.
 //!
 //! # The relations
 //!
-//! `Follows limit chunk lanes names .. result` (`MergeRun`) says what a merge leaves: each input, whole, or what its source gave
-//! until a read failed; that no more of it was read than settles it; and that output and result belong to the definitions'
-//! outcome for all of them. Between steps a merge `Holds` the items that its inputs have given (`MergeStep`). A step `Gives` one
-//! item more, the next of the merged list, and the output grows by exactly what is due with it; or an input has finished, and
-//! nothing is written; or all have, and what is due at the end is written. A fault is that of the input whose turn it is, and
-//! nothing is written there. Where a write fails, a prefix was written.
+//! `Follows limit chunk lanes names .. result` (`MergeRun`) says what a merge leaves: each input,
+//! whole, or what its source gave until a read failed; that no more of it was read than settles it;
+//! and that output and result belong to the definitions' outcome for all of them. Between steps a
+//! merge `Holds` the items that its inputs have given (`MergeStep`). A step `Gives` one item more,
+//! the next of the merged list, and the output grows by exactly what is due with it; or an input
+//! has finished, and nothing is written; or all have, and what is due at the end is written. A
+//! fault is that of the input whose turn it is, and nothing is written there. Where a write fails,
+//! a prefix was written.
 //!
 //! # The modules
 //!
@@ -24,13 +27,15 @@
 //! - `turns`, `order`: whose turn it is, and in which order the others wait
 //! - `seat`: `Seat`
 //!
-//! In `specs/` callers read `MergeRun` (`Follows`), `MergeStart`, `MergeStep`, `MergeParts`, `MergeRoom`, `MergeOrder` and `Seat`.
-//! How a run ends, `Done`, `More` and `Stop`, is of `vcd_body`.
+//! In `specs/` callers read `MergeRun` (`Follows`), `MergeStart`, `MergeStep`, `MergeParts`,
+//! `MergeRoom`, `MergeOrder` and `Seat`. How a run ends, `Done`, `More` and `Stop`, is of
+//! `vcd_body`.
 //!
 //! # Limits
 //!
-//! At most 64 inputs. A call asks for fewer than 2^64 - 1 failures of its devices so far, and for windows within the bound of the
-//! definitions (`MergeIsWithinBound`). A time that is 2^64 or more once it is scaled is a fault.
+//! At most 64 inputs. A call asks for fewer than 2^64 - 1 failures of its devices so far, and for
+//! windows within the bound of the definitions (`MergeIsWithinBound`). A time that is 2^64 or more
+//! once it is scaled is a fault.
 //!
 //! Not promised: how many bytes of the output were written where a write failed.
 #![tactic(auto)]

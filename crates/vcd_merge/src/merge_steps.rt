@@ -59,8 +59,8 @@ fn greatest_time(seats: &[Seat]) -> Option<u64>
     greatest
 }
 
-/// The run of the input at a place: an item, and those that follow while its time is before this one. The parts of the windows are
-/// those at its place, and no other input's are touched.
+/// The run of the input at a place: an item, and those that follow while its time is before this
+/// one. The parts of the windows are those at its place, and no other input's are touched.
 #[inline(always)]
 fn turn<S: Source, W: Sink>(
     heads: &[Head],
@@ -127,8 +127,8 @@ fn turn<S: Source, W: Sink>(
 }
 
 impl<'h, 's> Merge<'h, 's> {
-    /// Begins a merge of at most 64 inputs with these heads, and writes its header. Each seat's feed stands after its header;
-    /// where it stands is left alone.
+    /// Begins a merge of at most 64 inputs with these heads, and writes its header. Each seat's
+    /// feed stands after its header; where it stands is left alone.
     ///
     /// # Errors
     ///
@@ -183,8 +183,8 @@ fn close<W: Sink>(seats: &[Seat], written: Option<u64>, out: &mut W) -> Result<(
     }
 }
 
-/// The steps of the input whose turn it is, over what a merge works on: one, and those that follow while its time is before this
-/// one, at which it comes before all others.
+/// The steps of the input whose turn it is, over what a merge works on: one, and those that follow
+/// while its time is before this one, at which it comes before all others.
 #[inline(always)]
 fn step<S: Source, W: Sink>(
     heads: &[Head],
@@ -360,8 +360,8 @@ fn step_alone<S: Source, W: Sink>(
     step(heads, input, 0, seats, sources, windows, written, out)
 }
 
-/// The run of the input whose turn it is, over what a merge works on: the order tells the input and how long it goes on, and then
-/// takes it in again.
+/// The run of the input whose turn it is, over what a merge works on: the order tells the input and
+/// how long it goes on, and then takes it in again.
 #[inline(always)]
 fn run_next<S: Source, W: Sink>(
     heads: &[Head],
@@ -590,7 +590,8 @@ impl<'h, 's> Merge<'h, 's> {
             (part_len (length self.old.seats.now) windows.old.tokens.now) self.old.heads.now
             (windows_size windows.old) }
 
-        // Where the merge holds these items, and the output has what is due with them, it is the merge of its inputs.
+        // Where the merge holds these items, and the output has what is due with them, it is the
+        // merge of its inputs.
         ensures gives { (hs : List Header) (lanes : List Lane) (ds : List Dump)
             (names : List (List ℕ)) (begin : Device)
             → Holds S.rest hs lanes ds (standing_of self.old sources.old windows.old)

@@ -41,7 +41,8 @@ struct Kind {
     event: bool,
 }
 
-/// What the code at a place is of. Where its size is known, the codes are not looked at: then it is no event.
+/// What the code at a place is of. Where its size is known, the codes are not looked at: then it is
+/// no event.
 #[inline(always)]
 fn kind_at(view: HeadView<'_>, place: usize, most: usize) -> Option<Kind>
     requires { most ≢ 0 → IsSized view.codes.now (record { place = place; most = most }) }
@@ -69,8 +70,9 @@ fn is_left_out(event: bool, seat: &Seat) -> bool
     event && seat.regs.section.is_some()
 }
 
-/// Writes a change with this text, whose digits may be known as a number, under its new code, after the line of its time. The
-/// code's size may be known; 0 says nothing. An event inside a section is left out.
+/// Writes a change with this text, whose digits may be known as a number, under its new code, after
+/// the line of its time. The code's size may be known; 0 says nothing. An event inside a section is
+/// left out.
 #[inline(always)]
 fn put_change_at<W: Sink>(
     view: HeadView<'_>,
@@ -166,7 +168,8 @@ struct Taken {
     /// The input after them, its feed aside.
     seat: Seat,
     written: Option<u64>,
-    /// Whether the time of the input is no longer early after the last of them; or that a write of what is due with it failed.
+    /// Whether the time of the input is no longer early after the last of them; or that a write of
+    /// what is due with it failed.
     ended: Result<bool, WriteFailed>,
 }
 
@@ -192,8 +195,8 @@ impl Taken {
     }
 }
 
-/// Takes the items of an input that lie ahead, one after the other, as long as its time is before this one, and writes what is due
-/// with each. A time that is too large once it is scaled is left.
+/// Takes the items of an input that lie ahead, one after the other, as long as its time is before
+/// this one, and writes what is due with each. A time that is too large once it is scaled is left.
 // Seat, written time and place come and go by value, so that the loop keeps them out of memory.
 fn items_ahead<W: Sink>(
     view: HeadView<'_>,
@@ -260,8 +263,9 @@ fn items_ahead<W: Sink>(
     }
 }
 
-/// Takes the items of an input that lie whole ahead in its feed's chunk, as long as its time is before this one: the feed goes on
-/// after them at once. Returns whether the time is no longer early.
+/// Takes the items of an input that lie whole ahead in its feed's chunk, as long as its time is
+/// before this one: the feed goes on after them at once. Returns whether the time is no longer
+/// early.
 #[inline(never)]
 fn take_ahead<S: Source, W: Sink>(
     view: HeadView<'_>,
@@ -292,8 +296,8 @@ fn take_ahead<S: Source, W: Sink>(
     taken.ended
 }
 
-/// Takes the next item of an input over its feed, and writes what is due with it. The seat's registers are those after it; where
-/// the feed stands is left to the caller.
+/// Takes the next item of an input over its feed, and writes what is due with it. The seat's
+/// registers are those after it; where the feed stands is left to the caller.
 #[inline(always)]
 fn take_item<S: Source, W: Sink>(
     view: HeadView<'_>,
@@ -352,8 +356,8 @@ fn take_item<S: Source, W: Sink>(
     Ok(())
 }
 
-/// Takes items of an input over its feed as long as its time is before this one: one item, and those that follow while it is. Those
-/// that lie ahead are taken first.
+/// Takes items of an input over its feed as long as its time is before this one: one item, and
+/// those that follow while it is. Those that lie ahead are taken first.
 #[inline(always)]
 fn take_run<S: Source, W: Sink>(
     view: HeadView<'_>,
@@ -391,8 +395,9 @@ fn take_run<S: Source, W: Sink>(
     }
 }
 
-/// The run of an input, over its source and its parts of the windows alone: its feed goes on where it was parked, takes an item,
-/// and those that follow while the time of the input is before this one, and is parked again.
+/// The run of an input, over its source and its parts of the windows alone: its feed goes on where
+/// it was parked, takes an item, and those that follow while the time of the input is before this
+/// one, and is parked again.
 #[inline(always)]
 pub(crate) fn run_of<S: Source, W: Sink>(
     view: HeadView<'_>,

@@ -13,7 +13,8 @@ pub(crate) struct Run {
     pub(crate) before: u64,
 }
 
-/// The first one of two inputs comes before the other: by their times, and of equal times by their numbers.
+/// The first one of two inputs comes before the other: by their times, and of equal times by their
+/// numbers.
 #[inline(always)]
 fn comes_before(seats: &[Seat], input: usize, other: usize) -> bool
     requires input { input < length seats.now }
@@ -54,7 +55,8 @@ pub(crate) struct Order {
 impl Order {
     ghost use Rattle.std.specs.Prelude.{◌≤◌};
 
-    /// Where an input that is not in it goes: from this place on all come before it, and below it none.
+    /// Where an input that is not in it goes: from this place on all come before it, and below it
+    /// none.
     #[inline(always)]
     fn place_for(&self, input: usize, seats: &[Seat]) -> usize
         requires input { input < length seats.now }

@@ -4,7 +4,8 @@ ghost use Rattle.std.specs.Prelude.{◌≡◌, None, false};
 use vcd_body::Regs;
 use vcd_text::Parked;
 
-/// An input of a merge between two of its items: its parked feed, what is known after its items, and what the merge adds.
+/// An input of a merge between two of its items: its parked feed, what is known after its items,
+/// and what the merge adds.
 #[derive(Clone, Copy, PartialEq, Eq, Debug)]
 pub struct Seat {
     /// Where its feed goes on.

@@ -13,8 +13,8 @@ struct Turn {
     time: u64,
 }
 
-/// The turn among the inputs up to this place, where this one was found among those before it: of those that have not finished
-/// the one of least time, and of these the first.
+/// The turn among the inputs up to this place, where this one was found among those before it: of
+/// those that have not finished the one of least time, and of these the first.
 #[inline(always)]
 fn with_place(seats: &[Seat], place: usize, found: Option<Turn>) -> Option<Turn>
     requires place { place < length seats.now }

@@ -18,13 +18,13 @@ use vcd_body::{Done, Stop};
 use vcd_head::Head;
 use vcd_text::{Sink, Source};
 
-/// Merges 1 to 64 inputs, whose headers were read: their changes in one order of time, under one header. Each seat is as
-/// `Seat::new` makes it from its input's feed after its header.
+/// Merges 1 to 64 inputs, whose headers were read: their changes in one order of time, under one
+/// header. Each seat is as `Seat::new` makes it from its input's feed after its header.
 ///
 /// # Errors
 ///
-/// The first fault of the inputs in the order of time, or a failed read, after what comes before it; `Stop::Write` where a write
-/// failed, after a prefix.
+/// The first fault of the inputs in the order of time, or a failed read, after what comes before
+/// it; `Stop::Write` where a write failed, after a prefix.
 pub fn merge<S: Source, W: Sink>(
     heads: &[Head],
     sources: &mut [S],

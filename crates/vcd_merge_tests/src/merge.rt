@@ -127,7 +127,8 @@ fn begin_all<'t>(
     Ok(inputs)
 }
 
-// How a merge of these texts ends, so many bytes of each at a time, at once or item by item, and what it writes.
+// How a merge of these texts ends, so many bytes of each at a time, at once or item by item, and
+// what it writes.
 fn merge_of(
     alloc: Global,
     texts: &[&[u8]],
@@ -162,7 +163,8 @@ fn merge_of(
     Ok((answer, out.device))
 }
 
-// A merge of these texts writes this and has this answer, however many bytes are read at a time, at once and item by item.
+// A merge of these texts writes this and has this answer, however many bytes are read at a time, at
+// once and item by item.
 fn gives<R: Abort + AllocGlobal>(
     rt: &R,
     texts: &[&[u8]],
@@ -336,7 +338,8 @@ const FIRST_OF_ALL: &[u8] =
 
 const LAST_OF_ALL: &[u8] = b"\n1\\\n1]\n1^\n1_\n1`\n";
 
-// 42 bytes are of no input, 57 and the digits of its number of each header; each of two times has a line, and 64 changes.
+// 42 bytes are of no input, 57 and the digits of its number of each header; each of two times has a
+// line, and 64 changes.
 #[test]
 fn as_many_inputs_as_there_may_be(rt: HostRuntime) -> Result<(), Fail> {
     let (answer, output) = merge_of(rt.alloc(), &[SMALL; 64], 7, false)?;

@@ -1,4 +1,5 @@
--- The dump that an input is in a merge, by the first phrases of its body: all their items where these are small.
+-- The dump that an input is in a merge, by the first phrases of its body: all their items where
+-- these are small.
 use Rattle.std.proofs.Common.{◌≡◌, ℕ, Bool, true, false, List, [], ◌∷◌, ◌++◌, Option, Some, None, refl, sym, ap, ◌∙◌, append-nil, one-add}
 use Rattle.std.specs.Prelude.{find}
 use Rattle.std.specs.List.{AllByRecursion, before_first}

@@ -1,4 +1,5 @@
--- The values of codes after all items, with one item more; and where they are those before a time, or at it.
+-- The values of codes after all items, with one item more; and where they are those before a time,
+-- or at it.
 use Rattle.std.proofs.Common.{◌≡◌, ℕ, ◌≤◌, ◌<◌, Bool, true, false, ◌&&◌, nat_lt, nat_le, List, [], ◌∷◌, ◌++◌, Some, refl, sym, ap, ◌∙◌, subst, arith}
 use Rattle.std.specs.List.{AllByRecursion}
 use Rattle.std.proofs.lemmas.List.{append_assoc}

@@ -1,4 +1,5 @@
--- The text of kept items where one item more comes: it is enough to know the time whose line was written last.
+-- The text of kept items where one item more comes: it is enough to know the time whose line was
+-- written last.
 use Rattle.std.proofs.Common.{◌≡◌, ℕ, ◌≤◌, Bool, true, false, cond, ◌&&◌, ◌||◌, ◌==◌, List, [], ◌∷◌, ◌++◌, map, Option, Some, None, refl, sym, ap, ◌∙◌, subst, arith}
 use Rattle.std.specs.List.{list_any, last_or}
 use Rattle.std.proofs.lemmas.Bool.{eq-eqb, eqb-true}
@@ -75,7 +76,8 @@ last_is_enough t u (v ∷ ts) r = by_test (u == t) refl (last_is_enough t v ts r
         ap (λ (b : Bool). cond (b || list_any (λ w. w == t) ts) [] (time_line t)) (sym there) ∙ later
     by_test false e later = later
 
--- where the line of the time behind all items is asked for, a look at the last written time is enough
+-- where the line of the time behind all items is asked for, a look at the last written time is
+-- enough
 pub time_unless_last : (chosen : Entry → Bool) (items : List BodyItem) → time_unless (kept_times chosen items) (time_after items) ≡ time_due (last_time chosen items) (time_after items)
 time_unless_last chosen items = by_times (kept_times chosen items) (kept_rise chosen [] items)
   where

@@ -1,4 +1,5 @@
--- The merged list of whole inputs, by what was merged of them so far: what comes before a place, and the first fault.
+-- The merged list of whole inputs, by what was merged of them so far: what comes before a place,
+-- and the first fault.
 use Rattle.std.proofs.Common.{◌≡◌, ℕ, zero, suc, ◌+◌, Bool, true, false, cond, List, [], ◌∷◌, ◌++◌, length, slice_get, Option, Some, None, refl, sym, ap, ◌∙◌, arith, ◌⊎◌, inl, inr, append-nil}
 use Rattle.std.specs.Prelude.{filter, filter_map, fold, option_map, ⊤}
 use Rattle.std.specs.List.{AllByRecursion, reduce, cons_option}

@@ -1,4 +1,5 @@
--- The enclosing scopes are a stack: what a declaration does to those that the declarations before it leave open.
+-- The enclosing scopes are a stack: what a declaration does to those that the declarations before
+-- it leave open.
 use Rattle.std.proofs.Common.{◌≡◌, ℕ, zero, suc, ◌+◌, ◌<◌, ◌≤◌, true, false, cond, List, [], ◌∷◌, ◌++◌, length, reverse, count_by, filter_map, take, drop, slice_get, Some, option_map, refl, sym, ap, subst, ◌∙◌, arith}
 use Rattle.std.proofs.lemmas.Bool.{eq-eqb, ne_eqb}
 use Rattle.std.proofs.Math.Seq.{take-append_seam}
@@ -8,7 +9,8 @@ use Rattle.std.specs.List.{AllByRecursion}
 use Rattle.std.proofs.lemmas.List.Sums.{sum_by-cons, sum_by-append}
 use Rattle.vcd_model.specs.Declarations.{Declaration, Variable, is_scope, is_up, is_balanced, open_scopes, enclosing_back, enclosing, name_of, names_at}
 
--- the enclosing scopes, looking back over these declarations where `closed` more scopes are closed than opened in between
+-- the enclosing scopes, looking back over these declarations where `closed` more scopes are closed
+-- than opened in between
 walk : ℕ → List Declaration → List ℕ
 walk closed [] = []
 walk zero (Declaration.Scope type name ∷ back) = length back ∷ walk zero back
@@ -81,7 +83,8 @@ enclosing-var ds v = walk_after ds (Declaration.Var v) ∙ sym (enclosing_is ds)
 
 -- ---- the open scopes as a state that goes forward
 
--- these places, innermost first, are those of the scopes that the declarations leave open, and no more were closed than opened
+-- these places, innermost first, are those of the scopes that the declarations leave open, and no
+-- more were closed than opened
 pub record LeavesOpen (ds : List Declaration) (scopes : List ℕ) : Type 0 where
   pub are : enclosing ds ≡ scopes
   pub count : count_by is_scope ds ≡ count_by is_up ds + length scopes
@@ -201,7 +204,8 @@ names-take ds n (i ∷ places) h =
     ∙ ap (λ o. filter_map g (reverse places) ++ filter_map (λ (x : ℕ). option_map name_of o) (i ∷ [])) (slice_get-take ds n i h.0)
     ∙ sym (ap (filter_map g) (reverse-append (i ∷ []) places) ∙ filter_map-append g (reverse places) (i ∷ []))
 
--- the names of the scopes around a declaration are those around its innermost scope, and that scope's own
+-- the names of the scopes around a declaration are those around its innermost scope, and that
+-- scope's own
 pub names_around : (ds : List Declaration) (p : ℕ) (around : List ℕ) (type name : List ℕ) → enclosing ds ≡ p ∷ around → slice_get ds p ≡ Some (Declaration.Scope type name)
     → names_at ds (reverse (enclosing ds)) ≡ names_at (take p ds) (reverse (enclosing (take p ds))) ++ name ∷ []
 names_around ds p around type name e at =

@@ -118,7 +118,8 @@ module _ {P : Type 0} (g : Grammar P) where
 
   -- ---- before the last token
 
-  -- where reading goes on behind these tokens and one more, it goes on behind them; if all are whole phrases, the last one is whole with the last token
+  -- where reading goes on behind these tokens and one more, it goes on behind them; if all are
+  -- whole phrases, the last one is whole with the last token
   pub record AllButLast (placed : List (Placed P)) (before : List (List ℕ)) (xs : List Token) (whole : List (Placed P)) (inner : List (List ℕ)) : Type 0 where
     pub earlier : List (Placed P)
     pub begun : List (List ℕ)

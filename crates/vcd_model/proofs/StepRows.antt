@@ -26,7 +26,8 @@ pub record Steps : Type 0 where
 abbrev steps : Request → String → List Steps
 steps task s = map (λ o. record { appended = steps_of (open_text task o.header) (items_in o); fault = fault_in o }) (opened s)
 
--- the change appends its time and its line, the marks nothing; behind them the input ends in a change
+-- the change appends its time and its line, the marks nothing; behind them the input ends in a
+-- change
 pick_steps : steps (Request.Pick (codes "tb" ∷ [])) "$timescale 1ns $end;$scope module tb $end;$var wire 1 ! clk $end;$var reg 4 \" q [3:0] $end;$upscope $end;$enddefinitions $end;#0;0!;#5;b10" ≡ record { appended = written "$timescale;^1ns;$end;$scope module tb $end;$var wire 1 ! clk $end;$var reg 4 \" q [3:0] $end;$upscope $end;$enddefinitions $end;" ∷ written "" ∷ written "#0;0!;" ∷ written "" ∷ []; fault = Some (record { number = 2; line = 10 }) } ∷ []
 unfolding model
 pick_steps = refl

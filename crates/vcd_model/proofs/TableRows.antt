@@ -161,7 +161,8 @@ sections_in_a_header = refl
 
 -- ---- limits of a header
 
--- the fault of a token that begins a phrase behind as many open scopes, where this many declarations are allowed
+-- the fault of a token that begins a phrase behind as many open scopes, where this many
+-- declarations are allowed
 abbrev behind_scopes : ℕ → ℕ → String → Option ℕ
 behind_scopes most scopes token = header_fault most (replicate scopes (HeaderPhrase.Declares (Declaration.Scope (codes "module") (codes "s")))) [] (codes token)
 

@@ -1,4 +1,5 @@
--- Rows on tokens, their lines and their ends, and on halts, computed; and what no row can compute of halts.
+-- Rows on tokens, their lines and their ends, and on halts, computed; and what no row can compute
+-- of halts.
 use Rattle.std.proofs.Common.{◌≡◌, ℕ, ◌-◌, ◌^◌, List, [], ◌∷◌, ◌++◌, codes, length, map, Some, None, refl}
 use Prim.Native.String.{String}
 use Rattle.vcd_model.proofs.Computing.{model}

@@ -1,4 +1,5 @@
--- The merged items input by input, and what each adds to the output where it comes after all others (profile). No other definition uses these words: the contracts of a merge in steps do.
+-- The merged items input by input, and what each adds to the output where it comes after all others
+-- (profile). No other definition uses these words: the contracts of a merge in steps do.
 use Rattle.std.specs.Prelude.{ℕ, ◌+◌, Bool, cond, ◌&&◌, List, [], ◌∷◌, ◌++◌, slice_set, Option, Some}
 use Rattle.vcd_model.specs.Backward.{each}
 use Rattle.vcd_model.specs.Header.{Header}

@@ -1,4 +1,5 @@
--- When the first tokens of an input settle what a run does, so that no more of them need be read (profile).
+-- When the first tokens of an input settle what a run does, so that no more of them need be read
+-- (profile).
 use Rattle.std.specs.Prelude.{ℕ, Bool, true, false, ◌||◌, is_some, List, Result, Ok, Err}
 use Rattle.std.specs.List.{list_any}
 use Rattle.vcd_model.specs.Tokens.{Token}

@@ -4,7 +4,8 @@ use Rattle.vcd_model.specs.Tokens.{Token}
 use Rattle.vcd_model.specs.Reading.{Placed, Grammar, reading_of}
 use Rattle.vcd_model.specs.Reading.Ending.{AtEnd, AtLast}
 
--- these tokens are these good phrases, none of which is the last of its kind, and then these first tokens of the next one, all without a fault
+-- these tokens are these good phrases, none of which is the last of its kind, and then these first
+-- tokens of the next one, all without a fault
 abbrev pub IsSoFar : {P : Type 0} → Grammar P → List Token → List (Placed P) → List (List ℕ) → Type 0
 IsSoFar g given placed before = reading_of g given ≡ record { placed = placed; before = before; ending = AtEnd; rest = [] }
 

@@ -100,7 +100,8 @@ abbrev pub sample_of : List (List ℕ) → Result (List Moment) UseFault → Res
 sample_of names (Ok times) = cond (not (has_unit times) && not (do_rise (map (λ m. m.number) times))) (Err NotRising) (Ok (Want.Sample times names))
 sample_of names (Err f) = Err f
 
--- what a command asks for; the times of a sample stand between commas, and a merge has at most 64 files
+-- what a command asks for; the times of a sample stand between commas, and a merge has at most 64
+-- files
 abbrev pub want_of : Command → Result Want UseFault
 want_of Check = Ok Want.Check
 want_of Listing = Ok Want.Listing

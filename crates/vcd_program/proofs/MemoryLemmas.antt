@@ -47,7 +47,8 @@ bytes_of b = Some b.rest.now
 abbrev no_failures : Bytes → ℕ
 no_failures b = 0
 
--- what opening one after the other leaves: the files as they were, the names noted, and the bytes of each name
+-- what opening one after the other leaves: the files as they were, the names noted, and the bytes
+-- of each name
 record Opened (files : List MemoryFile) (input : Text) (names : List (Option Text)) (inputs : List Bytes) (host after : Memory) : Type 0 where
   files_are : after.files.now ≡ files
   input_is : after.input.now ≡ input

@@ -5,7 +5,8 @@ use Rattle.clap.specs.declared.parser.matches.ArgMatches.{ArgMatches}
 use Rattle.vcd_model.specs.Words.{Command}
 use Rattle.vcd_words.specs.Words.{command_used, files_asked, input_asked}
 
--- the inputs of a command: of a merge its files, in their order; of any other the file after `-i`, or standard input, which has no name
+-- the inputs of a command: of a merge its files, in their order; of any other the file after `-i`,
+-- or standard input, which has no name
 abbrev pub inputs_of : Command → (file : Option Text) → List (Option Text)
 inputs_of (Command.Merge files) file = map (λ name. Some name) files
 inputs_of command file = file ∷ []

@@ -1,4 +1,5 @@
--- A host in memory: what a call of `open` leaves, and what a program leaves over it, which is the whole of the definitions.
+-- A host in memory: what a call of `open` leaves, and what a program leaves over it, which is the
+-- whole of the definitions.
 use Rattle.std.specs.Prelude.{◌≡◌, ◌⊎◌, true, cond, List, [], ◌∷◌, ◌++◌, codes, map, Option, Some, None, option_map, string_bytes, Result, Ok, Err}
 use Rattle.std.specs.Str.{bytes_eq}
 use Rattle.clap.specs.Words.{HasMatchesOf, IsAmong, Text, fault_of, takes}
@@ -27,7 +28,8 @@ abbrev pub bytes_named : List MemoryFile → Text → Option Text
 bytes_named [] name = None
 bytes_named (file ∷ files) name = cond (bytes_eq file.name.now name) (Some file.bytes.now) (bytes_named files name)
 
--- the bytes of an input among these files, if there is one: of standard input, which has no name, or of the file of this name
+-- the bytes of an input among these files, if there is one: of standard input, which has no name,
+-- or of the file of this name
 abbrev pub bytes_among : List MemoryFile → (input : Text) → Option Text → Option Text
 bytes_among files input None = Some input
 bytes_among files input (Some name) = bytes_named files name
@@ -44,7 +46,8 @@ pub record SameFiles (old new : Memory) : Type 0 where
   pub files_are : new.files ≡ old.files
   pub input_is : new.input ≡ old.input
 
--- the name was noted, and what is returned are its bytes, or that there are none; or memory ran out for the note
+-- the name was noted, and what is returned are its bytes, or that there are none; or memory ran out
+-- for the note
 abbrev pub OpensIn : Memory → Option Text → Result Bytes OpenFault → Memory → Type 0
 OpensIn old name (Ok bytes) new = SameFiles old new × (noted new ≡ noted old ++ name ∷ []) × (bytes_in old name ≡ Some bytes.rest.now)
 OpensIn old name (Err Unopened) new = SameFiles old new × (noted new ≡ noted old ++ name ∷ []) × (bytes_in old name ≡ None)
@@ -63,7 +66,9 @@ pub record IsLeft (left : Left) (names : List (Option Text)) (o : Outcome) : Typ
 abbrev pub HaveTexts : List MemoryFile → (input : Text) → List (Option Text) → List Text → Type 0
 HaveTexts files input names texts = map (λ name. bytes_among files input name) names ≡ map (λ text. Some text) texts
 
--- What is left of words that were parsed: over files that are all there the outcome of the words and of their bytes. Where the words ask for no job, nothing was opened; where a file is not there, those before it were.
+-- What is left of words that were parsed: over files that are all there the outcome of the words
+-- and of their bytes. Where the words ask for no job, nothing was opened; where a file is not
+-- there, those before it were.
 pub data IsLeftOf (words : Option Words) (asked : List (Option Text)) (files : List MemoryFile) (input : Text) (left : Left) : Type 0 where
   Refused : (fault : UseFault) (is : job_of words ≡ Err fault) (leaves : IsLeft left [] (command_outcome words [] [])) → IsLeftOf words asked files input left
   Ran : (job : Job) (is : job_of words ≡ Ok job) (texts : List Text) (have : HaveTexts files input asked texts) (leaves : IsLeft left asked (command_outcome words (map called asked) (map whole texts))) → IsLeftOf words asked files input left

@@ -16,7 +16,8 @@ called (Some name) = name
 abbrev pub text_of : Option (Bor Text) → Option Text
 text_of name = option_map (λ text. text.now) name
 
--- In what follows `opens` says what a call of `open` may return for a name, and what it leaves the host.
+-- In what follows `opens` says what a call of `open` may return for a name, and what it leaves the
+-- host.
 
 -- the inputs of these names were opened, one by one in this order, and no others
 abbrev pub Opens : {H I : Type 0} → (H → Option Text → Result I OpenFault → H → Type 0) → H → List (Option Text) → List I → H → Type 0
@@ -33,12 +34,14 @@ abbrev pub StopsAt : {H I : Type 0} → (H → Option Text → Result I OpenFaul
 StopsAt {H} {I} opens name host host' (stop.Unopened said) = (text_of said ≡ name) × opens host name (Err fault.Unopened) host'
 StopsAt {H} {I} opens name host host' stop.OutOfMemory = ((input : I) × opens host name (Ok input) host') ⊎ opens host name (Err fault.OutOfMemory) host'
 
--- of the inputs of these names this one cannot be opened; those before it were opened, and none after it
+-- of the inputs of these names this one cannot be opened; those before it were opened, and none
+-- after it
 abbrev pub OpensUpTo : {H I : Type 0} → (H → Option Text → Result I OpenFault → H → Type 0) → List (Option Text) → Option Text → (host host' : H) → Type 0
 OpensUpTo {H} {I} opens names name host host' =
     (before after : List (Option Text)) × (names ≡ before ++ name ∷ after) × (inputs : List I) × (next : H) × Opens opens host before inputs next × opens next name (Err fault.Unopened) host'
 
--- some first ones of the inputs of these names were opened, and then memory ran out, maybe while the next one was
+-- some first ones of the inputs of these names were opened, and then memory ran out, maybe while
+-- the next one was
 abbrev pub OpensSome : {H I : Type 0} → (H → Option Text → Result I OpenFault → H → Type 0) → List (Option Text) → (host host' : H) → Type 0
 OpensSome {H} {I} opens names host host' =
     (before after : List (Option Text)) × (names ≡ before ++ after) × (inputs : List I) × (next : H) × Opens opens host before inputs next

@@ -13,7 +13,8 @@ use Rattle.vcd_text.specs.declared.answer.Halt.TheVariants.{TokenTooLong, InputT
 use Rattle.vcd_text.specs.declared.registers.Phase.{Phase}
 use Rattle.vcd_text.specs.declared.registers.Phase.TheVariants.{Going, Ended, Halted}
 
--- the first p bytes of the text were looked at, and the chunk and the source have the others; a token has begun at place r
+-- the first p bytes of the text were looked at, and the chunk and the source have the others; a
+-- token has begun at place r
 pub record AtPlace (limit : ℕ) (rest : Option (List ℕ)) (chunk text : List ℕ) (given : List Token) (at end p r line_feeds : ℕ) : Type 0 where
   pub more : List ℕ
   pub known : rest ≡ Some more

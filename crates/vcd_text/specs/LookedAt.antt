@@ -13,7 +13,8 @@ is_apart text (suc i) = is_white_space (slice_index text i)
 abbrev pub places_from : List ℕ → ℕ → ℕ → List ℕ
 places_from text a n = filter (begins_token text) (range_with_len a n)
 
--- the bytes before place p were looked at, and no halt stands at one of them. Since place r a token goes on (none where r is p), and these tokens have ended before it
+-- the bytes before place p were looked at, and no halt stands at one of them. Since place r a token
+-- goes on (none where r is p), and these tokens have ended before it
 pub record HasLookedAt (limit : ℕ) (text : List ℕ) (p r : ℕ) (given : List Token) : Type 0 where
   pub order : r ≤ p
   pub counted : p < 2 ^ 63

@@ -1,4 +1,5 @@
--- Whole tokens that stand one after the other, with white space between them and one byte of it after the last.
+-- Whole tokens that stand one after the other, with white space between them and one byte of it
+-- after the last.
 use Rattle.std.specs.Prelude.{◌≡◌, ℕ, ◌+◌, ◌<◌, ◌≤◌, true, false, List, [], ◌∷◌, length, take, slice_index, slice_range}
 use Rattle.vcd_model.specs.Bytes.{is_white_space}
 use Rattle.vcd_model.specs.Tokens.{Token}
@@ -27,11 +28,13 @@ pub record AreWhite (bytes : List ℕ) (from to : ℕ) : Type 0 where
   pub order : from ≤ to
   pub white : (k : ℕ) → from ≤ k → k < to → is_white_space (slice_index bytes k) ≡ true
 
--- from this place on there are just these tokens, up to place n: white bytes before each, none or more, then the token, and one white byte that ends it
+-- from this place on there are just these tokens, up to place n: white bytes before each, none or
+-- more, then the token, and one white byte that ends it
 abbrev pub PassedFrom : ℕ → ℕ → List ℕ → ℕ → List Token → ℕ → Type 0
 PassedFrom limit lines bytes at [] n = n ≡ at
 PassedFrom limit lines bytes at (t ∷ ts) n = (start : ℕ) × AreWhite bytes at start × StandsAt limit lines bytes start t × PassedFrom limit lines bytes (start + length t.bytes + 1) ts n
 
--- The first n bytes are just these tokens, each of at most `limit` bytes, not empty, with one white byte after it, and white space before it or none. Before the bytes there are so many line feeds.
+-- The first n bytes are just these tokens, each of at most `limit` bytes, not empty, with one white
+-- byte after it, and white space before it or none. Before the bytes there are so many line feeds.
 abbrev pub Passed : ℕ → ℕ → List ℕ → ℕ → List Token → Type 0
 Passed limit lines bytes n ts = PassedFrom limit lines bytes 0 ts n

@@ -72,7 +72,8 @@ fn tell_end(answer: Result<Next, Halt>, line: u64, told: &mut Told) {
     told.push_line(line);
 }
 
-// Tells the next token, or the end or the number of the halt, with its line, and returns whether it was a token.
+// Tells the next token, or the end or the number of the halt, with its line, and returns whether it
+// was a token.
 fn tell_next(feed: &mut Feed<'_, '_, '_, '_, Watch<Pieces<'_>>>, told: &mut Told) -> bool
     requires { failed_calls (source_of feed.old) < 2 ^ 64 - 1 }
     ensures token { result ≡ true
@@ -132,7 +133,8 @@ fn is_told(mut source: Watch<Pieces<'_>>, chunk_len: usize, limit: usize, want: 
     told.text() == want
 }
 
-// Tells the next token ahead and how many bytes were passed with it, and returns whether there was one.
+// Tells the next token ahead and how many bytes were passed with it, and returns whether there was
+// one.
 fn tell_one_ahead(ahead: &mut Ahead<'_>, told: &mut Told) -> bool {
     let Some(token) = ahead.next() else {
         told.push(b"- ");
@@ -203,7 +205,8 @@ fn tokens_are_whole_over_any_reads(rt: HostRuntime) {
     }
 }
 
-// Tokens and white space over the places 0, 63, 64 and 65 of the blocks of 64 bytes that are looked over at once.
+// Tokens and white space over the places 0, 63, 64 and 65 of the blocks of 64 bytes that are looked
+// over at once.
 #[test]
 fn tokens_end_at_any_place_of_a_block(rt: HostRuntime) {
     for end in 60..140 {
@@ -254,8 +257,8 @@ fn is_told_after(counted: u64, bytes: &[u8], limit: usize, want: &[u8]) -> bool
     told.text() == want
 }
 
-// Bytes that count as looked at, a text, the token limit, and what is told. Where byte number 2^63 is
-// also one too many for a token, it is too much input.
+// Bytes that count as looked at, a text, the token limit, and what is told. Where byte number 2^63
+// is also one too many for a token, it is too much input.
 const LAST_BYTES: [(u64, &[u8], usize, &[u8]); 4] = [
     (
         (1 << 63) - 3,
@@ -396,8 +399,9 @@ fn white_space_ahead_is_passed(rt: HostRuntime) {
     }
 }
 
-// Indented lines that end with a carriage return and a line feed, two spaces, and a run of white bytes longer than 64. None is
-// given where a token is too long; then the white bytes before it stay too.
+// Indented lines that end with a carriage return and a line feed, two spaces, and a run of white
+// bytes longer than 64. None is given where a token is too long; then the white bytes before it
+// stay too.
 #[test]
 fn white_bytes_before_a_token_are_passed_with_it(rt: HostRuntime) {
     let mut bytes = [b' '; 300];
@@ -472,7 +476,8 @@ fn a_look_ahead_goes_back(rt: HostRuntime) {
     assert_eq!(rt; told.text(), b"a@1 bc 3 def 7 3 def 7 - ".as_slice());
 }
 
-// A device that works at every other call alone: a signal interrupts its reads, and its writes take nothing.
+// A device that works at every other call alone: a signal interrupts its reads, and its writes take
+// nothing.
 #[derive(Drop)]
 struct Stutter {
     bytes: [u8; 8],

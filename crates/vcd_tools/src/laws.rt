@@ -148,21 +148,24 @@ pub fn check_of_pick()
     vcd_model::laws::check_of_pick();
 }
 
-/// `check` of what `cut` wrote counts all variables, the start section and what was kept of the body.
+/// `check` of what `cut` wrote counts all variables, the start section and what was kept of the
+/// body.
 pub fn check_of_cut()
     ensures { CheckOfCut }
 {
     vcd_model::laws::check_of_cut();
 }
 
-/// `check` of what `merge` wrote counts what all inputs declare, a scope more for each, and the changes that were kept.
+/// `check` of what `merge` wrote counts what all inputs declare, a scope more for each, and the
+/// changes that were kept.
 pub fn check_of_merge()
     ensures { CheckOfMerge }
 {
     vcd_model::laws::check_of_merge();
 }
 
-/// `sample` of what `merge` wrote gives the values of each input, at scaled times and under its scope.
+/// `sample` of what `merge` wrote gives the values of each input, at scaled times and under its
+/// scope.
 pub fn sample_of_merge()
     ensures { SampleOfMerge }
 {

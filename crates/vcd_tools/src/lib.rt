@@ -1,19 +1,20 @@
-//! What is done with dumps whose headers were read: the surface for callers, and the laws on what is written.
+//! What is done with dumps whose headers were read: the surface for callers, and the laws on what
+//! is written.
 //!
-//! `check`, `list`, `pick`, `cut`, `sample`, `edges` and `merge` are one command each. An `Engine`, of a task that has `Begun`, and
-//! a `Merge` are the runs in parts: `step` and `merge_step` take one item each. `Done`, `More` and `Stop` say how they
-//! end. None of them takes memory.
+//! `check`, `list`, `pick`, `cut`, `sample`, `edges` and `merge` are one command each. An `Engine`,
+//! of a task that has `Begun`, and a `Merge` are the runs in parts: `step` and `merge_step` take
+//! one item each. `Done`, `More` and `Stop` say how they end. None of them takes memory.
 //!
-//! All code stands in crates below, side by side, so that no crate waits for this one: the commands over one dump in
-//! `vcd_engine`, the merge in `vcd_merge`, and how a run ends in `vcd_body`.
+//! All code stands in crates below, side by side, so that no crate waits for this one: the commands
+//! over one dump in `vcd_engine`, the merge in `vcd_merge`, and how a run ends in `vcd_body`.
 //!
 //! # The modules
 //!
 //! - `laws`: each function has a law on what commands write as its contract
 //!
-//! In `specs/` callers read `Run` (`Follows`), `Engine`, `Step` and `Room` of the commands over one dump; `MergeRun`, `MergeStart`,
-//! `MergeStep`, `MergeParts`, `MergeRoom`, `MergeOrder` and `Seat` of a merge; `Answer` of both; and the definitions that these
-//! cite, as `Model`.
+//! In `specs/` callers read `Run` (`Follows`), `Engine`, `Step` and `Room` of the commands over one
+//! dump; `MergeRun`, `MergeStart`, `MergeStep`, `MergeParts`, `MergeRoom`, `MergeOrder` and `Seat`
+//! of a merge; `Answer` of both; and the definitions that these cite, as `Model`.
 #![tactic(auto)]
 
 pub mod laws;

@@ -13,7 +13,8 @@ use vcd_text::doubles::Narrow;
 use vcd_text::{Feed, Sink, Source, Watch};
 use vcd_tools::{Done, Room, Stop, Task, cut, edges, pick, sample};
 
-// Calls the function of a task. A check has no room: its tests call it themselves, and nothing is run for it here.
+// Calls the function of a task. A check has no room: its tests call it themselves, and nothing is
+// run for it here.
 fn dispatch<S: Source, W: Sink>(
     view: HeadView<'_>,
     feed: &mut Feed<'_, '_, '_, '_, S>,
@@ -85,7 +86,8 @@ fn run_over<S: Source, W: Sink>(
     Ok(run_behind(alloc, head.view(), &mut feed, task, out)?)
 }
 
-// Whether a task over a dump, with so much room for what it writes, has this result, and this is written.
+// Whether a task over a dump, with so much room for what it writes, has this result, and this is
+// written.
 fn is_run_in(
     alloc: Global,
     room: usize,
@@ -116,7 +118,8 @@ pub(crate) fn is_run(
     is_run_in(alloc, 256, text, task, answer, written)
 }
 
-// The least room, too small for what a task over a dump writes, in which it does not end at a failed write with what there is room for.
+// The least room, too small for what a task over a dump writes, in which it does not end at a
+// failed write with what there is room for.
 pub(crate) fn wrong_room(
     alloc: Global,
     text: &[u8],

@@ -1,4 +1,5 @@
-// Headers that are listed, bodies that are counted and of which some variables are picked, and devices that fail.
+// Headers that are listed, bodies that are counted and of which some variables are picked, and
+// devices that fail.
 ghost use Rattle.std.specs.Prelude.{◌≡◌, ◌-◌, ◌^◌, ◌<◌, ◌≤◌, true};
 ghost use Rattle.vcd_tools.specs.Model.Laws.{CutKeeps, IsValid, MergeKeeps, NothingRevised, PickKeeps};
 ghost use Rattle.vcd_text.specs.Feed.{chunk_len_of, limit_of, source_of};
@@ -168,7 +169,8 @@ fn check_of_an_open_section(rt: HostRuntime) -> Result<(), Fail> {
     Ok(())
 }
 
-// Whether a check of a dump, whose source fails after it, ends at the one failed read, with nothing written.
+// Whether a check of a dump, whose source fails after it, ends at the one failed read, with nothing
+// written.
 fn stops_at_a_failed_read(alloc: Global) -> Result<bool, HeadFault> {
     let mut pieces = Pieces::new(ICARUS, 5);
     pieces.broken = true;
@@ -426,7 +428,8 @@ fn steps_of_a_pick_write_what_is_due(rt: HostRuntime) -> Result<(), Fail> {
     Ok(())
 }
 
-// What is written of the cut of `KINDS` at first, with the mark 10, and with each change of that time.
+// What is written of the cut of `KINDS` at first, with the mark 10, and with each change of that
+// time.
 const CUT: &[u8] =
     b"$var wire 1 ! a $end\n$var real 1 \" r $end\n$var event 1 # e $end\n$var wire 2 % u $end\n$enddefinitions $end\n";
 

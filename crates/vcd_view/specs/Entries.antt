@@ -10,7 +10,8 @@ use Rattle.vcd_view.specs.Keys.{key_in}
 abbrev pub text_in : List ℕ → ℕ → ℕ → List ℕ
 text_in text start len = cond (nat_le (start + len) (length text)) (slice_range text start (start + len)) []
 
--- the size of a code, 0 for an event and where 32 bits do not hold it: so many digits a change of the code may have in any case
+-- the size of a code, 0 for an event and where 32 bits do not hold it: so many digits a change of
+-- the code may have in any case
 abbrev pub most_of : Code → ℕ
 most_of c = cond (c.event || nat_le (2 ^ 32) c.size) 0 c.size
 
@@ -18,7 +19,8 @@ most_of c = cond (c.event || nat_le (2 ^ 32) c.size) 0 c.size
 abbrev pub is_entry_of : List ℕ → Entry → Code → Bool
 is_entry_of text e c = (e.key == key_in (text_in text c.start c.len)) && (e.most == most_of c)
 
--- the entry is empty, or one that says nothing of the code at its place, as those of long codes do, or that of the code at its place
+-- the entry is empty, or one that says nothing of the code at its place, as those of long codes do,
+-- or that of the code at its place
 abbrev pub is_right : List ℕ → List Code → Entry → Bool
 is_right text codes e = (e.key == 0) || (nat_le (2 ^ 63) e.key || unwrap_or (option_map (is_entry_of text e) (slice_get codes e.place)) false)
 

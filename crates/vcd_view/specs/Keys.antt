@@ -6,7 +6,8 @@ use Rattle.std.specs.List.{AllByRecursion}
 abbrev pub AreBytes : List ℕ → Type 0
 AreBytes bs = AllByRecursion (λ b. b < 256) bs
 
--- the bytes and a blank after them as the digits of a number, the first one lowest: no two texts have the same
+-- the bytes and a blank after them as the digits of a number, the first one lowest: no two texts
+-- have the same
 abbrev pub packed : List ℕ → ℕ
 packed [] = 32
 packed (b ∷ bs) = packed bs * 256 + b

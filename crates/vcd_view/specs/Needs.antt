@@ -6,7 +6,8 @@ use Rattle.vcd_view.specs.declared.view.Code.{Code}
 use Rattle.vcd_view.specs.declared.view.Need.{Need}
 use Rattle.vcd_view.specs.Shown.{HeadShown}
 
--- a code's part of the values, in bytes: one for each four digits, and at least the 64 of a real text
+-- a code's part of the values, in bytes: one for each four digits, and at least the 64 of a real
+-- text
 abbrev pub value_bytes : Code → ℕ
 value_bytes c = max (div_ceil c.size 4) 64
 

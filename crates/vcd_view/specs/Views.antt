@@ -20,7 +20,8 @@ abbrev pub counted_from_one : Option ℕ → ℕ
 counted_from_one None = 0
 counted_from_one (Some p) = suc p
 
--- the row's type and reference stand in the text where it says: the reference's tokens, of which there is one at least, with a space between
+-- the row's type and reference stand in the text where it says: the reference's tokens, of which
+-- there is one at least, with a space between
 pub record HasTexts (text : List ℕ) (r : Row) (type : List ℕ) (reference : List (List ℕ)) : Type 0 where
   pub within : r.start + r.word + r.all ≤ length text
   pub word_len : r.word ≡ length type
@@ -66,7 +67,8 @@ pub record AreHeld (text : List ℕ) (list : List Code) (cs : List IdCode) : Typ
 abbrev pub code_text : List IdCode → ℕ → List ℕ
 code_text codes p = unwrap_or (option_map (λ c. c.text) (slice_get codes p)) []
 
--- the place of each code once, in rising order of their bytes: the first bytes that differ decide, and a code comes before those that it begins
+-- the place of each code once, in rising order of their bytes: the first bytes that differ decide,
+-- and a code comes before those that it begins
 pub record IsIndex (codes : List IdCode) (index : List ℕ) : Type 0 where
   pub places : IsPermutation (range_with_len 0 (length codes)) index
   pub rising : IsStrictlySortedBy (slice_cmp nat_cmp) (map (code_text codes) index)

@@ -5,7 +5,8 @@ ghost use Rattle.vcd_view.specs.CodeHash.{hashed, mixed};
 use crate::key::key_of;
 use std::hash::{BuildHasher, Hasher};
 
-/// Two numbers by which codes are hashed. Who does not know them cannot choose codes whose hashes fall together.
+/// Two numbers by which codes are hashed. Who does not know them cannot choose codes whose hashes
+/// fall together.
 #[derive(Clone, Copy, PartialEq, Eq, Debug)]
 pub struct CodeSeed {
     /// What a word is multiplied by, to 128 bits.
@@ -34,7 +35,8 @@ impl CodeSeed {
         (product >> 64) as u64
     }
 
-    /// The state after these bytes: each eight of them count as one word, and what is left as one more.
+    /// The state after these bytes: each eight of them count as one word, and what is left as one
+    /// more.
     #[inline(always)]
     pub fn hashed(self, state: u64, bytes: &[u8]) -> u64
         ensures { result ≡ hashed self state bytes.now }

@@ -1,5 +1,6 @@
-// The entries by which codes are looked up: where a code's entry is, and what it tells. Any code may have any place among
-// them, and two the same: where an entry is decides only how fast a look-up is.
+// The entries by which codes are looked up: where a code's entry is, and what it tells. Any code
+// may have any place among them, and two the same: where an entry is decides only how fast a
+// look-up is.
 ghost use Rattle.std.specs.Prelude.{◌≡◌, ◌≢◌, ◌+◌, ◌-◌, ◌%◌, ◌^◌, ◌<◌, ◌≤◌, ℕ, List, true, bit_and, length, slice_get, Some, IfSome};
 ghost use Rattle.vcd_model.specs.Declarations.{IdCode};
 ghost use Rattle.vcd_view.specs.Entries.{HasEntry, IsAt, are_right, beside, place_told, told_by, above, entry_in, most_of, number_in};
@@ -70,7 +71,8 @@ fn number_of(code: &[u8]) -> usize
     number
 }
 
-/// The number of the code of at most three bytes that has this key; none for the key of a longer one.
+/// The number of the code of at most three bytes that has this key; none for the key of a longer
+/// one.
 #[inline(always)]
 pub fn number_of_key(key: u64) -> Option<usize>
     ensures { IfSome result (λ number. (code : List ℕ) → AreBytes code → key ≡ key_in code
@@ -104,8 +106,8 @@ pub fn place_told(entries: &[Entry], at: usize, key: u64) -> Option<usize>
     }
 }
 
-/// The place that one of the three entries beside the code's own gives. They lie in the 64 bytes around that, so a look at them
-/// reads at most one line of the cache more.
+/// The place that one of the three entries beside the code's own gives. They lie in the 64 bytes
+/// around that, so a look at them reads at most one line of the cache more.
 #[inline(always)]
 pub fn place_beside(entries: &[Entry], own: usize, key: u64) -> Option<usize>
     ensures { (code : List ℕ) → key ≡ key_in code → result ≡ told_by entries.now code (beside own) }
@@ -146,8 +148,8 @@ pub fn long_key(hash: u64) -> u64
     hash % LONG + LONG
 }
 
-/// The place of a code that an entry gives which is beside its own, or to which its hash leads. Where none does, there may be
-/// the code all the same.
+/// The place of a code that an entry gives which is beside its own, or to which its hash leads.
+/// Where none does, there may be the code all the same.
 pub(crate) fn place_hashed(
     text: &[u8],
     codes: &[Code],
@@ -171,7 +173,8 @@ pub(crate) fn place_hashed(
     }
 }
 
-// The place that an entry gives for the code with this key, which is not 0, if the hash leads to that.
+// The place that an entry gives for the code with this key, which is not 0, if the hash leads to
+// that.
 fn place_of_short(entries: &[Entry], hash: u64, key: u64) -> Option<usize>
     ensures { IfSome result (λ place. HasEntry entries.now key place) }
 {
@@ -187,8 +190,8 @@ fn place_of_short(entries: &[Entry], hash: u64, key: u64) -> Option<usize>
     None
 }
 
-// The place that an entry gives for this code of 8 bytes or more, if its hash leads to that. Others may have the same key, so its
-// bytes are compared.
+// The place that an entry gives for this code of 8 bytes or more, if its hash leads to that. Others
+// may have the same key, so its bytes are compared.
 fn place_of_long(
     text: &[u8],
     codes: &[Code],
@@ -221,8 +224,8 @@ fn is_at(text: &[u8], codes: &[Code], place: usize, bytes: &[u8]) -> bool
     }
 }
 
-/// The most digits that a change of the code may have: its size. It is 0 where any number is allowed, and where 32 bits do not
-/// hold the size.
+/// The most digits that a change of the code may have: its size. It is 0 where any number is
+/// allowed, and where 32 bits do not hold the size.
 pub fn most_of(code: Code) -> u32
     ensures { result ≡ most_of code }
 {

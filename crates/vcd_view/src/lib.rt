@@ -1,29 +1,32 @@
 //! The header of a dump as slices and numbers, and the look-up of its codes.
 //!
-//! A `HeadView` is slices that may be copied: the declarations as rows, the distinct codes, the order of their bytes, and entries
-//! that lead to them. Its methods read rows, texts and codes; `find` looks a code up. Who reads a header makes one, and who reads
-//! a body needs no more of the header than this. No memory is taken.
+//! A `HeadView` is slices that may be copied: the declarations as rows, the distinct codes, the
+//! order of their bytes, and entries that lead to them. Its methods read rows, texts and codes;
+//! `find` looks a code up. Who reads a header makes one, and who reads a body needs no more of the
+//! header than this. No memory is taken.
 //!
 //! # The relations
 //!
-//! `IsViewOf view h` says that a view is of a header of the definitions. Each function over a view takes any view, and its
-//! result is that of the definitions where this holds. What the entries of a view say of its codes is so in any view (`right`).
+//! `IsViewOf view h` says that a view is of a header of the definitions. Each function over a view
+//! takes any view, and its result is that of the definitions where this holds. What the entries of
+//! a view say of its codes is so in any view (`right`).
 //!
-//! `Finds codes text place` says of a look-up that the code with this text is at this place, or that there is none;
-//! `IsSized codes found` that the size of what was found is told too.
+//! `Finds codes text place` says of a look-up that the code with this text is at this place, or
+//! that there is none; `IsSized codes found` that the size of what was found is told too.
 //!
 //! # The modules
 //!
 //! - `view`: `HeadView` with its rows and codes, and `Need`
-//! - `look_up`, `probes`: a look at one entry, then a look by the hash, then a binary search; comparisons, counted
+//! - `look_up`, `probes`: a look at one entry, then a look by the hash, then a binary search;
+//!   comparisons, counted
 //! - `entries`, `key`: where a code's entry is, and what it tells; codes as numbers
 //! - `code_hash`: codes hashed by numbers that nobody knows
 //! - `room`: `need`, the room that an engine over a header needs
 //! - `keyword`: the keywords of a dump
 //! - `new_code`: the codes that a merge gives
 //!
-//! In `specs/` callers read `Views` and `Shown`, `Finds`, `Needs`, `Keywords` and `NewCode`; who fills entries, `Entries` and
-//! `Keys` too.
+//! In `specs/` callers read `Views` and `Shown`, `Finds`, `Needs`, `Keywords` and `NewCode`; who
+//! fills entries, `Entries` and `Keys` too.
 //!
 //! Not promised: what a call gives over a view that is of no header.
 #![tactic(auto)]

@@ -21,8 +21,8 @@ use std::cmp::Ordering;
 pub struct Found {
     /// Its place among the distinct codes.
     pub place: usize,
-    /// Its size: the most digits that a change of it may have. It is 0 where its variables are events, and where 32 bits do not
-    /// hold the size; then the code tells.
+    /// Its size: the most digits that a change of it may have. It is 0 where its variables are
+    /// events, and where 32 bits do not hold the size; then the code tells.
     pub most: usize,
 }
 
@@ -88,8 +88,9 @@ fn find_at_once(view: HeadView<'_>, code: &[u8]) -> Option<Found>
     }
 }
 
-// The place of a code that is not that of its own entry: by its hash, or else by a binary search. It takes no view, so that a look-up that
-// is done at once need not make one ready, and returns a number alone, which needs no memory.
+// The place of a code that is not that of its own entry: by its hash, or else by a binary search.
+// It takes no view, so that a look-up that is done at once need not make one ready, and returns a
+// number alone, which needs no memory.
 #[inline(never)]
 fn find_slowly(
     text: &[u8],
@@ -126,8 +127,8 @@ pub fn find_counted(view: HeadView<'_>, code: &[u8], probes: &mut Probes) -> Opt
     search(view.text, view.codes, view.index, code, probes)
 }
 
-// The place of a code by a binary search in the order of the codes. It takes no view, so that a look-up that was guessed
-// need not make one ready.
+// The place of a code by a binary search in the order of the codes. It takes no view, so that a
+// look-up that was guessed need not make one ready.
 #[inline(never)]
 fn search(
     text: &[u8],

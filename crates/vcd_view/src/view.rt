@@ -19,7 +19,8 @@ pub enum Kind {
 #[derive(Clone, Copy, PartialEq, Eq, Debug)]
 pub struct Row {
     pub kind: Kind,
-    /// 1 plus the row of the enclosing scope (for `Up` the one that it closes), 0 where there is none.
+    /// 1 plus the row of the enclosing scope (for `Up` the one that it closes), 0 where there is
+    /// none.
     pub parent: u32,
     /// The bytes of the type.
     pub word: u32,
@@ -75,7 +76,8 @@ pub struct HeadView<'a> {
     pub codes: &'a [Code],
     /// The places of the codes, in rising order of their bytes.
     pub index: &'a [usize],
-    /// Codes by their numbers and hashes, which only serve look-ups: a power of two of entries, up to three for each code.
+    /// Codes by their numbers and hashes, which only serve look-ups: a power of two of entries, up
+    /// to three for each code.
     pub entries: &'a [Entry],
     /// What codes are hashed by among the entries.
     pub seed: CodeSeed,
@@ -118,7 +120,8 @@ impl<'a> HeadView<'a> {
         text_in(self.text, start, len)
     }
 
-    /// The row of the scope that encloses the declaration of a row; for an `$upscope` the one that it closes.
+    /// The row of the scope that encloses the declaration of a row; for an `$upscope` the one that
+    /// it closes.
     #[inline(always)]
     pub fn scope_of(self, row: usize) -> Option<usize>
         ensures earlier { IfSome result (λ scope. scope < row) }

@@ -18,7 +18,8 @@ model_want (want.Sample numbers units names) = model.Want.Sample (times_with num
 model_want (want.Edges names) = model.Want.Edges (map string_bytes names.items)
 model_want want.Merge = model.Want.Merge
 
--- words may ask for it: without units its times are in order, and a sample has one at least, each with a unit or none
+-- words may ask for it: without units its times are in order, and a sample has one at least, each
+-- with a unit or none
 abbrev pub is_asked : Want → Bool
 is_asked (want.Cut from to) = is_some from.unit || is_some to.unit || nat_le from.number to.number
 is_asked (want.Sample numbers units names) = (length units.items == length numbers.items) && not (is_empty numbers.items) && (has_units units.items || do_rise numbers.items)

@@ -28,7 +28,8 @@ limit_rule = record (new_rule (codes "token-limit")) { long = Some (codes "token
 abbrev pub names_rule : Bool → Rule
 names_rule required = record (new_rule (codes "names")) { range = Some (record { start_inclusive = 1; end_inclusive = usize_max }); value_names = 1; required = required }
 
--- an option of this name, which has to be there, for times; which texts are times is no matter of the parse
+-- an option of this name, which has to be there, for times; which texts are times is no matter of
+-- the parse
 abbrev pub time_rule : Text → Rule
 time_rule name = record (new_rule name) { long = Some name; value_names = 1; required = true }
 

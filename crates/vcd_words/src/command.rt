@@ -45,7 +45,8 @@ fn one_input<'a>(alloc: Global, name: &'a str, help: Help<'a>) -> Result<Command
         .arg(token_limit(alloc))
 }
 
-/// A command over one input, with its options and names of variables, without which the parse fails where they are required.
+/// A command over one input, with its options and names of variables, without which the parse fails
+/// where they are required.
 fn named<'a>(
     alloc: Global,
     name: &'a str,

@@ -25,10 +25,12 @@ pub enum Want {
     Pick(Vec<String>),
     /// Writes the dump from the first of these times to the last.
     Cut(Moment, Moment),
-    /// Writes the values of the variables that these names select at times with these numbers, and with these units, one a number;
-    /// of all without names. Numbers are apart from units, so that ticks can be written over them.
+    /// Writes the values of the variables that these names select at times with these numbers, and
+    /// with these units, one a number; of all without names. Numbers are apart from units, so that
+    /// ticks can be written over them.
     Sample(Vec<u64>, Vec<Option<i8>>, Vec<String>),
-    /// Counts how often the variables that these names select change, rise and fall; all without names.
+    /// Counts how often the variables that these names select change, rise and fall; all without
+    /// names.
     Edges(Vec<String>),
     /// Writes the changes of all inputs in one order of time.
     Merge,
@@ -42,8 +44,9 @@ impl Want {
     ghost use Rattle.vcd_words.specs.Refusal.{model_refusal};
     ghost use Rattle.vcd_words.specs.Job.{is_asked, is_merge, model_want, names_asked, HasTicks};
 
-    /// Writes the times of a sample in ticks of the header that is shown over their numbers: it is the same that is wanted. Where
-    /// they are refused it says why, and what they are then is not said.
+    /// Writes the times of a sample in ticks of the header that is shown over their numbers: it is
+    /// the same that is wanted. Where they are refused it says why, and what they are then is not
+    /// said.
     pub fn write_ticks(&mut self, view: HeadView<'_>) -> Result<(), Refusal>
         requires { is_asked self.old ≡ true }
         ensures same { (h : Header) → IsViewOf view.entry h → MatchResult result
@@ -162,7 +165,8 @@ fn limit_of<'a>(word: Option<&'a str>) -> Result<usize, UseFault<'a>>
     }
 }
 
-/// The job that the matches of the command ask for. Memory is taken for its names, once they are known to ask for a job.
+/// The job that the matches of the command ask for. Memory is taken for its names, once they are
+/// known to ask for a job.
 pub fn job_of<'a>(alloc: Global, matches: &ArgMatches<'a>) -> Result<Job, UseFault<'a>>
     ensures job { IfOk result (λ job. job_asked matches.now
         ≡ Ok (record { want = model_want job.task; limit = job.limit })) }

@@ -1,4 +1,5 @@
-//! Words that are numbers and times: the times behind `--from` and `--to`, and those between the commas of `--at`.
+//! Words that are numbers and times: the times behind `--from` and `--to`, and those between the
+//! commas of `--at`.
 ghost use Rattle.std.specs.Prelude.{◌≡◌, ℕ, List, None, OnOk, true, Some, IfErr, IfOk, cond, filter_map, length, map, option_map};
 ghost use Rattle.std.specs.Char.{is_ascii_digit};
 ghost use Rattle.std.specs.List.{take_while};
@@ -38,7 +39,8 @@ fn digits_before(word: &[u8]) -> usize
     word.iter().take_while(|byte| byte.is_ascii_digit()).count()
 }
 
-/// The time that a word is, if it is one: 1 to 20 digits with a value below 2^64, and then nothing or a unit, in lower case.
+/// The time that a word is, if it is one: 1 to 20 digits with a value below 2^64, and then nothing
+/// or a unit, in lower case.
 pub(crate) fn moment_of(word: &str) -> Option<Moment>
     ensures { option_map asked result ≡ model_job.moment_of word.now }
 {
@@ -55,8 +57,8 @@ pub(crate) fn time_of<'a>(word: &'a str) -> Result<Moment, UseFault<'a>>
     moment_of(word).ok_or(UseFault::BadTime(word))
 }
 
-/// A cut between the times that these words are, or the first fault of them. Without units the first may not be above the
-/// second; with a unit that is to be seen once the time scale is known.
+/// A cut between the times that these words are, or the first fault of them. Without units the
+/// first may not be above the second; with a unit that is to be seen once the time scale is known.
 pub(crate) fn cut_of<'a>(from: &'a str, to: &'a str) -> Result<Want, UseFault<'a>>
     ensures want { IfOk result (λ want.
         model.cut_of (model.time_of from.entry.now) (model.time_of to.entry.now)
@@ -114,7 +116,8 @@ impl Order {
     }
 }
 
-/// Whether the words between the commas are the times of a sample: without units they rise. It takes no memory.
+/// Whether the words between the commas are the times of a sample: without units they rise. It
+/// takes no memory.
 fn check_times<'a>(at: &'a str) -> Result<(), UseFault<'a>>
     ensures times { OnOk result ((names : List (List ℕ)) → (times : List model_ticks.Moment)
         × (model.times_of (parts at.entry.now) ≡ Ok times)
@@ -156,8 +159,8 @@ fn units_in(alloc: Global, at: &str) -> Result<Vec<Option<i8>>, AllocError>
         .collect(alloc)
 }
 
-/// A sample of these names at the times that stand between commas, or the first fault of these words. Memory is taken once they
-/// are known to be times that a sample may have.
+/// A sample of these names at the times that stand between commas, or the first fault of these
+/// words. Memory is taken once they are known to be times that a sample may have.
 pub(crate) fn sample_of<'a>(
     alloc: Global,
     at: &'a str,

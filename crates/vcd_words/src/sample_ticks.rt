@@ -24,8 +24,8 @@ fn do_rise(times: &[u64]) -> bool
     times.is_sorted_by(|first, second| first < second)
 }
 
-/// Writes times with these units in ticks of the header that is shown over their numbers, each rounded down, up to the first that
-/// has no ticks, of which it says why.
+/// Writes times with these units in ticks of the header that is shown over their numbers, each
+/// rounded down, up to the first that has no ticks, of which it says why.
 fn write_ticks(numbers: &mut [u64], units: &[Option<i8>], view: HeadView<'_>) -> Result<(), Refusal>
     requires { length units.now ≡ length numbers.old }
     ensures { (h : Header) → IsViewOf view.entry h → MatchResult result
@@ -42,9 +42,9 @@ fn write_ticks(numbers: &mut [u64], units: &[Option<i8>], view: HeadView<'_>) ->
     Ok(())
 }
 
-/// Writes the times of a sample, with these numbers and units, in ticks of the header that is shown over their numbers, each
-/// rounded down, and leaves them without units: they are the same times. Where they are refused it says why, and what they are
-/// then is not said.
+/// Writes the times of a sample, with these numbers and units, in ticks of the header that is shown
+/// over their numbers, each rounded down, and leaves them without units: they are the same times.
+/// Where they are refused it says why, and what they are then is not said.
 pub(crate) fn write_times(
     numbers: &mut Vec<u64>,
     units: &mut Vec<Option<i8>>,

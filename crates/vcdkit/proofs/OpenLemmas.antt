@@ -300,7 +300,8 @@ module _ {X : Type 0} (limit chunk n : ℕ) (rest : X → Option (List ℕ)) (fa
 
 -- ---- the loop
 
--- after k readers: no read failed, and over readers with these texts the headers are those of the definitions
+-- after k readers: no read failed, and over readers with these texts the headers are those of the
+-- definitions
 pub record Opening {X : Type 0} (rest : X → Option (List ℕ)) (failures : X → ℕ) (old now : List X) (windows windows' : Windows) (k left : ℕ) (heads : List Head) (seats : List Seat) : Type 0 where
   pub many : length now ≡ length old
   pub few : left ≤ 16777216

@@ -38,7 +38,8 @@ failure_of (Err failure) = Some failure
 
 -- ---- the devices
 
--- of the reader at this place a read failed where the failure says so, and it is this place that it names
+-- of the reader at this place a read failed where the failure says so, and it is this place that it
+-- names
 abbrev pub CountsRead : (place before after : ℕ) → Option Failure → Type 0
 CountsRead place before after (Some (Stopped (Read input))) = (input ≡ place) × (after ≡ before + 1)
 CountsRead place before after why = after ≡ before

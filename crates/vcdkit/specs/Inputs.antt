@@ -1,4 +1,5 @@
--- The inputs of a run while their headers are read: what was read of each, and why one of them ends the run.
+-- The inputs of a run while their headers are read: what was read of each, and why one of them ends
+-- the run.
 use Rattle.std.specs.Prelude.{◌≡◌, ◌==◌, ◌⊎◌, ℕ, suc, false, List, [], ◌∷◌, ◌++◌, length, map, Option, Some, None, Result, MatchResult, slice_get, slice_set, option_map}
 use Rattle.std.specs.List.{AllZip}
 use Rattle.vcd_model.specs.Input.{Input}
@@ -31,7 +32,8 @@ use Rattle.vcdkit.specs.declared.failure.Failure.TheVariants.{Stopped, Refused, 
 
 -- ---- one input
 
--- the header of this input was read, with so many declarations allowed: these are its tokens, and at most a chunk was read past the last of them, without which it is not whole
+-- the header of this input was read, with so many declarations allowed: these are its tokens, and
+-- at most a chunk was read past the last of them, without which it is not whole
 pub record IsBegun (most limit chunk : ℕ) (i : Input) (l : Lane) (old new : Supply) : Type 0 where
   pub input_is : l.input ≡ i
   pub placed : List (Placed HeaderPhrase)
@@ -60,7 +62,8 @@ pub record HasFailed (most limit chunk place : ℕ) (i : Input) (old new : Suppl
   pub read : ReadsAsNeeded limit chunk old new left [] (is_header_over most)
   pub is_why : IsWhy most limit place left why
 
--- the header of this input was read: a head shows it, and a seat has its feed, which stands after it over these windows
+-- the header of this input was read: a head shows it, and a seat has its feed, which stands after
+-- it over these windows
 pub record Begins (most limit chunk : ℕ) (i : Input) (head : Head) (seat : Seat) (read gathered : List ℕ) (old new : Supply) : Type 0 where
   pub lane : Lane
   pub begun : IsBegun most limit chunk i lane old new
@@ -80,7 +83,8 @@ AreBegun limit chunk earlier (text ∷ texts) (s ∷ old) (t ∷ new) (l ∷ lan
     IsBegun (allowed_after earlier) limit chunk (whole text) l s t × AreBegun limit chunk (earlier ++ l.header ∷ []) texts old new lanes
 AreBegun limit chunk earlier texts old new lanes = ⊥
 
--- the headers of readers with these texts were read in order until one of them ended the run; those behind it were not read
+-- the headers of readers with these texts were read in order until one of them ended the run; those
+-- behind it were not read
 abbrev pub Stops : (limit chunk place : ℕ) → List Header → List (List ℕ) → (old new : List Supply) → Failure → Type 0
 Stops limit chunk place earlier (text ∷ texts) (s ∷ old) (t ∷ new) why =
     (HasFailed (allowed_after earlier) limit chunk place (whole text) s t why × (new ≡ old) × (length old ≡ length texts))
@@ -123,7 +127,8 @@ pub record SameParts (n place : ℕ) (old new : Windows) : Type 0 where
   pub chunks : part (part_len n old.chunks.now) place new.chunks.now ≡ part (part_len n old.chunks.now) place old.chunks.now
   pub tokens : part (part_len n old.tokens.now) place new.tokens.now ≡ part (part_len n old.tokens.now) place old.tokens.now
 
--- The reading of the header of the input at a place among n, over this reader and its parts of the windows: no other reader is touched, and a failed read is one of it.
+-- The reading of the header of the input at a place among n, over this reader and its parts of the
+-- windows: no other reader is touched, and a failed read is one of it.
 pub record BeginsAt {X : Type 0} (n place most : ℕ) (rest : X → Option (List ℕ)) (failures : X → ℕ) (reader : X) (old new : List X) (windows windows' : Windows) (result : Result Begun Failure) : Type 0 where
   pub after : X
   pub readers : new ≡ slice_set old place after

@@ -22,7 +22,8 @@ use Rattle.vcdkit.specs.Message.{Shows}
 
 -- ---- one input
 
--- the output of a run that was asked for these names, returns this and has this outcome; out of memory it leaves nothing
+-- the output of a run that was asked for these names, returns this and has this outcome; out of
+-- memory it leaves nothing
 abbrev pub Leaves : (asked : List (List ℕ)) → Outcome → List ℕ → Device → Device → Result Done Failure → Type 0
 Leaves asked o name out out' (Ok done) = (o ≡ clean_outcome o.output) × Writes out out' o.output
 Leaves asked o name out out' (Err (Stopped stop)) = (task : Request) × (names_of task ≡ asked) × Belongs task o name out out' (Err stop)
@@ -36,7 +37,9 @@ settled_for (Err (Stopped stop)) run header = run
 settled_for (Err (Refused why)) run header = run
 settled_for (Err OutOfMemory) run header = header
 
--- how a run that was asked for these names ends over an input with this name, of which these tokens were given: with an outcome that is due for what is left of the input, and no more was read than what settles it
+-- how a run that was asked for these names ends over an input with this name, of which these tokens
+-- were given: with an outcome that is due for what is left of the input, and no more was read than
+-- what settles it
 pub record Ends (asked : List (List ℕ)) (IsDue : Input → Outcome → Type 0) (limit chunk : ℕ) (i : Input) (name : List ℕ) (front : List Token) (settled : List Token → Bool) (old new : Supply) (out out' : Device) (result : Result Done Failure) : Type 0 where
   pub left : Input
   pub is_left : IsLeft i old new left
@@ -61,7 +64,9 @@ IsAfter want limit front h name left o =
 abbrev pub header_behind : List Header → ℕ → Input → Header
 header_behind earlier limit i = header_of (phrases_of (read_header (allowed_after earlier) (stream_of limit i)).placed)
 
--- The inputs of readers with these texts, one by one: all of a text; or, where a read failed, what the reader gave until then. No more was read of each than what settles it, where so many declarations are allowed.
+-- The inputs of readers with these texts, one by one: all of a text; or, where a read failed, what
+-- the reader gave until then. No more was read of each than what settles it, where so many
+-- declarations are allowed.
 abbrev pub AreRead : (ℕ → List Token → Bool) → (limit chunk : ℕ) → List Header → List (List ℕ) → (old new : List Supply) → List Input → Type 0
 AreRead settled limit chunk earlier [] old new inputs = inputs ≡ []
 AreRead settled limit chunk earlier (text ∷ texts) [] new inputs = ⊥
@@ -73,7 +78,8 @@ AreRead settled limit chunk earlier (text ∷ texts) (s ∷ old) (t ∷ new) (i 
 
 -- ---- the end of a run
 
--- The output of a run of inputs with these names, which was asked for those, that returns this and has this outcome. A failed write leaves a prefix of it; out of memory it leaves nothing.
+-- The output of a run of inputs with these names, which was asked for those, that returns this and
+-- has this outcome. A failed write leaves a prefix of it; out of memory it leaves nothing.
 abbrev pub LeavesAll : (names asked : List (List ℕ)) → Outcome → Device → Device → Result Done Failure → Type 0
 LeavesAll names asked o out out' (Ok done) = (o ≡ clean_outcome o.output) × Writes out out' o.output
 LeavesAll names asked o out out' (Err (Stopped (Dump input line fault))) = (o ≡ fault_outcome o.output (name_at names input) (record { number = fault; line = line })) × ((fault == 31) ≡ false) × Writes out out' o.output
@@ -83,13 +89,15 @@ LeavesAll names asked o out out' (Err (Stopped (Unmatched place))) = (o ≡ unma
 LeavesAll names asked o out out' (Err (Refused why)) = (o ≡ model.refusal_outcome (name_at names 0) (model_refusal why)) × Writes out out' []
 LeavesAll names asked o out out' (Err OutOfMemory) = Writes out out' []
 
--- how a run over readers with these texts ends: with the outcome of what is left of them, and no more was read of each than what settles it
+-- how a run over readers with these texts ends: with the outcome of what is left of them, and no
+-- more was read of each than what settles it
 pub record EndsAll (want : model.Want) (asked : List (List ℕ)) (limit chunk : ℕ) (names texts : List (List ℕ)) (old new : List Supply) (out out' : Device) (result : Result Done Failure) : Type 0 where
   pub lefts : List Input
   pub read : AreRead (λ most. settled_for result (is_settled want most) (is_header_over most)) limit chunk [] texts old new lefts
   pub leaves : LeavesAll names asked (model.outcome want limit names lefts) out out' result
 
--- a run leaves this outcome on its output, on the error stream and in its status, as far as its devices let it
+-- a run leaves this outcome on its output, on the error stream and in its status, as far as its
+-- devices let it
 pub data IsOutcome (o : Outcome) (out out' err err' : Device) (status : ℕ) : Type 0 where
   -- all of the outcome
   Whole : (written : Writes out out' o.output) (shown : Shows err err' o.message) (status_is : status ≡ o.status) → IsOutcome o out out' err err' status

@@ -49,8 +49,8 @@ pub(crate) fn windows_for(alloc: Global, job: &Job, inputs: usize) -> Result<Mem
     })
 }
 
-/// Reads the header of the input at this place among all, of whose feed nothing was given, with at most `most` declarations
-/// (at most 16,777,216).
+/// Reads the header of the input at this place among all, of whose feed nothing was given, with at
+/// most `most` declarations (at most 16,777,216).
 pub(crate) fn open_input<S: Source, B: BuildHasher>(
     alloc: Global,
     input: usize,
@@ -89,8 +89,8 @@ pub(crate) struct Begun {
     pub seat: Seat,
 }
 
-/// Reads the header of the input at this place among all, with at most `most` declarations (at most 16,777,216), over its reader
-/// and its parts of the windows alone, and parks its feed.
+/// Reads the header of the input at this place among all, with at most `most` declarations (at most
+/// 16,777,216), over its reader and its parts of the windows alone, and parks its feed.
 fn begin<S: Source, B: BuildHasher>(
     alloc: Global,
     input: usize,

@@ -1,5 +1,5 @@
-//! The lines on the error stream, and the exit statuses. A line begins with the program's name; where a write of it fails, a
-//! prefix of it was written.
+//! The lines on the error stream, and the exit statuses. A line begins with the program's name;
+//! where a write of it fails, a prefix of it was written.
 ghost use Rattle.std.specs.Prelude.{◌≡◌, ◌-◌, ◌^◌, ◌<◌, ◌++◌, [], codes, decimal, map, string_bytes};
 ghost use Rattle.vcd_model.specs.Outcome.{name_at, program_line};
 ghost use Rattle.vcd_text.specs.Device.{Puts, Takes, failures_after};
@@ -68,7 +68,8 @@ fn name_of(names: &[String], place: usize) -> &str
     }
 }
 
-/// Says why a run stops over the inputs of these names, which was asked for those, and returns the exit status.
+/// Says why a run stops over the inputs of these names, which was asked for those, and returns the
+/// exit status.
 fn report_stop<E: Sink>(stop: Stop, names: &[String], asked: &[String], err: &mut E) -> u8
     requires { (E.device err.old).failures < 2 ^ 64 - 1 }
     ensures line { Shows (E.device err.old) (E.device err.new)
@@ -95,7 +96,8 @@ fn report_stop<E: Sink>(stop: Stop, names: &[String], asked: &[String], err: &mu
     }
 }
 
-/// Says why times are refused, once the header of the first input of these names is read, and returns the exit status.
+/// Says why times are refused, once the header of the first input of these names is read, and
+/// returns the exit status.
 fn report_refusal<E: Sink>(refusal: Refusal, names: &[String], err: &mut E) -> u8
     requires { (E.device err.old).failures < 2 ^ 64 - 1 }
     ensures line { Shows (E.device err.old) (E.device err.new)
@@ -122,8 +124,8 @@ fn report_refusal<E: Sink>(refusal: Refusal, names: &[String], err: &mut E) -> u
     }
 }
 
-/// Says why a run fails over the inputs of these names, which was asked for those, and returns the exit status. A fault of the
-/// stream is passed over.
+/// Says why a run fails over the inputs of these names, which was asked for those, and returns the
+/// exit status. A fault of the stream is passed over.
 pub(crate) fn report<E: Sink>(
     failure: Failure,
     names: &[String],
@@ -145,7 +147,8 @@ pub(crate) fn report<E: Sink>(
     }
 }
 
-/// Says that the output could not be written, and returns the exit status. A fault of the stream is passed over.
+/// Says that the output could not be written, and returns the exit status. A fault of the stream is
+/// passed over.
 pub fn write_fault<E: Sink>(err: &mut E) -> u8
     requires { (E.device err.old).failures < 2 ^ 64 - 1 }
     ensures line { Shows (E.device err.old) (E.device err.new)
@@ -191,7 +194,8 @@ pub fn use_fault<E: Sink>(fault: UseFault<'_>, err: &mut E) -> u8
     }
 }
 
-/// Says that the file of this name cannot be opened, and returns the exit status. A fault of the stream is passed over.
+/// Says that the file of this name cannot be opened, and returns the exit status. A fault of the
+/// stream is passed over.
 pub fn open_fault<E: Sink>(name: &str, err: &mut E) -> u8
     requires { (E.device err.old).failures < 2 ^ 64 - 1 }
     ensures line { Shows (E.device err.old) (E.device err.new)

@@ -89,7 +89,8 @@ fn run_in<S: Source, W: Sink>(
     }
 }
 
-/// Does what is wanted after the header: takes the room for it, and then calls what takes no more memory.
+/// Does what is wanted after the header: takes the room for it, and then calls what takes no more
+/// memory.
 fn run_want<S: Source, W: Sink>(
     alloc: Global,
     want: &mut Want,
@@ -231,16 +232,18 @@ fn run_readers<S: Source, W: Sink, B: BuildHasher>(
     run_input(alloc, job, &mut readers[0], out, hasher)
 }
 
-/// Runs a job over the readers, whose names are said in messages, and returns the exit status: 0 where it is done, 1 for a fault
-/// of an input, for a name that selects nothing and for a unit without a time scale, 2 for times that are out of range or out of
-/// order in ticks, 3 for a failed read or write and where memory ran out. A merge has 1 to 64 readers, any other job one. Output
+/// Runs a job over the readers, whose names are said in messages, and returns the exit status: 0
+/// where it is done, 1 for a fault of an input, for a name that selects nothing and for a unit
+/// without a time scale, 2 for times that are out of range or out of order in ticks, 3 for a failed
+/// read or write and where memory ran out. A merge has 1 to 64 readers, any other job one. Output
 /// goes to `out`, the message to `err`; a fault of `err` is passed over. `out` is not flushed.
 ///
-/// Memory is taken for the windows, while the headers are read, and then for what the task works in; none after that. Nothing is
-/// written on `out` before all of it was taken.
+/// Memory is taken for the windows, while the headers are read, and then for what the task works
+/// in; none after that. Nothing is written on `out` before all of it was taken.
 ///
-/// The codes of a header are hashed by numbers that the hasher gives; what is written is the same by each. Where nobody knows
-/// these numbers who made the dump, as with `RandomState`, no choice of codes takes long to find.
+/// The codes of a header are hashed by numbers that the hasher gives; what is written is the same
+/// by each. Where nobody knows these numbers who made the dump, as with `RandomState`, no choice of
+/// codes takes long to find.
 pub fn run_with_hasher<S: Source, W: Sink, E: Sink, B: BuildHasher>(
     alloc: Global,
     mut job: Job,
@@ -260,8 +263,8 @@ pub fn run_with_hasher<S: Source, W: Sink, E: Sink, B: BuildHasher>(
     ensures failures { ((W.device out.new).failures ≤ (W.device out.old).failures + 1)
         × ((E.device err.new).failures ≤ (E.device err.old).failures + 1) }
 
-    // It ends done or failed, over any readers and writers: for a failed read only where one of the reader that is named failed
-    // and of no other, and likewise for a write.
+    // It ends done or failed, over any readers and writers: for a failed read only where one of the
+    // reader that is named failed and of no other, and likewise for a write.
     ensures ends { (why : Option Failure)
         × CountsReads (map S.failures readers.old) (map S.failures readers.new) why
         × ((W.device out.new).failures ≡ (W.device out.old).failures + writes_failed why)
@@ -269,7 +272,8 @@ pub fn run_with_hasher<S: Source, W: Sink, E: Sink, B: BuildHasher>(
         × Shows (E.device err.old) (E.device err.new)
         (end_message (map string_bytes names.now) (names_asked job.task) why) }
 
-    // Over readers that tell their bytes: it is the outcome of the definitions, and no more was read than what settles it.
+    // Over readers that tell their bytes: it is the outcome of the definitions, and no more was
+    // read than what settles it.
     ensures gives { (texts : List (List ℕ)) → map S.rest readers.old ≡ map (λ text. Some text) texts
         → HasRun (model_want job.task) job.limit job.chunk (map string_bytes names.now) texts
         (map (supply S.rest S.failures) readers.old) (map (supply S.rest S.failures) readers.new)
@@ -281,16 +285,17 @@ pub fn run_with_hasher<S: Source, W: Sink, E: Sink, B: BuildHasher>(
     }
 }
 
-/// Runs a job over the readers, whose names are said in messages, and returns the exit status: 0 where it is done, 1 for a fault
-/// of an input, for a name that selects nothing and for a unit without a time scale, 2 for times that are out of range or out of
-/// order in ticks, 3 for a failed read or write and where memory ran out. A merge has 1 to 64 readers, any other job one. Output
+/// Runs a job over the readers, whose names are said in messages, and returns the exit status: 0
+/// where it is done, 1 for a fault of an input, for a name that selects nothing and for a unit
+/// without a time scale, 2 for times that are out of range or out of order in ticks, 3 for a failed
+/// read or write and where memory ran out. A merge has 1 to 64 readers, any other job one. Output
 /// goes to `out`, the message to `err`; a fault of `err` is passed over. `out` is not flushed.
 ///
-/// Memory is taken for the windows, while the headers are read, and then for what the task works in; none after that. Nothing is
-/// written on `out` before all of it was taken.
+/// Memory is taken for the windows, while the headers are read, and then for what the task works
+/// in; none after that. Nothing is written on `out` before all of it was taken.
 ///
-/// The codes of a header are hashed by numbers that all may know, so that codes can be crafted which take long to find: a dump
-/// that is not trusted is run over by `run_with_hasher`.
+/// The codes of a header are hashed by numbers that all may know, so that codes can be crafted
+/// which take long to find: a dump that is not trusted is run over by `run_with_hasher`.
 pub fn run<S: Source, W: Sink, E: Sink>(
     alloc: Global,
     job: Job,
@@ -309,8 +314,8 @@ pub fn run<S: Source, W: Sink, E: Sink>(
     ensures failures { ((W.device out.new).failures ≤ (W.device out.old).failures + 1)
         × ((E.device err.new).failures ≤ (E.device err.old).failures + 1) }
 
-    // It ends done or failed, over any readers and writers: for a failed read only where one of the reader that is named failed
-    // and of no other, and likewise for a write.
+    // It ends done or failed, over any readers and writers: for a failed read only where one of the
+    // reader that is named failed and of no other, and likewise for a write.
     ensures ends { (why : Option Failure)
         × CountsReads (map S.failures readers.old) (map S.failures readers.new) why
         × ((W.device out.new).failures ≡ (W.device out.old).failures + writes_failed why)
@@ -318,7 +323,8 @@ pub fn run<S: Source, W: Sink, E: Sink>(
         × Shows (E.device err.old) (E.device err.new)
         (end_message (map string_bytes names.now) (names_asked job.task) why) }
 
-    // Over readers that tell their bytes: it is the outcome of the definitions, and no more was read than what settles it.
+    // Over readers that tell their bytes: it is the outcome of the definitions, and no more was
+    // read than what settles it.
     ensures gives { (texts : List (List ℕ)) → map S.rest readers.old ≡ map (λ text. Some text) texts
         → HasRun (model_want job.task) job.limit job.chunk (map string_bytes names.now) texts
         (map (supply S.rest S.failures) readers.old) (map (supply S.rest S.failures) readers.new)

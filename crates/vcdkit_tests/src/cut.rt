@@ -81,7 +81,8 @@ fn what_a_cut_between_other_times_writes_is_a_dump(rt: HostRuntime) {
     }
 }
 
-// A text, and whether a read fails after it, and the message and the status of a cut from 30 to 40, which writes the header alone.
+// A text, and whether a read fails after it, and the message and the status of a cut from 30 to 40,
+// which writes the header alone.
 const HEADS: [(&[u8], bool, &[u8], u8); 2] = [
     (
         b"$var wire 1 ! a $end\n$var real 1 \" r $end\n$var event 1 # e $end\n$var wire 2 % u $end\n$enddefinitions $end\n#9\n0!\n?\n",

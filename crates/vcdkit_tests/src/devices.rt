@@ -14,7 +14,8 @@ use vcdkit::{Job, Want, run};
 // No device is called more often in a run.
 const MOST_CALLS: u64 = 1000;
 
-// Takes so many bytes a call at most, and fails at one call alone, counted from 1; at none where it is 0.
+// Takes so many bytes a call at most, and fails at one call alone, counted from 1; at none where it
+// is 0.
 #[derive(Drop)]
 struct Sparing {
     taken: Narrow,
@@ -50,7 +51,8 @@ impl Write for Sparing {
     }
 }
 
-// The readers of a run: the one that may fail alone, or of a merge with another one behind or before it.
+// The readers of a run: the one that may fail alone, or of a merge with another one behind or
+// before it.
 #[derive(Clone, Copy)]
 enum Readers<'a> {
     Alone,
@@ -58,8 +60,8 @@ enum Readers<'a> {
     WithFirst(&'a [u8]),
 }
 
-// A run that is to end: the parts of the dump that may fail, and what each lets be written once it was read; what the end lets be
-// written; the message and the status.
+// A run that is to end: the parts of the dump that may fail, and what each lets be written once it
+// was read; what the end lets be written; the message and the status.
 struct Row<'a> {
     words: Words<'a, 'a>,
     readers: Readers<'a>,
@@ -69,7 +71,8 @@ struct Row<'a> {
     status: u8,
 }
 
-// How many bytes a call gives or takes, and how many a chunk has; and which call of each device fails, none where it is 0.
+// How many bytes a call gives or takes, and how many a chunk has; and which call of each device
+// fails, none where it is 0.
 #[derive(Clone, Copy)]
 struct Plan {
     most: usize,
@@ -79,7 +82,8 @@ struct Plan {
     err: u64,
 }
 
-// What a run leaves: both streams, the status, how often the reader was called, and what it has still to give.
+// What a run leaves: both streams, the status, how often the reader was called, and what it has
+// still to give.
 #[derive(Drop)]
 struct Left {
     out: Sparing,
@@ -89,7 +93,8 @@ struct Left {
     ahead: usize,
 }
 
-// What fails once in each run: a read, a write of the output, a write of the message, or one of the message of a failed read.
+// What fails once in each run: a read, a write of the output, a write of the message, or one of the
+// message of a failed read.
 #[derive(Clone, Copy, Debug)]
 enum Failing {
     Read,
@@ -98,7 +103,8 @@ enum Failing {
     ReadLine,
 }
 
-// Which call of the reader, of the output and of the message fails, where the call of this number does; none is 0.
+// Which call of the reader, of the output and of the message fails, where the call of this number
+// does; none is 0.
 fn calls_that_fail(failing: Failing, call: u64) -> (u64, u64, u64) {
     match failing {
         Failing::Read => (call, 0, 0),
@@ -171,7 +177,8 @@ fn run_alone(
     Ok(left_of(out, err, status, &readers[0].device))
 }
 
-// Merges two readers, each of which may fail at a call, and returns what was left, of both the reader at this place.
+// Merges two readers, each of which may fail at a call, and returns what was left, of both the
+// reader at this place.
 fn run_merge(
     alloc: Global,
     first: (&[u8], u64),
@@ -287,7 +294,8 @@ fn is_whole(failing: Failing, row: &Row<'_>, whole: &Whole, left: &Left) -> bool
     }
 }
 
-// Whether a run with a failed read left what is due of the bytes that were read, with the read line.
+// Whether a run with a failed read left what is due of the bytes that were read, with the read
+// line.
 fn is_due(row: &Row<'_>, whole: &Whole, left: &Left) -> bool {
     let read = whole.dump.held().len().saturating_sub(left.ahead);
     let length = due(row.parts, read);
@@ -297,8 +305,9 @@ fn is_due(row: &Row<'_>, whole: &Whole, left: &Left) -> bool {
         && is_left(left, written, read_line(row.readers), 3)
 }
 
-// Whether a run with a failed call left what stands then: after a failed write of the output a prefix of it, with the write line;
-// after one of a message a prefix of that, with the same output and status.
+// Whether a run with a failed call left what stands then: after a failed write of the output a
+// prefix of it, with the write line; after one of a message a prefix of that, with the same output
+// and status.
 fn is_right(failing: Failing, row: &Row<'_>, whole: &Whole, left: &Left) -> bool {
     let output = left.out.taken.held();
     let message = left.err.taken.held();
@@ -318,7 +327,8 @@ fn is_right(failing: Failing, row: &Row<'_>, whole: &Whole, left: &Left) -> bool
     }
 }
 
-// Call 1, 2, 3, .. fails, until a run ends without it: the first one whose run left something else than it is to, if any did.
+// Call 1, 2, 3, .. fails, until a run ends without it: the first one whose run left something else
+// than it is to, if any did.
 fn wrong_call(
     alloc: Global,
     row: &Row<'_>,

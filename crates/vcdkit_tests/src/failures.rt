@@ -35,7 +35,8 @@ fn a_failed_read_of_a_body_is_said(rt: HostRuntime) {
     leave_under(&rt, Words::Check, 64, DUMP, true, left);
 }
 
-// Whether a run over a text, with so much room on both streams, leaves this output, this message and this status.
+// Whether a run over a text, with so much room on both streams, leaves this output, this message
+// and this status.
 fn is_left_in(
     alloc: Global,
     words: Words<'_, '_>,

@@ -19,8 +19,9 @@ fn a_line_is_laid_out(rt: HostRuntime) {
     assert!(rt; status == 3 && is_held(&err, b"vcdkit: write failed\n", 0));
 }
 
-// Whether a check of what a reader with this name gives, a text and a failed read after it where that is said, has this status where
-// there is so much room for a message, leaves this message, and has so many failed writes of it.
+// Whether a check of what a reader with this name gives, a text and a failed read after it where
+// that is said, has this status where there is so much room for a message, leaves this message, and
+// has so many failed writes of it.
 fn is_told(
     alloc: Global,
     name: &str,
@@ -47,7 +48,8 @@ const BAD_TIME: &[u8] =
 
 const BAD_TIME_LINE: &[u8] = b"vcdkit: (stdin):12: bad time\n";
 
-// The name of a reader, the text that it gives and whether a read fails after it, and the status and the line.
+// The name of a reader, the text that it gives and whether a read fails after it, and the status
+// and the line.
 const TOLD: [(&str, &[u8], bool, u8, &[u8]); 2] = [
     ("a.vcd", b"", true, 3, b"vcdkit: a.vcd: read failed\n"),
     ("(stdin)", BAD_TIME, false, 1, BAD_TIME_LINE),
@@ -84,7 +86,8 @@ const USE_FAULTS: [(UseFault<'static>, &[u8], u8); 6] = [
     (UseFault::OutOfMemory, b"vcdkit: out of memory\n", 3),
 ];
 
-// Whether a fault, where there is so much room for its line, leaves this with so many failed writes, and has this status.
+// Whether a fault, where there is so much room for its line, leaves this with so many failed
+// writes, and has this status.
 fn is_said(fault: UseFault<'_>, room: usize, line: &[u8], failures: u64, status: u8) -> bool
     requires { room ≤ 1024 }
 {
@@ -111,7 +114,8 @@ fn a_use_fault_without_room_has_its_status(rt: HostRuntime) {
     }
 }
 
-// Whether the line of a file that cannot be opened, where there is so much room, leaves this with so many failed writes.
+// Whether the line of a file that cannot be opened, where there is so much room, leaves this with
+// so many failed writes.
 fn is_unopened(room: usize, left: &[u8], failures: u64) -> bool
     requires { room ≤ 1024 }
 {

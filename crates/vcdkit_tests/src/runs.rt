@@ -94,7 +94,8 @@ pub struct Left {
     pub status: u8,
 }
 
-// What a job over what a reader with this name gives leaves, with so much room for the output and for the message.
+// What a job over what a reader with this name gives leaves, with so much room for the output and
+// for the message.
 pub(crate) fn run_named(
     alloc: Global,
     name: &str,
@@ -140,7 +141,8 @@ pub(crate) fn run_on(
     run_named(alloc, "(stdin)", job, input, 1024, 80)
 }
 
-// A run over what a reader gives, so many bytes at a time, leaves this output, this message and this status.
+// A run over what a reader gives, so many bytes at a time, leaves this output, this message and
+// this status.
 pub(crate) fn leave<R: Abort + AllocGlobal>(
     rt: &R,
     words: Words<'_, '_>,
@@ -178,7 +180,8 @@ pub(crate) fn leave_under<R: Abort + AllocGlobal>(
     }
 }
 
-// A run over what a text gives, and a failed read after it where that is said, leaves this output, this message and this status.
+// A run over what a text gives, and a failed read after it where that is said, leaves this output,
+// this message and this status.
 pub(crate) fn give_all<R: Abort + AllocGlobal>(
     rt: &R,
     words: Words<'_, '_>,
@@ -208,8 +211,8 @@ pub(crate) fn give_message<R: Abort + AllocGlobal>(
     give_all(rt, words, (text, false), (b"", message, 1));
 }
 
-// Words are refused once the header is read: a run leaves this message and this status, over the dump, and where each read after the
-// header fails.
+// Words are refused once the header is read: a run leaves this message and this status, over the
+// dump, and where each read after the header fails.
 pub(crate) fn give_refusal<R: Abort + AllocGlobal>(
     rt: &R,
     words: Words<'_, '_>,
@@ -227,7 +230,8 @@ pub(crate) fn is_done(left: &Left) -> bool {
     left.status == 0 && left.err.device.held().is_empty()
 }
 
-// Whether a run over a text is done without a message, and so is a check of what it writes, which writes a report.
+// Whether a run over a text is done without a message, and so is a check of what it writes, which
+// writes a report.
 fn is_reported(
     alloc: Global,
     words: Words<'_, '_>,

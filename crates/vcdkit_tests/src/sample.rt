@@ -100,7 +100,8 @@ const NO_SCALE: &[u8] = b"vcdkit: (stdin): no timescale\n";
 
 const OUT_OF_RANGE: &[u8] = b"vcdkit: time out of range\n";
 
-// Times and names, a dump and its header, and the message and the status with which they are refused.
+// Times and names, a dump and its header, and the message and the status with which they are
+// refused.
 const REFUSALS: [(&str, Option<&[&str]>, &[u8], &[u8], &[u8], u8); 8] = [
     ("11ns,12ns", None, TENS, TENS_HEAD, FALLING, 2),
     ("3,29ns", None, TENS, TENS_HEAD, FALLING, 2),

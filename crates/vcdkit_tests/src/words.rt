@@ -12,7 +12,8 @@ use vcdkit::{Job, UseFault, Want, command_of, input_of, job_of, parse_status};
 // The token limit where none is asked for.
 const LIMIT: usize = 1_048_576;
 
-// What the parse of these words returns: nothing where they are taken, else its kind and the exit status.
+// What the parse of these words returns: nothing where they are taken, else its kind and the exit
+// status.
 fn answer(alloc: Global, words: &[&str]) -> Result<Option<(ErrorKind, u8)>, AllocError> {
     match command_of(alloc)?.try_get_matches_from(words) {
         Ok(_) => Ok(None),

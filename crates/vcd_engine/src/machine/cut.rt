@@ -85,8 +85,8 @@ fn put_section<W: Sink>(
     put(out, b"$end\n")
 }
 
-/// The item, after which the registers stand so, may be kept: a section's begin or end, or a change that is no event's inside a
-/// section.
+/// The item, after which the registers stand so, may be kept: a section's begin or end, or a change
+/// that is no event's inside a section.
 #[inline(always)]
 fn may_keep(view: HeadView<'_>, regs: Regs, item: Item) -> bool
     ensures { result ≡ may_be_kept view.entry regs item }
@@ -99,7 +99,8 @@ fn may_keep(view: HeadView<'_>, regs: Regs, item: Item) -> bool
 }
 
 impl<'r> Cut<'r> {
-    /// Writes the header, and the start section where nothing is before it. The first time is not above the last.
+    /// Writes the header, and the start section where nothing is before it. The first time is not
+    /// above the last.
     pub(crate) fn start<W: Sink>(
         view: HeadView<'_>,
         room: Room<'r>,
@@ -200,7 +201,8 @@ impl<'r> Cut<'r> {
         self.from <= time
     }
 
-    /// Takes an item that lies ahead before the start section, and with which that is not due: keeps the value of a change.
+    /// Takes an item that lies ahead before the start section, and with which that is not due:
+    /// keeps the value of a change.
     #[inline(always)]
     pub(crate) fn take_before(&mut self, plain: Plain<'_>)
         requires begun { self.old.started ≡ false }
@@ -220,8 +222,8 @@ impl<'r> Cut<'r> {
         set_plain(&mut self.table, plain);
     }
 
-    /// Takes a time mark: writes the start section where its time has come, and where it is above the span the line of the span's
-    /// end. Returns whether it is.
+    /// Takes a time mark: writes the start section where its time has come, and where it is above
+    /// the span the line of the span's end. Returns whether it is.
     fn take_time<W: Sink>(
         &mut self,
         view: HeadView<'_>,
@@ -247,7 +249,8 @@ impl<'r> Cut<'r> {
         Ok(true)
     }
 
-    /// Takes an item that is no time mark: before the start section the value that it gives, then what it writes.
+    /// Takes an item that is no time mark: before the start section the value that it gives, then
+    /// what it writes.
     #[inline(always)]
     fn take_other<W: Sink>(
         &mut self,
@@ -349,8 +352,8 @@ impl<'r> Cut<'r> {
         self.text.put_lying(view, regs.time, lying, pieces, out)
     }
 
-    /// Takes an item that lies ahead, writes what is due after it behind what is held, and returns whether it ended the run. The
-    /// registers are those after it.
+    /// Takes an item that lies ahead, writes what is due after it behind what is held, and returns
+    /// whether it ended the run. The registers are those after it.
     #[inline(always)]
     pub(crate) fn take_lying<W: Sink>(
         &mut self,
@@ -394,9 +397,10 @@ impl<'r> Cut<'r> {
         self.take(view, regs, lying.plain.item, lying.plain.text, out)
     }
 
-    /// Takes an item with its text, writes what is due after it, and returns whether it ended the run. The registers are those after
-    /// it.
-    // Out of line, so that the loop over items that lie ahead stays small enough to have all else in line.
+    /// Takes an item with its text, writes what is due after it, and returns whether it ended the
+    /// run. The registers are those after it.
+    // Out of line, so that the loop over items that lie ahead stays small enough to have all else
+    // in line.
     #[inline(never)]
     pub(crate) fn take<W: Sink>(
         &mut self,

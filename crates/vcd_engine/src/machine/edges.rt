@@ -24,7 +24,8 @@ use vcd_head::select;
 use vcd_text::{Sink, WriteFailed};
 use vcd_view::HeadView;
 
-/// The names that were asked for, the marks of the variables that they select, and the values and counters of all codes.
+/// The names that were asked for, the marks of the variables that they select, and the values and
+/// counters of all codes.
 #[derive(Drop)]
 pub(crate) struct Edges<'n, 'r> {
     names: &'n [String],

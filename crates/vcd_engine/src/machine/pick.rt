@@ -29,7 +29,8 @@ use vcd_head::put_head;
 use vcd_text::{Sink, WriteFailed};
 use vcd_view::HeadView;
 
-/// The names that were asked for, the codes of the variables that they select, and the text of what was kept.
+/// The names that were asked for, the codes of the variables that they select, and the text of what
+/// was kept.
 #[derive(Drop)]
 pub(crate) struct Pick<'n, 'r> {
     names: &'n [String],
@@ -68,8 +69,8 @@ impl<'n, 'r> Pick<'n, 'r> {
         })
     }
 
-    /// Whether the item, after which the registers stand so, is written: a section's begin or end, or a change of a chosen
-    /// code that is no event inside a section.
+    /// Whether the item, after which the registers stand so, is written: a section's begin or end,
+    /// or a change of a chosen code that is no event inside a section.
     #[inline(always)]
     fn keeps(&self, view: HeadView<'_>, regs: Regs, item: Item) -> bool
         ensures { result ≡ is_kept self.now.choice view.entry regs item }
@@ -83,7 +84,8 @@ impl<'n, 'r> Pick<'n, 'r> {
         }
     }
 
-    /// Writes an item with its text, where it is kept, after the line of its time. The registers are those after it.
+    /// Writes an item with its text, where it is kept, after the line of its time. The registers
+    /// are those after it.
     #[inline(always)]
     pub(crate) fn take<W: Sink>(
         &mut self,

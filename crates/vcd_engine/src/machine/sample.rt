@@ -52,7 +52,8 @@ fn count_below(times: &[u64], time: u64) -> usize
 }
 
 impl<'n, 'r> Sample<'n, 'r> {
-    /// Selects the variables. Nothing is written. There is a time, and each is above the one before it.
+    /// Selects the variables. Nothing is written. There is a time, and each is above the one before
+    /// it.
     pub(crate) fn start(
         view: HeadView<'_>,
         room: Room<'r>,
@@ -90,7 +91,8 @@ impl<'n, 'r> Sample<'n, 'r> {
         })
     }
 
-    /// Takes a time mark: writes the lines of the times below it that are left. Returns whether it is above them all.
+    /// Takes a time mark: writes the lines of the times below it that are left. Returns whether it
+    /// is above them all.
     fn take_time<W: Sink>(
         &mut self,
         view: HeadView<'_>,
@@ -140,7 +142,8 @@ impl<'n, 'r> Sample<'n, 'r> {
         set_plain(&mut self.table, plain);
     }
 
-    /// Takes an item with its text: keeps the value of a change, and at a time mark writes the lines of the times below it. Returns whether it ended the run.
+    /// Takes an item with its text: keeps the value of a change, and at a time mark writes the
+    /// lines of the times below it. Returns whether it ended the run.
     #[inline(always)]
     pub(crate) fn take<W: Sink>(
         &mut self,

@@ -27,7 +27,8 @@ fn both(scale: i8, number: u64, unit: i8) -> [Result<u64, TickFault>; 2] {
     ]
 }
 
-// The power of ten of a scale, so many of the units with another one, and both roundings, down first.
+// The power of ten of a scale, so many of the units with another one, and both roundings, down
+// first.
 type Rounded = (i8, u64, i8, [Result<u64, TickFault>; 2]);
 
 const PARTS: [Rounded; 8] = [
