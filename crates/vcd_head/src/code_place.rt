@@ -33,7 +33,7 @@ pub(crate) fn place_of(
     }
 }
 
-// The same of a new code.
+// The place of a new code, which is added at the end of the text.
 #[inline(always)]
 fn add_code(
     text: &mut Vec<u8>,

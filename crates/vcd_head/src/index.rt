@@ -36,8 +36,8 @@ pub(crate) fn index_of(alloc: Global, text: &[u8], codes: &[Code]) -> Result<Vec
     }
 }
 
-// The same of short codes, none where some are long. Their ranks are sorted, and then left with
-// their places alone: so nothing else is held beside the index.
+// The places of short codes in the order of their bytes; none where some are long. Ranks are sorted,
+// and the places left in their stead, so nothing is held beside the index.
 fn index_by_ranks(
     alloc: Global,
     text: &[u8],
@@ -96,7 +96,7 @@ fn leave_places(ranks: &mut [usize])
     }
 }
 
-// The same of codes of any length.
+// The places of codes of any length in the order of their bytes.
 fn index_by_fronts(alloc: Global, text: &[u8], codes: &[Code]) -> Result<Vec<usize>, AllocError>
     ensures { (cs : List IdCode) → AreHeld text.now codes.now cs
         → IfOk result (λ index. IsIndex cs index.items) }

@@ -318,7 +318,7 @@ impl Open {
         self.compare(view, row, names, matched)
     }
 
-    // The same, of a row that may be selected.
+    // Compares a row with each name: whether some name selects its variable, and which ones.
     fn compare(
         &self,
         view: HeadView<'_>,
@@ -357,7 +357,7 @@ impl Open {
     }
 }
 
-// The same, of the scopes that are open and the place of the innermost.
+// What is left inside the scope around a row, where it is the one held at this depth.
 #[inline(always)]
 fn around<'a>(
     held: &'a [Inside; MOST_HELD],

@@ -111,8 +111,8 @@ fn mark(view: HeadView<'_>, row: usize, marks: &mut [u8])
     }
 }
 
-// The same, where a scope, counted from 1, is marked with those around it; gives the scope around
-// the row.
+// Sets the marks of a row and of the scopes around it, and returns the scope around the row, counted
+// from 1. `marked` is a scope, counted from 1, that is marked with those around it.
 fn mark_behind(view: HeadView<'_>, row: usize, marked: usize, marks: &mut [u8]) -> usize
     requires { row < length marks.old }
     ensures marks { (h : Header) → IsViewOf view.entry h → row < length h.declarations

@@ -36,7 +36,7 @@ pub(crate) fn put_lines<W: Sink>(w: &mut W, keyword: &[u8], text: &[u8]) -> Resu
     put_texts(w, &[keyword, b"\n\t", text, b"\n$end\n"])
 }
 
-/// The same; nothing where there is no text.
+/// Writes a keyword, a text and `$end`, on three lines; nothing where there is no text.
 fn put_section<W: Sink>(w: &mut W, keyword: &[u8], text: &[u8]) -> Result<(), WriteFailed>
     requires failures { (W.device w.old).failures < 2 ^ 64 - 1 }
     ensures takes { (k : Keyword) → keyword.now ≡ keyword_text k

@@ -39,7 +39,7 @@ pub fn find(view: HeadView<'_>, code: &[u8]) -> Option<usize>
     Some(found.place)
 }
 
-/// The same, with the code's size.
+/// The place of a code among the distinct codes, with its size.
 #[inline(always)]
 pub fn find_sized(view: HeadView<'_>, code: &[u8]) -> Option<Found>
     ensures found { (h : Header) → IsViewOf view.entry h
@@ -66,7 +66,7 @@ pub fn find_sized(view: HeadView<'_>, code: &[u8]) -> Option<Found>
     }
 }
 
-// The same by a look at one entry, if it is that of this code.
+// The place and size of a code by a look at one entry; none if the entry is of another code.
 #[inline(always)]
 fn find_at_once(view: HeadView<'_>, code: &[u8]) -> Option<Found>
     ensures found { (h : Header) → IsViewOf view.entry h

@@ -104,7 +104,7 @@ pub(crate) fn first_wrong_of_first(
     Ok(None)
 }
 
-// The same of the second input.
+// The least size at which the second input of a merge, cut off, is not right.
 pub(crate) fn first_wrong_of_second(
     alloc: Global,
     first: &[u8],
