@@ -325,6 +325,37 @@ fn codes_are_found(rt: HostRuntime) -> Result<(), Fail> {
     Ok(())
 }
 
+// The first six have numbers that leave 1 when divided by 16, and there are 16 entries; the others have 8 bytes or more.
+const CROWDED: &[u8] =
+    b"$var wire 1 ! a $end $var wire 1 1 b $end $var wire 1 A c $end $var wire 1 Q d $end $var wire 1 a e $end $var wire 1 q f $end $var wire 1 register g $end $var wire 1 register1 h $end $var wire 1 register2 i $end $var wire 1 0123456789abcdef j $end $enddefinitions $end\n";
+
+// Codes, and the places at which both look-ups find them among these.
+const FOUND_CROWDED: [(&[u8], Option<usize>); 14] = [
+    (b"!", Some(0)),
+    (b"1", Some(1)),
+    (b"A", Some(2)),
+    (b"Q", Some(3)),
+    (b"a", Some(4)),
+    (b"q", Some(5)),
+    (b"register", Some(6)),
+    (b"register1", Some(7)),
+    (b"register2", Some(8)),
+    (b"0123456789abcdef", Some(9)),
+    (b"registe", None),
+    (b"register3", None),
+    (b"0123456789abcdeg", None),
+    (b"i", None),
+];
+
+#[test]
+fn crowded_codes_are_found(rt: HostRuntime) -> Result<(), Fail> {
+    let head = read_good(rt.alloc(), CROWDED)?;
+    for (code, place) in FOUND_CROWDED {
+        assert_eq!(rt; found(&head, code), [place; 2], "of {code:?}");
+    }
+    Ok(())
+}
+
 #[test]
 fn nothing_is_found_without_codes(rt: HostRuntime) -> Result<(), Fail> {
     let head = read_good(rt.alloc(), NONE)?;
