@@ -250,6 +250,7 @@ holds_same most d d' ps h text codes rows scopes date version scale = record {
     balance = h.declares.balance;
     held = rw text h.declares.held;
     few = h.declares.few;
+    allowed = h.declares.allowed;
   };
   date = date ∙ h.date;
   version = version ∙ h.version;
