@@ -1,6 +1,5 @@
 -- Where an input of a merge stands behind items that lie ahead in its feed's chunk.
 use Rattle.std.proofs.Common.{◌≡◌, ◌≢◌, ℕ, ◌+◌, ◌*◌, Bool, true, false, List, [], ◌∷◌, ◌++◌, Option, Result, Ok, Err, length, refl, sym, ap, subst, ◌∙◌, arith, append-nil, append_assoc, inl}
-use Rattle.std.proofs.lemmas.Nat.Bits.{bit_at-zero}
 use Rattle.std.specs.List.{AllByRecursion}
 use Rattle.vcd_model.specs.Items.{BodyItem}
 use Rattle.vcd_model.specs.Merge.{is_too_large}
@@ -10,7 +9,6 @@ use Rattle.vcd_text.specs.Advances.{HasNotFailed}
 use Rattle.vcd_text.specs.Ahead.{ahead_of, lines_of}
 use Rattle.vcd_text.specs.Device.{Device}
 use Rattle.vcd_text.specs.Feed.{HasGiven, HasReadTo, limit_of, source_of, chunk_len_of}
-use Rattle.vcd_text.specs.Masks.{Marks}
 use Rattle.vcd_text.specs.Passed.{Passed}
 use Rattle.vcd_text.specs.Registers.{looked}
 use Rattle.vcd_text.specs.Window.{gone_on}
@@ -30,16 +28,6 @@ use Rattle.vcd_body.specs.declared.answer.Stop.TheVariants.{Write}
 use Rattle.vcd_merge.specs.declared.seat.Seat.{Seat}
 use Rattle.vcd_merge.proofs.SeatLemmas.{no_more_at_last, out_of}
 use Rattle.vcd_merge.proofs.SeatTrails.{reaches_on, turns_at}
-
--- nothing is marked
-unmarked : (chunk : List ℕ) (at stop : ℕ) → Marks chunk at stop (record { bits = 0; next = 0 })
-unmarked chunk at stop = record {
-  within = omega arith;
-  ahead = λ k set. let e = sym (bit_at-zero k) ∙ set in cc;
-  inside = λ k set. let e = sym (bit_at-zero k) ∙ set in cc;
-  white = λ k set. let e = sym (bit_at-zero k) ∙ set in cc;
-  other = λ j from to free. absurd (omega (arith, to));
-}
 
 module _ {X : Type 0} {g : Ghosts X} (scale first : ℕ) (l : Lane) (behind : List BodyItem) (s : Seat) (f : Feed X g) (at : AtSeat scale first l behind (spot_with s f)) (on : s.finished ≡ false) where
   abbrev LiesAhead : ℕ → List BodyItem → Regs → ℕ → Type 0
@@ -85,8 +73,6 @@ module _ {X : Type 0} {g : Ghosts X} (scale first : ℕ) (l : Lane) (behind : Li
           token = f.token;
           value = f.value;
           parked = gone_on f.chunk.now f.parked n;
-          white = record { bits = 0; next = 0 };
-          marks = unmarked f.chunk.now (f.parked.at + n) f.parked.stop;
           chunk_some = f.chunk_some;
           token_some = f.token_some;
           same_limit = f.same_limit;
