@@ -27,13 +27,42 @@ pub(crate) fn extended_by(digit: u8) -> u8
     extension_of(digit.to_ascii_lowercase())
 }
 
+// Whether some digit is not a zero.
+#[inline(always)]
+fn has_other(digits: &[u8]) -> bool
+    ensures { result ≡ false → (k : ℕ) → k < length digits.now → slice_index digits.now k ≡ 48 }
+{
+    let mut found = false;
+    for digit in digits {
+        found |= *digit != b'0';
+    }
+    found
+}
+
+// Leaves out leading zeros that come before another zero, eight at a time.
+fn cut_blocks(digits: &[u8]) -> &[u8]
+    requires { 0 < length digits.now }
+    ensures some { 0 < length result.now }
+    ensures fewer { length result.now ≤ length digits.now }
+    ensures value { (size : ℕ) → length digits.now ≤ size
+        → extend (str_to_ascii_lowercase result.now) size
+        ≡ extend (str_to_ascii_lowercase digits.now) size }
+{
+    let mut rest = digits;
+    'eights: while rest.len() > 8 && rest[8] == b'0' && !has_other(&rest[..8]) {
+        rest = &rest[8..];
+    }
+    rest
+}
+
 // The shortest digits that extend to the same value.
 pub(crate) fn shortest(digits: &[u8]) -> &[u8]
     requires { 0 < length digits.now }
     ensures { (size : ℕ) → str_to_ascii_lowercase result.now
         ≡ short (extend (str_to_ascii_lowercase digits.now) size) }
 {
-    let mut rest = digits;
+    // Values in full width begin with many zeros.
+    let mut rest = cut_blocks(digits);
     'digits: while rest.len() > 1 {
         if rest[0].to_ascii_lowercase() != extended_by(rest[1]) {
             return rest;
