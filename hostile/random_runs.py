@@ -49,7 +49,8 @@ def case(seed, commands, folder):
     else:
         inputs = [(b"(stdin)", d.dump())]
     if command in ("pick", "sample", "edges"):
-        names = asked(d, inputs[0][1]) or ([b"tb"] if command == "pick" else [])
+        # Words are UTF-8, and a dump's names any bytes: only names of ASCII are asked for.
+        names = [n for n in asked(d, inputs[0][1]) if n.isascii()] or ([b"tb"] if command == "pick" else [])
     if command == "cut":
         a, b = d.moment(60), d.moment(60)
         if a[1] is None and b[1] is None:
