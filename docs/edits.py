@@ -2,7 +2,7 @@
 """edits.py: compares the must-fail edits that docs/PROOFS.md lists with crates/*/must-fail/*.edit.
 
 It prints each edit that one has and the other has not, and each that the page lists twice. The exit
-status is 0 where both have the same, else 1."""
+status is 0 where both have the same, or where there is no folder crates, as in a tarball, else 1."""
 import glob
 import os
 import re
@@ -26,6 +26,9 @@ def listed():
 
 
 def main():
+    if not os.path.isdir(os.path.join(TOP, "crates")):
+        print("no folder crates: the must-fail edits are not compared")
+        return 0
     page = listed()
     files = glob.glob(os.path.join(TOP, "crates", "*", "must-fail", "*.edit"))
     there = {(file.split(os.sep)[-3], os.path.basename(file)[:-len(".edit")]) for file in files}
