@@ -6,7 +6,6 @@ use Rattle.std.proofs.lemmas.Option.{none-some, same_Some}
 use Rattle.std.specs.Prelude.{slice_get}
 use Rattle.std.specs.List.{AllByRecursion}
 use Rattle.vcd_model.specs.Declarations.{IdCode}
-use Rattle.vcd_view.specs.Entries.{above, number_in}
 use Rattle.vcd_view.specs.Keys.{AreBytes, packed, key_in}
 
 -- a byte more
@@ -69,41 +68,3 @@ pub bytes_at_place : (cs : List IdCode) (p : ℕ) (c : IdCode) → AllByRecursio
 bytes_at_place [] p c h e = absurd (none-some c e)
 bytes_at_place (k ∷ cs) zero c h e = subst (λ (x : IdCode). AreBytes x.text) (same_Some k c e) h.0
 bytes_at_place (k ∷ cs) (suc p) c h e = bytes_at_place cs p c h.1 e
-
--- ---- the number of a short code by its key
-
--- four bytes or more have a greater key
-long_key : (a b c d : ℕ) (bs : List ℕ) (k : ℕ) → k ≡ key_in (a ∷ b ∷ c ∷ d ∷ bs) → k ≢ 0 → 4294967296 ≤ k
-long_key a b c d bs k e n = by_length (nat_le (length (a ∷ b ∷ c ∷ d ∷ bs)) 7) e
-  where
-    by_length : (q : Bool) → k ≡ cond q (packed (a ∷ b ∷ c ∷ d ∷ bs)) 0 → 4294967296 ≤ k
-    by_length true e = omega (arith, e, packed_above bs)
-    by_length false e = absurd (n e)
-
-pub number_of_one : (code : List ℕ) (k : ℕ) → AreBytes code → k ≡ key_in code → k ≢ 0 → k < 65536 → above 0 (k % 256) ≡ number_in code
-number_of_one [] k a e n l = ap (λ x. above 0 (x % 256)) e
-number_of_one (x ∷ []) k a e n l = let byte : k % 256 ≡ x = omega (arith, e, a.0) in ap (above 0) byte
-number_of_one (x ∷ y ∷ []) k a e n l = absurd (omega (arith, e, l))
-number_of_one (x ∷ y ∷ z ∷ []) k a e n l = absurd (omega (arith, e, l))
-number_of_one (x ∷ y ∷ z ∷ w ∷ bs) k a e n l = absurd (omega (arith, long_key x y z w bs k e n, l))
-
-pub number_of_two : (code : List ℕ) (k : ℕ) → AreBytes code → k ≡ key_in code → k ≢ 0 → 65536 ≤ k → k < 16777216 → above (above 0 (k / 256 % 256)) (k % 256) ≡ number_in code
-number_of_two [] k a e n g l = absurd (omega (arith, e, g))
-number_of_two (x ∷ []) k a e n g l = absurd (omega (arith, e, g, a.0))
-number_of_two (x ∷ y ∷ []) k a e n g l =
-    let first : k % 256 ≡ x = omega (arith, e, a.0) in
-    let second : k / 256 % 256 ≡ y = omega (arith, e, a.0, a.1.0) in
-    ap (λ b. above (above 0 b) (k % 256)) second ∙ ap (above (above 0 y)) first
-number_of_two (x ∷ y ∷ z ∷ []) k a e n g l = absurd (omega (arith, e, l))
-number_of_two (x ∷ y ∷ z ∷ w ∷ bs) k a e n g l = absurd (omega (arith, long_key x y z w bs k e n, l))
-
-pub number_of_three : (code : List ℕ) (k : ℕ) → AreBytes code → k ≡ key_in code → k ≢ 0 → 16777216 ≤ k → k < 4294967296 → above (above (above 0 (k / 65536 % 256)) (k / 256 % 256)) (k % 256) ≡ number_in code
-number_of_three [] k a e n g l = absurd (omega (arith, e, g))
-number_of_three (x ∷ []) k a e n g l = absurd (omega (arith, e, g, a.0))
-number_of_three (x ∷ y ∷ []) k a e n g l = absurd (omega (arith, e, g, a.0, a.1.0))
-number_of_three (x ∷ y ∷ z ∷ []) k a e n g l =
-    let first : k % 256 ≡ x = omega (arith, e, a.0) in
-    let second : k / 256 % 256 ≡ y = omega (arith, e, a.0, a.1.0) in
-    let third : k / 65536 % 256 ≡ z = omega (arith, e, a.0, a.1.0, a.1.1.0) in
-    ap (λ b. above (above (above 0 b) (k / 256 % 256)) (k % 256)) third ∙ ap (λ b. above (above (above 0 z) b) (k % 256)) second ∙ ap (above (above (above 0 z) y)) first
-number_of_three (x ∷ y ∷ z ∷ w ∷ bs) k a e n g l = absurd (omega (arith, long_key x y z w bs k e n, l))

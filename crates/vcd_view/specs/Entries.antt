@@ -1,5 +1,5 @@
 -- The entries by which codes are looked up.
-use Rattle.std.specs.Prelude.{◌≡◌, ℕ, ◌+◌, ◌-◌, ◌*◌, ◌%◌, ◌^◌, ◌==◌, ◌&&◌, ◌||◌, nat_le, bit_and, bit_xor, not, cond, Bool, false, List, [], ◌∷◌, length, slice_get, slice_range, Option, Some, None, option_map, unwrap_or}
+use Rattle.std.specs.Prelude.{◌≡◌, ℕ, ◌+◌, ◌-◌, ◌*◌, ◌/◌, ◌%◌, ◌^◌, ◌==◌, ◌&&◌, ◌||◌, nat_le, bit_and, bit_or, bit_xor, not, cond, Bool, false, List, [], ◌∷◌, length, slice_get, slice_range, Option, Some, None, option_map, unwrap_or}
 use Rattle.std.specs.List.{list_all}
 use Rattle.std.specs.Option.{option_or}
 use Rattle.vcd_view.specs.declared.view.Code.{Code}
@@ -40,6 +40,11 @@ number_in (b ∷ bs) = above (number_in bs) b
 -- which of so many entries is that of the code
 abbrev pub entry_in : List ℕ → ℕ → ℕ
 entry_in code entries = bit_and (number_in code) ((entries + (2 ^ 64 - 1)) % 2 ^ 64)
+
+-- the entry to which a hash leads after so many looks: the lower half says where the first is, the
+-- upper half how far one is from the next
+abbrev pub entry_after : ℕ → ℕ → ℕ → ℕ
+entry_after hash looks entries = bit_and ((hash + looks * bit_or (hash / 2 ^ 32) 1 % 2 ^ 64) % 2 ^ 64) ((entries + (2 ^ 64 - 1)) % 2 ^ 64)
 
 -- the place that an entry gives for these bytes: its own, if its key is theirs
 abbrev pub place_told : List ℕ → Option Entry → Option ℕ

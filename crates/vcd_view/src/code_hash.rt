@@ -1,6 +1,6 @@
 // How codes are hashed: by numbers that nobody knows who makes a dump.
 ghost use Rattle.std.specs.Prelude.{◌≡◌, ◌^◌, ◌<◌, length};
-ghost use Rattle.vcd_view.specs.CodeHash.{hashed, mixed};
+ghost use Rattle.vcd_view.specs.CodeHash.{drawn, hashed, mixed};
 
 use crate::key::key_of;
 use std::hash::{BuildHasher, Hasher};
@@ -16,8 +16,12 @@ pub struct CodeSeed {
 }
 
 impl CodeSeed {
-    /// The numbers that a hasher gives.
-    pub fn of<B: BuildHasher>(hasher: &B) -> CodeSeed {
+    /// Returns the numbers that a hasher gives: each is made of its hashes of two numbers, the
+    /// first of 0 and 1, the second of 2 and 3.
+    pub fn of<B: BuildHasher>(hasher: &B) -> CodeSeed
+        ensures factor { result.factor ≡ drawn B.BuildHasher B.Hasher.Hasher hasher.now 0 }
+        ensures more { result.more ≡ drawn B.BuildHasher B.Hasher.Hasher hasher.now 2 }
+    {
         CodeSeed {
             factor: number_of(hasher, 0),
             more: number_of(hasher, 2),
@@ -67,11 +71,14 @@ impl CodeSeed {
     }
 }
 
-// A number of 128 bits that a hasher gives: its hashes of two numbers.
+// Returns a number of 128 bits that a hasher gives: its hashes of two numbers.
 fn number_of<B: BuildHasher>(hasher: &B, first: u64) -> u128
     requires { first < 2 ^ 32 }
+    ensures { result ≡ drawn B.BuildHasher B.Hasher.Hasher hasher.now first }
 {
-    u128::from(hasher.hash_one(first)) << 64 | u128::from(hasher.hash_one(first + 1))
+    let high = hasher.hash_one(first);
+    let low = hasher.hash_one(first + 1);
+    u128::from(high) * (1 << 64) + u128::from(low)
 }
 
 /// What a code's bytes are fed to.

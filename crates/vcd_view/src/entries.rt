@@ -1,11 +1,11 @@
 // The entries by which codes are looked up: where a code's entry is, and what it tells. Any code
 // may have any place among them, and two the same: where an entry is decides only how fast a
 // look-up is.
-ghost use Rattle.std.specs.Prelude.{◌≡◌, ◌≢◌, ◌+◌, ◌-◌, ◌%◌, ◌^◌, ◌<◌, ◌≤◌, ℕ, List, true, bit_and, length, slice_get, Some, IfSome};
+ghost use Rattle.std.specs.Prelude.{◌≡◌, ◌+◌, ◌-◌, ◌%◌, ◌^◌, ◌<◌, ◌≤◌, ℕ, List, true, bit_and, length, slice_get, Some, IfSome};
 ghost use Rattle.vcd_model.specs.Declarations.{IdCode};
-ghost use Rattle.vcd_view.specs.Entries.{HasEntry, IsAt, are_right, beside, place_told, told_by, above, entry_in, most_of, number_in};
+ghost use Rattle.vcd_view.specs.Entries.{HasEntry, IsAt, are_right, beside, entry_after, place_told, told_by, above, entry_in, most_of, number_in};
 ghost use Rattle.vcd_view.specs.Finds.{Finds};
-ghost use Rattle.vcd_view.specs.Keys.{AreBytes, key_in};
+ghost use Rattle.vcd_view.specs.Keys.{key_in};
 ghost use Rattle.vcd_view.specs.Views.{AreHeld};
 
 use crate::code_hash::CodeSeed;
@@ -71,28 +71,6 @@ fn number_of(code: &[u8]) -> usize
     number
 }
 
-/// The number of the code of at most three bytes that has this key; none for the key of a longer
-/// one.
-#[inline(always)]
-pub fn number_of_key(key: u64) -> Option<usize>
-    ensures { IfSome result (λ number. (code : List ℕ) → AreBytes code → key ≡ key_in code
-        → key ≢ 0 → number ≡ number_in code) }
-{
-    let first = (key % 256) as u8;
-    if key < 256 * 256 {
-        return Some(above(0, first));
-    }
-    let second = (key / 256 % 256) as u8;
-    if key < 256 * 256 * 256 {
-        return Some(above(above(0, second), first));
-    }
-    let third = (key / (256 * 256) % 256) as u8;
-    if key < 256 * 256 * 256 * 256 {
-        return Some(above(above(above(0, third), second), first));
-    }
-    None
-}
-
 /// The place that an entry gives for the code with this key, if it is that of the code.
 #[inline(always)]
 pub fn place_told(entries: &[Entry], at: usize, key: u64) -> Option<usize>
@@ -127,12 +105,14 @@ const LONG: u64 = 1 << 63;
 /// How many entries are looked at, at most, to which the hash of a code leads.
 pub const MOST_LOOKS: usize = 64;
 
-/// The entry to which a hash leads after so many looks, among so many, a power of two.
+/// Returns the entry to which a hash leads after so many looks, among so many, a power of two.
 ///
 /// The lower half of the hash says where the first of them is, and the upper half how far one is
 /// from the next, so that they leave a crowded part of the entries at once.
 #[inline(always)]
-pub fn entry_after(hash: u64, looks: usize, entries: usize) -> usize {
+pub fn entry_after(hash: u64, looks: usize, entries: usize) -> usize
+    ensures { result ≡ entry_after hash looks entries }
+{
     let step = (hash >> 32) as usize | 1;
     entry_for(
         (hash as usize).wrapping_add(looks.wrapping_mul(step)),
@@ -140,10 +120,12 @@ pub fn entry_after(hash: u64, looks: usize, entries: usize) -> usize {
     )
 }
 
-/// The key of the entry of a code of 8 bytes or more, which has this hash. No shorter code has it.
+/// Returns the key of the entry of a code of 8 bytes or more, which has this hash. No shorter code
+/// has it.
 #[inline(always)]
 pub fn long_key(hash: u64) -> u64
-    ensures { 2 ^ 63 ≤ result }
+    ensures key { result ≡ hash % 2 ^ 63 + 2 ^ 63 }
+    ensures long { 2 ^ 63 ≤ result }
 {
     hash % LONG + LONG
 }

@@ -43,8 +43,8 @@ mod view;
 
 pub use code_hash::{CodeHasher, CodeSeed};
 pub use entries::{
-    MOST_LOOKS, code_number, entry_after, entry_for, entry_of, long_key, most_of, number_of_key,
-    place_beside, place_told,
+    MOST_LOOKS, code_number, entry_after, entry_for, entry_of, long_key, most_of, place_beside,
+    place_told,
 };
 pub use key::key_of;
 pub use keyword::{Keyword, is, keyword_of};
