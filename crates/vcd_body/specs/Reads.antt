@@ -116,6 +116,10 @@ Passes codes earlier token x = (body_fault codes earlier [] token ≡ None) × (
 abbrev pub Refuses : List IdCode → List BodyPhrase → List ℕ → BodyFault → Type 0
 Refuses codes earlier token fault = (fault ≢ ReadFailed) × (body_fault codes earlier [] token ≡ Some (fault_number fault))
 
+-- a token begins a phrase, and is none alone
+abbrev pub OpensPhrase : List IdCode → List BodyPhrase → List ℕ → Type 0
+OpensPhrase codes earlier token = (body_fault codes earlier [] token ≡ None) × (body_phrase codes (token ∷ []) ≡ None)
+
 -- a token after this one that is no declared code has the fault of an unknown code
 abbrev pub AsksForCode : List IdCode → List BodyPhrase → List ℕ → Type 0
 AsksForCode codes earlier first = (t : List ℕ) → declared_code codes t ≡ None → body_fault codes earlier (first ∷ []) t ≡ Some 16

@@ -27,9 +27,9 @@ ghost use Rattle.vcd_view.specs.declared.view.HeadView.{HeadView};
 
 use crate::bits::Bits;
 use crate::item::{Form, Item, Regs};
-use crate::phrases::{scalar_code, takes};
-use crate::words::{First, are_digits_or_known, bits_at, first_byte_of, first_of, rest_of};
-use vcd_text::{Ahead, Feed, Source, decimal_of};
+use crate::phrases::{real_text, scalar_code, takes, time_in, vector_text};
+use crate::words::{First, bits_at, first_byte_of, first_of, rest_of};
+use vcd_text::{Ahead, Feed, Source};
 use vcd_view::{Found, HeadView, find_sized};
 
 /// An item that was taken ahead.
@@ -122,10 +122,9 @@ fn vector_code(token: &[u8], code: &[u8], view: HeadView<'_>, bits: Option<Bits>
     ensures names { IfSome result (λ found. Names view.entry found.place code.now) }
     ensures sized { IfSome result (IsSized view.entry.codes.now) }
 {
-    let digits = rest_of(token);
-    if !are_digits_or_known(digits, bits) {
+    let Ok(digits) = vector_text(token, bits) else {
         return None;
-    }
+    };
     let found = find_sized(view, code)?;
     if takes(view.codes, found, digits.len()) {
         return Some(found);
@@ -162,10 +161,9 @@ fn real_code(token: &[u8], code: &[u8], view: HeadView<'_>) -> Option<Found>
     ensures names { IfSome result (λ found. Names view.entry found.place code.now) }
     ensures sized { IfSome result (IsSized view.entry.codes.now) }
 {
-    let text = rest_of(token);
-    if text.is_empty() || text.len() > 64 {
+    let Ok(_) = real_text(token) else {
         return None;
-    }
+    };
     find_sized(view, code)
 }
 
@@ -307,7 +305,7 @@ pub fn time_ahead(opening: Opening<'_>) -> Option<u64>
     ensures time { IfSome result (λ time. HasTime opening.entry time) }
     ensures all { (time : ℕ) → HasTime opening.entry time → result ≡ Some time }
 {
-    decimal_of(rest_of(opening.token))
+    time_in(opening.token)
 }
 
 /// The mark of the time that a token spells, and the registers after it. The place is that after
@@ -330,11 +328,11 @@ pub fn mark_ahead<'a>(
     ensures regs { MatchOption result (regs.new ≡ regs.old)
         (λ plain. regs.new ≡ regs_after regs.old plain.item) }
 {
-    if !regs.take_mark(time) {
-        return None;
-    }
     let at = ahead.passed() - 1 - opening.token.len();
-    Some(mark_of(time, at + 1))
+    match regs.take_mark(time) {
+        Ok(()) => Some(mark_of(time, at + 1)),
+        Err(_) => None,
+    }
 }
 
 /// The next item, where it is a time mark or a change, and its tokens lie whole ahead. Else none,

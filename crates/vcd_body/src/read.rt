@@ -18,7 +18,7 @@ ghost use Rattle.vcd_body.specs.Fault.{call_end};
 
 use crate::fault::BodyFault;
 use crate::item::{Form, Item, Regs};
-use crate::phrases::{read_real, read_vector, scalar_code, skip_comment, time_of};
+use crate::phrases::{read_mark, read_real, read_vector, scalar_code, skip_comment};
 use crate::tokens::next_token;
 use crate::words::{Command, First, command_of, first_byte_of, first_of, rest_of};
 use vcd_text::{Feed, Source};
@@ -111,12 +111,7 @@ fn read_phrase<S: Source>(
             code: read_vector(feed, view)?,
             form: Form::Vector,
         },
-        First::Mark => {
-            let time = time_of(token, *regs)?;
-            regs.time = time;
-            regs.marked = true;
-            Item::Time(time)
-        }
+        First::Mark => Item::Time(read_mark(token, regs)?),
         First::Real => Item::Change {
             code: read_real(feed, view)?,
             form: Form::RealText,
