@@ -4,6 +4,7 @@ ghost use Rattle.vcd_view.specs.declared.view.Code.{Code};
 ghost use Rattle.vcd_body.specs.Binary.{is_proper};
 ghost use Rattle.vcd_body.specs.Kept.{Held, as_chosen, one_more, with_change, with_held, with_number, with_number_change, with_step, with_text};
 ghost use Rattle.vcd_body.specs.Packed.{held_digit};
+ghost use Rattle.vcd_body.specs.Values.{with_value};
 ghost use Rattle.vcd_body.specs.Stored.{AreLaidOut, ChangesAt, IsUnset, end_at, held_by, holding_at, one_digit, set_whole, share_from, share_of, some_by, start_in, start_of, state_in, used, used_by, whole};
 
 use crate::bits::{Bits, held_bits, is_number_step, is_proper, number_in};
@@ -15,6 +16,7 @@ use crate::slot::{
     number_of_turned,
 };
 use crate::step::step_by_number;
+use crate::value::Value;
 use vcd_view::Code;
 
 /// How the value of the code at a place is held.
@@ -244,25 +246,28 @@ fn set_text(slots: &mut [Slot], shares: &mut [Share], values: &mut [u8], code: u
     }
 }
 
-/// Sets the value of a code: digits, or the text of a real number.
+/// Sets the value of a code.
 #[inline(always)]
 pub(crate) fn set_at(
     slots: &mut [Slot],
     shares: &mut [Share],
     values: &mut [u8],
     code: usize,
-    form: Form,
-    text: &[u8],
+    value: Value<'_>,
 )
     ensures changes { AreLaidOut slots.old shares.old (length values.old)
-        → ChangesAt code (with_text form text.now) values.old slots.old shares.old
+        → ChangesAt code (with_value value.entry) values.old slots.old shares.old
+        values.new slots.new shares.new }
+    ensures bits { (b : Bits) → value.entry ≡ Value.Bits b
+        → ChangesAt code (with_number b.len b.number) values.old slots.old shares.old
         values.new slots.new shares.new }
     ensures laid { AreLaidOut slots.old shares.old (length values.old)
         → AreLaidOut slots.new shares.new (length values.old) }
 {
-    match form {
-        Form::RealText => set_real(slots, shares, values, code, text),
-        Form::Scalar | Form::Vector => set_text(slots, shares, values, code, text),
+    match value {
+        Value::Digits(text) => set_text(slots, shares, values, code, text),
+        Value::Real(text) => set_real(slots, shares, values, code, text),
+        Value::Bits(bits) => set_bits(slots, code, bits),
     }
 }
 
