@@ -14,7 +14,7 @@ use Rattle.vcd_view.specs.declared.view.Code.{Code}
 use Rattle.vcd_view.specs.declared.view.HeadView.{HeadView}
 use Rattle.vcd_body.specs.Contents.{IsLaidOut, codes_shown, held_at, line_of, shown_code, value_in}
 use Rattle.vcd_body.specs.Kept.{Held, Kept, value_at_size}
-use Rattle.vcd_body.specs.Stored.{Whole, end_at, held_from, holding_of, holding_at, kept_with, room_of, share_of, some_by, start_in, start_or, used}
+use Rattle.vcd_body.specs.Stored.{Whole, end_at, held_from, holding_of, holding_at, kept_with, room_of, share_of, some_by, start_in, start_or, used, len_of}
 use denote.Enum.Bare.{sameb}
 use Rattle.vcd_body.specs.contracts.slot.State.{the_type}
 use Rattle.vcd_body.specs.declared.slot.Holding.{Holding}
@@ -37,7 +37,7 @@ held_there t code v at =
     ∙ ap (held_from t.values.now (start_in t.shares.now code)) p.4
 
 -- its share lies within the values
-pub share_there : (t : Table) (code : ℕ) (v : Holding) → IsLaidOut t → holding_at t.slots.now t.shares.now code ≡ Some v → (code < length t.shares.now) × (start_in t.shares.now code + used v ≤ length t.values.now) × (1 ≤ some_by v.state v.len)
+pub share_there : (t : Table) (code : ℕ) (v : Holding) → IsLaidOut t → holding_at t.slots.now t.shares.now code ≡ Some v → (code < length t.shares.now) × (start_in t.shares.now code + used v ≤ length t.values.now) × (1 ≤ some_by v.state (len_of v))
 share_there t code v laid at =
     let p = holding_parts t.slots.now t.shares.now code v at in
     let l = laid code p.0 p.2 in

@@ -38,8 +38,12 @@ used_by state.Digits len = bytes_for len
 used_by state.Bits len = 0
 used_by state.Real len = len
 
+-- how many digits, or bytes of a text, are held in a share
+abbrev pub len_of : Holding → ℕ
+len_of v = v.upper * 4294967296 + v.lower % 4294967296
+
 abbrev pub used : Holding → ℕ
-used v = used_by v.state v.len
+used v = used_by v.state (len_of v)
 
 -- what is held so, with these bytes of the share
 abbrev pub held_by : State → ℕ → List ℕ → Held
@@ -61,7 +65,7 @@ digits_held (Held.Text text) = []
 
 -- what is held so with these bytes of a share, and its digits
 abbrev pub held_with : Holding → List ℕ → Held
-held_with v bytes = held_by v.state v.len bytes
+held_with v bytes = held_by v.state (len_of v) bytes
 
 abbrev pub digits_with : Holding → List ℕ → List ℕ
 digits_with v bytes = digits_held (held_with v bytes)
@@ -101,7 +105,7 @@ abbrev pub len_in : ℕ → ℕ → ℕ → ℕ
 len_in how number upper = cond (nat_le 8 how) (how - 8) upper * 4294967296 + number % 4294967296
 
 abbrev pub holding_of : Slot → Share → Holding
-holding_of s h = record { state = state_in s.how; len = len_in s.how s.number h.upper }
+holding_of s h = record { state = state_in s.how; lower = s.number; upper = cond (nat_le 8 s.how) (s.how - 8) h.upper }
 
 abbrev pub holding_at : List Slot → List Share → ℕ → Option Holding
 holding_at slots shares code = option_and_then (λ (s : Slot). option_map (holding_of s) (slice_get shares code)) (slice_get slots code)
@@ -126,7 +130,7 @@ whole_at slots shares code = option_and_then (λ (s : Slot). option_map (whole s
 
 -- what is held in a share that begins here
 abbrev pub held_from : List ℕ → ℕ → Holding → Held
-held_from values start v = held_by v.state v.len (take (used v) (drop start values))
+held_from values start v = held_by v.state (len_of v) (take (used v) (drop start values))
 
 abbrev pub held_of : List ℕ → Whole → Held
 held_of values w = held_by w.state w.len (take (used_by w.state w.len) (drop w.start values))

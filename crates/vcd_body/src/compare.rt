@@ -6,7 +6,7 @@ ghost use Rattle.vcd_model.specs.Values.{extend, extension, value_with};
 ghost use Rattle.vcd_body.specs.Items.{model_form};
 ghost use Rattle.vcd_body.specs.Kept.{Held, differs, value_at_size};
 ghost use Rattle.vcd_body.specs.Packed.{held_digit};
-ghost use Rattle.vcd_body.specs.Stored.{digits_with, held_with, some_by, used};
+ghost use Rattle.vcd_body.specs.Stored.{digits_with, held_with, len_of, some_by, used};
 
 use crate::change::extended_by;
 use crate::held::{count_of, digit_held, digit_shown};
@@ -44,7 +44,7 @@ fn text_digit(text: &[u8], size: usize, place: usize) -> u8
 #[inline(always)]
 fn shown_digit(holding: Holding, share: &[u8], size: usize, place: usize) -> u8
     requires used { used holding ≤ length share.now }
-    requires some { 1 ≤ some_by holding.state holding.len }
+    requires some { 1 ≤ some_by holding.state (len_of holding) }
     requires digits { held_with holding share.now ≡ Held.Digits (digits_with holding share.now) }
     ensures { result ≡ get_or (extend (digits_with holding share.now) size) place 0 }
 {
@@ -58,7 +58,7 @@ fn shown_digit(holding: Holding, share: &[u8], size: usize, place: usize) -> u8
 // than their lengths. It looks from the right, where they mostly differ.
 fn are_same(holding: Holding, share: &[u8], text: &[u8], size: usize) -> bool
     requires used { used holding ≤ length share.now }
-    requires some { 1 ≤ some_by holding.state holding.len }
+    requires some { 1 ≤ some_by holding.state (len_of holding) }
     requires digits { held_with holding share.now ≡ Held.Digits (digits_with holding share.now) }
     requires held_fit { length (digits_with holding share.now) ≤ size }
     requires text_fits { length text.now ≤ size }
@@ -163,7 +163,7 @@ fn ends_tell(holding: Holding, share: &[u8], text: &[u8]) -> bool
 {
     match holding.state {
         State::Plain => plain_ends_differ(share, text),
-        State::Digits => packed_ends_differ(share, holding.len, text),
+        State::Digits => packed_ends_differ(share, holding.len(), text),
         _ => false,
     }
 }
@@ -188,7 +188,7 @@ fn few_tell(holding: Holding, share: &[u8], text: &[u8]) -> bool
 #[inline(never)]
 fn all_differ(holding: Holding, share: &[u8], size: usize, text: &[u8]) -> bool
     requires used { used holding ≤ length share.now }
-    requires some { 1 ≤ some_by holding.state holding.len }
+    requires some { 1 ≤ some_by holding.state (len_of holding) }
     requires digits { held_with holding share.now ≡ Held.Digits (digits_with holding share.now) }
     ensures { result ≡ not (bytes_eq (extend (digits_with holding share.now) size)
         (extend (str_to_ascii_lowercase text.now) size)) }
@@ -211,7 +211,7 @@ fn all_differ(holding: Holding, share: &[u8], size: usize, text: &[u8]) -> bool
 #[inline(always)]
 fn several_differ(holding: Holding, share: &[u8], size: usize, text: &[u8]) -> bool
     requires used { used holding ≤ length share.now }
-    requires some { 1 ≤ some_by holding.state holding.len }
+    requires some { 1 ≤ some_by holding.state (len_of holding) }
     requires digits { held_with holding share.now ≡ Held.Digits (digits_with holding share.now) }
     ensures { result ≡ not (bytes_eq (extend (digits_with holding share.now) size)
         (extend (str_to_ascii_lowercase text.now) size)) }
@@ -224,7 +224,7 @@ fn several_differ(holding: Holding, share: &[u8], size: usize, text: &[u8]) -> b
 #[inline(always)]
 fn digits_differ(holding: Holding, share: &[u8], size: usize, text: &[u8]) -> bool
     requires used { used holding ≤ length share.now }
-    requires some { 1 ≤ some_by holding.state holding.len }
+    requires some { 1 ≤ some_by holding.state (len_of holding) }
     requires digits { held_with holding share.now ≡ Held.Digits (digits_with holding share.now) }
     ensures { result ≡ not (bytes_eq (extend (digits_with holding share.now) size)
         (extend (str_to_ascii_lowercase text.now) size)) }
@@ -245,7 +245,7 @@ pub(crate) fn value_differs(
     text: &[u8],
 ) -> bool
     requires used { used holding ≤ length share.now }
-    requires some { 1 ≤ some_by holding.state holding.len }
+    requires some { 1 ≤ some_by holding.state (len_of holding) }
     ensures { result ≡ differs (value_at_size size (held_with holding share.now))
         (value_with size (model_form form) text.now) }
 {

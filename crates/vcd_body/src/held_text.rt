@@ -5,7 +5,7 @@ ghost use Rattle.vcd_model.specs.Sample.{shown};
 ghost use Rattle.vcd_model.specs.Values.{extend, short};
 ghost use Rattle.vcd_text.specs.Device.{Counts, Puts, Takes, failures_after};
 ghost use Rattle.vcd_body.specs.Kept.{value_at_size};
-ghost use Rattle.vcd_body.specs.Stored.{digits_with, held_line, held_with, some_by, used};
+ghost use Rattle.vcd_body.specs.Stored.{digits_with, held_line, held_with, len_of, some_by, used};
 
 use crate::change::{extension_of, put_end, put_real};
 use crate::held::{count_of, digit_held};
@@ -157,7 +157,7 @@ pub(crate) fn put_value_line<W: Sink>(
 ) -> Result<(), WriteFailed>
     requires failures { (W.device w.old).failures < 2 ^ 64 - 1 }
     requires used { used holding ≤ length share.now }
-    requires some { 1 ≤ some_by holding.state holding.len }
+    requires some { 1 ≤ some_by holding.state (len_of holding) }
     ensures { (event : Bool) → Puts (W.device w.old) (W.device w.new)
         (line_if_set (record { text = id.now; size = size; event = event })
         (value_at_size size (held_with holding share.now))) result }
@@ -205,7 +205,7 @@ pub(crate) fn put_value<W: Sink>(
 ) -> Result<(), WriteFailed>
     requires failures { (W.device w.old).failures < 2 ^ 64 - 1 }
     requires used { used holding ≤ length share.now }
-    requires some { 1 ≤ some_by holding.state holding.len }
+    requires some { 1 ≤ some_by holding.state (len_of holding) }
     ensures { Puts (W.device w.old) (W.device w.new)
         (shown (value_at_size size (held_with holding share.now))) result }
 {

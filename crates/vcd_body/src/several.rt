@@ -80,8 +80,8 @@ fn step_told(values: &[u8], holding: Holding, start: usize, end: usize, text: &[
 {
     let share = part_of(values, start, end)?;
     match holding.state {
-        State::Plain => plain_step(share.get(..holding.len)?, text),
-        State::Digits => packed_step(share, holding.len, text),
+        State::Plain => plain_step(share.get(..holding.len())?, text),
+        State::Digits => packed_step(share, holding.len(), text),
         _ => None,
     }
 }

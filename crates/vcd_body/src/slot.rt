@@ -1,7 +1,7 @@
 //! What is kept of a code.
 ghost use Rattle.std.specs.Prelude.{◌≡◌, ◌≢◌, ◌⊎◌, ◌==◌, cond, true, false};
 ghost use Rattle.vcd_body.specs.Packed.{held_digit};
-ghost use Rattle.vcd_body.specs.Stored.{IsUncounted, IsUnset, holding_of, number_of, one_digit, share_from, state_in};
+ghost use Rattle.vcd_body.specs.Stored.{IsUncounted, IsUnset, holding_of, len_of, number_of, one_digit, share_from, state_in};
 
 /// How the value of a code is held. Each digit has a state of its own, so that a value of one digit
 /// is in the slot alone.
@@ -34,7 +34,7 @@ pub(crate) enum State {
 /// the first caches.
 #[derive(Clone, Copy, PartialEq, Eq, Debug)]
 pub struct Slot {
-    // The number of binary digits; else the lowest 32 bits of how many digits, or bytes of a text,
+    // The number of the binary digits; else the lowest 32 bits of how many digits, or bytes of a text,
     // are held in the share.
     pub(crate) number: u32,
     // The number of the state that holds the value; and from 8 on, by how many binary digits it is
@@ -63,9 +63,24 @@ pub struct Share {
 #[derive(Clone, Copy, PartialEq, Eq, Debug)]
 pub(crate) struct Holding {
     pub(crate) state: State,
-    /// How many digits, or bytes of a text, are held in the share; or binary digits, as `bits`
-    /// packs them.
-    pub(crate) len: usize,
+    /// The lowest 32 bits of how many digits, or bytes of a text, are held in the share; or the
+    /// number of the binary digits.
+    pub(crate) lower: u32,
+    /// The bits above them; or how many binary digits there are.
+    pub(crate) upper: u32,
+}
+
+/// What one counts in the upper part of a length.
+pub(crate) const UPPER: usize = 4_294_967_296;
+
+impl Holding {
+    /// Returns how many digits, or bytes of a text, are held in the share.
+    #[inline(always)]
+    pub(crate) fn len(self) -> usize
+        ensures { result ≡ len_of self }
+    {
+        self.upper as usize * UPPER + self.lower as usize
+    }
 }
 
 /// What the value of a code is.
@@ -190,7 +205,8 @@ pub(crate) fn holding_of(slot: Slot, share: Share) -> Holding
     };
     Holding {
         state: state_in(slot.how),
-        len: upper as usize * 4_294_967_296 + slot.number as usize,
+        lower: slot.number,
+        upper,
     }
 }
 

@@ -5,14 +5,14 @@ ghost use Rattle.vcd_body.specs.Binary.{is_proper};
 ghost use Rattle.vcd_body.specs.Kept.{Held, as_chosen, one_more, with_change, with_held, with_number, with_number_change, with_step, with_text};
 ghost use Rattle.vcd_body.specs.Packed.{held_digit};
 ghost use Rattle.vcd_body.specs.Values.{with_value};
-ghost use Rattle.vcd_body.specs.Stored.{AreLaidOut, ChangesAt, IsUnset, end_at, held_by, holding_at, one_digit, set_whole, share_from, share_of, some_by, start_in, start_of, state_in, used, used_by, whole};
+ghost use Rattle.vcd_body.specs.Stored.{AreLaidOut, ChangesAt, IsUnset, end_at, held_by, holding_at, len_of, one_digit, set_whole, share_from, share_of, some_by, start_in, start_of, state_in, used, used_by, whole};
 
-use crate::bits::{Bits, held_bits, is_number_step, is_proper, number_in};
+use crate::bits::{Bits, held_bits, is_number_step, is_proper};
 use crate::counters::{carry_step, count_one, step_low};
 use crate::item::Form;
 use crate::packed::pack;
 use crate::slot::{
-    Holding, Share, Slot, State, holding_of, is_bit, number_of, number_of_bit, number_of_digit,
+    Holding, Share, Slot, State, UPPER, holding_of, is_bit, number_of, number_of_bit, number_of_digit,
     number_of_turned,
 };
 use crate::step::step_by_number;
@@ -48,22 +48,21 @@ fn used_by(holding: Holding) -> usize
     ensures { result ≡ used holding }
 {
     match holding.state {
-        State::Digits => holding.len.div_ceil(4),
-        State::Plain | State::Real => holding.len,
-        State::Bits => 0,
-        State::Unset | State::Zero | State::One | State::Unknown | State::High => 0,
+        State::Digits => holding.len().div_ceil(4),
+        State::Plain | State::Real => holding.len(),
+        State::Unset | State::Zero | State::One | State::Unknown | State::High | State::Bits => 0,
     }
 }
 
 /// Whether digits are some where several are held.
 #[inline(always)]
 fn holds_some(holding: Holding) -> bool
-    ensures yes { result ≡ true → 1 ≤ some_by holding.state holding.len }
-    ensures no { result ≡ false → some_by holding.state holding.len ≡ 0 }
+    ensures yes { result ≡ true → 1 ≤ some_by holding.state (len_of holding) }
+    ensures no { result ≡ false → some_by holding.state (len_of holding) ≡ 0 }
 {
     match holding.state {
-        State::Plain | State::Digits => holding.len > 0,
-        State::Bits => is_proper(holding.len),
+        State::Plain | State::Digits => holding.len() > 0,
+        State::Bits => is_proper(holding),
         State::Unset | State::Zero | State::One | State::Unknown | State::High | State::Real =>
             true,
     }
@@ -82,10 +81,10 @@ pub(crate) fn share_in<'a>(
     ensures share { IfSome result
         (λ share. share.now ≡ take (used holding) (drop (start_in shares.now code) values.now)) }
     ensures used { IfSome result (λ share. used holding ≤ length share.now) }
-    ensures some { IfSome result (λ _. 1 ≤ some_by holding.state holding.len) }
+    ensures some { IfSome result (λ _. 1 ≤ some_by holding.state (len_of holding)) }
     ensures there { code < length shares.now
         → start_in shares.now code + used holding ≤ length values.now
-        → 1 ≤ some_by holding.state holding.len → result ≢ None }
+        → 1 ≤ some_by holding.state (len_of holding) → result ≢ None }
 {
     if code >= shares.len() || !holds_some(holding) {
         return None;
@@ -149,8 +148,8 @@ fn hold_text(slot: &mut Slot, share: &mut Share, state: State, len: usize)
     ensures { whole slot.new share.new ≡ set_whole state len (whole slot.old share.old) }
 {
     slot.how = number_of(state);
-    slot.number = (len % 4_294_967_296) as u32;
-    share.upper = (len / 4_294_967_296) as u32;
+    slot.number = (len % UPPER) as u32;
+    share.upper = (len / UPPER) as u32;
 }
 
 /// Sets the value of a code to digits, where they fit its share, which ends here.
@@ -448,7 +447,7 @@ pub(crate) fn step_at(slots: &mut [Slot], code: usize, size: usize, bits: Bits) 
     if code >= slots.len() || !is_number_step(&slots[code], size, bits) {
         return Stepped::Not;
     }
-    let step = step_by_number(number_in(slots[code].number as usize), bits.number);
+    let step = step_by_number(slots[code].number as usize, bits.number);
     set_bits(slots, code, bits);
     if !step.differs || count_in_slot(slots, code, step.rises, step.falls) {
         return Stepped::Counted;
