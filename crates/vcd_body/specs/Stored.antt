@@ -4,7 +4,7 @@ use Rattle.std.specs.Prelude.{◌≡◌, ℕ, zero, suc, ◌+◌, ◌-◌, ◌*�
 use Rattle.std.specs.Str.{byte}
 use Rattle.vcd_view.specs.declared.view.Code.{Code}
 use Rattle.vcd_body.specs.Counters.{counts_of}
-use Rattle.vcd_body.specs.Kept.{Held, Kept, bytes_for}
+use Rattle.vcd_body.specs.Kept.{Held, Kept, bytes_for, with_step}
 use Rattle.vcd_model.specs.Values.{extend, short}
 use Rattle.vcd_body.specs.Binary.{binary_digits, count_in, is_proper, number_in}
 use Rattle.vcd_body.specs.Packed.{digits_in, held_digit}
@@ -159,6 +159,18 @@ kept_in values slots shares code = option_map (kept_with values (end_at shares (
 abbrev pub ChangesAt : ℕ → (Kept → Kept) → List ℕ → List Slot → List Share → List ℕ → List Slot → List Share → Type 0
 ChangesAt code f values slots shares values' slots' shares' = (place : ℕ) → kept_in values' slots' shares' place ≡ cond (place == code) (option_map f (kept_in values slots shares place)) (kept_in values slots shares place)
 
+-- a slot is changed so, and no share is: whatever the shares and the values are
+abbrev pub ChangesSlot : ℕ → (Kept → Kept) → List Slot → List Slot → Type 0
+ChangesSlot code f slots slots' = (shares : List Share) (values : List ℕ) → ChangesAt code f values slots shares values slots' shares
+
+-- a slot and a share are changed so, whatever the values are
+abbrev pub ChangesBoth : ℕ → (Kept → Kept) → List Slot → List Share → List Slot → List Share → Type 0
+ChangesBoth code f slots shares slots' shares' = (values : List ℕ) → ChangesAt code f values slots shares values slots' shares'
+
+-- what is left to count is a step, which then makes the change whole
+abbrev pub LeavesStep : ℕ → (Kept → Kept) → Bool → Bool → List Slot → List Slot → Type 0
+LeavesStep code f rises falls slots slots' = (shares : List Share) (values after : List ℕ) (counted : List Slot) (with : List Share) → ChangesAt code (with_step rises falls) values slots' shares after counted with → ChangesAt code f values slots shares after counted with
+
 -- several digits are one or more
 abbrev pub some_by : State → ℕ → ℕ
 some_by state.Unset len = 1
@@ -181,6 +193,20 @@ pub record IsLaid (shares : List Share) (n k : ℕ) (s : Slot) : Type 0 where
 
 abbrev pub AreLaidOut : List Slot → List Share → ℕ → Type 0
 AreLaidOut slots shares n = (k : ℕ) (s : Slot) → slice_get slots k ≡ Some s → IsLaid shares n k s
+
+-- where all are laid out, something is changed so
+abbrev pub ChangesLaid : ℕ → (Kept → Kept) → List ℕ → List Slot → List Share → List ℕ → List Slot → List Share → Type 0
+ChangesLaid code f values slots shares values' slots' shares' = AreLaidOut slots shares (length values) → ChangesAt code f values slots shares values' slots' shares'
+
+-- what is laid out stays so over n values: slots and shares, over any, or slots alone
+abbrev pub KeepLaid : ℕ → List Slot → List Share → List Slot → List Share → Type 0
+KeepLaid n slots shares slots' shares' = AreLaidOut slots shares n → AreLaidOut slots' shares' n
+
+abbrev pub BothKeepLaid : List Slot → List Share → List Slot → List Share → Type 0
+BothKeepLaid slots shares slots' shares' = (n : ℕ) → AreLaidOut slots shares n → AreLaidOut slots' shares' n
+
+abbrev pub SlotsKeepLaid : List Slot → List Slot → Type 0
+SlotsKeepLaid slots slots' = (shares : List Share) (n : ℕ) → AreLaidOut slots shares n → AreLaidOut slots' shares n
 
 -- ---- shares
 

@@ -5,7 +5,6 @@ ghost use Rattle.vcd_model.specs.Tokens.{Token};
 ghost use Rattle.vcd_model.specs.Header.{Header};
 ghost use Rattle.vcd_model.specs.Declarations.{IdCode};
 ghost use Rattle.vcd_model.specs.Items.{BodyItem, ChangeForm};
-ghost use Rattle.vcd_model.specs.BodyPhrases.{BodyPhrase};
 ghost use Rattle.vcd_view.specs.Views.{IsViewOf};
 ghost use Rattle.vcd_text.specs.Ahead.{ahead_of, bytes_of, lines_of, longest_of, passed_of};
 ghost use Rattle.vcd_text.specs.Passed.{Passed};
@@ -20,7 +19,7 @@ ghost use Rattle.vcd_body.specs.Binary.{binary_digits};
 ghost use Rattle.vcd_body.specs.Words.{Begins};
 ghost use Rattle.vcd_body.specs.Reads.{GaveItems};
 ghost use Rattle.vcd_body.specs.Given.{HasGoodText, IsGoodText, IsItem};
-ghost use Rattle.vcd_body.specs.Ahead.{GaveAhead, GaveLast, HasBits, IsPlain, IsSizedItem, LooksOver, PassBoth};
+ghost use Rattle.vcd_body.specs.Ahead.{GaveAhead, GaveLast, HasBits, IsPlain, IsSizedItem, LooksOver, GivesBoth};
 ghost use Rattle.vcd_body.specs.Spelled.{HasSpelled, Names};
 ghost use Rattle.vcd_body.specs.Taken.{HasTime, Opens, OpensVector, TakesItem};
 ghost use Rattle.vcd_view.specs.declared.view.HeadView.{HeadView};
@@ -40,7 +39,7 @@ pub struct Plain<'a> {
     /// The text of a change; none for a mark.
     pub text: &'a [u8],
     /// The size of a change's code; 0 where it is an event, and where 32 bits do not hold the size,
-    /// and for a mark.
+    /// and for a mark: `size` tells.
     pub most: usize,
     /// Where the text of a change begins in the bytes that are looked over; where the digits of a
     /// mark begin.
@@ -50,6 +49,23 @@ pub struct Plain<'a> {
     /// The digits of a vector as a number, where they are few, and `0` and `1` alone. None says
     /// nothing.
     pub bits: Option<Bits>,
+}
+
+impl Plain<'_> {
+    ghost use Rattle.std.specs.Prelude.{◌≡◌, ◌<◌, IfSome, None};
+
+    /// Returns the size of a change's code; none where it is an event, or is not told, and of a
+    /// mark.
+    #[inline(always)]
+    pub fn size(self) -> Option<usize>
+        ensures told { IfSome result (λ size. (size ≡ self.entry.most) × (0 < size)) }
+        ensures none { result ≡ None → self.entry.most ≡ 0 }
+    {
+        if self.most == 0 {
+            return None;
+        }
+        Some(self.most)
+    }
 }
 
 /// A change of the code that was found.
@@ -110,13 +126,7 @@ fn vector_code(token: &[u8], code: &[u8], view: HeadView<'_>, bits: Option<Bits>
     requires begins { Begins token.now first.Vector }
     requires bits { IfSome bits (λ b. drop 1 token.now ≡ binary_digits b.len b.number) }
     ensures code { (h : Header) → IsViewOf view.entry h
-        → IfSome result (λ found. (c : IdCode) × (slice_get h.codes found.place ≡ Some c)
-        × ((earlier : List BodyPhrase) → PassBoth h.codes earlier token.now code.now
-        (BodyItem.Changes (record {
-          code = c;
-          form = ChangeForm.Vector;
-          text = drop 1 token.now;
-        })))) }
+        → IfSome result (GivesBoth h.codes ChangeForm.Vector token.now code.now) }
     ensures sound { IfSome result
         (λ found. IsGoodText view.entry.codes.now found.place form.Vector (drop 1 token.now)) }
     ensures names { IfSome result (λ found. Names view.entry found.place code.now) }
@@ -149,13 +159,7 @@ fn vector_bits(bytes: &[u8], at: usize, token: &[u8]) -> Option<Bits>
 fn real_code(token: &[u8], code: &[u8], view: HeadView<'_>) -> Option<Found>
     requires begins { Begins token.now first.Real }
     ensures code { (h : Header) → IsViewOf view.entry h
-        → IfSome result (λ found. (c : IdCode) × (slice_get h.codes found.place ≡ Some c)
-        × ((earlier : List BodyPhrase) → PassBoth h.codes earlier token.now code.now
-        (BodyItem.Changes (record {
-          code = c;
-          form = ChangeForm.RealText;
-          text = drop 1 token.now;
-        })))) }
+        → IfSome result (GivesBoth h.codes ChangeForm.RealText token.now code.now) }
     ensures sound { IfSome result
         (λ found. IsGoodText view.entry.codes.now found.place form.RealText (drop 1 token.now)) }
     ensures names { IfSome result (λ found. Names view.entry found.place code.now) }

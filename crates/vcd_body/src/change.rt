@@ -2,11 +2,10 @@
 ghost use Rattle.std.specs.Prelude.{◌≡◌, ◌≢◌, ℕ, ◌-◌, ◌^◌, ◌<◌, ◌≤◌, ◌++◌, ◌∷◌, ◌==◌, List, [], false, true, take, drop, length, slice_index, IfSome};
 ghost use Rattle.std.specs.Char.{to_ascii_lowercase as lower};
 ghost use Rattle.std.specs.Str.{str_to_ascii_lowercase};
-ghost use Rattle.vcd_model.specs.Values.{extend, extension, short, change_line};
+ghost use Rattle.vcd_model.specs.Values.{extend, extension, short};
 ghost use Rattle.vcd_text.specs.Device.{Counts, Puts, Takes, failures_after};
-ghost use Rattle.vcd_body.specs.Items.{model_form};
 ghost use Rattle.vcd_body.specs.Binary.{binary_digits};
-ghost use Rattle.vcd_body.specs.Changes.{digits_line};
+ghost use Rattle.vcd_body.specs.Changes.{digits_line, line_under};
 
 use crate::bits::Bits;
 use crate::item::Form;
@@ -274,11 +273,7 @@ pub(crate) fn put_own_change<W: Sink>(
     requires failures { (W.device w.old).failures < 2 ^ 64 - 1 }
     requires digits { event ≡ false → form ≢ Form.RealText → 0 < length text.now }
     ensures { Puts (W.device w.old) (W.device w.new)
-        (change_line (record {
-          code = record { text = id.now; size = size; event = event };
-          form = model_form form;
-          text = text.now;
-        })) result }
+        (line_under id.now size event form text.now) result }
 {
     match text {
         [digit] if is_bit(size, event, form) => put_end(w, digit.to_ascii_lowercase(), id),

@@ -4,7 +4,7 @@ ghost use Rattle.std.specs.Bool.{Decides};
 ghost use Rattle.std.specs.Str.{bytes_eq, str_to_ascii_lowercase};
 ghost use Rattle.vcd_model.specs.Values.{extend, extension, value_with};
 ghost use Rattle.vcd_body.specs.Items.{model_form};
-ghost use Rattle.vcd_body.specs.Kept.{Held, differs, value_at_size};
+ghost use Rattle.vcd_body.specs.Kept.{AreTwo, Held, are_two, differs, value_at_size};
 ghost use Rattle.vcd_body.specs.Packed.{held_digit};
 ghost use Rattle.vcd_body.specs.Stored.{digits_with, held_with, len_of, some_by, used};
 
@@ -97,8 +97,7 @@ fn are_same_plain(share: &[u8], text: &[u8]) -> bool
 fn differ_at(share: &[u8], text: &[u8], back: usize) -> bool
     requires share { back < length share.now }
     requires text { back < length text.now }
-    ensures { result ≡ true → (size : ℕ) → extend (map held_digit share.now) size
-        ≢ extend (str_to_ascii_lowercase text.now) size }
+    ensures { result ≡ true → AreTwo (map held_digit share.now) text.now }
 {
     held_digit(share[share.len() - 1 - back]) != text[text.len() - 1 - back].to_ascii_lowercase()
 }
@@ -108,8 +107,7 @@ fn differ_at(share: &[u8], text: &[u8], back: usize) -> bool
 // digits are.
 #[inline(always)]
 fn ends_differ(share: &[u8], text: &[u8]) -> bool
-    ensures { result ≡ true → (size : ℕ) → extend (map held_digit share.now) size
-        ≢ extend (str_to_ascii_lowercase text.now) size }
+    ensures { result ≡ true → AreTwo (map held_digit share.now) text.now }
 {
     if share.len() < 4 || text.len() < 4 {
         return false;
@@ -124,8 +122,7 @@ fn ends_differ(share: &[u8], text: &[u8]) -> bool
 #[inline(always)]
 fn held_differs_at(holding: Holding, share: &[u8], text: &[u8], back: usize) -> bool
     requires used { used holding ≤ length share.now }
-    ensures { result ≡ true → (size : ℕ) → extend (digits_with holding share.now) size
-        ≢ extend (str_to_ascii_lowercase text.now) size }
+    ensures { result ≡ true → AreTwo (digits_with holding share.now) text.now }
 {
     let held = count_of(holding, share);
     if back >= held || back >= text.len() {
@@ -142,8 +139,7 @@ fn held_differs_at(holding: Holding, share: &[u8], text: &[u8], back: usize) -> 
 #[inline(always)]
 fn lasts_differ(holding: Holding, share: &[u8], text: &[u8]) -> bool
     requires used { used holding ≤ length share.now }
-    ensures { result ≡ true → (size : ℕ) → extend (digits_with holding share.now) size
-        ≢ extend (str_to_ascii_lowercase text.now) size }
+    ensures { result ≡ true → AreTwo (digits_with holding share.now) text.now }
 {
     for back in 0..8 {
         if held_differs_at(holding, share, text, back) {
@@ -158,8 +154,7 @@ fn lasts_differ(holding: Holding, share: &[u8], text: &[u8]) -> bool
 #[inline(always)]
 fn ends_tell(holding: Holding, share: &[u8], text: &[u8]) -> bool
     requires used { used holding ≤ length share.now }
-    ensures { result ≡ true → (size : ℕ) → extend (digits_with holding share.now) size
-        ≢ extend (str_to_ascii_lowercase text.now) size }
+    ensures { result ≡ true → AreTwo (digits_with holding share.now) text.now }
 {
     match holding.state {
         State::Plain => plain_ends_differ(share, text),
@@ -173,8 +168,7 @@ fn ends_tell(holding: Holding, share: &[u8], text: &[u8]) -> bool
 #[inline(always)]
 fn few_tell(holding: Holding, share: &[u8], text: &[u8]) -> bool
     requires used { used holding ≤ length share.now }
-    ensures { result ≡ true → (size : ℕ) → extend (digits_with holding share.now) size
-        ≢ extend (str_to_ascii_lowercase text.now) size }
+    ensures { result ≡ true → AreTwo (digits_with holding share.now) text.now }
 {
     match holding.state {
         State::Plain => ends_differ(share, text),
@@ -190,8 +184,7 @@ fn all_differ(holding: Holding, share: &[u8], size: usize, text: &[u8]) -> bool
     requires used { used holding ≤ length share.now }
     requires some { 1 ≤ some_by holding.state (len_of holding) }
     requires digits { held_with holding share.now ≡ Held.Digits (digits_with holding share.now) }
-    ensures { result ≡ not (bytes_eq (extend (digits_with holding share.now) size)
-        (extend (str_to_ascii_lowercase text.now) size)) }
+    ensures { result ≡ are_two size (digits_with holding share.now) text.now }
 {
     if few_tell(holding, share, text) {
         return true;
@@ -213,8 +206,7 @@ fn several_differ(holding: Holding, share: &[u8], size: usize, text: &[u8]) -> b
     requires used { used holding ≤ length share.now }
     requires some { 1 ≤ some_by holding.state (len_of holding) }
     requires digits { held_with holding share.now ≡ Held.Digits (digits_with holding share.now) }
-    ensures { result ≡ not (bytes_eq (extend (digits_with holding share.now) size)
-        (extend (str_to_ascii_lowercase text.now) size)) }
+    ensures { result ≡ are_two size (digits_with holding share.now) text.now }
 {
     ends_tell(holding, share, text) || all_differ(holding, share, size, text)
 }
@@ -226,8 +218,7 @@ fn digits_differ(holding: Holding, share: &[u8], size: usize, text: &[u8]) -> bo
     requires used { used holding ≤ length share.now }
     requires some { 1 ≤ some_by holding.state (len_of holding) }
     requires digits { held_with holding share.now ≡ Held.Digits (digits_with holding share.now) }
-    ensures { result ≡ not (bytes_eq (extend (digits_with holding share.now) size)
-        (extend (str_to_ascii_lowercase text.now) size)) }
+    ensures { result ≡ are_two size (digits_with holding share.now) text.now }
 {
     match (text, digit_of_state(holding.state)) {
         ([digit], Some(held)) => held != digit.to_ascii_lowercase(),

@@ -12,6 +12,7 @@ ghost use Rattle.vcd_view.specs.Views.{IsViewOf};
 ghost use Rattle.vcd_view.specs.declared.view.HeadView.{HeadView};
 ghost use Rattle.vcd_body.specs.Ahead.{HasBits, IsSizedItem};
 ghost use Rattle.vcd_body.specs.Binary.{binary_digits, bit_of};
+ghost use Rattle.vcd_body.specs.Changes.{AreBitsAt, IsNeedless};
 ghost use Rattle.vcd_body.specs.Given.{IsItem};
 ghost use Rattle.vcd_body.specs.Spelled.{HasChange, HasMark, HasSpelled, bytes_without};
 ghost use Rattle.vcd_body.specs.declared.item.Form.TheVariants as form;
@@ -175,8 +176,7 @@ fn are_many_binary_at(bytes: &[u8], at: usize, n: usize) -> bool
     requires room { at + 64 ≤ length bytes.now }
     requires many { 32 ≤ n }
     requires few { n ≤ 64 }
-    ensures { result ≡ true → (k : ℕ) → k < n
-        → slice_index bytes.now (at + k) ≡ byte "0" + bit_of (slice_index bytes.now (at + k)) }
+    ensures { result ≡ true → AreBitsAt bytes.now at n }
 {
     other_32(bytes, at) == 0 && are_binary_at(bytes, at + 32, n - 32)
 }
@@ -188,9 +188,7 @@ fn are_many_binary_at(bytes: &[u8], at: usize, n: usize) -> bool
 fn needless(bytes: &[u8], at: usize, digits: &[u8]) -> Option<usize>
     requires within { at ≤ length bytes.now }
     requires place { digits.now ≡ slice_range bytes.now at (at + length digits.now) }
-    ensures { IfSome result (λ k. (k ≤ length digits.now)
-        × ((size : ℕ) → drop k digits.now
-        ≡ short (extend (str_to_ascii_lowercase digits.now) size))) }
+    ensures { IfSome result (IsNeedless digits.now) }
 {
     let n = digits.len();
     if 32 < n && n <= 64 && bytes.len() - at >= 64 && are_many_binary_at(bytes, at, n) {
@@ -205,9 +203,7 @@ fn needless(bytes: &[u8], at: usize, digits: &[u8]) -> Option<usize>
 fn needless_slowly(bytes: &[u8], at: usize, digits: &[u8]) -> Option<usize>
     requires within { at ≤ length bytes.now }
     requires place { digits.now ≡ slice_range bytes.now at (at + length digits.now) }
-    ensures { IfSome result (λ k. (k ≤ length digits.now)
-        × ((size : ℕ) → drop k digits.now
-        ≡ short (extend (str_to_ascii_lowercase digits.now) size))) }
+    ensures { IfSome result (IsNeedless digits.now) }
 {
     if digits.is_empty() {
         return None;
@@ -225,9 +221,7 @@ fn needless_slowly(bytes: &[u8], at: usize, digits: &[u8]) -> Option<usize>
 fn left_out_of_64(bytes: &[u8], at: usize, digits: &[u8]) -> Option<usize>
     requires within { at ≤ length bytes.now }
     requires place { digits.now ≡ slice_range bytes.now at (at + length digits.now) }
-    ensures { IfSome result (λ k. (k ≤ length digits.now)
-        × ((size : ℕ) → drop k digits.now
-        ≡ short (extend (str_to_ascii_lowercase digits.now) size))) }
+    ensures { IfSome result (IsNeedless digits.now) }
 {
     if digits.len() == 64 && others_than_bits_64(bytes, at) == 0 {
         return Some(zeros_at(bytes, at, 64));
@@ -308,16 +302,13 @@ pub fn left_out(plain: Plain<'_>, bytes: &[u8], from: usize, to: usize) -> Optio
     if bytes[to - 1] != b'\n' {
         return None;
     }
+    let size = plain.size()?;
     let text = plain.text;
     let code_at = plain.code_at;
     match form {
-        Form::Scalar if plain.most == 1 && is_bit_line(bytes, from, to, code_at) => Some(0),
-        Form::Vector if plain.most > 1 => {
-            left_out_of_vector(bytes, from, to, text, plain.bits, code_at)
-        }
-        Form::RealText if plain.most > 0 && has_one_blank(bytes, from, to, b'r', text, code_at) => {
-            Some(0)
-        }
+        Form::Scalar if size == 1 && is_bit_line(bytes, from, to, code_at) => Some(0),
+        Form::Vector if size > 1 => left_out_of_vector(bytes, from, to, text, plain.bits, code_at),
+        Form::RealText if has_one_blank(bytes, from, to, b'r', text, code_at) => Some(0),
         _ => None,
     }
 }

@@ -1,8 +1,7 @@
 // Digits in a share: a byte each, or four to a byte, one of each quarter of them.
 ghost use Rattle.std.specs.Prelude.{◌≡◌, ◌≢◌, ◌≤◌, ◌<◌, ◌+◌, ◌-◌, ◌*◌, ◌/◌, ◌==◌, ℕ, Some, get_or, length, map, slice_get, true};
 ghost use Rattle.std.specs.Simd.Lanes.{chunk};
-ghost use Rattle.std.specs.Str.{str_to_ascii_lowercase};
-ghost use Rattle.vcd_model.specs.Values.{extend};
+ghost use Rattle.vcd_body.specs.Kept.{AreTwo};
 ghost use Rattle.vcd_body.specs.Packed.{code_among, code_of, code_or, digit_of, digits_in, four_codes, held_digit, quarter_of};
 
 use std::simd::prelude::*;
@@ -123,8 +122,7 @@ fn codes_differ(first: u8x16, second: u8x16) -> bool
 /// the values differ; false where either has fewer.
 #[inline(always)]
 pub(crate) fn plain_ends_differ(share: &[u8], text: &[u8]) -> bool
-    ensures differ { result ≡ true → (size : ℕ) → extend (map held_digit share.now) size
-        ≢ extend (str_to_ascii_lowercase text.now) size }
+    ensures differ { result ≡ true → AreTwo (map held_digit share.now) text.now }
     ensures many { result ≡ true → (16 ≤ length share.now) × (16 ≤ length text.now) }
 {
     if share.len() < 16 || text.len() < 16 {
@@ -150,8 +148,7 @@ fn last_codes_16(bytes: &[u8], at: usize) -> u8x16
 /// in use.
 #[inline(always)]
 pub(crate) fn packed_ends_differ(share: &[u8], len: usize, text: &[u8]) -> bool
-    ensures differ { result ≡ true → (size : ℕ) → extend (digits_in len share.now) size
-        ≢ extend (str_to_ascii_lowercase text.now) size }
+    ensures differ { result ≡ true → AreTwo (digits_in len share.now) text.now }
     ensures many { result ≡ true → (16 ≤ quarter_of len) × (16 ≤ length text.now) }
     ensures room { result ≡ true → quarter_of len ≤ length share.now }
 {

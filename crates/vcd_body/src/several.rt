@@ -4,7 +4,7 @@ ghost use Rattle.vcd_model.specs.Values.{Value, extend, value_with};
 ghost use Rattle.vcd_body.specs.Items.{model_form};
 ghost use Rattle.vcd_body.specs.Kept.{IsStep, bytes_for, goes_from, value_at_size, with_change};
 ghost use Rattle.vcd_body.specs.Packed.{digits_in, held_digit};
-ghost use Rattle.vcd_body.specs.Stored.{AreLaidOut, ChangesAt, held_from};
+ghost use Rattle.vcd_body.specs.Stored.{AreLaidOut, ChangesAt, KeepLaid, held_from};
 
 use crate::item::Form;
 use crate::packed::{last_packed, packed_ends_differ, plain_ends_differ};
@@ -102,8 +102,7 @@ pub(crate) fn change_at(
         shares.old values.new slots.new shares.new }
     ensures same { result ≡ false → (slots.new ≡ slots.old) × (shares.new ≡ shares.old)
         × (values.new ≡ values.old) }
-    ensures laid { AreLaidOut slots.old shares.old (length values.old)
-        → AreLaidOut slots.new shares.new (length values.old) }
+    ensures laid { KeepLaid (length values.old) slots.old shares.old slots.new shares.new }
 {
     if code >= slots.len() || code >= shares.len() {
         return false;

@@ -5,7 +5,7 @@ ghost use Rattle.vcd_body.specs.Binary.{is_proper};
 ghost use Rattle.vcd_body.specs.Kept.{Held, as_chosen, one_more, with_change, with_held, with_number, with_number_change, with_step, with_text};
 ghost use Rattle.vcd_body.specs.Packed.{held_digit};
 ghost use Rattle.vcd_body.specs.Values.{with_value};
-ghost use Rattle.vcd_body.specs.Stored.{AreLaidOut, ChangesAt, IsUnset, end_at, held_by, holding_at, len_of, one_digit, set_whole, share_from, share_of, some_by, start_in, start_of, state_in, used, used_by, whole};
+ghost use Rattle.vcd_body.specs.Stored.{AreLaidOut, BothKeepLaid, ChangesAt, ChangesBoth, ChangesLaid, ChangesSlot, IsUnset, KeepLaid, LeavesStep, SlotsKeepLaid, end_at, held_by, holding_at, len_of, one_digit, set_whole, share_from, share_of, some_by, start_in, start_of, state_in, used, used_by, whole};
 
 use crate::bits::{Bits, held_bits, is_number_step, is_proper};
 use crate::counters::{carry_step, count_one, step_low};
@@ -98,11 +98,9 @@ pub(crate) fn share_in<'a>(
 /// alone, and need not be looked at.
 #[inline(always)]
 fn set_how(slots: &mut [Slot], code: usize, how: u8)
-    ensures changes { (d : ℕ) → one_digit (state_in how) ≡ Some d → (shares : List Share)
-        (values : List ℕ) → ChangesAt code (with_held (Held.Digits (d ∷ []))) values slots.old shares
-        values slots.new shares }
-    ensures laid { (d : ℕ) → one_digit (state_in how) ≡ Some d → (shares : List Share) (n : ℕ)
-        → AreLaidOut slots.old shares n → AreLaidOut slots.new shares n }
+    ensures changes { (d : ℕ) → one_digit (state_in how) ≡ Some d
+        → ChangesSlot code (with_held (Held.Digits (d ∷ []))) slots.old slots.new }
+    ensures laid { (d : ℕ) → one_digit (state_in how) ≡ Some d → SlotsKeepLaid slots.old slots.new }
 {
     if code < slots.len() {
         slots[code].how = how;
@@ -112,11 +110,9 @@ fn set_how(slots: &mut [Slot], code: usize, how: u8)
 /// Sets the value of a code to one digit.
 #[inline(always)]
 fn set_digit(slots: &mut [Slot], code: usize, digit: u8)
-    ensures changes { (shares : List Share) (values : List ℕ)
-        → ChangesAt code (with_held (Held.Digits (held_digit digit ∷ []))) values slots.old shares
-        values slots.new shares }
-    ensures laid { (shares : List Share) (n : ℕ) → AreLaidOut slots.old shares n
-        → AreLaidOut slots.new shares n }
+    ensures changes { ChangesSlot code (with_held (Held.Digits (held_digit digit ∷ []))) slots.old
+        slots.new }
+    ensures laid { SlotsKeepLaid slots.old slots.new }
 {
     set_how(slots, code, number_of_digit(digit));
 }
@@ -166,11 +162,9 @@ pub(crate) fn set_digits_in(
     requires within { code < length slots.old }
     requires shared { code < length shares.old }
     requires end { end ≡ end_at shares.old (length values.old) code }
-    ensures changes { AreLaidOut slots.old shares.old (length values.old)
-        → ChangesAt code (with_text Form.Vector text.now) values.old slots.old shares.old
+    ensures changes { ChangesLaid code (with_text Form.Vector text.now) values.old slots.old shares.old
         values.new slots.new shares.new }
-    ensures laid { AreLaidOut slots.old shares.old (length values.old)
-        → AreLaidOut slots.new shares.new (length values.old) }
+    ensures laid { KeepLaid (length values.old) slots.old shares.old slots.new shares.new }
 {
     let start = shares[code].start;
     if end < start || values.len() < end {
@@ -187,11 +181,9 @@ pub(crate) fn set_digits_in(
 #[inline(never)]
 fn set_digits(slots: &mut [Slot], shares: &mut [Share], values: &mut [u8], code: usize, text: &[u8])
     requires several { length text.now ≢ 1 }
-    ensures changes { AreLaidOut slots.old shares.old (length values.old)
-        → ChangesAt code (with_text Form.Vector text.now) values.old slots.old shares.old
+    ensures changes { ChangesLaid code (with_text Form.Vector text.now) values.old slots.old shares.old
         values.new slots.new shares.new }
-    ensures laid { AreLaidOut slots.old shares.old (length values.old)
-        → AreLaidOut slots.new shares.new (length values.old) }
+    ensures laid { KeepLaid (length values.old) slots.old shares.old slots.new shares.new }
 {
     if code < slots.len() && code < shares.len() {
         let end = end_of(shares, values.len(), code);
@@ -201,11 +193,9 @@ fn set_digits(slots: &mut [Slot], shares: &mut [Share], values: &mut [u8], code:
 
 /// Sets the value of a code to the text of a real number, where it fits its share.
 fn set_real(slots: &mut [Slot], shares: &mut [Share], values: &mut [u8], code: usize, text: &[u8])
-    ensures changes { AreLaidOut slots.old shares.old (length values.old)
-        → ChangesAt code (with_text Form.RealText text.now) values.old slots.old shares.old
+    ensures changes { ChangesLaid code (with_text Form.RealText text.now) values.old slots.old shares.old
         values.new slots.new shares.new }
-    ensures laid { AreLaidOut slots.old shares.old (length values.old)
-        → AreLaidOut slots.new shares.new (length values.old) }
+    ensures laid { KeepLaid (length values.old) slots.old shares.old slots.new shares.new }
 {
     if code >= slots.len() || code >= shares.len() {
         return;
@@ -233,11 +223,9 @@ fn copy_front(to: &mut [u8], from: &[u8])
 /// Sets the value of a code to digits. Most changes are of one digit, and touch one slot alone.
 #[inline(always)]
 fn set_text(slots: &mut [Slot], shares: &mut [Share], values: &mut [u8], code: usize, text: &[u8])
-    ensures changes { AreLaidOut slots.old shares.old (length values.old)
-        → ChangesAt code (with_text Form.Vector text.now) values.old slots.old shares.old
+    ensures changes { ChangesLaid code (with_text Form.Vector text.now) values.old slots.old shares.old
         values.new slots.new shares.new }
-    ensures laid { AreLaidOut slots.old shares.old (length values.old)
-        → AreLaidOut slots.new shares.new (length values.old) }
+    ensures laid { KeepLaid (length values.old) slots.old shares.old slots.new shares.new }
 {
     match text {
         [digit] => set_digit(slots, code, *digit),
@@ -254,14 +242,12 @@ pub(crate) fn set_at(
     code: usize,
     value: Value<'_>,
 )
-    ensures changes { AreLaidOut slots.old shares.old (length values.old)
-        → ChangesAt code (with_value value.entry) values.old slots.old shares.old
+    ensures changes { ChangesLaid code (with_value value.entry) values.old slots.old shares.old
         values.new slots.new shares.new }
     ensures bits { (b : Bits) → value.entry ≡ Value.Bits b
         → ChangesAt code (with_number b.len b.number) values.old slots.old shares.old
         values.new slots.new shares.new }
-    ensures laid { AreLaidOut slots.old shares.old (length values.old)
-        → AreLaidOut slots.new shares.new (length values.old) }
+    ensures laid { KeepLaid (length values.old) slots.old shares.old slots.new shares.new }
 {
     match value {
         Value::Digits(text) => set_text(slots, shares, values, code, text),
@@ -274,11 +260,8 @@ pub(crate) fn set_at(
 /// share need be looked at.
 #[inline(always)]
 pub(crate) fn set_bits(slots: &mut [Slot], code: usize, bits: Bits)
-    ensures changes { (shares : List Share) (values : List ℕ)
-        → ChangesAt code (with_number bits.len bits.number) values slots.old shares values slots.new
-        shares }
-    ensures laid { (shares : List Share) (n : ℕ) → AreLaidOut slots.old shares n
-        → AreLaidOut slots.new shares n }
+    ensures changes { ChangesSlot code (with_number bits.len bits.number) slots.old slots.new }
+    ensures laid { SlotsKeepLaid slots.old slots.new }
 {
     if code < slots.len() {
         let (number, how) = held_bits(bits);
@@ -291,9 +274,8 @@ pub(crate) fn set_bits(slots: &mut [Slot], code: usize, bits: Bits)
 /// Adds one to a counter of a code. A full one stays.
 #[inline(always)]
 pub(crate) fn bump_at(slots: &mut [Slot], shares: &mut [Share], code: usize, which: usize)
-    ensures changes { (values : List ℕ) → ChangesAt code (one_more which) values slots.old shares.old
-        values slots.new shares.new }
-    ensures laid { (n : ℕ) → AreLaidOut slots.old shares.old n → AreLaidOut slots.new shares.new n }
+    ensures changes { ChangesBoth code (one_more which) slots.old shares.old slots.new shares.new }
+    ensures laid { BothKeepLaid slots.old shares.old slots.new shares.new }
 {
     if code >= slots.len() || code >= shares.len() {
         return;
@@ -320,9 +302,9 @@ pub(crate) fn carry_at(
     rises: bool,
     falls: bool,
 )
-    ensures changes { (values : List ℕ) → ChangesAt code (with_step rises falls) values slots.old
-        shares.old values slots.new shares.new }
-    ensures laid { (n : ℕ) → AreLaidOut slots.old shares.old n → AreLaidOut slots.new shares.new n }
+    ensures changes { ChangesBoth code (with_step rises falls) slots.old shares.old slots.new
+        shares.new }
+    ensures laid { BothKeepLaid slots.old shares.old slots.new shares.new }
 {
     if code >= slots.len() || code >= shares.len() {
         return;
@@ -343,11 +325,10 @@ pub(crate) fn carry_at(
 /// has room for that. Returns whether it has; else nothing changes.
 #[inline(always)]
 fn count_in_slot(slots: &mut [Slot], code: usize, rises: bool, falls: bool) -> bool
-    ensures counts { result ≡ true → (shares : List Share) (values : List ℕ)
-        → ChangesAt code (with_step rises falls) values slots.old shares values slots.new shares }
+    ensures counts { result ≡ true
+        → ChangesSlot code (with_step rises falls) slots.old slots.new }
     ensures same { result ≡ false → slots.new ≡ slots.old }
-    ensures laid { (shares : List Share) (n : ℕ) → AreLaidOut slots.old shares n
-        → AreLaidOut slots.new shares n }
+    ensures laid { SlotsKeepLaid slots.old slots.new }
 {
     if code >= slots.len() {
         return false;
@@ -365,9 +346,9 @@ pub(crate) fn count_at(
     rises: bool,
     falls: bool,
 )
-    ensures changes { (values : List ℕ) → ChangesAt code (with_step rises falls) values slots.old
-        shares.old values slots.new shares.new }
-    ensures laid { (n : ℕ) → AreLaidOut slots.old shares.old n → AreLaidOut slots.new shares.new n }
+    ensures changes { ChangesBoth code (with_step rises falls) slots.old shares.old slots.new
+        shares.new }
+    ensures laid { BothKeepLaid slots.old shares.old slots.new shares.new }
 {
     if !count_in_slot(slots, code, rises, falls) {
         carry_at(slots, shares, code, rises, falls);
@@ -391,17 +372,12 @@ pub(crate) enum Stepped {
 #[inline(always)]
 pub(crate) fn turn_at(slots: &mut [Slot], code: usize, digit: u8) -> Stepped
     ensures counted { result ≡ Stepped.Counted → (form : Form) → form ≢ Form.RealText → (size : ℕ)
-        (shares : List Share) (values : List ℕ) → ChangesAt code (with_change size form (digit ∷ []))
-        values slots.old shares values slots.new shares }
+        → ChangesSlot code (with_change size form (digit ∷ [])) slots.old slots.new }
     ensures uncounted { (rises falls : Bool) → result ≡ Stepped.Uncounted rises falls → (form : Form)
-        → form ≢ Form.RealText → (size : ℕ) (shares : List Share) (values after : List ℕ)
-        (counted : List Slot) (with : List Share)
-        → ChangesAt code (with_step rises falls) values slots.new shares after counted with
-        → ChangesAt code (with_change size form (digit ∷ [])) values slots.old shares after counted
-        with }
+        → form ≢ Form.RealText → (size : ℕ)
+        → LeavesStep code (with_change size form (digit ∷ [])) rises falls slots.old slots.new }
     ensures same { result ≡ Stepped.Not → slots.new ≡ slots.old }
-    ensures laid { (shares : List Share) (n : ℕ) → AreLaidOut slots.old shares n
-        → AreLaidOut slots.new shares n }
+    ensures laid { SlotsKeepLaid slots.old slots.new }
 {
     if code >= slots.len() || !is_bit(digit) {
         return Stepped::Not;
@@ -441,8 +417,7 @@ pub(crate) fn step_at(slots: &mut [Slot], code: usize, size: usize, bits: Bits) 
         → ChangesAt code (with_number_change size bits.len bits.number)
         values slots.old shares after counted with }
     ensures same { result ≡ Stepped.Not → slots.new ≡ slots.old }
-    ensures laid { (shares : List Share) (n : ℕ) → AreLaidOut slots.old shares n
-        → AreLaidOut slots.new shares n }
+    ensures laid { SlotsKeepLaid slots.old slots.new }
 {
     if code >= slots.len() || !is_number_step(&slots[code], size, bits) {
         return Stepped::Not;

@@ -7,6 +7,7 @@ ghost use Rattle.vcd_model.specs.BodyPhrases.{is_value_digit as is_digit};
 ghost use Rattle.vcd_model.specs.Keywords.{is_end as ends};
 ghost use Rattle.std.specs.Str.{byte};
 ghost use Rattle.vcd_body.specs.Binary.{binary_digits, bit_of};
+ghost use Rattle.vcd_body.specs.Changes.{AreBitsAt};
 ghost use Rattle.vcd_body.specs.Words.{StandsFor, Begins, command_is};
 
 use crate::bits::Bits;
@@ -160,8 +161,7 @@ pub(crate) fn are_binary_at(bytes: &[u8], at: usize, n: usize) -> bool
     requires few { n ≤ 32 }
     ensures digits { result ≡ true → (k : ℕ) → k < n
         → is_digit (slice_index bytes.now (at + k)) ≡ true }
-    ensures binary { result ≡ true → (k : ℕ) → k < n
-        → slice_index bytes.now (at + k) ≡ byte "0" + bit_of (slice_index bytes.now (at + k)) }
+    ensures binary { result ≡ true → AreBitsAt bytes.now at n }
 {
     other_32(bytes, at) & ((1 << n) - 1) == 0
 }
