@@ -2,7 +2,7 @@
 ghost use Rattle.std.specs.Prelude.{◌≡◌, ◌≢◌, ◌≤◌, ◌<◌, ◌+◌, ◌-◌, ◌*◌, ◌/◌, ◌==◌, ℕ, Some, get_or, length, map, slice_get, true};
 ghost use Rattle.std.specs.Simd.Lanes.{chunk};
 ghost use Rattle.vcd_body.specs.Kept.{AreTwo};
-ghost use Rattle.vcd_body.specs.Packed.{code_among, code_of, code_or, digit_of, digits_in, four_codes, held_digit, quarter_of};
+ghost use Rattle.vcd_body.specs.Packed.{ArePacked, code_among, code_of, code_or, digit_of, digits_in, four_codes, held_digit, quarter_of};
 
 use std::simd::prelude::*;
 
@@ -89,8 +89,7 @@ fn pack_few(share: &mut [u8], text: &[u8], quarter: usize)
     requires few { quarter < 16 }
     requires room { quarter ≤ length share.old }
     requires quarter { quarter ≤ length text.now }
-    ensures { (place : ℕ) → place < quarter
-        → get_or share.new place 0 ≡ four_codes text.now quarter place }
+    ensures { ArePacked share.new text.now quarter }
 {
     for place in 0..quarter {
         share[place] = four_at(text, quarter, place);
@@ -249,8 +248,7 @@ fn pack_bits(share: &mut [u8], text: &[u8], quarter: usize) -> bool
     requires room { quarter ≤ length share.old }
     requires many { 16 ≤ quarter }
     requires quarter { 3 * quarter ≤ length text.now }
-    ensures { result ≡ true → (place : ℕ) → place < quarter
-        → get_or share.new place 0 ≡ four_codes text.now quarter place }
+    ensures { result ≡ true → ArePacked share.new text.now quarter }
 {
     let last = quarter - 16;
     let mut seen = u8x16::splat(0);
@@ -268,8 +266,7 @@ fn pack_any(share: &mut [u8], text: &[u8], quarter: usize)
     requires room { quarter ≤ length share.old }
     requires many { 16 ≤ quarter }
     requires quarter { 3 * quarter ≤ length text.now }
-    ensures { (place : ℕ) → place < quarter
-        → get_or share.new place 0 ≡ four_codes text.now quarter place }
+    ensures { ArePacked share.new text.now quarter }
 {
     let last = quarter - 16;
     let mut at = 0;
@@ -285,8 +282,7 @@ fn pack_many(share: &mut [u8], text: &[u8], quarter: usize)
     requires room { quarter ≤ length share.old }
     requires many { 16 ≤ quarter }
     requires quarter { 3 * quarter ≤ length text.now }
-    ensures { (place : ℕ) → place < quarter
-        → get_or share.new place 0 ≡ four_codes text.now quarter place }
+    ensures { ArePacked share.new text.now quarter }
 {
     if !pack_bits(share, text, quarter) {
         pack_any(share, text, quarter);

@@ -17,7 +17,7 @@ ghost use Rattle.vcd_body.specs.declared.words.First.TheVariants as first;
 ghost use Rattle.vcd_body.specs.Binary.{binary_digits};
 ghost use Rattle.vcd_body.specs.Items.{AreRegsAfter, regs_after};
 ghost use Rattle.vcd_body.specs.Words.{Begins, IsScalar, mark_time};
-ghost use Rattle.vcd_body.specs.Reads.{AsksForCode, Fails, Looks, OpensPhrase, Passes, Reads, ReadsPhrase, Refuses};
+ghost use Rattle.vcd_body.specs.Reads.{AsksForCode, FailsAfter, Looks, OpensPhrase, Passes, PassesScalar, Reads, ReadsChange, ReadsPhrase, Refuses};
 ghost use Rattle.vcd_body.specs.Given.{IsGoodText};
 ghost use Rattle.vcd_body.specs.Spelled.{Names};
 ghost use Rattle.vcd_body.specs.declared.item.Form.TheVariants as form;
@@ -67,14 +67,7 @@ pub(crate) fn read_mark(token: &[u8], regs: &mut Regs) -> Result<u64, BodyFault>
 pub(crate) fn scalar_code(token: &[u8], view: HeadView<'_>) -> Result<Found, BodyFault>
     requires begins { IsScalar token.now }
     ensures code { (h : Header) (earlier : List BodyPhrase) → IsViewOf view.entry h
-        → MatchResult result
-        (λ found. (c : IdCode) × (slice_get h.codes found.place ≡ Some c)
-        × Passes h.codes earlier token.now
-        (BodyItem.Changes (record {
-          code = c;
-          form = ChangeForm.Scalar;
-          text = take 1 token.now;
-        })))
+        → MatchResult result (λ found. PassesScalar h.codes earlier token.now found.place)
         (Refuses h.codes earlier token.now) }
     ensures sound { IfOk result
         (λ found. IsGoodText view.entry.codes.now found.place form.Scalar (take 1 token.now)) }
@@ -140,7 +133,7 @@ pub(crate) fn skip_comment<S: Source>(feed: &mut Feed<'_, '_, '_, '_, S>) -> Res
         → Reads codes i front placed (keyword_text Named.Comment ∷ []) feed.old
         → MatchResult result (λ _. (inner : List (List ℕ))
         × ReadsPhrase codes i front placed feed.new (BodyPhrase.Comment inner))
-        (λ fault. Fails codes i front (items_of (phrases_of placed)) fault feed.new) }
+        (FailsAfter codes i front placed feed.new) }
     ensures advances { Advances S.failures feed.old feed.new (call_end result) }
     ensures progress { OnOk result (seen feed.old < seen feed.new) }
     ensures bounded { seen feed.new < 2 ^ 63 }
@@ -168,7 +161,7 @@ fn read_code<S: Source>(
         (λ found. (c : IdCode) × (slice_get h.codes found.place ≡ Some c)
         × (declared_code h.codes (token_of feed.new).bytes ≡ Some c)
         × Looks h.codes i front placed (first ∷ []) feed.new)
-        (λ fault. Fails h.codes i front (items_of (phrases_of placed)) fault feed.new) }
+        (FailsAfter h.codes i front placed feed.new) }
     ensures value { value_of feed.new ≡ (token_of feed.old).bytes }
     ensures sized { IfOk result (IsSized view.entry.codes.now) }
     ensures advances { Advances S.failures feed.old feed.new (call_end result) }
@@ -212,12 +205,8 @@ pub(crate) fn read_vector<S: Source>(
     ensures reads { (h : Header) (i : Input) (front : List Token)
         (placed : List (Placed BodyPhrase)) → IsViewOf view.entry h
         → Looks h.codes i front placed [] feed.old
-        → MatchResult result
-        (λ place. (c : IdCode) × (slice_get h.codes place ≡ Some c)
-        × ReadsPhrase h.codes i front placed feed.new
-        (BodyPhrase.Gives (BodyItem.Changes
-        (record { code = c; form = ChangeForm.Vector; text = drop 1 (value_of feed.new) }))))
-        (λ fault. Fails h.codes i front (items_of (phrases_of placed)) fault feed.new) }
+        → MatchResult result (ReadsChange h.codes i front placed feed.new ChangeForm.Vector)
+        (FailsAfter h.codes i front placed feed.new) }
     ensures sound { IfOk result
         (λ place. IsGoodText view.entry.codes.now place form.Vector (drop 1 (value_of feed.new))) }
     ensures advances { Advances S.failures feed.old feed.new (call_end result) }
@@ -242,12 +231,8 @@ pub(crate) fn read_real<S: Source>(
     ensures reads { (h : Header) (i : Input) (front : List Token)
         (placed : List (Placed BodyPhrase)) → IsViewOf view.entry h
         → Looks h.codes i front placed [] feed.old
-        → MatchResult result
-        (λ place. (c : IdCode) × (slice_get h.codes place ≡ Some c)
-        × ReadsPhrase h.codes i front placed feed.new
-        (BodyPhrase.Gives (BodyItem.Changes
-        (record { code = c; form = ChangeForm.RealText; text = drop 1 (value_of feed.new) }))))
-        (λ fault. Fails h.codes i front (items_of (phrases_of placed)) fault feed.new) }
+        → MatchResult result (ReadsChange h.codes i front placed feed.new ChangeForm.RealText)
+        (FailsAfter h.codes i front placed feed.new) }
     ensures sound { IfOk result
         (λ place. IsGoodText view.entry.codes.now place form.RealText
         (drop 1 (value_of feed.new))) }

@@ -1,5 +1,5 @@
 // The items of a body, one after the other.
-ghost use Rattle.std.specs.Prelude.{◌≡◌, ◌≢◌, ℕ, ◌-◌, ◌^◌, ◌<◌, ◌≤◌, List, OnOk, IfOk, Some, MatchResult, MatchOption};
+ghost use Rattle.std.specs.Prelude.{◌≡◌, ◌≢◌, ℕ, ◌-◌, ◌^◌, ◌<◌, ◌≤◌, List, OnOk, IfOk, Some, MatchResult};
 ghost use Rattle.vcd_model.specs.Input.{Input};
 ghost use Rattle.vcd_model.specs.Tokens.{Token};
 ghost use Rattle.vcd_model.specs.Header.{Header};
@@ -12,7 +12,7 @@ ghost use Rattle.vcd_body.specs.declared.words.First.TheVariants as first;
 ghost use Rattle.vcd_body.specs.Items.{regs_after};
 ghost use Rattle.vcd_body.specs.Words.{Begins};
 ghost use Rattle.vcd_body.specs.Reads.{GaveItems, Begun, Fails};
-ghost use Rattle.vcd_body.specs.Given.{GivesItem, IsGoodChange, text_of};
+ghost use Rattle.vcd_body.specs.Given.{AreRegsPast, GivesItem, GivesPhrase, IsGoodChange, IsGoodPhrase, text_of};
 ghost use Rattle.vcd_text.specs.Advances.{Advances};
 ghost use Rattle.vcd_body.specs.Fault.{call_end};
 
@@ -34,15 +34,9 @@ fn read_command<S: Source>(
     requires begins { Begins (token_of feed.old).bytes first.Other }
     ensures reads { (codes : List IdCode) (i : Input) (front : List Token) (items : List BodyItem)
         → Begun codes i front items feed.old regs.old
-        → MatchResult result
-        (λ item. MatchOption item (GaveItems codes i front items feed.new regs.new)
-        (λ x. GivesItem codes i front items feed.new regs.new x))
-        (λ fault. Fails codes i front items fault feed.new) }
-    ensures sound { (codes : List Code)
-        → IfOk result (λ item. MatchOption item (Unit {0}) (IsGoodChange codes feed.new)) }
-    ensures regs { MatchResult result
-        (λ item. MatchOption item (regs.new ≡ regs.old) (λ x. regs.new ≡ regs_after regs.old x))
-        (λ _. regs.new ≡ regs.old) }
+        → GivesPhrase codes i front items feed.new regs.new result }
+    ensures sound { (codes : List Code) → IsGoodPhrase codes feed.new result }
+    ensures regs { AreRegsPast regs.old regs.new result }
     ensures advances { Advances S.failures feed.old feed.new (call_end result) }
     ensures further { OnOk result (seen feed.old ≤ seen feed.new) }
     ensures bounded { seen feed.old < 2 ^ 63 → seen feed.new < 2 ^ 63 }
@@ -81,15 +75,9 @@ fn read_phrase<S: Source>(
     requires failures { S.failures (source_of feed.old) < 2 ^ 64 - 1 }
     ensures reads { (h : Header) (i : Input) (front : List Token) (items : List BodyItem)
         → IsViewOf view.entry h → GaveItems h.codes i front items feed.old regs.old
-        → MatchResult result
-        (λ item. MatchOption item (GaveItems h.codes i front items feed.new regs.new)
-        (λ x. GivesItem h.codes i front items feed.new regs.new x))
-        (λ fault. Fails h.codes i front items fault feed.new) }
-    ensures sound { IfOk result
-        (λ item. MatchOption item (Unit {0}) (IsGoodChange view.entry.codes.now feed.new)) }
-    ensures regs { MatchResult result
-        (λ item. MatchOption item (regs.new ≡ regs.old) (λ x. regs.new ≡ regs_after regs.old x))
-        (λ _. regs.new ≡ regs.old) }
+        → GivesPhrase h.codes i front items feed.new regs.new result }
+    ensures sound { IsGoodPhrase view.entry.codes.now feed.new result }
+    ensures regs { AreRegsPast regs.old regs.new result }
     ensures advances { Advances S.failures feed.old feed.new (call_end result) }
     ensures progress { IfOk result
         (λ item. item ≢ Some Item.Finish → seen feed.old < seen feed.new) }

@@ -107,16 +107,6 @@ fn set_how(slots: &mut [Slot], code: usize, how: u8)
     }
 }
 
-/// Sets the value of a code to one digit.
-#[inline(always)]
-fn set_digit(slots: &mut [Slot], code: usize, digit: u8)
-    ensures changes { ChangesSlot code (with_held (Held.Digits (held_digit digit ∷ []))) slots.old
-        slots.new }
-    ensures laid { SlotsKeepLaid slots.old slots.new }
-{
-    set_how(slots, code, number_of_digit(digit));
-}
-
 /// Holds digits in a share: a byte each where it has room for them, and else four to a byte. Says
 /// how they are held.
 #[inline(always)]
@@ -220,20 +210,7 @@ fn copy_front(to: &mut [u8], from: &[u8])
     to[..from.len()].copy_from_slice(from);
 }
 
-/// Sets the value of a code to digits. Most changes are of one digit, and touch one slot alone.
-#[inline(always)]
-fn set_text(slots: &mut [Slot], shares: &mut [Share], values: &mut [u8], code: usize, text: &[u8])
-    ensures changes { ChangesLaid code (with_text Form.Vector text.now) values.old slots.old shares.old
-        values.new slots.new shares.new }
-    ensures laid { KeepLaid (length values.old) slots.old shares.old slots.new shares.new }
-{
-    match text {
-        [digit] => set_digit(slots, code, *digit),
-        _ => set_digits(slots, shares, values, code, text),
-    }
-}
-
-/// Sets the value of a code.
+/// Sets the value of a code. Most changes are of one digit, and touch one slot alone.
 #[inline(always)]
 pub(crate) fn set_at(
     slots: &mut [Slot],
@@ -250,7 +227,10 @@ pub(crate) fn set_at(
     ensures laid { KeepLaid (length values.old) slots.old shares.old slots.new shares.new }
 {
     match value {
-        Value::Digits(text) => set_text(slots, shares, values, code, text),
+        Value::Digits(text) => match text {
+            [digit] => set_how(slots, code, number_of_digit(*digit)),
+            _ => set_digits(slots, shares, values, code, text),
+        },
         Value::Real(text) => set_real(slots, shares, values, code, text),
         Value::Bits(bits) => set_bits(slots, code, bits),
     }
