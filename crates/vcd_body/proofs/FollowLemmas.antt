@@ -12,8 +12,6 @@ use Rattle.vcd_body.specs.Items.{model_form}
 use Rattle.vcd_body.specs.Kept.{Held, IsStep, Kept, differs, goes_from, last_digit_in, value_at_size, with_change, with_counted, with_held, with_number, with_number_change, with_step, with_text}
 use Rattle.vcd_body.specs.Packed.{held_digit}
 use Rattle.vcd_body.specs.Stored.{AreLaidOut, ChangesAt, Whole, end_at, held_by, held_of, kept_in, kept_with, len_in, number_of, one_digit, share_of, some_by, state_in, used_by, whole}
-use denote.Enum.Bare.{sameb}
-use Rattle.vcd_body.specs.contracts.item.Form.{the_type as the_form}
 use Rattle.vcd_body.specs.declared.item.Form.{Form}
 use Rattle.vcd_body.specs.declared.item.Form.TheVariants as form
 use Rattle.vcd_body.specs.declared.slot.Share.{Share}
@@ -27,7 +25,7 @@ use Rattle.vcd_body.specs.declared.value.Value.TheVariants as given
 use Rattle.vcd_body.specs.Values.{form_in, text_in, with_value, with_value_change}
 use Rattle.vcd_body.proofs.BinaryLemmas.{length_binary, proper, proper_count}
 use Rattle.vcd_body.proofs.NumberLemmas.{number_is_text, number_step, proper_number}
-use Rattle.vcd_body.proofs.SetLemmas.{good_value, set_value}
+use Rattle.vcd_body.proofs.SetLemmas.{good_value}
 use Rattle.vcd_body.proofs.StepLemmas.{digit_step}
 use Rattle.vcd_body.proofs.StoreLemmas.{held_one, kept_parts, same_or_not, some_in, text_fits}
 
@@ -182,18 +180,6 @@ module _ (values : List ℕ) (slots : List Slot) (shares : List Share) (code : �
 pub bit_is : (digit : ℕ) → (digit ≡ 48) ⊎ (digit ≡ 49) → cond (digit == 49) 49 48 ≡ digit
 bit_is digit (inl e) = rw e refl
 bit_is digit (inr e) = rw e refl
-
--- a form that was compared with that of a real number's text
-pub no_real : (f : Form) → true ≡ not (sameb the_form f form.RealText) → f ≢ form.RealText
-no_real form.Scalar h e = cc
-no_real form.Vector h e = cc
-no_real form.RealText h e = cc
-
--- one that was compared with that of digits after `b`
-pub is_vector : (f : Form) → not (sameb the_form f form.Vector) ≡ false → f ≡ form.Vector
-is_vector form.Scalar h = cc
-is_vector form.Vector h = refl
-is_vector form.RealText h = cc
 
 -- what is counted leaves the value
 counted_held : (old : Option Value) (new : Value) (k : Kept) → (with_counted old new k).held ≡ k.held

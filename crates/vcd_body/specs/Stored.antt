@@ -183,6 +183,11 @@ some_by state.Digits len = len
 some_by state.Bits len = cond (is_proper len) 1 0
 some_by state.Real len = 1
 
+-- what is held so is whole in these bytes of a share: they are enough, and several digits are some
+pub record HoldsIn (v : Holding) (bytes : List ℕ) : Type 0 where
+  pub fits : used v ≤ length bytes
+  pub some : 1 ≤ some_by v.state (len_of v)
+
 -- each slot has a share; the shares follow one another, and each is large enough for what it holds
 pub record IsLaid (shares : List Share) (n k : ℕ) (s : Slot) : Type 0 where
   pub share : Share

@@ -4,13 +4,12 @@ ghost use Rattle.vcd_model.specs.Input.{Input};
 ghost use Rattle.vcd_model.specs.Tokens.{Token};
 ghost use Rattle.vcd_model.specs.Header.{Header};
 ghost use Rattle.vcd_model.specs.Declarations.{IdCode};
-ghost use Rattle.vcd_model.specs.Items.{BodyItem, ChangeForm};
+ghost use Rattle.vcd_model.specs.Items.{BodyItem};
 ghost use Rattle.vcd_view.specs.Views.{IsViewOf};
 ghost use Rattle.vcd_text.specs.Ahead.{ahead_of, bytes_of, lines_of, longest_of, passed_of};
 ghost use Rattle.vcd_text.specs.Passed.{Passed};
 ghost use Rattle.vcd_text.specs.Feed.{limit_of, seen, source_of};
 ghost use Rattle.vcd_text.specs.Advances.{Advances, CallEnd};
-ghost use Rattle.vcd_view.specs.Finds.{IsSized};
 ghost use Rattle.vcd_body.specs.declared.item.Form.TheVariants as form;
 ghost use Rattle.vcd_body.specs.declared.item.Item.TheVariants as item;
 ghost use Rattle.vcd_body.specs.declared.words.First.TheVariants as first;
@@ -18,10 +17,10 @@ ghost use Rattle.vcd_body.specs.Items.{AreRegsAfter, regs_after};
 ghost use Rattle.vcd_body.specs.Binary.{binary_digits};
 ghost use Rattle.vcd_body.specs.Words.{Begins};
 ghost use Rattle.vcd_body.specs.Reads.{GaveItems};
-ghost use Rattle.vcd_body.specs.Given.{HasGoodText, IsGoodText, IsItem};
-ghost use Rattle.vcd_body.specs.Ahead.{GaveAhead, GaveLast, HasBits, IsPlain, IsSizedItem, LooksOver, GivesBoth};
-ghost use Rattle.vcd_body.specs.Spelled.{HasSpelled, Names};
-ghost use Rattle.vcd_body.specs.Taken.{HasTime, Opens, OpensVector, TakesItem};
+ghost use Rattle.vcd_body.specs.Given.{HasGoodText, IsItem};
+ghost use Rattle.vcd_body.specs.Ahead.{GaveAhead, GaveLast, HasBits, IsPlain, IsSizedItem, LooksOver};
+ghost use Rattle.vcd_body.specs.Spelled.{HasSpelled};
+ghost use Rattle.vcd_body.specs.Taken.{HasTime, IsFound, Opens, OpensVector, TakesItem};
 ghost use Rattle.vcd_view.specs.declared.view.HeadView.{HeadView};
 
 use crate::bits::Bits;
@@ -68,7 +67,7 @@ impl Plain<'_> {
     }
 }
 
-/// A change of the code that was found.
+/// Returns a change of the code that was found.
 #[inline(always)]
 fn change_of(
     found: Found,
@@ -100,7 +99,7 @@ fn change_of(
     }
 }
 
-/// A time mark, whose digits begin at this place.
+/// Returns a time mark, whose digits begin at this place.
 #[inline(always)]
 fn mark_of<'a>(time: u64, at: usize) -> Plain<'a>
     ensures item { result.item ≡ item.Time time }
@@ -119,18 +118,13 @@ fn mark_of<'a>(time: u64, at: usize) -> Plain<'a>
     }
 }
 
-/// The code that stands after the digits of a vector, where there are digits, and the code has room
-/// for them.
+/// Returns the code that stands after the digits of a vector, where there are digits, and the code
+/// has room for them.
 #[inline(always)]
 fn vector_code(token: &[u8], code: &[u8], view: HeadView<'_>, bits: Option<Bits>) -> Option<Found>
     requires begins { Begins token.now first.Vector }
     requires bits { IfSome bits (λ b. drop 1 token.now ≡ binary_digits b.len b.number) }
-    ensures code { (h : Header) → IsViewOf view.entry h
-        → IfSome result (GivesBoth h.codes ChangeForm.Vector token.now code.now) }
-    ensures sound { IfSome result
-        (λ found. IsGoodText view.entry.codes.now found.place form.Vector (drop 1 token.now)) }
-    ensures names { IfSome result (λ found. Names view.entry found.place code.now) }
-    ensures sized { IfSome result (IsSized view.entry.codes.now) }
+    ensures { IfSome result (IsFound view.entry form.Vector token.now code.now) }
 {
     let Ok(digits) = vector_text(token, bits) else {
         return None;
@@ -142,7 +136,7 @@ fn vector_code(token: &[u8], code: &[u8], view: HeadView<'_>, bits: Option<Bits>
     None
 }
 
-/// The digits of a vector as a number, where they are few, and `0` and `1` alone.
+/// Returns the digits of a vector as a number, where they are few, and `0` and `1` alone.
 #[inline(always)]
 fn vector_bits(bytes: &[u8], at: usize, token: &[u8]) -> Option<Bits>
     requires within { at + length token.now ≤ length bytes.now }
@@ -153,17 +147,12 @@ fn vector_bits(bytes: &[u8], at: usize, token: &[u8]) -> Option<Bits>
     bits_at(bytes, at + 1, rest_of(token))
 }
 
-/// The code that stands after the text of a real number, where the text has 1 to 64 bytes.
-// Out of line, so that what takes the others stays small enough to be taken in line.
+/// Returns the code that stands after the text of a real number, where the text has 1 to 64 bytes.
+// Not inlined, so that what takes the others stays small enough to be taken in line.
 #[inline(never)]
 fn real_code(token: &[u8], code: &[u8], view: HeadView<'_>) -> Option<Found>
-    requires begins { Begins token.now first.Real }
-    ensures code { (h : Header) → IsViewOf view.entry h
-        → IfSome result (GivesBoth h.codes ChangeForm.RealText token.now code.now) }
-    ensures sound { IfSome result
-        (λ found. IsGoodText view.entry.codes.now found.place form.RealText (drop 1 token.now)) }
-    ensures names { IfSome result (λ found. Names view.entry found.place code.now) }
-    ensures sized { IfSome result (IsSized view.entry.codes.now) }
+    requires { Begins token.now first.Real }
+    ensures { IfSome result (IsFound view.entry form.RealText token.now code.now) }
 {
     let Ok(_) = real_text(token) else {
         return None;
@@ -179,7 +168,7 @@ pub struct Opening<'a> {
     pub(crate) token: &'a [u8],
 }
 
-/// The next token ahead, with what it begins; none where `item_ahead` gives none.
+/// Returns the next token ahead, with what it begins; none where `item_ahead` gives none.
 #[inline(always)]
 pub fn opening_ahead<'a>(ahead: &mut Ahead<'a>) -> Option<Opening<'a>>
     ensures opens { IfSome result (λ o. Opens ahead.old ahead.new o) }
@@ -192,8 +181,8 @@ pub fn opening_ahead<'a>(ahead: &mut Ahead<'a>) -> Option<Opening<'a>>
     })
 }
 
-/// The change that a digit begins, with its code at once. The place is that after the token; none
-/// where it is no such change.
+/// Returns the change that a digit begins, with its code at once. The place is that after the
+/// token; none where it is no such change.
 #[inline(always)]
 pub fn scalar_ahead<'a>(
     opening: Opening<'a>,
@@ -226,8 +215,8 @@ pub struct VectorTokens<'a> {
     pub(crate) code_at: usize,
 }
 
-/// The token that a `b` and digits begin, with the code that is the next one. The place is that
-/// after the digits, and then that after the code; none where `item_ahead` gives none.
+/// Returns the token that a `b` and digits begin, with the code that is the next one. The place is
+/// that after the digits, and then that after the code; none where `item_ahead` gives none.
 #[inline(always)]
 pub fn vector_tokens_ahead<'a>(
     opening: Opening<'a>,
@@ -253,8 +242,8 @@ pub fn vector_tokens_ahead<'a>(
     })
 }
 
-/// The change that these tokens are, where the number of its digits is known or not. The place is
-/// that after them; none where they are no such change.
+/// Returns the change that these tokens are, where the number of its digits is known or not. The
+/// place is that after them; none where they are no such change.
 // What is known is asked before it, so that what is done with the change need not ask again.
 #[inline(always)]
 pub fn vector_ahead<'a>(
@@ -281,7 +270,7 @@ pub fn vector_ahead<'a>(
     ))
 }
 
-/// The change that an `r` and the text of a real number begin, as `vector_tokens_ahead` and
+/// Returns the change that an `r` and the text of a real number begin, as `vector_tokens_ahead` and
 /// `vector_ahead` do.
 #[inline(always)]
 pub fn real_ahead<'a>(
@@ -303,7 +292,7 @@ pub fn real_ahead<'a>(
     Some(change_of(found, Form::RealText, rest_of(token), None, at + 1, code_at))
 }
 
-/// The time of the mark that a token is; none where it spells none.
+/// Returns the time of the mark that a token is; none where it spells none.
 #[inline(always)]
 pub fn time_ahead(opening: Opening<'_>) -> Option<u64>
     ensures time { IfSome result (λ time. HasTime opening.entry time) }
@@ -312,8 +301,8 @@ pub fn time_ahead(opening: Opening<'_>) -> Option<u64>
     time_in(opening.token)
 }
 
-/// The mark of the time that a token spells, and the registers after it. The place is that after
-/// it; none where it may not stand here, and then nothing has changed.
+/// Returns the mark of the time that a token spells, and the registers after it. The place is that
+/// after it; none where it may not stand here, and then nothing has changed.
 #[inline(always)]
 pub fn mark_ahead<'a>(
     opening: Opening<'a>,
@@ -339,8 +328,8 @@ pub fn mark_ahead<'a>(
     }
 }
 
-/// The next item, where it is a time mark or a change, and its tokens lie whole ahead. Else none,
-/// and then nothing has changed: `next_item` gives it, or its fault.
+/// Returns the next item, where it is a time mark or a change, and its tokens lie whole ahead. Else
+/// none, and then nothing has changed: `next_item` gives it, or its fault.
 #[inline(always)]
 pub fn item_ahead<'a>(
     ahead: &mut Ahead<'a>,

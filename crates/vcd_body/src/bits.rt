@@ -19,8 +19,8 @@ pub struct Bits {
 impl Bits {
     ghost use Rattle.std.specs.Prelude.{IfSome, None, ◌≢◌};
 
-    /// So many digits of this number. None where they are none or more than 32, or the number has
-    /// more.
+    /// Returns so many digits of this number. None where they are none or more than 32, or the
+    /// number has more.
     #[inline(always)]
     #[tactic(auto, using(crate::proofs::NumberLemmas::small_number, crate::proofs::NumberLemmas::small_rest))]
     pub fn new(len: usize, number: usize) -> Option<Bits>
@@ -34,7 +34,8 @@ impl Bits {
     }
 }
 
-/// The digits as a slot holds them: their number, and how many they are as the number of a state.
+/// Returns the digits as a slot holds them: their number, and how many they are as the number of a
+/// state.
 #[inline(always)]
 #[tactic(auto, using(crate::proofs::StoreLemmas::many_bits))]
 pub(crate) fn held_bits(bits: Bits) -> (u32, u8)
@@ -96,7 +97,7 @@ pub(crate) fn last_binary(holding: Holding) -> Option<u8>
     binary_digit(holding, count_in(holding) - 1)
 }
 
-/// The digit at a place.
+/// Returns the digit at a place.
 #[inline(always)]
 fn digit_of_bits(bits: Bits, place: usize) -> u8
     requires { place < bits.len }
@@ -117,8 +118,8 @@ pub(crate) fn put_digits(bits: Bits, to: &mut [u8])
     }
 }
 
-/// Whether a slot holds binary digits, and neither these nor those are more than the size: so both
-/// make values of as many digits.
+/// Returns whether a slot holds binary digits, and neither these nor those are more than the size:
+/// so both make values of as many digits.
 #[inline(always)]
 #[tactic(auto, using(crate::proofs::StoreLemmas::many_bits))]
 pub(crate) fn is_number_step(slot: &Slot, size: usize, bits: Bits) -> bool

@@ -1,14 +1,14 @@
 // The digits that are held, and those of the value.
 ghost use Rattle.std.specs.Prelude.{◌≡◌, ℕ, ◌≤◌, length, slice_get};
 ghost use Rattle.vcd_body.specs.Kept.{digit_in, last_digit_in, value_at_size};
-ghost use Rattle.vcd_body.specs.Stored.{digits_with, held_with, len_of, some_by, used};
+ghost use Rattle.vcd_body.specs.Stored.{HoldsIn, digits_with, held_with, used};
 
 use crate::bits::{binary_digit, count_in, last_binary};
 use crate::change::extension_of;
 use crate::packed::{digit_at, plain_digit_at};
 use crate::slot::{Holding, State, digit_of_state};
 
-/// How many digits are held.
+/// Returns how many digits are held.
 #[inline(always)]
 pub(crate) fn count_of(holding: Holding, share: &[u8]) -> usize
     requires { used holding ≤ length share.now }
@@ -23,7 +23,7 @@ pub(crate) fn count_of(holding: Holding, share: &[u8]) -> usize
     }
 }
 
-/// The digit at a place of those that are held.
+/// Returns the digit at a place of those that are held.
 #[inline(always)]
 pub(crate) fn digit_held(holding: Holding, share: &[u8], place: usize) -> Option<u8>
     ensures { result ≡ slice_get (digits_with holding share.now) place }
@@ -37,11 +37,10 @@ pub(crate) fn digit_held(holding: Holding, share: &[u8], place: usize) -> Option
     }
 }
 
-/// The digit at a place of the value at a size, from the left; none where it has none.
+/// Returns the digit at a place of the value at a size, from the left; none where it has none.
 #[inline(always)]
 pub(crate) fn digit_shown(holding: Holding, share: &[u8], size: usize, place: usize) -> Option<u8>
-    requires used { used holding ≤ length share.now }
-    requires some { 1 ≤ some_by holding.state (len_of holding) }
+    requires { HoldsIn holding share.now }
     ensures { result
         ≡ digit_in (value_at_size size (held_with holding share.now)) place }
 {
@@ -55,11 +54,10 @@ pub(crate) fn digit_shown(holding: Holding, share: &[u8], size: usize, place: us
     digit_held(holding, share, place - missing)
 }
 
-/// The last digit of the value at each size; none where it has none.
+/// Returns the last digit of the value at each size; none where it has none.
 #[inline(always)]
 pub(crate) fn last_held(holding: Holding, share: &[u8]) -> Option<u8>
-    requires used { used holding ≤ length share.now }
-    requires some { 1 ≤ some_by holding.state (len_of holding) }
+    requires { HoldsIn holding share.now }
     ensures { (size : ℕ) → result
         ≡ last_digit_in (value_at_size size (held_with holding share.now)) }
 {

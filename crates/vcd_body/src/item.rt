@@ -57,7 +57,7 @@ impl Regs {
     ghost use Rattle.vcd_body.specs.Items.{AreRegsAfter, MayMark, RefusesMark, regs_after};
     ghost use Rattle.vcd_body.specs.declared.item.Item.TheVariants as item;
 
-    /// Before the first item.
+    /// Returns what is known before the first item.
     pub fn new() -> Regs
         ensures known { AreRegsAfter [] result }
         ensures value { result ≡ record { time = 0; marked = false; section = None } }

@@ -62,7 +62,7 @@ pub(crate) fn read_mark(token: &[u8], regs: &mut Regs) -> Result<u64, BodyFault>
     Ok(time)
 }
 
-/// The code that stands after a digit, at once.
+/// Returns the code that stands after a digit, at once.
 #[inline(always)]
 pub(crate) fn scalar_code(token: &[u8], view: HeadView<'_>) -> Result<Found, BodyFault>
     requires begins { IsScalar token.now }
@@ -176,8 +176,8 @@ fn read_code<S: Source>(
     }
 }
 
-/// The code that was found has room for so many digits, or is an event. Its size mostly tells; the
-/// code is read only where it does not.
+/// Returns whether the code that was found has room for so many digits, or is an event. Its size
+/// mostly tells; the code is read only where it does not.
 #[inline(always)]
 pub(crate) fn takes(codes: &[Code], found: Found, digits: usize) -> bool
     requires { IsSized codes.now found }
@@ -187,7 +187,7 @@ pub(crate) fn takes(codes: &[Code], found: Found, digits: usize) -> bool
     digits <= found.most || has_room(codes[found.place], digits)
 }
 
-/// The code has room for so many digits, or is an event.
+/// Returns whether the code has room for so many digits, or is an event.
 fn has_room(code: Code, digits: usize) -> bool
     ensures { result ≡ (code.event || nat_le digits code.size) }
 {

@@ -141,8 +141,8 @@ pub fn next_item<S: Source>(
     }
 }
 
-/// The text of a change, right after `next_item` has given it, in the form that it gave: its
-/// digits, or the text of the real number.
+/// Returns the text of a change, right after `next_item` has given it, in the form that it gave:
+/// its digits, or the text of the real number.
 pub fn change_text<'f, S: Source>(feed: &'f Feed<'_, '_, '_, '_, S>, form: Form) -> &'f [u8]
     ensures { result.now ≡ text_of form feed.now }
 {

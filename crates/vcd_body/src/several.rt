@@ -12,8 +12,8 @@ use crate::slot::{Holding, Share, Slot, State, holding_of};
 use crate::step::Step;
 use crate::store::{count_at, end_of, set_digits_in};
 
-// The step from digits whose last one is 0 or 1 where a byte is, to those of a text that ends with
-// this one, where they differ. It takes no branches.
+// Returns the step from digits whose last one is 0 or 1 where a byte is, to those of a text that
+// ends with this one, where they differ. It takes no branches.
 #[inline(always)]
 fn step_over(before: u8, after: u8) -> Step
     ensures differs { result.differs ≡ true }
@@ -27,8 +27,8 @@ fn step_over(before: u8, after: u8) -> Step
     }
 }
 
-// The step from digits that are held a byte each to those of a text, where the last 16 of both tell
-// that they differ.
+// Returns the step from digits that are held a byte each to those of a text, where the last 16 of
+// both tell that they differ.
 #[inline(always)]
 fn plain_step(share: &[u8], text: &[u8]) -> Option<Step>
     ensures many { IfSome result (λ _. 16 ≤ length text.now) }
@@ -60,7 +60,7 @@ fn packed_step(share: &[u8], len: usize, text: &[u8]) -> Option<Step>
     Some(step_over(last_packed(share, len), text[text.len() - 1]))
 }
 
-// The bytes of a share that begins and ends here.
+// Returns the bytes of a share that begins and ends here.
 #[inline(always)]
 fn part_of(values: &[u8], start: usize, end: usize) -> Option<&[u8]>
     ensures { IfSome result (λ share. share.now ≡ take (end - start) (drop start values.now)) }
@@ -68,8 +68,9 @@ fn part_of(values: &[u8], start: usize, end: usize) -> Option<&[u8]>
     values.get(start..end)
 }
 
-// The step from several digits that are held so, in a share that begins and ends here, to those of
-// a text, where the last 16 of both tell that they differ. How they are held is asked once.
+// Returns the step from several digits that are held so, in a share that begins and ends here, to
+// those of a text, where the last 16 of both tell that they differ. How they are held is asked
+// once.
 #[inline(always)]
 fn step_told(values: &[u8], holding: Holding, start: usize, end: usize, text: &[u8]) -> Option<Step>
     ensures many { IfSome result (λ _. 16 ≤ length text.now) }

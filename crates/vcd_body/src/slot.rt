@@ -95,7 +95,7 @@ pub enum Shown {
 }
 
 impl Slot {
-    /// The code has no value.
+    /// Returns the slot of a code that has no value.
     pub fn new() -> Slot
         ensures { IsUnset result }
     {
@@ -108,14 +108,14 @@ impl Slot {
 }
 
 impl Share {
-    /// Nothing was counted of the code, and it is not chosen.
+    /// Returns the share of a code of which nothing was counted, and which is not chosen.
     pub fn new() -> Share
         ensures { IsUncounted result }
     {
         Share::at(0)
     }
 
-    /// Nothing was counted of the code, it is not chosen, and its share of the bytes begins here.
+    /// Returns the share of such a code, whose bytes of the values begin here.
     pub(crate) fn at(start: usize) -> Share
         ensures { result ≡ share_from start }
     {
@@ -130,7 +130,7 @@ impl Share {
     }
 }
 
-/// The number that tells a state in a slot.
+/// Returns the number that tells a state in a slot.
 #[inline(always)]
 pub(crate) fn number_of(state: State) -> u8
     ensures { result ≡ number_of state }
@@ -148,7 +148,7 @@ pub(crate) fn number_of(state: State) -> u8
     }
 }
 
-/// Whether a digit is 0 or 1.
+/// Returns whether a digit is 0 or 1.
 #[inline(always)]
 pub(crate) fn is_bit(digit: u8) -> bool
     ensures yes { result ≡ true → (digit ≡ 48) ⊎ (digit ≡ 49) }
@@ -166,7 +166,7 @@ pub(crate) fn number_of_bit(digit: u8) -> u8
     b'2' - digit
 }
 
-/// The number that tells the state of the other digit of 1 and 0.
+/// Returns the number that tells the state of the other digit of 1 and 0.
 #[inline(always)]
 pub(crate) fn number_of_turned(digit: u8) -> u8
     requires { (digit ≡ 48) ⊎ (digit ≡ 49) }
@@ -175,7 +175,7 @@ pub(crate) fn number_of_turned(digit: u8) -> u8
     number_of_bit(b'0' + b'1' - digit)
 }
 
-/// The state that a number tells.
+/// Returns the state that a number tells.
 #[inline(always)]
 pub(crate) fn state_in(how: u8) -> State
     ensures { result ≡ state_in how }
@@ -193,7 +193,7 @@ pub(crate) fn state_in(how: u8) -> State
     }
 }
 
-/// How the value of a code is held that has this slot and this share.
+/// Returns how the value of a code is held that has this slot and this share.
 #[inline(always)]
 pub(crate) fn holding_of(slot: Slot, share: Share) -> Holding
     ensures { result ≡ holding_of slot share }
@@ -210,7 +210,8 @@ pub(crate) fn holding_of(slot: Slot, share: Share) -> Holding
     }
 }
 
-/// The number of the state that holds a digit. Most are 0 or 1: between these it takes no branches.
+/// Returns the number of the state that holds a digit. Most are 0 or 1: between these it takes no
+/// branches.
 #[inline(always)]
 pub(crate) fn number_of_digit(digit: u8) -> u8
     ensures { one_digit (state_in result) ≡ Some (held_digit digit) }
@@ -236,7 +237,7 @@ fn number_of_other(digit: u8) -> u8
     }
 }
 
-/// The digit of a state that holds one.
+/// Returns the digit of a state that holds one.
 #[inline(always)]
 pub(crate) fn digit_of_state(state: State) -> Option<u8>
     ensures { result ≡ one_digit state }

@@ -5,21 +5,21 @@ ghost use Rattle.vcd_body.specs.Binary.{is_proper};
 ghost use Rattle.vcd_body.specs.Kept.{Held, as_chosen, one_more, with_change, with_held, with_number, with_number_change, with_step, with_text};
 ghost use Rattle.vcd_body.specs.Packed.{held_digit};
 ghost use Rattle.vcd_body.specs.Values.{with_value};
-ghost use Rattle.vcd_body.specs.Stored.{AreLaidOut, BothKeepLaid, ChangesAt, ChangesBoth, ChangesLaid, ChangesSlot, IsUnset, KeepLaid, LeavesStep, SlotsKeepLaid, end_at, held_by, holding_at, len_of, one_digit, set_whole, share_from, share_of, some_by, start_in, start_of, state_in, used, used_by, whole};
+ghost use Rattle.vcd_body.specs.Stored.{HoldsIn, AreLaidOut, BothKeepLaid, ChangesAt, ChangesBoth, ChangesLaid, ChangesSlot, IsUnset, KeepLaid, LeavesStep, SlotsKeepLaid, end_at, held_by, holding_at, len_of, one_digit, set_whole, share_from, share_of, some_by, start_in, start_of, state_in, used, used_by, whole};
 
 use crate::bits::{Bits, held_bits, is_number_step, is_proper};
 use crate::counters::{carry_step, count_one, step_low};
 use crate::item::Form;
 use crate::packed::pack;
 use crate::slot::{
-    Holding, Share, Slot, State, UPPER, holding_of, is_bit, number_of, number_of_bit, number_of_digit,
-    number_of_turned,
+    Holding, Share, Slot, State, UPPER, holding_of, is_bit, number_of, number_of_bit,
+    number_of_digit, number_of_turned,
 };
 use crate::step::step_by_number;
 use crate::value::Value;
 use vcd_view::Code;
 
-/// How the value of the code at a place is held.
+/// Returns how the value of the code at a place is held.
 #[inline(always)]
 pub(crate) fn holding_at(slots: &[Slot], shares: &[Share], code: usize) -> Option<Holding>
     ensures { result ≡ holding_at slots.now shares.now code }
@@ -30,7 +30,7 @@ pub(crate) fn holding_at(slots: &[Slot], shares: &[Share], code: usize) -> Optio
     Some(holding_of(slots[code], shares[code]))
 }
 
-/// Where the share of the code at a place ends.
+/// Returns where the share of the code at a place ends.
 #[inline(always)]
 pub(crate) fn end_of(shares: &[Share], values: usize, code: usize) -> usize
     requires { code < length shares.now }
@@ -42,7 +42,7 @@ pub(crate) fn end_of(shares: &[Share], values: usize, code: usize) -> usize
     }
 }
 
-/// How many bytes of its share are in use.
+/// Returns how many bytes of its share are in use.
 #[inline(always)]
 fn used_by(holding: Holding) -> usize
     ensures { result ≡ used holding }
@@ -54,7 +54,7 @@ fn used_by(holding: Holding) -> usize
     }
 }
 
-/// Whether digits are some where several are held.
+/// Returns whether digits are some where several are held.
 #[inline(always)]
 fn holds_some(holding: Holding) -> bool
     ensures yes { result ≡ true → 1 ≤ some_by holding.state (len_of holding) }
@@ -68,9 +68,9 @@ fn holds_some(holding: Holding) -> bool
     }
 }
 
-/// The bytes that are in use of the share of the code whose value is held so. None where there is
-/// no share, where they would not lie within the values, or where the holding says that several
-/// digits are held, and how many is 0. No code of a table that is laid out is so.
+/// Returns the bytes that are in use of the share of the code whose value is held so. None where
+/// there is no share, where they would not lie within the values, or where the holding says that
+/// several digits are held, and how many is 0. No code of a table that is laid out is so.
 #[inline(always)]
 pub(crate) fn share_in<'a>(
     values: &'a [u8],
@@ -80,8 +80,7 @@ pub(crate) fn share_in<'a>(
 ) -> Option<&'a [u8]>
     ensures share { IfSome result
         (λ share. share.now ≡ take (used holding) (drop (start_in shares.now code) values.now)) }
-    ensures used { IfSome result (λ share. used holding ≤ length share.now) }
-    ensures some { IfSome result (λ _. 1 ≤ some_by holding.state (len_of holding)) }
+    ensures held { IfSome result (λ share. HoldsIn holding share.now) }
     ensures there { code < length shares.now
         → start_in shares.now code + used holding ≤ length values.now
         → 1 ≤ some_by holding.state (len_of holding) → result ≢ None }
@@ -426,7 +425,7 @@ pub(crate) fn choose_at(shares: &mut [Share], code: usize)
     }
 }
 
-/// How many bytes the value of a code of this size takes at most.
+/// Returns how many bytes the value of a code of this size takes at most.
 #[inline(always)]
 fn share_of(size: usize) -> usize
     ensures { result ≡ share_of size }

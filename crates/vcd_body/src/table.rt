@@ -12,8 +12,8 @@ use crate::several::change_at;
 use crate::slot::{Share, Shown, Slot, State, state_in};
 use crate::step::{Step, step_to_text};
 use crate::store::{
-    Stepped, bump_at, carry_at, choose_at, count_at, holding_at, lay_out, set_at, share_in, step_at,
-    turn_at,
+    Stepped, bump_at, carry_at, choose_at, count_at, holding_at, lay_out, set_at, share_in,
+    step_at, turn_at,
 };
 use crate::value::Value;
 use vcd_view::HeadView;
@@ -38,10 +38,10 @@ impl<'a> Table<'a> {
     ghost use Rattle.vcd_body.specs.Values.{form_in, text_in, with_value, with_value_change};
     ghost use Rattle.vcd_body.specs.Contents.{ChangesCode, GivesValue, IsLaidOut, KeepsTable, bytes_in, codes_in, codes_shown, counts_at, held_at, is_chosen, kept_at, new_at, shown_as, value_in};
 
-    /// A table of the codes of the header that is shown: each is unset, its counters are 0, and it
-    /// is not chosen. A code's value has a quarter of its size of the bytes of `values`, rounded
-    /// up, and at least 64; where there are fewer, the last codes go short. Slots, shares and bytes
-    /// beyond these are left alone.
+    /// Returns a table of the codes of the header that is shown: each is unset, its counters are 0,
+    /// and it is not chosen. A code's value has a quarter of its size of the bytes of `values`,
+    /// rounded up, and at least 64; where there are fewer, the last codes go short. Slots, shares
+    /// and bytes beyond these are left alone.
     pub fn new(
         view: HeadView<'_>,
         values: &'a mut [u8],
@@ -206,8 +206,8 @@ impl<'a> Table<'a> {
         self.set_value(code, Value::Bits(bits));
     }
 
-    /// The step from the value of the code at a place to that of a text. Where there is no value it
-    /// does not differ.
+    /// Returns the step from the value of the code at a place to that of a text. Where there is no
+    /// value it does not differ.
     #[inline(always)]
     fn step_to(&self, code: usize, size: usize, form: Form, text: &[u8]) -> Step
         ensures { IsLaidOut self.now → 0 < length text.now
@@ -224,7 +224,7 @@ impl<'a> Table<'a> {
         step_to_text(differs, last_held(holding, share), form, text)
     }
 
-    /// What the value of the code at a place is.
+    /// Returns what the value of the code at a place is.
     #[inline]
     pub fn get(&self, code: usize) -> Shown
         ensures { result ≡ shown_as (held_at self.now code) }
@@ -240,8 +240,8 @@ impl<'a> Table<'a> {
         }
     }
 
-    /// The digit at a place of the value of a code, extended to the code's size, from the left and
-    /// in lower case. None where the value has no digits, or fewer.
+    /// Returns the digit at a place of the value of a code, extended to the code's size, from the
+    /// left and in lower case. None where the value has no digits, or fewer.
     #[inline]
     pub fn digit(&self, view: HeadView<'_>, code: usize, place: usize) -> Option<u8>
         ensures { IsLaidOut self.now
@@ -259,8 +259,8 @@ impl<'a> Table<'a> {
         digit_shown(holding, share, declared.size, place)
     }
 
-    /// The text of the real number that is the value of the code at a place; empty where it has no
-    /// such value.
+    /// Returns the text of the real number that is the value of the code at a place; empty where it
+    /// has no such value.
     #[inline]
     pub fn real(&self, code: usize) -> &[u8]
         ensures { IsLaidOut self.now → result.now ≡ real_text (held_at self.now code) }
@@ -273,7 +273,7 @@ impl<'a> Table<'a> {
         }
     }
 
-    /// The three counters of the code at a place.
+    /// Returns the three counters of the code at a place.
     #[inline]
     pub fn tally(&self, code: usize) -> [u64; 3]
         ensures { result ≡ counts_at self.now code }
@@ -314,7 +314,7 @@ impl<'a> Table<'a> {
         choose_at(self.shares, code);
     }
 
-    /// Whether the code at a place is chosen. It takes the same time for every table.
+    /// Returns whether the code at a place is chosen. It takes the same time for every table.
     #[inline]
     pub fn chosen(&self, code: usize) -> bool
         ensures { result ≡ is_chosen self.now code }

@@ -1,4 +1,4 @@
-use Rattle.std.proofs.Common.{refl, ℕ, not, [], ◌∷◌, ◌<◌, ◌≤◌, nat_le, drop, length, subst, sym, ◌∙◌, arith}
+use Rattle.std.proofs.Common.{refl, ℕ, [], ◌∷◌, ◌<◌, ◌≤◌, drop, length, subst, sym, arith}
 use Rattle.vcd_model.specs.Bytes.{decimal_value}
 use Rattle.vcd_model.specs.BodyPhrases.{items_of}
 use Rattle.vcd_model.specs.Items.{BodyItem, time_after}

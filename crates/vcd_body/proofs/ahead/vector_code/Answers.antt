@@ -7,33 +7,27 @@ use Rattle.vcd_body.proofs.RegsLemmas.{same_room, vector_sound}
 use Rattle.vcd_body.proofs.LineLemmas.{found_named}
 use Rattle.vcd_body.proofs.ahead.vector_code.Goals as goal
 
-pub returns-then-takes-clause-code : goal.returns-then-takes-clause-code
-returns-then-takes-clause-code c = λ h v.
+pub returns-then-takes : goal.returns-then-takes
+returns-then-takes c =
     let t = c.args.token.now in
-    let place = c.in_ok-found.found.place in
-    let x = c.in_ok-found.ensures.sized in
-    let f = c.in_ok-found.ensures.found h v in
-    let n = ap length (sym c.in-Ok.ensures.text) in
-    let room = same_room (parts c.args.view) h v place f.0 x.0 (length (drop 1 t)) true f.1 x.1 (ap (λ m. x.0.event || nat_le m x.0.size) n ∙ sym (c.takes.ensures x.0 x.1) ∙ c.if-takes.true) in (
-      f.0,
-      f.1,
-      λ earlier.
-          let b = c.in-Ok.ensures.opens h.codes earlier in
-          let p = vector_passes h.codes earlier t c.requires.begins c.args.code.now f.0 f.2 room in
-          record { begins = b.0; open_after = b.1; goes_on = p.0; whole = p.1 },
-    )
-
-pub returns-then-takes-clause-sound : goal.returns-then-takes-clause-sound
-returns-then-takes-clause-sound c =
     let place = c.in_ok-found.found.place in
     let x = c.in_ok-found.ensures.sized in
     let text = c.in-Ok.ensures.text in
     let long = ap length text in
-    let n = sym long in
-    let d = c.in-Ok.ensures.digits in
-    let some = d.0 in
-    vector_sound c.args.view.codes.now (drop 1 c.args.token.now) place x.0 x.1 (omega (arith, some, long)) (ap (list_all is_value_digit) (sym text) ∙ d.1)
-    (ap (λ m. x.0.event || nat_le m x.0.size) n ∙ sym (c.takes.ensures x.0 x.1) ∙ c.if-takes.true)
-
-pub returns-then-takes-clause-names : goal.returns-then-takes-clause-names
-returns-then-takes-clause-names c = found_named c.args.view c.in_ok-found.found.place c.args.code.now c.in_ok-found.ensures.found
+    let some = c.in-Ok.ensures.digits.0 in
+    let takes = sym (c.takes.ensures x.0 x.1) ∙ c.if-takes.true in
+    let room = ap (λ m. x.0.event || nat_le m x.0.size) (sym long) ∙ takes in
+    record {
+      code = λ h v.
+          let f = c.in_ok-found.ensures.found h v in (
+            f.0,
+            f.1,
+            λ earlier.
+                let b = c.in-Ok.ensures.opens h.codes earlier in
+                let p = vector_passes h.codes earlier t c.requires.begins c.args.code.now f.0 f.2 (same_room (parts c.args.view) h v place f.0 x.0 (length (drop 1 t)) true f.1 x.1 room) in
+                record { begins = b.0; open_after = b.1; goes_on = p.0; whole = p.1 },
+          );
+      sound = vector_sound c.args.view.codes.now (drop 1 t) place x.0 x.1 (omega (arith, some, long)) (ap (list_all is_value_digit) (sym text) ∙ c.in-Ok.ensures.digits.1) room;
+      names = found_named c.args.view place c.args.code.now c.in_ok-found.ensures.found;
+      sized = x;
+    }

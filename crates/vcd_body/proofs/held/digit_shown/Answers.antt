@@ -4,7 +4,7 @@ use Rattle.vcd_body.proofs.HeldLemmas.{no_digits, shown_before, shown_behind}
 use Rattle.vcd_body.proofs.held.digit_shown.Goals as goal
 
 pub returns-in_default : goal.returns-in_default
-returns-in_default c = sym (no_digits c.args.holding.state (len_of c.args.holding) c.args.size c.args.place c.args.share.now c.requires.used c.requires.some (sym c.digit_held.ensures ∙ c.in_default.is))
+returns-in_default c = sym (no_digits c.args.holding.state (len_of c.args.holding) c.args.size c.args.place c.args.share.now c.requires.fits c.requires.some (sym c.digit_held.ensures ∙ c.in_default.is))
 
 pub returns-then-place-missing : goal.returns-then-place-missing
 returns-then-place-missing c =

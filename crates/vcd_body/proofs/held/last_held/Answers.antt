@@ -11,7 +11,7 @@ pub returns-in-Plain : goal.returns-in-Plain
 returns-in-Plain c size =
     let len = (len_of c.args.holding) in
     let bytes = c.args.share.now in
-    let used = subst (λ (s : State). used_by s len ≤ length bytes) c.in-Plain.is c.requires.used in
+    let used = subst (λ (s : State). used_by s len ≤ length bytes) c.in-Plain.is c.requires.fits in
     let some = subst (λ (s : State). 1 ≤ some_by s len) c.in-Plain.is c.requires.some in
     let one : length bytes ≡ suc (length bytes - 1) = omega (arith, used, some) in
     c.plain_digit_at.ensures
@@ -22,7 +22,7 @@ pub returns-in-Digits : goal.returns-in-Digits
 returns-in-Digits c size =
     let len = (len_of c.args.holding) in
     let bytes = c.args.share.now in
-    let used = subst (λ (s : State). used_by s len ≤ length bytes) c.in-Digits.is c.requires.used in
+    let used = subst (λ (s : State). used_by s len ≤ length bytes) c.in-Digits.is c.requires.fits in
     let some = subst (λ (s : State). 1 ≤ some_by s len) c.in-Digits.is c.requires.some in
     let one : len ≡ suc (len - 1) = omega (arith, some) in
     (rw (c.len.ensures, c.len-in-Digits.ensures) at c.digit_at.ensures)

@@ -7,8 +7,8 @@ use Rattle.vcd_body.proofs.held_text.put_value.Goals as goal
 pub put_extended-requires : goal.put_extended-requires
 put_extended-requires g c = record {
   failures = c.requires.failures;
-  used = c.requires.used;
-  some = some_digits c.args.holding.state (len_of c.args.holding) c.args.share.now c.requires.used c.requires.some c.in_default.not-Unset c.in_default.not-Real;
+  used = c.requires.held.fits;
+  some = some_digits c.args.holding.state (len_of c.args.holding) c.args.share.now c.requires.held.fits c.requires.held.some c.in_default.not-Unset c.in_default.not-Real;
 }
 
 pub returns-in_default : goal.returns-in_default

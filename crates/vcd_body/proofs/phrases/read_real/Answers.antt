@@ -1,4 +1,4 @@
-use Rattle.std.proofs.Common.{[], length, drop, sym, ap, ◌∙◌, arith}
+use Rattle.std.proofs.Common.{length, drop, sym, ap, ◌∙◌, arith}
 use Rattle.std.proofs.lemmas.Result.{err_from_is_err_and}
 use Rattle.vcd_model.specs.Reading.{phrases_of}
 use Rattle.vcd_text.specs.Feed.{token_of, value_of}

@@ -1,4 +1,4 @@
-use Rattle.std.proofs.Common.{arith, length, subst, sym}
+use Rattle.std.proofs.Common.{arith, subst, sym}
 use Rattle.vcd_body.specs.Stored.{AreLaidOut}
 use Rattle.vcd_body.specs.Values.{form_in, text_in}
 use Rattle.vcd_body.proofs.FollowLemmas.{value_as_text}
