@@ -191,9 +191,10 @@ pub fn scalar_ahead<'a>(
 ) -> Option<Plain<'a>>
     requires opens { (a : Ahead) × Opens a ahead opening }
     requires first { (opening.first ≡ first.Bit) ⊎ (opening.first ≡ first.Scalar) }
-    ensures takes { IfSome result (λ plain. (a : Ahead) (r : Regs) → Opens a ahead.entry opening.entry
-        → TakesItem view.entry a ahead.entry r plain) }
-    ensures form { IfSome result (λ plain. (place : ℕ) × (plain.item ≡ item.Change place form.Scalar)) }
+    ensures takes { IfSome result (λ plain. (a : Ahead) (r : Regs)
+        → Opens a ahead.entry opening.entry → TakesItem view.entry a ahead.entry r plain) }
+    ensures form { IfSome result
+        (λ plain. (place : ℕ) × (plain.item ≡ item.Change place form.Scalar)) }
 {
     let token = opening.token;
     let found = scalar_code(token, view).ok()?;
@@ -256,7 +257,8 @@ pub fn vector_ahead<'a>(
     requires bits { bits ≡ tokens.bits }
     ensures takes { IfSome result (λ plain. (a : Ahead) (r : Regs)
         → OpensVector a ahead.entry tokens.entry → TakesItem view.entry a ahead.entry r plain) }
-    ensures form { IfSome result (λ plain. (place : ℕ) × (plain.item ≡ item.Change place form.Vector)) }
+    ensures form { IfSome result
+        (λ plain. (place : ℕ) × (plain.item ≡ item.Change place form.Vector)) }
 {
     let found = vector_code(tokens.token, tokens.code, view, bits)?;
     let digits = rest_of(tokens.token);
@@ -282,7 +284,8 @@ pub fn real_ahead<'a>(
     requires first { opening.first ≡ first.Real }
     ensures takes { IfSome result (λ plain. (a : Ahead) (r : Regs) → Opens a ahead.old opening.entry
         → TakesItem view.entry a ahead.new r plain) }
-    ensures form { IfSome result (λ plain. (place : ℕ) × (plain.item ≡ item.Change place form.RealText)) }
+    ensures form { IfSome result
+        (λ plain. (place : ℕ) × (plain.item ≡ item.Change place form.RealText)) }
 {
     let token = opening.token;
     let at = ahead.passed() - 1 - token.len();

@@ -34,8 +34,8 @@ pub(crate) enum State {
 /// the first caches.
 #[derive(Clone, Copy, PartialEq, Eq, Debug)]
 pub struct Slot {
-    // The number of the binary digits; else the lowest 32 bits of how many digits, or bytes of a text,
-    // are held in the share.
+    // The number of the binary digits; else the lowest 32 bits of how many digits, or bytes of a
+    // text, are held in the share.
     pub(crate) number: u32,
     // The number of the state that holds the value; and from 8 on, by how many binary digits it is
     // above 8.

@@ -151,8 +151,8 @@ pub(crate) fn set_digits_in(
     requires within { code < length slots.old }
     requires shared { code < length shares.old }
     requires end { end ≡ end_at shares.old (length values.old) code }
-    ensures changes { ChangesLaid code (with_text Form.Vector text.now) values.old slots.old shares.old
-        values.new slots.new shares.new }
+    ensures changes { ChangesLaid code (with_text Form.Vector text.now) values.old slots.old
+        shares.old values.new slots.new shares.new }
     ensures laid { KeepLaid (length values.old) slots.old shares.old slots.new shares.new }
 {
     let start = shares[code].start;
@@ -170,8 +170,8 @@ pub(crate) fn set_digits_in(
 #[inline(never)]
 fn set_digits(slots: &mut [Slot], shares: &mut [Share], values: &mut [u8], code: usize, text: &[u8])
     requires several { length text.now ≢ 1 }
-    ensures changes { ChangesLaid code (with_text Form.Vector text.now) values.old slots.old shares.old
-        values.new slots.new shares.new }
+    ensures changes { ChangesLaid code (with_text Form.Vector text.now) values.old slots.old
+        shares.old values.new slots.new shares.new }
     ensures laid { KeepLaid (length values.old) slots.old shares.old slots.new shares.new }
 {
     if code < slots.len() && code < shares.len() {
@@ -182,8 +182,8 @@ fn set_digits(slots: &mut [Slot], shares: &mut [Share], values: &mut [u8], code:
 
 /// Sets the value of a code to the text of a real number, where it fits its share.
 fn set_real(slots: &mut [Slot], shares: &mut [Share], values: &mut [u8], code: usize, text: &[u8])
-    ensures changes { ChangesLaid code (with_text Form.RealText text.now) values.old slots.old shares.old
-        values.new slots.new shares.new }
+    ensures changes { ChangesLaid code (with_text Form.RealText text.now) values.old slots.old
+        shares.old values.new slots.new shares.new }
     ensures laid { KeepLaid (length values.old) slots.old shares.old slots.new shares.new }
 {
     if code >= slots.len() || code >= shares.len() {
@@ -352,8 +352,8 @@ pub(crate) enum Stepped {
 pub(crate) fn turn_at(slots: &mut [Slot], code: usize, digit: u8) -> Stepped
     ensures counted { result ≡ Stepped.Counted → (form : Form) → form ≢ Form.RealText → (size : ℕ)
         → ChangesSlot code (with_change size form (digit ∷ [])) slots.old slots.new }
-    ensures uncounted { (rises falls : Bool) → result ≡ Stepped.Uncounted rises falls → (form : Form)
-        → form ≢ Form.RealText → (size : ℕ)
+    ensures uncounted { (rises falls : Bool) → result ≡ Stepped.Uncounted rises falls
+        → (form : Form) → form ≢ Form.RealText → (size : ℕ)
         → LeavesStep code (with_change size form (digit ∷ [])) rises falls slots.old slots.new }
     ensures same { result ≡ Stepped.Not → slots.new ≡ slots.old }
     ensures laid { SlotsKeepLaid slots.old slots.new }
@@ -389,8 +389,8 @@ pub(crate) fn step_at(slots: &mut [Slot], code: usize, size: usize, bits: Bits) 
         → AreLaidOut slots.old shares (length values)
         → ChangesAt code (with_number_change size bits.len bits.number)
         values slots.old shares values slots.new shares }
-    ensures uncounted { (rises falls : Bool) → result ≡ Stepped.Uncounted rises falls → (shares : List Share)
-        (values after : List ℕ) → AreLaidOut slots.old shares (length values)
+    ensures uncounted { (rises falls : Bool) → result ≡ Stepped.Uncounted rises falls
+        → (shares : List Share) (values after : List ℕ) → AreLaidOut slots.old shares (length values)
         → (counted : List Slot) (with : List Share)
         → ChangesAt code (with_step rises falls) values slots.new shares after counted with
         → ChangesAt code (with_number_change size bits.len bits.number)

@@ -235,8 +235,7 @@ impl<'a> Table<'a> {
         match state_in(self.slots[code].how) {
             State::Unset => Shown::Unset,
             State::Real => Shown::Real,
-            State::Zero | State::One | State::Unknown | State::High => Shown::Bits,
-            State::Plain | State::Digits | State::Bits => Shown::Bits,
+            _ => Shown::Bits,
         }
     }
 
