@@ -1,6 +1,6 @@
 -- One item more that lies ahead.
 use Rattle.std.proofs.Common.{◌≡◌, ◌≢◌, ℕ, ◌<◌, ◌≤◌, List, [], ◌∷◌, ◌++◌, map, take, drop, Option, None, Some, IfSome, Result, Ok, Err, MatchResult, refl, sym, ap, subst, ◌∙◌, arith, length-append}
-use Rattle.std.specs.Prelude.{option_map, slice_get}
+use Rattle.std.specs.Prelude.{slice_get}
 use Rattle.std.specs.Result.{result_ok}
 use Rattle.std.proofs.lemmas.List.{append_assoc, map-append}
 use Rattle.std.proofs.lemmas.List.Elements.{filter_map-append}
@@ -8,7 +8,7 @@ use Rattle.vcd_model.specs.Input.{Input}
 use Rattle.vcd_model.specs.Tokens.{Token}
 use Rattle.vcd_model.specs.Declarations.{IdCode}
 use Rattle.vcd_model.specs.Items.{BodyItem, Change, ChangeForm, time_after}
-use Rattle.vcd_model.specs.BodyPhrases.{BodyPhrase, declared_code, items_of}
+use Rattle.vcd_model.specs.BodyPhrases.{BodyPhrase, items_of}
 use Rattle.vcd_model.specs.BodyReading.{body_grammar}
 use Rattle.vcd_model.specs.Reading.{Placed, phrases_of}
 use Rattle.vcd_model.specs.SoFar.{IsSoFar}
@@ -17,9 +17,7 @@ use Rattle.vcd_text.specs.Passed.{Passed, line_ahead}
 use Rattle.vcd_text.specs.Feed.{HasGiven, HasReadTo}
 use Rattle.vcd_text.specs.declared.device.Source.{Ghosts}
 use Rattle.vcd_text.specs.declared.feed.Feed.{Feed}
-use Rattle.vcd_view.specs.Finds.{Finds, IsSized}
 use Rattle.vcd_view.specs.declared.look_up.Found.{Found}
-use Rattle.vcd_view.specs.declared.view.Code.{Code}
 use Rattle.vcd_body.specs.declared.fault.BodyFault.{BodyFault}
 use Rattle.vcd_body.specs.declared.item.Form.{Form}
 use Rattle.vcd_body.specs.declared.item.Form.TheVariants as form
@@ -64,14 +62,10 @@ at_ok : {A E : Type 0} (P : A → Type 0) (Q : E → Type 0) (r : Result A E) (x
 at_ok P Q (Ok y) x e h = subst P (some_is (sym e)) h
 at_ok P Q (Err y) x e h = cc
 
--- what is so of the code that was found, whichever it is
-pub code_behind : (codes : List IdCode) (text : List ℕ) (found : Option Found) {P : IdCode → Type 0} → Finds codes text (option_map (λ f. f.place) found) → ((c : IdCode) → declared_code codes text ≡ Some c → P c) → IfSome found (λ f. (c : IdCode) × (slice_get codes f.place ≡ Some c) × P c)
-code_behind codes text None f h = tt
-code_behind codes text (Some place) f h = (f.0, f.1, h f.0 f.2)
-
-pub code_within : (codes : List Code) (found : Option Found) {P : ℕ → Type 0} → IfSome found (IsSized codes) → ((place : ℕ) (x : Code) → slice_get codes place ≡ Some x → P place) → IfSome found (λ f. P f.place)
-code_within codes None sized h = tt
-code_within codes (Some f) sized h = h f.place sized.0 sized.1
+-- what is so of a code that was found, if one was
+pub found_all : (found : Option Found) {P : Found → Type 0} → ((f : Found) → found ≡ Some f → P f) → IfSome found P
+found_all None h = tt
+found_all (Some f) h = h f refl
 
 -- phrases of which the last is this one
 split_phrases : {P : Type 0} (ps : List (Placed P)) (qs : List P) (y : P) → phrases_of ps ≡ qs ++ y ∷ [] → (m : List (Placed P)) × (line : ℕ) × (ps ≡ m ++ record { phrase = y; line = line } ∷ []) × (phrases_of m ≡ qs)

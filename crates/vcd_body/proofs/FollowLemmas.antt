@@ -5,15 +5,13 @@ use Rattle.std.specs.Char.{to_ascii_lowercase}
 use Rattle.std.proofs.lemmas.Bool.{eq-eqb, lt-ltb, ne_eqb}
 use Rattle.vcd_model.specs.Values.{Value, value_with}
 use Rattle.vcd_view.specs.declared.view.Code.{Code}
-use Rattle.vcd_body.specs.Contents.{ChangesCode, held_at, kept_at}
+use Rattle.vcd_body.specs.Contents.{ChangesCode, GivesValue, KeepsTable, held_at, kept_at}
 use Rattle.vcd_body.specs.Given.{IsText}
 use Rattle.vcd_body.specs.Binary.{binary_digits, count_in, is_proper, number_in}
 use Rattle.vcd_body.specs.Items.{model_form}
 use Rattle.vcd_body.specs.Kept.{Held, IsStep, Kept, differs, goes_from, last_digit_in, value_at_size, with_change, with_counted, with_held, with_number, with_number_change, with_step, with_text}
 use Rattle.vcd_body.specs.Packed.{held_digit}
 use Rattle.vcd_body.specs.Stored.{AreLaidOut, ChangesAt, Whole, end_at, held_by, held_of, kept_in, kept_with, len_in, number_of, one_digit, share_of, some_by, state_in, used_by, whole}
-use denote.Enum.Bare.{sameb}
-use Rattle.vcd_body.specs.contracts.item.Form.{the_type as the_form}
 use Rattle.vcd_body.specs.declared.item.Form.{Form}
 use Rattle.vcd_body.specs.declared.item.Form.TheVariants as form
 use Rattle.vcd_body.specs.declared.slot.Share.{Share}
@@ -22,6 +20,9 @@ use Rattle.vcd_body.specs.declared.slot.State.{State}
 use Rattle.vcd_body.specs.declared.slot.State.TheVariants as state
 use Rattle.vcd_body.specs.declared.step.Step.{Step}
 use Rattle.vcd_body.specs.declared.table.Table.{Table}
+use Rattle.vcd_body.specs.declared.value.Value.{Value as Given}
+use Rattle.vcd_body.specs.declared.value.Value.TheVariants as given
+use Rattle.vcd_body.specs.Values.{form_in, text_in, with_value, with_value_change}
 use Rattle.vcd_body.proofs.BinaryLemmas.{length_binary, proper, proper_count}
 use Rattle.vcd_body.proofs.NumberLemmas.{number_is_text, number_step, proper_number}
 use Rattle.vcd_body.proofs.SetLemmas.{good_value}
@@ -36,13 +37,6 @@ changed_by s size f text k some is = rw (lt-ltb 0 (length text) some, is.0, is.1
 pub changed_to : (s : Step) (size l n : ℕ) (k : Kept) → IsStep s (value_at_size size k.held) (value_with size (model_form form.Vector) (binary_digits l n))
     → with_number_change size l n k ≡ cond s.differs (with_step s.rises s.falls (with_number l n k)) (with_number l n k)
 changed_to s size l n k is = rw (is.0, is.1, is.2) refl
-
--- the step to binary digits that were put as a text
-pub step_put : (old : Option Value) (s : Step) (l n size : ℕ) (text : List ℕ) → text ≡ binary_digits l n → 1 ≤ l → (0 < length text → IsStep s old (value_with size (model_form form.Vector) text)) → IsStep s old (value_with size (model_form form.Vector) (binary_digits l n))
-step_put old s l n size text is some step =
-    let count = length_binary l n in
-    let long = ap length is in
-    subst (λ (t : List ℕ). IsStep s old (value_with size (model_form form.Vector) t)) is (step (omega (arith, count, long, some)))
 
 -- one change after another of the same code
 pub change_twice : (code : ℕ) (f g : Kept → Kept) (v1 v2 v3 : List ℕ) (s1 s2 s3 : List Slot) (h1 h2 h3 : List Share) → ChangesAt code f v1 s1 h1 v2 s2 h2 → ChangesAt code g v2 s2 h2 v3 s3 h3 → ChangesAt code (λ k. g (f k)) v1 s1 h1 v3 s3 h3
@@ -187,18 +181,6 @@ pub bit_is : (digit : ℕ) → (digit ≡ 48) ⊎ (digit ≡ 49) → cond (digit
 bit_is digit (inl e) = rw e refl
 bit_is digit (inr e) = rw e refl
 
--- a form that was compared with that of a real number's text
-pub no_real : (f : Form) → true ≡ not (sameb the_form f form.RealText) → f ≢ form.RealText
-no_real form.Scalar h e = cc
-no_real form.Vector h e = cc
-no_real form.RealText h e = cc
-
--- one that was compared with that of digits after `b`
-pub is_vector : (f : Form) → not (sameb the_form f form.Vector) ≡ false → f ≡ form.Vector
-is_vector form.Scalar h = cc
-is_vector form.Vector h = refl
-is_vector form.RealText h = cc
-
 -- what is counted leaves the value
 counted_held : (old : Option Value) (new : Value) (k : Kept) → (with_counted old new k).held ≡ k.held
 counted_held old new k = by_case (differs old new)
@@ -225,19 +207,25 @@ set_and_counted old mid new code size f text s sets some is differed counts =
     (λ k at. sym (changed_by s size f text k some (subst (λ (h : Held). IsStep s (value_at_size size h) (value_with size (model_form f) text)) (held_is old code k at) is) ∙ ap (λ (b : Bool). cond b (with_step s.rises s.falls (with_text f text k)) (with_text f text k)) differed))
     (change_twice code (with_text f text) (with_step s.rises s.falls) old.values.now mid.values.now new.values.now old.slots.now mid.slots.now new.slots.now old.shares.now mid.shares.now new.shares.now sets counts)
 
--- the same of binary digits
-pub number_and_counted : (old mid new : Table) (code size l n : ℕ) (s : Step) → ChangesCode code (with_number l n) old mid → IsStep s (value_at_size size (held_at old code)) (value_with size (model_form form.Vector) (binary_digits l n)) → s.differs ≡ true
-    → ChangesCode code (with_step s.rises s.falls) mid new → ChangesCode code (with_number_change size l n) old new
-number_and_counted old mid new code size l n s sets is differed counts =
-    change_as code (λ k. with_step s.rises s.falls (with_number l n k)) (with_number_change size l n) old.values.now new.values.now old.slots.now new.slots.now old.shares.now new.shares.now
-    (λ k at. sym (changed_to s size l n k (subst (λ (h : Held). IsStep s (value_at_size size h) (value_with size (model_form form.Vector) (binary_digits l n))) (held_is old code k at) is) ∙ ap (λ (b : Bool). cond b (with_step s.rises s.falls (with_number l n k)) (with_number l n k)) differed))
-    (change_twice code (with_number l n) (with_step s.rises s.falls) old.values.now mid.values.now new.values.now old.slots.now mid.slots.now new.slots.now old.shares.now mid.shares.now new.shares.now sets counts)
+-- binary digits that are held as their number, after their text was followed
+pub number_over : (size l n : ℕ) (k : Kept) → 1 ≤ l → with_number l n (with_change size form.Vector (binary_digits l n) k) ≡ with_number_change size l n k
+number_over size l n k some =
+    let c = length_binary l n in
+    ap (λ (b : Bool). with_number l n (cond b (with_counted (value_at_size size k.held) (value_with size (model_form form.Vector) (binary_digits l n)) (with_text form.Vector (binary_digits l n) k)) k)) (lt-ltb 0 (length (binary_digits l n)) (omega (arith, c, some)))
+    ∙ by_case (differs (value_at_size size k.held) (value_with size (model_form form.Vector) (binary_digits l n))) (goes_from 48 49 (last_digit_in (value_at_size size k.held)) (last_digit_in (Some (value_with size (model_form form.Vector) (binary_digits l n))))) (goes_from 49 48 (last_digit_in (value_at_size size k.held)) (last_digit_in (Some (value_with size (model_form form.Vector) (binary_digits l n)))))
+  where
+    by_case : (b rises falls : Bool) → with_number l n (cond b (with_step rises falls (with_text form.Vector (binary_digits l n) k)) (with_text form.Vector (binary_digits l n) k)) ≡ cond b (with_step rises falls (with_number l n k)) (with_number l n k)
+    by_case true rises falls = refl
+    by_case false rises falls = refl
 
-pub number_alone : (old new : Table) (code size l n : ℕ) (s : Step) → ChangesCode code (with_number l n) old new → IsStep s (value_at_size size (held_at old code)) (value_with size (model_form form.Vector) (binary_digits l n)) → s.differs ≡ false
-    → ChangesCode code (with_number_change size l n) old new
-number_alone old new code size l n s sets is stayed =
-    change_as code (with_number l n) (with_number_change size l n) old.values.now new.values.now old.slots.now new.slots.now old.shares.now new.shares.now
-    (λ k at. sym (changed_to s size l n k (subst (λ (h : Held). IsStep s (value_at_size size h) (value_with size (model_form form.Vector) (binary_digits l n))) (held_is old code k at) is) ∙ ap (λ (b : Bool). cond b (with_step s.rises s.falls (with_number l n k)) (with_number l n k)) stayed)) sets
+pub number_followed : (old mid new : Table) (code size l n : ℕ) → 1 ≤ l → ChangesCode code (with_change size form.Vector (binary_digits l n)) old mid → ChangesCode code (with_number l n) mid new → ChangesCode code (with_number_change size l n) old new
+number_followed old mid new code size l n some follows sets =
+    change_as code (λ k. with_number l n (with_change size form.Vector (binary_digits l n) k)) (with_number_change size l n) old.values.now new.values.now old.slots.now new.slots.now old.shares.now new.shares.now (λ k at. number_over size l n k some)
+    (change_twice code (with_change size form.Vector (binary_digits l n)) (with_number l n) old.values.now mid.values.now new.values.now old.slots.now mid.slots.now new.slots.now old.shares.now mid.shares.now new.shares.now follows sets)
+
+-- one call after another
+pub keeps_twice : (old mid new : Table) → KeepsTable old mid → KeepsTable mid new → KeepsTable old new
+keeps_twice old mid new a b = record { laid = λ laid. b.laid (a.laid laid); codes = b.codes ∙ a.codes; bytes = b.bytes ∙ a.bytes }
 
 -- a change that sets a text leaves the value of the text
 pub change_sets : (values values' : List ℕ) (slots slots' : List Slot) (shares shares' : List Share) (code size : ℕ) (f : Form) (text : List ℕ) (c : Code) (k : Kept) → ChangesAt code (with_change size f text) values slots shares values' slots' shares' → IsText f c text → c.event ≡ false → kept_in values slots shares code ≡ Some k → share_of c.size ≤ k.room
@@ -249,3 +237,35 @@ change_sets values values' slots slots' shares shares' code size f text c k chan
     ∙ ap (λ (b : Bool). value_at_size c.size (cond b (with_counted (value_at_size size k.held) (value_with size (model_form f) text) (with_text f text k)) k).held) some
     ∙ ap (value_at_size c.size) (counted_held (value_at_size size k.held) (value_with size (model_form f) text) (with_text f text k))
     ∙ good_value f c text k good event most
+
+-- ---- a value that is set, by its text
+
+module _ (values values' : List ℕ) (slots slots' : List Slot) (shares shares' : List Share) (code : ℕ) (v : Given) where
+  pub value_as_text : (k : Kept) → kept_in values slots shares code ≡ Some k → 8 ≤ k.room → ChangesAt code (with_value v) values slots shares values' slots' shares' → ChangesAt code (with_text (form_in v) (text_in v)) values slots shares values' slots' shares'
+  value_as_text k at room changes = by_value v changes
+    where
+      by_value : (v : Given) → ChangesAt code (with_value v) values slots shares values' slots' shares' → ChangesAt code (with_text (form_in v) (text_in v)) values slots shares values' slots' shares'
+      by_value (given.Digits text) changes = changes
+      by_value (given.Real text) changes = changes
+      by_value (given.Bits b) changes = number_as_text code b.len b.number values values' slots slots' shares shares' k b.some b.few at room changes
+
+module _ (old new : Table) (code : ℕ) (v : Given) where
+  pub change_as_text : (size : ℕ) (k : Kept) → kept_at old code ≡ Some k → 8 ≤ k.room → ChangesCode code (with_value_change size v) old new → ChangesCode code (with_change size (form_in v) (text_in v)) old new
+  change_as_text size k at room changes = by_value v changes
+    where
+      by_value : (v : Given) → ChangesCode code (with_value_change size v) old new → ChangesCode code (with_change size (form_in v) (text_in v)) old new
+      by_value (given.Digits text) changes = changes
+      by_value (given.Real text) changes = changes
+      by_value (given.Bits b) changes = step_as_text code b.len b.number old.values.now new.values.now old.slots.now new.slots.now old.shares.now new.shares.now k b.some b.few at room size changes
+
+  pub change_gives : (size : ℕ) → ChangesCode code (with_value_change size v) old new → GivesValue (form_in v) (text_in v) code old new
+  change_gives size changes = λ c k good event is most.
+      change_sets old.values.now new.values.now old.slots.now new.slots.now old.shares.now new.shares.now code size (form_in v) (text_in v) c k (change_as_text size k is (omega (arith, most)) changes) good event is most
+
+-- a change that was followed by a value which is that of its text
+module _ (old new : Table) (code size : ℕ) (f : Form) (text : List ℕ) where
+  pub text_followed : (v : Given) → ((k : Kept) → with_value_change size v k ≡ with_change size f text k) → ChangesCode code (with_value_change size v) old new → ChangesCode code (with_change size f text) old new
+  text_followed v same changes = change_as code (with_value_change size v) (with_change size f text) old.values.now new.values.now old.slots.now new.slots.now old.shares.now new.shares.now (λ k at. same k) changes
+
+  pub text_gives : ChangesCode code (with_change size f text) old new → GivesValue f text code old new
+  text_gives changes = λ c k good event is most. change_sets old.values.now new.values.now old.slots.now new.slots.now old.shares.now new.shares.now code size f text c k changes good event is most

@@ -1,5 +1,5 @@
 -- Lines that stand in some bytes but for digits on the left that are not needed.
-use Rattle.std.proofs.Common.{◌≡◌, ◌≢◌, ℕ, zero, suc, ◌+◌, ◌-◌, ◌≤◌, ◌<◌, ◌==◌, max, false, List, [], ◌∷◌, ◌++◌, length, replicate, take, drop, Option, Some, None, IfSome, SomeIff, sym, ap, ap₂, subst, ◌∙◌, arith}
+use Rattle.std.proofs.Common.{◌≡◌, ◌≢◌, ℕ, zero, suc, ◌+◌, ◌-◌, ◌≤◌, ◌<◌, ◌==◌, false, List, [], ◌∷◌, ◌++◌, length, replicate, take, drop, Option, Some, None, IfSome, SomeIff, sym, ap, ap₂, subst, ◌∙◌, arith}
 use Rattle.std.specs.Prelude.{slice_range}
 use Rattle.std.specs.Char.{to_ascii_lowercase}
 use Rattle.std.specs.Str.{str_to_ascii_lowercase}
@@ -14,7 +14,7 @@ use Rattle.vcd_body.specs.Binary.{binary_digits}
 use Rattle.vcd_body.specs.Spelled.{HasChange, bytes_without}
 use Rattle.vcd_body.specs.declared.bits.Bits.{Bits}
 use Rattle.vcd_body.specs.declared.item.Item.{Item}
-use Rattle.vcd_body.proofs.Shortest.{Suffices, extend_where_fits, extend_wide}
+use Rattle.vcd_body.proofs.Shortest.{extend_wide}
 
 -- ---- digits
 

@@ -2,7 +2,7 @@ pub mod WordLemmas
 pub mod TokenLemmas
 pub mod PhraseLemmas
 pub mod FindLemmas
-mod FollowLemmas
+pub mod FollowLemmas
 pub mod RegsLemmas
 pub mod ReadLemmas
 pub mod CallerLemmas

@@ -1,6 +1,6 @@
 -- Changes that stand in some bytes, and their lines.
-use Rattle.std.proofs.Common.{◌≡◌, ◌≢◌, ℕ, zero, suc, ◌+◌, ◌-◌, max, ◌≤◌, ◌<◌, ◌==◌, Bool, true, false, not, ◌&&◌, List, [], ◌∷◌, ◌++◌, length, take, drop, get_or, Option, Some, None, IfSome, Result, Ok, Err, IfOk, ◌⊎◌, inl, inr, refl, sym, ap, ap₂, subst, ◌∙◌, append_assoc, arith}
-use Rattle.std.specs.Prelude.{bit_and, nat_le, ◌^◌, option_map, slice_get, slice_index, slice_range}
+use Rattle.std.proofs.Common.{◌≡◌, ◌≢◌, ℕ, zero, suc, ◌+◌, ◌-◌, max, ◌≤◌, ◌<◌, ◌==◌, Bool, true, false, not, ◌&&◌, List, [], ◌∷◌, ◌++◌, length, take, drop, get_or, Some, Result, Ok, Err, IfOk, ◌⊎◌, inl, inr, refl, sym, ap, ap₂, subst, ◌∙◌, append_assoc, arith}
+use Rattle.std.specs.Prelude.{bit_and, nat_le, ◌^◌, slice_get, slice_index, slice_range}
 use Rattle.std.specs.Char.{to_ascii_lowercase}
 use Rattle.std.specs.Str.{str_to_ascii_lowercase}
 use Rattle.std.specs.Result.{result_ok}
@@ -20,7 +20,6 @@ use Rattle.vcd_view.specs.declared.view.HeadView.{HeadView}
 use Rattle.vcd_view.specs.Views.{IsViewOf, IsCode}
 use Rattle.vcd_view.specs.Entries.{most_of}
 use Rattle.vcd_view.specs.Finds.{Finds, IsSized}
-use Rattle.vcd_view.specs.declared.look_up.Found.{Found}
 use Rattle.vcd_text.proofs.Places.{length-slice_range}
 use Rattle.vcd_view.specs.declared.view.Code.{Code}
 use Rattle.vcd_view.specs.Shown.{parts}
@@ -45,10 +44,6 @@ found_named v place text f h c view e =
     let k = f h view in
     let same = some_is (sym k.1 ∙ e) in
     sym ((bytes_eq-Decides text c.text).0 (find_passes (has_text text) h.codes c (k.2 ∙ ap Some same)))
-
-pub named_where_found : (v : HeadView) (text : List ℕ) (found : Option Found) → ((h : Header) → IsViewOf v h → Finds h.codes text (option_map (λ f. f.place) found)) → IfSome found (λ f. Names v f.place text)
-named_where_found v text None f = tt
-named_where_found v text (Some x) f = found_named v x.place text f
 
 -- what is so of what was found
 pub of_found : {A E : Type 0} (P : A → Type 0) (found : Result A E) (f : A) → Some f ≡ result_ok found → IfOk found P → P f

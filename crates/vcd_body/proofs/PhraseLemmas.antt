@@ -1,5 +1,5 @@
 -- What each token of a body is: its fault, and the phrase that it is.
-use Rattle.std.proofs.Common.{◌≡◌, ℕ, ◌+◌, ◌^◌, ◌<◌, ◌≤◌, Bool, true, false, cond, not, ◌&&◌, ◌||◌, nat_lt, nat_le, List, [], ◌∷◌, ◌++◌, length, take, drop, count_by, Some, None, is_some, option_map, refl, sym, ap, ◌∙◌, arith}
+use Rattle.std.proofs.Common.{◌≡◌, ◌≢◌, ◌⊎◌, inl, inr, ℕ, ◌+◌, ◌^◌, ◌<◌, ◌≤◌, Bool, true, false, cond, not, ◌&&◌, ◌||◌, nat_lt, nat_le, List, [], ◌∷◌, ◌++◌, length, take, drop, count_by, Some, None, is_some, option_map, refl, sym, ap, ◌∙◌, arith}
 use Rattle.std.specs.List.{list_all}
 use Rattle.std.proofs.lemmas.Bool.{le-ltb, lt-ltb, le-leb, and_parts}
 use Rattle.vcd_model.specs.Bytes.{is_decimal, decimal_value, is_empty}
@@ -15,9 +15,10 @@ use Rattle.vcd_view.specs.Keywords.{NoEnds}
 use Rattle.vcd_view.proofs.KeywordLemmas.{until, not_until}
 use Rattle.vcd_body.specs.declared.item.Regs.{Regs}
 use Rattle.vcd_body.specs.declared.words.First.TheVariants as first
-use Rattle.vcd_body.specs.Items.{AreRegsAfter}
+use Rattle.vcd_body.specs.Items.{AreRegsAfter, RefusesMark}
+use Rattle.vcd_body.specs.declared.fault.BodyFault.{BodyFault}
 use Rattle.vcd_body.specs.Words.{Begins, IsScalar, is_of_header}
-use Rattle.vcd_body.specs.Reads.{Passes}
+use Rattle.vcd_body.specs.Reads.{Passes, Refuses}
 
 -- ---- the parts of a first token
 
@@ -26,6 +27,15 @@ head_and_rest token b rest e = e ∙ ap (λ l. b ∷ l) (sym (ap (drop 1) e))
 
 pub first_byte : (token : List ℕ) (b : ℕ) (rest : List ℕ) → token ≡ b ∷ rest → take 1 token ≡ b ∷ []
 first_byte token b rest e = ap (take 1) e
+
+-- a fault of a mark that may not stand where it does
+pub mark_own : (r : Regs) (time : ℕ) (fault : BodyFault) → RefusesMark r time fault → fault ≢ BodyFault.ReadFailed
+mark_own r time fault (inl e) = rw e.0 (λ x. cc)
+mark_own r time fault (inr e) = rw e.0 (λ x. cc)
+
+pub mark_misplaced : (r : Regs) (time : ℕ) (fault : BodyFault) → RefusesMark r time fault → (is_some r.section ≡ true) ⊎ (time < r.time)
+mark_misplaced r time fault (inl e) = inl e.1
+mark_misplaced r time fault (inr e) = inr e.2
 
 module _ (codes : List IdCode) where
   start_mark : (token : List ℕ) → Begins token first.Mark → start_of token ≡ Mark (drop 1 token)
@@ -84,6 +94,10 @@ module _ (codes : List IdCode) where
         where
           lt-leb-false : (x y : ℕ) → x < y → nat_le y x ≡ false
           lt-leb-false x y l = grind arith
+
+      pub mark_refused : (fault : BodyFault) → RefusesMark r (decimal_value (drop 1 token)) fault → Refuses codes earlier token fault
+      mark_refused fault (inl e) = rw e.0 (λ x. cc, time_in_section e.1)
+      mark_refused fault (inr e) = rw e.0 (λ x. cc, time_back e.1 e.2)
 
       pub time_passes : is_some r.section ≡ false → r.time ≤ decimal_value (drop 1 token) → Passes codes earlier token (BodyItem.Time (decimal_value (drop 1 token))) × (time_after (items_of earlier) ≤ decimal_value (drop 1 token))
       time_passes o less =

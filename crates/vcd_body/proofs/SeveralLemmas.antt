@@ -10,7 +10,7 @@ use Rattle.std.proofs.lemmas.Option.{slice_get-get_or, slice_get-map}
 use Rattle.vcd_model.specs.Values.{Value, extend}
 use Rattle.vcd_body.specs.Kept.{Held, IsStep, Kept, goes_from, last_digit_in}
 use Rattle.vcd_body.specs.Packed.{code_among, digit_of, digits_in, held_digit, quarter_of}
-use Rattle.vcd_body.specs.Stored.{end_at, held_by, held_from, holding_of, kept_in, kept_with, used_by, whole}
+use Rattle.vcd_body.specs.Stored.{end_at, held_by, held_from, holding_of, kept_in, kept_with, used_by, whole, len_of}
 use Rattle.vcd_body.specs.declared.slot.Holding.{Holding}
 use Rattle.vcd_body.specs.declared.slot.Share.{Share}
 use Rattle.vcd_body.specs.declared.slot.Slot.{Slot}
@@ -133,10 +133,10 @@ kept_there values slots shares code slot share k here there at =
     ap (λ (x : Kept). x.held) kept
 
 -- the digits that are packed in the first bytes of a share are those that are held
-pub packed_there : (values : List ℕ) (m start : ℕ) (v : Holding) (share : List ℕ) → v.state ≡ state.Digits → share ≡ take m (drop start values) → quarter_of v.len ≤ length share → held_from values start v ≡ Held.Digits (digits_in v.len share)
+pub packed_there : (values : List ℕ) (m start : ℕ) (v : Holding) (share : List ℕ) → v.state ≡ state.Digits → share ≡ take m (drop start values) → quarter_of (len_of v) ≤ length share → held_from values start v ≡ Held.Digits (digits_in (len_of v) share)
 packed_there values m start v share packed is room =
-    ap (λ (st : State). held_by st v.len (take (used_by st v.len) (drop start values))) packed
-    ∙ ap (λ (l : List ℕ). Held.Digits l) (digits_there v.len m start values (subst (λ (l : List ℕ). quarter_of v.len ≤ length l) is room) ∙ ap (digits_in v.len) (sym is))
+    ap (λ (st : State). held_by st (len_of v) (take (used_by st (len_of v)) (drop start values))) packed
+    ∙ ap (λ (l : List ℕ). Held.Digits l) (digits_there (len_of v) m start values (subst (λ (l : List ℕ). quarter_of (len_of v) ≤ length l) is room) ∙ ap (digits_in (len_of v)) (sym is))
 
 -- a fact of what there may be, by two others
 pub by_both : (o : Option Step) (A : Type 0) (P R : Step → Type 0) → IfSome o (λ _. A) → IfSome o P → ((s : Step) → A → P s → R s) → IfSome o R

@@ -12,13 +12,14 @@ use Rattle.vcd_view.specs.Shown.{text_in}
 use Rattle.vcd_view.specs.Views.{IsCode, IsViewOf}
 use Rattle.vcd_view.specs.declared.view.Code.{Code}
 use Rattle.vcd_view.specs.declared.view.HeadView.{HeadView}
-use Rattle.vcd_body.specs.Contents.{IsLaidOut, codes_shown, held_at, line_of, shown_code, value_in}
+use Rattle.vcd_body.specs.Contents.{IsLaidOut, codes_shown, held_at, line_of, shown_as, shown_code, value_in}
 use Rattle.vcd_body.specs.Kept.{Held, Kept, value_at_size}
-use Rattle.vcd_body.specs.Stored.{Whole, end_at, held_from, holding_of, holding_at, kept_with, room_of, share_of, some_by, start_in, start_or, used}
+use Rattle.vcd_body.specs.Stored.{Whole, end_at, held_by, held_from, holding_of, holding_at, kept_with, room_of, share_of, some_by, start_in, start_or, used, len_of}
 use denote.Enum.Bare.{sameb}
 use Rattle.vcd_body.specs.contracts.slot.State.{the_type}
 use Rattle.vcd_body.specs.declared.slot.Holding.{Holding}
 use Rattle.vcd_body.specs.declared.slot.Share.{Share}
+use Rattle.vcd_body.specs.declared.slot.Shown.TheVariants as shown
 use Rattle.vcd_body.specs.declared.slot.Slot.{Slot}
 use Rattle.vcd_body.specs.declared.slot.State.{State}
 use Rattle.vcd_body.specs.declared.slot.State.TheVariants as state
@@ -37,7 +38,7 @@ held_there t code v at =
     ∙ ap (held_from t.values.now (start_in t.shares.now code)) p.4
 
 -- its share lies within the values
-pub share_there : (t : Table) (code : ℕ) (v : Holding) → IsLaidOut t → holding_at t.slots.now t.shares.now code ≡ Some v → (code < length t.shares.now) × (start_in t.shares.now code + used v ≤ length t.values.now) × (1 ≤ some_by v.state v.len)
+pub share_there : (t : Table) (code : ℕ) (v : Holding) → IsLaidOut t → holding_at t.slots.now t.shares.now code ≡ Some v → (code < length t.shares.now) × (start_in t.shares.now code + used v ≤ length t.values.now) × (1 ≤ some_by v.state (len_of v))
 share_there t code v laid at =
     let p = holding_parts t.slots.now t.shares.now code v at in
     let l = laid code p.0 p.2 in
@@ -46,6 +47,18 @@ share_there t code v laid at =
     let some = some_in t.shares.now (length t.values.now) code p.0 p.1 l p.3 in
     let high = l.within in
     (slice_get_within t.shares.now code p.1 p.3, rw (sym p.4) (omega (arith, start, low, high)), rw (sym p.4) some)
+
+-- what is held in another state than these two is digits
+pub shows_digits : (st : State) (len : ℕ) (bytes : List ℕ) → st ≢ state.Unset → st ≢ state.Real → shown_as (held_by st len bytes) ≡ shown.Bits
+shows_digits state.Unset len bytes a b = absurd (a refl)
+shows_digits state.Zero len bytes a b = refl
+shows_digits state.One len bytes a b = refl
+shows_digits state.Unknown len bytes a b = refl
+shows_digits state.High len bytes a b = refl
+shows_digits state.Plain len bytes a b = refl
+shows_digits state.Digits len bytes a b = refl
+shows_digits state.Bits len bytes a b = refl
+shows_digits state.Real len bytes a b = absurd (b refl)
 
 -- the text of a real number that is read in its share
 pub is_real : (st : State) → true ≡ sameb the_type st state.Real → st ≡ state.Real

@@ -20,7 +20,7 @@ use Rattle.vcd_text.specs.declared.feed.Feed.{Feed}
 use Rattle.vcd_body.specs.declared.fault.BodyFault.{BodyFault}
 use Rattle.vcd_body.specs.declared.fault.BodyFault.TheVariants as fault
 use Rattle.vcd_body.specs.Fault.{fault_number}
-use Rattle.vcd_body.specs.Reads.{Reads, ReadsPhrase, Looks, BodyHas, StopsAt, FailsOver, Fails}
+use Rattle.vcd_body.specs.Reads.{Reads, ReadsPhrase, Looks, BodyHas, StopsAt, FailsOver, Fails, OpensPhrase, Refuses}
 use Rattle.vcd_body.specs.Reads.StopsAt.{AtToken, AtEnd}
 
 -- a fault that is not the source's is one of the input as it is
@@ -153,6 +153,14 @@ module _ (codes : List IdCode) (i : Input) (front : List Token) (placed : List (
   -- the first token of a phrase passes its checks, and others follow
   pub begun : {X : Type 0} {g : Ghosts X} (f : Feed X g) → body_fault codes (phrases_of placed) [] (token_of f).bytes ≡ None → body_phrase codes ((token_of f).bytes ∷ []) ≡ None → Looks codes i front placed [] f → Reads codes i front placed ((token_of f).bytes ∷ []) f
   begun f e q l = taken [] f e q l
+
+  -- the same of a text that is the feed's token
+  module _ {X : Type 0} {g : Ghosts X} (f : Feed X g) (t : List ℕ) where
+    pub opened_text : t ≡ (token_of f).bytes → OpensPhrase codes (phrases_of placed) t → Looks codes i front placed [] f → Reads codes i front placed ((token_of f).bytes ∷ []) f
+    opened_text e h l = begun f (ap (body_fault codes (phrases_of placed) []) (sym e) ∙ h.0) (ap (λ (x : List ℕ). body_phrase codes (x ∷ [])) (sym e) ∙ h.1) l
+
+    pub refused_text : (fault : BodyFault) → t ≡ (token_of f).bytes → Refuses codes (phrases_of placed) t fault → Looks codes i front placed [] f → Fails codes i front (items_of (phrases_of placed)) fault f
+    refused_text fault e h l = fails [] f fault h.0 (ap (body_fault codes (phrases_of placed) []) (sym e) ∙ h.1) l
 
 -- what a kept token leaves
 pub kept : {X : Type 0} {g : Ghosts X} (codes : List IdCode) (i : Input) (front : List Token) (placed : List (Placed BodyPhrase)) (before : List (List ℕ)) (old new : Feed X g) → ((j : Input) (given : List Token) → HasGiven j given old → HasGiven j given new)

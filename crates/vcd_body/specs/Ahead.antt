@@ -1,9 +1,9 @@
 -- Items that are taken ahead of the feed, and what they leave once it has passed them.
-use Rattle.std.specs.Prelude.{◌≡◌, ℕ, ◌≤◌, List, [], ◌∷◌, ◌++◌, length, map, Option, Some, None, IfSome}
+use Rattle.std.specs.Prelude.{◌≡◌, ℕ, ◌≤◌, drop, slice_get, List, [], ◌∷◌, ◌++◌, length, map, Option, Some, None, IfSome}
 use Rattle.vcd_model.specs.Input.{Input}
 use Rattle.vcd_model.specs.Tokens.{Token}
 use Rattle.vcd_model.specs.Declarations.{IdCode}
-use Rattle.vcd_model.specs.Items.{BodyItem}
+use Rattle.vcd_model.specs.Items.{BodyItem, ChangeForm}
 use Rattle.vcd_model.specs.BodyPhrases.{BodyPhrase, body_phrase, items_of}
 use Rattle.vcd_model.specs.BodyChecks.{body_fault}
 use Rattle.vcd_model.specs.BodyReading.{body_grammar}
@@ -17,6 +17,7 @@ use Rattle.vcd_text.specs.declared.device.Source.{Ghosts}
 use Rattle.vcd_text.specs.declared.feed.Feed.{Feed}
 use Rattle.vcd_view.specs.declared.view.Code.{Code}
 use Rattle.vcd_view.specs.Finds.{IsSized}
+use Rattle.vcd_view.specs.declared.look_up.Found.{Found}
 use Rattle.vcd_body.specs.declared.bits.Bits.{Bits}
 use Rattle.vcd_body.specs.declared.item.Form.TheVariants as form
 use Rattle.vcd_body.specs.declared.item.Item.{Item}
@@ -50,6 +51,10 @@ pub record PassBoth (codes : List IdCode) (earlier : List BodyPhrase) (first sec
   pub open_after : body_phrase codes (first ∷ []) ≡ None
   pub goes_on : body_fault codes earlier (first ∷ []) second ≡ None
   pub whole : body_phrase codes (first ∷ second ∷ []) ≡ Some (BodyPhrase.Gives x)
+
+-- a token and that of the code that was found are the phrase of a change
+abbrev pub GivesBoth : List IdCode → ChangeForm → List ℕ → List ℕ → Found → Type 0
+GivesBoth codes form first second found = (c : IdCode) × (slice_get codes found.place ≡ Some c) × ((earlier : List BodyPhrase) → PassBoth codes earlier first second (BodyItem.Changes (record { code = c; form = form; text = drop 1 first })))
 
 -- The first n bytes ahead are whole phrases, each with one of these items, where the items before
 -- them are these. Whatever was given with those, the reading goes on with these.

@@ -1,13 +1,16 @@
 -- What a table keeps of the codes, as a map from a code's place.
-use Rattle.std.specs.Prelude.{ℕ, ◌+◌, ◌-◌, min, Bool, false, List, [], ◌∷◌, length, map, unwrap_or, option_map, option_and_then, slice_get, Option}
+use Rattle.std.specs.Prelude.{◌≡◌, ℕ, ◌+◌, ◌-◌, ◌≤◌, min, Bool, false, Some, List, [], ◌∷◌, length, map, unwrap_or, option_map, option_and_then, slice_get, Option}
 use Rattle.vcd_model.specs.Cut.{line_if_set}
 use Rattle.vcd_model.specs.Declarations.{IdCode}
-use Rattle.vcd_model.specs.Values.{Value}
+use Rattle.vcd_model.specs.Values.{Value, value_with}
 use Rattle.vcd_view.specs.Shown.{text_in}
 use Rattle.vcd_view.specs.declared.view.Code.{Code}
 use Rattle.vcd_view.specs.declared.view.HeadView.{HeadView}
+use Rattle.vcd_body.specs.Given.{IsText}
+use Rattle.vcd_body.specs.Items.{model_form}
 use Rattle.vcd_body.specs.Kept.{Held, Kept, unset, value_at_size}
-use Rattle.vcd_body.specs.Stored.{AreLaidOut, ChangesAt, kept_in, start_of}
+use Rattle.vcd_body.specs.Stored.{AreLaidOut, ChangesAt, kept_in, share_of, start_of}
+use Rattle.vcd_body.specs.declared.item.Form.{Form}
 use Rattle.vcd_body.specs.declared.slot.Shown.{Shown}
 use Rattle.vcd_body.specs.declared.slot.Shown.TheVariants as shown
 use Rattle.vcd_body.specs.declared.table.Table.{Table}
@@ -25,6 +28,12 @@ bytes_in t = length t.values.now
 abbrev pub IsLaidOut : Table → Type 0
 IsLaidOut t = AreLaidOut t.slots.now t.shares.now (length t.values.now)
 
+-- a call leaves a table that is laid out so, for as many codes and with as many bytes
+pub record KeepsTable (old new : Table) : Type 0 where
+  pub laid : IsLaidOut old → IsLaidOut new
+  pub codes : codes_in new ≡ codes_in old
+  pub bytes : bytes_in new ≡ bytes_in old
+
 -- what is kept of the code at a place, none where there is no code
 abbrev pub kept_at : Table → ℕ → Option Kept
 kept_at t code = kept_in t.values.now t.slots.now t.shares.now code
@@ -37,6 +46,10 @@ ChangesCode code f old new = ChangesAt code f old.values.now old.slots.now old.s
 -- the value of the code at a place, as it was last written
 abbrev pub held_at : Table → ℕ → Held
 held_at t code = unwrap_or (option_map (λ (k : Kept). k.held) (kept_at t code)) Held.Unset
+
+-- a call gives the code at a place the value of a change with this text, where that may have it
+abbrev pub GivesValue : Form → List ℕ → ℕ → Table → Table → Type 0
+GivesValue form text code old new = (c : Code) (k : Kept) → IsText form c text → c.event ≡ false → kept_at old code ≡ Some k → share_of c.size ≤ k.room → value_at_size c.size (held_at new code) ≡ Some (value_with c.size (model_form form) text)
 
 -- its counters
 abbrev pub counts_at : Table → ℕ → List ℕ

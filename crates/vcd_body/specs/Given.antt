@@ -1,5 +1,5 @@
 -- What a call gives: an item, its text, and what the body has where it ends.
-use Rattle.std.specs.Prelude.{◌≡◌, ℕ, ◌<◌, ◌≤◌, false, IsTrue, List, [], ◌∷◌, length, take, drop, Some, slice_get}
+use Rattle.std.specs.Prelude.{◌≡◌, ℕ, ◌<◌, ◌≤◌, false, IsTrue, List, [], ◌∷◌, length, take, drop, Option, Some, Result, IfOk, MatchOption, MatchResult, slice_get}
 use Rattle.std.specs.List.{list_all}
 use Rattle.vcd_model.specs.Input.{Input}
 use Rattle.vcd_model.specs.Tokens.{Token}
@@ -15,8 +15,9 @@ use Rattle.vcd_body.specs.declared.item.Form.TheVariants.{Scalar, Vector, RealTe
 use Rattle.vcd_body.specs.declared.item.Item.{Item}
 use Rattle.vcd_body.specs.declared.item.Item.TheVariants.{Time, Begin, End, Change, Finish}
 use Rattle.vcd_body.specs.declared.item.Regs.{Regs}
-use Rattle.vcd_body.specs.Items.{model_section, model_form}
-use Rattle.vcd_body.specs.Reads.{GaveItem, GaveAll}
+use Rattle.vcd_body.specs.Items.{model_section, model_form, regs_after}
+use Rattle.vcd_body.specs.Reads.{Fails, GaveAll, GaveItem, GaveItems}
+use Rattle.vcd_body.specs.declared.fault.BodyFault.{BodyFault}
 
 -- the text of the change that was read last
 abbrev pub text_of : {X : Type 0} {g : Ghosts X} → Form → Feed X g → List ℕ
@@ -71,3 +72,15 @@ item_text f Finish = []
 -- a change is one of these codes, and has a text that the code may have
 abbrev pub IsGoodChange : {X : Type 0} {g : Ghosts X} → List Code → Feed X g → Item → Type 0
 IsGoodChange codes f item = HasGoodText codes (item_text f item) item
+
+-- a phrase was read: it gives an item, or none as a comment does; or it has a fault
+abbrev pub GivesPhrase : {X : Type 0} {g : Ghosts X} → List IdCode → Input → List Token → List BodyItem → Feed X g → Regs → Result (Option Item) BodyFault → Type 0
+GivesPhrase codes i front items f r result = MatchResult result (λ item. MatchOption item (GaveItems codes i front items f r) (λ x. GivesItem codes i front items f r x)) (λ fault. Fails codes i front items fault f)
+
+-- a change that it gives is one of these codes, and has a text that the code may have
+abbrev pub IsGoodPhrase : {X : Type 0} {g : Ghosts X} → List Code → Feed X g → Result (Option Item) BodyFault → Type 0
+IsGoodPhrase codes f result = IfOk result (λ item. MatchOption item (Unit {0}) (IsGoodChange codes f))
+
+-- the registers are those after it
+abbrev pub AreRegsPast : Regs → Regs → Result (Option Item) BodyFault → Type 0
+AreRegsPast old new result = MatchResult result (λ item. MatchOption item (new ≡ old) (λ x. new ≡ regs_after old x)) (λ _. new ≡ old)

@@ -1,7 +1,9 @@
 -- Items, and what is known after them.
-use Rattle.std.specs.Prelude.{◌≡◌, ◌+◌, true, not, cond, List, count_by, Some, None, is_some, option_map}
+use Rattle.std.specs.Prelude.{◌≡◌, ◌⊎◌, ℕ, ◌+◌, ◌<◌, ◌≤◌, true, false, not, cond, List, count_by, Some, None, is_some, option_map}
 use Rattle.vcd_model.specs.Bytes.{is_empty}
 use Rattle.vcd_model.specs.Items.{SectionKind, ChangeForm, BodyItem, time_after, marks, open_section, is_begin, is_end_of_section}
+use Rattle.vcd_body.specs.declared.fault.BodyFault.{BodyFault}
+use Rattle.vcd_body.specs.declared.fault.BodyFault.TheVariants.{TimeBack, TimeInSection}
 use Rattle.vcd_body.specs.declared.item.Section.{Section}
 use Rattle.vcd_body.specs.declared.item.Section.TheVariants.{Vars, Off, On, All}
 use Rattle.vcd_body.specs.declared.item.Form.{Form}
@@ -30,6 +32,14 @@ pub record AreRegsAfter (items : List BodyItem) (r : Regs) : Type 0 where
   pub section_is : option_map model_section r.section ≡ open_section items
   -- as many sections have ended as have begun, but for the open one
   pub ended : count_by is_begin items ≡ count_by is_end_of_section items + cond (is_some r.section) 1 0
+
+-- a mark of this time may stand after these items; or it has this fault
+pub record MayMark (r : Regs) (time : ℕ) : Type 0 where
+  pub outside : is_some r.section ≡ false
+  pub forth : r.time ≤ time
+
+abbrev pub RefusesMark : Regs → ℕ → BodyFault → Type 0
+RefusesMark r time fault = ((fault ≡ TimeInSection) × (is_some r.section ≡ true)) ⊎ ((fault ≡ TimeBack) × (is_some r.section ≡ false) × (time < r.time))
 
 -- the registers after one item more
 abbrev pub regs_after : Regs → Item → Regs

@@ -1,7 +1,7 @@
 -- What a table keeps of a code, and what each call makes of it.
-use Rattle.std.specs.Prelude.{◌≡◌, ℕ, ◌+◌, ◌-◌, ◌^◌, ◌==◌, ◌&&◌, nat_lt, nat_le, min, Bool, true, false, not, cond, List, [], ◌∷◌, length, map, get_or, slice_get, slice_set, Option, Some, None}
+use Rattle.std.specs.Prelude.{◌≡◌, ◌≢◌, ℕ, ◌+◌, ◌-◌, ◌^◌, ◌==◌, ◌&&◌, nat_lt, nat_le, min, Bool, true, false, not, cond, List, [], ◌∷◌, length, map, get_or, slice_get, slice_set, Option, Some, None}
 use Rattle.std.specs.List.{last_or}
-use Rattle.std.specs.Str.{byte}
+use Rattle.std.specs.Str.{byte, bytes_eq, str_to_ascii_lowercase}
 use Rattle.vcd_model.specs.Values.{Value, extend, same_value, value_with}
 use Rattle.vcd_body.specs.Binary.{binary_digits}
 use Rattle.vcd_body.specs.Items.{model_form}
@@ -91,6 +91,13 @@ goes_from a b before after = is_digit before a && is_digit after b
 abbrev pub differs : Option Value → Value → Bool
 differs None v = false
 differs (Some u) v = not (same_value u v)
+
+-- digits and a text make two values: at this size, or at each
+abbrev pub are_two : ℕ → List ℕ → List ℕ → Bool
+are_two size ds text = not (bytes_eq (extend ds size) (extend (str_to_ascii_lowercase text) size))
+
+abbrev pub AreTwo : List ℕ → List ℕ → Type 0
+AreTwo ds text = (size : ℕ) → extend ds size ≢ extend (str_to_ascii_lowercase text) size
 
 -- a value was this, and is to be that: whether they differ, and how the last digit goes
 abbrev pub IsStep : Step → Option Value → Value → Type 0

@@ -11,6 +11,7 @@ pub mod Binary
 pub mod Counters
 pub mod Kept
 pub mod Stored
+pub mod Values
 pub mod Ahead
 pub mod Spelled
 pub mod Taken

@@ -1,6 +1,6 @@
 -- Digits, four to a byte: one of each quarter of the text, that of the first quarter in the lowest
 -- bits. The last quarter ends where the text does: it may begin with digits of the third one.
-use Rattle.std.specs.Prelude.{ℕ, ◌/◌, ◌%◌, ◌+◌, ◌-◌, ◌*◌, ◌==◌, ◌||◌, nat_lt, min, cond, List, length, map, get_or}
+use Rattle.std.specs.Prelude.{◌≡◌, ◌<◌, ℕ, ◌/◌, ◌%◌, ◌+◌, ◌-◌, ◌*◌, ◌==◌, ◌||◌, nat_lt, min, cond, List, length, map, get_or}
 use Rattle.std.specs.List.{range_with_len}
 use Rattle.std.specs.Str.{byte}
 
@@ -39,3 +39,7 @@ code_among n bytes place = cond (nat_lt place (n - quarter_of n)) (code_before (
 -- the n digits that the first bytes hold
 abbrev pub digits_in : ℕ → List ℕ → List ℕ
 digits_in n bytes = map (λ place. digit_of (code_among n bytes place)) (range_with_len 0 n)
+
+-- a share has the digits of each quarter
+abbrev pub ArePacked : List ℕ → List ℕ → ℕ → Type 0
+ArePacked share text quarter = (place : ℕ) → place < quarter → get_or share place 0 ≡ four_codes text quarter place

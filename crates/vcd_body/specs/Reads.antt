@@ -1,16 +1,16 @@
 -- How far the reading of a body has come, by what its feed has given.
-use Rattle.std.specs.Prelude.{◌≡◌, ◌≢◌, ℕ, List, [], ◌∷◌, ◌++◌, Option, Some, None}
+use Rattle.std.specs.Prelude.{◌≡◌, ◌≢◌, ℕ, List, [], ◌∷◌, ◌++◌, drop, slice_get, take, Option, Some, None}
 use Rattle.vcd_model.specs.Input.{Input}
 use Rattle.vcd_model.specs.Tokens.{Token, stream_of}
 use Rattle.vcd_model.specs.Declarations.{IdCode}
-use Rattle.vcd_model.specs.Items.{BodyItem}
+use Rattle.vcd_model.specs.Items.{BodyItem, ChangeForm}
 use Rattle.vcd_model.specs.BodyPhrases.{BodyPhrase, body_phrase, declared_code, items_of}
 use Rattle.vcd_model.specs.BodyChecks.{body_fault}
 use Rattle.vcd_model.specs.BodyReading.{body_grammar, read_body, body_items, body_fault_of}
 use Rattle.vcd_model.specs.Reading.{Fault, Placed, phrases_of}
 use Rattle.vcd_model.specs.SoFar.{IsSoFar}
 use Rattle.vcd_text.specs.Answer.{failed_after, Ends}
-use Rattle.vcd_text.specs.Feed.{HasGiven, HasReadTo, GaveOnlySeen, token_of, limit_of, seen}
+use Rattle.vcd_text.specs.Feed.{HasGiven, HasReadTo, GaveOnlySeen, token_of, limit_of, seen, value_of}
 use Rattle.vcd_text.specs.declared.device.Source.{Ghosts}
 use Rattle.vcd_text.specs.declared.feed.Feed.{Feed}
 use Rattle.vcd_body.specs.declared.fault.BodyFault.{BodyFault}
@@ -116,6 +116,22 @@ Passes codes earlier token x = (body_fault codes earlier [] token ≡ None) × (
 abbrev pub Refuses : List IdCode → List BodyPhrase → List ℕ → BodyFault → Type 0
 Refuses codes earlier token fault = (fault ≢ ReadFailed) × (body_fault codes earlier [] token ≡ Some (fault_number fault))
 
+-- a token begins a phrase, and is none alone
+abbrev pub OpensPhrase : List IdCode → List BodyPhrase → List ℕ → Type 0
+OpensPhrase codes earlier token = (body_fault codes earlier [] token ≡ None) × (body_phrase codes (token ∷ []) ≡ None)
+
 -- a token after this one that is no declared code has the fault of an unknown code
 abbrev pub AsksForCode : List IdCode → List BodyPhrase → List ℕ → Type 0
 AsksForCode codes earlier first = (t : List ℕ) → declared_code codes t ≡ None → body_fault codes earlier (first ∷ []) t ≡ Some 16
+
+-- these phrases are all that is good before this fault
+abbrev pub FailsAfter : {X : Type 0} {g : Ghosts X} → List IdCode → Input → List Token → List (Placed BodyPhrase) → Feed X g → BodyFault → Type 0
+FailsAfter codes i front placed f fault = Fails codes i front (items_of (phrases_of placed)) fault f
+
+-- a token is the change of the code at this place by a digit
+abbrev pub PassesScalar : List IdCode → List BodyPhrase → List ℕ → ℕ → Type 0
+PassesScalar codes earlier token place = (c : IdCode) × (slice_get codes place ≡ Some c) × Passes codes earlier token (BodyItem.Changes (record { code = c; form = ChangeForm.Scalar; text = take 1 token }))
+
+-- a change of the code at this place was read, by the kept value
+abbrev pub ReadsChange : {X : Type 0} {g : Ghosts X} → List IdCode → Input → List Token → List (Placed BodyPhrase) → Feed X g → ChangeForm → ℕ → Type 0
+ReadsChange codes i front placed f form place = (c : IdCode) × (slice_get codes place ≡ Some c) × ReadsPhrase codes i front placed f (BodyPhrase.Gives (BodyItem.Changes (record { code = c; form = form; text = drop 1 (value_of f) })))

@@ -4,7 +4,7 @@ use Rattle.std.specs.Prelude.{◌≡◌, ℕ, zero, suc, ◌+◌, ◌-◌, ◌*�
 use Rattle.std.specs.Str.{byte}
 use Rattle.vcd_view.specs.declared.view.Code.{Code}
 use Rattle.vcd_body.specs.Counters.{counts_of}
-use Rattle.vcd_body.specs.Kept.{Held, Kept, bytes_for}
+use Rattle.vcd_body.specs.Kept.{Held, Kept, bytes_for, with_step}
 use Rattle.vcd_model.specs.Values.{extend, short}
 use Rattle.vcd_body.specs.Binary.{binary_digits, count_in, is_proper, number_in}
 use Rattle.vcd_body.specs.Packed.{digits_in, held_digit}
@@ -38,8 +38,12 @@ used_by state.Digits len = bytes_for len
 used_by state.Bits len = 0
 used_by state.Real len = len
 
+-- how many digits, or bytes of a text, are held in a share
+abbrev pub len_of : Holding → ℕ
+len_of v = v.upper * 4294967296 + v.lower % 4294967296
+
 abbrev pub used : Holding → ℕ
-used v = used_by v.state v.len
+used v = used_by v.state (len_of v)
 
 -- what is held so, with these bytes of the share
 abbrev pub held_by : State → ℕ → List ℕ → Held
@@ -61,7 +65,7 @@ digits_held (Held.Text text) = []
 
 -- what is held so with these bytes of a share, and its digits
 abbrev pub held_with : Holding → List ℕ → Held
-held_with v bytes = held_by v.state v.len bytes
+held_with v bytes = held_by v.state (len_of v) bytes
 
 abbrev pub digits_with : Holding → List ℕ → List ℕ
 digits_with v bytes = digits_held (held_with v bytes)
@@ -101,7 +105,7 @@ abbrev pub len_in : ℕ → ℕ → ℕ → ℕ
 len_in how number upper = cond (nat_le 8 how) (how - 8) upper * 4294967296 + number % 4294967296
 
 abbrev pub holding_of : Slot → Share → Holding
-holding_of s h = record { state = state_in s.how; len = len_in s.how s.number h.upper }
+holding_of s h = record { state = state_in s.how; lower = s.number; upper = cond (nat_le 8 s.how) (s.how - 8) h.upper }
 
 abbrev pub holding_at : List Slot → List Share → ℕ → Option Holding
 holding_at slots shares code = option_and_then (λ (s : Slot). option_map (holding_of s) (slice_get shares code)) (slice_get slots code)
@@ -126,7 +130,7 @@ whole_at slots shares code = option_and_then (λ (s : Slot). option_map (whole s
 
 -- what is held in a share that begins here
 abbrev pub held_from : List ℕ → ℕ → Holding → Held
-held_from values start v = held_by v.state v.len (take (used v) (drop start values))
+held_from values start v = held_by v.state (len_of v) (take (used v) (drop start values))
 
 abbrev pub held_of : List ℕ → Whole → Held
 held_of values w = held_by w.state w.len (take (used_by w.state w.len) (drop w.start values))
@@ -155,6 +159,18 @@ kept_in values slots shares code = option_map (kept_with values (end_at shares (
 abbrev pub ChangesAt : ℕ → (Kept → Kept) → List ℕ → List Slot → List Share → List ℕ → List Slot → List Share → Type 0
 ChangesAt code f values slots shares values' slots' shares' = (place : ℕ) → kept_in values' slots' shares' place ≡ cond (place == code) (option_map f (kept_in values slots shares place)) (kept_in values slots shares place)
 
+-- a slot is changed so, and no share is: whatever the shares and the values are
+abbrev pub ChangesSlot : ℕ → (Kept → Kept) → List Slot → List Slot → Type 0
+ChangesSlot code f slots slots' = (shares : List Share) (values : List ℕ) → ChangesAt code f values slots shares values slots' shares
+
+-- a slot and a share are changed so, whatever the values are
+abbrev pub ChangesBoth : ℕ → (Kept → Kept) → List Slot → List Share → List Slot → List Share → Type 0
+ChangesBoth code f slots shares slots' shares' = (values : List ℕ) → ChangesAt code f values slots shares values slots' shares'
+
+-- what is left to count is a step, which then makes the change whole
+abbrev pub LeavesStep : ℕ → (Kept → Kept) → Bool → Bool → List Slot → List Slot → Type 0
+LeavesStep code f rises falls slots slots' = (shares : List Share) (values after : List ℕ) (counted : List Slot) (with : List Share) → ChangesAt code (with_step rises falls) values slots' shares after counted with → ChangesAt code f values slots shares after counted with
+
 -- several digits are one or more
 abbrev pub some_by : State → ℕ → ℕ
 some_by state.Unset len = 1
@@ -167,6 +183,11 @@ some_by state.Digits len = len
 some_by state.Bits len = cond (is_proper len) 1 0
 some_by state.Real len = 1
 
+-- what is held so is whole in these bytes of a share: they are enough, and several digits are some
+pub record HoldsIn (v : Holding) (bytes : List ℕ) : Type 0 where
+  pub fits : used v ≤ length bytes
+  pub some : 1 ≤ some_by v.state (len_of v)
+
 -- each slot has a share; the shares follow one another, and each is large enough for what it holds
 pub record IsLaid (shares : List Share) (n k : ℕ) (s : Slot) : Type 0 where
   pub share : Share
@@ -177,6 +198,20 @@ pub record IsLaid (shares : List Share) (n k : ℕ) (s : Slot) : Type 0 where
 
 abbrev pub AreLaidOut : List Slot → List Share → ℕ → Type 0
 AreLaidOut slots shares n = (k : ℕ) (s : Slot) → slice_get slots k ≡ Some s → IsLaid shares n k s
+
+-- where all are laid out, something is changed so
+abbrev pub ChangesLaid : ℕ → (Kept → Kept) → List ℕ → List Slot → List Share → List ℕ → List Slot → List Share → Type 0
+ChangesLaid code f values slots shares values' slots' shares' = AreLaidOut slots shares (length values) → ChangesAt code f values slots shares values' slots' shares'
+
+-- what is laid out stays so over n values: slots and shares, over any, or slots alone
+abbrev pub KeepLaid : ℕ → List Slot → List Share → List Slot → List Share → Type 0
+KeepLaid n slots shares slots' shares' = AreLaidOut slots shares n → AreLaidOut slots' shares' n
+
+abbrev pub BothKeepLaid : List Slot → List Share → List Slot → List Share → Type 0
+BothKeepLaid slots shares slots' shares' = (n : ℕ) → AreLaidOut slots shares n → AreLaidOut slots' shares' n
+
+abbrev pub SlotsKeepLaid : List Slot → List Slot → Type 0
+SlotsKeepLaid slots slots' = (shares : List Share) (n : ℕ) → AreLaidOut slots shares n → AreLaidOut slots' shares n
 
 -- ---- shares
 

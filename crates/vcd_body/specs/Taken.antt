@@ -9,15 +9,18 @@ use Rattle.vcd_text.specs.Passed.{AreWhite, Passed, line_ahead}
 use Rattle.vcd_text.specs.declared.ahead.Ahead.{Ahead}
 use Rattle.vcd_view.specs.Views.{IsViewOf}
 use Rattle.vcd_view.specs.declared.view.HeadView.{HeadView}
-use Rattle.vcd_body.specs.Ahead.{GaveAhead, HasBits, IsPlain, IsSizedItem, LooksOver}
+use Rattle.vcd_view.specs.Finds.{IsSized}
+use Rattle.vcd_view.specs.declared.look_up.Found.{Found}
+use Rattle.vcd_body.specs.Ahead.{GaveAhead, GivesBoth, HasBits, IsPlain, IsSizedItem, LooksOver}
 use Rattle.vcd_body.specs.Binary.{binary_digits}
-use Rattle.vcd_body.specs.Given.{HasGoodText, IsItem}
-use Rattle.vcd_body.specs.Items.{AreRegsAfter, regs_after}
-use Rattle.vcd_body.specs.Spelled.{HasSpelled}
+use Rattle.vcd_body.specs.Given.{HasGoodText, IsGoodText, IsItem}
+use Rattle.vcd_body.specs.Items.{AreRegsAfter, model_form, regs_after}
+use Rattle.vcd_body.specs.Spelled.{HasSpelled, Names}
 use Rattle.vcd_body.specs.Words.{Begins}
 use Rattle.vcd_body.specs.declared.ahead.Opening.{Opening}
 use Rattle.vcd_body.specs.declared.ahead.Plain.{Plain}
 use Rattle.vcd_body.specs.declared.ahead.VectorTokens.{VectorTokens}
+use Rattle.vcd_body.specs.declared.item.Form.{Form}
 use Rattle.vcd_body.specs.declared.item.Regs.{Regs}
 use Rattle.vcd_body.specs.declared.words.First.TheVariants as first
 
@@ -54,6 +57,14 @@ pub record OpensVector (a a' : Ahead) (t : VectorTokens) : Type 0 where
   pub at : t.at ≡ passed_of middle - 1 - length t.token.now
   pub code_at : t.code_at ≡ passed_of a' - 1 - length t.code.now
   pub bits : IfSome t.bits (λ b. drop 1 t.token.now ≡ binary_digits b.len b.number)
+
+-- the code that a token names was found, behind that of a change's text in this form: the two are a
+-- phrase, and the code may have the text
+pub record IsFound (v : HeadView) (form : Form) (first second : List ℕ) (found : Found) : Type 0 where
+  pub code : (h : Header) → IsViewOf v h → GivesBoth h.codes (model_form form) first second found
+  pub sound : IsGoodText v.codes.now found.place form (drop 1 first)
+  pub names : Names v found.place second
+  pub sized : IsSized v.codes.now found
 
 -- an item was taken, from one place ahead to another, where the registers before it are these
 pub record TakesItem (v : HeadView) (a a' : Ahead) (r : Regs) (p : Plain) : Type 0 where

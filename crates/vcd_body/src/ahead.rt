@@ -4,14 +4,12 @@ ghost use Rattle.vcd_model.specs.Input.{Input};
 ghost use Rattle.vcd_model.specs.Tokens.{Token};
 ghost use Rattle.vcd_model.specs.Header.{Header};
 ghost use Rattle.vcd_model.specs.Declarations.{IdCode};
-ghost use Rattle.vcd_model.specs.Items.{BodyItem, ChangeForm};
-ghost use Rattle.vcd_model.specs.BodyPhrases.{BodyPhrase};
+ghost use Rattle.vcd_model.specs.Items.{BodyItem};
 ghost use Rattle.vcd_view.specs.Views.{IsViewOf};
 ghost use Rattle.vcd_text.specs.Ahead.{ahead_of, bytes_of, lines_of, longest_of, passed_of};
 ghost use Rattle.vcd_text.specs.Passed.{Passed};
 ghost use Rattle.vcd_text.specs.Feed.{limit_of, seen, source_of};
 ghost use Rattle.vcd_text.specs.Advances.{Advances, CallEnd};
-ghost use Rattle.vcd_view.specs.Finds.{IsSized};
 ghost use Rattle.vcd_body.specs.declared.item.Form.TheVariants as form;
 ghost use Rattle.vcd_body.specs.declared.item.Item.TheVariants as item;
 ghost use Rattle.vcd_body.specs.declared.words.First.TheVariants as first;
@@ -19,17 +17,17 @@ ghost use Rattle.vcd_body.specs.Items.{AreRegsAfter, regs_after};
 ghost use Rattle.vcd_body.specs.Binary.{binary_digits};
 ghost use Rattle.vcd_body.specs.Words.{Begins};
 ghost use Rattle.vcd_body.specs.Reads.{GaveItems};
-ghost use Rattle.vcd_body.specs.Given.{HasGoodText, IsGoodText, IsItem};
-ghost use Rattle.vcd_body.specs.Ahead.{GaveAhead, GaveLast, HasBits, IsPlain, IsSizedItem, LooksOver, PassBoth};
-ghost use Rattle.vcd_body.specs.Spelled.{HasSpelled, Names};
-ghost use Rattle.vcd_body.specs.Taken.{HasTime, Opens, OpensVector, TakesItem};
+ghost use Rattle.vcd_body.specs.Given.{HasGoodText, IsItem};
+ghost use Rattle.vcd_body.specs.Ahead.{GaveAhead, GaveLast, HasBits, IsPlain, IsSizedItem, LooksOver};
+ghost use Rattle.vcd_body.specs.Spelled.{HasSpelled};
+ghost use Rattle.vcd_body.specs.Taken.{HasTime, IsFound, Opens, OpensVector, TakesItem};
 ghost use Rattle.vcd_view.specs.declared.view.HeadView.{HeadView};
 
 use crate::bits::Bits;
 use crate::item::{Form, Item, Regs};
-use crate::phrases::{scalar_code, takes};
-use crate::words::{First, are_digits_or_known, bits_at, first_byte_of, first_of, rest_of};
-use vcd_text::{Ahead, Feed, Source, decimal_of};
+use crate::phrases::{real_text, scalar_code, takes, time_in, vector_text};
+use crate::words::{First, bits_at, first_byte_of, first_of, rest_of};
+use vcd_text::{Ahead, Feed, Source};
 use vcd_view::{Found, HeadView, find_sized};
 
 /// An item that was taken ahead.
@@ -40,7 +38,7 @@ pub struct Plain<'a> {
     /// The text of a change; none for a mark.
     pub text: &'a [u8],
     /// The size of a change's code; 0 where it is an event, and where 32 bits do not hold the size,
-    /// and for a mark.
+    /// and for a mark: `size` tells.
     pub most: usize,
     /// Where the text of a change begins in the bytes that are looked over; where the digits of a
     /// mark begin.
@@ -52,7 +50,24 @@ pub struct Plain<'a> {
     pub bits: Option<Bits>,
 }
 
-/// A change of the code that was found.
+impl Plain<'_> {
+    ghost use Rattle.std.specs.Prelude.{◌≡◌, ◌<◌, IfSome, None};
+
+    /// Returns the size of a change's code; none where it is an event, or is not told, and of a
+    /// mark.
+    #[inline(always)]
+    pub fn size(self) -> Option<usize>
+        ensures told { IfSome result (λ size. (size ≡ self.entry.most) × (0 < size)) }
+        ensures none { result ≡ None → self.entry.most ≡ 0 }
+    {
+        if self.most == 0 {
+            return None;
+        }
+        Some(self.most)
+    }
+}
+
+/// Returns a change of the code that was found.
 #[inline(always)]
 fn change_of(
     found: Found,
@@ -84,7 +99,7 @@ fn change_of(
     }
 }
 
-/// A time mark, whose digits begin at this place.
+/// Returns a time mark, whose digits begin at this place.
 #[inline(always)]
 fn mark_of<'a>(time: u64, at: usize) -> Plain<'a>
     ensures item { result.item ≡ item.Time time }
@@ -103,29 +118,17 @@ fn mark_of<'a>(time: u64, at: usize) -> Plain<'a>
     }
 }
 
-/// The code that stands after the digits of a vector, where there are digits, and the code has room
-/// for them.
+/// Returns the code that stands after the digits of a vector, where there are digits, and the code
+/// has room for them.
 #[inline(always)]
 fn vector_code(token: &[u8], code: &[u8], view: HeadView<'_>, bits: Option<Bits>) -> Option<Found>
     requires begins { Begins token.now first.Vector }
     requires bits { IfSome bits (λ b. drop 1 token.now ≡ binary_digits b.len b.number) }
-    ensures code { (h : Header) → IsViewOf view.entry h
-        → IfSome result (λ found. (c : IdCode) × (slice_get h.codes found.place ≡ Some c)
-        × ((earlier : List BodyPhrase) → PassBoth h.codes earlier token.now code.now
-        (BodyItem.Changes (record {
-          code = c;
-          form = ChangeForm.Vector;
-          text = drop 1 token.now;
-        })))) }
-    ensures sound { IfSome result
-        (λ found. IsGoodText view.entry.codes.now found.place form.Vector (drop 1 token.now)) }
-    ensures names { IfSome result (λ found. Names view.entry found.place code.now) }
-    ensures sized { IfSome result (IsSized view.entry.codes.now) }
+    ensures { IfSome result (IsFound view.entry form.Vector token.now code.now) }
 {
-    let digits = rest_of(token);
-    if !are_digits_or_known(digits, bits) {
+    let Ok(digits) = vector_text(token, bits) else {
         return None;
-    }
+    };
     let found = find_sized(view, code)?;
     if takes(view.codes, found, digits.len()) {
         return Some(found);
@@ -133,7 +136,7 @@ fn vector_code(token: &[u8], code: &[u8], view: HeadView<'_>, bits: Option<Bits>
     None
 }
 
-/// The digits of a vector as a number, where they are few, and `0` and `1` alone.
+/// Returns the digits of a vector as a number, where they are few, and `0` and `1` alone.
 #[inline(always)]
 fn vector_bits(bytes: &[u8], at: usize, token: &[u8]) -> Option<Bits>
     requires within { at + length token.now ≤ length bytes.now }
@@ -144,28 +147,16 @@ fn vector_bits(bytes: &[u8], at: usize, token: &[u8]) -> Option<Bits>
     bits_at(bytes, at + 1, rest_of(token))
 }
 
-/// The code that stands after the text of a real number, where the text has 1 to 64 bytes.
-// Out of line, so that what takes the others stays small enough to be taken in line.
+/// Returns the code that stands after the text of a real number, where the text has 1 to 64 bytes.
+// Not inlined, so that what takes the others stays small enough to be taken in line.
 #[inline(never)]
 fn real_code(token: &[u8], code: &[u8], view: HeadView<'_>) -> Option<Found>
-    requires begins { Begins token.now first.Real }
-    ensures code { (h : Header) → IsViewOf view.entry h
-        → IfSome result (λ found. (c : IdCode) × (slice_get h.codes found.place ≡ Some c)
-        × ((earlier : List BodyPhrase) → PassBoth h.codes earlier token.now code.now
-        (BodyItem.Changes (record {
-          code = c;
-          form = ChangeForm.RealText;
-          text = drop 1 token.now;
-        })))) }
-    ensures sound { IfSome result
-        (λ found. IsGoodText view.entry.codes.now found.place form.RealText (drop 1 token.now)) }
-    ensures names { IfSome result (λ found. Names view.entry found.place code.now) }
-    ensures sized { IfSome result (IsSized view.entry.codes.now) }
+    requires { Begins token.now first.Real }
+    ensures { IfSome result (IsFound view.entry form.RealText token.now code.now) }
 {
-    let text = rest_of(token);
-    if text.is_empty() || text.len() > 64 {
+    let Ok(_) = real_text(token) else {
         return None;
-    }
+    };
     find_sized(view, code)
 }
 
@@ -177,7 +168,7 @@ pub struct Opening<'a> {
     pub(crate) token: &'a [u8],
 }
 
-/// The next token ahead, with what it begins; none where `item_ahead` gives none.
+/// Returns the next token ahead, with what it begins; none where `item_ahead` gives none.
 #[inline(always)]
 pub fn opening_ahead<'a>(ahead: &mut Ahead<'a>) -> Option<Opening<'a>>
     ensures opens { IfSome result (λ o. Opens ahead.old ahead.new o) }
@@ -190,8 +181,8 @@ pub fn opening_ahead<'a>(ahead: &mut Ahead<'a>) -> Option<Opening<'a>>
     })
 }
 
-/// The change that a digit begins, with its code at once. The place is that after the token; none
-/// where it is no such change.
+/// Returns the change that a digit begins, with its code at once. The place is that after the
+/// token; none where it is no such change.
 #[inline(always)]
 pub fn scalar_ahead<'a>(
     opening: Opening<'a>,
@@ -200,9 +191,10 @@ pub fn scalar_ahead<'a>(
 ) -> Option<Plain<'a>>
     requires opens { (a : Ahead) × Opens a ahead opening }
     requires first { (opening.first ≡ first.Bit) ⊎ (opening.first ≡ first.Scalar) }
-    ensures takes { IfSome result (λ plain. (a : Ahead) (r : Regs) → Opens a ahead.entry opening.entry
-        → TakesItem view.entry a ahead.entry r plain) }
-    ensures form { IfSome result (λ plain. (place : ℕ) × (plain.item ≡ item.Change place form.Scalar)) }
+    ensures takes { IfSome result (λ plain. (a : Ahead) (r : Regs)
+        → Opens a ahead.entry opening.entry → TakesItem view.entry a ahead.entry r plain) }
+    ensures form { IfSome result
+        (λ plain. (place : ℕ) × (plain.item ≡ item.Change place form.Scalar)) }
 {
     let token = opening.token;
     let found = scalar_code(token, view).ok()?;
@@ -224,8 +216,8 @@ pub struct VectorTokens<'a> {
     pub(crate) code_at: usize,
 }
 
-/// The token that a `b` and digits begin, with the code that is the next one. The place is that
-/// after the digits, and then that after the code; none where `item_ahead` gives none.
+/// Returns the token that a `b` and digits begin, with the code that is the next one. The place is
+/// that after the digits, and then that after the code; none where `item_ahead` gives none.
 #[inline(always)]
 pub fn vector_tokens_ahead<'a>(
     opening: Opening<'a>,
@@ -251,8 +243,8 @@ pub fn vector_tokens_ahead<'a>(
     })
 }
 
-/// The change that these tokens are, where the number of its digits is known or not. The place is
-/// that after them; none where they are no such change.
+/// Returns the change that these tokens are, where the number of its digits is known or not. The
+/// place is that after them; none where they are no such change.
 // What is known is asked before it, so that what is done with the change need not ask again.
 #[inline(always)]
 pub fn vector_ahead<'a>(
@@ -265,7 +257,8 @@ pub fn vector_ahead<'a>(
     requires bits { bits ≡ tokens.bits }
     ensures takes { IfSome result (λ plain. (a : Ahead) (r : Regs)
         → OpensVector a ahead.entry tokens.entry → TakesItem view.entry a ahead.entry r plain) }
-    ensures form { IfSome result (λ plain. (place : ℕ) × (plain.item ≡ item.Change place form.Vector)) }
+    ensures form { IfSome result
+        (λ plain. (place : ℕ) × (plain.item ≡ item.Change place form.Vector)) }
 {
     let found = vector_code(tokens.token, tokens.code, view, bits)?;
     let digits = rest_of(tokens.token);
@@ -279,7 +272,7 @@ pub fn vector_ahead<'a>(
     ))
 }
 
-/// The change that an `r` and the text of a real number begin, as `vector_tokens_ahead` and
+/// Returns the change that an `r` and the text of a real number begin, as `vector_tokens_ahead` and
 /// `vector_ahead` do.
 #[inline(always)]
 pub fn real_ahead<'a>(
@@ -291,7 +284,8 @@ pub fn real_ahead<'a>(
     requires first { opening.first ≡ first.Real }
     ensures takes { IfSome result (λ plain. (a : Ahead) (r : Regs) → Opens a ahead.old opening.entry
         → TakesItem view.entry a ahead.new r plain) }
-    ensures form { IfSome result (λ plain. (place : ℕ) × (plain.item ≡ item.Change place form.RealText)) }
+    ensures form { IfSome result
+        (λ plain. (place : ℕ) × (plain.item ≡ item.Change place form.RealText)) }
 {
     let token = opening.token;
     let at = ahead.passed() - 1 - token.len();
@@ -301,17 +295,17 @@ pub fn real_ahead<'a>(
     Some(change_of(found, Form::RealText, rest_of(token), None, at + 1, code_at))
 }
 
-/// The time of the mark that a token is; none where it spells none.
+/// Returns the time of the mark that a token is; none where it spells none.
 #[inline(always)]
 pub fn time_ahead(opening: Opening<'_>) -> Option<u64>
     ensures time { IfSome result (λ time. HasTime opening.entry time) }
     ensures all { (time : ℕ) → HasTime opening.entry time → result ≡ Some time }
 {
-    decimal_of(rest_of(opening.token))
+    time_in(opening.token)
 }
 
-/// The mark of the time that a token spells, and the registers after it. The place is that after
-/// it; none where it may not stand here, and then nothing has changed.
+/// Returns the mark of the time that a token spells, and the registers after it. The place is that
+/// after it; none where it may not stand here, and then nothing has changed.
 #[inline(always)]
 pub fn mark_ahead<'a>(
     opening: Opening<'a>,
@@ -330,15 +324,15 @@ pub fn mark_ahead<'a>(
     ensures regs { MatchOption result (regs.new ≡ regs.old)
         (λ plain. regs.new ≡ regs_after regs.old plain.item) }
 {
-    if !regs.take_mark(time) {
-        return None;
-    }
     let at = ahead.passed() - 1 - opening.token.len();
-    Some(mark_of(time, at + 1))
+    match regs.take_mark(time) {
+        Ok(()) => Some(mark_of(time, at + 1)),
+        Err(_) => None,
+    }
 }
 
-/// The next item, where it is a time mark or a change, and its tokens lie whole ahead. Else none,
-/// and then nothing has changed: `next_item` gives it, or its fault.
+/// Returns the next item, where it is a time mark or a change, and its tokens lie whole ahead. Else
+/// none, and then nothing has changed: `next_item` gives it, or its fault.
 #[inline(always)]
 pub fn item_ahead<'a>(
     ahead: &mut Ahead<'a>,

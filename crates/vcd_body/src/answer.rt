@@ -38,7 +38,7 @@ pub enum Stop {
 }
 
 impl Stop {
-    /// The answer to a fault of the body of the input at a place.
+    /// Returns the answer to a fault of the body of the input at a place.
     pub fn of_body(fault: BodyFault, input: usize, line: u64) -> Stop
         ensures { result ≡ stop_of_body fault input line }
     {

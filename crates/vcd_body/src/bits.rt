@@ -1,10 +1,10 @@
 //! Up to 32 binary digits as a number, and how a slot holds them.
 ghost use Rattle.std.specs.Prelude.{◌≡◌, ◌-◌, ◌<◌, ◌≤◌, ◌^◌, get_or, length, max, slice_get, true, ℕ};
 ghost use Rattle.vcd_body.specs.Binary.{binary_digits, count_in, is_proper, number_in};
-ghost use Rattle.vcd_body.specs.Stored.{len_in, state_in};
+ghost use Rattle.vcd_body.specs.Stored.{len_in, len_of, state_in};
 ghost use Rattle.vcd_body.specs.declared.slot.State.{State};
 
-use crate::slot::Slot;
+use crate::slot::{Holding, Slot};
 
 /// One to 32 binary digits, as the number that they write.
 #[derive(Clone, Copy, PartialEq, Eq, Debug)]
@@ -19,8 +19,8 @@ pub struct Bits {
 impl Bits {
     ghost use Rattle.std.specs.Prelude.{IfSome, None, ◌≢◌};
 
-    /// So many digits of this number. None where they are none or more than 32, or the number has
-    /// more.
+    /// Returns so many digits of this number. None where they are none or more than 32, or the
+    /// number has more.
     #[inline(always)]
     #[tactic(auto, using(crate::proofs::NumberLemmas::small_number, crate::proofs::NumberLemmas::small_rest))]
     pub fn new(len: usize, number: usize) -> Option<Bits>
@@ -34,7 +34,8 @@ impl Bits {
     }
 }
 
-/// The digits as a slot holds them: their number, and how many they are as the number of a state.
+/// Returns the digits as a slot holds them: their number, and how many they are as the number of a
+/// state.
 #[inline(always)]
 #[tactic(auto, using(crate::proofs::StoreLemmas::many_bits))]
 pub(crate) fn held_bits(bits: Bits) -> (u32, u8)
@@ -45,56 +46,58 @@ pub(crate) fn held_bits(bits: Bits) -> (u32, u8)
     (bits.number as u32, bits.len as u8 + 8)
 }
 
-/// How many digits are held.
+/// Returns how many binary digits are held.
 #[inline(always)]
-pub(crate) fn count_in(len: usize) -> usize
-    ensures { result ≡ count_in len }
+pub(crate) fn count_in(holding: Holding) -> usize
+    ensures { result ≡ count_in (len_of holding) }
 {
-    (len / 4_294_967_296).min(32)
+    (holding.upper as usize).min(32)
 }
 
-/// Their number.
+/// Returns their number.
 #[inline(always)]
-pub(crate) fn number_in(len: usize) -> usize
-    ensures { result ≡ number_in len }
+fn number_in(holding: Holding) -> usize
+    ensures { result ≡ number_in (len_of holding) }
 {
-    len % 4_294_967_296
+    holding.lower as usize
 }
 
-/// Whether they are some, and the number has no others.
+/// Returns whether they are some, and the number has no others.
 #[inline(always)]
-pub(crate) fn is_proper(len: usize) -> bool
-    ensures { result ≡ is_proper len }
+pub(crate) fn is_proper(holding: Holding) -> bool
+    ensures { result ≡ is_proper (len_of holding) }
 {
-    let count = count_in(len);
-    count > 0 && number_in(len) >> count == 0
+    let count = count_in(holding);
+    count > 0 && number_in(holding) >> count == 0
 }
 
-/// The digit at a place of those that a slot holds; none after the last.
+/// Returns the digit at a place of those that a slot holds; none after the last.
 #[inline(always)]
-pub(crate) fn binary_digit(len: usize, place: usize) -> Option<u8>
-    ensures { result ≡ slice_get (binary_digits (count_in len) (number_in len)) place }
+pub(crate) fn binary_digit(holding: Holding, place: usize) -> Option<u8>
+    ensures { result ≡ slice_get
+        (binary_digits (count_in (len_of holding)) (number_in (len_of holding))) place }
 {
-    let count = count_in(len);
+    let count = count_in(holding);
     if place >= count {
         return None;
     }
     let back = count - 1 - place;
-    let digit = (number_in(len) >> back) % 2;
+    let digit = (number_in(holding) >> back) % 2;
     Some(b'0' + digit as u8)
 }
 
-/// The last digit of those that a slot holds.
+/// Returns the last digit of those that a slot holds.
 #[inline(always)]
-pub(crate) fn last_binary(len: usize) -> Option<u8>
-    requires { 1 ≤ count_in len }
-    ensures { result
-        ≡ slice_get (binary_digits (count_in len) (number_in len)) (count_in len - 1) }
+pub(crate) fn last_binary(holding: Holding) -> Option<u8>
+    requires { 1 ≤ count_in (len_of holding) }
+    ensures { result ≡ slice_get
+        (binary_digits (count_in (len_of holding)) (number_in (len_of holding)))
+        (count_in (len_of holding) - 1) }
 {
-    binary_digit(len, count_in(len) - 1)
+    binary_digit(holding, count_in(holding) - 1)
 }
 
-/// The digit at a place.
+/// Returns the digit at a place.
 #[inline(always)]
 fn digit_of_bits(bits: Bits, place: usize) -> u8
     requires { place < bits.len }
@@ -115,8 +118,8 @@ pub(crate) fn put_digits(bits: Bits, to: &mut [u8])
     }
 }
 
-/// Whether a slot holds binary digits, and neither these nor those are more than the size: so both
-/// make values of as many digits.
+/// Returns whether a slot holds binary digits, and neither these nor those are more than the size:
+/// so both make values of as many digits.
 #[inline(always)]
 #[tactic(auto, using(crate::proofs::StoreLemmas::many_bits))]
 pub(crate) fn is_number_step(slot: &Slot, size: usize, bits: Bits) -> bool

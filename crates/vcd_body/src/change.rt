@@ -2,32 +2,31 @@
 ghost use Rattle.std.specs.Prelude.{◌≡◌, ◌≢◌, ℕ, ◌-◌, ◌^◌, ◌<◌, ◌≤◌, ◌++◌, ◌∷◌, ◌==◌, List, [], false, true, take, drop, length, slice_index, IfSome};
 ghost use Rattle.std.specs.Char.{to_ascii_lowercase as lower};
 ghost use Rattle.std.specs.Str.{str_to_ascii_lowercase};
-ghost use Rattle.vcd_model.specs.Values.{extend, extension, short, change_line};
+ghost use Rattle.vcd_model.specs.Values.{extend, extension, short};
 ghost use Rattle.vcd_text.specs.Device.{Counts, Puts, Takes, failures_after};
-ghost use Rattle.vcd_body.specs.Items.{model_form};
 ghost use Rattle.vcd_body.specs.Binary.{binary_digits};
-ghost use Rattle.vcd_body.specs.Changes.{digits_line};
+ghost use Rattle.vcd_body.specs.Changes.{digits_line, line_under};
 
 use crate::bits::Bits;
 use crate::item::Form;
 use crate::words::rest_of;
 use vcd_text::{Sink, WriteFailed, put};
 
-// What digits that begin with this one, in lower case, are extended by.
+// Returns what digits that begin with this one, in lower case, are extended by.
 pub(crate) fn extension_of(digit: u8) -> u8
     ensures { result ≡ extension (digit ∷ []) }
 {
     if digit == b'1' { b'0' } else { digit }
 }
 
-// What a value that begins with this digit is extended by.
+// Returns what a value that begins with this digit is extended by.
 pub(crate) fn extended_by(digit: u8) -> u8
     ensures { result ≡ extension (lower digit ∷ []) }
 {
     extension_of(digit.to_ascii_lowercase())
 }
 
-// Whether some digit is not a zero.
+// Returns whether some digit is not a zero.
 #[inline(always)]
 fn has_other(digits: &[u8]) -> bool
     ensures { result ≡ false → (k : ℕ) → k < length digits.now → slice_index digits.now k ≡ 48 }
@@ -55,7 +54,7 @@ fn cut_blocks(digits: &[u8]) -> &[u8]
     rest
 }
 
-// The shortest digits that extend to the same value.
+// Returns the shortest digits that extend to the same value.
 pub(crate) fn shortest(digits: &[u8]) -> &[u8]
     requires { 0 < length digits.now }
     ensures { (size : ℕ) → str_to_ascii_lowercase result.now
@@ -72,7 +71,7 @@ pub(crate) fn shortest(digits: &[u8]) -> &[u8]
     rest
 }
 
-// Whether a byte is a capital letter.
+// Returns whether a byte is a capital letter.
 pub(crate) fn has_capital(bytes: &[u8]) -> bool
     ensures { result ≡ false → str_to_ascii_lowercase bytes.now ≡ bytes.now }
 {
@@ -183,7 +182,7 @@ pub(crate) fn put_real<W: Sink>(w: &mut W, text: &[u8], id: &[u8]) -> Result<(),
     put_end(w, b' ', id)
 }
 
-// How many digits the shortest ones of a number are.
+// Returns how many digits the shortest ones of a number are.
 #[inline(always)]
 pub(crate) fn needed(bits: Bits) -> usize
     ensures some { 1 ≤ result }
@@ -195,7 +194,8 @@ pub(crate) fn needed(bits: Bits) -> usize
     64 - bits.number.max(1).leading_zeros() as usize
 }
 
-// The shortest digits that extend to the same value, where the number of all of them is known.
+// Returns the shortest digits that extend to the same value, where the number of all of them is
+// known.
 #[inline(always)]
 pub(crate) fn shortest_known(digits: &[u8], bits: Bits) -> &[u8]
     requires { digits.now ≡ binary_digits bits.len bits.number }
@@ -254,7 +254,7 @@ fn put_event<W: Sink>(w: &mut W, id: &[u8]) -> Result<(), WriteFailed>
     put_end(w, b'1', id)
 }
 
-// Whether a change of one digit is that of a bit, as most are. One branch tells.
+// Returns whether a change of one digit is that of a bit, as most are. One branch tells.
 #[inline(always)]
 pub(crate) fn is_bit(size: usize, event: bool, form: Form) -> bool
     ensures { result ≡ true → (size ≡ 1) × (event ≡ false) × (form ≡ Form.Scalar) }
@@ -274,11 +274,7 @@ pub(crate) fn put_own_change<W: Sink>(
     requires failures { (W.device w.old).failures < 2 ^ 64 - 1 }
     requires digits { event ≡ false → form ≢ Form.RealText → 0 < length text.now }
     ensures { Puts (W.device w.old) (W.device w.new)
-        (change_line (record {
-          code = record { text = id.now; size = size; event = event };
-          form = model_form form;
-          text = text.now;
-        })) result }
+        (line_under id.now size event form text.now) result }
 {
     match text {
         [digit] if is_bit(size, event, form) => put_end(w, digit.to_ascii_lowercase(), id),

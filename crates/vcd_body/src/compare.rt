@@ -4,9 +4,9 @@ ghost use Rattle.std.specs.Bool.{Decides};
 ghost use Rattle.std.specs.Str.{bytes_eq, str_to_ascii_lowercase};
 ghost use Rattle.vcd_model.specs.Values.{extend, extension, value_with};
 ghost use Rattle.vcd_body.specs.Items.{model_form};
-ghost use Rattle.vcd_body.specs.Kept.{Held, differs, value_at_size};
+ghost use Rattle.vcd_body.specs.Kept.{AreTwo, Held, are_two, differs, value_at_size};
 ghost use Rattle.vcd_body.specs.Packed.{held_digit};
-ghost use Rattle.vcd_body.specs.Stored.{digits_with, held_with, some_by, used};
+ghost use Rattle.vcd_body.specs.Stored.{HoldsIn, digits_with, held_with, used};
 
 use crate::change::extended_by;
 use crate::held::{count_of, digit_held, digit_shown};
@@ -14,7 +14,7 @@ use crate::item::Form;
 use crate::packed::{held_digit, packed_ends_differ, plain_ends_differ};
 use crate::slot::{Holding, State, digit_of_state};
 
-// What a text is extended by.
+// Returns what a text is extended by.
 fn extension_of_text(text: &[u8]) -> u8
     ensures { result ≡ extension (str_to_ascii_lowercase text.now) }
 {
@@ -24,7 +24,7 @@ fn extension_of_text(text: &[u8]) -> u8
     }
 }
 
-// The digit at a place of a text that is extended to a size; 0 where there is none.
+// Returns the digit at a place of a text that is extended to a size; 0 where there is none.
 #[inline(always)]
 fn text_digit(text: &[u8], size: usize, place: usize) -> u8
     ensures { result ≡ get_or (extend (str_to_ascii_lowercase text.now) size) place 0 }
@@ -43,8 +43,7 @@ fn text_digit(text: &[u8], size: usize, place: usize) -> u8
 // none.
 #[inline(always)]
 fn shown_digit(holding: Holding, share: &[u8], size: usize, place: usize) -> u8
-    requires used { used holding ≤ length share.now }
-    requires some { 1 ≤ some_by holding.state holding.len }
+    requires held { HoldsIn holding share.now }
     requires digits { held_with holding share.now ≡ Held.Digits (digits_with holding share.now) }
     ensures { result ≡ get_or (extend (digits_with holding share.now) size) place 0 }
 {
@@ -54,11 +53,10 @@ fn shown_digit(holding: Holding, share: &[u8], size: usize, place: usize) -> u8
     }
 }
 
-// Whether the digits that are held and a text are the same, both extended to a size that is no less
-// than their lengths. It looks from the right, where they mostly differ.
+// Returns whether the digits that are held and a text are the same, both extended to a size that is
+// no less than their lengths. It looks from the right, where they mostly differ.
 fn are_same(holding: Holding, share: &[u8], text: &[u8], size: usize) -> bool
-    requires used { used holding ≤ length share.now }
-    requires some { 1 ≤ some_by holding.state holding.len }
+    requires held { HoldsIn holding share.now }
     requires digits { held_with holding share.now ≡ Held.Digits (digits_with holding share.now) }
     requires held_fit { length (digits_with holding share.now) ≤ size }
     requires text_fits { length text.now ≤ size }
@@ -75,8 +73,8 @@ fn are_same(holding: Holding, share: &[u8], text: &[u8], size: usize) -> bool
     true
 }
 
-// Whether digits that are held a byte each and a text of as many are the same. It looks from the
-// right too.
+// Returns whether digits that are held a byte each and a text of as many are the same. It looks
+// from the right too.
 fn are_same_plain(share: &[u8], text: &[u8]) -> bool
     requires { length share.now ≡ length text.now }
     ensures { Decides result (map held_digit share.now ≡ str_to_ascii_lowercase text.now) }
@@ -91,25 +89,23 @@ fn are_same_plain(share: &[u8], text: &[u8]) -> bool
     true
 }
 
-// Whether a digit of those that are held a byte each and one of a text differ, each so many places
-// before the last.
+// Returns whether a digit of those that are held a byte each and one of a text differ, each so many
+// places before the last.
 #[inline(always)]
 fn differ_at(share: &[u8], text: &[u8], back: usize) -> bool
     requires share { back < length share.now }
     requires text { back < length text.now }
-    ensures { result ≡ true → (size : ℕ) → extend (map held_digit share.now) size
-        ≢ extend (str_to_ascii_lowercase text.now) size }
+    ensures { result ≡ true → AreTwo (map held_digit share.now) text.now }
 {
     held_digit(share[share.len() - 1 - back]) != text[text.len() - 1 - back].to_ascii_lowercase()
 }
 
-// Whether the last four digits of those that are held a byte each and of a text differ; false where
-// either are fewer. Most values that differ do so there, and it takes no branches by what the
-// digits are.
+// Returns whether the last four digits of those that are held a byte each and of a text differ;
+// false where either are fewer. Most values that differ do so there, and it takes no branches by
+// what the digits are.
 #[inline(always)]
 fn ends_differ(share: &[u8], text: &[u8]) -> bool
-    ensures { result ≡ true → (size : ℕ) → extend (map held_digit share.now) size
-        ≢ extend (str_to_ascii_lowercase text.now) size }
+    ensures { result ≡ true → AreTwo (map held_digit share.now) text.now }
 {
     if share.len() < 4 || text.len() < 4 {
         return false;
@@ -119,13 +115,12 @@ fn ends_differ(share: &[u8], text: &[u8]) -> bool
     last | others
 }
 
-// Whether a digit of those that are held and one of a text differ, each so many places before the
-// last; false where either has fewer.
+// Returns whether a digit of those that are held and one of a text differ, each so many places
+// before the last; false where either has fewer.
 #[inline(always)]
 fn held_differs_at(holding: Holding, share: &[u8], text: &[u8], back: usize) -> bool
     requires used { used holding ≤ length share.now }
-    ensures { result ≡ true → (size : ℕ) → extend (digits_with holding share.now) size
-        ≢ extend (str_to_ascii_lowercase text.now) size }
+    ensures { result ≡ true → AreTwo (digits_with holding share.now) text.now }
 {
     let held = count_of(holding, share);
     if back >= held || back >= text.len() {
@@ -137,13 +132,12 @@ fn held_differs_at(holding: Holding, share: &[u8], text: &[u8], back: usize) -> 
     }
 }
 
-// Whether one of the last eight digits of those that are held and of a text differs, where both
-// have it. It looks from the right, where they mostly differ.
+// Returns whether one of the last eight digits of those that are held and of a text differs, where
+// both have it. It looks from the right, where they mostly differ.
 #[inline(always)]
 fn lasts_differ(holding: Holding, share: &[u8], text: &[u8]) -> bool
     requires used { used holding ≤ length share.now }
-    ensures { result ≡ true → (size : ℕ) → extend (digits_with holding share.now) size
-        ≢ extend (str_to_ascii_lowercase text.now) size }
+    ensures { result ≡ true → AreTwo (digits_with holding share.now) text.now }
 {
     for back in 0..8 {
         if held_differs_at(holding, share, text, back) {
@@ -153,17 +147,16 @@ fn lasts_differ(holding: Holding, share: &[u8], text: &[u8]) -> bool
     false
 }
 
-// Whether the last 16 digits of several that are held and of a text tell that the values differ,
-// where both have as many. Most values that differ do so there.
+// Returns whether the last 16 digits of several that are held and of a text tell that the values
+// differ, where both have as many. Most values that differ do so there.
 #[inline(always)]
 fn ends_tell(holding: Holding, share: &[u8], text: &[u8]) -> bool
     requires used { used holding ≤ length share.now }
-    ensures { result ≡ true → (size : ℕ) → extend (digits_with holding share.now) size
-        ≢ extend (str_to_ascii_lowercase text.now) size }
+    ensures { result ≡ true → AreTwo (digits_with holding share.now) text.now }
 {
     match holding.state {
         State::Plain => plain_ends_differ(share, text),
-        State::Digits => packed_ends_differ(share, holding.len, text),
+        State::Digits => packed_ends_differ(share, holding.len(), text),
         _ => false,
     }
 }
@@ -173,8 +166,7 @@ fn ends_tell(holding: Holding, share: &[u8], text: &[u8]) -> bool
 #[inline(always)]
 fn few_tell(holding: Holding, share: &[u8], text: &[u8]) -> bool
     requires used { used holding ≤ length share.now }
-    ensures { result ≡ true → (size : ℕ) → extend (digits_with holding share.now) size
-        ≢ extend (str_to_ascii_lowercase text.now) size }
+    ensures { result ≡ true → AreTwo (digits_with holding share.now) text.now }
 {
     match holding.state {
         State::Plain => ends_differ(share, text),
@@ -183,15 +175,13 @@ fn few_tell(holding: Holding, share: &[u8], text: &[u8]) -> bool
     }
 }
 
-// Whether a text gives a code of this size other digits than several that are held, or is itself of
-// several. It takes as long as these digits and the text are, whatever the size is.
+// Returns whether a text gives a code of this size other digits than several that are held, or is
+// itself of several. It takes as long as these digits and the text are, whatever the size is.
 #[inline(never)]
 fn all_differ(holding: Holding, share: &[u8], size: usize, text: &[u8]) -> bool
-    requires used { used holding ≤ length share.now }
-    requires some { 1 ≤ some_by holding.state holding.len }
+    requires held { HoldsIn holding share.now }
     requires digits { held_with holding share.now ≡ Held.Digits (digits_with holding share.now) }
-    ensures { result ≡ not (bytes_eq (extend (digits_with holding share.now) size)
-        (extend (str_to_ascii_lowercase text.now) size)) }
+    ensures { result ≡ are_two size (digits_with holding share.now) text.now }
 {
     if few_tell(holding, share, text) {
         return true;
@@ -210,24 +200,20 @@ fn all_differ(holding: Holding, share: &[u8], size: usize, text: &[u8]) -> bool
 // looks at the last digits first.
 #[inline(always)]
 fn several_differ(holding: Holding, share: &[u8], size: usize, text: &[u8]) -> bool
-    requires used { used holding ≤ length share.now }
-    requires some { 1 ≤ some_by holding.state holding.len }
+    requires held { HoldsIn holding share.now }
     requires digits { held_with holding share.now ≡ Held.Digits (digits_with holding share.now) }
-    ensures { result ≡ not (bytes_eq (extend (digits_with holding share.now) size)
-        (extend (str_to_ascii_lowercase text.now) size)) }
+    ensures { result ≡ are_two size (digits_with holding share.now) text.now }
 {
     ends_tell(holding, share, text) || all_differ(holding, share, size, text)
 }
 
-// Whether a text gives a code of this size other digits than those that are held. Most are one
-// digit.
+// Returns whether a text gives a code of this size other digits than those that are held. Most are
+// one digit.
 #[inline(always)]
 fn digits_differ(holding: Holding, share: &[u8], size: usize, text: &[u8]) -> bool
-    requires used { used holding ≤ length share.now }
-    requires some { 1 ≤ some_by holding.state holding.len }
+    requires held { HoldsIn holding share.now }
     requires digits { held_with holding share.now ≡ Held.Digits (digits_with holding share.now) }
-    ensures { result ≡ not (bytes_eq (extend (digits_with holding share.now) size)
-        (extend (str_to_ascii_lowercase text.now) size)) }
+    ensures { result ≡ are_two size (digits_with holding share.now) text.now }
 {
     match (text, digit_of_state(holding.state)) {
         ([digit], Some(held)) => held != digit.to_ascii_lowercase(),
@@ -235,7 +221,8 @@ fn digits_differ(holding: Holding, share: &[u8], size: usize, text: &[u8]) -> bo
     }
 }
 
-/// Whether a text gives a code of this size another value than it has; false where it has none.
+/// Returns whether a text gives a code of this size another value than it has; false where it has
+/// none.
 #[inline(always)]
 pub(crate) fn value_differs(
     holding: Holding,
@@ -244,8 +231,7 @@ pub(crate) fn value_differs(
     form: Form,
     text: &[u8],
 ) -> bool
-    requires used { used holding ≤ length share.now }
-    requires some { 1 ≤ some_by holding.state holding.len }
+    requires { HoldsIn holding share.now }
     ensures { result ≡ differs (value_at_size size (held_with holding share.now))
         (value_with size (model_form form) text.now) }
 {

@@ -4,7 +4,7 @@ ghost use Rattle.std.specs.Prelude.{◌≡◌, ◌⊎◌, ◌==◌, ℕ, ◌<◌
 ghost use Rattle.vcd_body.specs.Counters.{count_of, counts_of};
 ghost use Rattle.vcd_body.specs.Kept.{counts_if, counts_with};
 
-/// The counters.
+/// Returns the counters.
 #[inline(always)]
 pub(crate) fn counts_of(low: [u8; 3], middle: [u32; 3], high: [u16; 3], top: [u8; 3]) -> [u64; 3]
     ensures { result ≡ counts_of low middle high top }
@@ -16,7 +16,7 @@ pub(crate) fn counts_of(low: [u8; 3], middle: [u32; 3], high: [u16; 3], top: [u8
     ]
 }
 
-/// A counter of these parts.
+/// Returns a counter of these parts.
 #[inline(always)]
 fn count_of(low: u8, middle: u32, high: u16, top: u8) -> u64
     ensures { result ≡ count_of low middle high top }

@@ -37,7 +37,7 @@ impl BodyFault {
     ghost use Rattle.std.specs.Prelude.{◌≡◌};
     ghost use Rattle.vcd_body.specs.Fault.{fault_number};
 
-    /// The number of the fault.
+    /// Returns the number of the fault.
     pub fn number(self) -> u8
         ensures { result ≡ fault_number self }
     {

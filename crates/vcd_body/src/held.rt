@@ -1,14 +1,14 @@
 // The digits that are held, and those of the value.
 ghost use Rattle.std.specs.Prelude.{◌≡◌, ℕ, ◌≤◌, length, slice_get};
 ghost use Rattle.vcd_body.specs.Kept.{digit_in, last_digit_in, value_at_size};
-ghost use Rattle.vcd_body.specs.Stored.{digits_with, held_with, some_by, used};
+ghost use Rattle.vcd_body.specs.Stored.{HoldsIn, digits_with, held_with, used};
 
 use crate::bits::{binary_digit, count_in, last_binary};
 use crate::change::extension_of;
 use crate::packed::{digit_at, plain_digit_at};
 use crate::slot::{Holding, State, digit_of_state};
 
-/// How many digits are held.
+/// Returns how many digits are held.
 #[inline(always)]
 pub(crate) fn count_of(holding: Holding, share: &[u8]) -> usize
     requires { used holding ≤ length share.now }
@@ -18,30 +18,29 @@ pub(crate) fn count_of(holding: Holding, share: &[u8]) -> usize
         State::Unset | State::Real => 0,
         State::Zero | State::One | State::Unknown | State::High => 1,
         State::Plain => share.len(),
-        State::Digits => holding.len,
-        State::Bits => count_in(holding.len),
+        State::Digits => holding.len(),
+        State::Bits => count_in(holding),
     }
 }
 
-/// The digit at a place of those that are held.
+/// Returns the digit at a place of those that are held.
 #[inline(always)]
 pub(crate) fn digit_held(holding: Holding, share: &[u8], place: usize) -> Option<u8>
     ensures { result ≡ slice_get (digits_with holding share.now) place }
 {
     match holding.state {
         State::Plain => plain_digit_at(share, place),
-        State::Digits => digit_at(share, holding.len, place),
-        State::Bits => binary_digit(holding.len, place),
+        State::Digits => digit_at(share, holding.len(), place),
+        State::Bits => binary_digit(holding, place),
         state if place == 0 => digit_of_state(state),
         _ => None,
     }
 }
 
-/// The digit at a place of the value at a size, from the left; none where it has none.
+/// Returns the digit at a place of the value at a size, from the left; none where it has none.
 #[inline(always)]
 pub(crate) fn digit_shown(holding: Holding, share: &[u8], size: usize, place: usize) -> Option<u8>
-    requires used { used holding ≤ length share.now }
-    requires some { 1 ≤ some_by holding.state holding.len }
+    requires { HoldsIn holding share.now }
     ensures { result
         ≡ digit_in (value_at_size size (held_with holding share.now)) place }
 {
@@ -55,18 +54,17 @@ pub(crate) fn digit_shown(holding: Holding, share: &[u8], size: usize, place: us
     digit_held(holding, share, place - missing)
 }
 
-/// The last digit of the value at each size; none where it has none.
+/// Returns the last digit of the value at each size; none where it has none.
 #[inline(always)]
 pub(crate) fn last_held(holding: Holding, share: &[u8]) -> Option<u8>
-    requires used { used holding ≤ length share.now }
-    requires some { 1 ≤ some_by holding.state holding.len }
+    requires { HoldsIn holding share.now }
     ensures { (size : ℕ) → result
         ≡ last_digit_in (value_at_size size (held_with holding share.now)) }
 {
     match holding.state {
         State::Plain => plain_digit_at(share, share.len() - 1),
-        State::Digits => digit_at(share, holding.len, holding.len - 1),
-        State::Bits => last_binary(holding.len),
+        State::Digits => digit_at(share, holding.len(), holding.len() - 1),
+        State::Bits => last_binary(holding),
         state => digit_of_state(state),
     }
 }

@@ -5,7 +5,7 @@ ghost use Rattle.vcd_model.specs.Sample.{shown};
 ghost use Rattle.vcd_model.specs.Values.{extend, short};
 ghost use Rattle.vcd_text.specs.Device.{Counts, Puts, Takes, failures_after};
 ghost use Rattle.vcd_body.specs.Kept.{value_at_size};
-ghost use Rattle.vcd_body.specs.Stored.{digits_with, held_line, held_with, some_by, used};
+ghost use Rattle.vcd_body.specs.Stored.{HoldsIn, digits_with, held_line, held_with, used};
 
 use crate::change::{extension_of, put_end, put_real};
 use crate::held::{count_of, digit_held};
@@ -27,7 +27,7 @@ fn put_repeated<W: Sink>(digit: u8, count: usize, w: &mut W) -> Result<(), Write
     Ok(())
 }
 
-// The digit at a place of those that are held, 0 where there is none.
+// Returns the digit at a place of those that are held, 0 where there is none.
 #[inline(always)]
 fn digit_or(holding: Holding, share: &[u8], place: usize) -> u8
     ensures { result ≡ get_or (digits_with holding share.now) place 0 }
@@ -72,7 +72,7 @@ fn put_from<W: Sink>(
     Ok(())
 }
 
-// Where the shortest digits begin that extend to the same value.
+// Returns where the shortest digits begin that extend to the same value.
 fn first_needed(holding: Holding, share: &[u8]) -> usize
     requires used { used holding ≤ length share.now }
     requires some { 0 < length (digits_with holding share.now) }
@@ -156,8 +156,7 @@ pub(crate) fn put_value_line<W: Sink>(
     w: &mut W,
 ) -> Result<(), WriteFailed>
     requires failures { (W.device w.old).failures < 2 ^ 64 - 1 }
-    requires used { used holding ≤ length share.now }
-    requires some { 1 ≤ some_by holding.state holding.len }
+    requires held { HoldsIn holding share.now }
     ensures { (event : Bool) → Puts (W.device w.old) (W.device w.new)
         (line_if_set (record { text = id.now; size = size; event = event })
         (value_at_size size (held_with holding share.now))) result }
@@ -204,8 +203,7 @@ pub(crate) fn put_value<W: Sink>(
     w: &mut W,
 ) -> Result<(), WriteFailed>
     requires failures { (W.device w.old).failures < 2 ^ 64 - 1 }
-    requires used { used holding ≤ length share.now }
-    requires some { 1 ≤ some_by holding.state holding.len }
+    requires held { HoldsIn holding share.now }
     ensures { Puts (W.device w.old) (W.device w.new)
         (shown (value_at_size size (held_with holding share.now))) result }
 {

@@ -1,9 +1,8 @@
 // Changes as they are written, under a code of a header or a new one.
 ghost use Rattle.std.specs.Prelude.{◌≡◌, ◌≢◌, ◌-◌, ◌^◌, ◌<◌, false, length};
-ghost use Rattle.vcd_model.specs.Values.{change_line};
+ghost use Rattle.vcd_body.specs.Changes.{line_under};
 ghost use Rattle.vcd_text.specs.Device.{Puts, failures_after};
 ghost use Rattle.vcd_body.specs.Id.{id_text};
-ghost use Rattle.vcd_body.specs.Items.{model_form};
 
 use crate::change::put_own_change;
 use crate::item::Form;
@@ -33,11 +32,7 @@ pub fn put_change<W: Sink>(
     requires failures { (W.device w.old).failures < 2 ^ 64 - 1 }
     requires digits { event ≡ false → form ≢ Form.RealText → 0 < length text.now }
     ensures { Puts (W.device w.old) (W.device w.new)
-        (change_line (record {
-          code = record { text = id_text id.entry; size = size; event = event };
-          form = model_form form;
-          text = text.now;
-        })) result }
+        (line_under (id_text id.entry) size event form text.now) result }
 {
     match id {
         Id::Own(code) => put_own_change(size, event, form, text, code, w),

@@ -1,4 +1,5 @@
 // What a body is made of.
+use crate::fault::BodyFault;
 
 /// What opens a section.
 #[derive(Clone, Copy, PartialEq, Eq, Debug)]
@@ -52,11 +53,11 @@ pub struct Regs {
 }
 
 impl Regs {
-    ghost use Rattle.std.specs.Prelude.{◌≡◌, [], false, not, cond, ◌&&◌, nat_le, is_some, None};
-    ghost use Rattle.vcd_body.specs.Items.{AreRegsAfter, regs_after};
+    ghost use Rattle.std.specs.Prelude.{◌≡◌, [], false, None, MatchResult};
+    ghost use Rattle.vcd_body.specs.Items.{AreRegsAfter, MayMark, RefusesMark, regs_after};
     ghost use Rattle.vcd_body.specs.declared.item.Item.TheVariants as item;
 
-    /// Before the first item.
+    /// Returns what is known before the first item.
     pub fn new() -> Regs
         ensures known { AreRegsAfter [] result }
         ensures value { result ≡ record { time = 0; marked = false; section = None } }
@@ -68,19 +69,23 @@ impl Regs {
         }
     }
 
-    /// Takes a time mark, and returns whether one may stand here: outside a section, and at no time
-    /// before the last one. Where it may not, nothing changes.
-    // Out of line, so that a loop over items keeps neither time nor mark at hand for it.
+    /// Takes a time mark, where one may stand here: outside a section, and at no time before the
+    /// last one. Else returns its fault, and nothing changes.
+    // Not inlined, so that a loop over items keeps neither time nor mark at hand for it.
     #[inline(never)]
-    pub(crate) fn take_mark(&mut self, time: u64) -> bool
-        ensures may { result ≡ (not (is_some self.old.section) && nat_le self.old.time time) }
-        ensures regs { self.new ≡ cond result (regs_after self.old (item.Time time)) self.old }
+    pub(crate) fn take_mark(&mut self, time: u64) -> Result<(), BodyFault>
+        ensures may { MatchResult result (λ _. MayMark self.old time) (RefusesMark self.old time) }
+        ensures regs { MatchResult result (λ _. self.new ≡ regs_after self.old (item.Time time))
+            (λ _. self.new ≡ self.old) }
     {
-        if self.section.is_some() || time < self.time {
-            return false;
+        if self.section.is_some() {
+            return Err(BodyFault::TimeInSection);
+        }
+        if time < self.time {
+            return Err(BodyFault::TimeBack);
         }
         self.time = time;
         self.marked = true;
-        true
+        Ok(())
     }
 }

@@ -46,6 +46,7 @@
 //! - `id`: `put_change`, under an `Id`; `change`: under a code's own bytes; `renamed`:
 //!   `put_renamed_bits`, under a new code
 //! - `lines`: `left_out`; `time_line`: `put_time`
+//! - `value`: `Value`, what a change gives
 //! - `table`, `slot`: `Table`, `Shown`; `Slot`, `Share`; `table_text`: `put_short`, `put_full`;
 //!   `step`: `Step`, what became of a value that was set
 //! - `store`: slots and shares of the values, and how they are set; `packed`: digits in a share, a
@@ -94,6 +95,7 @@ mod table;
 mod table_text;
 mod time_line;
 mod tokens;
+mod value;
 mod words;
 
 pub use ahead::{
@@ -113,4 +115,5 @@ pub use step::Step;
 pub use table::Table;
 pub use table_text::{put_full, put_short};
 pub use time_line::{put_time, put_time_unless};
+pub use value::Value;
 pub use words::First;

@@ -12,6 +12,7 @@ ghost use Rattle.vcd_view.specs.Views.{IsViewOf};
 ghost use Rattle.vcd_view.specs.declared.view.HeadView.{HeadView};
 ghost use Rattle.vcd_body.specs.Ahead.{HasBits, IsSizedItem};
 ghost use Rattle.vcd_body.specs.Binary.{binary_digits, bit_of};
+ghost use Rattle.vcd_body.specs.Changes.{AreBitsAt, IsNeedless};
 ghost use Rattle.vcd_body.specs.Given.{IsItem};
 ghost use Rattle.vcd_body.specs.Spelled.{HasChange, HasMark, HasSpelled, bytes_without};
 ghost use Rattle.vcd_body.specs.declared.item.Form.TheVariants as form;
@@ -23,8 +24,8 @@ use crate::item::{Form, Item};
 use crate::words::{are_binary_at, other_32};
 use std::simd::prelude::*;
 
-/// Bit k is set where byte `at + k` may be a capital letter: of letters and digits just the capital
-/// letters have bit 5 clear.
+/// Returns a mask: bit k is set where byte `at + k` may be a capital letter: of letters and digits
+/// just the capital letters have bit 5 clear.
 #[inline(always)]
 fn capitals_32(bytes: &[u8], at: usize) -> u64
     requires { at + 32 ≤ length bytes.now }
@@ -35,7 +36,8 @@ fn capitals_32(bytes: &[u8], at: usize) -> u64
     v.simd_eq(u8x32::splat(0)).to_bitmask()
 }
 
-/// So many bytes from a place on are no capital letters. Those after them are looked at too.
+/// Returns whether so many bytes from a place on are no capital letters. Those after them are
+/// looked at too.
 #[inline(always)]
 fn are_lower_at(bytes: &[u8], at: usize, n: usize) -> bool
     requires room { at + 32 ≤ length bytes.now }
@@ -46,7 +48,7 @@ fn are_lower_at(bytes: &[u8], at: usize, n: usize) -> bool
     capitals_32(bytes, at) & ((1 << n) - 1) == 0
 }
 
-// Out of line, so that the short way of `are_lower` stays small.
+// Not inlined, so that the short way of `are_lower` stays small.
 #[inline(never)]
 fn are_all_lower(digits: &[u8]) -> bool
     ensures { result ≡ true → str_to_ascii_lowercase digits.now ≡ digits.now }
@@ -54,8 +56,8 @@ fn are_all_lower(digits: &[u8]) -> bool
     !has_capital(digits)
 }
 
-/// The digits, which begin at a place of these bytes, are in lower case. Most are few: they are
-/// looked at at once.
+/// Returns whether the digits, which begin at a place of these bytes, are in lower case. Most are
+/// few: they are looked at at once.
 #[inline(always)]
 fn are_lower(bytes: &[u8], at: usize, digits: &[u8]) -> bool
     requires within { at ≤ length bytes.now }
@@ -81,7 +83,8 @@ fn are_shortest(digits: &[u8]) -> bool
     }
 }
 
-/// A digit and a code that begins at this place stand there alone, and the digit is in lower case.
+/// Returns whether a digit and a code that begins at this place stand there alone, and the digit is
+/// in lower case.
 #[inline(always)]
 fn is_bit_line(bytes: &[u8], from: usize, to: usize, code_at: usize) -> bool
     requires { (text code : List ℕ) × HasChange bytes.now from to form.Scalar text code }
@@ -93,8 +96,8 @@ fn is_bit_line(bytes: &[u8], from: usize, to: usize, code_at: usize) -> bool
     (from + 1 == code_at) & (bytes[from] & 0x20 != 0)
 }
 
-/// A value with this first byte and a code that begins at this place stand there with just a blank
-/// between them.
+/// Returns whether a value with this first byte and a code that begins at this place stand there
+/// with just a blank between them.
 #[inline(always)]
 fn has_one_blank(
     bytes: &[u8],
@@ -117,8 +120,8 @@ fn has_one_blank(
     (behind + 1 == code_at) & (bytes[from] == first) & (bytes[behind] == b' ')
 }
 
-/// How many digits on the left the shortest ones leave out, where the number of all of them is
-/// known: none of them is looked at.
+/// Returns how many digits on the left the shortest ones leave out, where the number of all of them
+/// is known: none of them is looked at.
 #[inline(always)]
 fn left_out_known(digits: &[u8], bits: Bits) -> usize
     ensures few { result ≤ length digits.now }
@@ -128,7 +131,7 @@ fn left_out_known(digits: &[u8], bits: Bits) -> usize
     digits.len().saturating_sub(needed(bits))
 }
 
-/// Bit k is set where byte `at + k` is not `0`.
+/// Returns a mask: bit k is set where byte `at + k` is not `0`.
 #[inline(always)]
 fn others_64(bytes: &[u8], at: usize) -> u64
     requires { at + 64 ≤ length bytes.now }
@@ -140,8 +143,8 @@ fn others_64(bytes: &[u8], at: usize) -> u64
     v.simd_ne(u8x64::splat(b'0')).to_bitmask()
 }
 
-/// How many zeros lead so many bytes from a place on, without the last of these. Those after them
-/// are looked at too.
+/// Returns how many zeros lead so many bytes from a place on, without the last of these. Those
+/// after them are looked at too.
 #[inline(always)]
 fn zeros_at(bytes: &[u8], at: usize, n: usize) -> usize
     requires room { at + 64 ≤ length bytes.now }
@@ -158,7 +161,7 @@ fn zeros_at(bytes: &[u8], at: usize, n: usize) -> usize
     (others.trailing_zeros() as usize).min(n - 1)
 }
 
-/// Bit k is set where byte `at + k` is neither `0` nor `1`.
+/// Returns a mask: bit k is set where byte `at + k` is neither `0` nor `1`.
 #[inline(always)]
 fn others_than_bits_64(bytes: &[u8], at: usize) -> u64
     requires { at + 64 ≤ length bytes.now }
@@ -169,28 +172,26 @@ fn others_than_bits_64(bytes: &[u8], at: usize) -> u64
     v.simd_ne(u8x64::splat(b'0')).to_bitmask()
 }
 
-/// So many bytes from a place on are `0` and `1` alone. Those after them are looked at too.
+/// Returns whether so many bytes from a place on are `0` and `1` alone. Those after them are looked
+/// at too.
 #[inline(always)]
 fn are_many_binary_at(bytes: &[u8], at: usize, n: usize) -> bool
     requires room { at + 64 ≤ length bytes.now }
     requires many { 32 ≤ n }
     requires few { n ≤ 64 }
-    ensures { result ≡ true → (k : ℕ) → k < n
-        → slice_index bytes.now (at + k) ≡ byte "0" + bit_of (slice_index bytes.now (at + k)) }
+    ensures { result ≡ true → AreBitsAt bytes.now at n }
 {
     other_32(bytes, at) == 0 && are_binary_at(bytes, at + 32, n - 32)
 }
 
-/// How many digits on the left the shortest ones leave out, where these are in lower case. The
-/// digits begin at a place of these bytes. Most that come here are 33 to 64, and `0` and `1`: they
-/// are looked at at once, without a branch on how many zeros lead.
+/// Returns how many digits on the left the shortest ones leave out, where these are in lower case.
+/// The digits begin at a place of these bytes. Most that come here are 33 to 64, and `0` and `1`:
+/// they are looked at at once, without a branch on how many zeros lead.
 #[inline(never)]
 fn needless(bytes: &[u8], at: usize, digits: &[u8]) -> Option<usize>
     requires within { at ≤ length bytes.now }
     requires place { digits.now ≡ slice_range bytes.now at (at + length digits.now) }
-    ensures { IfSome result (λ k. (k ≤ length digits.now)
-        × ((size : ℕ) → drop k digits.now
-        ≡ short (extend (str_to_ascii_lowercase digits.now) size))) }
+    ensures { IfSome result (IsNeedless digits.now) }
 {
     let n = digits.len();
     if 32 < n && n <= 64 && bytes.len() - at >= 64 && are_many_binary_at(bytes, at, n) {
@@ -205,9 +206,7 @@ fn needless(bytes: &[u8], at: usize, digits: &[u8]) -> Option<usize>
 fn needless_slowly(bytes: &[u8], at: usize, digits: &[u8]) -> Option<usize>
     requires within { at ≤ length bytes.now }
     requires place { digits.now ≡ slice_range bytes.now at (at + length digits.now) }
-    ensures { IfSome result (λ k. (k ≤ length digits.now)
-        × ((size : ℕ) → drop k digits.now
-        ≡ short (extend (str_to_ascii_lowercase digits.now) size))) }
+    ensures { IfSome result (IsNeedless digits.now) }
 {
     if digits.is_empty() {
         return None;
@@ -219,15 +218,13 @@ fn needless_slowly(bytes: &[u8], at: usize, digits: &[u8]) -> Option<usize>
     Some(k)
 }
 
-/// How many of 64 digits that are `0` and `1` alone the shortest ones leave out: the zeros that
-/// lead, without a branch on how many these are. None says nothing.
+/// Returns how many of 64 digits that are `0` and `1` alone the shortest ones leave out: the zeros
+/// that lead, without a branch on how many these are. None says nothing.
 #[inline(always)]
 fn left_out_of_64(bytes: &[u8], at: usize, digits: &[u8]) -> Option<usize>
     requires within { at ≤ length bytes.now }
     requires place { digits.now ≡ slice_range bytes.now at (at + length digits.now) }
-    ensures { IfSome result (λ k. (k ≤ length digits.now)
-        × ((size : ℕ) → drop k digits.now
-        ≡ short (extend (str_to_ascii_lowercase digits.now) size))) }
+    ensures { IfSome result (IsNeedless digits.now) }
 {
     if digits.len() == 64 && others_than_bits_64(bytes, at) == 0 {
         return Some(zeros_at(bytes, at, 64));
@@ -260,8 +257,8 @@ fn left_out_of(bytes: &[u8], at: usize, digits: &[u8], bits: Option<Bits>) -> Op
     Some(0)
 }
 
-/// How many digits after a `b` are left out, where the rest is the line with the code that begins
-/// at this place.
+/// Returns how many digits after a `b` are left out, where the rest is the line with the code that
+/// begins at this place.
 #[inline(always)]
 fn left_out_of_vector(
     bytes: &[u8],
@@ -286,9 +283,9 @@ fn left_out_of_vector(
     left_out_of(bytes, from + 1, digits, bits)
 }
 
-/// How many bytes behind the first one are left out of the bytes of an item that was taken ahead,
-/// so that the others are its line as it would be written: the first digits of a vector that has
-/// more than it needs. The item's tokens are passed from one place of the bytes up to another.
+/// Returns how many bytes behind the first one are left out of the bytes of an item that was taken
+/// ahead, so that the others are its line as it would be written: the first digits of a vector that
+/// has more than it needs. The item's tokens are passed from one place of the bytes up to another.
 /// Where it returns none, its bytes may be the line all the same.
 #[inline(always)]
 pub fn left_out(plain: Plain<'_>, bytes: &[u8], from: usize, to: usize) -> Option<usize>
@@ -308,23 +305,20 @@ pub fn left_out(plain: Plain<'_>, bytes: &[u8], from: usize, to: usize) -> Optio
     if bytes[to - 1] != b'\n' {
         return None;
     }
+    let size = plain.size()?;
     let text = plain.text;
     let code_at = plain.code_at;
     match form {
-        Form::Scalar if plain.most == 1 && is_bit_line(bytes, from, to, code_at) => Some(0),
-        Form::Vector if plain.most > 1 => {
-            left_out_of_vector(bytes, from, to, text, plain.bits, code_at)
-        }
-        Form::RealText if plain.most > 0 && has_one_blank(bytes, from, to, b'r', text, code_at) => {
-            Some(0)
-        }
+        Form::Scalar if size == 1 && is_bit_line(bytes, from, to, code_at) => Some(0),
+        Form::Vector if size > 1 => left_out_of_vector(bytes, from, to, text, plain.bits, code_at),
+        Form::RealText if has_one_blank(bytes, from, to, b'r', text, code_at) => Some(0),
         _ => None,
     }
 }
 
-/// The bytes of a time mark that was taken ahead are the line of its time: `#`, the digits without
-/// zeros that lead, and a line feed. Its token is passed from one place of the bytes up to another,
-/// and its digits begin at a third one.
+/// Returns whether the bytes of a time mark that was taken ahead are the line of its time: `#`, the
+/// digits without zeros that lead, and a line feed. Its token is passed from one place of the bytes
+/// up to another, and its digits begin at a third one.
 #[inline(always)]
 pub fn is_mark_line(bytes: &[u8], from: usize, to: usize, at: usize) -> bool
     requires { (time : ℕ) × HasMark bytes.now from to at time }

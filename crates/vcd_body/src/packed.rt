@@ -1,13 +1,12 @@
 // Digits in a share: a byte each, or four to a byte, one of each quarter of them.
 ghost use Rattle.std.specs.Prelude.{◌≡◌, ◌≢◌, ◌≤◌, ◌<◌, ◌+◌, ◌-◌, ◌*◌, ◌/◌, ◌==◌, ℕ, Some, get_or, length, map, slice_get, true};
 ghost use Rattle.std.specs.Simd.Lanes.{chunk};
-ghost use Rattle.std.specs.Str.{str_to_ascii_lowercase};
-ghost use Rattle.vcd_model.specs.Values.{extend};
-ghost use Rattle.vcd_body.specs.Packed.{code_among, code_of, code_or, digit_of, digits_in, four_codes, held_digit, quarter_of};
+ghost use Rattle.vcd_body.specs.Kept.{AreTwo};
+ghost use Rattle.vcd_body.specs.Packed.{ArePacked, code_among, code_of, code_or, digit_of, digits_in, four_codes, held_digit, quarter_of};
 
 use std::simd::prelude::*;
 
-/// A digit as two bits. It is written so that it takes no branches.
+/// Returns a digit as two bits. It is written so that it takes no branches.
 #[inline(always)]
 fn code_of(digit: u8) -> u8
     ensures code { result ≡ code_of digit }
@@ -22,7 +21,7 @@ fn code_of(digit: u8) -> u8
     if digit == b'0' { 0 } else { all_but_0 }
 }
 
-/// Two bits as a digit, in lower case.
+/// Returns two bits as a digit, in lower case.
 #[inline(always)]
 fn digit_of(code: u8) -> u8
     ensures { result ≡ digit_of code }
@@ -35,7 +34,7 @@ fn digit_of(code: u8) -> u8
     }
 }
 
-/// A digit as it is held.
+/// Returns a digit as it is held.
 #[inline(always)]
 pub(crate) fn held_digit(digit: u8) -> u8
     ensures { result ≡ held_digit digit }
@@ -48,7 +47,7 @@ pub(crate) fn held_digit(digit: u8) -> u8
     }
 }
 
-/// The digit at a place of a share that holds a byte a digit; none after its end.
+/// Returns the digit at a place of a share that holds a byte a digit; none after its end.
 #[inline(always)]
 pub(crate) fn plain_digit_at(share: &[u8], place: usize) -> Option<u8>
     ensures { result ≡ slice_get (map held_digit share.now) place }
@@ -59,7 +58,7 @@ pub(crate) fn plain_digit_at(share: &[u8], place: usize) -> Option<u8>
     }
 }
 
-/// The code of the digit at a place, 0 where there is none.
+/// Returns the code of the digit at a place, 0 where there is none.
 #[inline(always)]
 fn code_at(text: &[u8], place: usize) -> u8
     ensures small { result < 4 }
@@ -71,7 +70,7 @@ fn code_at(text: &[u8], place: usize) -> u8
     }
 }
 
-/// The digits at a place of each quarter as a byte.
+/// Returns the digits at a place of each quarter as a byte.
 #[inline(always)]
 fn four_at(text: &[u8], quarter: usize, place: usize) -> u8
     requires few { quarter < 16 }
@@ -90,16 +89,15 @@ fn pack_few(share: &mut [u8], text: &[u8], quarter: usize)
     requires few { quarter < 16 }
     requires room { quarter ≤ length share.old }
     requires quarter { quarter ≤ length text.now }
-    ensures { (place : ℕ) → place < quarter
-        → get_or share.new place 0 ≡ four_codes text.now quarter place }
+    ensures { ArePacked share.new text.now quarter }
 {
     for place in 0..quarter {
         share[place] = four_at(text, quarter, place);
     }
 }
 
-/// The codes of 16 digits. Of a byte that is neither `0` nor `1` it is 2, and one more where it is
-/// an x.
+/// Returns the codes of 16 digits. Of a byte that is neither `0` nor `1` it is 2, and one more
+/// where it is an x.
 #[inline(always)]
 fn codes_16(bytes: &[u8], at: usize) -> u8x16
     requires { at + 16 ≤ length bytes.now }
@@ -111,7 +109,7 @@ fn codes_16(bytes: &[u8], at: usize) -> u8x16
     at_most_2 + is_x.select(u8x16::splat(1), u8x16::splat(0))
 }
 
-/// Whether two rows of 16 codes differ.
+/// Returns whether two rows of 16 codes differ.
 #[inline(always)]
 fn codes_differ(first: u8x16, second: u8x16) -> bool
     ensures { result ≡ true → first ≢ second }
@@ -119,12 +117,11 @@ fn codes_differ(first: u8x16, second: u8x16) -> bool
     first.simd_ne(second).to_bitmask() != 0
 }
 
-/// Whether the last 16 digits of a share that holds a byte a digit and those of a text tell that
-/// the values differ; false where either has fewer.
+/// Returns whether the last 16 digits of a share that holds a byte a digit and those of a text tell
+/// that the values differ; false where either has fewer.
 #[inline(always)]
 pub(crate) fn plain_ends_differ(share: &[u8], text: &[u8]) -> bool
-    ensures differ { result ≡ true → (size : ℕ) → extend (map held_digit share.now) size
-        ≢ extend (str_to_ascii_lowercase text.now) size }
+    ensures differ { result ≡ true → AreTwo (map held_digit share.now) text.now }
     ensures many { result ≡ true → (16 ≤ length share.now) × (16 ≤ length text.now) }
 {
     if share.len() < 16 || text.len() < 16 {
@@ -136,7 +133,7 @@ pub(crate) fn plain_ends_differ(share: &[u8], text: &[u8]) -> bool
     )
 }
 
-/// The codes of the last digits of the 16 bytes from a place on.
+/// Returns the codes of the last digits of the 16 bytes from a place on.
 #[inline(always)]
 fn last_codes_16(bytes: &[u8], at: usize) -> u8x16
     requires { at + 16 ≤ length bytes.now }
@@ -150,8 +147,7 @@ fn last_codes_16(bytes: &[u8], at: usize) -> u8x16
 /// in use.
 #[inline(always)]
 pub(crate) fn packed_ends_differ(share: &[u8], len: usize, text: &[u8]) -> bool
-    ensures differ { result ≡ true → (size : ℕ) → extend (digits_in len share.now) size
-        ≢ extend (str_to_ascii_lowercase text.now) size }
+    ensures differ { result ≡ true → AreTwo (digits_in len share.now) text.now }
     ensures many { result ≡ true → (16 ≤ quarter_of len) × (16 ≤ length text.now) }
     ensures room { result ≡ true → quarter_of len ≤ length share.now }
 {
@@ -165,7 +161,7 @@ pub(crate) fn packed_ends_differ(share: &[u8], len: usize, text: &[u8]) -> bool
     )
 }
 
-/// The one plus four times the other.
+/// Returns the one plus four times the other.
 #[inline(always)]
 fn with_4_times(low: u8x16, high: u8x16) -> u8x16
     requires { (length low ≡ 16) × (length high ≡ 16) }
@@ -205,7 +201,7 @@ fn bits_16(bytes: &[u8], at: usize) -> u8x16
     u8x16::from_slice(&bytes[at..]) ^ u8x16::splat(b'0')
 }
 
-/// The bits that are set in one or the other.
+/// Returns the bits that are set in one or the other.
 #[inline(always)]
 fn either(first: u8x16, second: u8x16) -> u8x16
     requires { (length first ≡ 16) × (length second ≡ 16) }
@@ -216,7 +212,7 @@ fn either(first: u8x16, second: u8x16) -> u8x16
     first | second
 }
 
-/// Whether all are 0 and 1.
+/// Returns whether all are 0 and 1.
 #[inline(always)]
 fn are_bits(seen: u8x16) -> bool
     requires { length seen ≡ 16 }
@@ -252,8 +248,7 @@ fn pack_bits(share: &mut [u8], text: &[u8], quarter: usize) -> bool
     requires room { quarter ≤ length share.old }
     requires many { 16 ≤ quarter }
     requires quarter { 3 * quarter ≤ length text.now }
-    ensures { result ≡ true → (place : ℕ) → place < quarter
-        → get_or share.new place 0 ≡ four_codes text.now quarter place }
+    ensures { result ≡ true → ArePacked share.new text.now quarter }
 {
     let last = quarter - 16;
     let mut seen = u8x16::splat(0);
@@ -271,8 +266,7 @@ fn pack_any(share: &mut [u8], text: &[u8], quarter: usize)
     requires room { quarter ≤ length share.old }
     requires many { 16 ≤ quarter }
     requires quarter { 3 * quarter ≤ length text.now }
-    ensures { (place : ℕ) → place < quarter
-        → get_or share.new place 0 ≡ four_codes text.now quarter place }
+    ensures { ArePacked share.new text.now quarter }
 {
     let last = quarter - 16;
     let mut at = 0;
@@ -288,8 +282,7 @@ fn pack_many(share: &mut [u8], text: &[u8], quarter: usize)
     requires room { quarter ≤ length share.old }
     requires many { 16 ≤ quarter }
     requires quarter { 3 * quarter ≤ length text.now }
-    ensures { (place : ℕ) → place < quarter
-        → get_or share.new place 0 ≡ four_codes text.now quarter place }
+    ensures { ArePacked share.new text.now quarter }
 {
     if !pack_bits(share, text, quarter) {
         pack_any(share, text, quarter);
@@ -310,7 +303,7 @@ pub(crate) fn pack(share: &mut [u8], text: &[u8])
     }
 }
 
-/// The byte at a place.
+/// Returns the byte at a place.
 #[inline(always)]
 fn byte_at(share: &[u8], place: usize) -> Option<u8>
     ensures { result ≡ slice_get share.now place }
@@ -318,7 +311,7 @@ fn byte_at(share: &[u8], place: usize) -> Option<u8>
     share.get(place).copied()
 }
 
-/// The byte at a place, 0 where there is none.
+/// Returns the byte at a place, 0 where there is none.
 #[inline(always)]
 fn byte_or(share: &[u8], place: usize) -> u8
     ensures { result ≡ get_or share.now place 0 }
@@ -329,7 +322,7 @@ fn byte_or(share: &[u8], place: usize) -> u8
     }
 }
 
-/// The digit at a place of `len` digits in a share; none after the last.
+/// Returns the digit at a place of `len` digits in a share; none after the last.
 #[inline(always)]
 pub(crate) fn digit_at(share: &[u8], len: usize, place: usize) -> Option<u8>
     ensures { result ≡ slice_get (digits_in len share.now) place }
@@ -340,7 +333,7 @@ pub(crate) fn digit_at(share: &[u8], len: usize, place: usize) -> Option<u8>
     Some(digit_of(code_among(share, len, place)))
 }
 
-/// The last one, as a byte that is 0 where it is, and 1 where it is.
+/// Returns the last packed digit as `b'0'` or `b'1'`; any other byte means x or z.
 #[inline(always)]
 pub(crate) fn last_packed(share: &[u8], len: usize) -> u8
     requires some { 1 ≤ len }
@@ -351,8 +344,8 @@ pub(crate) fn last_packed(share: &[u8], len: usize) -> u8
     b'0' + share[len.div_ceil(4) - 1] / 64
 }
 
-/// The code of one. The last quarter ends where the digits do, and may hold some of the third one
-/// again.
+/// Returns the code of one. The last quarter ends where the digits do, and may hold some of the
+/// third one again.
 #[inline(always)]
 fn code_among(share: &[u8], len: usize, place: usize) -> u8
     requires { place < len }

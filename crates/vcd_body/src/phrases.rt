@@ -1,75 +1,73 @@
 // The phrases of a body, by what they begin with.
-ghost use Rattle.std.specs.Prelude.{◌≡◌, ◌≢◌, ℕ, true, ◌+◌, ◌-◌, ◌^◌, ◌<◌, ◌≤◌, List, [], ◌∷◌, length, take, drop, Some, None, slice_get, OnOk, IfOk, IfErr, MatchResult, ◌||◌, nat_le};
-ghost use Rattle.vcd_model.specs.Bytes.{decimal_value, is_decimal};
+ghost use Rattle.std.specs.Prelude.{◌≡◌, ◌≢◌, ℕ, true, ◌+◌, ◌-◌, ◌^◌, ◌<◌, ◌≤◌, List, [], ◌∷◌, length, take, drop, Some, None, slice_get, OnOk, IfOk, IfErr, IfSome, MatchResult, ◌||◌, nat_le};
+ghost use Rattle.std.specs.List.{list_all};
 ghost use Rattle.vcd_model.specs.Input.{Input};
 ghost use Rattle.vcd_model.specs.Tokens.{Token};
 ghost use Rattle.vcd_model.specs.Keywords.{Keyword as Named, keyword_text};
 ghost use Rattle.vcd_model.specs.Declarations.{IdCode};
 ghost use Rattle.vcd_model.specs.Header.{Header};
 ghost use Rattle.vcd_model.specs.Items.{BodyItem, ChangeForm, time_after, leaves_open};
-ghost use Rattle.vcd_model.specs.BodyPhrases.{BodyPhrase, declared_code, items_of};
+ghost use Rattle.vcd_model.specs.BodyPhrases.{BodyPhrase, declared_code, is_value_digit, items_of};
 ghost use Rattle.vcd_model.specs.Reading.{Placed, phrases_of};
 ghost use Rattle.vcd_text.specs.Feed.{source_of, seen, token_of, value_of};
 ghost use Rattle.vcd_view.specs.Views.{IsViewOf};
 ghost use Rattle.vcd_view.specs.Finds.{IsSized};
 ghost use Rattle.vcd_view.specs.declared.view.Code.{Code};
 ghost use Rattle.vcd_body.specs.declared.words.First.TheVariants as first;
-ghost use Rattle.vcd_body.specs.Items.{AreRegsAfter};
-ghost use Rattle.vcd_body.specs.Words.{Begins, IsScalar};
-ghost use Rattle.vcd_body.specs.Reads.{Reads, ReadsPhrase, Looks, Fails, Passes, Refuses};
-ghost use Rattle.vcd_body.specs.Reads.{AsksForCode};
+ghost use Rattle.vcd_body.specs.Binary.{binary_digits};
+ghost use Rattle.vcd_body.specs.Items.{AreRegsAfter, regs_after};
+ghost use Rattle.vcd_body.specs.Words.{Begins, IsScalar, mark_time};
+ghost use Rattle.vcd_body.specs.Reads.{AsksForCode, FailsAfter, Looks, OpensPhrase, Passes, PassesScalar, Reads, ReadsChange, ReadsPhrase, Refuses};
 ghost use Rattle.vcd_body.specs.Given.{IsGoodText};
 ghost use Rattle.vcd_body.specs.Spelled.{Names};
 ghost use Rattle.vcd_body.specs.declared.item.Form.TheVariants as form;
+ghost use Rattle.vcd_body.specs.declared.item.Item.TheVariants as item;
 ghost use Rattle.vcd_text.specs.Advances.{Advances};
 ghost use Rattle.vcd_body.specs.Fault.{call_end};
 
+use crate::bits::Bits;
 use crate::fault::BodyFault;
 use crate::item::Regs;
 use crate::tokens::next_inner;
-use crate::words::{are_value_digits, is_end, rest_of};
+use crate::words::{are_digits_or_known, is_end, rest_of};
 use vcd_text::{Feed, Source, decimal_of};
 use vcd_view::{Code, Found, HeadView, find_sized};
 
-/// The time of a time mark.
+/// Returns the time that the token of a mark spells.
 #[inline(always)]
-pub(crate) fn time_of(token: &[u8], regs: Regs) -> Result<u64, BodyFault>
+pub(crate) fn time_in(token: &[u8]) -> Option<u64>
+    ensures { result ≡ mark_time token.now }
+{
+    decimal_of(rest_of(token))
+}
+
+/// Takes the time mark that a token is, and returns its time. A fault changes nothing.
+#[inline(always)]
+pub(crate) fn read_mark(token: &[u8], regs: &mut Regs) -> Result<u64, BodyFault>
     requires { Begins token.now first.Mark }
     ensures time { (codes : List IdCode) (earlier : List BodyPhrase)
-        → AreRegsAfter (items_of earlier) regs
+        → AreRegsAfter (items_of earlier) regs.old
         → MatchResult result
         (λ time. Passes codes earlier token.now (BodyItem.Time time)
         × (time_after (items_of earlier) ≤ time))
         (Refuses codes earlier token.now) }
-    ensures value { IfOk result (λ time. (is_decimal (drop 1 token.now) ≡ true)
-        × (decimal_value (drop 1 token.now) ≡ time) × (time < 2 ^ 64)) }
+    ensures regs { MatchResult result (λ time. regs.new ≡ regs_after regs.old (item.Time time))
+        (λ _. regs.new ≡ regs.old) }
     ensures own { IfErr result (λ fault. fault ≢ BodyFault.ReadFailed) }
 {
-    let Some(time) = decimal_of(rest_of(token)) else {
+    let Some(time) = time_in(token) else {
         return Err(BodyFault::BadTime);
     };
-    if regs.section.is_some() {
-        return Err(BodyFault::TimeInSection);
-    }
-    if time < regs.time {
-        return Err(BodyFault::TimeBack);
-    }
+    regs.take_mark(time)?;
     Ok(time)
 }
 
-/// The code that stands after a digit, at once.
+/// Returns the code that stands after a digit, at once.
 #[inline(always)]
 pub(crate) fn scalar_code(token: &[u8], view: HeadView<'_>) -> Result<Found, BodyFault>
     requires begins { IsScalar token.now }
     ensures code { (h : Header) (earlier : List BodyPhrase) → IsViewOf view.entry h
-        → MatchResult result
-        (λ found. (c : IdCode) × (slice_get h.codes found.place ≡ Some c)
-        × Passes h.codes earlier token.now
-        (BodyItem.Changes (record {
-          code = c;
-          form = ChangeForm.Scalar;
-          text = take 1 token.now;
-        })))
+        → MatchResult result (λ found. PassesScalar h.codes earlier token.now found.place)
         (Refuses h.codes earlier token.now) }
     ensures sound { IfOk result
         (λ found. IsGoodText view.entry.codes.now found.place form.Scalar (take 1 token.now)) }
@@ -87,6 +85,46 @@ pub(crate) fn scalar_code(token: &[u8], view: HeadView<'_>) -> Result<Found, Bod
     }
 }
 
+/// Returns the digits of a vector's change: one or more. Where their number is known, none is
+/// looked at.
+#[inline(always)]
+pub(crate) fn vector_text(token: &[u8], bits: Option<Bits>) -> Result<&[u8], BodyFault>
+    requires begins { Begins token.now first.Vector }
+    requires bits { IfSome bits (λ b. drop 1 token.now ≡ binary_digits b.len b.number) }
+    ensures opens { (codes : List IdCode) (earlier : List BodyPhrase) → MatchResult result
+        (λ _. OpensPhrase codes earlier token.now) (Refuses codes earlier token.now) }
+    ensures text { IfOk result (λ text. text.now ≡ drop 1 token.now) }
+    ensures digits { IfOk result (λ text. (0 < length text.now)
+        × (list_all is_value_digit text.now ≡ true)) }
+    ensures own { IfErr result (λ fault. fault ≢ BodyFault.ReadFailed) }
+{
+    let text = rest_of(token);
+    if !are_digits_or_known(text, bits) {
+        return Err(BodyFault::BadValue);
+    }
+    Ok(text)
+}
+
+/// Returns the text of a real number's change: 1 to 64 bytes.
+#[inline(always)]
+pub(crate) fn real_text(token: &[u8]) -> Result<&[u8], BodyFault>
+    requires begins { Begins token.now first.Real }
+    ensures opens { (codes : List IdCode) (earlier : List BodyPhrase) → MatchResult result
+        (λ _. OpensPhrase codes earlier token.now) (Refuses codes earlier token.now) }
+    ensures text { IfOk result (λ text. text.now ≡ drop 1 token.now) }
+    ensures few { IfOk result (λ text. (0 < length text.now) × (length text.now ≤ 64)) }
+    ensures own { IfErr result (λ fault. fault ≢ BodyFault.ReadFailed) }
+{
+    let text = rest_of(token);
+    if text.is_empty() {
+        return Err(BodyFault::BadValue);
+    }
+    if text.len() > 64 {
+        return Err(BodyFault::RealTooLong);
+    }
+    Ok(text)
+}
+
 /// Passes over a comment, after its keyword.
 pub(crate) fn skip_comment<S: Source>(feed: &mut Feed<'_, '_, '_, '_, S>) -> Result<(), BodyFault>
     requires { S.failures (source_of feed.old) < 2 ^ 64 - 1 }
@@ -95,7 +133,7 @@ pub(crate) fn skip_comment<S: Source>(feed: &mut Feed<'_, '_, '_, '_, S>) -> Res
         → Reads codes i front placed (keyword_text Named.Comment ∷ []) feed.old
         → MatchResult result (λ _. (inner : List (List ℕ))
         × ReadsPhrase codes i front placed feed.new (BodyPhrase.Comment inner))
-        (λ fault. Fails codes i front (items_of (phrases_of placed)) fault feed.new) }
+        (FailsAfter codes i front placed feed.new) }
     ensures advances { Advances S.failures feed.old feed.new (call_end result) }
     ensures progress { OnOk result (seen feed.old < seen feed.new) }
     ensures bounded { seen feed.new < 2 ^ 63 }
@@ -123,7 +161,7 @@ fn read_code<S: Source>(
         (λ found. (c : IdCode) × (slice_get h.codes found.place ≡ Some c)
         × (declared_code h.codes (token_of feed.new).bytes ≡ Some c)
         × Looks h.codes i front placed (first ∷ []) feed.new)
-        (λ fault. Fails h.codes i front (items_of (phrases_of placed)) fault feed.new) }
+        (FailsAfter h.codes i front placed feed.new) }
     ensures value { value_of feed.new ≡ (token_of feed.old).bytes }
     ensures sized { IfOk result (IsSized view.entry.codes.now) }
     ensures advances { Advances S.failures feed.old feed.new (call_end result) }
@@ -138,8 +176,8 @@ fn read_code<S: Source>(
     }
 }
 
-/// The code that was found has room for so many digits, or is an event. Its size mostly tells; the
-/// code is read only where it does not.
+/// Returns whether the code that was found has room for so many digits, or is an event. Its size
+/// mostly tells; the code is read only where it does not.
 #[inline(always)]
 pub(crate) fn takes(codes: &[Code], found: Found, digits: usize) -> bool
     requires { IsSized codes.now found }
@@ -149,7 +187,7 @@ pub(crate) fn takes(codes: &[Code], found: Found, digits: usize) -> bool
     digits <= found.most || has_room(codes[found.place], digits)
 }
 
-/// The code has room for so many digits, or is an event.
+/// Returns whether the code has room for so many digits, or is an event.
 fn has_room(code: Code, digits: usize) -> bool
     ensures { result ≡ (code.event || nat_le digits code.size) }
 {
@@ -167,21 +205,15 @@ pub(crate) fn read_vector<S: Source>(
     ensures reads { (h : Header) (i : Input) (front : List Token)
         (placed : List (Placed BodyPhrase)) → IsViewOf view.entry h
         → Looks h.codes i front placed [] feed.old
-        → MatchResult result
-        (λ place. (c : IdCode) × (slice_get h.codes place ≡ Some c)
-        × ReadsPhrase h.codes i front placed feed.new
-        (BodyPhrase.Gives (BodyItem.Changes
-        (record { code = c; form = ChangeForm.Vector; text = drop 1 (value_of feed.new) }))))
-        (λ fault. Fails h.codes i front (items_of (phrases_of placed)) fault feed.new) }
+        → MatchResult result (ReadsChange h.codes i front placed feed.new ChangeForm.Vector)
+        (FailsAfter h.codes i front placed feed.new) }
     ensures sound { IfOk result
         (λ place. IsGoodText view.entry.codes.now place form.Vector (drop 1 (value_of feed.new))) }
     ensures advances { Advances S.failures feed.old feed.new (call_end result) }
     ensures further { OnOk result (seen feed.old < seen feed.new) }
     ensures bounded { seen feed.old < 2 ^ 63 → seen feed.new < 2 ^ 63 }
 {
-    if !are_value_digits(rest_of(feed.token())) {
-        return Err(BodyFault::BadValue);
-    }
+    vector_text(feed.token(), None)?;
     let found = read_code(feed, view)?;
     if !takes(view.codes, found, rest_of(feed.value()).len()) {
         return Err(BodyFault::TooWide);
@@ -199,12 +231,8 @@ pub(crate) fn read_real<S: Source>(
     ensures reads { (h : Header) (i : Input) (front : List Token)
         (placed : List (Placed BodyPhrase)) → IsViewOf view.entry h
         → Looks h.codes i front placed [] feed.old
-        → MatchResult result
-        (λ place. (c : IdCode) × (slice_get h.codes place ≡ Some c)
-        × ReadsPhrase h.codes i front placed feed.new
-        (BodyPhrase.Gives (BodyItem.Changes
-        (record { code = c; form = ChangeForm.RealText; text = drop 1 (value_of feed.new) }))))
-        (λ fault. Fails h.codes i front (items_of (phrases_of placed)) fault feed.new) }
+        → MatchResult result (ReadsChange h.codes i front placed feed.new ChangeForm.RealText)
+        (FailsAfter h.codes i front placed feed.new) }
     ensures sound { IfOk result
         (λ place. IsGoodText view.entry.codes.now place form.RealText
         (drop 1 (value_of feed.new))) }
@@ -212,13 +240,7 @@ pub(crate) fn read_real<S: Source>(
     ensures further { OnOk result (seen feed.old < seen feed.new) }
     ensures bounded { seen feed.old < 2 ^ 63 → seen feed.new < 2 ^ 63 }
 {
-    let text = rest_of(feed.token());
-    if text.is_empty() {
-        return Err(BodyFault::BadValue);
-    }
-    if text.len() > 64 {
-        return Err(BodyFault::RealTooLong);
-    }
+    real_text(feed.token())?;
     let found = read_code(feed, view)?;
     Ok(found.place)
 }

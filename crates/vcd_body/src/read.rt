@@ -1,5 +1,5 @@
 // The items of a body, one after the other.
-ghost use Rattle.std.specs.Prelude.{◌≡◌, ◌≢◌, ℕ, ◌-◌, ◌^◌, ◌<◌, ◌≤◌, List, OnOk, IfOk, Some, MatchResult, MatchOption};
+ghost use Rattle.std.specs.Prelude.{◌≡◌, ◌≢◌, ℕ, ◌-◌, ◌^◌, ◌<◌, ◌≤◌, List, OnOk, IfOk, Some, MatchResult};
 ghost use Rattle.vcd_model.specs.Input.{Input};
 ghost use Rattle.vcd_model.specs.Tokens.{Token};
 ghost use Rattle.vcd_model.specs.Header.{Header};
@@ -12,13 +12,13 @@ ghost use Rattle.vcd_body.specs.declared.words.First.TheVariants as first;
 ghost use Rattle.vcd_body.specs.Items.{regs_after};
 ghost use Rattle.vcd_body.specs.Words.{Begins};
 ghost use Rattle.vcd_body.specs.Reads.{GaveItems, Begun, Fails};
-ghost use Rattle.vcd_body.specs.Given.{GivesItem, IsGoodChange, text_of};
+ghost use Rattle.vcd_body.specs.Given.{AreRegsPast, GivesItem, GivesPhrase, IsGoodChange, IsGoodPhrase, text_of};
 ghost use Rattle.vcd_text.specs.Advances.{Advances};
 ghost use Rattle.vcd_body.specs.Fault.{call_end};
 
 use crate::fault::BodyFault;
 use crate::item::{Form, Item, Regs};
-use crate::phrases::{read_real, read_vector, scalar_code, skip_comment, time_of};
+use crate::phrases::{read_mark, read_real, read_vector, scalar_code, skip_comment};
 use crate::tokens::next_token;
 use crate::words::{Command, First, command_of, first_byte_of, first_of, rest_of};
 use vcd_text::{Feed, Source};
@@ -34,15 +34,9 @@ fn read_command<S: Source>(
     requires begins { Begins (token_of feed.old).bytes first.Other }
     ensures reads { (codes : List IdCode) (i : Input) (front : List Token) (items : List BodyItem)
         → Begun codes i front items feed.old regs.old
-        → MatchResult result
-        (λ item. MatchOption item (GaveItems codes i front items feed.new regs.new)
-        (λ x. GivesItem codes i front items feed.new regs.new x))
-        (λ fault. Fails codes i front items fault feed.new) }
-    ensures sound { (codes : List Code)
-        → IfOk result (λ item. MatchOption item (Unit {0}) (IsGoodChange codes feed.new)) }
-    ensures regs { MatchResult result
-        (λ item. MatchOption item (regs.new ≡ regs.old) (λ x. regs.new ≡ regs_after regs.old x))
-        (λ _. regs.new ≡ regs.old) }
+        → GivesPhrase codes i front items feed.new regs.new result }
+    ensures sound { (codes : List Code) → IsGoodPhrase codes feed.new result }
+    ensures regs { AreRegsPast regs.old regs.new result }
     ensures advances { Advances S.failures feed.old feed.new (call_end result) }
     ensures further { OnOk result (seen feed.old ≤ seen feed.new) }
     ensures bounded { seen feed.old < 2 ^ 63 → seen feed.new < 2 ^ 63 }
@@ -81,15 +75,9 @@ fn read_phrase<S: Source>(
     requires failures { S.failures (source_of feed.old) < 2 ^ 64 - 1 }
     ensures reads { (h : Header) (i : Input) (front : List Token) (items : List BodyItem)
         → IsViewOf view.entry h → GaveItems h.codes i front items feed.old regs.old
-        → MatchResult result
-        (λ item. MatchOption item (GaveItems h.codes i front items feed.new regs.new)
-        (λ x. GivesItem h.codes i front items feed.new regs.new x))
-        (λ fault. Fails h.codes i front items fault feed.new) }
-    ensures sound { IfOk result
-        (λ item. MatchOption item (Unit {0}) (IsGoodChange view.entry.codes.now feed.new)) }
-    ensures regs { MatchResult result
-        (λ item. MatchOption item (regs.new ≡ regs.old) (λ x. regs.new ≡ regs_after regs.old x))
-        (λ _. regs.new ≡ regs.old) }
+        → GivesPhrase h.codes i front items feed.new regs.new result }
+    ensures sound { IsGoodPhrase view.entry.codes.now feed.new result }
+    ensures regs { AreRegsPast regs.old regs.new result }
     ensures advances { Advances S.failures feed.old feed.new (call_end result) }
     ensures progress { IfOk result
         (λ item. item ≢ Some Item.Finish → seen feed.old < seen feed.new) }
@@ -111,12 +99,7 @@ fn read_phrase<S: Source>(
             code: read_vector(feed, view)?,
             form: Form::Vector,
         },
-        First::Mark => {
-            let time = time_of(token, *regs)?;
-            regs.time = time;
-            regs.marked = true;
-            Item::Time(time)
-        }
+        First::Mark => Item::Time(read_mark(token, regs)?),
         First::Real => Item::Change {
             code: read_real(feed, view)?,
             form: Form::RealText,
@@ -158,8 +141,8 @@ pub fn next_item<S: Source>(
     }
 }
 
-/// The text of a change, right after `next_item` has given it, in the form that it gave: its
-/// digits, or the text of the real number.
+/// Returns the text of a change, right after `next_item` has given it, in the form that it gave:
+/// its digits, or the text of the real number.
 pub fn change_text<'f, S: Source>(feed: &'f Feed<'_, '_, '_, '_, S>, form: Form) -> &'f [u8]
     ensures { result.now ≡ text_of form feed.now }
 {

@@ -4,7 +4,7 @@ ghost use Rattle.vcd_model.specs.Values.{Value, extend, value_with};
 ghost use Rattle.vcd_body.specs.Items.{model_form};
 ghost use Rattle.vcd_body.specs.Kept.{IsStep, bytes_for, goes_from, value_at_size, with_change};
 ghost use Rattle.vcd_body.specs.Packed.{digits_in, held_digit};
-ghost use Rattle.vcd_body.specs.Stored.{AreLaidOut, ChangesAt, held_from};
+ghost use Rattle.vcd_body.specs.Stored.{AreLaidOut, ChangesAt, KeepLaid, held_from};
 
 use crate::item::Form;
 use crate::packed::{last_packed, packed_ends_differ, plain_ends_differ};
@@ -12,8 +12,8 @@ use crate::slot::{Holding, Share, Slot, State, holding_of};
 use crate::step::Step;
 use crate::store::{count_at, end_of, set_digits_in};
 
-// The step from digits whose last one is 0 or 1 where a byte is, to those of a text that ends with
-// this one, where they differ. It takes no branches.
+// Returns the step from digits whose last one is 0 or 1 where a byte is, to those of a text that
+// ends with this one, where they differ. It takes no branches.
 #[inline(always)]
 fn step_over(before: u8, after: u8) -> Step
     ensures differs { result.differs ≡ true }
@@ -27,8 +27,8 @@ fn step_over(before: u8, after: u8) -> Step
     }
 }
 
-// The step from digits that are held a byte each to those of a text, where the last 16 of both tell
-// that they differ.
+// Returns the step from digits that are held a byte each to those of a text, where the last 16 of
+// both tell that they differ.
 #[inline(always)]
 fn plain_step(share: &[u8], text: &[u8]) -> Option<Step>
     ensures many { IfSome result (λ _. 16 ≤ length text.now) }
@@ -60,7 +60,7 @@ fn packed_step(share: &[u8], len: usize, text: &[u8]) -> Option<Step>
     Some(step_over(last_packed(share, len), text[text.len() - 1]))
 }
 
-// The bytes of a share that begins and ends here.
+// Returns the bytes of a share that begins and ends here.
 #[inline(always)]
 fn part_of(values: &[u8], start: usize, end: usize) -> Option<&[u8]>
     ensures { IfSome result (λ share. share.now ≡ take (end - start) (drop start values.now)) }
@@ -68,8 +68,9 @@ fn part_of(values: &[u8], start: usize, end: usize) -> Option<&[u8]>
     values.get(start..end)
 }
 
-// The step from several digits that are held so, in a share that begins and ends here, to those of
-// a text, where the last 16 of both tell that they differ. How they are held is asked once.
+// Returns the step from several digits that are held so, in a share that begins and ends here, to
+// those of a text, where the last 16 of both tell that they differ. How they are held is asked
+// once.
 #[inline(always)]
 fn step_told(values: &[u8], holding: Holding, start: usize, end: usize, text: &[u8]) -> Option<Step>
     ensures many { IfSome result (λ _. 16 ≤ length text.now) }
@@ -80,8 +81,8 @@ fn step_told(values: &[u8], holding: Holding, start: usize, end: usize, text: &[
 {
     let share = part_of(values, start, end)?;
     match holding.state {
-        State::Plain => plain_step(share.get(..holding.len)?, text),
-        State::Digits => packed_step(share, holding.len, text),
+        State::Plain => plain_step(share.get(..holding.len())?, text),
+        State::Digits => packed_step(share, holding.len(), text),
         _ => None,
     }
 }
@@ -102,8 +103,7 @@ pub(crate) fn change_at(
         shares.old values.new slots.new shares.new }
     ensures same { result ≡ false → (slots.new ≡ slots.old) × (shares.new ≡ shares.old)
         × (values.new ≡ values.old) }
-    ensures laid { AreLaidOut slots.old shares.old (length values.old)
-        → AreLaidOut slots.new shares.new (length values.old) }
+    ensures laid { KeepLaid (length values.old) slots.old shares.old slots.new shares.new }
 {
     if code >= slots.len() || code >= shares.len() {
         return false;

@@ -1,7 +1,7 @@
 //! What is kept of a code.
 ghost use Rattle.std.specs.Prelude.{◌≡◌, ◌≢◌, ◌⊎◌, ◌==◌, cond, true, false};
 ghost use Rattle.vcd_body.specs.Packed.{held_digit};
-ghost use Rattle.vcd_body.specs.Stored.{IsUncounted, IsUnset, holding_of, number_of, one_digit, share_from, state_in};
+ghost use Rattle.vcd_body.specs.Stored.{IsUncounted, IsUnset, holding_of, len_of, number_of, one_digit, share_from, state_in};
 
 /// How the value of a code is held. Each digit has a state of its own, so that a value of one digit
 /// is in the slot alone.
@@ -34,8 +34,8 @@ pub(crate) enum State {
 /// the first caches.
 #[derive(Clone, Copy, PartialEq, Eq, Debug)]
 pub struct Slot {
-    // The number of binary digits; else the lowest 32 bits of how many digits, or bytes of a text,
-    // are held in the share.
+    // The number of the binary digits; else the lowest 32 bits of how many digits, or bytes of a
+    // text, are held in the share.
     pub(crate) number: u32,
     // The number of the state that holds the value; and from 8 on, by how many binary digits it is
     // above 8.
@@ -63,9 +63,24 @@ pub struct Share {
 #[derive(Clone, Copy, PartialEq, Eq, Debug)]
 pub(crate) struct Holding {
     pub(crate) state: State,
-    /// How many digits, or bytes of a text, are held in the share; or binary digits, as `bits`
-    /// packs them.
-    pub(crate) len: usize,
+    /// The lowest 32 bits of how many digits, or bytes of a text, are held in the share; or the
+    /// number of the binary digits.
+    pub(crate) lower: u32,
+    /// The bits above them; or how many binary digits there are.
+    pub(crate) upper: u32,
+}
+
+/// What one counts in the upper part of a length.
+pub(crate) const UPPER: usize = 4_294_967_296;
+
+impl Holding {
+    /// Returns how many digits, or bytes of a text, are held in the share.
+    #[inline(always)]
+    pub(crate) fn len(self) -> usize
+        ensures { result ≡ len_of self }
+    {
+        self.upper as usize * UPPER + self.lower as usize
+    }
 }
 
 /// What the value of a code is.
@@ -80,7 +95,7 @@ pub enum Shown {
 }
 
 impl Slot {
-    /// The code has no value.
+    /// Returns the slot of a code that has no value.
     pub fn new() -> Slot
         ensures { IsUnset result }
     {
@@ -93,14 +108,14 @@ impl Slot {
 }
 
 impl Share {
-    /// Nothing was counted of the code, and it is not chosen.
+    /// Returns the share of a code of which nothing was counted, and which is not chosen.
     pub fn new() -> Share
         ensures { IsUncounted result }
     {
         Share::at(0)
     }
 
-    /// Nothing was counted of the code, it is not chosen, and its share of the bytes begins here.
+    /// Returns the share of such a code, whose bytes of the values begin here.
     pub(crate) fn at(start: usize) -> Share
         ensures { result ≡ share_from start }
     {
@@ -115,7 +130,7 @@ impl Share {
     }
 }
 
-/// The number that tells a state in a slot.
+/// Returns the number that tells a state in a slot.
 #[inline(always)]
 pub(crate) fn number_of(state: State) -> u8
     ensures { result ≡ number_of state }
@@ -133,7 +148,7 @@ pub(crate) fn number_of(state: State) -> u8
     }
 }
 
-/// Whether a digit is 0 or 1.
+/// Returns whether a digit is 0 or 1.
 #[inline(always)]
 pub(crate) fn is_bit(digit: u8) -> bool
     ensures yes { result ≡ true → (digit ≡ 48) ⊎ (digit ≡ 49) }
@@ -151,7 +166,7 @@ pub(crate) fn number_of_bit(digit: u8) -> u8
     b'2' - digit
 }
 
-/// The number that tells the state of the other digit of 1 and 0.
+/// Returns the number that tells the state of the other digit of 1 and 0.
 #[inline(always)]
 pub(crate) fn number_of_turned(digit: u8) -> u8
     requires { (digit ≡ 48) ⊎ (digit ≡ 49) }
@@ -160,7 +175,7 @@ pub(crate) fn number_of_turned(digit: u8) -> u8
     number_of_bit(b'0' + b'1' - digit)
 }
 
-/// The state that a number tells.
+/// Returns the state that a number tells.
 #[inline(always)]
 pub(crate) fn state_in(how: u8) -> State
     ensures { result ≡ state_in how }
@@ -178,7 +193,7 @@ pub(crate) fn state_in(how: u8) -> State
     }
 }
 
-/// How the value of a code is held that has this slot and this share.
+/// Returns how the value of a code is held that has this slot and this share.
 #[inline(always)]
 pub(crate) fn holding_of(slot: Slot, share: Share) -> Holding
     ensures { result ≡ holding_of slot share }
@@ -190,11 +205,13 @@ pub(crate) fn holding_of(slot: Slot, share: Share) -> Holding
     };
     Holding {
         state: state_in(slot.how),
-        len: upper as usize * 4_294_967_296 + slot.number as usize,
+        lower: slot.number,
+        upper,
     }
 }
 
-/// The number of the state that holds a digit. Most are 0 or 1: between these it takes no branches.
+/// Returns the number of the state that holds a digit. Most are 0 or 1: between these it takes no
+/// branches.
 #[inline(always)]
 pub(crate) fn number_of_digit(digit: u8) -> u8
     ensures { one_digit (state_in result) ≡ Some (held_digit digit) }
@@ -220,7 +237,7 @@ fn number_of_other(digit: u8) -> u8
     }
 }
 
-/// The digit of a state that holds one.
+/// Returns the digit of a state that holds one.
 #[inline(always)]
 pub(crate) fn digit_of_state(state: State) -> Option<u8>
     ensures { result ≡ one_digit state }

@@ -19,7 +19,7 @@ pub struct Step {
     pub falls: bool,
 }
 
-/// Whether a last digit was one, and is another.
+/// Returns whether a last digit was one, and is another.
 #[inline(always)]
 fn goes(from: u8, to: u8, before: Option<u8>, after: Option<u8>) -> bool
     ensures { result ≡ goes_from from to before after }
@@ -30,7 +30,7 @@ fn goes(from: u8, to: u8, before: Option<u8>, after: Option<u8>) -> bool
     }
 }
 
-/// The last digit of a text of digits, in lower case; none of the text of a real number.
+/// Returns the last digit of a text of digits, in lower case; none of the text of a real number.
 #[inline(always)]
 fn last_of(form: Form, text: &[u8]) -> Option<u8>
     ensures { 0 < length text.now → (size : ℕ)
@@ -45,7 +45,7 @@ fn last_of(form: Form, text: &[u8]) -> Option<u8>
     }
 }
 
-/// The step to the value of a text, which differs or not, from one with this last digit.
+/// Returns the step to the value of a text, which differs or not, from one with this last digit.
 #[inline(always)]
 pub(crate) fn step_to_text(differs: bool, before: Option<u8>, form: Form, text: &[u8]) -> Step
     ensures differs { result.differs ≡ differs }
@@ -62,7 +62,7 @@ pub(crate) fn step_to_text(differs: bool, before: Option<u8>, form: Form, text: 
     }
 }
 
-/// The step from one number of binary digits to another.
+/// Returns the step from one number of binary digits to another.
 #[inline(always)]
 pub(crate) fn step_by_number(before: usize, after: usize) -> Step
     ensures differs { result.differs ≡ not (before == after) }

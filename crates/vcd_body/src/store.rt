@@ -4,20 +4,22 @@ ghost use Rattle.vcd_view.specs.declared.view.Code.{Code};
 ghost use Rattle.vcd_body.specs.Binary.{is_proper};
 ghost use Rattle.vcd_body.specs.Kept.{Held, as_chosen, one_more, with_change, with_held, with_number, with_number_change, with_step, with_text};
 ghost use Rattle.vcd_body.specs.Packed.{held_digit};
-ghost use Rattle.vcd_body.specs.Stored.{AreLaidOut, ChangesAt, IsUnset, end_at, held_by, holding_at, one_digit, set_whole, share_from, share_of, some_by, start_in, start_of, state_in, used, used_by, whole};
+ghost use Rattle.vcd_body.specs.Values.{with_value};
+ghost use Rattle.vcd_body.specs.Stored.{HoldsIn, AreLaidOut, BothKeepLaid, ChangesAt, ChangesBoth, ChangesLaid, ChangesSlot, IsUnset, KeepLaid, LeavesStep, SlotsKeepLaid, end_at, held_by, holding_at, len_of, one_digit, set_whole, share_from, share_of, some_by, start_in, start_of, state_in, used, used_by, whole};
 
-use crate::bits::{Bits, held_bits, is_number_step, is_proper, number_in};
+use crate::bits::{Bits, held_bits, is_number_step, is_proper};
 use crate::counters::{carry_step, count_one, step_low};
 use crate::item::Form;
 use crate::packed::pack;
 use crate::slot::{
-    Holding, Share, Slot, State, holding_of, is_bit, number_of, number_of_bit, number_of_digit,
-    number_of_turned,
+    Holding, Share, Slot, State, UPPER, holding_of, is_bit, number_of, number_of_bit,
+    number_of_digit, number_of_turned,
 };
 use crate::step::step_by_number;
+use crate::value::Value;
 use vcd_view::Code;
 
-/// How the value of the code at a place is held.
+/// Returns how the value of the code at a place is held.
 #[inline(always)]
 pub(crate) fn holding_at(slots: &[Slot], shares: &[Share], code: usize) -> Option<Holding>
     ensures { result ≡ holding_at slots.now shares.now code }
@@ -28,7 +30,7 @@ pub(crate) fn holding_at(slots: &[Slot], shares: &[Share], code: usize) -> Optio
     Some(holding_of(slots[code], shares[code]))
 }
 
-/// Where the share of the code at a place ends.
+/// Returns where the share of the code at a place ends.
 #[inline(always)]
 pub(crate) fn end_of(shares: &[Share], values: usize, code: usize) -> usize
     requires { code < length shares.now }
@@ -40,36 +42,35 @@ pub(crate) fn end_of(shares: &[Share], values: usize, code: usize) -> usize
     }
 }
 
-/// How many bytes of its share are in use.
+/// Returns how many bytes of its share are in use.
 #[inline(always)]
 fn used_by(holding: Holding) -> usize
     ensures { result ≡ used holding }
 {
     match holding.state {
-        State::Digits => holding.len.div_ceil(4),
-        State::Plain | State::Real => holding.len,
-        State::Bits => 0,
-        State::Unset | State::Zero | State::One | State::Unknown | State::High => 0,
+        State::Digits => holding.len().div_ceil(4),
+        State::Plain | State::Real => holding.len(),
+        State::Unset | State::Zero | State::One | State::Unknown | State::High | State::Bits => 0,
     }
 }
 
-/// Whether digits are some where several are held.
+/// Returns whether digits are some where several are held.
 #[inline(always)]
 fn holds_some(holding: Holding) -> bool
-    ensures yes { result ≡ true → 1 ≤ some_by holding.state holding.len }
-    ensures no { result ≡ false → some_by holding.state holding.len ≡ 0 }
+    ensures yes { result ≡ true → 1 ≤ some_by holding.state (len_of holding) }
+    ensures no { result ≡ false → some_by holding.state (len_of holding) ≡ 0 }
 {
     match holding.state {
-        State::Plain | State::Digits => holding.len > 0,
-        State::Bits => is_proper(holding.len),
+        State::Plain | State::Digits => holding.len() > 0,
+        State::Bits => is_proper(holding),
         State::Unset | State::Zero | State::One | State::Unknown | State::High | State::Real =>
             true,
     }
 }
 
-/// The bytes that are in use of the share of the code whose value is held so. None where there is
-/// no share, where they would not lie within the values, or where the holding says that several
-/// digits are held, and how many is 0. No code of a table that is laid out is so.
+/// Returns the bytes that are in use of the share of the code whose value is held so. None where
+/// there is no share, where they would not lie within the values, or where the holding says that
+/// several digits are held, and how many is 0. No code of a table that is laid out is so.
 #[inline(always)]
 pub(crate) fn share_in<'a>(
     values: &'a [u8],
@@ -79,11 +80,10 @@ pub(crate) fn share_in<'a>(
 ) -> Option<&'a [u8]>
     ensures share { IfSome result
         (λ share. share.now ≡ take (used holding) (drop (start_in shares.now code) values.now)) }
-    ensures used { IfSome result (λ share. used holding ≤ length share.now) }
-    ensures some { IfSome result (λ _. 1 ≤ some_by holding.state holding.len) }
+    ensures held { IfSome result (λ share. HoldsIn holding share.now) }
     ensures there { code < length shares.now
         → start_in shares.now code + used holding ≤ length values.now
-        → 1 ≤ some_by holding.state holding.len → result ≢ None }
+        → 1 ≤ some_by holding.state (len_of holding) → result ≢ None }
 {
     if code >= shares.len() || !holds_some(holding) {
         return None;
@@ -97,27 +97,13 @@ pub(crate) fn share_in<'a>(
 /// alone, and need not be looked at.
 #[inline(always)]
 fn set_how(slots: &mut [Slot], code: usize, how: u8)
-    ensures changes { (d : ℕ) → one_digit (state_in how) ≡ Some d → (shares : List Share)
-        (values : List ℕ) → ChangesAt code (with_held (Held.Digits (d ∷ []))) values slots.old shares
-        values slots.new shares }
-    ensures laid { (d : ℕ) → one_digit (state_in how) ≡ Some d → (shares : List Share) (n : ℕ)
-        → AreLaidOut slots.old shares n → AreLaidOut slots.new shares n }
+    ensures changes { (d : ℕ) → one_digit (state_in how) ≡ Some d
+        → ChangesSlot code (with_held (Held.Digits (d ∷ []))) slots.old slots.new }
+    ensures laid { (d : ℕ) → one_digit (state_in how) ≡ Some d → SlotsKeepLaid slots.old slots.new }
 {
     if code < slots.len() {
         slots[code].how = how;
     }
-}
-
-/// Sets the value of a code to one digit.
-#[inline(always)]
-fn set_digit(slots: &mut [Slot], code: usize, digit: u8)
-    ensures changes { (shares : List Share) (values : List ℕ)
-        → ChangesAt code (with_held (Held.Digits (held_digit digit ∷ []))) values slots.old shares
-        values slots.new shares }
-    ensures laid { (shares : List Share) (n : ℕ) → AreLaidOut slots.old shares n
-        → AreLaidOut slots.new shares n }
-{
-    set_how(slots, code, number_of_digit(digit));
 }
 
 /// Holds digits in a share: a byte each where it has room for them, and else four to a byte. Says
@@ -147,8 +133,8 @@ fn hold_text(slot: &mut Slot, share: &mut Share, state: State, len: usize)
     ensures { whole slot.new share.new ≡ set_whole state len (whole slot.old share.old) }
 {
     slot.how = number_of(state);
-    slot.number = (len % 4_294_967_296) as u32;
-    share.upper = (len / 4_294_967_296) as u32;
+    slot.number = (len % UPPER) as u32;
+    share.upper = (len / UPPER) as u32;
 }
 
 /// Sets the value of a code to digits, where they fit its share, which ends here.
@@ -165,11 +151,9 @@ pub(crate) fn set_digits_in(
     requires within { code < length slots.old }
     requires shared { code < length shares.old }
     requires end { end ≡ end_at shares.old (length values.old) code }
-    ensures changes { AreLaidOut slots.old shares.old (length values.old)
-        → ChangesAt code (with_text Form.Vector text.now) values.old slots.old shares.old
-        values.new slots.new shares.new }
-    ensures laid { AreLaidOut slots.old shares.old (length values.old)
-        → AreLaidOut slots.new shares.new (length values.old) }
+    ensures changes { ChangesLaid code (with_text Form.Vector text.now) values.old slots.old
+        shares.old values.new slots.new shares.new }
+    ensures laid { KeepLaid (length values.old) slots.old shares.old slots.new shares.new }
 {
     let start = shares[code].start;
     if end < start || values.len() < end {
@@ -186,11 +170,9 @@ pub(crate) fn set_digits_in(
 #[inline(never)]
 fn set_digits(slots: &mut [Slot], shares: &mut [Share], values: &mut [u8], code: usize, text: &[u8])
     requires several { length text.now ≢ 1 }
-    ensures changes { AreLaidOut slots.old shares.old (length values.old)
-        → ChangesAt code (with_text Form.Vector text.now) values.old slots.old shares.old
-        values.new slots.new shares.new }
-    ensures laid { AreLaidOut slots.old shares.old (length values.old)
-        → AreLaidOut slots.new shares.new (length values.old) }
+    ensures changes { ChangesLaid code (with_text Form.Vector text.now) values.old slots.old
+        shares.old values.new slots.new shares.new }
+    ensures laid { KeepLaid (length values.old) slots.old shares.old slots.new shares.new }
 {
     if code < slots.len() && code < shares.len() {
         let end = end_of(shares, values.len(), code);
@@ -200,11 +182,9 @@ fn set_digits(slots: &mut [Slot], shares: &mut [Share], values: &mut [u8], code:
 
 /// Sets the value of a code to the text of a real number, where it fits its share.
 fn set_real(slots: &mut [Slot], shares: &mut [Share], values: &mut [u8], code: usize, text: &[u8])
-    ensures changes { AreLaidOut slots.old shares.old (length values.old)
-        → ChangesAt code (with_text Form.RealText text.now) values.old slots.old shares.old
-        values.new slots.new shares.new }
-    ensures laid { AreLaidOut slots.old shares.old (length values.old)
-        → AreLaidOut slots.new shares.new (length values.old) }
+    ensures changes { ChangesLaid code (with_text Form.RealText text.now) values.old slots.old
+        shares.old values.new slots.new shares.new }
+    ensures laid { KeepLaid (length values.old) slots.old shares.old slots.new shares.new }
 {
     if code >= slots.len() || code >= shares.len() {
         return;
@@ -229,40 +209,29 @@ fn copy_front(to: &mut [u8], from: &[u8])
     to[..from.len()].copy_from_slice(from);
 }
 
-/// Sets the value of a code to digits. Most changes are of one digit, and touch one slot alone.
-#[inline(always)]
-fn set_text(slots: &mut [Slot], shares: &mut [Share], values: &mut [u8], code: usize, text: &[u8])
-    ensures changes { AreLaidOut slots.old shares.old (length values.old)
-        → ChangesAt code (with_text Form.Vector text.now) values.old slots.old shares.old
-        values.new slots.new shares.new }
-    ensures laid { AreLaidOut slots.old shares.old (length values.old)
-        → AreLaidOut slots.new shares.new (length values.old) }
-{
-    match text {
-        [digit] => set_digit(slots, code, *digit),
-        _ => set_digits(slots, shares, values, code, text),
-    }
-}
-
-/// Sets the value of a code: digits, or the text of a real number.
+/// Sets the value of a code. Most changes are of one digit, and touch one slot alone.
 #[inline(always)]
 pub(crate) fn set_at(
     slots: &mut [Slot],
     shares: &mut [Share],
     values: &mut [u8],
     code: usize,
-    form: Form,
-    text: &[u8],
+    value: Value<'_>,
 )
-    ensures changes { AreLaidOut slots.old shares.old (length values.old)
-        → ChangesAt code (with_text form text.now) values.old slots.old shares.old
+    ensures changes { ChangesLaid code (with_value value.entry) values.old slots.old shares.old
         values.new slots.new shares.new }
-    ensures laid { AreLaidOut slots.old shares.old (length values.old)
-        → AreLaidOut slots.new shares.new (length values.old) }
+    ensures bits { (b : Bits) → value.entry ≡ Value.Bits b
+        → ChangesAt code (with_number b.len b.number) values.old slots.old shares.old
+        values.new slots.new shares.new }
+    ensures laid { KeepLaid (length values.old) slots.old shares.old slots.new shares.new }
 {
-    match form {
-        Form::RealText => set_real(slots, shares, values, code, text),
-        Form::Scalar | Form::Vector => set_text(slots, shares, values, code, text),
+    match value {
+        Value::Digits(text) => match text {
+            [digit] => set_how(slots, code, number_of_digit(*digit)),
+            _ => set_digits(slots, shares, values, code, text),
+        },
+        Value::Real(text) => set_real(slots, shares, values, code, text),
+        Value::Bits(bits) => set_bits(slots, code, bits),
     }
 }
 
@@ -270,11 +239,8 @@ pub(crate) fn set_at(
 /// share need be looked at.
 #[inline(always)]
 pub(crate) fn set_bits(slots: &mut [Slot], code: usize, bits: Bits)
-    ensures changes { (shares : List Share) (values : List ℕ)
-        → ChangesAt code (with_number bits.len bits.number) values slots.old shares values slots.new
-        shares }
-    ensures laid { (shares : List Share) (n : ℕ) → AreLaidOut slots.old shares n
-        → AreLaidOut slots.new shares n }
+    ensures changes { ChangesSlot code (with_number bits.len bits.number) slots.old slots.new }
+    ensures laid { SlotsKeepLaid slots.old slots.new }
 {
     if code < slots.len() {
         let (number, how) = held_bits(bits);
@@ -287,9 +253,8 @@ pub(crate) fn set_bits(slots: &mut [Slot], code: usize, bits: Bits)
 /// Adds one to a counter of a code. A full one stays.
 #[inline(always)]
 pub(crate) fn bump_at(slots: &mut [Slot], shares: &mut [Share], code: usize, which: usize)
-    ensures changes { (values : List ℕ) → ChangesAt code (one_more which) values slots.old shares.old
-        values slots.new shares.new }
-    ensures laid { (n : ℕ) → AreLaidOut slots.old shares.old n → AreLaidOut slots.new shares.new n }
+    ensures changes { ChangesBoth code (one_more which) slots.old shares.old slots.new shares.new }
+    ensures laid { BothKeepLaid slots.old shares.old slots.new shares.new }
 {
     if code >= slots.len() || code >= shares.len() {
         return;
@@ -316,9 +281,9 @@ pub(crate) fn carry_at(
     rises: bool,
     falls: bool,
 )
-    ensures changes { (values : List ℕ) → ChangesAt code (with_step rises falls) values slots.old
-        shares.old values slots.new shares.new }
-    ensures laid { (n : ℕ) → AreLaidOut slots.old shares.old n → AreLaidOut slots.new shares.new n }
+    ensures changes { ChangesBoth code (with_step rises falls) slots.old shares.old slots.new
+        shares.new }
+    ensures laid { BothKeepLaid slots.old shares.old slots.new shares.new }
 {
     if code >= slots.len() || code >= shares.len() {
         return;
@@ -339,11 +304,10 @@ pub(crate) fn carry_at(
 /// has room for that. Returns whether it has; else nothing changes.
 #[inline(always)]
 fn count_in_slot(slots: &mut [Slot], code: usize, rises: bool, falls: bool) -> bool
-    ensures counts { result ≡ true → (shares : List Share) (values : List ℕ)
-        → ChangesAt code (with_step rises falls) values slots.old shares values slots.new shares }
+    ensures counts { result ≡ true
+        → ChangesSlot code (with_step rises falls) slots.old slots.new }
     ensures same { result ≡ false → slots.new ≡ slots.old }
-    ensures laid { (shares : List Share) (n : ℕ) → AreLaidOut slots.old shares n
-        → AreLaidOut slots.new shares n }
+    ensures laid { SlotsKeepLaid slots.old slots.new }
 {
     if code >= slots.len() {
         return false;
@@ -361,9 +325,9 @@ pub(crate) fn count_at(
     rises: bool,
     falls: bool,
 )
-    ensures changes { (values : List ℕ) → ChangesAt code (with_step rises falls) values slots.old
-        shares.old values slots.new shares.new }
-    ensures laid { (n : ℕ) → AreLaidOut slots.old shares.old n → AreLaidOut slots.new shares.new n }
+    ensures changes { ChangesBoth code (with_step rises falls) slots.old shares.old slots.new
+        shares.new }
+    ensures laid { BothKeepLaid slots.old shares.old slots.new shares.new }
 {
     if !count_in_slot(slots, code, rises, falls) {
         carry_at(slots, shares, code, rises, falls);
@@ -387,17 +351,12 @@ pub(crate) enum Stepped {
 #[inline(always)]
 pub(crate) fn turn_at(slots: &mut [Slot], code: usize, digit: u8) -> Stepped
     ensures counted { result ≡ Stepped.Counted → (form : Form) → form ≢ Form.RealText → (size : ℕ)
-        (shares : List Share) (values : List ℕ) → ChangesAt code (with_change size form (digit ∷ []))
-        values slots.old shares values slots.new shares }
-    ensures uncounted { (rises falls : Bool) → result ≡ Stepped.Uncounted rises falls → (form : Form)
-        → form ≢ Form.RealText → (size : ℕ) (shares : List Share) (values after : List ℕ)
-        (counted : List Slot) (with : List Share)
-        → ChangesAt code (with_step rises falls) values slots.new shares after counted with
-        → ChangesAt code (with_change size form (digit ∷ [])) values slots.old shares after counted
-        with }
+        → ChangesSlot code (with_change size form (digit ∷ [])) slots.old slots.new }
+    ensures uncounted { (rises falls : Bool) → result ≡ Stepped.Uncounted rises falls
+        → (form : Form) → form ≢ Form.RealText → (size : ℕ)
+        → LeavesStep code (with_change size form (digit ∷ [])) rises falls slots.old slots.new }
     ensures same { result ≡ Stepped.Not → slots.new ≡ slots.old }
-    ensures laid { (shares : List Share) (n : ℕ) → AreLaidOut slots.old shares n
-        → AreLaidOut slots.new shares n }
+    ensures laid { SlotsKeepLaid slots.old slots.new }
 {
     if code >= slots.len() || !is_bit(digit) {
         return Stepped::Not;
@@ -430,20 +389,19 @@ pub(crate) fn step_at(slots: &mut [Slot], code: usize, size: usize, bits: Bits) 
         → AreLaidOut slots.old shares (length values)
         → ChangesAt code (with_number_change size bits.len bits.number)
         values slots.old shares values slots.new shares }
-    ensures uncounted { (rises falls : Bool) → result ≡ Stepped.Uncounted rises falls → (shares : List Share)
-        (values after : List ℕ) → AreLaidOut slots.old shares (length values)
+    ensures uncounted { (rises falls : Bool) → result ≡ Stepped.Uncounted rises falls
+        → (shares : List Share) (values after : List ℕ) → AreLaidOut slots.old shares (length values)
         → (counted : List Slot) (with : List Share)
         → ChangesAt code (with_step rises falls) values slots.new shares after counted with
         → ChangesAt code (with_number_change size bits.len bits.number)
         values slots.old shares after counted with }
     ensures same { result ≡ Stepped.Not → slots.new ≡ slots.old }
-    ensures laid { (shares : List Share) (n : ℕ) → AreLaidOut slots.old shares n
-        → AreLaidOut slots.new shares n }
+    ensures laid { SlotsKeepLaid slots.old slots.new }
 {
     if code >= slots.len() || !is_number_step(&slots[code], size, bits) {
         return Stepped::Not;
     }
-    let step = step_by_number(number_in(slots[code].number as usize), bits.number);
+    let step = step_by_number(slots[code].number as usize, bits.number);
     set_bits(slots, code, bits);
     if !step.differs || count_in_slot(slots, code, step.rises, step.falls) {
         return Stepped::Counted;
@@ -467,7 +425,7 @@ pub(crate) fn choose_at(shares: &mut [Share], code: usize)
     }
 }
 
-/// How many bytes the value of a code of this size takes at most.
+/// Returns how many bytes the value of a code of this size takes at most.
 #[inline(always)]
 fn share_of(size: usize) -> usize
     ensures { result ≡ share_of size }

@@ -1,6 +1,5 @@
 //! The current values of the codes of a header, in lent slices.
 ghost use Rattle.std.specs.Prelude.{◌≡◌, ℕ, ◌<◌, ◌≤◌, length};
-ghost use Rattle.vcd_body.specs.Binary.{binary_digits};
 ghost use Rattle.vcd_body.specs.Kept.{Held, as_chosen, differs, digit_in, IsStep, one_more, real_text, with_change, with_number, with_number_change, with_step, with_text};
 ghost use Rattle.vcd_body.specs.Stored.{room_of};
 
@@ -13,9 +12,10 @@ use crate::several::change_at;
 use crate::slot::{Share, Shown, Slot, State, state_in};
 use crate::step::{Step, step_to_text};
 use crate::store::{
-    Stepped, bump_at, carry_at, choose_at, count_at, holding_at, lay_out, set_at, set_bits,
-    share_in, step_at, turn_at,
+    Stepped, bump_at, carry_at, choose_at, count_at, holding_at, lay_out, set_at, share_in,
+    step_at, turn_at,
 };
+use crate::value::Value;
 use vcd_view::HeadView;
 
 /// What is kept of the codes of a header, by their places: the value of each, as it was last
@@ -32,16 +32,16 @@ impl<'a> Table<'a> {
     ghost use Rattle.std.specs.Prelude.{Some, false, option_map, slice_get};
     ghost use Rattle.vcd_view.specs.declared.view.Code.{Code};
     ghost use Rattle.vcd_model.specs.Values.{value_with};
-    ghost use Rattle.vcd_body.specs.Given.{IsText};
     ghost use Rattle.vcd_body.specs.Items.{model_form};
     ghost use Rattle.vcd_body.specs.Kept.{Kept, unset, value_at_size};
     ghost use Rattle.vcd_body.specs.Stored.{holding_at, share_of};
-    ghost use Rattle.vcd_body.specs.Contents.{ChangesCode, IsLaidOut, bytes_in, codes_in, codes_shown, counts_at, held_at, is_chosen, kept_at, new_at, shown_as, value_in};
+    ghost use Rattle.vcd_body.specs.Values.{form_in, text_in, with_value, with_value_change};
+    ghost use Rattle.vcd_body.specs.Contents.{ChangesCode, GivesValue, IsLaidOut, KeepsTable, bytes_in, codes_in, codes_shown, counts_at, held_at, is_chosen, kept_at, new_at, shown_as, value_in};
 
-    /// A table of the codes of the header that is shown: each is unset, its counters are 0, and it
-    /// is not chosen. A code's value has a quarter of its size of the bytes of `values`, rounded
-    /// up, and at least 64; where there are fewer, the last codes go short. Slots, shares and bytes
-    /// beyond these are left alone.
+    /// Returns a table of the codes of the header that is shown: each is unset, its counters are 0,
+    /// and it is not chosen. A code's value has a quarter of its size of the bytes of `values`,
+    /// rounded up, and at least 64; where there are fewer, the last codes go short. Slots, shares
+    /// and bytes beyond these are left alone.
     pub fn new(
         view: HeadView<'_>,
         values: &'a mut [u8],
@@ -78,93 +78,86 @@ impl<'a> Table<'a> {
         ensures laid { IsLaidOut self.old → IsLaidOut self.new }
         ensures changes { IsLaidOut self.old
             → ChangesCode code (with_text form text.now) self.old self.new }
-        ensures value { IsLaidOut self.old → (c : Code) (k : Kept) → IsText form c text.now
-            → c.event ≡ false → kept_at self.old code ≡ Some k → share_of c.size ≤ k.room
-            → value_at_size c.size (held_at self.new code)
-            ≡ Some (value_with c.size (model_form form) text.now) }
+        ensures value { IsLaidOut self.old → GivesValue form text.now code self.old self.new }
         ensures codes { codes_in self.new ≡ codes_in self.old }
         ensures bytes { bytes_in self.new ≡ bytes_in self.old }
     {
-        let slots = &mut *self.slots;
-        let shares = &mut *self.shares;
-        let values = &mut *self.values;
-        set_at(slots, shares, values, code, form, text);
+        self.set_value(code, Value::of_text(form, text));
     }
 
-    /// Sets the value of the code at a place by binary digits, as `set` does by their text where
-    /// that has room; they need none. It writes the code's slot alone, looks at nothing, and takes
-    /// the same time for all.
+    /// Sets the value of the code at a place. A text that is empty or has no room is passed over;
+    /// binary digits need none. It takes as long as the text is; one digit, and binary digits,
+    /// touch the code's slot alone.
     #[inline(always)]
-    pub fn set_bits(&mut self, code: usize, bits: Bits)
-        ensures laid { IsLaidOut self.old → IsLaidOut self.new }
-        ensures changes { ChangesCode code (with_number bits.len bits.number) self.old self.new }
-        ensures as_text { (k : Kept) → kept_at self.old code ≡ Some k → 8 ≤ k.room
-            → ChangesCode code (with_text Form.Vector (binary_digits bits.len bits.number))
-            self.old self.new }
-        ensures value { IsLaidOut self.old → (c : Code) (k : Kept)
-            → IsText Form.Vector c (binary_digits bits.len bits.number)
-            → c.event ≡ false → kept_at self.old code ≡ Some k → share_of c.size ≤ k.room
-            → value_at_size c.size (held_at self.new code) ≡ Some (value_with c.size
-            (model_form Form.Vector) (binary_digits bits.len bits.number)) }
-        ensures codes { codes_in self.new ≡ codes_in self.old }
-        ensures bytes { bytes_in self.new ≡ bytes_in self.old }
-    {
-        set_bits(self.slots, code, bits);
-    }
-
-    /// Sets the value of the code at a place by the text of a change as `set` does, and counts its
-    /// step at this size as `count` does, where it differs. A text that is empty is passed over.
-    /// One of the digits 0 and 1 over another touches the code's slot alone.
-    #[inline(always)]
-    pub fn follow(&mut self, code: usize, size: usize, form: Form, text: &[u8])
-        ensures laid { IsLaidOut self.old → IsLaidOut self.new }
+    pub fn set_value(&mut self, code: usize, value: Value<'_>)
+        ensures keeps { KeepsTable self.old self.new }
         ensures changes { IsLaidOut self.old
-            → ChangesCode code (with_change size form text.now) self.old self.new }
-        ensures value { IsLaidOut self.old → (c : Code) (k : Kept) → IsText form c text.now
-            → c.event ≡ false → kept_at self.old code ≡ Some k → share_of c.size ≤ k.room
-            → value_at_size c.size (held_at self.new code)
-            ≡ Some (value_with c.size (model_form form) text.now) }
-        ensures codes { codes_in self.new ≡ codes_in self.old }
-        ensures bytes { bytes_in self.new ≡ bytes_in self.old }
+            → ChangesCode code (with_value value.entry) self.old self.new }
+        ensures bits { (b : Bits) → value.entry ≡ Value.Bits b
+            → ChangesCode code (with_number b.len b.number) self.old self.new }
+        ensures as_text { IsLaidOut self.old → (k : Kept) → kept_at self.old code ≡ Some k
+            → 8 ≤ k.room → ChangesCode code (with_text (form_in value.entry) (text_in value.entry))
+            self.old self.new }
+        ensures value { IsLaidOut self.old
+            → GivesValue (form_in value.entry) (text_in value.entry) code self.old self.new }
+    {
+        set_at(self.slots, self.shares, self.values, code, value);
+    }
+
+    /// Sets the value of the code at a place as `set_value` does, and counts its step at this size
+    /// as `count` does, where it differs. A text that is empty is passed over. One of the digits 0
+    /// and 1 over another, and binary digits over others, touch the code's slot alone.
+    #[inline(always)]
+    pub fn follow(&mut self, code: usize, size: usize, value: Value<'_>)
+        ensures keeps { KeepsTable self.old self.new }
+        ensures changes { IsLaidOut self.old
+            → ChangesCode code (with_value_change size value.entry) self.old self.new }
+        ensures as_text { IsLaidOut self.old → (k : Kept) → kept_at self.old code ≡ Some k
+            → 8 ≤ k.room → ChangesCode code
+            (with_change size (form_in value.entry) (text_in value.entry)) self.old self.new }
+        ensures value { IsLaidOut self.old
+            → GivesValue (form_in value.entry) (text_in value.entry) code self.old self.new }
+    {
+        match value {
+            Value::Digits(text) => self.follow_digits(code, size, text),
+            Value::Real(text) => self.follow_any(code, size, Form::RealText, text),
+            Value::Bits(bits) => self.follow_bits(code, size, bits),
+        }
+    }
+
+    /// Sets the value of the code at a place to digits, and counts its step where it differs.
+    #[inline(always)]
+    fn follow_digits(&mut self, code: usize, size: usize, text: &[u8])
+        ensures keeps { KeepsTable self.old self.new }
+        ensures changes { IsLaidOut self.old
+            → ChangesCode code (with_change size Form.Vector text.now) self.old self.new }
     {
         match text {
-            [digit] if form != Form::RealText => match turn_at(self.slots, code, *digit) {
+            [digit] => match turn_at(self.slots, code, *digit) {
                 Stepped::Counted => {}
                 Stepped::Uncounted { rises, falls } => self.carry(code, rises, falls),
-                Stepped::Not => self.follow_any(code, size, form, text),
+                Stepped::Not => self.follow_any(code, size, Form::Vector, text),
             },
-            _ if form != Form::Vector => self.follow_any(code, size, form, text),
             _ => {
                 if !change_at(self.slots, self.shares, self.values, code, text) {
-                    self.follow_any(code, size, form, text);
+                    self.follow_any(code, size, Form::Vector, text);
                 }
             }
         }
     }
 
-    /// Sets the value of the code at a place by binary digits, and counts its step at this size, as
-    /// `follow` does by their text where that has room; they need none. Over others that were set
-    /// so it touches the code's slot alone.
+    /// Sets the value of the code at a place to binary digits, and counts its step where it
+    /// differs.
     #[inline(always)]
-    pub fn follow_bits(&mut self, code: usize, size: usize, bits: Bits)
-        ensures laid { IsLaidOut self.old → IsLaidOut self.new }
+    fn follow_bits(&mut self, code: usize, size: usize, bits: Bits)
+        ensures keeps { KeepsTable self.old self.new }
         ensures changes { IsLaidOut self.old
             → ChangesCode code (with_number_change size bits.len bits.number) self.old self.new }
-        ensures as_text { IsLaidOut self.old → (k : Kept) → kept_at self.old code ≡ Some k
-            → 8 ≤ k.room → ChangesCode code
-            (with_change size Form.Vector (binary_digits bits.len bits.number)) self.old self.new }
-        ensures value { IsLaidOut self.old → (c : Code) (k : Kept)
-            → IsText Form.Vector c (binary_digits bits.len bits.number)
-            → c.event ≡ false → kept_at self.old code ≡ Some k → share_of c.size ≤ k.room
-            → value_at_size c.size (held_at self.new code) ≡ Some (value_with c.size
-            (model_form Form.Vector) (binary_digits bits.len bits.number)) }
-        ensures codes { codes_in self.new ≡ codes_in self.old }
-        ensures bytes { bytes_in self.new ≡ bytes_in self.old }
     {
         match step_at(self.slots, code, size, bits) {
             Stepped::Counted => {}
             Stepped::Uncounted { rises, falls } => self.carry(code, rises, falls),
-            Stepped::Not => self.follow_bits_any(code, size, bits),
+            Stepped::Not => self.follow_any_bits(code, size, bits),
         }
     }
 
@@ -174,10 +167,8 @@ impl<'a> Table<'a> {
     #[cold]
     #[inline(never)]
     fn carry(&mut self, code: usize, rises: bool, falls: bool)
-        ensures laid { IsLaidOut self.old → IsLaidOut self.new }
+        ensures keeps { KeepsTable self.old self.new }
         ensures changes { ChangesCode code (with_step rises falls) self.old self.new }
-        ensures codes { codes_in self.new ≡ codes_in self.old }
-        ensures bytes { bytes_in self.new ≡ bytes_in self.old }
     {
         carry_at(self.slots, self.shares, code, rises, falls);
     }
@@ -186,11 +177,9 @@ impl<'a> Table<'a> {
     /// differs, whatever the value was.
     #[inline(never)]
     fn follow_any(&mut self, code: usize, size: usize, form: Form, text: &[u8])
-        ensures laid { IsLaidOut self.old → IsLaidOut self.new }
+        ensures keeps { KeepsTable self.old self.new }
         ensures changes { IsLaidOut self.old
             → ChangesCode code (with_change size form text.now) self.old self.new }
-        ensures codes { codes_in self.new ≡ codes_in self.old }
-        ensures bytes { bytes_in self.new ≡ bytes_in self.old }
     {
         if text.is_empty() {
             return;
@@ -202,28 +191,23 @@ impl<'a> Table<'a> {
         }
     }
 
-    /// Sets the value of the code at a place by binary digits, and counts its step where it
-    /// differs, whatever the value was.
+    /// Sets the value of the code at a place to binary digits, and counts its step where it
+    /// differs, whatever the value was: follows their text, and then holds them as their number.
     #[inline(never)]
-    fn follow_bits_any(&mut self, code: usize, size: usize, bits: Bits)
-        ensures laid { IsLaidOut self.old → IsLaidOut self.new }
+    fn follow_any_bits(&mut self, code: usize, size: usize, bits: Bits)
+        ensures keeps { KeepsTable self.old self.new }
         ensures changes { IsLaidOut self.old
             → ChangesCode code (with_number_change size bits.len bits.number) self.old self.new }
-        ensures codes { codes_in self.new ≡ codes_in self.old }
-        ensures bytes { bytes_in self.new ≡ bytes_in self.old }
     {
         let mut block = [0u8; 32];
         let text = &mut block[..bits.len];
         put_digits(bits, text);
-        let step = self.step_to(code, size, Form::Vector, text);
-        self.set_bits(code, bits);
-        if step.differs {
-            self.count(code, step.rises, step.falls);
-        }
+        self.follow_any(code, size, Form::Vector, text);
+        self.set_value(code, Value::Bits(bits));
     }
 
-    /// The step from the value of the code at a place to that of a text. Where there is no value it
-    /// does not differ.
+    /// Returns the step from the value of the code at a place to that of a text. Where there is no
+    /// value it does not differ.
     #[inline(always)]
     fn step_to(&self, code: usize, size: usize, form: Form, text: &[u8]) -> Step
         ensures { IsLaidOut self.now → 0 < length text.now
@@ -240,7 +224,7 @@ impl<'a> Table<'a> {
         step_to_text(differs, last_held(holding, share), form, text)
     }
 
-    /// What the value of the code at a place is.
+    /// Returns what the value of the code at a place is.
     #[inline]
     pub fn get(&self, code: usize) -> Shown
         ensures { result ≡ shown_as (held_at self.now code) }
@@ -251,13 +235,12 @@ impl<'a> Table<'a> {
         match state_in(self.slots[code].how) {
             State::Unset => Shown::Unset,
             State::Real => Shown::Real,
-            State::Zero | State::One | State::Unknown | State::High => Shown::Bits,
-            State::Plain | State::Digits | State::Bits => Shown::Bits,
+            _ => Shown::Bits,
         }
     }
 
-    /// The digit at a place of the value of a code, extended to the code's size, from the left and
-    /// in lower case. None where the value has no digits, or fewer.
+    /// Returns the digit at a place of the value of a code, extended to the code's size, from the
+    /// left and in lower case. None where the value has no digits, or fewer.
     #[inline]
     pub fn digit(&self, view: HeadView<'_>, code: usize, place: usize) -> Option<u8>
         ensures { IsLaidOut self.now
@@ -275,8 +258,8 @@ impl<'a> Table<'a> {
         digit_shown(holding, share, declared.size, place)
     }
 
-    /// The text of the real number that is the value of the code at a place; empty where it has no
-    /// such value.
+    /// Returns the text of the real number that is the value of the code at a place; empty where it
+    /// has no such value.
     #[inline]
     pub fn real(&self, code: usize) -> &[u8]
         ensures { IsLaidOut self.now → result.now ≡ real_text (held_at self.now code) }
@@ -289,7 +272,7 @@ impl<'a> Table<'a> {
         }
     }
 
-    /// The three counters of the code at a place.
+    /// Returns the three counters of the code at a place.
     #[inline]
     pub fn tally(&self, code: usize) -> [u64; 3]
         ensures { result ≡ counts_at self.now code }
@@ -305,10 +288,8 @@ impl<'a> Table<'a> {
     /// Adds one to the counter `which`, 0 to 2, of the code at a place. A full one stays.
     #[inline(always)]
     pub fn bump(&mut self, code: usize, which: usize)
-        ensures laid { IsLaidOut self.old → IsLaidOut self.new }
+        ensures keeps { KeepsTable self.old self.new }
         ensures changes { ChangesCode code (one_more which) self.old self.new }
-        ensures codes { codes_in self.new ≡ codes_in self.old }
-        ensures bytes { bytes_in self.new ≡ bytes_in self.old }
     {
         bump_at(self.slots, self.shares, code, which);
     }
@@ -317,10 +298,8 @@ impl<'a> Table<'a> {
     /// second where it rises, and to the third where it falls. A full one stays.
     #[inline(always)]
     pub fn count(&mut self, code: usize, rises: bool, falls: bool)
-        ensures laid { IsLaidOut self.old → IsLaidOut self.new }
+        ensures keeps { KeepsTable self.old self.new }
         ensures changes { ChangesCode code (with_step rises falls) self.old self.new }
-        ensures codes { codes_in self.new ≡ codes_in self.old }
-        ensures bytes { bytes_in self.new ≡ bytes_in self.old }
     {
         count_at(self.slots, self.shares, code, rises, falls);
     }
@@ -328,15 +307,13 @@ impl<'a> Table<'a> {
     /// Chooses the code at a place.
     #[inline]
     pub fn choose(&mut self, code: usize)
-        ensures laid { IsLaidOut self.old → IsLaidOut self.new }
+        ensures keeps { KeepsTable self.old self.new }
         ensures changes { ChangesCode code as_chosen self.old self.new }
-        ensures codes { codes_in self.new ≡ codes_in self.old }
-        ensures bytes { bytes_in self.new ≡ bytes_in self.old }
     {
         choose_at(self.shares, code);
     }
 
-    /// Whether the code at a place is chosen. It takes the same time for every table.
+    /// Returns whether the code at a place is chosen. It takes the same time for every table.
     #[inline]
     pub fn chosen(&self, code: usize) -> bool
         ensures { result ≡ is_chosen self.now code }

@@ -3,10 +3,10 @@ ghost use Rattle.std.specs.Prelude.{◌≡◌, ℕ, ◌-◌, ◌^◌, ◌<◌, L
 ghost use Rattle.vcd_model.specs.Input.{Input};
 ghost use Rattle.vcd_model.specs.Tokens.{Token};
 ghost use Rattle.vcd_model.specs.Declarations.{IdCode};
-ghost use Rattle.vcd_model.specs.BodyPhrases.{BodyPhrase, items_of};
-ghost use Rattle.vcd_model.specs.Reading.{Placed, phrases_of};
+ghost use Rattle.vcd_model.specs.BodyPhrases.{BodyPhrase};
+ghost use Rattle.vcd_model.specs.Reading.{Placed};
 ghost use Rattle.vcd_text.specs.Feed.{source_of, seen, token_of, value_of};
-ghost use Rattle.vcd_body.specs.Reads.{Reads, ReadsAll, Looks, Fails};
+ghost use Rattle.vcd_body.specs.Reads.{FailsAfter, Looks, Reads, ReadsAll};
 ghost use Rattle.vcd_text.specs.Advances.{Advances};
 ghost use Rattle.vcd_body.specs.Fault.{call_end};
 
@@ -23,7 +23,7 @@ pub(crate) fn next_token<S: Source>(feed: &mut Feed<'_, '_, '_, '_, S>) -> Resul
         → MatchResult result (λ more.
         MatchBool more (Looks codes i front placed before feed.new)
         (ReadsAll codes i front placed before feed.new))
-        (λ fault. Fails codes i front (items_of (phrases_of placed)) fault feed.new) }
+        (FailsAfter codes i front placed feed.new) }
     ensures advances { Advances S.failures feed.old feed.new (call_end result) }
     ensures progress { IfOk result (λ more. more ≡ true → seen feed.old < seen feed.new) }
     ensures bounded { seen feed.new < 2 ^ 63 }
@@ -38,7 +38,7 @@ pub(crate) fn next_token<S: Source>(feed: &mut Feed<'_, '_, '_, '_, S>) -> Resul
     }
 }
 
-/// The next token of a phrase that has begun.
+/// Returns the next token of a phrase that has begun.
 #[inline(always)]
 pub(crate) fn next_inner<S: Source>(feed: &mut Feed<'_, '_, '_, '_, S>) -> Result<(), BodyFault>
     requires { S.failures (source_of feed.old) < 2 ^ 64 - 1 }
@@ -46,7 +46,7 @@ pub(crate) fn next_inner<S: Source>(feed: &mut Feed<'_, '_, '_, '_, S>) -> Resul
         (placed : List (Placed BodyPhrase)) (first : List ℕ) (before : List (List ℕ))
         → Reads codes i front placed (first ∷ before) feed.old
         → MatchResult result (λ _. Looks codes i front placed (first ∷ before) feed.new)
-        (λ fault. Fails codes i front (items_of (phrases_of placed)) fault feed.new) }
+        (FailsAfter codes i front placed feed.new) }
     ensures advances { Advances S.failures feed.old feed.new (call_end result) }
     ensures progress { OnOk result (seen feed.old < seen feed.new) }
     ensures bounded { seen feed.new < 2 ^ 63 }

@@ -7,6 +7,7 @@ ghost use Rattle.vcd_model.specs.BodyPhrases.{is_value_digit as is_digit};
 ghost use Rattle.vcd_model.specs.Keywords.{is_end as ends};
 ghost use Rattle.std.specs.Str.{byte};
 ghost use Rattle.vcd_body.specs.Binary.{binary_digits, bit_of};
+ghost use Rattle.vcd_body.specs.Changes.{AreBitsAt};
 ghost use Rattle.vcd_body.specs.Words.{StandsFor, Begins, command_is};
 
 use crate::bits::Bits;
@@ -41,7 +42,7 @@ pub(crate) enum Command {
     OfHeader,
 }
 
-/// What the token begins.
+/// Returns what the token begins.
 #[inline(always)]
 pub(crate) fn first_of(token: &[u8]) -> First
     ensures { Begins token.now result }
@@ -71,7 +72,7 @@ fn first_by(byte: u8) -> First
     }
 }
 
-/// The bytes after the first one, none where there is none.
+/// Returns the bytes after the first one, none where there is none.
 #[inline(always)]
 pub(crate) fn rest_of(token: &[u8]) -> &[u8]
     ensures { result.now ≡ drop 1 token.now }
@@ -82,14 +83,14 @@ pub(crate) fn rest_of(token: &[u8]) -> &[u8]
     }
 }
 
-/// The first byte alone, none where there is none.
+/// Returns the first byte alone, none where there is none.
 pub(crate) fn first_byte_of(token: &[u8]) -> &[u8]
     ensures { result.now ≡ take 1 token.now }
 {
     &token[..token.len().min(1)]
 }
 
-/// The token is this word.
+/// Returns whether the token is this word.
 fn is(token: &[u8], word: &[u8]) -> bool
     ensures { result ≡ bytes_eq word.now token.now }
 {
@@ -102,7 +103,7 @@ pub(crate) fn is_end(token: &[u8]) -> bool
     is(token, b"$end")
 }
 
-/// What a keyword is where a phrase begins.
+/// Returns what a keyword is where a phrase begins.
 fn command_for(keyword: Keyword) -> Command
     ensures { result ≡ command_is keyword }
 {
@@ -123,7 +124,7 @@ fn command_for(keyword: Keyword) -> Command
     }
 }
 
-/// What the keyword is that the token is.
+/// Returns what the keyword is that the token is.
 #[inline(never)]
 pub(crate) fn command_of(token: &[u8]) -> Option<Command>
     ensures { StandsFor token.now result }
@@ -131,7 +132,7 @@ pub(crate) fn command_of(token: &[u8]) -> Option<Command>
     Some(command_for(keyword_of(token)?))
 }
 
-/// The byte is a digit of a value.
+/// Returns whether the byte is a digit of a value.
 #[tactic(auto, unfolding(vcd_model::specs::BodyPhrases::is_value_digit))]
 #[inline(always)]
 fn is_value_digit(byte: u8) -> bool
@@ -140,7 +141,7 @@ fn is_value_digit(byte: u8) -> bool
     byte == b'0' || byte == b'1' || byte == b'x' || byte == b'X' || byte == b'z' || byte == b'Z'
 }
 
-/// Bit k is set where byte `at + k` is neither `0` nor `1`.
+/// Returns a mask: bit k is set where byte `at + k` is neither `0` nor `1`.
 #[inline(always)]
 pub(crate) fn other_32(bytes: &[u8], at: usize) -> u64
     requires { at + 32 ≤ length bytes.now }
@@ -153,20 +154,20 @@ pub(crate) fn other_32(bytes: &[u8], at: usize) -> u64
     v.simd_ne(u8x32::splat(b'0')).to_bitmask()
 }
 
-/// So many bytes from a place on are `0` and `1` alone. Those after them are looked at too.
+/// Returns whether so many bytes from a place on are `0` and `1` alone. Those after them are looked
+/// at too.
 #[inline(always)]
 pub(crate) fn are_binary_at(bytes: &[u8], at: usize, n: usize) -> bool
     requires room { at + 32 ≤ length bytes.now }
     requires few { n ≤ 32 }
     ensures digits { result ≡ true → (k : ℕ) → k < n
         → is_digit (slice_index bytes.now (at + k)) ≡ true }
-    ensures binary { result ≡ true → (k : ℕ) → k < n
-        → slice_index bytes.now (at + k) ≡ byte "0" + bit_of (slice_index bytes.now (at + k)) }
+    ensures binary { result ≡ true → AreBitsAt bytes.now at n }
 {
     other_32(bytes, at) & ((1 << n) - 1) == 0
 }
 
-/// The digits are `0` and `1` alone, looked at one by one. No byte is branched on.
+/// Returns whether the digits are `0` and `1` alone, looked at one by one. No byte is branched on.
 fn are_few_binary(digits: &[u8]) -> bool
     ensures { result ≡ true → list_all is_digit digits.now ≡ true }
 {
@@ -197,7 +198,7 @@ fn are_binary(digits: &[u8]) -> bool
     other_32(digits, last) == 0
 }
 
-// Out of line, so that the ways of digits that are known stay small.
+// Not inlined, so that the ways of digits that are known stay small.
 #[inline(never)]
 fn all_are_digits(digits: &[u8]) -> bool
     ensures { result ≡ list_all is_digit digits.now }
@@ -205,7 +206,7 @@ fn all_are_digits(digits: &[u8]) -> bool
     are_binary(digits) || digits.iter().all(|digit| is_value_digit(*digit))
 }
 
-/// One or more digits of a value.
+/// Returns whether these are one or more digits of a value.
 pub(crate) fn are_value_digits(digits: &[u8]) -> bool
     ensures { result ≡ (not (is_empty digits.now) && list_all is_digit digits.now) }
 {
@@ -225,7 +226,8 @@ pub(crate) fn are_digits_or_known(digits: &[u8], bits: Option<Bits>) -> bool
     are_value_digits(digits)
 }
 
-/// Bit 31 - k is set where byte `at + k` is `1`: the last byte tells the lowest bit.
+/// Returns a mask: bit 31 - k is set where byte `at + k` is `1`: the last byte tells the lowest
+/// bit.
 #[inline(always)]
 fn ones_32(bytes: &[u8], at: usize) -> u64
     requires { at + 32 ≤ length bytes.now }
@@ -237,7 +239,7 @@ fn ones_32(bytes: &[u8], at: usize) -> u64
     v.simd_eq(u8x32::splat(b'1')).to_bitmask()
 }
 
-/// The number of so many binary digits from a place on. Those after them are looked at too.
+/// Returns the number of so many binary digits from a place on. Those after them are looked at too.
 #[inline(always)]
 fn number_at(bytes: &[u8], at: usize, n: usize) -> usize
     requires room { at + 32 ≤ length bytes.now }
@@ -249,8 +251,8 @@ fn number_at(bytes: &[u8], at: usize, n: usize) -> usize
     (ones_32(bytes, at) >> (32 - n)) as usize
 }
 
-/// Digits that begin at a place of these bytes as a number, where they are few, and `0` and `1`
-/// alone.
+/// Returns digits that begin at a place of these bytes as a number, where they are few, and `0` and
+/// `1` alone.
 #[inline(always)]
 pub(crate) fn bits_at(bytes: &[u8], at: usize, digits: &[u8]) -> Option<Bits>
     requires within { at ≤ length bytes.now }

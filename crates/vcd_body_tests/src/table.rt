@@ -5,7 +5,7 @@ ghost use Rattle.vcd_head.specs.Model.Laws.{ShortIsShortest};
 
 use std::alloc::{AllocError, Global};
 use std::test::Fail;
-use vcd_body::{Bits, Form, Share, Shown, Slot, Table, laws, put_full, put_short};
+use vcd_body::{Bits, Form, Share, Shown, Slot, Table, Value, laws, put_full, put_short};
 use vcd_head::{Code, CodeSeed, HeadView, need};
 use vcd_text::doubles::Narrow;
 use vcd_text::{Sink, Watch, WriteFailed};
@@ -59,7 +59,7 @@ fn set(table: &mut Table<'_>, code: usize, form: Form, text: &[u8]) {
 // Sets a code, and returns what is counted of that: a step, a rise and a fall.
 fn follow(table: &mut Table<'_>, code: usize, size: usize, form: Form, text: &[u8]) -> [u64; 3] {
     let before = table.tally(code);
-    table.follow(code, size, form, text);
+    table.follow(code, size, Value::of_text(form, text));
     let after = table.tally(code);
     [
         after[0].wrapping_sub(before[0]),
@@ -581,7 +581,7 @@ fn steps_that_are_counted(rt: HostRuntime) -> Result<(), Fail> {
     let mut shares = [Share::new()];
     let mut table = table_in(view, &mut values, &mut slots, &mut shares);
     for (form, text, _, _) in STEPS {
-        table.follow(0, 9, form, text);
+        table.follow(0, 9, Value::of_text(form, text));
     }
     assert_eq!(rt; table.tally(0), [7, 2, 2]);
     Ok(())
@@ -598,7 +598,7 @@ fn steps_of_numbers_that_are_counted(rt: HostRuntime) -> Result<(), Fail> {
     let mut table = table_in(view, &mut values, &mut slots, &mut shares);
     for (len, number) in [(1, 1), (4, 0b0001), (3, 0b110), (3, 0b111), (3, 0b101)] {
         if let Some(bits) = Bits::new(len, number) {
-            table.follow_bits(0, 9, bits);
+            table.follow(0, 9, Value::Bits(bits));
         }
     }
     assert_eq!(rt; table.tally(0), [3, 1, 1]);

@@ -17,7 +17,7 @@ ghost use Rattle.vcd_body.specs.Items.{model_form};
 ghost use Rattle.vcd_engine.specs.Edges.{AreTallied};
 
 use crate::selection::is_marked;
-use vcd_body::{Bits, Form, Table};
+use vcd_body::{Bits, Form, Table, Value};
 use vcd_head::put_path;
 use vcd_text::{Sink, WriteFailed, put, put_number};
 use vcd_view::{HeadView, Kind};
@@ -38,7 +38,7 @@ pub(crate) fn take_value(table: &mut Table<'_>, code: usize, size: usize, form: 
     ensures codes { codes_in table.new ≡ codes_in table.old }
     ensures bytes { bytes_in table.new ≡ bytes_in table.old }
 {
-    table.follow(code, size, form, text);
+    table.follow(code, size, Value::of_text(form, text));
 }
 
 /// Counts a vector change of binary digits, which are known as a number.
@@ -57,7 +57,7 @@ pub(crate) fn take_bits(table: &mut Table<'_>, code: usize, size: usize, bits: B
     ensures codes { codes_in table.new ≡ codes_in table.old }
     ensures bytes { bytes_in table.new ≡ bytes_in table.old }
 {
-    table.follow_bits(code, size, bits);
+    table.follow(code, size, Value::Bits(bits));
 }
 
 /// Counts a mark of the event at a place.

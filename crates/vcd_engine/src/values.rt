@@ -9,7 +9,7 @@ ghost use Rattle.vcd_body.specs.Contents.{bytes_in, codes_in};
 ghost use Rattle.vcd_body.specs.Given.{HasGoodText, IsItem};
 ghost use Rattle.vcd_engine.specs.Values.{AreHeld};
 
-use vcd_body::{Item, Plain, Table};
+use vcd_body::{Item, Plain, Table, Value};
 
 /// Keeps the value that an item gives, where it is a change.
 #[inline(always)]
@@ -26,7 +26,7 @@ pub(crate) fn set_plain(table: &mut Table<'_>, plain: Plain<'_>)
         return;
     };
     match plain.bits {
-        Some(bits) => table.set_bits(code, bits),
+        Some(bits) => table.set_value(code, Value::Bits(bits)),
         None => table.set(code, form, plain.text),
     }
 }

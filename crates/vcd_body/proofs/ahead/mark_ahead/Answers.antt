@@ -1,6 +1,4 @@
-use Rattle.std.proofs.Common.{refl, ℕ, not, [], ◌∷◌, ◌<◌, ◌≤◌, nat_le, drop, length, subst, sym, ◌∙◌, arith}
-use Rattle.std.proofs.lemmas.Bool.{and_parts, leb-true}
-use Rattle.std.specs.Prelude.{is_some}
+use Rattle.std.proofs.Common.{refl, ℕ, [], ◌∷◌, ◌<◌, ◌≤◌, drop, length, subst, sym, arith}
 use Rattle.vcd_model.specs.Bytes.{decimal_value}
 use Rattle.vcd_model.specs.BodyPhrases.{items_of}
 use Rattle.vcd_model.specs.Items.{BodyItem, time_after}
@@ -9,16 +7,15 @@ use Rattle.vcd_text.specs.Ahead.{bytes_of, longest_of, passed_of, start_of}
 use Rattle.vcd_text.specs.Passed.{line_ahead}
 use Rattle.vcd_body.proofs.AheadLemmas.{passes_same, mark_taken}
 use Rattle.vcd_body.proofs.FindLemmas.{time_whole}
-use Rattle.vcd_body.proofs.FollowLemmas.{not_true}
 use Rattle.vcd_body.proofs.LineLemmas.{token_there, mark_there}
-use Rattle.vcd_body.proofs.PhraseLemmas.{time_passes}
+use Rattle.vcd_body.proofs.PhraseLemmas.{mark_misplaced, time_passes}
 use Rattle.vcd_body.specs.Reads.{Passes}
 use Rattle.vcd_body.specs.Words.{Begins}
 use Rattle.vcd_body.specs.declared.words.First.{First}
 use Rattle.vcd_body.proofs.ahead.mark_ahead.Goals as goal
 
-pub returns-clause-takes : goal.returns-clause-takes
-returns-clause-takes c = λ a v o.
+pub returns-in-Ok-clause-takes : goal.returns-in-Ok-clause-takes
+returns-in-Ok-clause-takes c = λ a v o.
     let token = c.args.opening.token.now in
     let regs = c.args.regs.now in
     let time = c.args.time in
@@ -30,13 +27,12 @@ returns-clause-takes c = λ a v o.
     let there = token_there bytes from to token o.further o.within o.before o.place in
     let m = c.mark_of.ensures in
     let digits = c.requires.time in
-    let may = and_parts (not (is_some regs.section)) (nat_le regs.time time) (sym c.take_mark.ensures.may ∙ c.if-not-take_mark.false) in
-    let reached = leb-true regs.time time may.1 in
-    let late : regs.time ≤ decimal_value (drop 1 token) = subst (λ (n : ℕ). regs.time ≤ n) (sym digits.1) reached in
+    let may = c.in-Ok.ensures.may in
+    let late : regs.time ≤ decimal_value (drop 1 token) = subst (λ (n : ℕ). regs.time ≤ n) (sym digits.1) may.forth in
     rw (m.item, m.text, m.most, m.places.0, m.bits, c.passed.ensures.passed) (record {
       gives = λ h limit lines bytes before items v over k g.
           let one = passes_same limit (longest_of a) lines bytes (bytes_of a) from to (start_of c.args.ahead token) token over.0 over.1 (o.gives lines) g.tokens g.passed in
-          mark_taken h.codes limit lines bytes before items from regs g k _ time (line_ahead lines bytes (start_of c.args.ahead token)) token less one (λ earlier e. subst (λ (n : ℕ). Passes h.codes earlier token (BodyItem.Time n) × (time_after (items_of earlier) ≤ n)) digits.1 (time_passes h.codes earlier token (subst (λ (f : First). Begins token f) c.requires.first o.begins) regs e (time_whole (drop 1 token) time digits.0 digits.1 digits.2) (not_true (is_some regs.section) may.0) late));
+          mark_taken h.codes limit lines bytes before items from regs g k _ time (line_ahead lines bytes (start_of c.args.ahead token)) token less one (λ earlier e. subst (λ (n : ℕ). Passes h.codes earlier token (BodyItem.Time n) × (time_after (items_of earlier) ≤ n)) digits.1 (time_passes h.codes earlier token (subst (λ (f : First). Begins token f) c.requires.first o.begins) regs e (time_whole (drop 1 token) time digits.0 digits.1 digits.2) may.outside late));
       passes = λ limit lines bytes ts over p.
           let t : Token = record { bytes = token; line = line_ahead lines bytes (start_of c.args.ahead token) } in
           (t ∷ [], passes_same limit (longest_of a) lines bytes (bytes_of a) from to (start_of c.args.ahead token) token over.0 over.1 (o.gives lines) ts p);
@@ -49,3 +45,6 @@ returns-clause-takes c = λ a v o.
       within = subst (λ (bs : _). to ≤ length bs) (sym o.same.0) o.within;
       same = o.same;
     })
+
+pub returns-in-Err-clause-none : goal.returns-in-Err-clause-none
+returns-in-Err-clause-none c = λ _. mark_misplaced c.args.regs.now c.args.time _ c.in-Err.ensures.may

@@ -1,27 +1,35 @@
-use Rattle.std.proofs.Common.{◌==◌, length, drop, sym, ap, ◌∙◌, arith}
-use Rattle.vcd_body.proofs.WordLemmas.{filled, some_bytes}
-use Rattle.vcd_body.proofs.PhraseLemmas.{number_begins, real_passes}
+use Rattle.std.proofs.Common.{IfSome, Option, Some, length, drop, ap, subst, arith}
+use Rattle.std.specs.Prelude.{option_map}
+use Rattle.vcd_model.specs.Header.{Header}
+use Rattle.vcd_view.specs.Finds.{Finds, IsSized}
+use Rattle.vcd_view.specs.Views.{IsViewOf}
+use Rattle.vcd_view.specs.declared.look_up.Found.{Found}
+use Rattle.vcd_body.proofs.PhraseLemmas.{real_passes}
 use Rattle.vcd_body.proofs.RegsLemmas.{real_sound}
-use Rattle.vcd_body.proofs.AheadLemmas.{code_behind, code_within}
-use Rattle.vcd_body.proofs.LineLemmas.{named_where_found}
+use Rattle.vcd_body.proofs.AheadLemmas.{found_all}
+use Rattle.vcd_body.proofs.LineLemmas.{found_named}
 use Rattle.vcd_body.proofs.ahead.real_code.Goals as goal
 
-pub returns-clause-code : goal.returns-clause-code
-returns-clause-code c = λ h v.
+pub returns : goal.returns
+returns c = found_all c.find_sized.result (λ found is.
     let t = c.args.token.now in
-    let text = c.rest_of-text.ensures in
-    let n = ap length text in
-    code_behind h.codes c.args.code.now c.find_sized.result (c.find_sized.ensures.found h v) (λ x d earlier.
-    let b = number_begins h.codes earlier t c.requires.begins (filled (drop 1 t) (ap (λ l. length l == 0) (sym text) ∙ sym c.is_empty.ensures ∙ c.if-is_empty.false)) (omega arith) in
-    let p = real_passes h.codes earlier t c.requires.begins c.args.code.now x d in
-    record { begins = b.0; open_after = b.1; goes_on = p.0; whole = p.1 })
-
-pub returns-clause-sound : goal.returns-clause-sound
-returns-clause-sound c =
-    let t = c.args.token.now in
-    let n = ap length c.rest_of-text.ensures in
-    let some = some_bytes c.rest_of-text.result.now (sym c.is_empty.ensures ∙ c.if-is_empty.false) in
-    code_within c.args.view.codes.now c.find_sized.result c.find_sized.ensures.sized (λ place x there. real_sound c.args.view.codes.now (drop 1 t) place x there (omega arith) (omega arith))
-
-pub returns-clause-names : goal.returns-clause-names
-returns-clause-names c = named_where_found c.args.view c.args.code.now c.find_sized.result c.find_sized.ensures.found
+    let code = c.args.code.now in
+    let finds : (h : Header) → IsViewOf c.args.view h → Finds h.codes code (Some found.place) = λ h v. subst (λ (o : Option Found). Finds h.codes code (option_map (λ f. f.place) o)) is (c.find_sized.ensures.found h v) in
+    let x = subst (λ (o : Option Found). IfSome o (IsSized c.args.view.codes.now)) is c.find_sized.ensures.sized in
+    let n = ap length c.in-Ok.ensures.text in
+    let some = c.in-Ok.ensures.few.0 in
+    let most = c.in-Ok.ensures.few.1 in
+    record {
+      code = λ h v.
+          let f = finds h v in (
+            f.0,
+            f.1,
+            λ earlier.
+                let b = c.in-Ok.ensures.opens h.codes earlier in
+                let p = real_passes h.codes earlier t c.requires code f.0 f.2 in
+                record { begins = b.0; open_after = b.1; goes_on = p.0; whole = p.1 },
+          );
+      sound = real_sound c.args.view.codes.now (drop 1 t) found.place x.0 x.1 (omega (arith, n, some)) (omega (arith, n, most));
+      names = found_named c.args.view found.place code finds;
+      sized = x;
+    })

@@ -1,15 +1,16 @@
 use Rattle.std.proofs.Common.{◌-◌, ◌+◌, ◌/◌, ◌%◌, ◌^◌, Some, sym, ap, ◌∙◌, arith}
 use Rattle.vcd_body.specs.Binary.{count_in, number_in}
+use Rattle.vcd_body.specs.Stored.{len_of}
 use Rattle.vcd_body.proofs.BinaryLemmas.{binary_at, binary_past}
 use Rattle.vcd_body.proofs.bits.binary_digit.Goals as goal
 
 pub returns-then-place-count : goal.returns-then-place-count
-returns-then-place-count c = sym (binary_past (count_in c.args.len) (number_in c.args.len) c.args.place (omega (arith, c.count_in-count.ensures, c.if-place-count.true)))
+returns-then-place-count c = sym (binary_past (count_in (len_of c.args.holding)) (number_in (len_of c.args.holding)) c.args.place (omega (arith, c.count_in-count.ensures, c.if-place-count.true)))
 
 pub returns : goal.returns
 returns c =
     let n = c.number_in.result in
     let place = c.args.place in
     ap (λ k. Some (48 + n / 2 ^ (k - 1 - place) % 2)) c.count_in-count.ensures
-    ∙ ap (λ k. Some (48 + k / 2 ^ (count_in c.args.len - 1 - place) % 2)) c.number_in.ensures
-    ∙ sym (binary_at (count_in c.args.len) (number_in c.args.len) place (omega (arith, c.count_in-count.ensures, c.if-place-count.false)))
+    ∙ ap (λ k. Some (48 + k / 2 ^ (count_in (len_of c.args.holding) - 1 - place) % 2)) c.number_in.ensures
+    ∙ sym (binary_at (count_in (len_of c.args.holding)) (number_in (len_of c.args.holding)) place (omega (arith, c.count_in-count.ensures, c.if-place-count.false)))

@@ -4,7 +4,7 @@ use Rattle.std.specs.Str.{bytes_eq, str_to_ascii_lowercase}
 use Rattle.std.proofs.lemmas.List.{length-map}
 use Rattle.vcd_model.specs.Values.{extend}
 use Rattle.vcd_body.specs.Packed.{held_digit}
-use Rattle.vcd_body.specs.Stored.{digits_held, digits_with, held_by}
+use Rattle.vcd_body.specs.Stored.{digits_held, digits_with, held_by, len_of}
 use Rattle.vcd_body.specs.declared.slot.State.{State}
 use Rattle.vcd_body.proofs.CompareLemmas.{differ_at_longest, differ_where_as_many}
 use Rattle.vcd_body.proofs.compare.all_differ.Goals as goal
@@ -20,7 +20,7 @@ pub returns-in-Plain : goal.returns-in-Plain
 returns-in-Plain c =
     let share = c.args.share.now in
     let text = c.args.text.now in
-    let is = ap (λ (s : State). digits_held (held_by s c.args.holding.len share)) c.in-Plain.is in
+    let is = ap (λ (s : State). digits_held (held_by s (len_of c.args.holding) share)) c.in-Plain.is in
     let l = length-map text to_ascii_lowercase in
     let h = length-map share held_digit in
     differ_where_as_many (map held_digit share) (str_to_ascii_lowercase text) c.args.size (omega (arith, l, h, c.count_of-held.ensures, ap length is, c.if-held-text.true)) c.are_same_plain.result c.are_same_plain.ensures

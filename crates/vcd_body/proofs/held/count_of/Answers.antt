@@ -1,15 +1,15 @@
 use Rattle.std.proofs.Common.{length, sym, ap, ◌∙◌}
 use Rattle.vcd_body.specs.Binary.{count_in, number_in}
-use Rattle.vcd_body.specs.Stored.{digits_held, held_by}
+use Rattle.vcd_body.specs.Stored.{digits_held, held_by, len_of}
 use Rattle.vcd_body.specs.declared.slot.State.{State}
 use Rattle.vcd_body.proofs.BinaryLemmas.{length_binary}
 use Rattle.vcd_body.proofs.HeldLemmas.{count_held}
 use Rattle.vcd_body.proofs.held.count_of.Goals as goal
 
 pub returns-in-Digits : goal.returns-in-Digits
-returns-in-Digits c = count_held c.args.holding.state c.args.holding.len c.args.share.now c.in-Digits.is c.requires
+returns-in-Digits c = c.len.ensures ∙ count_held c.args.holding.state (len_of c.args.holding) c.args.share.now c.in-Digits.is c.requires
 
 pub returns-in-Bits : goal.returns-in-Bits
 returns-in-Bits c =
-    let len = c.args.holding.len in
+    let len = (len_of c.args.holding) in
     c.count_in.ensures ∙ sym (length_binary (count_in len) (number_in len)) ∙ sym (ap (λ (s : State). length (digits_held (held_by s len c.args.share.now))) c.in-Bits.is)

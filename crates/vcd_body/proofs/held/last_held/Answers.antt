@@ -1,7 +1,7 @@
 use Rattle.std.proofs.Common.{◌≡◌, ◌≤◌, ◌-◌, suc, length, sym, ap, subst, ◌∙◌, arith}
 use Rattle.vcd_body.specs.Binary.{count_in}
 use Rattle.vcd_body.specs.Kept.{last_digit_in, value_at_size}
-use Rattle.vcd_body.specs.Stored.{held_by, some_by, used_by}
+use Rattle.vcd_body.specs.Stored.{held_by, some_by, used_by, len_of}
 use Rattle.vcd_body.specs.declared.slot.State.{State}
 use Rattle.vcd_body.proofs.BinaryLemmas.{proper, proper_count}
 use Rattle.vcd_body.proofs.CompareLemmas.{last_number, last_of_state, last_packed, last_plain}
@@ -9,9 +9,9 @@ use Rattle.vcd_body.proofs.held.last_held.Goals as goal
 
 pub returns-in-Plain : goal.returns-in-Plain
 returns-in-Plain c size =
-    let len = c.args.holding.len in
+    let len = (len_of c.args.holding) in
     let bytes = c.args.share.now in
-    let used = subst (λ (s : State). used_by s len ≤ length bytes) c.in-Plain.is c.requires.used in
+    let used = subst (λ (s : State). used_by s len ≤ length bytes) c.in-Plain.is c.requires.fits in
     let some = subst (λ (s : State). 1 ≤ some_by s len) c.in-Plain.is c.requires.some in
     let one : length bytes ≡ suc (length bytes - 1) = omega (arith, used, some) in
     c.plain_digit_at.ensures
@@ -20,23 +20,23 @@ returns-in-Plain c size =
 
 pub returns-in-Digits : goal.returns-in-Digits
 returns-in-Digits c size =
-    let len = c.args.holding.len in
+    let len = (len_of c.args.holding) in
     let bytes = c.args.share.now in
-    let used = subst (λ (s : State). used_by s len ≤ length bytes) c.in-Digits.is c.requires.used in
+    let used = subst (λ (s : State). used_by s len ≤ length bytes) c.in-Digits.is c.requires.fits in
     let some = subst (λ (s : State). 1 ≤ some_by s len) c.in-Digits.is c.requires.some in
     let one : len ≡ suc (len - 1) = omega (arith, some) in
-    c.digit_at.ensures
+    (rw (c.len.ensures, c.len-in-Digits.ensures) at c.digit_at.ensures)
     ∙ sym (last_packed len bytes size (len - 1) used one)
     ∙ sym (ap (λ (s : State). last_digit_in (value_at_size size (held_by s len bytes))) c.in-Digits.is)
 
 pub last_binary-requires : goal.last_binary-requires
 last_binary-requires c =
-    let some = subst (λ (s : State). 1 ≤ some_by s c.args.holding.len) c.in-Bits.is c.requires.some in
-    proper_count c.args.holding.len (proper c.args.holding.len some)
+    let some = subst (λ (s : State). 1 ≤ some_by s (len_of c.args.holding)) c.in-Bits.is c.requires.some in
+    proper_count (len_of c.args.holding) (proper (len_of c.args.holding) some)
 
 pub returns-in-Bits : goal.returns-in-Bits
 returns-in-Bits c size =
-    let len = c.args.holding.len in
+    let len = (len_of c.args.holding) in
     let bytes = c.args.share.now in
     let some = subst (λ (s : State). 1 ≤ some_by s len) c.in-Bits.is c.requires.some in
     let count = proper_count len (proper len some) in
@@ -46,4 +46,4 @@ returns-in-Bits c size =
     ∙ sym (ap (λ (s : State). last_digit_in (value_at_size size (held_by s len bytes))) c.in-Bits.is)
 
 pub returns-in_default : goal.returns-in_default
-returns-in_default c size = c.digit_of_state.ensures ∙ last_of_state c.args.holding.state c.args.holding.len c.args.share.now size c.in_default.not-Plain c.in_default.not-Digits c.in_default.not-Bits
+returns-in_default c size = c.digit_of_state.ensures ∙ last_of_state c.args.holding.state (len_of c.args.holding) c.args.share.now size c.in_default.not-Plain c.in_default.not-Digits c.in_default.not-Bits

@@ -1,5 +1,5 @@
 use Rattle.std.proofs.Common.{◌^◌, ◌-◌, take, drop, ap, ◌∙◌, arith}
-use Rattle.vcd_body.specs.Stored.{digits_with}
+use Rattle.vcd_body.specs.Stored.{digits_with, len_of}
 use Rattle.vcd_body.proofs.NumberLemmas.{held_few}
 use Rattle.vcd_body.proofs.Pieces.{same_part}
 use Rattle.vcd_body.proofs.held_text.fill.Goals as goal
@@ -7,7 +7,7 @@ use Rattle.vcd_body.proofs.held_text.fill.Goals as goal
 pub overflow_add-from : goal.overflow_add-from
 overflow_add-from c =
     let holding = c.args.holding in
-    let few = held_few holding.state holding.len (2 ^ 64 - 1) c.args.share.now (omega arith) (omega arith) (omega arith) in
+    let few = held_few holding.state (len_of holding) (2 ^ 64 - 1) c.args.share.now (omega arith) (omega arith) (omega arith) in
     let long = c.loop-place.auto.to in
     omega (arith, few, long, c.requires)
 

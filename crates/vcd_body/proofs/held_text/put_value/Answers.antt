@@ -1,17 +1,17 @@
 use Rattle.std.proofs.Common.{subst}
 use Rattle.vcd_text.specs.Device.{Puts}
-use Rattle.vcd_body.specs.Stored.{digits_with, held_with}
+use Rattle.vcd_body.specs.Stored.{digits_with, held_with, len_of}
 use Rattle.vcd_body.proofs.HeldLines.{all_digits, full_is, some_digits}
 use Rattle.vcd_body.proofs.held_text.put_value.Goals as goal
 
 pub put_extended-requires : goal.put_extended-requires
 put_extended-requires g c = record {
   failures = c.requires.failures;
-  used = c.requires.used;
-  some = some_digits c.args.holding.state c.args.holding.len c.args.share.now c.requires.used c.requires.some c.in_default.not-Unset c.in_default.not-Real;
+  used = c.requires.held.fits;
+  some = some_digits c.args.holding.state (len_of c.args.holding) c.args.share.now c.requires.held.fits c.requires.held.some c.in_default.not-Unset c.in_default.not-Real;
 }
 
 pub returns-in_default : goal.returns-in_default
 returns-in_default g c =
-    let is = all_digits c.args.holding.state c.args.holding.len c.args.share.now c.in_default.not-Unset c.in_default.not-Real in
+    let is = all_digits c.args.holding.state (len_of c.args.holding) c.args.share.now c.in_default.not-Unset c.in_default.not-Real in
     subst (λ l. Puts (g.W.Sink.device c.args.w.now) (g.W.Sink.device c.put_extended.new.w) l c.put_extended.result) (full_is c.args.size (digits_with c.args.holding c.args.share.now) (held_with c.args.holding c.args.share.now) is) c.put_extended.ensures

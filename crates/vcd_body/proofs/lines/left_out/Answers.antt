@@ -1,4 +1,4 @@
-use Rattle.std.proofs.Common.{[], ◌∷◌, ◌++◌, sym, ap, subst, ◌∙◌, arith}
+use Rattle.std.proofs.Common.{◌≡◌, ◌<◌, [], ◌∷◌, ◌++◌, sym, ap, subst, ◌∙◌, arith}
 use Rattle.std.specs.Str.{str_to_ascii_lowercase}
 use Rattle.vcd_model.specs.ItemText.{item_line}
 use Rattle.vcd_model.specs.Values.{extend, short}
@@ -19,7 +19,8 @@ is_bit_line-requires c =
 pub returns-in-Scalar : goal.returns-in-Scalar
 returns-in-Scalar c =
     let text = c.args.plain.text.now in
-    let size = c.if-plain-eq1.true in
+    let told = c.in_ok-size.ensures.told in
+    let size : c.args.plain.most ≡ 1 = sym told.0 ∙ c.if-size-eq1.true in
     let same = c.in-Change.is ∙ ap (Change c.in-Change.code) c.in-Scalar.is in
     let there = subst (HasSpelled c.requires.0 c.args.bytes.now c.args.from c.args.to c.args.plain.at c.args.plain.code_at text) same c.requires.1 in
     let within = bit_within c.args.bytes.now c.args.from c.args.to text there.0 there.1 in (
@@ -36,7 +37,9 @@ returns-in-Scalar c =
 pub returns-in-Vector : goal.returns-in-Vector
 returns-in-Vector c =
     let text = c.args.plain.text.now in
-    let size = c.if-plain-gt1.true in
+    let told = c.in_ok-size.ensures.told in
+    let is = told.0 in
+    let size : 1 < c.args.plain.most = omega (arith, is, c.if-size-gt1.true) in
     let same = c.in-Change.is ∙ ap (Change c.in-Change.code) c.in-Vector.is in
     let there = subst (HasSpelled c.requires.0 c.args.bytes.now c.args.from c.args.to c.args.plain.at c.args.plain.code_at text) same c.requires.1 in
     let within = text_within c.args.bytes.now c.args.from c.args.to text there.0 there.1 in
@@ -53,7 +56,10 @@ returns-in-Vector c =
 pub returns-in-RealText : goal.returns-in-RealText
 returns-in-RealText c =
     let text = c.args.plain.text.now in
-    let size = c.if-plain-gt0.true in
+    let told = c.in_ok-size.ensures.told in
+    let is = told.0 in
+    let some = told.1 in
+    let size : 0 < c.args.plain.most = omega (arith, is, some) in
     let same = c.in-Change.is ∙ ap (Change c.in-Change.code) c.in-RealText.is in
     let there = subst (HasSpelled c.requires.0 c.args.bytes.now c.args.from c.args.to c.args.plain.at c.args.plain.code_at text) same c.requires.1 in
     let within = text_within c.args.bytes.now c.args.from c.args.to text there.0 there.1 in (

@@ -1,4 +1,5 @@
-use Rattle.std.proofs.Common.{◌≡◌, Bool, List, Some, ap, cond, get_or, refl, subst, sym, ◌∙◌}
+use Rattle.std.proofs.Common.{◌≡◌, Bool, List, Some, ap, arith, cond, get_or, refl, subst, sym, ◌∙◌}
+use Rattle.vcd_body.specs.Binary.{number_in}
 use Rattle.std.proofs.lemmas.Option.{slice_get-get_or}
 use Rattle.vcd_body.specs.Kept.{Kept, with_number, with_number_change, with_step}
 use Rattle.vcd_body.specs.Stored.{ChangesAt, kept_in}
@@ -17,7 +18,7 @@ returns-then-not-step-clause-counted c = λ _ shares values laid.
     let at = slice_get-get_or slots code blank c.if-code-slots.false in
     let s = c.step_by_number-step.result in
     let step = c.step_by_number-step.ensures in
-    let held = c.number_in.ensures in
+    let held : slot.number ≡ number_in slot.number = omega arith in
     let l = bits.len in
     let n = bits.number in
     let set = c.set_bits.ensures.changes shares values in
@@ -43,7 +44,7 @@ returns-clause-uncounted c = λ rises falls is shares values after laid counted 
     let at = slice_get-get_or slots code blank c.if-code-slots.false in
     let s = c.step_by_number-step.result in
     let step = c.step_by_number-step.ensures in
-    let held = c.number_in.ensures in
+    let held : slot.number ≡ number_in slot.number = omega arith in
     let l = bits.len in
     let n = bits.number in
     let set = c.set_bits.ensures.changes shares values in

@@ -3,7 +3,7 @@ use Rattle.vcd_model.specs.Sample.{shown}
 use Rattle.vcd_model.specs.Values.{Value}
 use Rattle.vcd_text.specs.Device.{Takes}
 use Rattle.vcd_body.specs.Kept.{value_at_size}
-use Rattle.vcd_body.specs.Stored.{held_by}
+use Rattle.vcd_body.specs.Stored.{held_by, len_of}
 use Rattle.vcd_body.proofs.TableLemmas.{share_there, value_there}
 use Rattle.vcd_body.proofs.table_text.put_full.Goals as goal
 
@@ -20,5 +20,5 @@ returns-clause-takes g c = λ laid.
     let declared = c.in-Some.declared in
     let value = value_there c.args.view c.args.table.now c.args.code declared holding (sym c.code_at.ensures ∙ c.in-Some.is) (sym c.holding_at.ensures ∙ c.in-Some-holding_at.is) in
     subst (λ l. Takes (g.W.Sink.device c.args.w.now) (g.W.Sink.device c.put_value.new.w) l c.put_value.result)
-    (ap (λ (l : List ℕ). shown (value_at_size declared.size (held_by holding.state holding.len l))) c.in-Some-share_in.ensures.share ∙ sym (ap (λ (o : Option Value). shown o) value))
+    (ap (λ (l : List ℕ). shown (value_at_size declared.size (held_by holding.state (len_of holding) l))) c.in-Some-share_in.ensures.share ∙ sym (ap (λ (o : Option Value). shown o) value))
     c.put_value.ensures.0

@@ -20,8 +20,8 @@ returns-in-Some-clause-held c = λ view h items x views good read held.
     let p = c.args.plain in
     let has = subst (HasBits p.item p.text.now) c.in-Some.is c.requires.bits in
     let laid = held.values.laid in
-    let set = c.set_bits.ensures in
-    bits_hold view h c.args.table.now c.set_bits.new.self items p.item p.text.now c.in-Some.bits c.in-Change.code c.in-Change.form x views held c.in-Change.is has good read set.as_text (set.laid laid) (set.value laid)
+    let set = c.set_value.ensures in
+    bits_hold view h c.args.table.now c.set_value.new.self items p.item p.text.now c.in-Some.bits c.in-Change.code c.in-Change.form x views held c.in-Change.is has good read (set.as_text laid) (set.keeps.laid laid) (set.value laid)
 
 pub returns-in-None-clause-held : goal.returns-in-None-clause-held
 returns-in-None-clause-held c = λ view h items x views good read held.

@@ -1,7 +1,7 @@
 use Rattle.std.proofs.Common.{List, ℕ, Option, sym, ap, ◌∙◌}
 use Rattle.vcd_model.specs.Values.{Value}
 use Rattle.vcd_body.specs.Kept.{digit_in, value_at_size}
-use Rattle.vcd_body.specs.Stored.{held_by}
+use Rattle.vcd_body.specs.Stored.{held_by, len_of}
 use Rattle.vcd_body.proofs.TableLemmas.{share_there, value_there}
 use Rattle.vcd_body.proofs.table.Table.digit.Goals as goal
 
@@ -18,5 +18,5 @@ returns c = λ laid.
     let declared = c.in-Some.declared in
     let value = value_there c.args.view c.args.self.now c.args.code declared holding (sym c.code_at.ensures ∙ c.in-Some.is) (sym c.holding_at.ensures ∙ c.in-Some-holding_at.is) in
     c.digit_shown.ensures
-    ∙ ap (λ (l : List ℕ). digit_in (value_at_size declared.size (held_by holding.state holding.len l)) c.args.place) c.in-Some-share_in.ensures.share
+    ∙ ap (λ (l : List ℕ). digit_in (value_at_size declared.size (held_by holding.state (len_of holding) l)) c.args.place) c.in-Some-share_in.ensures.share
     ∙ sym (ap (λ (o : Option Value). digit_in o c.args.place) value)

@@ -1,6 +1,6 @@
 use Rattle.std.proofs.Common.{Bor, List, ℕ, take, drop, sym, ap, ◌∙◌}
 use Rattle.vcd_body.specs.Kept.{real_text}
-use Rattle.vcd_body.specs.Stored.{held_by, start_in, used}
+use Rattle.vcd_body.specs.Stored.{held_by, start_in, used, len_of}
 use Rattle.vcd_body.specs.declared.slot.State.{State}
 use Rattle.vcd_body.proofs.TableLemmas.{held_there, is_real, share_there, text_there}
 use Rattle.vcd_body.proofs.table.Table.real.Goals as goal
@@ -16,4 +16,4 @@ returns-in-Some c = λ laid.
     let is = is_real holding.state c.if-eq.ensures in
     ap (λ (b : Bor (List ℕ)). b.now) c.unwrap_or.ensures
     ∙ text_there c.share_in.result _ bytes c.share_in.ensures.share (c.share_in.ensures.there p.0 p.1 p.2)
-    ∙ sym (ap real_text held ∙ ap (λ (st : State). real_text (held_by st holding.len bytes)) is)
+    ∙ sym (ap real_text held ∙ ap (λ (st : State). real_text (held_by st (len_of holding) bytes)) is)

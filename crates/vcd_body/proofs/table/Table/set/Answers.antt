@@ -1,5 +1,17 @@
+use Rattle.vcd_body.specs.Kept.{with_text}
+use Rattle.vcd_body.specs.Values.{with_value}
+use Rattle.vcd_body.proofs.FollowLemmas.{change_as}
 use Rattle.vcd_body.proofs.SetLemmas.{set_value}
 use Rattle.vcd_body.proofs.table.Table.set.Goals as goal
 
+pub returns-clause-changes : goal.returns-clause-changes
+returns-clause-changes c = λ laid.
+    let old = c.args.self.now in
+    let new = c.set_value.new.self in
+    change_as c.args.code (with_value c.of_text.result) (with_text c.args.form c.args.text.now) old.values.now new.values.now old.slots.now new.slots.now old.shares.now new.shares.now (λ k at. c.of_text.ensures.sets k) (c.set_value.ensures.changes laid)
+
 pub returns-clause-value : goal.returns-clause-value
-returns-clause-value c = λ laid code k good event is most. set_value c.args.self.now.values.now c.set_at.new.values c.args.self.now.slots.now c.set_at.new.slots c.args.self.now.shares.now c.set_at.new.shares c.args.code c.args.form c.args.text.now code k (c.set_at.ensures.changes laid) good event is most
+returns-clause-value c = λ laid code k good event is most.
+    let old = c.args.self.now in
+    let new = c.set_value.new.self in
+    set_value old.values.now new.values.now old.slots.now new.slots.now old.shares.now new.shares.now c.args.code c.args.form c.args.text.now code k (returns-clause-changes c laid) good event is most

@@ -2,7 +2,7 @@ use Rattle.std.proofs.Common.{List, ℕ, Option, Some, sym, ap, ◌∙◌}
 use Rattle.vcd_model.specs.Values.{value_with}
 use Rattle.vcd_body.specs.Items.{model_form}
 use Rattle.vcd_body.specs.Kept.{Held, differs, goes_from, last_digit_in, value_at_size}
-use Rattle.vcd_body.specs.Stored.{held_by}
+use Rattle.vcd_body.specs.Stored.{held_by, len_of}
 use Rattle.vcd_body.proofs.TableLemmas.{held_nowhere, held_there, share_there}
 use Rattle.vcd_body.proofs.table.Table.step_to.Goals as goal
 
@@ -29,7 +29,7 @@ returns c = λ laid some.
     let size = c.args.size in
     let holding = c.in-Some.holding in
     let v = value_with size (model_form c.args.form) c.args.text.now in
-    let held = ap (λ (l : List ℕ). held_by holding.state holding.len l) c.in-Some-share_in.ensures.share ∙ sym (held_there c.args.self.now c.args.code holding (sym c.holding_at.ensures ∙ c.in-Some.is)) in
+    let held = ap (λ (l : List ℕ). held_by holding.state (len_of holding) l) c.in-Some-share_in.ensures.share ∙ sym (held_there c.args.self.now c.args.code holding (sym c.holding_at.ensures ∙ c.in-Some.is)) in
     let is = c.step_to_text-2.ensures in
     let last = c.last_held.ensures size ∙ ap (λ (h : Held). last_digit_in (value_at_size size h)) held in (
       is.differs ∙ c.value_differs-differs.ensures ∙ ap (λ (h : Held). differs (value_at_size size h) v) held,

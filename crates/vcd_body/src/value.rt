@@ -1,0 +1,33 @@
+//! A value that a change gives a code.
+ghost use Rattle.std.specs.Prelude.{◌≡◌, ℕ};
+ghost use Rattle.vcd_body.specs.Kept.{Kept, with_change, with_text};
+ghost use Rattle.vcd_body.specs.Values.{with_value, with_value_change};
+
+use crate::bits::Bits;
+use crate::item::Form;
+
+/// A value that a change gives a code.
+#[derive(Clone, Copy)]
+pub enum Value<'a> {
+    /// Digits, as they are written.
+    Digits(&'a [u8]),
+    /// The text of a real number.
+    Real(&'a [u8]),
+    /// Binary digits as their number.
+    Bits(Bits),
+}
+
+impl<'a> Value<'a> {
+    /// Returns the value that a change of this form gives by its text, as `change_text` tells it.
+    #[inline(always)]
+    pub fn of_text(form: Form, text: &'a [u8]) -> Value<'a>
+        ensures sets { (k : Kept) → with_value result k ≡ with_text form text.now k }
+        ensures follows { (size : ℕ) (k : Kept)
+            → with_value_change size result k ≡ with_change size form text.now k }
+    {
+        match form {
+            Form::RealText => Value::Real(text),
+            Form::Scalar | Form::Vector => Value::Digits(text),
+        }
+    }
+}
