@@ -10,6 +10,7 @@ pub mod Keys
 pub mod Codes
 pub mod Fronts
 pub mod Draft
+pub mod Declares
 pub mod Ahead
 pub mod Variables
 pub mod Scaled

@@ -6,42 +6,23 @@ ghost use Rattle.vcd_model.specs.Tokens.{Token};
 ghost use Rattle.vcd_text.specs.Advances.{Advances};
 ghost use Rattle.vcd_text.specs.Ahead.{bytes_of, longest_of, passed_of, start_of};
 ghost use Rattle.vcd_text.specs.Passed.{Passed};
-ghost use Rattle.vcd_head.specs.Ahead.{IsReference, IsVariable, LooksOver};
+ghost use Rattle.vcd_head.specs.Ahead.{IsReference, IsScope, IsUpscope, IsVariable, LooksOver, TakenOn};
 ghost use Rattle.vcd_head.specs.Draft.{DraftsBehind, DraftsOn, DraftsUpTo};
 ghost use Rattle.vcd_head.specs.Fault.{call_end};
 ghost use Rattle.vcd_head.specs.Reads.{Fails};
 
-use crate::ahead_scopes::{close_scope, open_scope, scope_ahead, upscope_ahead};
-use crate::code_ahead::enter_code;
+use crate::ahead_scopes::{scope_ahead, upscope_ahead};
+use crate::declarations::{
+    Reference, ScopePhrase, VariablePhrase, check_start, close_scope, declare, open_scope,
+};
 use crate::draft::Draft;
 use crate::fault::HeadFault;
-use crate::rows::{WideRow, push};
-use crate::sought::Sought;
-use crate::words::{is_code, is_end, is_event, is_var, size_of};
-use std::alloc::{AllocError, Global};
+use crate::words::{is_code, is_end, is_var, size_of};
+use std::alloc::Global;
 use vcd_text::{Ahead, Feed, Source};
 use vcd_view::Kind;
 
-// A variable whose phrase lies ahead.
-#[derive(Clone, Copy)]
-pub(crate) struct AheadVariable<'a> {
-    // Its type.
-    pub(crate) word: &'a [u8],
-    pub(crate) size: usize,
-    pub(crate) code: &'a [u8],
-    pub(crate) reference: AheadReference<'a>,
-}
-
-// A reference that lies ahead.
-#[derive(Clone, Copy)]
-pub(crate) struct AheadReference<'a> {
-    // The bytes of its first token.
-    pub(crate) name: usize,
-    // Its tokens, with a space between.
-    pub(crate) text: &'a [u8],
-}
-
-/// The next token, if it lies whole ahead.
+/// Returns the next token, if it lies whole ahead.
 #[inline(always)]
 pub(crate) fn token_ahead<'a>(ahead: &mut Ahead<'a>) -> Option<&'a [u8]>
     ensures one { IfSome result (λ token. (limit lines : ℕ) (bytes : List ℕ) (ts : List Token)
@@ -50,9 +31,10 @@ pub(crate) fn token_ahead<'a>(ahead: &mut Ahead<'a>) -> Option<&'a [u8]>
           bytes = token.now;
           line = line;
         }) ∷ [])) }
-    ensures place { IfSome result (λ token. token.now
-        ≡ slice_range (bytes_of ahead.old) (start_of ahead.new token.now) (passed_of ahead.new - 1)) }
-    ensures longer { IfSome result (λ token. passed_of ahead.old + length token.now + 1 ≤ passed_of ahead.new) }
+    ensures place { IfSome result (λ token. token.now ≡ slice_range (bytes_of ahead.old)
+        (start_of ahead.new token.now) (passed_of ahead.new - 1)) }
+    ensures longer { IfSome result (λ token.
+        passed_of ahead.old + length token.now + 1 ≤ passed_of ahead.new) }
     ensures further { IfSome result (λ _. passed_of ahead.old < passed_of ahead.new) }
     ensures within { IfSome result (λ _. passed_of ahead.new ≤ length (bytes_of ahead.old)) }
     ensures same { (bytes_of ahead.new ≡ bytes_of ahead.old)
@@ -61,8 +43,8 @@ pub(crate) fn token_ahead<'a>(ahead: &mut Ahead<'a>) -> Option<&'a [u8]>
     ahead.next()
 }
 
-/// Two tokens as they stand in these bytes, if there is one space between. One white byte was
-/// passed behind each.
+/// Returns two tokens as they stand in these bytes, if there is one space between. One white byte
+/// was passed behind each.
 #[inline(always)]
 fn joined<'a>(
     bytes: &'a [u8],
@@ -88,10 +70,10 @@ fn joined<'a>(
     Some(&bytes[start..behind - 1])
 }
 
-/// The reference that comes next, with the `$end` behind it, if it has one token, or two with one
-/// space between.
+/// Passes the reference that comes next and the `$end` behind it, and returns it, if it has one
+/// token, or two with one space between.
 #[inline(always)]
-fn reference_ahead<'a>(ahead: &mut Ahead<'a>) -> Option<AheadReference<'a>>
+fn reference_ahead<'a>(ahead: &mut Ahead<'a>) -> Option<Reference<'a>>
     ensures gives { IfSome result (λ reference. (limit lines : ℕ) (bytes : List ℕ)
         (ts : List Token)
         → LooksOver limit bytes ahead.old → Passed limit lines bytes (passed_of ahead.old) ts
@@ -109,7 +91,7 @@ fn reference_ahead<'a>(ahead: &mut Ahead<'a>) -> Option<AheadReference<'a>>
     let behind_name = ahead.passed();
     let range = token_ahead(ahead)?;
     if is_end(range) {
-        return Some(AheadReference {
+        return Some(Reference {
             name: name.len(),
             text: name,
         });
@@ -119,16 +101,16 @@ fn reference_ahead<'a>(ahead: &mut Ahead<'a>) -> Option<AheadReference<'a>>
     if !is_end(end) {
         return None;
     }
-    Some(AheadReference {
+    Some(Reference {
         name: name.len(),
         text,
     })
 }
 
-/// The variable whose phrase comes next, if it lies whole ahead, and its reference has at most two
-/// tokens.
+/// Returns the variable whose phrase comes next, if that lies whole ahead and its reference has at
+/// most two tokens.
 #[inline(always)]
-fn variable_ahead<'a>(ahead: &mut Ahead<'a>) -> Option<AheadVariable<'a>>
+fn variable_ahead<'a>(ahead: &mut Ahead<'a>) -> Option<VariablePhrase<'a>>
     ensures gives { IfSome result (λ variable. (limit lines : ℕ) (bytes : List ℕ)
         (ts : List Token)
         → LooksOver limit bytes ahead.old → Passed limit lines bytes (passed_of ahead.old) ts
@@ -154,7 +136,7 @@ fn variable_ahead<'a>(ahead: &mut Ahead<'a>) -> Option<AheadVariable<'a>>
         return None;
     }
     let reference = reference_ahead(ahead)?;
-    Some(AheadVariable {
+    Some(VariablePhrase {
         word,
         size,
         code,
@@ -162,63 +144,52 @@ fn variable_ahead<'a>(ahead: &mut Ahead<'a>) -> Option<AheadVariable<'a>>
     })
 }
 
-/// Puts type and reference of a variable to the text.
-#[inline(always)]
-fn put_texts(text: &mut Vec<u8>, variable: AheadVariable<'_>) -> Result<(), AllocError>
-    ensures text { IfOk result (λ _. text.new.items
-        ≡ text.old.items ++ (variable.entry.word.now ++ variable.entry.reference.text.now)) }
-{
-    text.extend_from_slice(variable.word)?;
-    text.extend_from_slice(variable.reference.text)?;
-    Ok(())
-}
-
 /// Declares a variable that lies ahead, and tells whether it may stand there: else `read_variable`
 /// says why not.
-fn declare(
+#[inline(always)]
+fn take_variable(
     alloc: Global,
     most: u64,
     draft: &mut Draft,
-    variable: AheadVariable<'_>,
+    variable: VariablePhrase<'_>,
 ) -> Result<bool, HeadFault>
-    ensures declares { (given more : List Token) → DraftsOn most given draft.old
-        → IsVariable more variable.entry → IfOk result (λ taken.
-        MatchBool taken (DraftsOn most (given ++ more) draft.new)
-        (DraftsOn most given draft.new)) }
+    ensures takes { (given more : List Token) → DraftsOn most given draft.old
+        → IsVariable more variable.entry → IfOk result (TakenOn most given more draft.new) }
     ensures memory { IfErr result (λ fault. fault ≡ HeadFault.OutOfMemory) }
 {
-    if draft.rows.len() as u64 >= most {
+    if check_start(draft, most, Kind::Var).is_err() {
         return Ok(false);
     }
-    let event = is_event(variable.word);
-    let code = Sought::new(alloc, variable.code)?;
-    let Some(place) = enter_code(
-        &mut draft.text,
-        &mut draft.codes,
-        code,
-        variable.size,
-        event,
-    )?
-    else {
+    declare(alloc, draft, variable)
+}
+
+/// Opens a scope that lies ahead, and tells whether it may stand there: else `read_scope` says why
+/// not.
+#[inline(always)]
+fn take_scope(most: u64, draft: &mut Draft, scope: ScopePhrase<'_>) -> Result<bool, HeadFault>
+    ensures takes { (given more : List Token) → DraftsOn most given draft.old
+        → IsScope more scope.entry → IfOk result (TakenOn most given more draft.new) }
+    ensures memory { IfErr result (λ fault. fault ≡ HeadFault.OutOfMemory) }
+{
+    if check_start(draft, most, Kind::Scope).is_err() {
         return Ok(false);
-    };
-    let start = draft.text.len();
-    put_texts(&mut draft.text, variable)?;
-    let word = variable.word.len();
-    let all = variable.reference.text.len();
-    let parent = draft.parent();
-    push(
-        &mut draft.rows,
-        WideRow {
-            kind: Kind::Var,
-            parent,
-            start,
-            word,
-            name: variable.reference.name,
-            all,
-            code: place,
-        },
-    )?;
+    }
+    open_scope(draft, scope)?;
+    Ok(true)
+}
+
+/// Closes a scope by a phrase that lies ahead, and tells whether it may stand there: else
+/// `read_upscope` says why not.
+#[inline(always)]
+fn take_upscope(most: u64, draft: &mut Draft) -> Result<bool, HeadFault>
+    ensures takes { (given more : List Token) → DraftsOn most given draft.old
+        → IsUpscope more → IfOk result (TakenOn most given more draft.new) }
+    ensures memory { IfErr result (λ fault. fault ≡ HeadFault.OutOfMemory) }
+{
+    if check_start(draft, most, Kind::Up).is_err() {
+        return Ok(false);
+    }
+    close_scope(draft)?;
     Ok(true)
 }
 
@@ -251,17 +222,17 @@ fn declare_next(
     let mut next = *ahead;
     if let Some(variable) = variable_ahead(&mut next) {
         *ahead = next;
-        return declare(alloc, most, draft, variable);
+        return take_variable(alloc, most, draft, variable);
     }
     let mut next = *ahead;
     if let Some(scope) = scope_ahead(&mut next) {
         *ahead = next;
-        return open_scope(most, draft, scope);
+        return take_scope(most, draft, scope);
     }
     let mut next = *ahead;
     if let Some(()) = upscope_ahead(&mut next) {
         *ahead = next;
-        return close_scope(most, draft);
+        return take_upscope(most, draft);
     }
     Ok(false)
 }

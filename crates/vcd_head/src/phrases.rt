@@ -13,13 +13,14 @@ use crate::fault::HeadFault;
 use crate::scale::read_timescale;
 use crate::scopes::{read_scope, read_upscope};
 use crate::texts::{skip_to_end, text_to_end};
-use crate::tokens::{first_token, next_ends};
+use crate::tokens::{next_ends, next_token};
 use crate::variable::read_variable;
 use crate::words::{begins_change, is_command};
 use std::alloc::Global;
 use vcd_text::{Feed, Source};
 use vcd_view::{Keyword, keyword_of};
 
+/// Reads a comment: any tokens up to `$end`.
 fn read_comment<S: Source>(
     feed: &mut Feed<'_, '_, '_, '_, S>,
     draft: &mut Draft,
@@ -33,6 +34,7 @@ fn read_comment<S: Source>(
     skip_to_end(feed)
 }
 
+/// Reads the date: any tokens up to `$end`.
 fn read_date<S: Source>(
     alloc: Global,
     feed: &mut Feed<'_, '_, '_, '_, S>,
@@ -48,6 +50,7 @@ fn read_date<S: Source>(
     Ok(())
 }
 
+/// Reads the version: any tokens up to `$end`.
 fn read_version<S: Source>(
     alloc: Global,
     feed: &mut Feed<'_, '_, '_, '_, S>,
@@ -63,7 +66,7 @@ fn read_version<S: Source>(
     Ok(())
 }
 
-/// A command that the standard does not have, or what no phrase begins with.
+/// Reads the rest of a command that the standard does not have; refuses what no phrase begins with.
 fn read_other<S: Source>(
     feed: &mut Feed<'_, '_, '_, '_, S>,
     draft: &mut Draft,
@@ -83,7 +86,7 @@ fn read_other<S: Source>(
     skip_to_end(feed)
 }
 
-/// The end of the header, after its keyword.
+/// Reads the end of the header, after its keyword.
 fn read_end<S: Source>(
     feed: &mut Feed<'_, '_, '_, '_, S>,
     draft: &mut Draft,
@@ -101,7 +104,7 @@ fn read_end<S: Source>(
     Err(HeadFault::OutOfPlace)
 }
 
-// Others may follow a phrase that begins so.
+/// Tells whether others may follow a phrase that begins so.
 fn goes_on(keyword: Option<Keyword>) -> bool
     ensures { result ≡ goes_on_after keyword }
 {
@@ -127,13 +130,13 @@ pub(crate) fn read_phrase<S: Source>(
     ensures advances { Advances S.failures feed.old feed.new (call_end result) }
     ensures progress { OnOk result (2 ^ 63 - seen feed.new < 2 ^ 63 - seen feed.old) }
 {
-    first_token(feed)?;
+    next_token(feed)?;
     let keyword = keyword_of(feed.token());
     read_rest(alloc, feed, most, keyword, draft)?;
     Ok(goes_on(keyword))
 }
 
-// The rest of a phrase that begins with this keyword, or with none.
+/// Reads the rest of a phrase that begins with this keyword, or with none.
 fn read_rest<S: Source>(
     alloc: Global,
     feed: &mut Feed<'_, '_, '_, '_, S>,
@@ -153,7 +156,7 @@ fn read_rest<S: Source>(
         Some(Keyword::Date) => read_date(alloc, feed, draft),
         Some(Keyword::Version) => read_version(alloc, feed, draft),
         Some(Keyword::Timescale) => read_timescale(feed, draft),
-        Some(Keyword::Scope) => read_scope(feed, most, draft),
+        Some(Keyword::Scope) => read_scope(alloc, feed, most, draft),
         Some(Keyword::Upscope) => read_upscope(feed, most, draft),
         Some(Keyword::Var) => read_variable(alloc, feed, most, draft),
         Some(Keyword::EndDefinitions) => read_end(feed, draft),

@@ -9,20 +9,22 @@ ghost use Rattle.vcd_model.specs.SoFar.{IsSoFar};
 ghost use Rattle.vcd_model.specs.Tokens.{Token};
 ghost use Rattle.vcd_text.specs.Feed.{HasGiven, source_of, seen, token_of};
 ghost use Rattle.vcd_head.specs.Reads.{Reads, ReadsToken, Fails};
-ghost use Rattle.vcd_head.specs.Texts.{Welcomes, WordRead, WordTaken};
+ghost use Rattle.vcd_head.specs.Texts.{Welcomes, WordRead};
 ghost use Rattle.vcd_text.specs.Advances.{Advances};
 ghost use Rattle.vcd_head.specs.Fault.{call_end};
 
 use crate::fault::HeadFault;
 use crate::words;
+use std::alloc::Global;
 use vcd_text::{Feed, Halt, Next, Source};
 
-/// The next token, or the fault of one that is missing. The feed need not show the one before it.
+/// Reads the next token; else returns the fault of one that is missing. The feed need not show the
+/// one before it.
 #[inline(always)]
-pub(crate) fn first_token<S: Source>(feed: &mut Feed<'_, '_, '_, '_, S>) -> Result<(), HeadFault>
+pub(crate) fn next_token<S: Source>(feed: &mut Feed<'_, '_, '_, '_, S>) -> Result<(), HeadFault>
     requires { S.failures (source_of feed.old) < 2 ^ 64 - 1 }
-    ensures reads { (most : ℕ) (i : Input) (given : List Token) (placed : List (Placed HeaderPhrase))
-        (before : List (List ℕ))
+    ensures reads { (most : ℕ) (i : Input) (given : List Token)
+        (placed : List (Placed HeaderPhrase)) (before : List (List ℕ))
         → HasGiven i given feed.old → IsSoFar (header_grammar most) given placed before
         → MatchResult result (λ _. ReadsToken most i placed before feed.new)
         (λ fault. Fails most i fault feed.new) }
@@ -37,22 +39,6 @@ pub(crate) fn first_token<S: Source>(feed: &mut Feed<'_, '_, '_, '_, S>) -> Resu
         Err(Halt::InputTooLong) => Err(HeadFault::InputTooLong),
         Err(Halt::ReadFailed) => Err(HeadFault::ReadFailed),
     }
-}
-
-/// The next token, or the fault of one that is missing.
-#[inline(always)]
-pub(crate) fn next_token<S: Source>(feed: &mut Feed<'_, '_, '_, '_, S>) -> Result<(), HeadFault>
-    requires { S.failures (source_of feed.old) < 2 ^ 64 - 1 }
-    ensures reads { (most : ℕ) (i : Input) (placed : List (Placed HeaderPhrase))
-        (before : List (List ℕ))
-        → Reads most i placed before feed.old
-        → MatchResult result (λ _. ReadsToken most i placed before feed.new)
-        (λ fault. Fails most i fault feed.new) }
-    ensures advances { Advances S.failures feed.old feed.new (call_end result) }
-    ensures progress { OnOk result (seen feed.old < seen feed.new) }
-    ensures bounded { seen feed.new < 2 ^ 63 }
-{
-    first_token(feed)
 }
 
 /// Reads the next token, and tells whether it is `$end`.
@@ -73,24 +59,21 @@ pub(crate) fn next_ends<S: Source>(feed: &mut Feed<'_, '_, '_, '_, S>) -> Result
     Ok(words::is_end(feed.token()))
 }
 
-/// Puts the next token to the text and returns its length, or nothing where it is `$end`.
+/// Reads the next token and returns its bytes, or none where it is `$end`.
 pub(crate) fn next_word<S: Source>(
+    alloc: Global,
     feed: &mut Feed<'_, '_, '_, '_, S>,
-    text: &mut Vec<u8>,
-) -> Result<Option<usize>, HeadFault>
+) -> Result<Option<Vec<u8>>, HeadFault>
     requires { S.failures (source_of feed.old) < 2 ^ 64 - 1 }
     ensures reads { (most : ℕ) (i : Input) (placed : List (Placed HeaderPhrase))
         (before : List (List ℕ))
         → Welcomes most placed before → Reads most i placed before feed.old
         → MatchResult result (WordRead most i placed before feed.new)
         (λ fault. Fails most i fault feed.new) }
-    ensures text { IfOk result (WordTaken text.old.items text.new.items (token_of feed.new).bytes) }
     ensures advances { Advances S.failures feed.old feed.new (call_end result) }
 {
     if next_ends(feed)? {
         return Ok(None);
     }
-    let word = feed.token();
-    text.extend_from_slice(word)?;
-    Ok(Some(word.len()))
+    Ok(Some(Vec::from_slice(alloc, feed.token())?))
 }
