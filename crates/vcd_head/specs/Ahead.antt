@@ -1,10 +1,11 @@
 -- Variables and scopes whose phrases lie ahead.
-use Rattle.std.specs.Prelude.{◌≡◌, ℕ, Bool, true, false, MatchBool, List, [], ◌∷◌, ◌++◌, length, map, Some}
+use Rattle.std.specs.Prelude.{◌≡◌, ℕ, Bool, true, false, MatchBool, List, [], ◌∷◌, ◌++◌, length, map, Option, Some, IfSome}
 use Rattle.std.specs.List.{join_with_byte, list_all}
 use Rattle.vcd_model.specs.Bytes.{is_code_byte}
 use Rattle.vcd_model.specs.Keywords.{Keyword, keyword_text, is_end}
 use Rattle.vcd_model.specs.Tokens.{Token}
-use Rattle.vcd_text.specs.Ahead.{bytes_of, longest_of}
+use Rattle.vcd_text.specs.Ahead.{bytes_of, longest_of, passed_of}
+use Rattle.vcd_text.specs.Passed.{Passed}
 use Rattle.vcd_text.specs.declared.ahead.Ahead.{Ahead}
 use Rattle.vcd_head.specs.declared.declarations.Reference.{Reference}
 use Rattle.vcd_head.specs.declared.declarations.ScopePhrase.{ScopePhrase}
@@ -17,6 +18,11 @@ use Rattle.vcd_head.specs.Words.{size_in}
 -- it looks over these bytes, for tokens of at most so many
 abbrev pub LooksOver : ℕ → List ℕ → Ahead → Type 0
 LooksOver limit bytes a = (longest_of a ≡ limit) × (bytes_of a ≡ bytes)
+
+-- what lies whole ahead is given, and its tokens were passed
+abbrev pub Gives : {A : Type 0} → (List Token → A → Type 0) → Ahead → Ahead → Option A → Type 0
+Gives Is old new o = IfSome o (λ x. (limit lines : ℕ) (bytes : List ℕ) (ts : List Token) → LooksOver limit bytes old → Passed limit lines bytes (passed_of old) ts
+    → (more : List Token) × Is more x × Passed limit lines bytes (passed_of new) (ts ++ more))
 
 -- the bytes of these tokens
 abbrev pub texts_of : List Token → List (List ℕ)

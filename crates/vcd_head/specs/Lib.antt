@@ -11,6 +11,7 @@ pub mod Codes
 pub mod Fronts
 pub mod Draft
 pub mod Declares
+pub mod Calls
 pub mod Ahead
 pub mod Variables
 pub mod Scaled

@@ -1,15 +1,13 @@
 // Variables and scopes whose phrases lie whole ahead in the chunk: their tokens cost no change of
 // the feed.
-ghost use Rattle.std.specs.Prelude.{◌≡◌, ℕ, ◌+◌, ◌-◌, ◌<◌, ◌≤◌, List, [], ◌∷◌, ◌++◌, true, length, slice_range, IfSome, IfOk, IfErr, MatchBool, MatchResult};
+ghost use Rattle.std.specs.Prelude.{◌≡◌, ℕ, ◌+◌, ◌-◌, ◌<◌, ◌≤◌, List, [], ◌∷◌, ◌++◌, true, length, slice_range, IfSome, IfOk, IfErr, MatchBool};
 ghost use Rattle.vcd_model.specs.Input.{Input};
 ghost use Rattle.vcd_model.specs.Tokens.{Token};
-ghost use Rattle.vcd_text.specs.Advances.{Advances};
 ghost use Rattle.vcd_text.specs.Ahead.{bytes_of, longest_of, passed_of, start_of};
 ghost use Rattle.vcd_text.specs.Passed.{Passed};
-ghost use Rattle.vcd_head.specs.Ahead.{IsReference, IsScope, IsUpscope, IsVariable, LooksOver, TakenOn};
+ghost use Rattle.vcd_head.specs.Calls.{MovesOn, OrFails};
+ghost use Rattle.vcd_head.specs.Ahead.{Gives, IsReference, IsScope, IsUpscope, IsVariable, LooksOver, TakenOn};
 ghost use Rattle.vcd_head.specs.Draft.{DraftsBehind, DraftsOn, DraftsUpTo};
-ghost use Rattle.vcd_head.specs.Fault.{call_end};
-ghost use Rattle.vcd_head.specs.Reads.{Fails};
 
 use crate::ahead_scopes::{scope_ahead, upscope_ahead};
 use crate::declarations::{
@@ -74,11 +72,7 @@ fn joined<'a>(
 /// token, or two with one space between.
 #[inline(always)]
 fn reference_ahead<'a>(ahead: &mut Ahead<'a>) -> Option<Reference<'a>>
-    ensures gives { IfSome result (λ reference. (limit lines : ℕ) (bytes : List ℕ)
-        (ts : List Token)
-        → LooksOver limit bytes ahead.old → Passed limit lines bytes (passed_of ahead.old) ts
-        → (more : List Token) × IsReference more reference
-        × Passed limit lines bytes (passed_of ahead.new) (ts ++ more)) }
+    ensures gives { Gives IsReference ahead.old ahead.new result }
     ensures further { IfSome result (λ _. passed_of ahead.old < passed_of ahead.new) }
     ensures within { IfSome result (λ _. passed_of ahead.new ≤ length (bytes_of ahead.old)) }
     ensures same { (bytes_of ahead.new ≡ bytes_of ahead.old)
@@ -111,11 +105,7 @@ fn reference_ahead<'a>(ahead: &mut Ahead<'a>) -> Option<Reference<'a>>
 /// most two tokens.
 #[inline(always)]
 fn variable_ahead<'a>(ahead: &mut Ahead<'a>) -> Option<VariablePhrase<'a>>
-    ensures gives { IfSome result (λ variable. (limit lines : ℕ) (bytes : List ℕ)
-        (ts : List Token)
-        → LooksOver limit bytes ahead.old → Passed limit lines bytes (passed_of ahead.old) ts
-        → (more : List Token) × IsVariable more variable
-        × Passed limit lines bytes (passed_of ahead.new) (ts ++ more)) }
+    ensures gives { Gives IsVariable ahead.old ahead.new result }
     ensures further { IfSome result (λ _. passed_of ahead.old < passed_of ahead.new) }
     ensures within { IfSome result (λ _. passed_of ahead.new ≤ length (bytes_of ahead.old)) }
     ensures same { (bytes_of ahead.new ≡ bytes_of ahead.old)
@@ -273,9 +263,8 @@ pub(crate) fn read_ahead<S: Source>(
     draft: &mut Draft,
 ) -> Result<(), HeadFault>
     ensures reads { (i : Input) → DraftsUpTo most i draft.old feed.old
-        → MatchResult result (λ _. DraftsBehind most i draft.new feed.new)
-        (λ fault. Fails most i fault feed.new) }
-    ensures advances { Advances S.failures feed.old feed.new (call_end result) }
+        → OrFails most i feed.new (λ _. DraftsBehind most i draft.new feed.new) result }
+    ensures advances { MovesOn S.failures feed.old feed.new result }
 {
     let passed = declare_ahead(alloc, feed.ahead(), most, draft)?;
     feed.pass(passed);

@@ -1,9 +1,7 @@
 // Scopes whose phrases lie whole ahead in the chunk.
-ghost use Rattle.std.specs.Prelude.{◌≡◌, ℕ, ◌<◌, ◌≤◌, List, ◌++◌, length, IfSome};
-ghost use Rattle.vcd_model.specs.Tokens.{Token};
+ghost use Rattle.std.specs.Prelude.{◌≡◌, ◌<◌, ◌≤◌, length, IfSome};
 ghost use Rattle.vcd_text.specs.Ahead.{bytes_of, longest_of, passed_of};
-ghost use Rattle.vcd_text.specs.Passed.{Passed};
-ghost use Rattle.vcd_head.specs.Ahead.{IsScope, IsUpscope, LooksOver};
+ghost use Rattle.vcd_head.specs.Ahead.{Gives, IsScope, IsUpscope};
 
 use crate::ahead::token_ahead;
 use crate::declarations::ScopePhrase;
@@ -13,10 +11,7 @@ use vcd_text::Ahead;
 /// Returns the scope whose phrase comes next, if that lies whole ahead.
 #[inline(always)]
 pub(crate) fn scope_ahead<'a>(ahead: &mut Ahead<'a>) -> Option<ScopePhrase<'a>>
-    ensures gives { IfSome result (λ scope. (limit lines : ℕ) (bytes : List ℕ) (ts : List Token)
-        → LooksOver limit bytes ahead.old → Passed limit lines bytes (passed_of ahead.old) ts
-        → (more : List Token) × IsScope more scope
-        × Passed limit lines bytes (passed_of ahead.new) (ts ++ more)) }
+    ensures gives { Gives IsScope ahead.old ahead.new result }
     ensures further { IfSome result (λ _. passed_of ahead.old < passed_of ahead.new) }
     ensures within { IfSome result (λ _. passed_of ahead.new ≤ length (bytes_of ahead.old)) }
     ensures same { (bytes_of ahead.new ≡ bytes_of ahead.old)
@@ -44,10 +39,7 @@ pub(crate) fn scope_ahead<'a>(ahead: &mut Ahead<'a>) -> Option<ScopePhrase<'a>>
 /// Passes the phrase that closes a scope, if it comes next and lies whole ahead.
 #[inline(always)]
 pub(crate) fn upscope_ahead(ahead: &mut Ahead<'_>) -> Option<()>
-    ensures gives { IfSome result (λ _. (limit lines : ℕ) (bytes : List ℕ) (ts : List Token)
-        → LooksOver limit bytes ahead.old → Passed limit lines bytes (passed_of ahead.old) ts
-        → (more : List Token) × IsUpscope more
-        × Passed limit lines bytes (passed_of ahead.new) (ts ++ more)) }
+    ensures gives { Gives (λ more _. IsUpscope more) ahead.old ahead.new result }
     ensures further { IfSome result (λ _. passed_of ahead.old < passed_of ahead.new) }
     ensures within { IfSome result (λ _. passed_of ahead.new ≤ length (bytes_of ahead.old)) }
     ensures same { (bytes_of ahead.new ≡ bytes_of ahead.old)

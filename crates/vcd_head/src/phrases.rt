@@ -2,11 +2,10 @@
 ghost use Rattle.std.specs.Prelude.{◌≡◌, ℕ, ◌-◌, ◌^◌, ◌<◌, MatchResult, MatchBool, OnOk};
 ghost use Rattle.vcd_model.specs.Input.{Input};
 ghost use Rattle.vcd_model.specs.Keywords.{Keyword as Named};
-ghost use Rattle.vcd_text.specs.Feed.{source_of, token_of, seen};
+ghost use Rattle.vcd_text.specs.Feed.{source_of, seen};
+ghost use Rattle.vcd_head.specs.Calls.{MovesOn, OrFails, ReadsPhrase};
 ghost use Rattle.vcd_head.specs.Reads.{Fails};
 ghost use Rattle.vcd_head.specs.Draft.{AtKeyword, AtFirstToken, AtOther, DraftsBehind, DraftsUpTo, DraftsAll, goes_on as goes_on_after};
-ghost use Rattle.vcd_text.specs.Advances.{Advances};
-ghost use Rattle.vcd_head.specs.Fault.{call_end};
 
 use crate::draft::Draft;
 use crate::fault::HeadFault;
@@ -26,10 +25,9 @@ fn read_comment<S: Source>(
     draft: &mut Draft,
 ) -> Result<(), HeadFault>
     requires { S.failures (source_of feed.old) < 2 ^ 64 - 1 }
-    ensures reads { (most : ℕ) (i : Input) → AtKeyword most i Named.Comment draft.old feed.old
-        → MatchResult result (λ _. DraftsUpTo most i draft.new feed.new)
-        (λ fault. Fails most i fault feed.new) }
-    ensures advances { Advances S.failures feed.old feed.new (call_end result) }
+    ensures reads { (most : ℕ) →
+        ReadsPhrase most Named.Comment draft.old feed.old draft.new feed.new result }
+    ensures advances { MovesOn S.failures feed.old feed.new result }
 {
     skip_to_end(feed)
 }
@@ -41,10 +39,9 @@ fn read_date<S: Source>(
     draft: &mut Draft,
 ) -> Result<(), HeadFault>
     requires { S.failures (source_of feed.old) < 2 ^ 64 - 1 }
-    ensures reads { (most : ℕ) (i : Input) → AtKeyword most i Named.Date draft.old feed.old
-        → MatchResult result (λ _. DraftsUpTo most i draft.new feed.new)
-        (λ fault. Fails most i fault feed.new) }
-    ensures advances { Advances S.failures feed.old feed.new (call_end result) }
+    ensures reads { (most : ℕ) →
+        ReadsPhrase most Named.Date draft.old feed.old draft.new feed.new result }
+    ensures advances { MovesOn S.failures feed.old feed.new result }
 {
     draft.date = text_to_end(alloc, feed)?;
     Ok(())
@@ -57,10 +54,9 @@ fn read_version<S: Source>(
     draft: &mut Draft,
 ) -> Result<(), HeadFault>
     requires { S.failures (source_of feed.old) < 2 ^ 64 - 1 }
-    ensures reads { (most : ℕ) (i : Input) → AtKeyword most i Named.Version draft.old feed.old
-        → MatchResult result (λ _. DraftsUpTo most i draft.new feed.new)
-        (λ fault. Fails most i fault feed.new) }
-    ensures advances { Advances S.failures feed.old feed.new (call_end result) }
+    ensures reads { (most : ℕ) →
+        ReadsPhrase most Named.Version draft.old feed.old draft.new feed.new result }
+    ensures advances { MovesOn S.failures feed.old feed.new result }
 {
     draft.version = text_to_end(alloc, feed)?;
     Ok(())
@@ -73,9 +69,8 @@ fn read_other<S: Source>(
 ) -> Result<(), HeadFault>
     requires { S.failures (source_of feed.old) < 2 ^ 64 - 1 }
     ensures reads { (most : ℕ) (i : Input) → AtOther most i draft.old feed.old
-        → MatchResult result (λ _. DraftsUpTo most i draft.new feed.new)
-        (λ fault. Fails most i fault feed.new) }
-    ensures advances { Advances S.failures feed.old feed.new (call_end result) }
+        → OrFails most i feed.new (λ _. DraftsUpTo most i draft.new feed.new) result }
+    ensures advances { MovesOn S.failures feed.old feed.new result }
 {
     if begins_change(feed.token()) {
         return Err(HeadFault::OutOfPlace);
@@ -94,9 +89,8 @@ fn read_end<S: Source>(
     requires { S.failures (source_of feed.old) < 2 ^ 64 - 1 }
     ensures reads { (most : ℕ) (i : Input)
         → AtKeyword most i Named.EndDefinitions draft.old feed.old
-        → MatchResult result (λ _. DraftsAll most i draft.new feed.new)
-        (λ fault. Fails most i fault feed.new) }
-    ensures advances { Advances S.failures feed.old feed.new (call_end result) }
+        → OrFails most i feed.new (λ _. DraftsAll most i draft.new feed.new) result }
+    ensures advances { MovesOn S.failures feed.old feed.new result }
 {
     if next_ends(feed)? {
         return Ok(());
@@ -127,7 +121,7 @@ pub(crate) fn read_phrase<S: Source>(
         MatchBool more (DraftsUpTo most i draft.new feed.new)
         (DraftsAll most i draft.new feed.new))
         (λ fault. Fails most i fault feed.new) }
-    ensures advances { Advances S.failures feed.old feed.new (call_end result) }
+    ensures advances { MovesOn S.failures feed.old feed.new result }
     ensures progress { OnOk result (2 ^ 63 - seen feed.new < 2 ^ 63 - seen feed.old) }
 {
     next_token(feed)?;
@@ -149,7 +143,7 @@ fn read_rest<S: Source>(
         → MatchResult result
         (λ _. MatchBool (goes_on_after keyword) (DraftsUpTo most i draft.new feed.new)
         (DraftsAll most i draft.new feed.new)) (λ fault. Fails most i fault feed.new) }
-    ensures advances { Advances S.failures feed.old feed.new (call_end result) }
+    ensures advances { MovesOn S.failures feed.old feed.new result }
 {
     match keyword {
         Some(Keyword::Comment) => read_comment(feed, draft),

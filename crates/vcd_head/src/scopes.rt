@@ -1,12 +1,8 @@
 // Phrases that open and close scopes, after their keywords.
-ghost use Rattle.std.specs.Prelude.{◌≡◌, ◌-◌, ◌^◌, ◌<◌, MatchResult};
-ghost use Rattle.vcd_model.specs.Input.{Input};
+ghost use Rattle.std.specs.Prelude.{◌-◌, ◌^◌, ◌<◌};
 ghost use Rattle.vcd_model.specs.Keywords.{Keyword};
 ghost use Rattle.vcd_text.specs.Feed.{source_of};
-ghost use Rattle.vcd_head.specs.Reads.{Fails};
-ghost use Rattle.vcd_head.specs.Draft.{AtKeyword, DraftsUpTo};
-ghost use Rattle.vcd_text.specs.Advances.{Advances};
-ghost use Rattle.vcd_head.specs.Fault.{call_end};
+ghost use Rattle.vcd_head.specs.Calls.{MovesOn, ReadsPhrase};
 
 use crate::declarations::{ScopePhrase, check_start, close_scope, open_scope};
 use crate::draft::Draft;
@@ -24,10 +20,8 @@ pub(crate) fn read_scope<S: Source>(
     draft: &mut Draft,
 ) -> Result<(), HeadFault>
     requires { S.failures (source_of feed.old) < 2 ^ 64 - 1 }
-    ensures reads { (i : Input) → AtKeyword most i Keyword.Scope draft.old feed.old
-        → MatchResult result (λ _. DraftsUpTo most i draft.new feed.new)
-        (λ fault. Fails most i fault feed.new) }
-    ensures advances { Advances S.failures feed.old feed.new (call_end result) }
+    ensures reads { ReadsPhrase most Keyword.Scope draft.old feed.old draft.new feed.new result }
+    ensures advances { MovesOn S.failures feed.old feed.new result }
 {
     check_start(draft, most, Kind::Scope)?;
     let Some(word) = next_word(alloc, feed)? else {
@@ -54,10 +48,8 @@ pub(crate) fn read_upscope<S: Source>(
     draft: &mut Draft,
 ) -> Result<(), HeadFault>
     requires { S.failures (source_of feed.old) < 2 ^ 64 - 1 }
-    ensures reads { (i : Input) → AtKeyword most i Keyword.Upscope draft.old feed.old
-        → MatchResult result (λ _. DraftsUpTo most i draft.new feed.new)
-        (λ fault. Fails most i fault feed.new) }
-    ensures advances { Advances S.failures feed.old feed.new (call_end result) }
+    ensures reads { ReadsPhrase most Keyword.Upscope draft.old feed.old draft.new feed.new result }
+    ensures advances { MovesOn S.failures feed.old feed.new result }
 {
     check_start(draft, most, Kind::Up)?;
     if !next_ends(feed)? {

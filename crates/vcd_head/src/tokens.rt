@@ -1,5 +1,5 @@
 // Tokens of a header, one after the other.
-ghost use Rattle.std.specs.Prelude.{◌≡◌, ℕ, ◌-◌, ◌^◌, ◌<◌, List, IfOk, OnOk, MatchResult};
+ghost use Rattle.std.specs.Prelude.{◌≡◌, ℕ, ◌-◌, ◌^◌, ◌<◌, List, IfOk, OnOk};
 ghost use Rattle.vcd_model.specs.Input.{Input};
 ghost use Rattle.vcd_model.specs.HeaderPhrases.{HeaderPhrase};
 ghost use Rattle.vcd_model.specs.Reading.{Placed};
@@ -8,10 +8,9 @@ ghost use Rattle.vcd_model.specs.HeaderReading.{header_grammar};
 ghost use Rattle.vcd_model.specs.SoFar.{IsSoFar};
 ghost use Rattle.vcd_model.specs.Tokens.{Token};
 ghost use Rattle.vcd_text.specs.Feed.{HasGiven, source_of, seen, token_of};
-ghost use Rattle.vcd_head.specs.Reads.{Reads, ReadsToken, Fails};
+ghost use Rattle.vcd_head.specs.Calls.{MovesOn, OrFails};
+ghost use Rattle.vcd_head.specs.Reads.{Reads, ReadsToken};
 ghost use Rattle.vcd_head.specs.Texts.{Welcomes, WordRead};
-ghost use Rattle.vcd_text.specs.Advances.{Advances};
-ghost use Rattle.vcd_head.specs.Fault.{call_end};
 
 use crate::fault::HeadFault;
 use crate::words;
@@ -26,9 +25,8 @@ pub(crate) fn next_token<S: Source>(feed: &mut Feed<'_, '_, '_, '_, S>) -> Resul
     ensures reads { (most : ℕ) (i : Input) (given : List Token)
         (placed : List (Placed HeaderPhrase)) (before : List (List ℕ))
         → HasGiven i given feed.old → IsSoFar (header_grammar most) given placed before
-        → MatchResult result (λ _. ReadsToken most i placed before feed.new)
-        (λ fault. Fails most i fault feed.new) }
-    ensures advances { Advances S.failures feed.old feed.new (call_end result) }
+        → OrFails most i feed.new (λ _. ReadsToken most i placed before feed.new) result }
+    ensures advances { MovesOn S.failures feed.old feed.new result }
     ensures progress { OnOk result (seen feed.old < seen feed.new) }
     ensures bounded { seen feed.new < 2 ^ 63 }
 {
@@ -48,10 +46,9 @@ pub(crate) fn next_ends<S: Source>(feed: &mut Feed<'_, '_, '_, '_, S>) -> Result
     ensures reads { (most : ℕ) (i : Input) (placed : List (Placed HeaderPhrase))
         (before : List (List ℕ))
         → Reads most i placed before feed.old
-        → MatchResult result (λ _. ReadsToken most i placed before feed.new)
-        (λ fault. Fails most i fault feed.new) }
+        → OrFails most i feed.new (λ _. ReadsToken most i placed before feed.new) result }
     ensures end { IfOk result (λ ends. ends ≡ is_end (token_of feed.new).bytes) }
-    ensures advances { Advances S.failures feed.old feed.new (call_end result) }
+    ensures advances { MovesOn S.failures feed.old feed.new result }
     ensures progress { OnOk result (seen feed.old < seen feed.new) }
     ensures bounded { seen feed.new < 2 ^ 63 }
 {
@@ -68,9 +65,8 @@ pub(crate) fn next_word<S: Source>(
     ensures reads { (most : ℕ) (i : Input) (placed : List (Placed HeaderPhrase))
         (before : List (List ℕ))
         → Welcomes most placed before → Reads most i placed before feed.old
-        → MatchResult result (WordRead most i placed before feed.new)
-        (λ fault. Fails most i fault feed.new) }
-    ensures advances { Advances S.failures feed.old feed.new (call_end result) }
+        → OrFails most i feed.new (WordRead most i placed before feed.new) result }
+    ensures advances { MovesOn S.failures feed.old feed.new result }
 {
     if next_ends(feed)? {
         return Ok(None);

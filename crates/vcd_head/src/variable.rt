@@ -1,16 +1,15 @@
 // The phrase of a variable, after its keyword.
-ghost use Rattle.std.specs.Prelude.{◌≡◌, ℕ, ◌-◌, ◌^◌, ◌<◌, List, [], ◌∷◌, MatchResult, codes, bytes_eq};
+ghost use Rattle.std.specs.Prelude.{◌≡◌, ℕ, ◌-◌, ◌^◌, ◌<◌, List, [], ◌∷◌, codes, bytes_eq};
 ghost use Rattle.vcd_model.specs.Bytes.{decimal_value};
 ghost use Rattle.vcd_model.specs.Input.{Input};
 ghost use Rattle.vcd_model.specs.Keywords.{Keyword, keyword_text};
 ghost use Rattle.vcd_model.specs.HeaderPhrases.{HeaderPhrase, declarations_of};
 ghost use Rattle.vcd_model.specs.Reading.{Placed, phrases_of};
 ghost use Rattle.vcd_text.specs.Feed.{source_of};
-ghost use Rattle.vcd_head.specs.Reads.{Reads, Fails};
-ghost use Rattle.vcd_head.specs.Draft.{AtKeyword, DraftsUpTo, HasCodes};
+ghost use Rattle.vcd_head.specs.Calls.{MovesOn, OrFails, ReadsPhrase};
+ghost use Rattle.vcd_head.specs.Reads.{Reads};
+ghost use Rattle.vcd_head.specs.Draft.{HasCodes};
 ghost use Rattle.vcd_head.specs.Variables.{SizeRead, CodeRead};
-ghost use Rattle.vcd_text.specs.Advances.{Advances};
-ghost use Rattle.vcd_head.specs.Fault.{call_end};
 
 use crate::codes::Codes;
 use crate::declarations::{Reference, VariablePhrase, check_start, declare};
@@ -28,9 +27,8 @@ fn read_size<S: Source>(feed: &mut Feed<'_, '_, '_, '_, S>) -> Result<usize, Hea
     requires { S.failures (source_of feed.old) < 2 ^ 64 - 1 }
     ensures reads { (most : ℕ) (i : Input) (placed : List (Placed HeaderPhrase)) (type : List ℕ)
         → Reads most i placed (keyword_text Keyword.Var ∷ type ∷ []) feed.old
-        → MatchResult result (SizeRead most i placed type feed.new)
-        (λ fault. Fails most i fault feed.new) }
-    ensures advances { Advances S.failures feed.old feed.new (call_end result) }
+        → OrFails most i feed.new (SizeRead most i placed type feed.new) result }
+    ensures advances { MovesOn S.failures feed.old feed.new result }
 {
     next_token(feed)?;
     match size_of(feed.token()) {
@@ -53,9 +51,8 @@ fn read_code<S: Source>(
         → HasCodes text known.now (declarations_of (phrases_of placed))
         → decimal_value digits ≡ size → bytes_eq (codes "event") type ≡ event
         → Reads most i placed (keyword_text Keyword.Var ∷ type ∷ digits ∷ []) feed.old
-        → MatchResult result (CodeRead most i placed type digits feed.new)
-        (λ fault. Fails most i fault feed.new) }
-    ensures advances { Advances S.failures feed.old feed.new (call_end result) }
+        → OrFails most i feed.new (CodeRead most i placed type digits feed.new) result }
+    ensures advances { MovesOn S.failures feed.old feed.new result }
 {
     next_token(feed)?;
     let token = feed.token();
@@ -76,10 +73,8 @@ pub(crate) fn read_variable<S: Source>(
     draft: &mut Draft,
 ) -> Result<(), HeadFault>
     requires { S.failures (source_of feed.old) < 2 ^ 64 - 1 }
-    ensures reads { (i : Input) → AtKeyword most i Keyword.Var draft.old feed.old
-        → MatchResult result (λ _. DraftsUpTo most i draft.new feed.new)
-        (λ fault. Fails most i fault feed.new) }
-    ensures advances { Advances S.failures feed.old feed.new (call_end result) }
+    ensures reads { ReadsPhrase most Keyword.Var draft.old feed.old draft.new feed.new result }
+    ensures advances { MovesOn S.failures feed.old feed.new result }
 {
     check_start(draft, most, Kind::Var)?;
     let Some(word) = next_word(alloc, feed)? else {

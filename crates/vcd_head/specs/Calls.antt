@@ -1,0 +1,31 @@
+-- What calls promise that read the tokens of a header.
+use Rattle.std.specs.Prelude.{ℕ, List, Result, MatchResult}
+use Rattle.vcd_model.specs.HeaderPhrases.{HeaderPhrase}
+use Rattle.vcd_model.specs.Input.{Input}
+use Rattle.vcd_model.specs.Keywords.{Keyword}
+use Rattle.vcd_model.specs.Reading.{Placed}
+use Rattle.vcd_text.specs.Advances.{Advances}
+use Rattle.vcd_text.specs.declared.device.Source.{Ghosts}
+use Rattle.vcd_text.specs.declared.feed.Feed.{Feed}
+use Rattle.vcd_head.specs.Draft.{AtKeyword, DraftsUpTo}
+use Rattle.vcd_head.specs.Fault.{call_end}
+use Rattle.vcd_head.specs.Reads.{Fails, Reads}
+use Rattle.vcd_head.specs.Texts.{EndsThere, RunsOn}
+use Rattle.vcd_head.specs.declared.draft.Draft.{Draft}
+use Rattle.vcd_head.specs.declared.fault.HeadFault.{HeadFault}
+
+-- the feed has moved on as far as the call says that ended so
+abbrev pub MovesOn : {X A : Type 0} {g : Ghosts X} → (X → ℕ) → (old new : Feed X g) → Result A HeadFault → Type 0
+MovesOn failures old new r = Advances failures old new (call_end r)
+
+-- the result is this, or the header's fault
+abbrev pub OrFails : {X A : Type 0} {g : Ghosts X} → ℕ → Input → Feed X g → (A → Type 0) → Result A HeadFault → Type 0
+OrFails most i f Q r = MatchResult r Q (λ fault. Fails most i fault f)
+
+-- behind this keyword the rest of its phrase was read, which the draft now holds
+abbrev pub ReadsPhrase : {X A : Type 0} {g : Ghosts X} → ℕ → Keyword → (old : Draft) → Feed X g → (new : Draft) → Feed X g → Result A HeadFault → Type 0
+ReadsPhrase most k old before new after r = (i : Input) → AtKeyword most i k old before → OrFails most i after (λ _. DraftsUpTo most i new after) r
+
+-- where a phrase runs on, its tokens were read up to the first `$end`
+abbrev pub ReadsToEnd : {X A : Type 0} {g : Ghosts X} → (old new : Feed X g) → (A → List (List ℕ) → Type 0) → Result A HeadFault → Type 0
+ReadsToEnd old new Grows r = (most : ℕ) (i : Input) (placed : List (Placed HeaderPhrase)) (before : List (List ℕ)) → RunsOn most placed before → Reads most i placed before old → OrFails most i new (λ x. EndsThere most i placed before new (Grows x)) r
