@@ -21,6 +21,7 @@ pub mod Sieves
 pub mod Inside
 pub mod Matched
 pub mod Merged
+pub mod Written
 pub mod Rows
 -- the view: what its functions promise, and its types
 pub use Rattle.vcd_view.specs.Finds

@@ -4,7 +4,7 @@ ghost use Rattle.std.specs.Prelude.{◌≡◌, ◌+◌, ◌<◌, ◌≤◌, [], 
 ghost use Rattle.vcd_model.specs.Declarations.{Declaration, name_of as name_of_declaration, path_of};
 ghost use Rattle.vcd_model.specs.Header.{Header};
 ghost use Rattle.vcd_model.specs.Selection.{is_selected as is_selected_by, is_variable, selects_path};
-ghost use Rattle.vcd_head.specs.Inside.{AreHeld, AreLeft, AreOpen, front, is_all, is_rest, left_in, left_selects};
+ghost use Rattle.vcd_head.specs.Inside.{AreHeld, AreLeft, AreOpen, KeepsOpen, MatchesRow, front, is_all, is_rest, left_in, left_selects};
 ghost use Rattle.vcd_head.specs.Matched.{Matches, Matched};
 ghost use Rattle.vcd_head.specs.Paths.{scopes_text};
 ghost use Rattle.vcd_head.specs.Sieves.{RulesOut};
@@ -185,7 +185,8 @@ pub(crate) struct Open {
 
 impl Open {
     pub(crate) fn new() -> Self
-        ensures { (h : Header) (names : List (List ℕ)) → length names ≤ 64 → AreOpen h names result }
+        ensures { (h : Header) (names : List (List ℕ)) → length names ≤ 64
+            → AreOpen h names result }
     {
         Open {
             inside: [Inside::outermost(); MOST_HELD],
@@ -205,9 +206,7 @@ impl Open {
         matched: &mut [bool; TOGETHER],
     ) -> bool
         requires { length names.now ≤ 64 }
-        ensures open { (h : Header) → IsViewOf view.entry h
-            → AreOpen h (map string_bytes names.now) self.old
-            → AreOpen h (map string_bytes names.now) self.new }
+        ensures open { KeepsOpen view.entry (map string_bytes names.now) self.old self.new }
         ensures selected { (h : Header) (d : Declaration) → IsViewOf view.entry h
             → slice_get h.declarations row ≡ Some d
             → AreOpen h (map string_bytes names.now) self.old
@@ -237,9 +236,7 @@ impl Open {
     // Enters the scope of a row.
     fn enter(&mut self, view: HeadView<'_>, row: usize, names: &[String])
         requires { length names.now ≤ 64 }
-        ensures { (h : Header) → IsViewOf view.entry h
-            → AreOpen h (map string_bytes names.now) self.old
-            → AreOpen h (map string_bytes names.now) self.new }
+        ensures { KeepsOpen view.entry (map string_bytes names.now) self.old self.new }
     {
         let inner = self.inner(view, row, names);
         self.depth = self.depth.saturating_add(1);
@@ -253,9 +250,7 @@ impl Open {
     // What is left inside the scope of a row, where it is known of the scope around.
     fn inner(&mut self, view: HeadView<'_>, row: usize, names: &[String]) -> Option<Inside>
         requires { length names.now ≤ 64 }
-        ensures open { (h : Header) → IsViewOf view.entry h
-            → AreOpen h (map string_bytes names.now) self.old
-            → AreOpen h (map string_bytes names.now) self.new }
+        ensures open { KeepsOpen view.entry (map string_bytes names.now) self.old self.new }
         ensures left { (h : Header) → IsViewOf view.entry h
             → AreOpen h (map string_bytes names.now) self.old
             → IfSome result
@@ -276,9 +271,7 @@ impl Open {
     fn rules_out(&mut self, view: HeadView<'_>, row: usize, names: &[String]) -> bool
         requires { length names.now ≤ 64 }
         ensures row { result ≡ true → row < length view.entry.rows.now }
-        ensures open { (h : Header) → IsViewOf view.entry h
-            → AreOpen h (map string_bytes names.now) self.old
-            → AreOpen h (map string_bytes names.now) self.new }
+        ensures open { KeepsOpen view.entry (map string_bytes names.now) self.old self.new }
         ensures out { (h : Header) (d : Declaration) → IsViewOf view.entry h
             → slice_get h.declarations row ≡ Some d
             → AreOpen h (map string_bytes names.now) self.old → result ≡ true
@@ -301,14 +294,9 @@ impl Open {
         matched: &mut [bool; TOGETHER],
     ) -> bool
         requires { length names.now ≤ 64 }
-        ensures open { (h : Header) → IsViewOf view.entry h
-            → AreOpen h (map string_bytes names.now) self.old
-            → AreOpen h (map string_bytes names.now) self.new }
-        ensures matches { (h : Header) (d : Declaration) → IsViewOf view.entry h
-            → slice_get h.declarations row ≡ Some d → is_variable d ≡ true
-            → AreOpen h (map string_bytes names.now) self.old
-            → Matches (selects_path (path_of (take row h.declarations) d))
-            (map string_bytes names.now) matched.old matched.new result }
+        ensures open { KeepsOpen view.entry (map string_bytes names.now) self.old self.new }
+        ensures matches { MatchesRow view.entry row (map string_bytes names.now) self.old
+            matched.old matched.new result }
     {
         if self.rules_out(view, row, names) {
             if let Some(inside) = self.around(view, row) {
@@ -327,11 +315,8 @@ impl Open {
         matched: &mut [bool; TOGETHER],
     ) -> bool
         requires { length names.now ≤ 64 }
-        ensures { (h : Header) (d : Declaration) → IsViewOf view.entry h
-            → slice_get h.declarations row ≡ Some d → is_variable d ≡ true
-            → AreOpen h (map string_bytes names.now) self.now
-            → Matches (selects_path (path_of (take row h.declarations) d))
-            (map string_bytes names.now) matched.old matched.new result }
+        ensures { MatchesRow view.entry row (map string_bytes names.now) self.now
+            matched.old matched.new result }
     {
         let inside = self.around(view, row);
         let own = view.name_of(row);
@@ -367,7 +352,8 @@ fn around<'a>(
 ) -> Option<&'a Inside>
     ensures row { IfSome result (λ _. row < length view.entry.rows.now) }
     ensures scope { (h : Header) → IsViewOf view.entry h
-        → IfSome result (λ s. scopes_text (take row h.declarations) ≡ front h.declarations s.now.scope) }
+        → IfSome result (λ s. scopes_text (take row h.declarations)
+        ≡ front h.declarations s.now.scope) }
     ensures left { (h : Header) (names : List (List ℕ)) → IsViewOf view.entry h
         → AreHeld h names held.now
         → IfSome result (λ s. AreLeft names (front h.declarations s.now.scope) s.now) }

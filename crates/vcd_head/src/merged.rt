@@ -102,7 +102,8 @@ fn put_openings<W: Sink>(
 /// it closes is not written.
 fn put_closing<W: Sink>(scopes: OpenScopes, w: &mut W) -> Result<(), WriteFailed>
     requires failures { (W.device w.old).failures < 2 ^ 64 - 1 }
-    ensures { Puts (W.device w.old) (W.device w.new) (closing scopes.pending scopes.written) result }
+    ensures { Puts (W.device w.old) (W.device w.new)
+        (closing scopes.pending scopes.written) result }
 {
     if scopes.pending > 0 {
         return Ok(());

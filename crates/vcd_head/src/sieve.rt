@@ -1,6 +1,6 @@
 // Names that may select a row are told by flags, where rows of one scope are compared in turn.
-ghost use Rattle.std.specs.Prelude.{◌≡◌, ◌+◌, ◌<◌, ◌≤◌, ℕ, List, length, drop, map, string_bytes, get_or, true, false};
-ghost use Rattle.vcd_head.specs.Inside.{AreLeft};
+ghost use Rattle.std.specs.Prelude.{◌≡◌, ◌+◌, ◌<◌, ◌≤◌, ℕ, List, length, map, string_bytes, get_or, true, false};
+ghost use Rattle.vcd_head.specs.Inside.{AreLeft, KeepsSieve};
 ghost use Rattle.vcd_head.specs.Sieves.{Admitted, IsSieve, RulesOut, may_go_on};
 ghost use Rattle.vcd_head.specs.declared.inside.Left.TheVariants as left_of;
 
@@ -30,7 +30,8 @@ impl Sieve {
     // Of a scope whose flags are still to be found.
     pub(crate) fn new(scope: usize) -> Self
         ensures scope { result.scope ≡ scope }
-        ensures flags { (names : List (List ℕ)) (fronts : ℕ → List ℕ) → IsSieve names fronts result }
+        ensures flags { (names : List (List ℕ)) (fronts : ℕ → List ℕ)
+            → IsSieve names fronts result }
     {
         Sieve {
             scope,
@@ -44,10 +45,8 @@ impl Sieve {
     // where it selects all that is inside the scope.
     pub(crate) fn rules_out(&mut self, inside: &Inside, names: &[String], component: &[u8]) -> bool
         requires { length names.now ≤ 64 }
-        ensures kept { (fronts : ℕ → List ℕ)
-            → AreLeft (map string_bytes names.now) (fronts inside.now.scope) inside.now
-            → IsSieve (map string_bytes names.now) fronts self.old
-            → IsSieve (map string_bytes names.now) fronts self.new }
+        ensures kept { KeepsSieve (map string_bytes names.now) inside.now.scope inside.now
+            self.old self.new }
         ensures out { (fronts : ℕ → List ℕ)
             → AreLeft (map string_bytes names.now) (fronts inside.now.scope) inside.now
             → IsSieve (map string_bytes names.now) fronts self.old → result ≡ true
@@ -73,10 +72,8 @@ impl Sieve {
     fn ask(&mut self, inside: &Inside, names: &[String])
         requires { length names.now ≤ 64 }
         ensures scope { self.new.scope ≡ self.old.scope }
-        ensures kept { (fronts : ℕ → List ℕ)
-            → AreLeft (map string_bytes names.now) (fronts self.old.scope) inside.now
-            → IsSieve (map string_bytes names.now) fronts self.old
-            → IsSieve (map string_bytes names.now) fronts self.new }
+        ensures kept { KeepsSieve (map string_bytes names.now) self.old.scope inside.now
+            self.old self.new }
     {
         if self.asked < ROWS_FIRST {
             self.asked += 1;

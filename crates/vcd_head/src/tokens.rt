@@ -1,16 +1,10 @@
 // Tokens of a header, one after the other.
-ghost use Rattle.std.specs.Prelude.{◌≡◌, ℕ, ◌-◌, ◌^◌, ◌<◌, List, IfOk, OnOk};
-ghost use Rattle.vcd_model.specs.Input.{Input};
-ghost use Rattle.vcd_model.specs.HeaderPhrases.{HeaderPhrase};
-ghost use Rattle.vcd_model.specs.Reading.{Placed};
+ghost use Rattle.std.specs.Prelude.{◌≡◌, ◌-◌, ◌^◌, ◌<◌, IfOk, OnOk};
 ghost use Rattle.vcd_model.specs.Keywords.{is_end};
-ghost use Rattle.vcd_model.specs.HeaderReading.{header_grammar};
-ghost use Rattle.vcd_model.specs.SoFar.{IsSoFar};
 ghost use Rattle.vcd_model.specs.Tokens.{Token};
-ghost use Rattle.vcd_text.specs.Feed.{HasGiven, source_of, seen, token_of};
-ghost use Rattle.vcd_head.specs.Calls.{MovesOn, OrFails};
-ghost use Rattle.vcd_head.specs.Reads.{Reads, ReadsToken};
-ghost use Rattle.vcd_head.specs.Texts.{Welcomes, WordRead};
+ghost use Rattle.vcd_text.specs.Feed.{source_of, seen, token_of};
+ghost use Rattle.vcd_head.specs.Calls.{MovesOn, ReadsNext, ReadsOne, ReadsWord};
+ghost use Rattle.vcd_head.specs.Reads.{Reads};
 
 use crate::fault::HeadFault;
 use crate::words;
@@ -22,10 +16,7 @@ use vcd_text::{Feed, Halt, Next, Source};
 #[inline(always)]
 pub(crate) fn next_token<S: Source>(feed: &mut Feed<'_, '_, '_, '_, S>) -> Result<(), HeadFault>
     requires { S.failures (source_of feed.old) < 2 ^ 64 - 1 }
-    ensures reads { (most : ℕ) (i : Input) (given : List Token)
-        (placed : List (Placed HeaderPhrase)) (before : List (List ℕ))
-        → HasGiven i given feed.old → IsSoFar (header_grammar most) given placed before
-        → OrFails most i feed.new (λ _. ReadsToken most i placed before feed.new) result }
+    ensures reads { ReadsNext feed.old feed.new result }
     ensures advances { MovesOn S.failures feed.old feed.new result }
     ensures progress { OnOk result (seen feed.old < seen feed.new) }
     ensures bounded { seen feed.new < 2 ^ 63 }
@@ -43,10 +34,7 @@ pub(crate) fn next_token<S: Source>(feed: &mut Feed<'_, '_, '_, '_, S>) -> Resul
 #[inline(always)]
 pub(crate) fn next_ends<S: Source>(feed: &mut Feed<'_, '_, '_, '_, S>) -> Result<bool, HeadFault>
     requires { S.failures (source_of feed.old) < 2 ^ 64 - 1 }
-    ensures reads { (most : ℕ) (i : Input) (placed : List (Placed HeaderPhrase))
-        (before : List (List ℕ))
-        → Reads most i placed before feed.old
-        → OrFails most i feed.new (λ _. ReadsToken most i placed before feed.new) result }
+    ensures reads { ReadsOne feed.old feed.new result }
     ensures end { IfOk result (λ ends. ends ≡ is_end (token_of feed.new).bytes) }
     ensures advances { MovesOn S.failures feed.old feed.new result }
     ensures progress { OnOk result (seen feed.old < seen feed.new) }
@@ -62,10 +50,7 @@ pub(crate) fn next_word<S: Source>(
     feed: &mut Feed<'_, '_, '_, '_, S>,
 ) -> Result<Option<Vec<u8>>, HeadFault>
     requires { S.failures (source_of feed.old) < 2 ^ 64 - 1 }
-    ensures reads { (most : ℕ) (i : Input) (placed : List (Placed HeaderPhrase))
-        (before : List (List ℕ))
-        → Welcomes most placed before → Reads most i placed before feed.old
-        → OrFails most i feed.new (WordRead most i placed before feed.new) result }
+    ensures reads { ReadsWord feed.old feed.new result }
     ensures advances { MovesOn S.failures feed.old feed.new result }
 {
     if next_ends(feed)? {
