@@ -19,6 +19,14 @@ use Rattle.vcd_head.specs.Words.{size_in}
 abbrev pub LooksOver : ℕ → List ℕ → Ahead → Type 0
 LooksOver limit bytes a = (longest_of a ≡ limit) × (bytes_of a ≡ bytes)
 
+-- over the same bytes, for the same tokens
+abbrev pub LooksOn : Ahead → Ahead → Type 0
+LooksOn old new = (bytes_of new ≡ bytes_of old) × (longest_of new ≡ longest_of old)
+
+-- this token was passed
+abbrev pub GivesToken : Ahead → Ahead → List ℕ → Type 0
+GivesToken old new token = (limit lines : ℕ) (bytes : List ℕ) (ts : List Token) → LooksOver limit bytes old → Passed limit lines bytes (passed_of old) ts → (line : ℕ) × Passed limit lines bytes (passed_of new) (ts ++ (record { bytes = token; line = line }) ∷ [])
+
 -- what lies whole ahead is given, and its tokens were passed
 abbrev pub Gives : {A : Type 0} → (List Token → A → Type 0) → Ahead → Ahead → Option A → Type 0
 Gives Is old new o = IfSome o (λ x. (limit lines : ℕ) (bytes : List ℕ) (ts : List Token) → LooksOver limit bytes old → Passed limit lines bytes (passed_of old) ts

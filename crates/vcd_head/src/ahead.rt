@@ -3,10 +3,10 @@
 ghost use Rattle.std.specs.Prelude.{◌≡◌, ℕ, ◌+◌, ◌-◌, ◌<◌, ◌≤◌, List, [], ◌∷◌, ◌++◌, true, length, slice_range, IfSome, IfOk, IfErr, MatchBool};
 ghost use Rattle.vcd_model.specs.Input.{Input};
 ghost use Rattle.vcd_model.specs.Tokens.{Token};
-ghost use Rattle.vcd_text.specs.Ahead.{bytes_of, longest_of, passed_of, start_of};
+ghost use Rattle.vcd_text.specs.Ahead.{bytes_of, passed_of, start_of};
 ghost use Rattle.vcd_text.specs.Passed.{Passed};
 ghost use Rattle.vcd_head.specs.Calls.{MovesOn, OrFails};
-ghost use Rattle.vcd_head.specs.Ahead.{Gives, IsReference, IsScope, IsUpscope, IsVariable, LooksOver, TakenOn};
+ghost use Rattle.vcd_head.specs.Ahead.{Gives, GivesToken, LooksOn, IsReference, IsScope, IsUpscope, IsVariable, LooksOver, TakenOn};
 ghost use Rattle.vcd_head.specs.Draft.{DraftsBehind, DraftsOn, DraftsUpTo};
 
 use crate::ahead_scopes::{scope_ahead, upscope_ahead};
@@ -23,20 +23,14 @@ use vcd_view::Kind;
 /// Returns the next token, if it lies whole ahead.
 #[inline(always)]
 pub(crate) fn token_ahead<'a>(ahead: &mut Ahead<'a>) -> Option<&'a [u8]>
-    ensures one { IfSome result (λ token. (limit lines : ℕ) (bytes : List ℕ) (ts : List Token)
-        → LooksOver limit bytes ahead.old → Passed limit lines bytes (passed_of ahead.old) ts
-        → (line : ℕ) × Passed limit lines bytes (passed_of ahead.new) (ts ++ (record {
-          bytes = token.now;
-          line = line;
-        }) ∷ [])) }
+    ensures one { IfSome result (λ token. GivesToken ahead.old ahead.new token.now) }
     ensures place { IfSome result (λ token. token.now ≡ slice_range (bytes_of ahead.old)
         (start_of ahead.new token.now) (passed_of ahead.new - 1)) }
     ensures longer { IfSome result (λ token.
         passed_of ahead.old + length token.now + 1 ≤ passed_of ahead.new) }
     ensures further { IfSome result (λ _. passed_of ahead.old < passed_of ahead.new) }
     ensures within { IfSome result (λ _. passed_of ahead.new ≤ length (bytes_of ahead.old)) }
-    ensures same { (bytes_of ahead.new ≡ bytes_of ahead.old)
-        × (longest_of ahead.new ≡ longest_of ahead.old) }
+    ensures same { LooksOn ahead.old ahead.new }
 {
     ahead.next()
 }
@@ -75,8 +69,7 @@ fn reference_ahead<'a>(ahead: &mut Ahead<'a>) -> Option<Reference<'a>>
     ensures gives { Gives IsReference ahead.old ahead.new result }
     ensures further { IfSome result (λ _. passed_of ahead.old < passed_of ahead.new) }
     ensures within { IfSome result (λ _. passed_of ahead.new ≤ length (bytes_of ahead.old)) }
-    ensures same { (bytes_of ahead.new ≡ bytes_of ahead.old)
-        × (longest_of ahead.new ≡ longest_of ahead.old) }
+    ensures same { LooksOn ahead.old ahead.new }
 {
     let name = token_ahead(ahead)?;
     if is_end(name) {
@@ -108,8 +101,7 @@ fn variable_ahead<'a>(ahead: &mut Ahead<'a>) -> Option<VariablePhrase<'a>>
     ensures gives { Gives IsVariable ahead.old ahead.new result }
     ensures further { IfSome result (λ _. passed_of ahead.old < passed_of ahead.new) }
     ensures within { IfSome result (λ _. passed_of ahead.new ≤ length (bytes_of ahead.old)) }
-    ensures same { (bytes_of ahead.new ≡ bytes_of ahead.old)
-        × (longest_of ahead.new ≡ longest_of ahead.old) }
+    ensures same { LooksOn ahead.old ahead.new }
 {
     let keyword = token_ahead(ahead)?;
     if !is_var(keyword) {
@@ -205,8 +197,7 @@ fn declare_next(
     ensures further { IfOk result (λ taken. taken ≡ true
         → (passed_of ahead.old < passed_of ahead.new)
         × (passed_of ahead.new ≤ length (bytes_of ahead.old))) }
-    ensures same { (bytes_of ahead.new ≡ bytes_of ahead.old)
-        × (longest_of ahead.new ≡ longest_of ahead.old) }
+    ensures same { LooksOn ahead.old ahead.new }
     ensures memory { IfErr result (λ fault. fault ≡ HeadFault.OutOfMemory) }
 {
     let mut next = *ahead;

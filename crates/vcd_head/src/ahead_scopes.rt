@@ -1,7 +1,7 @@
 // Scopes whose phrases lie whole ahead in the chunk.
-ghost use Rattle.std.specs.Prelude.{◌≡◌, ◌<◌, ◌≤◌, length, IfSome};
-ghost use Rattle.vcd_text.specs.Ahead.{bytes_of, longest_of, passed_of};
-ghost use Rattle.vcd_head.specs.Ahead.{Gives, IsScope, IsUpscope};
+ghost use Rattle.std.specs.Prelude.{◌<◌, ◌≤◌, length, IfSome};
+ghost use Rattle.vcd_text.specs.Ahead.{bytes_of, passed_of};
+ghost use Rattle.vcd_head.specs.Ahead.{Gives, LooksOn, IsScope, IsUpscope};
 
 use crate::ahead::token_ahead;
 use crate::declarations::ScopePhrase;
@@ -14,8 +14,7 @@ pub(crate) fn scope_ahead<'a>(ahead: &mut Ahead<'a>) -> Option<ScopePhrase<'a>>
     ensures gives { Gives IsScope ahead.old ahead.new result }
     ensures further { IfSome result (λ _. passed_of ahead.old < passed_of ahead.new) }
     ensures within { IfSome result (λ _. passed_of ahead.new ≤ length (bytes_of ahead.old)) }
-    ensures same { (bytes_of ahead.new ≡ bytes_of ahead.old)
-        × (longest_of ahead.new ≡ longest_of ahead.old) }
+    ensures same { LooksOn ahead.old ahead.new }
 {
     let keyword = token_ahead(ahead)?;
     if !is_scope(keyword) {
@@ -42,8 +41,7 @@ pub(crate) fn upscope_ahead(ahead: &mut Ahead<'_>) -> Option<()>
     ensures gives { Gives (λ more _. IsUpscope more) ahead.old ahead.new result }
     ensures further { IfSome result (λ _. passed_of ahead.old < passed_of ahead.new) }
     ensures within { IfSome result (λ _. passed_of ahead.new ≤ length (bytes_of ahead.old)) }
-    ensures same { (bytes_of ahead.new ≡ bytes_of ahead.old)
-        × (longest_of ahead.new ≡ longest_of ahead.old) }
+    ensures same { LooksOn ahead.old ahead.new }
 {
     let keyword = token_ahead(ahead)?;
     if !is_upscope(keyword) {

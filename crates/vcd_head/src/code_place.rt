@@ -44,7 +44,7 @@ pub(crate) fn enter_code(
     Ok(Some(place))
 }
 
-// Puts the bytes of a code to the text, and the code to the others.
+/// Puts the bytes of a code to the text, and the code to the others.
 #[inline(always)]
 fn add(
     text: &mut Vec<u8>,

@@ -51,8 +51,8 @@ impl Codes {
         }
     }
 
-    // Returns the place of the code with these bytes. It takes memory for the key of a long one;
-    // where that is refused, all keys are looked through.
+    /// Returns the place of the code with these bytes. It takes memory for the key of a long one;
+    /// where that is refused, all keys are looked through.
     fn find(&self, alloc: Global, bytes: &[u8]) -> Option<usize>
         ensures { (text : List ℕ) (cs : List IdCode) → AreHeld text self.now.list.items cs
             → AreKeysOf self.now.keys.keys cs → Finds cs bytes.now result }
@@ -75,7 +75,7 @@ pub(crate) fn is_of_kind(code: Code, size: usize, event: bool) -> bool
     code.event == event
 }
 
-// Returns the place of the key of the code with these bytes among keys, by a look at each.
+/// Returns the place of the key of the code with these bytes among keys, by a look at each.
 fn place_among(keys: &[CodeKey], bytes: &[u8]) -> Option<usize>
     ensures { (text : List ℕ) (list : List Code) (cs : List IdCode) → AreHeld text list cs
         → AreKeysOf keys.now cs → Finds cs bytes.now result }

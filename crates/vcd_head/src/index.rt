@@ -55,8 +55,8 @@ fn index_by_ranks(
     Ok(Some(index))
 }
 
-/// Returns the ranks of the codes, in their order of declaration, if a rank has all of the bytes and
-/// the place of each.
+/// Returns the ranks of the codes, in their order of declaration, if a rank has all of the bytes
+/// and the place of each.
 fn ranks_of(alloc: Global, text: &[u8], codes: &[Code]) -> Result<Option<Vec<usize>>, AllocError>
     ensures { IfOk result (λ found. IfSome found (λ ranks.
         AreRanks text.now codes.now ranks.items)) }

@@ -17,8 +17,8 @@ pub(crate) struct WideRow {
     pub(crate) code: usize,
 }
 
-/// Returns the length of a token in 32 bits. Only a token of 4 GiB or more has none, for which windows of
-/// as many bytes are lent: it is out of memory.
+/// Returns the length of a token in 32 bits. Only a token of 4 GiB or more has none, for which
+/// windows of as many bytes are lent: it is out of memory.
 #[inline(always)]
 pub(crate) fn token_len(len: usize) -> Result<u32, HeadFault>
     ensures held { IfOk result (λ held. held ≡ len) }

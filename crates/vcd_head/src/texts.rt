@@ -43,7 +43,7 @@ pub(crate) fn append_to_end<S: Source>(
     }
 }
 
-/// The tokens before the first `$end`, with a space between.
+/// Returns the tokens before the first `$end`, with a space between.
 pub(crate) fn text_to_end<S: Source>(
     alloc: Global,
     feed: &mut Feed<'_, '_, '_, '_, S>,

@@ -50,7 +50,8 @@ fn put_section<W: Sink>(w: &mut W, keyword: &[u8], text: &[u8]) -> Result<(), Wr
     put_lines(w, keyword, text)
 }
 
-/// The number and the unit of the time scale of an exponent; no bytes where no scale has it.
+/// Returns the number and the unit of the time scale of an exponent; no bytes where no scale has
+/// it.
 pub(crate) fn text_of_exponent(exponent: i8) -> &'static [u8]
     ensures { result.now ≡ scale_text exponent }
 {
@@ -77,7 +78,7 @@ pub(crate) fn text_of_exponent(exponent: i8) -> &'static [u8]
     }
 }
 
-/// The number and the unit of a time scale; no bytes where there is none.
+/// Returns the number and the unit of a time scale; no bytes where there is none.
 fn text_of_scale(scale: Option<Scale>) -> &'static [u8]
     ensures { result.now ≡ unwrap_or
         (option_map scale_text (option_map (λ x. x.exponent) scale)) [] }
@@ -88,7 +89,7 @@ fn text_of_scale(scale: Option<Scale>) -> &'static [u8]
     }
 }
 
-/// The declaration of a row is marked.
+/// Tells whether the declaration of a row is marked.
 fn has_mark(marks: &[u8], row: usize) -> bool
     ensures { result ≡ is_marked marks.now row }
 {
@@ -234,7 +235,7 @@ fn put_rows<W: Sink>(view: HeadView<'_>, marks: &[u8], w: &mut W) -> Result<(), 
     Ok(())
 }
 
-/// The row of the innermost scope that is open after the last row.
+/// Returns the row of the innermost scope that is open after the last row.
 fn innermost(view: HeadView<'_>) -> Option<usize>
     ensures { (h : Header) → IsViewOf view.entry h → result ≡ parent h.declarations }
 {
