@@ -89,6 +89,7 @@ fn put_texts(text: &mut Vec<u8>, variable: VariablePhrase<'_>) -> Result<(), All
 
 /// Declares a variable, and tells whether its code allows that: not where it was declared with
 /// another size, or where one of the two is an event and the other is not.
+#[inline(always)]
 pub(crate) fn declare(
     alloc: Global,
     draft: &mut Draft,
