@@ -1,13 +1,13 @@
 -- Variables that lie ahead: their tokens are a phrase more.
-use Rattle.std.proofs.Common.{◌≡◌, ℕ, ◌+◌, ◌-◌, ◌<◌, true, List, [], ◌∷◌, ◌++◌, length, take, drop, get_or, slice_range, None, bytes_eq, codes, refl, sym, ap, subst, ◌∙◌, arith}
+use Rattle.std.proofs.Common.{◌≡◌, ℕ, ◌+◌, ◌-◌, ◌<◌, true, List, [], ◌∷◌, ◌++◌, length, take, drop, get_or, slice_range, Bool, false, Some, None, bytes_eq, codes, refl, sym, ap, subst, ◌∙◌, arith}
 use Rattle.std.proofs.lemmas.Slice.Eq.{bytes_eq-Decides}
-use Rattle.std.proofs.lemmas.List.{append_assoc, append-nil, drop_more, length-append}
+use Rattle.std.proofs.lemmas.List.{append_assoc, append-nil, drop_more, length-append, map-append}
 use Rattle.std.proofs.lemmas.List.Folds.{drop_split}
 use Rattle.vcd_head.proofs.DraftLemmas.{take_front}
 use Rattle.vcd_model.specs.Bytes.{decimal_value}
 use Rattle.vcd_model.specs.Checks.{first_failed}
 use Rattle.vcd_model.specs.Declarations.{Declaration, Variable}
-use Rattle.vcd_model.specs.HeaderChecks.{header_fault, start_checks, var_checks}
+use Rattle.vcd_model.specs.HeaderChecks.{agrees, header_fault, start_checks, var_checks}
 use Rattle.vcd_model.specs.HeaderPhrases.{HeaderPhrase, declarations_of, header_phrase}
 use Rattle.vcd_model.specs.HeaderReading.{header_grammar}
 use Rattle.vcd_model.specs.Keywords.{Keyword, keyword_text}
@@ -15,10 +15,15 @@ use Rattle.vcd_model.specs.Reading.{Placed, phrases_of}
 use Rattle.vcd_model.specs.SoFar.{IsSoFar}
 use Rattle.vcd_model.specs.Tokens.{Token}
 use Rattle.vcd_model.proofs.SoFarLemmas.{so_far-token, so_far-phrase}
-use Rattle.vcd_head.specs.Ahead.{IsVariable, texts_of}
+use Rattle.vcd_head.specs.Ahead.{IsVariable, TakenOn, texts_of}
+use Rattle.vcd_head.specs.Declares.{MayStart, TakesVariable, spelled}
+use Rattle.vcd_head.specs.Draft.{DraftsOn, IsDraftOf}
+use Rattle.vcd_head.specs.declared.draft.Draft.{Draft}
+use Rattle.vcd_view.specs.declared.view.Kind.TheVariants as kind
+use Rattle.vcd_head.proofs.CodeChecks.{code_checked}
 use Rattle.vcd_view.specs.Keywords.{NoEnds}
 use Rattle.vcd_head.specs.Texts.{RunsOn}
-use Rattle.vcd_head.specs.declared.ahead.AheadVariable.{AheadVariable}
+use Rattle.vcd_head.specs.declared.declarations.VariablePhrase.{VariablePhrase}
 use Rattle.vcd_head.proofs.DraftSteps.{passed_test}
 use Rattle.vcd_head.proofs.PhraseLemmas.{start_fault, inner_fault, phrase_is, var_welcomes_type, var_welcomes_reference, var_runs, var_whole}
 use Rattle.vcd_head.proofs.TextSteps.{runs_behind}
@@ -41,11 +46,11 @@ all_in_turn [] a b c d e inner end = refl
 all_in_turn (x ∷ given) a b c d e inner end = ap (λ l. x ∷ l) (all_in_turn given a b c d e inner end)
 
 -- the variable that these tokens declare
-abbrev pub variable_in : (ts : List Token) (v : AheadVariable) → IsVariable ts v → Variable
-variable_in ts v k = record { type = v.word.now; size = decimal_value k.digits.bytes; code = v.code.now; reference = k.reference.name.bytes ∷ texts_of k.reference.inner }
+abbrev pub variable_in : (ts : List Token) (v : VariablePhrase) → IsVariable ts v → Variable
+variable_in ts v k = spelled v (k.reference.name.bytes ∷ texts_of k.reference.inner)
 
 -- its phrase goes on behind others
-pub variable_so_far : (most : ℕ) (given ts : List Token) (placed : List (Placed HeaderPhrase)) (v : AheadVariable) (k : IsVariable ts v) → first_failed (start_checks most (declarations_of (phrases_of placed)) Keyword.Var) ≡ None
+pub variable_so_far : (most : ℕ) (given ts : List Token) (placed : List (Placed HeaderPhrase)) (v : VariablePhrase) (k : IsVariable ts v) → first_failed (start_checks most (declarations_of (phrases_of placed)) Keyword.Var) ≡ None
     → first_failed (var_checks (declarations_of (phrases_of placed)) (v.word.now ∷ k.digits.bytes ∷ []) v.code.now) ≡ None → IsSoFar (header_grammar most) given placed []
     → IsSoFar (header_grammar most) (given ++ ts) (placed ++ record { phrase = HeaderPhrase.Declares (Declaration.Var (variable_in ts v k)); line = k.reference.end.line } ∷ []) []
 variable_so_far most given ts placed v k start code s =
@@ -74,10 +79,27 @@ variable_so_far most given ts placed v k start code s =
     let s5 = runs_so_far most placed (var ∷ type ∷ digits ∷ v.code.now ∷ name ∷ []) (((((given ++ t0 ∷ []) ++ t1 ∷ []) ++ t2 ∷ []) ++ t3 ∷ []) ++ t4 ∷ []) inner (var_runs most placed type digits v.code.now name k.reference.name_on) k.reference.none s4 in
     let s6 = so_far-phrase G ((((((given ++ t0 ∷ []) ++ t1 ∷ []) ++ t2 ∷ []) ++ t3 ∷ []) ++ t4 ∷ []) ++ inner) placed (var ∷ type ∷ digits ∷ v.code.now ∷ name ∷ texts) end (HeaderPhrase.Declares (Declaration.Var (variable_in ts v k))) s5
     (inner_fault most ps Keyword.Var (type ∷ digits ∷ v.code.now ∷ name ∷ texts) end.bytes)
-    (phrase_is Keyword.Var (type ∷ digits ∷ v.code.now ∷ name ∷ (texts ++ end.bytes ∷ [])) ∙ var_whole type digits v.code.now name texts end.bytes k.reference.name_on k.reference.none k.reference.ends (size_parts digits size.0).0) refl in
+    (phrase_is Keyword.Var (type ∷ digits ∷ v.code.now ∷ name ∷ (texts ++ end.bytes ∷ [])) ∙ var_whole type digits v.code.now name texts end.bytes k.reference.name_on k.reference.none k.reference.ends (size_parts digits size.0).0
+    ∙ ap (λ n. Some (HeaderPhrase.Declares (Declaration.Var (record { type = type; size = n; code = v.code.now; reference = name ∷ texts })))) size.1) refl in
     let are : ts ≡ t0 ∷ t1 ∷ t2 ∷ t3 ∷ t4 ∷ (inner ++ end ∷ []) = k.are ∙ ap (λ l. t0 ∷ t1 ∷ t2 ∷ t3 ∷ l) k.reference.are in
     subst (λ (l : List Token). IsSoFar G l (placed ++ record { phrase = HeaderPhrase.Declares (Declaration.Var (variable_in ts v k)); line = end.line } ∷ []) [])
     (all_in_turn given t0 t1 t2 t3 t4 inner end ∙ ap (λ l. given ++ l) (sym are)) s6
+
+-- the draft holds it, or the same
+pub variable_taken : (most : ℕ) (given ts : List Token) (old new : Draft) (v : VariablePhrase) (a : DraftsOn most given old) (k : IsVariable ts v) → MayStart most (phrases_of a.placed) kind.Var → (taken : Bool) → TakesVariable (variable_in ts v k) old new taken → TakenOn most given ts new taken
+variable_taken most given ts old new v a k start true takes =
+    let ps = phrases_of a.placed in
+    let t = takes most ps a.holds start in
+    let digits = k.digits.bytes in
+    let size = size_found digits v.size k.size_is in
+    let p : Placed HeaderPhrase = record { phrase = HeaderPhrase.Declares (Declaration.Var (variable_in ts v k)); line = k.reference.end.line } in
+    let agree = ap (λ n. agrees (declarations_of ps) (record { type = v.word.now; size = n; code = v.code.now; reference = [] })) size.1 ∙ sym t.0 in
+    record {
+      placed = a.placed ++ p ∷ [];
+      so_far = variable_so_far most given ts a.placed v k start (code_checked (declarations_of ps) v.word.now digits v.code.now true k.code_is agree) a.so_far;
+      holds = subst (IsDraftOf most new) (sym (map-append (λ (q : Placed HeaderPhrase). q.phrase) a.placed (p ∷ []))) t.1;
+    }
+variable_taken most given ts old new v a k start false takes = record { placed = a.placed; so_far = a.so_far; holds = let t = takes most (phrases_of a.placed) a.holds start in t.1 }
 
 -- ---- the tokens that were passed
 

@@ -1,5 +1,5 @@
 -- Scopes that lie ahead: their tokens are a phrase more.
-use Rattle.std.proofs.Common.{◌≡◌, ◌≤◌, ◌==◌, ℕ, zero, suc, arith, Result, Ok, Err, IfOk, Bool, true, false, List, [], ◌∷◌, ◌++◌, None, MatchBool, bytes_eq, codes, option_map, refl, sym, ap, subst, ◌∙◌}
+use Rattle.std.proofs.Common.{◌≡◌, ℕ, Result, Ok, Err, IfOk, Bool, true, false, List, [], ◌∷◌, ◌++◌, None, MatchBool, bytes_eq, codes, option_map, refl, sym, ap, subst, ◌∙◌}
 use Rattle.std.proofs.lemmas.Slice.Eq.{bytes_eq-Decides}
 use Rattle.vcd_model.specs.Checks.{first_failed}
 use Rattle.vcd_model.specs.Declarations.{Declaration}
@@ -12,7 +12,7 @@ use Rattle.vcd_model.specs.SoFar.{IsSoFar}
 use Rattle.vcd_model.specs.Tokens.{Token}
 use Rattle.vcd_model.proofs.SoFarLemmas.{so_far-token, so_far-phrase}
 use Rattle.vcd_head.specs.Ahead.{IsScope, IsUpscope}
-use Rattle.vcd_head.specs.declared.ahead_scopes.AheadScope.{AheadScope}
+use Rattle.vcd_head.specs.declared.declarations.ScopePhrase.{ScopePhrase}
 use Rattle.vcd_head.proofs.DraftSteps.{passed_test, whole_test}
 use Rattle.vcd_head.proofs.PhraseLemmas.{start_fault, inner_fault, phrase_is, scope_welcomes_type, scope_welcomes_name}
 
@@ -36,7 +36,7 @@ one_in_turn [] a b = refl
 one_in_turn (x ∷ ts) a b = ap (λ l. x ∷ l) (one_in_turn ts a b)
 
 -- a scope goes on behind other phrases
-pub scope_so_far : (most : ℕ) (given ts : List Token) (placed : List (Placed HeaderPhrase)) (s : AheadScope) (k : IsScope ts s) → first_failed (start_checks most (declarations_of (phrases_of placed)) Keyword.Scope) ≡ None → IsSoFar (header_grammar most) given placed []
+pub scope_so_far : (most : ℕ) (given ts : List Token) (placed : List (Placed HeaderPhrase)) (s : ScopePhrase) (k : IsScope ts s) → first_failed (start_checks most (declarations_of (phrases_of placed)) Keyword.Scope) ≡ None → IsSoFar (header_grammar most) given placed []
     → IsSoFar (header_grammar most) (given ++ ts) (placed ++ record { phrase = HeaderPhrase.Declares (Declaration.Scope s.word.now s.name.now); line = k.end.line } ∷ []) []
 scope_so_far most given ts placed s k start so_far =
     let G = header_grammar most in
@@ -76,8 +76,3 @@ pub taken_ahead : {E : Type 0} (r : Result Bool E) (A B C : Type 0) → (A → C
 taken_ahead (Ok true) A B C f m = f m
 taken_ahead (Ok false) A B C f m = m
 taken_ahead (Err e) A B C f m = m
-
--- what is not 0 is more
-pub not_none : (n : ℕ) → (n == 0) ≡ false → n ≤ 0 → ⊥
-not_none zero e l = let z : (0 == 0) ≡ true = refl in cc
-not_none (suc n) e l = omega arith

@@ -3,27 +3,17 @@ use Rattle.std.proofs.Common.{◌≡◌, ℕ, zero, suc, Bool, true, false, cond
 use Rattle.std.specs.List.{AllByRecursion, AllZip, IsDistinct}
 use Rattle.std.specs.Option.{option_or}
 use Rattle.std.proofs.lemmas.List.Folds.{find-append}
-use Rattle.std.proofs.lemmas.Option.{none-some, same_Some}
+use Rattle.std.proofs.lemmas.Option.{none-some}
 use Rattle.vcd_model.specs.Declarations.{IdCode, has_text}
 use Rattle.vcd_view.specs.declared.view.Code.{Code}
 use Rattle.vcd_view.specs.Views.{AreHeld, IsCode}
-use Rattle.vcd_head.specs.Codes.{IsKnown, IsOfKind}
-use Rattle.vcd_view.specs.Finds.{Finds}
 use Rattle.vcd_view.specs.Keys.{AreBytes}
 use Rattle.vcd_view.proofs.ListLemmas.{all_push, all_zip_push, bytes_flip}
-use Rattle.vcd_view.proofs.EntryLemmas.{code_found}
 
 -- ---- what is found
 
 pub find_more : (cs : List IdCode) (t : List ℕ) (c : IdCode) → find (has_text t) (cs ++ c ∷ []) ≡ option_or (find (has_text t) cs) (cond (has_text t c) (Some c) None)
 find_more cs t c = find-append (has_text t) cs (c ∷ [])
-
--- ---- a code that is looked up
-
-pub known : (text : List ℕ) (list : List Code) (cs : List IdCode) (t : List ℕ) (place : ℕ) (code : Code) → AreHeld text list cs → Finds cs t (Some place) → slice_get list place ≡ Some code → IsKnown cs t (Some (record { place = place; code = code }))
-known text list cs t place code h f at =
-    let k = code_found text list cs place code h.stand at in
-    (f.0, f.1, f.2, subst (IsOfKind code) (same_Some k.0 f.0 (sym k.1 ∙ f.1)) (record { same_size = k.2.size_is; same_event = k.2.event_is }))
 
 -- what is found stands in the list
 pub listed : (text : List ℕ) (list : List Code) (cs : List IdCode) (place : ℕ) (k : IdCode) → AllZip (IsCode text) list cs → slice_get cs place ≡ Some k → slice_get list place ≡ None → ⊥

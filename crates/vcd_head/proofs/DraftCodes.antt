@@ -4,21 +4,25 @@ use Rattle.std.specs.Option.{option_or}
 use Rattle.std.specs.List.{AllByRecursion, list_any, list_all}
 use Rattle.std.proofs.lemmas.List.{append-nil, length-append}
 use Rattle.std.proofs.lemmas.List.Folds.{list_any-append}
-use Rattle.std.proofs.lemmas.Bool.{or_right, or_parts, eq-eqb, ne_eqb}
+use Rattle.std.proofs.lemmas.Bool.{or_right, or_parts, and_parts, eqb-true}
+use Rattle.std.proofs.lemmas.Option.{same_Some}
 use Rattle.std.proofs.lemmas.Slice.Eq.{bytes_eq-Decides}
 use Rattle.vcd_model.specs.Declarations.{Declaration, Variable, IdCode, code_of, codes_of, variables_of, has_text}
 use Rattle.vcd_model.specs.HeaderChecks.{agrees, same_flag}
 use Rattle.vcd_view.specs.declared.view.Code.{Code}
 use Rattle.vcd_head.specs.declared.codes.Codes.{Codes}
 use Rattle.vcd_view.specs.Views.{AreHeld, IsCode, IsSize}
-use Rattle.vcd_head.specs.Codes.{IsAdded}
-use Rattle.vcd_head.specs.Keys.{AreKeysOf, shape_in, shape_of}
+use Rattle.indexmap.specs.IndexSet.{insert_key}
+use Rattle.vcd_view.specs.Finds.{Finds}
+use Rattle.vcd_head.specs.Codes.{is_of}
+use Rattle.vcd_head.specs.Keys.{AreKeysOf, same_shape, shape_in, shape_of}
 use Rattle.vcd_head.specs.declared.code_key.CodeKey.{CodeKey}
 use Rattle.vcd_view.specs.Keys.{AreBytes}
 use Rattle.vcd_head.specs.Draft.{HasCodes, CodeHeld}
 use Rattle.vcd_head.proofs.DraftLemmas.{range_at, held_grow}
+use Rattle.vcd_head.proofs.CodeKeys.{keys_more}
 use Rattle.vcd_head.proofs.CodesLemmas.{find_more, held_more}
-use Rattle.vcd_view.proofs.LookUpLemmas.{codes_len}
+use Rattle.vcd_view.proofs.EntryLemmas.{code_found}
 use Rattle.vcd_view.proofs.ListLemmas.{all_push, same_bytes, bytes_flip, all_weaker, slice_get-seam}
 use Rattle.vcd_head.proofs.DraftGrows.{variables_push, codes-alias, codes-new}
 
@@ -53,15 +57,15 @@ codes_alias text es ds v h f =
 
 -- ---- a new code
 
-pub codes_new : (text more : List ℕ) (old new : Codes) (ds : List Declaration) (v : Variable) (k : List ℕ) (key : CodeKey) (code : Code) (place : ℕ) → HasCodes text old ds → shape_of key ≡ shape_in k → AreBytes k → find (has_text v.code) (codes_of ds) ≡ None → k ≡ v.code → IsAdded old new key code place
+pub codes_new : (text more : List ℕ) (old new : Codes) (ds : List Declaration) (v : Variable) (k : List ℕ) (key : CodeKey) (code : Code) → HasCodes text old ds → shape_of key ≡ shape_in k → AreBytes k → find (has_text v.code) (codes_of ds) ≡ None → k ≡ v.code → new.list.items ≡ old.list.items ++ code ∷ [] → new.keys.keys ≡ insert_key same_shape old.keys.keys key
     → IsCode (text ++ more) code (code_of v) → IsSize (code_of v).size → HasCodes (text ++ more) new (ds ++ Declaration.Var v ∷ [])
-codes_new text more old new ds v k key code place h own bytes f b added is size =
+codes_new text more old new ds v k key code h own bytes f b listed made is size =
     let c = sym (codes-new ds v (h.seen v.code ∙ ap is_some f)) in
     let vars = sym (variables_push ds (Declaration.Var v)) in
     record {
       held = subst (AreHeld (text ++ more) new.list.items) c
-          (subst (λ xs. AreHeld (text ++ more) xs (codes_of ds ++ code_of v ∷ [])) (sym added.listed) (held_more (text ++ more) old.list.items (codes_of ds) code (code_of v) grown is (subst AreBytes b bytes) f));
-      keys = subst (AreKeysOf new.keys.keys) c (added.found (text ++ more) k (codes_of ds) (code_of v) own bytes grown h.keys (ap (λ t. find (has_text t) (codes_of ds)) b ∙ f) (sym b));
+          (subst (λ xs. AreHeld (text ++ more) xs (codes_of ds ++ code_of v ∷ [])) (sym listed) (held_more (text ++ more) old.list.items (codes_of ds) code (code_of v) grown is (subst AreBytes b bytes) f));
+      keys = subst (AreKeysOf new.keys.keys) c (keys_more key k own bytes old.keys.keys new.keys.keys (codes_of ds) (code_of v) h.held.texts h.keys (ap (λ t. find (has_text t) (codes_of ds)) b ∙ f) (sym b) made);
       known = subst (λ ks. AllByRecursion (λ u. find (has_text u.code) ks ≡ Some (code_of u)) (variables_of (ds ++ Declaration.Var v ∷ []))) c
           (subst (λ vs. AllByRecursion (λ u. find (has_text u.code) (codes_of ds ++ code_of v ∷ []) ≡ Some (code_of u)) vs) vars
           (all_push (λ u. find (has_text u.code) (codes_of ds ++ code_of v ∷ []) ≡ Some (code_of u)) (variables_of ds) v
@@ -121,27 +125,47 @@ some_differ ks (u ∷ vs) v k f h e any = by_code (bytes_eq u.code v.code) refl 
         let d : code_of u ≡ k = cc in
         rw (ap (λ (x : IdCode). (x.size == v.size) && same_flag x.event (code_of v).event) d ∙ e) refl
 
-pub agrees_found : (text : List ℕ) (es : Codes) (ds : List Declaration) (v : Variable) (k : IdCode) → HasCodes text es ds → find (has_text v.code) (codes_of ds) ≡ Some k → k.size ≡ v.size → k.event ≡ (code_of v).event → agrees ds v ≡ true
-unfolding same_kind
-agrees_found text es ds v k h f s e = all_agree (codes_of ds) (variables_of ds) v k f h.known (rw (eq-eqb k.size v.size s, e) (flag_same (code_of v).event))
+-- a variable agrees with the others where it does with the code found
+agrees_as : (text : List ℕ) (es : Codes) (ds : List Declaration) (v : Variable) (k : IdCode) → HasCodes text es ds → find (has_text v.code) (codes_of ds) ≡ Some k → agrees ds v ≡ same_kind k v
+agrees_as text es ds v k h f = by_kind (same_kind k v) refl
   where
-    flag_same : (b : Bool) → same_flag b b ≡ true
-    flag_same true = refl
-    flag_same false = refl
+    by_kind : (b : Bool) → same_kind k v ≡ b → agrees ds v ≡ b
+    by_kind true q = all_agree (codes_of ds) (variables_of ds) v k f h.known q
+    by_kind false q = some_differ (codes_of ds) (variables_of ds) v k f h.known q (h.seen v.code ∙ ap is_some f)
 
-pub size_differs : (text : List ℕ) (es : Codes) (ds : List Declaration) (v : Variable) (k : IdCode) → HasCodes text es ds → find (has_text v.code) (codes_of ds) ≡ Some k → k.size ≢ v.size → agrees ds v ≡ false
-unfolding same_kind
-size_differs text es ds v k h f s = some_differ (codes_of ds) (variables_of ds) v k f h.known (rw (ne_eqb k.size v.size s) refl) (h.seen v.code ∙ ap is_some f)
-
-pub event_differs : (text : List ℕ) (es : Codes) (ds : List Declaration) (v : Variable) (k : IdCode) → HasCodes text es ds → find (has_text v.code) (codes_of ds) ≡ Some k → k.size ≡ v.size → k.event ≢ (code_of v).event → agrees ds v ≡ false
-unfolding same_kind
-event_differs text es ds v k h f s e = some_differ (codes_of ds) (variables_of ds) v k f h.known (rw (eq-eqb k.size v.size s) (flag_differs k.event (code_of v).event e)) (h.seen v.code ∙ ap is_some f)
+found_passes : {X : Type 0} (test : X → Bool) (xs : List X) (y : X) → find test xs ≡ Some y → test y ≡ true
+found_passes test [] y e = cc
+found_passes test (x ∷ xs) y e = by_test (test x) refl e (found_passes test xs y)
   where
-    flag_differs : (a b : Bool) → a ≢ b → same_flag a b ≡ false
-    flag_differs true true d = absurd (d refl)
-    flag_differs true false d = refl
-    flag_differs false true d = refl
-    flag_differs false false d = absurd (d refl)
+    by_test : (b : Bool) → test x ≡ b → cond b (Some x) (find test xs) ≡ Some y → (find test xs ≡ Some y → test y ≡ true) → test y ≡ true
+    by_test true q f more = let s : x ≡ y = cc in subst (λ z. test z ≡ true) s q
+    by_test false q f more = more f
+
+flags_same : (a b : Bool) → same_flag a b ≡ true → a ≡ b
+flags_same true true e = refl
+flags_same true false e = cc
+flags_same false true e = cc
+flags_same false false e = refl
+
+module _ (text : List ℕ) (es : Codes) (ds : List Declaration) (v : Variable) (bytes : List ℕ) (size : ℕ) (event : Bool) (place : ℕ) (c : Code) (h : HasCodes text es ds) (is : code_of v ≡ record { text = bytes; size = size; event = event }) (f : Finds (codes_of ds) v.code (Some place))
+    (at : slice_get es.list.items place ≡ Some c) where
+  listed_code : IsCode text c f.0
+  listed_code = let k = code_found text es.list.items (codes_of ds) place c h.held.stand at in subst (IsCode text c) (same_Some k.0 f.0 (sym k.1 ∙ f.1)) k.2
+
+  -- so it does where the code that is listed has this size and is of this kind
+  pub agrees_at : agrees ds v ≡ is_of c size event
+  unfolding same_kind
+  agrees_at =
+      let k = listed_code in
+      agrees_as text es ds v f.0 h f.2 ∙ (λ j. (sym k.size_is j == (is j).size) && same_flag (sym k.event_is j) (is j).event)
+
+  -- and is then the variable's
+  pub found_is : is_of c size event ≡ true → f.0 ≡ code_of v
+  found_is e =
+      let k = listed_code in
+      let p = and_parts (c.size == size) (same_flag c.event event) e in
+      let t : v.code ≡ f.0.text = (bytes_eq-Decides v.code f.0.text).0 (found_passes (has_text v.code) (codes_of ds) f.0 f.2) in
+      λ j. record { text = sym t j; size = (sym k.size_is ∙ eqb-true c.size size p.0 ∙ ap (λ (x : IdCode). x.size) (sym is)) j; event = (sym k.event_is ∙ flags_same c.event event p.1 ∙ ap (λ (x : IdCode). x.event) (sym is)) j }
 
 -- ---- a draft with one code more
 
@@ -155,9 +179,8 @@ held_alias text es ds v place h at f = record {
 }
 
 pub held_new : (old new : List ℕ) (before after : Codes) (ds : List Declaration) (v : Variable) (k : List ℕ) (key : CodeKey) (code : Code) (place : ℕ) → HasCodes old before ds → shape_of key ≡ shape_in k → AreBytes k → find (has_text v.code) (codes_of ds) ≡ None → k ≡ v.code → IsSize (code_of v).size
-    → code ≡ record { start = length old; len = length k; size = (code_of v).size; event = (code_of v).event } → new ≡ old ++ k → IsAdded before after key code place → CodeHeld old new after ds v place
-held_new old new before after ds v k key code place h own bytes f b size is_code text added =
-    let at : place ≡ length (codes_of ds) = added.last ∙ codes_len old before.list.items (codes_of ds) h.held.stand in
+    → code ≡ record { start = length old; len = length k; size = (code_of v).size; event = (code_of v).event } → new ≡ old ++ k → place ≡ length (codes_of ds) → after.list.items ≡ before.list.items ++ code ∷ [] → after.keys.keys ≡ insert_key same_shape before.keys.keys key → CodeHeld old new after ds v place
+held_new old new before after ds v k key code place h own bytes f b size is_code text at listed made =
     let from = ap (λ (c : Code). c.start) is_code in
     let size_of = ap (λ (c : Code). c.len) is_code in
     let is : IsCode (old ++ k) code (code_of v) = record {
@@ -167,7 +190,7 @@ held_new old new before after ds v k key code place h own bytes f b size is_code
       event_is = ap (λ (c : Code). c.event) is_code;
     } in
     record {
-      held_codes = rw text (codes_new old k before after ds v k key code place h own bytes f b added is size);
+      held_codes = rw text (codes_new old k before after ds v k key code h own bytes f b listed made is size);
       held_at = ap (λ ks. slice_get ks place) (codes-new ds v (h.seen v.code ∙ ap is_some f)) ∙ ap (slice_get (codes_of ds ++ code_of v ∷ [])) at ∙ slice_get-seam (codes_of ds) (code_of v) [];
       more = k;
       grown = text;

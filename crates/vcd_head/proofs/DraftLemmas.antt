@@ -341,11 +341,3 @@ var_entered most d d' ds v r before more h few named text short rows codes at sc
       few = omega (arith, length_push ds x);
       allowed = h.allowed;
     }
-
--- a variable
-pub var_declared : (most : ℕ) (d d' : Draft) (ds : List Declaration) (v : Variable) (r : Row) (more : List ℕ) → Declares most d ds → length ds < most → v.reference ≢ []
-    → d'.text.items ≡ d.text.items ++ (v.type ++ (join_with_byte 32 v.reference ++ more)) → length more ≤ length v.code → d'.rows.items ≡ d.rows.items ++ r ∷ [] → HasCodes d'.text.items d'.codes (ds ++ Declaration.Var v ∷ [])
-    → slice_get (codes_of (ds ++ Declaration.Var v ∷ [])) r.code ≡ Some (code_of v) → d'.scopes.items ≡ d.scopes.items → r.kind ≡ kind.Var → r.parent ≡ unwrap_or (slice_get d.scopes.items (length d.scopes.items - 1)) 0 → r.start ≡ length d.text.items → r.word ≡ length v.type
-    → r.all ≡ length (join_with_byte 32 v.reference) → r.name ≡ length (first_token v.reference) → Declares most d' (ds ++ Declaration.Var v ∷ [])
-var_declared most d d' ds v r more h few named text short rows codes at scopes kind parent start word all name =
-    var_entered most d d' ds v r [] more h few named text (omega (arith, short)) rows codes at scopes kind parent (start ∙ sym (ap length (append-nil d.text.items))) word all name

@@ -1,9 +1,9 @@
 -- A draft carries one phrase more.
-use Rattle.std.proofs.Common.{◌≡◌, ℕ, ◌+◌, ◌<◌, ◌≤◌, Bool, true, false, not, cond, MatchOption, arith, List, [], ◌∷◌, ◌++◌, length, Option, Some, None, refl, sym, subst}
+use Rattle.std.proofs.Common.{◌≡◌, ℕ, ◌+◌, ◌<◌, ◌≤◌, Bool, true, false, not, cond, MatchResult, arith, List, [], ◌∷◌, ◌++◌, length, Option, Some, None, unwrap_or, Result, Ok, Err, is_err, refl, sym, ap, subst, ◌∙◌}
+use Rattle.std.specs.Prelude.{option_to_list}
 use Rattle.std.proofs.lemmas.List.{map-append}
-use Rattle.std.proofs.lemmas.Bool.{lt-ltb, le-ltb}
+use Rattle.std.proofs.lemmas.Bool.{lt-ltb, le-ltb, ltb-true}
 use Rattle.vcd_model.specs.Input.{Input}
-use Rattle.vcd_model.specs.Keywords.{Keyword}
 use Rattle.vcd_model.specs.Checks.{first_failed}
 use Rattle.vcd_model.specs.HeaderChecks.{start_checks}
 use Rattle.vcd_model.specs.HeaderPhrases.{HeaderPhrase, declarations_of}
@@ -12,7 +12,11 @@ use Rattle.vcd_text.specs.declared.device.Source.{Ghosts}
 use Rattle.vcd_text.specs.declared.feed.Feed.{Feed}
 use Rattle.vcd_head.specs.declared.draft.Draft.{Draft}
 use Rattle.vcd_head.specs.Reads.{Reads}
+use Rattle.vcd_head.specs.Declares.{IsBarred, MayStart, keyword_for}
 use Rattle.vcd_head.specs.Draft.{IsDraftOf, DraftsUpTo}
+use Rattle.vcd_head.specs.declared.fault.HeadFault.TheVariants.{TooDeep, NoScope}
+use Rattle.vcd_view.specs.declared.view.Kind.{Kind}
+use Rattle.vcd_view.specs.declared.view.Kind.TheVariants as kind
 use Rattle.vcd_view.proofs.RowLemmas.{rows_len}
 use Rattle.vcd_head.proofs.DraftLemmas.{open_is}
 use Rattle.vcd_head.proofs.TokenSteps.{append_not_nil}
@@ -25,36 +29,56 @@ carried most i d f placed p r h = record { placed = placed ++ p ∷ []; reads = 
 rows_are : (most : ℕ) (d : Draft) (ps : List HeaderPhrase) → IsDraftOf most d ps → length d.rows.items ≡ length (declarations_of ps)
 rows_are most d ps h = rows_len d.text.items _ [] d.rows.items (declarations_of ps) h.declares.rows
 
-pub few_enough : (most : ℕ) (d : Draft) (ps : List HeaderPhrase) → IsDraftOf most d ps → length d.rows.items < most → length (declarations_of ps) < most
-few_enough most d ps h n = subst (λ k. k < most) (rows_are most d ps h) n
+pub too_many : (most : ℕ) (d : Draft) (ps : List HeaderPhrase) (k : Kind) → IsDraftOf most d ps → most ≤ length d.rows.items → first_failed (start_checks most (declarations_of ps) (keyword_for k)) ≡ Some 11
+too_many most d ps kind.Scope h n = rw (sym (rows_are most d ps h), le-ltb (length d.rows.items) most n) refl
+too_many most d ps kind.Up h n = rw (sym (rows_are most d ps h), le-ltb (length d.rows.items) most n) refl
+too_many most d ps kind.Var h n = rw (sym (rows_are most d ps h), le-ltb (length d.rows.items) most n) refl
 
-pub scope_checks_pass : (most : ℕ) (d : Draft) (ps : List HeaderPhrase) → IsDraftOf most d ps → length d.rows.items < most → length d.scopes.items < 1000 → first_failed (start_checks most (declarations_of ps) Keyword.Scope) ≡ None
-scope_checks_pass most d ps h n k = rw (sym (rows_are most d ps h), lt-ltb (length d.rows.items) most n, sym (open_is most d (declarations_of ps) h.declares), lt-ltb (length d.scopes.items) 1000 k) refl
+module _ (most : ℕ) (d : Draft) (ps : List HeaderPhrase) (h : IsDraftOf most d ps) (n : length d.rows.items < most) where
+  pub scope_may : length d.scopes.items < 1000 → MayStart most ps kind.Scope
+  scope_may k = rw (sym (rows_are most d ps h), lt-ltb (length d.rows.items) most n, sym (open_is most d (declarations_of ps) h.declares), lt-ltb (length d.scopes.items) 1000 k) refl
 
-pub too_many_scope : (most : ℕ) (d : Draft) (ps : List HeaderPhrase) → IsDraftOf most d ps → most ≤ length d.rows.items → first_failed (start_checks most (declarations_of ps) Keyword.Scope) ≡ Some 11
-too_many_scope most d ps h n = rw (sym (rows_are most d ps h), le-ltb (length d.rows.items) most n) refl
+  pub too_deep : 1000 ≤ length d.scopes.items → IsBarred most ps kind.Scope TooDeep
+  too_deep k = rw (sym (rows_are most d ps h), lt-ltb (length d.rows.items) most n, sym (open_is most d (declarations_of ps) h.declares), le-ltb (length d.scopes.items) 1000 k) refl
 
-pub too_many_up : (most : ℕ) (d : Draft) (ps : List HeaderPhrase) → IsDraftOf most d ps → most ≤ length d.rows.items → first_failed (start_checks most (declarations_of ps) Keyword.Upscope) ≡ Some 11
-too_many_up most d ps h n = rw (sym (rows_are most d ps h), le-ltb (length d.rows.items) most n) refl
+  pub up_may : 0 < length d.scopes.items → MayStart most ps kind.Up
+  up_may k = rw (sym (rows_are most d ps h), lt-ltb (length d.rows.items) most n, sym (open_is most d (declarations_of ps) h.declares), lt-ltb 0 (length d.scopes.items) k) refl
 
-pub too_many_var : (most : ℕ) (d : Draft) (ps : List HeaderPhrase) → IsDraftOf most d ps → most ≤ length d.rows.items → first_failed (start_checks most (declarations_of ps) Keyword.Var) ≡ Some 11
-too_many_var most d ps h n = rw (sym (rows_are most d ps h), le-ltb (length d.rows.items) most n) refl
+  pub no_scope : length d.scopes.items ≤ 0 → IsBarred most ps kind.Up NoScope
+  no_scope k = rw (sym (rows_are most d ps h), lt-ltb (length d.rows.items) most n, sym (open_is most d (declarations_of ps) h.declares), le-ltb 0 (length d.scopes.items) k) refl
 
-pub too_deep : (most : ℕ) (d : Draft) (ps : List HeaderPhrase) → IsDraftOf most d ps → length d.rows.items < most → 1000 ≤ length d.scopes.items → first_failed (start_checks most (declarations_of ps) Keyword.Scope) ≡ Some 10
-too_deep most d ps h n k = rw (sym (rows_are most d ps h), lt-ltb (length d.rows.items) most n, sym (open_is most d (declarations_of ps) h.declares), le-ltb (length d.scopes.items) 1000 k) refl
+  pub var_may : MayStart most ps kind.Var
+  var_may = rw (sym (rows_are most d ps h), lt-ltb (length d.rows.items) most n) refl
 
-pub up_checks_pass : (most : ℕ) (d : Draft) (ps : List HeaderPhrase) → IsDraftOf most d ps → length d.rows.items < most → 0 < length d.scopes.items → first_failed (start_checks most (declarations_of ps) Keyword.Upscope) ≡ None
-up_checks_pass most d ps h n k = rw (sym (rows_are most d ps h), lt-ltb (length d.rows.items) most n, sym (open_is most d (declarations_of ps) h.declares), lt-ltb 0 (length d.scopes.items) k) refl
+-- ---- what may stand
 
-pub no_scope : (most : ℕ) (d : Draft) (ps : List HeaderPhrase) → IsDraftOf most d ps → length d.rows.items < most → length d.scopes.items ≤ 0 → first_failed (start_checks most (declarations_of ps) Keyword.Upscope) ≡ Some 9
-no_scope most d ps h n k = rw (sym (rows_are most d ps h), lt-ltb (length d.rows.items) most n, sym (open_is most d (declarations_of ps) h.declares), le-ltb 0 (length d.scopes.items) k) refl
+first_passes : (b : Bool) (o : Option ℕ) (n : ℕ) → cond b o (Some n) ≡ None → b ≡ true
+first_passes true o n e = refl
+first_passes false o n e = cc
 
-pub var_checks_pass : (most : ℕ) (d : Draft) (ps : List HeaderPhrase) → IsDraftOf most d ps → length d.rows.items < most → first_failed (start_checks most (declarations_of ps) Keyword.Var) ≡ None
-var_checks_pass most d ps h n = rw (sym (rows_are most d ps h), lt-ltb (length d.rows.items) most n) refl
+second_passes : (a b : Bool) (n m : ℕ) → cond a (cond b None (Some m)) (Some n) ≡ None → b ≡ true
+second_passes true true n m e = refl
+second_passes true false n m e = cc
+second_passes false b n m e = cc
 
-pub none_popped : (n m : ℕ) (r : Option ℕ) → ((x : ℕ) → r ≡ Some x → ⊥) → MatchOption r ((n ≡ 0) × (m ≡ 0)) (λ x. m + 1 ≡ n) → n ≤ 0
-none_popped n m None never h = let z = h.0 in omega arith
-none_popped n m (Some x) never h = absurd (never x refl)
+-- there is room for one more
+pub room : (most : ℕ) (ps : List HeaderPhrase) (k : Kind) → MayStart most ps k → length (declarations_of ps) < most
+room most ps kind.Scope e = ltb-true _ _ (first_passes _ _ _ e)
+room most ps kind.Up e = ltb-true _ _ (first_passes _ _ _ e)
+room most ps kind.Var e = ltb-true _ _ (first_passes _ _ _ e)
+
+-- a scope is open
+pub some_open : (most : ℕ) (d : Draft) (ps : List HeaderPhrase) → IsDraftOf most d ps → MayStart most ps kind.Up → 0 < length d.scopes.items
+some_open most d ps h e = subst (λ n. 0 < n) (sym (open_is most d (declarations_of ps) h.declares)) (ltb-true _ _ (second_passes _ _ _ _ e))
+
+-- the innermost is closed
+pub popped : (old new : List ℕ) (r : Option ℕ) (closed x : ℕ) → old ≡ new ++ option_to_list r → closed ≡ unwrap_or r 0 → r ≡ Some x → old ≡ new ++ closed ∷ []
+popped old new r closed x items e is = items ∙ ap (λ o. new ++ option_to_list o) is ∙ ap (λ y. new ++ y ∷ []) (sym (e ∙ ap (λ o. unwrap_or o 0) is))
+
+-- a check that has passed
+pub passed_check : {E : Type 0} {U : Type 0} (r : Result U E) (A : U → Type 0) (B : E → Type 0) → is_err r ≡ false → MatchResult r A B → (u : U) × A u
+passed_check (Ok u) A B e m = (u, m)
+passed_check (Err x) A B e m = cc
 
 -- a test that fails gives the fault
 pub failed_test : (b : Bool) (n : ℕ) → b ≡ false → cond b None (Some n) ≡ Some n

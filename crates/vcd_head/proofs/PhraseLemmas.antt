@@ -12,7 +12,11 @@ use Rattle.vcd_model.specs.Reading.{Placed, phrases_of}
 use Rattle.vcd_text.specs.Feed.{token_of}
 use Rattle.vcd_text.specs.declared.device.Source.{Ghosts}
 use Rattle.vcd_text.specs.declared.feed.Feed.{Feed}
-use Rattle.vcd_head.specs.Reads.{Reads, ReadsToken, ReadsWhole, FailsAtToken}
+use Rattle.vcd_head.specs.Declares.{IsBarred, keyword_for}
+use Rattle.vcd_head.specs.Reads.{Reads, ReadsToken, ReadsWhole, Fails, FailsAtToken}
+use Rattle.vcd_head.specs.declared.fault.HeadFault.{HeadFault}
+use Rattle.vcd_head.specs.declared.fault.HeadFault.TheVariants.{TokenTooLong, EndOfInput, UnknownCommand, OutOfPlace, BadTimescale, BadScope, BadVariable, CodeDiffers, NoScope, TooDeep, TooMany, InputTooLong, ReadFailed, OutOfMemory}
+use Rattle.vcd_view.specs.declared.view.Kind.{Kind}
 use Rattle.vcd_view.specs.Keywords.{NoEnds}
 use Rattle.vcd_head.specs.Texts.{RunsOn, Welcomes}
 use Rattle.vcd_view.proofs.KeywordLemmas.{keyword_at, until, not_until}
@@ -115,3 +119,20 @@ pub var_whole : (type digits code first : List ℕ) (inner : List (List ℕ)) (t
 var_whole type digits code first inner t n none e d =
     ap (λ o. option_map HeaderPhrase.Declares (option_and_then (variable_with type digits code) o)) (until (first ∷ inner) t (n, none) e)
     ∙ ap (λ b. option_map HeaderPhrase.Declares (cond b (Some (Declaration.Var (record { type = type; size = decimal_value digits; code = code; reference = first ∷ inner }))) None)) d
+
+-- a declaration that may not stand here
+pub barred : {X : Type 0} {g : Ghosts X} (most : ℕ) (i : Input) (placed : List (Placed HeaderPhrase)) (k : Kind) (f : Feed X g) (fault : HeadFault) → (token_of f).bytes ≡ keyword_text (keyword_for k) → IsBarred most (phrases_of placed) k fault → ReadsToken most i placed [] f → Fails most i fault f
+barred most i placed k f TooMany e b l = not_begun most i placed (keyword_for k) f 11 e b l
+barred most i placed k f TooDeep e b l = not_begun most i placed (keyword_for k) f 10 e b l
+barred most i placed k f NoScope e b l = not_begun most i placed (keyword_for k) f 9 e b l
+barred most i placed k f TokenTooLong e b l = absurd b
+barred most i placed k f EndOfInput e b l = absurd b
+barred most i placed k f UnknownCommand e b l = absurd b
+barred most i placed k f OutOfPlace e b l = absurd b
+barred most i placed k f BadTimescale e b l = absurd b
+barred most i placed k f BadScope e b l = absurd b
+barred most i placed k f BadVariable e b l = absurd b
+barred most i placed k f CodeDiffers e b l = absurd b
+barred most i placed k f InputTooLong e b l = absurd b
+barred most i placed k f ReadFailed e b l = absurd b
+barred most i placed k f OutOfMemory e b l = absurd b

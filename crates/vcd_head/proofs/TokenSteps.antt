@@ -1,5 +1,6 @@
 -- One token on in the reading of a header.
 use Rattle.std.proofs.Common.{◌≡◌, ◌≢◌, ℕ, true, false, List, [], ◌∷◌, ◌++◌, length, Option, Some, None, unwrap_or, refl, sym, ap, subst, ◌∙◌}
+use Rattle.std.specs.Global.{Vec}
 use Rattle.std.proofs.lemmas.List.{append_assoc}
 use Rattle.vcd_model.specs.Input.{Input}
 use Rattle.vcd_model.specs.Laws.{IsPrefixOf}
@@ -10,13 +11,14 @@ use Rattle.vcd_model.specs.HeaderReading.{header_grammar, read_header, header_fa
 use Rattle.vcd_model.specs.Reading.{Placed, Reading, phrases_of, reading_of}
 use Rattle.vcd_model.specs.SoFar.{IsSoFar}
 use Rattle.vcd_model.proofs.SoFarLemmas.{so_far-nothing, so_far-token, so_far-phrase, whole-phrase, faulty-token, without-last, earlier-so_far}
+use Rattle.vcd_text.specs.Advances.{Advances, CallEnd}
 use Rattle.vcd_text.specs.Answer.{Ends}
 use Rattle.vcd_text.specs.Feed.{HasGiven, token_of, limit_of}
 use Rattle.vcd_text.proofs.ShownLemmas.{read_to_shown}
 use Rattle.vcd_text.specs.declared.device.Source.{Ghosts}
 use Rattle.vcd_text.specs.declared.feed.Feed.{Feed}
 use Rattle.vcd_head.specs.Reads.{Reads, ReadsToken, ReadsWhole, IsFaultless, HasFault, FailsAtEnd, FailsAtToken, IsGoodSoFar}
-use Rattle.vcd_head.specs.Texts.{Welcomes, WordRead, WordTaken}
+use Rattle.vcd_head.specs.Texts.{Welcomes, WordRead}
 use Rattle.vcd_model.specs.Keywords.{is_end}
 
 -- a token is missing: the input's stream has no more
@@ -100,16 +102,17 @@ pub welcomed : {X : Type 0} {g : Ghosts X} (most : ℕ) (i : Input) (placed : Li
     → Reads most i placed (before ++ (token_of f).bytes ∷ []) f
 welcomed most i placed before f w e l = let step = w (token_of f).bytes e in taken most i placed before f step.0 step.1 l
 
-module _ {X : Type 0} {g : Ghosts X} (most : ℕ) (i : Input) (placed : List (Placed HeaderPhrase)) (before : List (List ℕ)) (f : Feed X g) (o : Option ℕ) where
-  pub word_some : (n : ℕ) → o ≡ Some n → WordRead most i placed before f o → Reads most i placed (before ++ (token_of f).bytes ∷ []) f × (is_end (token_of f).bytes ≡ false)
-  word_some n e w = subst (WordRead most i placed before f) e w
+module _ {X : Type 0} {g : Ghosts X} (most : ℕ) (i : Input) (placed : List (Placed HeaderPhrase)) (before : List (List ℕ)) (f : Feed X g) (o : Option (Vec ℕ)) where
+  pub word_some : (word : Vec ℕ) → o ≡ Some word → WordRead most i placed before f o → Reads most i placed (before ++ word.items ∷ []) f × (is_end word.items ≡ false)
+  word_some word e w = subst (WordRead most i placed before f) e w
 
-  pub word_none : ((n : ℕ) → o ≡ Some n → ⊥) → WordRead most i placed before f o → ReadsToken most i placed before f × (is_end (token_of f).bytes ≡ true)
+  pub word_none : ((word : Vec ℕ) → o ≡ Some word → ⊥) → WordRead most i placed before f o → ReadsToken most i placed before f × (is_end (token_of f).bytes ≡ true)
   word_none e w = by_cases o e w
     where
-      by_cases : (x : Option ℕ) → ((n : ℕ) → x ≡ Some n → ⊥) → WordRead most i placed before f x → ReadsToken most i placed before f × (is_end (token_of f).bytes ≡ true)
+      by_cases : (x : Option (Vec ℕ)) → ((word : Vec ℕ) → x ≡ Some word → ⊥) → WordRead most i placed before f x → ReadsToken most i placed before f × (is_end (token_of f).bytes ≡ true)
       by_cases None e w = w
-      by_cases (Some n) e w = absurd (e n refl)
+      by_cases (Some word) e w = absurd (e word refl)
 
-pub text_taken : (old new word : List ℕ) (o : Option ℕ) (n : ℕ) → o ≡ Some n → WordTaken old new word o → (new ≡ old ++ word) × (n ≡ length word)
-text_taken old new word o n e w = subst (WordTaken old new word) e w
+-- a call that ends before a token is read
+pub stays : {X : Type 0} {g : Ghosts X} (failures : X → ℕ) (f : Feed X g) (e : CallEnd) → e ≡ CallEnd.Ends → Advances failures f f e
+stays failures f e is = rw is (record { loans = record { source = refl; chunk = refl; token = refl; value = refl }; limit = refl; chunk = refl; on = λ q. cc; goes = λ q o. cc; failed = λ q o. cc; same = λ q. refl })

@@ -1,14 +1,17 @@
 -- Variables and scopes whose phrases lie ahead.
-use Rattle.std.specs.Prelude.{◌≡◌, ℕ, true, false, List, [], ◌∷◌, ◌++◌, length, map, Some}
+use Rattle.std.specs.Prelude.{◌≡◌, ℕ, Bool, true, false, MatchBool, List, [], ◌∷◌, ◌++◌, length, map, Option, Some, IfSome}
 use Rattle.std.specs.List.{join_with_byte, list_all}
 use Rattle.vcd_model.specs.Bytes.{is_code_byte}
 use Rattle.vcd_model.specs.Keywords.{Keyword, keyword_text, is_end}
 use Rattle.vcd_model.specs.Tokens.{Token}
-use Rattle.vcd_text.specs.Ahead.{bytes_of, longest_of}
+use Rattle.vcd_text.specs.Ahead.{bytes_of, longest_of, passed_of}
+use Rattle.vcd_text.specs.Passed.{Passed}
 use Rattle.vcd_text.specs.declared.ahead.Ahead.{Ahead}
-use Rattle.vcd_head.specs.declared.ahead.AheadReference.{AheadReference}
-use Rattle.vcd_head.specs.declared.ahead.AheadVariable.{AheadVariable}
-use Rattle.vcd_head.specs.declared.ahead_scopes.AheadScope.{AheadScope}
+use Rattle.vcd_head.specs.declared.declarations.Reference.{Reference}
+use Rattle.vcd_head.specs.declared.declarations.ScopePhrase.{ScopePhrase}
+use Rattle.vcd_head.specs.declared.declarations.VariablePhrase.{VariablePhrase}
+use Rattle.vcd_head.specs.declared.draft.Draft.{Draft}
+use Rattle.vcd_head.specs.Draft.{DraftsOn}
 use Rattle.vcd_view.specs.Keywords.{NoEnds}
 use Rattle.vcd_head.specs.Words.{size_in}
 
@@ -16,12 +19,25 @@ use Rattle.vcd_head.specs.Words.{size_in}
 abbrev pub LooksOver : ℕ → List ℕ → Ahead → Type 0
 LooksOver limit bytes a = (longest_of a ≡ limit) × (bytes_of a ≡ bytes)
 
+-- over the same bytes, for the same tokens
+abbrev pub LooksOn : Ahead → Ahead → Type 0
+LooksOn old new = (bytes_of new ≡ bytes_of old) × (longest_of new ≡ longest_of old)
+
+-- this token was passed
+abbrev pub GivesToken : Ahead → Ahead → List ℕ → Type 0
+GivesToken old new token = (limit lines : ℕ) (bytes : List ℕ) (ts : List Token) → LooksOver limit bytes old → Passed limit lines bytes (passed_of old) ts → (line : ℕ) × Passed limit lines bytes (passed_of new) (ts ++ (record { bytes = token; line = line }) ∷ [])
+
+-- what lies whole ahead is given, and its tokens were passed
+abbrev pub Gives : {A : Type 0} → (List Token → A → Type 0) → Ahead → Ahead → Option A → Type 0
+Gives Is old new o = IfSome o (λ x. (limit lines : ℕ) (bytes : List ℕ) (ts : List Token) → LooksOver limit bytes old → Passed limit lines bytes (passed_of old) ts
+    → (more : List Token) × Is more x × Passed limit lines bytes (passed_of new) (ts ++ more))
+
 -- the bytes of these tokens
 abbrev pub texts_of : List Token → List (List ℕ)
 texts_of ts = map (λ (t : Token). t.bytes) ts
 
 -- the tokens are this reference, and then the first `$end`
-pub record IsReference (ts : List Token) (r : AheadReference) : Type 0 where
+pub record IsReference (ts : List Token) (r : Reference) : Type 0 where
   pub name : Token
   pub inner : List Token
   pub end : Token
@@ -33,7 +49,7 @@ pub record IsReference (ts : List Token) (r : AheadReference) : Type 0 where
   pub text_is : r.text.now ≡ join_with_byte 32 (name.bytes ∷ texts_of inner)
 
 -- the tokens are the phrase of this variable
-pub record IsVariable (ts : List Token) (v : AheadVariable) : Type 0 where
+pub record IsVariable (ts : List Token) (v : VariablePhrase) : Type 0 where
   pub begin_line : ℕ
   pub type_line : ℕ
   pub digits : Token
@@ -46,7 +62,7 @@ pub record IsVariable (ts : List Token) (v : AheadVariable) : Type 0 where
   pub reference : IsReference rest v.reference
 
 -- the tokens are the phrase of this scope
-pub record IsScope (ts : List Token) (s : AheadScope) : Type 0 where
+pub record IsScope (ts : List Token) (s : ScopePhrase) : Type 0 where
   pub begin_line : ℕ
   pub type_line : ℕ
   pub name_line : ℕ
@@ -62,3 +78,8 @@ pub record IsUpscope (ts : List Token) : Type 0 where
   pub end : Token
   pub are : ts ≡ record { bytes = keyword_text Keyword.Upscope; line = begin_line } ∷ end ∷ []
   pub ends : is_end end.bytes ≡ true
+
+-- the draft holds the phrases of the tokens given, and where the phrase that lies ahead was taken
+-- that one too
+abbrev pub TakenOn : ℕ → (given more : List Token) → Draft → Bool → Type 0
+TakenOn most given more d taken = MatchBool taken (DraftsOn most (given ++ more) d) (DraftsOn most given d)

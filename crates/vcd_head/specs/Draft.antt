@@ -2,6 +2,7 @@
 use Rattle.std.specs.Prelude.{◌≡◌, ◌≢◌, ℕ, suc, ◌+◌, ◌≤◌, List, [], ◌∷◌, ◌++◌, length, map, reverse, find, filter_map, count_by, sum_by, bytes_eq, Some, None, is_some, option_map, unwrap_or, slice_get, Bool, true, false, Option, IfSome}
 use Rattle.std.specs.List.{AllByRecursion, list_any, last_or}
 use Rattle.vcd_model.specs.Declarations.{Declaration, Variable, IdCode, code_of, codes_of, variables_of, has_text, is_scope, is_up, enclosing}
+use Rattle.vcd_model.specs.HeaderChecks.{agrees}
 use Rattle.vcd_model.specs.HeaderPhrases.{HeaderPhrase, declarations_of, date_of, version_of, timescale_of}
 use Rattle.vcd_model.specs.Bound.{kept_bytes}
 use Rattle.vcd_view.specs.declared.view.Scale.{Scale}
@@ -10,8 +11,6 @@ use Rattle.vcd_view.specs.Views.{AreHeld, IsExponent, IsSize, AreRows}
 use Rattle.vcd_head.specs.Codes.{HasNone}
 use Rattle.vcd_head.specs.Keys.{AreKeysOf}
 use Rattle.vcd_head.specs.declared.draft.Draft.{Draft}
-use Rattle.vcd_head.specs.declared.draft.Found.{Found}
-use Rattle.vcd_head.specs.declared.draft.Found.TheVariants as found
 use Rattle.vcd_model.specs.Input.{Input}
 use Rattle.vcd_model.specs.Keywords.{Keyword, keyword_of, keyword_text}
 use Rattle.vcd_model.specs.Reading.{Placed, phrases_of}
@@ -33,12 +32,6 @@ pub record HasCodes (text : List ℕ) (c : Codes) (ds : List Declaration) : Type
   pub known : AllByRecursion (λ u. find (has_text u.code) (codes_of ds) ≡ Some (code_of u)) (variables_of ds)
   pub seen : (t : List ℕ) → list_any (λ u. bytes_eq u.code t) (variables_of ds) ≡ is_some (find (has_text t) (codes_of ds))
   pub sizes : AllByRecursion (λ (c : IdCode). IsSize c.size) (codes_of ds)
-
--- the code of a variable after these declarations was found among theirs, or is new and has these
--- bytes
-abbrev pub IsFound : List Declaration → Variable → List ℕ → Found → Type 0
-IsFound ds v bytes (found.Declared place) = (slice_get (codes_of ds) place ≡ Some (code_of v)) × (find (has_text v.code) (codes_of ds) ≡ Some (code_of v))
-IsFound ds v bytes found.New = (bytes ≡ v.code) × (find (has_text v.code) (codes_of ds) ≡ None)
 
 -- the draft holds these declarations, of which `most` are allowed
 pub record Declares (most : ℕ) (d : Draft) (ds : List Declaration) : Type 0 where
@@ -65,6 +58,12 @@ pub record CodeHeld (old new : List ℕ) (codes : Codes) (ds : List Declaration)
   pub more : List ℕ
   pub grown : new ≡ old ++ more
   pub short : length more ≤ length v.code
+
+-- the code of a variable is held at the place given; none is given where it does not agree with
+-- those of other variables, and the text is then the same
+abbrev pub IsEntered : (old new : List ℕ) → Codes → List Declaration → Variable → Option ℕ → Type 0
+IsEntered old new codes ds v (Some place) = (agrees ds v ≡ true) × CodeHeld old new codes ds v place
+IsEntered old new codes ds v None = (agrees ds v ≡ false) × (new ≡ old) × HasCodes new codes ds
 
 -- nothing was read yet
 pub record IsNew (d : Draft) : Type 0 where

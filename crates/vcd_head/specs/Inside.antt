@@ -1,14 +1,18 @@
 -- What is left of names inside a scope.
 use Rattle.std.specs.Prelude.{◌≡◌, ℕ, zero, suc, Bool, true, false, ◌&&◌, get_or, List, [], ◌∷◌, ◌++◌, drop, take, reverse, slice_get, Some}
-use Rattle.vcd_model.specs.Declarations.{Declaration, enclosing}
+use Rattle.vcd_model.specs.Declarations.{Declaration, enclosing, path_of}
 use Rattle.vcd_model.specs.Header.{Header}
-use Rattle.vcd_model.specs.Selection.{selects_path}
+use Rattle.vcd_model.specs.Selection.{is_variable, selects_path}
+use Rattle.vcd_view.specs.Views.{IsViewOf}
+use Rattle.vcd_view.specs.declared.view.HeadView.{HeadView}
 use Rattle.vcd_head.specs.declared.inside.Left.{Left}
 use Rattle.vcd_head.specs.declared.inside.Left.TheVariants.{Rest, Selected, Differs}
 use Rattle.vcd_head.specs.declared.inside.Inside.{Inside}
 use Rattle.vcd_head.specs.declared.inside.Open.{Open}
+use Rattle.vcd_head.specs.Matched.{Matches}
 use Rattle.vcd_head.specs.Paths.{names_text}
 use Rattle.vcd_head.specs.Sieves.{IsSieve}
+use Rattle.vcd_head.specs.declared.sieve.Sieve.{Sieve}
 
 -- the name of which this is left selects a path that goes on with this text
 abbrev pub left_selects : Left → List ℕ → List ℕ → Bool
@@ -52,3 +56,15 @@ AreHeld h names held = (k : ℕ) (s : Inside) → slice_get held k ≡ Some s �
 pub record AreOpen (h : Header) (names : List (List ℕ)) (o : Open) : Type 0 where
   pub held : AreHeld h names o.inside
   pub flags : IsSieve names (front h.declarations) o.sieve
+
+-- over the rows of this view what is held stays right
+abbrev pub KeepsOpen : HeadView → List (List ℕ) → Open → Open → Type 0
+KeepsOpen view names old new = (h : Header) → IsViewOf view h → AreOpen h names old → AreOpen h names new
+
+-- at a variable's row the names that select it are flagged, and this is whether some do
+abbrev pub MatchesRow : HeadView → ℕ → List (List ℕ) → Open → (old new : List Bool) → Bool → Type 0
+MatchesRow view row names open_scopes old new some = (h : Header) (d : Declaration) → IsViewOf view h → slice_get h.declarations row ≡ Some d → is_variable d ≡ true → AreOpen h names open_scopes → Matches (selects_path (path_of (take row h.declarations) d)) names old new some
+
+-- the flags stay right where this is left of the names inside the scope
+abbrev pub KeepsSieve : List (List ℕ) → ℕ → Inside → Sieve → Sieve → Type 0
+KeepsSieve names scope inside old new = (fronts : ℕ → List ℕ) → AreLeft names (fronts scope) inside → IsSieve names fronts old → IsSieve names fronts new

@@ -10,6 +10,8 @@ pub mod Keys
 pub mod Codes
 pub mod Fronts
 pub mod Draft
+pub mod Declares
+pub mod Calls
 pub mod Ahead
 pub mod Variables
 pub mod Scaled
@@ -19,6 +21,7 @@ pub mod Sieves
 pub mod Inside
 pub mod Matched
 pub mod Merged
+pub mod Written
 pub mod Rows
 -- the view: what its functions promise, and its types
 pub use Rattle.vcd_view.specs.Finds

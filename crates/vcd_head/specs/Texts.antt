@@ -1,5 +1,6 @@
 -- Phrases that run to the first `$end`.
 use Rattle.std.specs.Prelude.{◌≡◌, ℕ, true, false, List, [], ◌∷◌, ◌++◌, flat_map, length, Option, Some, None}
+use Rattle.std.specs.Global.{Vec}
 use Rattle.vcd_model.specs.Input.{Input}
 use Rattle.vcd_model.specs.Keywords.{is_end}
 use Rattle.vcd_model.specs.HeaderPhrases.{HeaderPhrase, header_phrase}
@@ -39,12 +40,7 @@ pub record EndsThere {X : Type 0} {g : Ghosts X} (most : ℕ) (i : Input) (place
 abbrev pub Welcomes : ℕ → List (Placed HeaderPhrase) → List (List ℕ) → Type 0
 Welcomes most placed before = (t : List ℕ) → is_end t ≡ false → (header_fault most (phrases_of placed) before t ≡ None) × (header_phrase (before ++ t ∷ []) ≡ None)
 
--- `$end` was looked at, or a word read
-abbrev pub WordRead : {X : Type 0} {g : Ghosts X} → ℕ → Input → List (Placed HeaderPhrase) → List (List ℕ) → Feed X g → Option ℕ → Type 0
+-- `$end` was looked at, or this word read
+abbrev pub WordRead : {X : Type 0} {g : Ghosts X} → ℕ → Input → List (Placed HeaderPhrase) → List (List ℕ) → Feed X g → Option (Vec ℕ) → Type 0
 WordRead most i placed before f None = ReadsToken most i placed before f × (is_end (token_of f).bytes ≡ true)
-WordRead most i placed before f (Some n) = Reads most i placed (before ++ (token_of f).bytes ∷ []) f × (is_end (token_of f).bytes ≡ false)
-
--- a text has grown by the word, of n bytes
-abbrev pub WordTaken : List ℕ → List ℕ → List ℕ → Option ℕ → Type 0
-WordTaken old new word None = new ≡ old
-WordTaken old new word (Some n) = (new ≡ old ++ word) × (n ≡ length word)
+WordRead most i placed before f (Some word) = Reads most i placed (before ++ word.items ∷ []) f × (is_end word.items ≡ false)

@@ -1,6 +1,8 @@
 -- How far the phrase of a variable is read.
-use Rattle.std.specs.Prelude.{◌≡◌, ℕ, List, [], ◌∷◌, Some}
+use Rattle.std.specs.Prelude.{◌≡◌, ℕ, true, List, [], ◌∷◌, Some}
+use Rattle.std.specs.Global.{Vec}
 use Rattle.vcd_model.specs.Bytes.{decimal_value}
+use Rattle.vcd_model.specs.HeaderChecks.{agrees}
 use Rattle.vcd_model.specs.Input.{Input}
 use Rattle.vcd_model.specs.Keywords.{Keyword, keyword_text}
 use Rattle.vcd_model.specs.HeaderPhrases.{HeaderPhrase, declarations_of}
@@ -8,9 +10,7 @@ use Rattle.vcd_model.specs.Reading.{Placed, phrases_of}
 use Rattle.vcd_text.specs.Feed.{token_of}
 use Rattle.vcd_text.specs.declared.device.Source.{Ghosts}
 use Rattle.vcd_text.specs.declared.feed.Feed.{Feed}
-use Rattle.vcd_head.specs.declared.draft.Found.{Found}
 use Rattle.vcd_head.specs.Reads.{Reads}
-use Rattle.vcd_head.specs.Draft.{IsFound}
 use Rattle.vcd_head.specs.Words.{size_in}
 
 -- type and size are read, and the size is this
@@ -18,7 +18,7 @@ pub record SizeRead {X : Type 0} {g : Ghosts X} (most : ℕ) (i : Input) (placed
   pub reads : Reads most i placed (keyword_text Keyword.Var ∷ type ∷ (token_of f).bytes ∷ []) f
   pub size_is : size_in (token_of f).bytes ≡ Some size
 
--- type, size and code are read, and the code was found so; its bytes are held where it is new
-pub record CodeRead {X : Type 0} {g : Ghosts X} (most : ℕ) (i : Input) (placed : List (Placed HeaderPhrase)) (type digits held : List ℕ) (f : Feed X g) (found : Found) : Type 0 where
-  pub reads : Reads most i placed (keyword_text Keyword.Var ∷ type ∷ digits ∷ (token_of f).bytes ∷ []) f
-  pub found_is : (reference : List (List ℕ)) → IsFound (declarations_of (phrases_of placed)) (record { type = type; size = decimal_value digits; code = (token_of f).bytes; reference = reference }) held found
+-- type, size and code are read, and the code agrees with those of the variables before
+pub record CodeRead {X : Type 0} {g : Ghosts X} (most : ℕ) (i : Input) (placed : List (Placed HeaderPhrase)) (type digits : List ℕ) (f : Feed X g) (code : Vec ℕ) : Type 0 where
+  pub reads : Reads most i placed (keyword_text Keyword.Var ∷ type ∷ digits ∷ code.items ∷ []) f
+  pub allowed : agrees (declarations_of (phrases_of placed)) (record { type = type; size = decimal_value digits; code = code.items; reference = [] }) ≡ true

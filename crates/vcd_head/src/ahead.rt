@@ -1,68 +1,42 @@
 // Variables and scopes whose phrases lie whole ahead in the chunk: their tokens cost no change of
 // the feed.
-ghost use Rattle.std.specs.Prelude.{◌≡◌, ℕ, ◌+◌, ◌-◌, ◌<◌, ◌≤◌, List, [], ◌∷◌, ◌++◌, true, length, slice_range, IfSome, IfOk, IfErr, MatchBool, MatchResult};
+ghost use Rattle.std.specs.Prelude.{◌≡◌, ℕ, ◌+◌, ◌-◌, ◌<◌, ◌≤◌, List, [], ◌∷◌, ◌++◌, true, length, slice_range, IfSome, IfOk, IfErr, MatchBool};
 ghost use Rattle.vcd_model.specs.Input.{Input};
 ghost use Rattle.vcd_model.specs.Tokens.{Token};
-ghost use Rattle.vcd_text.specs.Advances.{Advances};
-ghost use Rattle.vcd_text.specs.Ahead.{bytes_of, longest_of, passed_of, start_of};
+ghost use Rattle.vcd_text.specs.Ahead.{bytes_of, passed_of, start_of};
 ghost use Rattle.vcd_text.specs.Passed.{Passed};
-ghost use Rattle.vcd_head.specs.Ahead.{IsReference, IsVariable, LooksOver};
+ghost use Rattle.vcd_head.specs.Calls.{MovesOn, OrFails};
+ghost use Rattle.vcd_head.specs.Ahead.{Gives, GivesToken, LooksOn, IsReference, IsScope, IsUpscope, IsVariable, LooksOver, TakenOn};
 ghost use Rattle.vcd_head.specs.Draft.{DraftsBehind, DraftsOn, DraftsUpTo};
-ghost use Rattle.vcd_head.specs.Fault.{call_end};
-ghost use Rattle.vcd_head.specs.Reads.{Fails};
 
-use crate::ahead_scopes::{close_scope, open_scope, scope_ahead, upscope_ahead};
-use crate::code_ahead::enter_code;
+use crate::ahead_scopes::{scope_ahead, upscope_ahead};
+use crate::declarations::{
+    Reference, ScopePhrase, VariablePhrase, check_start, close_scope, declare, open_scope,
+};
 use crate::draft::Draft;
 use crate::fault::HeadFault;
-use crate::rows::{WideRow, push};
-use crate::sought::Sought;
-use crate::words::{is_code, is_end, is_event, is_var, size_of};
-use std::alloc::{AllocError, Global};
+use crate::words::{is_code, is_end, is_var, size_of};
+use std::alloc::Global;
 use vcd_text::{Ahead, Feed, Source};
 use vcd_view::Kind;
 
-// A variable whose phrase lies ahead.
-#[derive(Clone, Copy)]
-pub(crate) struct AheadVariable<'a> {
-    // Its type.
-    pub(crate) word: &'a [u8],
-    pub(crate) size: usize,
-    pub(crate) code: &'a [u8],
-    pub(crate) reference: AheadReference<'a>,
-}
-
-// A reference that lies ahead.
-#[derive(Clone, Copy)]
-pub(crate) struct AheadReference<'a> {
-    // The bytes of its first token.
-    pub(crate) name: usize,
-    // Its tokens, with a space between.
-    pub(crate) text: &'a [u8],
-}
-
-/// The next token, if it lies whole ahead.
+/// Returns the next token, if it lies whole ahead.
 #[inline(always)]
 pub(crate) fn token_ahead<'a>(ahead: &mut Ahead<'a>) -> Option<&'a [u8]>
-    ensures one { IfSome result (λ token. (limit lines : ℕ) (bytes : List ℕ) (ts : List Token)
-        → LooksOver limit bytes ahead.old → Passed limit lines bytes (passed_of ahead.old) ts
-        → (line : ℕ) × Passed limit lines bytes (passed_of ahead.new) (ts ++ (record {
-          bytes = token.now;
-          line = line;
-        }) ∷ [])) }
-    ensures place { IfSome result (λ token. token.now
-        ≡ slice_range (bytes_of ahead.old) (start_of ahead.new token.now) (passed_of ahead.new - 1)) }
-    ensures longer { IfSome result (λ token. passed_of ahead.old + length token.now + 1 ≤ passed_of ahead.new) }
+    ensures one { IfSome result (λ token. GivesToken ahead.old ahead.new token.now) }
+    ensures place { IfSome result (λ token. token.now ≡ slice_range (bytes_of ahead.old)
+        (start_of ahead.new token.now) (passed_of ahead.new - 1)) }
+    ensures longer { IfSome result (λ token.
+        passed_of ahead.old + length token.now + 1 ≤ passed_of ahead.new) }
     ensures further { IfSome result (λ _. passed_of ahead.old < passed_of ahead.new) }
     ensures within { IfSome result (λ _. passed_of ahead.new ≤ length (bytes_of ahead.old)) }
-    ensures same { (bytes_of ahead.new ≡ bytes_of ahead.old)
-        × (longest_of ahead.new ≡ longest_of ahead.old) }
+    ensures same { LooksOn ahead.old ahead.new }
 {
     ahead.next()
 }
 
-/// Two tokens as they stand in these bytes, if there is one space between. One white byte was
-/// passed behind each.
+/// Returns two tokens as they stand in these bytes, if there is one space between. One white byte
+/// was passed behind each.
 #[inline(always)]
 fn joined<'a>(
     bytes: &'a [u8],
@@ -88,19 +62,14 @@ fn joined<'a>(
     Some(&bytes[start..behind - 1])
 }
 
-/// The reference that comes next, with the `$end` behind it, if it has one token, or two with one
-/// space between.
+/// Passes the reference that comes next and the `$end` behind it, and returns it, if it has one
+/// token, or two with one space between.
 #[inline(always)]
-fn reference_ahead<'a>(ahead: &mut Ahead<'a>) -> Option<AheadReference<'a>>
-    ensures gives { IfSome result (λ reference. (limit lines : ℕ) (bytes : List ℕ)
-        (ts : List Token)
-        → LooksOver limit bytes ahead.old → Passed limit lines bytes (passed_of ahead.old) ts
-        → (more : List Token) × IsReference more reference
-        × Passed limit lines bytes (passed_of ahead.new) (ts ++ more)) }
+fn reference_ahead<'a>(ahead: &mut Ahead<'a>) -> Option<Reference<'a>>
+    ensures gives { Gives IsReference ahead.old ahead.new result }
     ensures further { IfSome result (λ _. passed_of ahead.old < passed_of ahead.new) }
     ensures within { IfSome result (λ _. passed_of ahead.new ≤ length (bytes_of ahead.old)) }
-    ensures same { (bytes_of ahead.new ≡ bytes_of ahead.old)
-        × (longest_of ahead.new ≡ longest_of ahead.old) }
+    ensures same { LooksOn ahead.old ahead.new }
 {
     let name = token_ahead(ahead)?;
     if is_end(name) {
@@ -109,7 +78,7 @@ fn reference_ahead<'a>(ahead: &mut Ahead<'a>) -> Option<AheadReference<'a>>
     let behind_name = ahead.passed();
     let range = token_ahead(ahead)?;
     if is_end(range) {
-        return Some(AheadReference {
+        return Some(Reference {
             name: name.len(),
             text: name,
         });
@@ -119,25 +88,20 @@ fn reference_ahead<'a>(ahead: &mut Ahead<'a>) -> Option<AheadReference<'a>>
     if !is_end(end) {
         return None;
     }
-    Some(AheadReference {
+    Some(Reference {
         name: name.len(),
         text,
     })
 }
 
-/// The variable whose phrase comes next, if it lies whole ahead, and its reference has at most two
-/// tokens.
+/// Returns the variable whose phrase comes next, if that lies whole ahead and its reference has at
+/// most two tokens.
 #[inline(always)]
-fn variable_ahead<'a>(ahead: &mut Ahead<'a>) -> Option<AheadVariable<'a>>
-    ensures gives { IfSome result (λ variable. (limit lines : ℕ) (bytes : List ℕ)
-        (ts : List Token)
-        → LooksOver limit bytes ahead.old → Passed limit lines bytes (passed_of ahead.old) ts
-        → (more : List Token) × IsVariable more variable
-        × Passed limit lines bytes (passed_of ahead.new) (ts ++ more)) }
+fn variable_ahead<'a>(ahead: &mut Ahead<'a>) -> Option<VariablePhrase<'a>>
+    ensures gives { Gives IsVariable ahead.old ahead.new result }
     ensures further { IfSome result (λ _. passed_of ahead.old < passed_of ahead.new) }
     ensures within { IfSome result (λ _. passed_of ahead.new ≤ length (bytes_of ahead.old)) }
-    ensures same { (bytes_of ahead.new ≡ bytes_of ahead.old)
-        × (longest_of ahead.new ≡ longest_of ahead.old) }
+    ensures same { LooksOn ahead.old ahead.new }
 {
     let keyword = token_ahead(ahead)?;
     if !is_var(keyword) {
@@ -154,7 +118,7 @@ fn variable_ahead<'a>(ahead: &mut Ahead<'a>) -> Option<AheadVariable<'a>>
         return None;
     }
     let reference = reference_ahead(ahead)?;
-    Some(AheadVariable {
+    Some(VariablePhrase {
         word,
         size,
         code,
@@ -162,63 +126,52 @@ fn variable_ahead<'a>(ahead: &mut Ahead<'a>) -> Option<AheadVariable<'a>>
     })
 }
 
-/// Puts type and reference of a variable to the text.
-#[inline(always)]
-fn put_texts(text: &mut Vec<u8>, variable: AheadVariable<'_>) -> Result<(), AllocError>
-    ensures text { IfOk result (λ _. text.new.items
-        ≡ text.old.items ++ (variable.entry.word.now ++ variable.entry.reference.text.now)) }
-{
-    text.extend_from_slice(variable.word)?;
-    text.extend_from_slice(variable.reference.text)?;
-    Ok(())
-}
-
 /// Declares a variable that lies ahead, and tells whether it may stand there: else `read_variable`
 /// says why not.
-fn declare(
+#[inline(always)]
+fn take_variable(
     alloc: Global,
     most: u64,
     draft: &mut Draft,
-    variable: AheadVariable<'_>,
+    variable: VariablePhrase<'_>,
 ) -> Result<bool, HeadFault>
-    ensures declares { (given more : List Token) → DraftsOn most given draft.old
-        → IsVariable more variable.entry → IfOk result (λ taken.
-        MatchBool taken (DraftsOn most (given ++ more) draft.new)
-        (DraftsOn most given draft.new)) }
+    ensures takes { (given more : List Token) → DraftsOn most given draft.old
+        → IsVariable more variable.entry → IfOk result (TakenOn most given more draft.new) }
     ensures memory { IfErr result (λ fault. fault ≡ HeadFault.OutOfMemory) }
 {
-    if draft.rows.len() as u64 >= most {
+    if check_start(draft, most, Kind::Var).is_err() {
         return Ok(false);
     }
-    let event = is_event(variable.word);
-    let code = Sought::new(alloc, variable.code)?;
-    let Some(place) = enter_code(
-        &mut draft.text,
-        &mut draft.codes,
-        code,
-        variable.size,
-        event,
-    )?
-    else {
+    declare(alloc, draft, variable)
+}
+
+/// Opens a scope that lies ahead, and tells whether it may stand there: else `read_scope` says why
+/// not.
+#[inline(always)]
+fn take_scope(most: u64, draft: &mut Draft, scope: ScopePhrase<'_>) -> Result<bool, HeadFault>
+    ensures takes { (given more : List Token) → DraftsOn most given draft.old
+        → IsScope more scope.entry → IfOk result (TakenOn most given more draft.new) }
+    ensures memory { IfErr result (λ fault. fault ≡ HeadFault.OutOfMemory) }
+{
+    if check_start(draft, most, Kind::Scope).is_err() {
         return Ok(false);
-    };
-    let start = draft.text.len();
-    put_texts(&mut draft.text, variable)?;
-    let word = variable.word.len();
-    let all = variable.reference.text.len();
-    let parent = draft.parent();
-    push(
-        &mut draft.rows,
-        WideRow {
-            kind: Kind::Var,
-            parent,
-            start,
-            word,
-            name: variable.reference.name,
-            all,
-            code: place,
-        },
-    )?;
+    }
+    open_scope(draft, scope)?;
+    Ok(true)
+}
+
+/// Closes a scope by a phrase that lies ahead, and tells whether it may stand there: else
+/// `read_upscope` says why not.
+#[inline(always)]
+fn take_upscope(most: u64, draft: &mut Draft) -> Result<bool, HeadFault>
+    ensures takes { (given more : List Token) → DraftsOn most given draft.old
+        → IsUpscope more → IfOk result (TakenOn most given more draft.new) }
+    ensures memory { IfErr result (λ fault. fault ≡ HeadFault.OutOfMemory) }
+{
+    if check_start(draft, most, Kind::Up).is_err() {
+        return Ok(false);
+    }
+    close_scope(draft)?;
     Ok(true)
 }
 
@@ -244,24 +197,23 @@ fn declare_next(
     ensures further { IfOk result (λ taken. taken ≡ true
         → (passed_of ahead.old < passed_of ahead.new)
         × (passed_of ahead.new ≤ length (bytes_of ahead.old))) }
-    ensures same { (bytes_of ahead.new ≡ bytes_of ahead.old)
-        × (longest_of ahead.new ≡ longest_of ahead.old) }
+    ensures same { LooksOn ahead.old ahead.new }
     ensures memory { IfErr result (λ fault. fault ≡ HeadFault.OutOfMemory) }
 {
     let mut next = *ahead;
     if let Some(variable) = variable_ahead(&mut next) {
         *ahead = next;
-        return declare(alloc, most, draft, variable);
+        return take_variable(alloc, most, draft, variable);
     }
     let mut next = *ahead;
     if let Some(scope) = scope_ahead(&mut next) {
         *ahead = next;
-        return open_scope(most, draft, scope);
+        return take_scope(most, draft, scope);
     }
     let mut next = *ahead;
     if let Some(()) = upscope_ahead(&mut next) {
         *ahead = next;
-        return close_scope(most, draft);
+        return take_upscope(most, draft);
     }
     Ok(false)
 }
@@ -302,9 +254,8 @@ pub(crate) fn read_ahead<S: Source>(
     draft: &mut Draft,
 ) -> Result<(), HeadFault>
     ensures reads { (i : Input) → DraftsUpTo most i draft.old feed.old
-        → MatchResult result (λ _. DraftsBehind most i draft.new feed.new)
-        (λ fault. Fails most i fault feed.new) }
-    ensures advances { Advances S.failures feed.old feed.new (call_end result) }
+        → OrFails most i feed.new (λ _. DraftsBehind most i draft.new feed.new) result }
+    ensures advances { MovesOn S.failures feed.old feed.new result }
 {
     let passed = declare_ahead(alloc, feed.ahead(), most, draft)?;
     feed.pass(passed);

@@ -14,7 +14,7 @@ impl CodeKey {
     ghost use Rattle.std.specs.Prelude.{◌≡◌, bytes_eq, IfOk};
     ghost use Rattle.vcd_head.specs.Keys.{shape_in, shape_of};
 
-    /// The code with these bytes. A short one takes no memory.
+    /// Returns the key of the code with these bytes. A short one takes no memory.
     #[inline(always)]
     pub(crate) fn of(alloc: Global, bytes: &[u8]) -> Result<CodeKey, AllocError>
         ensures { IfOk result (λ key. shape_of key ≡ shape_in bytes.now) }
@@ -26,7 +26,7 @@ impl CodeKey {
         Ok(CodeKey::Long(Vec::from_slice(alloc, bytes)?))
     }
 
-    /// Whether this is the key of the code with these bytes.
+    /// Tells whether this is the key of the code with these bytes.
     pub(crate) fn is_of(&self, bytes: &[u8]) -> bool
         ensures { result ≡ bytes_eq (shape_in bytes.now) (shape_of self.now) }
     {

@@ -1,60 +1,75 @@
 // The place of a variable's code among the distinct codes.
-ghost use Rattle.std.specs.Prelude.{◌≡◌, List, IfOk, IfErr};
+ghost use Rattle.std.specs.Prelude.{◌≡◌, List, [], ◌∷◌, ◌++◌, length, IfOk, IfErr};
 ghost use Rattle.vcd_model.specs.Declarations.{Declaration, Variable, code_of};
 ghost use Rattle.vcd_view.specs.Views.{IsSize};
-ghost use Rattle.vcd_head.specs.Draft.{HasCodes, IsFound, CodeHeld};
+ghost use Rattle.vcd_head.specs.Draft.{HasCodes, IsEntered};
 
-use crate::codes::Codes;
-use crate::draft::Found;
+use crate::codes::{Codes, is_of_kind};
 use crate::fault::HeadFault;
 use crate::rows::token_len;
 use crate::sought::Sought;
-use vcd_view::Code;
+use vcd_view::{Code, code_in};
 
-/// The place of the code of a variable, which is added where it is new, behind the text.
+/// Returns the place of the code of a variable, which is added where it is new, at the end of the
+/// text; none where it was declared with another size or kind.
 #[inline(always)]
-pub(crate) fn place_of(
+pub(crate) fn enter_code(
     text: &mut Vec<u8>,
-    codes: &mut Codes,
-    found: Found,
+    known: &mut Codes,
     sought: Sought<'_>,
     size: usize,
     event: bool,
-) -> Result<usize, HeadFault>
-    ensures codes { (ds : List Declaration) (v : Variable)
-        → HasCodes text.old.items codes.old ds
-        → IsFound ds v sought.entry.bytes.now found → IsSize size → size ≡ (code_of v).size → event ≡ (code_of v).event
-        → IfOk result (CodeHeld text.old.items text.new.items codes.new ds v) }
+) -> Result<Option<usize>, HeadFault>
+    ensures codes { (ds : List Declaration) (v : Variable) → HasCodes text.old.items known.old ds
+        → code_of v ≡ record {
+          text = sought.entry.bytes.now;
+          size = size;
+          event = event;
+        } → IsSize size → IfOk result (IsEntered text.old.items text.new.items known.new ds v) }
     ensures memory { IfErr result (λ fault. fault ≡ HeadFault.OutOfMemory) }
 {
-    match found {
-        Found::Declared(place) => Ok(place),
-        Found::New => add_code(text, codes, sought, size, event),
+    let Ok((place, new)) = known.keys.insert_full(sought.key) else {
+        return Err(HeadFault::OutOfMemory);
+    };
+    if new {
+        add(text, &mut known.list, sought.bytes, size, event)?;
+        return Ok(Some(place));
     }
+    let Some(code) = code_in(&known.list, place) else {
+        return Ok(None);
+    };
+    if !is_of_kind(code, size, event) {
+        return Ok(None);
+    }
+    Ok(Some(place))
 }
 
-// The place of a new code, which is added at the end of the text.
+/// Puts the bytes of a code to the text, and the code to the others.
 #[inline(always)]
-fn add_code(
+fn add(
     text: &mut Vec<u8>,
-    codes: &mut Codes,
-    sought: Sought<'_>,
+    list: &mut Vec<Code>,
+    bytes: &[u8],
     size: usize,
     event: bool,
-) -> Result<usize, HeadFault>
-    ensures codes { (ds : List Declaration) (v : Variable)
-        → HasCodes text.old.items codes.old ds
-        → IsFound ds v sought.entry.bytes.now Found.New → IsSize size → size ≡ (code_of v).size → event ≡ (code_of v).event
-        → IfOk result (CodeHeld text.old.items text.new.items codes.new ds v) }
+) -> Result<(), HeadFault>
+    ensures text { IfOk result (λ _. text.new.items ≡ text.old.items ++ bytes.now) }
+    ensures listed { IfOk result (λ _. list.new.items ≡ list.old.items ++ (record {
+      start = length text.old.items;
+      len = length bytes.now;
+      size = size;
+      event = event;
+    }) ∷ []) }
     ensures memory { IfErr result (λ fault. fault ≡ HeadFault.OutOfMemory) }
 {
-    let len = token_len(sought.bytes.len())?;
-    let code = Code {
-        start: text.len(),
+    let len = token_len(bytes.len())?;
+    let start = text.len();
+    text.extend_from_slice(bytes)?;
+    list.push(Code {
+        start,
         len,
         size,
         event,
-    };
-    text.extend_from_slice(sought.bytes)?;
-    codes.push(sought.key, code)
+    })?;
+    Ok(())
 }

@@ -1,25 +1,19 @@
 // The distinct codes of a header that is read.
-ghost use Rattle.std.specs.Prelude.{◌≡◌, ℕ, List, IfOk, IfErr};
-ghost use Rattle.vcd_model.specs.Declarations.{IdCode};
+ghost use Rattle.std.specs.Prelude.{◌≡◌, ℕ, List};
+ghost use Rattle.vcd_model.specs.Declarations.{Declaration, IdCode, Variable, code_of};
+ghost use Rattle.vcd_model.specs.HeaderChecks.{agrees};
 ghost use Rattle.vcd_view.specs.Finds.{Finds};
 ghost use Rattle.vcd_view.specs.Views.{AreHeld};
 ghost use Rattle.vcd_view.specs.declared.view.Code.{Code};
-ghost use Rattle.vcd_head.specs.Codes.{HasNone, IsAdded, IsKnown};
+ghost use Rattle.vcd_head.specs.Codes.{HasNone, is_of};
+ghost use Rattle.vcd_head.specs.Draft.{HasCodes};
 ghost use Rattle.vcd_head.specs.Keys.{AreKeysOf};
 
 use crate::code_key::CodeKey;
-use crate::fault::HeadFault;
 use crate::sought::Sought;
 use indexmap::IndexSet;
 use std::alloc::Global;
 use vcd_view::{Code, CodeSeed, code_in};
-
-// A code with its place among the distinct codes.
-#[derive(Clone, Copy)]
-pub(crate) struct Coded {
-    pub(crate) place: usize,
-    pub(crate) code: Code,
-}
 
 // The codes in order of first declaration, found by their bytes.
 #[derive(Drop)]
@@ -39,48 +33,49 @@ impl Codes {
         }
     }
 
-    /// The code that is sought.
-    #[inline(always)]
-    pub(crate) fn find(&self, sought: &Sought<'_>) -> Option<Coded>
-        ensures { (text : List ℕ) (cs : List IdCode) → AreHeld text self.now.list.items cs
-            → AreKeysOf self.now.keys.keys cs → IsKnown cs sought.now.bytes.now result }
+    /// Tells whether a variable of this size, an event or none, may have the code with these bytes.
+    pub(crate) fn allow(&self, alloc: Global, bytes: &[u8], size: usize, event: bool) -> bool
+        ensures { (text : List ℕ) (ds : List Declaration) (v : Variable)
+            → HasCodes text self.now ds → code_of v ≡ record {
+              text = bytes.now;
+              size = size;
+              event = event;
+            } → result ≡ agrees ds v }
     {
-        let place = self.keys.get_index_of(&sought.key)?;
-        let code = code_in(&self.list, place)?;
-        Some(Coded { place, code })
+        let Some(place) = self.find(alloc, bytes) else {
+            return true;
+        };
+        match code_in(&self.list, place) {
+            Some(code) => is_of_kind(code, size, event),
+            None => true,
+        }
     }
 
-    /// The code with these bytes. It takes memory for the key of a long one; where that is refused,
-    /// all keys are looked through.
-    pub(crate) fn find_bytes(&self, alloc: Global, bytes: &[u8]) -> Option<Coded>
+    /// Returns the place of the code with these bytes. It takes memory for the key of a long one;
+    /// where that is refused, all keys are looked through.
+    fn find(&self, alloc: Global, bytes: &[u8]) -> Option<usize>
         ensures { (text : List ℕ) (cs : List IdCode) → AreHeld text self.now.list.items cs
-            → AreKeysOf self.now.keys.keys cs → IsKnown cs bytes.now result }
+            → AreKeysOf self.now.keys.keys cs → Finds cs bytes.now result }
     {
         let Ok(sought) = Sought::new(alloc, bytes) else {
-            let place = place_among(self.keys.as_slice(), bytes)?;
-            let code = code_in(&self.list, place)?;
-            return Some(Coded { place, code });
+            return place_among(self.keys.as_slice(), bytes);
         };
-        self.find(&sought)
-    }
-
-    /// Adds a code that is new; gives its place.
-    #[inline(always)]
-    pub(crate) fn push(&mut self, key: CodeKey, code: Code) -> Result<usize, HeadFault>
-        ensures added { IfOk result (IsAdded self.old self.new key code) }
-        ensures memory { IfErr result (λ fault. fault ≡ HeadFault.OutOfMemory) }
-    {
-        let place = self.list.len();
-        match self.keys.insert(key) {
-            Ok(_) => {}
-            Err(_) => return Err(HeadFault::OutOfMemory),
-        }
-        self.list.push(code)?;
-        Ok(place)
+        self.keys.get_index_of(&sought.key)
     }
 }
 
-// The place of the key of the code with these bytes among keys, by a look at each.
+/// Tells whether a code was declared with this size, and as an event or as none.
+#[inline(always)]
+pub(crate) fn is_of_kind(code: Code, size: usize, event: bool) -> bool
+    ensures { result ≡ is_of code size event }
+{
+    if code.size != size {
+        return false;
+    }
+    code.event == event
+}
+
+/// Returns the place of the key of the code with these bytes among keys, by a look at each.
 fn place_among(keys: &[CodeKey], bytes: &[u8]) -> Option<usize>
     ensures { (text : List ℕ) (list : List Code) (cs : List IdCode) → AreHeld text list cs
         → AreKeysOf keys.now cs → Finds cs bytes.now result }

@@ -16,8 +16,6 @@ pub(crate) struct Draft {
     pub(crate) scale: Option<Scale>,
     // 1 plus the row of each open scope, outermost first.
     pub(crate) scopes: Vec<usize>,
-    // The bytes of the code that is read, where it is new.
-    pub(crate) held: Vec<u8>,
 }
 
 impl Draft {
@@ -34,11 +32,10 @@ impl Draft {
             version: Vec::new(alloc),
             scale: None,
             scopes: Vec::new(alloc),
-            held: Vec::new(alloc),
         }
     }
 
-    /// 1 plus the row of the innermost open scope, 0 where none is open.
+    /// Returns 1 plus the row of the innermost open scope, 0 where none is open.
     #[inline(always)]
     pub(crate) fn parent(&self) -> usize
         ensures { result ≡ unwrap_or
@@ -46,13 +43,4 @@ impl Draft {
     {
         self.scopes.last().copied().unwrap_or(0)
     }
-}
-
-// The code of a variable that is read.
-#[derive(Clone, Copy)]
-pub(crate) enum Found {
-    // An earlier variable has it: its place among the distinct codes.
-    Declared(usize),
-    // None has it.
-    New,
 }

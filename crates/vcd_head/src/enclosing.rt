@@ -46,7 +46,8 @@ impl Enclosing {
     #[inline(always)]
     pub(crate) fn innermost(row: usize, most: usize) -> Self
         ensures { (h : Header) → row < length h.declarations
-            → LeavesScopes h row (reverse (take most (enclosing (take row h.declarations)))) result }
+            → LeavesScopes h row
+            (reverse (take most (enclosing (take row h.declarations)))) result }
     {
         Enclosing {
             row,

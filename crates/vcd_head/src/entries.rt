@@ -17,8 +17,8 @@ const EMPTY: Entry = Entry {
     most: 0,
 };
 
-/// The entries of these codes, whose bytes lie in the text: a power of two of them, as many as
-/// three for each code allow.
+/// Returns the entries of these codes, whose bytes lie in the text: a power of two of them, as many
+/// as three for each code allow.
 pub(crate) fn entries_of(
     alloc: Global,
     text: &[u8],
@@ -36,8 +36,8 @@ pub(crate) fn entries_of(
     Ok(entries)
 }
 
-// How many entries so many codes have: the greatest power of two that is at most three times as
-// many.
+/// Returns how many entries so many codes have: the greatest power of two that is at most three
+/// times as many.
 fn count_for(codes: usize) -> usize
     requires { (0 < codes) × (codes < 2 ^ 60) }
     ensures { result ≤ 3 * codes }
@@ -50,7 +50,7 @@ fn count_for(codes: usize) -> usize
     }
 }
 
-// Writes the entry of each code.
+/// Writes the entry of each code.
 fn fill(entries: &mut [Entry], text: &[u8], codes: &[Code], seed: CodeSeed)
     ensures right { are_right text.now codes.now entries.old ≡ true
         → are_right text.now codes.now entries.new ≡ true }
@@ -62,8 +62,8 @@ fn fill(entries: &mut [Entry], text: &[u8], codes: &[Code], seed: CodeSeed)
     }
 }
 
-// Writes the entry of a code with these bytes, which is at this place: to its own or one beside it,
-// if one of them is free, else where its hash leads.
+/// Writes the entry of a code with these bytes, which is at this place: to its own or one beside
+/// it, if one of them is free, else where its hash leads.
 #[inline(always)]
 fn enter(entries: &mut [Entry], place: usize, code: Code, bytes: &[u8], seed: CodeSeed)
     ensures right { (text : List ℕ) (codes : List Code) → slice_get codes place ≡ Some code
@@ -84,7 +84,7 @@ fn enter(entries: &mut [Entry], place: usize, code: Code, bytes: &[u8], seed: Co
     }
 }
 
-// The first free one of a code's own entry and the three beside it.
+/// Returns the first free one of a code's own entry and the three beside it.
 #[inline(always)]
 fn free_near(entries: &[Entry], own: usize) -> Option<usize>
     ensures { IfSome result (λ at. at < length entries.now) }
@@ -97,8 +97,8 @@ fn free_near(entries: &[Entry], own: usize) -> Option<usize>
     None
 }
 
-// Writes an entry to the first free one to which the hash leads; to none where all that are looked
-// at are taken.
+/// Writes an entry to the first free one to which the hash leads; to none where all that are
+/// looked at are taken.
 fn put_hashed(entries: &mut [Entry], hash: u64, entry: Entry)
     ensures right { (text : List ℕ) (codes : List Code) → is_right text codes entry ≡ true
         → are_right text codes entries.old ≡ true → are_right text codes entries.new ≡ true }
@@ -113,7 +113,7 @@ fn put_hashed(entries: &mut [Entry], hash: u64, entry: Entry)
     }
 }
 
-// There is such an entry, and it is that of no code.
+/// Tells whether there is such an entry, and it is that of no code.
 #[inline(always)]
 fn is_free(entries: &[Entry], at: usize) -> bool
     ensures { result ≡ true → at < length entries.now }
@@ -124,8 +124,8 @@ fn is_free(entries: &[Entry], at: usize) -> bool
     }
 }
 
-// The entry of a code with this key, which is at this place; an empty one where 32 bits do not hold
-// the place.
+/// Returns the entry of a code with this key, which is at this place; an empty one where 32 bits
+/// do not hold the place.
 #[inline(always)]
 fn entry_with(place: usize, code: Code, key: u64) -> Entry
     ensures short { (text : List ℕ) (codes : List Code) → slice_get codes place ≡ Some code
@@ -143,7 +143,7 @@ fn entry_with(place: usize, code: Code, key: u64) -> Entry
     }
 }
 
-// Writes one entry, if there are so many.
+/// Writes one entry, if there are so many.
 #[inline(always)]
 fn put(entries: &mut [Entry], at: usize, entry: Entry)
     ensures { entries.new ≡ set entries.old at entry }

@@ -25,7 +25,7 @@ pub(crate) struct Front {
     pub(crate) place: usize,
 }
 
-/// The places of the codes in the order of their bytes, which lie in the text.
+/// Returns the places of the codes in the order of their bytes, which lie in the text.
 pub(crate) fn index_of(alloc: Global, text: &[u8], codes: &[Code]) -> Result<Vec<usize>, AllocError>
     ensures { (cs : List IdCode) → AreHeld text.now codes.now cs
         → IfOk result (λ index. IsIndex cs index.items) }
@@ -36,8 +36,8 @@ pub(crate) fn index_of(alloc: Global, text: &[u8], codes: &[Code]) -> Result<Vec
     }
 }
 
-// The places of short codes in the order of their bytes; none where some are long. Ranks are sorted,
-// and the places left in their stead, so nothing is held beside the index.
+/// Returns the places of short codes in the order of their bytes; none where some are long. Ranks
+/// are sorted, and the places left in their stead, so nothing is held beside the index.
 fn index_by_ranks(
     alloc: Global,
     text: &[u8],
@@ -55,8 +55,8 @@ fn index_by_ranks(
     Ok(Some(index))
 }
 
-// The ranks of the codes, in their order of declaration, if a rank has all of the bytes and the
-// place of each.
+/// Returns the ranks of the codes, in their order of declaration, if a rank has all of the bytes
+/// and the place of each.
 fn ranks_of(alloc: Global, text: &[u8], codes: &[Code]) -> Result<Option<Vec<usize>>, AllocError>
     ensures { IfOk result (λ found. IfSome found (λ ranks.
         AreRanks text.now codes.now ranks.items)) }
@@ -75,8 +75,8 @@ fn ranks_of(alloc: Global, text: &[u8], codes: &[Code]) -> Result<Option<Vec<usi
     Ok(Some(ranks))
 }
 
-// The bytes of a code, their number and its place as one number, which is less where the bytes come
-// before others.
+/// Returns the bytes of a code, their number and its place as one number, which is less where the
+/// bytes come before others.
 #[inline(always)]
 fn rank_of(bytes: &[u8], place: usize) -> usize
     requires short { length bytes.now ≤ 4 }
@@ -87,7 +87,7 @@ fn rank_of(bytes: &[u8], place: usize) -> usize
     (front as usize * 8 + bytes.len()) * PLACES + place
 }
 
-// Leaves of each rank the place.
+/// Leaves of each rank the place.
 fn leave_places(ranks: &mut [usize])
     ensures { ranks.new ≡ map place_in_rank ranks.old }
 {
@@ -96,7 +96,7 @@ fn leave_places(ranks: &mut [usize])
     }
 }
 
-// The places of codes of any length in the order of their bytes.
+/// Returns the places of codes of any length in the order of their bytes.
 fn index_by_fronts(alloc: Global, text: &[u8], codes: &[Code]) -> Result<Vec<usize>, AllocError>
     ensures { (cs : List IdCode) → AreHeld text.now codes.now cs
         → IfOk result (λ index. IsIndex cs index.items) }
@@ -106,7 +106,7 @@ fn index_by_fronts(alloc: Global, text: &[u8], codes: &[Code]) -> Result<Vec<usi
     places_of(alloc, &fronts)
 }
 
-// The fronts of the codes, in their order of declaration.
+/// Returns the fronts of the codes, in their order of declaration.
 fn fronts_of(alloc: Global, text: &[u8], codes: &[Code]) -> Result<Vec<Front>, AllocError>
     ensures { IfOk result (λ fronts. AreFronts text.now codes.now fronts.items) }
 {
@@ -118,7 +118,7 @@ fn fronts_of(alloc: Global, text: &[u8], codes: &[Code]) -> Result<Vec<Front>, A
     Ok(fronts)
 }
 
-// The places of the fronts.
+/// Returns the places of the fronts.
 fn places_of(alloc: Global, fronts: &[Front]) -> Result<Vec<usize>, AllocError>
     ensures { IfOk result (λ places. places.items ≡ map (λ f. f.place) fronts.now) }
 {
@@ -129,7 +129,8 @@ fn places_of(alloc: Global, fronts: &[Front]) -> Result<Vec<usize>, AllocError>
     Ok(places)
 }
 
-// The order of two codes by their bytes, which are looked at only where their fronts are the same.
+/// Returns the order of two codes by their bytes, which are looked at only where their fronts are
+/// the same.
 #[inline(always)]
 fn order_of(text: &[u8], codes: &[Code], a: Front, b: Front) -> Ordering
     ensures { result ≡ order_of text.now codes.now a b }
@@ -141,7 +142,7 @@ fn order_of(text: &[u8], codes: &[Code], a: Front, b: Front) -> Ordering
     }
 }
 
-// The bytes of the code at a place.
+/// Returns the bytes of the code at a place.
 fn bytes_at<'a>(text: &'a [u8], codes: &[Code], place: usize) -> &'a [u8]
     ensures { result.now ≡ bytes_at text.now codes.now place }
 {
@@ -151,7 +152,8 @@ fn bytes_at<'a>(text: &'a [u8], codes: &[Code], place: usize) -> &'a [u8]
     }
 }
 
-// So many first bytes as the digits of a number, the first one highest, with zeros behind them.
+/// Returns so many first bytes as the digits of a number, the first one highest, with zeros behind
+/// them.
 #[inline(always)]
 fn front_of(bytes: &[u8], count: usize) -> u64
     requires { count ≤ 8 }
@@ -165,7 +167,7 @@ fn front_of(bytes: &[u8], count: usize) -> u64
     number
 }
 
-// The byte at a place, zero where there is none.
+/// Returns the byte at a place, zero where there is none.
 #[inline(always)]
 fn byte_at(bytes: &[u8], place: usize) -> u64
     ensures byte { result ≡ get_or bytes.now place 0 }

@@ -4,7 +4,7 @@ ghost use Rattle.std.specs.Prelude.{◌≡◌, ◌+◌, ◌<◌, ◌≤◌, [], 
 ghost use Rattle.vcd_model.specs.Declarations.{Declaration, name_of as name_of_declaration, path_of};
 ghost use Rattle.vcd_model.specs.Header.{Header};
 ghost use Rattle.vcd_model.specs.Selection.{is_selected as is_selected_by, is_variable, selects_path};
-ghost use Rattle.vcd_head.specs.Inside.{AreHeld, AreLeft, AreOpen, front, is_all, is_rest, left_in, left_selects};
+ghost use Rattle.vcd_head.specs.Inside.{AreHeld, AreLeft, AreOpen, KeepsOpen, MatchesRow, front, is_all, is_rest, left_in, left_selects};
 ghost use Rattle.vcd_head.specs.Matched.{Matches, Matched};
 ghost use Rattle.vcd_head.specs.Paths.{scopes_text};
 ghost use Rattle.vcd_head.specs.Sieves.{RulesOut};
@@ -48,7 +48,7 @@ pub(crate) struct Inside {
 }
 
 impl Left {
-    // Something is left of the name.
+    /// Tells whether something is left of the name.
     fn is_rest(self) -> bool
         ensures { result ≡ is_rest self }
     {
@@ -58,7 +58,7 @@ impl Left {
         }
     }
 
-    // The name selects all that is inside.
+    /// Tells whether the name selects all that is inside.
     fn is_all(self) -> bool
         ensures { result ≡ is_all self }
     {
@@ -70,7 +70,7 @@ impl Left {
 }
 
 impl Inside {
-    // Outside of all scopes.
+    /// Returns what is left of names outside of all scopes.
     fn outermost() -> Self
         ensures left { (names : List (List ℕ)) → length names ≤ 64 → AreLeft names [] result }
         ensures scope { result.scope ≡ 0 }
@@ -84,7 +84,8 @@ impl Inside {
         }
     }
 
-    // Inside a scope in this one, in which only names select that select all that is in this one.
+    /// Returns what is left inside a scope in this one, in which only names select that select all
+    /// that is in this one.
     fn closed(&self, scope: usize) -> Self
         ensures scope { result.scope ≡ scope }
         ensures left { (names : List (List ℕ)) (f component : List ℕ) → AreLeft names f self.now
@@ -99,7 +100,8 @@ impl Inside {
         }
     }
 
-    // Inside a scope that stands here, none where its path is too long to count.
+    /// Returns what is left inside a scope that stands here, none where its path is too long to
+    /// count.
     fn enter(&self, names: &[String], scope: usize, component: &[u8]) -> Option<Self>
         requires { length names.now ≤ 64 }
         ensures scope { IfSome result (λ inner. inner.scope ≡ scope) }
@@ -130,7 +132,7 @@ impl Inside {
         })
     }
 
-    // The name at a place selects a variable that stands here.
+    /// Tells whether the name at a place selects a variable that stands here.
     fn selects(&self, place: usize, name: &str, own: &[u8]) -> bool
         requires { place < 64 }
         ensures { (f : List ℕ) (names : List (List ℕ)) → AreLeft names f self.now
@@ -140,7 +142,7 @@ impl Inside {
         self.selects_own(self.left[place], behind(name, self.passed), own)
     }
 
-    // What is left of a name selects a variable in this scope with this name.
+    /// Tells whether what is left of a name selects a variable in this scope with this name.
     fn selects_own(&self, left: Left, rest: &[u8], own: &[u8]) -> bool
         ensures { result ≡ left_in self.now.live left rest.now own.now }
     {
@@ -151,8 +153,8 @@ impl Inside {
         }
     }
 
-    // Tells which names select a variable in this scope, and whether some do, where only names may
-    // that select all that is in it.
+    /// Tells which names select a variable in this scope, and whether some do, where only names may
+    /// that select all that is in it.
     fn note(&self, names: &[String], matched: &mut [bool; TOGETHER]) -> bool
         requires { length names.now ≤ 64 }
         ensures { (f own : List ℕ) → AreLeft (map string_bytes names.now) f self.now
@@ -185,7 +187,8 @@ pub(crate) struct Open {
 
 impl Open {
     pub(crate) fn new() -> Self
-        ensures { (h : Header) (names : List (List ℕ)) → length names ≤ 64 → AreOpen h names result }
+        ensures { (h : Header) (names : List (List ℕ)) → length names ≤ 64
+            → AreOpen h names result }
     {
         Open {
             inside: [Inside::outermost(); MOST_HELD],
@@ -194,8 +197,8 @@ impl Open {
         }
     }
 
-    // Takes the next row; tells whether it is a variable's that some name selects, any variable's
-    // where there are no names, and which names select it, beside those that had matched before.
+    /// Takes the next row; tells whether it is a variable's that some name selects, any variable's
+    /// where there are no names, and which names select it, beside those that had matched before.
     #[inline(always)]
     pub(crate) fn take(
         &mut self,
@@ -205,9 +208,7 @@ impl Open {
         matched: &mut [bool; TOGETHER],
     ) -> bool
         requires { length names.now ≤ 64 }
-        ensures open { (h : Header) → IsViewOf view.entry h
-            → AreOpen h (map string_bytes names.now) self.old
-            → AreOpen h (map string_bytes names.now) self.new }
+        ensures open { KeepsOpen view.entry (map string_bytes names.now) self.old self.new }
         ensures selected { (h : Header) (d : Declaration) → IsViewOf view.entry h
             → slice_get h.declarations row ≡ Some d
             → AreOpen h (map string_bytes names.now) self.old
@@ -234,12 +235,10 @@ impl Open {
         }
     }
 
-    // Enters the scope of a row.
+    /// Enters the scope of a row.
     fn enter(&mut self, view: HeadView<'_>, row: usize, names: &[String])
         requires { length names.now ≤ 64 }
-        ensures { (h : Header) → IsViewOf view.entry h
-            → AreOpen h (map string_bytes names.now) self.old
-            → AreOpen h (map string_bytes names.now) self.new }
+        ensures { KeepsOpen view.entry (map string_bytes names.now) self.old self.new }
     {
         let inner = self.inner(view, row, names);
         self.depth = self.depth.saturating_add(1);
@@ -250,12 +249,10 @@ impl Open {
         }
     }
 
-    // What is left inside the scope of a row, where it is known of the scope around.
+    /// Returns what is left inside the scope of a row, where it is known of the scope around.
     fn inner(&mut self, view: HeadView<'_>, row: usize, names: &[String]) -> Option<Inside>
         requires { length names.now ≤ 64 }
-        ensures open { (h : Header) → IsViewOf view.entry h
-            → AreOpen h (map string_bytes names.now) self.old
-            → AreOpen h (map string_bytes names.now) self.new }
+        ensures open { KeepsOpen view.entry (map string_bytes names.now) self.old self.new }
         ensures left { (h : Header) → IsViewOf view.entry h
             → AreOpen h (map string_bytes names.now) self.old
             → IfSome result
@@ -270,15 +267,13 @@ impl Open {
         around.enter(names, scope, view.name_of(row))
     }
 
-    // As far as is known, a name selects what a row declares, or what is inside it, only where it
-    // selects all that is inside the scope around.
+    /// Tells whether, as far as is known, a name selects what a row declares, or what is inside it,
+    /// only where it selects all that is inside the scope around.
     #[inline(always)]
     fn rules_out(&mut self, view: HeadView<'_>, row: usize, names: &[String]) -> bool
         requires { length names.now ≤ 64 }
         ensures row { result ≡ true → row < length view.entry.rows.now }
-        ensures open { (h : Header) → IsViewOf view.entry h
-            → AreOpen h (map string_bytes names.now) self.old
-            → AreOpen h (map string_bytes names.now) self.new }
+        ensures open { KeepsOpen view.entry (map string_bytes names.now) self.old self.new }
         ensures out { (h : Header) (d : Declaration) → IsViewOf view.entry h
             → slice_get h.declarations row ≡ Some d
             → AreOpen h (map string_bytes names.now) self.old → result ≡ true
@@ -291,7 +286,7 @@ impl Open {
         !inside.live || self.sieve.rules_out(inside, names, view.name_of(row))
     }
 
-    // Some name selects the variable of a row; tells which ones.
+    /// Tells whether some name selects the variable of a row, and which ones do.
     #[inline(always)]
     fn selects(
         &mut self,
@@ -301,14 +296,9 @@ impl Open {
         matched: &mut [bool; TOGETHER],
     ) -> bool
         requires { length names.now ≤ 64 }
-        ensures open { (h : Header) → IsViewOf view.entry h
-            → AreOpen h (map string_bytes names.now) self.old
-            → AreOpen h (map string_bytes names.now) self.new }
-        ensures matches { (h : Header) (d : Declaration) → IsViewOf view.entry h
-            → slice_get h.declarations row ≡ Some d → is_variable d ≡ true
-            → AreOpen h (map string_bytes names.now) self.old
-            → Matches (selects_path (path_of (take row h.declarations) d))
-            (map string_bytes names.now) matched.old matched.new result }
+        ensures open { KeepsOpen view.entry (map string_bytes names.now) self.old self.new }
+        ensures matches { MatchesRow view.entry row (map string_bytes names.now) self.old
+            matched.old matched.new result }
     {
         if self.rules_out(view, row, names) {
             if let Some(inside) = self.around(view, row) {
@@ -318,7 +308,7 @@ impl Open {
         self.compare(view, row, names, matched)
     }
 
-    // Compares a row with each name: whether some name selects its variable, and which ones.
+    /// Tells the same as `selects`, by a look at each name.
     fn compare(
         &self,
         view: HeadView<'_>,
@@ -327,11 +317,8 @@ impl Open {
         matched: &mut [bool; TOGETHER],
     ) -> bool
         requires { length names.now ≤ 64 }
-        ensures { (h : Header) (d : Declaration) → IsViewOf view.entry h
-            → slice_get h.declarations row ≡ Some d → is_variable d ≡ true
-            → AreOpen h (map string_bytes names.now) self.now
-            → Matches (selects_path (path_of (take row h.declarations) d))
-            (map string_bytes names.now) matched.old matched.new result }
+        ensures { MatchesRow view.entry row (map string_bytes names.now) self.now
+            matched.old matched.new result }
     {
         let inside = self.around(view, row);
         let own = view.name_of(row);
@@ -345,7 +332,7 @@ impl Open {
         some
     }
 
-    // What is left inside the scope around a row, where it is the innermost that is held.
+    /// Returns what is left inside the scope around a row, where it is the innermost that is held.
     #[inline(always)]
     fn around(&self, view: HeadView<'_>, row: usize) -> Option<&Inside>
         ensures row { IfSome result (λ _. row < length view.entry.rows.now) }
@@ -357,7 +344,7 @@ impl Open {
     }
 }
 
-// What is left inside the scope around a row, where it is the one held at this depth.
+/// Returns what is left inside the scope around a row, where it is the one held at this depth.
 #[inline(always)]
 fn around<'a>(
     held: &'a [Inside; MOST_HELD],
@@ -367,7 +354,8 @@ fn around<'a>(
 ) -> Option<&'a Inside>
     ensures row { IfSome result (λ _. row < length view.entry.rows.now) }
     ensures scope { (h : Header) → IsViewOf view.entry h
-        → IfSome result (λ s. scopes_text (take row h.declarations) ≡ front h.declarations s.now.scope) }
+        → IfSome result (λ s. scopes_text (take row h.declarations)
+        ≡ front h.declarations s.now.scope) }
     ensures left { (h : Header) (names : List (List ℕ)) → IsViewOf view.entry h
         → AreHeld h names held.now
         → IfSome result (λ s. AreLeft names (front h.declarations s.now.scope) s.now) }
@@ -380,7 +368,7 @@ fn around<'a>(
     Some(inside)
 }
 
-// The name at a place selects the variable of a row that has this name of its own.
+/// Tells whether the name at a place selects the variable of a row that has this name of its own.
 fn name_selects(
     view: HeadView<'_>,
     row: usize,
@@ -402,7 +390,7 @@ fn name_selects(
     }
 }
 
-// What is left of a name inside a scope with this name.
+/// Returns what is left of a name inside a scope with this name.
 fn left_inside(left: Left, rest: &[u8], component: &[u8]) -> Left
     ensures { (text : List ℕ) → left_selects result (drop (length component.now + 1) rest.now) text
         ≡ left_selects left rest.now (component.now ++ 46 ∷ text) }
@@ -418,7 +406,7 @@ fn left_inside(left: Left, rest: &[u8], component: &[u8]) -> Left
     }
 }
 
-// The bytes behind these first ones.
+/// Returns the bytes behind these first ones.
 pub(crate) fn behind(name: &str, passed: usize) -> &[u8]
     ensures { result.now ≡ drop passed name.now }
 {

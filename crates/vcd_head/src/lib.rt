@@ -25,11 +25,12 @@
 //!
 //! - `read`, `phrases`: the whole header; one phrase of it
 //! - `tokens`, `texts`, `words`: the next token; texts up to `$end`; tests of tokens
-//! - `scopes`, `variable`, `scale`, `rows`: what a phrase declares, and its row
-//! - `ahead`, `ahead_scopes`, `code_ahead`: variables and scopes whose phrases lie whole in the
-//!   chunk; the code of such a variable
-//! - `draft`, `codes`, `code_place`, `code_key`, `sought`, `finish`: a header while it is read, its
-//!   codes, and the keys by which a set finds them; the head that it becomes
+//! - `scopes`, `variable`, `scale`: what a phrase says
+//! - `ahead`, `ahead_scopes`: variables and scopes whose phrases lie whole in the chunk
+//! - `declarations`, `rows`, `code_place`: what these are checked for, however they are read; what
+//!   becomes of the head: rows, and the place of a code
+//! - `draft`, `codes`, `code_key`, `sought`, `finish`: a header while it is read, its codes, and
+//!   the keys by which a set finds them; the head that it becomes
 //! - `head`, `fault`: `Head`; `HeadFault`
 //! - `entries`, `index`: how the entries are filled; the order of the codes by their bytes
 //! - `enclosing`, `path`: the scopes around a declaration, outermost first; paths
@@ -55,10 +56,10 @@
 
 mod ahead;
 mod ahead_scopes;
-mod code_ahead;
 mod code_key;
 mod code_place;
 mod codes;
+mod declarations;
 mod draft;
 mod enclosing;
 mod entries;

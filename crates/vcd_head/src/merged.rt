@@ -16,8 +16,8 @@ use crate::write::{put_lines, put_renamed, put_scope, text_of_exponent};
 use vcd_text::{Sink, WriteFailed, put, put_number};
 use vcd_view::{HeadView, Kind};
 
-/// The least power of ten of the heads' time scales, in seconds; a missing one counts as 1s, and 0
-/// where there is no head.
+/// Returns the least power of ten of the heads' time scales, in seconds; a missing one counts as
+/// 1s, and 0 where there is no head.
 pub fn least_exponent(heads: &[Head]) -> i8
     ensures { (hs : List Header) → ShowHeaders heads.now hs → result ≡ least_of hs }
 {
@@ -45,7 +45,7 @@ pub(crate) struct OpenScopes {
 impl OpenScopes {
     ghost use Rattle.vcd_view.specs.declared.view.Kind.TheVariants.{Scope, Up, Var};
 
-    /// Those that are open behind a row of this kind.
+    /// Returns those that are open behind a row of this kind.
     fn behind(self, kind: Kind) -> OpenScopes
         ensures scope { kind ≡ Scope → self.pending + 1 < 2 ^ 64
             → (result.pending ≡ self.pending + 1) × (result.written ≡ self.written) }
@@ -102,7 +102,8 @@ fn put_openings<W: Sink>(
 /// it closes is not written.
 fn put_closing<W: Sink>(scopes: OpenScopes, w: &mut W) -> Result<(), WriteFailed>
     requires failures { (W.device w.old).failures < 2 ^ 64 - 1 }
-    ensures { Puts (W.device w.old) (W.device w.new) (closing scopes.pending scopes.written) result }
+    ensures { Puts (W.device w.old) (W.device w.new)
+        (closing scopes.pending scopes.written) result }
 {
     if scopes.pending > 0 {
         return Ok(());

@@ -2,77 +2,75 @@
 ghost use Rattle.std.specs.Prelude.{◌≡◌, ℕ, ◌-◌, ◌^◌, ◌<◌, MatchResult, MatchBool, OnOk};
 ghost use Rattle.vcd_model.specs.Input.{Input};
 ghost use Rattle.vcd_model.specs.Keywords.{Keyword as Named};
-ghost use Rattle.vcd_text.specs.Feed.{source_of, token_of, seen};
+ghost use Rattle.vcd_text.specs.Feed.{source_of, seen};
+ghost use Rattle.vcd_head.specs.Calls.{MovesOn, OrFails, ReadsPhrase};
 ghost use Rattle.vcd_head.specs.Reads.{Fails};
 ghost use Rattle.vcd_head.specs.Draft.{AtKeyword, AtFirstToken, AtOther, DraftsBehind, DraftsUpTo, DraftsAll, goes_on as goes_on_after};
-ghost use Rattle.vcd_text.specs.Advances.{Advances};
-ghost use Rattle.vcd_head.specs.Fault.{call_end};
 
 use crate::draft::Draft;
 use crate::fault::HeadFault;
 use crate::scale::read_timescale;
 use crate::scopes::{read_scope, read_upscope};
 use crate::texts::{skip_to_end, text_to_end};
-use crate::tokens::{first_token, next_ends};
+use crate::tokens::{next_ends, next_token};
 use crate::variable::read_variable;
 use crate::words::{begins_change, is_command};
 use std::alloc::Global;
 use vcd_text::{Feed, Source};
 use vcd_view::{Keyword, keyword_of};
 
+/// Reads a comment: any tokens up to `$end`.
 fn read_comment<S: Source>(
     feed: &mut Feed<'_, '_, '_, '_, S>,
     draft: &mut Draft,
 ) -> Result<(), HeadFault>
     requires { S.failures (source_of feed.old) < 2 ^ 64 - 1 }
-    ensures reads { (most : ℕ) (i : Input) → AtKeyword most i Named.Comment draft.old feed.old
-        → MatchResult result (λ _. DraftsUpTo most i draft.new feed.new)
-        (λ fault. Fails most i fault feed.new) }
-    ensures advances { Advances S.failures feed.old feed.new (call_end result) }
+    ensures reads { (most : ℕ) →
+        ReadsPhrase most Named.Comment draft.old feed.old draft.new feed.new result }
+    ensures advances { MovesOn S.failures feed.old feed.new result }
 {
     skip_to_end(feed)
 }
 
+/// Reads the date: any tokens up to `$end`.
 fn read_date<S: Source>(
     alloc: Global,
     feed: &mut Feed<'_, '_, '_, '_, S>,
     draft: &mut Draft,
 ) -> Result<(), HeadFault>
     requires { S.failures (source_of feed.old) < 2 ^ 64 - 1 }
-    ensures reads { (most : ℕ) (i : Input) → AtKeyword most i Named.Date draft.old feed.old
-        → MatchResult result (λ _. DraftsUpTo most i draft.new feed.new)
-        (λ fault. Fails most i fault feed.new) }
-    ensures advances { Advances S.failures feed.old feed.new (call_end result) }
+    ensures reads { (most : ℕ) →
+        ReadsPhrase most Named.Date draft.old feed.old draft.new feed.new result }
+    ensures advances { MovesOn S.failures feed.old feed.new result }
 {
     draft.date = text_to_end(alloc, feed)?;
     Ok(())
 }
 
+/// Reads the version: any tokens up to `$end`.
 fn read_version<S: Source>(
     alloc: Global,
     feed: &mut Feed<'_, '_, '_, '_, S>,
     draft: &mut Draft,
 ) -> Result<(), HeadFault>
     requires { S.failures (source_of feed.old) < 2 ^ 64 - 1 }
-    ensures reads { (most : ℕ) (i : Input) → AtKeyword most i Named.Version draft.old feed.old
-        → MatchResult result (λ _. DraftsUpTo most i draft.new feed.new)
-        (λ fault. Fails most i fault feed.new) }
-    ensures advances { Advances S.failures feed.old feed.new (call_end result) }
+    ensures reads { (most : ℕ) →
+        ReadsPhrase most Named.Version draft.old feed.old draft.new feed.new result }
+    ensures advances { MovesOn S.failures feed.old feed.new result }
 {
     draft.version = text_to_end(alloc, feed)?;
     Ok(())
 }
 
-/// A command that the standard does not have, or what no phrase begins with.
+/// Reads the rest of a command that the standard does not have; refuses what no phrase begins with.
 fn read_other<S: Source>(
     feed: &mut Feed<'_, '_, '_, '_, S>,
     draft: &mut Draft,
 ) -> Result<(), HeadFault>
     requires { S.failures (source_of feed.old) < 2 ^ 64 - 1 }
     ensures reads { (most : ℕ) (i : Input) → AtOther most i draft.old feed.old
-        → MatchResult result (λ _. DraftsUpTo most i draft.new feed.new)
-        (λ fault. Fails most i fault feed.new) }
-    ensures advances { Advances S.failures feed.old feed.new (call_end result) }
+        → OrFails most i feed.new (λ _. DraftsUpTo most i draft.new feed.new) result }
+    ensures advances { MovesOn S.failures feed.old feed.new result }
 {
     if begins_change(feed.token()) {
         return Err(HeadFault::OutOfPlace);
@@ -83,7 +81,7 @@ fn read_other<S: Source>(
     skip_to_end(feed)
 }
 
-/// The end of the header, after its keyword.
+/// Reads the end of the header, after its keyword.
 fn read_end<S: Source>(
     feed: &mut Feed<'_, '_, '_, '_, S>,
     draft: &mut Draft,
@@ -91,9 +89,8 @@ fn read_end<S: Source>(
     requires { S.failures (source_of feed.old) < 2 ^ 64 - 1 }
     ensures reads { (most : ℕ) (i : Input)
         → AtKeyword most i Named.EndDefinitions draft.old feed.old
-        → MatchResult result (λ _. DraftsAll most i draft.new feed.new)
-        (λ fault. Fails most i fault feed.new) }
-    ensures advances { Advances S.failures feed.old feed.new (call_end result) }
+        → OrFails most i feed.new (λ _. DraftsAll most i draft.new feed.new) result }
+    ensures advances { MovesOn S.failures feed.old feed.new result }
 {
     if next_ends(feed)? {
         return Ok(());
@@ -101,7 +98,7 @@ fn read_end<S: Source>(
     Err(HeadFault::OutOfPlace)
 }
 
-// Others may follow a phrase that begins so.
+/// Tells whether others may follow a phrase that begins so.
 fn goes_on(keyword: Option<Keyword>) -> bool
     ensures { result ≡ goes_on_after keyword }
 {
@@ -124,16 +121,16 @@ pub(crate) fn read_phrase<S: Source>(
         MatchBool more (DraftsUpTo most i draft.new feed.new)
         (DraftsAll most i draft.new feed.new))
         (λ fault. Fails most i fault feed.new) }
-    ensures advances { Advances S.failures feed.old feed.new (call_end result) }
+    ensures advances { MovesOn S.failures feed.old feed.new result }
     ensures progress { OnOk result (2 ^ 63 - seen feed.new < 2 ^ 63 - seen feed.old) }
 {
-    first_token(feed)?;
+    next_token(feed)?;
     let keyword = keyword_of(feed.token());
     read_rest(alloc, feed, most, keyword, draft)?;
     Ok(goes_on(keyword))
 }
 
-// The rest of a phrase that begins with this keyword, or with none.
+/// Reads the rest of a phrase that begins with this keyword, or with none.
 fn read_rest<S: Source>(
     alloc: Global,
     feed: &mut Feed<'_, '_, '_, '_, S>,
@@ -146,14 +143,14 @@ fn read_rest<S: Source>(
         → MatchResult result
         (λ _. MatchBool (goes_on_after keyword) (DraftsUpTo most i draft.new feed.new)
         (DraftsAll most i draft.new feed.new)) (λ fault. Fails most i fault feed.new) }
-    ensures advances { Advances S.failures feed.old feed.new (call_end result) }
+    ensures advances { MovesOn S.failures feed.old feed.new result }
 {
     match keyword {
         Some(Keyword::Comment) => read_comment(feed, draft),
         Some(Keyword::Date) => read_date(alloc, feed, draft),
         Some(Keyword::Version) => read_version(alloc, feed, draft),
         Some(Keyword::Timescale) => read_timescale(feed, draft),
-        Some(Keyword::Scope) => read_scope(feed, most, draft),
+        Some(Keyword::Scope) => read_scope(alloc, feed, most, draft),
         Some(Keyword::Upscope) => read_upscope(feed, most, draft),
         Some(Keyword::Var) => read_variable(alloc, feed, most, draft),
         Some(Keyword::EndDefinitions) => read_end(feed, draft),

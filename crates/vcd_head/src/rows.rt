@@ -17,8 +17,8 @@ pub(crate) struct WideRow {
     pub(crate) code: usize,
 }
 
-/// The length of a token in 32 bits. Only a token of 4 GiB or more has none, for which windows of
-/// as many bytes are lent: it is out of memory.
+/// Returns the length of a token in 32 bits. Only a token of 4 GiB or more has none, for which
+/// windows of as many bytes are lent: it is out of memory.
 #[inline(always)]
 pub(crate) fn token_len(len: usize) -> Result<u32, HeadFault>
     ensures held { IfOk result (λ held. held ≡ len) }
@@ -30,7 +30,7 @@ pub(crate) fn token_len(len: usize) -> Result<u32, HeadFault>
     }
 }
 
-/// The number of a row or of a code in 32 bits, which hold that of each declaration that is
+/// Returns the number of a row or of a code in 32 bits, which hold that of each declaration that is
 /// allowed.
 #[inline(always)]
 fn in_32_bits(number: usize) -> u32
@@ -42,7 +42,8 @@ fn in_32_bits(number: usize) -> u32
 /// Puts a row after the others.
 #[inline(always)]
 pub(crate) fn push(rows: &mut Vec<Row>, row: WideRow) -> Result<(), HeadFault>
-    ensures items { IsNarrow row → IfOk result (λ _. rows.new.items ≡ rows.old.items ++ row_of row ∷ []) }
+    ensures items { IsNarrow row
+        → IfOk result (λ _. rows.new.items ≡ rows.old.items ++ row_of row ∷ []) }
     ensures len { IfOk result (λ _. vec_len rows.new ≡ vec_len rows.old + 1) }
     ensures memory { IfErr result (λ fault. fault ≡ HeadFault.OutOfMemory) }
 {

@@ -1,15 +1,13 @@
 // The phrase of a time scale, after its keyword.
-ghost use Rattle.std.specs.Prelude.{◌≡◌, ℕ, ◌-◌, ◌^◌, ◌<◌, List, [], ◌∷◌, MatchResult};
+ghost use Rattle.std.specs.Prelude.{ℕ, ◌-◌, ◌^◌, ◌<◌, List, [], ◌∷◌};
 ghost use Rattle.vcd_model.specs.Input.{Input};
 ghost use Rattle.vcd_model.specs.HeaderPhrases.{HeaderPhrase};
 ghost use Rattle.vcd_model.specs.Keywords.{Keyword, keyword_text};
 ghost use Rattle.vcd_model.specs.Reading.{Placed};
 ghost use Rattle.vcd_text.specs.Feed.{source_of};
-ghost use Rattle.vcd_head.specs.Reads.{Reads, Fails};
+ghost use Rattle.vcd_head.specs.Calls.{MovesOn, OrFails, ReadsPhrase};
+ghost use Rattle.vcd_head.specs.Reads.{Reads};
 ghost use Rattle.vcd_head.specs.Scaled.{ScaleRead};
-ghost use Rattle.vcd_head.specs.Draft.{AtKeyword, DraftsUpTo};
-ghost use Rattle.vcd_text.specs.Advances.{Advances};
-ghost use Rattle.vcd_head.specs.Fault.{call_end};
 
 use crate::draft::Draft;
 use crate::fault::HeadFault;
@@ -23,9 +21,8 @@ fn read_exponent<S: Source>(feed: &mut Feed<'_, '_, '_, '_, S>) -> Result<i8, He
     requires { S.failures (source_of feed.old) < 2 ^ 64 - 1 }
     ensures reads { (most : ℕ) (i : Input) (placed : List (Placed HeaderPhrase))
         → Reads most i placed (keyword_text Keyword.Timescale ∷ []) feed.old
-        → MatchResult result (ScaleRead most i placed feed.new)
-        (λ fault. Fails most i fault feed.new) }
-    ensures advances { Advances S.failures feed.old feed.new (call_end result) }
+        → OrFails most i feed.new (ScaleRead most i placed feed.new) result }
+    ensures advances { MovesOn S.failures feed.old feed.new result }
 {
     next_token(feed)?;
     let Some(power) = power_of(feed.token()) else {
@@ -47,10 +44,9 @@ pub(crate) fn read_timescale<S: Source>(
     draft: &mut Draft,
 ) -> Result<(), HeadFault>
     requires { S.failures (source_of feed.old) < 2 ^ 64 - 1 }
-    ensures reads { (most : ℕ) (i : Input) → AtKeyword most i Keyword.Timescale draft.old feed.old
-        → MatchResult result (λ _. DraftsUpTo most i draft.new feed.new)
-        (λ fault. Fails most i fault feed.new) }
-    ensures advances { Advances S.failures feed.old feed.new (call_end result) }
+    ensures reads { (most : ℕ) →
+        ReadsPhrase most Keyword.Timescale draft.old feed.old draft.new feed.new result }
+    ensures advances { MovesOn S.failures feed.old feed.new result }
 {
     let exponent = read_exponent(feed)?;
     if !next_ends(feed)? {

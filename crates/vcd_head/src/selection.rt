@@ -22,8 +22,8 @@ pub(crate) enum Match<'n> {
     Differs,
 }
 
-// A byte of the front stands in the text too. Where it does not, the text does not begin with the
-// front.
+/// Tells whether a byte of the front stands in the text too. Where it does not, the text does not
+/// begin with the front.
 #[inline(always)]
 fn same_at(text: &[u8], front: &[u8], place: usize) -> bool
     requires { place < length front.now }
@@ -32,9 +32,9 @@ fn same_at(text: &[u8], front: &[u8], place: usize) -> bool
     place < text.len() && text[place] == front[place]
 }
 
-// A quick test, which is false only where the text does not begin with the front: whether the last
-// two bytes of the front stand in their places. Names that stand together often differ in a number
-// at their end, which a bracket may close.
+/// Tells whether the last two bytes of the front stand in their places, a quick test: where they do
+/// not, the text does not begin with the front. Names that stand together often differ in a number
+/// at their end, which a bracket may close.
 #[inline(always)]
 fn may_begin(text: &[u8], front: &[u8]) -> bool
     ensures { result ≡ false → (rest : List ℕ) → text.now ≢ front.now ++ rest }
@@ -45,7 +45,7 @@ fn may_begin(text: &[u8], front: &[u8]) -> bool
     same_at(text, front, last) && same_at(text, front, last.saturating_sub(1))
 }
 
-// The text is the name, or begins with it and a point.
+/// Tells whether the text is the name, or begins with it and a point.
 pub(crate) fn is_or_goes_on(text: &[u8], name: &[u8]) -> bool
     ensures { result ≡ selects_path text.now name.now }
 {
@@ -58,7 +58,7 @@ pub(crate) fn is_or_goes_on(text: &[u8], name: &[u8]) -> bool
     }
 }
 
-// What a name says of a path that begins with this component and a point.
+/// Returns what a name says of a path that begins with this component and a point.
 pub(crate) fn after_component<'n>(name: &'n [u8], component: &[u8]) -> Match<'n>
     ensures rest { IsBehind result name.now (length component.now + 1) }
     ensures selects { (text : List ℕ)
@@ -79,8 +79,8 @@ pub(crate) fn after_component<'n>(name: &'n [u8], component: &[u8]) -> Match<'n>
     }
 }
 
-/// A name selects the variable of a row: the variable's path is the name, or begins with it and a
-/// point.
+/// Tells whether a name selects the variable of a row: the variable's path is the name, or begins
+/// with it and a point.
 pub fn selects(view: HeadView<'_>, row: usize, name: &str) -> bool
     ensures { (h : Header) (v : Variable) → IsViewOf view.entry h
         → slice_get h.declarations row ≡ Some (Declaration.Var v)
@@ -98,7 +98,7 @@ pub fn selects(view: HeadView<'_>, row: usize, name: &str) -> bool
     is_or_goes_on(view.name_of(row), rest)
 }
 
-// Sets the marks of a row and of the scopes around it.
+/// Sets the marks of a row and of the scopes around it.
 fn mark(view: HeadView<'_>, row: usize, marks: &mut [u8])
     requires { row < length marks.old }
     ensures { (h : Header) → IsViewOf view.entry h → row < length h.declarations
@@ -111,8 +111,8 @@ fn mark(view: HeadView<'_>, row: usize, marks: &mut [u8])
     }
 }
 
-// Sets the marks of a row and of the scopes around it, and returns the scope around the row, counted
-// from 1. `marked` is a scope, counted from 1, that is marked with those around it.
+/// Sets the marks of a row and of the scopes around it, and returns the scope around the row,
+/// counted from 1. `marked` is a scope, counted from 1, that is marked with those around it.
 fn mark_behind(view: HeadView<'_>, row: usize, marked: usize, marks: &mut [u8]) -> usize
     requires { row < length marks.old }
     ensures marks { (h : Header) → IsViewOf view.entry h → row < length h.declarations
@@ -132,7 +132,7 @@ fn mark_behind(view: HeadView<'_>, row: usize, marked: usize, marks: &mut [u8]) 
     parent
 }
 
-// 1 plus the row of the scope around a row, 0 where there is none.
+/// Returns 1 plus the row of the scope around a row, 0 where there is none.
 fn parent_of(view: HeadView<'_>, row: usize) -> usize
     ensures { (h : Header) → IsViewOf view.entry h → row < length h.declarations
         → result ≡ counted_from_one (parent (take row h.declarations)) }
@@ -143,8 +143,8 @@ fn parent_of(view: HeadView<'_>, row: usize) -> usize
     }
 }
 
-// Sets the marks of the variables that some name selects, of all where there are no names, and of
-// the scopes around them; gives the place of the first name that selects nothing.
+/// Sets the marks of the variables that some name selects, of all where there are no names, and of
+/// the scopes around them; returns the place of the first name that selects nothing.
 fn mark_selected(view: HeadView<'_>, names: &[String], marks: &mut [u8]) -> Option<usize>
     requires len { length marks.old ≡ length view.rows.now }
     requires few { length names.now ≤ 64 }
@@ -167,7 +167,7 @@ fn mark_selected(view: HeadView<'_>, names: &[String], marks: &mut [u8]) -> Opti
     first_false(&matched, names.len())
 }
 
-// The place of the first flag that is not set, of so many.
+/// Returns the place of the first flag that is not set, of so many.
 fn first_false(flags: &[bool], count: usize) -> Option<usize>
     requires { count ≤ length flags.now }
     ensures { IsFirstFalse flags.now count result }
@@ -188,7 +188,8 @@ pub fn select(view: HeadView<'_>, names: &[String], marks: &mut [u8]) -> Result<
     ensures marks { (h : Header) → IsViewOf view.entry h
         → IfOk result (λ _. marks.new ≡ marks_of (map string_bytes names.now) h.declarations) }
     ensures names { (h : Header) → IsViewOf view.entry h
-        → MatchResult result (λ _. first_unmatched (map string_bytes names.now) h.declarations ≡ None)
+        → MatchResult result
+        (λ _. first_unmatched (map string_bytes names.now) h.declarations ≡ None)
         (λ name. first_unmatched (map string_bytes names.now) h.declarations ≡ Some name) }
 {
     marks.fill(0);

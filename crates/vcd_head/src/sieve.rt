@@ -1,6 +1,6 @@
 // Names that may select a row are told by flags, where rows of one scope are compared in turn.
-ghost use Rattle.std.specs.Prelude.{◌≡◌, ◌+◌, ◌<◌, ◌≤◌, ℕ, List, length, drop, map, string_bytes, get_or, true, false};
-ghost use Rattle.vcd_head.specs.Inside.{AreLeft};
+ghost use Rattle.std.specs.Prelude.{◌≡◌, ◌+◌, ◌<◌, ◌≤◌, ℕ, List, length, map, string_bytes, get_or, true, false};
+ghost use Rattle.vcd_head.specs.Inside.{AreLeft, KeepsSieve};
 ghost use Rattle.vcd_head.specs.Sieves.{Admitted, IsSieve, RulesOut, may_go_on};
 ghost use Rattle.vcd_head.specs.declared.inside.Left.TheVariants as left_of;
 
@@ -27,10 +27,11 @@ pub(crate) struct Sieve {
 }
 
 impl Sieve {
-    // Of a scope whose flags are still to be found.
+    /// Returns the sieve of a scope whose flags are still to be found.
     pub(crate) fn new(scope: usize) -> Self
         ensures scope { result.scope ≡ scope }
-        ensures flags { (names : List (List ℕ)) (fronts : ℕ → List ℕ) → IsSieve names fronts result }
+        ensures flags { (names : List (List ℕ)) (fronts : ℕ → List ℕ)
+            → IsSieve names fronts result }
     {
         Sieve {
             scope,
@@ -40,14 +41,12 @@ impl Sieve {
         }
     }
 
-    // As far as is known, a name selects this component inside the scope, or what is in it, only
-    // where it selects all that is inside the scope.
+    /// Tells whether, as far as is known, a name selects this component inside the scope, or what
+    /// is in it, only where it selects all that is inside the scope.
     pub(crate) fn rules_out(&mut self, inside: &Inside, names: &[String], component: &[u8]) -> bool
         requires { length names.now ≤ 64 }
-        ensures kept { (fronts : ℕ → List ℕ)
-            → AreLeft (map string_bytes names.now) (fronts inside.now.scope) inside.now
-            → IsSieve (map string_bytes names.now) fronts self.old
-            → IsSieve (map string_bytes names.now) fronts self.new }
+        ensures kept { KeepsSieve (map string_bytes names.now) inside.now.scope inside.now
+            self.old self.new }
         ensures out { (fronts : ℕ → List ℕ)
             → AreLeft (map string_bytes names.now) (fronts inside.now.scope) inside.now
             → IsSieve (map string_bytes names.now) fronts self.old → result ≡ true
@@ -58,7 +57,7 @@ impl Sieve {
         !self.may_go_on(component)
     }
 
-    // Begins anew where the scope is another one.
+    /// Begins anew where the scope is another one.
     fn turn_to(&mut self, scope: usize)
         ensures scope { self.new.scope ≡ scope }
         ensures kept { (names : List (List ℕ)) (fronts : ℕ → List ℕ) → IsSieve names fronts self.old
@@ -69,14 +68,12 @@ impl Sieve {
         }
     }
 
-    // Counts a row that is asked for; finds the flags once there were some.
+    /// Counts a row that is asked for; finds the flags once there were some.
     fn ask(&mut self, inside: &Inside, names: &[String])
         requires { length names.now ≤ 64 }
         ensures scope { self.new.scope ≡ self.old.scope }
-        ensures kept { (fronts : ℕ → List ℕ)
-            → AreLeft (map string_bytes names.now) (fronts self.old.scope) inside.now
-            → IsSieve (map string_bytes names.now) fronts self.old
-            → IsSieve (map string_bytes names.now) fronts self.new }
+        ensures kept { KeepsSieve (map string_bytes names.now) self.old.scope inside.now
+            self.old self.new }
     {
         if self.asked < ROWS_FIRST {
             self.asked += 1;
@@ -86,7 +83,7 @@ impl Sieve {
         }
     }
 
-    // Sets the flags for what is left of the names inside the scope.
+    /// Sets the flags for what is left of the names inside the scope.
     fn fill(&mut self, inside: &Inside, names: &[String])
         requires few { length names.now ≤ 64 }
         ensures scope { self.new.scope ≡ self.old.scope }
@@ -102,8 +99,8 @@ impl Sieve {
         }
     }
 
-    // What is left of some name may end where the component does, or before a point in it, or go
-    // on after the component and a point.
+    /// Tells whether, by the flags, what is left of some name may end where the component does, or
+    /// before a point in it, or go on after the component and a point.
     fn may_go_on(&self, component: &[u8]) -> bool
         ensures { result ≡ may_go_on self.now.ends self.now.points 0 component.now }
     {
@@ -117,7 +114,7 @@ impl Sieve {
     }
 }
 
-// Sets the flags of one more name, where something is left of it.
+/// Sets the flags of one more name, where something is left of it.
 fn admit(ends: &mut [bool; FLAGS], points: &mut [bool; FLAGS], left: Left, rest: &[u8])
     ensures name { left ≡ left_of.Rest → Admitted ends.new points.new 0 rest.now }
     ensures ends { (i : ℕ) → get_or ends.old i true ≡ true → get_or ends.new i true ≡ true }
@@ -129,7 +126,7 @@ fn admit(ends: &mut [bool; FLAGS], points: &mut [bool; FLAGS], left: Left, rest:
     }
 }
 
-// Sets the flags of what is left of a name: where it ends, and where it has a point.
+/// Sets the flags of what is left of a name: where it ends, and where it has a point.
 fn admit_rest(ends: &mut [bool; FLAGS], points: &mut [bool; FLAGS], rest: &[u8])
     ensures name { Admitted ends.new points.new 0 rest.now }
     ensures ends { (i : ℕ) → get_or ends.old i true ≡ true → get_or ends.new i true ≡ true }

@@ -17,7 +17,7 @@ pub(crate) struct Sought<'a> {
 }
 
 impl<'a> Sought<'a> {
-    /// The code with these bytes.
+    /// Returns what a code with these bytes is looked for by.
     #[inline(always)]
     pub(crate) fn new(alloc: Global, bytes: &'a [u8]) -> Result<Sought<'a>, AllocError>
         ensures { IfOk result (λ sought. sought.bytes.now ≡ bytes.now) }

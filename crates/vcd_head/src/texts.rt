@@ -1,14 +1,9 @@
 // Phrases that run to the first `$end`.
-ghost use Rattle.std.specs.Prelude.{◌≡◌, ℕ, ◌-◌, ◌^◌, ◌<◌, ◌≤◌, List, ◌++◌, length, OnOk, MatchResult};
+ghost use Rattle.std.specs.Prelude.{◌≡◌, ◌-◌, ◌^◌, ◌<◌, ◌≤◌, ◌++◌, length, OnOk};
 ghost use Rattle.std.specs.List.{join_with_byte};
-ghost use Rattle.vcd_model.specs.Input.{Input};
-ghost use Rattle.vcd_model.specs.HeaderPhrases.{HeaderPhrase};
-ghost use Rattle.vcd_model.specs.Reading.{Placed};
 ghost use Rattle.vcd_text.specs.Feed.{source_of};
-ghost use Rattle.vcd_head.specs.Reads.{Reads, Fails};
-ghost use Rattle.vcd_head.specs.Texts.{RunsOn, EndsThere, spaced};
-ghost use Rattle.vcd_text.specs.Advances.{Advances};
-ghost use Rattle.vcd_head.specs.Fault.{call_end};
+ghost use Rattle.vcd_head.specs.Calls.{MovesOn, ReadsToEnd};
+ghost use Rattle.vcd_head.specs.Texts.{spaced};
 
 use crate::fault::HeadFault;
 use crate::tokens::next_ends;
@@ -18,12 +13,8 @@ use vcd_text::{Feed, Source};
 /// Passes over the tokens up to the first `$end`.
 pub(crate) fn skip_to_end<S: Source>(feed: &mut Feed<'_, '_, '_, '_, S>) -> Result<(), HeadFault>
     requires { S.failures (source_of feed.old) < 2 ^ 64 - 1 }
-    ensures reads { (most : ℕ) (i : Input) (placed : List (Placed HeaderPhrase))
-        (before : List (List ℕ))
-        → RunsOn most placed before → Reads most i placed before feed.old
-        → MatchResult result (λ _. EndsThere most i placed before feed.new (λ inner. Unit {0}))
-        (λ fault. Fails most i fault feed.new) }
-    ensures advances { Advances S.failures feed.old feed.new (call_end result) }
+    ensures reads { ReadsToEnd feed.old feed.new (λ _ inner. Unit {0}) result }
+    ensures advances { MovesOn S.failures feed.old feed.new result }
 {
     'tokens: loop {
         if next_ends(feed)? {
@@ -38,14 +29,10 @@ pub(crate) fn append_to_end<S: Source>(
     text: &mut Vec<u8>,
 ) -> Result<(), HeadFault>
     requires { S.failures (source_of feed.old) < 2 ^ 64 - 1 }
-    ensures reads { (most : ℕ) (i : Input) (placed : List (Placed HeaderPhrase))
-        (before : List (List ℕ))
-        → RunsOn most placed before → Reads most i placed before feed.old
-        → MatchResult result (λ _. EndsThere most i placed before feed.new
-        (λ inner. text.new.items ≡ text.old.items ++ spaced inner))
-        (λ fault. Fails most i fault feed.new) }
+    ensures reads { ReadsToEnd feed.old feed.new
+        (λ _ inner. text.new.items ≡ text.old.items ++ spaced inner) result }
     ensures longer { OnOk result (length text.old.items ≤ length text.new.items) }
-    ensures advances { Advances S.failures feed.old feed.new (call_end result) }
+    ensures advances { MovesOn S.failures feed.old feed.new result }
 {
     'tokens: loop {
         if next_ends(feed)? {
@@ -56,19 +43,15 @@ pub(crate) fn append_to_end<S: Source>(
     }
 }
 
-/// The tokens before the first `$end`, with a space between.
+/// Returns the tokens before the first `$end`, with a space between.
 pub(crate) fn text_to_end<S: Source>(
     alloc: Global,
     feed: &mut Feed<'_, '_, '_, '_, S>,
 ) -> Result<Vec<u8>, HeadFault>
     requires { S.failures (source_of feed.old) < 2 ^ 64 - 1 }
-    ensures reads { (most : ℕ) (i : Input) (placed : List (Placed HeaderPhrase))
-        (before : List (List ℕ))
-        → RunsOn most placed before → Reads most i placed before feed.old
-        → MatchResult result (λ text. EndsThere most i placed before feed.new
-        (λ inner. text.items ≡ join_with_byte 32 inner))
-        (λ fault. Fails most i fault feed.new) }
-    ensures advances { Advances S.failures feed.old feed.new (call_end result) }
+    ensures reads { ReadsToEnd feed.old feed.new
+        (λ text inner. text.items ≡ join_with_byte 32 inner) result }
+    ensures advances { MovesOn S.failures feed.old feed.new result }
 {
     let mut text = Vec::new(alloc);
     if next_ends(feed)? {

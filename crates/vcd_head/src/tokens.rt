@@ -1,32 +1,23 @@
 // Tokens of a header, one after the other.
-ghost use Rattle.std.specs.Prelude.{◌≡◌, ℕ, ◌-◌, ◌^◌, ◌<◌, List, IfOk, OnOk, MatchResult};
-ghost use Rattle.vcd_model.specs.Input.{Input};
-ghost use Rattle.vcd_model.specs.HeaderPhrases.{HeaderPhrase};
-ghost use Rattle.vcd_model.specs.Reading.{Placed};
+ghost use Rattle.std.specs.Prelude.{◌≡◌, ◌-◌, ◌^◌, ◌<◌, IfOk, OnOk};
 ghost use Rattle.vcd_model.specs.Keywords.{is_end};
-ghost use Rattle.vcd_model.specs.HeaderReading.{header_grammar};
-ghost use Rattle.vcd_model.specs.SoFar.{IsSoFar};
 ghost use Rattle.vcd_model.specs.Tokens.{Token};
-ghost use Rattle.vcd_text.specs.Feed.{HasGiven, source_of, seen, token_of};
-ghost use Rattle.vcd_head.specs.Reads.{Reads, ReadsToken, Fails};
-ghost use Rattle.vcd_head.specs.Texts.{Welcomes, WordRead, WordTaken};
-ghost use Rattle.vcd_text.specs.Advances.{Advances};
-ghost use Rattle.vcd_head.specs.Fault.{call_end};
+ghost use Rattle.vcd_text.specs.Feed.{source_of, seen, token_of};
+ghost use Rattle.vcd_head.specs.Calls.{MovesOn, ReadsNext, ReadsOne, ReadsWord};
+ghost use Rattle.vcd_head.specs.Reads.{Reads};
 
 use crate::fault::HeadFault;
 use crate::words;
+use std::alloc::Global;
 use vcd_text::{Feed, Halt, Next, Source};
 
-/// The next token, or the fault of one that is missing. The feed need not show the one before it.
+/// Reads the next token; else returns the fault of one that is missing. The feed need not show the
+/// one before it.
 #[inline(always)]
-pub(crate) fn first_token<S: Source>(feed: &mut Feed<'_, '_, '_, '_, S>) -> Result<(), HeadFault>
+pub(crate) fn next_token<S: Source>(feed: &mut Feed<'_, '_, '_, '_, S>) -> Result<(), HeadFault>
     requires { S.failures (source_of feed.old) < 2 ^ 64 - 1 }
-    ensures reads { (most : ℕ) (i : Input) (given : List Token) (placed : List (Placed HeaderPhrase))
-        (before : List (List ℕ))
-        → HasGiven i given feed.old → IsSoFar (header_grammar most) given placed before
-        → MatchResult result (λ _. ReadsToken most i placed before feed.new)
-        (λ fault. Fails most i fault feed.new) }
-    ensures advances { Advances S.failures feed.old feed.new (call_end result) }
+    ensures reads { ReadsNext feed.old feed.new result }
+    ensures advances { MovesOn S.failures feed.old feed.new result }
     ensures progress { OnOk result (seen feed.old < seen feed.new) }
     ensures bounded { seen feed.new < 2 ^ 63 }
 {
@@ -39,33 +30,13 @@ pub(crate) fn first_token<S: Source>(feed: &mut Feed<'_, '_, '_, '_, S>) -> Resu
     }
 }
 
-/// The next token, or the fault of one that is missing.
-#[inline(always)]
-pub(crate) fn next_token<S: Source>(feed: &mut Feed<'_, '_, '_, '_, S>) -> Result<(), HeadFault>
-    requires { S.failures (source_of feed.old) < 2 ^ 64 - 1 }
-    ensures reads { (most : ℕ) (i : Input) (placed : List (Placed HeaderPhrase))
-        (before : List (List ℕ))
-        → Reads most i placed before feed.old
-        → MatchResult result (λ _. ReadsToken most i placed before feed.new)
-        (λ fault. Fails most i fault feed.new) }
-    ensures advances { Advances S.failures feed.old feed.new (call_end result) }
-    ensures progress { OnOk result (seen feed.old < seen feed.new) }
-    ensures bounded { seen feed.new < 2 ^ 63 }
-{
-    first_token(feed)
-}
-
 /// Reads the next token, and tells whether it is `$end`.
 #[inline(always)]
 pub(crate) fn next_ends<S: Source>(feed: &mut Feed<'_, '_, '_, '_, S>) -> Result<bool, HeadFault>
     requires { S.failures (source_of feed.old) < 2 ^ 64 - 1 }
-    ensures reads { (most : ℕ) (i : Input) (placed : List (Placed HeaderPhrase))
-        (before : List (List ℕ))
-        → Reads most i placed before feed.old
-        → MatchResult result (λ _. ReadsToken most i placed before feed.new)
-        (λ fault. Fails most i fault feed.new) }
+    ensures reads { ReadsOne feed.old feed.new result }
     ensures end { IfOk result (λ ends. ends ≡ is_end (token_of feed.new).bytes) }
-    ensures advances { Advances S.failures feed.old feed.new (call_end result) }
+    ensures advances { MovesOn S.failures feed.old feed.new result }
     ensures progress { OnOk result (seen feed.old < seen feed.new) }
     ensures bounded { seen feed.new < 2 ^ 63 }
 {
@@ -73,24 +44,17 @@ pub(crate) fn next_ends<S: Source>(feed: &mut Feed<'_, '_, '_, '_, S>) -> Result
     Ok(words::is_end(feed.token()))
 }
 
-/// Puts the next token to the text and returns its length, or nothing where it is `$end`.
+/// Reads the next token and returns its bytes, or none where it is `$end`.
 pub(crate) fn next_word<S: Source>(
+    alloc: Global,
     feed: &mut Feed<'_, '_, '_, '_, S>,
-    text: &mut Vec<u8>,
-) -> Result<Option<usize>, HeadFault>
+) -> Result<Option<Vec<u8>>, HeadFault>
     requires { S.failures (source_of feed.old) < 2 ^ 64 - 1 }
-    ensures reads { (most : ℕ) (i : Input) (placed : List (Placed HeaderPhrase))
-        (before : List (List ℕ))
-        → Welcomes most placed before → Reads most i placed before feed.old
-        → MatchResult result (WordRead most i placed before feed.new)
-        (λ fault. Fails most i fault feed.new) }
-    ensures text { IfOk result (WordTaken text.old.items text.new.items (token_of feed.new).bytes) }
-    ensures advances { Advances S.failures feed.old feed.new (call_end result) }
+    ensures reads { ReadsWord feed.old feed.new result }
+    ensures advances { MovesOn S.failures feed.old feed.new result }
 {
     if next_ends(feed)? {
         return Ok(None);
     }
-    let word = feed.token();
-    text.extend_from_slice(word)?;
-    Ok(Some(word.len()))
+    Ok(Some(Vec::from_slice(alloc, feed.token())?))
 }

@@ -1,23 +1,20 @@
 // The phrase of a variable, after its keyword.
-ghost use Rattle.std.specs.Prelude.{◌≡◌, ℕ, ◌-◌, ◌^◌, ◌<◌, List, [], ◌∷◌, Some, MatchResult, codes, bytes_eq};
+ghost use Rattle.std.specs.Prelude.{◌≡◌, ℕ, ◌-◌, ◌^◌, ◌<◌, List, [], ◌∷◌, codes, bytes_eq};
 ghost use Rattle.vcd_model.specs.Bytes.{decimal_value};
 ghost use Rattle.vcd_model.specs.Input.{Input};
 ghost use Rattle.vcd_model.specs.Keywords.{Keyword, keyword_text};
 ghost use Rattle.vcd_model.specs.HeaderPhrases.{HeaderPhrase, declarations_of};
 ghost use Rattle.vcd_model.specs.Reading.{Placed, phrases_of};
-ghost use Rattle.vcd_text.specs.Feed.{source_of, token_of};
-ghost use Rattle.vcd_head.specs.Reads.{Reads, Fails};
-ghost use Rattle.vcd_head.specs.Draft.{AtKeyword, DraftsUpTo, HasCodes};
+ghost use Rattle.vcd_text.specs.Feed.{source_of};
+ghost use Rattle.vcd_head.specs.Calls.{MovesOn, OrFails, ReadsPhrase};
+ghost use Rattle.vcd_head.specs.Reads.{Reads};
+ghost use Rattle.vcd_head.specs.Draft.{HasCodes};
 ghost use Rattle.vcd_head.specs.Variables.{SizeRead, CodeRead};
-ghost use Rattle.vcd_text.specs.Advances.{Advances};
-ghost use Rattle.vcd_head.specs.Fault.{call_end};
 
-use crate::code_place::place_of;
 use crate::codes::Codes;
-use crate::draft::{Draft, Found};
+use crate::declarations::{Reference, VariablePhrase, check_start, declare};
+use crate::draft::Draft;
 use crate::fault::HeadFault;
-use crate::rows::{WideRow, push};
-use crate::sought::Sought;
 use crate::texts::append_to_end;
 use crate::tokens::{next_token, next_word};
 use crate::words::{is_code, is_event, size_of};
@@ -25,14 +22,13 @@ use std::alloc::Global;
 use vcd_text::{Feed, Source};
 use vcd_view::Kind;
 
-/// The size of a variable, in bits.
+/// Reads the size of a variable, in bits.
 fn read_size<S: Source>(feed: &mut Feed<'_, '_, '_, '_, S>) -> Result<usize, HeadFault>
     requires { S.failures (source_of feed.old) < 2 ^ 64 - 1 }
     ensures reads { (most : ℕ) (i : Input) (placed : List (Placed HeaderPhrase)) (type : List ℕ)
         → Reads most i placed (keyword_text Keyword.Var ∷ type ∷ []) feed.old
-        → MatchResult result (SizeRead most i placed type feed.new)
-        (λ fault. Fails most i fault feed.new) }
-    ensures advances { Advances S.failures feed.old feed.new (call_end result) }
+        → OrFails most i feed.new (SizeRead most i placed type feed.new) result }
+    ensures advances { MovesOn S.failures feed.old feed.new result }
 {
     next_token(feed)?;
     match size_of(feed.token()) {
@@ -41,46 +37,35 @@ fn read_size<S: Source>(feed: &mut Feed<'_, '_, '_, '_, S>) -> Result<usize, Hea
     }
 }
 
-/// The code of a variable of this size, which is an event or none. Its bytes are held where it is
-/// new.
+/// Reads the code of a variable of this size, which is an event or none.
 fn read_code<S: Source>(
     alloc: Global,
     feed: &mut Feed<'_, '_, '_, '_, S>,
     known: &Codes,
-    held: &mut Vec<u8>,
     size: usize,
     event: bool,
-) -> Result<Found, HeadFault>
+) -> Result<Vec<u8>, HeadFault>
     requires { S.failures (source_of feed.old) < 2 ^ 64 - 1 }
     ensures reads { (most : ℕ) (i : Input) (placed : List (Placed HeaderPhrase))
         (type digits text : List ℕ)
         → HasCodes text known.now (declarations_of (phrases_of placed))
         → decimal_value digits ≡ size → bytes_eq (codes "event") type ≡ event
         → Reads most i placed (keyword_text Keyword.Var ∷ type ∷ digits ∷ []) feed.old
-        → MatchResult result (CodeRead most i placed type digits held.new.items feed.new)
-        (λ fault. Fails most i fault feed.new) }
-    ensures advances { Advances S.failures feed.old feed.new (call_end result) }
+        → OrFails most i feed.new (CodeRead most i placed type digits feed.new) result }
+    ensures advances { MovesOn S.failures feed.old feed.new result }
 {
     next_token(feed)?;
     let token = feed.token();
     if !is_code(token) {
         return Err(HeadFault::BadVariable);
     }
-    let Some(coded) = known.find_bytes(alloc, token) else {
-        held.clear();
-        held.extend_from_slice(token)?;
-        return Ok(Found::New);
-    };
-    if coded.code.size != size {
+    if !known.allow(alloc, token, size, event) {
         return Err(HeadFault::CodeDiffers);
     }
-    if coded.code.event != event {
-        return Err(HeadFault::CodeDiffers);
-    }
-    Ok(Found::Declared(coded.place))
+    Ok(Vec::from_slice(alloc, token)?)
 }
 
-/// A variable: type, size, code, one or more tokens of reference, and `$end`.
+/// Reads a variable: type, size, code, one or more tokens of reference, and `$end`.
 pub(crate) fn read_variable<S: Source>(
     alloc: Global,
     feed: &mut Feed<'_, '_, '_, '_, S>,
@@ -88,46 +73,28 @@ pub(crate) fn read_variable<S: Source>(
     draft: &mut Draft,
 ) -> Result<(), HeadFault>
     requires { S.failures (source_of feed.old) < 2 ^ 64 - 1 }
-    ensures reads { (i : Input) → AtKeyword most i Keyword.Var draft.old feed.old
-        → MatchResult result (λ _. DraftsUpTo most i draft.new feed.new)
-        (λ fault. Fails most i fault feed.new) }
-    ensures advances { Advances S.failures feed.old feed.new (call_end result) }
+    ensures reads { ReadsPhrase most Keyword.Var draft.old feed.old draft.new feed.new result }
+    ensures advances { MovesOn S.failures feed.old feed.new result }
 {
-    if draft.rows.len() as u64 >= most {
-        return Err(HeadFault::TooMany);
-    }
-    let start = draft.text.len();
-    let Some(word) = next_word(feed, &mut draft.text)? else {
+    check_start(draft, most, Kind::Var)?;
+    let Some(word) = next_word(alloc, feed)? else {
         return Err(HeadFault::BadVariable);
     };
-    let event = is_event(feed.token());
     let size = read_size(feed)?;
-    let found = read_code(alloc, feed, &draft.codes, &mut draft.held, size, event)?;
-    let Some(name) = next_word(feed, &mut draft.text)? else {
+    let code = read_code(alloc, feed, &draft.codes, size, is_event(&word))?;
+    let Some(mut text) = next_word(alloc, feed)? else {
         return Err(HeadFault::BadVariable);
     };
-    append_to_end(feed, &mut draft.text)?;
-    let all = draft.text.len() - start - word;
-    let code = place_of(
-        &mut draft.text,
-        &mut draft.codes,
-        found,
-        Sought::new(alloc, &draft.held)?,
+    let name = text.len();
+    append_to_end(feed, &mut text)?;
+    let variable = VariablePhrase {
+        word: &word,
         size,
-        event,
-    )?;
-    let parent = draft.parent();
-    push(
-        &mut draft.rows,
-        WideRow {
-            kind: Kind::Var,
-            parent,
-            start,
-            word,
-            name,
-            all,
-            code,
-        },
-    )?;
+        code: &code,
+        reference: Reference { name, text: &text },
+    };
+    if !declare(alloc, draft, variable)? {
+        return Err(HeadFault::CodeDiffers);
+    }
     Ok(())
 }

@@ -9,6 +9,7 @@ ghost use Rattle.vcd_head.specs.Words.{power_in, unit_in, size_in};
 
 use vcd_view::is;
 
+/// Tells whether the token is `$end`.
 #[inline(always)]
 pub(crate) fn is_end(token: &[u8]) -> bool
     ensures { result ≡ ends token.now }
@@ -16,7 +17,7 @@ pub(crate) fn is_end(token: &[u8]) -> bool
     matches!(token, [b'$', b'e', b'n', b'd'])
 }
 
-/// The keyword of a variable.
+/// Tells whether the token is the keyword of a variable.
 #[inline(always)]
 pub(crate) fn is_var(token: &[u8]) -> bool
     ensures { result ≡ bytes_eq (codes "$var") token.now }
@@ -24,6 +25,7 @@ pub(crate) fn is_var(token: &[u8]) -> bool
     matches!(token, [b'$', b'v', b'a', b'r'])
 }
 
+/// Tells whether the type is that of an event.
 #[inline(always)]
 pub(crate) fn is_event(word: &[u8]) -> bool
     ensures { result ≡ bytes_eq (codes "event") word.now }
@@ -31,7 +33,7 @@ pub(crate) fn is_event(word: &[u8]) -> bool
     matches!(word, [b'e', b'v', b'e', b'n', b't'])
 }
 
-/// The keyword of a scope.
+/// Tells whether the token is the keyword of a scope.
 #[inline(always)]
 pub(crate) fn is_scope(token: &[u8]) -> bool
     ensures { result ≡ bytes_eq (codes "$scope") token.now }
@@ -39,7 +41,7 @@ pub(crate) fn is_scope(token: &[u8]) -> bool
     matches!(token, [b'$', b's', b'c', b'o', b'p', b'e'])
 }
 
-/// The keyword that closes a scope.
+/// Tells whether the token is the keyword that closes a scope.
 #[inline(always)]
 pub(crate) fn is_upscope(token: &[u8]) -> bool
     ensures { result ≡ bytes_eq (codes "$upscope") token.now }
@@ -47,7 +49,7 @@ pub(crate) fn is_upscope(token: &[u8]) -> bool
     matches!(token, [b'$', b'u', b'p', b's', b'c', b'o', b'p', b'e'])
 }
 
-/// It could begin a time mark or a value change.
+/// Tells whether the token could begin a time mark or a value change.
 pub(crate) fn begins_change(token: &[u8]) -> bool
     ensures { result ≡ changes token.now }
 {
@@ -57,14 +59,14 @@ pub(crate) fn begins_change(token: &[u8]) -> bool
     }
 }
 
-// `$` and one or more bytes.
+/// Tells whether the token is `$` and one or more bytes.
 pub(crate) fn is_command(token: &[u8]) -> bool
     ensures { result ≡ commands token.now }
 {
     token.len() > 1 && token[0] == b'$'
 }
 
-/// The power of ten of a time scale's number.
+/// Returns the power of ten of a time scale's number.
 pub(crate) fn power_of(number: &[u8]) -> Option<i8>
     ensures { result ≡ power_in number.now }
 {
@@ -79,7 +81,7 @@ pub(crate) fn power_of(number: &[u8]) -> Option<i8>
     }
 }
 
-/// The power of ten of a time scale's unit, in seconds.
+/// Returns the power of ten of a time scale's unit, in seconds.
 pub(crate) fn unit_of(unit: &[u8]) -> Option<i8>
     ensures { result ≡ unit_in unit.now }
 {
@@ -100,7 +102,7 @@ pub(crate) fn unit_of(unit: &[u8]) -> Option<i8>
     }
 }
 
-/// The power of ten of a number and a unit in one token, in seconds.
+/// Returns the power of ten of a number and a unit in one token, in seconds.
 pub(crate) fn exponent_of(scale: &[u8]) -> Option<i8>
     ensures { result ≡ exponent_is scale.now }
 {
@@ -116,7 +118,7 @@ pub(crate) fn exponent_of(scale: &[u8]) -> Option<i8>
     None
 }
 
-// The power of ten of the unit and a number of this power.
+/// Returns the power of ten of the unit and a number of this power.
 fn raised(unit: &[u8], power: i8) -> Option<i8>
     requires low { pos 0 ≤ℤ power }
     requires high { power ≤ℤ pos 2 }
@@ -128,7 +130,7 @@ fn raised(unit: &[u8], power: i8) -> Option<i8>
     }
 }
 
-/// The size that the digits spell, 1 to 16,777,215.
+/// Returns the size that the digits spell, 1 to 16,777,215.
 #[inline(always)]
 pub(crate) fn size_of(token: &[u8]) -> Option<usize>
     ensures { result ≡ size_in token.now }
@@ -149,7 +151,7 @@ pub(crate) fn size_of(token: &[u8]) -> Option<usize>
 // One more than the greatest size.
 const TOO_WIDE: usize = 16_777_216;
 
-/// All bytes may stand in a code: 33 to 126 (clause 18.2.1).
+/// Tells whether all bytes may stand in a code: 33 to 126 (clause 18.2.1).
 #[inline(always)]
 pub(crate) fn is_code(token: &[u8]) -> bool
     ensures { result ≡ list_all is_code_byte token.now }

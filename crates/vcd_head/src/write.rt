@@ -1,5 +1,5 @@
 //! Headers as they are written.
-ghost use Rattle.std.specs.Prelude.{◌≡◌, true, false, ℕ, ℤ, ◌+◌, ◌-◌, ◌^◌, ◌<◌, ◌≤◌, List, [], ◌∷◌, flat_map, length, take, Some, slice_get, option_map, unwrap_or};
+ghost use Rattle.std.specs.Prelude.{◌≡◌, ℕ, ◌+◌, ◌-◌, ◌^◌, ◌<◌, List, [], ◌∷◌, flat_map, length, take, Some, slice_get, option_map, unwrap_or};
 ghost use Rattle.std.specs.List.{concat};
 ghost use Rattle.vcd_model.specs.Backward.{each};
 ghost use Rattle.vcd_model.specs.Declarations.{Declaration, Variable, enclosing, parent};
@@ -7,7 +7,8 @@ ghost use Rattle.vcd_model.specs.Header.{Header};
 ghost use Rattle.vcd_model.specs.HeadText.{head_text, head_for, rows_text, row_line, scope_line, var_line, up_lines_at, three_lines, three_lines_of, code_place, new_code};
 ghost use Rattle.vcd_model.specs.Keywords.{Keyword, keyword_text};
 ghost use Rattle.vcd_model.specs.Scales.{scale_text};
-ghost use Rattle.vcd_text.specs.Device.{Counts, Puts, Takes, failures_after};
+ghost use Rattle.vcd_text.specs.Device.{Counts, Puts, Takes};
+ghost use Rattle.vcd_head.specs.Written.{TakesHeader, TakesRow};
 ghost use Rattle.vcd_head.specs.Marks.{is_marked, marks_of};
 ghost use Rattle.vcd_view.specs.Views.{IsViewOf, reference_of, type_of};
 
@@ -49,7 +50,8 @@ fn put_section<W: Sink>(w: &mut W, keyword: &[u8], text: &[u8]) -> Result<(), Wr
     put_lines(w, keyword, text)
 }
 
-/// The number and the unit of the time scale of an exponent; no bytes where no scale has it.
+/// Returns the number and the unit of the time scale of an exponent; no bytes where no scale has
+/// it.
 pub(crate) fn text_of_exponent(exponent: i8) -> &'static [u8]
     ensures { result.now ≡ scale_text exponent }
 {
@@ -76,7 +78,7 @@ pub(crate) fn text_of_exponent(exponent: i8) -> &'static [u8]
     }
 }
 
-/// The number and the unit of a time scale; no bytes where there is none.
+/// Returns the number and the unit of a time scale; no bytes where there is none.
 fn text_of_scale(scale: Option<Scale>) -> &'static [u8]
     ensures { result.now ≡ unwrap_or
         (option_map scale_text (option_map (λ x. x.exponent) scale)) [] }
@@ -87,7 +89,7 @@ fn text_of_scale(scale: Option<Scale>) -> &'static [u8]
     }
 }
 
-/// The declaration of a row is marked.
+/// Tells whether the declaration of a row is marked.
 fn has_mark(marks: &[u8], row: usize) -> bool
     ensures { result ≡ is_marked marks.now row }
 {
@@ -101,9 +103,8 @@ pub(crate) fn put_scope<W: Sink>(
     w: &mut W,
 ) -> Result<(), WriteFailed>
     requires failures { (W.device w.old).failures < 2 ^ 64 - 1 }
-    ensures takes { (h : Header) (d : Declaration) → IsViewOf view.entry h
-        → slice_get h.declarations row ≡ Some d → Takes (W.device w.old) (W.device w.new)
-        (scope_line (type_of d) (reference_of d)) result }
+    ensures takes { TakesRow view.entry row (W.device w.old) (W.device w.new)
+        (λ h d. scope_line (type_of d) (reference_of d)) result }
     ensures counts { Counts (W.device w.old) (W.device w.new) result }
 {
     let type_text = view.type_of(row);
@@ -203,9 +204,8 @@ fn put_row<W: Sink>(
     w: &mut W,
 ) -> Result<(), WriteFailed>
     requires failures { (W.device w.old).failures < 2 ^ 64 - 1 }
-    ensures takes { (h : Header) (d : Declaration) → IsViewOf view.entry h
-        → slice_get h.declarations row ≡ Some d → Takes (W.device w.old) (W.device w.new)
-        (row_line (λ code. code) (is_marked marks.now) (take row h.declarations) d) result }
+    ensures takes { TakesRow view.entry row (W.device w.old) (W.device w.new)
+        (λ h. row_line (λ code. code) (is_marked marks.now) (take row h.declarations)) result }
     ensures counts { Counts (W.device w.old) (W.device w.new) result }
 {
     let Some(declared) = view.row_at(row) else {
@@ -225,9 +225,8 @@ fn put_row<W: Sink>(
 /// Writes the lines of the rows, in order.
 fn put_rows<W: Sink>(view: HeadView<'_>, marks: &[u8], w: &mut W) -> Result<(), WriteFailed>
     requires failures { (W.device w.old).failures < 2 ^ 64 - 1 }
-    ensures takes { (h : Header) → IsViewOf view.entry h
-        → Takes (W.device w.old) (W.device w.new)
-        (concat (each (row_line (λ code. code) (is_marked marks.now)) h.declarations)) result }
+    ensures takes { TakesHeader view.entry (W.device w.old) (W.device w.new)
+        (λ h. concat (each (row_line (λ code. code) (is_marked marks.now)) h.declarations)) result }
     ensures counts { Counts (W.device w.old) (W.device w.new) result }
 {
     for row in 0..view.rows.len() {
@@ -236,7 +235,7 @@ fn put_rows<W: Sink>(view: HeadView<'_>, marks: &[u8], w: &mut W) -> Result<(), 
     Ok(())
 }
 
-/// The row of the innermost scope that is open after the last row.
+/// Returns the row of the innermost scope that is open after the last row.
 fn innermost(view: HeadView<'_>) -> Option<usize>
     ensures { (h : Header) → IsViewOf view.entry h → result ≡ parent h.declarations }
 {
@@ -251,9 +250,8 @@ fn innermost(view: HeadView<'_>) -> Option<usize>
 /// Writes the lines that close the marked scopes still open after the last row, innermost first.
 fn put_open<W: Sink>(view: HeadView<'_>, marks: &[u8], w: &mut W) -> Result<(), WriteFailed>
     requires failures { (W.device w.old).failures < 2 ^ 64 - 1 }
-    ensures takes { (h : Header) → IsViewOf view.entry h
-        → Takes (W.device w.old) (W.device w.new)
-        (up_lines_at (is_marked marks.now) (enclosing h.declarations)) result }
+    ensures takes { TakesHeader view.entry (W.device w.old) (W.device w.new)
+        (λ h. up_lines_at (is_marked marks.now) (enclosing h.declarations)) result }
     ensures counts { Counts (W.device w.old) (W.device w.new) result }
 {
     let mut next = innermost(view);
@@ -268,9 +266,8 @@ fn put_open<W: Sink>(view: HeadView<'_>, marks: &[u8], w: &mut W) -> Result<(), 
 /// open.
 fn put_declarations<W: Sink>(view: HeadView<'_>, marks: &[u8], w: &mut W) -> Result<(), WriteFailed>
     requires failures { (W.device w.old).failures < 2 ^ 64 - 1 }
-    ensures takes { (h : Header) → IsViewOf view.entry h
-        → Takes (W.device w.old) (W.device w.new)
-        (rows_text (λ code. code) (is_marked marks.now) h.declarations) result }
+    ensures takes { TakesHeader view.entry (W.device w.old) (W.device w.new)
+        (λ h. rows_text (λ code. code) (is_marked marks.now) h.declarations) result }
     ensures counts { Counts (W.device w.old) (W.device w.new) result }
 {
     put_rows(view, marks, w)?;

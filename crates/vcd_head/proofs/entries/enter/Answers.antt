@@ -1,4 +1,4 @@
-use Rattle.std.proofs.Common.{◌≡◌, true, ap, ◌∙◌}
+use Rattle.std.proofs.Common.{ap, ◌∙◌}
 use Rattle.vcd_view.specs.Entries.{are_right, is_right}
 use Rattle.vcd_view.specs.Keys.{key_in}
 use Rattle.vcd_view.proofs.EntryLemmas.{all_written}

@@ -1,4 +1,4 @@
-use Rattle.std.proofs.Common.{◌≡◌, ◌+◌, ◌<◌, true, length, set, get_or, drop, sym, subst, ◌∙◌, arith}
+use Rattle.std.proofs.Common.{◌<◌, true, length, set, sym, subst, ◌∙◌, arith}
 use Rattle.std.proofs.lemmas.List.{drop_more, length-set}
 use Rattle.vcd_head.specs.Sieves.{Admitted}
 use Rattle.vcd_head.proofs.SieveLemmas.{is_set, kept_set, none_left}

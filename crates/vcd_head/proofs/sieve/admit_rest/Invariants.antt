@@ -1,4 +1,4 @@
-use Rattle.std.proofs.Common.{◌≡◌, ◌<◌, ℕ, List, Bool, drop, length}
+use Rattle.std.proofs.Common.{◌≡◌, ◌<◌, List, Bool, drop, length}
 use Rattle.vcd_head.specs.Sieves.{Admitted}
 use Rattle.vcd_head.proofs.SieveLemmas.{AreKept}
 use Rattle.vcd_head.proofs.sieve.admit_rest.Given as goal

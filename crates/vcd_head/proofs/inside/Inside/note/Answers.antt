@@ -1,4 +1,4 @@
-use Rattle.std.proofs.Common.{◌≡◌, ◌++◌, ◌<◌, ◌||◌, false, get_or, length, map, string_bytes, sym, ◌∙◌, arith}
+use Rattle.std.proofs.Common.{◌++◌, ◌||◌, false, get_or, map, string_bytes, sym, ◌∙◌, arith}
 use Rattle.std.proofs.lemmas.List.{length-map, length-set}
 use Rattle.vcd_model.specs.Selection.{selects_path}
 use Rattle.vcd_head.proofs.InsideLemmas.{none_whole, ruled_out}

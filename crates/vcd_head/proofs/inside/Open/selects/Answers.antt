@@ -1,5 +1,5 @@
-use Rattle.std.proofs.Common.{◌≡◌, map, string_bytes, take, sym, subst}
-use Rattle.vcd_model.specs.Declarations.{name_of, path_of}
+use Rattle.std.proofs.Common.{map, string_bytes, take, sym, subst}
+use Rattle.vcd_model.specs.Declarations.{name_of}
 use Rattle.vcd_model.specs.Selection.{selects_path}
 use Rattle.vcd_head.specs.Matched.{Matches}
 use Rattle.vcd_head.specs.Paths.{scopes_text}

@@ -1,0 +1,48 @@
+-- What calls promise that read the tokens of a header.
+use Rattle.std.specs.Global.{Vec}
+use Rattle.std.specs.Prelude.{ℕ, List, Option, Result, MatchResult}
+use Rattle.vcd_model.specs.HeaderPhrases.{HeaderPhrase}
+use Rattle.vcd_model.specs.Input.{Input}
+use Rattle.vcd_model.specs.Keywords.{Keyword}
+use Rattle.vcd_model.specs.HeaderReading.{header_grammar}
+use Rattle.vcd_model.specs.Reading.{Placed}
+use Rattle.vcd_model.specs.SoFar.{IsSoFar}
+use Rattle.vcd_model.specs.Tokens.{Token}
+use Rattle.vcd_text.specs.Advances.{Advances}
+use Rattle.vcd_text.specs.Feed.{HasGiven}
+use Rattle.vcd_text.specs.declared.device.Source.{Ghosts}
+use Rattle.vcd_text.specs.declared.feed.Feed.{Feed}
+use Rattle.vcd_head.specs.Draft.{AtKeyword, DraftsUpTo}
+use Rattle.vcd_head.specs.Fault.{call_end}
+use Rattle.vcd_head.specs.Reads.{Fails, Reads, ReadsToken}
+use Rattle.vcd_head.specs.Texts.{EndsThere, RunsOn, Welcomes, WordRead}
+use Rattle.vcd_head.specs.declared.draft.Draft.{Draft}
+use Rattle.vcd_head.specs.declared.fault.HeadFault.{HeadFault}
+
+-- the feed has moved on as far as the call says that ended so
+abbrev pub MovesOn : {X A : Type 0} {g : Ghosts X} → (X → ℕ) → (old new : Feed X g) → Result A HeadFault → Type 0
+MovesOn failures old new r = Advances failures old new (call_end r)
+
+-- the result is this, or the header's fault
+abbrev pub OrFails : {X A : Type 0} {g : Ghosts X} → ℕ → Input → Feed X g → (A → Type 0) → Result A HeadFault → Type 0
+OrFails most i f Q r = MatchResult r Q (λ fault. Fails most i fault f)
+
+-- behind this keyword the rest of its phrase was read, which the draft now holds
+abbrev pub ReadsPhrase : {X A : Type 0} {g : Ghosts X} → ℕ → Keyword → (old : Draft) → Feed X g → (new : Draft) → Feed X g → Result A HeadFault → Type 0
+ReadsPhrase most k old before new after r = (i : Input) → AtKeyword most i k old before → OrFails most i after (λ _. DraftsUpTo most i new after) r
+
+-- where a phrase runs on, its tokens were read up to the first `$end`
+abbrev pub ReadsToEnd : {X A : Type 0} {g : Ghosts X} → (old new : Feed X g) → (A → List (List ℕ) → Type 0) → Result A HeadFault → Type 0
+ReadsToEnd old new Grows r = (most : ℕ) (i : Input) (placed : List (Placed HeaderPhrase)) (before : List (List ℕ)) → RunsOn most placed before → Reads most i placed before old → OrFails most i new (λ x. EndsThere most i placed before new (Grows x)) r
+
+-- the next token was read, whether or not the feed showed the one before it
+abbrev pub ReadsNext : {X A : Type 0} {g : Ghosts X} → Feed X g → Feed X g → Result A HeadFault → Type 0
+ReadsNext old new r = (most : ℕ) (i : Input) (given : List Token) (placed : List (Placed HeaderPhrase)) (before : List (List ℕ)) → HasGiven i given old → IsSoFar (header_grammar most) given placed before → OrFails most i new (λ _. ReadsToken most i placed before new) r
+
+-- behind these first tokens of a phrase one more was read
+abbrev pub ReadsOne : {X A : Type 0} {g : Ghosts X} → Feed X g → Feed X g → Result A HeadFault → Type 0
+ReadsOne old new r = (most : ℕ) (i : Input) (placed : List (Placed HeaderPhrase)) (before : List (List ℕ)) → Reads most i placed before old → OrFails most i new (λ _. ReadsToken most i placed before new) r
+
+-- behind these first tokens, which a word may follow, one was read, or `$end` was looked at
+abbrev pub ReadsWord : {X : Type 0} {g : Ghosts X} → Feed X g → Feed X g → Result (Option (Vec ℕ)) HeadFault → Type 0
+ReadsWord old new r = (most : ℕ) (i : Input) (placed : List (Placed HeaderPhrase)) (before : List (List ℕ)) → Welcomes most placed before → Reads most i placed before old → OrFails most i new (WordRead most i placed before new) r

@@ -1,0 +1,52 @@
+-- What the declarations of a header are checked for, and what becomes of a draft that takes one.
+use Rattle.std.specs.Prelude.{◌≡◌, ◌≢◌, ℕ, Bool, List, [], ◌∷◌, ◌++◌, length, MatchBool, Some, None}
+use Rattle.std.specs.List.{join_with_byte}
+use Rattle.vcd_model.specs.Checks.{first_failed}
+use Rattle.vcd_model.specs.Declarations.{Declaration, Variable, first_token}
+use Rattle.vcd_model.specs.HeaderChecks.{agrees, start_checks}
+use Rattle.vcd_model.specs.HeaderPhrases.{HeaderPhrase, declarations_of}
+use Rattle.vcd_model.specs.Keywords.{Keyword}
+use Rattle.vcd_view.specs.declared.view.Kind.{Kind}
+use Rattle.vcd_view.specs.declared.view.Kind.TheVariants as kind
+use Rattle.vcd_head.specs.Draft.{IsDraftOf}
+use Rattle.vcd_head.specs.declared.declarations.Reference.{Reference}
+use Rattle.vcd_head.specs.declared.declarations.VariablePhrase.{VariablePhrase}
+use Rattle.vcd_head.specs.declared.draft.Draft.{Draft}
+use Rattle.vcd_head.specs.declared.fault.HeadFault.{HeadFault}
+use Rattle.vcd_head.specs.declared.fault.HeadFault.TheVariants.{TooMany, TooDeep, NoScope}
+
+-- the keyword of a declaration
+abbrev pub keyword_for : Kind → Keyword
+keyword_for kind.Scope = Keyword.Scope
+keyword_for kind.Up = Keyword.Upscope
+keyword_for kind.Var = Keyword.Var
+
+-- behind these phrases a declaration of this kind may stand, where `most` are allowed
+abbrev pub MayStart : ℕ → List HeaderPhrase → Kind → Type 0
+MayStart most ps k = first_failed (start_checks most (declarations_of ps) (keyword_for k)) ≡ None
+
+-- none may, for this fault
+abbrev pub IsBarred : ℕ → List HeaderPhrase → Kind → HeadFault → Type 0
+IsBarred most ps k TooMany = first_failed (start_checks most (declarations_of ps) (keyword_for k)) ≡ Some 11
+IsBarred most ps k TooDeep = first_failed (start_checks most (declarations_of ps) (keyword_for k)) ≡ Some 10
+IsBarred most ps k NoScope = first_failed (start_checks most (declarations_of ps) (keyword_for k)) ≡ Some 9
+IsBarred most ps k fault = ⊥
+
+-- where a declaration of this kind may stand, the draft now holds this one too
+abbrev pub Takes : Kind → Declaration → Draft → Draft → Type 0
+Takes k x old new = (most : ℕ) (ps : List HeaderPhrase) → IsDraftOf most old ps → MayStart most ps k → IsDraftOf most new (ps ++ HeaderPhrase.Declares x ∷ [])
+
+-- so it does of a variable that agrees with those before it; it holds the same where one does not
+abbrev pub TakesVariable : Variable → Draft → Draft → Bool → Type 0
+TakesVariable v old new taken = (most : ℕ) (ps : List HeaderPhrase) → IsDraftOf most old ps → MayStart most ps kind.Var
+    → (taken ≡ agrees (declarations_of ps) v) × MatchBool taken (IsDraftOf most new (ps ++ HeaderPhrase.Declares (Declaration.Var v) ∷ [])) (IsDraftOf most new ps)
+
+-- it says these tokens
+pub record Spells (r : Reference) (reference : List (List ℕ)) : Type 0 where
+  pub named : reference ≢ []
+  pub text_is : r.text.now ≡ join_with_byte 32 reference
+  pub name_is : r.name ≡ length (first_token reference)
+
+-- the variable of the phrase, with this reference
+abbrev pub spelled : VariablePhrase → List (List ℕ) → Variable
+spelled p reference = record { type = p.word.now; size = p.size; code = p.code.now; reference = reference }

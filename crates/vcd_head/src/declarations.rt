@@ -1,0 +1,182 @@
+// What the declarations of a header are checked for, and what becomes of the head.
+ghost use Rattle.std.specs.Prelude.{◌≡◌, ℕ, List, ◌++◌, IfOk, IfErr, MatchResult};
+ghost use Rattle.vcd_model.specs.Declarations.{Declaration};
+ghost use Rattle.vcd_model.specs.HeaderPhrases.{HeaderPhrase};
+ghost use Rattle.vcd_text.specs.Advances.{CallEnd};
+ghost use Rattle.vcd_view.specs.Views.{IsSize};
+ghost use Rattle.vcd_view.specs.declared.view.Kind.TheVariants.{Scope, Up};
+ghost use Rattle.vcd_head.specs.Declares.{IsBarred, MayStart, Spells, Takes, TakesVariable, spelled};
+ghost use Rattle.vcd_head.specs.Draft.{IsDraftOf};
+ghost use Rattle.vcd_head.specs.Fault.{call_end};
+
+use crate::code_place::enter_code;
+use crate::draft::Draft;
+use crate::fault::HeadFault;
+use crate::rows::{WideRow, push};
+use crate::sought::Sought;
+use crate::words::is_event;
+use std::alloc::{AllocError, Global};
+use vcd_view::Kind;
+
+// How many scopes may be open (profile).
+const MOST_OPEN: usize = 1000;
+
+// What the phrase of a variable says.
+#[derive(Clone, Copy)]
+pub(crate) struct VariablePhrase<'a> {
+    // Its type.
+    pub(crate) word: &'a [u8],
+    pub(crate) size: usize,
+    pub(crate) code: &'a [u8],
+    pub(crate) reference: Reference<'a>,
+}
+
+// What a phrase refers to a variable by.
+#[derive(Clone, Copy)]
+pub(crate) struct Reference<'a> {
+    // The bytes of its first token.
+    pub(crate) name: usize,
+    // Its tokens, with a space between.
+    pub(crate) text: &'a [u8],
+}
+
+// What the phrase of a scope says.
+#[derive(Clone, Copy)]
+pub(crate) struct ScopePhrase<'a> {
+    // Its type.
+    pub(crate) word: &'a [u8],
+    pub(crate) name: &'a [u8],
+}
+
+/// Checks that a declaration of this kind may stand next: `most` may be read in all, 1,000 scopes
+/// may be open, and only an open scope is closed.
+#[inline(always)]
+pub(crate) fn check_start(draft: &Draft, most: u64, kind: Kind) -> Result<(), HeadFault>
+    ensures checks { (ps : List HeaderPhrase) → IsDraftOf most draft.now ps
+        → MatchResult result (λ _. MayStart most ps kind) (IsBarred most ps kind) }
+    ensures ends { IfErr result (λ _. call_end result ≡ CallEnd.Ends) }
+{
+    if draft.rows.len() as u64 >= most {
+        return Err(HeadFault::TooMany);
+    }
+    match kind {
+        Kind::Scope => {
+            if draft.scopes.len() >= MOST_OPEN {
+                return Err(HeadFault::TooDeep);
+            }
+            Ok(())
+        }
+        Kind::Up => {
+            if draft.scopes.is_empty() {
+                return Err(HeadFault::NoScope);
+            }
+            Ok(())
+        }
+        Kind::Var => Ok(()),
+    }
+}
+
+/// Puts the type and the reference of a variable to the text.
+#[inline(always)]
+fn put_texts(text: &mut Vec<u8>, variable: VariablePhrase<'_>) -> Result<(), AllocError>
+    ensures text { IfOk result (λ _. text.new.items
+        ≡ text.old.items ++ (variable.entry.word.now ++ variable.entry.reference.text.now)) }
+{
+    text.extend_from_slice(variable.word)?;
+    text.extend_from_slice(variable.reference.text)?;
+    Ok(())
+}
+
+/// Declares a variable, and tells whether its code allows that: not where it was declared with
+/// another size, or where one of the two is an event and the other is not.
+#[inline(always)]
+pub(crate) fn declare(
+    alloc: Global,
+    draft: &mut Draft,
+    variable: VariablePhrase<'_>,
+) -> Result<bool, HeadFault>
+    ensures declares { (reference : List (List ℕ)) → IsSize variable.entry.size
+        → Spells variable.entry.reference reference
+        → IfOk result (TakesVariable (spelled variable.entry reference) draft.old draft.new) }
+    ensures memory { IfErr result (λ fault. fault ≡ HeadFault.OutOfMemory) }
+{
+    let event = is_event(variable.word);
+    let code = Sought::new(alloc, variable.code)?;
+    let Some(place) = enter_code(
+        &mut draft.text,
+        &mut draft.codes,
+        code,
+        variable.size,
+        event,
+    )?
+    else {
+        return Ok(false);
+    };
+    let start = draft.text.len();
+    put_texts(&mut draft.text, variable)?;
+    let word = variable.word.len();
+    let all = variable.reference.text.len();
+    let parent = draft.parent();
+    push(
+        &mut draft.rows,
+        WideRow {
+            kind: Kind::Var,
+            parent,
+            start,
+            word,
+            name: variable.reference.name,
+            all,
+            code: place,
+        },
+    )?;
+    Ok(true)
+}
+
+/// Opens a scope.
+#[inline(always)]
+pub(crate) fn open_scope(draft: &mut Draft, scope: ScopePhrase<'_>) -> Result<(), HeadFault>
+    ensures opens { IfOk result (λ _. Takes Scope
+        (Declaration.Scope scope.entry.word.now scope.entry.name.now) draft.old draft.new) }
+    ensures memory { IfErr result (λ fault. fault ≡ HeadFault.OutOfMemory) }
+{
+    let start = draft.text.len();
+    draft.text.extend_from_slice(scope.word)?;
+    draft.text.extend_from_slice(scope.name)?;
+    let parent = draft.parent();
+    push(
+        &mut draft.rows,
+        WideRow {
+            kind: Kind::Scope,
+            parent,
+            start,
+            word: scope.word.len(),
+            name: scope.name.len(),
+            all: scope.name.len(),
+            code: 0,
+        },
+    )?;
+    draft.scopes.push(draft.rows.len())?;
+    Ok(())
+}
+
+/// Closes the innermost open scope; one is open where this may stand.
+#[inline(always)]
+pub(crate) fn close_scope(draft: &mut Draft) -> Result<(), HeadFault>
+    ensures closes { IfOk result (λ _. Takes Up Declaration.Up draft.old draft.new) }
+    ensures memory { IfErr result (λ fault. fault ≡ HeadFault.OutOfMemory) }
+{
+    let closed = draft.scopes.pop().unwrap_or(0);
+    push(
+        &mut draft.rows,
+        WideRow {
+            kind: Kind::Up,
+            parent: closed,
+            start: 0,
+            word: 0,
+            name: 0,
+            all: 0,
+            code: 0,
+        },
+    )?;
+    Ok(())
+}
