@@ -1,66 +1,33 @@
 //! The steps of one input of a merge, over its source and its windows alone.
-ghost use Rattle.std.specs.Prelude.{◌≡◌, ◌≢◌, ℕ, ◌+◌, ◌-◌, ◌*◌, ◌^◌, ◌<◌, ◌≤◌, ◌++◌, ◌∷◌, [], List, Some, length, option_map, slice_get, IfOk, IfSome, IfNone, MatchBool, MatchResult, Ok, true, false, is_some, ◌&&◌};
+ghost use Rattle.std.specs.Prelude.{◌≡◌, ◌≢◌, ℕ, ◌+◌, ◌-◌, ◌^◌, ◌<◌, ◌≤◌, ◌++◌, [], List, Some, length, slice_get, IfOk, IfSome, MatchOption, Ok, true, false, is_some, ◌&&◌};
 ghost use Rattle.vcd_model.specs.Header.{Header};
-ghost use Rattle.vcd_model.specs.Items.{BodyItem, time_after};
-ghost use Rattle.vcd_model.specs.Declarations.{IdCode};
-ghost use Rattle.vcd_model.specs.Merge.{is_too_large};
+ghost use Rattle.vcd_model.specs.Items.{BodyItem};
+ghost use Rattle.vcd_model.specs.ItemText.{time_due};
 ghost use Rattle.vcd_model.specs.Tokens.{Token};
-ghost use Rattle.vcd_model.specs.MergeByInput.{due_with, entry_for, written_with};
-ghost use Rattle.vcd_text.specs.Device.{Counts, Takes, failures_after};
+ghost use Rattle.vcd_text.specs.Device.{Counts, Puts, failures_after};
 ghost use Rattle.vcd_text.specs.Feed.{SameLoans, source_of, parked_of, seen, limit_of, chunk_len_of, parked_seen};
 ghost use Rattle.vcd_text.specs.Registers.{Fits};
-ghost use Rattle.vcd_view.specs.Finds.{IsSized};
-ghost use Rattle.vcd_view.specs.Shown.{parts};
 ghost use Rattle.vcd_view.specs.Views.{IsViewOf};
 ghost use Rattle.vcd_view.specs.declared.view.Code.{Code};
 ghost use Rattle.vcd_text.specs.Advances.{Advances, CallEnd, HasNotFailed};
 ghost use Rattle.vcd_text.specs.Ahead.{bytes_of, longest_of, passed_of};
 ghost use Rattle.vcd_text.specs.Passed.{Passed};
-ghost use Rattle.vcd_body.specs.Ahead.{HasBits, IsSizedItem};
-ghost use Rattle.vcd_body.specs.Given.{HasGoodText, IsItem};
-ghost use Rattle.vcd_body.specs.Items.{AreRegsAfter, regs_after};
-ghost use Rattle.vcd_body.specs.declared.item.Regs.{Regs};
+ghost use Rattle.vcd_body.specs.declared.item.Form.{Form};
+ghost use Rattle.vcd_body.specs.declared.item.Item.TheVariants as item;
 ghost use Rattle.vcd_body.specs.Answer.{NamesInput, reads_failed, writes_failed};
 ghost use Rattle.vcd_merge.specs.Seat.{AtSeat, IsSeated, Lane, SameSeat, Turns, spot_with};
 ghost use Rattle.vcd_merge.specs.SeatStep.{Moved};
 ghost use Rattle.vcd_merge.specs.MergeTrail.{AheadTurns, RunTurns, stage_with};
-ghost use Rattle.vcd_merge.specs.MergeAhead.{IsAhead, RunsAhead, seat_with};
+ghost use Rattle.vcd_merge.specs.MergeAhead.{IsAhead, IsPutable, PutsDue, RunsAhead, TakesNext, seat_with};
 
 use crate::seat::Seat;
 use vcd_body::{
-    Bits, Form, Item, Stop, change_text, item_ahead, next_item, pass_items, put_renamed_bits,
-    put_time_unless,
+    First, Item, Plain, Stop, change_text, mark_ahead, next_item, opening_ahead, pass_items,
+    put_renamed_bits, put_time, real_ahead, scalar_ahead, time_ahead, vector_ahead,
+    vector_tokens_ahead,
 };
 use vcd_text::{Ahead, Feed, Sink, Source, WriteFailed};
 use vcd_view::HeadView;
-
-/// What a code is of, as a change is written.
-#[derive(Clone, Copy)]
-struct Kind {
-    size: usize,
-    event: bool,
-}
-
-/// What the code at a place is of. Where its size is known, the codes are not looked at: then it is
-/// no event.
-#[inline(always)]
-fn kind_at(view: HeadView<'_>, place: usize, most: usize) -> Option<Kind>
-    requires { most ≢ 0 → IsSized view.codes.now (record { place = place; most = most }) }
-    ensures { result ≡ option_map (λ (c : Code). record { size = c.size; event = c.event })
-        (slice_get view.entry.codes.now place) }
-{
-    if most != 0 {
-        return Some(Kind {
-            size: most,
-            event: false,
-        });
-    }
-    let code = view.code_at(place)?;
-    Some(Kind {
-        size: code.size,
-        event: code.event,
-    })
-}
 
 /// An event inside a section is not written.
 #[inline(always)]
@@ -70,94 +37,168 @@ fn is_left_out(event: bool, seat: &Seat) -> bool
     event && seat.regs.section.is_some()
 }
 
-/// Writes a change with this text, whose digits may be known as a number, under its new code, after
-/// the line of its time. The code's size may be known; 0 says nothing. An event inside a section is
-/// left out.
+/// Writes the line of a time, unless it was written last.
 #[inline(always)]
-fn put_change_at<W: Sink>(
-    view: HeadView<'_>,
-    code: usize,
-    most: usize,
-    form: Form,
-    text: &[u8],
-    bits: Option<Bits>,
-    seat: &Seat,
+fn put_due_time<W: Sink>(
+    time: u64,
     written: &mut Option<u64>,
     out: &mut W,
 ) -> Result<(), WriteFailed>
-    requires failures { (W.device out.old).failures < 2 ^ 64 - 1 }
-    requires sound { HasGoodText view.codes.now text.now (Item.Change code form) }
-    requires sized { most ≢ 0 → IsSized view.codes.now (record { place = code; most = most }) }
-    requires bits { HasBits (Item.Change code form) text.now bits }
-    ensures takes { (scale first : ℕ) (h : Header) (items : List BodyItem) (x : BodyItem)
-        → IsViewOf view.entry h → AreRegsAfter items seat.now.regs
-        → seat.now.time ≡ scale * time_after items → seat.now.first ≡ first
-        → first + length h.codes < 2 ^ 64 → IsItem h.codes text.now (Item.Change code form) x
-        → Takes (W.device out.old) (W.device out.new)
-        (due_with written.old (entry_for scale first h items x)) result
-        × IfOk result (λ _. written.new
-        ≡ written_with written.old (entry_for scale first h items x)) }
-    ensures counts { Counts (W.device out.old) (W.device out.new) result }
+    requires { (W.device out.old).failures < 2 ^ 64 - 1 }
+    ensures puts { Puts (W.device out.old) (W.device out.new) (time_due written.old time) result }
+    ensures written { IfOk result (λ _. written.new ≡ Some time) }
 {
-    let Some(kind) = kind_at(view, code, most) else {
-        return Ok(());
-    };
-    if is_left_out(kind.event, seat) {
+    if *written == Some(time) {
         return Ok(());
     }
-    put_time_unless(*written, seat.time, out)?;
-    *written = Some(seat.time);
-    let number = seat.first.saturating_add(code as u64);
-    put_renamed_bits(kind.size, kind.event, form, text, bits, number, out)
+    put_time(time, out)?;
+    *written = Some(time);
+    Ok(())
 }
 
-/// Writes what is due with an item that lies ahead; a change alone has something.
+/// Writes a change of a code of this size, of an event or none, under its new code, after the line
+/// of its time. An event inside a section is left out.
 #[inline(always)]
-fn put_item_at<W: Sink>(
+fn put_sized<W: Sink>(
+    size: usize,
+    event: bool,
+    change: Plain<'_>,
     view: HeadView<'_>,
-    item: Item,
-    most: usize,
-    text: &[u8],
-    bits: Option<Bits>,
     seat: &Seat,
     written: &mut Option<u64>,
     out: &mut W,
 ) -> Result<(), WriteFailed>
     requires failures { (W.device out.old).failures < 2 ^ 64 - 1 }
-    requires sound { HasGoodText view.codes.now text.now item }
-    requires sized { IsSizedItem view.codes.now item most }
-    requires bits { HasBits item text.now bits }
-    ensures takes { (scale first : ℕ) (h : Header) (items : List BodyItem) (x : BodyItem)
-        → IsViewOf view.entry h → AreRegsAfter items seat.now.regs
-        → seat.now.time ≡ scale * time_after items → seat.now.first ≡ first
-        → first + length h.codes < 2 ^ 64 → IsItem h.codes text.now item x
-        → Takes (W.device out.old) (W.device out.new)
-        (due_with written.old (entry_for scale first h items x)) result
-        × IfOk result (λ _. written.new
-        ≡ written_with written.old (entry_for scale first h items x)) }
+    requires put { IsPutable view change }
+    requires kind { (code : ℕ) (form : Form) → change.item ≡ item.Change code form
+        → (d : Code) × (slice_get view.codes.now code ≡ Some d)
+        × (d.size ≡ size) × (d.event ≡ event) }
+    ensures takes { PutsDue view.entry change.entry seat.now
+        written.old written.new (W.device out.old) (W.device out.new) result }
     ensures counts { Counts (W.device out.old) (W.device out.new) result }
 {
-    match item {
+    match change.item {
         Item::Change { code, form } => {
-            put_change_at(view, code, most, form, text, bits, seat, written, out)
-        },
+            if is_left_out(event, seat) {
+                return Ok(());
+            }
+            put_due_time(seat.time, written, out)?;
+            let number = seat.first.saturating_add(code as u64);
+            put_renamed_bits(size, event, form, change.text, change.bits, number, out)
+        }
         Item::Time(_) | Item::Begin(_) | Item::End | Item::Finish => Ok(()),
     }
 }
 
-/// The time of an input after an item, scaled; none where that is too large.
-#[inline(always)]
-fn time_with(item: Item, seat: &Seat) -> Option<u64>
-    ensures time { (scale : ℕ) (regs : Regs) → seat.now.factor ≡ scale
-        → seat.now.time ≡ scale * regs.time
-        → IfSome result (λ time. time ≡ scale * (regs_after regs item).time) }
-    ensures small { IfSome result (λ _. (codes : List IdCode) (text : List ℕ) (x : BodyItem)
-        → IsItem codes text item x → is_too_large seat.now.factor x ≡ false) }
+/// Writes a change of a code whose size was not told.
+// Not inlined: of most codes it was.
+#[cold]
+#[inline(never)]
+fn put_unsized<W: Sink>(
+    change: Plain<'_>,
+    view: HeadView<'_>,
+    seat: &Seat,
+    written: &mut Option<u64>,
+    out: &mut W,
+) -> Result<(), WriteFailed>
+    requires failures { (W.device out.old).failures < 2 ^ 64 - 1 }
+    requires put { IsPutable view change }
+    ensures takes { PutsDue view.entry change.entry seat.now
+        written.old written.new (W.device out.old) (W.device out.new) result }
+    ensures counts { Counts (W.device out.old) (W.device out.new) result }
 {
-    match item {
-        Item::Time(time) => time.checked_mul(seat.factor),
-        Item::Change { .. } | Item::Begin(_) | Item::End | Item::Finish => Some(seat.time),
+    match change.item {
+        Item::Change { code, .. } => {
+            let Some(code) = view.code_at(code) else {
+                return Ok(());
+            };
+            put_sized(code.size, code.event, change, view, seat, written, out)
+        }
+        Item::Time(_) | Item::Begin(_) | Item::End | Item::Finish => Ok(()),
     }
+}
+
+/// Writes what is due with an item: a change alone has something, under its new code, after the
+/// line of its time.
+#[inline(always)]
+fn put_item<W: Sink>(
+    plain: Plain<'_>,
+    view: HeadView<'_>,
+    seat: &Seat,
+    written: &mut Option<u64>,
+    out: &mut W,
+) -> Result<(), WriteFailed>
+    requires failures { (W.device out.old).failures < 2 ^ 64 - 1 }
+    requires put { IsPutable view plain }
+    ensures takes { PutsDue view.entry plain.entry seat.now
+        written.old written.new (W.device out.old) (W.device out.new) result }
+    ensures counts { Counts (W.device out.old) (W.device out.new) result }
+{
+    if plain.most == 0 {
+        return put_unsized(plain, view, seat, written, out);
+    }
+    put_sized(plain.most, false, plain, view, seat, written, out)
+}
+
+/// Takes the next item that lies ahead, and writes what is due with it. None where it takes none,
+/// and then nothing has changed; a time that is too large once it is scaled is not taken.
+// What begins the item, and whether its digits are known, is asked once: what is written follows in
+// each arm.
+#[inline(always)]
+fn take_next<W: Sink>(
+    view: HeadView<'_>,
+    seat: &mut Seat,
+    written: &mut Option<u64>,
+    ahead: &mut Ahead<'_>,
+    out: &mut W,
+) -> Option<Result<(), WriteFailed>>
+    requires failures { (W.device out.old).failures < 2 ^ 64 - 1 }
+    ensures next { MatchOption result
+        ((seat.new ≡ seat.old) × (written.new ≡ written.old) × (ahead.new ≡ ahead.old)
+        × (W.device out.new ≡ W.device out.old))
+        (λ put. TakesNext view.entry ahead.old ahead.new seat.old seat.new
+        written.old written.new (W.device out.old) (W.device out.new) put) }
+    ensures counts { IfSome result (λ put. Counts (W.device out.old) (W.device out.new) put) }
+{
+    let mut next = *ahead;
+    let opening = opening_ahead(&mut next)?;
+    let put = match opening.first {
+        First::Bit => {
+            let plain = scalar_ahead(opening, next, view)?;
+            put_item(plain, view, seat, written, out)
+        }
+        First::Scalar => {
+            let plain = scalar_ahead(opening, next, view)?;
+            put_item(plain, view, seat, written, out)
+        }
+        First::Vector => {
+            let tokens = vector_tokens_ahead(opening, &mut next)?;
+            match tokens.bits {
+                Some(bits) => {
+                    let plain = vector_ahead(tokens, Some(bits), next, view)?;
+                    put_item(plain, view, seat, written, out)
+                }
+                None => {
+                    let plain = vector_ahead(tokens, None, next, view)?;
+                    put_item(plain, view, seat, written, out)
+                }
+            }
+        }
+        First::Mark => {
+            let time = time_ahead(opening)?;
+            let scaled = time.checked_mul(seat.factor)?;
+            mark_ahead(opening, time, next, &mut seat.regs)?;
+            seat.time = scaled;
+            Ok(())
+        }
+        First::Real => {
+            let plain = real_ahead(opening, &mut next, view)?;
+            put_item(plain, view, seat, written, out)
+        }
+        First::Other => return None,
+    };
+    *ahead = next;
+    Some(put)
 }
 
 /// How the taking of items ahead has left an input.
@@ -233,31 +274,14 @@ fn items_ahead<W: Sink>(
     ensures counts { Counts (W.device out.old) (W.device out.new) result.ended }
 {
     'items: loop {
-        let mut next = ahead;
-        let mut regs = seat.regs;
-        let Some(plain) = item_ahead(&mut next, view, &mut regs) else {
+        let Some(put) = take_next(view, &mut seat, &mut written, &mut ahead, out) else {
             return Taken::until(ahead, seat, written, Ok(false));
         };
-        let Some(time) = time_with(plain.item, &seat) else {
-            return Taken::until(ahead, seat, written, Ok(false));
-        };
-        let put = put_item_at(
-            view,
-            plain.item,
-            plain.most,
-            plain.text,
-            plain.bits,
-            &seat,
-            &mut written,
-            out,
-        );
-        ahead = next;
-        seat.regs = regs;
-        seat.time = time;
-        if let Err(failed) = put {
-            return Taken::until(ahead, seat, written, Err(failed));
+        match put {
+            Ok(()) => {}
+            Err(failed) => return Taken::until(ahead, seat, written, Err(failed)),
         }
-        if time >= before {
+        if seat.time >= before {
             return Taken::until(ahead, seat, written, Ok(true));
         }
     }
@@ -337,18 +361,16 @@ fn take_item<S: Source, W: Sink>(
                 });
             }
         },
-        Item::Change { code, form } => {
-            put_change_at(
-                view,
-                code,
-                0,
-                form,
-                change_text(feed, form),
-                None,
-                seat,
-                written,
-                out,
-            )?;
+        Item::Change { form, .. } => {
+            let change = Plain {
+                item,
+                text: change_text(feed, form),
+                most: 0,
+                at: 0,
+                code_at: 0,
+                bits: None,
+            };
+            put_unsized(change, view, seat, written, out)?;
         }
         Item::Begin(_) => {}
         Item::End => {}
