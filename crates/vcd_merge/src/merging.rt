@@ -15,9 +15,9 @@ ghost use Rattle.vcd_text.specs.Passed.{Passed};
 ghost use Rattle.vcd_body.specs.declared.item.Form.{Form};
 ghost use Rattle.vcd_body.specs.declared.item.Item.TheVariants as item;
 ghost use Rattle.vcd_body.specs.Answer.{NamesInput, reads_failed, writes_failed};
-ghost use Rattle.vcd_merge.specs.Seat.{AtSeat, IsSeated, Lane, SameSeat, Turns, spot_with};
+ghost use Rattle.vcd_merge.specs.Seat.{AtSeat, IsSeated, Lane, SameSeat, Turns, spot, spot_with};
 ghost use Rattle.vcd_merge.specs.SeatStep.{Moved};
-ghost use Rattle.vcd_merge.specs.MergeTrail.{AheadTurns, RunTurns, stage_with};
+ghost use Rattle.vcd_merge.specs.MergeTrail.{AheadTurns, RunTurns, stage, stage_with};
 ghost use Rattle.vcd_merge.specs.MergeAhead.{IsAhead, IsPutable, PutsDue, RunsAhead, TakesNext, seat_with};
 
 use crate::seat::Seat;
@@ -440,31 +440,11 @@ pub(crate) fn run_of<S: Source, W: Sink>(
     requires same_limit { length value.old ≡ length token.old }
     requires seated { IsSeated (length chunk.old) (length token.old) seat.old }
     requires unfinished { seat.old.finished ≡ false }
-    ensures turns { (scale first : ℕ) (l : Lane) (items : List BodyItem)
-        → IsViewOf view.entry l.header
-        → AtSeat scale first l items
-        (record {
-          seat = seat.old;
-          rest = S.rest source.old;
-          chunk = chunk.old;
-          token = token.old;
-        })
+    ensures turns { (scale first : ℕ) (l : Lane) (items : List BodyItem) → IsViewOf view.entry l.header
+        → AtSeat scale first l items (spot seat.old (S.rest source.old) chunk.old token.old)
         → RunTurns S.rest S.failures input scale first l before
-        (record {
-          items = items;
-          written = written.old;
-          seat = seat.old;
-          source = source.old;
-          chunk = chunk.old;
-          token = token.old;
-          out = W.device out.old;
-        }) written.new
-        (record {
-          seat = seat.new;
-          rest = S.rest source.new;
-          chunk = chunk.new;
-          token = token.new;
-        })
+        (stage items written.old seat.old source.old chunk.old token.old (W.device out.old))
+        written.new (spot seat.new (S.rest source.new) chunk.new token.new)
         (W.device out.new) result }
     ensures seated { IfOk result (λ _. IsSeated (length chunk.old) (length token.old) seat.new) }
     ensures same { SameSeat seat.old seat.new }
