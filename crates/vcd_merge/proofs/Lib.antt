@@ -10,8 +10,6 @@ pub mod MergeAnswers
 pub mod MergeCounts
 pub mod MergeTrails
 pub mod MergeRunOn
-pub mod MergeFirst
-pub mod MergeTurns
 pub mod OrderLemmas
 pub mod MergeRuns
 pub mod MergeCloses

@@ -1,11 +1,14 @@
 -- What a step of one input counts: failed reads, and how much is left.
-use Rattle.std.proofs.Common.{◌≡◌, ℕ, zero, suc, ◌+◌, ◌-◌, ◌^◌, ◌<◌, Bool, true, false, cond, List, [], ◌∷◌, length, map, slice_get, slice_set, Some, refl, sym, ap, ◌∙◌, arith}
+use Rattle.std.proofs.Common.{◌≡◌, ℕ, zero, suc, ◌+◌, ◌-◌, ◌^◌, ◌<◌, Bool, true, false, cond, List, [], ◌∷◌, length, map, slice_get, slice_set, Some, Err, refl, sym, ap, ◌∙◌, arith}
 use Rattle.std.specs.Prelude.{All, get_or, sum_by}
 use Rattle.std.proofs.lemmas.Option.{slice_get-get_or}
 use Rattle.vcd_merge.specs.Seat.{IsSeated}
 use Rattle.std.proofs.lemmas.List.Sums.{sum_by-append}
 use Rattle.vcd_text.specs.Feed.{parked_seen}
-use Rattle.vcd_merge.specs.MergeStep.{left_of}
+use Rattle.vcd_body.specs.Answer.{NamesInput, writes_failed}
+use Rattle.vcd_body.specs.declared.answer.Stop.{Stop}
+use Rattle.vcd_body.specs.declared.answer.Stop.TheVariants.{Dump, Read, Write, Unmatched}
+use Rattle.vcd_merge.specs.MergeStep.{failures_with, left_of}
 use Rattle.vcd_merge.specs.declared.seat.Seat.{Seat}
 
 pub map_set : {X Y : Type 0} (f : X → Y) (xs : List X) (k : ℕ) (x : X) → map f (slice_set xs k x) ≡ slice_set (map f xs) k (f x)
@@ -55,3 +58,22 @@ left_moved seats k d s' c t within seated on below moved =
     let fits = (seated k d within).fits in
     let a = fits.at in let b = fits.counted in
     left_falls seats k (get_or seats k d) s' at (less_left (get_or seats k d) s' (on (get_or seats k d) at) (omega (arith, a, b)) below moved)
+
+-- a stop counts the same, and names the same input, whatever else would have been returned
+pub still_named : (A B : Type 0) (k : ℕ) (stop : Stop) → NamesInput {A = A} k (Err stop) → NamesInput {A = B} k (Err stop)
+still_named A B k (Dump input line fault) named = tt
+still_named A B k (Read input) named = named
+still_named A B k Write named = tt
+still_named A B k (Unmatched name) named = tt
+
+pub still_counted : (A B : Type 0) (stop : Stop) (ns ms : List ℕ) (k : ℕ) → ms ≡ failures_with {A = A} ns k (Err stop) → ms ≡ failures_with {A = B} ns k (Err stop)
+still_counted A B (Dump input line fault) ns ms k e = e
+still_counted A B (Read input) ns ms k e = e
+still_counted A B Write ns ms k e = e
+still_counted A B (Unmatched name) ns ms k e = e
+
+pub still_written : (A B : Type 0) (stop : Stop) → writes_failed {A = A} (Err stop) ≡ writes_failed {A = B} (Err stop)
+still_written A B (Dump input line fault) = refl
+still_written A B (Read input) = refl
+still_written A B Write = refl
+still_written A B (Unmatched name) = refl

@@ -16,8 +16,11 @@ use Rattle.vcd_view.proofs.LookUpLemmas.{place_is as place_of}
 use Rattle.vcd_view.specs.Views.{Views}
 use Rattle.vcd_body.specs.Ahead.{HasBits}
 use Rattle.vcd_body.specs.Binary.{binary_digits}
+use Rattle.vcd_body.specs.Given.{IsGoodText}
 use Rattle.vcd_body.specs.Items.{AreRegsAfter}
 use Rattle.vcd_body.specs.declared.bits.Bits.{Bits}
+use Rattle.vcd_body.specs.declared.item.Form.{Form}
+use Rattle.vcd_body.specs.declared.item.Form.TheVariants.{Scalar, Vector, RealText}
 use Rattle.vcd_body.specs.declared.item.Item.{Item}
 use Rattle.vcd_body.specs.declared.item.Regs.{Regs}
 
@@ -54,6 +57,12 @@ number_fits h place c at first few = let w = slice_get_within h.codes place c at
 pub known_digits : (i : Item) (text : List ℕ) (bits : Option Bits) → HasBits i text bits → IfSome bits (λ b. text ≡ binary_digits b.len b.number)
 known_digits i text None h = tt
 known_digits i text (Some b) h = h.2
+
+-- a text of digits has some
+pub some_digits : (codes : List Code) (place : ℕ) (f : Form) (text : List ℕ) → IsGoodText codes place f text → f ≢ RealText → 0 < length text
+some_digits codes place Scalar text good other = let e = ap (λ (l : List ℕ). length l) good.2.2 in omega (arith, e)
+some_digits codes place Vector text good other = good.2.0
+some_digits codes place RealText text good other = absurd (other refl)
 
 -- the size that a look-up told, where it is one
 pub sized_is : (y : Code) (most : ℕ) → most ≡ most_of y → most ≢ 0 → (y.event ≡ false) × (y.size ≡ most)

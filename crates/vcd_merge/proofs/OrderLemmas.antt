@@ -320,3 +320,12 @@ others_stay old new k xs len long kept o = said_so (Waits old (length old) k) (W
 
     same : (j : ℕ) → Waits old (length old) k j → time_of old j ≡ time_of new j
     same j w = time_is old j w.seat w.there ∙ sym (time_is new j w.seat (kept j w.other ∙ w.there))
+
+-- whether there is a next input
+pub some_waits : (seats : List Seat) (xs : List ℕ) (len : ℕ) → IsOrder seats (length seats) (length seats) xs len → 0 < len → (k : ℕ) × IsNext seats k
+some_waits seats xs len o some =
+    let e : len ≡ len - 1 + 1 = omega arith in
+    (get_or xs (len - 1) 0, last_is_next seats xs (len - 1) (subst (IsOrder seats (length seats) (length seats) xs) e o))
+
+pub none_waiting : (seats : List Seat) (xs : List ℕ) (len : ℕ) → IsOrder seats (length seats) (length seats) xs len → len ≡ 0 → All (λ (s : Seat). s.finished ≡ true) seats
+none_waiting seats xs len o e = none_waits seats xs (subst (IsOrder seats (length seats) (length seats) xs) e o)

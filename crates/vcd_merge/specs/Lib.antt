@@ -2,7 +2,6 @@ pub mod Seat
 pub mod SeatStep
 pub mod MergeAhead
 pub mod MergeOrder
-pub mod MergeTurns
 pub mod Order
 pub mod MergeParts
 pub mod MergeRoom

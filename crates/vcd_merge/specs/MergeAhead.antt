@@ -1,19 +1,47 @@
 -- Items of one input of a merge that lie ahead in its feed's chunk, taken one after the other.
-use Rattle.std.specs.Prelude.{◌≡◌, ℕ, ◌*◌, ◌<◌, Bool, true, false, List, [], ◌∷◌, ◌++◌, Option, Result, Ok, Err}
+use Rattle.std.specs.Prelude.{◌≡◌, ◌≢◌, ℕ, ◌+◌, ◌*◌, ◌^◌, ◌<◌, Bool, true, false, List, [], ◌∷◌, ◌++◌, length, Option, Result, Ok, Err, IfOk}
 use Rattle.std.specs.List.{AllByRecursion}
 use Rattle.vcd_model.specs.Header.{Header}
-use Rattle.vcd_model.specs.Items.{BodyItem}
+use Rattle.vcd_model.specs.Declarations.{IdCode}
+use Rattle.vcd_model.specs.Items.{BodyItem, time_after}
 use Rattle.vcd_model.specs.Merge.{is_too_large}
 use Rattle.vcd_model.specs.MergeByInput.{due_with, entry_for, written_with}
-use Rattle.vcd_text.specs.Device.{Device, Writes, WritesSome}
-use Rattle.vcd_body.specs.Ahead.{GaveAhead}
-use Rattle.vcd_body.specs.Items.{AreRegsAfter}
+use Rattle.vcd_text.specs.Ahead.{passed_of}
+use Rattle.vcd_text.specs.Device.{Device, Takes, Writes, WritesSome}
+use Rattle.vcd_text.specs.declared.ahead.Ahead.{Ahead}
+use Rattle.vcd_view.specs.Views.{IsViewOf}
+use Rattle.vcd_view.specs.declared.view.HeadView.{HeadView}
+use Rattle.vcd_body.specs.Ahead.{GaveAhead, HasBits, IsSizedItem}
+use Rattle.vcd_body.specs.Given.{HasGoodText, IsItem}
+use Rattle.vcd_body.specs.Items.{AreRegsAfter, regs_after}
+use Rattle.vcd_body.specs.Taken.{TakesItem}
+use Rattle.vcd_body.specs.declared.ahead.Plain.{Plain}
 use Rattle.vcd_body.specs.declared.item.Regs.{Regs}
 use Rattle.vcd_merge.specs.declared.seat.Seat.{Seat}
 
 -- the seat with these registers and this time
 abbrev pub seat_with : Seat → Regs → ℕ → Seat
 seat_with s r time = record { parked = s.parked; regs = r; factor = s.factor; time = time; first = s.first; finished = s.finished }
+
+-- an item with a text that its code may have, and what is told of its size and its digits is so
+pub record IsPutable (v : HeadView) (p : Plain) : Type 0 where
+  pub sound : HasGoodText v.codes.now p.text.now p.item
+  pub sized : p.most ≢ 0 → IsSizedItem v.codes.now p.item p.most
+  pub bits : HasBits p.item p.text.now p.bits
+
+-- what is due with an item at this seat was written, or a prefix of it where a write failed
+abbrev pub PutsDue : {A E : Type 0} → HeadView → Plain → Seat → Option ℕ → Option ℕ → Device → Device → Result A E → Type 0
+PutsDue v p s written written' out out' result = (scale first : ℕ) (h : Header) (items : List BodyItem) (x : BodyItem) → IsViewOf v h → AreRegsAfter items s.regs → s.time ≡ scale * time_after items → s.first ≡ first → first + length h.codes < 2 ^ 64 → IsItem h.codes p.text.now p.item x
+    → Takes out out' (due_with written (entry_for scale first h items x)) result × IfOk result (λ _. written' ≡ written_with written (entry_for scale first h items x))
+
+-- an item was taken ahead, whose time is not too large, and what is due with it was put
+pub record TakesNext {E : Type 0} (v : HeadView) (a a' : Ahead) (s s' : Seat) (written written' : Option ℕ) (out out' : Device) (result : Result (Unit {0}) E) : Type 0 where
+  pub plain : Plain
+  pub item : TakesItem v a a' s.regs plain
+  pub seat : s' ≡ seat_with s (regs_after s.regs plain.item) s'.time
+  pub time : (scale : ℕ) → s.factor ≡ scale → s.time ≡ scale * s.regs.time → s'.time ≡ scale * s'.regs.time
+  pub small : (codes : List IdCode) (text : List ℕ) (x : BodyItem) → IsItem codes text plain.item x → is_too_large s.factor x ≡ false
+  pub puts : PutsDue v plain s written written' out out' result
 
 -- behind some of the items ahead: the bytes in which they lie, what is known after them, the time
 -- of the input, and the output
@@ -24,6 +52,10 @@ pub record StageAhead : Type 0 where
   pub time : ℕ
   pub written : Option ℕ
   pub out : Device
+
+-- where none was taken
+abbrev pub stage_ahead : Ahead → Seat → Option ℕ → Device → StageAhead
+stage_ahead a s written out = record { at = passed_of a; items = []; regs = s.regs; time = s.time; written = written; out = out }
 
 -- behind the items before, these lie in the first n bytes ahead; this is known after them, and no
 -- time is too large

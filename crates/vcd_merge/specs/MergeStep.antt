@@ -55,8 +55,11 @@ pub record Standing (X : Type 0) : Type 0 where
   pub tokens : List ℕ
   pub values : List ℕ
 
+abbrev pub standing : {X : Type 0} → List Head → List Seat → Option ℕ → List X → Windows → Standing X
+standing heads seats written sources w = record { heads = heads; seats = seats; written = written; sources = sources; chunks = w.chunks.now; tokens = w.tokens.now; values = w.values.now }
+
 abbrev pub standing_of : {X : Type 0} → Merge → List X → Windows → Standing X
-standing_of m sources w = record { heads = m.heads.now; seats = m.seats.now; written = m.written; sources = sources; chunks = w.chunks.now; tokens = w.tokens.now; values = w.values.now }
+standing_of m sources w = standing m.heads.now m.seats.now m.written sources w
 
 -- whatever the inputs are: there are as many heads and sources as seats, some input has not
 -- finished, and each feed fits its parts

@@ -1,5 +1,5 @@
 -- Several items of one input of a merge, taken one after another.
-use Rattle.std.specs.Prelude.{◌≡◌, ℕ, ◌<◌, ◌⊎◌, Bool, true, false, List, [], ◌∷◌, ◌++◌, length, map, slice_get, Option, Some, Result, Ok, Err}
+use Rattle.std.specs.Prelude.{◌≡◌, ◌≢◌, ℕ, ◌+◌, ◌<◌, ◌⊎◌, Bool, true, false, List, [], ◌∷◌, ◌++◌, length, map, slice_get, Option, Some, Result, Ok, Err}
 use Rattle.vcd_model.specs.Header.{Header}
 use Rattle.vcd_model.specs.Items.{BodyItem}
 use Rattle.vcd_model.specs.Merge.{Dump, merge_open, merged_items}
@@ -7,12 +7,14 @@ use Rattle.vcd_model.specs.MergeByInput.{due_with, entry_for}
 use Rattle.vcd_text.specs.Device.{Device, Writes}
 use Rattle.vcd_text.specs.declared.device.Source.{Ghosts}
 use Rattle.vcd_text.specs.declared.feed.Feed.{Feed}
+use Rattle.vcd_body.specs.Answer.{NamesInput, writes_failed}
 use Rattle.vcd_body.specs.Device.{Grows}
 use Rattle.vcd_merge.specs.MergeOrder.{IsNext}
-use Rattle.vcd_merge.specs.MergeParts.{part_len}
-use Rattle.vcd_merge.specs.MergeStep.{Gives, Holds, IsReady, Standing}
+use Rattle.vcd_merge.specs.MergeParts.{part, part_len, spot_at}
+use Rattle.vcd_merge.specs.MergeStep.{Gives, Holds, IsReady, Standing, failures_with, left_of}
 use Rattle.vcd_merge.specs.Seat.{AtSeat, GivesOne, IsSeated, Lane, ReadsNoMore, Spot, Turns, spot_with}
 use Rattle.vcd_body.specs.declared.answer.More.{More}
+use Rattle.vcd_body.specs.declared.answer.More.TheVariants.{Again}
 use Rattle.vcd_body.specs.declared.answer.Stop.{Stop}
 use Rattle.vcd_body.specs.declared.answer.Stop.TheVariants.{Write}
 use Rattle.vcd_merge.specs.declared.seat.Seat.{Seat}
@@ -27,12 +29,15 @@ pub record Stage (X : Type 0) : Type 0 where
   pub token : List ℕ
   pub out : Device
 
+abbrev pub stage : {X : Type 0} → List BodyItem → Option ℕ → Seat → X → List ℕ → List ℕ → Device → Stage X
+stage items written seat source chunk token out = record { items = items; written = written; seat = seat; source = source; chunk = chunk; token = token; out = out }
+
 abbrev pub spot_in : {X : Type 0} → (X → Option (List ℕ)) → Stage X → Spot
 spot_in rest a = record { seat = a.seat; rest = rest a.source; chunk = a.chunk; token = a.token }
 
 -- while its feed is out
 abbrev pub stage_with : {X : Type 0} {g : Ghosts X} → List BodyItem → Option ℕ → Seat → Feed X g → Device → Stage X
-stage_with items written s f out = record { items = items; written = written; seat = record s { parked = f.parked }; source = f.source.now; chunk = f.chunk.now; token = f.token.now; out = out }
+stage_with items written s f out = stage items written (record s { parked = f.parked }) f.source.now f.chunk.now f.token.now out
 
 -- one item more, after which the time of the input is before this one
 pub record TakesOn {X : Type 0} (rest : X → Option (List ℕ)) (failures : X → ℕ) (scale first : ℕ) (l : Lane) (before : ℕ) (a b : Stage X) : Type 0 where
@@ -105,3 +110,18 @@ pub record RunGives {X : Type 0} (rest : X → Option (List ℕ)) (failures : X 
   pub reads : (j : ℕ) (l : Lane) (x : X) → slice_get lanes j ≡ Some l → slice_get mid.sources j ≡ Some x → (slice_get s.sources j ≡ Some x) ⊎ ReadsNoMore (part_len (length s.seats) s.tokens) (part_len (length s.seats) s.chunks) l l.input (rest x)
   pub last : Gives rest hs lanes dumps mid s' between out' result
   pub by_one : alone ≡ true → (dumps ≡ ds) × (mid ≡ s) × (between ≡ out)
+
+-- What it leaves whatever the inputs are: this input alone was touched, the lengths stay, and what
+-- is left to be looked at shrinks where it goes on.
+pub record RunLeaves {X : Type 0} (rest : X → Option (List ℕ)) (failures : X → ℕ) (s s' : Standing X) (out out' : Device) (k : ℕ) (result : Result More Stop) : Type 0 where
+  pub ready : result ≡ Ok Again → IsReady s'
+  pub seats : length s'.seats ≡ length s.seats
+  pub chunks : length s'.chunks ≡ length s.chunks
+  pub tokens : length s'.tokens ≡ length s.tokens
+  pub values : length s'.values ≡ length s.values
+  pub reads : map failures s'.sources ≡ failures_with (map failures s.sources) k result
+  pub named : NamesInput k result
+  pub left : result ≡ Ok Again → left_of s'.seats < left_of s.seats
+  pub others : (j : ℕ) → j ≢ k → spot_at rest s'.seats s'.sources s'.chunks s'.tokens j ≡ spot_at rest s.seats s.sources s.chunks s.tokens j
+  pub untouched : (j : ℕ) → j ≢ k → (slice_get s'.sources j ≡ slice_get s.sources j) × (part (part_len (length s.seats) s.tokens) j s'.values ≡ part (part_len (length s.seats) s.tokens) j s.values)
+  pub writes : out'.failures ≡ out.failures + writes_failed result

@@ -43,6 +43,9 @@ pub record Spot : Type 0 where
   pub chunk : List ℕ
   pub token : List ℕ
 
+abbrev pub spot : Seat → Option (List ℕ) → List ℕ → List ℕ → Spot
+spot seat rest chunk token = record { seat = seat; rest = rest; chunk = chunk; token = token }
+
 -- a seat while its feed is out
 abbrev pub spot_with : {X : Type 0} {g : Ghosts X} → Seat → Feed X g → Spot
 spot_with {X} {g} s f = record { seat = record s { parked = f.parked }; rest = g.rest f.source.now; chunk = f.chunk.now; token = f.token.now }

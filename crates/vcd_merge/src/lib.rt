@@ -24,7 +24,7 @@
 //! - `beginning`: what a merge adds to each input where it begins
 //! - `merge_steps`: the begin of a merge, a step of it over all inputs, and the loop over its steps
 //! - `merging`: the steps of one input, over its source and its parts of the windows alone
-//! - `turns`, `order`: whose turn it is, and in which order the others wait
+//! - `order`: whose turn it is, and in which order the others wait
 //! - `seat`: `Seat`
 //!
 //! In `specs/` callers read `MergeRun` (`Follows`), `MergeStart`, `MergeStep`, `MergeParts`,
@@ -46,7 +46,6 @@ mod merge_steps;
 mod merging;
 mod order;
 mod seat;
-mod turns;
 mod whole_merge;
 mod windows;
 

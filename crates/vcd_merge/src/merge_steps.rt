@@ -6,42 +6,28 @@ ghost use Rattle.vcd_body.specs.Answer.{NamesInput, goes_on, writes_failed};
 ghost use Rattle.vcd_model.specs.Items.{BodyItem};
 ghost use Rattle.vcd_head.specs.Shown.{shown};
 ghost use Rattle.vcd_view.specs.Views.{Views};
-ghost use Rattle.vcd_merge.specs.Seat.{AtSeat, Lane, Spot, Turns};
+ghost use Rattle.vcd_merge.specs.Seat.{AtSeat, Lane, Spot};
 ghost use Rattle.vcd_merge.specs.MergeParts.{AreParts, AreSeated, SameLengths, part, part_len, spot_at};
 ghost use Rattle.vcd_merge.specs.MergeOrder.{IsNext, greatest_time};
-ghost use Rattle.vcd_merge.specs.Order.{IsFirstBefore, IsOrder};
-ghost use Rattle.vcd_merge.specs.MergeTrail.{RunGives, TurnsAt};
+ghost use Rattle.vcd_merge.specs.Order.{IsOrder};
+ghost use Rattle.vcd_merge.specs.MergeTrail.{RunGives, RunLeaves, TurnsAt};
 ghost use Rattle.vcd_merge.specs.MergeRun.{Follows};
 ghost use Rattle.vcd_model.specs.Header.{Header};
 ghost use Rattle.vcd_model.specs.HeadText.{merged_head};
 ghost use Rattle.vcd_head.specs.Merged.{ShowHeaders};
 ghost use Rattle.vcd_merge.specs.MergeRoom.{MergeIsWithinBound, no_windows, windows_size};
 ghost use Rattle.vcd_merge.specs.MergeStart.{AreBegun, HasBegun};
-ghost use Rattle.vcd_merge.specs.MergeStep.{AreMarked, Gives, Holds, IsReady, failures_with, is_going, last_written, left_of, standing_of};
+ghost use Rattle.vcd_merge.specs.MergeStep.{AreMarked, Gives, Holds, IsReady, failures_with, is_going, last_written, left_of, standing, standing_of};
 
 use crate::beginning::set_seats;
 use crate::merge_state::Merge;
 use crate::merging::run_of;
 use crate::order::Order;
 use crate::seat::Seat;
-use crate::turns::next_turn;
 use crate::windows::Windows;
 use vcd_body::{Done, More, Stop, put_time_unless};
 use vcd_head::{Head, put_merged_head};
 use vcd_text::{Sink, Source, WriteFailed};
-
-/// Some input has not finished: this one, or another.
-#[inline(always)]
-fn some_left(seats: &[Seat], input: usize) -> bool
-    requires input { input < length seats.now }
-    ensures some { result ≡ true → (k : ℕ) × IsNext seats.now k }
-    ensures none { result ≡ false → All (λ (s : Seat). s.finished ≡ true) seats.now }
-{
-    if !seats[input].finished {
-        return true;
-    }
-    next_turn(seats).is_some()
-}
 
 /// The greatest time mark of all inputs.
 fn greatest_time(seats: &[Seat]) -> Option<u64>
@@ -113,7 +99,7 @@ fn turn<S: Source, W: Sink>(
     let chunk_at = input * chunk;
     let token_at = input * limit;
     run_of(
-        heads[input].view(),
+        &heads[input],
         input,
         before,
         &mut sources[input],
@@ -183,13 +169,14 @@ fn close<W: Sink>(seats: &[Seat], written: Option<u64>, out: &mut W) -> Result<(
     }
 }
 
-/// The steps of the input whose turn it is, over what a merge works on: one, and those that follow
-/// while its time is before this one, at which it comes before all others.
+/// The run of the input whose turn it is, over what a merge works on: an item, and those that follow
+/// while its time is before this one, and it comes before all others. The order tells the input,
+/// and then takes it in again.
 #[inline(always)]
-fn step<S: Source, W: Sink>(
+fn run_next<S: Source, W: Sink>(
     heads: &[Head],
-    input: usize,
-    before: u64,
+    order: &mut Order,
+    most: u64,
     seats: &mut [Seat],
     sources: &mut [S],
     windows: &mut Windows<'_>,
@@ -198,261 +185,94 @@ fn step<S: Source, W: Sink>(
 ) -> Result<More, Stop>
     requires reads { All (λ s. S.failures s < 2 ^ 64 - 1) sources.old }
     requires out_failures { (W.device out.old).failures < 2 ^ 64 - 1 }
-    requires ready { IsReady
-        (record {
-          heads = heads.now;
-          seats = seats.old;
-          written = written.old;
-          sources = sources.old;
-          chunks = windows.old.chunks.now;
-          tokens = windows.old.tokens.now;
-          values = windows.old.values.now;
-        }) }
-    requires next { IsNext seats.old input }
-    requires first { IsFirstBefore seats.old input before }
+    requires ready { IsReady (standing heads.now seats.old written.old sources.old windows.old) }
+    requires few { length seats.old ≤ 64 }
+    requires order { IsOrder seats.old (length seats.old) (length seats.old)
+        order.old.inputs order.old.len }
     ensures runs { (alone : Bool) (hs : List Header) (lanes : List Lane) (ds : List Dump)
-        → (alone ≡ true → before ≡ 0)
-        → Holds S.rest hs lanes ds
-        (record {
-          heads = heads.now;
-          seats = seats.old;
-          written = written.old;
-          sources = sources.old;
-          chunks = windows.old.chunks.now;
-          tokens = windows.old.tokens.now;
-          values = windows.old.values.now;
-        })
+        → (alone ≡ true → most ≡ 0)
+        → Holds S.rest hs lanes ds (standing heads.now seats.old written.old sources.old windows.old)
         → RunGives S.rest S.failures hs lanes alone ds
-        (record {
-          heads = heads.now;
-          seats = seats.old;
-          written = written.old;
-          sources = sources.old;
-          chunks = windows.old.chunks.now;
-          tokens = windows.old.tokens.now;
-          values = windows.old.values.now;
-        })
-        (record {
-          heads = heads.now;
-          seats = seats.new;
-          written = written.new;
-          sources = sources.new;
-          chunks = windows.new.chunks.now;
-          tokens = windows.new.tokens.now;
-          values = windows.new.values.now;
-        })
+        (standing heads.now seats.old written.old sources.old windows.old)
+        (standing heads.now seats.new written.new sources.new windows.new)
         (W.device out.old) (W.device out.new) result }
-    ensures ready { result ≡ Ok More.Again
-        → IsReady (record {
-          heads = heads.now;
-          seats = seats.new;
-          written = written.new;
-          sources = sources.new;
-          chunks = windows.new.chunks.now;
-          tokens = windows.new.tokens.now;
-          values = windows.new.values.now;
-        }) }
-    ensures lengths { (length seats.new ≡ length seats.old) × SameLengths windows.old windows.new }
-    ensures kept { (j : ℕ) → j ≢ input → slice_get seats.new j ≡ slice_get seats.old j }
-    ensures reads { map S.failures sources.new
-        ≡ failures_with (map S.failures sources.old) input result }
-    ensures named { NamesInput input result }
-    ensures left { result ≡ Ok More.Again → left_of seats.new < left_of seats.old }
-    ensures others { (j : ℕ) → j ≢ input
-        → spot_at S.rest seats.new sources.new windows.new.chunks.now windows.new.tokens.now j
-        ≡ spot_at S.rest seats.old sources.old windows.old.chunks.now windows.old.tokens.now j }
-    ensures untouched { (j : ℕ) → j ≢ input
-        → (slice_get sources.new j ≡ slice_get sources.old j)
-        × (part (part_len (length seats.old) windows.old.tokens.now) j windows.new.values.now
-        ≡ part (part_len (length seats.old) windows.old.tokens.now) j windows.old.values.now) }
-    ensures writes { (W.device out.new).failures
-        ≡ (W.device out.old).failures + writes_failed result }
+    ensures leaves { (k : ℕ) × IsNext seats.old k × RunLeaves S.rest S.failures
+        (standing heads.now seats.old written.old sources.old windows.old)
+        (standing heads.now seats.new written.new sources.new windows.new)
+        (W.device out.old) (W.device out.new) k result }
+    ensures order { result ≡ Ok More.Again → IsOrder seats.new (length seats.new)
+        (length seats.new) order.new.inputs order.new.len }
 {
-    turn(heads, input, before, seats, sources, windows, written, out)?;
-    if some_left(seats, input) {
+    let Some(next) = order.take_next(seats) else {
+        return Ok(More::Ended(Done::Whole));
+    };
+    let before = next.before.min(most);
+    turn(
+        heads, next.input, before, seats, sources, windows, written, out,
+    )?;
+    order.put(next.input, seats);
+    if !order.is_empty() {
         return Ok(More::Again);
     }
     close(seats, *written, out)?;
     Ok(More::Ended(Done::Whole))
 }
 
-/// The next item of the input whose turn it is, over what a merge works on.
+/// The run of the input whose turn it is, as `run_next` does it. After any answer but `Again` the
+/// merge is over.
 #[inline(always)]
-fn step_alone<S: Source, W: Sink>(
-    heads: &[Head],
-    seats: &mut [Seat],
-    sources: &mut [S],
-    windows: &mut Windows<'_>,
-    written: &mut Option<u64>,
-    out: &mut W,
-) -> Result<More, Stop>
-    requires reads { All (λ s. S.failures s < 2 ^ 64 - 1) sources.old }
-    requires out_failures { (W.device out.old).failures < 2 ^ 64 - 1 }
-    requires ready { IsReady
-        (record {
-          heads = heads.now;
-          seats = seats.old;
-          written = written.old;
-          sources = sources.old;
-          chunks = windows.old.chunks.now;
-          tokens = windows.old.tokens.now;
-          values = windows.old.values.now;
-        }) }
-    ensures runs { (hs : List Header) (lanes : List Lane) (ds : List Dump)
-        → Holds S.rest hs lanes ds
-        (record {
-          heads = heads.now;
-          seats = seats.old;
-          written = written.old;
-          sources = sources.old;
-          chunks = windows.old.chunks.now;
-          tokens = windows.old.tokens.now;
-          values = windows.old.values.now;
-        })
-        → RunGives S.rest S.failures hs lanes true ds
-        (record {
-          heads = heads.now;
-          seats = seats.old;
-          written = written.old;
-          sources = sources.old;
-          chunks = windows.old.chunks.now;
-          tokens = windows.old.tokens.now;
-          values = windows.old.values.now;
-        })
-        (record {
-          heads = heads.now;
-          seats = seats.new;
-          written = written.new;
-          sources = sources.new;
-          chunks = windows.new.chunks.now;
-          tokens = windows.new.tokens.now;
-          values = windows.new.values.now;
-        })
-        (W.device out.old) (W.device out.new) result }
-    ensures ready { result ≡ Ok More.Again
-        → IsReady (record {
-          heads = heads.now;
-          seats = seats.new;
-          written = written.new;
-          sources = sources.new;
-          chunks = windows.new.chunks.now;
-          tokens = windows.new.tokens.now;
-          values = windows.new.values.now;
-        }) }
-    ensures lengths { (length seats.new ≡ length seats.old) × SameLengths windows.old windows.new }
-    ensures reads { (k : ℕ) × IsNext seats.old k
-        × (map S.failures sources.new ≡ failures_with (map S.failures sources.old) k result)
-        × NamesInput k result }
-    ensures left { result ≡ Ok More.Again → left_of seats.new < left_of seats.old }
-    ensures one { (k : ℕ) × ((j : ℕ) → j ≢ k
-        → spot_at S.rest seats.new sources.new windows.new.chunks.now windows.new.tokens.now j
-        ≡ spot_at S.rest seats.old sources.old windows.old.chunks.now windows.old.tokens.now j)
-        × ((j : ℕ) → j ≢ k
-        → (slice_get sources.new j ≡ slice_get sources.old j)
-        × (part (part_len (length seats.old) windows.old.tokens.now) j windows.new.values.now
-        ≡ part (part_len (length seats.old) windows.old.tokens.now) j windows.old.values.now)) }
-    ensures writes { (W.device out.new).failures
-        ≡ (W.device out.old).failures + writes_failed result }
-{
-    let Some(input) = next_turn(seats) else {
-        return Ok(More::Ended(Done::Whole));
-    };
-    step(heads, input, 0, seats, sources, windows, written, out)
-}
-
-/// The run of the input whose turn it is, over what a merge works on: the order tells the input and
-/// how long it goes on, and then takes it in again.
-#[inline(always)]
-fn run_next<S: Source, W: Sink>(
-    heads: &[Head],
+fn run_step<S: Source, W: Sink>(
+    merge: &mut Merge<'_, '_>,
     order: &mut Order,
-    seats: &mut [Seat],
+    most: u64,
     sources: &mut [S],
     windows: &mut Windows<'_>,
-    written: &mut Option<u64>,
     out: &mut W,
 ) -> Result<More, Stop>
     requires reads { All (λ s. S.failures s < 2 ^ 64 - 1) sources.old }
     requires out_failures { (W.device out.old).failures < 2 ^ 64 - 1 }
-    requires ready { IsReady
-        (record {
-          heads = heads.now;
-          seats = seats.old;
-          written = written.old;
-          sources = sources.old;
-          chunks = windows.old.chunks.now;
-          tokens = windows.old.tokens.now;
-          values = windows.old.values.now;
-        }) }
-    requires few { length seats.old ≤ 64 }
-    requires order { IsOrder seats.old (length seats.old) (length seats.old)
-        order.old.inputs order.old.len }
-    ensures runs { (hs : List Header) (lanes : List Lane) (ds : List Dump)
-        → Holds S.rest hs lanes ds
-        (record {
-          heads = heads.now;
-          seats = seats.old;
-          written = written.old;
-          sources = sources.old;
-          chunks = windows.old.chunks.now;
-          tokens = windows.old.tokens.now;
-          values = windows.old.values.now;
-        })
-        → RunGives S.rest S.failures hs lanes false ds
-        (record {
-          heads = heads.now;
-          seats = seats.old;
-          written = written.old;
-          sources = sources.old;
-          chunks = windows.old.chunks.now;
-          tokens = windows.old.tokens.now;
-          values = windows.old.values.now;
-        })
-        (record {
-          heads = heads.now;
-          seats = seats.new;
-          written = written.new;
-          sources = sources.new;
-          chunks = windows.new.chunks.now;
-          tokens = windows.new.tokens.now;
-          values = windows.new.values.now;
-        })
+    requires ready { IsReady (standing_of merge.old sources.old windows.old) }
+    requires order { IsOrder merge.old.seats.now (length merge.old.seats.now)
+        (length merge.old.seats.now) order.old.inputs order.old.len }
+    ensures runs { (alone : Bool) (hs : List Header) (lanes : List Lane) (ds : List Dump)
+        → (alone ≡ true → most ≡ 0)
+        → Holds S.rest hs lanes ds (standing_of merge.old sources.old windows.old)
+        → RunGives S.rest S.failures hs lanes alone ds
+        (standing_of merge.old sources.old windows.old)
+        (standing_of merge.new sources.new windows.new)
         (W.device out.old) (W.device out.new) result }
-    ensures ready { result ≡ Ok More.Again
-        → IsReady (record {
-          heads = heads.now;
-          seats = seats.new;
-          written = written.new;
-          sources = sources.new;
-          chunks = windows.new.chunks.now;
-          tokens = windows.new.tokens.now;
-          values = windows.new.values.now;
-        }) }
-    ensures order { IsOrder seats.new (length seats.new) (length seats.new)
-        order.new.inputs order.new.len }
-    ensures lengths { (length seats.new ≡ length seats.old) × SameLengths windows.old windows.new }
-    ensures reads { (k : ℕ) × IsNext seats.old k
-        × (map S.failures sources.new ≡ failures_with (map S.failures sources.old) k result)
-        × NamesInput k result }
-    ensures left { result ≡ Ok More.Again → left_of seats.new < left_of seats.old }
-    ensures writes { (W.device out.new).failures
-        ≡ (W.device out.old).failures + writes_failed result }
+    ensures leaves { (k : ℕ) × IsNext merge.old.seats.now k × RunLeaves S.rest S.failures
+        (standing_of merge.old sources.old windows.old)
+        (standing_of merge.new sources.new windows.new)
+        (W.device out.old) (W.device out.new) k result }
+    ensures order { result ≡ Ok More.Again → IsOrder merge.new.seats.now
+        (length merge.new.seats.now) (length merge.new.seats.now) order.new.inputs order.new.len }
+    ensures heads { merge.new.heads.now ≡ merge.old.heads.now }
+    ensures going { is_going merge.new ≡ goes_on result }
 {
-    let Some(next) = order.take_next(seats) else {
-        return Ok(More::Ended(Done::Whole));
-    };
-    let answer = step(
-        heads,
-        next.input,
-        next.before,
-        seats,
+    let answer = run_next(
+        merge.heads,
+        order,
+        most,
+        merge.seats,
         sources,
         windows,
-        written,
+        &mut merge.written,
         out,
     );
-    order.put(next.input, seats);
+    merge.going = matches!(answer, Ok(More::Again));
     answer
+}
+
+/// The order of these inputs, whose seats stay as they are.
+// They come as a `&mut`: of what a shared borrow of a field reads a proof learns nothing.
+fn order_of(seats: &mut [Seat]) -> Order
+    requires { length seats.old ≤ 64 }
+    ensures order { IsOrder seats.old (length seats.old) (length seats.old)
+        result.inputs result.len }
+    ensures stay { seats.new ≡ seats.old }
+{
+    Order::of(seats)
 }
 
 /// Takes the next item of the input whose turn it is, and writes what is due after it; at the end
@@ -498,80 +318,8 @@ pub fn merge_step<S: Source, W: Sink>(
         ≡ (W.device out.old).failures + writes_failed result }
     ensures going { is_going merge.new ≡ goes_on result }
 {
-    let answer = step_alone(
-        merge.heads,
-        merge.seats,
-        sources,
-        windows,
-        &mut merge.written,
-        out,
-    );
-    merge.going = matches!(answer, Ok(More::Again));
-    answer
-}
-
-/// Takes the items of the input whose turn it is, as many as come before those of the others.
-#[inline(always)]
-fn run_step<S: Source, W: Sink>(
-    merge: &mut Merge<'_, '_>,
-    order: &mut Order,
-    sources: &mut [S],
-    windows: &mut Windows<'_>,
-    out: &mut W,
-) -> Result<More, Stop>
-    requires reads { All (λ s. S.failures s < 2 ^ 64 - 1) sources.old }
-    requires out_failures { (W.device out.old).failures < 2 ^ 64 - 1 }
-    requires going { is_going merge.old ≡ true }
-    requires ready { IsReady (standing_of merge.old sources.old windows.old) }
-    requires order { IsOrder merge.old.seats.now (length merge.old.seats.now)
-        (length merge.old.seats.now) order.old.inputs order.old.len }
-    requires bound { MergeIsWithinBound
-        (part_len (length merge.old.seats.now) windows.old.tokens.now) merge.old.heads.now
-        (windows_size windows.old) }
-    ensures runs { (hs : List Header) (lanes : List Lane) (ds : List Dump)
-        → Holds S.rest hs lanes ds (standing_of merge.old sources.old windows.old)
-        → RunGives S.rest S.failures hs lanes false ds
-        (standing_of merge.old sources.old windows.old)
-        (standing_of merge.new sources.new windows.new)
-        (W.device out.old) (W.device out.new) result }
-    ensures ready { result ≡ Ok More.Again
-        → IsReady (standing_of merge.new sources.new windows.new) }
-    ensures order { IsOrder merge.new.seats.now (length merge.new.seats.now)
-        (length merge.new.seats.now) order.new.inputs order.new.len }
-    ensures lengths { (length merge.new.seats.now ≡ length merge.old.seats.now)
-        × SameLengths windows.old windows.new }
-    ensures heads { merge.new.heads.now ≡ merge.old.heads.now }
-    ensures reads { (k : ℕ) × IsNext merge.old.seats.now k
-        × (map S.failures sources.new ≡ failures_with (map S.failures sources.old) k result)
-        × NamesInput k result }
-    ensures left { result ≡ Ok More.Again
-        → left_of merge.new.seats.now < left_of merge.old.seats.now }
-    ensures writes { (W.device out.new).failures
-        ≡ (W.device out.old).failures + writes_failed result }
-    ensures going { is_going merge.new ≡ goes_on result }
-{
-    let answer = run_next(
-        merge.heads,
-        order,
-        merge.seats,
-        sources,
-        windows,
-        &mut merge.written,
-        out,
-    );
-    merge.going = matches!(answer, Ok(More::Again));
-    answer
-}
-
-/// The order of these inputs, whose seats stay as they are.
-// They come as a `&mut`: of what a shared borrow of a field reads a proof learns nothing.
-fn order_of(seats: &mut [Seat]) -> Order
-    requires { length seats.old ≤ 64 }
-    ensures order { IsOrder seats.old (length seats.old) (length seats.old)
-        result.inputs result.len }
-    ensures stay { seats.new ≡ seats.old }
-{
-    Order::of(seats)
+    let mut order = order_of(merge.seats);
+    run_step(merge, &mut order, 0, sources, windows, out)
 }
 
 impl<'h, 's> Merge<'h, 's> {
@@ -612,7 +360,7 @@ impl<'h, 's> Merge<'h, 's> {
     {
         let mut order = order_of(self.seats);
         'items: loop {
-            match run_step(self, &mut order, sources, windows, out)? {
+            match run_step(self, &mut order, u64::MAX, sources, windows, out)? {
                 More::Again => {}
                 More::Ended(done) => return Ok(done),
             }

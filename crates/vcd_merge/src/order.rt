@@ -139,6 +139,15 @@ impl Order {
         order
     }
 
+    /// Whether no input waits.
+    #[inline(always)]
+    pub(crate) fn is_empty(&self) -> bool
+        ensures none { result ≡ true → self.now.len ≡ 0 }
+        ensures some { result ≡ false → 0 < self.now.len }
+    {
+        self.len == 0
+    }
+
     /// The time before which an input goes before those in so many places.
     #[inline(always)]
     fn end_of(&self, input: usize, places: usize, seats: &[Seat]) -> u64
