@@ -32,7 +32,7 @@ use Rattle.vcd_engine.specs.declared.pieces.Pieces.{Pieces}
 use Rattle.vcd_body.proofs.AskedLemmas.{split_last}
 use Rattle.vcd_engine.proofs.PieceLemmas.{but_some, but_written}
 use Rattle.vcd_text.specs.Device.{Puts, WritesSome}
-use Rattle.std.specs.Prelude.{IfErr, IfOk}
+use Rattle.std.specs.Prelude.{IfErr}
 use Rattle.vcd_engine.proofs.EngineLemmas.{last_more, none_at}
 use Rattle.vcd_body.proofs.Results.{writes-none}
 
@@ -67,12 +67,6 @@ module _ (t : Request) (h : Header) (limit lines : ℕ) (bytes : List ℕ) (befo
           on = subst (λ l. list_any (ends_early t) l ≡ false) e (none_at (ends_early t) (before ++ items) x s.on stays);
         }
 
-    -- what is due with it
-    pub due_on : (x : BodyItem) (out mid new : Device) → Grows out mid (open_text t h before) (open_text t h (before ++ items)) → Grows mid new (open_text t h (before ++ items)) (open_text t h ((before ++ items) ++ x ∷ []))
-        → Grows out new (open_text t h before) (open_text t h (before ++ (items ++ x ∷ [])))
-    due_on x out mid new first then =
-        subst (λ l. Grows out new (open_text t h before) (open_text t h l)) (append_assoc before items (x ∷ [])) (grows_on out mid new (open_text t h before) (open_text t h (before ++ items)) (open_text t h ((before ++ items) ++ x ∷ [])) first then)
-
 -- where none of some items does, none of the first does
 none_first : (test : BodyItem → Bool) (p q : List BodyItem) → list_any test (p ++ q) ≡ false → list_any test p ≡ false
 none_first test [] q h = refl
@@ -86,16 +80,15 @@ none_first test (y ∷ p) q h = by_first (test y) (none_first test p q) h
 none_behind : (text due : List ℕ) → text ≡ text ++ due → length due ≡ 0
 none_behind text due e = omega (arith, length-append text due, ap length e)
 
-module _ (t : Request) (h : Header) (limit lines : ℕ) (bytes : List ℕ) (before : List BodyItem) (p : Pieces) (out mid out' : Device) {E : Type 0} (result : Result Bool E) (some : IfErr result (λ _. 0 < length (held_in bytes p))) (puts : Puts mid out' (held_in bytes p) result) where
+module _ (t : Request) (h : Header) (limit lines : ℕ) (bytes : List ℕ) (before : List BodyItem) (p : Pieces) (out mid out' : Device) {A E : Type 0} (result : Result A E) (some : IfErr result (λ _. 0 < length (held_in bytes p))) (puts : Puts mid out' (held_in bytes p) result) where
   abbrev Stands : ℕ → Regs → List BodyItem → Type 0
   Stands n r l = GaveAhead h.codes limit lines bytes n before l × AreRegsAfter (before ++ l) r × (list_any (ends_early t) (before ++ l) ≡ false) × GrowsBut out mid (held_in bytes p) (open_text t h before) (open_text t h (before ++ l))
 
   -- how the items end where no other is taken, and what is held is written
-  pub ends_before : (n : ℕ) (items : List BodyItem) (m : Machine) (r : Regs) → StandsAhead t h limit lines bytes before n items m r → GrowsBut out mid (held_in bytes p) (open_text t h before) (open_text t h (before ++ items)) → IfOk result (λ e. e ≡ false)
-      → RunsAhead t h limit lines bytes before n m r out out' result
-  ends_before n items m r s g ok = by_result result some puts ok
+  pub ends_before : (n : ℕ) (items : List BodyItem) (m : Machine) (r : Regs) → StandsAhead t h limit lines bytes before n items m r → GrowsBut out mid (held_in bytes p) (open_text t h before) (open_text t h (before ++ items)) → RunsAhead t h limit lines bytes before n m r out out' result
+  ends_before n items m r s g = by_result result some puts
     where
-      by_last : (e : E) → WritesSome mid out' (held_in bytes p) → 0 < length (held_in bytes p) → (items ≡ []) ⊎ ((front : List BodyItem) × (x : BodyItem) × (items ≡ front ++ x ∷ [])) → RunsAhead t h limit lines bytes before n m r out out' (Err e)
+      by_last : (e : E) → WritesSome mid out' (held_in bytes p) → 0 < length (held_in bytes p) → (items ≡ []) ⊎ ((front : List BodyItem) × (x : BodyItem) × (items ≡ front ++ x ∷ [])) → RunsAhead t h limit lines bytes before {A = A} n m r out out' (Err e)
       by_last e w more (inl none) =
           let none_is = subst (Stands n r) none (s.gave, s.known, s.on, g) in
           let grown = none_is.3 in
@@ -110,20 +103,9 @@ module _ (t : Request) (h : Header) (limit lines : ℕ) (bytes : List ℕ) (befo
           let due = but_some out mid out' (held_in bytes p) (open_text t h before) (open_text t h (before ++ (front ++ x ∷ []))) all.3 w in
           record { more = front; on = on; last = (x, record { gave = all.0; known = all.1 }, subst (λ l. GrowsSome out out' (open_text t h before) (open_text t h l)) (sym assoc) due) }
 
-      by_result : (q : Result Bool E) → IfErr q (λ _. 0 < length (held_in bytes p)) → Puts mid out' (held_in bytes p) q → IfOk q (λ e. e ≡ false) → RunsAhead t h limit lines bytes before n m r out out' q
-      by_result (Ok false) some puts ok = record { more = items; on = s.on; last = (s, but_written out mid out' (held_in bytes p) (open_text t h before) (open_text t h (before ++ items)) g puts) }
-      by_result (Ok true) some puts ok = cc
-      by_result (Err e) some puts ok = by_last e puts some (split_last items)
-
-  -- and where one more has ended the run
-  pub ends_with : (n : ℕ) (items : List BodyItem) (x : BodyItem) (m : Machine) (r : Regs) → list_any (ends_early t) (before ++ items) ≡ false → ends_early t x ≡ true → GaveOneAhead t h limit lines bytes before n items x r
-      → GrowsBut out mid (held_in bytes p) (open_text t h before) (open_text t h ((before ++ items) ++ x ∷ [])) → IfOk result (λ e. e ≡ true) → RunsAhead t h limit lines bytes before n m r out out' result
-  ends_with n items x m r on ends one g ok = by_result result puts ok
-    where
-      by_result : (q : Result Bool E) → Puts mid out' (held_in bytes p) q → IfOk q (λ e. e ≡ true) → RunsAhead t h limit lines bytes before n m r out out' q
-      by_result (Ok true) puts ok = record { more = items; on = on; last = (x, ends, one, but_written out mid out' (held_in bytes p) (open_text t h before) (open_text t h ((before ++ items) ++ x ∷ [])) g puts) }
-      by_result (Ok false) puts ok = cc
-      by_result (Err e) puts ok = record { more = items; on = on; last = (x, one, but_some out mid out' (held_in bytes p) (open_text t h before) (open_text t h ((before ++ items) ++ x ∷ [])) g puts) }
+      by_result : (q : Result A E) → IfErr q (λ _. 0 < length (held_in bytes p)) → Puts mid out' (held_in bytes p) q → RunsAhead t h limit lines bytes before n m r out out' q
+      by_result (Ok v) some puts = record { more = items; on = s.on; last = (s, but_written out mid out' (held_in bytes p) (open_text t h before) (open_text t h (before ++ items)) g puts) }
+      by_result (Err e) some puts = by_last e puts some (split_last items)
 
 -- at first none is taken
 pub stands_first : {X : Type 0} {g : Ghosts X} (e : Engine) (h : Header) (i : Input) (front : List Token) (items : List BodyItem) (f : Feed X g) (limit lines : ℕ) (bytes : List ℕ) → Runs e h i front items f

@@ -22,7 +22,7 @@ use Rattle.vcd_text.proofs.Writes.{AppendsSome, appends-first, appends-none, tak
 use Rattle.std.specs.Io.KnownBytes.{Appends}
 use Rattle.vcd_engine.specs.Cut.{AreCut, BeginsBy, HasBegun, HasNone, IsNoMark, kept_from, may_be_kept, values_text}
 use Rattle.vcd_body.specs.Device.{DueBy, TakesDue}
-use Rattle.vcd_engine.specs.Engine.{TakesOne, TakesOneBy, last_of}
+use Rattle.vcd_engine.specs.Engine.{TakesOne, last_of}
 use Rattle.vcd_model.specs.Outcome.{Request}
 use Rattle.vcd_body.specs.Given.{IsItem}
 use Rattle.vcd_engine.specs.Quiet.{TakesQuietly}
@@ -346,17 +346,6 @@ mark_goes {E} h items m m' t out out' r e is low same_from same_to (inr none) = 
   keeps = λ _. rw none.same (goes_still h items m is t low none.why);
 }
 
--- the same where the start section stands: nothing is due
-pub mark_held : {E : Type 0} (h : Header) (items : List BodyItem) (m : Cut) (t : ℕ) (x : BodyItem) (takes : List ℕ → Type 0) (r : Result Bool E) → r ≡ Ok false → AreCut m h items → m.started ≡ true → t ≤ m.to → x ≡ BodyItem.Time t → takes []
-    → TakesOneBy takes (AreCut m h (items ++ x ∷ [])) (Request.Cut m.from m.to) h items x r
-mark_held {E} h items m t x takes r e is begun low mark nothing =
-    let why : (is_started m.from items ≡ true) ⊎ (t < m.from) = inl (sym is.started_is ∙ begun) in
-    rw mark (record {
-      due = ([], mark_passes h m.from m.to items t is.on low why, nothing);
-      ends = rw e (sym (within_is m.to t low));
-      keeps = λ _. goes_still h items m is t low why;
-    })
-
 -- the cut ends
 pub mark_ends : {A E : Type 0} (h : Header) (items : List BodyItem) (m m' : Cut) (t : ℕ) (out mid out' : Device) (r : Result A E) (r' : Result Bool E) → AreCut m h items → m.to < t → HasBegun h items t m m' out mid ⊎ HasNone items t m m' out mid
     → ((before : List ℕ) (kept : List Entry) → HasWritten before kept m'.text → ((u : ℕ) → Some m.to ≡ Some u → LastTells (times_with before kept) u) → Takes mid out' (closing (times_with before kept) (Some m.to)) r)
@@ -427,37 +416,27 @@ starts_plain h m le none held later = record {
   written = λ has. let s = none in cc;
 }
 
--- ---- items before the start section, and with which that is not due
+-- ---- items that are taken ahead
 
-pub quiet_before : (v : HeadView) (h : Header) (items : List BodyItem) (before : Regs) (m : Cut) (text : List ℕ) (item : Item) (x : BodyItem) → Views (parts v) h → AreRegsAfter items before → AreCut m h items → IsItem h.codes text item x → (t : Table) → m.started ≡ false → ((time : ℕ) → item ≡ Time time → nat_le m.from time ≡ false) → AreHeld t h (items ++ x ∷ [])
-    → TakesQuietly (AreCut (record { from = m.from; to = m.to; table = t; text = m.text; started = m.started }) h (items ++ x ∷ [])) (Request.Cut m.from m.to) h items x
-quiet_before v h items before m text item x views known is read t unbegun early held = by_item item read early
-  where
-    Quiet : BodyItem → Type 0
-    Quiet y = TakesQuietly (AreCut (record { from = m.from; to = m.to; table = t; text = m.text; started = m.started }) h (items ++ y ∷ [])) (Request.Cut m.from m.to) h items y
+pub unbegun : (b : Bool) → not b ≡ true → b ≡ false
+unbegun true e = cc
+unbegun false e = refl
 
-    at_mark : (time : ℕ) → time < m.from → AreHeld t h (items ++ BodyItem.Time time ∷ []) → Quiet (BodyItem.Time time)
-    at_mark time less held =
-        let order = is.ordered in
-        let low : time ≤ m.to = omega (arith, order, less) in
-        let why : (is_started m.from items ≡ true) ⊎ (time < m.from) = inr less in
-        let g = goes_still h items m is time low why in
-        record {
-          due = mark_passes h m.from m.to items time is.on low why;
-          on = within_is m.to time low;
-          keeps = record { ordered = g.ordered; on = g.on; started_is = g.started_is; held = λ _. held; written = g.written };
-        }
+module _ (h : Header) (items : List BodyItem) (m : Cut) (time : ℕ) (is : AreCut m h items) where
+  mark_quiet : time ≤ m.to → (is_started m.from items ≡ true) ⊎ (time < m.from) → TakesQuietly (AreCut m h (items ++ BodyItem.Time time ∷ [])) (Request.Cut m.from m.to) h items (BodyItem.Time time)
+  mark_quiet low why = record {
+    due = mark_passes h m.from m.to items time is.on low why;
+    on = within_is m.to time low;
+    keeps = goes_still h items m is time low why;
+  }
 
-    at_other : (i : Item) → IsItem h.codes text i x → IsNoMark i → Quiet x
-    at_other i read none = record {
-      due = none_before v h items before m text i x views known is read none unbegun;
-      on = sym (no_end h.codes text i x m.to read none);
-      keeps = item_held v h items before m text i x views known is read none t unbegun held;
-    }
+  -- a mark with which the start section is not due
+  pub mark_before : nat_le m.from time ≡ false → TakesQuietly (AreCut m h (items ++ BodyItem.Time time ∷ [])) (Request.Cut m.from m.to) h items (BodyItem.Time time)
+  mark_before early =
+      let order = is.ordered in
+      let less = leb-false m.from time early in
+      mark_quiet (omega (arith, order, less)) (inr less)
 
-    by_item : (i : Item) → IsItem h.codes text i x → ((time : ℕ) → i ≡ Time time → nat_le m.from time ≡ false) → Quiet x
-    by_item (Time time) read early = subst Quiet (sym read) (at_mark time (leb-false m.from time (early time refl)) (subst (λ (y : BodyItem). AreHeld t h (items ++ y ∷ [])) read held))
-    by_item (Begin s) read early = at_other (Begin s) read tt
-    by_item End read early = at_other End read tt
-    by_item (Change place form) read early = at_other (Change place form) read tt
-    by_item Finish read early = at_other Finish read tt
+  -- a mark behind it, up to the end
+  pub mark_within : m.started ≡ true → nat_lt m.to time ≡ false → TakesQuietly (AreCut m h (items ++ BodyItem.Time time ∷ [])) (Request.Cut m.from m.to) h items (BodyItem.Time time)
+  mark_within begun low = mark_quiet (ltb-false m.to time low) (inl (sym is.started_is ∙ begun))

@@ -1,34 +1,57 @@
--- One item that a machine takes ahead, behind those before.
-use Rattle.std.proofs.Common.{◌≡◌, ℕ, ◌+◌, ◌≤◌, ◌<◌, ◌^◌, Bool, false, List, [], ◌∷◌, ◌++◌, length, Result, Ok, sym, subst, append_assoc}
+-- One item that a command takes ahead, behind those before.
+use Rattle.std.proofs.Common.{◌≡◌, ℕ, ◌+◌, ◌≤◌, ◌<◌, ◌^◌, false, List, [], ◌∷◌, ◌++◌, length, Result, Ok, Err, refl, sym, subst, append_assoc}
 use Rattle.std.specs.Prelude.{IfOk}
+use Rattle.vcd_model.specs.Declarations.{IdCode}
 use Rattle.vcd_model.specs.Header.{Header}
-use Rattle.vcd_model.specs.Items.{BodyItem}
+use Rattle.vcd_model.specs.Items.{BodyItem, Change as Changed}
 use Rattle.vcd_model.specs.Outcome.{Request, ends_early, open_text}
 use Rattle.vcd_model.specs.Tokens.{Token}
-use Rattle.vcd_text.specs.Ahead.{passed_of}
-use Rattle.vcd_text.specs.Device.{Counts, Device, Takes, Writes}
+use Rattle.vcd_model.proofs.SampleSteps.{goes_on_other}
+use Rattle.vcd_text.specs.Ahead.{bytes_of, passed_of}
+use Rattle.vcd_text.specs.Device.{Device}
 use Rattle.vcd_text.specs.Passed.{Passed}
 use Rattle.vcd_text.specs.declared.ahead.Ahead.{Ahead}
-use Rattle.vcd_text.proofs.Writes.{appends-none}
 use Rattle.vcd_view.specs.Views.{IsViewOf}
 use Rattle.vcd_view.specs.declared.view.HeadView.{HeadView}
 use Rattle.vcd_body.specs.Ahead.{GaveAhead, LooksOver}
+use Rattle.vcd_body.specs.Device.{DueBy, GrowsSome}
 use Rattle.vcd_body.specs.Given.{IsItem}
 use Rattle.vcd_body.specs.Items.{AreRegsAfter, regs_after}
 use Rattle.vcd_body.specs.Taken.{TakesItem}
 use Rattle.vcd_body.specs.declared.ahead.Plain.{Plain}
+use Rattle.vcd_body.specs.declared.item.Form.{Form}
+use Rattle.vcd_body.specs.declared.item.Item.{Item}
+use Rattle.vcd_body.specs.declared.item.Item.TheVariants.{Change}
 use Rattle.vcd_body.specs.declared.item.Regs.{Regs}
 use Rattle.vcd_engine.specs.Ahead.{GaveOneAhead, StandsAhead}
-use Rattle.vcd_body.specs.Device.{DueBy}
-use Rattle.vcd_engine.specs.Engine.{Keeps, TakesOne, TakesOneBy, request_in}
-use Rattle.vcd_engine.specs.Next.{TakesNext}
+use Rattle.vcd_engine.specs.Engine.{Keeps, request_in}
+use Rattle.vcd_engine.specs.Next.{TakesMore, TakesNext}
+use Rattle.vcd_engine.specs.Pieces.{GrowsBut, PutsOn, held_in}
 use Rattle.vcd_engine.specs.Quiet.{TakesQuietly}
 use Rattle.vcd_engine.specs.declared.machine.Machine.{Machine}
+use Rattle.vcd_engine.specs.declared.machine.walk.Walk.{Walk}
+use Rattle.vcd_engine.specs.declared.pieces.Pieces.{Pieces}
 use Rattle.vcd_engine.proofs.AheadLemmas.{few_ahead, stands_on}
+use Rattle.vcd_engine.proofs.PieceLemmas.{but_failed, but_on, none_on}
 
 -- an item with which nothing is due
-pub quiet_takes : {E : Type 0} (holds : Type 0) (task : Request) (h : Header) (items : List BodyItem) (x : BodyItem) (out : Device) → TakesQuietly holds task h items x → TakesOne {E = E} holds task h items x out out (Ok false)
-quiet_takes holds task h items x out q = record { due = ([], q.due, appends-none out.held); ends = sym q.on; keeps = λ _. q.keeps }
+pub more_quietly : {A E : Type 0} (v : A) (holds : Type 0) (task : Request) (h : Header) (items : List BodyItem) (x : BodyItem) (held : List ℕ) (out : Device) → TakesQuietly holds task h items x → TakesMore {A = A} {E = E} (λ due. PutsOn {A = A} {E = E} held held out out due (Ok v)) holds task h items x (Ok v)
+more_quietly v holds task h items x held out q = record { due = ([], q.due, none_on held out); on = q.on; keeps = q.keeps }
+
+-- a change ends no run
+change_goes_on : (t : Request) (y : Changed) → ends_early t (BodyItem.Changes y) ≡ false
+change_goes_on Request.Check y = refl
+change_goes_on Request.Listing y = refl
+change_goes_on (Request.Pick names) y = refl
+change_goes_on (Request.Cut from to) y = refl
+change_goes_on (Request.Sample times names) y = goes_on_other names times (BodyItem.Changes y) refl
+change_goes_on (Request.Edges names) y = refl
+change_goes_on Request.Merge y = refl
+
+pub goes_on_change : (t : Request) (codes : List IdCode) (text : List ℕ) (item : Item) (place : ℕ) (form : Form) (x : BodyItem) → item ≡ Change place form → IsItem codes text item x → ends_early t x ≡ false
+goes_on_change t codes text item place form x e is =
+    let read = subst (λ (i : Item). IsItem codes text i x) e is in
+    subst (λ (y : BodyItem). ends_early t y ≡ false) (sym read.2) (change_goes_on t _)
 
 -- whole tokens were passed
 pub next_passes : (limit lines : ℕ) (bytes : List ℕ) (v : HeadView) (a a' : Ahead) (r : Regs) (p : Plain) → TakesItem v a a' r p → LooksOver limit bytes a → (ts before : List Token) → Passed limit lines bytes (passed_of a) (ts ++ before) → (more : List Token) × Passed limit lines bytes (passed_of a') (ts ++ more)
@@ -36,32 +59,40 @@ next_passes limit lines bytes v a a' r p item over ts before passed =
     let more = item.passes limit lines bytes (ts ++ before) over passed in
     (before ++ more.0, subst (Passed limit lines bytes (passed_of a')) (append_assoc ts before more.0) more.1)
 
--- what was due was written
-pub next_writes : {E : Type 0} (out out' : Device) (result : Result Bool E) (b : Bool) (due : List ℕ) → result ≡ Ok b → Takes out out' due result → Counts out out' result → Writes out out' due
-next_writes {E} out out' result b due e takes counts = (subst (λ (r : Result Bool E). Takes out out' due r) e takes, subst (λ (r : Result Bool E). Counts out out' r) e counts)
-
-module _ {E : Type 0} (t : Request) (h : Header) (limit lines : ℕ) (bytes : List ℕ) (before : List BodyItem) (v : HeadView) (views : IsViewOf v h) (few : length before + length bytes < 2 ^ 63) (takes : List ℕ → Type 0) (a a' : Ahead) (r r' : Regs) (m m' : Machine) (result : Result Bool E) (n : TakesNext takes v a a' r r' m m' result)
-    (items : List BodyItem) (over : LooksOver limit bytes a) (same : request_in m ≡ t) (within : passed_of a ≤ length bytes) (s : StandsAhead t h limit lines bytes before (passed_of a) items m r) where
-  pub one : (x : BodyItem) × IsItem h.codes n.plain.text.now n.plain.item x × GaveAhead h.codes limit lines bytes (passed_of a') before (items ++ x ∷ []) × AreRegsAfter (before ++ (items ++ x ∷ [])) (regs_after r n.plain.item)
+module _ {A E : Type 0} (t : Request) (h : Header) (limit lines : ℕ) (bytes : List ℕ) (before : List BodyItem) (v : HeadView) (views : IsViewOf v h) (few : length before + length bytes < 2 ^ 63) (w w' : Walk) (p p' : Pieces) (out out' : Device) (m m' : Machine) (result : Result A E) (n : TakesNext v w w' p p' out out' m m' result)
+    (items : List BodyItem) (over : LooksOver limit bytes w.ahead) (same : request_in m ≡ t) (within : passed_of w.ahead ≤ length bytes) (s : StandsAhead t h limit lines bytes before (passed_of w.ahead) items m w.regs) where
+  pub one : (x : BodyItem) × IsItem h.codes n.plain.text.now n.plain.item x × GaveAhead h.codes limit lines bytes (passed_of w'.ahead) before (items ++ x ∷ []) × AreRegsAfter (before ++ (items ++ x ∷ [])) (regs_after w.regs n.plain.item)
   one = n.item.gives h limit lines bytes before items views over s.known s.gave
 
   abbrev pub next : BodyItem
   next = one.0
 
-  taken : TakesOneBy takes (Keeps m' h ((before ++ items) ++ next ∷ [])) t h (before ++ items) next result
-  taken = subst (λ (q : Request). TakesOneBy takes (Keeps m' h ((before ++ items) ++ next ∷ [])) q h (before ++ items) next result) same (n.one h (before ++ items) next views s.known one.1 (few_ahead t h limit lines bytes before (passed_of a) items m r s within few) s.keeps)
+  taken : TakesMore (λ due. PutsOn (held_in (bytes_of w.ahead) p) (held_in (bytes_of w.ahead) p') out out' due result) (Keeps m' h ((before ++ items) ++ next ∷ [])) t h (before ++ items) next result
+  taken = subst (λ (q : Request). TakesMore (λ due. PutsOn (held_in (bytes_of w.ahead) p) (held_in (bytes_of w.ahead) p') out out' due result) (Keeps m' h ((before ++ items) ++ next ∷ [])) q h (before ++ items) next result) same (n.one h (before ++ items) next views s.known one.1 (few_ahead t h limit lines bytes before (passed_of w.ahead) items m w.regs s within few) s.keeps)
 
   -- it was given
-  pub next_given : GaveOneAhead t h limit lines bytes before (passed_of a') items next r'
+  pub next_given : GaveOneAhead t h limit lines bytes before (passed_of w'.ahead) items next w'.regs
   next_given = record { gave = one.2; known = subst (AreRegsAfter (before ++ (items ++ next ∷ []))) (sym n.regs) one.3 }
 
+  -- the run goes on
+  pub next_stands : (a : A) → result ≡ Ok a → StandsAhead t h limit lines bytes before (passed_of w'.ahead) (items ++ next ∷ []) m' w'.regs
+  next_stands a e =
+      let keeps = subst (λ (q : Result A E). IfOk q (λ _. Keeps m' h ((before ++ items) ++ next ∷ []))) e taken.keeps in
+      stands_on t h limit lines bytes before (passed_of w.ahead) items m w.regs s (passed_of w'.ahead) m' w'.regs n.plain.text.now n.plain.item next one.1 one.2 next_given.known n.regs keeps taken.on
+
   -- what is due with it
-  pub next_due : DueBy takes (open_text t h (before ++ items)) (open_text t h ((before ++ items) ++ next ∷ []))
-  next_due = taken.due
+  due : DueBy (λ due. PutsOn (held_in bytes p) (held_in bytes p') out out' due result) (open_text t h (before ++ items)) (open_text t h ((before ++ items) ++ next ∷ []))
+  due = subst (λ (bs : List ℕ). DueBy (λ due. PutsOn (held_in bs p) (held_in bs p') out out' due result) (open_text t h (before ++ items)) (open_text t h ((before ++ items) ++ next ∷ []))) over.1 taken.due
 
-  pub next_ends : (b : Bool) → result ≡ Ok b → ends_early t next ≡ b
-  next_ends b e = sym (subst (λ (q : Result Bool E). IfOk q (λ ended. ended ≡ ends_early t next)) e taken.ends)
+  module _ (begin : Device) (grown : GrowsBut begin out (held_in bytes p) (open_text t h before) (open_text t h (before ++ items))) where
+    -- was put
+    pub next_grows : (a : A) → result ≡ Ok a → GrowsBut begin out' (held_in bytes p') (open_text t h before) (open_text t h (before ++ (items ++ next ∷ [])))
+    next_grows a e =
+        let put = subst (λ (q : Result A E). PutsOn (held_in bytes p) (held_in bytes p') out out' due.0 q) e due.2 in
+        subst (λ l. GrowsBut begin out' (held_in bytes p') (open_text t h before) (open_text t h l)) (append_assoc before items (next ∷ [])) (but_on begin out out' (held_in bytes p) (open_text t h before) (open_text t h (before ++ items)) grown (held_in bytes p') due.0 _ due.1 put)
 
-  -- and the run goes on
-  pub next_stands : result ≡ Ok false → StandsAhead t h limit lines bytes before (passed_of a') (items ++ next ∷ []) m' r'
-  next_stands e = stands_on t h limit lines bytes before (passed_of a) items m r s (passed_of a') m' r' n.plain.text.now n.plain.item next one.1 one.2 next_given.known n.regs (taken.keeps e) (next_ends false e)
+    -- or a write failed
+    pub next_fails : (f : E) → result ≡ Err f → GrowsSome begin out' (open_text t h before) (open_text t h ((before ++ items) ++ next ∷ []))
+    next_fails f e =
+        let put = subst (λ (q : Result A E). PutsOn (held_in bytes p) (held_in bytes p') out out' due.0 q) e due.2 in
+        but_failed begin out out' (held_in bytes p) (open_text t h before) (open_text t h (before ++ items)) grown due.0 _ due.1 put

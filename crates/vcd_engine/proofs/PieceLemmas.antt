@@ -2,7 +2,7 @@
 use Rattle.std.proofs.Common.{◌≡◌, ℕ, ◌+◌, ◌-◌, ◌≤◌, length, refl, List, [], ◌++◌, slice_range, Result, Ok, Err, sym, ap, subst, ◌∙◌, append-nil, append_assoc, arith, take, drop, IfOk, ap₂}
 use Rattle.std.proofs.lemmas.List.{length-append, length-take-le, take-take}
 use Rattle.std.proofs.Math.Seq.{take-append-add}
-use Rattle.vcd_text.specs.Device.{Device, Puts, Writes, WritesSome}
+use Rattle.vcd_text.specs.Device.{Device, Puts, Writes, WritesSome, failures_after}
 use Rattle.vcd_text.proofs.AheadLemmas.{length-ahead, slice_range-append}
 use Rattle.vcd_text.proofs.Writes.{both-written, some-behind, some-first}
 use Rattle.vcd_body.specs.Device.{Grows, GrowsSome}
@@ -10,16 +10,16 @@ use Rattle.std.specs.Borrow.{Bor}
 use Rattle.vcd_text.specs.Ahead.{bytes_of, passed_of}
 use Rattle.vcd_text.specs.declared.ahead.Ahead.{Ahead}
 use Rattle.vcd_view.specs.declared.view.HeadView.{HeadView}
-use Rattle.vcd_body.specs.Ahead.{IsPlain}
-use Rattle.vcd_body.specs.Spelled.{HasSpelled}
+use Rattle.vcd_body.specs.Spelled.{HasMark, HasSpelled}
 use Rattle.vcd_body.specs.Taken.{TakesItem}
 use Rattle.vcd_body.specs.declared.ahead.Plain.{Plain}
 use Rattle.vcd_body.specs.Items.{regs_after}
 use Rattle.vcd_body.specs.declared.item.Form.{Form}
 use Rattle.vcd_body.specs.declared.item.Item.{Item}
-use Rattle.vcd_body.specs.declared.item.Item.TheVariants.{Time, Begin, End, Change, Finish}
+use Rattle.vcd_body.specs.declared.item.Item.TheVariants.{Time, Change}
 use Rattle.vcd_body.specs.declared.item.Regs.{Regs}
-use Rattle.vcd_engine.specs.Pieces.{GrowsBut, IsLine, Lies, PutsAll, PutsOn, IsPart, held_in}
+use Rattle.vcd_engine.specs.Cut.{IsNoMark}
+use Rattle.vcd_engine.specs.Pieces.{GrowsBut, IsLine, IsInPlace, PutsAll, PutsBehind, PutsOn, IsPart, held_in}
 use Rattle.vcd_engine.specs.declared.pieces.Pieces.{Pieces}
 use Rattle.vcd_body.proofs.Results.{writes-none}
 
@@ -126,6 +126,13 @@ twice_on held mid held' a b out between out' (Ok w) first then =
 twice_on held mid held' a b out between out' (Err f) first then =
     subst (WritesSome out out') (sym (append_assoc first.0 mid b) ∙ sym (ap (λ l. l ++ b) first.1) ∙ append_assoc held a b) (some-behind out between out' first.0 (mid ++ b) first.2 then)
 
+pub twice_behind : {A B E : Type 0} (bytes : List ℕ) (p q p' : Pieces) (a b : List ℕ) (out mid out' : Device) (v : B) (r : Result A E) → PutsBehind {A = B} {E = E} bytes p q out mid a (Ok v) → PutsBehind bytes q p' mid out' b r → PutsBehind bytes p p' out out' (a ++ b) r
+twice_behind {A} {B} {E} bytes p q p' a b out mid out' v r first then = record {
+  puts = twice_on (held_in bytes p) (held_in bytes q) (held_in bytes p') a b out mid out' r first.puts then.puts;
+  counts = subst (λ n. out'.failures ≡ failures_after n r) first.counts then.counts;
+  part = then.part;
+}
+
 -- ---- several calls, of which the text is some text with each item
 
 module _ (out mid out' : Device) (held text some : List ℕ) (g : GrowsBut out mid held text some) where
@@ -163,31 +170,34 @@ but_none out held text e = ([], sym (ap (λ l. text ++ l) e ∙ append-nil text)
 pub next_line_is : (bytes bytes' : List ℕ) (line to to' time time' : ℕ) → bytes ≡ bytes' → to ≡ to' → time ≡ time' → IsLine bytes line to time → IsLine bytes' line to' time'
 next_line_is bytes bytes' line to to' time time' e f g i = subst (λ bs. IsLine bs line to' time') e (subst (λ n. IsLine bytes line n time') f (subst (λ t. IsLine bytes line to t) g i))
 
--- that of an item's own time: a change has the time before it, and nothing is said to stand before
--- a mark
-pub line_here : (bytes bytes' : List ℕ) (from from' line : ℕ) (before after : Regs) (it : Item) (text : List ℕ) (here : ℕ) → bytes' ≡ bytes → from' ≡ from → IsPlain text it → after ≡ regs_after before it → ((t : ℕ) → it ≡ Time t → here ≡ from')
-    → ((place : ℕ) (f : Form) → it ≡ Change place f → here ≡ line) → IsLine bytes line from before.time → IsLine bytes' here from' after.time
-line_here bytes bytes' from from' line before after (Time t) text here e f plain re mark change i = let h = mark t refl in (omega arith, λ less. absurd (omega arith))
-line_here bytes bytes' from from' line before after (Change place form) text here e f plain re mark change i =
-    let h = change place form refl in
-    subst (λ n. IsLine bytes' n from' after.time) (sym h) (next_line_is bytes bytes' line from from' before.time after.time (sym e) (sym f) (ap (λ (r : Regs). r.time) (sym re)) i)
-line_here bytes bytes' from from' line before after (Begin s) text here e f plain re mark change i = absurd plain
-line_here bytes bytes' from from' line before after End text here e f plain re mark change i = absurd plain
-line_here bytes bytes' from from' line before after Finish text here e f plain re mark change i = absurd plain
-
 -- ---- an item that was taken ahead
 
-pub lies_there : (v : HeadView) (a a' : Ahead) (r : Regs) (p : Plain) (bytes : Bor (List ℕ)) (from to line : ℕ) → TakesItem v a a' r p → bytes.now ≡ bytes_of a' → from ≡ passed_of a → to ≡ passed_of a' → Lies v (record { plain = p; bytes = bytes; from = from; to = to; line = line })
-lies_there v a a' r p bytes from to line item e f g =
-    let further = item.further in
-    let within = item.within in
-    let here : to ≤ length bytes.now = subst (λ (bs : List ℕ). to ≤ length bs) (sym e) (omega (arith, g, within)) in
-    record {
-      within = (omega (arith, f, g, further), here);
-      good = item.sound;
-      sized = item.sized;
-      bits = item.bits;
-      spelled =
-          subst (λ (bs : List ℕ). HasSpelled v bs from to p.at p.code_at p.text.now p.item) (sym (e ∙ item.same.0))
-          (subst (λ n. HasSpelled v (bytes_of a) n to p.at p.code_at p.text.now p.item) (sym f) (subst (λ n. HasSpelled v (bytes_of a) (passed_of a) n p.at p.code_at p.text.now p.item) (sym g) item.spelled));
-    }
+-- a change is no mark, and changes no register
+pub no_mark_here : (item : Item) (place : ℕ) (form : Form) → item ≡ Change place form → IsNoMark item
+no_mark_here item place form e = subst IsNoMark (sym e) tt
+
+pub same_regs : (r : Regs) (item : Item) (place : ℕ) (form : Form) → item ≡ Change place form → r ≡ regs_after r item
+same_regs r item place form e = subst (λ (i : Item). r ≡ regs_after r i) (sym e) refl
+
+module _ (v : HeadView) (a a' : Ahead) (r : Regs) (p : Plain) (bytes : Bor (List ℕ)) (from to : ℕ) (item : TakesItem v a a' r p) (e : bytes.now ≡ bytes_of a') (f : from ≡ passed_of a) (g : to ≡ passed_of a') where
+  spelled_there : HasSpelled v bytes.now from to p.at p.code_at p.text.now p.item
+  spelled_there =
+      subst (λ (bs : List ℕ). HasSpelled v bs from to p.at p.code_at p.text.now p.item) (sym (e ∙ item.same.0))
+      (subst (λ n. HasSpelled v (bytes_of a) n to p.at p.code_at p.text.now p.item) (sym f) (subst (λ n. HasSpelled v (bytes_of a) (passed_of a) n p.at p.code_at p.text.now p.item) (sym g) item.spelled))
+
+  pub placed_there : (line : ℕ) → (place : ℕ) × (form : Form) × (p.item ≡ Change place form) → IsInPlace v (record { plain = p; bytes = bytes; from = from; to = to; line = line })
+  placed_there line change =
+      let further = item.further in
+      let within = item.within in
+      let here : to ≤ length bytes.now = subst (λ (bs : List ℕ). to ≤ length bs) (sym e) (omega (arith, g, within)) in
+      record {
+        change = change;
+        within = (omega (arith, f, g, further), here);
+        good = item.sound;
+        sized = item.sized;
+        bits = item.bits;
+        spelled = spelled_there;
+      }
+
+  pub mark_there : (time : ℕ) → p.item ≡ Time time → HasMark bytes.now from to p.at time
+  mark_there time is = subst (λ (i : Item). HasSpelled v bytes.now from to p.at p.code_at p.text.now i) is spelled_there

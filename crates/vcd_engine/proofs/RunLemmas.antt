@@ -35,7 +35,7 @@ use Rattle.vcd_engine.specs.Run.{Belongs, Follows, IsRefused, is_early}
 use Rattle.vcd_body.proofs.CallerLemmas.{last_given}
 use Rattle.vcd_engine.proofs.AheadLemmas.{grows_on, some_on}
 use Rattle.vcd_body.proofs.AskedLemmas.{read_to_end, read_to_item, read_to_stop}
-use Rattle.vcd_engine.specs.Step.{LastGives, StepGives, StepsGive, TakesAhead, step_end}
+use Rattle.vcd_engine.specs.Step.{LastGives, StepGives, StepsGive, step_end}
 use Rattle.vcd_text.specs.Advances.{Advances, HasNotFailed}
 use Rattle.vcd_body.specs.declared.answer.Done.{Done}
 use Rattle.vcd_body.specs.declared.answer.Done.TheVariants.{Whole, Early}
@@ -296,9 +296,9 @@ behind t h i front items more e f out mid new (Err Write) w (inr s) =
 behind t h i front items more e f out mid new (Err (Unmatched name)) w s = absurd s
 
 -- items that were taken ahead, and a step behind them
-pub steps_behind : {X : Type 0} {g : Ghosts X} (t : Request) (h : Header) (i : Input) (front : List Token) (items : List BodyItem) (e e' : Engine) (f f' : Feed X g) (out out' new : Device) (r : Result More Stop) (a : TakesAhead t h i front items e f out out' (Ok Again))
-    → StepGives t h i front (items ++ a.more) e' f' out' new r → StepsGive t h i front items e' f' out new r
-steps_behind t h i front items e e' f f' out out' new r a s = record { more = a.more; on = a.on; last = behind t h i front items a.more e' f' out out' new r a.last.1 s }
+pub steps_behind : {X : Type 0} {g : Ghosts X} (t : Request) (h : Header) (i : Input) (front : List Token) (items more : List BodyItem) (e : Engine) (f : Feed X g) (out out' new : Device) (r : Result More Stop) → list_any (ends_early t) (items ++ more) ≡ false
+    → Grows out out' (open_text t h items) (open_text t h (items ++ more)) → StepGives t h i front (items ++ more) e f out' new r → StepsGive t h i front items e f out new r
+steps_behind t h i front items more e f out out' new r on grows s = record { more = more; on = on; last = behind t h i front items more e f out out' new r grows s }
 
 -- `out` holds what is due behind these items; some steps took the run from there to `new`
 module _ {X : Type 0} {g : Ghosts X} (t : Request) (h : Header) (i : Input) (front : List Token) (items : List BodyItem) (begin out new : Device) (open_is : Writes begin out (open_text t h items)) (e : Engine) (f : Feed X g) where

@@ -18,6 +18,7 @@ use Rattle.vcd_model.proofs.SampleSteps.{AreSettled, all_settled_same, close_is,
 use Rattle.vcd_text.specs.Device.{Device, Takes}
 use Rattle.vcd_text.proofs.Writes.{appends-none}
 use Rattle.vcd_body.specs.Items.{model_section}
+use Rattle.vcd_body.specs.declared.item.Form.{Form}
 use Rattle.vcd_body.specs.declared.item.Item.{Item}
 use Rattle.vcd_body.specs.declared.item.Item.TheVariants.{Time, Begin, End, Change, Finish}
 use Rattle.vcd_body.specs.declared.item.Section.{Section}
@@ -218,41 +219,30 @@ some_there : (us : List ℕ) (t : ℕ) → is_due us t ≡ false → us ≢ []
 some_there [] t e none = cc
 some_there (u ∷ us) t e none = cc
 
-pub quiet_item : (s : Sample) (h : Header) (items : List BodyItem) (text : List ℕ) (item : Item) (x : BodyItem) → AreSampled s h items → IsItem h.codes text item x → (t : Table) → ((time : ℕ) → item ≡ Time time → is_due s.rest.now time ≡ false) → AreHeld t h (items ++ x ∷ [])
-    → TakesQuietly (AreSampled (record s { table = t }) h (items ++ x ∷ [])) (asked_in s) h items x
-quiet_item s h items text item x is read t early held = by_item item read early
-  where
-    Quiet : BodyItem → Type 0
-    Quiet y = TakesQuietly (AreSampled (record s { table = t }) h (items ++ y ∷ [])) (asked_in s) h items y
+module _ (s : Sample) (h : Header) (items : List BodyItem) (is : AreSampled s h items) where
+  pub quiet_mark : (time : ℕ) → is_due s.rest.now time ≡ false → TakesQuietly (AreSampled s h (items ++ BodyItem.Time time ∷ [])) (asked_in s) h items (BodyItem.Time time)
+  quiet_mark time early =
+      let none = none_below time s.rest.now early in
+      let rest : s.rest.now ≡ later s h items time is = sym (ap (λ n. drop n s.rest.now) none) in
+      let no_lines : due s h items time is ≡ [] = ap (λ n. take n s.rest.now) none in
+      let some : later s h items time is ≢ [] = λ e. some_there s.rest.now time early (rest ∙ e) in
+      let g = samples_behind s h items time is s.rest rest some in
+      record {
+        due = lines_due s h items time is ∙ ap (λ us. open_text (asked_in s) h items ++ lines_of h (names_in s) items us) no_lines;
+        on = goes_behind s h items time is some;
+        keeps = record {
+          held = g.held;
+          marks_lead = g.marks_lead;
+          rising = g.rising;
+          done = g.done;
+          times_are = g.times_are;
+          settled = g.settled;
+          others = g.others;
+          left = g.left;
+        };
+      }
 
-    at_mark : (time : ℕ) → is_due s.rest.now time ≡ false → AreHeld t h (items ++ BodyItem.Time time ∷ []) → Quiet (BodyItem.Time time)
-    at_mark time early held =
-        let none = none_below time s.rest.now early in
-        let rest : s.rest.now ≡ later s h items time is = sym (ap (λ n. drop n s.rest.now) none) in
-        let no_lines : due s h items time is ≡ [] = ap (λ n. take n s.rest.now) none in
-        let some : later s h items time is ≢ [] = λ e. some_there s.rest.now time early (rest ∙ e) in
-        let g = samples_behind s h items time is s.rest rest some in
-        record {
-          due = lines_due s h items time is ∙ ap (λ us. open_text (asked_in s) h items ++ lines_of h (names_in s) items us) no_lines;
-          on = goes_behind s h items time is some;
-          keeps = record {
-            held = held;
-            marks_lead = g.marks_lead;
-            rising = g.rising;
-            done = g.done;
-            times_are = g.times_are;
-            settled = g.settled;
-            others = g.others;
-            left = g.left;
-          };
-        }
-
-    at_other : marks (x ∷ []) ≡ [] → Quiet x
-    at_other other = record { due = none_due s h items x is other; on = goes_on_other (names_in s) s.times.now x other; keeps = samples_on s h items x is other t held }
-
-    by_item : (i : Item) → IsItem h.codes text i x → ((time : ℕ) → i ≡ Time time → is_due s.rest.now time ≡ false) → Quiet x
-    by_item (Time time) read early = subst Quiet (sym read) (at_mark time (early time refl) (subst (λ (y : BodyItem). AreHeld t h (items ++ y ∷ [])) read held))
-    by_item (Begin b) read early = at_other (no_marks h.codes text (Begin b) x read (λ time e. cc))
-    by_item End read early = at_other (no_marks h.codes text End x read (λ time e. cc))
-    by_item (Change place form) read early = at_other (no_marks h.codes text (Change place form) x read (λ time e. cc))
-    by_item Finish read early = at_other (no_marks h.codes text Finish x read (λ time e. cc))
+  pub quiet_change : (text : List ℕ) (item : Item) (place : ℕ) (form : Form) (x : BodyItem) → item ≡ Change place form → IsItem h.codes text item x → (t : Table) → AreHeld t h (items ++ x ∷ []) → TakesQuietly (AreSampled (record s { table = t }) h (items ++ x ∷ [])) (asked_in s) h items x
+  quiet_change text item place form x e read t held =
+      let other = no_marks h.codes text item x read (λ time f. cc) in
+      record { due = none_due s h items x is other; on = goes_on_other (names_in s) s.times.now x other; keeps = samples_on s h items x is other t held }

@@ -1,18 +1,26 @@
 -- What is left where a machine takes items that lie ahead in a feed's chunk, one after the other.
-use Rattle.std.specs.Prelude.{◌≡◌, ℕ, Bool, true, false, List, [], ◌∷◌, ◌++◌, Result, Ok, Err}
+use Rattle.std.specs.Prelude.{◌≡◌, ℕ, ◌+◌, ◌<◌, ◌^◌, false, List, [], ◌∷◌, ◌++◌, length, Result, Ok, Err}
 use Rattle.std.specs.List.{list_any}
 use Rattle.vcd_model.specs.Header.{Header}
 use Rattle.vcd_model.specs.Items.{BodyItem}
 use Rattle.vcd_model.specs.ItemText.{last_mark}
 use Rattle.vcd_model.specs.Outcome.{Request, ends_early, open_text}
-use Rattle.vcd_text.specs.Device.{Device}
+use Rattle.vcd_model.specs.Tokens.{Token}
+use Rattle.vcd_text.specs.Ahead.{bytes_of, longest_of, passed_of}
+use Rattle.vcd_text.specs.Device.{Counts, Device}
+use Rattle.vcd_text.specs.Passed.{Passed}
+use Rattle.vcd_text.specs.declared.ahead.Ahead.{Ahead}
+use Rattle.vcd_view.specs.Views.{IsViewOf}
+use Rattle.vcd_view.specs.declared.view.HeadView.{HeadView}
 use Rattle.vcd_body.specs.Ahead.{GaveAhead}
 use Rattle.vcd_body.specs.Items.{AreRegsAfter}
 use Rattle.vcd_body.specs.declared.item.Regs.{Regs}
 use Rattle.vcd_body.specs.Device.{Grows, GrowsSome}
-use Rattle.vcd_engine.specs.Engine.{Keeps, last_of}
+use Rattle.vcd_engine.specs.Engine.{Keeps, last_of, request_in}
+use Rattle.vcd_engine.specs.Room.{SameTask}
 use Rattle.vcd_engine.specs.Several.{TakesSeveral}
 use Rattle.vcd_engine.specs.declared.machine.Machine.{Machine}
+use Rattle.vcd_engine.specs.declared.machine.walk.Taken.{Taken}
 
 module _ (task : Request) (h : Header) (limit lines : ℕ) (bytes : List ℕ) (before : List BodyItem) where
   -- behind the items before, these lie in the first n bytes ahead; none of them ends the run, and
@@ -29,14 +37,21 @@ module _ (task : Request) (h : Header) (limit lines : ℕ) (bytes : List ℕ) (b
     pub gave : GaveAhead h.codes limit lines bytes n before (items ++ x ∷ [])
     pub known : AreRegsAfter (before ++ (items ++ x ∷ [])) r
 
-  -- how that ends behind these items: no other was taken; one more has ended the run; or a write of
-  -- what is due with these or with one more failed
-  abbrev pub EndsAhead : {E : Type 0} → ℕ → Machine → Regs → Device → Device → Result Bool E → List BodyItem → Type 0
-  EndsAhead n m r out out' (Ok false) items = StandsAhead n items m r × Grows out out' (open_text task h before) (open_text task h (before ++ items))
-  EndsAhead n m r out out' (Ok true) items = (x : BodyItem) × (ends_early task x ≡ true) × GaveOneAhead n items x r × Grows out out' (open_text task h before) (open_text task h ((before ++ items) ++ x ∷ []))
+  -- how that ends behind these items: no other was taken; or a write of what is due with these or
+  -- with one more failed
+  abbrev pub EndsAhead : {A E : Type 0} → ℕ → Machine → Regs → Device → Device → Result A E → List BodyItem → Type 0
+  EndsAhead n m r out out' (Ok v) items = StandsAhead n items m r × Grows out out' (open_text task h before) (open_text task h (before ++ items))
   EndsAhead n m r out out' (Err e) items = (x : BodyItem) × GaveOneAhead n items x r × GrowsSome out out' (open_text task h before) (open_text task h ((before ++ items) ++ x ∷ []))
 
   -- some of the items were taken, and what is due with them was written, or a prefix of it where a
   -- write failed
-  abbrev pub RunsAhead : {E : Type 0} → ℕ → Machine → Regs → Device → Device → Result Bool E → Type 0
+  abbrev pub RunsAhead : {A E : Type 0} → ℕ → Machine → Regs → Device → Device → Result A E → Type 0
   RunsAhead n m r out out' result = TakesSeveral task before (EndsAhead n m r out out' result)
+
+-- what a machine leaves that takes the items which lie ahead from a place on
+pub record RunsOver (v : HeadView) (a : Ahead) (r : Regs) (m m' : Machine) (out out' : Device) (t : Taken) : Type 0 where
+  pub gives : (h : Header) (lines : ℕ) (before : List BodyItem) → IsViewOf v h → length before + length (bytes_of a) < 2 ^ 63 → StandsAhead (request_in m) h (longest_of a) lines (bytes_of a) before (passed_of a) [] m r
+      → RunsAhead (request_in m) h (longest_of a) lines (bytes_of a) before t.passed m' t.regs out out' t.written
+  pub passes : (lines : ℕ) (ts : List Token) → Passed (longest_of a) lines (bytes_of a) (passed_of a) ts → (more : List Token) × Passed (longest_of a) lines (bytes_of a) t.passed (ts ++ more)
+  pub counts : Counts out out' t.written
+  pub same : SameTask m m'

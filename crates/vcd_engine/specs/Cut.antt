@@ -65,6 +65,10 @@ BeginsBy h items time m m' out out' (Err e) = (is_started m.from items ≡ false
 abbrev pub lent_to : Cut → RoomSize
 lent_to m = record { values = bytes_in m.table; slots = codes_in m.table; marks = 0 }
 
+-- it goes on with the same span and room
+abbrev pub SameSpan : Cut → Cut → Type 0
+SameSpan m m' = (span_in m' ≡ span_in m) × (lent_to m' ≡ lent_to m)
+
 -- the items from a time on
 abbrev pub kept_from : ℕ → List BodyItem → List Entry
 kept_from from items = kept_by (λ e. nat_le from e.time) (entries items)

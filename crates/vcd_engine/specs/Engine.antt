@@ -1,5 +1,5 @@
 -- Which request an engine runs, what it keeps, and what it holds after items.
-use Rattle.std.specs.Prelude.{◌≡◌, ℕ, ◌≤◌, ◌∷◌, ◌++◌, Bool, true, false, cond, List, [], length, map, Option, Some, None, Result, Ok, IfOk, MatchResult, string_bytes}
+use Rattle.std.specs.Prelude.{◌≡◌, ℕ, ◌+◌, ◌^◌, ◌<◌, ◌≤◌, ◌∷◌, ◌++◌, Bool, true, false, cond, List, [], length, map, Option, Some, None, Result, Ok, IfOk, MatchResult, string_bytes}
 use Rattle.std.specs.List.{list_any}
 use Rattle.vcd_model.specs.Header.{Header}
 use Rattle.vcd_model.specs.Input.{Input}
@@ -13,7 +13,11 @@ use Rattle.vcd_text.specs.Feed.{seen}
 use Rattle.vcd_text.specs.declared.device.Source.{Ghosts}
 use Rattle.vcd_text.specs.declared.feed.Feed.{Feed}
 use Rattle.vcd_view.specs.Views.{IsViewOf}
-use Rattle.vcd_body.specs.Items.{AreRegsAfter}
+use Rattle.vcd_view.specs.declared.view.HeadView.{HeadView}
+use Rattle.vcd_body.specs.Answer.{writes_failed}
+use Rattle.vcd_body.specs.Given.{IsItem}
+use Rattle.vcd_body.specs.Items.{AreRegsAfter, regs_after}
+use Rattle.vcd_body.specs.declared.item.Item.{Item}
 use Rattle.vcd_body.specs.Reads.{GaveItems}
 use Rattle.vcd_body.specs.declared.item.Regs.{Regs}
 use Rattle.vcd_engine.specs.Check.{AreCounted}
@@ -99,6 +103,10 @@ StopsAtStart task h out out' Write = CanRun task h × WritesSome out out' (open_
 StopsAtStart task h out out' (Unmatched place) = (first_unmatched (names_of task) h.declarations ≡ Some place) × Writes out out' []
 StopsAtStart task h out out' stop = ⊥
 
+-- one write failed where the answer is that, and none where it is not
+abbrev pub CountsStop : {A : Type 0} → Device → Device → Result A Stop → Type 0
+CountsStop out out' result = out'.failures ≡ out.failures + writes_failed result
+
 -- what stands before all items was written, and this holds of what begins; or why it stops
 abbrev pub Starts : {A : Type 0} → (A → Type 0) → Request → Header → Device → Device → Result A Stop → Type 0
 Starts holds task h out out' result = MatchResult result (λ a. CanRun task h × holds a × Writes out out' (open_text task h [])) (StopsAtStart task h out out')
@@ -119,6 +127,14 @@ pub record TakesOneBy {E : Type 0} (takes : List ℕ → Type 0) (holds : Type 0
 -- what is due with one item more was written
 abbrev pub TakesOne : {E : Type 0} → Type 0 → Request → Header → List BodyItem → BodyItem → Device → Device → Result Bool E → Type 0
 TakesOne holds task h items x out out' result = TakesOneBy (λ due. Takes out out' due result) holds task h items x result
+
+-- this holds of an item of any header and any items before it, after which the registers are these
+abbrev pub AtItem : HeadView → Regs → Item → List ℕ → (Header → List BodyItem → BodyItem → Type 0) → Type 0
+AtItem v r item text holds = (h : Header) (items : List BodyItem) (before : Regs) (x : BodyItem) → IsViewOf v h → AreRegsAfter items before → r ≡ regs_after before item → IsItem h.codes text item x → length items < 2 ^ 63 → holds h items x
+
+-- this holds of any header and all items of its body, after which the registers are these
+abbrev pub AtClose : HeadView → Regs → (Header → List BodyItem → Type 0) → Type 0
+AtClose v r holds = (h : Header) (items : List BodyItem) → IsViewOf v h → AreRegsAfter items r → last_of r ≡ last_mark items → holds h items
 
 -- a task has begun over this header
 abbrev pub HasBegun : Begun → Header → Type 0

@@ -1,45 +1,63 @@
--- One item that a machine takes ahead.
-use Rattle.std.specs.Prelude.{◌≡◌, ℕ, ◌<◌, ◌^◌, Bool, true, false, not, nat_le, List, [], ◌∷◌, ◌++◌, length, Result, IfOk}
+-- One item that a command takes ahead.
+use Rattle.std.specs.Prelude.{◌≡◌, ℕ, ◌<◌, ◌^◌, false, List, [], ◌∷◌, ◌++◌, length, Result, IfOk}
 use Rattle.vcd_model.specs.Header.{Header}
 use Rattle.vcd_model.specs.Items.{BodyItem}
+use Rattle.vcd_model.specs.Outcome.{Request, ends_early, open_text}
+use Rattle.vcd_text.specs.Ahead.{bytes_of, passed_of}
+use Rattle.vcd_text.specs.Device.{Counts, Device}
 use Rattle.vcd_text.specs.declared.ahead.Ahead.{Ahead}
 use Rattle.vcd_view.specs.Views.{IsViewOf}
 use Rattle.vcd_view.specs.declared.view.HeadView.{HeadView}
+use Rattle.vcd_body.specs.Device.{DueBy}
 use Rattle.vcd_body.specs.Given.{IsItem}
 use Rattle.vcd_body.specs.Items.{AreRegsAfter, regs_after}
 use Rattle.vcd_body.specs.Taken.{TakesItem}
 use Rattle.vcd_body.specs.declared.ahead.Plain.{Plain}
+use Rattle.vcd_body.specs.declared.item.Form.{Form}
+use Rattle.vcd_body.specs.declared.item.Item.TheVariants.{Change}
 use Rattle.vcd_body.specs.declared.item.Regs.{Regs}
-use Rattle.vcd_engine.specs.Engine.{Keeps, TakesOneBy, may_end_early, request_in}
-use Rattle.vcd_engine.specs.Room.{room_of}
-use Rattle.vcd_engine.specs.Sample.{is_due}
+use Rattle.vcd_engine.specs.Engine.{Keeps, request_in}
+use Rattle.vcd_engine.specs.Pieces.{IsLine, IsPart, PutsOn, held_in}
+use Rattle.vcd_engine.specs.Quiet.{TakesQuietly}
+use Rattle.vcd_engine.specs.Room.{SameTask}
 use Rattle.vcd_engine.specs.declared.machine.Machine.{Machine}
-use Rattle.vcd_engine.specs.declared.machine.Machine.TheVariants as machine
+use Rattle.vcd_engine.specs.declared.machine.walk.Walk.{Walk}
+use Rattle.vcd_engine.specs.declared.pieces.InPlace.{InPlace}
+use Rattle.vcd_engine.specs.declared.pieces.Pieces.{Pieces}
 
--- the items that lie ahead are taken with what is due after each: before its start section a cut
--- takes them so, as none is due then
-abbrev pub takes_each : Machine → Bool
-takes_each (machine.Cut m) = not m.started
-takes_each m = true
+-- the line of the last time stands just before the next item, or nothing is said to
+abbrev pub HasLine : Walk → Type 0
+HasLine w = IsLine (bytes_of w.ahead) w.line (passed_of w.ahead) w.regs.time
 
--- but a mark of such a time is left
-abbrev pub is_left : Machine → ℕ → Bool
-is_left (machine.Cut m) time = nat_le m.from time
-is_left (machine.Sample s) time = is_due s.rest.now time
-is_left m time = false
+-- the next item is a change, and lies there up to this place
+pub record HasFound (v : HeadView) (w : Walk) (a : Ahead) (p : Plain) : Type 0 where
+  pub item : TakesItem v w.ahead a w.regs p
+  pub change : (place : ℕ) × (form : Form) × (p.item ≡ Change place form)
+  pub line : HasLine w
 
--- they are taken with pieces of the chunk: from its start section on a cut takes them so
-abbrev pub copies_each : Machine → Bool
-copies_each (machine.Cut m) = m.started
-copies_each m = true
+-- a mark with which nothing is due was taken
+abbrev pub TakesMark : ℕ → Machine → Machine → Type 0
+TakesMark time m m' = (h : Header) (items : List BodyItem) → length items < 2 ^ 63 → Keeps m h items → TakesQuietly (Keeps m' h (items ++ BodyItem.Time time ∷ [])) (request_in m) h items (BodyItem.Time time)
 
--- one item more was taken ahead, and so what is due with it; it was returned whether it ends the
--- run
-pub record TakesNext {E : Type 0} (takes : List ℕ → Type 0) (v : HeadView) (a a' : Ahead) (r r' : Regs) (m m' : Machine) (result : Result Bool E) : Type 0 where
+-- a change was taken, and what is due with it put behind the text that is held
+abbrev pub TakesChange : {A E : Type 0} → HeadView → Regs → InPlace → Pieces → Pieces → Device → Device → Machine → Machine → Result A E → Type 0
+TakesChange v r c p p' out out' m m' result = (h : Header) (items : List BodyItem) (x : BodyItem) → IsViewOf v h → AreRegsAfter items r → IsItem h.codes c.plain.text.now c.plain.item x → length items < 2 ^ 63 → Keeps m h items
+    → DueBy (λ due. PutsOn (held_in c.bytes.now p) (held_in c.bytes.now p') out out' due result) (open_text (request_in m) h items) (open_text (request_in m) h (items ++ x ∷ [])) × IfOk result (λ _. Keeps m' h (items ++ x ∷ []))
+
+-- what is due with one item more was taken so; the item does not end the run, and then this holds
+pub record TakesMore {A E : Type 0} (takes : List ℕ → Type 0) (holds : Type 0) (task : Request) (h : Header) (items : List BodyItem) (x : BodyItem) (result : Result A E) : Type 0 where
+  pub due : DueBy takes (open_text task h items) (open_text task h (items ++ x ∷ []))
+  pub on : ends_early task x ≡ false
+  pub keeps : IfOk result (λ _. holds)
+
+-- one item more was taken ahead, and what is due with it was put behind the text that is held
+pub record TakesNext {A E : Type 0} (v : HeadView) (w w' : Walk) (p p' : Pieces) (out out' : Device) (m m' : Machine) (result : Result A E) : Type 0 where
   pub plain : Plain
-  pub item : TakesItem v a a' r plain
-  pub regs : r' ≡ regs_after r plain.item
-  pub one : (h : Header) (items : List BodyItem) (x : BodyItem) → IsViewOf v h → AreRegsAfter items r → IsItem h.codes plain.text.now plain.item x → length items < 2 ^ 63 → Keeps m h items → TakesOneBy takes (Keeps m' h (items ++ x ∷ [])) (request_in m) h items x result
-  pub request : request_in m' ≡ request_in m
-  pub room : room_of m' ≡ room_of m
-  pub early : IfOk result (λ ended. ended ≡ true → may_end_early (request_in m) ≡ true)
+  pub item : TakesItem v w.ahead w'.ahead w.regs plain
+  pub regs : w'.regs ≡ regs_after w.regs plain.item
+  pub line : HasLine w'
+  pub one : (h : Header) (items : List BodyItem) (x : BodyItem) → IsViewOf v h → AreRegsAfter items w.regs → IsItem h.codes plain.text.now plain.item x → length items < 2 ^ 63 → Keeps m h items
+      → TakesMore (λ due. PutsOn (held_in (bytes_of w.ahead) p) (held_in (bytes_of w.ahead) p') out out' due result) (Keeps m' h (items ++ x ∷ [])) (request_in m) h items x result
+  pub counts : Counts out out' result
+  pub part : IfOk result (λ _. IsPart (bytes_of w.ahead) p')
+  pub same : SameTask m m'

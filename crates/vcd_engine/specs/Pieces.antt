@@ -1,16 +1,19 @@
 -- Text that is due, and of which the last pieces are not yet written.
-use Rattle.std.specs.Prelude.{◌≡◌, ℕ, ◌<◌, ◌≤◌, List, ◌++◌, length, take, slice_range, Result, Ok, Err}
+use Rattle.std.specs.Prelude.{◌≡◌, ℕ, ◌<◌, ◌≤◌, List, ◌++◌, length, take, slice_range, Result, Ok, Err, IfOk}
 use Rattle.vcd_model.specs.ItemText.{time_line}
-use Rattle.vcd_text.specs.Device.{Device, Writes, WritesSome}
+use Rattle.vcd_text.specs.Device.{Counts, Device, Writes, WritesSome}
 use Rattle.vcd_view.specs.declared.view.HeadView.{HeadView}
 use Rattle.vcd_body.specs.Given.{HasGoodText}
 use Rattle.vcd_body.specs.Ahead.{HasBits, IsSizedItem}
 use Rattle.vcd_body.specs.Spelled.{HasSpelled}
-use Rattle.vcd_engine.specs.declared.pieces.Lying.{Lying}
+use Rattle.vcd_body.specs.declared.item.Form.{Form}
+use Rattle.vcd_body.specs.declared.item.Item.TheVariants.{Change}
+use Rattle.vcd_engine.specs.declared.pieces.InPlace.{InPlace}
 use Rattle.vcd_engine.specs.declared.pieces.Pieces.{Pieces}
 
--- an item lies at a place of these bytes
-pub record Lies (v : HeadView) (l : Lying) : Type 0 where
+-- a change lies at a place of these bytes
+pub record IsInPlace (v : HeadView) (l : InPlace) : Type 0 where
+  pub change : (place : ℕ) × (form : Form) × (l.plain.item ≡ Change place form)
   pub within : (l.from ≤ l.to) × (l.to ≤ length l.bytes.now)
   pub good : HasGoodText v.codes.now l.plain.text.now l.plain.item
   pub sized : IsSizedItem v.codes.now l.plain.item l.plain.most
@@ -37,6 +40,12 @@ PutsAll held held' out out' due = (written : List ℕ) × (held ++ due ≡ writt
 abbrev pub PutsOn : {A E : Type 0} → List ℕ → List ℕ → Device → Device → List ℕ → Result A E → Type 0
 PutsOn held held' out out' due (Ok v) = PutsAll held held' out out' due
 PutsOn held held' out out' due (Err e) = WritesSome out out' (held ++ due)
+
+-- this text was put behind what is held
+pub record PutsBehind {A E : Type 0} (bytes : List ℕ) (p p' : Pieces) (out out' : Device) (due : List ℕ) (result : Result A E) : Type 0 where
+  pub puts : PutsOn (held_in bytes p) (held_in bytes p') out out' due result
+  pub counts : Counts out out' result
+  pub part : IfOk result (λ _. IsPart bytes p')
 
 -- what one text has more than the other was written, but for what is held at its end
 abbrev pub GrowsBut : Device → Device → List ℕ → List ℕ → List ℕ → Type 0

@@ -1,7 +1,10 @@
 -- Whether room is large enough for a task, and small enough for the bound.
-use Rattle.std.specs.Prelude.{ℕ, ◌≤◌, length, max}
+use Rattle.std.specs.Prelude.{◌≡◌, ℕ, ◌≤◌, length, max}
 use Rattle.vcd_model.specs.Bound.{FitsInput, RoomSize, no_room}
 use Rattle.vcd_model.specs.Header.{Header}
+use Rattle.vcd_text.specs.Feed.{chunk_len_of, limit_of}
+use Rattle.vcd_text.specs.declared.device.Source.{Ghosts}
+use Rattle.vcd_text.specs.declared.feed.Feed.{Feed}
 use Rattle.vcd_view.specs.Needs.{view_size}
 use Rattle.vcd_view.specs.Shown.{parts}
 use Rattle.vcd_view.specs.Views.{IsViewOf}
@@ -15,6 +18,7 @@ use Rattle.vcd_engine.specs.declared.task.Room.{Room}
 use Rattle.vcd_engine.specs.declared.task.Task.{Task}
 use Rattle.vcd_engine.specs.Cut.{lent_to}
 use Rattle.vcd_engine.specs.Edges.{room_in_edges}
+use Rattle.vcd_engine.specs.Engine.{request_in}
 use Rattle.vcd_engine.specs.Sample.{lent_to as lent_to_sample}
 use Rattle.vcd_engine.specs.Values.{table_bytes}
 use Rattle.vcd_engine.specs.declared.task.Task.TheVariants.{Check, Pick, Cut, Sample, Edges}
@@ -64,6 +68,10 @@ room_of (machine.Cut m) = lent_to m
 room_of (machine.Sample s) = lent_to_sample s
 room_of (machine.Edges e) = room_in_edges e
 
+-- a machine goes on with the same request, and holds the same room
+abbrev pub SameTask : Machine → Machine → Type 0
+SameTask m m' = (request_in m' ≡ request_in m) × (room_of m' ≡ room_of m)
+
 -- what an engine holds beside its registers: a view, and room
 abbrev pub view_in : Engine → HeadView
 view_in e = e.view
@@ -73,6 +81,10 @@ room_of_begun b = room_of b.machine
 
 abbrev pub room_in : Engine → RoomSize
 room_in e = room_of e.machine
+
+-- it still holds them
+abbrev pub SameHold : Engine → Engine → Type 0
+SameHold e e' = (view_in e' ≡ view_in e) × (room_in e' ≡ room_in e)
 
 -- no more room than this
 pub record IsWithin (r most : RoomSize) : Type 0 where
@@ -84,6 +96,10 @@ pub record IsWithin (r most : RoomSize) : Type 0 where
 -- that is shown, with 512 bytes to spare
 abbrev pub AreWithinBound : (limit chunk : ℕ) → HeadView → RoomSize → Type 0
 AreWithinBound limit chunk v r = (h : Header) → IsViewOf v h → FitsInput limit h (record { chunk = chunk; token = limit; value = limit }) (view_size (parts v)) r
+
+-- the windows of this feed do so
+abbrev pub FitsBound : {X : Type 0} {g : Ghosts X} → Feed X g → HeadView → RoomSize → Type 0
+FitsBound f v r = AreWithinBound (limit_of f) (chunk_len_of f) v r
 
 -- the same for every token limit, where no chunk is lent: of what begins, or reads no body
 abbrev pub IsWithinEachBound : HeadView → RoomSize → Type 0

@@ -1,6 +1,6 @@
 -- What a run over a body leaves: what is left of the input, how much of it was read, and what
 -- stands on the output.
-use Rattle.std.specs.Prelude.{◌≡◌, ℕ, List, ◌++◌, Result, IfOk, IfErr, ◌==◌, Bool, true, false, Some, Ok, Err}
+use Rattle.std.specs.Prelude.{◌≡◌, ℕ, ◌+◌, List, ◌++◌, Result, IfOk, IfErr, ◌==◌, Bool, true, false, Some, Ok, Err}
 use Rattle.std.specs.List.{list_any}
 use Rattle.vcd_model.specs.BodyReading.{read_body, body_items}
 use Rattle.vcd_model.specs.Input.{Input}
@@ -10,12 +10,18 @@ use Rattle.vcd_model.specs.Outcome.{Request, names_of, Outcome, clean_outcome, e
 use Rattle.vcd_model.specs.Selection.{first_unmatched}
 use Rattle.vcd_model.specs.Settled.{is_settled_behind}
 use Rattle.vcd_text.specs.Device.{Device, Supply, Writes, WritesSome}
+use Rattle.vcd_text.specs.Feed.{HasGiven, SameLoans, chunk_len_of, limit_of, source_of, supply_of}
 use Rattle.vcd_text.specs.ReadAhead.{ReadsAsNeeded}
-use Rattle.vcd_body.specs.Answer.{IsLeft}
+use Rattle.vcd_text.specs.declared.device.Source.{Ghosts}
+use Rattle.vcd_text.specs.declared.feed.Feed.{Feed}
+use Rattle.vcd_view.specs.Views.{IsViewOf}
+use Rattle.vcd_view.specs.declared.view.HeadView.{HeadView}
+use Rattle.vcd_body.specs.Answer.{IsLeft, reads_failed}
 use Rattle.vcd_body.specs.declared.answer.Stop.{Stop}
 use Rattle.vcd_body.specs.declared.answer.Stop.TheVariants.{Dump, Read, Write, Unmatched}
 use Rattle.vcd_body.specs.declared.answer.Done.{Done}
 use Rattle.vcd_body.specs.declared.answer.Done.TheVariants.{Whole, Early}
+use Rattle.vcd_engine.specs.Engine.{CountsStop}
 
 -- the answer and the output of a run of this task over the one input, which has this name and this
 -- outcome; a failed write leaves a prefix of the output
@@ -48,3 +54,15 @@ pub record Follows (task : Request) (limit chunk : ℕ) (i : Input) (front : Lis
   -- it ended early exactly where an item ends it
   pub early : IfOk result (λ done. is_early done ≡ list_any (ends_early task) (body_items (read_body h.codes rest)))
   pub refused : IfErr result (IsRefused task h)
+
+-- so it does over any header and any input
+abbrev pub Does : {X : Type 0} {g : Ghosts X} → Request → HeadView → (old new : Feed X g) → (out out' : Device) → Result Done Stop → Type 0
+Does task v old new out out' result = (h : Header) (i : Input) (front : List Token) (name : List ℕ) → IsViewOf v h → HasGiven i front old → Follows task (limit_of old) (chunk_len_of old) i front h name (supply_of old) (supply_of new) out out' result
+
+-- one failed read or write is counted where the answer is that, and none where it is not
+abbrev pub CountsBoth : {X A : Type 0} {g : Ghosts X} → (X → ℕ) → (old new : Feed X g) → (out out' : Device) → Result A Stop → Type 0
+CountsBoth failures old new out out' result = (failures (source_of new) ≡ failures (source_of old) + reads_failed result) × CountsStop out out' result
+
+-- the windows and loans of the feed stay
+abbrev pub SameWindows : {X : Type 0} {g : Ghosts X} → (old new : Feed X g) → Type 0
+SameWindows old new = (limit_of new ≡ limit_of old) × (chunk_len_of new ≡ chunk_len_of old) × SameLoans old new

@@ -1,5 +1,5 @@
 -- What a step of an engine leaves.
-use Rattle.std.specs.Prelude.{◌≡◌, List, ◌++◌, Result, ◌==◌, ◌⊎◌, true, false, [], ◌∷◌, Ok, Err}
+use Rattle.std.specs.Prelude.{◌≡◌, List, ◌++◌, Result, ◌==◌, ◌⊎◌, true, false, [], ◌∷◌, Ok, Err, IfOk}
 use Rattle.vcd_model.specs.Items.{BodyItem}
 use Rattle.vcd_model.specs.Input.{Input}
 use Rattle.vcd_model.specs.Tokens.{Token}
@@ -20,7 +20,7 @@ use Rattle.vcd_body.specs.declared.answer.Done.TheVariants.{Whole, Early}
 use Rattle.vcd_body.specs.declared.answer.More.{More}
 use Rattle.vcd_body.specs.declared.answer.More.TheVariants.{Again, Ended}
 use Rattle.vcd_engine.specs.declared.engine.Engine.{Engine}
-use Rattle.vcd_engine.specs.Engine.{Runs}
+use Rattle.vcd_engine.specs.Engine.{Runs, may_end_early, request_of_engine}
 use Rattle.vcd_engine.specs.Several.{TakesSeveral}
 
 -- what a step after these items returns, by the engine, the feed and the output that it leaves
@@ -55,15 +55,28 @@ LastGives task h i front items e f out out' result more = (mid : Device) × Grow
 abbrev pub StepsGive : {X : Type 0} {g : Ghosts X} → Request → Header → Input → List Token → List BodyItem → Engine → Feed X g → Device → Device → Result More Stop → Type 0
 StepsGive task h i front items e f out out' result = TakesSeveral task items (LastGives task h i front items e f out out' result)
 
--- what the items that lie ahead leave: all of them were taken; or the last of them ended the run,
--- or a write of what is due with them failed
-abbrev pub AheadGives : {X : Type 0} {g : Ghosts X} → Request → Header → Input → List Token → List BodyItem → Engine → Feed X g → Device → Device → Result More Stop → List BodyItem → Type 0
-AheadGives task h i front items e f out out' (Ok Again) more = Runs e h i front (items ++ more) f × Grows out out' (open_text task h items) (open_text task h (items ++ more))
-AheadGives task h i front items e f out out' result more = LastGives task h i front items e f out out' result more
+-- what the items that lie ahead leave: they were taken; or a write of what is due with them failed
+abbrev pub AheadGives : {X A E : Type 0} {g : Ghosts X} → Request → Header → Input → List Token → List BodyItem → Engine → Feed X g → Device → Device → Result A E → List BodyItem → Type 0
+AheadGives task h i front items e f out out' (Ok v) more = Runs e h i front (items ++ more) f × Grows out out' (open_text task h items) (open_text task h (items ++ more))
+AheadGives task h i front items e f out out' (Err v) more = (x : BodyItem) × GaveLast h.codes i front (items ++ more) x f e.regs × GrowsSome out out' (open_text task h items) (open_text task h ((items ++ more) ++ x ∷ []))
 
 -- some items were taken, and then this
-abbrev pub TakesAhead : {X : Type 0} {g : Ghosts X} → Request → Header → Input → List Token → List BodyItem → Engine → Feed X g → Device → Device → Result More Stop → Type 0
+abbrev pub TakesAhead : {X A E : Type 0} {g : Ghosts X} → Request → Header → Input → List Token → List BodyItem → Engine → Feed X g → Device → Device → Result A E → Type 0
 TakesAhead task h i front items e f out out' result = TakesSeveral task items (AheadGives task h i front items e f out out' result)
+
+-- the same of any input and any items before
+abbrev pub Steps : {X : Type 0} {g : Ghosts X} → Engine → Engine → Feed X g → Feed X g → Device → Device → Result More Stop → Type 0
+Steps e e' f f' out out' result = (h : Header) (i : Input) (front : List Token) (items : List BodyItem) → Runs e h i front items f → StepGives (request_of_engine e) h i front items e' f' out out' result
+
+abbrev pub StepsOn : {X : Type 0} {g : Ghosts X} → Engine → Engine → Feed X g → Feed X g → Device → Device → Result More Stop → Type 0
+StepsOn e e' f f' out out' result = (h : Header) (i : Input) (front : List Token) (items : List BodyItem) → Runs e h i front items f → StepsGive (request_of_engine e) h i front items e' f' out out' result
+
+abbrev pub StepsAhead : {X A E : Type 0} {g : Ghosts X} → Engine → Engine → Feed X g → Feed X g → Device → Device → Result A E → Type 0
+StepsAhead e e' f f' out out' result = (h : Header) (i : Input) (front : List Token) (items : List BodyItem) → Runs e h i front items f → TakesAhead (request_of_engine e) h i front items e' f' out out' result
+
+-- a step ends the run early only where a mark may end it
+abbrev pub MayEnd : Request → Result More Stop → Type 0
+MayEnd task result = IfOk result (λ more. more ≡ Ended Early → may_end_early task ≡ true)
 
 -- how a step ends for the feed that it reads
 abbrev pub step_end : Result More Stop → CallEnd

@@ -1,18 +1,13 @@
 //! The commands over items: each is its task.
-ghost use Rattle.std.specs.Prelude.{◌≡◌, ◌≢◌, ℕ, ◌+◌, ◌-◌, ◌^◌, ◌<◌, ◌≤◌, [], List, IfOk, map, string_bytes};
+ghost use Rattle.std.specs.Prelude.{◌≡◌, ◌≢◌, ◌-◌, ◌^◌, ◌<◌, ◌≤◌, [], IfOk, map, string_bytes};
 ghost use Rattle.std.specs.List.Sorted.{IsStrictlyIncreasing};
-ghost use Rattle.vcd_model.specs.Header.{Header};
-ghost use Rattle.vcd_model.specs.Input.{Input};
 ghost use Rattle.vcd_model.specs.Outcome.{Request};
-ghost use Rattle.vcd_model.specs.Tokens.{Token};
-ghost use Rattle.vcd_text.specs.Feed.{HasGiven, SameLoans, source_of, supply_of, limit_of, chunk_len_of};
-ghost use Rattle.vcd_view.specs.Views.{IsViewOf};
+ghost use Rattle.vcd_text.specs.Feed.{source_of};
 ghost use Rattle.vcd_text.specs.Advances.{HasNotFailed};
-ghost use Rattle.vcd_engine.specs.Run.{Follows};
-ghost use Rattle.vcd_body.specs.Answer.{reads_failed, writes_failed};
 ghost use Rattle.vcd_model.specs.Bound.{no_room};
-ghost use Rattle.vcd_engine.specs.Room.{AreWithinBound, HasRoomFor, room_size};
+ghost use Rattle.vcd_engine.specs.Room.{HasRoomFor, room_size, FitsBound};
 ghost use Rattle.vcd_body.specs.declared.answer.Done.TheVariants.{Whole};
+ghost use Rattle.vcd_engine.specs.Run.{CountsBoth, Does, SameWindows};
 
 use crate::engine::run_task;
 use crate::task::{Room, Task};
@@ -29,18 +24,13 @@ pub fn check<S: Source, W: Sink>(
     requires feed_failures { S.failures (source_of feed.old) < 2 ^ 64 - 1 }
     requires out_failures { (W.device out.old).failures < 2 ^ 64 - 1 }
     requires open { HasNotFailed feed.old }
-    requires bound { AreWithinBound (limit_of feed.old) (chunk_len_of feed.old) view no_room }
-    ensures gives { (h : Header) (i : Input) (front : List Token) (name : List ℕ)
-        → IsViewOf view.entry h → HasGiven i front feed.old
-        → Follows Request.Check (limit_of feed.old) (chunk_len_of feed.old) i front h name
-        (supply_of feed.old) (supply_of feed.new)
+    requires bound { FitsBound feed.old view no_room }
+    ensures gives { Does Request.Check view.entry feed.old feed.new
         (W.device out.old) (W.device out.new) result }
-    ensures devices { (S.failures (source_of feed.new)
-        ≡ S.failures (source_of feed.old) + reads_failed result)
-        × ((W.device out.new).failures ≡ (W.device out.old).failures + writes_failed result) }
+    ensures devices { CountsBoth S.failures feed.old feed.new
+        (W.device out.old) (W.device out.new) result }
     ensures answer { IfOk result (λ done. done ≡ Whole) }
-    ensures windows { (limit_of feed.new ≡ limit_of feed.old)
-        × (chunk_len_of feed.new ≡ chunk_len_of feed.old) × SameLoans feed.old feed.new }
+    ensures windows { SameWindows feed.old feed.new }
 {
     let mut room = Room {
         values: &mut [],
@@ -66,19 +56,13 @@ pub fn pick<S: Source, W: Sink>(
     requires out_failures { (W.device out.old).failures < 2 ^ 64 - 1 }
     requires open { HasNotFailed feed.old }
     requires room { HasRoomFor (Task.Pick names) view room.old }
-    requires bound { AreWithinBound (limit_of feed.old) (chunk_len_of feed.old) view
-        (room_size room.old) }
-    ensures gives { (h : Header) (i : Input) (front : List Token) (name : List ℕ)
-        → IsViewOf view.entry h → HasGiven i front feed.old
-        → Follows (Request.Pick (map string_bytes names.now)) (limit_of feed.old)
-        (chunk_len_of feed.old) i front h name (supply_of feed.old) (supply_of feed.new)
+    requires bound { FitsBound feed.old view (room_size room.old) }
+    ensures gives { Does (Request.Pick (map string_bytes names.now)) view.entry feed.old feed.new
         (W.device out.old) (W.device out.new) result }
-    ensures devices { (S.failures (source_of feed.new)
-        ≡ S.failures (source_of feed.old) + reads_failed result)
-        × ((W.device out.new).failures ≡ (W.device out.old).failures + writes_failed result) }
+    ensures devices { CountsBoth S.failures feed.old feed.new
+        (W.device out.old) (W.device out.new) result }
     ensures answer { IfOk result (λ done. done ≡ Whole) }
-    ensures windows { (limit_of feed.new ≡ limit_of feed.old)
-        × (chunk_len_of feed.new ≡ chunk_len_of feed.old) × SameLoans feed.old feed.new }
+    ensures windows { SameWindows feed.old feed.new }
 {
     run_task(Task::Pick(names), view, feed, room, out)
 }
@@ -97,19 +81,13 @@ pub fn edges<S: Source, W: Sink>(
     requires out_failures { (W.device out.old).failures < 2 ^ 64 - 1 }
     requires open { HasNotFailed feed.old }
     requires room { HasRoomFor (Task.Edges names) view room.old }
-    requires bound { AreWithinBound (limit_of feed.old) (chunk_len_of feed.old) view
-        (room_size room.old) }
-    ensures gives { (h : Header) (i : Input) (front : List Token) (name : List ℕ)
-        → IsViewOf view.entry h → HasGiven i front feed.old
-        → Follows (Request.Edges (map string_bytes names.now)) (limit_of feed.old)
-        (chunk_len_of feed.old) i front h name (supply_of feed.old) (supply_of feed.new)
+    requires bound { FitsBound feed.old view (room_size room.old) }
+    ensures gives { Does (Request.Edges (map string_bytes names.now)) view.entry feed.old feed.new
         (W.device out.old) (W.device out.new) result }
-    ensures devices { (S.failures (source_of feed.new)
-        ≡ S.failures (source_of feed.old) + reads_failed result)
-        × ((W.device out.new).failures ≡ (W.device out.old).failures + writes_failed result) }
+    ensures devices { CountsBoth S.failures feed.old feed.new
+        (W.device out.old) (W.device out.new) result }
     ensures answer { IfOk result (λ done. done ≡ Whole) }
-    ensures windows { (limit_of feed.new ≡ limit_of feed.old)
-        × (chunk_len_of feed.new ≡ chunk_len_of feed.old) × SameLoans feed.old feed.new }
+    ensures windows { SameWindows feed.old feed.new }
 {
     run_task(Task::Edges(names), view, feed, room, out)
 }
@@ -130,18 +108,12 @@ pub fn cut<S: Source, W: Sink>(
     requires open { HasNotFailed feed.old }
     requires order { from ≤ to }
     requires room { HasRoomFor (Task.Cut from to) view room.old }
-    requires bound { AreWithinBound (limit_of feed.old) (chunk_len_of feed.old) view
-        (room_size room.old) }
-    ensures gives { (h : Header) (i : Input) (front : List Token) (name : List ℕ)
-        → IsViewOf view.entry h → HasGiven i front feed.old
-        → Follows (Request.Cut from to) (limit_of feed.old)
-        (chunk_len_of feed.old) i front h name (supply_of feed.old) (supply_of feed.new)
+    requires bound { FitsBound feed.old view (room_size room.old) }
+    ensures gives { Does (Request.Cut from to) view.entry feed.old feed.new
         (W.device out.old) (W.device out.new) result }
-    ensures devices { (S.failures (source_of feed.new)
-        ≡ S.failures (source_of feed.old) + reads_failed result)
-        × ((W.device out.new).failures ≡ (W.device out.old).failures + writes_failed result) }
-    ensures windows { (limit_of feed.new ≡ limit_of feed.old)
-        × (chunk_len_of feed.new ≡ chunk_len_of feed.old) × SameLoans feed.old feed.new }
+    ensures devices { CountsBoth S.failures feed.old feed.new
+        (W.device out.old) (W.device out.new) result }
+    ensures windows { SameWindows feed.old feed.new }
 {
     run_task(Task::Cut { from, to }, view, feed, room, out)
 }
@@ -164,18 +136,12 @@ pub fn sample<S: Source, W: Sink>(
     requires some { times.now ≢ [] }
     requires rising { IsStrictlyIncreasing times.now }
     requires room { HasRoomFor (Task.Sample times names) view room.old }
-    requires bound { AreWithinBound (limit_of feed.old) (chunk_len_of feed.old) view
-        (room_size room.old) }
-    ensures gives { (h : Header) (i : Input) (front : List Token) (name : List ℕ)
-        → IsViewOf view.entry h → HasGiven i front feed.old
-        → Follows (Request.Sample times.now (map string_bytes names.now)) (limit_of feed.old)
-        (chunk_len_of feed.old) i front h name
-        (supply_of feed.old) (supply_of feed.new) (W.device out.old) (W.device out.new) result }
-    ensures devices { (S.failures (source_of feed.new)
-        ≡ S.failures (source_of feed.old) + reads_failed result)
-        × ((W.device out.new).failures ≡ (W.device out.old).failures + writes_failed result) }
-    ensures windows { (limit_of feed.new ≡ limit_of feed.old)
-        × (chunk_len_of feed.new ≡ chunk_len_of feed.old) × SameLoans feed.old feed.new }
+    requires bound { FitsBound feed.old view (room_size room.old) }
+    ensures gives { Does (Request.Sample times.now (map string_bytes names.now)) view.entry feed.old feed.new
+        (W.device out.old) (W.device out.new) result }
+    ensures devices { CountsBoth S.failures feed.old feed.new
+        (W.device out.old) (W.device out.new) result }
+    ensures windows { SameWindows feed.old feed.new }
 {
     run_task(Task::Sample { times, names }, view, feed, room, out)
 }

@@ -1,26 +1,25 @@
 //! A run over the items of a body, one item a step. It names no command.
-ghost use Rattle.std.specs.Prelude.{◌≡◌, ◌≢◌, ℕ, ◌+◌, ◌-◌, ◌^◌, ◌<◌, [], List, true, IfErr, IfOk, MatchBool, Ok, MatchResult};
+ghost use Rattle.std.specs.Prelude.{◌≡◌, ◌≢◌, ℕ, ◌-◌, ◌^◌, ◌<◌, [], List, true, false, IfOk, MatchBool, Ok, MatchResult};
 ghost use Rattle.vcd_model.specs.Header.{Header};
 ghost use Rattle.vcd_model.specs.Input.{Input};
 ghost use Rattle.vcd_model.specs.Items.{BodyItem};
 ghost use Rattle.vcd_model.specs.Laws.{IsValid};
 ghost use Rattle.vcd_model.specs.Outcome.{close_text, open_text};
 ghost use Rattle.vcd_model.specs.Tokens.{Token};
-ghost use Rattle.vcd_text.specs.Feed.{HasGiven, SameLoans, source_of, supply_of, seen, limit_of, chunk_len_of};
+ghost use Rattle.vcd_text.specs.Feed.{HasGiven, source_of, seen, chunk_len_of, limit_of, supply_of};
 ghost use Rattle.vcd_view.specs.Shown.{parts};
 ghost use Rattle.vcd_view.specs.Views.{IsViewOf};
 ghost use Rattle.vcd_text.specs.Advances.{Advances, CallEnd, HasNotFailed};
 ghost use Rattle.vcd_body.specs.Given.{item_text};
 ghost use Rattle.vcd_body.specs.declared.item.Item.TheVariants.{Finish};
-ghost use Rattle.vcd_body.specs.Answer.{goes_on, reads_failed, writes_failed};
+ghost use Rattle.vcd_body.specs.Answer.{goes_on};
 ghost use Rattle.vcd_text.specs.Device.{Counts, Device, Takes, Writes, failures_after};
-ghost use Rattle.vcd_engine.specs.Engine.{CanRun, HasBegun, Holds, Runs, Starts, StopsUnread, is_going, may_end_early, request_of, request_of_begun, request_of_engine};
-ghost use Rattle.vcd_engine.specs.Room.{AreWithinBound, HasRoomFor, IsWithin, IsWithinEachBound, room_in, room_of_begun, room_size, view_in};
-ghost use Rattle.vcd_engine.specs.Run.{Follows};
-ghost use Rattle.vcd_engine.specs.Step.{StepGives, StepsGive, TakesAhead, step_end};
+ghost use Rattle.vcd_engine.specs.Engine.{CanRun, HasBegun, Holds, Starts, StopsUnread, is_going, may_end_early, request_of, request_of_begun, request_of_engine, CountsStop};
+ghost use Rattle.vcd_engine.specs.Room.{HasRoomFor, IsWithin, IsWithinEachBound, room_in, room_of_begun, room_size, view_in, FitsBound, SameHold};
+ghost use Rattle.vcd_engine.specs.Step.{step_end, MayEnd, Steps, StepsAhead, StepsOn};
 ghost use Rattle.vcd_body.specs.declared.answer.Done.TheVariants.{Early};
-ghost use Rattle.vcd_body.specs.declared.answer.More.TheVariants.{Again, Ended};
-ghost use Rattle.vcd_body.specs.declared.answer.Stop.TheVariants.{Write};
+ghost use Rattle.vcd_body.specs.declared.answer.More.TheVariants.{Again};
+ghost use Rattle.vcd_engine.specs.Run.{CountsBoth, Does, Follows, SameWindows};
 
 use crate::gathered::Gathered;
 use crate::machine::Machine;
@@ -87,8 +86,7 @@ impl<'n, 'r> Begun<'n, 'r> {
         ensures answer { MatchResult result
             (λ b. request_of_begun b ≡ request_of task.entry) StopsUnread }
         ensures room { IfOk result (λ b. IsWithin (room_of_begun b) (room_size room.entry)) }
-        ensures failures { (W.device out.new).failures
-            ≡ (W.device out.old).failures + writes_failed result }
+        ensures failures { CountsStop (W.device out.old) (W.device out.new) result }
     {
         let machine = Machine::start(task, view, room, out)?;
         Ok(Begun { machine })
@@ -133,24 +131,18 @@ impl<'v, 'n, 'r> Engine<'v, 'n, 'r> {
         requires feed_failures { S.failures (source_of feed.old) < 2 ^ 64 - 1 }
         requires out_failures { (W.device out.old).failures < 2 ^ 64 - 1 }
         requires going { is_going self.old ≡ true }
-        requires bound { AreWithinBound (limit_of feed.old) (chunk_len_of feed.old)
-            (view_in self.old) (room_in self.old) }
+        requires bound { FitsBound feed.old (view_in self.old) (room_in self.old) }
         requires view { parts view ≡ parts self.old.view }
-        ensures gives { (h : Header) (i : Input) (front : List Token) (items : List BodyItem)
-            → Runs self.old h i front items feed.old
-            → StepGives (request_of_engine self.old) h i front items self.new feed.new
+        ensures gives { Steps self.old self.new feed.old feed.new
             (W.device out.old) (W.device out.new) result }
         ensures advances { Advances S.failures feed.old feed.new (step_end result) }
         ensures progress { result ≡ Ok Again → seen feed.old < seen feed.new }
         ensures bounded { seen feed.new < 2 ^ 63 }
-        ensures writes { (W.device out.new).failures
-            ≡ (W.device out.old).failures + writes_failed result }
+        ensures writes { CountsStop (W.device out.old) (W.device out.new) result }
         ensures going { is_going self.new ≡ goes_on result }
         ensures request { request_of_engine self.new ≡ request_of_engine self.old }
-        ensures holds { (view_in self.new ≡ view_in self.old)
-            × (room_in self.new ≡ room_in self.old) }
-        ensures answer { IfOk result
-            (λ more. more ≡ Ended Early → may_end_early (request_of_engine self.old) ≡ true) }
+        ensures holds { SameHold self.old self.new }
+        ensures answer { MayEnd (request_of_engine self.old) result }
     {
         let item = match next_item(feed, view, &mut self.regs) {
             Ok(item) => item,
@@ -187,41 +179,31 @@ impl<'v, 'n, 'r> Engine<'v, 'n, 'r> {
         feed: &mut Feed<'_, '_, '_, '_, S>,
         gathered: &mut Gathered,
         out: &mut W,
-    ) -> Result<More, Stop>
+    ) -> Result<(), WriteFailed>
         requires out_failures { (W.device out.old).failures < 2 ^ 64 - 1 }
         requires going { is_going self.old ≡ true }
         requires view { parts view ≡ parts self.old.view }
-        ensures gives { (h : Header) (i : Input) (front : List Token) (items : List BodyItem)
-            → Runs self.old h i front items feed.old
-            → TakesAhead (request_of_engine self.old) h i front items self.new feed.new
+        ensures gives { StepsAhead self.old self.new feed.old feed.new
             (W.device out.old) (W.device out.new) result }
         ensures advances { Advances S.failures feed.old feed.new CallEnd.GoesOn }
         ensures bounded { seen feed.new < 2 ^ 63 }
-        ensures writes { (W.device out.new).failures
-            ≡ (W.device out.old).failures + writes_failed result }
-        ensures going { is_going self.new ≡ goes_on result }
+        ensures counts { Counts (W.device out.old) (W.device out.new) result }
+        ensures going { MatchResult result
+            (λ _. is_going self.new ≡ true) (λ _. is_going self.new ≡ false) }
         ensures request { request_of_engine self.new ≡ request_of_engine self.old }
-        ensures holds { (view_in self.new ≡ view_in self.old)
-            × (room_in self.new ≡ room_in self.old)
-            × (parts self.new.view ≡ parts self.old.view) }
-        ensures answer { IfOk result
-            (λ more. more ≡ Ended Early → may_end_early (request_of_engine self.old) ≡ true) }
-        ensures stops { IfErr result (λ stop. stop ≡ Write) }
+        ensures holds { SameHold self.old self.new }
+        ensures view { parts self.new.view ≡ parts self.old.view }
     {
         let taken = self
             .machine
             .take_ahead(view, self.regs, feed.ahead(), gathered, out);
         self.regs = taken.regs;
         pass_items(feed, taken.passed);
-        match taken.ended {
-            Ok(false) => Ok(More::Again),
-            Ok(true) => {
-                self.going = false;
-                Ok(More::Ended(Done::Early))
-            }
+        match taken.written {
+            Ok(()) => Ok(()),
             Err(failed) => {
                 self.going = false;
-                Err(failed.into())
+                Err(failed)
             }
         }
     }
@@ -239,29 +221,21 @@ impl<'v, 'n, 'r> Engine<'v, 'n, 'r> {
         requires feed_failures { S.failures (source_of feed.old) < 2 ^ 64 - 1 }
         requires out_failures { (W.device out.old).failures < 2 ^ 64 - 1 }
         requires going { is_going self.old ≡ true }
-        requires bound { AreWithinBound (limit_of feed.old) (chunk_len_of feed.old)
-            (view_in self.old) (room_in self.old) }
+        requires bound { FitsBound feed.old (view_in self.old) (room_in self.old) }
         requires view { parts view ≡ parts self.old.view }
-        ensures gives { (h : Header) (i : Input) (front : List Token) (items : List BodyItem)
-            → Runs self.old h i front items feed.old
-            → StepsGive (request_of_engine self.old) h i front items self.new feed.new
+        ensures gives { StepsOn self.old self.new feed.old feed.new
             (W.device out.old) (W.device out.new) result }
         ensures advances { Advances S.failures feed.old feed.new (step_end result) }
         ensures progress { result ≡ Ok Again → seen feed.old < seen feed.new }
         ensures bounded { seen feed.new < 2 ^ 63 }
-        ensures writes { (W.device out.new).failures
-            ≡ (W.device out.old).failures + writes_failed result }
+        ensures writes { CountsStop (W.device out.old) (W.device out.new) result }
         ensures going { is_going self.new ≡ goes_on result }
         ensures request { request_of_engine self.new ≡ request_of_engine self.old }
-        ensures holds { (view_in self.new ≡ view_in self.old)
-            × (room_in self.new ≡ room_in self.old) }
-        ensures answer { IfOk result
-            (λ more. more ≡ Ended Early → may_end_early (request_of_engine self.old) ≡ true) }
+        ensures holds { SameHold self.old self.new }
+        ensures answer { MayEnd (request_of_engine self.old) result }
     {
-        match self.take_ahead(view, feed, gathered, out)? {
-            More::Again => self.step_over(view, feed, out),
-            More::Ended(done) => Ok(More::Ended(done)),
-        }
+        self.take_ahead(view, feed, gathered, out)?;
+        self.step_over(view, feed, out)
     }
 
     /// Writes what stands at the clean end. It is no part of the loop over steps, so that the loop
@@ -287,8 +261,7 @@ impl<'v, 'n, 'r> Engine<'v, 'n, 'r> {
         requires out_failures { (W.device out.old).failures < 2 ^ 64 - 1 }
         requires open { HasNotFailed feed.old }
         requires going { is_going self.old ≡ true }
-        requires bound { AreWithinBound (limit_of feed.old) (chunk_len_of feed.old)
-            (view_in self.old) (room_in self.old) }
+        requires bound { FitsBound feed.old (view_in self.old) (room_in self.old) }
 
         // Where the engine was begun over an output that has what stands before all items, it is
         // the run of its task.
@@ -298,13 +271,11 @@ impl<'v, 'n, 'r> Engine<'v, 'n, 'r> {
             → Follows (request_of_engine self.old) (limit_of feed.old) (chunk_len_of feed.old)
             i front h name (supply_of feed.old) (supply_of feed.new)
             begin (W.device out.new) result }
-        ensures devices { (S.failures (source_of feed.new)
-            ≡ S.failures (source_of feed.old) + reads_failed result)
-            × ((W.device out.new).failures ≡ (W.device out.old).failures + writes_failed result) }
+        ensures devices { CountsBoth S.failures feed.old feed.new
+            (W.device out.old) (W.device out.new) result }
         ensures answer { IfOk result
             (λ done. done ≡ Early → may_end_early (request_of_engine self.old) ≡ true) }
-        ensures windows { (limit_of feed.new ≡ limit_of feed.old)
-            × (chunk_len_of feed.new ≡ chunk_len_of feed.old) × SameLoans feed.old feed.new }
+        ensures windows { SameWindows feed.old feed.new }
     {
         let view = self.view;
         let mut gathered = Gathered::new();
@@ -328,23 +299,17 @@ pub fn step<S: Source, W: Sink>(
     requires feed_failures { S.failures (source_of feed.old) < 2 ^ 64 - 1 }
     requires out_failures { (W.device out.old).failures < 2 ^ 64 - 1 }
     requires going { is_going engine.old ≡ true }
-    requires bound { AreWithinBound (limit_of feed.old) (chunk_len_of feed.old)
-        (view_in engine.old) (room_in engine.old) }
-    ensures gives { (h : Header) (i : Input) (front : List Token) (items : List BodyItem)
-        → Runs engine.old h i front items feed.old
-        → StepGives (request_of_engine engine.old) h i front items engine.new feed.new
+    requires bound { FitsBound feed.old (view_in engine.old) (room_in engine.old) }
+    ensures gives { Steps engine.old engine.new feed.old feed.new
         (W.device out.old) (W.device out.new) result }
     ensures advances { Advances S.failures feed.old feed.new (step_end result) }
     ensures progress { result ≡ Ok Again → seen feed.old < seen feed.new }
     ensures bounded { seen feed.new < 2 ^ 63 }
-    ensures writes { (W.device out.new).failures
-        ≡ (W.device out.old).failures + writes_failed result }
+    ensures writes { CountsStop (W.device out.old) (W.device out.new) result }
     ensures going { is_going engine.new ≡ goes_on result }
-    ensures holds { (view_in engine.new ≡ view_in engine.old)
-        × (room_in engine.new ≡ room_in engine.old) }
+    ensures holds { SameHold engine.old engine.new }
     ensures request { request_of_engine engine.new ≡ request_of_engine engine.old }
-    ensures answer { IfOk result
-        (λ more. more ≡ Ended Early → may_end_early (request_of_engine engine.old) ≡ true) }
+    ensures answer { MayEnd (request_of_engine engine.old) result }
 {
     engine.step_over(engine.view, feed, out)
 }
@@ -363,20 +328,14 @@ pub fn run_task<S: Source, W: Sink>(
     requires open { HasNotFailed feed.old }
     requires valid { IsValid (request_of task) }
     requires room { HasRoomFor task view room.old }
-    requires bound { AreWithinBound (limit_of feed.old) (chunk_len_of feed.old) view
-        (room_size room.old) }
-    ensures gives { (h : Header) (i : Input) (front : List Token) (name : List ℕ)
-        → IsViewOf view.entry h → HasGiven i front feed.old
-        → Follows (request_of task.entry) (limit_of feed.old) (chunk_len_of feed.old)
-        i front h name (supply_of feed.old) (supply_of feed.new)
+    requires bound { FitsBound feed.old view (room_size room.old) }
+    ensures gives { Does (request_of task.entry) view.entry feed.old feed.new
         (W.device out.old) (W.device out.new) result }
-    ensures devices { (S.failures (source_of feed.new)
-        ≡ S.failures (source_of feed.old) + reads_failed result)
-        × ((W.device out.new).failures ≡ (W.device out.old).failures + writes_failed result) }
+    ensures devices { CountsBoth S.failures feed.old feed.new
+        (W.device out.old) (W.device out.new) result }
     ensures answer { IfOk result
         (λ done. done ≡ Early → may_end_early (request_of task.entry) ≡ true) }
-    ensures windows { (limit_of feed.new ≡ limit_of feed.old)
-        × (chunk_len_of feed.new ≡ chunk_len_of feed.old) × SameLoans feed.old feed.new }
+    ensures windows { SameWindows feed.old feed.new }
 {
     let room = Room {
         values: &mut *room.values,

@@ -5,20 +5,18 @@ ghost use Rattle.vcd_model.specs.Bytes.{as_line};
 ghost use Rattle.vcd_model.specs.BodyPhrases.{section_keyword};
 ghost use Rattle.vcd_model.specs.Header.{Header};
 ghost use Rattle.vcd_model.specs.Items.{BodyItem, Entry};
-ghost use Rattle.vcd_model.specs.ItemText.{closing, item_line, text_after};
-ghost use Rattle.vcd_model.specs.ItemText.{time_due};
+ghost use Rattle.vcd_model.specs.ItemText.{closing, item_line, text_after, time_due};
 ghost use Rattle.vcd_model.specs.Keywords.{keyword_text};
 ghost use Rattle.vcd_text.specs.Device.{Counts, Takes, failures_after};
 ghost use Rattle.vcd_view.specs.Views.{IsViewOf};
-ghost use Rattle.vcd_body.specs.Given.{HasGoodText};
+ghost use Rattle.vcd_body.specs.Given.{HasGoodText, IsItem};
 ghost use Rattle.vcd_body.specs.Items.{model_section};
 ghost use Rattle.vcd_body.specs.Device.{DueBy, TakesDue};
-ghost use Rattle.vcd_body.specs.Given.{IsItem};
 ghost use Rattle.vcd_body.specs.Spelled.{bytes_without};
 ghost use Rattle.vcd_engine.specs.ItemText.{HasWritten, LastTells, times_with};
-ghost use Rattle.vcd_engine.specs.Pieces.{IsLine, IsPart, Lies, PutsOn, held_in};
+ghost use Rattle.vcd_engine.specs.Pieces.{IsLine, IsPart, IsInPlace, PutsBehind, PutsOn, held_in};
 
-use crate::pieces::{Lying, Pieces};
+use crate::pieces::{InPlace, Pieces};
 use vcd_body::{Form, Id, Item, Section, put_change, put_time_unless};
 use vcd_text::{Sink, WriteFailed, put};
 use vcd_view::HeadView;
@@ -132,36 +130,36 @@ impl ItemText {
     /// Writes an item that lies ahead as an entry at this time, behind what is held. Where its line
     /// stands there, that is held.
     #[inline(always)]
-    pub(crate) fn put_lying<W: Sink>(
+    pub(crate) fn put_in_place<W: Sink>(
         &mut self,
         view: HeadView<'_>,
         time: u64,
-        lying: Lying<'_>,
+        change: InPlace<'_>,
         pieces: &mut Pieces<'_>,
         out: &mut W,
     ) -> Result<(), WriteFailed>
         requires failures { (W.device out.old).failures < 2 ^ 64 - 1 }
-        requires lies { Lies view lying }
-        requires line { IsLine lying.bytes.now lying.line lying.from time }
-        requires part { IsPart lying.bytes.now pieces.old }
+        requires place { IsInPlace view change }
+        requires line { IsLine change.bytes.now change.line change.from time }
+        requires part { IsPart change.bytes.now pieces.old }
         ensures text { (h : Header) (before : List ℕ) (kept : List Entry) (e : Entry)
             → IsViewOf view.entry h
-            → IsItem h.codes lying.entry.plain.text.now lying.entry.plain.item e.item
+            → IsItem h.codes change.entry.plain.text.now change.entry.plain.item e.item
             → e.time ≡ time → HasWritten before kept self.old
             → LastTells (times_with before kept) time
-            → DueBy (λ due. PutsOn (held_in lying.entry.bytes.now pieces.old)
-            (held_in lying.entry.bytes.now pieces.new)
+            → DueBy (λ due. PutsOn (held_in change.entry.bytes.now pieces.old)
+            (held_in change.entry.bytes.now pieces.new)
             (W.device out.old) (W.device out.new) due result)
             (text_after before kept) (text_after before (kept ++ e ∷ []))
             × IfOk result (λ _. HasWritten before (kept ++ e ∷ []) self.new) }
         ensures counts { Counts (W.device out.old) (W.device out.new) result }
-        ensures part { IfOk result (λ _. IsPart lying.entry.bytes.now pieces.new) }
+        ensures part { IfOk result (λ _. IsPart change.entry.bytes.now pieces.new) }
     {
-        let Some(n) = lying.left_out() else {
-            pieces.flush(lying.bytes, out)?;
-            return self.put(view, time, lying.plain.item, lying.plain.text, out);
+        let Some(n) = change.left_out() else {
+            pieces.flush(change.bytes, out)?;
+            return self.put(view, time, change.plain.item, change.plain.text, out);
         };
-        self.put_line(time, lying, n, pieces, out)
+        self.put_line(time, change, n, pieces, out)
     }
 
     /// Writes the line of the time of an item that lies ahead, unless it was written last, behind
@@ -170,26 +168,23 @@ impl ItemText {
     fn put_time_behind<W: Sink>(
         &mut self,
         time: u64,
-        lying: Lying<'_>,
+        change: InPlace<'_>,
         pieces: &mut Pieces<'_>,
         out: &mut W,
     ) -> Result<(), WriteFailed>
         requires failures { (W.device out.old).failures < 2 ^ 64 - 1 }
-        requires within { (lying.from ≤ lying.to) × (lying.to ≤ length lying.bytes.now) }
-        requires line { IsLine lying.bytes.now lying.line lying.from time }
-        requires part { IsPart lying.bytes.now pieces.old }
-        ensures puts { PutsOn (held_in lying.entry.bytes.now pieces.old)
-            (held_in lying.entry.bytes.now pieces.new)
+        requires within { (change.from ≤ change.to) × (change.to ≤ length change.bytes.now) }
+        requires line { IsLine change.bytes.now change.line change.from time }
+        requires part { IsPart change.bytes.now pieces.old }
+        ensures puts { PutsBehind change.entry.bytes.now pieces.old pieces.new
             (W.device out.old) (W.device out.new) (time_due self.old.written time) result }
-        ensures counts { Counts (W.device out.old) (W.device out.new) result }
-        ensures part { IfOk result (λ _. IsPart lying.entry.bytes.now pieces.new) }
         ensures written { IfOk result (λ _. self.new.written ≡ Some time) }
     {
         if self.written == Some(time) {
             return Ok(());
         }
         self.written = Some(time);
-        pieces.append_time(time, lying, out)
+        pieces.append_time(time, change, out)
     }
 
     /// Writes the line of a time, unless it was written last, and then the bytes of an item that
@@ -198,33 +193,30 @@ impl ItemText {
     fn put_line<W: Sink>(
         &mut self,
         time: u64,
-        lying: Lying<'_>,
+        change: InPlace<'_>,
         n: usize,
         pieces: &mut Pieces<'_>,
         out: &mut W,
     ) -> Result<(), WriteFailed>
         requires failures { (W.device out.old).failures < 2 ^ 64 - 1 }
-        requires within { (lying.from + 1 + n ≤ lying.to) × (lying.to ≤ length lying.bytes.now) }
-        requires line { IsLine lying.bytes.now lying.line lying.from time }
-        requires part { IsPart lying.bytes.now pieces.old }
-        ensures puts { PutsOn (held_in lying.entry.bytes.now pieces.old)
-            (held_in lying.entry.bytes.now pieces.new)
+        requires within { (change.from + 1 + n ≤ change.to) × (change.to ≤ length change.bytes.now) }
+        requires line { IsLine change.bytes.now change.line change.from time }
+        requires part { IsPart change.bytes.now pieces.old }
+        ensures puts { PutsBehind change.entry.bytes.now pieces.old pieces.new
             (W.device out.old) (W.device out.new) (time_due self.old.written time
-            ++ bytes_without lying.entry.bytes.now lying.entry.from lying.entry.to n) result }
-        ensures counts { Counts (W.device out.old) (W.device out.new) result }
-        ensures part { IfOk result (λ _. IsPart lying.entry.bytes.now pieces.new) }
+            ++ bytes_without change.entry.bytes.now change.entry.from change.entry.to n) result }
         ensures written { IfOk result (λ _. self.new.written ≡ Some time) }
     {
-        self.put_time_behind(time, lying, pieces, out)?;
+        self.put_time_behind(time, change, pieces, out)?;
         // A vector alone may leave digits out.
         if let Item::Change {
             form: Form::Vector,
             ..
-        } = lying.plain.item
+        } = change.plain.item
         {
-            return pieces.append_without(lying.bytes, lying.from, lying.to, n, out);
+            return pieces.append_without(change.bytes, change.from, change.to, n, out);
         }
-        pieces.append_parts(lying.bytes, lying.from, lying.to, n, out)
+        pieces.append_parts(change.bytes, change.from, change.to, n, out)
     }
 
     /// Writes what closes the text where this is the last time mark: its line, where it does not

@@ -8,20 +8,18 @@ ghost use Rattle.vcd_text.specs.Device.{Counts, Puts};
 ghost use Rattle.vcd_view.specs.Views.{IsViewOf};
 ghost use Rattle.vcd_view.specs.declared.view.HeadView.{HeadView};
 ghost use Rattle.vcd_body.specs.Given.{IsItem};
-ghost use Rattle.vcd_body.specs.Spelled.{bytes_without};
-ghost use Rattle.vcd_body.specs.Items.{regs_after};
-ghost use Rattle.vcd_body.specs.declared.item.Item.TheVariants as kind;
-ghost use Rattle.vcd_engine.specs.Pieces.{IsLine, IsPart, Lies, PutsOn, held_in};
+ghost use Rattle.vcd_body.specs.Spelled.{HasMark, bytes_without};
+ghost use Rattle.vcd_engine.specs.Pieces.{IsLine, IsPart, IsInPlace, PutsBehind, PutsOn, held_in};
 
 use crate::gathered::{GATHERED, Gathered};
-use vcd_body::{Form, Item, Plain, Regs, is_mark_line, left_out, put_time};
+use vcd_body::{Plain, is_mark_line, left_out, put_time};
 use vcd_text::{Sink, WriteFailed, put};
 
-/// An item that lies ahead: its tokens are passed from one place of these bytes up to another.
+/// A change that lies ahead: its tokens are passed from one place of these bytes up to another.
 /// Where the line of its time stands just before it, that begins at a third place; else the third
 /// one is the first.
 #[derive(Clone, Copy)]
-pub(crate) struct Lying<'a> {
+pub(crate) struct InPlace<'a> {
     pub(crate) plain: Plain<'a>,
     pub(crate) bytes: &'a [u8],
     pub(crate) from: usize,
@@ -29,48 +27,32 @@ pub(crate) struct Lying<'a> {
     pub(crate) line: usize,
 }
 
-/// Where the line of an item's time begins, by where that of the time before it does: a mark has
-/// none before it.
-#[inline(always)]
-pub(crate) fn line_before(item: Item, line: usize, from: usize) -> usize
-    ensures mark { (time : ℕ) → item ≡ kind.Time time → result ≡ from }
-    ensures change { (place : ℕ) (form : Form) → item ≡ kind.Change place form → result ≡ line }
-{
-    match item {
-        Item::Time(_) => from,
-        Item::Begin(_) | Item::End | Item::Change { .. } | Item::Finish => line,
-    }
-}
-
-impl Lying<'_> {
-    /// How many of its bytes behind the first one are left out, so that the others are its line as
-    /// it would be written.
+impl InPlace<'_> {
+    /// Returns how many of its bytes behind the first one are left out, so that the others are its
+    /// line as it would be written.
     #[inline(always)]
     pub(crate) fn left_out(&self) -> Option<usize>
-        requires { (v : HeadView) × Lies v self.now }
+        requires { (v : HeadView) × IsInPlace v self.now }
         ensures { IfSome result (λ n. (self.now.from + 1 + n ≤ self.now.to)
-            × ((v : HeadView) (h : Header) (x : BodyItem) → Lies v self.now → IsViewOf v h
+            × ((v : HeadView) (h : Header) (x : BodyItem) → IsInPlace v self.now → IsViewOf v h
             → IsItem h.codes self.now.plain.text.now self.now.plain.item x
             → bytes_without self.now.bytes.now self.now.from self.now.to n ≡ item_line x)) }
     {
         left_out(self.plain, self.bytes, self.from, self.to)
     }
+}
 
-    /// Where the line of the time begins that stands just before the next item: at a mark that is
-    /// spelled as its line, else nowhere.
-    #[inline(always)]
-    pub(crate) fn next_line(&self) -> usize
-        requires { (v : HeadView) × Lies v self.now }
-        ensures { (before : Regs) → IsLine self.now.bytes.now result self.now.to
-            (regs_after before self.now.plain.item).time }
-    {
-        if let Item::Time(_) = self.plain.item
-            && is_mark_line(self.bytes, self.from, self.to, self.plain.at)
-        {
-            return self.from;
-        }
-        self.to
+/// Returns where the line of a time begins that ends at `to`, for a mark that lies from `from` up
+/// to there, with its digits from `at` on: `from` where it is spelled as that line, else `to`.
+#[inline(always)]
+pub(crate) fn line_of_mark(bytes: &[u8], from: usize, to: usize, at: usize) -> usize
+    requires { (time : ℕ) × HasMark bytes.now from to at time }
+    ensures { (time : ℕ) → HasMark bytes.now from to at time → IsLine bytes.now result to time }
+{
+    if is_mark_line(bytes, from, to, at) {
+        return from;
     }
+    to
 }
 
 /// A piece of at most so many bytes is gathered too; a longer one is written from the chunk.
@@ -168,34 +150,13 @@ impl<'a> Pieces<'a> {
         Ok(())
     }
 
-    /// Writes what is held, and returns this.
-    #[inline(always)]
-    pub(crate) fn finish<W: Sink>(
-        &mut self,
-        bytes: &[u8],
-        ended: bool,
-        out: &mut W,
-    ) -> Result<bool, WriteFailed>
-        requires failures { (W.device out.old).failures < 2 ^ 64 - 1 }
-        requires part { IsPart bytes.now self.old }
-        ensures puts { Puts (W.device out.old) (W.device out.new)
-            (held_in bytes.now self.old) result }
-        ensures ended { IfOk result (λ e. e ≡ ended) }
-        ensures some { IfErr result (λ _. 0 < length (held_in bytes.now self.old)) }
-    {
-        self.flush(bytes, out)?;
-        Ok(ended)
-    }
-
     /// Gathers the last piece, and writes what has to be written for it.
     #[inline(always)]
     fn gather<W: Sink>(&mut self, bytes: &[u8], out: &mut W) -> Result<(), WriteFailed>
         requires failures { (W.device out.old).failures < 2 ^ 64 - 1 }
         requires part { IsPart bytes.now self.old }
-        ensures puts { PutsOn (held_in bytes.now self.old) (held_in bytes.now self.new)
+        ensures puts { PutsBehind bytes.now self.old self.new
             (W.device out.old) (W.device out.new) [] result }
-        ensures counts { Counts (W.device out.old) (W.device out.new) result }
-        ensures part { IfOk result (λ _. IsPart bytes.now self.new) }
         ensures empty { IfOk result (λ _. self.new.from ≡ self.new.to) }
     {
         if self.gathered.has_room(bytes, self.from, self.to) {
@@ -221,10 +182,8 @@ impl<'a> Pieces<'a> {
         requires failures { (W.device out.old).failures < 2 ^ 64 - 1 }
         requires part { IsPart bytes.now self.old }
         requires within { (from ≤ to) × (to ≤ length bytes.now) }
-        ensures puts { PutsOn (held_in bytes.now self.old) (held_in bytes.now self.new)
+        ensures { PutsBehind bytes.now self.old self.new
             (W.device out.old) (W.device out.new) (slice_range bytes.now from to) result }
-        ensures counts { Counts (W.device out.old) (W.device out.new) result }
-        ensures part { IfOk result (λ _. IsPart bytes.now self.new) }
     {
         if from == self.to {
             self.to = to;
@@ -249,10 +208,8 @@ impl<'a> Pieces<'a> {
         requires failures { (W.device out.old).failures < 2 ^ 64 - 1 }
         requires part { IsPart bytes.now self.old }
         requires within { (from + 1 + n ≤ to) × (to ≤ length bytes.now) }
-        ensures puts { PutsOn (held_in bytes.now self.old) (held_in bytes.now self.new)
+        ensures { PutsBehind bytes.now self.old self.new
             (W.device out.old) (W.device out.new) (bytes_without bytes.now from to n) result }
-        ensures counts { Counts (W.device out.old) (W.device out.new) result }
-        ensures part { IfOk result (λ _. IsPart bytes.now self.new) }
     {
         // Where pieces were gathered, most such parts leave bytes out: then no branch asks whether
         // this one does.
@@ -282,10 +239,8 @@ impl<'a> Pieces<'a> {
         requires failures { (W.device out.old).failures < 2 ^ 64 - 1 }
         requires part { IsPart bytes.now self.old }
         requires within { (from + 1 + n ≤ to) × (to ≤ length bytes.now) }
-        ensures puts { PutsOn (held_in bytes.now self.old) (held_in bytes.now self.new)
+        ensures { PutsBehind bytes.now self.old self.new
             (W.device out.old) (W.device out.new) (bytes_without bytes.now from to n) result }
-        ensures counts { Counts (W.device out.old) (W.device out.new) result }
-        ensures part { IfOk result (λ _. IsPart bytes.now self.new) }
     {
         if n == 0 {
             return self.append(bytes, from, to, out);
@@ -300,23 +255,20 @@ impl<'a> Pieces<'a> {
     pub(crate) fn append_time<W: Sink>(
         &mut self,
         time: u64,
-        lying: Lying<'_>,
+        change: InPlace<'_>,
         out: &mut W,
     ) -> Result<(), WriteFailed>
         requires failures { (W.device out.old).failures < 2 ^ 64 - 1 }
-        requires part { IsPart lying.bytes.now self.old }
-        requires within { (lying.from ≤ lying.to) × (lying.to ≤ length lying.bytes.now) }
-        requires line { IsLine lying.bytes.now lying.line lying.from time }
-        ensures puts { PutsOn (held_in lying.entry.bytes.now self.old)
-            (held_in lying.entry.bytes.now self.new)
+        requires part { IsPart change.bytes.now self.old }
+        requires within { (change.from ≤ change.to) × (change.to ≤ length change.bytes.now) }
+        requires line { IsLine change.bytes.now change.line change.from time }
+        ensures { PutsBehind change.entry.bytes.now self.old self.new
             (W.device out.old) (W.device out.new) (time_line time) result }
-        ensures counts { Counts (W.device out.old) (W.device out.new) result }
-        ensures part { IfOk result (λ _. IsPart lying.entry.bytes.now self.new) }
     {
-        if lying.line < lying.from {
-            return self.append(lying.bytes, lying.line, lying.from, out);
+        if change.line < change.from {
+            return self.append(change.bytes, change.line, change.from, out);
         }
-        self.flush(lying.bytes, out)?;
+        self.flush(change.bytes, out)?;
         put_time(time, out)
     }
 }

@@ -1,5 +1,5 @@
 //! `check`: counts of what stands in a dump.
-ghost use Rattle.std.specs.Prelude.{◌≡◌, ◌-◌, ◌^◌, ◌<◌, ◌∷◌, ◌++◌, [], List, length};
+ghost use Rattle.std.specs.Prelude.{◌≡◌, ◌-◌, ◌^◌, ◌<◌, ◌∷◌, ◌++◌, [], List, length, true, false};
 ghost use Rattle.vcd_model.specs.CheckAndList.{check_close};
 ghost use Rattle.vcd_model.specs.Header.{Header};
 ghost use Rattle.vcd_model.specs.Items.{BodyItem};
@@ -10,6 +10,8 @@ ghost use Rattle.vcd_engine.specs.Check.{AreCounted, IsOfKind};
 ghost use Rattle.vcd_engine.specs.Engine.{last_of};
 
 use crate::machine::last_of;
+use crate::machine::walk::{Command, Keeping};
+use crate::pieces::{InPlace, Pieces};
 use crate::report::{Report, declared_in, put_report};
 use vcd_body::{Item, Regs};
 use vcd_text::{Sink, WriteFailed};
@@ -75,5 +77,38 @@ impl Check {
             last: last_of(regs),
         };
         put_report(out, &report)
+    }
+}
+
+impl Command<Keeping> for Check {
+    ghost use Rattle.vcd_engine.specs.declared.machine.Machine.TheVariants as machine;
+
+    ghost machine = { λ command. machine.Check command };
+
+    ghost is_ready = { λ _. true };
+
+    ghost is_left = { λ _ _. false };
+
+    #[inline(always)]
+    fn leaves(&self, _time: u64) -> bool {
+        false
+    }
+
+    #[inline(always)]
+    fn take_mark(&mut self, time: u64) {
+        self.take(Item::Time(time));
+    }
+
+    #[inline(always)]
+    fn take_change<W: Sink>(
+        &mut self,
+        _view: HeadView<'_>,
+        _regs: Regs,
+        change: InPlace<'_>,
+        _pieces: &mut Pieces<'_>,
+        _out: &mut W,
+    ) -> Result<(), WriteFailed> {
+        self.take(change.plain.item);
+        Ok(())
     }
 }

@@ -1,25 +1,16 @@
 //! `cut`: the values before a time, and the items from then up to another time.
-ghost use Rattle.std.specs.Prelude.{◌≡◌, ℕ, ◌≤◌, ◌-◌, ◌^◌, ◌<◌, ◌+◌, ◌∷◌, ◌++◌, [], List, true, false, not, ◌&&◌, is_some, nat_le, Ok, IfOk, MatchResult};
+ghost use Rattle.std.specs.Prelude.{◌≡◌, ℕ, ◌≤◌, ◌-◌, ◌^◌, ◌<◌, ◌∷◌, ◌++◌, [], List, true, not, nat_le, nat_lt, IfOk, MatchResult};
 ghost use Rattle.vcd_model.specs.Cut.{cut_close, cut_open, is_started, start_section};
 ghost use Rattle.vcd_model.specs.Header.{Header};
 ghost use Rattle.vcd_model.specs.History.{value_before};
 ghost use Rattle.vcd_model.specs.Items.{BodyItem};
-ghost use Rattle.vcd_model.specs.ItemText.{last_mark};
 ghost use Rattle.vcd_model.specs.Outcome.{Request};
 ghost use Rattle.vcd_text.specs.Device.{Counts, Takes, failures_after};
 ghost use Rattle.vcd_view.specs.Views.{IsViewOf};
-ghost use Rattle.vcd_view.specs.declared.view.HeadView.{HeadView};
-ghost use Rattle.vcd_body.specs.Ahead.{HasBits};
-ghost use Rattle.vcd_body.specs.declared.item.Item.TheVariants as kind;
-ghost use Rattle.vcd_engine.specs.Quiet.{TakesQuietly};
 ghost use Rattle.vcd_body.specs.Given.{HasGoodText};
-ghost use Rattle.vcd_body.specs.Items.{AreRegsAfter, regs_after};
-ghost use Rattle.vcd_body.specs.Answer.{writes_failed};
-ghost use Rattle.vcd_engine.specs.Cut.{AreCut, BeginsBy, IsNoMark, lent_to, may_be_kept, span_in, values_text};
-ghost use Rattle.vcd_body.specs.Device.{DueBy, TakesDue};
-ghost use Rattle.vcd_engine.specs.Pieces.{IsLine, IsPart, Lies, PutsOn, held_in};
-ghost use Rattle.vcd_engine.specs.Engine.{Starts, StopsUnread, TakesOne, TakesOneBy, last_of};
-ghost use Rattle.vcd_body.specs.Given.{IsItem};
+ghost use Rattle.vcd_engine.specs.Cut.{AreCut, BeginsBy, IsNoMark, lent_to, may_be_kept, span_in, values_text, SameSpan};
+ghost use Rattle.vcd_body.specs.Device.{TakesDue};
+ghost use Rattle.vcd_engine.specs.Engine.{Starts, StopsUnread, TakesOne, AtClose, AtItem, CountsStop};
 ghost use Rattle.vcd_engine.specs.ItemText.{HasWritten};
 ghost use Rattle.vcd_engine.specs.Room.{HasRoomFor, IsWithin, room_size};
 ghost use Rattle.vcd_engine.specs.Values.{AreHeld, HasValues};
@@ -27,10 +18,11 @@ ghost use Rattle.vcd_engine.specs.declared.task.Task.TheVariants as task;
 
 use crate::item_text::ItemText;
 use crate::machine::last_of;
-use crate::pieces::{Lying, Pieces};
+use crate::machine::walk::{Command, Copying, Keeping};
+use crate::pieces::{InPlace, Pieces};
 use crate::task::Room;
 use crate::values::set_plain;
-use vcd_body::{Item, Plain, Regs, Stop, Table, put_short, put_time};
+use vcd_body::{Item, Regs, Stop, Table, put_short, put_time};
 use vcd_head::{put_head, select};
 use vcd_text::{Sink, WriteFailed, put};
 use vcd_view::HeadView;
@@ -116,8 +108,7 @@ impl<'r> Cut<'r> {
             (W.device out.old) (W.device out.new) result }
         ensures span { MatchResult result (λ m. span_in m ≡ Request.Cut from to) StopsUnread }
         ensures room { IfOk result (λ m. IsWithin (lent_to m) (room_size room.entry)) }
-        ensures failures { (W.device out.new).failures
-            ≡ (W.device out.old).failures + writes_failed result }
+        ensures failures { CountsStop (W.device out.old) (W.device out.new) result }
     {
         let Room {
             values,
@@ -153,9 +144,7 @@ impl<'r> Cut<'r> {
         ensures counts { Counts (W.device out.old) (W.device out.new) result }
         ensures begun { IfOk result (λ _. (self.new.started ≡ true)
             × HasWritten (self.old.from ∷ []) [] self.new.text) }
-        ensures stays { self.old.started ≡ true → self.new.started ≡ true }
-        ensures span { span_in self.new ≡ span_in self.old }
-        ensures room { lent_to self.new ≡ lent_to self.old }
+        ensures same { SameSpan self.old self.new }
     {
         put_section(&self.table, view, self.from, out)?;
         self.text = ItemText::after(self.from);
@@ -175,9 +164,7 @@ impl<'r> Cut<'r> {
             → AreCut self.old h items
             → BeginsBy h items time self.old self.new (W.device out.old) (W.device out.new) result }
         ensures counts { Counts (W.device out.old) (W.device out.new) result }
-        ensures stays { self.old.started ≡ true → self.new.started ≡ true }
-        ensures span { span_in self.new ≡ span_in self.old }
-        ensures room { lent_to self.new ≡ lent_to self.old }
+        ensures same { SameSpan self.old self.new }
     {
         if self.started || time < self.from {
             return Ok(());
@@ -191,35 +178,6 @@ impl<'r> Cut<'r> {
         ensures { result ≡ self.now.started }
     {
         self.started
-    }
-
-    /// Whether the start section is due with a mark of this time, where it does not stand yet.
-    #[inline(always)]
-    pub(crate) fn begins_at(&self, time: u64) -> bool
-        ensures { result ≡ nat_le self.now.from time }
-    {
-        self.from <= time
-    }
-
-    /// Takes an item that lies ahead before the start section, and with which that is not due:
-    /// keeps the value of a change.
-    #[inline(always)]
-    pub(crate) fn take_before(&mut self, plain: Plain<'_>)
-        requires begun { self.old.started ≡ false }
-        requires mark { (time : ℕ) → plain.item ≡ kind.Time time
-            → nat_le self.old.from time ≡ false }
-        requires bits { HasBits plain.item plain.text.now plain.bits }
-        ensures takes { (view : HeadView) (h : Header) (items : List BodyItem) (before : Regs) (x : BodyItem)
-            → IsViewOf view h → HasGoodText view.codes.now plain.entry.text.now plain.entry.item
-            → AreRegsAfter items before
-            → IsItem h.codes plain.entry.text.now plain.entry.item x → AreCut self.old h items
-            → TakesQuietly (AreCut self.new h (items ++ x ∷ []))
-            (Request.Cut self.old.from self.old.to) h items x }
-        ensures begun { self.new.started ≡ false }
-        ensures span { span_in self.new ≡ span_in self.old }
-        ensures room { lent_to self.new ≡ lent_to self.old }
-    {
-        set_plain(&mut self.table, plain);
     }
 
     /// Takes a time mark: writes the start section where its time has come, and where it is above
@@ -237,9 +195,7 @@ impl<'r> Cut<'r> {
             (Request.Cut self.old.from self.old.to) h items (BodyItem.Time time)
             (W.device out.old) (W.device out.new) result }
         ensures counts { Counts (W.device out.old) (W.device out.new) result }
-        ensures stays { self.old.started ≡ true → self.new.started ≡ true }
-        ensures span { span_in self.new ≡ span_in self.old }
-        ensures room { lent_to self.new ≡ lent_to self.old }
+        ensures same { SameSpan self.old self.new }
     {
         self.begin_by(view, time, out)?;
         if time <= self.to {
@@ -249,8 +205,8 @@ impl<'r> Cut<'r> {
         Ok(true)
     }
 
-    /// Takes an item that is no time mark: before the start section the value that it gives, then
-    /// what it writes.
+    /// Takes an item that is no time mark: before the start section keeps the value that it gives,
+    /// then writes the item where it is kept.
     #[inline(always)]
     fn take_other<W: Sink>(
         &mut self,
@@ -262,20 +218,19 @@ impl<'r> Cut<'r> {
     ) -> Result<(), WriteFailed>
         requires failures { (W.device out.old).failures < 2 ^ 64 - 1 }
         requires sound { HasGoodText view.codes.now text.now item }
-        ensures takes { (h : Header) (items : List BodyItem) (before : Regs) (x : BodyItem)
-            → IsViewOf view.entry h → AreRegsAfter items before → regs ≡ regs_after before item
-            → IsItem h.codes text.now item x → IsNoMark item → AreCut self.old h items
-            → TakesDue (W.device out.old) (W.device out.new)
+        ensures takes { AtItem view.entry regs item text.now (λ h items x. IsNoMark item
+            → AreCut self.old h items → TakesDue (W.device out.old) (W.device out.new)
             (cut_open h self.old.from self.old.to items)
             (cut_open h self.old.from self.old.to (items ++ x ∷ [])) result
-            × IfOk result (λ _. AreCut self.new h (items ++ x ∷ [])) }
+            × IfOk result (λ _. AreCut self.new h (items ++ x ∷ []))) }
         ensures counts { Counts (W.device out.old) (W.device out.new) result }
-        ensures stays { self.old.started ≡ true → self.new.started ≡ true }
-        ensures span { span_in self.new ≡ span_in self.old }
-        ensures room { lent_to self.new ≡ lent_to self.old }
+        ensures same { SameSpan self.old self.new }
     {
         if self.started {
-            return self.put_kept(view, regs, item, text, out);
+            if !may_keep(view, regs, item) {
+                return Ok(());
+            }
+            return self.text.put(view, regs.time, item, text, out);
         }
         if let Item::Change { code, form } = item {
             self.table.set(code, form, text);
@@ -283,124 +238,8 @@ impl<'r> Cut<'r> {
         Ok(())
     }
 
-    /// Writes an item after the start section, where it is kept.
-    #[inline(always)]
-    fn put_kept<W: Sink>(
-        &mut self,
-        view: HeadView<'_>,
-        regs: Regs,
-        item: Item,
-        text: &[u8],
-        out: &mut W,
-    ) -> Result<(), WriteFailed>
-        requires failures { (W.device out.old).failures < 2 ^ 64 - 1 }
-        requires sound { HasGoodText view.codes.now text.now item }
-        ensures takes { (h : Header) (items : List BodyItem) (before : Regs) (x : BodyItem)
-            → IsViewOf view.entry h → AreRegsAfter items before → regs ≡ regs_after before item
-            → IsItem h.codes text.now item x → IsNoMark item → AreCut self.old h items
-            → self.old.started ≡ true
-            → TakesDue (W.device out.old) (W.device out.new)
-            (cut_open h self.old.from self.old.to items)
-            (cut_open h self.old.from self.old.to (items ++ x ∷ [])) result
-            × IfOk result (λ _. AreCut self.new h (items ++ x ∷ [])) }
-        ensures counts { Counts (W.device out.old) (W.device out.new) result }
-        ensures stays { self.old.started ≡ true → self.new.started ≡ true }
-        ensures span { span_in self.new ≡ span_in self.old }
-        ensures room { lent_to self.new ≡ lent_to self.old }
-    {
-        if !may_keep(view, regs, item) {
-            return Ok(());
-        }
-        self.text.put(view, regs.time, item, text, out)
-    }
-
-    /// Does the same with an item that lies ahead, behind what is held.
-    #[inline(always)]
-    fn put_kept_lying<W: Sink>(
-        &mut self,
-        view: HeadView<'_>,
-        regs: Regs,
-        lying: Lying<'_>,
-        pieces: &mut Pieces<'_>,
-        out: &mut W,
-    ) -> Result<(), WriteFailed>
-        requires failures { (W.device out.old).failures < 2 ^ 64 - 1 }
-        requires lies { Lies view lying }
-        requires line { IsLine lying.bytes.now lying.line lying.from regs.time }
-        requires part { IsPart lying.bytes.now pieces.old }
-        ensures takes { (h : Header) (items : List BodyItem) (before : Regs) (x : BodyItem)
-            → IsViewOf view.entry h → AreRegsAfter items before
-            → regs ≡ regs_after before lying.entry.plain.item
-            → IsItem h.codes lying.entry.plain.text.now lying.entry.plain.item x
-            → IsNoMark lying.entry.plain.item → AreCut self.old h items
-            → self.old.started ≡ true
-            → DueBy (λ due. PutsOn (held_in lying.entry.bytes.now pieces.old)
-            (held_in lying.entry.bytes.now pieces.new)
-            (W.device out.old) (W.device out.new) due result)
-            (cut_open h self.old.from self.old.to items)
-            (cut_open h self.old.from self.old.to (items ++ x ∷ []))
-            × IfOk result (λ _. AreCut self.new h (items ++ x ∷ [])) }
-        ensures counts { Counts (W.device out.old) (W.device out.new) result }
-        ensures part { IfOk result (λ _. IsPart lying.entry.bytes.now pieces.new) }
-        ensures begun { self.new.started ≡ self.old.started }
-        ensures span { span_in self.new ≡ span_in self.old }
-        ensures room { lent_to self.new ≡ lent_to self.old }
-    {
-        if !may_keep(view, regs, lying.plain.item) {
-            return Ok(());
-        }
-        self.text.put_lying(view, regs.time, lying, pieces, out)
-    }
-
-    /// Takes an item that lies ahead, writes what is due after it behind what is held, and returns
-    /// whether it ended the run. The registers are those after it.
-    #[inline(always)]
-    pub(crate) fn take_lying<W: Sink>(
-        &mut self,
-        view: HeadView<'_>,
-        regs: Regs,
-        lying: Lying<'_>,
-        pieces: &mut Pieces<'_>,
-        out: &mut W,
-    ) -> Result<bool, WriteFailed>
-        requires failures { (W.device out.old).failures < 2 ^ 64 - 1 }
-        requires begun { self.old.started ≡ true }
-        requires lies { Lies view lying }
-        requires line { IsLine lying.bytes.now lying.line lying.from regs.time }
-        requires part { IsPart lying.bytes.now pieces.old }
-        ensures takes { (h : Header) (items : List BodyItem) (before : Regs) (x : BodyItem)
-            → IsViewOf view.entry h → AreRegsAfter items before
-            → regs ≡ regs_after before lying.entry.plain.item
-            → IsItem h.codes lying.entry.plain.text.now lying.entry.plain.item x
-            → AreCut self.old h items
-            → TakesOneBy (λ due. PutsOn (held_in lying.entry.bytes.now pieces.old)
-            (held_in lying.entry.bytes.now pieces.new)
-            (W.device out.old) (W.device out.new) due result)
-            (AreCut self.new h (items ++ x ∷ []))
-            (Request.Cut self.old.from self.old.to) h items x result }
-        ensures counts { Counts (W.device out.old) (W.device out.new) result }
-        ensures part { IfOk result (λ _. IsPart lying.entry.bytes.now pieces.new) }
-        ensures begun { result ≡ Ok false → self.new.started ≡ true }
-        ensures span { span_in self.new ≡ span_in self.old }
-        ensures room { lent_to self.new ≡ lent_to self.old }
-    {
-        if let Item::Change { .. } = lying.plain.item {
-            self.put_kept_lying(view, regs, lying, pieces, out)?;
-            return Ok(false);
-        }
-        if let Item::Time(time) = lying.plain.item
-            && time <= self.to
-        {
-            return Ok(false);
-        }
-        pieces.flush(lying.bytes, out)?;
-        self.take(view, regs, lying.plain.item, lying.plain.text, out)
-    }
-
     /// Takes an item with its text, writes what is due after it, and returns whether it ended the
     /// run. The registers are those after it.
-    // Out of line, so that the loop over items that lie ahead stays small enough to have all else
-    // in line.
     #[inline(never)]
     pub(crate) fn take<W: Sink>(
         &mut self,
@@ -412,16 +251,12 @@ impl<'r> Cut<'r> {
     ) -> Result<bool, WriteFailed>
         requires failures { (W.device out.old).failures < 2 ^ 64 - 1 }
         requires sound { HasGoodText view.codes.now text.now item }
-        ensures takes { (h : Header) (items : List BodyItem) (before : Regs) (x : BodyItem)
-            → IsViewOf view.entry h → AreRegsAfter items before → regs ≡ regs_after before item
-            → IsItem h.codes text.now item x → AreCut self.old h items
+        ensures takes { AtItem view.entry regs item text.now (λ h items x. AreCut self.old h items
             → TakesOne (AreCut self.new h (items ++ x ∷ []))
             (Request.Cut self.old.from self.old.to) h items x
-            (W.device out.old) (W.device out.new) result }
+            (W.device out.old) (W.device out.new) result) }
         ensures counts { Counts (W.device out.old) (W.device out.new) result }
-        ensures stays { self.old.started ≡ true → self.new.started ≡ true }
-        ensures span { span_in self.new ≡ span_in self.old }
-        ensures room { lent_to self.new ≡ lent_to self.old }
+        ensures same { SameSpan self.old self.new }
     {
         if let Item::Time(time) = item {
             return self.take_time(view, time, out);
@@ -438,15 +273,80 @@ impl<'r> Cut<'r> {
         out: &mut W,
     ) -> Result<(), WriteFailed>
         requires { (W.device out.old).failures < 2 ^ 64 - 1 }
-        ensures takes { (h : Header) (items : List BodyItem) → IsViewOf view.entry h
-            → AreRegsAfter items regs → last_of regs ≡ last_mark items → AreCut self.now h items
+        ensures takes { AtClose view.entry regs (λ h items. AreCut self.now h items
             → Takes (W.device out.old) (W.device out.new)
-            (cut_close h self.now.from self.now.to items) result }
+            (cut_close h self.now.from self.now.to items) result) }
         ensures counts { Counts (W.device out.old) (W.device out.new) result }
     {
         if !self.started {
             return put_section(&self.table, view, self.from, out);
         }
         self.text.close(last_of(regs), out)
+    }
+}
+
+// Before the start section stands.
+impl<'r> Command<Keeping> for Cut<'r> {
+    ghost use Rattle.vcd_engine.specs.declared.machine.Machine.TheVariants as machine;
+
+    ghost machine = { λ command. machine.Cut command };
+
+    ghost is_ready = { λ command. not command.started };
+
+    ghost is_left = { λ command time. nat_le command.from time };
+
+    #[inline(always)]
+    fn leaves(&self, time: u64) -> bool {
+        self.from <= time
+    }
+
+    #[inline(always)]
+    fn take_mark(&mut self, _time: u64) {}
+
+    #[inline(always)]
+    fn take_change<W: Sink>(
+        &mut self,
+        _view: HeadView<'_>,
+        _regs: Regs,
+        change: InPlace<'_>,
+        _pieces: &mut Pieces<'_>,
+        _out: &mut W,
+    ) -> Result<(), WriteFailed> {
+        set_plain(&mut self.table, change.plain);
+        Ok(())
+    }
+}
+
+// From then on.
+impl<'r> Command<Copying> for Cut<'r> {
+    ghost use Rattle.vcd_engine.specs.declared.machine.Machine.TheVariants as machine;
+
+    ghost machine = { λ command. machine.Cut command };
+
+    ghost is_ready = { λ command. command.started };
+
+    ghost is_left = { λ command time. nat_lt command.to time };
+
+    #[inline(always)]
+    fn leaves(&self, time: u64) -> bool {
+        self.to < time
+    }
+
+    #[inline(always)]
+    fn take_mark(&mut self, _time: u64) {}
+
+    #[inline(always)]
+    fn take_change<W: Sink>(
+        &mut self,
+        view: HeadView<'_>,
+        regs: Regs,
+        change: InPlace<'_>,
+        pieces: &mut Pieces<'_>,
+        out: &mut W,
+    ) -> Result<(), WriteFailed> {
+        if !may_keep(view, regs, change.plain.item) {
+            return Ok(());
+        }
+        self.text.put_in_place(view, regs.time, change, pieces, out)
     }
 }

@@ -1,5 +1,5 @@
 //! `edges`: how often the values of the selected variables change, rise and fall.
-ghost use Rattle.std.specs.Prelude.{◌≡◌, ℕ, ◌-◌, ◌^◌, ◌<◌, ◌∷◌, ◌++◌, [], List, Some, length, map, slice_get, string_bytes, IfOk, MatchResult};
+ghost use Rattle.std.specs.Prelude.{◌≡◌, ℕ, ◌-◌, ◌^◌, ◌<◌, ◌∷◌, ◌++◌, [], List, Some, length, map, slice_get, string_bytes, true, false, IfOk, MatchResult};
 ghost use Rattle.vcd_model.specs.Edges.{edges_close};
 ghost use Rattle.vcd_model.specs.Header.{Header};
 ghost use Rattle.vcd_model.specs.Items.{BodyItem, leaves_open};
@@ -7,19 +7,19 @@ ghost use Rattle.vcd_model.specs.Declarations.{IdCode};
 ghost use Rattle.vcd_model.specs.Outcome.{Request};
 ghost use Rattle.vcd_text.specs.Device.{Counts, Device, Takes, failures_after};
 ghost use Rattle.vcd_view.specs.Views.{IsViewOf};
-ghost use Rattle.vcd_body.specs.Ahead.{HasBits, IsSizedItem};
 ghost use Rattle.vcd_body.specs.Given.{HasGoodText, IsGoodText};
-ghost use Rattle.vcd_body.specs.Items.{AreRegsAfter, model_form, regs_after};
+ghost use Rattle.vcd_body.specs.Items.{model_form};
 ghost use Rattle.vcd_engine.specs.Edges.{AreEdges, names_counted, room_in_edges};
-ghost use Rattle.vcd_engine.specs.Engine.{Starts};
-ghost use Rattle.vcd_body.specs.Given.{IsItem};
+ghost use Rattle.vcd_engine.specs.Engine.{Starts, AtItem};
 ghost use Rattle.vcd_engine.specs.Room.{HasRoomFor, IsWithin, room_size};
 ghost use Rattle.vcd_engine.specs.Selection.{IsUnmatched};
 ghost use Rattle.vcd_engine.specs.declared.task.Task.TheVariants as task;
 
+use crate::machine::walk::{Command, Keeping};
+use crate::pieces::{InPlace, Pieces};
 use crate::tally::{put_rows, take_bits, take_mark, take_value};
 use crate::task::Room;
-use vcd_body::{Form, Item, Plain, Regs, Stop, Table};
+use vcd_body::{Form, Item, Regs, Stop, Table};
 use vcd_head::select;
 use vcd_text::{Sink, WriteFailed};
 use vcd_view::HeadView;
@@ -66,53 +66,25 @@ impl<'n, 'r> Edges<'n, 'r> {
         })
     }
 
-    /// Counts an item that lies ahead. The registers are those after it.
-    #[inline(always)]
-    pub(crate) fn take_plain(&mut self, view: HeadView<'_>, regs: Regs, plain: Plain<'_>)
-        requires sound { HasGoodText view.codes.now plain.text.now plain.item }
-        requires sized { IsSizedItem view.codes.now plain.item plain.most }
-        requires bits { HasBits plain.item plain.text.now plain.bits }
-        ensures takes { (h : Header) (items : List BodyItem) (before : Regs) (x : BodyItem)
-            → IsViewOf view.entry h → AreRegsAfter items before
-            → regs ≡ regs_after before plain.entry.item
-            → IsItem h.codes plain.entry.text.now plain.entry.item x → length items < 2 ^ 63
-            → AreEdges self.old h items → AreEdges self.new h (items ++ x ∷ []) }
-        ensures names { names_counted self.new ≡ names_counted self.old }
-        ensures room { room_in_edges self.new ≡ room_in_edges self.old }
-    {
-        let Item::Change { code, form } = plain.item else {
-            return;
-        };
-        if plain.most == 0 {
-            return self.take_change(view, regs.section.is_some(), code, form, plain.text);
-        }
-        match plain.bits {
-            Some(bits) => take_bits(&mut self.table, code, plain.most, bits),
-            None => take_value(&mut self.table, code, plain.most, form, plain.text),
-        }
-    }
-
     /// Counts an item with its text. The registers are those after it.
     #[inline(always)]
     pub(crate) fn take(&mut self, view: HeadView<'_>, regs: Regs, item: Item, text: &[u8])
         requires sound { HasGoodText view.codes.now text.now item }
-        ensures takes { (h : Header) (items : List BodyItem) (before : Regs) (x : BodyItem)
-            → IsViewOf view.entry h → AreRegsAfter items before → regs ≡ regs_after before item
-            → IsItem h.codes text.now item x → length items < 2 ^ 63 → AreEdges self.old h items
-            → AreEdges self.new h (items ++ x ∷ []) }
+        ensures takes { AtItem view.entry regs item text.now (λ h items x. AreEdges self.old h items
+            → AreEdges self.new h (items ++ x ∷ [])) }
         ensures names { names_counted self.new ≡ names_counted self.old }
         ensures room { room_in_edges self.new ≡ room_in_edges self.old }
     {
         let Item::Change { code, form } = item else {
             return;
         };
-        self.take_change(view, regs.section.is_some(), code, form, text);
+        self.take_at(view, regs.section.is_some(), code, form, text);
     }
 
     /// Counts a change of the code at a place, which stands inside a section or not.
     #[cold]
     #[inline(never)]
-    fn take_change(
+    fn take_at(
         &mut self,
         view: HeadView<'_>,
         inside: bool,
@@ -152,5 +124,48 @@ impl<'n, 'r> Edges<'n, 'r> {
         ensures counts { Counts (W.device out.old) (W.device out.new) result }
     {
         put_rows(&self.table, view, self.marks, out)
+    }
+}
+
+impl<'n, 'r> Command<Keeping> for Edges<'n, 'r> {
+    ghost use Rattle.vcd_engine.specs.declared.machine.Machine.TheVariants as machine;
+
+    ghost machine = { λ command. machine.Edges command };
+
+    ghost is_ready = { λ _. true };
+
+    ghost is_left = { λ _ _. false };
+
+    #[inline(always)]
+    fn leaves(&self, _time: u64) -> bool {
+        false
+    }
+
+    #[inline(always)]
+    fn take_mark(&mut self, _time: u64) {}
+
+    #[inline(always)]
+    fn take_change<W: Sink>(
+        &mut self,
+        view: HeadView<'_>,
+        regs: Regs,
+        change: InPlace<'_>,
+        _pieces: &mut Pieces<'_>,
+        _out: &mut W,
+    ) -> Result<(), WriteFailed> {
+        let plain = change.plain;
+        let Item::Change { code, form } = plain.item else {
+            return Ok(());
+        };
+        if plain.most == 0 {
+            self.take_at(view, regs.section.is_some(), code, form, plain.text);
+            return Ok(());
+        }
+        if let Some(bits) = plain.bits {
+            take_bits(&mut self.table, code, plain.most, bits);
+            return Ok(());
+        }
+        take_value(&mut self.table, code, plain.most, form, plain.text);
+        Ok(())
     }
 }

@@ -1,5 +1,5 @@
 //! `pick`: the dump of the selected variables.
-ghost use Rattle.std.specs.Prelude.{◌≡◌, ◌-◌, ◌^◌, ◌<◌, ◌+◌, map, string_bytes, IfOk, MatchResult, ◌∷◌, ◌++◌, [], List, length};
+ghost use Rattle.std.specs.Prelude.{◌≡◌, ◌-◌, ◌^◌, ◌<◌, map, string_bytes, IfOk, MatchResult, ◌∷◌, ◌++◌, [], List, length, true, false};
 ghost use Rattle.vcd_model.specs.Header.{Header};
 ghost use Rattle.vcd_model.specs.Items.{BodyItem};
 ghost use Rattle.vcd_model.specs.ItemText.{last_mark};
@@ -8,12 +8,9 @@ ghost use Rattle.vcd_model.specs.Pick.{pick_open, pick_close};
 ghost use Rattle.vcd_text.specs.Device.{Counts, Takes, failures_after};
 ghost use Rattle.vcd_view.specs.Views.{IsViewOf};
 ghost use Rattle.vcd_body.specs.Given.{HasGoodText};
-ghost use Rattle.vcd_body.specs.Items.{AreRegsAfter, regs_after};
-ghost use Rattle.vcd_body.specs.Answer.{writes_failed};
-ghost use Rattle.vcd_body.specs.Device.{DueBy, TakesDue};
-ghost use Rattle.vcd_engine.specs.Engine.{Starts, StopsUnread, last_of};
-ghost use Rattle.vcd_body.specs.Given.{IsItem};
-ghost use Rattle.vcd_engine.specs.Pieces.{IsLine, IsPart, Lies, PutsOn, held_in};
+ghost use Rattle.vcd_body.specs.Items.{AreRegsAfter};
+ghost use Rattle.vcd_body.specs.Device.{TakesDue};
+ghost use Rattle.vcd_engine.specs.Engine.{Starts, StopsUnread, last_of, AtItem, CountsStop};
 ghost use Rattle.vcd_engine.specs.Pick.{ArePicked, is_event_at, is_kept, names_in, flags_in};
 ghost use Rattle.vcd_engine.specs.Room.{HasRoomFor};
 ghost use Rattle.vcd_engine.specs.declared.task.Task.TheVariants as task;
@@ -21,7 +18,8 @@ ghost use Rattle.vcd_engine.specs.declared.task.Task.TheVariants as task;
 use crate::choice::Choice;
 use crate::item_text::ItemText;
 use crate::machine::last_of;
-use crate::pieces::{Lying, Pieces};
+use crate::machine::walk::{Command, Copying};
+use crate::pieces::{InPlace, Pieces};
 use crate::selection::select_codes;
 use crate::task::Room;
 use vcd_body::{Item, Regs, Stop};
@@ -54,8 +52,7 @@ impl<'n, 'r> Pick<'n, 'r> {
         ensures names { MatchResult result
             (λ p. names_in p ≡ map string_bytes names.entry.now) StopsUnread }
         ensures room { IfOk result (λ p. flags_in p ≡ length view.entry.codes.now) }
-        ensures failures { (W.device out.new).failures
-            ≡ (W.device out.old).failures + writes_failed result }
+        ensures failures { CountsStop (W.device out.old) (W.device out.new) result }
     {
         let Room { values, marks, .. } = room;
         let marks = &mut marks[..view.rows.len()];
@@ -97,12 +94,10 @@ impl<'n, 'r> Pick<'n, 'r> {
     ) -> Result<(), WriteFailed>
         requires failures { (W.device out.old).failures < 2 ^ 64 - 1 }
         requires sound { HasGoodText view.codes.now text.now item }
-        ensures takes { (h : Header) (items : List BodyItem) (before : Regs) (x : BodyItem)
-            → IsViewOf view.entry h → AreRegsAfter items before → regs ≡ regs_after before item
-            → IsItem h.codes text.now item x → ArePicked self.old h items
+        ensures takes { AtItem view.entry regs item text.now (λ h items x. ArePicked self.old h items
             → TakesDue (W.device out.old) (W.device out.new) (pick_open h (names_in self.old) items)
             (pick_open h (names_in self.old) (items ++ x ∷ [])) result
-            × IfOk result (λ _. ArePicked self.new h (items ++ x ∷ [])) }
+            × IfOk result (λ _. ArePicked self.new h (items ++ x ∷ []))) }
         ensures counts { Counts (W.device out.old) (W.device out.new) result }
         ensures names { names_in self.new ≡ names_in self.old }
         ensures room { flags_in self.new ≡ flags_in self.old }
@@ -111,42 +106,6 @@ impl<'n, 'r> Pick<'n, 'r> {
             return Ok(());
         }
         self.text.put(view, regs.time, item, text, out)
-    }
-
-    /// Does the same with an item that lies ahead, behind what is held.
-    #[inline(always)]
-    pub(crate) fn take_lying<W: Sink>(
-        &mut self,
-        view: HeadView<'_>,
-        regs: Regs,
-        lying: Lying<'_>,
-        pieces: &mut Pieces<'_>,
-        out: &mut W,
-    ) -> Result<(), WriteFailed>
-        requires failures { (W.device out.old).failures < 2 ^ 64 - 1 }
-        requires lies { Lies view lying }
-        requires line { IsLine lying.bytes.now lying.line lying.from regs.time }
-        requires part { IsPart lying.bytes.now pieces.old }
-        ensures takes { (h : Header) (items : List BodyItem) (before : Regs) (x : BodyItem)
-            → IsViewOf view.entry h → AreRegsAfter items before
-            → regs ≡ regs_after before lying.entry.plain.item
-            → IsItem h.codes lying.entry.plain.text.now lying.entry.plain.item x
-            → ArePicked self.old h items
-            → DueBy (λ due. PutsOn (held_in lying.entry.bytes.now pieces.old)
-            (held_in lying.entry.bytes.now pieces.new)
-            (W.device out.old) (W.device out.new) due result)
-            (pick_open h (names_in self.old) items)
-            (pick_open h (names_in self.old) (items ++ x ∷ []))
-            × IfOk result (λ _. ArePicked self.new h (items ++ x ∷ [])) }
-        ensures counts { Counts (W.device out.old) (W.device out.new) result }
-        ensures part { IfOk result (λ _. IsPart lying.entry.bytes.now pieces.new) }
-        ensures names { names_in self.new ≡ names_in self.old }
-        ensures room { flags_in self.new ≡ flags_in self.old }
-    {
-        if !self.keeps(view, regs, lying.plain.item) {
-            return Ok(());
-        }
-        self.text.put_lying(view, regs.time, lying, pieces, out)
     }
 
     /// Writes the line of the last time mark, where it does not stand yet.
@@ -159,5 +118,38 @@ impl<'n, 'r> Pick<'n, 'r> {
         ensures counts { Counts (W.device out.old) (W.device out.new) result }
     {
         self.text.close(last_of(regs), out)
+    }
+}
+
+impl<'n, 'r> Command<Copying> for Pick<'n, 'r> {
+    ghost use Rattle.vcd_engine.specs.declared.machine.Machine.TheVariants as machine;
+
+    ghost machine = { λ command. machine.Pick command };
+
+    ghost is_ready = { λ _. true };
+
+    ghost is_left = { λ _ _. false };
+
+    #[inline(always)]
+    fn leaves(&self, _time: u64) -> bool {
+        false
+    }
+
+    #[inline(always)]
+    fn take_mark(&mut self, _time: u64) {}
+
+    #[inline(always)]
+    fn take_change<W: Sink>(
+        &mut self,
+        view: HeadView<'_>,
+        regs: Regs,
+        change: InPlace<'_>,
+        pieces: &mut Pieces<'_>,
+        out: &mut W,
+    ) -> Result<(), WriteFailed> {
+        if !self.keeps(view, regs, change.plain.item) {
+            return Ok(());
+        }
+        self.text.put_in_place(view, regs.time, change, pieces, out)
     }
 }

@@ -1,5 +1,5 @@
 //! `sample`: the values of selected variables at some times.
-ghost use Rattle.std.specs.Prelude.{◌≡◌, ◌≢◌, ◌≤◌, ◌-◌, ◌^◌, ◌<◌, ◌+◌, ◌∷◌, ◌++◌, [], List, ℕ, length, nat_le, None, false, IfOk, MatchResult, map, string_bytes};
+ghost use Rattle.std.specs.Prelude.{◌≡◌, ◌≢◌, ◌≤◌, ◌-◌, ◌^◌, ◌<◌, ◌+◌, ◌∷◌, ◌++◌, [], List, length, nat_le, None, true, IfOk, MatchResult, map, string_bytes};
 ghost use Rattle.std.specs.List.{position_or_len};
 ghost use Rattle.std.specs.List.Sorted.{IsStrictlyIncreasing};
 ghost use Rattle.vcd_model.specs.Header.{Header};
@@ -8,23 +8,20 @@ ghost use Rattle.vcd_model.specs.Outcome.{Request, close_text};
 ghost use Rattle.vcd_model.specs.Selection.{first_unmatched};
 ghost use Rattle.vcd_text.specs.Device.{Counts, Takes, failures_after};
 ghost use Rattle.vcd_view.specs.Views.{IsViewOf};
-ghost use Rattle.vcd_body.specs.Ahead.{HasBits};
-ghost use Rattle.vcd_body.specs.Given.{HasGoodText};
+ghost use Rattle.vcd_body.specs.Given.{HasGoodText, IsItem};
 ghost use Rattle.vcd_engine.specs.Engine.{TakesOne};
-ghost use Rattle.vcd_body.specs.Given.{IsItem};
 ghost use Rattle.vcd_engine.specs.Room.{HasRoomFor, IsWithin, room_size};
-ghost use Rattle.vcd_view.specs.declared.view.HeadView.{HeadView};
-ghost use Rattle.vcd_body.specs.declared.item.Item.TheVariants as kind;
-ghost use Rattle.vcd_engine.specs.Quiet.{TakesQuietly};
 ghost use Rattle.vcd_engine.specs.Sample.{AreSampled, asked_in, is_due, lent_to};
 ghost use Rattle.vcd_engine.specs.Selection.{IsFirstUnmatched, IsUnmatched};
 ghost use Rattle.vcd_engine.specs.declared.task.Task.TheVariants as task;
 
 use crate::leads::lead_on;
+use crate::machine::walk::{Command, Keeping};
+use crate::pieces::{InPlace, Pieces};
 use crate::sample_lines::put_samples;
 use crate::task::Room;
 use crate::values::set_plain;
-use vcd_body::{Item, Plain, Stop, Table};
+use vcd_body::{Item, Regs, Stop, Table};
 use vcd_head::select;
 use vcd_text::{Sink, WriteFailed};
 use vcd_view::HeadView;
@@ -115,33 +112,6 @@ impl<'n, 'r> Sample<'n, 'r> {
         Ok(rest.is_empty())
     }
 
-    /// Whether a mark of this time is above one of the times that are left.
-    #[inline(always)]
-    pub(crate) fn has_due(&self, time: u64) -> bool
-        ensures { result ≡ is_due self.now.rest.now time }
-    {
-        match self.rest {
-            [first, ..] => *first < time,
-            [] => true,
-        }
-    }
-
-    /// Takes an item that lies ahead, and with which no line is due: keeps the value of a change.
-    #[inline(always)]
-    pub(crate) fn take_plain(&mut self, plain: Plain<'_>)
-        requires mark { (time : ℕ) → plain.item ≡ kind.Time time
-            → is_due self.old.rest.now time ≡ false }
-        requires bits { HasBits plain.item plain.text.now plain.bits }
-        ensures takes { (view : HeadView) (h : Header) (items : List BodyItem) (x : BodyItem)
-            → IsViewOf view h → HasGoodText view.codes.now plain.entry.text.now plain.entry.item
-            → IsItem h.codes plain.entry.text.now plain.entry.item x → AreSampled self.old h items
-            → TakesQuietly (AreSampled self.new h (items ++ x ∷ [])) (asked_in self.old) h items x }
-        ensures asked { asked_in self.new ≡ asked_in self.old }
-        ensures room { lent_to self.new ≡ lent_to self.old }
-    {
-        set_plain(&mut self.table, plain);
-    }
-
     /// Takes an item with its text: keeps the value of a change, and at a time mark writes the
     /// lines of the times below it. Returns whether it ended the run.
     #[inline(always)]
@@ -182,5 +152,39 @@ impl<'n, 'r> Sample<'n, 'r> {
         ensures counts { Counts (W.device out.old) (W.device out.new) result }
     {
         put_samples(&self.table, view, self.marks, self.rest, out)
+    }
+}
+
+impl<'n, 'r> Command<Keeping> for Sample<'n, 'r> {
+    ghost use Rattle.vcd_engine.specs.declared.machine.Machine.TheVariants as machine;
+
+    ghost machine = { λ command. machine.Sample command };
+
+    ghost is_ready = { λ _. true };
+
+    ghost is_left = { λ command time. is_due command.rest.now time };
+
+    #[inline(always)]
+    fn leaves(&self, time: u64) -> bool {
+        match self.rest {
+            [first, ..] => *first < time,
+            [] => true,
+        }
+    }
+
+    #[inline(always)]
+    fn take_mark(&mut self, _time: u64) {}
+
+    #[inline(always)]
+    fn take_change<W: Sink>(
+        &mut self,
+        _view: HeadView<'_>,
+        _regs: Regs,
+        change: InPlace<'_>,
+        _pieces: &mut Pieces<'_>,
+        _out: &mut W,
+    ) -> Result<(), WriteFailed> {
+        set_plain(&mut self.table, change.plain);
+        Ok(())
     }
 }

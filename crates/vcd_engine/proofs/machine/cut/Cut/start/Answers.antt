@@ -46,7 +46,7 @@ returns-clause-starts g c = λ h views.
       | then-from-eq0+in_ok-begin w ↦
           let begun = begun_at from w.if-from-eq0.true in
           let section = w.in_ok-begin.ensures.takes h [] views (values_none c.new.result h from held) in
-          let same = w.in_ok-begin.ensures.span in
+          let same = w.in_ok-begin.ensures.same.0 in
           let same_from : w.begin.new.self.from ≡ from = cc in
           let same_to : w.begin.new.self.to ≡ to = cc in
           rw (w.cut-is, w.out-is) (

@@ -1,20 +1,43 @@
-use Rattle.std.proofs.Common.{◌≡◌, Some, [], ◌∷◌, ◌++◌, refl, sym, subst, slice_get}
-use Rattle.vcd_model.specs.Items.{BodyItem}
+use Rattle.std.proofs.Common.{◌≡◌, true, false, Some, [], ◌∷◌, ◌++◌, refl, sym, ap, subst, slice_get, ◌∙◌}
+use Rattle.vcd_model.specs.Items.{BodyItem, entry_after}
+use Rattle.vcd_body.specs.Items.{regs_after}
+use Rattle.vcd_body.specs.declared.item.Regs.{Regs}
+use Rattle.vcd_body.proofs.Results.{if_ok_more}
+use Rattle.vcd_engine.specs.ItemText.{LastTells, times_with}
+use Rattle.vcd_engine.specs.Cut.{kept_from, may_be_kept}
 use Rattle.vcd_text.proofs.Writes.{appends-none}
 use Rattle.vcd_view.specs.declared.view.Code.{Code}
 use Rattle.vcd_body.specs.Given.{HasGoodText, IsText}
 use Rattle.vcd_body.specs.declared.item.Item.{Item}
 use Rattle.vcd_body.specs.Given.{IsItem}
 use Rattle.vcd_engine.specs.Values.{AreHeld}
-use Rattle.vcd_engine.proofs.CutLemmas.{item_held, none_before}
+use Rattle.vcd_engine.proofs.CutLemmas.{due_item, item_held, item_kept, item_passed, item_tells, item_time, kept_is, none_before, none_due}
 use Rattle.vcd_engine.proofs.ValuesLemmas.{good_text, held_still, other_gives, set_holds}
 use Rattle.vcd_engine.proofs.machine.cut.Cut.take_other.Goals as goal
 
+pub returns-then-not-may_keep-clause-takes : goal.returns-then-not-may_keep-clause-takes
+returns-then-not-may_keep-clause-takes g c = λ h items before x views known re read few none is.
+    let m = c.args.self.now in
+    let started = c.if-self.true in
+    let not : may_be_kept c.args.view (regs_after before c.args.item) c.args.item ≡ false = ap (λ (r : Regs). may_be_kept c.args.view r c.args.item) (sym re) ∙ sym c.may_keep.ensures ∙ c.if-not-may_keep.true in
+    let k = sym (kept_is c.args.view h items before m c.args.text.now c.args.item x views known is read none started) ∙ not in
+    (([], none_due c.args.view h items before m c.args.text.now c.args.item x views known is read none k, appends-none (g.W.Sink.device c.args.out.now).held), item_passed c.args.view h items before m c.args.text.now c.args.item x views known is read none started k)
+
 pub returns-then-self-clause-takes : goal.returns-then-self-clause-takes
-returns-then-self-clause-takes g c = λ h items before x views known re read none is. c.put_kept.ensures.takes h items before x views known re read none is c.if-self.true
+returns-then-self-clause-takes g c = λ h items before x views known re read few none is.
+    let m = c.args.self.now in
+    let started = c.if-self.true in
+    let yes : may_be_kept c.args.view (regs_after before c.args.item) c.args.item ≡ true = ap (λ (r : Regs). may_be_kept c.args.view r c.args.item) (sym re) ∙ sym c.may_keep.ensures ∙ c.if-not-may_keep.false in
+    let k = sym (kept_is c.args.view h items before m c.args.text.now c.args.item x views known is read none started) ∙ yes in
+    let t = ap (λ (r : Regs). r.time) re ∙ item_time c.args.view h items before m c.args.text.now c.args.item x views known is read none in
+    let tells = item_tells c.args.view h items before m c.args.text.now c.args.item x views known is read none started in
+    let one = c.put.ensures.text h (m.from ∷ []) (kept_from m.from items) (entry_after items x) views read (sym t) (is.written started) (subst (λ n. LastTells (times_with (m.from ∷ []) (kept_from m.from items)) n) (sym t) tells) in (
+      due_item c.args.view h items before m c.args.text.now c.args.item x views known is read none _ started k one.0,
+      if_ok_more c.put.result _ _ (item_kept c.args.view h items before m c.args.text.now c.args.item x views known is read none _ started k) one.1,
+    )
 
 pub returns-in-Change-clause-takes : goal.returns-in-Change-clause-takes
-returns-in-Change-clause-takes g c = λ h items earlier x views known re read none is.
+returns-in-Change-clause-takes g c = λ h items earlier x views known re read few none is.
     let m = c.args.self.now in
     let place = c.in-Change.code in
     let form = c.in-Change.form in
@@ -31,14 +54,12 @@ returns-in-Change-clause-takes g c = λ h items earlier x views known re read no
 
 pub returns-in_default : goal.returns-in_default
 returns-in_default g c = record {
-  takes = λ h items before x views known re read none is.
+  takes = λ h items before x views known re read few none is.
       let m = c.args.self.now in
       let held = held_still m.table h items x (other_gives h.codes c.args.text.now c.args.item x read c.in_default.not-Change) (is.held c.if-self.false) in (
         ([], none_before c.args.view h items before m c.args.text.now c.args.item x views known is read none c.if-self.false, appends-none (g.W.Sink.device c.args.out.now).held),
         item_held c.args.view h items before m c.args.text.now c.args.item x views known is read none m.table c.if-self.false held,
       );
   counts = refl;
-  stays = λ begun. begun;
-  span = refl;
-  room = refl;
+  same = (refl, refl);
 }

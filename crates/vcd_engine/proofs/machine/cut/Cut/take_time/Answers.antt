@@ -20,7 +20,7 @@ returns-in_err-begin_by-clause-takes g c = λ h items views is.
 pub returns-then-time-self-clause-takes : goal.returns-then-time-self-clause-takes
 returns-then-time-self-clause-takes g c = λ h items views is.
     let m = c.args.self.now in
-    let span = c.in_ok-begin_by.ensures.span in
+    let span = c.in_ok-begin_by.ensures.same.0 in
     let same_from : c.begin_by.new.self.from ≡ m.from = cc in
     let same_to : c.begin_by.new.self.to ≡ m.to = cc in
     let low : c.args.time ≤ m.to = omega (arith, same_to, c.if-time-self.true) in
@@ -29,7 +29,7 @@ returns-then-time-self-clause-takes g c = λ h items views is.
 pub returns-in_err-close-clause-takes : goal.returns-in_err-close-clause-takes
 returns-in_err-close-clause-takes g c = λ h items views is.
     let m = c.args.self.now in
-    let span = c.in_ok-begin_by.ensures.span in
+    let span = c.in_ok-begin_by.ensures.same.0 in
     let same_to : c.begin_by.new.self.to ≡ m.to = cc in
     let high : m.to < c.args.time = omega (arith, same_to, c.if-time-self.false) in
     let e : c.from_residual-in_err-close.result ≡ Err c.in_err-close.field-0.0 = search rules in
@@ -46,7 +46,7 @@ returns-in_err-close-clause-takes g c = λ h items views is.
 pub returns-clause-takes : goal.returns-clause-takes
 returns-clause-takes g c = λ h items views is.
     let m = c.args.self.now in
-    let span = c.in_ok-begin_by.ensures.span in
+    let span = c.in_ok-begin_by.ensures.same.0 in
     let same_to : c.begin_by.new.self.to ≡ m.to = cc in
     let high : m.to < c.args.time = omega (arith, same_to, c.if-time-self.false) in
     let done : Result Bool WriteFailed = Ok true in

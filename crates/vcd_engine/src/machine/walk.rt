@@ -1,0 +1,245 @@
+//! The loop over the items that lie ahead in a feed's chunk: one for all commands.
+ghost use Rattle.std.specs.Prelude.{◌≡◌, ℕ, ◌-◌, ◌^◌, ◌<◌, ◌≤◌, Bool, length, true, false, IfOk, MatchOption};
+ghost use Rattle.vcd_text.specs.Ahead.{bytes_of, passed_of};
+ghost use Rattle.vcd_text.specs.Device.{Counts};
+ghost use Rattle.vcd_engine.specs.Ahead.{RunsOver};
+ghost use Rattle.vcd_engine.specs.Next.{HasFound, HasLine, TakesChange, TakesMark, TakesNext};
+ghost use Rattle.vcd_engine.specs.Pieces.{IsInPlace, IsLine, IsPart};
+ghost use Rattle.vcd_engine.specs.Room.{SameTask};
+
+use crate::gathered::Gathered;
+use crate::pieces::{InPlace, Pieces, line_of_mark};
+use vcd_body::{
+    First, Plain, Regs, mark_ahead, opening_ahead, real_ahead, scalar_ahead, time_ahead,
+    vector_ahead, vector_tokens_ahead,
+};
+use vcd_text::{Ahead, Sink, WriteFailed};
+use vcd_view::HeadView;
+
+/// How far the loop has come.
+#[derive(Clone, Copy)]
+pub(crate) struct Walk<'a> {
+    pub(crate) ahead: Ahead<'a>,
+    /// The registers after the items so far.
+    pub(crate) regs: Regs,
+    /// Where the line of the last time begins, if it stands just before the next item; else where
+    /// that begins.
+    pub(crate) line: usize,
+}
+
+/// How the loop has ended.
+#[derive(Clone, Copy)]
+pub(crate) struct Taken {
+    /// The bytes in which the items that were taken lie.
+    pub(crate) passed: usize,
+    /// The registers after them.
+    pub(crate) regs: Regs,
+    /// Whether a write of what is due with them failed.
+    pub(crate) written: Result<(), WriteFailed>,
+}
+
+impl Taken {
+    #[inline(always)]
+    fn until(walk: Walk<'_>, written: Result<(), WriteFailed>) -> Taken
+        ensures passed { result.passed ≡ passed_of walk.entry.ahead }
+        ensures regs { result.regs ≡ walk.entry.regs }
+        ensures written { result.written ≡ written }
+    {
+        Taken {
+            passed: walk.ahead.passed(),
+            regs: walk.regs,
+            written,
+        }
+    }
+}
+
+/// A loop in which a command counts changes or keeps their values, and writes nothing.
+pub(crate) struct Keeping;
+
+/// A loop in which a command copies changes from the chunk.
+pub(crate) struct Copying;
+
+/// What a command does with the items that lie ahead, in a loop of the kind `L`. None of them ends
+/// the run.
+pub(crate) trait Command<L> {
+    ghost use Rattle.vcd_engine.specs.declared.machine.Machine.{Machine};
+
+    // The machine that it is.
+    ghost machine: { Self → Machine };
+
+    // It may run in such a loop.
+    ghost is_ready: { Self → Bool };
+
+    // A mark of this time is not taken in the loop.
+    ghost is_left: { Self → ℕ → Bool };
+
+    /// Whether a mark of this time is left to `Machine::take`, since it ends the run, or something
+    /// is due with it.
+    fn leaves(&self, time: u64) -> bool
+        ensures { result ≡ is_left self.now time };
+
+    /// Takes a mark of this time, with which nothing is due.
+    fn take_mark(&mut self, time: u64)
+        requires ready { is_ready self.old ≡ true }
+        requires left { is_left self.old time ≡ false }
+        ensures takes { TakesMark time (machine self.old) (machine self.new) }
+        ensures ready { is_ready self.new ≡ true }
+        ensures same { SameTask (machine self.old) (machine self.new) };
+
+    /// Takes a change, and puts what is due after it behind the text that is held. The registers
+    /// are those after it.
+    fn take_change<W: Sink>(
+        &mut self,
+        view: HeadView<'_>,
+        regs: Regs,
+        change: InPlace<'_>,
+        pieces: &mut Pieces<'_>,
+        out: &mut W,
+    ) -> Result<(), WriteFailed>
+        requires failures { (W.device out.old).failures < 2 ^ 64 - 1 }
+        requires ready { is_ready self.old ≡ true }
+        requires place { IsInPlace view change }
+        requires line { IsLine change.bytes.now change.line change.from regs.time }
+        requires part { IsPart change.bytes.now pieces.old }
+        ensures takes { TakesChange view.entry regs change.entry pieces.old pieces.new
+            (W.device out.old) (W.device out.new) (machine self.old) (machine self.new) result }
+        ensures counts { Counts (W.device out.old) (W.device out.new) result }
+        ensures part { IfOk result (λ _. IsPart change.entry.bytes.now pieces.new) }
+        ensures ready { is_ready self.new ≡ true }
+        ensures same { SameTask (machine self.old) (machine self.new) };
+}
+
+/// Takes a change that was found ahead, up to this place.
+#[inline(always)]
+fn take_found<'a, L, C: Command<L>, W: Sink>(
+    command: &mut C,
+    view: HeadView<'_>,
+    walk: &mut Walk<'a>,
+    plain: Plain<'_>,
+    next: Ahead<'a>,
+    pieces: &mut Pieces<'_>,
+    out: &mut W,
+) -> Result<(), WriteFailed>
+    requires failures { (W.device out.old).failures < 2 ^ 64 - 1 }
+    requires ready { C.is_ready command.old ≡ true }
+    requires found { HasFound view walk.old next plain }
+    requires part { IsPart (bytes_of walk.old.ahead) pieces.old }
+    ensures next { TakesNext view.entry walk.old walk.new pieces.old pieces.new
+        (W.device out.old) (W.device out.new) (C.machine command.old) (C.machine command.new) result }
+    ensures ready { C.is_ready command.new ≡ true }
+{
+    let change = InPlace {
+        plain,
+        bytes: next.bytes(),
+        from: walk.ahead.passed(),
+        to: next.passed(),
+        line: walk.line,
+    };
+    walk.ahead = next;
+    walk.line = change.to;
+    command.take_change(view, walk.regs, change, pieces, out)
+}
+
+/// Takes the next item that lies ahead. None where it takes none, and then nothing has changed.
+// What begins the item, and whether its digits are known to be 0 and 1, is asked once: what is done
+// with it follows in each arm.
+#[inline(always)]
+fn take_next<L, C: Command<L>, W: Sink>(
+    command: &mut C,
+    view: HeadView<'_>,
+    walk: &mut Walk<'_>,
+    pieces: &mut Pieces<'_>,
+    out: &mut W,
+) -> Option<Result<(), WriteFailed>>
+    requires failures { (W.device out.old).failures < 2 ^ 64 - 1 }
+    requires ready { C.is_ready command.old ≡ true }
+    requires line { HasLine walk.old }
+    requires part { IsPart (bytes_of walk.old.ahead) pieces.old }
+    ensures next { MatchOption result
+        ((command.new ≡ command.old) × (walk.new ≡ walk.old) × (pieces.new ≡ pieces.old)
+        × (W.device out.new ≡ W.device out.old))
+        (TakesNext view.entry walk.old walk.new pieces.old pieces.new
+        (W.device out.old) (W.device out.new) (C.machine command.old) (C.machine command.new)) }
+    ensures ready { C.is_ready command.new ≡ true }
+{
+    let mut next = walk.ahead;
+    let opening = opening_ahead(&mut next)?;
+    let taken = match opening.first {
+        First::Bit => {
+            let plain = scalar_ahead(opening, next, view)?;
+            take_found(command, view, walk, plain, next, pieces, out)
+        }
+        First::Scalar => {
+            let plain = scalar_ahead(opening, next, view)?;
+            take_found(command, view, walk, plain, next, pieces, out)
+        }
+        First::Vector => {
+            let tokens = vector_tokens_ahead(opening, &mut next)?;
+            match tokens.bits {
+                Some(bits) => {
+                    let plain = vector_ahead(tokens, Some(bits), next, view)?;
+                    take_found(command, view, walk, plain, next, pieces, out)
+                }
+                None => {
+                    let plain = vector_ahead(tokens, None, next, view)?;
+                    take_found(command, view, walk, plain, next, pieces, out)
+                }
+            }
+        }
+        First::Mark => {
+            let time = time_ahead(opening)?;
+            if command.leaves(time) {
+                return None;
+            }
+            let mark = mark_ahead(opening, time, next, &mut walk.regs)?;
+            let from = walk.ahead.passed();
+            walk.line = line_of_mark(next.bytes(), from, next.passed(), mark.at);
+            walk.ahead = next;
+            command.take_mark(time);
+            Ok(())
+        }
+        First::Real => {
+            let plain = real_ahead(opening, &mut next, view)?;
+            take_found(command, view, walk, plain, next, pieces, out)
+        }
+        First::Other => return None,
+    };
+    Some(taken)
+}
+
+/// Takes the items that lie ahead, one after the other. What is due with them is copied in pieces,
+/// of which short ones are gathered in memory that is lent.
+// Registers and place come and go by value, so that the loop keeps them out of memory; and the loop
+// of each command is a function, so that none has less registers for what another one does.
+#[inline(never)]
+pub(crate) fn take_each<L, C: Command<L>, W: Sink>(
+    command: &mut C,
+    view: HeadView<'_>,
+    regs: Regs,
+    ahead: Ahead<'_>,
+    gathered: &mut Gathered,
+    out: &mut W,
+) -> Taken
+    requires failures { (W.device out.old).failures < 2 ^ 64 - 1 }
+    requires ready { C.is_ready command.old ≡ true }
+    requires within { passed_of ahead ≤ length (bytes_of ahead) }
+    ensures { RunsOver view.entry ahead.entry regs (C.machine command.old) (C.machine command.new)
+        (W.device out.old) (W.device out.new) result }
+{
+    let bytes = ahead.bytes();
+    let mut pieces = Pieces::new(gathered);
+    let mut walk = Walk {
+        ahead,
+        regs,
+        line: ahead.passed(),
+    };
+    'items: loop {
+        let Some(taken) = take_next(command, view, &mut walk, &mut pieces, out) else {
+            return Taken::until(walk, pieces.flush(bytes, out));
+        };
+        match taken {
+            Ok(()) => {}
+            Err(failed) => return Taken::until(walk, Err(failed)),
+        }
+    }
+}
