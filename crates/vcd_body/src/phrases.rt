@@ -1,12 +1,12 @@
 // The phrases of a body, by what they begin with.
-ghost use Rattle.std.specs.Prelude.{◌≡◌, ◌≢◌, ℕ, true, ◌+◌, ◌-◌, ◌^◌, ◌<◌, ◌≤◌, List, [], ◌∷◌, length, take, drop, Some, None, slice_get, OnOk, IfOk, IfErr, IfSome, MatchResult, ◌||◌, nat_le};
+ghost use Rattle.std.specs.Prelude.{◌≡◌, ◌≢◌, ℕ, true, ◌-◌, ◌^◌, ◌<◌, ◌≤◌, List, [], ◌∷◌, length, take, drop, Some, None, slice_get, OnOk, IfOk, IfErr, IfSome, MatchResult, ◌||◌, nat_le};
 ghost use Rattle.std.specs.List.{list_all};
 ghost use Rattle.vcd_model.specs.Input.{Input};
 ghost use Rattle.vcd_model.specs.Tokens.{Token};
 ghost use Rattle.vcd_model.specs.Keywords.{Keyword as Named, keyword_text};
 ghost use Rattle.vcd_model.specs.Declarations.{IdCode};
 ghost use Rattle.vcd_model.specs.Header.{Header};
-ghost use Rattle.vcd_model.specs.Items.{BodyItem, ChangeForm, time_after, leaves_open};
+ghost use Rattle.vcd_model.specs.Items.{BodyItem, ChangeForm, time_after};
 ghost use Rattle.vcd_model.specs.BodyPhrases.{BodyPhrase, declared_code, is_value_digit, items_of};
 ghost use Rattle.vcd_model.specs.Reading.{Placed, phrases_of};
 ghost use Rattle.vcd_text.specs.Feed.{source_of, seen, token_of, value_of};

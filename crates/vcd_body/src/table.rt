@@ -1,6 +1,6 @@
 //! The current values of the codes of a header, in lent slices.
 ghost use Rattle.std.specs.Prelude.{◌≡◌, ℕ, ◌<◌, ◌≤◌, length};
-ghost use Rattle.vcd_body.specs.Kept.{Held, as_chosen, differs, digit_in, IsStep, one_more, real_text, with_change, with_number, with_number_change, with_step, with_text};
+ghost use Rattle.vcd_body.specs.Kept.{as_chosen, differs, digit_in, IsStep, one_more, real_text, with_change, with_number, with_number_change, with_step, with_text};
 ghost use Rattle.vcd_body.specs.Stored.{room_of};
 
 use crate::bits::{Bits, put_digits};
@@ -29,7 +29,7 @@ pub struct Table<'a> {
 }
 
 impl<'a> Table<'a> {
-    ghost use Rattle.std.specs.Prelude.{Some, false, option_map, slice_get};
+    ghost use Rattle.std.specs.Prelude.{Some, false, slice_get};
     ghost use Rattle.vcd_view.specs.declared.view.Code.{Code};
     ghost use Rattle.vcd_model.specs.Values.{value_with};
     ghost use Rattle.vcd_body.specs.Items.{model_form};

@@ -5,7 +5,7 @@ ghost use Rattle.vcd_model.specs.Tokens.{Token};
 ghost use Rattle.vcd_model.specs.Declarations.{IdCode};
 ghost use Rattle.vcd_model.specs.BodyPhrases.{BodyPhrase};
 ghost use Rattle.vcd_model.specs.Reading.{Placed};
-ghost use Rattle.vcd_text.specs.Feed.{source_of, seen, token_of, value_of};
+ghost use Rattle.vcd_text.specs.Feed.{source_of, seen, value_of};
 ghost use Rattle.vcd_body.specs.Reads.{FailsAfter, Looks, Reads, ReadsAll};
 ghost use Rattle.vcd_text.specs.Advances.{Advances};
 ghost use Rattle.vcd_body.specs.Fault.{call_end};

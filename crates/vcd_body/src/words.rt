@@ -1,8 +1,8 @@
 // What tokens of a body are.
-ghost use Rattle.std.specs.Prelude.{◌≡◌, ℕ, ◌+◌, ◌<◌, ◌≤◌, length, slice_index, slice_range, true, List, drop, take, ◌∷◌, ◌^◌, ◌&&◌, not, nat_lt, cond, Some, None, bytes_eq, ◌-◌, ◌/◌, ◌%◌, IfSome};
+ghost use Rattle.std.specs.Prelude.{◌≡◌, ℕ, ◌+◌, ◌<◌, ◌≤◌, length, slice_index, slice_range, true, List, drop, take, ◌∷◌, ◌^◌, ◌&&◌, not, Some, None, bytes_eq, ◌-◌, ◌/◌, ◌%◌, IfSome};
 ghost use Rattle.std.specs.List.{list_all};
 ghost use Rattle.std.specs.Int.{bit_at};
-ghost use Rattle.vcd_model.specs.Bytes.{is_decimal, decimal_value, is_empty};
+ghost use Rattle.vcd_model.specs.Bytes.{is_empty};
 ghost use Rattle.vcd_model.specs.BodyPhrases.{is_value_digit as is_digit};
 ghost use Rattle.vcd_model.specs.Keywords.{is_end as ends};
 ghost use Rattle.std.specs.Str.{byte};
