@@ -3,13 +3,7 @@ ghost use Rattle.std.specs.Prelude.{◌≡◌, ◌≢◌, ℕ, ◌+◌, ◌-◌,
 ghost use Rattle.std.specs.Int.{bit_at};
 ghost use Rattle.std.specs.Char.{to_ascii_lowercase as lower};
 ghost use Rattle.std.specs.Str.{byte, str_to_ascii_lowercase};
-ghost use Rattle.vcd_model.specs.Bytes.{is_white_space};
-ghost use Rattle.vcd_model.specs.Header.{Header};
-ghost use Rattle.vcd_model.specs.Items.{BodyItem};
-ghost use Rattle.vcd_model.specs.ItemText.{item_line, time_line};
-ghost use Rattle.vcd_model.specs.Values.{extend, short};
-ghost use Rattle.vcd_view.specs.Views.{IsViewOf};
-ghost use Rattle.vcd_view.specs.declared.view.HeadView.{HeadView};
+ghost use Rattle.vcd_body.specs.Names.{BodyItem, HeadView, Header, IsViewOf, extend, is_white_space, item_line, short, time_line};
 ghost use Rattle.vcd_body.specs.Ahead.{HasBits, IsSizedItem};
 ghost use Rattle.vcd_body.specs.Binary.{binary_digits, bit_of};
 ghost use Rattle.vcd_body.specs.Changes.{AreBitsAt, IsNeedless};
