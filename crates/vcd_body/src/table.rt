@@ -192,7 +192,7 @@ impl<'a> Table<'a> {
     }
 
     /// Sets the value of the code at a place to binary digits, and counts its step where it
-    /// differs, whatever the value was: follows their text, and then holds them as their number.
+    /// differs, whatever the value was.
     #[inline(never)]
     fn follow_any_bits(&mut self, code: usize, size: usize, bits: Bits)
         ensures keeps { KeepsTable self.old self.new }
@@ -202,8 +202,11 @@ impl<'a> Table<'a> {
         let mut block = [0u8; 32];
         let text = &mut block[..bits.len];
         put_digits(bits, text);
-        self.follow_any(code, size, Form::Vector, text);
+        let step = self.step_to(code, size, Form::Vector, text);
         self.set_value(code, Value::Bits(bits));
+        if step.differs {
+            self.count(code, step.rises, step.falls);
+        }
     }
 
     /// Returns the step from the value of the code at a place to that of a text. Where there is no
