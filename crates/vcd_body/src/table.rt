@@ -1,6 +1,6 @@
 //! The current values of the codes of a header, in lent slices.
 ghost use Rattle.std.specs.Prelude.{◌≡◌, ℕ, ◌<◌, ◌≤◌, length};
-ghost use Rattle.vcd_body.specs.Kept.{as_chosen, differs, digit_in, IsStep, one_more, real_text, with_change, with_number, with_number_change, with_step, with_text};
+ghost use Rattle.vcd_body.specs.Kept.{as_chosen, differs, digit_in, IsStep, one_more, real_text, with_change, with_number_change, with_step, with_text};
 ghost use Rattle.vcd_body.specs.Stored.{room_of};
 
 use crate::bits::{Bits, put_digits};
@@ -36,7 +36,7 @@ impl<'a> Table<'a> {
     ghost use Rattle.vcd_body.specs.Kept.{Kept, unset, value_at_size};
     ghost use Rattle.vcd_body.specs.Stored.{holding_at, share_of};
     ghost use Rattle.vcd_body.specs.Values.{form_in, text_in, with_value, with_value_change};
-    ghost use Rattle.vcd_body.specs.Contents.{ChangesCode, GivesValue, IsLaidOut, KeepsTable, bytes_in, codes_in, codes_shown, counts_at, held_at, is_chosen, kept_at, new_at, shown_as, value_in};
+    ghost use Rattle.vcd_body.specs.Contents.{ChangesCode, GivesValue, IsLaidOut, KeepsTable, SetsNumber, bytes_in, codes_in, codes_shown, counts_at, held_at, is_chosen, kept_at, new_at, shown_as, value_in};
 
     /// Returns a table of the codes of the header that is shown: each is unset, its counters are 0,
     /// and it is not chosen. A code's value has a quarter of its size of the bytes of `values`,
@@ -94,7 +94,7 @@ impl<'a> Table<'a> {
         ensures changes { IsLaidOut self.old
             → ChangesCode code (with_value value.entry) self.old self.new }
         ensures bits { (b : Bits) → value.entry ≡ Value.Bits b
-            → ChangesCode code (with_number b.len b.number) self.old self.new }
+            → SetsNumber code b self.old self.new }
         ensures as_text { IsLaidOut self.old → (k : Kept) → kept_at self.old code ≡ Some k
             → 8 ≤ k.room → ChangesCode code (with_text (form_in value.entry) (text_in value.entry))
             self.old self.new }

@@ -1,5 +1,5 @@
 // What tokens of a body are.
-ghost use Rattle.std.specs.Prelude.{◌≡◌, ℕ, ◌+◌, ◌<◌, ◌≤◌, length, slice_index, slice_range, true, List, drop, take, ◌∷◌, ◌^◌, ◌&&◌, not, Some, None, bytes_eq, ◌-◌, ◌/◌, ◌%◌, IfSome};
+ghost use Rattle.std.specs.Prelude.{◌≡◌, ℕ, ◌+◌, ◌<◌, ◌≤◌, length, slice_index, true, List, drop, take, ◌∷◌, ◌^◌, ◌&&◌, not, Some, None, bytes_eq, ◌-◌, ◌/◌, ◌%◌, IfSome};
 ghost use Rattle.std.specs.List.{list_all};
 ghost use Rattle.std.specs.Int.{bit_at};
 ghost use Rattle.vcd_model.specs.Bytes.{is_empty};
