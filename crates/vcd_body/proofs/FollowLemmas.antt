@@ -38,6 +38,13 @@ pub changed_to : (s : Step) (size l n : ℕ) (k : Kept) → IsStep s (value_at_s
     → with_number_change size l n k ≡ cond s.differs (with_step s.rises s.falls (with_number l n k)) (with_number l n k)
 changed_to s size l n k is = rw (is.0, is.1, is.2) refl
 
+-- the step to binary digits that were put as a text
+pub step_put : (old : Option Value) (s : Step) (l n size : ℕ) (text : List ℕ) → text ≡ binary_digits l n → 1 ≤ l → (0 < length text → IsStep s old (value_with size (model_form form.Vector) text)) → IsStep s old (value_with size (model_form form.Vector) (binary_digits l n))
+step_put old s l n size text is some step =
+    let count = length_binary l n in
+    let long = ap length is in
+    subst (λ (t : List ℕ). IsStep s old (value_with size (model_form form.Vector) t)) is (step (omega (arith, count, long, some)))
+
 -- one change after another of the same code
 pub change_twice : (code : ℕ) (f g : Kept → Kept) (v1 v2 v3 : List ℕ) (s1 s2 s3 : List Slot) (h1 h2 h3 : List Share) → ChangesAt code f v1 s1 h1 v2 s2 h2 → ChangesAt code g v2 s2 h2 v3 s3 h3 → ChangesAt code (λ k. g (f k)) v1 s1 h1 v3 s3 h3
 change_twice code f g v1 v2 v3 s1 s2 s3 h1 h2 h3 a b = λ p. b p ∙ ap (λ (o : Option Kept). cond (p == code) (option_map g o) o) (a p) ∙ by_case (p == code) (kept_in v1 s1 h1 p)
@@ -207,21 +214,19 @@ set_and_counted old mid new code size f text s sets some is differed counts =
     (λ k at. sym (changed_by s size f text k some (subst (λ (h : Held). IsStep s (value_at_size size h) (value_with size (model_form f) text)) (held_is old code k at) is) ∙ ap (λ (b : Bool). cond b (with_step s.rises s.falls (with_text f text k)) (with_text f text k)) differed))
     (change_twice code (with_text f text) (with_step s.rises s.falls) old.values.now mid.values.now new.values.now old.slots.now mid.slots.now new.slots.now old.shares.now mid.shares.now new.shares.now sets counts)
 
--- binary digits that are held as their number, after their text was followed
-pub number_over : (size l n : ℕ) (k : Kept) → 1 ≤ l → with_number l n (with_change size form.Vector (binary_digits l n) k) ≡ with_number_change size l n k
-number_over size l n k some =
-    let c = length_binary l n in
-    ap (λ (b : Bool). with_number l n (cond b (with_counted (value_at_size size k.held) (value_with size (model_form form.Vector) (binary_digits l n)) (with_text form.Vector (binary_digits l n) k)) k)) (lt-ltb 0 (length (binary_digits l n)) (omega (arith, c, some)))
-    ∙ by_case (differs (value_at_size size k.held) (value_with size (model_form form.Vector) (binary_digits l n))) (goes_from 48 49 (last_digit_in (value_at_size size k.held)) (last_digit_in (Some (value_with size (model_form form.Vector) (binary_digits l n))))) (goes_from 49 48 (last_digit_in (value_at_size size k.held)) (last_digit_in (Some (value_with size (model_form form.Vector) (binary_digits l n)))))
-  where
-    by_case : (b rises falls : Bool) → with_number l n (cond b (with_step rises falls (with_text form.Vector (binary_digits l n) k)) (with_text form.Vector (binary_digits l n) k)) ≡ cond b (with_step rises falls (with_number l n k)) (with_number l n k)
-    by_case true rises falls = refl
-    by_case false rises falls = refl
+-- the same of binary digits
+pub number_and_counted : (old mid new : Table) (code size l n : ℕ) (s : Step) → ChangesCode code (with_number l n) old mid → IsStep s (value_at_size size (held_at old code)) (value_with size (model_form form.Vector) (binary_digits l n)) → s.differs ≡ true
+    → ChangesCode code (with_step s.rises s.falls) mid new → ChangesCode code (with_number_change size l n) old new
+number_and_counted old mid new code size l n s sets is differed counts =
+    change_as code (λ k. with_step s.rises s.falls (with_number l n k)) (with_number_change size l n) old.values.now new.values.now old.slots.now new.slots.now old.shares.now new.shares.now
+    (λ k at. sym (changed_to s size l n k (subst (λ (h : Held). IsStep s (value_at_size size h) (value_with size (model_form form.Vector) (binary_digits l n))) (held_is old code k at) is) ∙ ap (λ (b : Bool). cond b (with_step s.rises s.falls (with_number l n k)) (with_number l n k)) differed))
+    (change_twice code (with_number l n) (with_step s.rises s.falls) old.values.now mid.values.now new.values.now old.slots.now mid.slots.now new.slots.now old.shares.now mid.shares.now new.shares.now sets counts)
 
-pub number_followed : (old mid new : Table) (code size l n : ℕ) → 1 ≤ l → ChangesCode code (with_change size form.Vector (binary_digits l n)) old mid → ChangesCode code (with_number l n) mid new → ChangesCode code (with_number_change size l n) old new
-number_followed old mid new code size l n some follows sets =
-    change_as code (λ k. with_number l n (with_change size form.Vector (binary_digits l n) k)) (with_number_change size l n) old.values.now new.values.now old.slots.now new.slots.now old.shares.now new.shares.now (λ k at. number_over size l n k some)
-    (change_twice code (with_change size form.Vector (binary_digits l n)) (with_number l n) old.values.now mid.values.now new.values.now old.slots.now mid.slots.now new.slots.now old.shares.now mid.shares.now new.shares.now follows sets)
+pub number_alone : (old new : Table) (code size l n : ℕ) (s : Step) → ChangesCode code (with_number l n) old new → IsStep s (value_at_size size (held_at old code)) (value_with size (model_form form.Vector) (binary_digits l n)) → s.differs ≡ false
+    → ChangesCode code (with_number_change size l n) old new
+number_alone old new code size l n s sets is stayed =
+    change_as code (with_number l n) (with_number_change size l n) old.values.now new.values.now old.slots.now new.slots.now old.shares.now new.shares.now
+    (λ k at. sym (changed_to s size l n k (subst (λ (h : Held). IsStep s (value_at_size size h) (value_with size (model_form form.Vector) (binary_digits l n))) (held_is old code k at) is) ∙ ap (λ (b : Bool). cond b (with_step s.rises s.falls (with_number l n k)) (with_number l n k)) stayed)) sets
 
 -- one call after another
 pub keeps_twice : (old mid new : Table) → KeepsTable old mid → KeepsTable mid new → KeepsTable old new

@@ -1,4 +1,5 @@
 pub mod Fault
+pub mod Names
 pub mod Items
 pub mod Words
 pub mod Reads

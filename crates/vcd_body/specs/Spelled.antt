@@ -59,3 +59,8 @@ HasSpelled v bytes from to at code_at text item = Unit {0}
 -- the bytes from one place up to another, without so many behind the first one
 abbrev pub bytes_without : List ℕ → ℕ → ℕ → ℕ → List ℕ
 bytes_without bytes from to n = slice_range bytes from (from + 1) ++ slice_range bytes (from + 1 + n) to
+
+-- a text stands at a place of these bytes
+pub record StandsAt (bytes : List ℕ) (at : ℕ) (text : List ℕ) : Type 0 where
+  pub within : at ≤ length bytes
+  pub place : text ≡ slice_range bytes at (at + length text)

@@ -1,15 +1,6 @@
 // Items whose tokens lie whole ahead in the chunk: most cost no change of the feed.
-ghost use Rattle.std.specs.Prelude.{◌≡◌, ◌⊎◌, ℕ, ◌+◌, ◌<◌, ◌≤◌, ◌^◌, List, [], ◌∷◌, ◌++◌, drop, length, slice_get, slice_range, true, is_some, None, Some, IfSome, MatchOption};
-ghost use Rattle.vcd_model.specs.Input.{Input};
-ghost use Rattle.vcd_model.specs.Tokens.{Token};
-ghost use Rattle.vcd_model.specs.Header.{Header};
-ghost use Rattle.vcd_model.specs.Declarations.{IdCode};
-ghost use Rattle.vcd_model.specs.Items.{BodyItem};
-ghost use Rattle.vcd_view.specs.Views.{IsViewOf};
-ghost use Rattle.vcd_text.specs.Ahead.{ahead_of, bytes_of, lines_of, longest_of, passed_of};
-ghost use Rattle.vcd_text.specs.Passed.{Passed};
-ghost use Rattle.vcd_text.specs.Feed.{limit_of, seen, source_of};
-ghost use Rattle.vcd_text.specs.Advances.{Advances, CallEnd};
+ghost use Rattle.std.specs.Prelude.{◌≡◌, ◌⊎◌, ℕ, ◌+◌, ◌<◌, ◌≤◌, ◌^◌, List, [], ◌∷◌, ◌++◌, drop, length, slice_range, true, is_some, None, Some, IfSome, MatchOption};
+ghost use Rattle.vcd_body.specs.Names.{Advances, BodyItem, CallEnd, HeadView, Header, IdCode, Input, IsViewOf, Passed, Token, ahead_of, bytes_of, limit_of, lines_of, longest_of, passed_of, seen, source_of};
 ghost use Rattle.vcd_body.specs.declared.item.Form.TheVariants as form;
 ghost use Rattle.vcd_body.specs.declared.item.Item.TheVariants as item;
 ghost use Rattle.vcd_body.specs.declared.words.First.TheVariants as first;
@@ -21,7 +12,6 @@ ghost use Rattle.vcd_body.specs.Given.{HasGoodText, IsItem};
 ghost use Rattle.vcd_body.specs.Ahead.{GaveAhead, GaveLast, HasBits, IsPlain, IsSizedItem, LooksOver};
 ghost use Rattle.vcd_body.specs.Spelled.{HasSpelled};
 ghost use Rattle.vcd_body.specs.Taken.{HasTime, IsFound, Opens, OpensVector, TakesItem};
-ghost use Rattle.vcd_view.specs.declared.view.HeadView.{HeadView};
 
 use crate::bits::Bits;
 use crate::item::{Form, Item, Regs};

@@ -1,7 +1,7 @@
 // Whether a change gives a code another value than it has.
-ghost use Rattle.std.specs.Prelude.{◌≡◌, ◌≢◌, ◌≤◌, ◌<◌, ℕ, length, map, true, not, get_or};
+ghost use Rattle.std.specs.Prelude.{◌≡◌, ◌≤◌, ◌<◌, length, map, true, get_or};
 ghost use Rattle.std.specs.Bool.{Decides};
-ghost use Rattle.std.specs.Str.{bytes_eq, str_to_ascii_lowercase};
+ghost use Rattle.std.specs.Str.{str_to_ascii_lowercase};
 ghost use Rattle.vcd_model.specs.Values.{extend, extension, value_with};
 ghost use Rattle.vcd_body.specs.Items.{model_form};
 ghost use Rattle.vcd_body.specs.Kept.{AreTwo, Held, are_two, differs, value_at_size};

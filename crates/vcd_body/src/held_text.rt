@@ -1,9 +1,6 @@
 // The value that is held, as it is written.
-ghost use Rattle.std.specs.Prelude.{◌≡◌, ◌≢◌, ℕ, ◌+◌, ◌-◌, ◌^◌, ◌<◌, ◌≤◌, ◌++◌, ◌∷◌, [], Bool, drop, get_or, take, length, replicate};
-ghost use Rattle.vcd_model.specs.Cut.{line_if_set};
-ghost use Rattle.vcd_model.specs.Sample.{shown};
-ghost use Rattle.vcd_model.specs.Values.{extend, short};
-ghost use Rattle.vcd_text.specs.Device.{Counts, Puts, Takes, failures_after};
+ghost use Rattle.std.specs.Prelude.{◌≡◌, ℕ, ◌+◌, ◌-◌, ◌^◌, ◌<◌, ◌≤◌, ◌++◌, ◌∷◌, [], Bool, drop, get_or, take, length, replicate};
+ghost use Rattle.vcd_body.specs.Names.{Counts, Puts, Takes, extend, line_if_set, short, shown};
 ghost use Rattle.vcd_body.specs.Kept.{value_at_size};
 ghost use Rattle.vcd_body.specs.Stored.{HoldsIn, digits_with, held_line, held_with, used};
 

@@ -1,7 +1,7 @@
 // Changes as they are written, under a code of a header or a new one.
 ghost use Rattle.std.specs.Prelude.{◌≡◌, ◌≢◌, ◌-◌, ◌^◌, ◌<◌, false, length};
 ghost use Rattle.vcd_body.specs.Changes.{line_under};
-ghost use Rattle.vcd_text.specs.Device.{Puts, failures_after};
+ghost use Rattle.vcd_text.specs.Device.{Puts};
 ghost use Rattle.vcd_body.specs.Id.{id_text};
 
 use crate::change::put_own_change;

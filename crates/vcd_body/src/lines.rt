@@ -3,18 +3,12 @@ ghost use Rattle.std.specs.Prelude.{◌≡◌, ◌≢◌, ℕ, ◌+◌, ◌-◌,
 ghost use Rattle.std.specs.Int.{bit_at};
 ghost use Rattle.std.specs.Char.{to_ascii_lowercase as lower};
 ghost use Rattle.std.specs.Str.{byte, str_to_ascii_lowercase};
-ghost use Rattle.vcd_model.specs.Bytes.{is_white_space};
-ghost use Rattle.vcd_model.specs.Header.{Header};
-ghost use Rattle.vcd_model.specs.Items.{BodyItem};
-ghost use Rattle.vcd_model.specs.ItemText.{item_line, time_line};
-ghost use Rattle.vcd_model.specs.Values.{extend, short};
-ghost use Rattle.vcd_view.specs.Views.{IsViewOf};
-ghost use Rattle.vcd_view.specs.declared.view.HeadView.{HeadView};
+ghost use Rattle.vcd_body.specs.Names.{BodyItem, HeadView, Header, IsViewOf, extend, is_white_space, item_line, short, time_line};
 ghost use Rattle.vcd_body.specs.Ahead.{HasBits, IsSizedItem};
 ghost use Rattle.vcd_body.specs.Binary.{binary_digits, bit_of};
 ghost use Rattle.vcd_body.specs.Changes.{AreBitsAt, IsNeedless};
 ghost use Rattle.vcd_body.specs.Given.{IsItem};
-ghost use Rattle.vcd_body.specs.Spelled.{HasChange, HasMark, HasSpelled, bytes_without};
+ghost use Rattle.vcd_body.specs.Spelled.{HasChange, HasMark, HasSpelled, StandsAt, bytes_without};
 ghost use Rattle.vcd_body.specs.declared.item.Form.TheVariants as form;
 
 use crate::ahead::Plain;
@@ -60,8 +54,7 @@ fn are_all_lower(digits: &[u8]) -> bool
 /// few: they are looked at at once.
 #[inline(always)]
 fn are_lower(bytes: &[u8], at: usize, digits: &[u8]) -> bool
-    requires within { at ≤ length bytes.now }
-    requires place { digits.now ≡ slice_range bytes.now at (at + length digits.now) }
+    requires { StandsAt bytes.now at digits.now }
     ensures { result ≡ true → str_to_ascii_lowercase digits.now ≡ digits.now }
 {
     let n = digits.len();
@@ -189,8 +182,7 @@ fn are_many_binary_at(bytes: &[u8], at: usize, n: usize) -> bool
 /// they are looked at at once, without a branch on how many zeros lead.
 #[inline(never)]
 fn needless(bytes: &[u8], at: usize, digits: &[u8]) -> Option<usize>
-    requires within { at ≤ length bytes.now }
-    requires place { digits.now ≡ slice_range bytes.now at (at + length digits.now) }
+    requires { StandsAt bytes.now at digits.now }
     ensures { IfSome result (IsNeedless digits.now) }
 {
     let n = digits.len();
@@ -204,8 +196,7 @@ fn needless(bytes: &[u8], at: usize, digits: &[u8]) -> Option<usize>
 /// in lower case or there is no digit. It looks at the digits one by one.
 #[inline(never)]
 fn needless_slowly(bytes: &[u8], at: usize, digits: &[u8]) -> Option<usize>
-    requires within { at ≤ length bytes.now }
-    requires place { digits.now ≡ slice_range bytes.now at (at + length digits.now) }
+    requires { StandsAt bytes.now at digits.now }
     ensures { IfSome result (IsNeedless digits.now) }
 {
     if digits.is_empty() {
@@ -222,8 +213,7 @@ fn needless_slowly(bytes: &[u8], at: usize, digits: &[u8]) -> Option<usize>
 /// that lead, without a branch on how many these are. None says nothing.
 #[inline(always)]
 fn left_out_of_64(bytes: &[u8], at: usize, digits: &[u8]) -> Option<usize>
-    requires within { at ≤ length bytes.now }
-    requires place { digits.now ≡ slice_range bytes.now at (at + length digits.now) }
+    requires { StandsAt bytes.now at digits.now }
     ensures { IfSome result (IsNeedless digits.now) }
 {
     if digits.len() == 64 && others_than_bits_64(bytes, at) == 0 {
@@ -236,8 +226,7 @@ fn left_out_of_64(bytes: &[u8], at: usize, digits: &[u8]) -> Option<usize>
 /// in lower case. The number of the digits may be known. Most values need all of their digits.
 #[inline(always)]
 fn left_out_of(bytes: &[u8], at: usize, digits: &[u8], bits: Option<Bits>) -> Option<usize>
-    requires within { at ≤ length bytes.now }
-    requires place { digits.now ≡ slice_range bytes.now at (at + length digits.now) }
+    requires { StandsAt bytes.now at digits.now }
     ensures { IfSome result (λ k. (k ≤ length digits.now)
         × (IfSome bits (λ b. digits.now ≡ binary_digits b.len b.number) → (size : ℕ)
         → drop k digits.now ≡ short (extend (str_to_ascii_lowercase digits.now) size))) }

@@ -2,7 +2,7 @@
 ghost use Rattle.std.specs.Prelude.{◌≡◌, ◌≢◌, ◌≤◌, ◌<◌, ◌+◌, ◌-◌, ◌*◌, ◌/◌, ◌==◌, ℕ, Some, get_or, length, map, slice_get, true};
 ghost use Rattle.std.specs.Simd.Lanes.{chunk};
 ghost use Rattle.vcd_body.specs.Kept.{AreTwo};
-ghost use Rattle.vcd_body.specs.Packed.{ArePacked, code_among, code_of, code_or, digit_of, digits_in, four_codes, held_digit, quarter_of};
+ghost use Rattle.vcd_body.specs.Packed.{ArePacked, MayPack, code_among, code_of, code_or, digit_of, digits_in, four_codes, held_digit, quarter_of};
 
 use std::simd::prelude::*;
 
@@ -245,9 +245,7 @@ fn pack_bits_16(share: &mut [u8], text: &[u8], quarter: usize, at: usize) -> u8x
 /// Packs the digits of each quarter, 16 places at a time, where the digits are 0 and 1 alone.
 /// Returns whether they are. Of the last 16 places some may have been packed before.
 fn pack_bits(share: &mut [u8], text: &[u8], quarter: usize) -> bool
-    requires room { quarter ≤ length share.old }
-    requires many { 16 ≤ quarter }
-    requires quarter { 3 * quarter ≤ length text.now }
+    requires { MayPack share.old text.now quarter }
     ensures { result ≡ true → ArePacked share.new text.now quarter }
 {
     let last = quarter - 16;
@@ -263,9 +261,7 @@ fn pack_bits(share: &mut [u8], text: &[u8], quarter: usize) -> bool
 /// Packs the digits of each quarter, 16 places at a time, whatever digits they are.
 #[inline(never)]
 fn pack_any(share: &mut [u8], text: &[u8], quarter: usize)
-    requires room { quarter ≤ length share.old }
-    requires many { 16 ≤ quarter }
-    requires quarter { 3 * quarter ≤ length text.now }
+    requires { MayPack share.old text.now quarter }
     ensures { ArePacked share.new text.now quarter }
 {
     let last = quarter - 16;
@@ -279,9 +275,7 @@ fn pack_any(share: &mut [u8], text: &[u8], quarter: usize)
 
 /// Packs the digits of each quarter, where a quarter has 16 or more. Most digits are 0 and 1 alone.
 fn pack_many(share: &mut [u8], text: &[u8], quarter: usize)
-    requires room { quarter ≤ length share.old }
-    requires many { 16 ≤ quarter }
-    requires quarter { 3 * quarter ≤ length text.now }
+    requires { MayPack share.old text.now quarter }
     ensures { ArePacked share.new text.now quarter }
 {
     if !pack_bits(share, text, quarter) {

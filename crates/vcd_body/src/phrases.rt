@@ -1,18 +1,8 @@
 // The phrases of a body, by what they begin with.
-ghost use Rattle.std.specs.Prelude.{◌≡◌, ◌≢◌, ℕ, true, ◌+◌, ◌-◌, ◌^◌, ◌<◌, ◌≤◌, List, [], ◌∷◌, length, take, drop, Some, None, slice_get, OnOk, IfOk, IfErr, IfSome, MatchResult, ◌||◌, nat_le};
+ghost use Rattle.std.specs.Prelude.{◌≡◌, ◌≢◌, ℕ, true, ◌-◌, ◌^◌, ◌<◌, ◌≤◌, List, [], ◌∷◌, length, take, drop, Some, None, slice_get, OnOk, IfOk, IfErr, IfSome, MatchResult, ◌||◌, nat_le};
 ghost use Rattle.std.specs.List.{list_all};
-ghost use Rattle.vcd_model.specs.Input.{Input};
-ghost use Rattle.vcd_model.specs.Tokens.{Token};
+ghost use Rattle.vcd_body.specs.Names.{Advances, BodyItem, BodyPhrase, ChangeForm, Code, Header, IdCode, Input, IsSized, IsViewOf, Placed, Token, declared_code, is_value_digit, items_of, phrases_of, seen, source_of, time_after, token_of, value_of};
 ghost use Rattle.vcd_model.specs.Keywords.{Keyword as Named, keyword_text};
-ghost use Rattle.vcd_model.specs.Declarations.{IdCode};
-ghost use Rattle.vcd_model.specs.Header.{Header};
-ghost use Rattle.vcd_model.specs.Items.{BodyItem, ChangeForm, time_after, leaves_open};
-ghost use Rattle.vcd_model.specs.BodyPhrases.{BodyPhrase, declared_code, is_value_digit, items_of};
-ghost use Rattle.vcd_model.specs.Reading.{Placed, phrases_of};
-ghost use Rattle.vcd_text.specs.Feed.{source_of, seen, token_of, value_of};
-ghost use Rattle.vcd_view.specs.Views.{IsViewOf};
-ghost use Rattle.vcd_view.specs.Finds.{IsSized};
-ghost use Rattle.vcd_view.specs.declared.view.Code.{Code};
 ghost use Rattle.vcd_body.specs.declared.words.First.TheVariants as first;
 ghost use Rattle.vcd_body.specs.Binary.{binary_digits};
 ghost use Rattle.vcd_body.specs.Items.{AreRegsAfter, regs_after};
@@ -22,7 +12,6 @@ ghost use Rattle.vcd_body.specs.Given.{IsGoodText};
 ghost use Rattle.vcd_body.specs.Spelled.{Names};
 ghost use Rattle.vcd_body.specs.declared.item.Form.TheVariants as form;
 ghost use Rattle.vcd_body.specs.declared.item.Item.TheVariants as item;
-ghost use Rattle.vcd_text.specs.Advances.{Advances};
 ghost use Rattle.vcd_body.specs.Fault.{call_end};
 
 use crate::bits::Bits;

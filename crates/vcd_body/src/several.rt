@@ -1,5 +1,5 @@
 // Several digits over several others, where the last of them tell that the value differs.
-ghost use Rattle.std.specs.Prelude.{◌≡◌, ◌≢◌, ◌-◌, ◌≤◌, ◌<◌, ℕ, IfSome, Some, length, take, drop, map, true, false};
+ghost use Rattle.std.specs.Prelude.{◌≡◌, ◌-◌, ◌≤◌, ◌<◌, ℕ, IfSome, Some, length, take, drop, map, true, false};
 ghost use Rattle.vcd_model.specs.Values.{Value, extend, value_with};
 ghost use Rattle.vcd_body.specs.Items.{model_form};
 ghost use Rattle.vcd_body.specs.Kept.{IsStep, bytes_for, goes_from, value_at_size, with_change};

@@ -1,10 +1,8 @@
 //! What a change of a value is, by its last digit.
-ghost use Rattle.std.specs.Prelude.{◌≡◌, ◌≢◌, ◌⊎◌, ◌<◌, ◌+◌, ◌%◌, ℕ, ◌==◌, length, true, not, Some};
-ghost use Rattle.std.specs.Char.{to_ascii_lowercase as lower};
+ghost use Rattle.std.specs.Prelude.{◌≡◌, ◌<◌, ◌+◌, ◌%◌, ℕ, ◌==◌, length, not, Some};
 ghost use Rattle.vcd_model.specs.Values.{value_with};
 ghost use Rattle.vcd_body.specs.Items.{model_form};
-ghost use Rattle.vcd_body.specs.Kept.{goes_from, is_digit, last_digit_in};
-ghost use Rattle.vcd_body.specs.Stored.{number_of, one_digit};
+ghost use Rattle.vcd_body.specs.Kept.{goes_from, last_digit_in};
 
 use crate::item::Form;
 

@@ -1,5 +1,5 @@
 // What is kept of each code, in lent slices: a slot, and a share of the values.
-ghost use Rattle.std.specs.Prelude.{◌≡◌, ◌≢◌, ◌⊎◌, ◌==◌, ℕ, cond, max, not, ◌+◌, ◌-◌, ◌*◌, ◌<◌, ◌≤◌, ◌∷◌, [], List, true, false, length, take, drop, map, sum_by, IfSome, None, Some, slice_get, slice_index, Bool};
+ghost use Rattle.std.specs.Prelude.{◌≡◌, ◌≢◌, ◌==◌, ℕ, max, ◌+◌, ◌-◌, ◌*◌, ◌<◌, ◌≤◌, ◌∷◌, [], List, true, false, length, take, drop, map, IfSome, None, Some, slice_get, Bool};
 ghost use Rattle.vcd_view.specs.declared.view.Code.{Code};
 ghost use Rattle.vcd_body.specs.Binary.{is_proper};
 ghost use Rattle.vcd_body.specs.Kept.{Held, as_chosen, one_more, with_change, with_held, with_number, with_number_change, with_step, with_text};

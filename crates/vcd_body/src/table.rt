@@ -1,6 +1,6 @@
 //! The current values of the codes of a header, in lent slices.
 ghost use Rattle.std.specs.Prelude.{◌≡◌, ℕ, ◌<◌, ◌≤◌, length};
-ghost use Rattle.vcd_body.specs.Kept.{Held, as_chosen, differs, digit_in, IsStep, one_more, real_text, with_change, with_number, with_number_change, with_step, with_text};
+ghost use Rattle.vcd_body.specs.Kept.{as_chosen, differs, digit_in, IsStep, one_more, real_text, with_change, with_number_change, with_step, with_text};
 ghost use Rattle.vcd_body.specs.Stored.{room_of};
 
 use crate::bits::{Bits, put_digits};
@@ -29,14 +29,14 @@ pub struct Table<'a> {
 }
 
 impl<'a> Table<'a> {
-    ghost use Rattle.std.specs.Prelude.{Some, false, option_map, slice_get};
+    ghost use Rattle.std.specs.Prelude.{Some, false, slice_get};
     ghost use Rattle.vcd_view.specs.declared.view.Code.{Code};
     ghost use Rattle.vcd_model.specs.Values.{value_with};
     ghost use Rattle.vcd_body.specs.Items.{model_form};
     ghost use Rattle.vcd_body.specs.Kept.{Kept, unset, value_at_size};
     ghost use Rattle.vcd_body.specs.Stored.{holding_at, share_of};
     ghost use Rattle.vcd_body.specs.Values.{form_in, text_in, with_value, with_value_change};
-    ghost use Rattle.vcd_body.specs.Contents.{ChangesCode, GivesValue, IsLaidOut, KeepsTable, bytes_in, codes_in, codes_shown, counts_at, held_at, is_chosen, kept_at, new_at, shown_as, value_in};
+    ghost use Rattle.vcd_body.specs.Contents.{ChangesCode, GivesValue, IsLaidOut, KeepsTable, SetsNumber, bytes_in, codes_in, codes_shown, counts_at, held_at, is_chosen, kept_at, new_at, shown_as, value_in};
 
     /// Returns a table of the codes of the header that is shown: each is unset, its counters are 0,
     /// and it is not chosen. A code's value has a quarter of its size of the bytes of `values`,
@@ -94,7 +94,7 @@ impl<'a> Table<'a> {
         ensures changes { IsLaidOut self.old
             → ChangesCode code (with_value value.entry) self.old self.new }
         ensures bits { (b : Bits) → value.entry ≡ Value.Bits b
-            → ChangesCode code (with_number b.len b.number) self.old self.new }
+            → SetsNumber code b self.old self.new }
         ensures as_text { IsLaidOut self.old → (k : Kept) → kept_at self.old code ≡ Some k
             → 8 ≤ k.room → ChangesCode code (with_text (form_in value.entry) (text_in value.entry))
             self.old self.new }
@@ -192,7 +192,7 @@ impl<'a> Table<'a> {
     }
 
     /// Sets the value of the code at a place to binary digits, and counts its step where it
-    /// differs, whatever the value was: follows their text, and then holds them as their number.
+    /// differs, whatever the value was.
     #[inline(never)]
     fn follow_any_bits(&mut self, code: usize, size: usize, bits: Bits)
         ensures keeps { KeepsTable self.old self.new }
@@ -202,8 +202,11 @@ impl<'a> Table<'a> {
         let mut block = [0u8; 32];
         let text = &mut block[..bits.len];
         put_digits(bits, text);
-        self.follow_any(code, size, Form::Vector, text);
+        let step = self.step_to(code, size, Form::Vector, text);
         self.set_value(code, Value::Bits(bits));
+        if step.differs {
+            self.count(code, step.rises, step.falls);
+        }
     }
 
     /// Returns the step from the value of the code at a place to that of a text. Where there is no

@@ -1,7 +1,6 @@
 //! The line of a time.
-ghost use Rattle.std.specs.Prelude.{◌≡◌, ◌-◌, ◌^◌, ◌<◌};
-ghost use Rattle.vcd_model.specs.ItemText.{time_due, time_line};
-ghost use Rattle.vcd_text.specs.Device.{Puts, failures_after};
+ghost use Rattle.std.specs.Prelude.{◌-◌, ◌^◌, ◌<◌};
+ghost use Rattle.vcd_body.specs.Names.{Puts, time_due, time_line};
 
 use vcd_text::{Sink, WriteFailed, put, put_number};
 

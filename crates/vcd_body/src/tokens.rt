@@ -1,13 +1,7 @@
 // Tokens of a body, one after the other.
 ghost use Rattle.std.specs.Prelude.{◌≡◌, ℕ, ◌-◌, ◌^◌, ◌<◌, List, ◌∷◌, OnOk, IfOk, true, MatchResult, MatchBool};
-ghost use Rattle.vcd_model.specs.Input.{Input};
-ghost use Rattle.vcd_model.specs.Tokens.{Token};
-ghost use Rattle.vcd_model.specs.Declarations.{IdCode};
-ghost use Rattle.vcd_model.specs.BodyPhrases.{BodyPhrase};
-ghost use Rattle.vcd_model.specs.Reading.{Placed};
-ghost use Rattle.vcd_text.specs.Feed.{source_of, seen, token_of, value_of};
+ghost use Rattle.vcd_body.specs.Names.{Advances, BodyPhrase, IdCode, Input, Placed, Token, seen, source_of, value_of};
 ghost use Rattle.vcd_body.specs.Reads.{FailsAfter, Looks, Reads, ReadsAll};
-ghost use Rattle.vcd_text.specs.Advances.{Advances};
 ghost use Rattle.vcd_body.specs.Fault.{call_end};
 
 use crate::fault::BodyFault;

@@ -1,13 +1,14 @@
 // What tokens of a body are.
-ghost use Rattle.std.specs.Prelude.{◌≡◌, ℕ, ◌+◌, ◌<◌, ◌≤◌, length, slice_index, slice_range, true, List, drop, take, ◌∷◌, ◌^◌, ◌&&◌, not, nat_lt, cond, Some, None, bytes_eq, ◌-◌, ◌/◌, ◌%◌, IfSome};
+ghost use Rattle.std.specs.Prelude.{◌≡◌, ℕ, ◌+◌, ◌<◌, ◌≤◌, length, slice_index, true, List, drop, take, ◌∷◌, ◌^◌, ◌&&◌, not, Some, None, bytes_eq, ◌-◌, ◌/◌, ◌%◌, IfSome};
 ghost use Rattle.std.specs.List.{list_all};
 ghost use Rattle.std.specs.Int.{bit_at};
-ghost use Rattle.vcd_model.specs.Bytes.{is_decimal, decimal_value, is_empty};
+ghost use Rattle.vcd_model.specs.Bytes.{is_empty};
 ghost use Rattle.vcd_model.specs.BodyPhrases.{is_value_digit as is_digit};
 ghost use Rattle.vcd_model.specs.Keywords.{is_end as ends};
 ghost use Rattle.std.specs.Str.{byte};
 ghost use Rattle.vcd_body.specs.Binary.{binary_digits, bit_of};
 ghost use Rattle.vcd_body.specs.Changes.{AreBitsAt};
+ghost use Rattle.vcd_body.specs.Spelled.{StandsAt};
 ghost use Rattle.vcd_body.specs.Words.{StandsFor, Begins, command_is};
 
 use crate::bits::Bits;
@@ -255,8 +256,7 @@ fn number_at(bytes: &[u8], at: usize, n: usize) -> usize
 /// `1` alone.
 #[inline(always)]
 pub(crate) fn bits_at(bytes: &[u8], at: usize, digits: &[u8]) -> Option<Bits>
-    requires within { at ≤ length bytes.now }
-    requires place { digits.now ≡ slice_range bytes.now at (at + length digits.now) }
+    requires { StandsAt bytes.now at digits.now }
     ensures { IfSome result (λ b. digits.now ≡ binary_digits b.len b.number) }
 {
     let n = digits.len();

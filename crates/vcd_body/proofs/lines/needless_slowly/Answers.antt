@@ -1,4 +1,4 @@
-use Rattle.std.proofs.Common.{◌≡◌, ◌-◌, length, arith, sym, subst, ◌∙◌}
+use Rattle.std.proofs.Common.{◌≡◌, ℕ, ◌-◌, ap, length, length-drop, length-take, arith, sym, subst, ◌∙◌}
 use Rattle.std.specs.Str.{str_to_ascii_lowercase}
 use Rattle.vcd_body.proofs.LeftOut.{shortest_end, end_is, end_place}
 use Rattle.vcd_body.proofs.lines.needless_slowly.Goals as goal
@@ -6,8 +6,8 @@ use Rattle.vcd_body.proofs.lines.needless_slowly.Goals as goal
 pub overflow_sub-k : goal.overflow_sub-k
 overflow_sub-k c = (shortest_end c.args.digits.now c.shortest.result.now c.shortest.ensures (sym c.is_empty.ensures ∙ c.if-is_empty.false)).0
 
-pub are_lower-requires-clause-place : goal.are_lower-requires-clause-place
-are_lower-requires-clause-place c = end_place c.args.bytes.now c.args.digits.now c.args.at (length c.args.digits.now - length c.shortest.result.now) (omega arith) c.requires.place
+pub are_lower-requires : goal.are_lower-requires
+are_lower-requires c = record { within = (let long = ap length c.requires.place in omega (arith, long, length-take {A = ℕ}, length-drop {A = ℕ})); place = end_place c.args.bytes.now c.args.digits.now c.args.at (length c.args.digits.now - length c.shortest.result.now) (omega arith) c.requires.place }
 
 pub returns : goal.returns
 returns c =

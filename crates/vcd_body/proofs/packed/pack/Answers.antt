@@ -7,3 +7,6 @@ returns-then-quarter-lt16 c = packs_by c.args.text.now c.pack_few.new.share c.di
 
 pub returns-else-quarter-lt16 : goal.returns-else-quarter-lt16
 returns-else-quarter-lt16 c = packs_by c.args.text.now c.pack_many.new.share c.div_ceil-quarter.result (omega (arith, c.div_ceil-quarter.ensures)) c.pack_many.ensures
+
+pub pack_many-requires : goal.pack_many-requires
+pack_many-requires c = record { room = omega arith; many = omega arith; quarter = omega arith }
