@@ -128,7 +128,6 @@ fn variable_ahead<'a>(ahead: &mut Ahead<'a>) -> Option<VariablePhrase<'a>>
 
 /// Declares a variable that lies ahead, and tells whether it may stand there: else `read_variable`
 /// says why not.
-#[inline(always)]
 fn take_variable(
     alloc: Global,
     most: u64,
