@@ -29,7 +29,7 @@ use vcd_body::{
 use vcd_text::{Ahead, Feed, Sink, Source, WriteFailed};
 use vcd_view::HeadView;
 
-/// An event inside a section is not written.
+/// Returns whether a change is left out: an event inside a section is.
 #[inline(always)]
 fn is_left_out(event: bool, seat: &Seat) -> bool
     ensures { result ≡ (event && is_some seat.now.regs.section) }
@@ -90,7 +90,7 @@ fn put_sized<W: Sink>(
     }
 }
 
-/// Writes a change of a code whose size was not told.
+/// Writes what is due with an item whose code's size was not told.
 // Not inlined: of most codes it was.
 #[cold]
 #[inline(never)]
@@ -238,7 +238,7 @@ impl Taken {
 
 /// Takes the items of an input that lie ahead, one after the other, as long as its time is before
 /// this one, and writes what is due with each. A time that is too large once it is scaled is left.
-// Seat, written time and place come and go by value, so that the loop keeps them out of memory.
+// Seat, written time and place come and go by value: behind references they cost each item more.
 fn items_ahead<W: Sink>(
     view: HeadView<'_>,
     before: u64,
