@@ -6,7 +6,6 @@ use Rattle.vcd_model.specs.Declarations.{IdCode}
 use Rattle.vcd_model.specs.Items.{BodyItem, time_after}
 use Rattle.vcd_model.specs.Merge.{is_too_large}
 use Rattle.vcd_model.specs.MergeByInput.{due_with, entry_for, written_with}
-use Rattle.vcd_text.specs.Ahead.{passed_of}
 use Rattle.vcd_text.specs.Device.{Device, Takes, Writes, WritesSome}
 use Rattle.vcd_text.specs.declared.ahead.Ahead.{Ahead}
 use Rattle.vcd_view.specs.Views.{IsViewOf}
@@ -52,10 +51,6 @@ pub record StageAhead : Type 0 where
   pub time : ℕ
   pub written : Option ℕ
   pub out : Device
-
--- where none was taken
-abbrev pub stage_ahead : Ahead → Seat → Option ℕ → Device → StageAhead
-stage_ahead a s written out = record { at = passed_of a; items = []; regs = s.regs; time = s.time; written = written; out = out }
 
 -- behind the items before, these lie in the first n bytes ahead; this is known after them, and no
 -- time is too large

@@ -99,7 +99,7 @@ fn turn<S: Source, W: Sink>(
     let chunk_at = input * chunk;
     let token_at = input * limit;
     run_of(
-        &heads[input],
+        heads[input].view(),
         input,
         before,
         &mut sources[input],
@@ -169,9 +169,8 @@ fn close<W: Sink>(seats: &[Seat], written: Option<u64>, out: &mut W) -> Result<(
     }
 }
 
-/// The run of the input whose turn it is, over what a merge works on: an item, and those that follow
-/// while its time is before this one, and it comes before all others. The order tells the input,
-/// and then takes it in again.
+/// Takes an item of the input whose turn it is, and those that follow while its time is below
+/// `most` and it comes before all others. The order tells the input, and then takes it in again.
 #[inline(always)]
 fn run_next<S: Source, W: Sink>(
     heads: &[Head],
@@ -218,7 +217,7 @@ fn run_next<S: Source, W: Sink>(
     Ok(More::Ended(Done::Whole))
 }
 
-/// The run of the input whose turn it is, as `run_next` does it. After any answer but `Again` the
+/// Takes items of the input whose turn it is, as `run_next` does. After any answer but `Again` the
 /// merge is over.
 #[inline(always)]
 fn run_step<S: Source, W: Sink>(
@@ -264,7 +263,7 @@ fn run_step<S: Source, W: Sink>(
     answer
 }
 
-/// The order of these inputs, whose seats stay as they are.
+/// Returns the order of these inputs, whose seats stay as they are.
 // They come as a `&mut`: of what a shared borrow of a field reads a proof learns nothing.
 fn order_of(seats: &mut [Seat]) -> Order
     requires { length seats.old ≤ 64 }

@@ -7,8 +7,7 @@ ghost use Rattle.vcd_model.specs.Tokens.{Token};
 ghost use Rattle.vcd_text.specs.Device.{Counts, Puts, failures_after};
 ghost use Rattle.vcd_text.specs.Feed.{SameLoans, source_of, parked_of, seen, limit_of, chunk_len_of, parked_seen};
 ghost use Rattle.vcd_text.specs.Registers.{Fits};
-ghost use Rattle.vcd_head.specs.Shown.{shown};
-ghost use Rattle.vcd_view.specs.Views.{IsViewOf, Views};
+ghost use Rattle.vcd_view.specs.Views.{IsViewOf};
 ghost use Rattle.vcd_view.specs.declared.view.Code.{Code};
 ghost use Rattle.vcd_text.specs.Advances.{Advances, CallEnd, HasNotFailed};
 ghost use Rattle.vcd_text.specs.Ahead.{bytes_of, longest_of, passed_of};
@@ -19,7 +18,7 @@ ghost use Rattle.vcd_body.specs.Answer.{NamesInput, reads_failed, writes_failed}
 ghost use Rattle.vcd_merge.specs.Seat.{AtSeat, IsSeated, Lane, SameSeat, Turns, spot, spot_with};
 ghost use Rattle.vcd_merge.specs.SeatStep.{Moved};
 ghost use Rattle.vcd_merge.specs.MergeTrail.{AheadTurns, RunTurns, stage, stage_with};
-ghost use Rattle.vcd_merge.specs.MergeAhead.{IsAhead, IsPutable, PutsDue, RunsAhead, TakesNext, seat_with, stage_ahead};
+ghost use Rattle.vcd_merge.specs.MergeAhead.{IsAhead, IsPutable, PutsDue, RunsAhead, TakesNext, seat_with};
 
 use crate::seat::Seat;
 use vcd_body::{
@@ -27,11 +26,10 @@ use vcd_body::{
     put_renamed_bits, put_time, real_ahead, scalar_ahead, time_ahead, vector_ahead,
     vector_tokens_ahead,
 };
-use vcd_head::Head;
 use vcd_text::{Ahead, Feed, Sink, Source, WriteFailed};
 use vcd_view::HeadView;
 
-/// An event inside a section is not written.
+/// Returns whether a change is left out: an event inside a section is.
 #[inline(always)]
 fn is_left_out(event: bool, seat: &Seat) -> bool
     ensures { result ≡ (event && is_some seat.now.regs.section) }
@@ -92,7 +90,7 @@ fn put_sized<W: Sink>(
     }
 }
 
-/// Writes a change of a code whose size was not told.
+/// Writes what is due with an item whose code's size was not told.
 // Not inlined: of most codes it was.
 #[cold]
 #[inline(never)]
@@ -203,11 +201,14 @@ fn take_next<W: Sink>(
     Some(put)
 }
 
-/// How the taking of items ahead has ended.
+/// How the taking of items ahead has left an input.
 #[derive(Clone, Copy)]
 struct Taken {
     /// The bytes in which they lie.
     passed: usize,
+    /// The input after them, its feed aside.
+    seat: Seat,
+    written: Option<u64>,
     /// Whether the time of the input is no longer early after the last of them; or that a write of
     /// what is due with it failed.
     ended: Result<bool, WriteFailed>,
@@ -215,12 +216,21 @@ struct Taken {
 
 impl Taken {
     #[inline(always)]
-    fn until(ahead: Ahead<'_>, ended: Result<bool, WriteFailed>) -> Taken
+    fn until(
+        ahead: Ahead<'_>,
+        seat: Seat,
+        written: Option<u64>,
+        ended: Result<bool, WriteFailed>,
+    ) -> Taken
         ensures passed { result.passed ≡ passed_of ahead.entry }
+        ensures seat { result.seat ≡ seat }
+        ensures written { result.written ≡ written }
         ensures ended { result.ended ≡ ended }
     {
         Taken {
             passed: ahead.passed(),
+            seat,
+            written,
             ended,
         }
     }
@@ -228,46 +238,51 @@ impl Taken {
 
 /// Takes the items of an input that lie ahead, one after the other, as long as its time is before
 /// this one, and writes what is due with each. A time that is too large once it is scaled is left.
-// The place comes and goes by value, so that the loop keeps it out of memory; most items change
-// neither seat nor written time.
-#[inline(always)]
+// Seat, written time and place come and go by value: behind references they cost each item more.
 fn items_ahead<W: Sink>(
     view: HeadView<'_>,
     before: u64,
+    mut seat: Seat,
+    mut written: Option<u64>,
     mut ahead: Ahead<'_>,
-    seat: &mut Seat,
-    written: &mut Option<u64>,
     out: &mut W,
 ) -> Taken
     requires failures { (W.device out.old).failures < 2 ^ 64 - 1 }
     requires within { passed_of ahead ≤ length (bytes_of ahead) }
     ensures gives { (scale first lines : ℕ) (h : Header) (behind : List BodyItem)
-        → IsViewOf view.entry h → seat.old.factor ≡ scale → seat.old.first ≡ first
+        → IsViewOf view.entry h → seat.factor ≡ scale → seat.first ≡ first
         → first + length h.codes < 2 ^ 64
         → IsAhead scale h (longest_of ahead.entry) lines (bytes_of ahead.entry) behind
-        (passed_of ahead.entry) [] seat.old.regs seat.old.time
+        (passed_of ahead.entry) [] seat.regs seat.time
         → RunsAhead scale first h (longest_of ahead.entry) lines (bytes_of ahead.entry) behind before
-        (stage_ahead ahead.entry seat.old written.old (W.device out.old))
-        result.passed seat.new.regs seat.new.time written.new
+        (record {
+          at = passed_of ahead.entry;
+          items = [];
+          regs = seat.regs;
+          time = seat.time;
+          written = written;
+          out = W.device out.old;
+        })
+        result.passed result.seat.regs result.seat.time result.written
         (W.device out.new) result.ended }
     ensures passes { (lines : ℕ) (ts : List Token)
         → Passed (longest_of ahead.entry) lines (bytes_of ahead.entry) (passed_of ahead.entry) ts
         → (more : List Token) × Passed (longest_of ahead.entry) lines (bytes_of ahead.entry)
         result.passed (ts ++ more) }
     ensures some { result.ended ≡ Ok true → passed_of ahead.entry < result.passed }
-    ensures same { seat.new ≡ seat_with seat.old seat.new.regs seat.new.time }
+    ensures same { result.seat ≡ seat_with seat result.seat.regs result.seat.time }
     ensures counts { Counts (W.device out.old) (W.device out.new) result.ended }
 {
     'items: loop {
-        let Some(put) = take_next(view, seat, written, &mut ahead, out) else {
-            return Taken::until(ahead, Ok(false));
+        let Some(put) = take_next(view, &mut seat, &mut written, &mut ahead, out) else {
+            return Taken::until(ahead, seat, written, Ok(false));
         };
         match put {
             Ok(()) => {}
-            Err(failed) => return Taken::until(ahead, Err(failed)),
+            Err(failed) => return Taken::until(ahead, seat, written, Err(failed)),
         }
         if seat.time >= before {
-            return Taken::until(ahead, Ok(true));
+            return Taken::until(ahead, seat, written, Ok(true));
         }
     }
 }
@@ -277,7 +292,7 @@ fn items_ahead<W: Sink>(
 /// early.
 #[inline(never)]
 fn take_ahead<S: Source, W: Sink>(
-    head: &Head,
+    view: HeadView<'_>,
     before: u64,
     feed: &mut Feed<'_, '_, '_, '_, S>,
     seat: &mut Seat,
@@ -288,7 +303,7 @@ fn take_ahead<S: Source, W: Sink>(
     requires unfinished { seat.old.finished ≡ false }
     requires open { HasNotFailed feed.old }
     ensures turns { (k scale first : ℕ) (l : Lane) (items : List BodyItem)
-        → Views (shown head.now) l.header → AtSeat scale first l items (spot_with seat.old feed.old)
+        → IsViewOf view.entry l.header → AtSeat scale first l items (spot_with seat.old feed.old)
         → AheadTurns S.rest S.failures k scale first l before
         (stage_with items written.old seat.old feed.old (W.device out.old))
         written.new seat.new feed.new (W.device out.new) result }
@@ -298,7 +313,9 @@ fn take_ahead<S: Source, W: Sink>(
     ensures same { seat.new ≡ seat_with seat.old seat.new.regs seat.new.time }
     ensures counts { Counts (W.device out.old) (W.device out.new) result }
 {
-    let taken = items_ahead(head.view(), before, feed.ahead(), seat, written, out);
+    let taken = items_ahead(view, before, *seat, *written, feed.ahead(), out);
+    *seat = taken.seat;
+    *written = taken.written;
     pass_items(feed, taken.passed);
     taken.ended
 }
@@ -307,7 +324,7 @@ fn take_ahead<S: Source, W: Sink>(
 /// registers are those after it; where the feed stands is left to the caller.
 #[inline(always)]
 fn take_item<S: Source, W: Sink>(
-    head: &Head,
+    view: HeadView<'_>,
     input: usize,
     feed: &mut Feed<'_, '_, '_, '_, S>,
     seat: &mut Seat,
@@ -318,7 +335,7 @@ fn take_item<S: Source, W: Sink>(
     requires out_failures { (W.device out.old).failures < 2 ^ 64 - 1 }
     requires unfinished { seat.old.finished ≡ false }
     ensures turns { (scale first : ℕ) (l : Lane) (items : List BodyItem)
-        → Views (shown head.now) l.header → AtSeat scale first l items (spot_with seat.old feed.old)
+        → IsViewOf view.entry l.header → AtSeat scale first l items (spot_with seat.old feed.old)
         → Turns input scale first l items written.old written.new (spot_with seat.new feed.new)
         (W.device out.old) (W.device out.new) result }
     ensures moved { Moved S.failures feed.old feed.new seat.new result }
@@ -328,7 +345,6 @@ fn take_item<S: Source, W: Sink>(
     ensures writes { (W.device out.new).failures
         ≡ (W.device out.old).failures + writes_failed result }
 {
-    let view = head.view();
     let item = match next_item(feed, view, &mut seat.regs) {
         Ok(item) => item,
         Err(fault) => return Err(Stop::of_body(fault, input, feed.line())),
@@ -366,7 +382,7 @@ fn take_item<S: Source, W: Sink>(
 /// those that follow while it is. Those that lie ahead are taken first.
 #[inline(always)]
 fn take_run<S: Source, W: Sink>(
-    head: &Head,
+    view: HeadView<'_>,
     input: usize,
     before: u64,
     feed: &mut Feed<'_, '_, '_, '_, S>,
@@ -379,7 +395,7 @@ fn take_run<S: Source, W: Sink>(
     requires unfinished { seat.old.finished ≡ false }
     requires open { HasNotFailed feed.old }
     ensures turns { (scale first : ℕ) (l : Lane) (items : List BodyItem)
-        → Views (shown head.now) l.header → AtSeat scale first l items (spot_with seat.old feed.old)
+        → IsViewOf view.entry l.header → AtSeat scale first l items (spot_with seat.old feed.old)
         → RunTurns S.rest S.failures input scale first l before
         (stage_with items written.old seat.old feed.old (W.device out.old))
         written.new (spot_with seat.new feed.new) (W.device out.new) result }
@@ -391,10 +407,10 @@ fn take_run<S: Source, W: Sink>(
         ≡ (W.device out.old).failures + writes_failed result }
 {
     'items: loop {
-        if take_ahead(head, before, feed, seat, written, out)? {
+        if take_ahead(view, before, feed, seat, written, out)? {
             return Ok(());
         }
-        take_item(head, input, feed, seat, written, out)?;
+        take_item(view, input, feed, seat, written, out)?;
         if seat.finished || seat.time >= before {
             return Ok(());
         }
@@ -406,7 +422,7 @@ fn take_run<S: Source, W: Sink>(
 /// one, and is parked again.
 #[inline(always)]
 pub(crate) fn run_of<S: Source, W: Sink>(
-    head: &Head,
+    view: HeadView<'_>,
     input: usize,
     before: u64,
     source: &mut S,
@@ -424,7 +440,7 @@ pub(crate) fn run_of<S: Source, W: Sink>(
     requires same_limit { length value.old ≡ length token.old }
     requires seated { IsSeated (length chunk.old) (length token.old) seat.old }
     requires unfinished { seat.old.finished ≡ false }
-    ensures turns { (scale first : ℕ) (l : Lane) (items : List BodyItem) → Views (shown head.now) l.header
+    ensures turns { (scale first : ℕ) (l : Lane) (items : List BodyItem) → IsViewOf view.entry l.header
         → AtSeat scale first l items (spot seat.old (S.rest source.old) chunk.old token.old)
         → RunTurns S.rest S.failures input scale first l before
         (stage items written.old seat.old source.old chunk.old token.old (W.device out.old))
@@ -442,7 +458,7 @@ pub(crate) fn run_of<S: Source, W: Sink>(
     ensures bounded { parked_seen seat.new.parked < 2 ^ 63 }
 {
     let mut feed = Feed::resume(source, chunk, token, value, seat.parked);
-    let answer = take_run(head, input, before, &mut feed, seat, written, out);
+    let answer = take_run(view, input, before, &mut feed, seat, written, out);
     seat.parked = feed.parked();
     answer
 }

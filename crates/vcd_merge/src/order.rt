@@ -139,7 +139,7 @@ impl Order {
         order
     }
 
-    /// Whether no input waits.
+    /// Returns whether no input waits.
     #[inline(always)]
     pub(crate) fn is_empty(&self) -> bool
         ensures none { result ≡ true → self.now.len ≡ 0 }

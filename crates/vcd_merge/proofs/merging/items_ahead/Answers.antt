@@ -26,13 +26,13 @@ returns-in_default-clause-gives g c = λ scale first lines h behind views factor
     let t = c.items.invariant.trail scale first lines h behind views factor first_is few s in
     let u = c.until.ensures in
     let stays = c.in_default.ensures.next in
-    rw (u.passed, u.ended, stays.0, stays.1, stays.2, stays.3) (record { mid = record { at = passed_of c.items.ahead; items = t.0; regs = c.items.seat.regs; time = c.items.seat.time; written = c.items.written; out = g.W.Sink.device c.items.out }; trail = t.2; ends = (t.1, refl, refl) })
+    rw (u.passed, u.seat, u.written, u.ended, stays.0, stays.1, stays.2, stays.3) (record { mid = record { at = passed_of c.items.ahead; items = t.0; regs = c.items.seat.regs; time = c.items.seat.time; written = c.items.written; out = g.W.Sink.device c.items.out }; trail = t.2; ends = (t.1, refl, refl) })
 
 pub returns-in_default-clause-passes : goal.returns-in_default-clause-passes
 returns-in_default-clause-passes g c = λ lines ts p. rw (c.until.ensures.passed, c.in_default.ensures.next.2) (c.items.invariant.passes lines ts p)
 
 pub returns-in_default-clause-same : goal.returns-in_default-clause-same
-returns-in_default-clause-same g c = rw c.in_default.ensures.next.0 c.items.invariant.same
+returns-in_default-clause-same g c = rw (c.until.ensures.seat, c.in_default.ensures.next.0) c.items.invariant.same
 
 pub returns-in_default-clause-counts : goal.returns-in_default-clause-counts
 returns-in_default-clause-counts g c = rw (c.until.ensures.ended, c.in_default.ensures.next.3) c.items.invariant.counts
@@ -47,7 +47,7 @@ returns-in-Err-clause-gives g c = λ scale first lines h behind views factor fir
     let out : Device = g.W.Sink.device c.items.out in
     let new : Device = g.W.Sink.device c.take_next.new.out in
     let u = c.until-in-Err.ensures in
-    rw (u.passed, u.ended) (record { mid = record { at = passed_of c.items.ahead; items = t.0; regs = c.items.seat.regs; time = c.items.seat.time; written = c.items.written; out = out }; trail = t.2; ends = (next_item scale first h (longest_of c.args.ahead) lines (bytes_of c.args.ahead) behind few c.args.view views c.items.ahead c.take_next.new.ahead c.items.seat c.take_next.new.seat c.items.written c.take_next.new.written out new c.in-Some.put n (inv.longest, inv.bytes) by number t.0 t.1, ahead_next scale first h (longest_of c.args.ahead) lines (bytes_of c.args.ahead) behind few c.args.view views c.items.ahead c.take_next.new.ahead c.items.seat c.take_next.new.seat c.items.written c.take_next.new.written out new c.in-Some.put n (inv.longest, inv.bytes) by number t.0 t.1, some_next scale first h (longest_of c.args.ahead) lines (bytes_of c.args.ahead) behind few c.args.view views c.items.ahead c.take_next.new.ahead c.items.seat c.take_next.new.seat c.items.written c.take_next.new.written out new c.in-Some.put n (inv.longest, inv.bytes) by number t.0 t.1 c.in-Err.failed c.in-Err.is c.in-Some.ensures.counts) })
+    rw (u.passed, u.seat, u.written, u.ended) (record { mid = record { at = passed_of c.items.ahead; items = t.0; regs = c.items.seat.regs; time = c.items.seat.time; written = c.items.written; out = out }; trail = t.2; ends = (next_item scale first h (longest_of c.args.ahead) lines (bytes_of c.args.ahead) behind few c.args.view views c.items.ahead c.take_next.new.ahead c.items.seat c.take_next.new.seat c.items.written c.take_next.new.written out new c.in-Some.put n (inv.longest, inv.bytes) by number t.0 t.1, ahead_next scale first h (longest_of c.args.ahead) lines (bytes_of c.args.ahead) behind few c.args.view views c.items.ahead c.take_next.new.ahead c.items.seat c.take_next.new.seat c.items.written c.take_next.new.written out new c.in-Some.put n (inv.longest, inv.bytes) by number t.0 t.1, some_next scale first h (longest_of c.args.ahead) lines (bytes_of c.args.ahead) behind few c.args.view views c.items.ahead c.take_next.new.ahead c.items.seat c.take_next.new.seat c.items.written c.take_next.new.written out new c.in-Some.put n (inv.longest, inv.bytes) by number t.0 t.1 c.in-Err.failed c.in-Err.is c.in-Some.ensures.counts) })
 
 pub returns-in-Err-clause-passes : goal.returns-in-Err-clause-passes
 returns-in-Err-clause-passes g c = λ lines ts p.
@@ -55,7 +55,7 @@ returns-in-Err-clause-passes g c = λ lines ts p.
     rw c.until-in-Err.ensures.passed (passes_next (longest_of c.args.ahead) lines (bytes_of c.args.ahead) c.args.view c.items.ahead c.take_next.new.ahead c.items.seat.regs c.in-Some.ensures.next.plain c.in-Some.ensures.next.item (inv.longest, inv.bytes) ts (inv.passes lines ts p))
 
 pub returns-in-Err-clause-same : goal.returns-in-Err-clause-same
-returns-in-Err-clause-same g c = (same_next c.args.seat.now c.items.seat c.take_next.new.seat (regs_after c.items.seat.regs c.in-Some.ensures.next.plain.item) c.items.invariant.same c.in-Some.ensures.next.seat)
+returns-in-Err-clause-same g c = rw c.until-in-Err.ensures.seat (same_next c.args.seat c.items.seat c.take_next.new.seat (regs_after c.items.seat.regs c.in-Some.ensures.next.plain.item) c.items.invariant.same c.in-Some.ensures.next.seat)
 
 pub returns-in-Err-clause-counts : goal.returns-in-Err-clause-counts
 returns-in-Err-clause-counts g c =
@@ -72,7 +72,7 @@ returns-then-seat-before-clause-gives g c = λ scale first lines h behind views 
     let out : Device = g.W.Sink.device c.items.out in
     let new : Device = g.W.Sink.device c.take_next.new.out in
     let u = c.until-then-seat-before.ensures in
-    rw (u.passed, u.ended) (record { mid = record { at = passed_of c.items.ahead; items = t.0; regs = c.items.seat.regs; time = c.items.seat.time; written = c.items.written; out = out }; trail = t.2; ends = (next_item scale first h (longest_of c.args.ahead) lines (bytes_of c.args.ahead) behind few c.args.view views c.items.ahead c.take_next.new.ahead c.items.seat c.take_next.new.seat c.items.written c.take_next.new.written out new c.in-Some.put n (inv.longest, inv.bytes) by number t.0 t.1, one_next scale first h (longest_of c.args.ahead) lines (bytes_of c.args.ahead) behind few c.args.view views c.items.ahead c.take_next.new.ahead c.items.seat c.take_next.new.seat c.items.written c.take_next.new.written out new c.in-Some.put n (inv.longest, inv.bytes) by number t.0 t.1 c.in-Ok.is c.in-Some.ensures.counts) })
+    rw (u.passed, u.seat, u.written, u.ended) (record { mid = record { at = passed_of c.items.ahead; items = t.0; regs = c.items.seat.regs; time = c.items.seat.time; written = c.items.written; out = out }; trail = t.2; ends = (next_item scale first h (longest_of c.args.ahead) lines (bytes_of c.args.ahead) behind few c.args.view views c.items.ahead c.take_next.new.ahead c.items.seat c.take_next.new.seat c.items.written c.take_next.new.written out new c.in-Some.put n (inv.longest, inv.bytes) by number t.0 t.1, one_next scale first h (longest_of c.args.ahead) lines (bytes_of c.args.ahead) behind few c.args.view views c.items.ahead c.take_next.new.ahead c.items.seat c.take_next.new.seat c.items.written c.take_next.new.written out new c.in-Some.put n (inv.longest, inv.bytes) by number t.0 t.1 c.in-Ok.is c.in-Some.ensures.counts) })
 
 pub returns-then-seat-before-clause-passes : goal.returns-then-seat-before-clause-passes
 returns-then-seat-before-clause-passes g c = λ lines ts p.
@@ -83,7 +83,7 @@ pub returns-then-seat-before-clause-some : goal.returns-then-seat-before-clause-
 returns-then-seat-before-clause-some g c = λ is. rw c.until-then-seat-before.ensures.passed (let a = c.items.invariant.further in let b = c.in-Some.ensures.next.item.further in omega (arith, a, b))
 
 pub returns-then-seat-before-clause-same : goal.returns-then-seat-before-clause-same
-returns-then-seat-before-clause-same g c = (same_next c.args.seat.now c.items.seat c.take_next.new.seat (regs_after c.items.seat.regs c.in-Some.ensures.next.plain.item) c.items.invariant.same c.in-Some.ensures.next.seat)
+returns-then-seat-before-clause-same g c = rw c.until-then-seat-before.ensures.seat (same_next c.args.seat c.items.seat c.take_next.new.seat (regs_after c.items.seat.regs c.in-Some.ensures.next.plain.item) c.items.invariant.same c.in-Some.ensures.next.seat)
 
 pub returns-then-seat-before-clause-counts : goal.returns-then-seat-before-clause-counts
 returns-then-seat-before-clause-counts g c =
@@ -108,7 +108,7 @@ items-preserved g c =
       within = item.within;
       further = let a = inv.further in let b = item.further in omega (arith, a, b);
       counts = subst (λ (r : Result (Unit {0}) WriteFailed). Counts (g.W.Sink.device c.items.out) (g.W.Sink.device c.take_next.new.out) r) c.in-Ok.is c.in-Some.ensures.counts ∙ inv.counts;
-      same = same_next c.args.seat.now c.items.seat c.take_next.new.seat (regs_after c.items.seat.regs c.in-Some.ensures.next.plain.item) inv.same c.in-Some.ensures.next.seat;
+      same = same_next c.args.seat c.items.seat c.take_next.new.seat (regs_after c.items.seat.regs c.in-Some.ensures.next.plain.item) inv.same c.in-Some.ensures.next.seat;
       passes = λ lines ts p. passes_next (longest_of c.args.ahead) lines (bytes_of c.args.ahead) c.args.view c.items.ahead c.take_next.new.ahead c.items.seat.regs c.in-Some.ensures.next.plain item (inv.longest, inv.bytes) ts (inv.passes lines ts p);
       trail = λ scale first lines h behind views factor first_is few s.
           let inv = c.items.invariant in

@@ -1,8 +1,6 @@
 use Rattle.std.proofs.Common.{[], refl, sym, subst, arith}
 use Rattle.vcd_text.specs.Ahead.{lines_of}
 use Rattle.vcd_text.specs.Device.{Device}
-use Rattle.vcd_view.specs.Shown.{HeadShown}
-use Rattle.vcd_view.specs.Views.{Views}
 use Rattle.vcd_merge.specs.MergeTrail.{AheadTurns, stage_with}
 use Rattle.vcd_merge.specs.declared.seat.Seat.{Seat}
 use Rattle.vcd_merge.proofs.SeatAhead.{ahead_turns, lies_first}
@@ -21,18 +19,16 @@ returns-clause-turns g c = λ k scale first l items views at.
     let f = c.args.feed.now in
     let a = c.ahead.ensures in
     let t = c.items_ahead-taken.result in
-    let q = c.items_ahead-taken.new.seat in
-    let written = c.items_ahead-taken.new.written in
     let new = c.pass_items.new.feed in
     let gave = out_of scale first l items s f at in
     let out0 : Device = g.W.Sink.device c.args.out.now in
     let out : Device = g.W.Sink.device c.items_ahead-taken.new.out in
     let begins = lies_first scale first l items s f at c.requires.unfinished in
-    let runs = rw (a.limit, a.bytes, a.passed) at c.items_ahead-taken.ensures.gives scale first (lines_of f) l.header items (subst (λ (x : HeadShown). Views x l.header) (sym c.view.ensures) views) at.factor_is at.first_is at.few begins in
-    subst (λ (z : Seat). AheadTurns g.S.Source.rest g.S.Source.failures k scale first l c.args.before (stage_with items c.args.written.now s f out0) written z new out t.ended) (sym c.items_ahead-taken.ensures.same)
-    (ahead_turns scale first l items s f at c.requires.unfinished g.S.Source.failures k c.args.before c.args.written.now out0 c.requires.open new t.passed q.regs q.time written out c.pass_items.ensures.source c.pass_items.ensures.advances.limit c.pass_items.ensures.advances.chunk
-    (λ more lies known. c.pass_items.ensures.gives l.header.codes l.input l.front items more s.regs q.regs gave lies known)
-    (λ more x lies known. c.pass_items.ensures.ends l.header.codes l.input l.front items more x s.regs q.regs gave lies known) t.ended runs)
+    let runs = rw (a.limit, a.bytes, a.passed) at c.items_ahead-taken.ensures.gives scale first (lines_of f) l.header items views at.factor_is at.first_is at.few begins in
+    subst (λ (q : Seat). AheadTurns g.S.Source.rest g.S.Source.failures k scale first l c.args.before (stage_with items c.args.written.now s f out0) t.written q new out t.ended) (sym c.items_ahead-taken.ensures.same)
+    (ahead_turns scale first l items s f at c.requires.unfinished g.S.Source.failures k c.args.before c.args.written.now out0 c.requires.open new t.passed t.seat.regs t.seat.time t.written out c.pass_items.ensures.source c.pass_items.ensures.advances.limit c.pass_items.ensures.advances.chunk
+    (λ more lies known. c.pass_items.ensures.gives l.header.codes l.input l.front items more s.regs t.seat.regs gave lies known)
+    (λ more x lies known. c.pass_items.ensures.ends l.header.codes l.input l.front items more x s.regs t.seat.regs gave lies known) t.ended runs)
 
 pub returns-clause-progress : goal.returns-clause-progress
 returns-clause-progress g c = λ is. let more = c.items_ahead-taken.ensures.some is in let passed = c.ahead.ensures.passed in let looked = c.pass_items.ensures.looked in omega (arith, more, passed, looked)
