@@ -25,11 +25,10 @@ use Rattle.vcd_body.specs.declared.item.Item.TheVariants.{Change}
 use Rattle.vcd_body.specs.declared.item.Regs.{Regs}
 use Rattle.vcd_engine.specs.Ahead.{GaveOneAhead, StandsAhead}
 use Rattle.vcd_engine.specs.Engine.{Keeps, request_in}
-use Rattle.vcd_engine.specs.Next.{TakesMore, TakesNext}
+use Rattle.vcd_engine.specs.Next.{TakesMore, TakesNext, Walk}
 use Rattle.vcd_engine.specs.Pieces.{GrowsBut, PutsOn, held_in}
 use Rattle.vcd_engine.specs.Quiet.{TakesQuietly}
 use Rattle.vcd_engine.specs.declared.machine.Machine.{Machine}
-use Rattle.vcd_engine.specs.declared.machine.walk.Walk.{Walk}
 use Rattle.vcd_engine.specs.declared.pieces.Pieces.{Pieces}
 use Rattle.vcd_engine.proofs.AheadLemmas.{few_ahead, stands_on}
 use Rattle.vcd_engine.proofs.PieceLemmas.{but_failed, but_on, none_on}

@@ -21,9 +21,18 @@ use Rattle.vcd_engine.specs.Pieces.{IsLine, IsPart, PutsOn, held_in}
 use Rattle.vcd_engine.specs.Quiet.{TakesQuietly}
 use Rattle.vcd_engine.specs.Room.{SameTask}
 use Rattle.vcd_engine.specs.declared.machine.Machine.{Machine}
-use Rattle.vcd_engine.specs.declared.machine.walk.Walk.{Walk}
 use Rattle.vcd_engine.specs.declared.pieces.InPlace.{InPlace}
 use Rattle.vcd_engine.specs.declared.pieces.Pieces.{Pieces}
+
+-- how far the loop has come: the place, the registers after the items so far, and where the line of
+-- the last time begins, if it stands just before that place
+pub record Walk : Type 0 where
+  pub ahead : Ahead
+  pub regs : Regs
+  pub line : ℕ
+
+abbrev pub walk_at : Ahead → Regs → ℕ → Walk
+walk_at a r line = record { ahead = a; regs = r; line = line }
 
 -- the line of the last time stands just before the next item, or nothing is said to
 abbrev pub HasLine : Walk → Type 0

@@ -3,7 +3,7 @@ ghost use Rattle.std.specs.Prelude.{◌≡◌, ℕ, ◌-◌, ◌^◌, ◌<◌, �
 ghost use Rattle.vcd_text.specs.Ahead.{bytes_of, passed_of};
 ghost use Rattle.vcd_text.specs.Device.{Counts};
 ghost use Rattle.vcd_engine.specs.Ahead.{RunsOver};
-ghost use Rattle.vcd_engine.specs.Next.{HasFound, HasLine, TakesChange, TakesMark, TakesNext};
+ghost use Rattle.vcd_engine.specs.Next.{HasFound, HasLine, TakesChange, TakesMark, TakesNext, walk_at};
 ghost use Rattle.vcd_engine.specs.Pieces.{IsInPlace, IsLine, IsPart};
 ghost use Rattle.vcd_engine.specs.Room.{SameTask};
 
@@ -15,17 +15,6 @@ use vcd_body::{
 };
 use vcd_text::{Ahead, Sink, WriteFailed};
 use vcd_view::HeadView;
-
-/// How far the loop has come.
-#[derive(Clone, Copy)]
-pub(crate) struct Walk<'a> {
-    pub(crate) ahead: Ahead<'a>,
-    /// The registers after the items so far.
-    pub(crate) regs: Regs,
-    /// Where the line of the last time begins, if it stands just before the next item; else where
-    /// that begins.
-    pub(crate) line: usize,
-}
 
 /// How the loop has ended.
 #[derive(Clone, Copy)]
@@ -40,14 +29,14 @@ pub(crate) struct Taken {
 
 impl Taken {
     #[inline(always)]
-    fn until(walk: Walk<'_>, written: Result<(), WriteFailed>) -> Taken
-        ensures passed { result.passed ≡ passed_of walk.entry.ahead }
-        ensures regs { result.regs ≡ walk.entry.regs }
+    fn until(ahead: Ahead<'_>, regs: Regs, written: Result<(), WriteFailed>) -> Taken
+        ensures passed { result.passed ≡ passed_of ahead.entry }
+        ensures regs { result.regs ≡ regs }
         ensures written { result.written ≡ written }
     {
         Taken {
-            passed: walk.ahead.passed(),
-            regs: walk.regs,
+            passed: ahead.passed(),
+            regs,
             written,
         }
     }
@@ -109,35 +98,38 @@ pub(crate) trait Command<L> {
         ensures same { SameTask (machine self.old) (machine self.new) };
 }
 
-/// Takes a change that was found ahead, up to this place.
+/// Takes a change that was found ahead, from one place up to another. The line of its time may
+/// stand just before it; none does before the next item.
 #[inline(always)]
 fn take_found<'a, L, C: Command<L>, W: Sink>(
     command: &mut C,
     view: HeadView<'_>,
-    walk: &mut Walk<'a>,
+    regs: Regs,
     plain: Plain<'_>,
+    ahead: Ahead<'a>,
     next: Ahead<'a>,
+    line: &mut usize,
     pieces: &mut Pieces<'_>,
     out: &mut W,
 ) -> Result<(), WriteFailed>
     requires failures { (W.device out.old).failures < 2 ^ 64 - 1 }
     requires ready { C.is_ready command.old ≡ true }
-    requires found { HasFound view walk.old next plain }
-    requires part { IsPart (bytes_of walk.old.ahead) pieces.old }
-    ensures next { TakesNext view.entry walk.old walk.new pieces.old pieces.new
+    requires found { HasFound view (walk_at ahead regs line.old) next plain }
+    requires part { IsPart (bytes_of ahead) pieces.old }
+    ensures next { TakesNext view.entry (walk_at ahead.entry regs line.old)
+        (walk_at next.entry regs line.new) pieces.old pieces.new
         (W.device out.old) (W.device out.new) (C.machine command.old) (C.machine command.new) result }
     ensures ready { C.is_ready command.new ≡ true }
 {
     let change = InPlace {
         plain,
         bytes: next.bytes(),
-        from: walk.ahead.passed(),
+        from: ahead.passed(),
         to: next.passed(),
-        line: walk.line,
+        line: *line,
     };
-    walk.ahead = next;
-    walk.line = change.to;
-    command.take_change(view, walk.regs, change, pieces, out)
+    *line = change.to;
+    command.take_change(view, regs, change, pieces, out)
 }
 
 /// Takes the next item that lies ahead. None where it takes none, and then nothing has changed.
@@ -147,42 +139,45 @@ fn take_found<'a, L, C: Command<L>, W: Sink>(
 fn take_next<L, C: Command<L>, W: Sink>(
     command: &mut C,
     view: HeadView<'_>,
-    walk: &mut Walk<'_>,
+    regs: &mut Regs,
+    ahead: &mut Ahead<'_>,
+    line: &mut usize,
     pieces: &mut Pieces<'_>,
     out: &mut W,
 ) -> Option<Result<(), WriteFailed>>
     requires failures { (W.device out.old).failures < 2 ^ 64 - 1 }
     requires ready { C.is_ready command.old ≡ true }
-    requires line { HasLine walk.old }
-    requires part { IsPart (bytes_of walk.old.ahead) pieces.old }
+    requires line { HasLine (walk_at ahead.old regs.old line.old) }
+    requires part { IsPart (bytes_of ahead.old) pieces.old }
     ensures next { MatchOption result
-        ((command.new ≡ command.old) × (walk.new ≡ walk.old) × (pieces.new ≡ pieces.old)
-        × (W.device out.new ≡ W.device out.old))
-        (TakesNext view.entry walk.old walk.new pieces.old pieces.new
+        ((command.new ≡ command.old) × (regs.new ≡ regs.old) × (ahead.new ≡ ahead.old)
+        × (pieces.new ≡ pieces.old) × (W.device out.new ≡ W.device out.old))
+        (TakesNext view.entry (walk_at ahead.old regs.old line.old)
+        (walk_at ahead.new regs.new line.new) pieces.old pieces.new
         (W.device out.old) (W.device out.new) (C.machine command.old) (C.machine command.new)) }
     ensures ready { C.is_ready command.new ≡ true }
 {
-    let mut next = walk.ahead;
+    let mut next = *ahead;
     let opening = opening_ahead(&mut next)?;
     let taken = match opening.first {
         First::Bit => {
             let plain = scalar_ahead(opening, next, view)?;
-            take_found(command, view, walk, plain, next, pieces, out)
+            take_found(command, view, *regs, plain, *ahead, next, line, pieces, out)
         }
         First::Scalar => {
             let plain = scalar_ahead(opening, next, view)?;
-            take_found(command, view, walk, plain, next, pieces, out)
+            take_found(command, view, *regs, plain, *ahead, next, line, pieces, out)
         }
         First::Vector => {
             let tokens = vector_tokens_ahead(opening, &mut next)?;
             match tokens.bits {
                 Some(bits) => {
                     let plain = vector_ahead(tokens, Some(bits), next, view)?;
-                    take_found(command, view, walk, plain, next, pieces, out)
+                    take_found(command, view, *regs, plain, *ahead, next, line, pieces, out)
                 }
                 None => {
                     let plain = vector_ahead(tokens, None, next, view)?;
-                    take_found(command, view, walk, plain, next, pieces, out)
+                    take_found(command, view, *regs, plain, *ahead, next, line, pieces, out)
                 }
             }
         }
@@ -191,19 +186,18 @@ fn take_next<L, C: Command<L>, W: Sink>(
             if command.leaves(time) {
                 return None;
             }
-            let mark = mark_ahead(opening, time, next, &mut walk.regs)?;
-            let from = walk.ahead.passed();
-            walk.line = line_of_mark(next.bytes(), from, next.passed(), mark.at);
-            walk.ahead = next;
+            let mark = mark_ahead(opening, time, next, regs)?;
+            *line = line_of_mark(next.bytes(), ahead.passed(), next.passed(), mark.at);
             command.take_mark(time);
             Ok(())
         }
         First::Real => {
             let plain = real_ahead(opening, &mut next, view)?;
-            take_found(command, view, walk, plain, next, pieces, out)
+            take_found(command, view, *regs, plain, *ahead, next, line, pieces, out)
         }
         First::Other => return None,
     };
+    *ahead = next;
     Some(taken)
 }
 
@@ -215,8 +209,8 @@ fn take_next<L, C: Command<L>, W: Sink>(
 pub(crate) fn take_each<L, C: Command<L>, W: Sink>(
     command: &mut C,
     view: HeadView<'_>,
-    regs: Regs,
-    ahead: Ahead<'_>,
+    mut regs: Regs,
+    mut ahead: Ahead<'_>,
     gathered: &mut Gathered,
     out: &mut W,
 ) -> Taken
@@ -228,18 +222,22 @@ pub(crate) fn take_each<L, C: Command<L>, W: Sink>(
 {
     let bytes = ahead.bytes();
     let mut pieces = Pieces::new(gathered);
-    let mut walk = Walk {
-        ahead,
-        regs,
-        line: ahead.passed(),
-    };
+    let mut line = ahead.passed();
     'items: loop {
-        let Some(taken) = take_next(command, view, &mut walk, &mut pieces, out) else {
-            return Taken::until(walk, pieces.flush(bytes, out));
+        let Some(taken) = take_next(
+            command,
+            view,
+            &mut regs,
+            &mut ahead,
+            &mut line,
+            &mut pieces,
+            out,
+        ) else {
+            return Taken::until(ahead, regs, pieces.flush(bytes, out));
         };
         match taken {
             Ok(()) => {}
-            Err(failed) => return Taken::until(walk, Err(failed)),
+            Err(failed) => return Taken::until(ahead, regs, Err(failed)),
         }
     }
 }

@@ -10,7 +10,7 @@ use Rattle.vcd_engine.proofs.PieceLemmas.{but_none}
 use Rattle.vcd_engine.proofs.machine.walk.take_each.Goals as goal
 
 pub flush-requires-clause-part : goal.flush-requires-clause-part
-flush-requires-clause-part g c = rw c.in_default.ensures.next.2 (subst (λ bs. IsPart bs c.items.pieces) (c.items.invariant.bytes ∙ sym c.bytes-bytes.ensures) c.items.invariant.part)
+flush-requires-clause-part g c = rw c.in_default.ensures.next.3 (subst (λ bs. IsPart bs c.items.pieces) (c.items.invariant.bytes ∙ sym c.bytes-bytes.ensures) c.items.invariant.part)
 
 pub returns-in_default : goal.returns-in_default
 returns-in_default g c =
@@ -23,12 +23,12 @@ returns-in_default g c =
     let new = g.W.Sink.device c.flush.new.out in
     let puts = subst (λ bs. Puts mid new (held_in bs p) c.flush.result) c.bytes-bytes.ensures c.flush.ensures.puts in
     let some = subst (λ bs. IfErr c.flush.result (λ _. 0 < length (held_in bs p))) c.bytes-bytes.ensures c.flush.ensures.some in
-    rw (u.passed, u.regs, u.written, same.0, same.1) (record {
+    rw (u.passed, u.regs, u.written, same.0, same.1, same.2) (record {
       gives = λ h lines before v few s.
           let all = inv.stands h lines before v few s in
-          ends_before (request_in (g.C.Command.machine c.args.command.now)) h _ lines (bytes_of c.args.ahead) before p out mid new c.flush.result some puts _ all.0 _ _ all.1 (rw (same.2, same.3) all.2);
+          ends_before (request_in (g.C.Command.machine c.args.command.now)) h _ lines (bytes_of c.args.ahead) before p out mid new c.flush.result some puts _ all.0 _ _ all.1 (rw (same.3, same.4) all.2);
       passes = inv.passes;
-      counts = subst (λ n. new.failures ≡ failures_after n c.flush.result) (ap (λ (d : Device). d.failures) same.3 ∙ inv.failures) c.flush.ensures.puts.1;
+      counts = subst (λ n. new.failures ≡ failures_after n c.flush.result) (ap (λ (d : Device). d.failures) same.4 ∙ inv.failures) c.flush.ensures.puts.1;
       same = inv.same;
     })
 
@@ -38,7 +38,7 @@ returns-in-Err g c =
     let t = request_in (g.C.Command.machine c.args.command.now) in
     let limit = longest_of c.args.ahead in
     let bytes = bytes_of c.args.ahead in
-    let within = subst (λ bs. passed_of c.items.walk.ahead ≤ length bs) inv.bytes inv.within in
+    let within = subst (λ bs. passed_of c.items.ahead ≤ length bs) inv.bytes inv.within in
     let n = c.in-Some.ensures.next in
     let u = c.until-in-Err.ensures in
     rw (u.passed, u.regs, u.written) (record {
@@ -68,7 +68,7 @@ items-init g c = record {
   ready = c.requires.ready;
   passes = λ lines ts p. ([], rw append-nil p);
   part = c.new-pieces.ensures.part _;
-  line = (omega (arith, c.passed.ensures.passed), λ less. absurd (omega (arith, c.passed.ensures.passed, less)));
+  line = (omega (arith, c.passed-line.ensures.passed), λ less. absurd (omega (arith, c.passed-line.ensures.passed, less)));
   stands = λ h lines before v few s. ([], s, rw append-nil (but_none _ _ _ (c.new-pieces.ensures.held _)));
 }
 
@@ -78,10 +78,10 @@ items-preserved g c =
     let t = request_in (g.C.Command.machine c.args.command.now) in
     let limit = longest_of c.args.ahead in
     let bytes = bytes_of c.args.ahead in
-    let within = subst (λ bs. passed_of c.items.walk.ahead ≤ length bs) inv.bytes inv.within in
+    let within = subst (λ bs. passed_of c.items.ahead ≤ length bs) inv.bytes inv.within in
     let n = c.in-Some.ensures.next in
     let p = c.take_next.new.pieces in
-    let part : IsPart (bytes_of c.items.walk.ahead) p = subst (λ r. IfOk r (λ _. IsPart (bytes_of c.items.walk.ahead) p)) c.in-Ok.is n.part in
+    let part : IsPart (bytes_of c.items.ahead) p = subst (λ r. IfOk r (λ _. IsPart (bytes_of c.items.ahead) p)) c.in-Ok.is n.part in
     record {
       bytes = n.item.same.0 ∙ inv.bytes;
       longest = n.item.same.1 ∙ inv.longest;

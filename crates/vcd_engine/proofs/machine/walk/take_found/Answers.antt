@@ -3,6 +3,7 @@ use Rattle.std.specs.Prelude.{IfOk}
 use Rattle.vcd_model.specs.Outcome.{open_text}
 use Rattle.vcd_body.specs.Device.{DueBy}
 use Rattle.vcd_engine.specs.Engine.{request_in}
+use Rattle.vcd_engine.specs.Next.{walk_at}
 use Rattle.vcd_engine.specs.Pieces.{IsPart, PutsOn, held_in}
 use Rattle.vcd_engine.proofs.NextLemmas.{goes_on_change}
 use Rattle.vcd_engine.proofs.PieceLemmas.{next_line_is, placed_there, same_regs}
@@ -11,7 +12,7 @@ use Rattle.vcd_engine.proofs.machine.walk.take_found.Goals as goal
 pub take_change-requires-clause-place : goal.take_change-requires-clause-place
 take_change-requires-clause-place g c =
     let f = c.requires.found in
-    let w = c.args.walk.now in
+    let w = walk_at c.args.ahead c.args.regs c.args.line.now in
     placed_there c.args.view w.ahead c.args.next w.regs c.args.plain c.bytes.result _ _ f.item c.bytes.ensures c.passed.ensures.passed c.passed-2.ensures.passed w.line f.change
 
 pub take_change-requires-clause-line : goal.take_change-requires-clause-line
@@ -25,7 +26,7 @@ take_change-requires-clause-part g c = subst (λ (bs : List ℕ). IsPart bs c.ar
 pub returns-clause-next : goal.returns-clause-next
 returns-clause-next g c =
     let f = c.requires.found in
-    let w = c.args.walk.now in
+    let w = walk_at c.args.ahead c.args.regs c.args.line.now in
     let p = c.args.plain in
     let same = c.bytes.ensures ∙ f.item.same.0 in
     let t = request_in (g.C.Command.machine c.args.command.now) in
