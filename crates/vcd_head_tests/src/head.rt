@@ -49,14 +49,15 @@ fn read_good(alloc: Global, text: &[u8]) -> Result<Head, HeadFault> {
     read_under(alloc, text, 16_777_216)
 }
 
-// Rows of the header with nested scopes, by their places.
+// Rows of the header with nested scopes, by their places. The bytes of a new code lie before the
+// type of its first variable.
 const NESTED_ROWS: [(usize, Row); 5] = [
     (
         1,
         Row {
             kind: Kind::Var,
             parent: 1,
-            start: 8,
+            start: 9,
             word: 4,
             name: 3,
             all: 3,
@@ -68,7 +69,7 @@ const NESTED_ROWS: [(usize, Row); 5] = [
         Row {
             kind: Kind::Var,
             parent: 3,
-            start: 23,
+            start: 24,
             word: 3,
             name: 1,
             all: 7,
@@ -104,7 +105,7 @@ const NESTED_ROWS: [(usize, Row); 5] = [
         Row {
             kind: Kind::Var,
             parent: 1,
-            start: 42,
+            start: 44,
             word: 5,
             name: 2,
             all: 2,
@@ -114,7 +115,7 @@ const NESTED_ROWS: [(usize, Row); 5] = [
 ];
 
 const NESTED_LAST: Code = Code {
-    start: 49,
+    start: 42,
     len: 2,
     size: 1,
     event: true,
@@ -325,7 +326,8 @@ fn codes_are_found(rt: HostRuntime) -> Result<(), Fail> {
     Ok(())
 }
 
-// The first six have numbers that leave 1 when divided by 16, and there are 16 entries; the others have 8 bytes or more.
+// The first six have numbers that leave 1 when divided by 16, and there are 16 entries; the others
+// have 8 bytes or more.
 const CROWDED: &[u8] =
     b"$var wire 1 ! a $end $var wire 1 1 b $end $var wire 1 A c $end $var wire 1 Q d $end $var wire 1 a e $end $var wire 1 q f $end $var wire 1 register g $end $var wire 1 register1 h $end $var wire 1 register2 i $end $var wire 1 0123456789abcdef j $end $enddefinitions $end\n";
 
