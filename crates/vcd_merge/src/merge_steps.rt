@@ -99,7 +99,7 @@ fn turn<S: Source, W: Sink>(
     let chunk_at = input * chunk;
     let token_at = input * limit;
     run_of(
-        heads[input].view(),
+        &heads[input],
         input,
         before,
         &mut sources[input],

@@ -7,7 +7,8 @@ ghost use Rattle.vcd_model.specs.Tokens.{Token};
 ghost use Rattle.vcd_text.specs.Device.{Counts, Puts, failures_after};
 ghost use Rattle.vcd_text.specs.Feed.{SameLoans, source_of, parked_of, seen, limit_of, chunk_len_of, parked_seen};
 ghost use Rattle.vcd_text.specs.Registers.{Fits};
-ghost use Rattle.vcd_view.specs.Views.{IsViewOf};
+ghost use Rattle.vcd_head.specs.Shown.{shown};
+ghost use Rattle.vcd_view.specs.Views.{IsViewOf, Views};
 ghost use Rattle.vcd_view.specs.declared.view.Code.{Code};
 ghost use Rattle.vcd_text.specs.Advances.{Advances, CallEnd, HasNotFailed};
 ghost use Rattle.vcd_text.specs.Ahead.{bytes_of, longest_of, passed_of};
@@ -26,6 +27,7 @@ use vcd_body::{
     put_renamed_bits, put_time, real_ahead, scalar_ahead, time_ahead, vector_ahead,
     vector_tokens_ahead,
 };
+use vcd_head::Head;
 use vcd_text::{Ahead, Feed, Sink, Source, WriteFailed};
 use vcd_view::HeadView;
 
@@ -292,7 +294,7 @@ fn items_ahead<W: Sink>(
 /// early.
 #[inline(never)]
 fn take_ahead<S: Source, W: Sink>(
-    view: HeadView<'_>,
+    head: &Head,
     before: u64,
     feed: &mut Feed<'_, '_, '_, '_, S>,
     seat: &mut Seat,
@@ -303,7 +305,7 @@ fn take_ahead<S: Source, W: Sink>(
     requires unfinished { seat.old.finished ≡ false }
     requires open { HasNotFailed feed.old }
     ensures turns { (k scale first : ℕ) (l : Lane) (items : List BodyItem)
-        → IsViewOf view.entry l.header → AtSeat scale first l items (spot_with seat.old feed.old)
+        → Views (shown head.now) l.header → AtSeat scale first l items (spot_with seat.old feed.old)
         → AheadTurns S.rest S.failures k scale first l before
         (stage_with items written.old seat.old feed.old (W.device out.old))
         written.new seat.new feed.new (W.device out.new) result }
@@ -313,7 +315,7 @@ fn take_ahead<S: Source, W: Sink>(
     ensures same { seat.new ≡ seat_with seat.old seat.new.regs seat.new.time }
     ensures counts { Counts (W.device out.old) (W.device out.new) result }
 {
-    let taken = items_ahead(view, before, *seat, *written, feed.ahead(), out);
+    let taken = items_ahead(head.view(), before, *seat, *written, feed.ahead(), out);
     *seat = taken.seat;
     *written = taken.written;
     pass_items(feed, taken.passed);
@@ -324,7 +326,7 @@ fn take_ahead<S: Source, W: Sink>(
 /// registers are those after it; where the feed stands is left to the caller.
 #[inline(always)]
 fn take_item<S: Source, W: Sink>(
-    view: HeadView<'_>,
+    head: &Head,
     input: usize,
     feed: &mut Feed<'_, '_, '_, '_, S>,
     seat: &mut Seat,
@@ -335,7 +337,7 @@ fn take_item<S: Source, W: Sink>(
     requires out_failures { (W.device out.old).failures < 2 ^ 64 - 1 }
     requires unfinished { seat.old.finished ≡ false }
     ensures turns { (scale first : ℕ) (l : Lane) (items : List BodyItem)
-        → IsViewOf view.entry l.header → AtSeat scale first l items (spot_with seat.old feed.old)
+        → Views (shown head.now) l.header → AtSeat scale first l items (spot_with seat.old feed.old)
         → Turns input scale first l items written.old written.new (spot_with seat.new feed.new)
         (W.device out.old) (W.device out.new) result }
     ensures moved { Moved S.failures feed.old feed.new seat.new result }
@@ -345,6 +347,7 @@ fn take_item<S: Source, W: Sink>(
     ensures writes { (W.device out.new).failures
         ≡ (W.device out.old).failures + writes_failed result }
 {
+    let view = head.view();
     let item = match next_item(feed, view, &mut seat.regs) {
         Ok(item) => item,
         Err(fault) => return Err(Stop::of_body(fault, input, feed.line())),
@@ -382,7 +385,7 @@ fn take_item<S: Source, W: Sink>(
 /// those that follow while it is. Those that lie ahead are taken first.
 #[inline(always)]
 fn take_run<S: Source, W: Sink>(
-    view: HeadView<'_>,
+    head: &Head,
     input: usize,
     before: u64,
     feed: &mut Feed<'_, '_, '_, '_, S>,
@@ -395,7 +398,7 @@ fn take_run<S: Source, W: Sink>(
     requires unfinished { seat.old.finished ≡ false }
     requires open { HasNotFailed feed.old }
     ensures turns { (scale first : ℕ) (l : Lane) (items : List BodyItem)
-        → IsViewOf view.entry l.header → AtSeat scale first l items (spot_with seat.old feed.old)
+        → Views (shown head.now) l.header → AtSeat scale first l items (spot_with seat.old feed.old)
         → RunTurns S.rest S.failures input scale first l before
         (stage_with items written.old seat.old feed.old (W.device out.old))
         written.new (spot_with seat.new feed.new) (W.device out.new) result }
@@ -407,10 +410,10 @@ fn take_run<S: Source, W: Sink>(
         ≡ (W.device out.old).failures + writes_failed result }
 {
     'items: loop {
-        if take_ahead(view, before, feed, seat, written, out)? {
+        if take_ahead(head, before, feed, seat, written, out)? {
             return Ok(());
         }
-        take_item(view, input, feed, seat, written, out)?;
+        take_item(head, input, feed, seat, written, out)?;
         if seat.finished || seat.time >= before {
             return Ok(());
         }
@@ -422,7 +425,7 @@ fn take_run<S: Source, W: Sink>(
 /// one, and is parked again.
 #[inline(always)]
 pub(crate) fn run_of<S: Source, W: Sink>(
-    view: HeadView<'_>,
+    head: &Head,
     input: usize,
     before: u64,
     source: &mut S,
@@ -440,7 +443,7 @@ pub(crate) fn run_of<S: Source, W: Sink>(
     requires same_limit { length value.old ≡ length token.old }
     requires seated { IsSeated (length chunk.old) (length token.old) seat.old }
     requires unfinished { seat.old.finished ≡ false }
-    ensures turns { (scale first : ℕ) (l : Lane) (items : List BodyItem) → IsViewOf view.entry l.header
+    ensures turns { (scale first : ℕ) (l : Lane) (items : List BodyItem) → Views (shown head.now) l.header
         → AtSeat scale first l items (spot seat.old (S.rest source.old) chunk.old token.old)
         → RunTurns S.rest S.failures input scale first l before
         (stage items written.old seat.old source.old chunk.old token.old (W.device out.old))
@@ -458,7 +461,7 @@ pub(crate) fn run_of<S: Source, W: Sink>(
     ensures bounded { parked_seen seat.new.parked < 2 ^ 63 }
 {
     let mut feed = Feed::resume(source, chunk, token, value, seat.parked);
-    let answer = take_run(view, input, before, &mut feed, seat, written, out);
+    let answer = take_run(head, input, before, &mut feed, seat, written, out);
     seat.parked = feed.parked();
     answer
 }

@@ -1,6 +1,6 @@
 use Rattle.std.proofs.Common.{◌≡◌, ◌<◌, sym, ap, subst, ◌∙◌, ◌+◌, length, arith, map, slice_set}
 use Rattle.std.proofs.lemmas.Option.{get_or_from_slice_get, slice_get-get_or}
-use Rattle.vcd_view.specs.Shown.{HeadShown, parts}
+use Rattle.vcd_view.specs.Shown.{HeadShown}
 use Rattle.vcd_head.specs.Shown.{shown}
 use Rattle.vcd_view.specs.Views.{Views}
 use Rattle.vcd_merge.specs.MergeParts.{part_len}
@@ -21,7 +21,7 @@ returns-clause-turns g c = λ scale first l items h s there views at is.
     let lt = c.run_of.auto.token ∙ lent_len (part_len (length seats) tokens) (length seats) c.args.input tokens c.requires.parts.tokens_are c.requires.input in
     let e = spot_lent g.S.Source.rest seats c.args.sources.now chunks tokens c.args.input s c.index-sources-input.result _ at c.requires.input h2 c.index-sources-input.is in
     let old = subst (AtSeat scale first l items) e is in
-    let same : parts c.view.result ≡ shown h = c.view.ensures ∙ ap shown (c.index-heads-input.is ∙ get_or_from_slice_get c.args.heads.now c.args.input h c.index-heads-input.result there) in
+    let same : shown c.index-heads-input.result ≡ shown h = ap shown (c.index-heads-input.is ∙ get_or_from_slice_get c.args.heads.now c.args.input h c.index-heads-input.result there) in
     let told = c.run_of.ensures.turns scale first l items (subst (λ (x : HeadShown). Views x l.header) (sym same) views) old in (
       _,
       spot_put g.S.Source.rest seats c.args.sources.now chunks tokens c.args.input c.run_of.new.seat c.run_of.new.source c.run_of.new.chunk c.run_of.new.token c.requires.input h2 c.requires.parts.chunks_are c.requires.parts.tokens_are lc lt,

@@ -1,5 +1,7 @@
 use Rattle.std.proofs.Common.{true, ℕ, List, ◌≡◌, ◌≤◌, ◌^◌, sym, ap, subst, ◌∙◌, refl, ◌*◌, inl, inr, rules, arith, Err, mul_comm}
 use Rattle.vcd_model.specs.Items.{BodyItem}
+use Rattle.vcd_view.specs.Shown.{HeadShown}
+use Rattle.vcd_view.specs.Views.{Views}
 use Rattle.vcd_body.specs.Given.{text_of}
 use Rattle.vcd_body.specs.Items.{AreRegsAfter, model_form, model_section}
 use Rattle.vcd_body.specs.declared.item.Regs.{Regs}
@@ -11,12 +13,14 @@ use Rattle.vcd_merge.proofs.SeatLemmas.{out_of, turned, ended, faulty, large, no
 use Rattle.vcd_merge.proofs.merging.take_item.Goals as goal
 
 pub returns-in-Err-clause-turns : goal.returns-in-Err-clause-turns
-returns-in-Err-clause-turns g c = λ scale first l items views at.
+returns-in-Err-clause-turns g c = λ scale first l items shows at.
+    let views = subst (λ (x : HeadShown). Views x l.header) (sym c.view-view.ensures) shows in
     let fails = c.in-Err.ensures.reads l.header l.input l.front items views (out_of scale first l items c.args.seat.now c.args.feed.now at) in
     rw c.of_body.ensures (faulty scale first l items (Unit {0}) c.args.input c.args.seat.now c.next_item.new.regs c.args.seat.now.time c.args.seat.now.finished c.args.feed.now c.next_item.new.feed c.args.written.now _ c.in-Err.fault c.line.result at c.line.ensures fails)
 
 pub returns-in-None-clause-turns : goal.returns-in-None-clause-turns
-returns-in-None-clause-turns g c = λ scale first l items views at.
+returns-in-None-clause-turns g c = λ scale first l items shows at.
+    let views = subst (λ (x : HeadShown). Views x l.header) (sym c.view-view.ensures) shows in
     let gives = rw c.in-Time.is at c.in-Ok.ensures.reads l.header l.input l.front items views (out_of scale first l items c.args.seat.now c.args.feed.now at) in
     let not = c.in-None.ensures in
     let big : 2 ^ 64 ≤ c.in-Time.time * c.args.seat.now.factor = omega (arith, not) in
@@ -24,7 +28,8 @@ returns-in-None-clause-turns g c = λ scale first l items views at.
     (refl, refl, rw c.line-in-None.ensures dump, writes-none _, no_more_at_item l l.input items c.next_item.new.feed (BodyItem.Time c.in-Time.time) c.next_item.new.regs gives)
 
 pub returns-in_err-put_unsized-in-Change-clause-turns : goal.returns-in_err-put_unsized-in-Change-clause-turns
-returns-in_err-put_unsized-in-Change-clause-turns g c = λ scale first l items views at.
+returns-in_err-put_unsized-in-Change-clause-turns g c = λ scale first l items shows at.
+    let views = subst (λ (x : HeadShown). Views x l.header) (sym c.view-view.ensures) shows in
     let s = c.args.seat.now in
     let r = c.next_item.new.regs in
     let gives = rw c.in-Change.is at c.in-Ok.ensures.reads l.header l.input l.front items views (out_of scale first l items s c.args.feed.now at) in
@@ -36,12 +41,14 @@ returns-in_err-put_unsized-in-Change-clause-turns g c = λ scale first l items v
     rw e (x, turned scale first l items s r s.time s.finished c.args.feed.now c.next_item.new.feed x at gives.2.gave refl (timed scale items s r at.gave.known (ap (λ (q : Regs). q.time) same) at.time_is) c.requires.unfinished, (takes.0, c.in_err-put_unsized-in-Change.ensures.counts), no_more_at_item l l.input items c.next_item.new.feed x r gives.2)
 
 pub returns-in-Finish-clause-turns : goal.returns-in-Finish-clause-turns
-returns-in-Finish-clause-turns g c = λ scale first l items views at.
+returns-in-Finish-clause-turns g c = λ scale first l items shows at.
+    let views = subst (λ (x : HeadShown). Views x l.header) (sym c.view-view.ensures) shows in
     let gives = rw c.in-Finish.is at c.in-Ok.ensures.reads l.header l.input l.front items views (out_of scale first l items c.args.seat.now c.args.feed.now at) in
     inr (refl, ended scale first l items c.args.seat.now c.next_item.new.regs true c.args.feed.now c.next_item.new.feed at gives, refl, writes-none _, no_more_at_end l l.input items c.next_item.new.feed c.next_item.new.regs gives)
 
 pub returns-in-Some-clause-turns : goal.returns-in-Some-clause-turns
-returns-in-Some-clause-turns g c = λ scale first l items views at.
+returns-in-Some-clause-turns g c = λ scale first l items shows at.
+    let views = subst (λ (x : HeadShown). Views x l.header) (sym c.view-view.ensures) shows in
     let s = c.args.seat.now in
     let r = c.next_item.new.regs in
     let gives = rw c.in-Time.is at c.in-Ok.ensures.reads l.header l.input l.front items views (out_of scale first l items s c.args.feed.now at) in
@@ -51,7 +58,8 @@ returns-in-Some-clause-turns g c = λ scale first l items views at.
     inl (BodyItem.Time c.in-Time.time, (c.requires.unfinished, turned scale first l items s r c.in-Some.time s.finished c.args.feed.now c.next_item.new.feed (BodyItem.Time c.in-Time.time) at gives.gave (not_large scale c.in-Time.time fits.0) time c.requires.unfinished, refl, no_more_at_item l l.input items c.next_item.new.feed (BodyItem.Time c.in-Time.time) r gives), writes-none _)
 
 pub returns-in_ok-put_unsized-in-Change-clause-turns : goal.returns-in_ok-put_unsized-in-Change-clause-turns
-returns-in_ok-put_unsized-in-Change-clause-turns g c = λ scale first l items views at.
+returns-in_ok-put_unsized-in-Change-clause-turns g c = λ scale first l items shows at.
+    let views = subst (λ (x : HeadShown). Views x l.header) (sym c.view-view.ensures) shows in
     let s = c.args.seat.now in
     let r = c.next_item.new.regs in
     let gives = rw c.in-Change.is at c.in-Ok.ensures.reads l.header l.input l.front items views (out_of scale first l items s c.args.feed.now at) in
@@ -62,7 +70,8 @@ returns-in_ok-put_unsized-in-Change-clause-turns g c = λ scale first l items vi
     (inl (x, (c.requires.unfinished, turned scale first l items s r s.time s.finished c.args.feed.now c.next_item.new.feed x at gives.2.gave refl (timed scale items s r at.gave.known (ap (λ (q : Regs). q.time) same) at.time_is) c.requires.unfinished, takes.1, no_more_at_item l l.input items c.next_item.new.feed x r gives.2), (takes.0, c.in_ok-put_unsized-in-Change.ensures.counts)))
 
 pub returns-in-Begin-clause-turns : goal.returns-in-Begin-clause-turns
-returns-in-Begin-clause-turns g c = λ scale first l items views at.
+returns-in-Begin-clause-turns g c = λ scale first l items shows at.
+    let views = subst (λ (x : HeadShown). Views x l.header) (sym c.view-view.ensures) shows in
     let s = c.args.seat.now in
     let r = c.next_item.new.regs in
     let gives = rw c.in-Begin.is at c.in-Ok.ensures.reads l.header l.input l.front items views (out_of scale first l items s c.args.feed.now at) in
@@ -71,7 +80,8 @@ returns-in-Begin-clause-turns g c = λ scale first l items views at.
     inl (x, (c.requires.unfinished, turned scale first l items s r s.time s.finished c.args.feed.now c.next_item.new.feed x at gives.gave refl (timed scale items s r at.gave.known (ap (λ (q : Regs). q.time) regs) at.time_is) c.requires.unfinished, refl, no_more_at_item l l.input items c.next_item.new.feed x r gives), writes-none _)
 
 pub returns-in-End-clause-turns : goal.returns-in-End-clause-turns
-returns-in-End-clause-turns g c = λ scale first l items views at.
+returns-in-End-clause-turns g c = λ scale first l items shows at.
+    let views = subst (λ (x : HeadShown). Views x l.header) (sym c.view-view.ensures) shows in
     let s = c.args.seat.now in
     let r = c.next_item.new.regs in
     let gives = rw c.in-End.is at c.in-Ok.ensures.reads l.header l.input l.front items views (out_of scale first l items s c.args.feed.now at) in

@@ -2,7 +2,8 @@ use Rattle.std.proofs.Common.{◌≡◌, ℕ, ◌≤◌, ◌-◌, ◌^◌, List,
 use Rattle.vcd_model.specs.Items.{BodyItem}
 use Rattle.vcd_text.specs.Feed.{SameLoans, limit_of, chunk_len_of, seen, source_of}
 use Rattle.vcd_text.specs.Advances.{HasNotFailed}
-use Rattle.vcd_view.specs.Views.{IsViewOf}
+use Rattle.vcd_head.specs.Shown.{shown}
+use Rattle.vcd_view.specs.Views.{Views}
 use Rattle.vcd_merge.specs.MergeTrail.{Reaches, stage_with}
 use Rattle.vcd_merge.specs.Seat.{AtSeat, Lane, SameSeat, spot_with}
 use Rattle.vcd_merge.proofs.merging.take_run.Given as goal
@@ -19,7 +20,7 @@ invariant-items g l = record {
   parked : l.seat.parked ≡ l.fn.seat.parked;
   same : SameSeat l.fn.seat l.seat;
   writes : (g.W.Sink.device l.out).failures ≡ (g.W.Sink.device l.fn.out).failures;
-  trail : (scale first : ℕ) (lane : Lane) (items : List BodyItem) → IsViewOf l.fn.view lane.header → AtSeat scale first lane items (spot_with l.fn.seat l.fn.feed)
+  trail : (scale first : ℕ) (lane : Lane) (items : List BodyItem) → Views (shown l.fn.head) lane.header → AtSeat scale first lane items (spot_with l.fn.seat l.fn.feed)
       → (xs : List BodyItem) × AtSeat scale first lane xs (spot_with l.seat l.feed) × Reaches g.S.Source.rest g.S.Source.failures scale first lane l.fn.before (stage_with items l.fn.written l.fn.seat l.fn.feed (g.W.Sink.device l.fn.out)) (stage_with xs l.written l.seat l.feed (g.W.Sink.device l.out));
 }
 
