@@ -26,7 +26,7 @@ use Rattle.vcd_body.specs.Device.{Grows, GrowsSome}
 use Rattle.vcd_engine.specs.Engine.{CanRun, Keeps, Runs, last_of, request_of_engine}
 use Rattle.vcd_engine.specs.declared.engine.Engine.{Engine}
 use Rattle.vcd_engine.specs.declared.machine.Machine.{Machine}
-use Rattle.vcd_engine.specs.Ahead.{GaveOneAhead, RunsAhead}
+use Rattle.vcd_engine.specs.Ahead.{RunsAhead}
 use Rattle.vcd_engine.specs.Pieces.{GrowsBut, held_in}
 use Rattle.vcd_engine.specs.declared.pieces.Pieces.{Pieces}
 use Rattle.vcd_body.proofs.AskedLemmas.{split_last}
@@ -34,11 +34,6 @@ use Rattle.vcd_engine.proofs.PieceLemmas.{but_some, but_written}
 use Rattle.vcd_text.specs.Device.{Puts, WritesSome}
 use Rattle.std.specs.Prelude.{IfErr}
 use Rattle.vcd_engine.proofs.EngineLemmas.{last_more, none_at}
-use Rattle.vcd_body.proofs.Results.{writes-none}
-
--- nothing is due with no item
-pub grows-none : (out : Device) (text : List ℕ) → Grows out out text text
-grows-none out text = ([], sym (append-nil text), writes-none out)
 
 -- what is due grows with each item
 pub grows_on : (out mid new : Device) (a b c : List ℕ) → Grows out mid a b → Grows mid new b c → Grows out new a c

@@ -137,8 +137,8 @@ pub fn sample<S: Source, W: Sink>(
     requires rising { IsStrictlyIncreasing times.now }
     requires room { HasRoomFor (Task.Sample times names) view room.old }
     requires bound { FitsBound feed.old view (room_size room.old) }
-    ensures gives { Does (Request.Sample times.now (map string_bytes names.now)) view.entry feed.old feed.new
-        (W.device out.old) (W.device out.new) result }
+    ensures gives { Does (Request.Sample times.now (map string_bytes names.now)) view.entry
+        feed.old feed.new (W.device out.old) (W.device out.new) result }
     ensures devices { CountsBoth S.failures feed.old feed.new
         (W.device out.old) (W.device out.new) result }
     ensures windows { SameWindows feed.old feed.new }

@@ -199,7 +199,8 @@ impl ItemText {
         out: &mut W,
     ) -> Result<(), WriteFailed>
         requires failures { (W.device out.old).failures < 2 ^ 64 - 1 }
-        requires within { (change.from + 1 + n ≤ change.to) × (change.to ≤ length change.bytes.now) }
+        requires within { (change.from + 1 + n ≤ change.to)
+            × (change.to ≤ length change.bytes.now) }
         requires line { IsLine change.bytes.now change.line change.from time }
         requires part { IsPart change.bytes.now pieces.old }
         ensures puts { PutsBehind change.entry.bytes.now pieces.old pieces.new

@@ -108,8 +108,8 @@ impl<'n, 'r> Machine<'n, 'r> {
         Ok(false)
     }
 
-    /// Takes the items that lie ahead, one after the other, and writes what is due after each. Short
-    /// pieces of that are gathered in memory that is lent.
+    /// Takes the items that lie ahead, one after the other, and writes what is due after each.
+    /// Short pieces of that are gathered in memory that is lent.
     // A loop for each task, so that none asks for each item what the task is.
     pub(crate) fn take_ahead<W: Sink>(
         &mut self,

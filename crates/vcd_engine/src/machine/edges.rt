@@ -84,14 +84,7 @@ impl<'n, 'r> Edges<'n, 'r> {
     /// Counts a change of the code at a place, which stands inside a section or not.
     #[cold]
     #[inline(never)]
-    fn take_at(
-        &mut self,
-        view: HeadView<'_>,
-        inside: bool,
-        code: usize,
-        form: Form,
-        text: &[u8],
-    )
+    fn take_at(&mut self, view: HeadView<'_>, inside: bool, code: usize, form: Form, text: &[u8])
         requires sound { IsGoodText view.codes.now code form text.now }
         ensures takes { (h : Header) (items : List BodyItem) (c : IdCode) → IsViewOf view.entry h
             → slice_get h.codes code ≡ Some c → inside ≡ leaves_open items

@@ -94,8 +94,9 @@ impl<'n, 'r> Pick<'n, 'r> {
     ) -> Result<(), WriteFailed>
         requires failures { (W.device out.old).failures < 2 ^ 64 - 1 }
         requires sound { HasGoodText view.codes.now text.now item }
-        ensures takes { AtItem view.entry regs item text.now (λ h items x. ArePicked self.old h items
-            → TakesDue (W.device out.old) (W.device out.new) (pick_open h (names_in self.old) items)
+        ensures takes { AtItem view.entry regs item text.now (λ h items x.
+            ArePicked self.old h items → TakesDue (W.device out.old) (W.device out.new)
+            (pick_open h (names_in self.old) items)
             (pick_open h (names_in self.old) (items ++ x ∷ [])) result
             × IfOk result (λ _. ArePicked self.new h (items ++ x ∷ []))) }
         ensures counts { Counts (W.device out.old) (W.device out.new) result }

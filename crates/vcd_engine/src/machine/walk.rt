@@ -118,7 +118,8 @@ fn take_found<'a, L, C: Command<L>, W: Sink>(
     requires part { IsPart (bytes_of ahead) pieces.old }
     ensures next { TakesNext view.entry (walk_at ahead.entry regs line.old)
         (walk_at next.entry regs line.new) pieces.old pieces.new
-        (W.device out.old) (W.device out.new) (C.machine command.old) (C.machine command.new) result }
+        (W.device out.old) (W.device out.new)
+        (C.machine command.old) (C.machine command.new) result }
     ensures ready { C.is_ready command.new ≡ true }
 {
     let change = InPlace {

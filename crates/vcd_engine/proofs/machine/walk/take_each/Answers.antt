@@ -1,4 +1,4 @@
-use Rattle.std.proofs.Common.{◌≡◌, ◌+◌, ◌≤◌, List, [], ◌∷◌, ◌++◌, length, refl, sym, ap, arith, subst, ◌∙◌, append-nil}
+use Rattle.std.proofs.Common.{◌≡◌, ◌+◌, ◌≤◌, [], ◌∷◌, ◌++◌, length, refl, sym, ap, arith, subst, ◌∙◌, append-nil}
 use Rattle.std.specs.Prelude.{IfOk, IfErr, ◌<◌}
 use Rattle.vcd_text.specs.Ahead.{bytes_of, longest_of, passed_of}
 use Rattle.vcd_text.specs.Device.{Counts, Device, Puts, failures_after}
@@ -44,15 +44,15 @@ returns-in-Err g c =
     rw (u.passed, u.regs, u.written) (record {
       gives = λ h lines before v few s.
           let all = inv.stands h lines before v few s in (
-            record {
-              more = all.0;
-              on = all.1.on;
-              last = (
-                next t h limit lines bytes before c.args.view v few _ _ _ _ _ _ _ _ _ n all.0 (inv.longest, inv.bytes) inv.same.0 within all.1,
-                next_given t h limit lines bytes before c.args.view v few _ _ _ _ _ _ _ _ _ n all.0 (inv.longest, inv.bytes) inv.same.0 within all.1,
-                next_fails t h limit lines bytes before c.args.view v few _ _ _ _ _ _ _ _ _ n all.0 (inv.longest, inv.bytes) inv.same.0 within all.1 (g.W.Sink.device c.args.out.now) all.2 _ c.in-Err.is,
-              );
-            });
+          record {
+            more = all.0;
+            on = all.1.on;
+            last = (
+              next t h limit lines bytes before c.args.view v few _ _ _ _ _ _ _ _ _ n all.0 (inv.longest, inv.bytes) inv.same.0 within all.1,
+              next_given t h limit lines bytes before c.args.view v few _ _ _ _ _ _ _ _ _ n all.0 (inv.longest, inv.bytes) inv.same.0 within all.1,
+              next_fails t h limit lines bytes before c.args.view v few _ _ _ _ _ _ _ _ _ n all.0 (inv.longest, inv.bytes) inv.same.0 within all.1 (g.W.Sink.device c.args.out.now) all.2 _ c.in-Err.is,
+            );
+          });
       passes = λ lines ts p. let so_far = inv.passes lines ts p in next_passes limit lines bytes c.args.view _ _ _ _ n.item (inv.longest, inv.bytes) ts so_far.0 so_far.1;
       counts = subst (λ r. Counts (g.W.Sink.device c.items.out) (g.W.Sink.device c.take_next.new.out) r) c.in-Err.is n.counts ∙ ap (λ n. n + 1) inv.failures;
       same = (n.same.0 ∙ inv.same.0, n.same.1 ∙ inv.same.1);

@@ -30,7 +30,7 @@ invariant-items g l =
       stands : (h : Header) (lines : ℕ) (before : List BodyItem) → IsViewOf l.fn.view h → length before + length (bytes_of a) < 2 ^ 63
           → StandsAhead (request_in m) h (longest_of a) lines (bytes_of a) before (passed_of a) [] m l.fn.regs
           → (items : List BodyItem) × StandsAhead (request_in m) h (longest_of a) lines (bytes_of a) before (passed_of l.ahead) items (g.C.Command.machine l.command) l.regs
-          × GrowsBut (g.W.Sink.device l.fn.out) (g.W.Sink.device l.out) (held_in (bytes_of a) l.pieces) (open_text (request_in m) h before) (open_text (request_in m) h (before ++ items))
+          × GrowsBut (g.W.Sink.device l.fn.out) (g.W.Sink.device l.out) (held_in (bytes_of a) l.pieces) (open_text (request_in m) h before) (open_text (request_in m) h (before ++ items));
     }
 
 abbrev pub decreases-items : goal.decreases-items
