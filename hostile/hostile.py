@@ -97,7 +97,7 @@ def memory(place, case):
         # A library asks for more than it needs in some places, or to give some back, and goes on where that is refused.
         if got not in ((b"", b"vcdkit: out of memory\n", 3), whole):
             yield say(case, "request %d of %d refused" % (n, requests), whole, got)
-    # How the last variable of a header is read, and so whether its code is held, depends on whether 64 bytes lie behind it in the chunk:
+    # How the last variable of a header is read, and so what it asks for, depends on whether 64 bytes lie behind it in the chunk:
     # five comments are more. The names of the files are as long, since they are copied too.
     few, many = [place.counts(case, place.files_of(case, [text + b"\n$comment x $end" * n for text in case.inputs], mark))
                  for n, mark in ((5, ".few"), (5000, ".all"))]

@@ -21,7 +21,7 @@ const MERGES: [(&[&[u8]], &[u8], &[u8], u8); 7] = [
         b"",
         0,
     ),
-    // The same input twice.
+    // One input, merged with itself.
     (
         &[DUMP, DUMP],
         b"$timescale\n\t1ns\n$end\n$scope module in1 $end\n$var wire 1 ! clk $end\n$upscope $end\n$scope module in2 $end\n$var wire 1 \" clk $end\n$upscope $end\n$enddefinitions $end\n#0\n0!\n0\"\n#5\n1!\n1\"\n",
