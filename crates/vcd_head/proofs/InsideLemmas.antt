@@ -1,29 +1,38 @@
--- What is left of names inside open scopes.
-use Rattle.std.proofs.Common.{◌≡◌, ℕ, zero, suc, ◌+◌, ◌-◌, ◌<◌, ◌≤◌, Bool, true, false, ◌&&◌, ◌||◌, ◌==◌, List, [], ◌∷◌, ◌++◌, length, map, take, drop, get_or, set, slice_range, reverse, replicate, slice_get, Bor, Option, Some, None, option_map, inl, inr, refl, sym, ap, subst, ◌∙◌, arith}
+-- The names that go on inside open scopes.
+use Rattle.std.proofs.Common.{◌≡◌, ◌≢◌, ◌⊎◌, ℕ, zero, suc, ◌+◌, ◌-◌, ◌<◌, ◌≤◌, Bool, true, false, ◌||◌, ◌==◌, List, [], ◌∷◌, ◌++◌, length, map, take, drop, get_or, set, slice_range, reverse, replicate, slice_get, Option, Some, None, option_map, inl, inr, refl, sym, ap, subst, ◌∙◌, arith}
 use Rattle.std.specs.List.{AllByRecursion, list_any}
-use Rattle.std.proofs.lemmas.Bool.{false_from_ne_true, ne_eqb}
+use Rattle.std.proofs.lemmas.Bool.{ne_eqb}
 use Rattle.std.proofs.lemmas.Grind.{flat_map-append}
 use Rattle.std.proofs.lemmas.List.{append_assoc, append-nil, reverse-append, length-drop, length-take, length-take-le, take-append-drop}
 use Rattle.std.proofs.Math.Seq.{take-append-add}
 use Rattle.std.proofs.lemmas.List.Elements.{filter_map-append}
-use Rattle.std.proofs.lemmas.Option.{none-some, same_Some}
+use Rattle.std.proofs.lemmas.Option.{none-some, same_Some, slice_get_within}
 use Rattle.vcd_model.specs.Bytes.{is_empty}
 use Rattle.vcd_model.specs.Declarations.{Declaration, IdCode, Variable, enclosing, name_of, names_at, parent}
+use Rattle.vcd_model.specs.Header.{Header}
 use Rattle.vcd_model.specs.Selection.{is_selected, is_variable, selects_path}
 use Rattle.vcd_model.proofs.ScopeLemmas.{enclosing_below, slice_get-take}
-use Rattle.std.specs.Option.{IfSome}
 use Rattle.vcd_head.specs.declared.inside.Inside.{Inside}
-use Rattle.vcd_head.specs.Inside.{AreLeft, front, is_all, is_rest, left_in, left_selects}
-use Rattle.vcd_head.specs.declared.inside.Left.{Left}
-use Rattle.vcd_head.specs.declared.inside.Left.TheVariants.{Rest, Selected, Differs}
+use Rattle.vcd_head.specs.declared.inside.Open.{Open}
+use Rattle.vcd_head.specs.declared.names.Run.{Run}
+use Rattle.vcd_head.specs.Inside.{AreOpen, HasEntered, front}
+use Rattle.vcd_head.specs.ScopesLeft.{GivesNext, LeavesScopes}
+use Rattle.vcd_head.specs.declared.enclosing.Enclosing.{Enclosing}
+use Rattle.vcd_head.proofs.RunSteps.{notes_behind, notes_both}
+use Rattle.vcd_head.specs.Matched.{Matched, Matches}
+use Rattle.vcd_head.specs.Names.{AreSame, Notes, SelectsAll, text_at}
 use Rattle.vcd_head.specs.Paths.{names_text, scopes_text}
-use Rattle.vcd_head.specs.Sieves.{AllOrNone, RulesOut}
+use Rattle.vcd_head.specs.Runs.{Follows, IsDecided}
 use Rattle.vcd_view.specs.declared.view.Kind.TheVariants as kind
 use Rattle.vcd_view.specs.declared.view.Row.{Row}
-use Rattle.vcd_view.specs.Views.{IsRow, counted_from_one}
-use Rattle.vcd_view.proofs.ListLemmas.{all_weaker}
-use Rattle.vcd_view.proofs.ParentLemmas.{around_none, around_some}
-use Rattle.vcd_head.proofs.NamePaths.{selects-longer}
+use Rattle.vcd_view.specs.Shown.{HeadShown}
+use Rattle.vcd_view.specs.Views.{IsRow, Views, counted_from_one}
+use Rattle.vcd_view.proofs.RowLemmas.{row_of, rows_len}
+use Rattle.vcd_view.proofs.ListLemmas.{all_push, all_weaker}
+use Rattle.vcd_view.proofs.ParentLemmas.{around_none, around_some, parent_before}
+use Rattle.vcd_head.proofs.MatchLemmas.{or_true}
+use Rattle.vcd_head.proofs.RunLemmas.{text_is}
+use Rattle.vcd_head.proofs.SelectionLemmas.{there}
 
 -- ---- lists
 
@@ -32,12 +41,22 @@ same_everywhere zero i x y e = absurd (none-some y e)
 same_everywhere (suc n) zero x y e = same_Some x y e
 same_everywhere (suc n) (suc i) x y e = same_everywhere n i x y e
 
-pub each_set : {X : Type 0} (P : X → Type 0) (xs : List X) (p : ℕ) (y : X) → ((k : ℕ) (x : X) → slice_get xs k ≡ Some x → P x) → P y → (k : ℕ) (x : X) → slice_get (set xs p y) k ≡ Some x → P x
-each_set P [] p y all one k x at = absurd (none-some x at)
-each_set P (z ∷ xs) zero y all one zero x at = subst P (same_Some y x at) one
-each_set P (z ∷ xs) zero y all one (suc k) x at = all (suc k) x at
-each_set P (z ∷ xs) (suc p) y all one zero x at = all zero x at
-each_set P (z ∷ xs) (suc p) y all one (suc k) x at = each_set P xs p y (λ j w. all (suc j) w) one k x at
+-- what is read after a write
+pub set_at : {X : Type 0} (xs : List X) (p k : ℕ) (y x : X) → slice_get (set xs p y) k ≡ Some x → ((k ≡ p) × (y ≡ x)) ⊎ ((k ≢ p) × (slice_get xs k ≡ Some x))
+set_at [] p k y x at = absurd (none-some x at)
+set_at (z ∷ xs) zero zero y x at = inl (refl, same_Some y x at)
+set_at (z ∷ xs) zero (suc k) y x at = inr (λ e. omega (arith, e), at)
+set_at (z ∷ xs) (suc p) zero y x at = inr (λ e. omega (arith, e), at)
+set_at (z ∷ xs) (suc p) (suc k) y x at = elim (set_at xs p k y x at) [ inl e ↦ inl (ap suc e.0, e.1) | inr o ↦ inr (λ e. o.0 (omega (arith, e)), o.1) ]
+
+pub all_take : {X : Type 0} (P : X → Type 0) (n : ℕ) (xs : List X) → AllByRecursion P xs → AllByRecursion P (take n xs)
+all_take P zero xs h = tt
+all_take P (suc n) [] h = tt
+all_take P (suc n) (x ∷ xs) h = (h.0, all_take P n xs h.1)
+
+pub all_reverse : {X : Type 0} (P : X → Type 0) (xs : List X) → AllByRecursion P xs → AllByRecursion P (reverse xs)
+all_reverse P [] h = tt
+all_reverse P (x ∷ xs) h = subst (AllByRecursion P) (sym (reverse-append (x ∷ []) xs)) (all_push P (reverse xs) x (all_reverse P xs h.1) h.0)
 
 pub get_mapped : {X Y : Type 0} (f : X → Y) (xs : List X) (i : ℕ) (x : X) → slice_get xs i ≡ Some x → slice_get (map f xs) i ≡ Some (f x)
 get_mapped f [] i x e = absurd (none-some x e)
@@ -95,6 +114,15 @@ some_variable text cs e r (Declaration.Scope type name) row k = let own = row.ow
 some_variable text cs e r Declaration.Up row k = let own = row.own.0 in cc
 some_variable text cs e r (Declaration.Var v) row k = refl
 
+pub declares_none : (s : HeadShown) (h : Header) (i : ℕ) (r : Row) (d : Declaration) → Views s h → slice_get s.rows i ≡ Some r → slice_get h.declarations i ≡ Some d → (r.kind ≡ kind.Var → ⊥) → is_variable d ≡ false
+declares_none s h i r d v row at n = no_variable s.text h.codes (take i h.declarations) r d (row_of s h i r d v row at) n
+
+pub declares_one : (s : HeadShown) (h : Header) (i : ℕ) (r : Row) (d : Declaration) → Views s h → slice_get s.rows i ≡ Some r → slice_get h.declarations i ≡ Some d → r.kind ≡ kind.Var → is_variable d ≡ true
+declares_one s h i r d v row at k = some_variable s.text h.codes (take i h.declarations) r d (row_of s h i r d v row at) k
+
+pub declared_there : (s : HeadShown) (h : Header) (i : ℕ) (r : Row) → Views s h → slice_get s.rows i ≡ Some r → (d : Declaration) × (slice_get h.declarations i ≡ Some d)
+declared_there s h i r v row = there h.declarations i (omega (arith, rows_len s.text h.codes [] s.rows h.declarations v.rows, slice_get_within s.rows i r row))
+
 pub none_selects : (names : List (List ℕ)) (e : List Declaration) (d : Declaration) → is_variable d ≡ false → is_selected names e d ≡ false
 none_selects names e d h = rw h refl
 
@@ -107,84 +135,121 @@ pub is_empty-map : {X Y : Type 0} (f : X → Y) (xs : List X) → is_empty (map 
 is_empty-map f [] = refl
 is_empty-map f (x ∷ xs) = sym (ne_eqb (length (x ∷ xs)) 0 (λ e. omega (arith, e)))
 
-pub both_some : (r : Option Inside) (names : List (List ℕ)) (ds : List Declaration) (scope : ℕ) → IfSome r (λ s. s.scope ≡ scope) → IfSome r (AreLeft names (front ds scope)) → IfSome r (λ s. AreLeft names (front ds s.scope) s)
-both_some None names ds scope a b = b
-both_some (Some s) names ds scope a b = subst (λ n. AreLeft names (front ds n) s) (sym a) b
+-- ---- flags that were set
 
-pub left_around : (r : Option (Bor Inside)) (names : List (List ℕ)) (ds : List Declaration) (row : ℕ) → IfSome r (λ s. scopes_text (take row ds) ≡ front ds s.now.scope) → IfSome r (λ s. AreLeft names (front ds s.now.scope) s.now)
-    → IfSome r (λ s. AreLeft names (scopes_text (take row ds)) s.now)
-left_around None names ds row a b = b
-left_around (Some s) names ds row a b = subst (λ f. AreLeft names f s.now) (sym a) b
+-- what is held stays right where flags are set and none is cleared
+pub follows_kept : (names : List (List ℕ)) (order : List ℕ) (old new : List Bool) (front : List ℕ) (r : Run) → ((p : ℕ) (name : List ℕ) → slice_get names p ≡ Some name → get_or old p false ≡ true → get_or new p false ≡ true) → AreSame names new
+    → Follows names order old front r → Follows names order new front r
+follows_kept names order old new front r grows same f = record {
+  up = f.up;
+  within = f.within;
+  passed = f.passed;
+  inside = f.inside;
+  outside = λ i l o. decided i l (f.outside i l o);
+  whole = f.whole;
+  same = same;
+  order_is = f.order_is;
+}
+  where
+    decided : (i : ℕ) → i < length names → IsDecided names order old front r.whole i → IsDecided names order new front r.whole i
+    decided i l (inl d) = inl (d.0, grows (get_or order i 0) (text_at names order i) (text_is names order f.order_is i l) d.1, d.2)
+    decided i l (inr none) = inr none
 
--- ---- what is left of a name
+pub open_kept : (h : Header) (names : List (List ℕ)) (order : List ℕ) (old new : List Bool) (o : Open) → ((p : ℕ) (name : List ℕ) → slice_get names p ≡ Some name → get_or old p false ≡ true → get_or new p false ≡ true) → AreSame names new → AreOpen h names order old o
+    → AreOpen h names order new o
+open_kept h names order old new o grows same are = record { held = λ k s l at. follows_kept names order old new (front h.declarations s.scope) s.run grows same (are.held k s l at); same = same }
 
--- a scope in which some name of which something is left may select, or none
-pub if_live : (live : Bool) (l : Left) (rest text : List ℕ) → (live ≡ false → is_rest l ≡ false) → left_selects l rest text ≡ left_in live l rest text
-if_live true Rest rest text h = refl
-if_live false Rest rest text h = let no = h refl in cc
-if_live live Selected rest text h = refl
-if_live live Differs rest text h = refl
+pub notes_grow : (names : List (List ℕ)) (front : List ℕ) (old new : List Bool) → Notes names front old new → (p : ℕ) (name : List ℕ) → slice_get names p ≡ Some name → get_or old p false ≡ true → get_or new p false ≡ true
+notes_grow names front old new n p name at e = elim (n p name at) [ inl same ↦ same ∙ e | inr more ↦ more.0 ]
 
-pub in_live : (live : Bool) (l : Left) (rest text : List ℕ) → live ≡ true → left_in live l rest text ≡ left_selects l rest text
-in_live live Rest rest text e = rw e refl
-in_live live Selected rest text e = refl
-in_live live Differs rest text e = refl
+pub matched_grow : (test : List ℕ → Bool) (names : List (List ℕ)) (old new : List Bool) → Matched test names old new → (p : ℕ) (name : List ℕ) → slice_get names p ≡ Some name → get_or old p false ≡ true → get_or new p false ≡ true
+matched_grow test names old new m p name at e = m p name at ∙ ap (λ b. b || test name) e
 
--- what is left of a name does not select every text
-not_every : (live : Bool) (rest : List ℕ) → ((text : List ℕ) → (live && selects_path text rest) ≡ true) → ⊥
-not_every false rest all = let wrong = all [] in cc
-not_every true [] all = let wrong = all (97 ∷ []) in cc
-not_every true (x ∷ rest) all = let wrong = all [] in cc
+pub matched_same : (test : List ℕ → Bool) (names : List (List ℕ)) (old new : List Bool) → Matched test names old new → AreSame names old → AreSame names new
+matched_same test names old new m same p q name a b = m p name a ∙ ap (λ k. k || test name) (same p q name a b) ∙ sym (m q name b)
 
--- a path that goes on with a component and what is inside it
-pub goes_on : (f component text name : List ℕ) → selects_path ((f ++ (component ++ 46 ∷ [])) ++ text) name ≡ selects_path (f ++ (component ++ 46 ∷ text)) name
-goes_on f component text name = ap (λ l. selects_path l name) (append_assoc f (component ++ 46 ∷ []) text ∙ ap (λ l. f ++ l) (append_assoc component (46 ∷ []) text))
+pub open_matched : (test : List ℕ → Bool) (h : Header) (names : List (List ℕ)) (order : List ℕ) (old new : List Bool) (o : Open) → Matched test names old new → AreOpen h names order old o → AreOpen h names order new o
+open_matched test h names order old new o m are = open_kept h names order old new o (matched_grow test names old new m) (matched_same test names old new m are.same) are
 
-module _ (names : List (List ℕ)) (f : List ℕ) (s : Inside) (left : AreLeft names f s) where
-  -- where nothing is left of a name that may select, each name selects all or nothing
-  pub dead_rules_out : s.live ≡ false → (component : List ℕ) → RulesOut names f component
-  dead_rules_out dead component i name at = by_left (get_or s.left i Rest) refl
-    where
-      by_left : (l : Left) → get_or s.left i Rest ≡ l → AllOrNone f component name
-      by_left Rest e = inr (λ text. left.each i name at (component ++ 46 ∷ text) ∙ (λ j. left_in (dead j) (e j) (drop s.passed name) (component ++ 46 ∷ text)))
-      by_left Selected e = inl (λ text. left.each i name at text ∙ ap (λ l. left_in s.live l (drop s.passed name) text) e)
-      by_left Differs e = inr (λ text. left.each i name at (component ++ 46 ∷ text) ∙ ap (λ l. left_in s.live l (drop s.passed name) (component ++ 46 ∷ text)) e)
+-- what is held of one scope more
+pub held_more : (h : Header) (names : List (List ℕ)) (order : List ℕ) (flags : List Bool) (inside : List Inside) (entered next : ℕ) (inner : Inside) → next ≡ entered + 1
+    → ((k : ℕ) (s : Inside) → k ≤ entered → slice_get inside k ≡ Some s → Follows names order flags (front h.declarations s.scope) s.run) → Follows names order flags (front h.declarations inner.scope) inner.run
+    → (k : ℕ) (s : Inside) → k ≤ next → slice_get (set inside next inner) k ≡ Some s → Follows names order flags (front h.declarations s.scope) s.run
+held_more h names order flags inside entered next inner e held new k s l at = elim (set_at inside next k inner s at) [
+  | inl is ↦ subst (λ (x : Inside). Follows names order flags (front h.declarations x.scope) x.run) is.1 new
+  | inr other ↦ held k s (omega (arith, l, e, other.0)) other.1
+]
 
-  module _ (component : List ℕ) (out : RulesOut names f component) (i : ℕ) (name : List ℕ) (at : slice_get names i ≡ Some name) where
-    -- a name that is ruled out selects what is inside the component where it selects all
-    pub inside_ruled_out : (text : List ℕ) → selects_path (f ++ (component ++ 46 ∷ text)) name ≡ is_all (get_or s.left i Rest)
-    inside_ruled_out text = by_left (get_or s.left i Rest) refl (out i name at)
-      where
-        by_left : (l : Left) → get_or s.left i Rest ≡ l → AllOrNone f component name → selects_path (f ++ (component ++ 46 ∷ text)) name ≡ is_all l
-        by_left Rest e (inl all) = absurd (not_every s.live (drop s.passed name) (λ t. sym (left.each i name at t ∙ ap (λ l. left_in s.live l (drop s.passed name) t) e) ∙ all t))
-        by_left Rest e (inr none) = none text
-        by_left Selected e o = left.each i name at (component ++ 46 ∷ text) ∙ ap (λ l. left_in s.live l (drop s.passed name) (component ++ 46 ∷ text)) e
-        by_left Differs e o = left.each i name at (component ++ 46 ∷ text) ∙ ap (λ l. left_in s.live l (drop s.passed name) (component ++ 46 ∷ text)) e
+-- ---- scopes around a row
 
-    -- and so the component itself
-    pub ruled_out : selects_path (f ++ component) name ≡ is_all (get_or s.left i Rest)
-    ruled_out = by_left (get_or s.left i Rest) refl
-      where
-        by_left : (l : Left) → get_or s.left i Rest ≡ l → selects_path (f ++ component) name ≡ is_all l
-        by_left Rest e = false_from_ne_true (selects_path (f ++ component) name) (λ has. let more = sym (ap (λ l. selects_path l name) (append_assoc f component (46 ∷ []))) ∙ selects-longer (f ++ component) name [] has in let none = inside_ruled_out [] ∙ ap is_all e in cc)
-        by_left Selected e = left.each i name at component ∙ ap (λ l. left_in s.live l (drop s.passed name) component) e
-        by_left Differs e = left.each i name at component ∙ ap (λ l. left_in s.live l (drop s.passed name) component) e
+-- what a path begins with inside this scope, the scopes around the row go on with
+abbrev pub IsAround : List Declaration → ℕ → ℕ → Type 0
+IsAround ds row scope = (more : List ℕ) × (scopes_text (take row ds) ≡ front ds (suc scope) ++ more)
 
-  -- so is what is left inside it
-  pub left_closed : (component : List ℕ) → RulesOut names f component → (inner : Inside) → inner.live ≡ false → inner.whole ≡ s.whole → inner.left ≡ s.left → AreLeft names (f ++ (component ++ 46 ∷ [])) inner
-  left_closed component out inner dead whole same = record {
-    each = λ i name at text. goes_on f component text name ∙ inside_ruled_out component out i name at text ∙ by_left (get_or s.left i Rest) (drop inner.passed name) text ∙ (λ j. left_in (sym dead j) (get_or (sym same j) i Rest) (drop inner.passed name) text);
-    some = λ i name at all. whole ∙ left.some i name at (ap (λ l. is_all (get_or l i Rest)) (sym same) ∙ all);
-  }
-    where
-      by_left : (l : Left) (rest text : List ℕ) → is_all l ≡ left_in false l rest text
-      by_left Rest rest text = refl
-      by_left Selected rest text = refl
-      by_left Differs rest text = refl
+around_step : (ds : List Declaration) (row : ℕ) → row ≤ length ds → ((p : ℕ) → p < row → AllByRecursion (IsAround ds p) (enclosing (take p ds))) → AllByRecursion (IsAround ds row) (enclosing (take row ds))
+around_step ds row within outer = by_parent (parent (take row ds)) refl
+  where
+    by_parent : (o : Option ℕ) → parent (take row ds) ≡ o → AllByRecursion (IsAround ds row) (enclosing (take row ds))
+    by_parent None e = subst (AllByRecursion (IsAround ds row)) (sym (around_none ds row e)) tt
+    by_parent (Some p) e =
+        let before = parent_before ds row p e in
+        let d = there ds p (omega (arith, before, within)) in
+        let name = name_of d.0 ++ 46 ∷ [] in
+        let here : scopes_text (take row ds) ≡ front ds (suc p) = front_is ds row ∙ ap (λ o. front ds (counted_from_one o)) e in
+        subst (AllByRecursion (IsAround ds row)) (sym (around_some ds row p e)) (
+          ([], here ∙ sym (append-nil (front ds (suc p)))),
+          all_weaker (IsAround ds p) (IsAround ds row) (enclosing (take p ds)) (λ s m. (m.0 ++ name, here ∙ front_next ds p d.0 d.1 ∙ ap (λ l. l ++ name) m.1 ∙ append_assoc (front ds (suc s)) m.0 name)) (outer p before),
+        )
 
-  -- where no name selects all that is inside, a component that is ruled out is selected by none
-  pub none_whole : s.whole ≡ false → (component : List ℕ) → RulesOut names f component → (i : ℕ) (name : List ℕ) → slice_get names i ≡ Some name → selects_path (f ++ component) name ≡ false
-  none_whole none component out i name at = ruled_out component out i name at ∙ false_from_ne_true (is_all (get_or s.left i Rest)) (λ all. let some = left.some i name at all in cc)
+around_up_to : (ds : List Declaration) (n row : ℕ) → row ≤ n → row ≤ length ds → AllByRecursion (IsAround ds row) (enclosing (take row ds))
+around_up_to ds zero row l within = around_step ds row within (λ p b. absurd (omega (arith, b, l)))
+around_up_to ds (suc n) row l within = around_step ds row within (λ p b. around_up_to ds n p (omega (arith, b, l)) (omega (arith, b, within)))
+
+pub around_all : (ds : List Declaration) (row : ℕ) → row ≤ length ds → AllByRecursion (IsAround ds row) (enclosing (take row ds))
+around_all ds row l = around_up_to ds row row (omega arith) l
+
+-- of the scopes around a row these are left to be entered
+pub record LeftAround (h : Header) (row : ℕ) (e : Enclosing) : Type 0 where
+  pub rest : List ℕ
+  pub leaves : LeavesScopes h row rest e
+  pub each : AllByRecursion (IsAround h.declarations row) rest
+
+pub left_first : (h : Header) (row most : ℕ) (e : Enclosing) → LeavesScopes h row (reverse (take most (enclosing (take row h.declarations)))) e → LeftAround h row e
+left_first h row most e leaves = record {
+  rest = reverse (take most (enclosing (take row h.declarations)));
+  leaves = leaves;
+  each = all_reverse (IsAround h.declarations row) (take most (enclosing (take row h.declarations))) (all_take (IsAround h.declarations row) most (enclosing (take row h.declarations)) (around_all h.declarations row (omega (arith, leaves.within))));
+}
+
+-- the next one of them
+pub record NextAround (h : Header) (row scope : ℕ) (e : Enclosing) : Type 0 where
+  pub left : LeftAround h row e
+  pub within : scope < length h.declarations
+  pub more : IsAround h.declarations row scope
+
+pub left_next : (h : Header) (row : ℕ) (e next : Enclosing) (scope : ℕ) (l : LeftAround h row e) → GivesNext h row l.rest next (Some scope) → NextAround h row scope next
+left_next h row e next scope l g =
+    let both = subst (AllByRecursion (IsAround h.declarations row)) g.1 l.each in
+    record { left = record { rest = g.0; leaves = g.3; each = both.1 }; within = omega (arith, g.2, l.leaves.within); more = both.0 }
+
+-- one scope more is entered
+pub entered_next : (h : Header) (names : List (List ℕ)) (order path : List ℕ) (old mid new : List Bool) (o p : Open) (scope : ℕ) (more : (rest : List ℕ) × (path ≡ front h.declarations (suc scope) ++ rest)) → HasEntered h names order path old mid o
+    → HasEntered h names order (front h.declarations (suc scope)) mid new p → HasEntered h names order path old new p
+entered_next h names order path old mid new o p scope more a b = record {
+  open_scopes = b.open_scopes;
+  notes = notes_both names path old mid new a.notes (subst (λ l. Notes names l mid new) (sym more.1) (notes_behind names (front h.declarations (suc scope)) more.0 mid new b.notes));
+}
+
+-- the flags that were set by the scopes around are of names that select what is in them
+pub notes_then_match : (names : List (List ℕ)) (front own path : List ℕ) (old mid new : List Bool) (some : Bool) → path ≡ front ++ own → Notes names front old mid → Matches (selects_path path) names mid new some → Matches (selects_path path) names old new some
+notes_then_match names front own path old mid new some e n m = record {
+  flags = λ p name at. m.flags p name at ∙ by_note p name (n p name at);
+  any = m.any;
+}
+  where
+    by_note : (p : ℕ) (name : List ℕ) → (get_or mid p false ≡ get_or old p false) ⊎ ((get_or mid p false ≡ true) × SelectsAll front name) → (get_or mid p false || selects_path path name) ≡ (get_or old p false || selects_path path name)
+    by_note p name (inl same) = ap (λ b. b || selects_path path name) same
+    by_note p name (inr more) = ap (λ b. b || selects_path path name) more.0 ∙ sym (or_true (get_or old p false) (selects_path path name) (ap (λ l. selects_path l name) e ∙ more.1 own))
 
 -- ---- names in groups
 

@@ -15,7 +15,9 @@ pub mod MarkedHead
 pub mod MarkLemmas
 pub mod NamePaths
 pub mod InsideLemmas
-pub mod SieveLemmas
+pub mod RunLemmas
+pub mod RunSteps
+pub mod OrderLemmas
 pub mod SelectionLemmas
 pub mod MatchLemmas
 pub mod DraftSteps

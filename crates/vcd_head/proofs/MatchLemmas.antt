@@ -84,7 +84,7 @@ match_all test names place old new some l m = record {
 }
 
 -- no name passes
-any_none : (test : List ℕ → Bool) (names : List (List ℕ)) → ((i : ℕ) (name : List ℕ) → slice_get names i ≡ Some name → test name ≡ false) → list_any test names ≡ false
+pub any_none : (test : List ℕ → Bool) (names : List (List ℕ)) → ((i : ℕ) (name : List ℕ) → slice_get names i ≡ Some name → test name ≡ false) → list_any test names ≡ false
 any_none test [] h = refl
 any_none test (x ∷ xs) h = rw (h 0 x refl) (any_none test xs (λ i. h (suc i)))
 

@@ -15,7 +15,7 @@ use Rattle.vcd_head.proofs.PathLemmas.{IsScopeAt, path_is, scope_at}
 use mathlib.Core.Logic.{◌⊎◌}
 
 -- byte by byte
-selects-byte : (x y : ℕ) (path name : List ℕ) → selects_path (x ∷ path) (y ∷ name) ≡ (nat_eq x y && selects_path path name)
+pub selects-byte : (x y : ℕ) (path name : List ℕ) → selects_path (x ∷ path) (y ∷ name) ≡ (nat_eq x y && selects_path path name)
 selects-byte x y path name =
     elim (cases_eq x y) [ inl e ↦ rw (eq-eqb x y e, eq-eqb y x (sym e)) refl | inr n ↦ rw (ne_eqb x y n, ne_eqb y x (λ e. n (sym e))) refl ]
 

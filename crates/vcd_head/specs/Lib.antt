@@ -17,7 +17,8 @@ pub mod Variables
 pub mod Scaled
 pub mod Marks
 pub mod Selects
-pub mod Sieves
+pub mod Names
+pub mod Runs
 pub mod Inside
 pub mod Matched
 pub mod Merged

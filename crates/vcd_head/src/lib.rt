@@ -34,8 +34,8 @@
 //! - `head`, `fault`: `Head`; `HeadFault`
 //! - `entries`, `index`: how the entries are filled; the order of the codes by their bytes
 //! - `enclosing`, `path`: the scopes around a declaration, outermost first; paths
-//! - `selection`, `inside`, `sieve`: which variables names select; what is left of names inside
-//!   open scopes; the rows of a scope that no name selects, told by a flag
+//! - `selection`, `inside`, `names`: which variables names select; the names that go on inside open
+//!   scopes; names in the order of their bytes
 //! - `write`: headers as they are written
 //! - `moment`: `ticks`, a time with a unit in ticks of the header's scale
 //! - `merged`: the header of a merged dump
@@ -71,6 +71,7 @@ mod inside;
 pub mod laws;
 mod merged;
 mod moment;
+mod names;
 mod path;
 mod phrases;
 mod read;
@@ -78,7 +79,6 @@ mod rows;
 mod scale;
 mod scopes;
 mod selection;
-mod sieve;
 mod sought;
 mod texts;
 mod tokens;

@@ -9,7 +9,8 @@ ghost use Rattle.vcd_head.specs.Selects.{IsBehind, selects_after};
 ghost use Rattle.vcd_view.specs.Views.{IsViewOf, counted_from_one};
 
 use crate::enclosing::Enclosing;
-use crate::inside::{Open, TOGETHER};
+use crate::inside::Open;
+use crate::names::{Group, TOGETHER};
 use vcd_view::HeadView;
 
 // What a name says of a path whose prefix it was compared with.
@@ -147,7 +148,7 @@ fn parent_of(view: HeadView<'_>, row: usize) -> usize
 /// the scopes around them; returns the place of the first name that selects nothing.
 fn mark_selected(view: HeadView<'_>, names: &[String], marks: &mut [u8]) -> Option<usize>
     requires len { length marks.old ≡ length view.rows.now }
-    requires few { length names.now ≤ 64 }
+    requires few { length names.now ≤ 16384 }
     ensures marks { (h : Header) → IsViewOf view.entry h
         → Marked (marked_places (map string_bytes names.now) h.declarations) marks.old marks.new }
     ensures names { (h : Header) → IsViewOf view.entry h
@@ -155,12 +156,13 @@ fn mark_selected(view: HeadView<'_>, names: &[String], marks: &mut [u8]) -> Opti
     ensures within { IfSome result (λ place. place < length names.now) }
     ensures len { length marks.new ≡ length marks.old }
 {
-    let mut open = Open::new();
+    let group = Group::new(names);
+    let mut open = Open::new(&group);
     let mut matched = [false; TOGETHER];
     // 1 plus the row of a scope that is marked, with those around it; 0 before.
     let mut marked = 0;
     for row in 0..view.rows.len() {
-        if open.take(view, row, names, &mut matched) {
+        if open.take(view, row, &group, &mut matched) {
             marked = mark_behind(view, row, marked, marks);
         }
     }

@@ -1,18 +1,20 @@
-use Rattle.std.proofs.Common.{[], ◌∷◌, map, take, length, string_bytes, sym, subst, ◌∙◌, arith}
+use Rattle.std.proofs.Common.{[], ◌∷◌, map, take, length, string_bytes, false, sym, ap, subst, ◌∙◌, arith}
 use Rattle.std.proofs.lemmas.List.{length-map, take_all}
 use Rattle.vcd_model.specs.Declarations.{enclosing}
-use Rattle.vcd_model.specs.Selection.{marked_places}
+use Rattle.vcd_model.specs.Selection.{is_selected, marked_places}
 use Rattle.vcd_head.specs.Marks.{AllMarked, Marked, scopes_at}
-use Rattle.vcd_head.specs.Matched.{HaveMatched}
+use Rattle.vcd_head.specs.Matched.{HaveMatched, Matched}
+use Rattle.vcd_head.specs.Names.{IsOrder}
 use Rattle.vcd_view.proofs.RowLemmas.{rows_len}
 use Rattle.vcd_head.proofs.MarkLemmas.{marked_both, marked_first}
 use Rattle.vcd_head.proofs.MatchLemmas.{first_is, first_within, matched_next, none_matched}
+use Rattle.vcd_head.proofs.OrderLemmas.{read_same}
 use Rattle.vcd_head.proofs.SelectionLemmas.{marks_more, marks_same, there}
 use Rattle.vcd_head.proofs.selection.mark_selected.Goals as goal
 use Rattle.vcd_head.proofs.selection.mark_selected.Goals.{then-take, else-take}
 
 pub loop-row-init : goal.loop-row-init
-loop-row-init c = record { marks = λ h v. marked_first (map string_bytes c.args.names.now) h.declarations c.args.marks.now; around = λ h v i l b. cc; matched = λ h v. none_matched (map string_bytes c.args.names.now) h.declarations 64 (omega (arith, length-map c.args.names.now string_bytes)); held = λ h v. c.new-open.ensures h (map string_bytes c.args.names.now) (omega (arith, length-map c.args.names.now string_bytes)) }
+loop-row-init c = record { marks = λ h v. marked_first (map string_bytes c.args.names.now) h.declarations c.args.marks.now; around = λ h v i l b. cc; matched = λ h v. none_matched (map string_bytes c.args.names.now) h.declarations 16384 (omega (arith, length-map c.args.names.now string_bytes)); held = λ h v. c.new-open.ensures h _ (subst (λ ns. IsOrder (map string_bytes ns) c.new-group.result.order) (sym c.new-group.ensures.names) c.new-group.ensures.order) (λ p q name a b. read_same false 16384 p ∙ sym (read_same false 16384 q)) }
 
 pub loop-row-preserved : goal.loop-row-preserved
 loop-row-preserved c = record {
@@ -23,7 +25,7 @@ loop-row-preserved c = record {
       let zeros = c.args.marks.now in
       let rows = rows_len c.args.view.text.now h.codes [] c.args.view.rows.now h.declarations v.rows in
       let d = there ds row (omega (arith, rows)) in
-      let selected = c.take.ensures.selected h d.0 v d.1 (c.loop-row.invariant.held h v) in
+      let selected = c.take.ensures.selected h d.0 v d.1 (c.loop-row.invariant.held h v) ∙ ap (λ ns. is_selected (map string_bytes ns) (take row ds) d.0) c.new-group.ensures.names in
       elim c.if-take.branch [
         | then-take w ↦
             let more = subst (Marked (row ∷ enclosing (take row ds)) c.loop-row.marks) (sym w.marks-is) (w.mark_behind-marked.ensures.marks h v (omega (arith, rows)) (c.loop-row.invariant.around h v)) in
@@ -46,7 +48,7 @@ loop-row-preserved c = record {
       let row = c.loop-row.row in
       let rows = rows_len c.args.view.text.now h.codes [] c.args.view.rows.now h.declarations v.rows in
       let d = there ds row (omega (arith, rows)) in
-      matched_next names ds row d.0 c.loop-row.matched c.take.new.matched d.1 (c.loop-row.invariant.matched h v) (c.take.ensures.matched h d.0 v d.1 (c.loop-row.invariant.held h v));
+      matched_next names ds row d.0 c.loop-row.matched c.take.new.matched d.1 (c.loop-row.invariant.matched h v) (subst (λ ns. Matched (λ name. is_selected (name ∷ []) (take row ds) d.0) (map string_bytes ns) c.loop-row.matched c.take.new.matched) c.new-group.ensures.names (c.take.ensures.matched h d.0 v d.1 (c.loop-row.invariant.held h v)));
   held = λ h v. c.take.ensures.open h v (c.loop-row.invariant.held h v);
 }
 

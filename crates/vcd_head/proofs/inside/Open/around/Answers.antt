@@ -1,5 +1,18 @@
-use Rattle.vcd_head.proofs.InsideLemmas.{left_around}
+use Rattle.std.proofs.Common.{◌≡◌, Some, slice_get, length, refl, sym, ap, subst, ◌∙◌, rules, arith}
+use Rattle.std.proofs.lemmas.Option.{slice_get_read}
+use Rattle.vcd_head.specs.Inside.{front}
+use Rattle.vcd_head.specs.Runs.{Follows}
+use Rattle.vcd_view.specs.Shown.{parts}
+use Rattle.vcd_view.proofs.ParentLemmas.{parent_of_row}
+use Rattle.vcd_head.proofs.InsideLemmas.{front_is}
 use Rattle.vcd_head.proofs.inside.Open.around.Goals as goal
 
-pub returns-clause-left : goal.returns-clause-left
-returns-clause-left c = λ h names v held. left_around c.around.result names h.declarations c.args.row (c.around.ensures.scope h v) (c.around.ensures.left h names v held.held)
+pub returns-clause-run : goal.returns-clause-run
+returns-clause-run c = λ h names order flags v are.
+    let inside = c.in_ok-inside.inside.now in
+    let self = c.args.self.now in
+    let row : slice_get c.args.view.rows.now c.args.row ≡ Some c.in_ok-declared.declared = search rules in
+    let parent = parent_of_row (parts c.args.view) h c.args.row c.in_ok-declared.declared v row in
+    let scope : inside.scope ≡ c.in_ok-declared.declared.parent = search rules in
+    let at : slice_get self.inside self.entered ≡ Some inside = slice_get_read self.inside (length self.inside) self.entered inside refl c.in_ok-inside.ensures.lookup.3.0 c.in_ok-inside.ensures.lookup.1 in
+    subst (λ f. Follows names order flags f inside.run) (sym (front_is h.declarations c.args.row ∙ ap (front h.declarations) (sym parent ∙ sym scope))) (are.held self.entered inside (omega arith) at)

@@ -1,43 +1,23 @@
-use Rattle.std.proofs.Common.{◌≡◌, ◌+◌, Some, true, length, map, slice_get, string_bytes, take, refl, sym, ap, subst, ◌∙◌, arith}
-use Rattle.std.proofs.lemmas.List.{length-map}
-use Rattle.std.proofs.lemmas.Option.{slice_get_read}
+use Rattle.std.proofs.Common.{◌++◌, Some, map, take, string_bytes, sym, ap, subst, ◌∙◌}
 use Rattle.vcd_model.specs.Declarations.{path_of}
 use Rattle.vcd_model.specs.Selection.{selects_path}
-use Rattle.vcd_head.proofs.InsideLemmas.{get_mapped}
-use Rattle.vcd_head.proofs.MatchLemmas.{Matching, match_all, match_first, match_next, match_same}
+use Rattle.vcd_head.specs.Matched.{Matches}
+use Rattle.vcd_head.specs.Paths.{scopes_text}
+use Rattle.vcd_head.proofs.InsideLemmas.{the_variable}
+use Rattle.vcd_head.proofs.PathLemmas.{path_is}
 use Rattle.vcd_head.proofs.inside.Open.compare.Goals as goal
-use Rattle.vcd_head.proofs.inside.Open.compare.Goals.{then-name_selects, else-name_selects}
 
-pub loop-place-init : goal.loop-place-init
-loop-place-init c = record { len = c.told-matched; asked = λ h d v at var held. match_first (selects_path (path_of (take c.args.row h.declarations) d)) (map string_bytes c.args.names.now) c.args.matched.now }
+pub returns-in-Some : goal.returns-in-Some
+returns-in-Some c = λ h d v at var are.
+    let e = take c.args.row h.declarations in
+    let names = map string_bytes c.args.group.now.names.now in
+    subst (λ p. Matches (selects_path p) names c.args.matched.now c.selects.new.matched c.selects.result) (ap (λ l. scopes_text e ++ l) (c.name_of.ensures h d v at) ∙ sym (path_is e d))
+    (c.selects.ensures (scopes_text e) (c.in-Some.ensures.run h names c.args.group.now.order c.args.matched.now v are))
 
-pub loop-place-preserved : goal.loop-place-preserved
-loop-place-preserved c =
-    let place = c.loop-place.place in
-    let name = c.index-names-place.result in
-    let names = map string_bytes c.args.names.now in
-    let old = c.args.matched.now in
-    let at : slice_get c.args.names.now place ≡ Some name = slice_get_read c.args.names.now (length c.args.names.now) place name refl (omega arith) c.index-names-place.is in
-    let named = get_mapped string_bytes c.args.names.now place name at in
-    let text = c.as_str.ensures.value in
-    record {
-      len = c.if-name_selects.array_long;
-      asked = λ h d v is var held.
-          let test = selects_path (path_of (take c.args.row h.declarations) d) in
-          let tested = c.name_selects.ensures h d names v is var (c.name_of-own.ensures h d v is) (named ∙ ap Some (sym text)) (c.around-inside.ensures.left h names v held) ∙ ap test text in
-          let m = c.loop-place.invariant.asked h d v is var held in
-          let now = c.if-name_selects.matched in
-          elim c.if-name_selects.branch [
-            | then-name_selects w ↦
-                subst (λ b. Matching test names (place + 1) old now b) (sym w.some-is)
-                (subst (λ l. Matching test names (place + 1) old l true) (sym w.matched-is) (match_next test names place old c.loop-place.matched c.loop-place.some (string_bytes name) named (omega (arith, c.loop-place.invariant.len)) (sym tested ∙ w.if-name_selects.true) m))
-            | else-name_selects w ↦
-                subst (λ b. Matching test names (place + 1) old now b) (sym w.some-is)
-                (subst (λ l. Matching test names (place + 1) old l c.loop-place.some) (sym w.matched-is) (match_same test names place old c.loop-place.matched c.loop-place.some (string_bytes name) named (sym tested ∙ w.if-name_selects.false) m))
-          ];
-    }
-
-pub returns : goal.returns
-returns c = λ h d v at var held.
-    match_all (selects_path (path_of (take c.args.row h.declarations) d)) (map string_bytes c.args.names.now) c.loop-place.place c.args.matched.now c.loop-place.matched c.loop-place.some
-    (omega (arith, length-map c.args.names.now string_bytes)) (c.loop-place.invariant.asked h d v at var held)
+pub returns-in-None : goal.returns-in-None
+returns-in-None c = λ h d v at var are.
+    let e = take c.args.row h.declarations in
+    let names = map string_bytes c.args.group.now.names.now in
+    let x = the_variable d var in
+    subst (λ q. Matches (selects_path (path_of e q)) names c.args.matched.now c.compare_each.new.matched c.compare_each.result) (sym x.1)
+    (c.compare_each.ensures h x.0 v (at ∙ ap Some x.1))

@@ -1,14 +1,24 @@
-use Rattle.std.proofs.Common.{map, string_bytes}
-use Rattle.vcd_head.specs.Inside.{AreLeft, front}
-use Rattle.vcd_head.specs.declared.inside.Inside.{Inside}
-use Rattle.vcd_head.proofs.InsideLemmas.{each_set}
+use Rattle.std.proofs.Common.{◌≡◌, ◌++◌, ◌∷◌, [], suc, map, take, string_bytes, refl, sym, ap, subst, ◌∙◌, add-one, inl}
+use Rattle.vcd_head.specs.Inside.{front}
+use Rattle.vcd_head.specs.Paths.{scopes_text}
+use Rattle.vcd_head.specs.Runs.{Follows, GoesOn}
+use Rattle.vcd_head.proofs.InsideLemmas.{front_next, notes_grow, open_kept}
+use Rattle.vcd_head.proofs.SelectionLemmas.{there}
 use Rattle.vcd_head.proofs.inside.Open.enter.Goals as goal
 
-pub returns-then-self-lt-MOST_HELD : goal.returns-then-self-lt-MOST_HELD
-returns-then-self-lt-MOST_HELD c = λ h v held.
-    let now = c.inner-inner.ensures.open h v held in
-    let right = λ (s : Inside). AreLeft (map string_bytes c.args.names.now) (front h.declarations s.scope) s in
+pub returns-in_default : goal.returns-in_default
+returns-in_default c = λ h v within are. record { open_scopes = are; notes = λ p name at. inl refl }
+
+pub returns : goal.returns
+returns c = λ h v within are.
+    let ds = h.declarations in
+    let names = map string_bytes c.args.group.now.names.now in
+    let order = c.args.group.now.order in
+    let d = there ds c.args.row within in
+    let inside = front ds (suc c.args.row) in
+    let is : scopes_text (take c.args.row ds) ++ (c.name_of.result.now ++ 46 ∷ []) ≡ inside = ap (λ l. scopes_text (take c.args.row ds) ++ (l ++ 46 ∷ [])) (c.name_of.ensures h d.0 v d.1) ∙ sym (front_next ds c.args.row d.0 d.1) in
+    let goes = subst (λ p. GoesOn names order c.args.matched.now c.enter-run.new.matched p c.enter-run.result) is (c.enter-run.ensures (scopes_text (take c.args.row ds)) (c.in-Some.ensures.run h names order c.args.matched.now v are)) in
     record {
-      held = each_set right c.inner-inner.new.self.inside c.saturating_add-self.result c.in-Some.inner now.held (c.in-Some.ensures.left h v held);
-      flags = now.flags;
+      open_scopes = c.hold.ensures h names order c.enter-run.new.matched (open_kept h names order c.args.matched.now c.enter-run.new.matched c.args.self.now (notes_grow names inside c.args.matched.now c.enter-run.new.matched goes.notes) goes.follows.same are) (subst (λ n. Follows names order c.enter-run.new.matched (front ds n) c.enter-run.result) (sym (add-one c.args.row)) goes.follows);
+      notes = goes.notes;
     }

@@ -1,18 +1,34 @@
-use Rattle.std.proofs.Common.{map, string_bytes, take, sym, subst}
-use Rattle.vcd_model.specs.Declarations.{name_of}
+use Rattle.std.proofs.Common.{map, take, string_bytes, inl, refl, sym, subst}
+use Rattle.std.proofs.lemmas.Option.{slice_get_within}
+use Rattle.vcd_model.specs.Declarations.{name_of, path_of}
 use Rattle.vcd_model.specs.Selection.{selects_path}
-use Rattle.vcd_head.specs.Matched.{Matches}
+use Rattle.vcd_head.specs.Inside.{HasEntered}
 use Rattle.vcd_head.specs.Paths.{scopes_text}
+use Rattle.vcd_head.proofs.InsideLemmas.{notes_then_match, open_matched}
 use Rattle.vcd_head.proofs.PathLemmas.{path_is}
+use Rattle.vcd_head.proofs.inside.Open.selects.Goals.{then-self, else-self}
 use Rattle.vcd_head.proofs.inside.Open.selects.Goals as goal
 
-pub returns-in-Some-clause-matches : goal.returns-in-Some-clause-matches
-returns-in-Some-clause-matches c = λ h d v at var held.
+pub returns : goal.returns
+returns c = λ h d v at var are.
     let e = take c.args.row h.declarations in
-    let names = map string_bytes c.args.names.now in
-    let left = c.in-Some.ensures.left h names v (c.rules_out.ensures.open h v held) in
-    subst (λ p. Matches (selects_path p) names c.args.matched.now c.note.new.matched c.note.result) (sym (path_is e d))
-    (c.note.ensures (scopes_text e) (name_of d) left (c.rules_out.ensures.out h d v at held c.if-rules_out.true))
-
-pub returns-clause-matches : goal.returns-clause-matches
-returns-clause-matches c = λ h d v at var held. c.compare.ensures h d v at var (c.rules_out.ensures.open h v held)
+    let names = map string_bytes c.args.group.now.names.now in
+    let order = c.args.group.now.order in
+    let old = c.args.matched.now in
+    let mid = c.if-self.matched in
+    let now = c.if-self.self in
+    let path = path_of e d in
+    let entered : HasEntered h names order (scopes_text e) old mid now =
+    elim c.if-self.branch [
+      | then-self w ↦
+          subst (HasEntered h names order (scopes_text e) old mid) (sym w.self-is)
+          (subst (λ l. HasEntered h names order (scopes_text e) old l w.enter_around.new.self) (sym w.matched-is) (w.enter_around.ensures h v (slice_get_within h.declarations c.args.row d at) are))
+      | else-self w ↦
+          subst (HasEntered h names order (scopes_text e) old mid) (sym w.self-is)
+          (subst (λ l. HasEntered h names order (scopes_text e) old l c.args.self.now) (sym w.matched-is) (record { open_scopes = are; notes = λ p name is. inl refl }))
+    ] in
+    let m = c.compare.ensures h d v at var entered.open_scopes in
+    record {
+      open_scopes = open_matched (selects_path path) h names order mid c.compare.new.matched now m.flags entered.open_scopes;
+      matches = notes_then_match names (scopes_text e) (name_of d) path old mid c.compare.new.matched c.compare.result (path_is e d) entered.notes m;
+    }

@@ -1,0 +1,51 @@
+-- Places of names, sorted.
+use Rattle.std.proofs.Common.{◌≡◌, ℕ, zero, suc, ◌+◌, ◌-◌, ◌<◌, ◌≤◌, List, [], ◌++◌, drop, get_or, length, replicate, inl, inr, refl, ◌∙◌, arith}
+use Rattle.std.specs.Cmp.{IsStrictWeakOrder}
+use Rattle.std.specs.List.{All, Contains}
+use Rattle.std.specs.List.Sorted.{IsSortedBy}
+use Rattle.std.proofs.lemmas.Bool.{cases_lt}
+use Rattle.std.proofs.lemmas.Cmp.{nat_list_cmp_total}
+use Rattle.std.proofs.lemmas.List.{get_or-append_right, get_or-drop, get_or_append_left, get_or_default}
+use Rattle.std.proofs.lemmas.List.MinMax.{ranks_by}
+use Rattle.std.proofs.lemmas.List.Sorted.{sorted_far}
+use Rattle.vcd_head.specs.Names.{IsOrder, comes_before}
+
+pub before_weak : (names : List (List ℕ)) → IsStrictWeakOrder (comes_before names)
+before_weak names = ranks_by nat_list_cmp_total (λ p. get_or names p [])
+
+-- places that are numbered from 0 on
+pub numbered_has : (places : List ℕ) (n : ℕ) → length places ≡ n → ((i : ℕ) → i < n → get_or places i 0 ≡ i) → (p : ℕ) → p < n → Contains places p
+numbered_has places n len each p l = (p, omega (arith, len, l), get_or_default places p p 0 (omega (arith, len, l)) ∙ each p l)
+
+pub numbered_within : (places : List ℕ) (n : ℕ) → length places ≡ n → ((i : ℕ) → i < n → get_or places i 0 ≡ i) → All (λ p. p < n) places
+numbered_within places n len each k d l = omega (arith, len, l, get_or_default places k d 0 l, each k (omega (arith, len, l)))
+
+-- one number everywhere, and where nothing is
+pub read_same : {X : Type 0} (x : X) (n k : ℕ) → get_or (replicate n x) k x ≡ x
+read_same x zero k = refl
+read_same x (suc n) zero = refl
+read_same x (suc n) (suc k) = read_same x n k
+
+pub same_left : {X : Type 0} (x : X) (room n i : ℕ) → get_or (drop n (replicate room x)) i x ≡ x
+same_left x room n i = get_or-drop n (replicate room x) i x ∙ read_same x room (n + i)
+
+-- sorted places of all names are their order, with zeros behind them
+pub order_made : (names : List (List ℕ)) (used rest : List ℕ) (n : ℕ) → n ≡ length names → length used ≡ n → n ≤ 16384 → ((p : ℕ) → p < n → Contains used p) → All (λ p. p < n) used → IsSortedBy (comes_before names) used
+    → ((i : ℕ) → get_or rest i 0 ≡ 0) → IsOrder names (used ++ rest)
+order_made names used rest n count len few each within sorted zeros = record {
+  each = λ p l.
+      let k = each p (omega (arith, l, count)) in
+      (k.0, omega (arith, k.1, len, count), left k.0 k.1 ∙ get_or_default used k.0 0 p k.1 ∙ k.2);
+  places = λ i l. let il : i < length used = omega (arith, l, len, count) in omega (arith, left i il, within i 0 il, count);
+  within = λ i. elim (cases_lt i (length used)) [
+    | inl l ↦ omega (arith, left i l, within i 0 l, few)
+    | inr l ↦ omega (arith, get_or-append_right used rest (length used) i 0 refl l ∙ zeros (i - length used))
+  ];
+  rising = λ i j l m.
+      let jl : j < length used = omega (arith, m, len, count) in
+      let il : i < length used = omega (arith, l, jl) in
+      (λ k. comes_before names (left j jl k) (left i il k)) ∙ sorted_far (comes_before names) (before_weak names) used sorted i j 0 l jl;
+}
+  where
+    left : (i : ℕ) → i < length used → get_or (used ++ rest) i 0 ≡ get_or used i 0
+    left i l = get_or_append_left used rest 0 i l

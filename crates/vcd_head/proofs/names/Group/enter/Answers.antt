@@ -1,0 +1,15 @@
+use Rattle.std.proofs.Common.{◌++◌, ◌∷◌, [], map, string_bytes, subst}
+use Rattle.std.proofs.lemmas.List.{append_assoc}
+use Rattle.vcd_head.specs.Runs.{GoesOn}
+use Rattle.vcd_head.proofs.RunSteps.{goes_both}
+use Rattle.vcd_head.proofs.names.Group.enter.Goals as goal
+
+pub returns : goal.returns
+returns c = λ front f.
+    let names = map string_bytes c.args.self.now.names.now in
+    let order = c.args.self.now.order in
+    let component = c.args.component.now in
+    let named = c.follow-named.ensures front f in
+    let new = c.step.new.matched in
+    subst (λ p. GoesOn names order c.args.matched.now new p c.step.result) (append_assoc front component (46 ∷ []))
+    (goes_both names order c.args.matched.now c.follow-named.new.matched new (front ++ component) (46 ∷ []) c.follow-named.result c.step.result named (c.step.ensures (front ++ component) named.follows))

@@ -1,0 +1,11 @@
+use Rattle.std.proofs.Common.{◌≡◌, ◌≤◌, ℕ, List, length, map, string_bytes}
+use Rattle.vcd_head.specs.Runs.{Follows}
+use Rattle.vcd_head.proofs.RunLemmas.{Noting}
+use Rattle.vcd_head.proofs.names.Group.note.Given as goal
+
+abbrev pub invariant-loop-at : goal.invariant-loop-at
+invariant-loop-at l = record {
+  len : length l.matched ≡ 16384;
+  up : l.run.first ≤ l.at;
+  noting : (front : List ℕ) → Follows (map string_bytes l.self.names.now) l.self.order l.initial.matched front l.run → Noting (map string_bytes l.self.names.now) l.self.order front l.initial.matched l.matched l.run.first l.at;
+}

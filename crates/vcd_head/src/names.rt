@@ -1,0 +1,297 @@
+// Names in the order of their bytes: those that begin with the front of a path stand together, so
+// they are followed by two places, one byte of the path after the other.
+ghost use Rattle.std.specs.Prelude.{◌≡◌, ◌==◌, ◌&&◌, ◌<◌, ◌≤◌, [], ◌∷◌, ◌++◌, ◌^◌, ℕ, List, Bool, length, map, get_or, bytes_eq, string_bytes, IsPermutation};
+ghost use Rattle.std.specs.List.{All, Contains};
+ghost use Rattle.std.specs.List.Sorted.{IsSortedBy};
+ghost use Rattle.vcd_model.specs.Selection.{selects_path};
+ghost use Rattle.vcd_head.specs.Matched.{Matches};
+ghost use Rattle.vcd_head.specs.Names.{AreSame, IsOrder, IsSplit, Rises, comes_before, next_in, order_in};
+
+use std::cmp::Ordering;
+
+// So many names are followed together.
+pub(crate) const TOGETHER: usize = 16_384;
+
+// Names, and their places in the order of their bytes.
+#[derive(Drop)]
+pub(crate) struct Group<'n> {
+    pub(crate) names: &'n [String],
+    order: [u16; TOGETHER],
+    pub(crate) ghost within: { (i : ℕ) → get_or order i 0 < 16384 },
+    pub(crate) ghost few: { length names.now ≤ 16384 },
+}
+
+// The names that begin with the front of a path.
+#[derive(Clone, Copy)]
+pub(crate) struct Run {
+    // The first of them in the order, and the one behind the last.
+    first: usize,
+    end: usize,
+    // The bytes of the front, where there is such a name.
+    passed: usize,
+    // Some name selects all that goes on behind the front.
+    whole: bool,
+}
+
+impl<'n> Group<'n> {
+    ghost use Rattle.vcd_head.specs.Runs.{Follows, GoesOn, Narrows};
+
+    pub(crate) fn new(names: &'n [String]) -> Self
+        requires { length names.now ≤ 16384 }
+        ensures names { result.names.now ≡ names.now }
+        ensures order { IsOrder (map string_bytes names.now) result.order }
+    {
+        Group {
+            names,
+            order: order_of(names),
+        }
+    }
+
+    /// Returns the run of all names, which begin with an empty front.
+    pub(crate) fn all(&self) -> Run
+        ensures { (flags : List Bool)
+            → IsOrder (map string_bytes self.now.names.now) self.now.order
+            → AreSame (map string_bytes self.now.names.now) flags
+            → Follows (map string_bytes self.now.names.now) self.now.order flags [] result }
+    {
+        Run {
+            first: 0,
+            end: self.names.len(),
+            passed: 0,
+            whole: false,
+        }
+    }
+
+    /// Returns the place of the name that is at this place of the order.
+    #[inline(always)]
+    fn place_at(&self, at: usize) -> usize
+        ensures place { result ≡ get_or self.now.order at 0 }
+        ensures within { result < 16384 }
+    {
+        match self.order.get(at) {
+            Some(place) => usize::from(*place),
+            None => 0,
+        }
+    }
+
+    /// Returns 1 plus the byte behind so many of the name at a place of the order, 0 where the name
+    /// ends before.
+    #[inline(always)]
+    fn next_at(&self, at: usize, passed: usize) -> usize
+        ensures next { result ≡ next_in (map string_bytes self.now.names.now) self.now.order
+            passed at }
+        ensures within { 0 < result → passed < 2 ^ 63 }
+    {
+        let name = name_at(self.names, self.place_at(at));
+        match name.get(passed) {
+            Some(byte) => usize::from(*byte) + 1,
+            None => 0,
+        }
+    }
+
+    /// Returns the first place of the order between two whose next byte, plus 1, is not less than
+    /// this; the last one where all are less.
+    #[inline(always)]
+    fn first_from(&self, first: usize, end: usize, passed: usize, least: usize) -> usize
+        ensures range { first ≤ end → (first ≤ result) × (result ≤ end) }
+        ensures split { first ≤ end
+            → Rises (map string_bytes self.now.names.now) self.now.order passed first end
+            → IsSplit (map string_bytes self.now.names.now) self.now.order passed first end
+            least result }
+    {
+        let mut low = first;
+        let mut high = end;
+        while low < high {
+            let middle = low + (high - low) / 2;
+            if self.next_at(middle, passed) < least {
+                low = middle + 1;
+            } else {
+                high = middle;
+            }
+        }
+        low
+    }
+
+    /// Flags the names that are the front, and tells whether there are some.
+    #[inline(always)]
+    fn note(&self, run: Run, matched: &mut [bool; TOGETHER]) -> bool
+        ensures { (front : List ℕ) → Follows (map string_bytes self.now.names.now) self.now.order
+            matched.old front run
+            → Matches (λ name. bytes_eq name front) (map string_bytes self.now.names.now)
+            matched.old matched.new result }
+    {
+        if run.first >= run.end || self.next_at(run.first, run.passed) != 0 {
+            return false;
+        }
+        if matched[self.place_at(run.first)] {
+            return true;
+        }
+        for at in run.first..run.end {
+            if self.next_at(at, run.passed) != 0 {
+                return true;
+            }
+            matched[self.place_at(at)] = true;
+        }
+        true
+    }
+
+    /// Flags the names that are the front, if the byte behind it is a point, and tells whether
+    /// there are some.
+    #[inline(always)]
+    fn note_at(&self, run: Run, byte: u8, matched: &mut [bool; TOGETHER]) -> bool
+        ensures { (front : List ℕ) → Follows (map string_bytes self.now.names.now) self.now.order
+            matched.old front run
+            → Matches (λ name. (byte == 46) && bytes_eq name front)
+            (map string_bytes self.now.names.now) matched.old matched.new result }
+    {
+        if byte == b'.' {
+            self.note(run, matched)
+        } else {
+            false
+        }
+    }
+
+    /// Returns the names of a run that go on with this byte.
+    #[inline(always)]
+    fn with_byte(&self, run: Run, byte: u8, whole: bool) -> Run
+        ensures narrows { run.first ≤ run.end
+            → Rises (map string_bytes self.now.names.now) self.now.order run.passed run.first
+            run.end
+            → Narrows (map string_bytes self.now.names.now) self.now.order byte run result }
+        ensures whole { result.whole ≡ whole }
+    {
+        let next = usize::from(byte) + 1;
+        let first = self.first_from(run.first, run.end, run.passed, next);
+        if first >= run.end || self.next_at(first, run.passed) != next {
+            return Run {
+                first,
+                end: first,
+                passed: run.passed,
+                whole,
+            };
+        }
+        let end = self.first_from(first, run.end, run.passed, next + 1);
+        Run {
+            first,
+            end,
+            passed: run.passed + 1,
+            whole,
+        }
+    }
+
+    /// Returns the run behind one more byte, and flags the names that end before it, if it is a
+    /// point.
+    #[inline(always)]
+    fn step(&self, run: Run, byte: u8, matched: &mut [bool; TOGETHER]) -> Run
+        ensures { (front : List ℕ)
+            → Follows (map string_bytes self.now.names.now) self.now.order matched.old front run
+            → GoesOn (map string_bytes self.now.names.now) self.now.order matched.old matched.new
+            (front ++ byte ∷ []) result }
+    {
+        let ends = self.note_at(run, byte, matched);
+        self.with_byte(run, byte, run.whole | ends)
+    }
+
+    /// Returns the run behind some bytes, and flags the names that end before a point in them.
+    pub(crate) fn follow(&self, run: Run, bytes: &[u8], matched: &mut [bool; TOGETHER]) -> Run
+        ensures { (front : List ℕ)
+            → Follows (map string_bytes self.now.names.now) self.now.order matched.old front run
+            → GoesOn (map string_bytes self.now.names.now) self.now.order matched.old matched.new
+            (front ++ bytes.now) result }
+    {
+        let mut run = run;
+        for byte in bytes {
+            if run.first >= run.end {
+                return run;
+            }
+            run = self.step(run, *byte, matched);
+        }
+        run
+    }
+
+    /// Returns the run inside a scope with this name, and flags the names that select all that is
+    /// in it.
+    pub(crate) fn enter(&self, run: Run, component: &[u8], matched: &mut [bool; TOGETHER]) -> Run
+        ensures { (front : List ℕ)
+            → Follows (map string_bytes self.now.names.now) self.now.order matched.old front run
+            → GoesOn (map string_bytes self.now.names.now) self.now.order matched.old matched.new
+            (front ++ (component.now ++ 46 ∷ [])) result }
+    {
+        let named = self.follow(run, component, matched);
+        self.step(named, b'.', matched)
+    }
+
+    /// Flags the names that select a variable with this name of its own, and tells whether there
+    /// are some.
+    pub(crate) fn selects(&self, run: Run, own: &[u8], matched: &mut [bool; TOGETHER]) -> bool
+        ensures { (front : List ℕ)
+            → Follows (map string_bytes self.now.names.now) self.now.order matched.old front run
+            → Matches (selects_path (front ++ own.now)) (map string_bytes self.now.names.now)
+            matched.old matched.new result }
+    {
+        let named = self.follow(run, own, matched);
+        let ends = self.note(named, matched);
+        named.whole | ends
+    }
+}
+
+/// Returns the places of the names in the order of their bytes.
+fn order_of(names: &[String]) -> [u16; TOGETHER]
+    requires { length names.now ≤ 16384 }
+    ensures { IsOrder (map string_bytes names.now) result }
+{
+    let mut order = [0; TOGETHER];
+    put_order(&mut order[..names.len()], names);
+    order
+}
+
+/// Puts the places of names in the order of their bytes.
+fn put_order(places: &mut [u16], names: &[String])
+    requires count { length places.old ≡ length names.now }
+    requires few { length names.now ≤ 16384 }
+    ensures len { length places.new ≡ length names.now }
+    ensures each { (p : ℕ) → p < length names.now → Contains places.new p }
+    ensures within { All (λ p. p < length names.now) places.new }
+    ensures sorted { IsSortedBy (comes_before (map string_bytes names.now)) places.new }
+{
+    number(places);
+    sort(places, names);
+}
+
+/// Numbers places from 0 on.
+fn number(places: &mut [u16])
+    requires { length places.old ≤ 16384 }
+    ensures len { length places.new ≡ length places.old }
+    ensures each { (i : ℕ) → i < length places.old → get_or places.new i 0 ≡ i }
+{
+    for place in 0..places.len() {
+        places[place] = place as u16;
+    }
+}
+
+/// Sorts places of names by their bytes.
+fn sort(places: &mut [u16], names: &[String])
+    ensures permutation { IsPermutation places.old places.new }
+    ensures sorted { IsSortedBy (comes_before (map string_bytes names.now)) places.new }
+{
+    places.sort_unstable_by(|a, b| order_by(names, *a, *b));
+}
+
+/// Returns the order of two names by their bytes.
+#[inline(always)]
+fn order_by(names: &[String], a: u16, b: u16) -> Ordering
+    ensures { result ≡ order_in (map string_bytes names.now) a b }
+{
+    name_at(names, usize::from(a)).cmp(name_at(names, usize::from(b)))
+}
+
+/// Returns the bytes of the name at a place, none where there is no such place.
+#[inline(always)]
+fn name_at(names: &[String], place: usize) -> &[u8]
+    ensures { result.now ≡ get_or (map string_bytes names.now) place [] }
+{
+    match names.get(place) {
+        Some(name) => name.as_bytes(),
+        None => &[],
+    }
+}
