@@ -69,7 +69,7 @@ byte_first (c ∷ rest) b e = let same : c ≡ b = omega (arith, e) in (rest, ap
 -- ---- the order of the names
 
 -- what two texts begin with decides nothing of their order
-cancel : (p x y : List ℕ) → slice_cmp nat_cmp (p ++ x) (p ++ y) ≡ slice_cmp nat_cmp x y
+pub cancel : (p x y : List ℕ) → slice_cmp nat_cmp (p ++ x) (p ++ y) ≡ slice_cmp nat_cmp x y
 cancel [] x y = refl
 cancel (a ∷ p) x y = rw (sym (nat_cmp_is a a Equal refl)) (cancel p x y)
 
@@ -80,6 +80,19 @@ first_rises (a ∷ x) (b ∷ y) h = elim (cases_lt b a) [
   | inl l ↦ let less : is_lt (slice_cmp nat_cmp (b ∷ y) (a ∷ x)) ≡ true = rw (sym (nat_cmp_is b a Less l)) refl in cc
   | inr l ↦ omega (arith, l)
 ]
+
+-- a text between two that begin with these bytes begins with them
+pub between : (q x y z : List ℕ) → is_lt (slice_cmp nat_cmp y (q ++ x)) ≡ false → is_lt (slice_cmp nat_cmp (q ++ z) y) ≡ false → (rest : List ℕ) × (y ≡ q ++ rest)
+between [] x y z a b = (y, refl)
+between (c ∷ q) x [] z a b = let wrong = a in cc
+between (c ∷ q) x (d ∷ y) z a b =
+    let low = first_rises (c ∷ (q ++ x)) (d ∷ y) a in
+    let high = first_rises (d ∷ y) (c ∷ (q ++ z)) b in
+    let same : d ≡ c = omega (arith, low, high) in
+    let under : is_lt (slice_cmp nat_cmp y (q ++ x)) ≡ false = ap is_lt (sym (cancel (d ∷ []) y (q ++ x))) ∙ ap (λ k. is_lt (slice_cmp nat_cmp (d ∷ y) (k ∷ (q ++ x)))) same ∙ a in
+    let over : is_lt (slice_cmp nat_cmp (q ++ z) y) ≡ false = ap is_lt (sym (cancel (d ∷ []) (q ++ z) y)) ∙ ap (λ k. is_lt (slice_cmp nat_cmp (k ∷ (q ++ z)) (d ∷ y))) same ∙ b in
+    let rest = between q x y z under over in
+    (rest.0, (λ j. same j ∷ rest.1 j))
 
 -- ---- names and their places
 

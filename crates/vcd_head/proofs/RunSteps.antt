@@ -1,17 +1,20 @@
 -- A run, one byte of a path after the other.
-use Rattle.std.proofs.Common.{◌≡◌, ◌≢◌, ◌⊎◌, ℕ, suc, ◌+◌, ◌<◌, ◌≤◌, Bool, true, false, ◌&&◌, ◌||◌, ◌==◌, List, [], ◌∷◌, ◌++◌, length, drop, get_or, bytes_eq, slice_get, Some, inl, inr, refl, sym, ap, subst, ◌∙◌, arith, length-append}
+use Rattle.std.proofs.Common.{◌≡◌, ◌≢◌, ◌⊎◌, ℕ, zero, suc, ◌+◌, ◌-◌, ◌<◌, ◌≤◌, Bool, true, false, ◌&&◌, ◌||◌, ◌==◌, List, [], ◌∷◌, ◌++◌, length, take, drop, get_or, bytes_eq, slice_get, Some, inl, inr, refl, sym, ap, subst, ◌∙◌, arith, length-append}
+use Rattle.std.specs.Cmp.Lexicographic.{slice_cmp}
 use Rattle.std.specs.List.{list_any}
-use Rattle.std.proofs.Math.Seq.{drop-append_seam}
+use Rattle.std.specs.Ordering.{nat_cmp, is_lt}
+use Rattle.std.proofs.Math.Seq.{drop-append_seam, take-append-add}
 use Rattle.std.proofs.lemmas.Bool.{cases_eq, cases_lt, eq-eqb, eqb-true, and_parts, false_from_ne_true}
-use Rattle.std.proofs.lemmas.List.{append_assoc, append-nil}
+use Rattle.std.proofs.lemmas.List.{append_assoc, append-nil, length-take-le, take-append-drop}
 use Rattle.vcd_model.specs.Selection.{selects_path}
 use Rattle.vcd_view.proofs.ListLemmas.{same_bytes}
+use Rattle.vcd_view.proofs.ParentLemmas.{take-take}
 use Rattle.vcd_head.specs.Matched.{Matches}
-use Rattle.vcd_head.specs.Names.{Notes, SelectsAll, first_of, next_in, text_at}
+use Rattle.vcd_head.specs.Names.{AreShared, Notes, SelectsAll, first_of, next_bytes, next_in, text_at}
 use Rattle.vcd_head.specs.Runs.{Follows, GoesOn, IsDecided, Narrows}
 use Rattle.vcd_head.specs.declared.names.Run.{Run}
 use Rattle.vcd_head.proofs.MatchLemmas.{any_none, or_false, or_true}
-use Rattle.vcd_head.proofs.RunLemmas.{all_behind, byte_first, ends_at_point, ends_elsewhere, equal_bytes, found_at, is_itself, next_is, none_behind, not_shorter, other_byte, some_passes, text_is, who_passes}
+use Rattle.vcd_head.proofs.RunLemmas.{all_behind, between, byte_first, cancel, ends_at_point, ends_elsewhere, equal_bytes, found_at, is_itself, next_is, none_behind, not_shorter, other_byte, some_passes, text_is, who_passes}
 
 -- ---- one byte more
 
@@ -100,7 +103,65 @@ module _ (names : List (List ℕ)) (order : List ℕ) (old new : List Bool) (fro
       by_test false e = inl (m.flags p name at ∙ or_false (get_or old p false) _ e)
       by_test true e = inr (m.flags p name at ∙ or_true (get_or old p false) _ e, selects_behind byte name front (is_at_point byte name front e))
 
+-- ---- bytes that all names of the run go on with
+
+-- so many first bytes that are the same
+same_taken : (n : ℕ) (a b : List ℕ) → n ≤ length b → AreShared a b n → take n a ≡ take n b
+same_taken zero a b l s = refl
+same_taken (suc n) [] b l s = absurd (omega (arith, s.0))
+same_taken (suc n) (x ∷ a) [] l s = absurd (omega (arith, l))
+same_taken (suc n) (x ∷ a) (y ∷ b) l s = λ j. s.1 0 (omega arith) j ∷ same_taken n a b (omega (arith, l)) (omega (arith, s.0), λ i h. s.1 (suc i) (omega (arith, h))) j
+
+module _ (names : List (List ℕ)) (order : List ℕ) (flags : List Bool) (front bytes : List ℕ) (n : ℕ) (r s : Run) (f : Follows names order flags front r) (some : r.first < r.end) (within : n ≤ length bytes)
+    (low : AreShared (next_bytes names order r.passed r.first) bytes n) (high : AreShared (next_bytes names order r.passed (r.end - 1)) bytes n)
+    (first : s.first ≡ r.first) (end : s.end ≡ r.end) (passed : s.passed ≡ r.passed + n) (whole : s.whole ≡ r.whole) where
+  begins : (i : ℕ) (l : r.first ≤ i) (m : i < r.end) → AreShared (next_bytes names order r.passed i) bytes n → (f.inside i l m).0 ≡ take n bytes ++ drop n (f.inside i l m).0
+  begins i l m same =
+      let x = f.inside i l m in
+      let rest : next_bytes names order r.passed i ≡ x.0 = ap (λ p. drop p (text_at names order i)) (f.passed some) ∙ ap (drop (length front)) x.1 ∙ drop-append_seam front x.0 in
+      sym (take-append-drop n x.0) ∙ ap (λ k. k ++ drop n x.0) (same_taken n x.0 bytes within (subst (λ t. AreShared t bytes n) rest same))
+
+  between_all : (i : ℕ) → r.first ≤ i → i < r.end → (rest : List ℕ) × (text_at names order i ≡ (front ++ take n bytes) ++ rest)
+  between_all i l m =
+      let lf : r.first ≤ r.first = omega arith in
+      let last : r.end - 1 < r.end = omega (arith, some) in
+      let ll : r.first ≤ r.end - 1 = omega (arith, some) in
+      let x = f.inside r.first lf some in
+      let y = f.inside i l m in
+      let z = f.inside (r.end - 1) ll last in
+      let a = begins r.first lf some low in
+      let b = begins (r.end - 1) ll last high in
+      let under = f.order_is.rising r.first i l (omega (arith, m, f.within)) in
+      let over = f.order_is.rising i (r.end - 1) (omega (arith, m)) (omega (arith, last, f.within)) in
+      let below : is_lt (slice_cmp nat_cmp y.0 (take n bytes ++ drop n x.0)) ≡ false = ap is_lt (sym (cancel front y.0 (take n bytes ++ drop n x.0))) ∙ (λ j. is_lt (slice_cmp nat_cmp (sym y.1 j) (front ++ sym a j))) ∙ ap (λ t. is_lt (slice_cmp nat_cmp (text_at names order i) t)) (sym x.1) ∙ under in
+      let above : is_lt (slice_cmp nat_cmp (take n bytes ++ drop n z.0) y.0) ≡ false = ap is_lt (sym (cancel front (take n bytes ++ drop n z.0) y.0)) ∙ (λ j. is_lt (slice_cmp nat_cmp (front ++ sym b j) (sym y.1 j))) ∙ ap (λ t. is_lt (slice_cmp nat_cmp t (text_at names order i))) (sym z.1) ∙ over in
+      let rest = between (take n bytes) (drop n x.0) y.0 (drop n z.0) below above in
+      (rest.0, y.1 ∙ ap (λ t. front ++ t) rest.1 ∙ sym (append_assoc front (take n bytes) rest.0))
+
+  pub follows_along : Follows names order flags (front ++ take n bytes) s
+  follows_along = record {
+    up = omega (arith, first, end, f.up);
+    within = omega (arith, end, f.within);
+    passed = λ l. passed ∙ ap (λ p. p + n) (f.passed some) ∙ ap (λ k. length front + k) (sym (length-take-le n bytes within)) ∙ sym (length-append front (take n bytes));
+    inside = λ i l m. between_all i (omega (arith, l, first)) (omega (arith, m, end));
+    outside = λ i l o. decided i (f.outside i l (elim o [ inl b ↦ inl (omega (arith, b, first)) | inr a ↦ inr (omega (arith, a, end)) ]));
+    whole = λ e. let x = f.whole (sym whole ∙ e) in (x.0, x.1, all_behind front (take n bytes) (text_at names order x.0) x.2);
+    same = f.same;
+    order_is = f.order_is;
+  }
+    where
+      decided : (i : ℕ) → IsDecided names order flags front r.whole i → IsDecided names order flags (front ++ take n bytes) s.whole i
+      decided i (inl d) = inl (whole ∙ d.0, d.1, all_behind front (take n bytes) (text_at names order i) d.2)
+      decided i (inr none) = inr (none_behind front (take n bytes) (text_at names order i) none)
+
 -- ---- byte after byte
+
+-- some bytes, and some of the others
+pub take_on : (a b : ℕ) (xs : List ℕ) → a + b ≤ length xs → take (a + b) xs ≡ take a xs ++ take b (take (length xs - a) (drop a xs))
+take_on a b xs l =
+    let few = length-take-le a xs (omega (arith, l)) in
+    ap (λ n. take (n + b) xs) (sym few) ∙ ap (take (length (take a xs) + b)) (sym (take-append-drop a xs)) ∙ take-append-add (take a xs) (drop a xs) b
+    ∙ ap (λ t. take a xs ++ t) (sym (take-take b (length xs - a) (drop a xs) (omega (arith, l))))
 
 pub notes_behind : (names : List (List ℕ)) (p q : List ℕ) (old new : List Bool) → Notes names p old new → Notes names (p ++ q) old new
 notes_behind names p q old new n i name at = elim (n i name at) [ inl e ↦ inl e | inr x ↦ inr (x.0, all_behind p q name x.1) ]

@@ -29,9 +29,17 @@ abbrev pub first_of : List ℕ → ℕ
 first_of [] = 0
 first_of (byte ∷ bytes) = suc byte
 
--- so, behind so many bytes of the name at a place of the order
+-- what stands behind so many bytes of the name at a place of the order
+abbrev pub next_bytes : List (List ℕ) → List ℕ → ℕ → ℕ → List ℕ
+next_bytes names order passed i = drop passed (text_at names order i)
+
+-- 1 plus the first byte of it, 0 where there is none
 abbrev pub next_in : List (List ℕ) → List ℕ → ℕ → ℕ → ℕ
-next_in names order passed i = first_of (drop passed (text_at names order i))
+next_in names order passed i = first_of (next_bytes names order passed i)
+
+-- both texts begin with the same bytes, so many
+abbrev pub AreShared : List ℕ → List ℕ → ℕ → Type 0
+AreShared a b n = (n ≤ length a) × ((i : ℕ) → i < n → get_or a i 0 ≡ get_or b i 0)
 
 -- between two places of the order it does not fall
 abbrev pub Rises : List (List ℕ) → List ℕ → ℕ → (first end : ℕ) → Type 0

@@ -1,11 +1,11 @@
 // Names in the order of their bytes: those that begin with the front of a path stand together, so
 // they are followed by two places, one byte of the path after the other.
-ghost use Rattle.std.specs.Prelude.{◌≡◌, ◌==◌, ◌&&◌, ◌<◌, ◌≤◌, [], ◌∷◌, ◌++◌, ◌^◌, ℕ, List, Bool, length, map, get_or, bytes_eq, string_bytes, IsPermutation};
+ghost use Rattle.std.specs.Prelude.{◌≡◌, ◌==◌, ◌&&◌, ◌+◌, ◌-◌, ◌<◌, ◌≤◌, [], ◌∷◌, ◌++◌, ◌^◌, ℕ, List, Bool, length, take, drop, map, get_or, bytes_eq, string_bytes, IsPermutation};
 ghost use Rattle.std.specs.List.{All, Contains};
 ghost use Rattle.std.specs.List.Sorted.{IsSortedBy};
 ghost use Rattle.vcd_model.specs.Selection.{selects_path};
 ghost use Rattle.vcd_head.specs.Matched.{Matches};
-ghost use Rattle.vcd_head.specs.Names.{AreSame, IsOrder, IsSplit, Rises, comes_before, next_in, order_in};
+ghost use Rattle.vcd_head.specs.Names.{AreSame, AreShared, IsOrder, IsSplit, Rises, comes_before, next_bytes, next_in, order_in};
 
 use std::cmp::Ordering;
 
@@ -192,6 +192,45 @@ impl<'n> Group<'n> {
         self.with_byte(run, byte, run.whole | ends)
     }
 
+    /// Returns how many of these bytes all names of a run go on with.
+    #[inline(always)]
+    fn shared(&self, run: Run, bytes: &[u8]) -> usize
+        ensures within { result ≤ length bytes.now }
+        ensures fits { run.passed + result < 2 ^ 64 }
+        ensures first { AreShared (next_bytes (map string_bytes self.now.names.now) self.now.order
+            run.passed run.first) bytes.now result }
+        ensures last { AreShared (next_bytes (map string_bytes self.now.names.now) self.now.order
+            run.passed (run.end - 1)) bytes.now result }
+    {
+        let first = name_at(self.names, self.place_at(run.first));
+        let last = name_at(self.names, self.place_at(run.end.saturating_sub(1)));
+        shared(behind(first, run.passed), behind(last, run.passed), bytes)
+    }
+
+    /// Returns the run behind some of these bytes, one at least, and how many they are: as many as
+    /// all names of the run go on with, and the next one.
+    #[inline(always)]
+    fn hop(&self, run: Run, bytes: &[u8], matched: &mut [bool; TOGETHER]) -> (Run, usize)
+        ensures some { 0 < length bytes.now → 0 < result.1 }
+        ensures within { result.1 ≤ length bytes.now }
+        ensures run { (front : List ℕ) → run.first < run.end
+            → Follows (map string_bytes self.now.names.now) self.now.order matched.old front run
+            → GoesOn (map string_bytes self.now.names.now) self.now.order matched.old matched.new
+            (front ++ take result.1 bytes.now) result.0 }
+    {
+        let shared = self.shared(run, bytes);
+        let along = Run {
+            first: run.first,
+            end: run.end,
+            passed: run.passed + shared,
+            whole: run.whole,
+        };
+        match bytes.get(shared) {
+            Some(byte) => (self.step(along, *byte, matched), shared + 1),
+            None => (along, shared),
+        }
+    }
+
     /// Returns the run behind some bytes, and flags the names that end before a point in them.
     pub(crate) fn follow(&self, run: Run, bytes: &[u8], matched: &mut [bool; TOGETHER]) -> Run
         ensures { (front : List ℕ)
@@ -200,11 +239,14 @@ impl<'n> Group<'n> {
             (front ++ bytes.now) result }
     {
         let mut run = run;
-        for byte in bytes {
+        let mut done = 0;
+        while done < bytes.len() {
             if run.first >= run.end {
                 return run;
             }
-            run = self.step(run, *byte, matched);
+            let (next, count) = self.hop(run, &bytes[done..], matched);
+            run = next;
+            done += count;
         }
         run
     }
@@ -294,4 +336,31 @@ fn name_at(names: &[String], place: usize) -> &[u8]
         Some(name) => name.as_bytes(),
         None => &[],
     }
+}
+
+/// Returns the bytes behind so many.
+#[inline(always)]
+fn behind(bytes: &[u8], passed: usize) -> &[u8]
+    ensures { result.now ≡ drop passed bytes.now }
+{
+    match bytes.get(passed..) {
+        Some(rest) => rest,
+        None => &[],
+    }
+}
+
+/// Returns how many bytes two texts and a third one begin with.
+#[inline(always)]
+fn shared(first: &[u8], last: &[u8], bytes: &[u8]) -> usize
+    ensures within { result ≤ length bytes.now }
+    ensures first { AreShared first.now bytes.now result }
+    ensures last { AreShared last.now bytes.now result }
+{
+    let most = bytes.len().min(first.len()).min(last.len());
+    for place in 0..most {
+        if first[place] != bytes[place] || last[place] != bytes[place] {
+            return place;
+        }
+    }
+    most
 }

@@ -1,7 +1,13 @@
-use Rattle.std.proofs.Common.{List, ℕ, ◌++◌, take, map, string_bytes}
+use Rattle.std.proofs.Common.{List, ℕ, ◌++◌, ◌-◌, ◌≤◌, length, take, map, string_bytes}
 use Rattle.vcd_head.specs.Runs.{Follows, GoesOn}
 use Rattle.vcd_head.proofs.names.Group.follow.Given as goal
 
-abbrev pub invariant-loop-byte : goal.invariant-loop-byte
-invariant-loop-byte l = (front : List ℕ) → Follows (map string_bytes l.self.names.now) l.self.order l.initial.matched front l.initial.run
-    → GoesOn (map string_bytes l.self.names.now) l.self.order l.initial.matched l.matched (front ++ take l.byte-index l.bytes) l.run
+abbrev pub invariant-loop-done : goal.invariant-loop-done
+invariant-loop-done l = record {
+  within : l.done ≤ length l.bytes;
+  goes : (front : List ℕ) → Follows (map string_bytes l.self.names.now) l.self.order l.initial.matched front l.initial.run
+      → GoesOn (map string_bytes l.self.names.now) l.self.order l.initial.matched l.matched (front ++ take l.done l.bytes) l.run;
+}
+
+abbrev pub decreases-loop-done : goal.decreases-loop-done
+decreases-loop-done l = length l.bytes - l.done

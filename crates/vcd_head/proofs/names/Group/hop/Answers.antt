@@ -1,0 +1,31 @@
+use Rattle.std.proofs.Common.{◌≡◌, ◌<◌, ◌+◌, ◌++◌, ◌∷◌, [], length, take, get_or, refl, sym, ap, subst, ◌∙◌, map, string_bytes, rules}
+use Rattle.std.proofs.lemmas.List.{append_assoc, take_more}
+use Rattle.vcd_head.specs.Runs.{GoesOn}
+use Rattle.vcd_head.specs.declared.names.Run.{Run}
+use Rattle.vcd_head.proofs.RunSteps.{follows_along, goes_both, goes_nowhere}
+use Rattle.vcd_head.proofs.names.Group.hop.Goals as goal
+
+pub returns-in-Some-clause-run : goal.returns-in-Some-clause-run
+returns-in-Some-clause-run c = λ front some f.
+    let names = map string_bytes c.args.self.now.names.now in
+    let order = c.args.self.now.order in
+    let old = c.args.matched.now in
+    let bytes = c.args.bytes.now in
+    let r = c.args.run in
+    let n = c.shared-shared.result in
+    let along : Run = record { first = r.first; end = r.end; passed = r.passed + n; whole = r.whole } in
+    let follows = follows_along names order old front bytes n r along f some c.shared-shared.ensures.within c.shared-shared.ensures.first c.shared-shared.ensures.last refl refl refl refl in
+    let within : n < length bytes = search rules in
+    let byte : c.in-Some.byte.now ≡ get_or bytes n 0 = search rules in
+    subst (λ p. GoesOn names order old c.step.new.matched p c.step.result) (append_assoc front (take n bytes) (c.in-Some.byte.now ∷ []) ∙ ap (λ b. front ++ (take n bytes ++ b ∷ [])) byte ∙ ap (λ l. front ++ l) (sym (take_more bytes n 0 within)))
+    (goes_both names order old old c.step.new.matched (front ++ take n bytes) (c.in-Some.byte.now ∷ []) along c.step.result (goes_nowhere names order old (front ++ take n bytes) along follows) (c.step.ensures (front ++ take n bytes) follows))
+
+pub returns-in-None-clause-run : goal.returns-in-None-clause-run
+returns-in-None-clause-run c = λ front some f.
+    let names = map string_bytes c.args.self.now.names.now in
+    let order = c.args.self.now.order in
+    let r = c.args.run in
+    let n = c.shared-shared.result in
+    let along : Run = record { first = r.first; end = r.end; passed = r.passed + n; whole = r.whole } in
+    goes_nowhere names order c.args.matched.now (front ++ take n c.args.bytes.now) along
+    (follows_along names order c.args.matched.now front c.args.bytes.now n r along f some c.shared-shared.ensures.within c.shared-shared.ensures.first c.shared-shared.ensures.last refl refl refl refl)
