@@ -44,3 +44,15 @@ Welcomes most placed before = (t : List ℕ) → is_end t ≡ false → (header_
 abbrev pub WordRead : {X : Type 0} {g : Ghosts X} → ℕ → Input → List (Placed HeaderPhrase) → List (List ℕ) → Feed X g → Option (Vec ℕ) → Type 0
 WordRead most i placed before f None = ReadsToken most i placed before f × (is_end (token_of f).bytes ≡ true)
 WordRead most i placed before f (Some word) = Reads most i placed (before ++ word.items ∷ []) f × (is_end word.items ≡ false)
+
+-- a reference was read and put to a text, and its first token is this long
+pub record PutsReference {X : Type 0} {g : Ghosts X} (most : ℕ) (i : Input) (placed : List (Placed HeaderPhrase)) (before : List (List ℕ)) (f : Feed X g) (old new : List ℕ) (name : ℕ) : Type 0 where
+  pub first : List ℕ
+  pub is_token : is_end first ≡ false
+  pub name_is : name ≡ length first
+  pub ends_there : EndsThere most i placed (before ++ first ∷ []) f (λ inner. new ≡ old ++ (first ++ spaced inner))
+
+-- so, or `$end` was looked at
+abbrev pub ReferencePut : {X : Type 0} {g : Ghosts X} → ℕ → Input → List (Placed HeaderPhrase) → List (List ℕ) → Feed X g → (old new : List ℕ) → Option ℕ → Type 0
+ReferencePut most i placed before f old new None = ReadsToken most i placed before f × (is_end (token_of f).bytes ≡ true)
+ReferencePut most i placed before f old new (Some name) = PutsReference most i placed before f old new name

@@ -2,7 +2,7 @@
 ghost use Rattle.std.specs.Prelude.{◌≡◌, ◌-◌, ◌^◌, ◌<◌, ◌≤◌, ◌++◌, length, OnOk};
 ghost use Rattle.std.specs.List.{join_with_byte};
 ghost use Rattle.vcd_text.specs.Feed.{source_of};
-ghost use Rattle.vcd_head.specs.Calls.{MovesOn, ReadsToEnd};
+ghost use Rattle.vcd_head.specs.Calls.{MovesOn, ReadsReference, ReadsToEnd};
 ghost use Rattle.vcd_head.specs.Texts.{spaced};
 
 use crate::fault::HeadFault;
@@ -41,6 +41,25 @@ pub(crate) fn append_to_end<S: Source>(
         text.push(b' ')?;
         text.extend_from_slice(feed.token())?;
     }
+}
+
+/// Puts the tokens of a reference, which are those before the first `$end`, to the text, with a
+/// space between, and returns the length of the first one, none where there is no token.
+pub(crate) fn append_reference<S: Source>(
+    feed: &mut Feed<'_, '_, '_, '_, S>,
+    text: &mut Vec<u8>,
+) -> Result<Option<usize>, HeadFault>
+    requires { S.failures (source_of feed.old) < 2 ^ 64 - 1 }
+    ensures reads { ReadsReference feed.old feed.new text.old.items text.new.items result }
+    ensures advances { MovesOn S.failures feed.old feed.new result }
+{
+    if next_ends(feed)? {
+        return Ok(None);
+    }
+    let name = feed.token().len();
+    text.extend_from_slice(feed.token())?;
+    append_to_end(feed, text)?;
+    Ok(Some(name))
 }
 
 /// Returns the tokens before the first `$end`, with a space between.

@@ -11,11 +11,14 @@ ghost use Rattle.vcd_head.specs.Reads.{Reads};
 ghost use Rattle.vcd_head.specs.Draft.{HasCodes};
 ghost use Rattle.vcd_head.specs.Variables.{SizeRead, CodeRead};
 
+use crate::code_place::enter_code;
 use crate::codes::Codes;
-use crate::declarations::{Reference, VariablePhrase, check_start, declare};
+use crate::declarations::check_start;
 use crate::draft::Draft;
 use crate::fault::HeadFault;
-use crate::texts::append_to_end;
+use crate::rows::{WideRow, push};
+use crate::sought::Sought;
+use crate::texts::append_reference;
 use crate::tokens::{next_token, next_word};
 use crate::words::{is_code, is_event, size_of};
 use std::alloc::Global;
@@ -81,20 +84,30 @@ pub(crate) fn read_variable<S: Source>(
         return Err(HeadFault::BadVariable);
     };
     let size = read_size(feed)?;
-    let code = read_code(alloc, feed, &draft.codes, size, is_event(&word))?;
-    let Some(mut text) = next_word(alloc, feed)? else {
+    let event = is_event(&word);
+    let code = read_code(alloc, feed, &draft.codes, size, event)?;
+    let sought = Sought::new(alloc, &code)?;
+    let Some(place) = enter_code(&mut draft.text, &mut draft.codes, sought, size, event)? else {
+        return Err(HeadFault::CodeDiffers);
+    };
+    let start = draft.text.len();
+    draft.text.extend_from_slice(&word)?;
+    let reference = draft.text.len();
+    let Some(name) = append_reference(feed, &mut draft.text)? else {
         return Err(HeadFault::BadVariable);
     };
-    let name = text.len();
-    append_to_end(feed, &mut text)?;
-    let variable = VariablePhrase {
-        word: &word,
-        size,
-        code: &code,
-        reference: Reference { name, text: &text },
-    };
-    if !declare(alloc, draft, variable)? {
-        return Err(HeadFault::CodeDiffers);
-    }
+    let parent = draft.parent();
+    push(
+        &mut draft.rows,
+        WideRow {
+            kind: Kind::Var,
+            parent,
+            start,
+            word: word.len(),
+            name,
+            all: draft.text.len().saturating_sub(reference),
+            code: place,
+        },
+    )?;
     Ok(())
 }
