@@ -509,6 +509,54 @@ fn selected_variables_are_marked(rt: HostRuntime) -> Result<(), Fail> {
     Ok(())
 }
 
+// The rows: a, a.b.c (the scope b in a), the end of both, a.b (one scope), its variables c and d.e,
+// its end, a scope with no variable, and its end.
+const POINTS: &[u8] =
+    b"$scope module a $end $scope module b $end $var wire 1 ! c $end $upscope $end $upscope $end $scope module a.b $end $var wire 1 ! c $end $var wire 1 ! d.e $end $upscope $end $scope module f $end $upscope $end $enddefinitions $end\n";
+
+// The marks of its eleven rows, or the place of the refused name.
+fn marked_points(
+    alloc: Global,
+    head: &Head,
+    texts: &[&str],
+) -> Result<Result<[u8; 11], usize>, AllocError> {
+    let view = head.view();
+    let names = names(alloc, texts)?;
+    let mut marks = [9; 11];
+    if view.rows.len() != marks.len() {
+        return Ok(Err(view.rows.len()));
+    }
+    Ok(select(view, &names, &mut marks).map(|_| marks))
+}
+
+// Names in any order and repeated, and the marks of the eleven rows, or the place of the name that
+// is refused.
+const MARKED_POINTS: [(&[&str], Result<[u8; 11], usize>); 7] = [
+    (&["a"], Ok([1, 1, 1, 0, 0, 1, 1, 1, 0, 0, 0])),
+    (&["a.b.c"], Ok([1, 1, 1, 0, 0, 1, 1, 0, 0, 0, 0])),
+    (&["a.b.d"], Ok([0, 0, 0, 0, 0, 1, 0, 1, 0, 0, 0])),
+    (
+        &["a.b.d.e", "a.b.c", "a.b", "a.b.d", "a.b", "a"],
+        Ok([1, 1, 1, 0, 0, 1, 1, 1, 0, 0, 0]),
+    ),
+    (&["a.b.d.e", "a", "f", "a.b.x"], Err(2)),
+    (&["a.b.d.e", "a.b.", "a"], Err(1)),
+    (&["a", "a.b.c", "a.b.c", "a.b.cc", "a.b.d.e.f"], Err(3)),
+];
+
+#[test]
+fn names_with_points_are_found(rt: HostRuntime) -> Result<(), Fail> {
+    let head = read_good(rt.alloc(), POINTS)?;
+    for (texts, marks) in MARKED_POINTS {
+        assert_eq!(rt;
+            marked_points(rt.alloc(), &head, texts)?,
+            marks,
+            "by {texts:?}"
+        );
+    }
+    Ok(())
+}
+
 // The law over codes, as a caller has it.
 fn codes_differ()
     ensures { CodesDiffer }
