@@ -19,6 +19,7 @@ pub mod Marks
 pub mod Selects
 pub mod Names
 pub mod Runs
+pub mod Groups
 pub mod Inside
 pub mod Matched
 pub mod Merged

@@ -4,7 +4,8 @@ ghost use Rattle.std.specs.Prelude.{◌≡◌, ◌<◌, ◌≤◌, [], ◌∷◌
 ghost use Rattle.vcd_model.specs.Declarations.{Declaration, Variable, path_of};
 ghost use Rattle.vcd_model.specs.Header.{Header};
 ghost use Rattle.vcd_model.specs.Selection.{is_selected as is_selected_by, is_variable, selects_path};
-ghost use Rattle.vcd_head.specs.Inside.{AreOpen, Enters, HasSelected, KeepsOpen, front};
+ghost use Rattle.vcd_head.specs.Groups.{names_of};
+ghost use Rattle.vcd_head.specs.Inside.{AreOpen, Enters, HasSelected, IsOpen, KeepsOpen, front};
 ghost use Rattle.vcd_head.specs.Matched.{Matches, Matched};
 ghost use Rattle.vcd_head.specs.Names.{AreSame, IsOrder};
 ghost use Rattle.vcd_head.specs.Paths.{scopes_text};
@@ -41,10 +42,8 @@ pub(crate) struct Open {
 
 impl Open {
     pub(crate) fn new(group: &Group<'_>) -> Self
-        ensures { (h : Header) (flags : List Bool)
-            → IsOrder (map string_bytes group.now.names.now) group.now.order
-            → AreSame (map string_bytes group.now.names.now) flags
-            → AreOpen h (map string_bytes group.now.names.now) group.now.order flags result }
+        ensures { (h : Header) (flags : List Bool) → IsOrder (names_of group.now) group.now.order
+            → AreSame (names_of group.now) flags → IsOpen h group.now flags result }
     {
         let outermost = Inside {
             scope: 0,
@@ -67,18 +66,14 @@ impl Open {
         group: &Group<'_>,
         matched: &mut [bool; TOGETHER],
     ) -> bool
-        ensures open { KeepsOpen view.entry (map string_bytes group.now.names.now) group.now.order
-            matched.old matched.new self.old self.new }
+        ensures open { KeepsOpen view.entry group.now matched.old matched.new self.old self.new }
         ensures selected { (h : Header) (d : Declaration) → IsViewOf view.entry h
-            → slice_get h.declarations row ≡ Some d
-            → AreOpen h (map string_bytes group.now.names.now) group.now.order matched.old self.old
-            → result ≡ is_selected_by (map string_bytes group.now.names.now)
-            (take row h.declarations) d }
+            → slice_get h.declarations row ≡ Some d → IsOpen h group.now matched.old self.old
+            → result ≡ is_selected_by (names_of group.now) (take row h.declarations) d }
         ensures matched { (h : Header) (d : Declaration) → IsViewOf view.entry h
-            → slice_get h.declarations row ≡ Some d
-            → AreOpen h (map string_bytes group.now.names.now) group.now.order matched.old self.old
-            → Matched (λ name. is_selected_by (name ∷ []) (take row h.declarations) d)
-            (map string_bytes group.now.names.now) matched.old matched.new }
+            → slice_get h.declarations row ≡ Some d → IsOpen h group.now matched.old self.old
+            → Matched (λ name. is_selected_by (name ∷ []) (take row h.declarations) d) (names_of
+            group.now) matched.old matched.new }
     {
         let Some(declared) = view.row_at(row) else {
             return false;
@@ -108,9 +103,9 @@ impl Open {
     ) -> bool
         ensures { (h : Header) (d : Declaration) → IsViewOf view.entry h
             → slice_get h.declarations row ≡ Some d → is_variable d ≡ true
-            → AreOpen h (map string_bytes group.now.names.now) group.now.order matched.old self.old
-            → HasSelected h (map string_bytes group.now.names.now) group.now.order
-            (path_of (take row h.declarations) d) matched.old matched.new self.new result }
+            → IsOpen h group.now matched.old self.old
+            → HasSelected h group.now (path_of (take row h.declarations) d) matched.old matched.new
+            self.new result }
     {
         if self.entered < self.depth {
             self.enter_around(view, row, group, matched);
@@ -127,8 +122,8 @@ impl Open {
         matched: &mut [bool; TOGETHER],
     )
         ensures { (h : Header) → IsViewOf view.entry h → row < length h.declarations
-            → Enters h (map string_bytes group.now.names.now) group.now.order
-            (scopes_text (take row h.declarations)) matched.old matched.new self.old self.new }
+            → Enters h group.now (scopes_text (take row h.declarations)) matched.old matched.new
+            self.old self.new }
     {
         let mut scopes = Enclosing::innermost(row, self.depth.saturating_sub(self.entered));
         while let Some(scope) = scopes.next(view) {
@@ -145,8 +140,8 @@ impl Open {
         matched: &mut [bool; TOGETHER],
     )
         ensures { (h : Header) → IsViewOf view.entry h → row < length h.declarations
-            → Enters h (map string_bytes group.now.names.now) group.now.order
-            (front h.declarations (suc row)) matched.old matched.new self.old self.new }
+            → Enters h group.now (front h.declarations (suc row)) matched.old matched.new self.old
+            self.new }
     {
         let Some(around) = self.around(view, row) else {
             return;
@@ -183,9 +178,9 @@ impl Open {
     ) -> bool
         ensures { (h : Header) (d : Declaration) → IsViewOf view.entry h
             → slice_get h.declarations row ≡ Some d → is_variable d ≡ true
-            → AreOpen h (map string_bytes group.now.names.now) group.now.order matched.old self.now
-            → Matches (selects_path (path_of (take row h.declarations) d))
-            (map string_bytes group.now.names.now) matched.old matched.new result }
+            → IsOpen h group.now matched.old self.now
+            → Matches (selects_path (path_of (take row h.declarations) d)) (names_of group.now)
+            matched.old matched.new result }
     {
         match self.around(view, row) {
             Some(around) => group.selects(around.run, view.name_of(row), matched),
@@ -200,8 +195,8 @@ impl Open {
         ensures row { IfSome result (λ _. row < length view.entry.rows.now) }
         ensures run { (h : Header) (names : List (List ℕ)) (order : List ℕ) (flags : List Bool)
             → IsViewOf view.entry h → AreOpen h names order flags self.now
-            → IfSome result (λ s. Follows names order flags
-            (scopes_text (take row h.declarations)) s.run) }
+            → IfSome result (λ s. Follows names order flags (scopes_text (take row h.declarations))
+            s.run) }
     {
         let declared = view.row_at(row)?;
         let inside = self.inside.get(self.entered)?;
@@ -222,8 +217,8 @@ fn compare_each(
     requires { length names.now ≤ 16384 }
     ensures { (h : Header) (v : Variable) → IsViewOf view.entry h
         → slice_get h.declarations row ≡ Some (Declaration.Var v)
-        → Matches (selects_path (path_of (take row h.declarations) (Declaration.Var v)))
-        (map string_bytes names.now) matched.old matched.new result }
+        → Matches (selects_path (path_of (take row h.declarations) (Declaration.Var v))) (map
+        string_bytes names.now) matched.old matched.new result }
 {
     let mut some = false;
     for place in 0..names.len() {

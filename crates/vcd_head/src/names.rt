@@ -34,7 +34,8 @@ pub(crate) struct Run {
 }
 
 impl<'n> Group<'n> {
-    ghost use Rattle.vcd_head.specs.Runs.{Follows, GoesOn, Narrows};
+    ghost use Rattle.vcd_head.specs.Groups.{IsRun, IsRunOn, names_of};
+    ghost use Rattle.vcd_head.specs.Runs.{Narrows};
 
     pub(crate) fn new(names: &'n [String]) -> Self
         requires { length names.now ≤ 16384 }
@@ -49,10 +50,8 @@ impl<'n> Group<'n> {
 
     /// Returns the run of all names, which begin with an empty front.
     pub(crate) fn all(&self) -> Run
-        ensures { (flags : List Bool)
-            → IsOrder (map string_bytes self.now.names.now) self.now.order
-            → AreSame (map string_bytes self.now.names.now) flags
-            → Follows (map string_bytes self.now.names.now) self.now.order flags [] result }
+        ensures { (flags : List Bool) → IsOrder (names_of self.now) self.now.order
+            → AreSame (names_of self.now) flags → IsRun self.now flags [] result }
     {
         Run {
             first: 0,
@@ -78,8 +77,7 @@ impl<'n> Group<'n> {
     /// ends before.
     #[inline(always)]
     fn next_at(&self, at: usize, passed: usize) -> usize
-        ensures next { result ≡ next_in (map string_bytes self.now.names.now) self.now.order
-            passed at }
+        ensures next { result ≡ next_in (names_of self.now) self.now.order passed at }
         ensures within { 0 < result → passed < 2 ^ 63 }
     {
         let name = name_at(self.names, self.place_at(at));
@@ -94,10 +92,8 @@ impl<'n> Group<'n> {
     #[inline(always)]
     fn first_from(&self, first: usize, end: usize, passed: usize, least: usize) -> usize
         ensures range { first ≤ end → (first ≤ result) × (result ≤ end) }
-        ensures split { first ≤ end
-            → Rises (map string_bytes self.now.names.now) self.now.order passed first end
-            → IsSplit (map string_bytes self.now.names.now) self.now.order passed first end
-            least result }
+        ensures split { first ≤ end → Rises (names_of self.now) self.now.order passed first end
+            → IsSplit (names_of self.now) self.now.order passed first end least result }
     {
         let mut low = first;
         let mut high = end;
@@ -115,10 +111,9 @@ impl<'n> Group<'n> {
     /// Flags the names that are the front, and tells whether there are some.
     #[inline(always)]
     fn note(&self, run: Run, matched: &mut [bool; TOGETHER]) -> bool
-        ensures { (front : List ℕ) → Follows (map string_bytes self.now.names.now) self.now.order
-            matched.old front run
-            → Matches (λ name. bytes_eq name front) (map string_bytes self.now.names.now)
-            matched.old matched.new result }
+        ensures { (front : List ℕ) → IsRun self.now matched.old front run
+            → Matches (λ name. bytes_eq name front) (names_of self.now) matched.old matched.new
+            result }
     {
         if run.first >= run.end || self.next_at(run.first, run.passed) != 0 {
             return false;
@@ -139,10 +134,9 @@ impl<'n> Group<'n> {
     /// there are some.
     #[inline(always)]
     fn note_at(&self, run: Run, byte: u8, matched: &mut [bool; TOGETHER]) -> bool
-        ensures { (front : List ℕ) → Follows (map string_bytes self.now.names.now) self.now.order
-            matched.old front run
-            → Matches (λ name. (byte == 46) && bytes_eq name front)
-            (map string_bytes self.now.names.now) matched.old matched.new result }
+        ensures { (front : List ℕ) → IsRun self.now matched.old front run
+            → Matches (λ name. (byte == 46) && bytes_eq name front) (names_of self.now) matched.old
+            matched.new result }
     {
         if byte == b'.' {
             self.note(run, matched)
@@ -155,9 +149,8 @@ impl<'n> Group<'n> {
     #[inline(always)]
     fn with_byte(&self, run: Run, byte: u8, whole: bool) -> Run
         ensures narrows { run.first ≤ run.end
-            → Rises (map string_bytes self.now.names.now) self.now.order run.passed run.first
-            run.end
-            → Narrows (map string_bytes self.now.names.now) self.now.order byte run result }
+            → Rises (names_of self.now) self.now.order run.passed run.first run.end
+            → Narrows (names_of self.now) self.now.order byte run result }
         ensures whole { result.whole ≡ whole }
     {
         let next = usize::from(byte) + 1;
@@ -183,10 +176,8 @@ impl<'n> Group<'n> {
     /// point.
     #[inline(always)]
     fn step(&self, run: Run, byte: u8, matched: &mut [bool; TOGETHER]) -> Run
-        ensures { (front : List ℕ)
-            → Follows (map string_bytes self.now.names.now) self.now.order matched.old front run
-            → GoesOn (map string_bytes self.now.names.now) self.now.order matched.old matched.new
-            (front ++ byte ∷ []) result }
+        ensures { (front : List ℕ) → IsRun self.now matched.old front run
+            → IsRunOn self.now matched.old matched.new (front ++ byte ∷ []) result }
     {
         let ends = self.note_at(run, byte, matched);
         self.with_byte(run, byte, run.whole | ends)
@@ -197,10 +188,10 @@ impl<'n> Group<'n> {
     fn shared(&self, run: Run, bytes: &[u8]) -> usize
         ensures within { result ≤ length bytes.now }
         ensures fits { run.passed + result < 2 ^ 64 }
-        ensures first { AreShared (next_bytes (map string_bytes self.now.names.now) self.now.order
-            run.passed run.first) bytes.now result }
-        ensures last { AreShared (next_bytes (map string_bytes self.now.names.now) self.now.order
-            run.passed (run.end - 1)) bytes.now result }
+        ensures first { AreShared (next_bytes (names_of self.now) self.now.order run.passed
+            run.first) bytes.now result }
+        ensures last { AreShared (next_bytes (names_of self.now) self.now.order run.passed (run.end
+            - 1)) bytes.now result }
     {
         let first = name_at(self.names, self.place_at(run.first));
         let last = name_at(self.names, self.place_at(run.end.saturating_sub(1)));
@@ -213,10 +204,8 @@ impl<'n> Group<'n> {
     fn hop(&self, run: Run, bytes: &[u8], matched: &mut [bool; TOGETHER]) -> (Run, usize)
         ensures some { 0 < length bytes.now → 0 < result.1 }
         ensures within { result.1 ≤ length bytes.now }
-        ensures run { (front : List ℕ) → run.first < run.end
-            → Follows (map string_bytes self.now.names.now) self.now.order matched.old front run
-            → GoesOn (map string_bytes self.now.names.now) self.now.order matched.old matched.new
-            (front ++ take result.1 bytes.now) result.0 }
+        ensures run { (front : List ℕ) → run.first < run.end → IsRun self.now matched.old front run
+            → IsRunOn self.now matched.old matched.new (front ++ take result.1 bytes.now) result.0 }
     {
         let shared = self.shared(run, bytes);
         let along = Run {
@@ -233,10 +222,8 @@ impl<'n> Group<'n> {
 
     /// Returns the run behind some bytes, and flags the names that end before a point in them.
     pub(crate) fn follow(&self, run: Run, bytes: &[u8], matched: &mut [bool; TOGETHER]) -> Run
-        ensures { (front : List ℕ)
-            → Follows (map string_bytes self.now.names.now) self.now.order matched.old front run
-            → GoesOn (map string_bytes self.now.names.now) self.now.order matched.old matched.new
-            (front ++ bytes.now) result }
+        ensures { (front : List ℕ) → IsRun self.now matched.old front run
+            → IsRunOn self.now matched.old matched.new (front ++ bytes.now) result }
     {
         let mut run = run;
         let mut done = 0;
@@ -254,10 +241,9 @@ impl<'n> Group<'n> {
     /// Returns the run inside a scope with this name, and flags the names that select all that is
     /// in it.
     pub(crate) fn enter(&self, run: Run, component: &[u8], matched: &mut [bool; TOGETHER]) -> Run
-        ensures { (front : List ℕ)
-            → Follows (map string_bytes self.now.names.now) self.now.order matched.old front run
-            → GoesOn (map string_bytes self.now.names.now) self.now.order matched.old matched.new
-            (front ++ (component.now ++ 46 ∷ [])) result }
+        ensures { (front : List ℕ) → IsRun self.now matched.old front run
+            → IsRunOn self.now matched.old matched.new (front ++ (component.now ++ 46 ∷ []))
+            result }
     {
         let named = self.follow(run, component, matched);
         self.step(named, b'.', matched)
@@ -266,10 +252,9 @@ impl<'n> Group<'n> {
     /// Flags the names that select a variable with this name of its own, and tells whether there
     /// are some.
     pub(crate) fn selects(&self, run: Run, own: &[u8], matched: &mut [bool; TOGETHER]) -> bool
-        ensures { (front : List ℕ)
-            → Follows (map string_bytes self.now.names.now) self.now.order matched.old front run
-            → Matches (selects_path (front ++ own.now)) (map string_bytes self.now.names.now)
-            matched.old matched.new result }
+        ensures { (front : List ℕ) → IsRun self.now matched.old front run
+            → Matches (selects_path (front ++ own.now)) (names_of self.now) matched.old matched.new
+            result }
     {
         let named = self.follow(run, own, matched);
         let ends = self.note(named, matched);
