@@ -4,7 +4,6 @@ use Rattle.std.proofs.lemmas.Slice.Eq.{bytes_eq-Decides}
 use Rattle.std.proofs.lemmas.List.{append_assoc, append-nil, drop_more, length-append, map-append}
 use Rattle.std.proofs.lemmas.List.Folds.{drop_split}
 use Rattle.vcd_head.proofs.DraftLemmas.{take_front}
-use Rattle.vcd_model.specs.Bytes.{decimal_value}
 use Rattle.vcd_model.specs.Checks.{first_failed}
 use Rattle.vcd_model.specs.Declarations.{Declaration, Variable}
 use Rattle.vcd_model.specs.HeaderChecks.{agrees, header_fault, start_checks, var_checks}

@@ -1,8 +1,8 @@
 -- Which names of a group have matched, one row after the other.
-use Rattle.std.proofs.Common.{◌≡◌, ◌≢◌, ℕ, zero, suc, ◌+◌, ◌<◌, ◌≤◌, Bool, true, false, not, cond, ◌&&◌, ◌||◌, List, [], ◌∷◌, ◌++◌, length, take, set, replicate, get_or, filter_map, slice_get, Option, Some, None, IfSome, option_map, inl, inr, refl, sym, ap, subst, ◌∙◌, arith, add-one}
+use Rattle.std.proofs.Common.{◌≡◌, ◌≢◌, ℕ, zero, suc, ◌+◌, ◌<◌, ◌≤◌, Bool, true, false, not, cond, ◌&&◌, ◌||◌, List, [], ◌∷◌, ◌++◌, length, take, set, replicate, get_or, filter_map, slice_get, Option, Some, None, IfSome, option_map, inl, inr, refl, sym, ap, ◌∙◌, arith, add-one}
 use Rattle.std.specs.List.{list_any}
 use Rattle.std.proofs.lemmas.Bool.{cases_eq}
-use Rattle.std.proofs.lemmas.List.{get_or-replicate, get_or-set_other, get_or-set_same, set-get_or, take_all}
+use Rattle.std.proofs.lemmas.List.{get_or-replicate, get_or-set_other, get_or-set_same, take_all}
 use Rattle.std.proofs.lemmas.List.Folds.{list_any_more}
 use Rattle.std.proofs.lemmas.Option.{get_or_from_slice_get, none-some, same_Some, slice_get_within}
 use Rattle.vcd_model.specs.Backward.{each_after}
@@ -65,17 +65,6 @@ match_same test names place old new some name at no_match m = record {
   ahead = λ i w. m.ahead i (omega (arith, w));
   any = m.any ∙ sym (any_next test names place name at ∙ or_false (list_any test (take place names)) (test name) no_match);
 }
-
--- the flag of a name is set where it passes
-pub match_or : (test : List ℕ → Bool) (names : List (List ℕ)) (place : ℕ) (old new : List Bool) (some : Bool) (name : List ℕ) → slice_get names place ≡ Some name → place < length new → (b : Bool) → test name ≡ b → Matching test names place old new some
-    → Matching test names (place + 1) old (set new place (get_or new place false || b)) (some || b)
-match_or test names place old new some name at l true passes m =
-    subst (λ x. Matching test names (place + 1) old (set new place x) (some || true)) (sym (or_true (get_or new place false) true refl))
-    (subst (Matching test names (place + 1) old (set new place true)) (sym (or_true some true refl)) (match_next test names place old new some name at l passes m))
-match_or test names place old new some name at l false no_match m =
-    subst (λ x. Matching test names (place + 1) old (set new place x) (some || false)) (sym (or_false (get_or new place false) false refl))
-    (subst (λ fs. Matching test names (place + 1) old fs (some || false)) (sym (set-get_or new place false))
-    (subst (Matching test names (place + 1) old new) (sym (or_false some false refl)) (match_same test names place old new some name at no_match m)))
 
 pub match_all : (test : List ℕ → Bool) (names : List (List ℕ)) (place : ℕ) (old new : List Bool) (some : Bool) → length names ≤ place → Matching test names place old new some → Matches test names old new some
 match_all test names place old new some l m = record {

@@ -169,9 +169,6 @@ pub record Noting (names : List (List ℕ)) (order : List ℕ) (front : List ℕ
   pub set_before : (i : ℕ) → first ≤ i → i < at → get_or new (get_or order i 0) false ≡ true
   pub others : (p : ℕ) (name : List ℕ) → slice_get names p ≡ Some name → bytes_eq name front ≡ false → get_or new p false ≡ get_or old p false
 
-pub noting_first : (names : List (List ℕ)) (order : List ℕ) (front : List ℕ) (flags : List Bool) (first : ℕ) → Noting names order front flags flags first first
-noting_first names order front flags first = record { set_before = λ i l m. absurd (omega (arith, l, m)); others = λ p name at e. refl }
-
 module _ (names : List (List ℕ)) (order : List ℕ) (old : List Bool) (front : List ℕ) (r : Run) (f : Follows names order old front r) where
   pub noting_next : (new : List Bool) (at : ℕ) → r.first ≤ at → at < r.end → next_in names order r.passed at ≡ 0 → get_or order at 0 < length new → Noting names order front old new r.first at → Noting names order front old (set new (get_or order at 0) true) r.first (at + 1)
   noting_next new at l m ends room n = record {

@@ -1,6 +1,5 @@
 -- What holds of a group of names, by its names and their order.
-use Rattle.std.specs.Prelude.{◌≡◌, ℕ, Bool, List, map, slice_get, string_bytes}
-use Rattle.vcd_head.specs.Names.{next_bytes, next_in}
+use Rattle.std.specs.Prelude.{ℕ, Bool, List, map, string_bytes}
 use Rattle.vcd_head.specs.Runs.{Follows, GoesOn}
 use Rattle.vcd_head.specs.declared.names.Group.{Group}
 use Rattle.vcd_head.specs.declared.names.Run.{Run}

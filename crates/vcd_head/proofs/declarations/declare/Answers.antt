@@ -1,7 +1,7 @@
 use Rattle.std.proofs.Common.{◌≡◌, ◌^◌, ◌<◌, [], ◌∷◌, ◌++◌, length, refl, sym, ap, subst, ◌∙◌, arith}
 use Rattle.std.specs.List.{join_with_byte}
 use Rattle.std.proofs.lemmas.List.{append_assoc, append-nil}
-use Rattle.vcd_model.specs.Declarations.{Declaration, IdCode, code_of}
+use Rattle.vcd_model.specs.Declarations.{Declaration, code_of}
 use Rattle.vcd_model.specs.HeaderPhrases.{declarations_of}
 use Rattle.vcd_view.specs.declared.view.Kind.TheVariants as kind
 use Rattle.vcd_view.specs.declared.view.Row.{Row}

@@ -1,4 +1,4 @@
-use Rattle.std.proofs.Common.{◌<◌, length, map, take, string_bytes}
+use Rattle.std.proofs.Common.{◌<◌, length, take}
 use Rattle.vcd_model.specs.Header.{Header}
 use Rattle.vcd_head.specs.Inside.{Enters}
 use Rattle.vcd_head.specs.Paths.{scopes_text}
