@@ -33,6 +33,10 @@ names_counted e = map string_bytes e.names.now
 abbrev pub room_in_edges : Edges → RoomSize
 room_in_edges e = record { values = bytes_in e.table; slots = codes_in e.table; marks = length e.marks.now }
 
+-- it goes on with the same names and room
+abbrev pub SameEdges : Edges → Edges → Type 0
+SameEdges e e' = (names_counted e' ≡ names_counted e) × (room_in_edges e' ≡ room_in_edges e)
+
 -- over this header and after these items the selected variables are marked, and the table tells
 -- what is to be written of them
 pub record AreEdges (e : Edges) (h : Header) (items : List BodyItem) : Type 0 where

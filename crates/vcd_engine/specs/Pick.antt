@@ -1,5 +1,5 @@
 -- What `pick` keeps, and which items it writes.
-use Rattle.std.specs.Prelude.{ℕ, Bool, true, false, not, ◌&&◌, List, [], map, is_some, unwrap_or, option_map, string_bytes, slice_get}
+use Rattle.std.specs.Prelude.{◌≡◌, ℕ, Bool, true, false, not, ◌&&◌, List, [], map, is_some, unwrap_or, option_map, string_bytes, slice_get}
 use Rattle.vcd_model.specs.Header.{Header}
 use Rattle.vcd_model.specs.Items.{BodyItem}
 use Rattle.vcd_model.specs.Pick.{pick_kept}
@@ -21,6 +21,10 @@ names_in p = map string_bytes p.names.now
 -- how many flags it works with
 abbrev pub flags_in : Pick → ℕ
 flags_in p = codes_in p.choice
+
+-- it goes on with the same names and flags
+abbrev pub SamePick : Pick → Pick → Type 0
+SamePick p p' = (names_in p' ≡ names_in p) × (flags_in p' ≡ flags_in p)
 
 -- over this header and after these items: the codes of the selected variables are chosen, and the
 -- text is that of the kept items

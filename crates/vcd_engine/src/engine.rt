@@ -1,25 +1,13 @@
 //! A run over the items of a body, one item a step. It names no command.
 ghost use Rattle.std.specs.Prelude.{◌≡◌, ◌≢◌, ℕ, ◌-◌, ◌^◌, ◌<◌, [], List, true, false, IfOk, MatchBool, Ok, MatchResult};
-ghost use Rattle.vcd_model.specs.Header.{Header};
-ghost use Rattle.vcd_model.specs.Input.{Input};
-ghost use Rattle.vcd_model.specs.Items.{BodyItem};
-ghost use Rattle.vcd_model.specs.Laws.{IsValid};
-ghost use Rattle.vcd_model.specs.Outcome.{close_text, open_text};
-ghost use Rattle.vcd_model.specs.Tokens.{Token};
-ghost use Rattle.vcd_text.specs.Feed.{HasGiven, source_of, seen, chunk_len_of, limit_of, supply_of};
-ghost use Rattle.vcd_view.specs.Shown.{parts};
-ghost use Rattle.vcd_view.specs.Views.{IsViewOf};
-ghost use Rattle.vcd_text.specs.Advances.{Advances, CallEnd, HasNotFailed};
-ghost use Rattle.vcd_body.specs.Given.{item_text};
+ghost use Rattle.vcd_engine.specs.Names.{Advances, BodyItem, CallEnd, chunk_len_of, close_text, Counts, Device, failures_after, goes_on, HasGiven, HasNotFailed, Header, Input, IsValid, IsViewOf, item_text, limit_of, open_text, parts, seen, source_of, supply_of, Takes, Token, Writes};
 ghost use Rattle.vcd_body.specs.declared.item.Item.TheVariants.{Finish};
-ghost use Rattle.vcd_body.specs.Answer.{goes_on};
-ghost use Rattle.vcd_text.specs.Device.{Counts, Device, Takes, Writes, failures_after};
 ghost use Rattle.vcd_engine.specs.Engine.{CanRun, HasBegun, Holds, Starts, StopsUnread, is_going, may_end_early, request_of, request_of_begun, request_of_engine, CountsStop};
 ghost use Rattle.vcd_engine.specs.Room.{HasRoomFor, IsWithin, IsWithinEachBound, room_in, room_of_begun, room_size, view_in, FitsBound, SameHold};
-ghost use Rattle.vcd_engine.specs.Step.{step_end, MayEnd, Steps, StepsAhead, StepsOn};
+ghost use Rattle.vcd_engine.specs.Step.{MayStep, Steps, StepsAhead, StepsOn, StepsOver};
 ghost use Rattle.vcd_body.specs.declared.answer.Done.TheVariants.{Early};
 ghost use Rattle.vcd_body.specs.declared.answer.More.TheVariants.{Again};
-ghost use Rattle.vcd_engine.specs.Run.{CountsBoth, Does, Follows, SameWindows};
+ghost use Rattle.vcd_engine.specs.Run.{CountsBoth, Follows, MayRun, RunsTask, SameWindows};
 
 use crate::gathered::Gathered;
 use crate::machine::Machine;
@@ -128,21 +116,12 @@ impl<'v, 'n, 'r> Engine<'v, 'n, 'r> {
         feed: &mut Feed<'_, '_, '_, '_, S>,
         out: &mut W,
     ) -> Result<More, Stop>
-        requires feed_failures { S.failures (source_of feed.old) < 2 ^ 64 - 1 }
-        requires out_failures { (W.device out.old).failures < 2 ^ 64 - 1 }
-        requires going { is_going self.old ≡ true }
-        requires bound { FitsBound feed.old (view_in self.old) (room_in self.old) }
+        requires step { MayStep S.failures self.old feed.old (W.device out.old) }
         requires view { parts view ≡ parts self.old.view }
         ensures gives { Steps self.old self.new feed.old feed.new
             (W.device out.old) (W.device out.new) result }
-        ensures advances { Advances S.failures feed.old feed.new (step_end result) }
-        ensures progress { result ≡ Ok Again → seen feed.old < seen feed.new }
-        ensures bounded { seen feed.new < 2 ^ 63 }
-        ensures writes { CountsStop (W.device out.old) (W.device out.new) result }
-        ensures going { is_going self.new ≡ goes_on result }
-        ensures request { request_of_engine self.new ≡ request_of_engine self.old }
-        ensures holds { SameHold self.old self.new }
-        ensures answer { MayEnd (request_of_engine self.old) result }
+        ensures over { StepsOver S.failures self.old self.new feed.old feed.new
+            (W.device out.old) (W.device out.new) result }
     {
         let item = match next_item(feed, view, &mut self.regs) {
             Ok(item) => item,
@@ -218,21 +197,12 @@ impl<'v, 'n, 'r> Engine<'v, 'n, 'r> {
         gathered: &mut Gathered,
         out: &mut W,
     ) -> Result<More, Stop>
-        requires feed_failures { S.failures (source_of feed.old) < 2 ^ 64 - 1 }
-        requires out_failures { (W.device out.old).failures < 2 ^ 64 - 1 }
-        requires going { is_going self.old ≡ true }
-        requires bound { FitsBound feed.old (view_in self.old) (room_in self.old) }
+        requires step { MayStep S.failures self.old feed.old (W.device out.old) }
         requires view { parts view ≡ parts self.old.view }
         ensures gives { StepsOn self.old self.new feed.old feed.new
             (W.device out.old) (W.device out.new) result }
-        ensures advances { Advances S.failures feed.old feed.new (step_end result) }
-        ensures progress { result ≡ Ok Again → seen feed.old < seen feed.new }
-        ensures bounded { seen feed.new < 2 ^ 63 }
-        ensures writes { CountsStop (W.device out.old) (W.device out.new) result }
-        ensures going { is_going self.new ≡ goes_on result }
-        ensures request { request_of_engine self.new ≡ request_of_engine self.old }
-        ensures holds { SameHold self.old self.new }
-        ensures answer { MayEnd (request_of_engine self.old) result }
+        ensures over { StepsOver S.failures self.old self.new feed.old feed.new
+            (W.device out.old) (W.device out.new) result }
     {
         self.take_ahead(view, feed, gathered, out)?;
         self.step_over(view, feed, out)
@@ -257,11 +227,9 @@ impl<'v, 'n, 'r> Engine<'v, 'n, 'r> {
         feed: &mut Feed<'_, '_, '_, '_, S>,
         out: &mut W,
     ) -> Result<Done, Stop>
-        requires feed_failures { S.failures (source_of feed.old) < 2 ^ 64 - 1 }
-        requires out_failures { (W.device out.old).failures < 2 ^ 64 - 1 }
-        requires open { HasNotFailed feed.old }
+        requires run { MayRun S.failures feed.old (view_in self.old) (room_in self.old)
+            (W.device out.old) }
         requires going { is_going self.old ≡ true }
-        requires bound { FitsBound feed.old (view_in self.old) (room_in self.old) }
 
         // Where the engine was begun over an output that has what stands before all items, it is
         // the run of its task.
@@ -296,20 +264,11 @@ pub fn step<S: Source, W: Sink>(
     feed: &mut Feed<'_, '_, '_, '_, S>,
     out: &mut W,
 ) -> Result<More, Stop>
-    requires feed_failures { S.failures (source_of feed.old) < 2 ^ 64 - 1 }
-    requires out_failures { (W.device out.old).failures < 2 ^ 64 - 1 }
-    requires going { is_going engine.old ≡ true }
-    requires bound { FitsBound feed.old (view_in engine.old) (room_in engine.old) }
+    requires step { MayStep S.failures engine.old feed.old (W.device out.old) }
     ensures gives { Steps engine.old engine.new feed.old feed.new
         (W.device out.old) (W.device out.new) result }
-    ensures advances { Advances S.failures feed.old feed.new (step_end result) }
-    ensures progress { result ≡ Ok Again → seen feed.old < seen feed.new }
-    ensures bounded { seen feed.new < 2 ^ 63 }
-    ensures writes { CountsStop (W.device out.old) (W.device out.new) result }
-    ensures going { is_going engine.new ≡ goes_on result }
-    ensures holds { SameHold engine.old engine.new }
-    ensures request { request_of_engine engine.new ≡ request_of_engine engine.old }
-    ensures answer { MayEnd (request_of_engine engine.old) result }
+    ensures over { StepsOver S.failures engine.old engine.new feed.old feed.new
+        (W.device out.old) (W.device out.new) result }
 {
     engine.step_over(engine.view, feed, out)
 }
@@ -323,19 +282,13 @@ pub fn run_task<S: Source, W: Sink>(
     room: &mut Room<'_>,
     out: &mut W,
 ) -> Result<Done, Stop>
-    requires feed_failures { S.failures (source_of feed.old) < 2 ^ 64 - 1 }
-    requires out_failures { (W.device out.old).failures < 2 ^ 64 - 1 }
-    requires open { HasNotFailed feed.old }
+    requires run { MayRun S.failures feed.old view (room_size room.old) (W.device out.old) }
     requires valid { IsValid (request_of task) }
     requires room { HasRoomFor task view room.old }
-    requires bound { FitsBound feed.old view (room_size room.old) }
-    ensures gives { Does (request_of task.entry) view.entry feed.old feed.new
-        (W.device out.old) (W.device out.new) result }
-    ensures devices { CountsBoth S.failures feed.old feed.new
+    ensures runs { RunsTask S.failures (request_of task.entry) view.entry feed.old feed.new
         (W.device out.old) (W.device out.new) result }
     ensures answer { IfOk result
         (λ done. done ≡ Early → may_end_early (request_of task.entry) ≡ true) }
-    ensures windows { SameWindows feed.old feed.new }
 {
     let room = Room {
         values: &mut *room.values,

@@ -1,12 +1,6 @@
 //! What each task keeps between items, and what it does with an item.
 ghost use Rattle.std.specs.Prelude.{◌≡◌, ◌-◌, ◌^◌, ◌<◌, ◌≤◌, ◌∷◌, ◌++◌, [], length, true, IfOk, MatchResult};
-ghost use Rattle.vcd_model.specs.Header.{Header};
-ghost use Rattle.vcd_model.specs.Laws.{IsValid};
-ghost use Rattle.vcd_model.specs.Outcome.{close_text};
-ghost use Rattle.vcd_text.specs.Ahead.{bytes_of, passed_of};
-ghost use Rattle.vcd_text.specs.Device.{Counts, Takes};
-ghost use Rattle.vcd_view.specs.Views.{IsViewOf};
-ghost use Rattle.vcd_body.specs.Given.{HasGoodText};
+ghost use Rattle.vcd_engine.specs.Names.{bytes_of, close_text, Counts, HasGoodText, Header, IsValid, IsViewOf, passed_of, Takes};
 ghost use Rattle.vcd_engine.specs.Ahead.{RunsOver};
 ghost use Rattle.vcd_engine.specs.Engine.{Keeps, Starts, StopsUnread, TakesOne, last_of, may_end_early, request_in, request_of, AtClose, AtItem, CountsStop};
 ghost use Rattle.vcd_engine.specs.Room.{HasRoomFor, IsWithin, SameTask, room_of, room_size};

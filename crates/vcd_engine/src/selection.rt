@@ -1,10 +1,6 @@
 //! The variables that names select: their marks and their codes.
 ghost use Rattle.std.specs.Prelude.{◌≡◌, ℕ, ◌≤◌, ◌||◌, List, length, Some, slice_get, false, map, string_bytes, MatchResult};
-ghost use Rattle.vcd_model.specs.Declarations.{IdCode};
-ghost use Rattle.vcd_model.specs.Header.{Header};
-ghost use Rattle.vcd_model.specs.Selection.{selected, selects_code};
-ghost use Rattle.vcd_head.specs.Marks.{is_marked, marks_of};
-ghost use Rattle.vcd_view.specs.Views.{IsViewOf};
+ghost use Rattle.vcd_engine.specs.Names.{Header, IdCode, is_marked, IsViewOf, marks_of, selected, selects_code};
 ghost use Rattle.vcd_engine.specs.Choice.{codes_in, is_chosen};
 ghost use Rattle.vcd_engine.specs.Selection.{AreSelected, IsUnmatched, IsFirstUnmatched};
 

@@ -1,15 +1,7 @@
 //! `cut`: the values before a time, and the items from then up to another time.
 ghost use Rattle.std.specs.Prelude.{◌≡◌, ℕ, ◌≤◌, ◌-◌, ◌^◌, ◌<◌, ◌∷◌, ◌++◌, [], List, true, not, nat_le, nat_lt, IfOk, MatchResult};
-ghost use Rattle.vcd_model.specs.Cut.{cut_close, cut_open, is_started, start_section};
-ghost use Rattle.vcd_model.specs.Header.{Header};
-ghost use Rattle.vcd_model.specs.History.{value_before};
-ghost use Rattle.vcd_model.specs.Items.{BodyItem};
-ghost use Rattle.vcd_model.specs.Outcome.{Request};
-ghost use Rattle.vcd_text.specs.Device.{Counts, Takes, failures_after};
-ghost use Rattle.vcd_view.specs.Views.{IsViewOf};
-ghost use Rattle.vcd_body.specs.Given.{HasGoodText};
+ghost use Rattle.vcd_engine.specs.Names.{BodyItem, Counts, cut_close, cut_open, failures_after, HasGoodText, Header, is_started, IsViewOf, Request, start_section, Takes, TakesDue, value_before};
 ghost use Rattle.vcd_engine.specs.Cut.{AreCut, BeginsBy, IsNoMark, lent_to, may_be_kept, span_in, values_text, SameSpan};
-ghost use Rattle.vcd_body.specs.Device.{TakesDue};
 ghost use Rattle.vcd_engine.specs.Engine.{Starts, StopsUnread, TakesOne, AtClose, AtItem, CountsStop};
 ghost use Rattle.vcd_engine.specs.ItemText.{HasWritten};
 ghost use Rattle.vcd_engine.specs.Room.{HasRoomFor, IsWithin, room_size};
@@ -205,41 +197,9 @@ impl<'r> Cut<'r> {
         Ok(true)
     }
 
-    /// Takes an item that is no time mark: before the start section keeps the value that it gives,
-    /// then writes the item where it is kept.
-    #[inline(always)]
-    fn take_other<W: Sink>(
-        &mut self,
-        view: HeadView<'_>,
-        regs: Regs,
-        item: Item,
-        text: &[u8],
-        out: &mut W,
-    ) -> Result<(), WriteFailed>
-        requires failures { (W.device out.old).failures < 2 ^ 64 - 1 }
-        requires sound { HasGoodText view.codes.now text.now item }
-        ensures takes { AtItem view.entry regs item text.now (λ h items x. IsNoMark item
-            → AreCut self.old h items → TakesDue (W.device out.old) (W.device out.new)
-            (cut_open h self.old.from self.old.to items)
-            (cut_open h self.old.from self.old.to (items ++ x ∷ [])) result
-            × IfOk result (λ _. AreCut self.new h (items ++ x ∷ []))) }
-        ensures counts { Counts (W.device out.old) (W.device out.new) result }
-        ensures same { SameSpan self.old self.new }
-    {
-        if self.started {
-            if !may_keep(view, regs, item) {
-                return Ok(());
-            }
-            return self.text.put(view, regs.time, item, text, out);
-        }
-        if let Item::Change { code, form } = item {
-            self.table.set(code, form, text);
-        }
-        Ok(())
-    }
-
-    /// Takes an item with its text, writes what is due after it, and returns whether it ended the
-    /// run. The registers are those after it.
+    /// Takes an item with its text, and returns whether it ended the run: before the start section
+    /// keeps the value that the item gives, then writes the item where it is kept. The registers
+    /// are those after it.
     #[inline(never)]
     pub(crate) fn take<W: Sink>(
         &mut self,
@@ -261,7 +221,16 @@ impl<'r> Cut<'r> {
         if let Item::Time(time) = item {
             return self.take_time(view, time, out);
         }
-        self.take_other(view, regs, item, text, out)?;
+        if self.started {
+            if !may_keep(view, regs, item) {
+                return Ok(false);
+            }
+            self.text.put(view, regs.time, item, text, out)?;
+            return Ok(false);
+        }
+        if let Item::Change { code, form } = item {
+            self.table.set(code, form, text);
+        }
         Ok(false)
     }
 

@@ -1,17 +1,8 @@
 //! `pick`: the dump of the selected variables.
 ghost use Rattle.std.specs.Prelude.{◌≡◌, ◌-◌, ◌^◌, ◌<◌, map, string_bytes, IfOk, MatchResult, ◌∷◌, ◌++◌, [], List, length, true, false};
-ghost use Rattle.vcd_model.specs.Header.{Header};
-ghost use Rattle.vcd_model.specs.Items.{BodyItem};
-ghost use Rattle.vcd_model.specs.ItemText.{last_mark};
-ghost use Rattle.vcd_model.specs.Outcome.{Request};
-ghost use Rattle.vcd_model.specs.Pick.{pick_open, pick_close};
-ghost use Rattle.vcd_text.specs.Device.{Counts, Takes, failures_after};
-ghost use Rattle.vcd_view.specs.Views.{IsViewOf};
-ghost use Rattle.vcd_body.specs.Given.{HasGoodText};
-ghost use Rattle.vcd_body.specs.Items.{AreRegsAfter};
-ghost use Rattle.vcd_body.specs.Device.{TakesDue};
+ghost use Rattle.vcd_engine.specs.Names.{AreRegsAfter, BodyItem, Counts, failures_after, HasGoodText, Header, IsViewOf, last_mark, pick_close, pick_open, Request, Takes, TakesDue};
 ghost use Rattle.vcd_engine.specs.Engine.{Starts, StopsUnread, last_of, AtItem, CountsStop};
-ghost use Rattle.vcd_engine.specs.Pick.{ArePicked, is_event_at, is_kept, names_in, flags_in};
+ghost use Rattle.vcd_engine.specs.Pick.{ArePicked, SamePick, is_event_at, is_kept, names_in, flags_in};
 ghost use Rattle.vcd_engine.specs.Room.{HasRoomFor};
 ghost use Rattle.vcd_engine.specs.declared.task.Task.TheVariants as task;
 
@@ -100,8 +91,7 @@ impl<'n, 'r> Pick<'n, 'r> {
             (pick_open h (names_in self.old) (items ++ x ∷ [])) result
             × IfOk result (λ _. ArePicked self.new h (items ++ x ∷ []))) }
         ensures counts { Counts (W.device out.old) (W.device out.new) result }
-        ensures names { names_in self.new ≡ names_in self.old }
-        ensures room { flags_in self.new ≡ flags_in self.old }
+        ensures same { SamePick self.old self.new }
     {
         if !self.keeps(view, regs, item) {
             return Ok(());

@@ -2,16 +2,10 @@
 ghost use Rattle.std.specs.Prelude.{◌≡◌, ◌≢◌, ◌≤◌, ◌-◌, ◌^◌, ◌<◌, ◌+◌, ◌∷◌, ◌++◌, [], List, length, nat_le, None, true, IfOk, MatchResult, map, string_bytes};
 ghost use Rattle.std.specs.List.{position_or_len};
 ghost use Rattle.std.specs.List.Sorted.{IsStrictlyIncreasing};
-ghost use Rattle.vcd_model.specs.Header.{Header};
-ghost use Rattle.vcd_model.specs.Items.{BodyItem};
-ghost use Rattle.vcd_model.specs.Outcome.{Request, close_text};
-ghost use Rattle.vcd_model.specs.Selection.{first_unmatched};
-ghost use Rattle.vcd_text.specs.Device.{Counts, Takes, failures_after};
-ghost use Rattle.vcd_view.specs.Views.{IsViewOf};
-ghost use Rattle.vcd_body.specs.Given.{HasGoodText, IsItem};
+ghost use Rattle.vcd_engine.specs.Names.{BodyItem, close_text, Counts, failures_after, first_unmatched, HasGoodText, Header, IsItem, IsViewOf, Request, Takes};
 ghost use Rattle.vcd_engine.specs.Engine.{TakesOne};
 ghost use Rattle.vcd_engine.specs.Room.{HasRoomFor, IsWithin, room_size};
-ghost use Rattle.vcd_engine.specs.Sample.{AreSampled, asked_in, is_due, lent_to};
+ghost use Rattle.vcd_engine.specs.Sample.{AreSampled, SameSample, asked_in, is_due, lent_to};
 ghost use Rattle.vcd_engine.specs.Selection.{IsFirstUnmatched, IsUnmatched};
 ghost use Rattle.vcd_engine.specs.declared.task.Task.TheVariants as task;
 
@@ -103,8 +97,7 @@ impl<'n, 'r> Sample<'n, 'r> {
             (asked_in self.old) h items (BodyItem.Time time)
             (W.device out.old) (W.device out.new) result }
         ensures counts { Counts (W.device out.old) (W.device out.new) result }
-        ensures asked { asked_in self.new ≡ asked_in self.old }
-        ensures room { lent_to self.new ≡ lent_to self.old }
+        ensures same { SameSample self.old self.new }
     {
         let (due, rest) = self.rest.split_at(count_below(self.rest, time));
         put_samples(&self.table, view, self.marks, due, out)?;
@@ -129,8 +122,7 @@ impl<'n, 'r> Sample<'n, 'r> {
             → TakesOne (AreSampled self.new h (items ++ x ∷ []))
             (asked_in self.old) h items x (W.device out.old) (W.device out.new) result }
         ensures counts { Counts (W.device out.old) (W.device out.new) result }
-        ensures asked { asked_in self.new ≡ asked_in self.old }
-        ensures room { lent_to self.new ≡ lent_to self.old }
+        ensures same { SameSample self.old self.new }
     {
         match item {
             Item::Time(time) => self.take_time(view, time, out),

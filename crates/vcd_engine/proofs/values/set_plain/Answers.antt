@@ -11,8 +11,7 @@ use Rattle.vcd_engine.proofs.values.set_plain.Goals as goal
 pub returns-in_default : goal.returns-in_default
 returns-in_default c = record {
   held = λ view h items x views good read held. held_still c.args.table.now h items x (other_gives h.codes c.args.plain.text.now c.args.plain.item x read c.in_default.not-Change) held;
-  codes = refl;
-  bytes = refl;
+  keeps = record { laid = λ laid. laid; codes = refl; bytes = refl };
 }
 
 pub returns-in-Some-clause-held : goal.returns-in-Some-clause-held

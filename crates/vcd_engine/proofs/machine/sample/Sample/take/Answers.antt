@@ -34,6 +34,5 @@ returns-in-Begin g c = record {
       let none = quiet h.codes c.args.text.now c.args.item x read c.in-Begin.is in
       takes_other s h items x is none.0 (g.W.Sink.device c.args.out.now) s.table (held_still s.table h items x none.1 is.held);
   counts = refl;
-  asked = refl;
-  room = refl;
+  same = (refl, refl);
 }
