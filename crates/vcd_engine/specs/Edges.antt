@@ -10,6 +10,8 @@ use Rattle.vcd_body.specs.Contents.{bytes_in, codes_in, counts_at}
 use Rattle.vcd_body.specs.declared.table.Table.{Table}
 use Rattle.vcd_engine.specs.Values.{AreHeld}
 use Rattle.vcd_engine.specs.declared.machine.edges.Edges.{Edges}
+use Rattle.vcd_body.specs.Items.{model_form}
+use Rattle.vcd_body.specs.declared.item.Form.{Form}
 
 -- ---- counters
 
@@ -22,6 +24,10 @@ numbers n = n.changes ∷ n.rises ∷ n.falls ∷ []
 pub record AreTallied (t : Table) (h : Header) (items : List BodyItem) : Type 0 where
   pub held : AreHeld t h items
   pub counted : (place : ℕ) (c : IdCode) → slice_get h.codes place ≡ Some c → counts_at t place ≡ numbers (counts_for items c)
+
+-- a change of a code to this text
+abbrev pub change_to : IdCode → Form → List ℕ → BodyItem
+change_to c form text = BodyItem.Changes (record { code = c; form = model_form form; text = text })
 
 -- ---- what the machine keeps
 

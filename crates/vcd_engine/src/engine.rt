@@ -1,13 +1,13 @@
 //! A run over the items of a body, one item a step. It names no command.
-ghost use Rattle.std.specs.Prelude.{◌≡◌, ◌≢◌, ℕ, ◌-◌, ◌^◌, ◌<◌, [], List, true, false, IfOk, MatchBool, Ok, MatchResult};
-ghost use Rattle.vcd_engine.specs.Names.{Advances, BodyItem, CallEnd, chunk_len_of, close_text, Counts, Device, failures_after, goes_on, HasGiven, HasNotFailed, Header, Input, IsValid, IsViewOf, item_text, limit_of, open_text, parts, seen, source_of, supply_of, Takes, Token, Writes};
+ghost use Rattle.std.specs.Prelude.{◌≡◌, ◌≢◌, ◌-◌, ◌^◌, ◌<◌, [], List, true, false, IfOk, MatchBool, Ok, MatchResult};
+ghost use Rattle.vcd_engine.specs.Names.{Advances, BodyItem, CallEnd, close_text, Counts, Header, IsValid, IsViewOf, item_text, parts, seen, Takes};
 ghost use Rattle.vcd_body.specs.declared.item.Item.TheVariants.{Finish};
-ghost use Rattle.vcd_engine.specs.Engine.{CanRun, HasBegun, Holds, Starts, StopsUnread, is_going, may_end_early, request_of, request_of_begun, request_of_engine, CountsStop};
-ghost use Rattle.vcd_engine.specs.Room.{HasRoomFor, IsWithin, IsWithinEachBound, room_in, room_of_begun, room_size, view_in, FitsBound, SameHold};
+ghost use Rattle.vcd_engine.specs.Engine.{CanRun, HasBegun, Holds, StopsUnread, is_going, request_of, request_of_begun, request_of_engine, CountsStop, StartsOver};
+ghost use Rattle.vcd_engine.specs.Room.{HasRoomFor, IsWithin, IsWithinEachBound, room_in, room_of_begun, room_size, view_in, SameHold};
 ghost use Rattle.vcd_engine.specs.Step.{MayStep, Steps, StepsAhead, StepsOn, StepsOver};
 ghost use Rattle.vcd_body.specs.declared.answer.Done.TheVariants.{Early};
 ghost use Rattle.vcd_body.specs.declared.answer.More.TheVariants.{Again};
-ghost use Rattle.vcd_engine.specs.Run.{CountsBoth, Follows, MayRun, RunsTask, SameWindows};
+ghost use Rattle.vcd_engine.specs.Run.{CountsBoth, MayRun, RunsTask, SameWindows, Finishes, EndsAsAsked};
 
 use crate::gathered::Gathered;
 use crate::machine::Machine;
@@ -68,8 +68,7 @@ impl<'n, 'r> Begun<'n, 'r> {
         requires valid { IsValid (request_of task) }
         requires room { HasRoomFor task view room }
         requires bound { IsWithinEachBound view (room_size room) }
-        ensures starts { (h : Header) → IsViewOf view.entry h
-            → Starts (λ b. HasBegun b h) (request_of task.entry) h
+        ensures starts { StartsOver view.entry HasBegun (request_of task.entry)
             (W.device out.old) (W.device out.new) result }
         ensures answer { MatchResult result
             (λ b. request_of_begun b ≡ request_of task.entry) StopsUnread }
@@ -231,18 +230,11 @@ impl<'v, 'n, 'r> Engine<'v, 'n, 'r> {
             (W.device out.old) }
         requires going { is_going self.old ≡ true }
 
-        // Where the engine was begun over an output that has what stands before all items, it is
-        // the run of its task.
-        ensures gives { (h : Header) (i : Input) (front : List Token) (name : List ℕ)
-            (begin : Device) → Holds self.old h [] → HasGiven i front feed.old
-            → Writes begin (W.device out.old) (open_text (request_of_engine self.old) h [])
-            → Follows (request_of_engine self.old) (limit_of feed.old) (chunk_len_of feed.old)
-            i front h name (supply_of feed.old) (supply_of feed.new)
-            begin (W.device out.new) result }
+        ensures gives { Finishes self.old feed.old feed.new
+            (W.device out.old) (W.device out.new) result }
         ensures devices { CountsBoth S.failures feed.old feed.new
             (W.device out.old) (W.device out.new) result }
-        ensures answer { IfOk result
-            (λ done. done ≡ Early → may_end_early (request_of_engine self.old) ≡ true) }
+        ensures answer { EndsAsAsked (request_of_engine self.old) result }
         ensures windows { SameWindows feed.old feed.new }
     {
         let view = self.view;
@@ -287,8 +279,7 @@ pub fn run_task<S: Source, W: Sink>(
     requires room { HasRoomFor task view room.old }
     ensures runs { RunsTask S.failures (request_of task.entry) view.entry feed.old feed.new
         (W.device out.old) (W.device out.new) result }
-    ensures answer { IfOk result
-        (λ done. done ≡ Early → may_end_early (request_of task.entry) ≡ true) }
+    ensures answer { EndsAsAsked (request_of task.entry) result }
 {
     let room = Room {
         values: &mut *room.values,

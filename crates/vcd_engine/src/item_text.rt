@@ -1,7 +1,7 @@
 //! The text of kept items: each as its line, after the line of its time where that does not stand
 //! yet.
-ghost use Rattle.std.specs.Prelude.{◌≡◌, ℕ, ◌+◌, ◌-◌, ◌^◌, ◌<◌, ◌≤◌, ◌∷◌, ◌++◌, [], List, length, Some, IfOk};
-ghost use Rattle.vcd_engine.specs.Names.{as_line, BodyItem, bytes_without, closing, Counts, DueBy, Entry, failures_after, HasGoodText, Header, IsItem, IsViewOf, item_line, keyword_text, model_section, section_keyword, Takes, TakesDue, text_after, time_due};
+ghost use Rattle.std.specs.Prelude.{◌≡◌, ℕ, ◌-◌, ◌^◌, ◌<◌, ◌≤◌, ◌∷◌, [], List, length, Some, IfOk};
+ghost use Rattle.vcd_engine.specs.Names.{as_line, BodyItem, closing, Counts, Entry, HasGoodText, Header, IsItem, IsViewOf, item_line, keyword_text, model_section, section_keyword, Takes, time_due};
 ghost use Rattle.vcd_engine.specs.ItemText.{HasWritten, LastTells, PutsEntry, times_with};
 ghost use Rattle.vcd_engine.specs.Pieces.{IsLine, IsPart, IsInPlace, PutsBehind, PutsOn, held_in};
 

@@ -1,8 +1,8 @@
 //! Text that is due and stands in the chunk: pieces of it that follow each other are one, and short
 //! ones are written together.
-ghost use Rattle.std.specs.Prelude.{◌≡◌, ℕ, ◌+◌, ◌-◌, ◌^◌, ◌<◌, ◌≤◌, List, [], ◌++◌, true, false, length, take, slice_range, IfErr, IfOk, IfSome};
-ghost use Rattle.vcd_engine.specs.Names.{BodyItem, bytes_without, Counts, HasMark, Header, HeadView, IsItem, IsViewOf, item_line, Puts, time_line};
-ghost use Rattle.vcd_engine.specs.Pieces.{IsLine, IsPart, IsInPlace, PutsBehind, PutsOn, held_in};
+ghost use Rattle.std.specs.Prelude.{◌≡◌, ℕ, ◌+◌, ◌-◌, ◌^◌, ◌<◌, ◌≤◌, List, [], ◌++◌, length, take, slice_range, IfErr, IfOk};
+ghost use Rattle.vcd_engine.specs.Names.{bytes_without, Counts, HasMark, Puts, time_line};
+ghost use Rattle.vcd_engine.specs.Pieces.{IsLine, IsPart, PutsBehind, PutsOn, held_in};
 
 use crate::gathered::{GATHERED, Gathered};
 use vcd_body::{Plain, is_mark_line, put_time};

@@ -1,7 +1,7 @@
 //! The lines of `sample`.
-ghost use Rattle.std.specs.Prelude.{◌≡◌, ◌-◌, ◌^◌, ◌<◌, ℕ, [], ◌∷◌, List, false, take, Some, slice_get, flat_map};
+ghost use Rattle.std.specs.Prelude.{◌≡◌, ◌-◌, ◌^◌, ◌<◌, ℕ, [], ◌∷◌, List, false, Some, flat_map};
 ghost use Rattle.std.specs.List.{AllByRecursion};
-ghost use Rattle.vcd_engine.specs.Names.{BodyItem, Counts, Declaration, failures_after, Header, is_settled, IsViewOf, path_of, sample_lines, selected, Takes, Variable};
+ghost use Rattle.vcd_engine.specs.Names.{BodyItem, Counts, Header, is_settled, IsViewOf, sample_lines, selected, Takes};
 ghost use Rattle.vcd_engine.specs.Leads.{LeadOn};
 ghost use Rattle.vcd_engine.specs.Values.{AreHeld};
 ghost use Rattle.vcd_engine.specs.Rows.{AtRow};

@@ -1,7 +1,7 @@
 //! How often the values of codes change, rise and fall.
-ghost use Rattle.std.specs.Prelude.{◌≡◌, ℕ, ◌-◌, ◌^◌, ◌<◌, ◌≤◌, ◌∷◌, ◌++◌, [], List, true, false, take, length, Some, slice_get, decimal, flat_map};
-ghost use Rattle.vcd_engine.specs.Names.{BodyItem, Change, Code, Counts, edges_line, failures_after, HasBits, Header, HeadView, IdCode, IsText, IsViewOf, KeepsTable, leaves_open, marks_of, model_form, Puts, selected, Takes};
-ghost use Rattle.vcd_engine.specs.Edges.{AreTallied};
+ghost use Rattle.std.specs.Prelude.{◌≡◌, ℕ, ◌-◌, ◌^◌, ◌<◌, ◌∷◌, ◌++◌, [], List, true, false, length, Some, slice_get, decimal, flat_map};
+ghost use Rattle.vcd_engine.specs.Names.{BodyItem, Change, Code, Counts, edges_line, HasBits, Header, HeadView, IdCode, IsText, IsViewOf, KeepsTable, leaves_open, marks_of, Puts, selected, Takes};
+ghost use Rattle.vcd_engine.specs.Edges.{AreTallied, change_to};
 ghost use Rattle.vcd_engine.specs.Rows.{AtRow};
 
 use crate::selection::is_marked;
@@ -27,11 +27,7 @@ pub(crate) fn take_value(
         → IsViewOf view h → slice_get h.codes code ≡ Some c → c.event ≡ false → c.size ≡ size
         → ((d : Code) → slice_get view.codes.now code ≡ Some d → IsText form d text.now)
         → length items < 2 ^ 63 → AreTallied table.old h items
-        → AreTallied table.new h (items ++ BodyItem.Changes (record {
-          code = c;
-          form = model_form form;
-          text = text.now;
-        }) ∷ []) }
+        → AreTallied table.new h (items ++ change_to c form text.now ∷ []) }
     ensures keeps { KeepsTable table.old table.new }
 {
     match bits {

@@ -1,11 +1,11 @@
 //! `cut`: the values before a time, and the items from then up to another time.
 ghost use Rattle.std.specs.Prelude.{◌≡◌, ℕ, ◌≤◌, ◌-◌, ◌^◌, ◌<◌, ◌∷◌, ◌++◌, [], List, true, not, nat_le, nat_lt, IfOk, MatchResult};
-ghost use Rattle.vcd_engine.specs.Names.{BodyItem, Counts, cut_close, cut_open, failures_after, HasGoodText, Header, is_started, IsViewOf, Request, start_section, Takes, TakesDue, value_before};
-ghost use Rattle.vcd_engine.specs.Cut.{AreCut, BeginsBy, IsNoMark, lent_to, may_be_kept, span_in, values_text, SameSpan};
-ghost use Rattle.vcd_engine.specs.Engine.{Starts, StopsUnread, TakesOne, AtClose, AtItem, CountsStop};
+ghost use Rattle.vcd_engine.specs.Names.{BodyItem, Counts, cut_close, HasGoodText, Header, IsViewOf, Request, Takes, value_before};
+ghost use Rattle.vcd_engine.specs.Cut.{AreCut, BeginsBy, lent_to, may_be_kept, span_in, values_text, SameSpan, PutsStart};
+ghost use Rattle.vcd_engine.specs.Engine.{StopsUnread, TakesOne, AtClose, AtItem, CountsStop, StartsOver};
 ghost use Rattle.vcd_engine.specs.ItemText.{HasWritten};
 ghost use Rattle.vcd_engine.specs.Room.{HasRoomFor, IsWithin, room_size};
-ghost use Rattle.vcd_engine.specs.Values.{AreHeld, HasValues};
+ghost use Rattle.vcd_engine.specs.Values.{HasValues};
 ghost use Rattle.vcd_engine.specs.declared.task.Task.TheVariants as task;
 
 use crate::item_text::ItemText;
@@ -58,9 +58,7 @@ fn put_section<W: Sink>(
     out: &mut W,
 ) -> Result<(), WriteFailed>
     requires { (W.device out.old).failures < 2 ^ 64 - 1 }
-    ensures takes { (h : Header) (items : List BodyItem) → IsViewOf view.entry h
-        → HasValues table.now h (λ c. value_before items c from)
-        → Takes (W.device out.old) (W.device out.new) (start_section h from items) result }
+    ensures takes { PutsStart view.entry table.now from (W.device out.old) (W.device out.new) result }
     ensures counts { Counts (W.device out.old) (W.device out.new) result }
 {
     put_time(from, out)?;
@@ -95,8 +93,7 @@ impl<'r> Cut<'r> {
         requires failures { (W.device out.old).failures < 2 ^ 64 - 1 }
         requires order { from ≤ to }
         requires room { HasRoomFor (task.Cut from to) view room }
-        ensures starts { (h : Header) → IsViewOf view.entry h
-            → Starts (λ m. AreCut m h []) (Request.Cut from to) h
+        ensures starts { StartsOver view.entry (λ m h. AreCut m h []) (Request.Cut from to)
             (W.device out.old) (W.device out.new) result }
         ensures span { MatchResult result (λ m. span_in m ≡ Request.Cut from to) StopsUnread }
         ensures room { IfOk result (λ m. IsWithin (lent_to m) (room_size room.entry)) }
@@ -129,10 +126,8 @@ impl<'r> Cut<'r> {
     /// Writes the start section, after which kept items follow.
     fn begin<W: Sink>(&mut self, view: HeadView<'_>, out: &mut W) -> Result<(), WriteFailed>
         requires { (W.device out.old).failures < 2 ^ 64 - 1 }
-        ensures takes { (h : Header) (items : List BodyItem) → IsViewOf view.entry h
-            → HasValues self.old.table h (λ c. value_before items c self.old.from)
-            → Takes (W.device out.old) (W.device out.new)
-            (start_section h self.old.from items) result }
+        ensures takes { PutsStart view.entry self.old.table self.old.from
+            (W.device out.old) (W.device out.new) result }
         ensures counts { Counts (W.device out.old) (W.device out.new) result }
         ensures begun { IfOk result (λ _. (self.new.started ≡ true)
             × HasWritten (self.old.from ∷ []) [] self.new.text) }

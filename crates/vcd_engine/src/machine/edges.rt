@@ -1,7 +1,7 @@
 //! `edges`: how often the values of the selected variables change, rise and fall.
-ghost use Rattle.std.specs.Prelude.{◌≡◌, ℕ, ◌-◌, ◌^◌, ◌<◌, ◌∷◌, ◌++◌, [], List, Some, length, map, slice_get, string_bytes, true, false, IfOk, MatchResult};
-ghost use Rattle.vcd_engine.specs.Names.{BodyItem, Counts, Device, edges_close, failures_after, HasGoodText, Header, IdCode, IsGoodText, IsViewOf, leaves_open, model_form, Request, Takes};
-ghost use Rattle.vcd_engine.specs.Edges.{AreEdges, SameEdges, names_counted, room_in_edges};
+ghost use Rattle.std.specs.Prelude.{◌≡◌, ◌-◌, ◌^◌, ◌<◌, ◌∷◌, ◌++◌, [], List, Some, length, map, slice_get, string_bytes, true, false, IfOk, MatchResult};
+ghost use Rattle.vcd_engine.specs.Names.{BodyItem, Counts, Device, edges_close, HasGoodText, Header, IdCode, IsGoodText, IsViewOf, leaves_open, Request, Takes};
+ghost use Rattle.vcd_engine.specs.Edges.{AreEdges, SameEdges, names_counted, room_in_edges, change_to};
 ghost use Rattle.vcd_engine.specs.Engine.{Starts, AtItem};
 ghost use Rattle.vcd_engine.specs.Room.{HasRoomFor, IsWithin, room_size};
 ghost use Rattle.vcd_engine.specs.Selection.{IsUnmatched};
@@ -80,11 +80,7 @@ impl<'n, 'r> Edges<'n, 'r> {
         ensures takes { (h : Header) (items : List BodyItem) (c : IdCode) → IsViewOf view.entry h
             → slice_get h.codes code ≡ Some c → inside ≡ leaves_open items
             → length items < 2 ^ 63 → AreEdges self.old h items
-            → AreEdges self.new h (items ++ BodyItem.Changes (record {
-              code = c;
-              form = model_form form;
-              text = text.now;
-            }) ∷ []) }
+            → AreEdges self.new h (items ++ change_to c form text.now ∷ []) }
         ensures same { SameEdges self.old self.new }
     {
         let Some(declared) = view.code_at(code) else {

@@ -1,8 +1,8 @@
 //! `pick`: the dump of the selected variables.
 ghost use Rattle.std.specs.Prelude.{◌≡◌, ◌-◌, ◌^◌, ◌<◌, map, string_bytes, IfOk, MatchResult, ◌∷◌, ◌++◌, [], List, length, true, false};
-ghost use Rattle.vcd_engine.specs.Names.{AreRegsAfter, BodyItem, Counts, failures_after, HasGoodText, Header, IsViewOf, last_mark, pick_close, pick_open, Request, Takes, TakesDue};
-ghost use Rattle.vcd_engine.specs.Engine.{Starts, StopsUnread, last_of, AtItem, CountsStop};
-ghost use Rattle.vcd_engine.specs.Pick.{ArePicked, SamePick, is_event_at, is_kept, names_in, flags_in};
+ghost use Rattle.vcd_engine.specs.Names.{AreRegsAfter, BodyItem, Counts, HasGoodText, Header, last_mark, pick_close, pick_open, Request, Takes, TakesDue};
+ghost use Rattle.vcd_engine.specs.Engine.{StopsUnread, last_of, AtItem, CountsStop, StartsOver};
+ghost use Rattle.vcd_engine.specs.Pick.{ArePicked, SamePick, is_kept, names_in, flags_in};
 ghost use Rattle.vcd_engine.specs.Room.{HasRoomFor};
 ghost use Rattle.vcd_engine.specs.declared.task.Task.TheVariants as task;
 
@@ -37,8 +37,8 @@ impl<'n, 'r> Pick<'n, 'r> {
     ) -> Result<Pick<'n, 'r>, Stop>
         requires failures { (W.device out.old).failures < 2 ^ 64 - 1 }
         requires room { HasRoomFor (task.Pick names) view room }
-        ensures starts { (h : Header) → IsViewOf view.entry h
-            → Starts (λ p. ArePicked p h []) (Request.Pick (map string_bytes names.entry.now)) h
+        ensures starts { StartsOver view.entry (λ p h. ArePicked p h [])
+            (Request.Pick (map string_bytes names.entry.now))
             (W.device out.old) (W.device out.new) result }
         ensures names { MatchResult result
             (λ p. names_in p ≡ map string_bytes names.entry.now) StopsUnread }

@@ -1,8 +1,8 @@
 //! `sample`: the values of selected variables at some times.
-ghost use Rattle.std.specs.Prelude.{◌≡◌, ◌≢◌, ◌≤◌, ◌-◌, ◌^◌, ◌<◌, ◌+◌, ◌∷◌, ◌++◌, [], List, length, nat_le, None, true, IfOk, MatchResult, map, string_bytes};
+ghost use Rattle.std.specs.Prelude.{◌≡◌, ◌≢◌, ◌-◌, ◌^◌, ◌<◌, ◌+◌, ◌∷◌, ◌++◌, [], List, nat_le, None, true, IfOk, MatchResult, map, string_bytes};
 ghost use Rattle.std.specs.List.{position_or_len};
 ghost use Rattle.std.specs.List.Sorted.{IsStrictlyIncreasing};
-ghost use Rattle.vcd_engine.specs.Names.{BodyItem, close_text, Counts, failures_after, first_unmatched, HasGoodText, Header, IsItem, IsViewOf, Request, Takes};
+ghost use Rattle.vcd_engine.specs.Names.{BodyItem, close_text, Counts, first_unmatched, HasGoodText, Header, IsItem, IsViewOf, Request, Takes};
 ghost use Rattle.vcd_engine.specs.Engine.{TakesOne};
 ghost use Rattle.vcd_engine.specs.Room.{HasRoomFor, IsWithin, room_size};
 ghost use Rattle.vcd_engine.specs.Sample.{AreSampled, SameSample, asked_in, is_due, lent_to};
