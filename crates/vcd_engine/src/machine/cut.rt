@@ -13,7 +13,7 @@ use crate::machine::last_of;
 use crate::machine::walk::{Command, Copying, Keeping};
 use crate::pieces::{InPlace, Pieces};
 use crate::task::Room;
-use crate::values::set_plain;
+use crate::values::set_item;
 use vcd_body::{Item, Regs, Stop, Table, put_short, put_time};
 use vcd_head::{put_head, select};
 use vcd_text::{Sink, WriteFailed, put};
@@ -99,12 +99,7 @@ impl<'r> Cut<'r> {
         ensures room { IfOk result (λ m. IsWithin (lent_to m) (room_size room.entry)) }
         ensures failures { CountsStop (W.device out.old) (W.device out.new) result }
     {
-        let Room {
-            values,
-            slots,
-            shares,
-            marks,
-        } = room;
+        let marks = room.marks;
         let marks = &mut marks[..view.rows.len()];
         if let Err(name) = select(view, &[], marks) {
             return Err(Stop::Unmatched { name });
@@ -113,7 +108,7 @@ impl<'r> Cut<'r> {
         let mut cut = Cut {
             from,
             to,
-            table: Table::new(view, values, slots, shares),
+            table: Table::new(view, room.values, room.slots, room.shares),
             text: ItemText::new(),
             started: false,
         };
@@ -223,9 +218,7 @@ impl<'r> Cut<'r> {
             self.text.put(view, regs.time, item, text, out)?;
             return Ok(false);
         }
-        if let Item::Change { code, form } = item {
-            self.table.set(code, form, text);
-        }
+        set_item(&mut self.table, item, text, None);
         Ok(false)
     }
 
@@ -276,7 +269,8 @@ impl<'r> Command<Keeping> for Cut<'r> {
         _pieces: &mut Pieces<'_>,
         _out: &mut W,
     ) -> Result<(), WriteFailed> {
-        set_plain(&mut self.table, change.plain);
+        let plain = change.plain;
+        set_item(&mut self.table, plain.item, plain.text, plain.bits);
         Ok(())
     }
 }

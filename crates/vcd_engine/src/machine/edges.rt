@@ -40,17 +40,12 @@ impl<'n, 'r> Edges<'n, 'r> {
             (λ e. names_counted e ≡ map string_bytes names.entry.now) IsUnmatched }
         ensures room { IfOk result (λ e. IsWithin (room_in_edges e) (room_size room.entry)) }
     {
-        let Room {
-            values,
-            slots,
-            shares,
-            marks,
-        } = room;
+        let marks = room.marks;
         let marks = &mut marks[..view.rows.len()];
         if let Err(name) = select(view, names, marks) {
             return Err(Stop::Unmatched { name });
         }
-        let table = Table::new(view, values, slots, shares);
+        let table = Table::new(view, room.values, room.slots, room.shares);
         Ok(Edges {
             names,
             marks,

@@ -14,7 +14,7 @@ use crate::machine::walk::{Command, Keeping};
 use crate::pieces::{InPlace, Pieces};
 use crate::sample_lines::put_samples;
 use crate::task::Room;
-use crate::values::set_plain;
+use crate::values::set_item;
 use vcd_body::{Item, Regs, Stop, Table};
 use vcd_head::select;
 use vcd_text::{Sink, WriteFailed};
@@ -62,12 +62,7 @@ impl<'n, 'r> Sample<'n, 'r> {
             ≡ Request.Sample times.now (map string_bytes names.now)) IsUnmatched }
         ensures room { IfOk result (λ s. IsWithin (lent_to s) (room_size room.entry)) }
     {
-        let Room {
-            values,
-            slots,
-            shares,
-            marks,
-        } = room;
+        let marks = room.marks;
         let marks = &mut marks[..view.rows.len()];
         if let Err(name) = select(view, names, marks) {
             return Err(Stop::Unmatched { name });
@@ -77,7 +72,7 @@ impl<'n, 'r> Sample<'n, 'r> {
             times,
             names,
             rest: times,
-            table: Table::new(view, values, slots, shares),
+            table: Table::new(view, room.values, room.slots, room.shares),
             marks,
         })
     }
@@ -124,14 +119,11 @@ impl<'n, 'r> Sample<'n, 'r> {
         ensures counts { Counts (W.device out.old) (W.device out.new) result }
         ensures same { SameSample self.old self.new }
     {
-        match item {
-            Item::Time(time) => self.take_time(view, time, out),
-            Item::Change { code, form } => {
-                self.table.set(code, form, text);
-                Ok(false)
-            }
-            Item::Begin(_) | Item::End | Item::Finish => Ok(false),
+        if let Item::Time(time) = item {
+            return self.take_time(view, time, out);
         }
+        set_item(&mut self.table, item, text, None);
+        Ok(false)
     }
 
     /// Writes the lines of the times that are left.
@@ -176,7 +168,8 @@ impl<'n, 'r> Command<Keeping> for Sample<'n, 'r> {
         _pieces: &mut Pieces<'_>,
         _out: &mut W,
     ) -> Result<(), WriteFailed> {
-        set_plain(&mut self.table, change.plain);
+        let plain = change.plain;
+        set_item(&mut self.table, plain.item, plain.text, plain.bits);
         Ok(())
     }
 }

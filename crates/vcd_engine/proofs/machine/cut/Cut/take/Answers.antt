@@ -60,36 +60,13 @@ returns-then-self-clause-takes g c = λ h items before x views known re read few
       keeps = λ _. item_kept c.args.view h items before m c.args.text.now c.args.item x views known is read none _ started k one.1;
     }
 
-pub returns-in-Change-clause-takes : goal.returns-in-Change-clause-takes
-returns-in-Change-clause-takes g c = λ h items earlier x views known re read few is.
+pub returns-clause-takes : goal.returns-clause-takes
+returns-clause-takes g c = λ h items before x views known re read few is.
     let m = c.args.self.now in
     let none = no_mark_is c.args.item c.in_default.not-Time in
-    let place = c.in-Change.code in
-    let form = c.in-Change.form in
-    let text = c.args.text.now in
-    let change = subst (λ (i : Item). IsItem h.codes c.args.text.now i x) c.in-Change.is read in
-    let sound = subst (λ (i : Item). HasGoodText c.args.view.codes.now c.args.text.now i) c.in-Change.is c.requires.sound in
-    let good : (d : Code) → slice_get c.args.view.codes.now place ≡ Some d → IsText form d text = λ d there. good_text c.args.view.codes.now text place form d sound there in
-    let before = is.held c.if-self.false in
-    let laid = before.values.laid in
-    let held = set_holds c.args.view h m.table c.set.new.self items place form text change.0 views change.1 before (c.set.ensures.changes laid) (c.set.ensures.laid laid) good (c.set.ensures.value laid) in
+    let held = c.set_item.ensures.held c.args.view h items x views c.requires.sound read (is.held c.if-self.false) in
     record {
-      due = ([], none_before c.args.view h items earlier m c.args.text.now c.args.item x views known is read none c.if-self.false, appends-none (g.W.Sink.device c.args.out.now).held);
+      due = ([], none_before c.args.view h items before m c.args.text.now c.args.item x views known is read none c.if-self.false, appends-none (g.W.Sink.device c.args.out.now).held);
       ends = no_end h.codes c.args.text.now c.args.item x m.to read none;
-      keeps = λ _. item_held c.args.view h items earlier m c.args.text.now c.args.item x views known is read none c.set.new.self c.if-self.false (subst (λ (y : BodyItem). AreHeld c.set.new.self h (items ++ y ∷ [])) (sym change.2) held);
+      keeps = λ _. item_held c.args.view h items before m c.args.text.now c.args.item x views known is read none c.set_item.new.table c.if-self.false held;
     }
-
-pub returns-in_default-item : goal.returns-in_default-item
-returns-in_default-item g c = record {
-  takes = λ h items before x views known re read few is.
-      let m = c.args.self.now in
-      let none = no_mark_is c.args.item c.in_default.not-Time in
-      let held = held_still m.table h items x (other_gives h.codes c.args.text.now c.args.item x read c.in_default-item.not-Change) (is.held c.if-self.false) in
-      record {
-        due = ([], none_before c.args.view h items before m c.args.text.now c.args.item x views known is read none c.if-self.false, appends-none (g.W.Sink.device c.args.out.now).held);
-        ends = no_end h.codes c.args.text.now c.args.item x m.to read none;
-        keeps = λ _. item_held c.args.view h items before m c.args.text.now c.args.item x views known is read none m.table c.if-self.false held;
-      };
-  counts = refl;
-  same = (refl, refl);
-}
