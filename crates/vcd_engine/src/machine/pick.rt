@@ -6,7 +6,7 @@ ghost use Rattle.vcd_engine.specs.Pick.{ArePicked, SamePick, is_kept, names_in, 
 ghost use Rattle.vcd_engine.specs.Room.{HasRoomFor};
 ghost use Rattle.vcd_engine.specs.declared.task.Task.TheVariants as task;
 
-use crate::choice::Choice;
+use crate::choice::{choose_none, is_chosen};
 use crate::item_text::ItemText;
 use crate::machine::last_of;
 use crate::machine::walk::{Command, Copying};
@@ -23,7 +23,7 @@ use vcd_view::HeadView;
 #[derive(Drop)]
 pub(crate) struct Pick<'n, 'r> {
     names: &'n [String],
-    choice: Choice<'r>,
+    flags: &'r mut [u8],
     text: ItemText,
 }
 
@@ -45,14 +45,16 @@ impl<'n, 'r> Pick<'n, 'r> {
         ensures room { IfOk result (λ p. flags_in p ≡ length view.entry.codes.now) }
         ensures failures { CountsStop (W.device out.old) (W.device out.new) result }
     {
-        let Room { values, marks, .. } = room;
+        let marks = room.marks;
         let marks = &mut marks[..view.rows.len()];
-        let mut choice = Choice::new(view, values);
-        select_codes(view, names, marks, &mut choice)?;
+        let flags = room.values;
+        let flags = &mut flags[..view.codes.len()];
+        choose_none(flags);
+        select_codes(view, names, marks, flags)?;
         put_head(view, marks, out)?;
         Ok(Pick {
             names,
-            choice,
+            flags,
             text: ItemText::new(),
         })
     }
@@ -61,13 +63,13 @@ impl<'n, 'r> Pick<'n, 'r> {
     /// or a change of a chosen code that is no event inside a section.
     #[inline(always)]
     fn keeps(&self, view: HeadView<'_>, regs: Regs, item: Item) -> bool
-        ensures { result ≡ is_kept self.now.choice view.entry regs item }
+        ensures { result ≡ is_kept self.now.flags.now view.entry regs item }
     {
         match item {
             Item::Time(_) | Item::Finish => false,
             Item::Begin(_) | Item::End => true,
             Item::Change { code, .. } => {
-                self.choice.chosen(code) && !(regs.section.is_some() && view.is_event(code))
+                is_chosen(self.flags, code) && !(regs.section.is_some() && view.is_event(code))
             }
         }
     }
