@@ -50,22 +50,22 @@ span_in m = Request.Cut m.from m.to
 
 -- with a mark of this time the start section was written
 pub record HasBegun (h : Header) (items : List BodyItem) (time : ℕ) (m m' : Cut) (out out' : Device) : Type 0 where
-  pub due : is_started m.from items ≡ false
+  pub due : m.started ≡ false
   pub come : m.from ≤ time
   pub stands : m'.started ≡ true
   pub text : HasWritten (m.from ∷ []) [] m'.text
   pub section : Appends out.held out'.held (start_section h m.from items)
 
 -- or none was due
-pub record HasNone (items : List BodyItem) (time : ℕ) (m m' : Cut) (out out' : Device) : Type 0 where
-  pub why : (is_started m.from items ≡ true) ⊎ (time < m.from)
+pub record HasNone (time : ℕ) (m m' : Cut) (out out' : Device) : Type 0 where
+  pub why : (m.started ≡ true) ⊎ (time < m.from)
   pub same : m' ≡ m
   pub nothing : out' ≡ out
 
 -- the start section was written, where it was due; or a prefix of it where a write failed
 abbrev pub BeginsBy : {A E : Type 0} → Header → List BodyItem → ℕ → Cut → Cut → Device → Device → Result A E → Type 0
-BeginsBy h items time m m' out out' (Ok a) = HasBegun h items time m m' out out' ⊎ HasNone items time m m' out out'
-BeginsBy h items time m m' out out' (Err e) = (is_started m.from items ≡ false) × (m.from ≤ time) × WritesSome out out' (start_section h m.from items)
+BeginsBy h items time m m' out out' (Ok a) = HasBegun h items time m m' out out' ⊎ HasNone time m m' out out'
+BeginsBy h items time m m' out out' (Err e) = (m.started ≡ false) × (m.from ≤ time) × WritesSome out out' (start_section h m.from items)
 
 -- what it is lent
 abbrev pub lent_to : Cut → RoomSize

@@ -1,5 +1,5 @@
 //! `cut`: the values before a time, and the items from then up to another time.
-ghost use Rattle.std.specs.Prelude.{◌≡◌, ℕ, ◌≤◌, ◌-◌, ◌^◌, ◌<◌, ◌∷◌, ◌++◌, [], List, true, not, nat_le, nat_lt, IfOk, MatchResult};
+ghost use Rattle.std.specs.Prelude.{◌≡◌, false, ℕ, ◌≤◌, ◌-◌, ◌^◌, ◌<◌, ◌∷◌, ◌++◌, [], List, true, not, nat_le, nat_lt, IfOk, MatchResult};
 ghost use Rattle.vcd_engine.specs.Names.{BodyItem, Counts, cut_close, HasGoodText, Header, IsViewOf, Request, Takes, value_before};
 ghost use Rattle.vcd_engine.specs.Cut.{AreCut, BeginsBy, lent_to, may_be_kept, span_in, values_text, SameSpan, PutsStart};
 ghost use Rattle.vcd_engine.specs.Engine.{StopsUnread, TakesOne, AtClose, AtItem, CountsStop, StartsOver};
@@ -112,29 +112,12 @@ impl<'r> Cut<'r> {
             text: ItemText::new(),
             started: false,
         };
-        if from == 0 {
-            cut.begin(view, out)?;
-        }
+        cut.begin_by(view, 0, out)?;
         Ok(cut)
     }
 
-    /// Writes the start section, after which kept items follow.
-    fn begin<W: Sink>(&mut self, view: HeadView<'_>, out: &mut W) -> Result<(), WriteFailed>
-        requires { (W.device out.old).failures < 2 ^ 64 - 1 }
-        ensures takes { PutsStart view.entry self.old.table self.old.from
-            (W.device out.old) (W.device out.new) result }
-        ensures counts { Counts (W.device out.old) (W.device out.new) result }
-        ensures begun { IfOk result (λ _. (self.new.started ≡ true)
-            × HasWritten (self.old.from ∷ []) [] self.new.text) }
-        ensures same { SameSpan self.old self.new }
-    {
-        put_section(&self.table, view, self.from, out)?;
-        self.text = ItemText::after(self.from);
-        self.started = true;
-        Ok(())
-    }
-
-    /// Writes the start section, where it does not stand yet and this time has come.
+    /// Writes the start section, after which kept items follow, where it does not stand yet and this
+    /// time has come.
     fn begin_by<W: Sink>(
         &mut self,
         view: HeadView<'_>,
@@ -143,7 +126,8 @@ impl<'r> Cut<'r> {
     ) -> Result<(), WriteFailed>
         requires { (W.device out.old).failures < 2 ^ 64 - 1 }
         ensures begins { (h : Header) (items : List BodyItem) → IsViewOf view.entry h
-            → AreCut self.old h items
+            → (self.old.started ≡ false → HasValues self.old.table h
+            (λ c. value_before items c self.old.from))
             → BeginsBy h items time self.old self.new (W.device out.old) (W.device out.new) result }
         ensures counts { Counts (W.device out.old) (W.device out.new) result }
         ensures same { SameSpan self.old self.new }
@@ -151,7 +135,10 @@ impl<'r> Cut<'r> {
         if self.started || time < self.from {
             return Ok(());
         }
-        self.begin(view, out)
+        put_section(&self.table, view, self.from, out)?;
+        self.text = ItemText::after(self.from);
+        self.started = true;
+        Ok(())
     }
 
     /// Whether the start section stands.
