@@ -1,4 +1,5 @@
--- What the crates below define and the clauses of this crate speak of, under one path.
+-- What the clauses of this crate speak of, under one path: of the crates below, and what several of
+-- its modules share.
 pub use Rattle.vcd_model.specs.BodyPhrases.{section_keyword}
 pub use Rattle.vcd_model.specs.Bound.{AreWindows, FitsInput, no_room, RoomSize, WindowSize}
 pub use Rattle.vcd_model.specs.Bytes.{as_line}
@@ -32,3 +33,5 @@ pub use Rattle.vcd_body.specs.Device.{TakesDue}
 pub use Rattle.vcd_body.specs.Given.{HasGoodText, IsGoodText, IsItem, IsText, item_text}
 pub use Rattle.vcd_body.specs.Items.{AreRegsAfter, model_section}
 pub use Rattle.vcd_body.specs.Spelled.{bytes_without, HasMark}
+pub use Rattle.vcd_engine.specs.Engine.{AtClose, AtItem, CanRun, ClosesOver, CountsStop, HasBegun, Holds, is_going, Keeps, last_of, may_end_early, request_in, request_of, request_of_begun, request_of_engine, Starts, StartsOver, StopsUnread, TakesEach, TakesOne, TakesTime}
+pub use Rattle.vcd_engine.specs.Room.{AreWithinBound, HasRoomFor, IsWithin, IsWithinEachBound, marks_for, room_in, room_of, room_of_begun, room_size, SameHold, SameTask, slots_for, values_for, view_in}

@@ -1,8 +1,7 @@
 //! The commands over items: each is its task.
 ghost use Rattle.std.specs.Prelude.{◌≡◌, ◌≢◌, ◌≤◌, [], IfOk, map, string_bytes};
 ghost use Rattle.std.specs.List.Sorted.{IsStrictlyIncreasing};
-ghost use Rattle.vcd_engine.specs.Names.{no_room, Request};
-ghost use Rattle.vcd_engine.specs.Room.{HasRoomFor, room_size};
+ghost use Rattle.vcd_engine.specs.Names.{HasRoomFor, no_room, Request, room_size};
 ghost use Rattle.vcd_body.specs.declared.answer.Done.TheVariants.{Whole};
 ghost use Rattle.vcd_engine.specs.Run.{MayRun, RunsTask};
 

@@ -1,9 +1,7 @@
 //! What each task keeps between items, and what it does with an item.
-ghost use Rattle.std.specs.Prelude.{◌≡◌, ◌-◌, ◌^◌, ◌<◌, ◌≤◌, ◌∷◌, ◌++◌, [], length, true, IfOk, MatchResult};
-ghost use Rattle.vcd_engine.specs.Names.{bytes_of, close_text, Counts, HasGoodText, IsValid, passed_of, Takes};
+ghost use Rattle.std.specs.Prelude.{◌≡◌, ◌-◌, ◌^◌, ◌<◌, ◌≤◌, [], length, true, IfOk, MatchResult};
+ghost use Rattle.vcd_engine.specs.Names.{AtClose, bytes_of, close_text, Counts, CountsStop, HasGoodText, HasRoomFor, IsValid, IsWithin, Keeps, last_of, may_end_early, passed_of, request_in, request_of, room_of, room_size, SameTask, StartsOver, StopsUnread, Takes, TakesEach};
 ghost use Rattle.vcd_engine.specs.Ahead.{RunsOver};
-ghost use Rattle.vcd_engine.specs.Engine.{Keeps, StopsUnread, TakesOne, last_of, may_end_early, request_in, request_of, AtClose, AtItem, CountsStop, StartsOver};
-ghost use Rattle.vcd_engine.specs.Room.{HasRoomFor, IsWithin, SameTask, room_of, room_size};
 
 pub(crate) mod check;
 pub(crate) mod cut;
@@ -83,9 +81,8 @@ impl<'n, 'r> Machine<'n, 'r> {
     ) -> Result<bool, WriteFailed>
         requires failures { (W.device out.old).failures < 2 ^ 64 - 1 }
         requires sound { HasGoodText view.codes.now text.now item }
-        ensures takes { AtItem view.entry regs item text.now (λ h items x. Keeps self.old h items
-            → TakesOne (Keeps self.new h (items ++ x ∷ [])) (request_in self.old) h items x
-            (W.device out.old) (W.device out.new) result) }
+        ensures takes { TakesEach view.entry regs item text.now (Keeps self.old) (Keeps self.new)
+            (request_in self.old) (W.device out.old) (W.device out.new) result }
         ensures counts { Counts (W.device out.old) (W.device out.new) result }
         ensures same { SameTask self.old self.new }
         ensures early { IfOk result

@@ -1,7 +1,6 @@
 //! `list`: the variables of a header.
 ghost use Rattle.std.specs.Prelude.{◌≡◌, ◌∷◌, ◌-◌, ◌^◌, ◌<◌, MatchResult, Some};
-ghost use Rattle.vcd_engine.specs.Names.{Counts, Header, IsViewOf, list_line, list_text, no_room, Puts, Takes};
-ghost use Rattle.vcd_engine.specs.Room.{IsWithinEachBound};
+ghost use Rattle.vcd_engine.specs.Names.{Counts, Header, IsViewOf, IsWithinEachBound, list_line, list_text, no_room, Puts, Takes};
 ghost use Rattle.vcd_body.specs.declared.answer.Done.TheVariants.{Whole};
 ghost use Rattle.vcd_body.specs.declared.answer.Stop.TheVariants.{Write};
 ghost use Rattle.vcd_engine.specs.Rows.{AtRow};

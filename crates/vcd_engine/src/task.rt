@@ -1,7 +1,6 @@
 //! What is done with the items of a body, and the slices that it works in.
 ghost use Rattle.std.specs.Prelude.{◌≡◌, ◌≤◌, ℕ, length};
-ghost use Rattle.vcd_engine.specs.Names.{AreWindows, FitsInput, Header, IsViewOf, parts, room, RoomSize, view_size, WindowSize};
-ghost use Rattle.vcd_engine.specs.Room.{AreWithinBound, HasRoomFor, IsWithin, marks_for, slots_for, values_for};
+ghost use Rattle.vcd_engine.specs.Names.{AreWindows, AreWithinBound, FitsInput, HasRoomFor, Header, IsViewOf, IsWithin, marks_for, parts, room, RoomSize, slots_for, values_for, view_size, WindowSize};
 ghost use Rattle.vcd_engine.specs.declared.task.Room.{Room};
 
 use vcd_body::{Share, Slot};

@@ -1,8 +1,7 @@
 //! `check`: counts of what stands in a dump.
 ghost use Rattle.std.specs.Prelude.{◌≡◌, ◌-◌, ◌^◌, ◌<◌, ◌∷◌, ◌++◌, [], List, length, true, false};
-ghost use Rattle.vcd_engine.specs.Names.{BodyItem, check_close, Counts, Header, IsViewOf, last_mark, Takes};
+ghost use Rattle.vcd_engine.specs.Names.{BodyItem, check_close, Counts, Header, IsViewOf, last_mark, last_of, Takes};
 ghost use Rattle.vcd_engine.specs.Check.{AreCounted, IsOfKind};
-ghost use Rattle.vcd_engine.specs.Engine.{last_of};
 
 use crate::machine::last_of;
 use crate::machine::walk::{Command, Keeping};

@@ -1,10 +1,7 @@
 //! `cut`: the values before a time, and the items from then up to another time.
-ghost use Rattle.std.specs.Prelude.{◌≡◌, false, ℕ, ◌≤◌, ◌-◌, ◌^◌, ◌<◌, ◌∷◌, ◌++◌, [], List, true, not, nat_le, nat_lt, IfOk, MatchResult};
-ghost use Rattle.vcd_engine.specs.Names.{BodyItem, Counts, cut_close, HasGoodText, Header, IsViewOf, Request, Takes, value_before};
+ghost use Rattle.std.specs.Prelude.{◌≡◌, false, ℕ, ◌≤◌, ◌-◌, ◌^◌, ◌<◌, [], List, true, not, nat_le, nat_lt, IfOk, MatchResult};
+ghost use Rattle.vcd_engine.specs.Names.{AtClose, BodyItem, Counts, CountsStop, cut_close, HasGoodText, HasRoomFor, Header, IsViewOf, IsWithin, Request, room_size, StartsOver, StopsUnread, Takes, TakesEach, TakesTime, value_before};
 ghost use Rattle.vcd_engine.specs.Cut.{AreCut, BeginsBy, lent_to, may_be_kept, span_in, values_text, SameSpan, PutsStart};
-ghost use Rattle.vcd_engine.specs.Engine.{StopsUnread, TakesOne, AtClose, AtItem, CountsStop, StartsOver};
-ghost use Rattle.vcd_engine.specs.ItemText.{HasWritten};
-ghost use Rattle.vcd_engine.specs.Room.{HasRoomFor, IsWithin, room_size};
 ghost use Rattle.vcd_engine.specs.Values.{HasValues};
 ghost use Rattle.vcd_engine.specs.declared.task.Task.TheVariants as task;
 
@@ -158,11 +155,8 @@ impl<'r> Cut<'r> {
         out: &mut W,
     ) -> Result<bool, WriteFailed>
         requires { (W.device out.old).failures < 2 ^ 64 - 1 }
-        ensures takes { (h : Header) (items : List BodyItem) → IsViewOf view.entry h
-            → AreCut self.old h items
-            → TakesOne (AreCut self.new h (items ++ BodyItem.Time time ∷ []))
-            (Request.Cut self.old.from self.old.to) h items (BodyItem.Time time)
-            (W.device out.old) (W.device out.new) result }
+        ensures takes { TakesTime view.entry time (AreCut self.old) (AreCut self.new)
+            (span_in self.old) (W.device out.old) (W.device out.new) result }
         ensures counts { Counts (W.device out.old) (W.device out.new) result }
         ensures same { SameSpan self.old self.new }
     {
@@ -188,10 +182,8 @@ impl<'r> Cut<'r> {
     ) -> Result<bool, WriteFailed>
         requires failures { (W.device out.old).failures < 2 ^ 64 - 1 }
         requires sound { HasGoodText view.codes.now text.now item }
-        ensures takes { AtItem view.entry regs item text.now (λ h items x. AreCut self.old h items
-            → TakesOne (AreCut self.new h (items ++ x ∷ []))
-            (Request.Cut self.old.from self.old.to) h items x
-            (W.device out.old) (W.device out.new) result) }
+        ensures takes { TakesEach view.entry regs item text.now (AreCut self.old) (AreCut self.new)
+            (span_in self.old) (W.device out.old) (W.device out.new) result }
         ensures counts { Counts (W.device out.old) (W.device out.new) result }
         ensures same { SameSpan self.old self.new }
     {

@@ -1,9 +1,7 @@
 //! `edges`: how often the values of the selected variables change, rise and fall.
 ghost use Rattle.std.specs.Prelude.{◌≡◌, ◌-◌, ◌^◌, ◌<◌, ◌∷◌, ◌++◌, [], List, Some, length, map, slice_get, string_bytes, true, false, IfOk, MatchResult};
-ghost use Rattle.vcd_engine.specs.Names.{BodyItem, Counts, Device, edges_close, HasGoodText, Header, IdCode, IsGoodText, IsViewOf, leaves_open, Request, Takes};
+ghost use Rattle.vcd_engine.specs.Names.{AtItem, BodyItem, ClosesOver, Counts, Device, edges_close, HasGoodText, HasRoomFor, Header, IdCode, IsGoodText, IsViewOf, IsWithin, leaves_open, Request, room_size, Starts};
 ghost use Rattle.vcd_engine.specs.Edges.{AreEdges, SameEdges, names_counted, room_in_edges, change_to};
-ghost use Rattle.vcd_engine.specs.Engine.{Starts, AtItem};
-ghost use Rattle.vcd_engine.specs.Room.{HasRoomFor, IsWithin, room_size};
 ghost use Rattle.vcd_engine.specs.Selection.{IsUnmatched};
 ghost use Rattle.vcd_engine.specs.declared.task.Task.TheVariants as task;
 
@@ -91,10 +89,9 @@ impl<'n, 'r> Edges<'n, 'r> {
     /// Writes the rows of the selected variables.
     pub(crate) fn close<W: Sink>(&self, view: HeadView<'_>, out: &mut W) -> Result<(), WriteFailed>
         requires { (W.device out.old).failures < 2 ^ 64 - 1 }
-        ensures takes { (h : Header) (items : List BodyItem) → IsViewOf view.entry h
-            → AreEdges self.now h items
-            → Takes (W.device out.old) (W.device out.new)
-            (edges_close h (names_counted self.now) items) result }
+        ensures takes { ClosesOver view.entry (AreEdges self.now)
+            (λ h. edges_close h (names_counted self.now))
+            (W.device out.old) (W.device out.new) result }
         ensures counts { Counts (W.device out.old) (W.device out.new) result }
     {
         put_rows(&self.table, view, self.marks, out)

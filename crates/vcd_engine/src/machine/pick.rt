@@ -1,9 +1,7 @@
 //! `pick`: the dump of the selected variables.
 ghost use Rattle.std.specs.Prelude.{◌≡◌, ◌-◌, ◌^◌, ◌<◌, map, string_bytes, IfOk, MatchResult, ◌∷◌, ◌++◌, [], List, length, true, false};
-ghost use Rattle.vcd_engine.specs.Names.{AreRegsAfter, BodyItem, Counts, HasGoodText, Header, last_mark, pick_close, pick_open, Request, Takes, TakesDue};
-ghost use Rattle.vcd_engine.specs.Engine.{StopsUnread, last_of, AtItem, CountsStop, StartsOver};
+ghost use Rattle.vcd_engine.specs.Names.{AreRegsAfter, AtItem, BodyItem, Counts, CountsStop, HasGoodText, HasRoomFor, Header, last_mark, last_of, pick_close, pick_open, Request, StartsOver, StopsUnread, Takes, TakesDue};
 ghost use Rattle.vcd_engine.specs.Pick.{ArePicked, SamePick, is_kept, names_in, flags_in};
-ghost use Rattle.vcd_engine.specs.Room.{HasRoomFor};
 ghost use Rattle.vcd_engine.specs.declared.task.Task.TheVariants as task;
 
 use crate::choice::{choose_none, is_chosen};

@@ -2,9 +2,7 @@
 ghost use Rattle.std.specs.Prelude.{◌≡◌, ◌≢◌, ◌-◌, ◌^◌, ◌<◌, ◌+◌, ◌∷◌, ◌++◌, [], List, nat_le, None, true, IfOk, MatchResult, map, string_bytes};
 ghost use Rattle.std.specs.List.{position_or_len};
 ghost use Rattle.std.specs.List.Sorted.{IsStrictlyIncreasing};
-ghost use Rattle.vcd_engine.specs.Names.{BodyItem, close_text, Counts, first_unmatched, HasGoodText, Header, IsItem, IsViewOf, Request, Takes};
-ghost use Rattle.vcd_engine.specs.Engine.{TakesOne};
-ghost use Rattle.vcd_engine.specs.Room.{HasRoomFor, IsWithin, room_size};
+ghost use Rattle.vcd_engine.specs.Names.{BodyItem, close_text, ClosesOver, Counts, first_unmatched, HasGoodText, HasRoomFor, Header, IsItem, IsViewOf, IsWithin, Request, room_size, TakesOne, TakesTime};
 ghost use Rattle.vcd_engine.specs.Sample.{AreSampled, SameSample, asked_in, is_due, lent_to};
 ghost use Rattle.vcd_engine.specs.Selection.{IsFirstUnmatched, IsUnmatched};
 ghost use Rattle.vcd_engine.specs.declared.task.Task.TheVariants as task;
@@ -86,11 +84,8 @@ impl<'n, 'r> Sample<'n, 'r> {
         out: &mut W,
     ) -> Result<bool, WriteFailed>
         requires { (W.device out.old).failures < 2 ^ 64 - 1 }
-        ensures takes { (h : Header) (items : List BodyItem) → IsViewOf view.entry h
-            → AreSampled self.old h items
-            → TakesOne (AreSampled self.new h (items ++ BodyItem.Time time ∷ []))
-            (asked_in self.old) h items (BodyItem.Time time)
-            (W.device out.old) (W.device out.new) result }
+        ensures takes { TakesTime view.entry time (AreSampled self.old) (AreSampled self.new)
+            (asked_in self.old) (W.device out.old) (W.device out.new) result }
         ensures counts { Counts (W.device out.old) (W.device out.new) result }
         ensures same { SameSample self.old self.new }
     {
@@ -129,10 +124,8 @@ impl<'n, 'r> Sample<'n, 'r> {
     /// Writes the lines of the times that are left.
     pub(crate) fn close<W: Sink>(&self, view: HeadView<'_>, out: &mut W) -> Result<(), WriteFailed>
         requires { (W.device out.old).failures < 2 ^ 64 - 1 }
-        ensures takes { (h : Header) (items : List BodyItem) → IsViewOf view.entry h
-            → AreSampled self.now h items
-            → Takes (W.device out.old) (W.device out.new)
-            (close_text (asked_in self.now) h items) result }
+        ensures takes { ClosesOver view.entry (AreSampled self.now)
+            (close_text (asked_in self.now)) (W.device out.old) (W.device out.new) result }
         ensures counts { Counts (W.device out.old) (W.device out.new) result }
     {
         put_samples(&self.table, view, self.marks, self.rest, out)
