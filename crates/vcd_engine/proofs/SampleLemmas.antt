@@ -77,17 +77,6 @@ all_behind P (x ∷ xs) ys all = all_behind P xs ys all.1
 
 -- ---- an item that is no mark
 
--- the begin or the end of a section is none, and gives no value
-pub quiet : (codes : List IdCode) (text : List ℕ) (item : Item) (x : BodyItem) → IsItem codes text item x → ((section : Section) × (item ≡ Begin section)) ⊎ ((item ≡ End) ⊎ (item ≡ Finish))
-    → (marks (x ∷ []) ≡ []) × ((c : IdCode) → gives_to c x ≡ false)
-quiet codes text item x read (inl begin) =
-    let is : x ≡ BodyItem.Begin (model_section begin.0) = subst (λ (i : Item). IsItem codes text i x) begin.1 read in
-    (ap (λ (y : BodyItem). marks (y ∷ [])) is, λ c. ap (gives_to c) is)
-quiet codes text item x read (inr (inl end)) =
-    let is : x ≡ BodyItem.End = subst (λ (i : Item). IsItem codes text i x) end read in
-    (ap (λ (y : BodyItem). marks (y ∷ [])) is, λ c. ap (gives_to c) is)
-quiet codes text item x read (inr (inr finish)) = absurd (subst (λ (i : Item). IsItem codes text i x) finish read)
-
 -- it is no time mark
 pub no_marks : (codes : List IdCode) (text : List ℕ) (item : Item) (x : BodyItem) → IsItem codes text item x → ((time : ℕ) → item ≢ Time time) → marks (x ∷ []) ≡ []
 no_marks codes text (Time t) x is none = absurd (none t refl)

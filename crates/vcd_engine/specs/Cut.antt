@@ -10,19 +10,25 @@ use Rattle.vcd_model.specs.Items.{BodyItem, Entry, entries}
 use Rattle.vcd_model.specs.ItemText.{kept_by}
 use Rattle.vcd_model.specs.Outcome.{Request}
 use Rattle.vcd_body.specs.Contents.{bytes_in, codes_in}
-use Rattle.vcd_text.specs.Device.{Device, WritesSome}
+use Rattle.vcd_text.specs.Device.{Device, WritesSome, Takes}
 use Rattle.vcd_view.specs.declared.view.HeadView.{HeadView}
 use Rattle.vcd_body.specs.declared.item.Item.{Item}
 use Rattle.vcd_body.specs.declared.item.Item.TheVariants.{Time, Begin, End, Change, Finish}
 use Rattle.vcd_body.specs.declared.item.Regs.{Regs}
 use Rattle.vcd_engine.specs.ItemText.{HasWritten}
 use Rattle.vcd_engine.specs.Pick.{is_event_at}
-use Rattle.vcd_engine.specs.Values.{AreHeld}
+use Rattle.vcd_engine.specs.Values.{AreHeld, HasValues}
 use Rattle.vcd_engine.specs.declared.machine.cut.Cut.{Cut}
+use Rattle.vcd_view.specs.Views.{IsViewOf}
+use Rattle.vcd_body.specs.declared.table.Table.{Table}
 
 -- the lines of the values of these codes before a time
 abbrev pub values_text : List IdCode → List BodyItem → ℕ → List ℕ
 values_text cs items time = flat_map (λ c. line_if_set c (value_before items c time)) (filter (λ c. not c.event) cs)
+
+-- the start section of a time was put, of the values of a table
+abbrev pub PutsStart : {A E : Type 0} → HeadView → Table → ℕ → Device → Device → Result A E → Type 0
+PutsStart v t from out out' result = (h : Header) (items : List BodyItem) → IsViewOf v h → HasValues t h (λ c. value_before items c from) → Takes out out' (start_section h from items) result
 
 -- an item, after which the registers are these, may be kept: a section's begin or end, or a change
 -- that is no event's inside a section

@@ -111,6 +111,10 @@ CountsStop out out' result = out'.failures ≡ out.failures + writes_failed resu
 abbrev pub Starts : {A : Type 0} → (A → Type 0) → Request → Header → Device → Device → Result A Stop → Type 0
 Starts holds task h out out' result = MatchResult result (λ a. CanRun task h × holds a × Writes out out' (open_text task h [])) (StopsAtStart task h out out')
 
+-- so it does over any header that is shown
+abbrev pub StartsOver : {A : Type 0} → HeadView → (A → Header → Type 0) → Request → Device → Device → Result A Stop → Type 0
+StartsOver v holds task out out' result = (h : Header) → IsViewOf v h → Starts (λ a. holds a h) task h out out' result
+
 -- ---- items
 
 -- the last time mark, by the registers

@@ -1,14 +1,8 @@
 //! What each task keeps between items, and what it does with an item.
 ghost use Rattle.std.specs.Prelude.{◌≡◌, ◌-◌, ◌^◌, ◌<◌, ◌≤◌, ◌∷◌, ◌++◌, [], length, true, IfOk, MatchResult};
-ghost use Rattle.vcd_model.specs.Header.{Header};
-ghost use Rattle.vcd_model.specs.Laws.{IsValid};
-ghost use Rattle.vcd_model.specs.Outcome.{close_text};
-ghost use Rattle.vcd_text.specs.Ahead.{bytes_of, passed_of};
-ghost use Rattle.vcd_text.specs.Device.{Counts, Takes};
-ghost use Rattle.vcd_view.specs.Views.{IsViewOf};
-ghost use Rattle.vcd_body.specs.Given.{HasGoodText};
+ghost use Rattle.vcd_engine.specs.Names.{bytes_of, close_text, Counts, HasGoodText, IsValid, passed_of, Takes};
 ghost use Rattle.vcd_engine.specs.Ahead.{RunsOver};
-ghost use Rattle.vcd_engine.specs.Engine.{Keeps, Starts, StopsUnread, TakesOne, last_of, may_end_early, request_in, request_of, AtClose, AtItem, CountsStop};
+ghost use Rattle.vcd_engine.specs.Engine.{Keeps, StopsUnread, TakesOne, last_of, may_end_early, request_in, request_of, AtClose, AtItem, CountsStop, StartsOver};
 ghost use Rattle.vcd_engine.specs.Room.{HasRoomFor, IsWithin, SameTask, room_of, room_size};
 
 pub(crate) mod check;
@@ -57,8 +51,7 @@ impl<'n, 'r> Machine<'n, 'r> {
         requires failures { (W.device out.old).failures < 2 ^ 64 - 1 }
         requires valid { IsValid (request_of task) }
         requires room { HasRoomFor task view room }
-        ensures starts { (h : Header) → IsViewOf view.entry h
-            → Starts (λ m. Keeps m h []) (request_of task.entry) h
+        ensures starts { StartsOver view.entry (λ m h. Keeps m h []) (request_of task.entry)
             (W.device out.old) (W.device out.new) result }
         ensures request { MatchResult result
             (λ m. request_in m ≡ request_of task.entry) StopsUnread }
