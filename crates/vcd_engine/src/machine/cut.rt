@@ -26,27 +26,8 @@ pub(crate) struct Cut<'r> {
     started: bool,
 }
 
-/// Writes the line of each code that is no event and has a value.
-fn put_values<W: Sink>(
-    table: &Table<'_>,
-    view: HeadView<'_>,
-    out: &mut W,
-) -> Result<(), WriteFailed>
-    requires { (W.device out.old).failures < 2 ^ 64 - 1 }
-    ensures takes { (h : Header) (items : List BodyItem) (time : ℕ) → IsViewOf view.entry h
-        → HasValues table.now h (λ c. value_before items c time)
-        → Takes (W.device out.old) (W.device out.new) (values_text h.codes items time) result }
-    ensures counts { Counts (W.device out.old) (W.device out.new) result }
-{
-    for (code, declared) in view.codes.iter().enumerate() {
-        if !declared.event {
-            put_short(view, table, code, out)?;
-        }
-    }
-    Ok(())
-}
-
-/// Writes the start section of a cut from this time on.
+/// Writes the start section of a cut from this time on: the line of each code that is no event and
+/// has a value.
 #[inline(never)]
 fn put_section<W: Sink>(
     table: &Table<'_>,
@@ -60,7 +41,11 @@ fn put_section<W: Sink>(
 {
     put_time(from, out)?;
     put(out, b"$dumpvars\n")?;
-    put_values(table, view, out)?;
+    for (code, declared) in view.codes.iter().enumerate() {
+        if !declared.event {
+            put_short(view, table, code, out)?;
+        }
+    }
     put(out, b"$end\n")
 }
 
