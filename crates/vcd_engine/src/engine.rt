@@ -1,6 +1,6 @@
 //! A run over the items of a body, one item a step. It names no command.
 ghost use Rattle.std.specs.Prelude.{◌≡◌, ◌≢◌, ◌-◌, ◌^◌, ◌<◌, [], List, true, false, IfOk, MatchBool, Ok, MatchResult};
-ghost use Rattle.vcd_engine.specs.Names.{Advances, BodyItem, CallEnd, CanRun, close_text, Counts, CountsStop, HasBegun, HasRoomFor, Header, Holds, is_going, IsValid, IsViewOf, IsWithin, IsWithinEachBound, item_text, parts, request_of, request_of_begun, request_of_engine, room_in, room_of_begun, room_size, SameHold, seen, StartsOver, StopsUnread, Takes, view_in};
+ghost use Rattle.vcd_engine.specs.Names.{Advances, BeginsAs, BodyItem, CallEnd, CanRun, close_text, Counts, CountsStop, HasBegun, HasRoomFor, Header, Holds, is_going, IsValid, IsViewOf, IsWithin, IsWithinEachBound, item_text, parts, request_of, request_of_begun, request_of_engine, room_in, room_of_begun, room_size, SameHold, seen, StartsOver, StopsUnread, Takes, view_in};
 ghost use Rattle.vcd_body.specs.declared.item.Item.TheVariants.{Finish};
 ghost use Rattle.vcd_engine.specs.Step.{MayStep, Steps, StepsAhead, StepsOn, StepsOver};
 ghost use Rattle.vcd_body.specs.declared.answer.Done.TheVariants.{Early};
@@ -68,10 +68,8 @@ impl<'n, 'r> Begun<'n, 'r> {
         requires bound { IsWithinEachBound view (room_size room) }
         ensures starts { StartsOver view.entry HasBegun (request_of task.entry)
             (W.device out.old) (W.device out.new) result }
-        ensures answer { MatchResult result
-            (λ b. request_of_begun b ≡ request_of task.entry) StopsUnread }
-        ensures room { IfOk result (λ b. IsWithin (room_of_begun b) (room_size room.entry)) }
-        ensures failures { CountsStop (W.device out.old) (W.device out.new) result }
+        ensures begins { BeginsAs request_of_begun room_of_begun (request_of task.entry)
+            (room_size room.entry) (W.device out.old) (W.device out.new) result }
     {
         let machine = Machine::start(task, view, room, out)?;
         Ok(Begun { machine })

@@ -1,6 +1,6 @@
 //! What each task keeps between items, and what it does with an item.
 ghost use Rattle.std.specs.Prelude.{◌≡◌, ◌-◌, ◌^◌, ◌<◌, ◌≤◌, [], length, true, IfOk, MatchResult};
-ghost use Rattle.vcd_engine.specs.Names.{AtClose, bytes_of, close_text, Counts, CountsStop, HasGoodText, HasRoomFor, IsValid, IsWithin, Keeps, last_of, may_end_early, passed_of, request_in, request_of, room_of, room_size, SameTask, StartsOver, StopsUnread, Takes, TakesEach};
+ghost use Rattle.vcd_engine.specs.Names.{AtClose, BeginsAs, bytes_of, close_text, Counts, CountsStop, HasGoodText, HasRoomFor, IsValid, IsWithin, Keeps, last_of, may_end_early, passed_of, request_in, request_of, room_of, room_size, SameTask, StartsOver, StopsUnread, Takes, TakesEach};
 ghost use Rattle.vcd_engine.specs.Ahead.{RunsOver};
 
 pub(crate) mod check;
@@ -51,10 +51,8 @@ impl<'n, 'r> Machine<'n, 'r> {
         requires room { HasRoomFor task view room }
         ensures starts { StartsOver view.entry (λ m h. Keeps m h []) (request_of task.entry)
             (W.device out.old) (W.device out.new) result }
-        ensures request { MatchResult result
-            (λ m. request_in m ≡ request_of task.entry) StopsUnread }
-        ensures room { IfOk result (λ m. IsWithin (room_of m) (room_size room.entry)) }
-        ensures failures { CountsStop (W.device out.old) (W.device out.new) result }
+        ensures begins { BeginsAs request_in room_of (request_of task.entry)
+            (room_size room.entry) (W.device out.old) (W.device out.new) result }
     {
         match task {
             Task::Check => Ok(Machine::Check(check::Check::start())),

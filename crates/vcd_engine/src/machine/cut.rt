@@ -1,6 +1,6 @@
 //! `cut`: the values before a time, and the items from then up to another time.
 ghost use Rattle.std.specs.Prelude.{◌≡◌, false, ℕ, ◌≤◌, ◌-◌, ◌^◌, ◌<◌, [], List, true, not, nat_le, nat_lt, IfOk, MatchResult};
-ghost use Rattle.vcd_engine.specs.Names.{AtClose, BodyItem, Counts, CountsStop, cut_close, HasGoodText, HasRoomFor, Header, IsViewOf, IsWithin, Request, room_size, StartsOver, StopsUnread, Takes, TakesEach, TakesTime, value_before};
+ghost use Rattle.vcd_engine.specs.Names.{AtClose, BeginsAs, BodyItem, Counts, CountsStop, cut_close, HasGoodText, HasRoomFor, Header, IsViewOf, IsWithin, Request, room_size, StartsOver, StopsUnread, Takes, TakesEach, TakesTime, value_before};
 ghost use Rattle.vcd_engine.specs.Cut.{AreCut, BeginsBy, lent_to, may_be_kept, span_in, values_text, SameSpan, PutsStart};
 ghost use Rattle.vcd_engine.specs.Values.{HasValues};
 ghost use Rattle.vcd_engine.specs.declared.task.Task.TheVariants as task;
@@ -77,9 +77,8 @@ impl<'r> Cut<'r> {
         requires room { HasRoomFor (task.Cut from to) view room }
         ensures starts { StartsOver view.entry (λ m h. AreCut m h []) (Request.Cut from to)
             (W.device out.old) (W.device out.new) result }
-        ensures span { MatchResult result (λ m. span_in m ≡ Request.Cut from to) StopsUnread }
-        ensures room { IfOk result (λ m. IsWithin (lent_to m) (room_size room.entry)) }
-        ensures failures { CountsStop (W.device out.old) (W.device out.new) result }
+        ensures begins { BeginsAs span_in lent_to (Request.Cut from to) (room_size room.entry)
+            (W.device out.old) (W.device out.new) result }
     {
         let marks = room.marks;
         let marks = &mut marks[..view.rows.len()];
@@ -98,8 +97,8 @@ impl<'r> Cut<'r> {
         Ok(cut)
     }
 
-    /// Writes the start section, after which kept items follow, where it does not stand yet and this
-    /// time has come.
+    /// Writes the start section, after which kept items follow, where it does not stand yet and
+    /// this time has come.
     fn begin_by<W: Sink>(
         &mut self,
         view: HeadView<'_>,
