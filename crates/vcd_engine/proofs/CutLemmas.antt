@@ -1,6 +1,6 @@
 -- What `cut` writes with one item more, and what it keeps then.
-use Rattle.std.proofs.Common.{◌≡◌, ◌≢◌, ℕ, ◌+◌, ◌≤◌, ◌<◌, ◌==◌, ◌⊎◌, inl, inr, nat_le, nat_lt, Bool, true, false, not, cond, ◌&&◌, List, [], ◌∷◌, ◌++◌, filter, flat_map, take, drop, length, get_or, slice_get, Option, Some, None, Result, Ok, Err, refl, sym, ap, subst, ◌∙◌, arith, append-nil}
-use Rattle.std.specs.Prelude.{IfOk, IsErr, option_and_then, option_map, unwrap_or}
+use Rattle.std.proofs.Common.{◌≡◌, ◌≢◌, ℕ, ◌+◌, ◌≤◌, ◌<◌, ◌==◌, ◌⊎◌, inl, inr, nat_le, nat_lt, Bool, true, false, not, cond, ◌&&◌, List, [], ◌∷◌, ◌++◌, filter, flat_map, take, drop, length, get_or, slice_get, Option, Some, None, Result, Ok, refl, sym, ap, subst, ◌∙◌, arith, append-nil}
+use Rattle.std.specs.Prelude.{IsErr, option_and_then, option_map, unwrap_or}
 use Rattle.std.proofs.lemmas.List.{take-append-drop}
 use Rattle.std.proofs.lemmas.List.Concat.{flat_map-append}
 use Rattle.std.proofs.lemmas.List.Elements.{filter-append}
@@ -17,10 +17,10 @@ use Rattle.vcd_model.proofs.CutSteps.{at_most, close_started, close_unstarted, c
 use Rattle.vcd_model.proofs.CutKept.{above}
 use Rattle.vcd_model.proofs.FinalValues.{value_before_is}
 use Rattle.vcd_model.proofs.KeptLines.{keeps, kept_more, kept_same, last_is_enough}
-use Rattle.vcd_text.specs.Device.{Counts, Device, Takes}
+use Rattle.vcd_text.specs.Device.{Device, Takes}
 use Rattle.vcd_text.proofs.Writes.{AppendsSome, appends-first, appends-none, takes-failed, takes-first, takes-twice}
 use Rattle.std.specs.Io.KnownBytes.{Appends}
-use Rattle.vcd_engine.specs.Cut.{AreCut, BeginsBy, HasBegun, HasNone, IsNoMark, kept_from, may_be_kept, values_text}
+use Rattle.vcd_engine.specs.Cut.{AreCut, HasBegun, HasNone, IsNoMark, kept_from, may_be_kept, values_text}
 use Rattle.vcd_body.specs.Device.{DueBy, TakesDue}
 use Rattle.vcd_engine.specs.Engine.{TakesOne, last_of}
 use Rattle.vcd_model.specs.Outcome.{Request}

@@ -1,17 +1,11 @@
-use Rattle.std.proofs.Common.{◌≡◌, Err, true, false, Some, [], ◌∷◌, ◌++◌, refl, sym, ap, subst, slice_get, ◌∙◌, rules}
-use Rattle.vcd_model.specs.Items.{BodyItem, entry_after}
+use Rattle.std.proofs.Common.{◌≡◌, Err, true, false, [], ◌∷◌, sym, ap, subst, ◌∙◌, rules}
+use Rattle.vcd_model.specs.Items.{entry_after}
 use Rattle.vcd_body.specs.Items.{regs_after}
 use Rattle.vcd_body.specs.declared.item.Regs.{Regs}
 use Rattle.vcd_engine.specs.ItemText.{LastTells, times_with}
 use Rattle.vcd_engine.specs.Cut.{kept_from, may_be_kept}
 use Rattle.vcd_text.proofs.Writes.{appends-none}
-use Rattle.vcd_view.specs.declared.view.Code.{Code}
-use Rattle.vcd_body.specs.Given.{HasGoodText, IsText}
-use Rattle.vcd_body.specs.declared.item.Item.{Item}
-use Rattle.vcd_body.specs.Given.{IsItem}
-use Rattle.vcd_engine.specs.Values.{AreHeld}
 use Rattle.vcd_engine.proofs.CutLemmas.{due_item, item_held, item_kept, item_passed, item_tells, item_time, kept_is, no_end, no_mark_is, none_before, none_due}
-use Rattle.vcd_engine.proofs.ValuesLemmas.{good_text, held_still, other_gives, set_holds}
 use Rattle.vcd_engine.proofs.machine.cut.Cut.take.Goals as goal
 
 pub returns-then-not-may_keep-clause-takes : goal.returns-then-not-may_keep-clause-takes
