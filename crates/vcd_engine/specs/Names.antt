@@ -34,4 +34,4 @@ pub use Rattle.vcd_body.specs.Given.{HasGoodText, IsGoodText, IsItem, IsText, it
 pub use Rattle.vcd_body.specs.Items.{AreRegsAfter, model_section}
 pub use Rattle.vcd_body.specs.Spelled.{bytes_without, HasMark}
 pub use Rattle.vcd_engine.specs.Engine.{AtClose, AtItem, CanRun, ClosesOver, CountsStop, HasBegun, Holds, is_going, Keeps, last_of, may_end_early, request_in, request_of, request_of_begun, request_of_engine, Starts, StartsOver, StopsUnread, TakesEach, TakesOne, TakesTime}
-pub use Rattle.vcd_engine.specs.Room.{BeginsAs, AreWithinBound, HasRoomFor, IsWithin, IsWithinEachBound, marks_for, room_in, room_of, room_of_begun, room_size, SameHold, SameTask, slots_for, values_for, view_in}
+pub use Rattle.vcd_engine.specs.Room.{AreWithinBound, BeginsAs, HasRoomFor, IsWithin, IsWithinEachBound, marks_for, room_in, room_of, room_of_begun, room_size, SameHold, SameTask, slots_for, values_for, view_in}

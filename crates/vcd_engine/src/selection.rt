@@ -1,10 +1,10 @@
 //! The variables that names select: their marks and their codes.
-ghost use Rattle.std.specs.Prelude.{◌≡◌, ℕ, ◌≤◌, ◌||◌, List, length, Some, slice_get, false, map, string_bytes, MatchResult};
+ghost use Rattle.std.specs.Prelude.{◌≡◌, ℕ, ◌≤◌, ◌||◌, List, length, Some, slice_get, map, string_bytes, MatchResult};
 ghost use Rattle.vcd_engine.specs.Names.{Header, IdCode, is_marked, IsViewOf, marks_of, selected, selects_code};
 ghost use Rattle.vcd_engine.specs.Choice.{is_chosen};
 ghost use Rattle.vcd_engine.specs.Selection.{AreSelected, IsUnmatched, IsFirstUnmatched};
 
-use crate::choice::choose;
+use crate::choice::{choose, choose_none};
 use vcd_body::Stop;
 use vcd_head::select;
 use vcd_view::{HeadView, Kind};
@@ -35,8 +35,8 @@ fn choose_marked(view: HeadView<'_>, marks: &[u8], flags: &mut [u8])
 }
 
 /// Marks the variables that the names select, all where there are no names, and the scopes around
-/// them, and chooses the codes of these variables where none is chosen yet. A name that selects
-/// nothing is refused by its place, the first one.
+/// them, and chooses the codes of these variables and no others. A name that selects nothing is
+/// refused by its place, the first one.
 pub(crate) fn select_codes(
     view: HeadView<'_>,
     names: &[String],
@@ -45,7 +45,6 @@ pub(crate) fn select_codes(
 ) -> Result<(), Stop>
     requires marks { length marks.old ≡ length view.rows.now }
     requires codes { length view.codes.now ≤ length flags.old }
-    requires new { (code : ℕ) → is_chosen flags.old code ≡ false }
     ensures selects { (h : Header) → IsViewOf view.entry h
         → MatchResult result (λ _. AreSelected (map string_bytes names.now) h marks.new flags.new)
         (IsFirstUnmatched (map string_bytes names.now) h) }
@@ -54,6 +53,7 @@ pub(crate) fn select_codes(
     if let Err(name) = select(view, names, marks) {
         return Err(Stop::Unmatched { name });
     }
+    choose_none(flags);
     choose_marked(view, marks, flags);
     Ok(())
 }

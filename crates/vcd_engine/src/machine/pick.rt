@@ -4,7 +4,7 @@ ghost use Rattle.vcd_engine.specs.Names.{AreRegsAfter, AtItem, BodyItem, Counts,
 ghost use Rattle.vcd_engine.specs.Pick.{ArePicked, SamePick, is_kept, names_in, flags_in};
 ghost use Rattle.vcd_engine.specs.declared.task.Task.TheVariants as task;
 
-use crate::choice::{choose_none, is_chosen};
+use crate::choice::is_chosen;
 use crate::item_text::ItemText;
 use crate::machine::last_of;
 use crate::machine::walk::{Command, Copying};
@@ -47,7 +47,6 @@ impl<'n, 'r> Pick<'n, 'r> {
         let marks = &mut marks[..view.rows.len()];
         let flags = room.values;
         let flags = &mut flags[..view.codes.len()];
-        choose_none(flags);
         select_codes(view, names, marks, flags)?;
         put_head(view, marks, out)?;
         Ok(Pick {
