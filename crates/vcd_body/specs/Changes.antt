@@ -1,15 +1,10 @@
 -- The line of a change of digits.
-use Rattle.std.specs.Prelude.{◌≡◌, ℕ, ◌+◌, ◌<◌, ◌≤◌, ◌==◌, Bool, cond, drop, length, slice_index, List, [], ◌∷◌, ◌++◌}
+use Rattle.std.specs.Prelude.{◌≡◌, ℕ, ◌+◌, ◌<◌, ◌≤◌, Bool, drop, length, slice_index, List}
 use Rattle.std.specs.Str.{byte, str_to_ascii_lowercase}
 use Rattle.vcd_model.specs.Values.{change_line, extend, short}
 use Rattle.vcd_body.specs.Binary.{bit_of}
 use Rattle.vcd_body.specs.Items.{model_form}
 use Rattle.vcd_body.specs.declared.item.Form.{Form}
-
--- all digits at size 1, or the shortest after `b`
-abbrev pub digits_line : ℕ → List ℕ → List ℕ → List ℕ
-digits_line size text id = cond (size == 1) (str_to_ascii_lowercase text ++ (id ++ 10 ∷ []))
-    (byte "b" ∷ short (extend (str_to_ascii_lowercase text) size) ++ (byte " " ∷ id ++ 10 ∷ []))
 
 -- the line of a change of a code of this size, or of an event, under these bytes
 abbrev pub line_under : List ℕ → ℕ → Bool → Form → List ℕ → List ℕ

@@ -4,7 +4,7 @@ ghost use Rattle.std.specs.Char.{to_ascii_lowercase as lower};
 ghost use Rattle.std.specs.Str.{str_to_ascii_lowercase};
 ghost use Rattle.vcd_body.specs.Names.{Counts, Puts, Takes, extend, extension, short};
 ghost use Rattle.vcd_body.specs.Binary.{binary_digits};
-ghost use Rattle.vcd_body.specs.Changes.{digits_line, line_under};
+ghost use Rattle.vcd_body.specs.Changes.{line_under};
 
 use crate::bits::Bits;
 use crate::item::Form;
@@ -123,7 +123,7 @@ fn put_lower<W: Sink>(w: &mut W, bytes: &[u8]) -> Result<(), WriteFailed>
 // Writes a byte, a code and a line feed, one after the other.
 #[cold]
 #[inline(never)]
-fn put_long_end<W: Sink>(w: &mut W, first: u8, id: &[u8]) -> Result<(), WriteFailed>
+pub(crate) fn put_long_end<W: Sink>(w: &mut W, first: u8, id: &[u8]) -> Result<(), WriteFailed>
     requires { (W.device w.old).failures < 2 ^ 64 - 1 }
     ensures { Puts (W.device w.old) (W.device w.new) (first ∷ id.now ++ 10 ∷ []) result }
 {
@@ -216,54 +216,8 @@ pub(crate) fn put_shortest<W: Sink>(w: &mut W, digits: &[u8]) -> Result<(), Writ
     put_lower(w, shortest(digits))
 }
 
-// Writes a change of digits after `b`, the shortest ones.
-#[inline(never)]
-fn put_vector<W: Sink>(w: &mut W, digits: &[u8], id: &[u8]) -> Result<(), WriteFailed>
-    requires failures { (W.device w.old).failures < 2 ^ 64 - 1 }
-    requires digits { 0 < length digits.now }
-    ensures takes { (size : ℕ) → Takes (W.device w.old) (W.device w.new)
-        (98 ∷ short (extend (str_to_ascii_lowercase digits.now) size)
-        ++ (32 ∷ id.now ++ 10 ∷ [])) result }
-    ensures counts { Counts (W.device w.old) (W.device w.new) result }
-{
-    put_shortest(w, digits)?;
-    put_end(w, b' ', id)
-}
-
-// Writes a change of digits.
-#[inline(always)]
-fn put_digits<W: Sink>(w: &mut W, size: usize, digits: &[u8], id: &[u8]) -> Result<(), WriteFailed>
-    requires failures { (W.device w.old).failures < 2 ^ 64 - 1 }
-    requires digits { 0 < length digits.now }
-    ensures { Puts (W.device w.old) (W.device w.new) (digits_line size digits.now id.now) result }
-{
-    if size == 1 {
-        return put_all(w, digits, id);
-    }
-    put_vector(w, digits, id)
-}
-
-// Writes a change of an event.
-#[cold]
-#[inline(never)]
-fn put_event<W: Sink>(w: &mut W, id: &[u8]) -> Result<(), WriteFailed>
-    requires { (W.device w.old).failures < 2 ^ 64 - 1 }
-    ensures { Puts (W.device w.old) (W.device w.new) (49 ∷ id.now ++ 10 ∷ []) result }
-{
-    put_end(w, b'1', id)
-}
-
-// Returns whether a change of one digit is that of a bit, as most are. One branch tells.
-#[inline(always)]
-pub(crate) fn is_bit(size: usize, event: bool, form: Form) -> bool
-    ensures { result ≡ true → (size ≡ 1) × (event ≡ false) × (form ≡ Form.Scalar) }
-{
-    (size == 1) & !event & (form == Form::Scalar)
-}
-
-// Writes a change as `put_change` does, under the code with these bytes.
-pub(crate) fn put_own_change<W: Sink>(
-    size: usize,
+// Writes a change of an event, of a real number, or of all of these digits.
+pub(crate) fn put_rare<W: Sink>(
     event: bool,
     form: Form,
     text: &[u8],
@@ -272,15 +226,15 @@ pub(crate) fn put_own_change<W: Sink>(
 ) -> Result<(), WriteFailed>
     requires failures { (W.device w.old).failures < 2 ^ 64 - 1 }
     requires digits { event ≡ false → form ≢ Form.RealText → 0 < length text.now }
-    ensures { Puts (W.device w.old) (W.device w.new)
+    ensures { (size : ℕ) → (event ≡ false → form ≢ Form.RealText → size ≡ 1)
+        → Puts (W.device w.old) (W.device w.new)
         (line_under id.now size event form text.now) result }
 {
-    match text {
-        [digit] if is_bit(size, event, form) => put_end(w, digit.to_ascii_lowercase(), id),
-        _ if event => put_event(w, id),
-        _ => match form {
-            Form::RealText => put_real(w, text, id),
-            Form::Scalar | Form::Vector => put_digits(w, size, text, id),
-        },
+    if event {
+        return put_end(w, b'1', id);
+    }
+    match form {
+        Form::RealText => put_real(w, text, id),
+        Form::Scalar | Form::Vector => put_all(w, text, id),
     }
 }

@@ -4,9 +4,8 @@ ghost use Rattle.vcd_body.specs.Changes.{line_under};
 ghost use Rattle.vcd_text.specs.Device.{Puts};
 ghost use Rattle.vcd_body.specs.Id.{id_text};
 
-use crate::change::put_own_change;
 use crate::item::Form;
-use crate::renamed::put_renamed_bits;
+use crate::put_line::put_line;
 use vcd_text::{Sink, WriteFailed};
 
 /// Under which code a change is written.
@@ -20,7 +19,7 @@ pub enum Id<'a> {
 
 /// Writes a change of a code of this size, or of an event, as its line. A bad text of an event is
 /// not looked at. Where a write fails, a prefix was written.
-#[inline(always)]
+#[inline(never)]
 pub fn put_change<W: Sink>(
     size: usize,
     event: bool,
@@ -34,8 +33,5 @@ pub fn put_change<W: Sink>(
     ensures { Puts (W.device w.old) (W.device w.new)
         (line_under (id_text id.entry) size event form text.now) result }
 {
-    match id {
-        Id::Own(code) => put_own_change(size, event, form, text, code, w),
-        Id::Number(number) => put_renamed_bits(size, event, form, text, None, number, w),
-    }
+    put_line(size, event, form, text, None, id, w)
 }

@@ -43,8 +43,8 @@
 //! - `item`, `fault`: `Item`, `Form`, `Section`, `Regs`; `BodyFault`
 //! - `answer`: `Done`, `More`, `Stop`: how a run over a body or several ends, and whether it goes
 //!   on
-//! - `id`: `put_change`, under an `Id`; `change`: under a code's own bytes; `renamed`:
-//!   `put_renamed_bits`, under a new code
+//! - `id`: `put_change`, under an `Id`; `put_line`: the one writer of a change's line; `change`:
+//!   its digits, and a code's own bytes at its end; `renamed`: a new code at its end
 //! - `lines`: `left_out`; `time_line`: `put_time`
 //! - `value`: `Value`, what a change gives
 //! - `table`, `slot`: `Table`, `Shown`; `Slot`, `Share`; `table_text`: `put_short`, `put_full`;
@@ -85,6 +85,7 @@ pub mod laws;
 mod lines;
 mod packed;
 mod phrases;
+mod put_line;
 mod read;
 mod renamed;
 mod several;

@@ -1,11 +1,11 @@
 -- What `check` keeps after one item more, and its report.
-use Rattle.std.proofs.Common.{◌≡◌, ℕ, suc, ◌+◌, ◌≤◌, Bool, true, false, cond, List, [], ◌∷◌, ◌++◌, length, count_by, filter_map, codes, Option, Some, None, refl, sym, ap, ◌∙◌, arith, append-nil}
+use Rattle.std.proofs.Common.{◌≡◌, ℕ, suc, ◌+◌, ◌≤◌, Bool, true, false, cond, List, [], ◌∷◌, ◌++◌, length, count_by, filter_map, codes, Option, Some, None, refl, sym, ap, ◌∙◌, arith, append-nil, append_assoc, decimal}
 use Rattle.std.proofs.lemmas.List.{length_push}
 use Rattle.std.proofs.lemmas.List.Elements.{filter_map-append}
 use Rattle.std.proofs.lemmas.List.Sums.{sum_by-append, count_by-le-length}
 use Rattle.std.specs.List.{cons_option}
 use Rattle.std.proofs.lemmas.Slice.Zip.{AllZip-long}
-use Rattle.vcd_model.specs.CheckAndList.{check_close}
+use Rattle.vcd_model.specs.CheckAndList.{check_close, count_line, number_or_dash}
 use Rattle.vcd_model.specs.Declarations.{Declaration, IdCode, is_scope, variables_of}
 use Rattle.vcd_model.specs.Header.{Header}
 use Rattle.vcd_model.specs.Items.{BodyItem, Change as Changed, marks, time_mark, is_begin, change_of}
@@ -21,9 +21,8 @@ use Rattle.vcd_body.specs.declared.item.Regs.{Regs}
 use Rattle.vcd_engine.specs.Check.{AreCounted, IsOfKind}
 use Rattle.vcd_engine.specs.Engine.{last_of}
 use Rattle.vcd_body.specs.Given.{IsItem}
-use Rattle.vcd_engine.specs.Report.{report_text, opens_scope, declares_variable}
+use Rattle.vcd_engine.specs.Report.{opens_scope, declares_variable}
 use Rattle.vcd_engine.specs.declared.machine.check.Check.{Check}
-use Rattle.vcd_engine.specs.declared.report.Report.{Report}
 use Rattle.vcd_engine.proofs.EngineLemmas.{marks_push, marks_stay}
 
 -- ---- the counts
@@ -137,12 +136,22 @@ variables_are text codes earlier (r ∷ rs) (Declaration.Scope type name ∷ ds)
 variables_are text codes earlier (r ∷ rs) (Declaration.Up ∷ ds) a = not_one r rs (length (variables_of ds)) (ap declares_variable a.0.own.0) (variables_are text codes (earlier ++ Declaration.Up ∷ []) rs ds a.1)
 variables_are text codes earlier (r ∷ rs) (Declaration.Var v ∷ ds) a = one_more r rs (length (variables_of ds)) (ap declares_variable a.0.own.0) (variables_are text codes (earlier ++ Declaration.Var v ∷ []) rs ds a.1)
 
--- the seven lines
-pub report_is : (v : HeadView) (h : Header) (items : List BodyItem) (c : Check) (r : Regs) (report : Report) → Views (parts v) h → AreCounted items c → last_of r ≡ last_mark items → report.scopes ≡ count_by (λ r. opens_scope r.kind) v.rows.now
-    → report.variables ≡ count_by (λ r. declares_variable r.kind) v.rows.now → report.codes ≡ length v.codes.now → report.times ≡ c.times → report.sections ≡ c.sections → report.changes ≡ c.changes → report.last ≡ last_of r → check_close h items ≡ report_text report
+-- the seven lines: six that are written together, and one more
+regroup : (a b c d e f t : List ℕ) → (a ++ (b ++ (c ++ (d ++ (e ++ (f ++ [])))))) ++ t ≡ a ++ b ++ c ++ d ++ e ++ f ++ t
+regroup a b c d e f t = simp (append_assoc, append-nil)
+
+abbrev pub six_lines : (s n k : ℕ) → Check → List ℕ
+six_lines s n k c =
+    count_line (codes "scopes") (decimal s)
+    ++ (count_line (codes "variables") (decimal n) ++ (count_line (codes "codes") (decimal k) ++ (count_line (codes "times") (decimal c.times) ++ (count_line (codes "sections") (decimal c.sections) ++ (count_line (codes "changes") (decimal c.changes) ++ [])))))
+
+pub report_is : (v : HeadView) (h : Header) (items : List BodyItem) (c : Check) (r : Regs) (s n : ℕ) → Views (parts v) h → AreCounted items c → last_of r ≡ last_mark items → s ≡ count_by (λ r. opens_scope r.kind) v.rows.now → n ≡ count_by (λ r. declares_variable r.kind) v.rows.now
+    → six_lines s n (length v.codes.now) c ++ count_line (codes "last") (number_or_dash (last_of r)) ≡ check_close h items
 unfolding check_close
-report_is v h items c r report views n last_is scopes variables codes times sections changes last =
-    let declared : count_by is_scope h.declarations ≡ report.scopes = sym (scopes ∙ scopes_are (parts v).text h.codes [] v.rows.now h.declarations views.rows) in
-    let vars : length (variables_of h.declarations) ≡ report.variables = sym (variables ∙ variables_are (parts v).text h.codes [] v.rows.now h.declarations views.rows) in
-    let codes_are : length h.codes ≡ report.codes = AllZip-long (IsCode (parts v).text) v.codes.now h.codes views.codes ∙ sym codes in
-    rw (declared, vars, codes_are, times, sections, changes, last, sym n.times, sym n.sections, sym n.changes, sym last_is) refl
+report_is v h items c r s n views counted last scopes variables =
+    let declared : count_by is_scope h.declarations ≡ s = sym (scopes ∙ scopes_are (parts v).text h.codes [] v.rows.now h.declarations views.rows) in
+    let vars : length (variables_of h.declarations) ≡ n = sym (variables ∙ variables_are (parts v).text h.codes [] v.rows.now h.declarations views.rows) in
+    let codes_are : length h.codes ≡ length v.codes.now = AllZip-long (IsCode (parts v).text) v.codes.now h.codes views.codes in
+    regroup (count_line (codes "scopes") (decimal s)) (count_line (codes "variables") (decimal n)) (count_line (codes "codes") (decimal (length v.codes.now))) (count_line (codes "times") (decimal c.times))
+    (count_line (codes "sections") (decimal c.sections)) (count_line (codes "changes") (decimal c.changes)) (count_line (codes "last") (number_or_dash (last_of r)))
+    ∙ rw (declared, vars, codes_are, sym counted.times, sym counted.sections, sym counted.changes, sym last) refl

@@ -1,6 +1,6 @@
 -- What `cut` writes with one item more, and what it keeps then.
-use Rattle.std.proofs.Common.{◌≡◌, ◌≢◌, ℕ, ◌+◌, ◌≤◌, ◌<◌, ◌==◌, ◌⊎◌, inl, inr, nat_le, nat_lt, Bool, true, false, not, cond, ◌&&◌, List, [], ◌∷◌, ◌++◌, filter, flat_map, take, drop, length, get_or, slice_get, Option, Some, None, Result, Ok, Err, refl, sym, ap, subst, ◌∙◌, arith, append-nil}
-use Rattle.std.specs.Prelude.{IfOk, IsErr, option_and_then, option_map, unwrap_or}
+use Rattle.std.proofs.Common.{◌≡◌, ◌≢◌, ℕ, ◌+◌, ◌≤◌, ◌<◌, ◌==◌, ◌⊎◌, inl, inr, nat_le, nat_lt, Bool, true, false, not, cond, ◌&&◌, List, [], ◌∷◌, ◌++◌, filter, flat_map, take, drop, length, get_or, slice_get, Option, Some, None, Result, Ok, refl, sym, ap, subst, ◌∙◌, arith, append-nil}
+use Rattle.std.specs.Prelude.{IsErr, option_and_then, option_map, unwrap_or}
 use Rattle.std.proofs.lemmas.List.{take-append-drop}
 use Rattle.std.proofs.lemmas.List.Concat.{flat_map-append}
 use Rattle.std.proofs.lemmas.List.Elements.{filter-append}
@@ -17,10 +17,10 @@ use Rattle.vcd_model.proofs.CutSteps.{at_most, close_started, close_unstarted, c
 use Rattle.vcd_model.proofs.CutKept.{above}
 use Rattle.vcd_model.proofs.FinalValues.{value_before_is}
 use Rattle.vcd_model.proofs.KeptLines.{keeps, kept_more, kept_same, last_is_enough}
-use Rattle.vcd_text.specs.Device.{Counts, Device, Takes}
+use Rattle.vcd_text.specs.Device.{Device, Takes}
 use Rattle.vcd_text.proofs.Writes.{AppendsSome, appends-first, appends-none, takes-failed, takes-first, takes-twice}
 use Rattle.std.specs.Io.KnownBytes.{Appends}
-use Rattle.vcd_engine.specs.Cut.{AreCut, BeginsBy, HasBegun, HasNone, IsNoMark, kept_from, may_be_kept, values_text}
+use Rattle.vcd_engine.specs.Cut.{AreCut, HasBegun, HasNone, IsNoMark, kept_from, may_be_kept, values_text}
 use Rattle.vcd_body.specs.Device.{DueBy, TakesDue}
 use Rattle.vcd_engine.specs.Engine.{TakesOne, last_of}
 use Rattle.vcd_model.specs.Outcome.{Request}
@@ -259,9 +259,6 @@ end_tells : (h : Header) (m : Cut) (items : List BodyItem) → AreCut m h items 
 end_tells h m items is = last_tells m.from items m.to is.ordered (at_most m.to items is.on)
 
 module _ (h : Header) (m : Cut) (items : List BodyItem) (r : Regs) (is : AreCut m h items) (known : AreRegsAfter items r) (last : last_of r ≡ last_mark items) where
-  pub values_now : m.started ≡ false → HasValues m.table h (λ c. value_before items c m.from)
-  values_now s = values_before m.table h m.from items (not_started m.from items (sym is.started_is ∙ s)) (is.held s)
-
   pub closes_unstarted : m.started ≡ false → start_section h m.from items ≡ cut_close h m.from m.to items
   closes_unstarted s = sym (close_unstarted h m.from m.to items is.on (sym is.started_is ∙ s) (λ t e. last_time_is items r t known last e))
 
@@ -332,36 +329,46 @@ read_code v h i d views within =
 
 -- ---- a time mark, after the start section
 
+-- the values that the start section has
+pub values_due : (h : Header) (items : List BodyItem) (m : Cut) → AreCut m h items → m.started ≡ false → HasValues m.table h (λ c. value_before items c m.from)
+values_due h items m is s = values_before m.table h m.from items (not_started m.from items (sym is.started_is ∙ s)) (is.held s)
+
+-- why none was due
+stood : (h : Header) (items : List BodyItem) (m : Cut) (t : ℕ) → AreCut m h items → (m.started ≡ true) ⊎ (t < m.from) → (is_started m.from items ≡ true) ⊎ (t < m.from)
+stood h items m t is (inl s) = inl (sym is.started_is ∙ s)
+stood h items m t is (inr low) = inr low
+
 -- the cut goes on
-pub mark_goes : {E : Type 0} (h : Header) (items : List BodyItem) (m m' : Cut) (t : ℕ) (out out' : Device) (r : Result Bool E) → r ≡ Ok false → AreCut m h items → t ≤ m.to → m'.from ≡ m.from → m'.to ≡ m.to → HasBegun h items t m m' out out' ⊎ HasNone items t m m' out out'
+pub mark_goes : {E : Type 0} (h : Header) (items : List BodyItem) (m m' : Cut) (t : ℕ) (out out' : Device) (r : Result Bool E) → r ≡ Ok false → AreCut m h items → t ≤ m.to → m'.from ≡ m.from → m'.to ≡ m.to → HasBegun h items t m m' out out' ⊎ HasNone t m m' out out'
     → TakesOne (AreCut m' h (items ++ BodyItem.Time t ∷ [])) (Request.Cut m.from m.to) h items (BodyItem.Time t) out out' r
 mark_goes {E} h items m m' t out out' r e is low same_from same_to (inl begun) = record {
-  due = begun_on h m.from m.to items is.on t out out' r begun.due begun.come low (subst (λ (q : Result Bool E). Takes out out' (start_section h m.from items) q) (sym e) begun.section);
+  due = begun_on h m.from m.to items is.on t out out' r (sym is.started_is ∙ begun.due) begun.come low (subst (λ (q : Result Bool E). Takes out out' (start_section h m.from items) q) (sym e) begun.section);
   ends = rw e (sym (within_is m.to t low));
-  keeps = λ _. goes_begun h items m is t low m' same_from same_to begun.stands begun.text begun.due begun.come;
+  keeps = λ _. goes_begun h items m is t low m' same_from same_to begun.stands begun.text (sym is.started_is ∙ begun.due) begun.come;
 }
 mark_goes {E} h items m m' t out out' r e is low same_from same_to (inr none) = record {
-  due = ([], mark_passes h m.from m.to items t is.on low none.why, rw (e, none.nothing) (appends-none out.held));
+  due = ([], mark_passes h m.from m.to items t is.on low (stood h items m t is none.why), rw (e, none.nothing) (appends-none out.held));
   ends = rw e (sym (within_is m.to t low));
-  keeps = λ _. rw none.same (goes_still h items m is t low none.why);
+  keeps = λ _. rw none.same (goes_still h items m is t low (stood h items m t is none.why));
 }
 
 -- the cut ends
-pub mark_ends : {A E : Type 0} (h : Header) (items : List BodyItem) (m m' : Cut) (t : ℕ) (out mid out' : Device) (r : Result A E) (r' : Result Bool E) → AreCut m h items → m.to < t → HasBegun h items t m m' out mid ⊎ HasNone items t m m' out mid
+pub mark_ends : {A E : Type 0} (h : Header) (items : List BodyItem) (m m' : Cut) (t : ℕ) (out mid out' : Device) (r : Result A E) (r' : Result Bool E) → AreCut m h items → m.to < t → HasBegun h items t m m' out mid ⊎ HasNone t m m' out mid
     → ((before : List ℕ) (kept : List Entry) → HasWritten before kept m'.text → ((u : ℕ) → Some m.to ≡ Some u → LastTells (times_with before kept) u) → Takes mid out' (closing (times_with before kept) (Some m.to)) r)
     → ((l : List ℕ) → Takes mid out' l r → Takes mid out' l r')
     → TakesDue out out' (cut_open h m.from m.to items) (cut_open h m.from m.to (items ++ BodyItem.Time t ∷ [])) r'
 mark_ends h items m m' t out mid out' r r' is high (inl begun) closes same =
-    begun_ended h m.from m.to items is.on t out out' r' mid begun.due begun.come high begun.section
+    begun_ended h m.from m.to items is.on t out out' r' mid (sym is.started_is ∙ begun.due) begun.come high begun.section
     (same (closing (times_with (m.from ∷ []) []) (Some m.to)) (closes (m.from ∷ []) [] begun.text (λ u e. let one : m.to ≡ u = cc in subst (λ n. LastTells (m.from ∷ []) n) one (last_is_enough m.to m.from [] is.ordered))))
 mark_ends h items m m' t out mid out' r r' is high (inr none) closes same =
-    let started = already none.why in
-    let text = subst (λ (y : Cut). HasWritten (m.from ∷ []) (kept_from m.from items) y.text) (sym none.same) (is.written (is.started_is ∙ started)) in
+    let stands = already none.why in
+    let started = sym is.started_is ∙ stands in
+    let text = subst (λ (y : Cut). HasWritten (m.from ∷ []) (kept_from m.from items) y.text) (sym none.same) (is.written stands) in
     ended h m.from m.to items is.on t out out' r' started high
     (subst (λ (d : Device). Takes d out' (closing (times_with (m.from ∷ []) (kept_from m.from items)) (Some m.to)) r') none.nothing
     (same (closing (times_with (m.from ∷ []) (kept_from m.from items)) (Some m.to)) (closes (m.from ∷ []) (kept_from m.from items) text (λ u e. let one : m.to ≡ u = cc in subst (λ n. LastTells (times_with (m.from ∷ []) (kept_from m.from items)) n) one (end_tells h m items is)))))
   where
-    already : (is_started m.from items ≡ true) ⊎ (t < m.from) → is_started m.from items ≡ true
+    already : (m.started ≡ true) ⊎ (t < m.from) → m.started ≡ true
     already (inl s) = s
     already (inr low) = let le = is.ordered in absurd (omega (arith, le, low, high))
 
@@ -377,16 +384,6 @@ no_mark_is Finish none = tt
 -- they end no cut
 pub no_end : (codes : List IdCode) (text : List ℕ) (item : Item) (x : BodyItem) (b : ℕ) → IsItem codes text item x → IsNoMark item → false ≡ is_mark_above b x
 no_end codes text item x b read none = sym (no_mark codes text item x b read none).0
-
--- what the start section leaves, where it was due
-pub begins_is : {A E : Type 0} (h : Header) (items : List BodyItem) (t : ℕ) (m m' : Cut) (out out' : Device) (r : Result A E) → is_started m.from items ≡ false → m.from ≤ t → Takes out out' (start_section h m.from items) r → Counts out out' r → IfOk r (λ _. (m'.started ≡ true) × HasWritten (m.from ∷ []) [] m'.text)
-    → BeginsBy h items t m m' out out' r
-begins_is h items t m m' out out' (Ok a) none le takes counts begun = inl (record { due = none; come = le; stands = begun.0; text = begun.1; section = takes })
-begins_is h items t m m' out out' (Err e) none le takes counts begun = (none, le, (takes, counts))
-
--- and where it was not
-pub begins_none : (h : Header) (items : List BodyItem) (t : ℕ) (m : Cut) (out : Device) → (is_started m.from items ≡ true) ⊎ (t < m.from) → HasBegun h items t m m out out ⊎ HasNone items t m m out out
-begins_none h items t m out why = inr (record { why = why; same = refl; nothing = refl })
 
 -- ---- the begin of a cut
 

@@ -37,7 +37,7 @@ event_is v h place c views declared = let m = code_at (parts v).text (parts v).c
 
 module _ (v : HeadView) (h : Header) (items : List BodyItem) (before : Regs) (p : Pick) (views : Views (parts v) h) (known : AreRegsAfter items before) (is : ArePicked p h items) where
   -- the item is kept where the definitions keep it
-  pub kept_is : (text : List ℕ) (item : Item) (x : BodyItem) → IsItem h.codes text item x → is_kept p.choice v (regs_after before item) item ≡ keeps (picked_by h (names_in p)) items x
+  pub kept_is : (text : List ℕ) (item : Item) (x : BodyItem) → IsItem h.codes text item x → is_kept p.flags.now v (regs_after before item) item ≡ keeps (picked_by h (names_in p)) items x
   kept_is text (Time t) x e = rw e refl
   kept_is text (Begin s) x e = rw e refl
   kept_is text End x e = rw e refl
@@ -46,7 +46,7 @@ module _ (v : HeadView) (h : Header) (items : List BodyItem) (before : Regs) (p 
   kept_is text Finish x e = absurd e
 
   -- and then the time is that of all items before it
-  pub kept_time : (item : Item) → is_kept p.choice v (regs_after before item) item ≡ true → (regs_after before item).time ≡ time_after items
+  pub kept_time : (item : Item) → is_kept p.flags.now v (regs_after before item) item ≡ true → (regs_after before item).time ≡ time_after items
   kept_time (Time t) k = cc
   kept_time (Begin s) k = known.time_is
   kept_time End k = known.time_is
@@ -90,7 +90,7 @@ module _ (h : Header) (names : List (List ℕ)) (items : List BodyItem) (x : Bod
 
 module _ (h : Header) (items : List BodyItem) (p : Pick) (is : ArePicked p h items) (x : BodyItem) where
   -- what is kept after an item that was written
-  pub picks_on : (t : ItemText) → keeps (picked_by h (names_in p)) items x ≡ true → HasWritten [] (pick_kept h (names_in p) items ++ entry_after items x ∷ []) t → ArePicked (record { names = p.names; choice = p.choice; text = t }) h (items ++ x ∷ [])
+  pub picks_on : (t : ItemText) → keeps (picked_by h (names_in p)) items x ≡ true → HasWritten [] (pick_kept h (names_in p) items ++ entry_after items x ∷ []) t → ArePicked (record { names = p.names; flags = p.flags; text = t }) h (items ++ x ∷ [])
   picks_on t k w = record { chosen = is.chosen; written = subst (λ (es : List Entry). HasWritten [] es t) (sym (kept_one h (names_in p) items x k)) w }
 
   -- and after one that was not

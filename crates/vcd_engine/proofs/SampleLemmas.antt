@@ -1,5 +1,5 @@
 -- What a sample keeps with one item more.
-use Rattle.std.proofs.Common.{◌≡◌, ◌≢◌, ℕ, suc, ◌+◌, ◌<◌, ◌≤◌, ◌==◌, ◌⊎◌, inl, inr, Bool, true, false, not, cond, nat_le, nat_lt, List, [], ◌∷◌, ◌++◌, length, take, drop, Option, Some, None, Result, Ok, refl, sym, ap, subst, ◌∙◌, arith}
+use Rattle.std.proofs.Common.{◌≡◌, ◌≢◌, ℕ, suc, ◌+◌, ◌<◌, ◌≤◌, ◌==◌, Bool, true, false, not, cond, nat_le, nat_lt, List, [], ◌∷◌, ◌++◌, length, take, drop, Option, Some, None, Result, Ok, refl, sym, ap, subst, ◌∙◌, arith}
 use Rattle.std.specs.Prelude.{unwrap_or}
 use Rattle.std.specs.List.{AllByRecursion, position_or_len}
 use Rattle.std.specs.List.Sorted.{IsStrictlyIncreasing}
@@ -10,18 +10,15 @@ use Rattle.std.proofs.lemmas.List.{append_assoc, append-nil, take-append-drop}
 use Rattle.std.proofs.lemmas.List.Sums.{prefix_len-le-length}
 use Rattle.vcd_model.specs.Declarations.{IdCode}
 use Rattle.vcd_model.specs.Header.{Header}
-use Rattle.vcd_model.specs.History.{gives_to}
 use Rattle.vcd_model.specs.Items.{BodyItem, marks}
 use Rattle.vcd_model.specs.Outcome.{Request, close_text, ends_early, open_text}
 use Rattle.vcd_model.specs.Sample.{is_settled, sample_open, sample_close}
 use Rattle.vcd_model.proofs.SampleSteps.{AreSettled, all_settled_same, close_is, due_at_mark, ended, goes_on_other, lines_of, not_ended, open_same, rises_behind, settled_next, unsettled_from}
 use Rattle.vcd_text.specs.Device.{Device, Takes}
 use Rattle.vcd_text.proofs.Writes.{appends-none}
-use Rattle.vcd_body.specs.Items.{model_section}
 use Rattle.vcd_body.specs.declared.item.Form.{Form}
 use Rattle.vcd_body.specs.declared.item.Item.{Item}
 use Rattle.vcd_body.specs.declared.item.Item.TheVariants.{Time, Begin, End, Change, Finish}
-use Rattle.vcd_body.specs.declared.item.Section.{Section}
 use Rattle.vcd_body.specs.declared.table.Table.{Table}
 use Rattle.vcd_body.specs.Device.{TakesDue}
 use Rattle.vcd_engine.specs.Engine.{TakesOne}
@@ -76,17 +73,6 @@ all_behind P [] ys all = all
 all_behind P (x ∷ xs) ys all = all_behind P xs ys all.1
 
 -- ---- an item that is no mark
-
--- the begin or the end of a section is none, and gives no value
-pub quiet : (codes : List IdCode) (text : List ℕ) (item : Item) (x : BodyItem) → IsItem codes text item x → ((section : Section) × (item ≡ Begin section)) ⊎ ((item ≡ End) ⊎ (item ≡ Finish))
-    → (marks (x ∷ []) ≡ []) × ((c : IdCode) → gives_to c x ≡ false)
-quiet codes text item x read (inl begin) =
-    let is : x ≡ BodyItem.Begin (model_section begin.0) = subst (λ (i : Item). IsItem codes text i x) begin.1 read in
-    (ap (λ (y : BodyItem). marks (y ∷ [])) is, λ c. ap (gives_to c) is)
-quiet codes text item x read (inr (inl end)) =
-    let is : x ≡ BodyItem.End = subst (λ (i : Item). IsItem codes text i x) end read in
-    (ap (λ (y : BodyItem). marks (y ∷ [])) is, λ c. ap (gives_to c) is)
-quiet codes text item x read (inr (inr finish)) = absurd (subst (λ (i : Item). IsItem codes text i x) finish read)
 
 -- it is no time mark
 pub no_marks : (codes : List IdCode) (text : List ℕ) (item : Item) (x : BodyItem) → IsItem codes text item x → ((time : ℕ) → item ≢ Time time) → marks (x ∷ []) ≡ []

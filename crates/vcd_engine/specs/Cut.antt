@@ -10,19 +10,25 @@ use Rattle.vcd_model.specs.Items.{BodyItem, Entry, entries}
 use Rattle.vcd_model.specs.ItemText.{kept_by}
 use Rattle.vcd_model.specs.Outcome.{Request}
 use Rattle.vcd_body.specs.Contents.{bytes_in, codes_in}
-use Rattle.vcd_text.specs.Device.{Device, WritesSome}
+use Rattle.vcd_text.specs.Device.{Device, WritesSome, Takes}
 use Rattle.vcd_view.specs.declared.view.HeadView.{HeadView}
 use Rattle.vcd_body.specs.declared.item.Item.{Item}
 use Rattle.vcd_body.specs.declared.item.Item.TheVariants.{Time, Begin, End, Change, Finish}
 use Rattle.vcd_body.specs.declared.item.Regs.{Regs}
 use Rattle.vcd_engine.specs.ItemText.{HasWritten}
 use Rattle.vcd_engine.specs.Pick.{is_event_at}
-use Rattle.vcd_engine.specs.Values.{AreHeld}
+use Rattle.vcd_engine.specs.Values.{AreHeld, HasValues}
 use Rattle.vcd_engine.specs.declared.machine.cut.Cut.{Cut}
+use Rattle.vcd_view.specs.Views.{IsViewOf}
+use Rattle.vcd_body.specs.declared.table.Table.{Table}
 
 -- the lines of the values of these codes before a time
 abbrev pub values_text : List IdCode → List BodyItem → ℕ → List ℕ
 values_text cs items time = flat_map (λ c. line_if_set c (value_before items c time)) (filter (λ c. not c.event) cs)
+
+-- the start section of a time was put, of the values of a table
+abbrev pub PutsStart : {A E : Type 0} → HeadView → Table → ℕ → Device → Device → Result A E → Type 0
+PutsStart v t from out out' result = (h : Header) (items : List BodyItem) → IsViewOf v h → HasValues t h (λ c. value_before items c from) → Takes out out' (start_section h from items) result
 
 -- an item, after which the registers are these, may be kept: a section's begin or end, or a change
 -- that is no event's inside a section
@@ -44,22 +50,22 @@ span_in m = Request.Cut m.from m.to
 
 -- with a mark of this time the start section was written
 pub record HasBegun (h : Header) (items : List BodyItem) (time : ℕ) (m m' : Cut) (out out' : Device) : Type 0 where
-  pub due : is_started m.from items ≡ false
+  pub due : m.started ≡ false
   pub come : m.from ≤ time
   pub stands : m'.started ≡ true
   pub text : HasWritten (m.from ∷ []) [] m'.text
   pub section : Appends out.held out'.held (start_section h m.from items)
 
 -- or none was due
-pub record HasNone (items : List BodyItem) (time : ℕ) (m m' : Cut) (out out' : Device) : Type 0 where
-  pub why : (is_started m.from items ≡ true) ⊎ (time < m.from)
+pub record HasNone (time : ℕ) (m m' : Cut) (out out' : Device) : Type 0 where
+  pub why : (m.started ≡ true) ⊎ (time < m.from)
   pub same : m' ≡ m
   pub nothing : out' ≡ out
 
 -- the start section was written, where it was due; or a prefix of it where a write failed
 abbrev pub BeginsBy : {A E : Type 0} → Header → List BodyItem → ℕ → Cut → Cut → Device → Device → Result A E → Type 0
-BeginsBy h items time m m' out out' (Ok a) = HasBegun h items time m m' out out' ⊎ HasNone items time m m' out out'
-BeginsBy h items time m m' out out' (Err e) = (is_started m.from items ≡ false) × (m.from ≤ time) × WritesSome out out' (start_section h m.from items)
+BeginsBy h items time m m' out out' (Ok a) = HasBegun h items time m m' out out' ⊎ HasNone time m m' out out'
+BeginsBy h items time m m' out out' (Err e) = (m.started ≡ false) × (m.from ≤ time) × WritesSome out out' (start_section h m.from items)
 
 -- what it is lent
 abbrev pub lent_to : Cut → RoomSize

@@ -10,6 +10,8 @@ use Rattle.vcd_body.specs.Contents.{bytes_in, codes_in, counts_at}
 use Rattle.vcd_body.specs.declared.table.Table.{Table}
 use Rattle.vcd_engine.specs.Values.{AreHeld}
 use Rattle.vcd_engine.specs.declared.machine.edges.Edges.{Edges}
+use Rattle.vcd_body.specs.Items.{model_form}
+use Rattle.vcd_body.specs.declared.item.Form.{Form}
 
 -- ---- counters
 
@@ -23,6 +25,10 @@ pub record AreTallied (t : Table) (h : Header) (items : List BodyItem) : Type 0 
   pub held : AreHeld t h items
   pub counted : (place : ℕ) (c : IdCode) → slice_get h.codes place ≡ Some c → counts_at t place ≡ numbers (counts_for items c)
 
+-- a change of a code to this text
+abbrev pub change_to : IdCode → Form → List ℕ → BodyItem
+change_to c form text = BodyItem.Changes (record { code = c; form = model_form form; text = text })
+
 -- ---- what the machine keeps
 
 -- the names that were asked for
@@ -32,6 +38,10 @@ names_counted e = map string_bytes e.names.now
 -- what it is lent
 abbrev pub room_in_edges : Edges → RoomSize
 room_in_edges e = record { values = bytes_in e.table; slots = codes_in e.table; marks = length e.marks.now }
+
+-- it goes on with the same names and room
+abbrev pub SameEdges : Edges → Edges → Type 0
+SameEdges e e' = (names_counted e' ≡ names_counted e) × (room_in_edges e' ≡ room_in_edges e)
 
 -- over this header and after these items the selected variables are marked, and the table tells
 -- what is to be written of them

@@ -111,6 +111,10 @@ CountsStop out out' result = out'.failures ≡ out.failures + writes_failed resu
 abbrev pub Starts : {A : Type 0} → (A → Type 0) → Request → Header → Device → Device → Result A Stop → Type 0
 Starts holds task h out out' result = MatchResult result (λ a. CanRun task h × holds a × Writes out out' (open_text task h [])) (StopsAtStart task h out out')
 
+-- so it does over any header that is shown
+abbrev pub StartsOver : {A : Type 0} → HeadView → (A → Header → Type 0) → Request → Device → Device → Result A Stop → Type 0
+StartsOver v holds task out out' result = (h : Header) → IsViewOf v h → Starts (λ a. holds a h) task h out out' result
+
 -- ---- items
 
 -- the last time mark, by the registers
@@ -131,6 +135,19 @@ TakesOne holds task h items x out out' result = TakesOneBy (λ due. Takes out ou
 -- this holds of an item of any header and any items before it, after which the registers are these
 abbrev pub AtItem : HeadView → Regs → Item → List ℕ → (Header → List BodyItem → BodyItem → Type 0) → Type 0
 AtItem v r item text holds = (h : Header) (items : List BodyItem) (before : Regs) (x : BodyItem) → IsViewOf v h → AreRegsAfter items before → r ≡ regs_after before item → IsItem h.codes text item x → length items < 2 ^ 63 → holds h items x
+
+-- what is due with an item of any header, behind any items of which the first holds, was written;
+-- the second holds of all of them, where the run goes on
+abbrev pub TakesEach : {E : Type 0} → HeadView → Regs → Item → List ℕ → (holds after : Header → List BodyItem → Type 0) → Request → Device → Device → Result Bool E → Type 0
+TakesEach v r item text holds after task out out' result = AtItem v r item text (λ h items x. holds h items → TakesOne (after h (items ++ x ∷ [])) task h items x out out' result)
+
+-- the same of a mark of this time
+abbrev pub TakesTime : {E : Type 0} → HeadView → ℕ → (holds after : Header → List BodyItem → Type 0) → Request → Device → Device → Result Bool E → Type 0
+TakesTime v time holds after task out out' result = (h : Header) (items : List BodyItem) → IsViewOf v h → holds h items → TakesOne (after h (items ++ BodyItem.Time time ∷ [])) task h items (BodyItem.Time time) out out' result
+
+-- this text of any header and all items of its body was put
+abbrev pub ClosesOver : {A E : Type 0} → HeadView → (holds : Header → List BodyItem → Type 0) → (text : Header → List BodyItem → List ℕ) → Device → Device → Result A E → Type 0
+ClosesOver v holds text out out' result = (h : Header) (items : List BodyItem) → IsViewOf v h → holds h items → Takes out out' (text h items) result
 
 -- this holds of any header and all items of its body, after which the registers are these
 abbrev pub AtClose : HeadView → Regs → (Header → List BodyItem → Type 0) → Type 0

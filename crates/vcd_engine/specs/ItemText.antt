@@ -1,11 +1,15 @@
 -- The text of kept items, and the item that was read last.
-use Rattle.std.specs.Prelude.{◌≡◌, ℕ, ◌++◌, List, map, None}
+use Rattle.std.specs.Prelude.{◌≡◌, ℕ, ◌++◌, ◌∷◌, [], List, map, None, Result, IfOk}
 use Rattle.std.specs.List.{last_or}
 use Rattle.vcd_model.specs.Declarations.{IdCode}
+use Rattle.vcd_model.specs.Header.{Header}
 use Rattle.vcd_model.specs.Items.{BodyItem, Entry}
-use Rattle.vcd_model.specs.ItemText.{time_due, time_unless}
+use Rattle.vcd_model.specs.ItemText.{text_after, time_due, time_unless}
 use Rattle.vcd_text.specs.declared.device.Source.{Ghosts}
 use Rattle.vcd_text.specs.declared.feed.Feed.{Feed}
+use Rattle.vcd_view.specs.Views.{IsViewOf}
+use Rattle.vcd_view.specs.declared.view.HeadView.{HeadView}
+use Rattle.vcd_body.specs.Device.{DueBy}
 use Rattle.vcd_body.specs.Given.{IsItem}
 use Rattle.vcd_body.specs.Given.{item_text}
 use Rattle.vcd_body.specs.declared.item.Item.{Item}
@@ -23,6 +27,12 @@ pub record HasWritten (before : List ℕ) (kept : List Entry) (t : ItemText) : T
 -- a look at the time that was written last tells whether the line of this time stands
 abbrev pub LastTells : List ℕ → ℕ → Type 0
 LastTells written t = time_unless written t ≡ time_due (last_or None written) t
+
+-- an item with this text is put as one kept entry more, at this time: what is due with it is taken
+-- so
+abbrev pub PutsEntry : {A E : Type 0} → (List ℕ → Type 0) → HeadView → ℕ → Item → List ℕ → ItemText → ItemText → Result A E → Type 0
+PutsEntry takes v time item text t t' result = (h : Header) (before : List ℕ) (kept : List Entry) (e : Entry) → IsViewOf v h → IsItem h.codes text item e.item → e.time ≡ time → HasWritten before kept t → LastTells (times_with before kept) time
+    → DueBy takes (text_after before kept) (text_after before (kept ++ e ∷ [])) × IfOk result (λ _. HasWritten before (kept ++ e ∷ []) t')
 
 -- the one that the item is which was read last
 abbrev pub AsItem : {X : Type 0} {g : Ghosts X} → List IdCode → Feed X g → Item → BodyItem → Type 0

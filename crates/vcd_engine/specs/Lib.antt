@@ -18,3 +18,5 @@ pub mod Ahead
 pub mod Step
 pub mod Next
 pub mod Quiet
+pub mod Names
+pub mod Rows

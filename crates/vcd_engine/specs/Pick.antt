@@ -1,15 +1,14 @@
 -- What `pick` keeps, and which items it writes.
-use Rattle.std.specs.Prelude.{ℕ, Bool, true, false, not, ◌&&◌, List, [], map, is_some, unwrap_or, option_map, string_bytes, slice_get}
+use Rattle.std.specs.Prelude.{◌≡◌, ℕ, Bool, true, false, not, ◌&&◌, List, [], length, map, is_some, unwrap_or, option_map, string_bytes, slice_get}
 use Rattle.vcd_model.specs.Header.{Header}
 use Rattle.vcd_model.specs.Items.{BodyItem}
 use Rattle.vcd_model.specs.Pick.{pick_kept}
 use Rattle.vcd_view.specs.declared.view.Code.{Code}
 use Rattle.vcd_view.specs.declared.view.HeadView.{HeadView}
-use Rattle.vcd_engine.specs.Choice.{codes_in, is_chosen}
+use Rattle.vcd_engine.specs.Choice.{is_chosen}
 use Rattle.vcd_body.specs.declared.item.Item.{Item}
 use Rattle.vcd_body.specs.declared.item.Item.TheVariants.{Time, Begin, End, Change, Finish}
 use Rattle.vcd_body.specs.declared.item.Regs.{Regs}
-use Rattle.vcd_engine.specs.declared.choice.Choice.{Choice}
 use Rattle.vcd_engine.specs.ItemText.{HasWritten}
 use Rattle.vcd_engine.specs.Selection.{AreChosen}
 use Rattle.vcd_engine.specs.declared.machine.pick.Pick.{Pick}
@@ -20,12 +19,16 @@ names_in p = map string_bytes p.names.now
 
 -- how many flags it works with
 abbrev pub flags_in : Pick → ℕ
-flags_in p = codes_in p.choice
+flags_in p = length p.flags.now
+
+-- it goes on with the same names and flags
+abbrev pub SamePick : Pick → Pick → Type 0
+SamePick p p' = (names_in p' ≡ names_in p) × (flags_in p' ≡ flags_in p)
 
 -- over this header and after these items: the codes of the selected variables are chosen, and the
 -- text is that of the kept items
 pub record ArePicked (p : Pick) (h : Header) (items : List BodyItem) : Type 0 where
-  pub chosen : AreChosen (names_in p) h p.choice
+  pub chosen : AreChosen (names_in p) h p.flags.now
   pub written : HasWritten [] (pick_kept h (names_in p) items) p.text
 
 -- the variables of the code at a place are events
@@ -34,9 +37,9 @@ is_event_at v place = unwrap_or (option_map (λ (c : Code). c.event) (slice_get 
 
 -- an item, after which the registers are these, is kept: a section's begin or end, or a change of a
 -- chosen code that is no event inside a section
-abbrev pub is_kept : Choice → HeadView → Regs → Item → Bool
-is_kept choice v r (Time t) = false
-is_kept choice v r (Begin s) = true
-is_kept choice v r End = true
-is_kept choice v r (Change place form) = is_chosen choice place && not (is_some r.section && is_event_at v place)
-is_kept choice v r Finish = false
+abbrev pub is_kept : List ℕ → HeadView → Regs → Item → Bool
+is_kept flags v r (Time t) = false
+is_kept flags v r (Begin s) = true
+is_kept flags v r End = true
+is_kept flags v r (Change place form) = is_chosen flags place && not (is_some r.section && is_event_at v place)
+is_kept flags v r Finish = false

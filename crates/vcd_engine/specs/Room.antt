@@ -1,7 +1,9 @@
 -- Whether room is large enough for a task, and small enough for the bound.
-use Rattle.std.specs.Prelude.{◌≡◌, ℕ, ◌≤◌, length, max}
+use Rattle.std.specs.Prelude.{◌≡◌, ℕ, ◌≤◌, length, max, Result, IfOk, MatchResult}
 use Rattle.vcd_model.specs.Bound.{FitsInput, RoomSize, no_room}
 use Rattle.vcd_model.specs.Header.{Header}
+use Rattle.vcd_model.specs.Outcome.{Request}
+use Rattle.vcd_text.specs.Device.{Device}
 use Rattle.vcd_text.specs.Feed.{chunk_len_of, limit_of}
 use Rattle.vcd_text.specs.declared.device.Source.{Ghosts}
 use Rattle.vcd_text.specs.declared.feed.Feed.{Feed}
@@ -18,7 +20,8 @@ use Rattle.vcd_engine.specs.declared.task.Room.{Room}
 use Rattle.vcd_engine.specs.declared.task.Task.{Task}
 use Rattle.vcd_engine.specs.Cut.{lent_to}
 use Rattle.vcd_engine.specs.Edges.{room_in_edges}
-use Rattle.vcd_engine.specs.Engine.{request_in}
+use Rattle.vcd_engine.specs.Engine.{CountsStop, StopsUnread, request_in}
+use Rattle.vcd_body.specs.declared.answer.Stop.{Stop}
 use Rattle.vcd_engine.specs.Sample.{lent_to as lent_to_sample}
 use Rattle.vcd_engine.specs.Values.{table_bytes}
 use Rattle.vcd_engine.specs.declared.task.Task.TheVariants.{Check, Pick, Cut, Sample, Edges}
@@ -91,6 +94,13 @@ pub record IsWithin (r most : RoomSize) : Type 0 where
   pub values : r.values ≤ most.values
   pub slots : r.slots ≤ most.slots
   pub marks : r.marks ≤ most.marks
+
+-- what begins runs this request, and is lent no more room than this; or it stops unread, and a
+-- write that failed is counted
+pub record BeginsAs {A : Type 0} (asked : A → Request) (lent : A → RoomSize) (task : Request) (most : RoomSize) (out out' : Device) (result : Result A Stop) : Type 0 where
+  pub answer : MatchResult result (λ a. asked a ≡ task) StopsUnread
+  pub room : IfOk result (λ a. IsWithin (lent a) most)
+  pub failures : CountsStop out out' result
 
 -- windows of these lengths, the view and room of this size count at most the bound of the header
 -- that is shown, with 512 bytes to spare

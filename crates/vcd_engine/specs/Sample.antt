@@ -24,6 +24,10 @@ asked_in s = Request.Sample s.times.now (names_in s)
 abbrev pub lent_to : Sample → RoomSize
 lent_to s = record { values = bytes_in s.table; slots = codes_in s.table; marks = length s.marks.now }
 
+-- it goes on with the same request and room
+abbrev pub SameSample : Sample → Sample → Type 0
+SameSample s s' = (asked_in s' ≡ asked_in s) × (lent_to s' ≡ lent_to s)
+
 -- over this header and after these items: the table holds the values, the marks lead from one row
 -- with a line to the next, and the last of the times, one at least, are those that are not settled
 pub record AreSampled (s : Sample) (h : Header) (items : List BodyItem) : Type 0 where

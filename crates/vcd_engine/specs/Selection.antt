@@ -5,16 +5,15 @@ use Rattle.vcd_model.specs.Header.{Header}
 use Rattle.vcd_model.specs.Selection.{first_unmatched, selected, selects_code}
 use Rattle.vcd_head.specs.Marks.{marks_of}
 use Rattle.vcd_engine.specs.Choice.{is_chosen}
-use Rattle.vcd_engine.specs.declared.choice.Choice.{Choice}
 use Rattle.vcd_body.specs.declared.answer.Stop.{Stop}
 use Rattle.vcd_body.specs.declared.answer.Stop.TheVariants.{Unmatched}
 
 -- of the codes those of the variables that these names select are chosen, and no others
-abbrev pub AreChosen : List (List ℕ) → Header → Choice → Type 0
+abbrev pub AreChosen : List (List ℕ) → Header → List ℕ → Type 0
 AreChosen names h t = (place : ℕ) (c : IdCode) → slice_get h.codes place ≡ Some c → is_chosen t place ≡ selects_code (selected names h.declarations) c
 
 -- each name selects something, and the selected variables are marked, and their codes chosen
-pub record AreSelected (names : List (List ℕ)) (h : Header) (marks : List ℕ) (t : Choice) : Type 0 where
+pub record AreSelected (names : List (List ℕ)) (h : Header) (marks : List ℕ) (t : List ℕ) : Type 0 where
   pub matched : first_unmatched names h.declarations ≡ None
   pub marks_are : marks ≡ marks_of names h.declarations
   pub chosen : AreChosen names h t

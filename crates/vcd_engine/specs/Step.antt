@@ -1,5 +1,5 @@
 -- What a step of an engine leaves.
-use Rattle.std.specs.Prelude.{◌≡◌, List, ◌++◌, Result, ◌==◌, ◌⊎◌, true, false, [], ◌∷◌, Ok, Err, IfOk}
+use Rattle.std.specs.Prelude.{◌≡◌, ℕ, ◌<◌, ◌-◌, ◌^◌, List, ◌++◌, Result, ◌==◌, ◌⊎◌, true, false, [], ◌∷◌, Ok, Err, IfOk}
 use Rattle.vcd_model.specs.Items.{BodyItem}
 use Rattle.vcd_model.specs.Input.{Input}
 use Rattle.vcd_model.specs.Tokens.{Token}
@@ -8,9 +8,10 @@ use Rattle.vcd_model.specs.Outcome.{Request, ends_early, open_text, close_text}
 use Rattle.vcd_text.specs.declared.device.Source.{Ghosts}
 use Rattle.vcd_text.specs.declared.feed.Feed.{Feed}
 use Rattle.vcd_text.specs.Answer.{failed_after}
-use Rattle.vcd_text.specs.Feed.{GaveOnlySeen, seen, token_of}
-use Rattle.vcd_text.specs.Advances.{CallEnd}
+use Rattle.vcd_text.specs.Feed.{GaveOnlySeen, seen, source_of, token_of}
+use Rattle.vcd_text.specs.Advances.{Advances, CallEnd}
 use Rattle.vcd_body.specs.Ahead.{GaveLast}
+use Rattle.vcd_body.specs.Answer.{goes_on}
 use Rattle.vcd_body.specs.Reads.{FailsOver, GaveAll, GaveItem}
 use Rattle.vcd_body.specs.declared.answer.Stop.{Stop}
 use Rattle.vcd_body.specs.declared.answer.Stop.TheVariants.{Dump, Read, Write, Unmatched}
@@ -20,7 +21,8 @@ use Rattle.vcd_body.specs.declared.answer.Done.TheVariants.{Whole, Early}
 use Rattle.vcd_body.specs.declared.answer.More.{More}
 use Rattle.vcd_body.specs.declared.answer.More.TheVariants.{Again, Ended}
 use Rattle.vcd_engine.specs.declared.engine.Engine.{Engine}
-use Rattle.vcd_engine.specs.Engine.{Runs, may_end_early, request_of_engine}
+use Rattle.vcd_engine.specs.Engine.{CountsStop, Runs, is_going, may_end_early, request_of_engine}
+use Rattle.vcd_engine.specs.Room.{FitsBound, SameHold, room_in, view_in}
 use Rattle.vcd_engine.specs.Several.{TakesSeveral}
 
 -- what a step after these items returns, by the engine, the feed and the output that it leaves
@@ -83,3 +85,25 @@ abbrev pub step_end : Result More Stop → CallEnd
 step_end (Ok Again) = CallEnd.GoesOn
 step_end (Err (Read input)) = CallEnd.Fails
 step_end result = CallEnd.Ends
+
+-- ---- a step over any input
+
+-- a step may be taken: no step has ended the run, devices can count one failure more, and what is
+-- lent is within the bound
+pub record MayStep {X : Type 0} {g : Ghosts X} (failures : X → ℕ) (e : Engine) (f : Feed X g) (out : Device) : Type 0 where
+  pub feed_failures : failures (source_of f) < 2 ^ 64 - 1
+  pub out_failures : out.failures < 2 ^ 64 - 1
+  pub going : is_going e ≡ true
+  pub bound : FitsBound f (view_in e) (room_in e)
+
+-- what a step leaves beside items and output: the feed has gone on, a write that failed is counted,
+-- and the engine has the same task, view and room, and goes on where the answer is `Again` alone
+pub record StepsOver {X : Type 0} {g : Ghosts X} (failures : X → ℕ) (e e' : Engine) (f f' : Feed X g) (out out' : Device) (result : Result More Stop) : Type 0 where
+  pub advances : Advances failures f f' (step_end result)
+  pub progress : result ≡ Ok Again → seen f < seen f'
+  pub bounded : seen f' < 2 ^ 63
+  pub writes : CountsStop out out' result
+  pub going : is_going e' ≡ goes_on result
+  pub request : request_of_engine e' ≡ request_of_engine e
+  pub holds : SameHold e e'
+  pub answer : MayEnd (request_of_engine e) result

@@ -1,13 +1,9 @@
 //! The commands over items: each is its task.
-ghost use Rattle.std.specs.Prelude.{◌≡◌, ◌≢◌, ◌-◌, ◌^◌, ◌<◌, ◌≤◌, [], IfOk, map, string_bytes};
+ghost use Rattle.std.specs.Prelude.{◌≡◌, ◌≢◌, ◌≤◌, [], IfOk, map, string_bytes};
 ghost use Rattle.std.specs.List.Sorted.{IsStrictlyIncreasing};
-ghost use Rattle.vcd_model.specs.Outcome.{Request};
-ghost use Rattle.vcd_text.specs.Feed.{source_of};
-ghost use Rattle.vcd_text.specs.Advances.{HasNotFailed};
-ghost use Rattle.vcd_model.specs.Bound.{no_room};
-ghost use Rattle.vcd_engine.specs.Room.{HasRoomFor, room_size, FitsBound};
+ghost use Rattle.vcd_engine.specs.Names.{HasRoomFor, no_room, Request, room_size};
 ghost use Rattle.vcd_body.specs.declared.answer.Done.TheVariants.{Whole};
-ghost use Rattle.vcd_engine.specs.Run.{CountsBoth, Does, SameWindows};
+ghost use Rattle.vcd_engine.specs.Run.{MayRun, RunsTask};
 
 use crate::engine::run_task;
 use crate::task::{Room, Task};
@@ -21,16 +17,10 @@ pub fn check<S: Source, W: Sink>(
     feed: &mut Feed<'_, '_, '_, '_, S>,
     out: &mut W,
 ) -> Result<Done, Stop>
-    requires feed_failures { S.failures (source_of feed.old) < 2 ^ 64 - 1 }
-    requires out_failures { (W.device out.old).failures < 2 ^ 64 - 1 }
-    requires open { HasNotFailed feed.old }
-    requires bound { FitsBound feed.old view no_room }
-    ensures gives { Does Request.Check view.entry feed.old feed.new
-        (W.device out.old) (W.device out.new) result }
-    ensures devices { CountsBoth S.failures feed.old feed.new
-        (W.device out.old) (W.device out.new) result }
+    requires run { MayRun S.failures feed.old view no_room (W.device out.old) }
+    ensures runs { RunsTask S.failures Request.Check view.entry
+        feed.old feed.new (W.device out.old) (W.device out.new) result }
     ensures answer { IfOk result (λ done. done ≡ Whole) }
-    ensures windows { SameWindows feed.old feed.new }
 {
     let mut room = Room {
         values: &mut [],
@@ -52,17 +42,11 @@ pub fn pick<S: Source, W: Sink>(
     names: &[String],
     out: &mut W,
 ) -> Result<Done, Stop>
-    requires feed_failures { S.failures (source_of feed.old) < 2 ^ 64 - 1 }
-    requires out_failures { (W.device out.old).failures < 2 ^ 64 - 1 }
-    requires open { HasNotFailed feed.old }
+    requires run { MayRun S.failures feed.old view (room_size room.old) (W.device out.old) }
     requires room { HasRoomFor (Task.Pick names) view room.old }
-    requires bound { FitsBound feed.old view (room_size room.old) }
-    ensures gives { Does (Request.Pick (map string_bytes names.now)) view.entry feed.old feed.new
-        (W.device out.old) (W.device out.new) result }
-    ensures devices { CountsBoth S.failures feed.old feed.new
-        (W.device out.old) (W.device out.new) result }
+    ensures runs { RunsTask S.failures (Request.Pick (map string_bytes names.now)) view.entry
+        feed.old feed.new (W.device out.old) (W.device out.new) result }
     ensures answer { IfOk result (λ done. done ≡ Whole) }
-    ensures windows { SameWindows feed.old feed.new }
 {
     run_task(Task::Pick(names), view, feed, room, out)
 }
@@ -77,17 +61,11 @@ pub fn edges<S: Source, W: Sink>(
     names: &[String],
     out: &mut W,
 ) -> Result<Done, Stop>
-    requires feed_failures { S.failures (source_of feed.old) < 2 ^ 64 - 1 }
-    requires out_failures { (W.device out.old).failures < 2 ^ 64 - 1 }
-    requires open { HasNotFailed feed.old }
+    requires run { MayRun S.failures feed.old view (room_size room.old) (W.device out.old) }
     requires room { HasRoomFor (Task.Edges names) view room.old }
-    requires bound { FitsBound feed.old view (room_size room.old) }
-    ensures gives { Does (Request.Edges (map string_bytes names.now)) view.entry feed.old feed.new
-        (W.device out.old) (W.device out.new) result }
-    ensures devices { CountsBoth S.failures feed.old feed.new
-        (W.device out.old) (W.device out.new) result }
+    ensures runs { RunsTask S.failures (Request.Edges (map string_bytes names.now)) view.entry
+        feed.old feed.new (W.device out.old) (W.device out.new) result }
     ensures answer { IfOk result (λ done. done ≡ Whole) }
-    ensures windows { SameWindows feed.old feed.new }
 {
     run_task(Task::Edges(names), view, feed, room, out)
 }
@@ -103,17 +81,11 @@ pub fn cut<S: Source, W: Sink>(
     to: u64,
     out: &mut W,
 ) -> Result<Done, Stop>
-    requires feed_failures { S.failures (source_of feed.old) < 2 ^ 64 - 1 }
-    requires out_failures { (W.device out.old).failures < 2 ^ 64 - 1 }
-    requires open { HasNotFailed feed.old }
+    requires run { MayRun S.failures feed.old view (room_size room.old) (W.device out.old) }
     requires order { from ≤ to }
     requires room { HasRoomFor (Task.Cut from to) view room.old }
-    requires bound { FitsBound feed.old view (room_size room.old) }
-    ensures gives { Does (Request.Cut from to) view.entry feed.old feed.new
-        (W.device out.old) (W.device out.new) result }
-    ensures devices { CountsBoth S.failures feed.old feed.new
-        (W.device out.old) (W.device out.new) result }
-    ensures windows { SameWindows feed.old feed.new }
+    ensures runs { RunsTask S.failures (Request.Cut from to) view.entry
+        feed.old feed.new (W.device out.old) (W.device out.new) result }
 {
     run_task(Task::Cut { from, to }, view, feed, room, out)
 }
@@ -130,18 +102,12 @@ pub fn sample<S: Source, W: Sink>(
     names: &[String],
     out: &mut W,
 ) -> Result<Done, Stop>
-    requires feed_failures { S.failures (source_of feed.old) < 2 ^ 64 - 1 }
-    requires out_failures { (W.device out.old).failures < 2 ^ 64 - 1 }
-    requires open { HasNotFailed feed.old }
+    requires run { MayRun S.failures feed.old view (room_size room.old) (W.device out.old) }
     requires some { times.now ≢ [] }
     requires rising { IsStrictlyIncreasing times.now }
     requires room { HasRoomFor (Task.Sample times names) view room.old }
-    requires bound { FitsBound feed.old view (room_size room.old) }
-    ensures gives { Does (Request.Sample times.now (map string_bytes names.now)) view.entry
+    ensures runs { RunsTask S.failures (Request.Sample times.now (map string_bytes names.now)) view.entry
         feed.old feed.new (W.device out.old) (W.device out.new) result }
-    ensures devices { CountsBoth S.failures feed.old feed.new
-        (W.device out.old) (W.device out.new) result }
-    ensures windows { SameWindows feed.old feed.new }
 {
     run_task(Task::Sample { times, names }, view, feed, room, out)
 }

@@ -1,25 +1,11 @@
 //! A run over the items of a body, one item a step. It names no command.
-ghost use Rattle.std.specs.Prelude.{◌≡◌, ◌≢◌, ℕ, ◌-◌, ◌^◌, ◌<◌, [], List, true, false, IfOk, MatchBool, Ok, MatchResult};
-ghost use Rattle.vcd_model.specs.Header.{Header};
-ghost use Rattle.vcd_model.specs.Input.{Input};
-ghost use Rattle.vcd_model.specs.Items.{BodyItem};
-ghost use Rattle.vcd_model.specs.Laws.{IsValid};
-ghost use Rattle.vcd_model.specs.Outcome.{close_text, open_text};
-ghost use Rattle.vcd_model.specs.Tokens.{Token};
-ghost use Rattle.vcd_text.specs.Feed.{HasGiven, source_of, seen, chunk_len_of, limit_of, supply_of};
-ghost use Rattle.vcd_view.specs.Shown.{parts};
-ghost use Rattle.vcd_view.specs.Views.{IsViewOf};
-ghost use Rattle.vcd_text.specs.Advances.{Advances, CallEnd, HasNotFailed};
-ghost use Rattle.vcd_body.specs.Given.{item_text};
+ghost use Rattle.std.specs.Prelude.{◌≡◌, ◌≢◌, ◌-◌, ◌^◌, ◌<◌, [], List, true, false, MatchBool, Ok, MatchResult};
+ghost use Rattle.vcd_engine.specs.Names.{Advances, BeginsAs, BodyItem, CallEnd, CanRun, close_text, Counts, HasBegun, HasRoomFor, Header, Holds, is_going, IsValid, IsViewOf, IsWithinEachBound, item_text, parts, request_of, request_of_begun, request_of_engine, room_in, room_of_begun, room_size, SameHold, seen, StartsOver, Takes, view_in};
 ghost use Rattle.vcd_body.specs.declared.item.Item.TheVariants.{Finish};
-ghost use Rattle.vcd_body.specs.Answer.{goes_on};
-ghost use Rattle.vcd_text.specs.Device.{Counts, Device, Takes, Writes, failures_after};
-ghost use Rattle.vcd_engine.specs.Engine.{CanRun, HasBegun, Holds, Starts, StopsUnread, is_going, may_end_early, request_of, request_of_begun, request_of_engine, CountsStop};
-ghost use Rattle.vcd_engine.specs.Room.{HasRoomFor, IsWithin, IsWithinEachBound, room_in, room_of_begun, room_size, view_in, FitsBound, SameHold};
-ghost use Rattle.vcd_engine.specs.Step.{step_end, MayEnd, Steps, StepsAhead, StepsOn};
+ghost use Rattle.vcd_engine.specs.Step.{MayStep, Steps, StepsAhead, StepsOn, StepsOver};
 ghost use Rattle.vcd_body.specs.declared.answer.Done.TheVariants.{Early};
 ghost use Rattle.vcd_body.specs.declared.answer.More.TheVariants.{Again};
-ghost use Rattle.vcd_engine.specs.Run.{CountsBoth, Does, Follows, SameWindows};
+ghost use Rattle.vcd_engine.specs.Run.{CountsBoth, MayRun, RunsTask, SameWindows, Finishes, EndsAsAsked};
 
 use crate::gathered::Gathered;
 use crate::machine::Machine;
@@ -80,13 +66,10 @@ impl<'n, 'r> Begun<'n, 'r> {
         requires valid { IsValid (request_of task) }
         requires room { HasRoomFor task view room }
         requires bound { IsWithinEachBound view (room_size room) }
-        ensures starts { (h : Header) → IsViewOf view.entry h
-            → Starts (λ b. HasBegun b h) (request_of task.entry) h
+        ensures starts { StartsOver view.entry HasBegun (request_of task.entry)
             (W.device out.old) (W.device out.new) result }
-        ensures answer { MatchResult result
-            (λ b. request_of_begun b ≡ request_of task.entry) StopsUnread }
-        ensures room { IfOk result (λ b. IsWithin (room_of_begun b) (room_size room.entry)) }
-        ensures failures { CountsStop (W.device out.old) (W.device out.new) result }
+        ensures begins { BeginsAs request_of_begun room_of_begun (request_of task.entry)
+            (room_size room.entry) (W.device out.old) (W.device out.new) result }
     {
         let machine = Machine::start(task, view, room, out)?;
         Ok(Begun { machine })
@@ -128,21 +111,12 @@ impl<'v, 'n, 'r> Engine<'v, 'n, 'r> {
         feed: &mut Feed<'_, '_, '_, '_, S>,
         out: &mut W,
     ) -> Result<More, Stop>
-        requires feed_failures { S.failures (source_of feed.old) < 2 ^ 64 - 1 }
-        requires out_failures { (W.device out.old).failures < 2 ^ 64 - 1 }
-        requires going { is_going self.old ≡ true }
-        requires bound { FitsBound feed.old (view_in self.old) (room_in self.old) }
+        requires step { MayStep S.failures self.old feed.old (W.device out.old) }
         requires view { parts view ≡ parts self.old.view }
         ensures gives { Steps self.old self.new feed.old feed.new
             (W.device out.old) (W.device out.new) result }
-        ensures advances { Advances S.failures feed.old feed.new (step_end result) }
-        ensures progress { result ≡ Ok Again → seen feed.old < seen feed.new }
-        ensures bounded { seen feed.new < 2 ^ 63 }
-        ensures writes { CountsStop (W.device out.old) (W.device out.new) result }
-        ensures going { is_going self.new ≡ goes_on result }
-        ensures request { request_of_engine self.new ≡ request_of_engine self.old }
-        ensures holds { SameHold self.old self.new }
-        ensures answer { MayEnd (request_of_engine self.old) result }
+        ensures over { StepsOver S.failures self.old self.new feed.old feed.new
+            (W.device out.old) (W.device out.new) result }
     {
         let item = match next_item(feed, view, &mut self.regs) {
             Ok(item) => item,
@@ -218,21 +192,12 @@ impl<'v, 'n, 'r> Engine<'v, 'n, 'r> {
         gathered: &mut Gathered,
         out: &mut W,
     ) -> Result<More, Stop>
-        requires feed_failures { S.failures (source_of feed.old) < 2 ^ 64 - 1 }
-        requires out_failures { (W.device out.old).failures < 2 ^ 64 - 1 }
-        requires going { is_going self.old ≡ true }
-        requires bound { FitsBound feed.old (view_in self.old) (room_in self.old) }
+        requires step { MayStep S.failures self.old feed.old (W.device out.old) }
         requires view { parts view ≡ parts self.old.view }
         ensures gives { StepsOn self.old self.new feed.old feed.new
             (W.device out.old) (W.device out.new) result }
-        ensures advances { Advances S.failures feed.old feed.new (step_end result) }
-        ensures progress { result ≡ Ok Again → seen feed.old < seen feed.new }
-        ensures bounded { seen feed.new < 2 ^ 63 }
-        ensures writes { CountsStop (W.device out.old) (W.device out.new) result }
-        ensures going { is_going self.new ≡ goes_on result }
-        ensures request { request_of_engine self.new ≡ request_of_engine self.old }
-        ensures holds { SameHold self.old self.new }
-        ensures answer { MayEnd (request_of_engine self.old) result }
+        ensures over { StepsOver S.failures self.old self.new feed.old feed.new
+            (W.device out.old) (W.device out.new) result }
     {
         self.take_ahead(view, feed, gathered, out)?;
         self.step_over(view, feed, out)
@@ -257,24 +222,15 @@ impl<'v, 'n, 'r> Engine<'v, 'n, 'r> {
         feed: &mut Feed<'_, '_, '_, '_, S>,
         out: &mut W,
     ) -> Result<Done, Stop>
-        requires feed_failures { S.failures (source_of feed.old) < 2 ^ 64 - 1 }
-        requires out_failures { (W.device out.old).failures < 2 ^ 64 - 1 }
-        requires open { HasNotFailed feed.old }
+        requires run { MayRun S.failures feed.old (view_in self.old) (room_in self.old)
+            (W.device out.old) }
         requires going { is_going self.old ≡ true }
-        requires bound { FitsBound feed.old (view_in self.old) (room_in self.old) }
 
-        // Where the engine was begun over an output that has what stands before all items, it is
-        // the run of its task.
-        ensures gives { (h : Header) (i : Input) (front : List Token) (name : List ℕ)
-            (begin : Device) → Holds self.old h [] → HasGiven i front feed.old
-            → Writes begin (W.device out.old) (open_text (request_of_engine self.old) h [])
-            → Follows (request_of_engine self.old) (limit_of feed.old) (chunk_len_of feed.old)
-            i front h name (supply_of feed.old) (supply_of feed.new)
-            begin (W.device out.new) result }
+        ensures gives { Finishes self.old feed.old feed.new
+            (W.device out.old) (W.device out.new) result }
         ensures devices { CountsBoth S.failures feed.old feed.new
             (W.device out.old) (W.device out.new) result }
-        ensures answer { IfOk result
-            (λ done. done ≡ Early → may_end_early (request_of_engine self.old) ≡ true) }
+        ensures answer { EndsAsAsked (request_of_engine self.old) result }
         ensures windows { SameWindows feed.old feed.new }
     {
         let view = self.view;
@@ -296,20 +252,11 @@ pub fn step<S: Source, W: Sink>(
     feed: &mut Feed<'_, '_, '_, '_, S>,
     out: &mut W,
 ) -> Result<More, Stop>
-    requires feed_failures { S.failures (source_of feed.old) < 2 ^ 64 - 1 }
-    requires out_failures { (W.device out.old).failures < 2 ^ 64 - 1 }
-    requires going { is_going engine.old ≡ true }
-    requires bound { FitsBound feed.old (view_in engine.old) (room_in engine.old) }
+    requires step { MayStep S.failures engine.old feed.old (W.device out.old) }
     ensures gives { Steps engine.old engine.new feed.old feed.new
         (W.device out.old) (W.device out.new) result }
-    ensures advances { Advances S.failures feed.old feed.new (step_end result) }
-    ensures progress { result ≡ Ok Again → seen feed.old < seen feed.new }
-    ensures bounded { seen feed.new < 2 ^ 63 }
-    ensures writes { CountsStop (W.device out.old) (W.device out.new) result }
-    ensures going { is_going engine.new ≡ goes_on result }
-    ensures holds { SameHold engine.old engine.new }
-    ensures request { request_of_engine engine.new ≡ request_of_engine engine.old }
-    ensures answer { MayEnd (request_of_engine engine.old) result }
+    ensures over { StepsOver S.failures engine.old engine.new feed.old feed.new
+        (W.device out.old) (W.device out.new) result }
 {
     engine.step_over(engine.view, feed, out)
 }
@@ -323,19 +270,12 @@ pub fn run_task<S: Source, W: Sink>(
     room: &mut Room<'_>,
     out: &mut W,
 ) -> Result<Done, Stop>
-    requires feed_failures { S.failures (source_of feed.old) < 2 ^ 64 - 1 }
-    requires out_failures { (W.device out.old).failures < 2 ^ 64 - 1 }
-    requires open { HasNotFailed feed.old }
+    requires run { MayRun S.failures feed.old view (room_size room.old) (W.device out.old) }
     requires valid { IsValid (request_of task) }
     requires room { HasRoomFor task view room.old }
-    requires bound { FitsBound feed.old view (room_size room.old) }
-    ensures gives { Does (request_of task.entry) view.entry feed.old feed.new
+    ensures runs { RunsTask S.failures (request_of task.entry) view.entry feed.old feed.new
         (W.device out.old) (W.device out.new) result }
-    ensures devices { CountsBoth S.failures feed.old feed.new
-        (W.device out.old) (W.device out.new) result }
-    ensures answer { IfOk result
-        (λ done. done ≡ Early → may_end_early (request_of task.entry) ≡ true) }
-    ensures windows { SameWindows feed.old feed.new }
+    ensures answer { EndsAsAsked (request_of task.entry) result }
 {
     let room = Room {
         values: &mut *room.values,

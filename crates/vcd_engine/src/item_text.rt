@@ -1,23 +1,12 @@
 //! The text of kept items: each as its line, after the line of its time where that does not stand
 //! yet.
-ghost use Rattle.std.specs.Prelude.{◌≡◌, ℕ, ◌+◌, ◌-◌, ◌^◌, ◌<◌, ◌≤◌, ◌∷◌, ◌++◌, [], List, length, Some, IfOk};
-ghost use Rattle.vcd_model.specs.Bytes.{as_line};
-ghost use Rattle.vcd_model.specs.BodyPhrases.{section_keyword};
-ghost use Rattle.vcd_model.specs.Header.{Header};
-ghost use Rattle.vcd_model.specs.Items.{BodyItem, Entry};
-ghost use Rattle.vcd_model.specs.ItemText.{closing, item_line, text_after, time_due};
-ghost use Rattle.vcd_model.specs.Keywords.{keyword_text};
-ghost use Rattle.vcd_text.specs.Device.{Counts, Takes, failures_after};
-ghost use Rattle.vcd_view.specs.Views.{IsViewOf};
-ghost use Rattle.vcd_body.specs.Given.{HasGoodText, IsItem};
-ghost use Rattle.vcd_body.specs.Items.{model_section};
-ghost use Rattle.vcd_body.specs.Device.{DueBy, TakesDue};
-ghost use Rattle.vcd_body.specs.Spelled.{bytes_without};
-ghost use Rattle.vcd_engine.specs.ItemText.{HasWritten, LastTells, times_with};
+ghost use Rattle.std.specs.Prelude.{◌≡◌, ℕ, ◌-◌, ◌^◌, ◌<◌, ◌≤◌, ◌∷◌, [], List, length, Some, IfOk};
+ghost use Rattle.vcd_engine.specs.Names.{as_line, BodyItem, closing, Counts, Entry, HasGoodText, Header, IsItem, IsViewOf, item_line, keyword_text, model_section, section_keyword, Takes, time_due};
+ghost use Rattle.vcd_engine.specs.ItemText.{HasWritten, LastTells, PutsEntry, times_with};
 ghost use Rattle.vcd_engine.specs.Pieces.{IsLine, IsPart, IsInPlace, PutsBehind, PutsOn, held_in};
 
 use crate::pieces::{InPlace, Pieces};
-use vcd_body::{Form, Id, Item, Section, put_change, put_time_unless};
+use vcd_body::{Form, Id, Item, Section, left_out, put_change, put_time_unless};
 use vcd_text::{Sink, WriteFailed, put};
 use vcd_view::HeadView;
 
@@ -39,29 +28,6 @@ fn begin_line(section: Section) -> &'static [u8]
     }
 }
 
-/// Writes a change with this text as its line.
-#[inline(always)]
-fn put_change_line<W: Sink>(
-    view: HeadView<'_>,
-    code: usize,
-    form: Form,
-    text: &[u8],
-    out: &mut W,
-) -> Result<(), WriteFailed>
-    requires failures { (W.device out.old).failures < 2 ^ 64 - 1 }
-    requires sound { HasGoodText view.codes.now text.now (Item.Change code form) }
-    ensures takes { (h : Header) (x : BodyItem) → IsViewOf view.entry h
-        → IsItem h.codes text.now (Item.Change code form) x
-        → Takes (W.device out.old) (W.device out.new) (item_line x) result }
-    ensures counts { Counts (W.device out.old) (W.device out.new) result }
-{
-    let Some(code) = view.code_at(code) else {
-        return Ok(());
-    };
-    let id = view.text_at(code.start, code.len as usize);
-    put_change(code.size, code.event, form, text, Id::Own(id), out)
-}
-
 /// Writes an item with its text as its line; a time mark has none of its own.
 #[inline(always)]
 fn put_item<W: Sink>(
@@ -81,7 +47,13 @@ fn put_item<W: Sink>(
         Item::Time(_) | Item::Finish => Ok(()),
         Item::Begin(section) => put(out, begin_line(section)),
         Item::End => put(out, b"$end\n"),
-        Item::Change { code, form } => put_change_line(view, code, form, text, out),
+        Item::Change { code, form } => {
+            let Some(code) = view.code_at(code) else {
+                return Ok(());
+            };
+            let id = view.text_at(code.start, code.len as usize);
+            put_change(code.size, code.event, form, text, Id::Own(id), out)
+        }
     }
 }
 
@@ -114,12 +86,8 @@ impl ItemText {
     ) -> Result<(), WriteFailed>
         requires failures { (W.device out.old).failures < 2 ^ 64 - 1 }
         requires sound { HasGoodText view.codes.now text.now item }
-        ensures text { (h : Header) (before : List ℕ) (kept : List Entry) (e : Entry)
-            → IsViewOf view.entry h → IsItem h.codes text.now item e.item → e.time ≡ time
-            → HasWritten before kept self.old → LastTells (times_with before kept) time
-            → TakesDue (W.device out.old) (W.device out.new) (text_after before kept)
-            (text_after before (kept ++ e ∷ [])) result
-            × IfOk result (λ _. HasWritten before (kept ++ e ∷ []) self.new) }
+        ensures text { PutsEntry (λ due. Takes (W.device out.old) (W.device out.new) due result)
+            view.entry time item text.now self.old self.new result }
         ensures counts { Counts (W.device out.old) (W.device out.new) result }
     {
         put_time_unless(self.written, time, out)?;
@@ -142,24 +110,27 @@ impl ItemText {
         requires place { IsInPlace view change }
         requires line { IsLine change.bytes.now change.line change.from time }
         requires part { IsPart change.bytes.now pieces.old }
-        ensures text { (h : Header) (before : List ℕ) (kept : List Entry) (e : Entry)
-            → IsViewOf view.entry h
-            → IsItem h.codes change.entry.plain.text.now change.entry.plain.item e.item
-            → e.time ≡ time → HasWritten before kept self.old
-            → LastTells (times_with before kept) time
-            → DueBy (λ due. PutsOn (held_in change.entry.bytes.now pieces.old)
+        ensures text { PutsEntry (λ due. PutsOn (held_in change.entry.bytes.now pieces.old)
             (held_in change.entry.bytes.now pieces.new)
-            (W.device out.old) (W.device out.new) due result)
-            (text_after before kept) (text_after before (kept ++ e ∷ []))
-            × IfOk result (λ _. HasWritten before (kept ++ e ∷ []) self.new) }
+            (W.device out.old) (W.device out.new) due result) view.entry time
+            change.entry.plain.item change.entry.plain.text.now self.old self.new result }
         ensures counts { Counts (W.device out.old) (W.device out.new) result }
         ensures part { IfOk result (λ _. IsPart change.entry.bytes.now pieces.new) }
     {
-        let Some(n) = change.left_out() else {
+        let Some(n) = left_out(change.plain, change.bytes, change.from, change.to) else {
             pieces.flush(change.bytes, out)?;
             return self.put(view, time, change.plain.item, change.plain.text, out);
         };
-        self.put_line(time, change, n, pieces, out)
+        self.put_time_behind(time, change, pieces, out)?;
+        // A vector alone may leave digits out.
+        if let Item::Change {
+            form: Form::Vector,
+            ..
+        } = change.plain.item
+        {
+            return pieces.append_without(change.bytes, change.from, change.to, n, out);
+        }
+        pieces.append_parts(change.bytes, change.from, change.to, n, out)
     }
 
     /// Writes the line of the time of an item that lies ahead, unless it was written last, behind
@@ -185,39 +156,6 @@ impl ItemText {
         }
         self.written = Some(time);
         pieces.append_time(time, change, out)
-    }
-
-    /// Writes the line of a time, unless it was written last, and then the bytes of an item that
-    /// lies ahead without so many behind the first one, behind what is held.
-    #[inline(always)]
-    fn put_line<W: Sink>(
-        &mut self,
-        time: u64,
-        change: InPlace<'_>,
-        n: usize,
-        pieces: &mut Pieces<'_>,
-        out: &mut W,
-    ) -> Result<(), WriteFailed>
-        requires failures { (W.device out.old).failures < 2 ^ 64 - 1 }
-        requires within { (change.from + 1 + n ≤ change.to)
-            × (change.to ≤ length change.bytes.now) }
-        requires line { IsLine change.bytes.now change.line change.from time }
-        requires part { IsPart change.bytes.now pieces.old }
-        ensures puts { PutsBehind change.entry.bytes.now pieces.old pieces.new
-            (W.device out.old) (W.device out.new) (time_due self.old.written time
-            ++ bytes_without change.entry.bytes.now change.entry.from change.entry.to n) result }
-        ensures written { IfOk result (λ _. self.new.written ≡ Some time) }
-    {
-        self.put_time_behind(time, change, pieces, out)?;
-        // A vector alone may leave digits out.
-        if let Item::Change {
-            form: Form::Vector,
-            ..
-        } = change.plain.item
-        {
-            return pieces.append_without(change.bytes, change.from, change.to, n, out);
-        }
-        pieces.append_parts(change.bytes, change.from, change.to, n, out)
     }
 
     /// Writes what closes the text where this is the last time mark: its line, where it does not

@@ -1,9 +1,7 @@
 //! Marks that lead from one row with a line in a sample to the next, so that a time costs no look
 //! at each row.
 ghost use Rattle.std.specs.Prelude.{◌≡◌, ◌≢◌, ◌<◌, ◌≤◌, ℕ, List, length, get_or, MatchBool};
-ghost use Rattle.vcd_model.specs.Header.{Header};
-ghost use Rattle.vcd_head.specs.Marks.{marks_of};
-ghost use Rattle.vcd_view.specs.Views.{IsViewOf};
+ghost use Rattle.vcd_engine.specs.Names.{Header, IsViewOf, marks_of};
 ghost use Rattle.vcd_engine.specs.Leads.{HaveNoLine, IsSelectedAt, LeadOn, rows_on};
 
 use vcd_view::{HeadView, Kind};

@@ -36,8 +36,9 @@
 //! - `sample_lines`: the lines of a sample; `leads`: the marks that lead from one row with a line
 //!   to the next
 //!
-//! In `specs/` callers read `Run` (`Follows`), `Engine`, `Step` and `Room`. How a run ends, `Done`,
-//! `More` and `Stop`, is of `vcd_body`.
+//! In `specs/` callers read `Run` (`MayRun`, `RunsTask`, `Follows`), `Engine`, `Step` (`MayStep`,
+//! `Steps`, `StepsOver`) and `Room` (`BeginsAs`). How a run ends, `Done`, `More` and `Stop`, is of
+//! `vcd_body`. `Names` brings what the clauses cite under one path.
 //!
 //! # Limits
 //!

@@ -1,15 +1,7 @@
 //! What each task keeps between items, and what it does with an item.
-ghost use Rattle.std.specs.Prelude.{◌≡◌, ◌-◌, ◌^◌, ◌<◌, ◌≤◌, ◌∷◌, ◌++◌, [], length, true, IfOk, MatchResult};
-ghost use Rattle.vcd_model.specs.Header.{Header};
-ghost use Rattle.vcd_model.specs.Laws.{IsValid};
-ghost use Rattle.vcd_model.specs.Outcome.{close_text};
-ghost use Rattle.vcd_text.specs.Ahead.{bytes_of, passed_of};
-ghost use Rattle.vcd_text.specs.Device.{Counts, Takes};
-ghost use Rattle.vcd_view.specs.Views.{IsViewOf};
-ghost use Rattle.vcd_body.specs.Given.{HasGoodText};
+ghost use Rattle.std.specs.Prelude.{◌≡◌, ◌-◌, ◌^◌, ◌<◌, ◌≤◌, [], length, true, IfOk};
+ghost use Rattle.vcd_engine.specs.Names.{AtClose, BeginsAs, bytes_of, close_text, Counts, HasGoodText, HasRoomFor, IsValid, Keeps, last_of, may_end_early, passed_of, request_in, request_of, room_of, room_size, SameTask, StartsOver, Takes, TakesEach};
 ghost use Rattle.vcd_engine.specs.Ahead.{RunsOver};
-ghost use Rattle.vcd_engine.specs.Engine.{Keeps, Starts, StopsUnread, TakesOne, last_of, may_end_early, request_in, request_of, AtClose, AtItem, CountsStop};
-ghost use Rattle.vcd_engine.specs.Room.{HasRoomFor, IsWithin, SameTask, room_of, room_size};
 
 pub(crate) mod check;
 pub(crate) mod cut;
@@ -57,13 +49,10 @@ impl<'n, 'r> Machine<'n, 'r> {
         requires failures { (W.device out.old).failures < 2 ^ 64 - 1 }
         requires valid { IsValid (request_of task) }
         requires room { HasRoomFor task view room }
-        ensures starts { (h : Header) → IsViewOf view.entry h
-            → Starts (λ m. Keeps m h []) (request_of task.entry) h
+        ensures starts { StartsOver view.entry (λ m h. Keeps m h []) (request_of task.entry)
             (W.device out.old) (W.device out.new) result }
-        ensures request { MatchResult result
-            (λ m. request_in m ≡ request_of task.entry) StopsUnread }
-        ensures room { IfOk result (λ m. IsWithin (room_of m) (room_size room.entry)) }
-        ensures failures { CountsStop (W.device out.old) (W.device out.new) result }
+        ensures begins { BeginsAs request_in room_of (request_of task.entry)
+            (room_size room.entry) (W.device out.old) (W.device out.new) result }
     {
         match task {
             Task::Check => Ok(Machine::Check(check::Check::start())),
@@ -90,9 +79,8 @@ impl<'n, 'r> Machine<'n, 'r> {
     ) -> Result<bool, WriteFailed>
         requires failures { (W.device out.old).failures < 2 ^ 64 - 1 }
         requires sound { HasGoodText view.codes.now text.now item }
-        ensures takes { AtItem view.entry regs item text.now (λ h items x. Keeps self.old h items
-            → TakesOne (Keeps self.new h (items ++ x ∷ [])) (request_in self.old) h items x
-            (W.device out.old) (W.device out.new) result) }
+        ensures takes { TakesEach view.entry regs item text.now (Keeps self.old) (Keeps self.new)
+            (request_in self.old) (W.device out.old) (W.device out.new) result }
         ensures counts { Counts (W.device out.old) (W.device out.new) result }
         ensures same { SameTask self.old self.new }
         ensures early { IfOk result

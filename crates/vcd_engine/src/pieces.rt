@@ -1,18 +1,11 @@
 //! Text that is due and stands in the chunk: pieces of it that follow each other are one, and short
 //! ones are written together.
-ghost use Rattle.std.specs.Prelude.{◌≡◌, ℕ, ◌+◌, ◌-◌, ◌^◌, ◌<◌, ◌≤◌, List, [], ◌++◌, true, false, length, take, slice_range, IfErr, IfOk, IfSome};
-ghost use Rattle.vcd_model.specs.Header.{Header};
-ghost use Rattle.vcd_model.specs.Items.{BodyItem};
-ghost use Rattle.vcd_model.specs.ItemText.{item_line, time_line};
-ghost use Rattle.vcd_text.specs.Device.{Counts, Puts};
-ghost use Rattle.vcd_view.specs.Views.{IsViewOf};
-ghost use Rattle.vcd_view.specs.declared.view.HeadView.{HeadView};
-ghost use Rattle.vcd_body.specs.Given.{IsItem};
-ghost use Rattle.vcd_body.specs.Spelled.{HasMark, bytes_without};
-ghost use Rattle.vcd_engine.specs.Pieces.{IsLine, IsPart, IsInPlace, PutsBehind, PutsOn, held_in};
+ghost use Rattle.std.specs.Prelude.{◌≡◌, ℕ, ◌+◌, ◌-◌, ◌^◌, ◌<◌, ◌≤◌, List, [], ◌++◌, length, take, slice_range, IfErr, IfOk};
+ghost use Rattle.vcd_engine.specs.Names.{bytes_without, Counts, HasMark, Puts, time_line};
+ghost use Rattle.vcd_engine.specs.Pieces.{IsLine, IsPart, PutsBehind, PutsOn, held_in};
 
 use crate::gathered::{GATHERED, Gathered};
-use vcd_body::{Plain, is_mark_line, left_out, put_time};
+use vcd_body::{Plain, is_mark_line, put_time};
 use vcd_text::{Sink, WriteFailed, put};
 
 /// A change that lies ahead: its tokens are passed from one place of these bytes up to another.
@@ -25,21 +18,6 @@ pub(crate) struct InPlace<'a> {
     pub(crate) from: usize,
     pub(crate) to: usize,
     pub(crate) line: usize,
-}
-
-impl InPlace<'_> {
-    /// Returns how many of its bytes behind the first one are left out, so that the others are its
-    /// line as it would be written.
-    #[inline(always)]
-    pub(crate) fn left_out(&self) -> Option<usize>
-        requires { (v : HeadView) × IsInPlace v self.now }
-        ensures { IfSome result (λ n. (self.now.from + 1 + n ≤ self.now.to)
-            × ((v : HeadView) (h : Header) (x : BodyItem) → IsInPlace v self.now → IsViewOf v h
-            → IsItem h.codes self.now.plain.text.now self.now.plain.item x
-            → bytes_without self.now.bytes.now self.now.from self.now.to n ≡ item_line x)) }
-    {
-        left_out(self.plain, self.bytes, self.from, self.to)
-    }
 }
 
 /// Returns where the line of a time begins that ends at `to`, for a mark that lies from `from` up

@@ -1,26 +1,12 @@
 // The report of `check`: seven lines.
-ghost use Rattle.std.specs.Prelude.{◌≡◌, ◌-◌, ◌^◌, ◌<◌, decimal, flat_map, codes, count_by};
-ghost use Rattle.vcd_model.specs.CheckAndList.{count_line, number_or_dash};
-ghost use Rattle.vcd_text.specs.Device.{Puts, Takes, failures_after};
-ghost use Rattle.vcd_engine.specs.Report.{named_line, report_text, opens_scope, declares_variable};
+ghost use Rattle.std.specs.Prelude.{◌≡◌, ◌++◌, ◌-◌, ◌^◌, ◌<◌, decimal, flat_map, codes, count_by};
+ghost use Rattle.vcd_engine.specs.Names.{count_line, number_or_dash, Puts};
+ghost use Rattle.vcd_engine.specs.Report.{named_line, opens_scope, declares_variable};
 
 use vcd_text::{Sink, WriteFailed, put, put_number};
 use vcd_view::{Kind, Row};
 
-/// What `check` says of a dump.
-#[derive(Clone, Copy, PartialEq, Eq, Debug)]
-pub(crate) struct Report {
-    pub(crate) scopes: u64,
-    pub(crate) variables: u64,
-    pub(crate) codes: u64,
-    pub(crate) times: u64,
-    pub(crate) sections: u64,
-    pub(crate) changes: u64,
-    // The last time mark.
-    pub(crate) last: Option<u64>,
-}
-
-// How many scopes and variables a header declares.
+/// How many scopes and variables a header declares.
 #[derive(Clone, Copy)]
 pub(crate) struct Declared {
     pub(crate) scopes: usize,
@@ -69,31 +55,19 @@ fn put_counts<W: Sink>(out: &mut W, counts: &[(&str, u64)]) -> Result<(), WriteF
     Ok(())
 }
 
-/// Writes the last time mark as a line, `-` where there is none.
-fn put_last<W: Sink>(out: &mut W, last: Option<u64>) -> Result<(), WriteFailed>
+/// Writes the report: these counts, and the last time mark, `-` where there is none.
+pub(crate) fn put_report<W: Sink>(
+    out: &mut W,
+    counts: &[(&str, u64)],
+    last: Option<u64>,
+) -> Result<(), WriteFailed>
     requires { (W.device out.old).failures < 2 ^ 64 - 1 }
     ensures { Puts (W.device out.old) (W.device out.new)
-        (count_line (codes "last") (number_or_dash last)) result }
+        (flat_map named_line counts.now ++ count_line (codes "last") (number_or_dash last)) result }
 {
+    put_counts(out, counts)?;
     match last {
         Some(time) => put_count(out, "last", time),
         None => put(out, b"last -\n"),
     }
-}
-
-/// Writes the report.
-pub(crate) fn put_report<W: Sink>(out: &mut W, report: &Report) -> Result<(), WriteFailed>
-    requires { (W.device out.old).failures < 2 ^ 64 - 1 }
-    ensures { Puts (W.device out.old) (W.device out.new) (report_text report.now) result }
-{
-    let counts = [
-        ("scopes", report.scopes),
-        ("variables", report.variables),
-        ("codes", report.codes),
-        ("times", report.times),
-        ("sections", report.sections),
-        ("changes", report.changes),
-    ];
-    put_counts(out, &counts)?;
-    put_last(out, report.last)
 }

@@ -1,14 +1,9 @@
 //! `list`: the variables of a header.
-ghost use Rattle.std.specs.Prelude.{◌≡◌, ◌++◌, ◌∷◌, ◌-◌, ◌^◌, ◌<◌, take, MatchResult, Some, slice_get};
-ghost use Rattle.vcd_model.specs.CheckAndList.{list_line, list_text};
-ghost use Rattle.vcd_model.specs.Declarations.{Declaration, Variable, path_of};
-ghost use Rattle.vcd_model.specs.Header.{Header};
-ghost use Rattle.vcd_text.specs.Device.{Counts, Puts, Takes, failures_after};
-ghost use Rattle.vcd_view.specs.Views.{IsViewOf};
-ghost use Rattle.vcd_model.specs.Bound.{no_room};
-ghost use Rattle.vcd_engine.specs.Room.{IsWithinEachBound};
+ghost use Rattle.std.specs.Prelude.{◌≡◌, ◌∷◌, ◌-◌, ◌^◌, ◌<◌, MatchResult, Some};
+ghost use Rattle.vcd_engine.specs.Names.{Counts, Header, IsViewOf, IsWithinEachBound, list_line, list_text, no_room, Puts, Takes};
 ghost use Rattle.vcd_body.specs.declared.answer.Done.TheVariants.{Whole};
 ghost use Rattle.vcd_body.specs.declared.answer.Stop.TheVariants.{Write};
+ghost use Rattle.vcd_engine.specs.Rows.{AtRow};
 
 use vcd_body::{Done, Stop};
 use vcd_head::put_path;
@@ -27,13 +22,8 @@ fn put_word<W: Sink>(out: &mut W, word: &[u8]) -> Result<(), WriteFailed>
 /// Writes the line of a variable: path, type, size and code.
 fn put_variable<W: Sink>(view: HeadView<'_>, row: usize, out: &mut W) -> Result<(), WriteFailed>
     requires failures { (W.device out.old).failures < 2 ^ 64 - 1 }
-    ensures takes { (h : Header) (v : Variable) → IsViewOf view.entry h
-        → slice_get h.declarations row ≡ Some (Declaration.Var v)
-        → Takes (W.device out.old) (W.device out.new)
-        (list_line (record {
-          path = path_of (take row h.declarations) (Declaration.Var v);
-          variable = v;
-        })) result }
+    ensures takes { AtRow view.entry row (λ _ s.
+        Takes (W.device out.old) (W.device out.new) (list_line s) result) }
     ensures counts { Counts (W.device out.old) (W.device out.new) result }
 {
     let Some(variable) = view.row_at(row) else {

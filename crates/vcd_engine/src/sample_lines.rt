@@ -1,15 +1,10 @@
 //! The lines of `sample`.
-ghost use Rattle.std.specs.Prelude.{◌≡◌, ◌-◌, ◌^◌, ◌<◌, ℕ, [], ◌∷◌, List, false, take, Some, slice_get, flat_map};
+ghost use Rattle.std.specs.Prelude.{◌≡◌, ◌-◌, ◌^◌, ◌<◌, ℕ, [], ◌∷◌, List, false, Some, flat_map};
 ghost use Rattle.std.specs.List.{AllByRecursion};
-ghost use Rattle.vcd_model.specs.Declarations.{Declaration, Variable, path_of};
-ghost use Rattle.vcd_model.specs.Header.{Header};
-ghost use Rattle.vcd_model.specs.Items.{BodyItem};
-ghost use Rattle.vcd_model.specs.Sample.{is_settled, sample_lines};
-ghost use Rattle.vcd_model.specs.Selection.{selected};
-ghost use Rattle.vcd_text.specs.Device.{Counts, Takes, failures_after};
-ghost use Rattle.vcd_view.specs.Views.{IsViewOf};
+ghost use Rattle.vcd_engine.specs.Names.{BodyItem, Counts, Header, is_settled, IsViewOf, sample_lines, selected, Takes};
 ghost use Rattle.vcd_engine.specs.Leads.{LeadOn};
 ghost use Rattle.vcd_engine.specs.Values.{AreHeld};
+ghost use Rattle.vcd_engine.specs.Rows.{AtRow};
 
 use crate::leads::rows_on;
 use vcd_body::{Table, put_full};
@@ -27,14 +22,9 @@ fn put_line<W: Sink>(
     out: &mut W,
 ) -> Result<(), WriteFailed>
     requires failures { (W.device out.old).failures < 2 ^ 64 - 1 }
-    ensures takes { (h : Header) (items : List BodyItem) (v : Variable) → IsViewOf view.entry h
-        → slice_get h.declarations row ≡ Some (Declaration.Var v)
+    ensures takes { AtRow view.entry row (λ h s. (items : List BodyItem)
         → AreHeld table.now h items → is_settled items time ≡ false
-        → Takes (W.device out.old) (W.device out.new)
-        (sample_lines (record {
-          path = path_of (take row h.declarations) (Declaration.Var v);
-          variable = v;
-        } ∷ []) items time) result }
+        → Takes (W.device out.old) (W.device out.new) (sample_lines (s ∷ []) items time) result) }
     ensures counts { Counts (W.device out.old) (W.device out.new) result }
 {
     let Some(variable) = view.row_at(row) else {

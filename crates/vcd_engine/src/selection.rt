@@ -1,14 +1,10 @@
 //! The variables that names select: their marks and their codes.
-ghost use Rattle.std.specs.Prelude.{◌≡◌, ℕ, ◌≤◌, ◌||◌, List, length, Some, slice_get, false, map, string_bytes, MatchResult};
-ghost use Rattle.vcd_model.specs.Declarations.{IdCode};
-ghost use Rattle.vcd_model.specs.Header.{Header};
-ghost use Rattle.vcd_model.specs.Selection.{selected, selects_code};
-ghost use Rattle.vcd_head.specs.Marks.{is_marked, marks_of};
-ghost use Rattle.vcd_view.specs.Views.{IsViewOf};
-ghost use Rattle.vcd_engine.specs.Choice.{codes_in, is_chosen};
+ghost use Rattle.std.specs.Prelude.{◌≡◌, ℕ, ◌≤◌, ◌||◌, List, length, Some, slice_get, map, string_bytes, MatchResult};
+ghost use Rattle.vcd_engine.specs.Names.{Header, IdCode, is_marked, IsViewOf, marks_of, selected, selects_code};
+ghost use Rattle.vcd_engine.specs.Choice.{is_chosen};
 ghost use Rattle.vcd_engine.specs.Selection.{AreSelected, IsUnmatched, IsFirstUnmatched};
 
-use crate::choice::Choice;
+use crate::choice::{choose, choose_none};
 use vcd_body::Stop;
 use vcd_head::select;
 use vcd_view::{HeadView, Kind};
@@ -21,43 +17,43 @@ pub(crate) fn is_marked(marks: &[u8], row: usize) -> bool
 }
 
 /// Chooses the codes of the marked variables.
-fn choose_marked(view: HeadView<'_>, marks: &[u8], choice: &mut Choice<'_>)
-    requires codes { length view.codes.now ≤ codes_in choice.old }
-    ensures codes { codes_in choice.new ≡ codes_in choice.old }
+fn choose_marked(view: HeadView<'_>, marks: &[u8], flags: &mut [u8])
+    requires codes { length view.codes.now ≤ length flags.old }
+    ensures codes { length flags.new ≡ length flags.old }
     ensures chosen { (h : Header) (names : List (List ℕ)) → IsViewOf view.entry h
         → marks.now ≡ marks_of names h.declarations
         → (place : ℕ) (c : IdCode) → slice_get h.codes place ≡ Some c
-        → is_chosen choice.new place
-        ≡ (is_chosen choice.old place || selects_code (selected names h.declarations) c) }
+        → is_chosen flags.new place
+        ≡ (is_chosen flags.old place || selects_code (selected names h.declarations) c) }
 {
     for (row, mark) in view.rows.iter().zip(marks) {
         let code = row.code as usize;
         if row.kind == Kind::Var && *mark == 1 && code < view.codes.len() {
-            choice.choose(code);
+            choose(flags, code);
         }
     }
 }
 
 /// Marks the variables that the names select, all where there are no names, and the scopes around
-/// them, and chooses the codes of these variables in a choice where none is chosen. A name that
-/// selects nothing is refused by its place, the first one.
+/// them, and chooses the codes of these variables and no others. A name that selects nothing is
+/// refused by its place, the first one.
 pub(crate) fn select_codes(
     view: HeadView<'_>,
     names: &[String],
     marks: &mut [u8],
-    choice: &mut Choice<'_>,
+    flags: &mut [u8],
 ) -> Result<(), Stop>
     requires marks { length marks.old ≡ length view.rows.now }
-    requires codes { length view.codes.now ≤ codes_in choice.old }
-    requires new { (code : ℕ) → is_chosen choice.old code ≡ false }
+    requires codes { length view.codes.now ≤ length flags.old }
     ensures selects { (h : Header) → IsViewOf view.entry h
-        → MatchResult result (λ _. AreSelected (map string_bytes names.now) h marks.new choice.new)
+        → MatchResult result (λ _. AreSelected (map string_bytes names.now) h marks.new flags.new)
         (IsFirstUnmatched (map string_bytes names.now) h) }
-    ensures answer { MatchResult result (λ _. codes_in choice.new ≡ codes_in choice.old) IsUnmatched }
+    ensures answer { MatchResult result (λ _. length flags.new ≡ length flags.old) IsUnmatched }
 {
     if let Err(name) = select(view, names, marks) {
         return Err(Stop::Unmatched { name });
     }
-    choose_marked(view, marks, choice);
+    choose_none(flags);
+    choose_marked(view, marks, flags);
     Ok(())
 }

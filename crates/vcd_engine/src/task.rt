@@ -1,11 +1,6 @@
 //! What is done with the items of a body, and the slices that it works in.
 ghost use Rattle.std.specs.Prelude.{◌≡◌, ◌≤◌, ℕ, length};
-ghost use Rattle.vcd_model.specs.Bound.{AreWindows, FitsInput, RoomSize, WindowSize};
-ghost use Rattle.vcd_model.specs.Header.{Header};
-ghost use Rattle.vcd_view.specs.Needs.{room, view_size};
-ghost use Rattle.vcd_view.specs.Shown.{parts};
-ghost use Rattle.vcd_view.specs.Views.{IsViewOf};
-ghost use Rattle.vcd_engine.specs.Room.{AreWithinBound, HasRoomFor, IsWithin, marks_for, slots_for, values_for};
+ghost use Rattle.vcd_engine.specs.Names.{AreWindows, AreWithinBound, FitsInput, HasRoomFor, Header, IsViewOf, IsWithin, marks_for, parts, room, RoomSize, slots_for, values_for, view_size, WindowSize};
 ghost use Rattle.vcd_engine.specs.declared.task.Room.{Room};
 
 use vcd_body::{Share, Slot};

@@ -1,18 +1,12 @@
 //! `check`: counts of what stands in a dump.
 ghost use Rattle.std.specs.Prelude.{◌≡◌, ◌-◌, ◌^◌, ◌<◌, ◌∷◌, ◌++◌, [], List, length, true, false};
-ghost use Rattle.vcd_model.specs.CheckAndList.{check_close};
-ghost use Rattle.vcd_model.specs.Header.{Header};
-ghost use Rattle.vcd_model.specs.Items.{BodyItem};
-ghost use Rattle.vcd_model.specs.ItemText.{last_mark};
-ghost use Rattle.vcd_text.specs.Device.{Counts, Takes, failures_after};
-ghost use Rattle.vcd_view.specs.Views.{IsViewOf};
+ghost use Rattle.vcd_engine.specs.Names.{BodyItem, check_close, Counts, Header, IsViewOf, last_mark, last_of, Takes};
 ghost use Rattle.vcd_engine.specs.Check.{AreCounted, IsOfKind};
-ghost use Rattle.vcd_engine.specs.Engine.{last_of};
 
 use crate::machine::last_of;
 use crate::machine::walk::{Command, Keeping};
 use crate::pieces::{InPlace, Pieces};
-use crate::report::{Report, declared_in, put_report};
+use crate::report::{declared_in, put_report};
 use vcd_body::{Item, Regs};
 use vcd_text::{Sink, WriteFailed};
 use vcd_view::HeadView;
@@ -67,16 +61,15 @@ impl Check {
         ensures counts { Counts (W.device out.old) (W.device out.new) result }
     {
         let declared = declared_in(view.rows);
-        let report = Report {
-            scopes: declared.scopes as u64,
-            variables: declared.variables as u64,
-            codes: view.codes.len() as u64,
-            times: self.times,
-            sections: self.sections,
-            changes: self.changes,
-            last: last_of(regs),
-        };
-        put_report(out, &report)
+        let counts = [
+            ("scopes", declared.scopes as u64),
+            ("variables", declared.variables as u64),
+            ("codes", view.codes.len() as u64),
+            ("times", self.times),
+            ("sections", self.sections),
+            ("changes", self.changes),
+        ];
+        put_report(out, &counts, last_of(regs))
     }
 }
 

@@ -1,19 +1,8 @@
 //! `cut`: the values before a time, and the items from then up to another time.
-ghost use Rattle.std.specs.Prelude.{◌≡◌, ℕ, ◌≤◌, ◌-◌, ◌^◌, ◌<◌, ◌∷◌, ◌++◌, [], List, true, not, nat_le, nat_lt, IfOk, MatchResult};
-ghost use Rattle.vcd_model.specs.Cut.{cut_close, cut_open, is_started, start_section};
-ghost use Rattle.vcd_model.specs.Header.{Header};
-ghost use Rattle.vcd_model.specs.History.{value_before};
-ghost use Rattle.vcd_model.specs.Items.{BodyItem};
-ghost use Rattle.vcd_model.specs.Outcome.{Request};
-ghost use Rattle.vcd_text.specs.Device.{Counts, Takes, failures_after};
-ghost use Rattle.vcd_view.specs.Views.{IsViewOf};
-ghost use Rattle.vcd_body.specs.Given.{HasGoodText};
-ghost use Rattle.vcd_engine.specs.Cut.{AreCut, BeginsBy, IsNoMark, lent_to, may_be_kept, span_in, values_text, SameSpan};
-ghost use Rattle.vcd_body.specs.Device.{TakesDue};
-ghost use Rattle.vcd_engine.specs.Engine.{Starts, StopsUnread, TakesOne, AtClose, AtItem, CountsStop};
-ghost use Rattle.vcd_engine.specs.ItemText.{HasWritten};
-ghost use Rattle.vcd_engine.specs.Room.{HasRoomFor, IsWithin, room_size};
-ghost use Rattle.vcd_engine.specs.Values.{AreHeld, HasValues};
+ghost use Rattle.std.specs.Prelude.{◌≡◌, false, ◌≤◌, ◌-◌, ◌^◌, ◌<◌, [], List, true, not, nat_le, nat_lt};
+ghost use Rattle.vcd_engine.specs.Names.{AtClose, BeginsAs, BodyItem, Counts, cut_close, HasGoodText, HasRoomFor, Header, IsViewOf, Request, room_size, StartsOver, Takes, TakesEach, TakesTime, value_before};
+ghost use Rattle.vcd_engine.specs.Cut.{AreCut, BeginsBy, lent_to, may_be_kept, span_in, SameSpan, PutsStart};
+ghost use Rattle.vcd_engine.specs.Values.{HasValues};
 ghost use Rattle.vcd_engine.specs.declared.task.Task.TheVariants as task;
 
 use crate::item_text::ItemText;
@@ -21,7 +10,7 @@ use crate::machine::last_of;
 use crate::machine::walk::{Command, Copying, Keeping};
 use crate::pieces::{InPlace, Pieces};
 use crate::task::Room;
-use crate::values::set_plain;
+use crate::values::set_item;
 use vcd_body::{Item, Regs, Stop, Table, put_short, put_time};
 use vcd_head::{put_head, select};
 use vcd_text::{Sink, WriteFailed, put};
@@ -37,27 +26,8 @@ pub(crate) struct Cut<'r> {
     started: bool,
 }
 
-/// Writes the line of each code that is no event and has a value.
-fn put_values<W: Sink>(
-    table: &Table<'_>,
-    view: HeadView<'_>,
-    out: &mut W,
-) -> Result<(), WriteFailed>
-    requires { (W.device out.old).failures < 2 ^ 64 - 1 }
-    ensures takes { (h : Header) (items : List BodyItem) (time : ℕ) → IsViewOf view.entry h
-        → HasValues table.now h (λ c. value_before items c time)
-        → Takes (W.device out.old) (W.device out.new) (values_text h.codes items time) result }
-    ensures counts { Counts (W.device out.old) (W.device out.new) result }
-{
-    for (code, declared) in view.codes.iter().enumerate() {
-        if !declared.event {
-            put_short(view, table, code, out)?;
-        }
-    }
-    Ok(())
-}
-
-/// Writes the start section of a cut from this time on.
+/// Writes the start section of a cut from this time on: the line of each code that is no event and
+/// has a value.
 #[inline(never)]
 fn put_section<W: Sink>(
     table: &Table<'_>,
@@ -66,14 +36,16 @@ fn put_section<W: Sink>(
     out: &mut W,
 ) -> Result<(), WriteFailed>
     requires { (W.device out.old).failures < 2 ^ 64 - 1 }
-    ensures takes { (h : Header) (items : List BodyItem) → IsViewOf view.entry h
-        → HasValues table.now h (λ c. value_before items c from)
-        → Takes (W.device out.old) (W.device out.new) (start_section h from items) result }
+    ensures takes { PutsStart view.entry table.now from (W.device out.old) (W.device out.new) result }
     ensures counts { Counts (W.device out.old) (W.device out.new) result }
 {
     put_time(from, out)?;
     put(out, b"$dumpvars\n")?;
-    put_values(table, view, out)?;
+    for (code, declared) in view.codes.iter().enumerate() {
+        if !declared.event {
+            put_short(view, table, code, out)?;
+        }
+    }
     put(out, b"$end\n")
 }
 
@@ -103,19 +75,12 @@ impl<'r> Cut<'r> {
         requires failures { (W.device out.old).failures < 2 ^ 64 - 1 }
         requires order { from ≤ to }
         requires room { HasRoomFor (task.Cut from to) view room }
-        ensures starts { (h : Header) → IsViewOf view.entry h
-            → Starts (λ m. AreCut m h []) (Request.Cut from to) h
+        ensures starts { StartsOver view.entry (λ m h. AreCut m h []) (Request.Cut from to)
             (W.device out.old) (W.device out.new) result }
-        ensures span { MatchResult result (λ m. span_in m ≡ Request.Cut from to) StopsUnread }
-        ensures room { IfOk result (λ m. IsWithin (lent_to m) (room_size room.entry)) }
-        ensures failures { CountsStop (W.device out.old) (W.device out.new) result }
+        ensures begins { BeginsAs span_in lent_to (Request.Cut from to) (room_size room.entry)
+            (W.device out.old) (W.device out.new) result }
     {
-        let Room {
-            values,
-            slots,
-            shares,
-            marks,
-        } = room;
+        let marks = room.marks;
         let marks = &mut marks[..view.rows.len()];
         if let Err(name) = select(view, &[], marks) {
             return Err(Stop::Unmatched { name });
@@ -124,35 +89,16 @@ impl<'r> Cut<'r> {
         let mut cut = Cut {
             from,
             to,
-            table: Table::new(view, values, slots, shares),
+            table: Table::new(view, room.values, room.slots, room.shares),
             text: ItemText::new(),
             started: false,
         };
-        if from == 0 {
-            cut.begin(view, out)?;
-        }
+        cut.begin_by(view, 0, out)?;
         Ok(cut)
     }
 
-    /// Writes the start section, after which kept items follow.
-    fn begin<W: Sink>(&mut self, view: HeadView<'_>, out: &mut W) -> Result<(), WriteFailed>
-        requires { (W.device out.old).failures < 2 ^ 64 - 1 }
-        ensures takes { (h : Header) (items : List BodyItem) → IsViewOf view.entry h
-            → HasValues self.old.table h (λ c. value_before items c self.old.from)
-            → Takes (W.device out.old) (W.device out.new)
-            (start_section h self.old.from items) result }
-        ensures counts { Counts (W.device out.old) (W.device out.new) result }
-        ensures begun { IfOk result (λ _. (self.new.started ≡ true)
-            × HasWritten (self.old.from ∷ []) [] self.new.text) }
-        ensures same { SameSpan self.old self.new }
-    {
-        put_section(&self.table, view, self.from, out)?;
-        self.text = ItemText::after(self.from);
-        self.started = true;
-        Ok(())
-    }
-
-    /// Writes the start section, where it does not stand yet and this time has come.
+    /// Writes the start section, after which kept items follow, where it does not stand yet and
+    /// this time has come.
     fn begin_by<W: Sink>(
         &mut self,
         view: HeadView<'_>,
@@ -161,7 +107,8 @@ impl<'r> Cut<'r> {
     ) -> Result<(), WriteFailed>
         requires { (W.device out.old).failures < 2 ^ 64 - 1 }
         ensures begins { (h : Header) (items : List BodyItem) → IsViewOf view.entry h
-            → AreCut self.old h items
+            → (self.old.started ≡ false → HasValues self.old.table h
+            (λ c. value_before items c self.old.from))
             → BeginsBy h items time self.old self.new (W.device out.old) (W.device out.new) result }
         ensures counts { Counts (W.device out.old) (W.device out.new) result }
         ensures same { SameSpan self.old self.new }
@@ -169,7 +116,10 @@ impl<'r> Cut<'r> {
         if self.started || time < self.from {
             return Ok(());
         }
-        self.begin(view, out)
+        put_section(&self.table, view, self.from, out)?;
+        self.text = ItemText::after(self.from);
+        self.started = true;
+        Ok(())
     }
 
     /// Whether the start section stands.
@@ -189,11 +139,8 @@ impl<'r> Cut<'r> {
         out: &mut W,
     ) -> Result<bool, WriteFailed>
         requires { (W.device out.old).failures < 2 ^ 64 - 1 }
-        ensures takes { (h : Header) (items : List BodyItem) → IsViewOf view.entry h
-            → AreCut self.old h items
-            → TakesOne (AreCut self.new h (items ++ BodyItem.Time time ∷ []))
-            (Request.Cut self.old.from self.old.to) h items (BodyItem.Time time)
-            (W.device out.old) (W.device out.new) result }
+        ensures takes { TakesTime view.entry time (AreCut self.old) (AreCut self.new)
+            (span_in self.old) (W.device out.old) (W.device out.new) result }
         ensures counts { Counts (W.device out.old) (W.device out.new) result }
         ensures same { SameSpan self.old self.new }
     {
@@ -205,41 +152,9 @@ impl<'r> Cut<'r> {
         Ok(true)
     }
 
-    /// Takes an item that is no time mark: before the start section keeps the value that it gives,
-    /// then writes the item where it is kept.
-    #[inline(always)]
-    fn take_other<W: Sink>(
-        &mut self,
-        view: HeadView<'_>,
-        regs: Regs,
-        item: Item,
-        text: &[u8],
-        out: &mut W,
-    ) -> Result<(), WriteFailed>
-        requires failures { (W.device out.old).failures < 2 ^ 64 - 1 }
-        requires sound { HasGoodText view.codes.now text.now item }
-        ensures takes { AtItem view.entry regs item text.now (λ h items x. IsNoMark item
-            → AreCut self.old h items → TakesDue (W.device out.old) (W.device out.new)
-            (cut_open h self.old.from self.old.to items)
-            (cut_open h self.old.from self.old.to (items ++ x ∷ [])) result
-            × IfOk result (λ _. AreCut self.new h (items ++ x ∷ []))) }
-        ensures counts { Counts (W.device out.old) (W.device out.new) result }
-        ensures same { SameSpan self.old self.new }
-    {
-        if self.started {
-            if !may_keep(view, regs, item) {
-                return Ok(());
-            }
-            return self.text.put(view, regs.time, item, text, out);
-        }
-        if let Item::Change { code, form } = item {
-            self.table.set(code, form, text);
-        }
-        Ok(())
-    }
-
-    /// Takes an item with its text, writes what is due after it, and returns whether it ended the
-    /// run. The registers are those after it.
+    /// Takes an item with its text, and returns whether it ended the run: before the start section
+    /// keeps the value that the item gives, then writes the item where it is kept. The registers
+    /// are those after it.
     #[inline(never)]
     pub(crate) fn take<W: Sink>(
         &mut self,
@@ -251,17 +166,22 @@ impl<'r> Cut<'r> {
     ) -> Result<bool, WriteFailed>
         requires failures { (W.device out.old).failures < 2 ^ 64 - 1 }
         requires sound { HasGoodText view.codes.now text.now item }
-        ensures takes { AtItem view.entry regs item text.now (λ h items x. AreCut self.old h items
-            → TakesOne (AreCut self.new h (items ++ x ∷ []))
-            (Request.Cut self.old.from self.old.to) h items x
-            (W.device out.old) (W.device out.new) result) }
+        ensures takes { TakesEach view.entry regs item text.now (AreCut self.old) (AreCut self.new)
+            (span_in self.old) (W.device out.old) (W.device out.new) result }
         ensures counts { Counts (W.device out.old) (W.device out.new) result }
         ensures same { SameSpan self.old self.new }
     {
         if let Item::Time(time) = item {
             return self.take_time(view, time, out);
         }
-        self.take_other(view, regs, item, text, out)?;
+        if self.started {
+            if !may_keep(view, regs, item) {
+                return Ok(false);
+            }
+            self.text.put(view, regs.time, item, text, out)?;
+            return Ok(false);
+        }
+        set_item(&mut self.table, item, text, None);
         Ok(false)
     }
 
@@ -312,7 +232,8 @@ impl<'r> Command<Keeping> for Cut<'r> {
         _pieces: &mut Pieces<'_>,
         _out: &mut W,
     ) -> Result<(), WriteFailed> {
-        set_plain(&mut self.table, change.plain);
+        let plain = change.plain;
+        set_item(&mut self.table, plain.item, plain.text, plain.bits);
         Ok(())
     }
 }

@@ -1,23 +1,13 @@
 //! `edges`: how often the values of the selected variables change, rise and fall.
-ghost use Rattle.std.specs.Prelude.{◌≡◌, ℕ, ◌-◌, ◌^◌, ◌<◌, ◌∷◌, ◌++◌, [], List, Some, length, map, slice_get, string_bytes, true, false, IfOk, MatchResult};
-ghost use Rattle.vcd_model.specs.Edges.{edges_close};
-ghost use Rattle.vcd_model.specs.Header.{Header};
-ghost use Rattle.vcd_model.specs.Items.{BodyItem, leaves_open};
-ghost use Rattle.vcd_model.specs.Declarations.{IdCode};
-ghost use Rattle.vcd_model.specs.Outcome.{Request};
-ghost use Rattle.vcd_text.specs.Device.{Counts, Device, Takes, failures_after};
-ghost use Rattle.vcd_view.specs.Views.{IsViewOf};
-ghost use Rattle.vcd_body.specs.Given.{HasGoodText, IsGoodText};
-ghost use Rattle.vcd_body.specs.Items.{model_form};
-ghost use Rattle.vcd_engine.specs.Edges.{AreEdges, names_counted, room_in_edges};
-ghost use Rattle.vcd_engine.specs.Engine.{Starts, AtItem};
-ghost use Rattle.vcd_engine.specs.Room.{HasRoomFor, IsWithin, room_size};
+ghost use Rattle.std.specs.Prelude.{◌≡◌, ◌-◌, ◌^◌, ◌<◌, ◌∷◌, ◌++◌, [], List, Some, length, map, slice_get, string_bytes, true, false, IfOk, MatchResult};
+ghost use Rattle.vcd_engine.specs.Names.{AtItem, BodyItem, ClosesOver, Counts, Device, edges_close, HasGoodText, HasRoomFor, Header, IdCode, IsGoodText, IsViewOf, IsWithin, leaves_open, Request, room_size, Starts};
+ghost use Rattle.vcd_engine.specs.Edges.{AreEdges, SameEdges, names_counted, room_in_edges, change_to};
 ghost use Rattle.vcd_engine.specs.Selection.{IsUnmatched};
 ghost use Rattle.vcd_engine.specs.declared.task.Task.TheVariants as task;
 
 use crate::machine::walk::{Command, Keeping};
 use crate::pieces::{InPlace, Pieces};
-use crate::tally::{put_rows, take_bits, take_mark, take_value};
+use crate::tally::{put_rows, take_mark, take_value};
 use crate::task::Room;
 use vcd_body::{Form, Item, Regs, Stop, Table};
 use vcd_head::select;
@@ -48,17 +38,12 @@ impl<'n, 'r> Edges<'n, 'r> {
             (λ e. names_counted e ≡ map string_bytes names.entry.now) IsUnmatched }
         ensures room { IfOk result (λ e. IsWithin (room_in_edges e) (room_size room.entry)) }
     {
-        let Room {
-            values,
-            slots,
-            shares,
-            marks,
-        } = room;
+        let marks = room.marks;
         let marks = &mut marks[..view.rows.len()];
         if let Err(name) = select(view, names, marks) {
             return Err(Stop::Unmatched { name });
         }
-        let table = Table::new(view, values, slots, shares);
+        let table = Table::new(view, room.values, room.slots, room.shares);
         Ok(Edges {
             names,
             marks,
@@ -72,8 +57,7 @@ impl<'n, 'r> Edges<'n, 'r> {
         requires sound { HasGoodText view.codes.now text.now item }
         ensures takes { AtItem view.entry regs item text.now (λ h items x. AreEdges self.old h items
             → AreEdges self.new h (items ++ x ∷ [])) }
-        ensures names { names_counted self.new ≡ names_counted self.old }
-        ensures room { room_in_edges self.new ≡ room_in_edges self.old }
+        ensures same { SameEdges self.old self.new }
     {
         let Item::Change { code, form } = item else {
             return;
@@ -89,13 +73,8 @@ impl<'n, 'r> Edges<'n, 'r> {
         ensures takes { (h : Header) (items : List BodyItem) (c : IdCode) → IsViewOf view.entry h
             → slice_get h.codes code ≡ Some c → inside ≡ leaves_open items
             → length items < 2 ^ 63 → AreEdges self.old h items
-            → AreEdges self.new h (items ++ BodyItem.Changes (record {
-              code = c;
-              form = model_form form;
-              text = text.now;
-            }) ∷ []) }
-        ensures names { names_counted self.new ≡ names_counted self.old }
-        ensures room { room_in_edges self.new ≡ room_in_edges self.old }
+            → AreEdges self.new h (items ++ change_to c form text.now ∷ []) }
+        ensures same { SameEdges self.old self.new }
     {
         let Some(declared) = view.code_at(code) else {
             return;
@@ -103,17 +82,16 @@ impl<'n, 'r> Edges<'n, 'r> {
         if declared.event {
             take_mark(&mut self.table, code, inside);
         } else {
-            take_value(&mut self.table, code, declared.size, form, text);
+            take_value(&mut self.table, code, declared.size, form, text, None);
         }
     }
 
     /// Writes the rows of the selected variables.
     pub(crate) fn close<W: Sink>(&self, view: HeadView<'_>, out: &mut W) -> Result<(), WriteFailed>
         requires { (W.device out.old).failures < 2 ^ 64 - 1 }
-        ensures takes { (h : Header) (items : List BodyItem) → IsViewOf view.entry h
-            → AreEdges self.now h items
-            → Takes (W.device out.old) (W.device out.new)
-            (edges_close h (names_counted self.now) items) result }
+        ensures takes { ClosesOver view.entry (AreEdges self.now)
+            (λ h. edges_close h (names_counted self.now))
+            (W.device out.old) (W.device out.new) result }
         ensures counts { Counts (W.device out.old) (W.device out.new) result }
     {
         put_rows(&self.table, view, self.marks, out)
@@ -154,11 +132,14 @@ impl<'n, 'r> Command<Keeping> for Edges<'n, 'r> {
             self.take_at(view, regs.section.is_some(), code, form, plain.text);
             return Ok(());
         }
-        if let Some(bits) = plain.bits {
-            take_bits(&mut self.table, code, plain.most, bits);
-            return Ok(());
-        }
-        take_value(&mut self.table, code, plain.most, form, plain.text);
+        take_value(
+            &mut self.table,
+            code,
+            plain.most,
+            form,
+            plain.text,
+            plain.bits,
+        );
         Ok(())
     }
 }

@@ -1,21 +1,10 @@
 //! `pick`: the dump of the selected variables.
 ghost use Rattle.std.specs.Prelude.{◌≡◌, ◌-◌, ◌^◌, ◌<◌, map, string_bytes, IfOk, MatchResult, ◌∷◌, ◌++◌, [], List, length, true, false};
-ghost use Rattle.vcd_model.specs.Header.{Header};
-ghost use Rattle.vcd_model.specs.Items.{BodyItem};
-ghost use Rattle.vcd_model.specs.ItemText.{last_mark};
-ghost use Rattle.vcd_model.specs.Outcome.{Request};
-ghost use Rattle.vcd_model.specs.Pick.{pick_open, pick_close};
-ghost use Rattle.vcd_text.specs.Device.{Counts, Takes, failures_after};
-ghost use Rattle.vcd_view.specs.Views.{IsViewOf};
-ghost use Rattle.vcd_body.specs.Given.{HasGoodText};
-ghost use Rattle.vcd_body.specs.Items.{AreRegsAfter};
-ghost use Rattle.vcd_body.specs.Device.{TakesDue};
-ghost use Rattle.vcd_engine.specs.Engine.{Starts, StopsUnread, last_of, AtItem, CountsStop};
-ghost use Rattle.vcd_engine.specs.Pick.{ArePicked, is_event_at, is_kept, names_in, flags_in};
-ghost use Rattle.vcd_engine.specs.Room.{HasRoomFor};
+ghost use Rattle.vcd_engine.specs.Names.{AreRegsAfter, AtItem, BodyItem, Counts, CountsStop, HasGoodText, HasRoomFor, Header, last_mark, last_of, pick_close, pick_open, Request, StartsOver, StopsUnread, Takes, TakesDue};
+ghost use Rattle.vcd_engine.specs.Pick.{ArePicked, SamePick, is_kept, names_in, flags_in};
 ghost use Rattle.vcd_engine.specs.declared.task.Task.TheVariants as task;
 
-use crate::choice::Choice;
+use crate::choice::is_chosen;
 use crate::item_text::ItemText;
 use crate::machine::last_of;
 use crate::machine::walk::{Command, Copying};
@@ -32,7 +21,7 @@ use vcd_view::HeadView;
 #[derive(Drop)]
 pub(crate) struct Pick<'n, 'r> {
     names: &'n [String],
-    choice: Choice<'r>,
+    flags: &'r mut [u8],
     text: ItemText,
 }
 
@@ -46,22 +35,23 @@ impl<'n, 'r> Pick<'n, 'r> {
     ) -> Result<Pick<'n, 'r>, Stop>
         requires failures { (W.device out.old).failures < 2 ^ 64 - 1 }
         requires room { HasRoomFor (task.Pick names) view room }
-        ensures starts { (h : Header) → IsViewOf view.entry h
-            → Starts (λ p. ArePicked p h []) (Request.Pick (map string_bytes names.entry.now)) h
+        ensures starts { StartsOver view.entry (λ p h. ArePicked p h [])
+            (Request.Pick (map string_bytes names.entry.now))
             (W.device out.old) (W.device out.new) result }
         ensures names { MatchResult result
             (λ p. names_in p ≡ map string_bytes names.entry.now) StopsUnread }
         ensures room { IfOk result (λ p. flags_in p ≡ length view.entry.codes.now) }
         ensures failures { CountsStop (W.device out.old) (W.device out.new) result }
     {
-        let Room { values, marks, .. } = room;
+        let marks = room.marks;
         let marks = &mut marks[..view.rows.len()];
-        let mut choice = Choice::new(view, values);
-        select_codes(view, names, marks, &mut choice)?;
+        let flags = room.values;
+        let flags = &mut flags[..view.codes.len()];
+        select_codes(view, names, marks, flags)?;
         put_head(view, marks, out)?;
         Ok(Pick {
             names,
-            choice,
+            flags,
             text: ItemText::new(),
         })
     }
@@ -70,13 +60,13 @@ impl<'n, 'r> Pick<'n, 'r> {
     /// or a change of a chosen code that is no event inside a section.
     #[inline(always)]
     fn keeps(&self, view: HeadView<'_>, regs: Regs, item: Item) -> bool
-        ensures { result ≡ is_kept self.now.choice view.entry regs item }
+        ensures { result ≡ is_kept self.now.flags.now view.entry regs item }
     {
         match item {
             Item::Time(_) | Item::Finish => false,
             Item::Begin(_) | Item::End => true,
             Item::Change { code, .. } => {
-                self.choice.chosen(code) && !(regs.section.is_some() && view.is_event(code))
+                is_chosen(self.flags, code) && !(regs.section.is_some() && view.is_event(code))
             }
         }
     }
@@ -100,8 +90,7 @@ impl<'n, 'r> Pick<'n, 'r> {
             (pick_open h (names_in self.old) (items ++ x ∷ [])) result
             × IfOk result (λ _. ArePicked self.new h (items ++ x ∷ []))) }
         ensures counts { Counts (W.device out.old) (W.device out.new) result }
-        ensures names { names_in self.new ≡ names_in self.old }
-        ensures room { flags_in self.new ≡ flags_in self.old }
+        ensures same { SamePick self.old self.new }
     {
         if !self.keeps(view, regs, item) {
             return Ok(());

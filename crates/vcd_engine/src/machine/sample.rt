@@ -1,17 +1,9 @@
 //! `sample`: the values of selected variables at some times.
-ghost use Rattle.std.specs.Prelude.{◌≡◌, ◌≢◌, ◌≤◌, ◌-◌, ◌^◌, ◌<◌, ◌+◌, ◌∷◌, ◌++◌, [], List, length, nat_le, None, true, IfOk, MatchResult, map, string_bytes};
+ghost use Rattle.std.specs.Prelude.{◌≡◌, ◌≢◌, ◌-◌, ◌^◌, ◌<◌, ◌+◌, ◌∷◌, ◌++◌, [], List, nat_le, None, true, IfOk, MatchResult, map, string_bytes};
 ghost use Rattle.std.specs.List.{position_or_len};
 ghost use Rattle.std.specs.List.Sorted.{IsStrictlyIncreasing};
-ghost use Rattle.vcd_model.specs.Header.{Header};
-ghost use Rattle.vcd_model.specs.Items.{BodyItem};
-ghost use Rattle.vcd_model.specs.Outcome.{Request, close_text};
-ghost use Rattle.vcd_model.specs.Selection.{first_unmatched};
-ghost use Rattle.vcd_text.specs.Device.{Counts, Takes, failures_after};
-ghost use Rattle.vcd_view.specs.Views.{IsViewOf};
-ghost use Rattle.vcd_body.specs.Given.{HasGoodText, IsItem};
-ghost use Rattle.vcd_engine.specs.Engine.{TakesOne};
-ghost use Rattle.vcd_engine.specs.Room.{HasRoomFor, IsWithin, room_size};
-ghost use Rattle.vcd_engine.specs.Sample.{AreSampled, asked_in, is_due, lent_to};
+ghost use Rattle.vcd_engine.specs.Names.{BodyItem, close_text, ClosesOver, Counts, first_unmatched, HasGoodText, HasRoomFor, Header, IsItem, IsViewOf, IsWithin, Request, room_size, TakesOne, TakesTime};
+ghost use Rattle.vcd_engine.specs.Sample.{AreSampled, SameSample, asked_in, is_due, lent_to};
 ghost use Rattle.vcd_engine.specs.Selection.{IsFirstUnmatched, IsUnmatched};
 ghost use Rattle.vcd_engine.specs.declared.task.Task.TheVariants as task;
 
@@ -20,7 +12,7 @@ use crate::machine::walk::{Command, Keeping};
 use crate::pieces::{InPlace, Pieces};
 use crate::sample_lines::put_samples;
 use crate::task::Room;
-use crate::values::set_plain;
+use crate::values::set_item;
 use vcd_body::{Item, Regs, Stop, Table};
 use vcd_head::select;
 use vcd_text::{Sink, WriteFailed};
@@ -68,12 +60,7 @@ impl<'n, 'r> Sample<'n, 'r> {
             ≡ Request.Sample times.now (map string_bytes names.now)) IsUnmatched }
         ensures room { IfOk result (λ s. IsWithin (lent_to s) (room_size room.entry)) }
     {
-        let Room {
-            values,
-            slots,
-            shares,
-            marks,
-        } = room;
+        let marks = room.marks;
         let marks = &mut marks[..view.rows.len()];
         if let Err(name) = select(view, names, marks) {
             return Err(Stop::Unmatched { name });
@@ -83,7 +70,7 @@ impl<'n, 'r> Sample<'n, 'r> {
             times,
             names,
             rest: times,
-            table: Table::new(view, values, slots, shares),
+            table: Table::new(view, room.values, room.slots, room.shares),
             marks,
         })
     }
@@ -97,14 +84,10 @@ impl<'n, 'r> Sample<'n, 'r> {
         out: &mut W,
     ) -> Result<bool, WriteFailed>
         requires { (W.device out.old).failures < 2 ^ 64 - 1 }
-        ensures takes { (h : Header) (items : List BodyItem) → IsViewOf view.entry h
-            → AreSampled self.old h items
-            → TakesOne (AreSampled self.new h (items ++ BodyItem.Time time ∷ []))
-            (asked_in self.old) h items (BodyItem.Time time)
-            (W.device out.old) (W.device out.new) result }
+        ensures takes { TakesTime view.entry time (AreSampled self.old) (AreSampled self.new)
+            (asked_in self.old) (W.device out.old) (W.device out.new) result }
         ensures counts { Counts (W.device out.old) (W.device out.new) result }
-        ensures asked { asked_in self.new ≡ asked_in self.old }
-        ensures room { lent_to self.new ≡ lent_to self.old }
+        ensures same { SameSample self.old self.new }
     {
         let (due, rest) = self.rest.split_at(count_below(self.rest, time));
         put_samples(&self.table, view, self.marks, due, out)?;
@@ -129,26 +112,20 @@ impl<'n, 'r> Sample<'n, 'r> {
             → TakesOne (AreSampled self.new h (items ++ x ∷ []))
             (asked_in self.old) h items x (W.device out.old) (W.device out.new) result }
         ensures counts { Counts (W.device out.old) (W.device out.new) result }
-        ensures asked { asked_in self.new ≡ asked_in self.old }
-        ensures room { lent_to self.new ≡ lent_to self.old }
+        ensures same { SameSample self.old self.new }
     {
-        match item {
-            Item::Time(time) => self.take_time(view, time, out),
-            Item::Change { code, form } => {
-                self.table.set(code, form, text);
-                Ok(false)
-            }
-            Item::Begin(_) | Item::End | Item::Finish => Ok(false),
+        if let Item::Time(time) = item {
+            return self.take_time(view, time, out);
         }
+        set_item(&mut self.table, item, text, None);
+        Ok(false)
     }
 
     /// Writes the lines of the times that are left.
     pub(crate) fn close<W: Sink>(&self, view: HeadView<'_>, out: &mut W) -> Result<(), WriteFailed>
         requires { (W.device out.old).failures < 2 ^ 64 - 1 }
-        ensures takes { (h : Header) (items : List BodyItem) → IsViewOf view.entry h
-            → AreSampled self.now h items
-            → Takes (W.device out.old) (W.device out.new)
-            (close_text (asked_in self.now) h items) result }
+        ensures takes { ClosesOver view.entry (AreSampled self.now)
+            (close_text (asked_in self.now)) (W.device out.old) (W.device out.new) result }
         ensures counts { Counts (W.device out.old) (W.device out.new) result }
     {
         put_samples(&self.table, view, self.marks, self.rest, out)
@@ -184,7 +161,8 @@ impl<'n, 'r> Command<Keeping> for Sample<'n, 'r> {
         _pieces: &mut Pieces<'_>,
         _out: &mut W,
     ) -> Result<(), WriteFailed> {
-        set_plain(&mut self.table, change.plain);
+        let plain = change.plain;
+        set_item(&mut self.table, plain.item, plain.text, plain.bits);
         Ok(())
     }
 }

@@ -5,13 +5,17 @@ use Rattle.vcd_engine.proofs.RoomLemmas.{within_each}
 use Rattle.vcd_engine.proofs.RunLemmas.{never_begun}
 use Rattle.vcd_engine.proofs.engine.run_task.Goals as goal
 
-pub returns-in_err-begun-clause-gives : goal.returns-in_err-begun-clause-gives
-returns-in_err-begun-clause-gives g c = λ h i front name views st.
-    let stop = c.in_err-begun.field-0.0 in
-    let e : c.from_residual.result ≡ Err stop = search rules in
-    let out : Device = (g.W.Sink.device c.args.out.now) in
-    let new : Device = (g.W.Sink.device c.start.new.out) in
-    rw e (never_begun (request_of c.args.task) _ i front h name _ _ out new c.args.feed.now stop refl st (c.in_err-begun.ensures.starts h views))
+pub returns-in_err-begun-clause-runs : goal.returns-in_err-begun-clause-runs
+returns-in_err-begun-clause-runs g c = record {
+  gives = λ h i front name views st.
+      let stop = c.in_err-begun.field-0.0 in
+      let e : c.from_residual.result ≡ Err stop = search rules in
+      let out : Device = (g.W.Sink.device c.args.out.now) in
+      let new : Device = (g.W.Sink.device c.start.new.out) in
+      rw e (never_begun (request_of c.args.task) _ i front h name _ _ out new c.args.feed.now stop refl st (c.in_err-begun.ensures.starts h views));
+  devices = search rules;
+  windows = search rules;
+}
 
 pub start-requires-clause-bound : goal.start-requires-clause-bound
-start-requires-clause-bound g c = within_each _ _ c.args.view _ c.requires.bound
+start-requires-clause-bound g c = within_each _ _ c.args.view _ c.requires.run.bound

@@ -11,16 +11,16 @@ use Rattle.vcd_engine.proofs.SampleLines.{event_is, line_of, no_line}
 use Rattle.vcd_engine.proofs.sample_lines.put_line.Goals as goal
 
 pub returns-in_default-clause-takes : goal.returns-in_default-clause-takes
-returns-in_default-clause-takes g c = λ h items v views declared held late. absurd (row_there (parts c.args.view) h c.args.row v views declared (sym c.row_at.ensures ∙ c.in_default.is))
+returns-in_default-clause-takes g c = λ h v views declared items held late. absurd (row_there (parts c.args.view) h c.args.row v views declared (sym c.row_at.ensures ∙ c.in_default.is))
 
 pub returns-then-is_event-clause-takes : goal.returns-then-is_event-clause-takes
-returns-then-is_event-clause-takes g c = λ h items v views declared held late.
+returns-then-is_event-clause-takes g c = λ h v views declared items held late.
     let event = event_is c.args.view h c.args.row c.in-Some.variable v items c.args.time views (sym c.row_at.ensures ∙ c.in-Some.is) declared true (sym c.if-is_event.true ∙ c.is_event.ensures.event h views) in
     let none = no_line c.args.view h c.args.row c.in-Some.variable v items c.args.time views (sym c.row_at.ensures ∙ c.in-Some.is) declared event in
     subst (Appends (g.W.Sink.device c.args.out.now).held (g.W.Sink.device c.args.out.now).held) (sym none) (appends-none (g.W.Sink.device c.args.out.now).held)
 
 pub returns-in_err-put_number-clause-takes : goal.returns-in_err-put_number-clause-takes
-returns-in_err-put_number-clause-takes g c = λ h items v views declared held late.
+returns-in_err-put_number-clause-takes g c = λ h v views declared items held late.
     let at = sym c.row_at.ensures ∙ c.in-Some.is in
     let event = event_is c.args.view h c.args.row c.in-Some.variable v items c.args.time views at declared false (sym c.if-is_event.false ∙ c.is_event.ensures.event h views) in
     let line = line_of c.args.view h c.args.row c.in-Some.variable v items c.args.time views at declared c.args.table.now held late event in
@@ -28,7 +28,7 @@ returns-in_err-put_number-clause-takes g c = λ h items v views declared held la
     rw e (subst (AppendsSome (g.W.Sink.device c.args.out.now).held (g.W.Sink.device c.put_number.new.w).held) line (appends-first _ _ _ (10 ∷ []) (appends-first _ _ _ (shown (value_in (codes_shown c.args.view) c.args.table.now c.in-Some.variable.code)) (appends-first _ _ _ (32 ∷ []) (appends-first _ _ _ (path_of (take c.args.row h.declarations) (Declaration.Var v)) (appends-first _ _ _ (32 ∷ []) (c.in_err-put_number.ensures.0)))))))
 
 pub returns-in_err-put-clause-takes : goal.returns-in_err-put-clause-takes
-returns-in_err-put-clause-takes g c = λ h items v views declared held late.
+returns-in_err-put-clause-takes g c = λ h v views declared items held late.
     let at = sym c.row_at.ensures ∙ c.in-Some.is in
     let event = event_is c.args.view h c.args.row c.in-Some.variable v items c.args.time views at declared false (sym c.if-is_event.false ∙ c.is_event.ensures.event h views) in
     let line = line_of c.args.view h c.args.row c.in-Some.variable v items c.args.time views at declared c.args.table.now held late event in
@@ -36,7 +36,7 @@ returns-in_err-put-clause-takes g c = λ h items v views declared held late.
     rw e (subst (AppendsSome (g.W.Sink.device c.args.out.now).held (g.W.Sink.device c.put.new.w).held) line (appends-first _ _ _ (10 ∷ []) (appends-first _ _ _ (shown (value_in (codes_shown c.args.view) c.args.table.now c.in-Some.variable.code)) (appends-first _ _ _ (32 ∷ []) (appends-first _ _ _ (path_of (take c.args.row h.declarations) (Declaration.Var v)) (appends-some _ _ _ _ (32 ∷ []) c.in_ok-put_number.ensures.0 (c.in_err-put.ensures.0)))))))
 
 pub returns-in_err-put_path-clause-takes : goal.returns-in_err-put_path-clause-takes
-returns-in_err-put_path-clause-takes g c = λ h items v views declared held late.
+returns-in_err-put_path-clause-takes g c = λ h v views declared items held late.
     let at = sym c.row_at.ensures ∙ c.in-Some.is in
     let event = event_is c.args.view h c.args.row c.in-Some.variable v items c.args.time views at declared false (sym c.if-is_event.false ∙ c.is_event.ensures.event h views) in
     let line = line_of c.args.view h c.args.row c.in-Some.variable v items c.args.time views at declared c.args.table.now held late event in
@@ -44,7 +44,7 @@ returns-in_err-put_path-clause-takes g c = λ h items v views declared held late
     rw e (subst (AppendsSome (g.W.Sink.device c.args.out.now).held (g.W.Sink.device c.put_path.new.w).held) line (appends-first _ _ _ (10 ∷ []) (appends-first _ _ _ (shown (value_in (codes_shown c.args.view) c.args.table.now c.in-Some.variable.code)) (appends-first _ _ _ (32 ∷ []) (appends-some _ _ _ _ (path_of (take c.args.row h.declarations) (Declaration.Var v)) (appends-twice _ _ _ _ (32 ∷ []) c.in_ok-put_number.ensures.0 (c.in_ok-put.ensures.0)) (c.in_err-put_path.ensures.takes h (Declaration.Var v) views declared))))))
 
 pub returns-in_err-put-2-clause-takes : goal.returns-in_err-put-2-clause-takes
-returns-in_err-put-2-clause-takes g c = λ h items v views declared held late.
+returns-in_err-put-2-clause-takes g c = λ h v views declared items held late.
     let at = sym c.row_at.ensures ∙ c.in-Some.is in
     let event = event_is c.args.view h c.args.row c.in-Some.variable v items c.args.time views at declared false (sym c.if-is_event.false ∙ c.is_event.ensures.event h views) in
     let line = line_of c.args.view h c.args.row c.in-Some.variable v items c.args.time views at declared c.args.table.now held late event in
@@ -52,7 +52,7 @@ returns-in_err-put-2-clause-takes g c = λ h items v views declared held late.
     rw e (subst (AppendsSome (g.W.Sink.device c.args.out.now).held (g.W.Sink.device c.put-2.new.w).held) line (appends-first _ _ _ (10 ∷ []) (appends-first _ _ _ (shown (value_in (codes_shown c.args.view) c.args.table.now c.in-Some.variable.code)) (appends-some _ _ _ _ (32 ∷ []) (appends-twice _ _ _ _ (path_of (take c.args.row h.declarations) (Declaration.Var v)) (appends-twice _ _ _ _ (32 ∷ []) c.in_ok-put_number.ensures.0 (c.in_ok-put.ensures.0)) (c.in_ok-put_path.ensures.takes h (Declaration.Var v) views declared)) (c.in_err-put-2.ensures.0)))))
 
 pub returns-in_err-put_full-clause-takes : goal.returns-in_err-put_full-clause-takes
-returns-in_err-put_full-clause-takes g c = λ h items v views declared held late.
+returns-in_err-put_full-clause-takes g c = λ h v views declared items held late.
     let at = sym c.row_at.ensures ∙ c.in-Some.is in
     let event = event_is c.args.view h c.args.row c.in-Some.variable v items c.args.time views at declared false (sym c.if-is_event.false ∙ c.is_event.ensures.event h views) in
     let line = line_of c.args.view h c.args.row c.in-Some.variable v items c.args.time views at declared c.args.table.now held late event in
@@ -60,7 +60,7 @@ returns-in_err-put_full-clause-takes g c = λ h items v views declared held late
     rw e (subst (AppendsSome (g.W.Sink.device c.args.out.now).held (g.W.Sink.device c.put_full.new.w).held) line (appends-first _ _ _ (10 ∷ []) (appends-some _ _ _ _ (shown (value_in (codes_shown c.args.view) c.args.table.now c.in-Some.variable.code)) (appends-twice _ _ _ _ (32 ∷ []) (appends-twice _ _ _ _ (path_of (take c.args.row h.declarations) (Declaration.Var v)) (appends-twice _ _ _ _ (32 ∷ []) c.in_ok-put_number.ensures.0 (c.in_ok-put.ensures.0)) (c.in_ok-put_path.ensures.takes h (Declaration.Var v) views declared)) (c.in_ok-put-2.ensures.0)) (c.in_err-put_full.ensures.takes held.values.laid))))
 
 pub returns-clause-takes : goal.returns-clause-takes
-returns-clause-takes g c = λ h items v views declared held late.
+returns-clause-takes g c = λ h v views declared items held late.
     let at = sym c.row_at.ensures ∙ c.in-Some.is in
     let event = event_is c.args.view h c.args.row c.in-Some.variable v items c.args.time views at declared false (sym c.if-is_event.false ∙ c.is_event.ensures.event h views) in
     let line = line_of c.args.view h c.args.row c.in-Some.variable v items c.args.time views at declared c.args.table.now held late event in

@@ -40,7 +40,7 @@ loop-row-preserved g c =
                 let shown = leads_shown_at names h marks lead i c.loop-row-test.true w.if-mark-eq1.true in
                 subst (λ n. Appends old (g.W.Sink.device w.put_line.new.out).held (rows_before (line_at items c.args.time) names h.declarations n)) next
                 (subst (λ (l : List ℕ). Appends old (g.W.Sink.device w.put_line.new.out).held l) (sym (rows_marked (line_at items c.args.time) names s h i (marks_of names h.declarations) views refl shown.variable shown.declared shown.marked))
-                (appends-twice _ _ _ _ (line_at items c.args.time (declared_at h.declarations i shown.variable)) (c.loop-row.invariant.1 h items names views lead held late) (w.in_ok-put_line.ensures.takes h items shown.variable views shown.declared held late))),
+                (appends-twice _ _ _ _ (line_at items c.args.time (declared_at h.declarations i shown.variable)) (c.loop-row.invariant.1 h items names views lead held late) (w.in_ok-put_line.ensures.takes h shown.variable views shown.declared items held late))),
           )
       | else-mark-eq1 w ↦
           rw w.out-is (
@@ -57,4 +57,4 @@ returns-in_err-put_line-clause-takes g c = λ h items names views lead held late
     let i = c.loop-row.row in
     let e : c.from_residual.result ≡ Err c.in_err-put_line.field-0.0 = search rules in
     let shown = leads_shown_at names h c.args.marks.now lead i c.loop-row-test.true c.if-mark-eq1.true in
-    rw (e, ← lines_are items c.args.time (selected names h.declarations)) (rows_some (line_at items c.args.time) names (parts c.args.view) h i (marks_of names h.declarations) views refl _ _ _ shown.variable shown.declared shown.marked (c.loop-row.invariant.1 h items names views lead held late) (c.in_err-put_line.ensures.takes h items shown.variable views shown.declared held late))
+    rw (e, ← lines_are items c.args.time (selected names h.declarations)) (rows_some (line_at items c.args.time) names (parts c.args.view) h i (marks_of names h.declarations) views refl _ _ _ shown.variable shown.declared shown.marked (c.loop-row.invariant.1 h items names views lead held late) (c.in_err-put_line.ensures.takes h shown.variable views shown.declared items held late))

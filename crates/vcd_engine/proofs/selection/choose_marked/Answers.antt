@@ -10,26 +10,26 @@ use Rattle.vcd_engine.proofs.selection.choose_marked.Goals as goal
 use Rattle.vcd_engine.proofs.selection.choose_marked.Goals.{else-eq-via-then-eq+then-mark-eq1+else-code-view, else-eq-via-then-eq+else-mark-eq1, else-eq-via-else-eq}
 
 pub loop-row-init : goal.loop-row-init
-loop-row-init c = (refl, none_chosen (parts c.args.view) c.args.marks.now (is_chosen c.args.choice.now))
+loop-row-init c = (refl, none_chosen (parts c.args.view) c.args.marks.now (is_chosen c.args.flags.now))
 
 pub loop-row-preserved-then-code-view : goal.loop-row-preserved-then-code-view
 loop-row-preserved-then-code-view c =
     let s = parts c.args.view in
-    let old = is_chosen c.args.choice.now in
+    let old = is_chosen c.args.flags.now in
     let i = length c.loop-row.yielded in
     let first : iter_rest (zip_first c.into_iter-row-iterator.result) ≡ c.args.view.rows.now = search rules in
     let second : iter_rest (zip_second c.into_iter-row-iterator.result) ≡ c.args.marks.now = search rules in
     let turn = zip_turn c.args.view.rows.now c.args.marks.now c.loop-row.yielded c.into_iter-row-iterator.result c.loop-row.row-iterator c.next.new.self c.next.result first second c.loop-row.yielded_by (c.in-Some.row, c.in-Some.mark) c.in-Some.is c.next.ensures.steps in
     let there = are_at c.args.view.rows.now c.args.marks.now i c.in-Some.row.now c.in-Some.mark.now turn in
-    let more = next_chosen s c.args.marks.now old (is_chosen c.loop-row.choice) i c.in-Some.row.now c.in-Some.mark.now c.loop-row.invariant.1 there (is_chosen c.choose.new.self) (sym c.eq.ensures ∙ c.if-eq.true) c.if-mark-eq1.true c.choose.ensures.chosen in
-    (c.choose.ensures.codes ∙ c.loop-row.invariant.0, subst (HaveChosen s c.args.marks.now old (is_chosen c.choose.new.self)) (sym (length_push c.loop-row.yielded (c.in-Some.row, c.in-Some.mark))) more)
+    let more = next_chosen s c.args.marks.now old (is_chosen c.loop-row.flags) i c.in-Some.row.now c.in-Some.mark.now c.loop-row.invariant.1 there (is_chosen c.choose.new.flags) (sym c.eq.ensures ∙ c.if-eq.true) c.if-mark-eq1.true c.choose.ensures.chosen in
+    (c.choose.ensures.codes ∙ c.loop-row.invariant.0, subst (HaveChosen s c.args.marks.now old (is_chosen c.choose.new.flags)) (sym (length_push c.loop-row.yielded (c.in-Some.row, c.in-Some.mark))) more)
 
 pub loop-row-preserved : goal.loop-row-preserved
 loop-row-preserved c =
     let s = parts c.args.view in
     let marks = c.args.marks.now in
-    let old = is_chosen c.args.choice.now in
-    let now = is_chosen c.loop-row.choice in
+    let old = is_chosen c.args.flags.now in
+    let now = is_chosen c.loop-row.flags in
     let i = length c.loop-row.yielded in
     let r = c.in-Some.row.now in
     let m = c.in-Some.mark.now in
@@ -50,4 +50,4 @@ returns-clause-chosen c = λ h names views is place code at.
     let first : iter_rest (zip_first c.into_iter-row-iterator.result) ≡ c.args.view.rows.now = search rules in
     let second : iter_rest (zip_second c.into_iter-row-iterator.result) ≡ c.args.marks.now = search rules in
     let end = zip_end c.args.view.rows.now c.args.marks.now c.loop-row.yielded c.into_iter-row-iterator.result c.loop-row.row-iterator c.next.new.self c.next.result first second c.loop-row.yielded_by c.in-None.is c.next.ensures.steps in
-    all_chosen (parts c.args.view) c.args.marks.now (is_chosen c.args.choice.now) (is_chosen c.loop-row.choice) (length c.loop-row.yielded) h names place code end c.loop-row.invariant.1 views is at
+    all_chosen (parts c.args.view) c.args.marks.now (is_chosen c.args.flags.now) (is_chosen c.loop-row.flags) (length c.loop-row.yielded) h names place code end c.loop-row.invariant.1 views is at

@@ -21,10 +21,18 @@ items-init g c = (
   λ h i front begin holds st w. ([], runs_first c.args.self.now h i front c.args.feed.now holds st, w),
 )
 
-pub advance-requires-clause-bound : goal.advance-requires-clause-bound
-advance-requires-clause-bound g c =
+pub advance-requires : goal.advance-requires
+advance-requires g c =
     let since = c.items.invariant.0 in
-    rw (since.limit, since.chunk, c.items.invariant.4.0, c.items.invariant.4.1) c.requires.bound
+    record {
+      step = record {
+        feed_failures = search rules;
+        out_failures = search rules;
+        going = c.items.invariant.1;
+        bound = rw (since.limit, since.chunk, c.items.invariant.4.0, c.items.invariant.4.1) c.requires.run.bound;
+      };
+      view = search rules;
+    }
 
 pub returns-in_err-advance-clause-gives : goal.returns-in_err-advance-clause-gives
 returns-in_err-advance-clause-gives g c = λ h i front name begin holds st w.
@@ -37,9 +45,9 @@ returns-in_err-advance-clause-gives g c = λ h i front name begin holds st w.
     let out : Device = (g.W.Sink.device c.items.out) in
     let new : Device = (g.W.Sink.device c.advance.new.out) in
     let gives = asked (request_of_engine c.items.self) t h i front s.0 c.advance.new.self c.advance.new.feed out new _ (Err stop) same refl (c.in_err-advance.ensures.gives h i front s.0 s.1) in
-    let unfailed = since.goes refl c.requires.open in
-    let failed = step_reads g.S.Source.failures c.items.feed c.advance.new.feed (Err stop) unfailed c.in_err-advance.ensures.advances ∙ ap (λ n. n + reads_failed {A = Done} (Err stop)) (since.same (λ x. cc)) in
-    rw e (steps_stop t h i front s.0 begin out new s.2 c.advance.new.self c.advance.new.feed name _ _ _ (can_run t c.items.self h i front s.0 c.items.feed same s.1) (c.in_err-advance.ensures.advances.limit ∙ since.limit) (c.in_err-advance.ensures.advances.chunk ∙ since.chunk) stop failed gives)
+    let unfailed = since.goes refl c.requires.run.unfailed in
+    let failed = step_reads g.S.Source.failures c.items.feed c.advance.new.feed (Err stop) unfailed c.in_err-advance.ensures.over.advances ∙ ap (λ n. n + reads_failed {A = Done} (Err stop)) (since.same (λ x. cc)) in
+    rw e (steps_stop t h i front s.0 begin out new s.2 c.advance.new.self c.advance.new.feed name _ _ _ (can_run t c.items.self h i front s.0 c.items.feed same s.1) (c.in_err-advance.ensures.over.advances.limit ∙ since.limit) (c.in_err-advance.ensures.over.advances.chunk ∙ since.chunk) stop failed gives)
 
 pub returns-in-Ended-clause-gives : goal.returns-in-Ended-clause-gives
 returns-in-Ended-clause-gives g c = λ h i front name begin holds st w.
@@ -51,9 +59,9 @@ returns-in-Ended-clause-gives g c = λ h i front name begin holds st w.
     let out : Device = (g.W.Sink.device c.items.out) in
     let new : Device = (g.W.Sink.device c.advance.new.out) in
     let gives = asked (request_of_engine c.items.self) t h i front s.0 c.advance.new.self c.advance.new.feed out new _ (Ok (Ended done)) same (ap (λ a. Ok a) c.in-Ended.is) (c.in_ok-advance.ensures.gives h i front s.0 s.1) in
-    let ended = subst (λ (a : More). Advances g.S.Source.failures c.items.feed c.advance.new.feed (step_end (Ok a))) c.in-Ended.is c.in_ok-advance.ensures.advances in
-    steps_end t h i front s.0 begin out new s.2 c.advance.new.self c.advance.new.feed name _ _ _ (can_run t c.items.self h i front s.0 c.items.feed same s.1) (c.in_ok-advance.ensures.advances.limit ∙ since.limit) (c.in_ok-advance.ensures.advances.chunk ∙ since.chunk) done
-    (step_reads g.S.Source.failures c.items.feed c.advance.new.feed (Ok (Ended done)) (since.goes refl c.requires.open) ended ∙ add-zero _ ∙ since.same (λ x. cc)) gives
+    let ended = subst (λ (a : More). Advances g.S.Source.failures c.items.feed c.advance.new.feed (step_end (Ok a))) c.in-Ended.is c.in_ok-advance.ensures.over.advances in
+    steps_end t h i front s.0 begin out new s.2 c.advance.new.self c.advance.new.feed name _ _ _ (can_run t c.items.self h i front s.0 c.items.feed same s.1) (c.in_ok-advance.ensures.over.advances.limit ∙ since.limit) (c.in_ok-advance.ensures.over.advances.chunk ∙ since.chunk) done
+    (step_reads g.S.Source.failures c.items.feed c.advance.new.feed (Ok (Ended done)) (since.goes refl c.requires.run.unfailed) ended ∙ add-zero _ ∙ since.same (λ x. cc)) gives
 
 pub items-preserved : goal.items-preserved
 items-preserved g c =
@@ -62,11 +70,11 @@ items-preserved g c =
     let same = c.items.invariant.2 in
     let out : Device = (g.W.Sink.device c.items.out) in
     let new : Device = (g.W.Sink.device c.advance.new.out) in (
-      advances_on g.S.Source.failures c.args.feed.now c.items.feed c.advance.new.feed CallEnd.GoesOn c.items.invariant.0 (subst (λ (a : More). Advances g.S.Source.failures c.items.feed c.advance.new.feed (step_end (Ok a))) c.in-Again.is c.in_ok-advance.ensures.advances),
-      c.in_ok-advance.ensures.going ∙ ap goes_on again,
-      c.in_ok-advance.ensures.request ∙ same,
-      c.in_ok-advance.ensures.writes ∙ add-zero _ ∙ c.items.invariant.3,
-      (c.in_ok-advance.ensures.holds.0 ∙ c.items.invariant.4.0, c.in_ok-advance.ensures.holds.1 ∙ c.items.invariant.4.1),
+      advances_on g.S.Source.failures c.args.feed.now c.items.feed c.advance.new.feed CallEnd.GoesOn c.items.invariant.0 (subst (λ (a : More). Advances g.S.Source.failures c.items.feed c.advance.new.feed (step_end (Ok a))) c.in-Again.is c.in_ok-advance.ensures.over.advances),
+      c.in_ok-advance.ensures.over.going ∙ ap goes_on again,
+      c.in_ok-advance.ensures.over.request ∙ same,
+      c.in_ok-advance.ensures.over.writes ∙ add-zero _ ∙ c.items.invariant.3,
+      (c.in_ok-advance.ensures.over.holds.0 ∙ c.items.invariant.4.0, c.in_ok-advance.ensures.over.holds.1 ∙ c.items.invariant.4.1),
       λ h i front begin holds st w.
           let s = c.items.invariant.5 h i front begin holds st w in
           steps_go_on t h i front s.0 begin out new s.2 c.advance.new.self c.advance.new.feed (asked (request_of_engine c.items.self) t h i front s.0 c.advance.new.self c.advance.new.feed out new _ (Ok Again) same again (c.in_ok-advance.ensures.gives h i front s.0 s.1)),

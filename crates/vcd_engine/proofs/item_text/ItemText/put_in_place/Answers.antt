@@ -4,19 +4,59 @@ use Rattle.vcd_text.proofs.Writes.{some-first}
 use Rattle.vcd_engine.specs.ItemText.{HasWritten}
 use Rattle.vcd_engine.specs.Pieces.{PutsOn, held_in}
 use Rattle.vcd_engine.proofs.ItemTextLemmas.{text_with, written_with}
-use Rattle.vcd_engine.proofs.PieceLemmas.{put_on}
-use Rattle.vcd_body.proofs.Results.{if_ok_more}
+use Rattle.vcd_engine.proofs.PieceLemmas.{first_on, put_on, twice_behind}
+use Rattle.vcd_body.specs.Spelled.{bytes_without}
+use Rattle.vcd_body.proofs.Results.{if_ok}
 use Rattle.vcd_engine.proofs.item_text.ItemText.put_in_place.Goals as goal
 
-pub returns-clause-text : goal.returns-clause-text
-returns-clause-text g c = λ h before kept e views is at has tells.
-    let t = c.args.self.now in
-    let line = c.in-Some.ensures.1 c.args.view h e.item c.requires.place views is in
-    let bytes = c.args.change.bytes.now in
-    let puts = subst (λ l. PutsOn (held_in bytes c.args.pieces.now) (held_in bytes c.put_line.new.pieces) (g.W.Sink.device c.args.out.now) (g.W.Sink.device c.put_line.new.out) (time_due t.written c.args.time ++ l) c.put_line.result) line c.put_line.ensures.puts.puts in (
-      (time_due t.written c.args.time ++ item_line e.item, text_with before kept e c.args.time t at has tells, puts),
-      if_ok_more c.put_line.result _ _ (λ w. subst (λ o. HasWritten before (kept ++ e ∷ []) (record { written = o })) (sym w) (written_with before kept e c.args.time at)) c.put_line.ensures.written,
-    )
+pub left_out-requires : goal.left_out-requires
+left_out-requires g c = (c.args.view, c.requires.place.spelled)
+
+pub returns-in_err-put_time_behind : goal.returns-in_err-put_time_behind
+returns-in_err-put_time_behind g c =
+    let e : c.from_residual-in_err-put_time_behind.result ≡ Err c.in_err-put_time_behind.field-0.0 = search rules in
+    let time = c.in_err-put_time_behind.ensures.puts in
+    rw e (record {
+      text = λ h before kept e views is at has tells.
+          let t = c.args.self.now in
+          ((time_due t.written c.args.time ++ item_line e.item, text_with before kept e c.args.time t at has tells, first_on (held_in c.args.change.bytes.now c.args.pieces.now) (time_due t.written c.args.time) (item_line e.item) _ _ time.puts), tt);
+      counts = time.counts;
+      part = tt;
+    })
+
+pub returns-in-Change-default-Vector : goal.returns-in-Change-default-Vector
+returns-in-Change-default-Vector g c =
+    let l = c.args.change in
+    let bytes = l.bytes.now in
+    let both = twice_behind bytes c.args.pieces.now c.put_time_behind.new.pieces c.append_without.new.self _ (bytes_without bytes l.from l.to c.in-Some.n) _ _ _ _ c.append_without.result c.in_ok-put_time_behind.ensures.puts c.append_without.ensures in
+    record {
+      text = λ h before kept e views is at has tells.
+          let t = c.args.self.now in
+          let line = c.in-Some.ensures.1 c.args.view h e.item c.requires.place.spelled c.requires.place.bits c.requires.place.sized views is in
+          let puts = subst (λ k. PutsOn (held_in bytes c.args.pieces.now) (held_in bytes c.append_without.new.self) (g.W.Sink.device c.args.out.now) (g.W.Sink.device c.append_without.new.out) (time_due t.written c.args.time ++ k) c.append_without.result) line both.puts in (
+            (time_due t.written c.args.time ++ item_line e.item, text_with before kept e c.args.time t at has tells, puts),
+            if_ok c.append_without.result _ (subst (λ o. HasWritten before (kept ++ e ∷ []) (record { written = o })) (sym c.in_ok-put_time_behind.ensures.written) (written_with before kept e c.args.time at)),
+          );
+      counts = both.counts;
+      part = both.part;
+    }
+
+pub returns : goal.returns
+returns g c =
+    let l = c.args.change in
+    let bytes = l.bytes.now in
+    let both = twice_behind bytes c.args.pieces.now c.put_time_behind.new.pieces c.append_parts.new.self _ (bytes_without bytes l.from l.to c.in-Some.n) _ _ _ _ c.append_parts.result c.in_ok-put_time_behind.ensures.puts c.append_parts.ensures in
+    record {
+      text = λ h before kept e views is at has tells.
+          let t = c.args.self.now in
+          let line = c.in-Some.ensures.1 c.args.view h e.item c.requires.place.spelled c.requires.place.bits c.requires.place.sized views is in
+          let puts = subst (λ k. PutsOn (held_in bytes c.args.pieces.now) (held_in bytes c.append_parts.new.self) (g.W.Sink.device c.args.out.now) (g.W.Sink.device c.append_parts.new.out) (time_due t.written c.args.time ++ k) c.append_parts.result) line both.puts in (
+            (time_due t.written c.args.time ++ item_line e.item, text_with before kept e c.args.time t at has tells, puts),
+            if_ok c.append_parts.result _ (subst (λ o. HasWritten before (kept ++ e ∷ []) (record { written = o })) (sym c.in_ok-put_time_behind.ensures.written) (written_with before kept e c.args.time at)),
+          );
+      counts = both.counts;
+      part = both.part;
+    }
 
 pub returns-in_err-flush-clause-text : goal.returns-in_err-flush-clause-text
 returns-in_err-flush-clause-text g c = λ h before kept e views is at has tells.

@@ -1,11 +1,17 @@
-use Rattle.std.proofs.Common.{◌∙◌, sym, arith}
-use Rattle.vcd_model.proofs.CutSteps.{not_started}
-use Rattle.vcd_engine.proofs.CutLemmas.{begins_is, values_before}
+use Rattle.std.proofs.Common.{◌≡◌, Err, inl, refl, arith, rules}
 use Rattle.vcd_engine.proofs.machine.cut.Cut.begin_by.Goals as goal
 
+pub returns-in_err-put_section-clause-begins : goal.returns-in_err-put_section-clause-begins
+returns-in_err-put_section-clause-begins g c = λ h items views has.
+    let e : c.from_residual.result ≡ Err c.in_err-put_section.field-0.0 = search rules in
+    rw e (c.if-self.false, omega (arith, c.if-time-self.false), (c.in_err-put_section.ensures.takes h items views (has c.if-self.false), c.in_err-put_section.ensures.counts))
+
 pub returns-clause-begins : goal.returns-clause-begins
-returns-clause-begins g c = λ h items views is.
-    let m = c.args.self.now in
-    let none = sym is.started_is ∙ c.if-self.false in
-    begins_is h items c.args.time m c.begin.new.self (g.W.Sink.device c.args.out.now) (g.W.Sink.device c.begin.new.out) c.begin.result none (omega (arith, c.if-time-self.false))
-    (c.begin.ensures.takes h items views (values_before m.table h m.from items (not_started m.from items none) (is.held c.if-self.false))) c.begin.ensures.counts c.begin.ensures.begun
+returns-clause-begins g c = λ h items views has.
+    inl (record {
+      due = c.if-self.false;
+      come = omega (arith, c.if-time-self.false);
+      stands = refl;
+      text = c.after-self.ensures;
+      section = c.in_ok-put_section.ensures.takes h items views (has c.if-self.false);
+    })

@@ -12,7 +12,7 @@ returns-clause-takes g c = λ h items x views known read few is.
     let change = c.requires.place.change in
     let none = no_mark_here p.item change.0 change.1 change.2 in
     let before = unbegun m.started c.requires.ready in
-    let held = c.set_plain.ensures.held v h items x views c.requires.place.good read (is.held before) in (
+    let held = c.set_item.ensures.held v h items x views c.requires.place.good read (is.held before) in (
       ([], none_before v h items r m p.text.now p.item x views known is read none before, none_on _ (g.W.Sink.device c.args._out.now)),
-      item_held v h items r m p.text.now p.item x views known is read none c.set_plain.new.table before held,
+      item_held v h items r m p.text.now p.item x views known is read none c.set_item.new.table before held,
     )

@@ -16,8 +16,7 @@ returns-in_default c = record {
     marks_are = is.marks_are;
     tallied = still_tallied c.args.self.now.table h items x (other_gives h.codes c.args.text.now c.args.item x read c.in_default.not-Change) is.tallied;
   };
-  names = refl;
-  room = refl;
+  same = (refl, refl);
 }
 
 pub returns-clause-takes : goal.returns-clause-takes

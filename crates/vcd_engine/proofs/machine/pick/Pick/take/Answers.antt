@@ -12,14 +12,14 @@ use Rattle.vcd_engine.proofs.machine.pick.Pick.take.Goals as goal
 pub returns-then-not-keeps-clause-takes : goal.returns-then-not-keeps-clause-takes
 returns-then-not-keeps-clause-takes g c = λ h items before x views known re is few picked.
     let p = c.args.self.now in
-    let not : is_kept p.choice c.args.view (regs_after before c.args.item) c.args.item ≡ false = ap (λ (r : Regs). is_kept p.choice c.args.view r c.args.item) (sym re) ∙ sym c.keeps.ensures ∙ c.if-not-keeps.true in
+    let not : is_kept p.flags.now c.args.view (regs_after before c.args.item) c.args.item ≡ false = ap (λ (r : Regs). is_kept p.flags.now c.args.view r c.args.item) (sym re) ∙ sym c.keeps.ensures ∙ c.if-not-keeps.true in
     let k = sym (kept_is c.args.view h items before p views known picked c.args.text.now c.args.item x is) ∙ not in
     (([], none_due h (names_in p) items x k, appends-none (g.W.Sink.device c.args.out.now).held), picks_still h items p picked x k)
 
 pub returns-clause-takes : goal.returns-clause-takes
 returns-clause-takes g c = λ h items before x views known re is few picked.
     let p = c.args.self.now in
-    let yes : is_kept p.choice c.args.view (regs_after before c.args.item) c.args.item ≡ true = ap (λ (r : Regs). is_kept p.choice c.args.view r c.args.item) (sym re) ∙ sym c.keeps.ensures ∙ c.if-not-keeps.false in
+    let yes : is_kept p.flags.now c.args.view (regs_after before c.args.item) c.args.item ≡ true = ap (λ (r : Regs). is_kept p.flags.now c.args.view r c.args.item) (sym re) ∙ sym c.keeps.ensures ∙ c.if-not-keeps.false in
     let k = sym (kept_is c.args.view h items before p views known picked c.args.text.now c.args.item x is) ∙ yes in
     let t = ap (λ (r : Regs). r.time) re ∙ kept_time c.args.view h items before p views known picked c.args.item yes in
     let one = c.put.ensures.text h [] (pick_kept h (names_in p) items) (entry_after items x) views is (sym t) picked.written (last_tells h (names_in p) items c.args.regs.time t) in

@@ -16,7 +16,7 @@ returns-then-not-keeps-clause-takes g c = λ h items x views known is few picked
     let plain = c.args.change.plain in
     let change = c.requires.place.change in
     let re = same_regs r plain.item change.0 change.1 change.2 in
-    let not : is_kept p.choice c.args.view (regs_after r plain.item) plain.item ≡ false = ap (λ (q : Regs). is_kept p.choice c.args.view q plain.item) (sym re) ∙ sym c.keeps.ensures ∙ c.if-not-keeps.true in
+    let not : is_kept p.flags.now c.args.view (regs_after r plain.item) plain.item ≡ false = ap (λ (q : Regs). is_kept p.flags.now c.args.view q plain.item) (sym re) ∙ sym c.keeps.ensures ∙ c.if-not-keeps.true in
     let k = sym (kept_is c.args.view h items r p views known picked plain.text.now plain.item x is) ∙ not in
     (([], none_due h (names_in p) items x k, none_on _ (g.W.Sink.device c.args.out.now)), picks_still h items p picked x k)
 
@@ -27,7 +27,7 @@ returns-clause-takes g c = λ h items x views known is few picked.
     let plain = c.args.change.plain in
     let change = c.requires.place.change in
     let re = same_regs r plain.item change.0 change.1 change.2 in
-    let yes : is_kept p.choice c.args.view (regs_after r plain.item) plain.item ≡ true = ap (λ (q : Regs). is_kept p.choice c.args.view q plain.item) (sym re) ∙ sym c.keeps.ensures ∙ c.if-not-keeps.false in
+    let yes : is_kept p.flags.now c.args.view (regs_after r plain.item) plain.item ≡ true = ap (λ (q : Regs). is_kept p.flags.now c.args.view q plain.item) (sym re) ∙ sym c.keeps.ensures ∙ c.if-not-keeps.false in
     let k = sym (kept_is c.args.view h items r p views known picked plain.text.now plain.item x is) ∙ yes in
     let t = ap (λ (q : Regs). q.time) re ∙ kept_time c.args.view h items r p views known picked plain.item yes in
     let one = c.put_in_place.ensures.text h [] (pick_kept h (names_in p) items) (entry_after items x) views is (sym t) picked.written (last_tells h (names_in p) items r.time t) in

@@ -1,0 +1,37 @@
+-- What the clauses of this crate speak of, under one path: of the crates below, and what several of
+-- its modules share.
+pub use Rattle.vcd_model.specs.BodyPhrases.{section_keyword}
+pub use Rattle.vcd_model.specs.Bound.{AreWindows, FitsInput, no_room, RoomSize, WindowSize}
+pub use Rattle.vcd_model.specs.Bytes.{as_line}
+pub use Rattle.vcd_model.specs.CheckAndList.{check_close, count_line, list_line, list_text, number_or_dash}
+pub use Rattle.vcd_model.specs.Cut.{cut_close}
+pub use Rattle.vcd_model.specs.Declarations.{IdCode}
+pub use Rattle.vcd_model.specs.Edges.{edges_close, edges_line}
+pub use Rattle.vcd_model.specs.Header.{Header}
+pub use Rattle.vcd_model.specs.History.{value_before}
+pub use Rattle.vcd_model.specs.ItemText.{closing, item_line, last_mark, time_due, time_line}
+pub use Rattle.vcd_model.specs.Items.{BodyItem, Change, Entry, leaves_open}
+pub use Rattle.vcd_model.specs.Keywords.{keyword_text}
+pub use Rattle.vcd_model.specs.Laws.{IsValid}
+pub use Rattle.vcd_model.specs.Outcome.{close_text, Request}
+pub use Rattle.vcd_model.specs.Pick.{pick_close, pick_open}
+pub use Rattle.vcd_model.specs.Sample.{is_settled, sample_lines}
+pub use Rattle.vcd_model.specs.Selection.{first_unmatched, selected, selects_code}
+pub use Rattle.vcd_text.specs.Advances.{Advances, CallEnd}
+pub use Rattle.vcd_text.specs.Ahead.{bytes_of, passed_of}
+pub use Rattle.vcd_text.specs.Device.{Counts, Device, Puts, Takes}
+pub use Rattle.vcd_text.specs.Feed.{seen}
+pub use Rattle.vcd_view.specs.Needs.{room, view_size}
+pub use Rattle.vcd_view.specs.Shown.{parts}
+pub use Rattle.vcd_view.specs.Views.{IsViewOf}
+pub use Rattle.vcd_view.specs.declared.view.Code.{Code}
+pub use Rattle.vcd_view.specs.declared.view.HeadView.{HeadView}
+pub use Rattle.vcd_head.specs.Marks.{is_marked, marks_of}
+pub use Rattle.vcd_body.specs.Ahead.{HasBits}
+pub use Rattle.vcd_body.specs.Contents.{KeepsTable}
+pub use Rattle.vcd_body.specs.Device.{TakesDue}
+pub use Rattle.vcd_body.specs.Given.{HasGoodText, IsGoodText, IsItem, IsText, item_text}
+pub use Rattle.vcd_body.specs.Items.{AreRegsAfter, model_section}
+pub use Rattle.vcd_body.specs.Spelled.{bytes_without, HasMark}
+pub use Rattle.vcd_engine.specs.Engine.{AtClose, AtItem, CanRun, ClosesOver, CountsStop, HasBegun, Holds, is_going, Keeps, last_of, may_end_early, request_in, request_of, request_of_begun, request_of_engine, Starts, StartsOver, StopsUnread, TakesEach, TakesOne, TakesTime}
+pub use Rattle.vcd_engine.specs.Room.{AreWithinBound, BeginsAs, HasRoomFor, IsWithin, IsWithinEachBound, marks_for, room_in, room_of, room_of_begun, room_size, SameHold, SameTask, slots_for, values_for, view_in}
