@@ -1,4 +1,5 @@
 # make         proves the program and the crates that it uses, builds it as ./vcdkit and shows it on a sample dump
+# make CPU=x86-64-v3    the same for a newer processor, whose instructions it may use; such a program says so and ends where they lack
 # make test    the merge gate: every proof from nothing, must-fail edits, tests, the program as two compilers build it
 # make hostile runs the program where memory, reads and writes fail, and on dumps that are cut off, crafted or made at random: some minutes
 # make docs-check runs the commands that README, manual and recipes show over ./vcdkit, and compares what they print and which must-fail edits PROOFS lists: seconds
@@ -16,6 +17,8 @@ sample := samples/counter.vcd
 
 .PHONY: all test hostile docs-check clean vcdkit toolchain static library dist dist-check install uninstall completions-check extras-check
 
+# The processor that is built for; none for any of x86-64 with SSE4.2.
+CPU ?=
 PREFIX ?= /usr/local
 DESTDIR ?=
 bin := $(DESTDIR)$(PREFIX)/bin
@@ -35,7 +38,7 @@ all: vcdkit
 # The log is begun anew, and prove.py shows how far it is. With no change the program is only run.
 vcdkit: toolchain
 	@rm -f make.log
-	packaging/prove.py vcdkit_main run -- check < $(sample)
+	packaging/prove.py vcdkit_main run $(addprefix --cpu=,$(CPU)) -- check < $(sample)
 	cp crates/vcdkit_main/out/vcdkit_main $@
 
 test: toolchain
