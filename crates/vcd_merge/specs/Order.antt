@@ -1,5 +1,5 @@
 -- The order in which the inputs of a merge have their turns.
-use Rattle.std.specs.Prelude.{◌≡◌, ◌≢◌, ℕ, ◌<◌, ◌≤◌, ◌⊎◌, false, List, map, get_or, slice_get, Some}
+use Rattle.std.specs.Prelude.{◌≡◌, ◌≢◌, ℕ, ◌<◌, ◌≤◌, ◌⊎◌, false, List, length, map, get_or, slice_get, Some}
 use Rattle.vcd_merge.specs.declared.seat.Seat.{Seat}
 
 -- an input with this time comes before the other one: by the times, and of equal times by the
@@ -28,6 +28,14 @@ pub record AreInOrder (In : ℕ → Type 0) (time : ℕ → ℕ) (inputs : List 
 -- these inputs wait, in order
 abbrev pub IsOrder : List Seat → (n out : ℕ) → (inputs : List ℕ) → (len : ℕ) → Type 0
 IsOrder seats n out = AreInOrder (Waits seats n out) (time_of seats)
+
+-- all that have not finished wait
+abbrev pub AllWait : List Seat → (inputs : List ℕ) → (len : ℕ) → Type 0
+AllWait seats = IsOrder seats (length seats) (length seats)
+
+-- some wait, and this input is none of them
+abbrev pub MayJoin : List Seat → (input : ℕ) → (inputs : List ℕ) → (len : ℕ) → Type 0
+MayJoin seats input inputs len = (n : ℕ) × (out : ℕ) × (n ≤ length seats) × IsOrder seats n out inputs len × ((n ≤ input) ⊎ (input ≡ out))
 
 -- with any time before this one, the input would go before all others that have not finished
 abbrev pub IsFirstBefore : List Seat → ℕ → ℕ → Type 0

@@ -9,7 +9,7 @@ ghost use Rattle.vcd_view.specs.Views.{Views};
 ghost use Rattle.vcd_merge.specs.Seat.{AtSeat, Lane, Spot};
 ghost use Rattle.vcd_merge.specs.MergeParts.{AreParts, AreSeated, SameLengths, part, part_len, spot_at};
 ghost use Rattle.vcd_merge.specs.MergeOrder.{IsNext, greatest_time};
-ghost use Rattle.vcd_merge.specs.Order.{IsOrder};
+ghost use Rattle.vcd_merge.specs.Order.{AllWait};
 ghost use Rattle.vcd_merge.specs.MergeTrail.{RunGives, RunLeaves, TurnsAt};
 ghost use Rattle.vcd_merge.specs.MergeRun.{Follows};
 ghost use Rattle.vcd_model.specs.Header.{Header};
@@ -186,8 +186,7 @@ fn run_next<S: Source, W: Sink>(
     requires out_failures { (W.device out.old).failures < 2 ^ 64 - 1 }
     requires ready { IsReady (standing heads.now seats.old written.old sources.old windows.old) }
     requires few { length seats.old ≤ 64 }
-    requires order { IsOrder seats.old (length seats.old) (length seats.old)
-        order.old.inputs order.old.len }
+    requires order { AllWait seats.old order.old.inputs order.old.len }
     ensures runs { (alone : Bool) (hs : List Header) (lanes : List Lane) (ds : List Dump)
         → (alone ≡ true → most ≡ 0)
         → Holds S.rest hs lanes ds (standing heads.now seats.old written.old sources.old windows.old)
@@ -199,8 +198,7 @@ fn run_next<S: Source, W: Sink>(
         (standing heads.now seats.old written.old sources.old windows.old)
         (standing heads.now seats.new written.new sources.new windows.new)
         (W.device out.old) (W.device out.new) k result }
-    ensures order { result ≡ Ok More.Again → IsOrder seats.new (length seats.new)
-        (length seats.new) order.new.inputs order.new.len }
+    ensures order { result ≡ Ok More.Again → AllWait seats.new order.new.inputs order.new.len }
 {
     let Some(next) = order.take_next(seats) else {
         return Ok(More::Ended(Done::Whole));
@@ -231,8 +229,7 @@ fn run_step<S: Source, W: Sink>(
     requires reads { All (λ s. S.failures s < 2 ^ 64 - 1) sources.old }
     requires out_failures { (W.device out.old).failures < 2 ^ 64 - 1 }
     requires ready { IsReady (standing_of merge.old sources.old windows.old) }
-    requires order { IsOrder merge.old.seats.now (length merge.old.seats.now)
-        (length merge.old.seats.now) order.old.inputs order.old.len }
+    requires order { AllWait merge.old.seats.now order.old.inputs order.old.len }
     ensures runs { (alone : Bool) (hs : List Header) (lanes : List Lane) (ds : List Dump)
         → (alone ≡ true → most ≡ 0)
         → Holds S.rest hs lanes ds (standing_of merge.old sources.old windows.old)
@@ -244,8 +241,8 @@ fn run_step<S: Source, W: Sink>(
         (standing_of merge.old sources.old windows.old)
         (standing_of merge.new sources.new windows.new)
         (W.device out.old) (W.device out.new) k result }
-    ensures order { result ≡ Ok More.Again → IsOrder merge.new.seats.now
-        (length merge.new.seats.now) (length merge.new.seats.now) order.new.inputs order.new.len }
+    ensures order { result ≡ Ok More.Again
+        → AllWait merge.new.seats.now order.new.inputs order.new.len }
     ensures heads { merge.new.heads.now ≡ merge.old.heads.now }
     ensures going { is_going merge.new ≡ goes_on result }
 {
@@ -267,8 +264,7 @@ fn run_step<S: Source, W: Sink>(
 // They come as a `&mut`: of what a shared borrow of a field reads a proof learns nothing.
 fn order_of(seats: &mut [Seat]) -> Order
     requires { length seats.old ≤ 64 }
-    ensures order { IsOrder seats.old (length seats.old) (length seats.old)
-        result.inputs result.len }
+    ensures order { AllWait seats.old result.inputs result.len }
     ensures stay { seats.new ≡ seats.old }
 {
     Order::of(seats)

@@ -1,7 +1,7 @@
 //! The order in which the inputs of a merge have their turns.
 ghost use Rattle.std.specs.Prelude.{◌≡◌, ◌≢◌, ℕ, ◌+◌, ◌<◌, ◌≤◌, ◌⊎◌, true, false, get_or, slice_get, length, All, MatchOption, IfSome, Some};
 ghost use Rattle.vcd_merge.specs.MergeOrder.{IsNext};
-ghost use Rattle.vcd_merge.specs.Order.{ComesBefore, IsFirstBefore, IsOrder, time_of};
+ghost use Rattle.vcd_merge.specs.Order.{AllWait, ComesBefore, IsFirstBefore, IsOrder, MayJoin, time_of};
 
 use crate::seat::Seat;
 
@@ -60,8 +60,7 @@ impl Order {
     #[inline(always)]
     fn place_for(&self, input: usize, seats: &[Seat]) -> usize
         requires input { input < length seats.now }
-        requires order { (n : ℕ) × (out : ℕ) × (n ≤ length seats.now)
-            × IsOrder seats.now n out self.now.inputs self.now.len × ((n ≤ input) ⊎ (input ≡ out)) }
+        requires order { MayJoin seats.now input self.now.inputs self.now.len }
         ensures within { result ≤ self.now.len }
         ensures before { (p : ℕ) → result ≤ p → p < self.now.len
             → ComesBefore (time_of seats.now (get_or self.now.inputs p 0))
@@ -90,8 +89,7 @@ impl Order {
             × (s.finished ≡ false) }
         requires few { length seats.now ≤ 64 }
         requires room { self.old.len < 64 }
-        requires order { (n : ℕ) × (out : ℕ) × (n ≤ length seats.now)
-            × IsOrder seats.now n out self.old.inputs self.old.len × ((n ≤ input) ⊎ (input ≡ out)) }
+        requires order { MayJoin seats.now input self.old.inputs self.old.len }
         ensures back { (n : ℕ) → IsOrder seats.now n input self.old.inputs self.old.len → input < n
             → IsOrder seats.now n n self.new.inputs self.new.len }
         ensures last { IsOrder seats.now input input self.old.inputs self.old.len
@@ -111,8 +109,7 @@ impl Order {
         requires input { input < length seats.now }
         requires few { length seats.now ≤ 64 }
         requires room { self.old.len < 64 }
-        requires order { (n : ℕ) × (out : ℕ) × (n ≤ length seats.now)
-            × IsOrder seats.now n out self.old.inputs self.old.len × ((n ≤ input) ⊎ (input ≡ out)) }
+        requires order { MayJoin seats.now input self.old.inputs self.old.len }
         ensures back { (n : ℕ) → IsOrder seats.now n input self.old.inputs self.old.len → input < n
             → IsOrder seats.now n n self.new.inputs self.new.len }
         ensures last { IsOrder seats.now input input self.old.inputs self.old.len
@@ -127,7 +124,7 @@ impl Order {
     /// All inputs that have not finished.
     pub(crate) fn of(seats: &[Seat]) -> Order
         requires { length seats.now ≤ 64 }
-        ensures { IsOrder seats.now (length seats.now) (length seats.now) result.inputs result.len }
+        ensures { AllWait seats.now result.inputs result.len }
     {
         let mut order = Order {
             inputs: [0; 64],
@@ -164,8 +161,7 @@ impl Order {
     /// Takes out the next input: it is its turn. None where all have finished.
     #[inline(always)]
     pub(crate) fn take_next(&mut self, seats: &[Seat]) -> Option<Run>
-        requires { IsOrder seats.now (length seats.now) (length seats.now)
-            self.old.inputs self.old.len }
+        requires { AllWait seats.now self.old.inputs self.old.len }
         ensures run { MatchOption result (All (λ (s : Seat). s.finished ≡ true) seats.now)
             (λ run. IsNext seats.now run.input × IsFirstBefore seats.now run.input run.before
             × IsOrder seats.now (length seats.now) run.input self.new.inputs self.new.len) }
