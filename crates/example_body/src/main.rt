@@ -2,7 +2,7 @@
 //! `vcd_body`, over a header that `vcd_head` has read.
 //!
 //! `count` is the loop over items. Its contract says that the counts are those of the items of the
-//! whole body, over every feed that stands behind the header.
+//! whole body, over every feed that is just after the header.
 #![tactic(auto)]
 
 ghost use Rattle.std.specs.Prelude.{◌≡◌, ◌+◌, ◌-◌, ◌^◌, ◌<◌, ℕ, List, IfOk, Some};
@@ -30,7 +30,7 @@ struct Forms {
     reals: u64,
 }
 
-/// These counts after one item more.
+/// Returns these counts after one item more.
 fn with(forms: Forms, item: Item) -> Forms
     requires { forms.scalars + forms.vectors + forms.reals < 2 ^ 63 }
     ensures { result ≡ counted forms item }

@@ -23,7 +23,7 @@ const LIMIT: usize = 65_536;
 /// The most declarations that `read_head` takes.
 const MOST: u64 = 16_777_216;
 
-/// How many of these rows declare a variable.
+/// Returns how many of these rows declare a variable.
 fn variable_rows(rows: &[Row]) -> usize
     ensures { result ≡ count_by (λ r. is_variable r.kind) rows.now }
 {
@@ -36,7 +36,7 @@ fn variable_rows(rows: &[Row]) -> usize
     variables
 }
 
-/// How many variables a header declares.
+/// Returns how many variables a header declares.
 fn variables_in(view: HeadView<'_>) -> usize
     ensures { (h : Header) → IsViewOf view.entry h → result ≡ length (variables_of h.declarations) }
 {

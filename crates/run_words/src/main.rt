@@ -1,6 +1,6 @@
 //! A stored run of the program on the machine: command lines of fixed words, one after the other.
-//! On standard output stand each line, what the program writes there for it, its status, and what
-//! it says on the error stream.
+//! It prints each line, what the program writes to standard output for it, its status, and what it
+//! writes to the error stream.
 #![tactic(auto)]
 
 use std::alloc::{AllocError, Global};

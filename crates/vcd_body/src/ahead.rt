@@ -1,4 +1,4 @@
-// Items whose tokens lie whole ahead in the chunk: most cost no change of the feed.
+// Items whose tokens are whole ahead in the chunk: most cost no change of the feed.
 ghost use Rattle.std.specs.Prelude.{◌≡◌, ◌⊎◌, ℕ, ◌+◌, ◌<◌, ◌≤◌, ◌^◌, List, [], ◌∷◌, ◌++◌, drop, length, slice_range, true, is_some, None, Some, IfSome, MatchOption};
 ghost use Rattle.vcd_body.specs.Names.{Advances, BodyItem, CallEnd, HeadView, Header, IdCode, Input, IsViewOf, Passed, Token, ahead_of, bytes_of, limit_of, lines_of, longest_of, passed_of, seen, source_of};
 ghost use Rattle.vcd_body.specs.declared.item.Form.TheVariants as form;
@@ -27,24 +27,24 @@ pub struct Plain<'a> {
     pub item: Item,
     /// The text of a change; none for a mark.
     pub text: &'a [u8],
-    /// The size of a change's code; 0 where it is an event, and where 32 bits do not hold the size,
-    /// and for a mark: `size` tells.
+    /// The size in bits of a change's code, which `size` returns. It is 0 for an event, for a size
+    /// that 32 bits do not hold, and for a time mark.
     pub most: usize,
     /// Where the text of a change begins in the bytes that are looked over; where the digits of a
     /// mark begin.
     pub at: usize,
     /// Where a change's code begins; it ends one byte before the last one that is passed.
     pub code_at: usize,
-    /// The digits of a vector as a number, where they are few, and `0` and `1` alone. None says
-    /// nothing.
+    /// The digits of a vector as a number, where they are few, and `0` and `1` alone. With none
+    /// nothing is known of them.
     pub bits: Option<Bits>,
 }
 
 impl Plain<'_> {
     ghost use Rattle.std.specs.Prelude.{◌≡◌, ◌<◌, IfSome, None};
 
-    /// Returns the size of a change's code; none where it is an event, or is not told, and of a
-    /// mark.
+    /// Returns the size in bits of a change's code; none of an event, where the look-up did not
+    /// give it, and of a time mark.
     #[inline(always)]
     pub fn size(self) -> Option<usize>
         ensures told { IfSome result (λ size. (size ≡ self.entry.most) × (0 < size)) }
@@ -108,8 +108,8 @@ fn mark_of<'a>(time: u64, at: usize) -> Plain<'a>
     }
 }
 
-/// Returns the code that stands after the digits of a vector, where there are digits, and the code
-/// has room for them.
+/// Returns the code after the digits of a vector, if there are digits and the code has room for
+/// them.
 #[inline(always)]
 fn vector_code(token: &[u8], code: &[u8], view: HeadView<'_>, bits: Option<Bits>) -> Option<Found>
     requires begins { Begins token.now first.Vector }
@@ -137,8 +137,8 @@ fn vector_bits(bytes: &[u8], at: usize, token: &[u8]) -> Option<Bits>
     bits_at(bytes, at + 1, rest_of(token))
 }
 
-/// Returns the code that stands after the text of a real number, where the text has 1 to 64 bytes.
-// Not inlined, so that what takes the others stays small enough to be taken in line.
+/// Returns the code after the text of a real number, if the text has 1 to 64 bytes.
+// Not inlined, so that the function that takes the other forms stays small enough to be inlined.
 #[inline(never)]
 fn real_code(token: &[u8], code: &[u8], view: HeadView<'_>) -> Option<Found>
     requires { Begins token.now first.Real }
@@ -153,7 +153,7 @@ fn real_code(token: &[u8], code: &[u8], view: HeadView<'_>) -> Option<Found>
 /// A token that was taken ahead, where a phrase begins.
 #[derive(Clone, Copy)]
 pub struct Opening<'a> {
-    /// What it begins.
+    /// What the token begins.
     pub first: First,
     pub(crate) token: &'a [u8],
 }
@@ -197,11 +197,12 @@ pub fn scalar_ahead<'a>(
 /// the code.
 #[derive(Clone, Copy)]
 pub struct VectorTokens<'a> {
-    /// The digits as a number, where they are few, and `0` and `1` alone. None says nothing.
+    /// The digits as a number, where they are few, and `0` and `1` alone. With none nothing is
+    /// known of them.
     pub bits: Option<Bits>,
     pub(crate) token: &'a [u8],
     pub(crate) code: &'a [u8],
-    // Where they begin.
+    // Where the digits begin.
     pub(crate) at: usize,
     pub(crate) code_at: usize,
 }
@@ -294,8 +295,8 @@ pub fn time_ahead(opening: Opening<'_>) -> Option<u64>
     time_in(opening.token)
 }
 
-/// Returns the mark of the time that a token spells, and the registers after it. The place is that
-/// after it; none where it may not stand here, and then nothing has changed.
+/// Returns the time mark that a token spells, and sets the registers to those after it. None where
+/// no such mark may come here; then nothing has changed.
 #[inline(always)]
 pub fn mark_ahead<'a>(
     opening: Opening<'a>,
@@ -350,7 +351,7 @@ pub fn item_ahead<'a>(
     ensures sized { IfSome result
         (λ plain. IsSizedItem view.entry.codes.now plain.item plain.most) }
 
-    // The text of a vector may be told as a number too.
+    // The text of a vector may be given as a number too.
     ensures bits { IfSome result (λ plain. HasBits plain.item plain.text.now plain.bits) }
 
     // It is spelled by the bytes that were passed with it: the text of a change and its code, or
@@ -385,7 +386,7 @@ pub fn item_ahead<'a>(
     Some(plain)
 }
 
-/// Goes on with the feed after the items that were taken ahead, which are in so many bytes.
+/// Moves the feed past the items that were taken ahead, which are in so many bytes.
 pub fn pass_items<S: Source>(feed: &mut Feed<'_, '_, '_, '_, S>, bytes: usize)
     requires { (ts : List Token) × Passed (limit_of feed.old) (lines_of feed.old)
         (ahead_of feed.old) bytes ts }

@@ -6,10 +6,10 @@ ghost use Rattle.vcd_body.specs.declared.answer.Stop.TheVariants.{Write};
 use crate::fault::BodyFault;
 use vcd_text::WriteFailed;
 
-/// What was written stands for the whole dump, or for its first part.
+/// How a run ended well: at the end of the dump, or before it.
 #[derive(Clone, Copy, PartialEq, Eq, Debug)]
 pub enum Done {
-    /// All of it was read that had to be.
+    /// The run read all that it had to.
     Whole,
     /// A time mark ended the run; what follows it is not checked.
     Early,
@@ -18,9 +18,9 @@ pub enum Done {
 /// Whether a run goes on.
 #[derive(Clone, Copy, PartialEq, Eq, Debug)]
 pub enum More {
-    /// It does: there is more to read.
+    /// The run goes on: there is more to read.
     Again,
-    /// It has ended.
+    /// The run has ended.
     Ended(Done),
 }
 

@@ -147,8 +147,8 @@ fn lasts_differ(holding: Holding, share: &[u8], text: &[u8]) -> bool
     false
 }
 
-// Returns whether the last 16 digits of several that are held and of a text tell that the values
-// differ, where both have as many. Most values that differ do so there.
+// Returns whether a held value of several digits and a text differ in their last 16 digits; false
+// where either has fewer. Most values that differ do so there.
 #[inline(always)]
 fn ends_tell(holding: Holding, share: &[u8], text: &[u8]) -> bool
     requires used { used holding ≤ length share.now }
@@ -161,8 +161,8 @@ fn ends_tell(holding: Holding, share: &[u8], text: &[u8]) -> bool
     }
 }
 
-// Returns whether some of the last digits tell that the values differ, where one has fewer than 16
-// digits.
+// Returns whether a held value and a text differ in some of their last digits, where one has fewer
+// than 16.
 #[inline(always)]
 fn few_tell(holding: Holding, share: &[u8], text: &[u8]) -> bool
     requires used { used holding ≤ length share.now }

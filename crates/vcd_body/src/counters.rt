@@ -1,4 +1,4 @@
-// The three counters of a code, of 64 bits each. The lowest 8 bits of each lie in the code's slot,
+// The three counters of a code, of 64 bits each. The lowest 8 bits of each are in the code's slot,
 // beside its value, and the others in its share: so most steps touch the slot alone.
 ghost use Rattle.std.specs.Prelude.{◌≡◌, ℕ, ◌<◌, List, true, false};
 ghost use Rattle.vcd_body.specs.Counters.{count_of, counts_of};

@@ -46,7 +46,7 @@ pub enum Item {
 pub struct Regs {
     /// The last time mark, which is the greatest; 0 where there was none.
     pub time: u64,
-    /// There was a time mark.
+    /// Whether there was a time mark.
     pub marked: bool,
     /// The section that is open.
     pub section: Option<Section>,
@@ -69,8 +69,8 @@ impl Regs {
         }
     }
 
-    /// Takes a time mark, where one may stand here: outside a section, and at no time before the
-    /// last one. Else returns its fault, and nothing changes.
+    /// Takes a time mark, where one may come: outside a section, and at no time before the last
+    /// one. Else returns its fault, and nothing changes.
     // Not inlined, so that a loop over items keeps neither time nor mark at hand for it.
     #[inline(never)]
     pub(crate) fn take_mark(&mut self, time: u64) -> Result<(), BodyFault>

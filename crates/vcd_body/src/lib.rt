@@ -1,37 +1,37 @@
 //! The body of a dump, item by item.
 //!
-//! `next_item` reads the next item from a feed that stands after a header: a time mark, the begin
-//! or end of a section, a value change, or the end of the body (`Finish`). `change_text` is the
-//! text of the change that was read last, and `put_change` writes one as its line. Most items are
-//! time marks and changes that lie whole in the chunk: a loop takes these with `item_ahead`, which
-//! leaves the feed where it is, and then takes the feed past all of them with `pass_items`. Where a
-//! change that it took stands in the chunk as the line that `put_change` would write, but for
-//! digits that it does not need (`left_out` counts them), it may be copied from there, and many
-//! such lines in a row at once. A `Table` keeps of each code its current value, three counters, and
+//! `next_item` reads the next item from a feed that is after a header: a time mark, the begin or
+//! end of a section, a value change, or the end of the body (`Finish`). `change_text` is the text
+//! of the change that was read last, and `put_change` writes one as its line. Most items are time
+//! marks and changes that are whole in the chunk: a loop takes these with `item_ahead`, which
+//! leaves the feed where it is, and then takes the feed past all of them with `pass_items`. Where
+//! the bytes of such a change are the line that `put_change` would write, but for digits that it
+//! does not need (`left_out` counts them), the line may be copied from the chunk, and many such
+//! lines in a row at once. A `Table` keeps of each code its current value, three counters, and
 //! whether it is chosen. What is done with all items ends with a `Done` or a `Stop`; `put_time`
 //! writes the line of a time. None of them takes memory.
 //!
 //! # The relation
 //!
 //! `GaveItems codes input front items feed regs`: after the tokens of `front`, those of the header,
-//! the feed has given whole phrases with these items, and the registers tell what is known of them.
+//! the feed has given whole phrases with these items, and the registers hold what is known of them.
 //! `next_item` takes it to one item more (`GivesItem`). At the end these are all items of the body,
 //! and it has no fault; else it has this fault after exactly these items (`Fails`). Whatever the
 //! input is, `Advances` of `vcd_text` says what is left of the feed, and a change is of one of the
 //! view's codes and has a text that this code may have (`IsGoodChange`).
 //!
 //! `GaveAhead codes limit lines bytes n before items`: the first n bytes ahead are phrases with
-//! these items, which go on behind any with the items before. `item_ahead` takes it to one item
-//! more; `pass_items` takes `GaveItems` to all of them, and at the last of them to `GaveLast`,
-//! which tells how much was read. `opening_ahead` takes the token that an item begins with
-//! (`Opens`), and `scalar_ahead` and `real_ahead` the item that it begins (`TakesItem`), as
-//! `vector_tokens_ahead` (`OpensVector`) and `vector_ahead` do, and `time_ahead` (`HasTime`) and
-//! `mark_ahead`, so that a loop which does something else with each asks once what it is;
-//! `item_ahead` is those seven. `HasSpelled view bytes from to text item` says by which bytes a
-//! change that was taken ahead is spelled; `left_out` asks for it.
+//! these items, which follow those with the items before. `item_ahead` takes it to one item more;
+//! `pass_items` takes `GaveItems` to all of them, and at the last of them to `GaveLast`, which says
+//! how much was read. `opening_ahead` takes the token that an item begins with (`Opens`), and
+//! `scalar_ahead` and `real_ahead` the item that it begins (`TakesItem`), as `vector_tokens_ahead`
+//! (`OpensVector`) and `vector_ahead` do, and `time_ahead` (`HasTime`) and `mark_ahead`, so that a
+//! loop which does something else with each asks once what it is; `item_ahead` is those seven.
+//! `HasSpelled view bytes from to text item` says by which bytes a change that was taken ahead is
+//! spelled; `left_out` asks for it.
 //!
-//! What is kept of a code is told by `kept_at t code`, over each place. A call of a table changes
-//! what is kept of the code at the place that it names, and nothing else (`ChangesCode`).
+//! `kept_at t code` is what is kept of the code at a place. A call of a table changes what is kept
+//! of the code at the place that it names, and nothing else (`ChangesCode`).
 //!
 //! # The modules
 //!
@@ -51,7 +51,7 @@
 //!   `step`: `Step`, what became of a value that was set
 //! - `store`: slots and shares of the values, and how they are set; `packed`: digits in a share, a
 //!   byte each or four to a byte
-//! - `counters`: the counters of a code, which lie in parts in its slot and its share
+//! - `counters`: the counters of a code, which are in parts in its slot and its share
 //! - `bits`: `Bits`, up to 32 binary digits as a number, and how a slot holds them
 //! - `held`, `held_text`: the digits of a held value, and how it is written; `compare`: whether a
 //!   change gives another one

@@ -1,4 +1,4 @@
-// Changes that stand in the chunk as they are written.
+// Changes whose bytes in the chunk are the line that would be written.
 ghost use Rattle.std.specs.Prelude.{◌≡◌, ◌≢◌, ℕ, ◌+◌, ◌-◌, ◌^◌, ◌<◌, ◌≤◌, List, [], ◌∷◌, ◌++◌, true, false, drop, length, slice_index, slice_range, Some, IfSome};
 ghost use Rattle.std.specs.Int.{bit_at};
 ghost use Rattle.std.specs.Char.{to_ascii_lowercase as lower};
@@ -64,7 +64,7 @@ fn are_lower(bytes: &[u8], at: usize, digits: &[u8]) -> bool
     are_all_lower(digits)
 }
 
-/// There are digits, and none can be left out on the left.
+/// Returns whether there are digits, and none can be left out on the left.
 #[inline(always)]
 fn are_shortest(digits: &[u8]) -> bool
     ensures { result ≡ true → (size : ℕ) → digits.now ≡ short (extend digits.now size) }
@@ -76,8 +76,7 @@ fn are_shortest(digits: &[u8]) -> bool
     }
 }
 
-/// Returns whether a digit and a code that begins at this place stand there alone, and the digit is
-/// in lower case.
+/// Returns whether a digit is in lower case and the code begins right after it, at this place.
 #[inline(always)]
 fn is_bit_line(bytes: &[u8], from: usize, to: usize, code_at: usize) -> bool
     requires { (text code : List ℕ) × HasChange bytes.now from to form.Scalar text code }
@@ -89,8 +88,8 @@ fn is_bit_line(bytes: &[u8], from: usize, to: usize, code_at: usize) -> bool
     (from + 1 == code_at) & (bytes[from] & 0x20 != 0)
 }
 
-/// Returns whether a value with this first byte and a code that begins at this place stand there
-/// with just a blank between them.
+/// Returns whether a value has this first byte, and just one blank is between it and the code that
+/// begins at this place.
 #[inline(always)]
 fn has_one_blank(
     bytes: &[u8],
@@ -272,10 +271,10 @@ fn left_out_of_vector(
     left_out_of(bytes, from + 1, digits, bits)
 }
 
-/// Returns how many bytes behind the first one are left out of the bytes of an item that was taken
-/// ahead, so that the others are its line as it would be written: the first digits of a vector that
-/// has more than it needs. The item's tokens are passed from one place of the bytes up to another.
-/// Where it returns none, its bytes may be the line all the same.
+/// Returns how many bytes after the first one to leave out of the bytes of an item that was taken
+/// ahead, so that the others are the line that would be written: the first digits of a vector that
+/// has more than it needs. The item has the bytes from `from` up to `to`. Where the result is none,
+/// its bytes may be the line all the same.
 #[inline(always)]
 pub fn left_out(plain: Plain<'_>, bytes: &[u8], from: usize, to: usize) -> Option<usize>
     requires { (v : HeadView)

@@ -117,8 +117,8 @@ fn codes_differ(first: u8x16, second: u8x16) -> bool
     first.simd_ne(second).to_bitmask() != 0
 }
 
-/// Returns whether the last 16 digits of a share that holds a byte a digit and those of a text tell
-/// that the values differ; false where either has fewer.
+/// Returns whether a share that holds a byte a digit and a text differ in their last 16 digits;
+/// false where either has fewer.
 #[inline(always)]
 pub(crate) fn plain_ends_differ(share: &[u8], text: &[u8]) -> bool
     ensures differ { result ≡ true → AreTwo (map held_digit share.now) text.now }
@@ -142,9 +142,8 @@ fn last_codes_16(bytes: &[u8], at: usize) -> u8x16
     u8x16::from_slice(&bytes[at..]) >> u8x16::splat(6)
 }
 
-/// Returns whether the last 16 of `len` packed digits and those of a text tell that the values
-/// differ; false where either has fewer. The last 16 packed digits are in the last bytes that are
-/// in use.
+/// Returns whether `len` packed digits and a text differ in their last 16 digits; false where
+/// either has fewer. The last 16 packed digits are in the last bytes that are in use.
 #[inline(always)]
 pub(crate) fn packed_ends_differ(share: &[u8], len: usize, text: &[u8]) -> bool
     ensures differ { result ≡ true → AreTwo (digits_in len share.now) text.now }
@@ -189,7 +188,7 @@ fn pack_16(share: &mut [u8], text: &[u8], quarter: usize, at: usize)
     with_4_times(codes_16(text, at), both).copy_to_slice(&mut share[at..]);
 }
 
-/// 16 digits without what `0` and `1` share: of these it is their code, and more than 1 of all
+/// Returns 16 digits without the bits that `0` and `1` share: 0 or 1 for these, more than 1 for all
 /// others.
 #[inline(always)]
 fn bits_16(bytes: &[u8], at: usize) -> u8x16
@@ -221,8 +220,8 @@ fn are_bits(seen: u8x16) -> bool
     seen.simd_gt(u8x16::splat(1)).to_bitmask() == 0
 }
 
-/// Packs the digits of 16 places of each quarter as if they were 0 and 1. Returns what tells by
-/// `are_bits` that they were.
+/// Packs the digits of 16 places of each quarter as if they were 0 and 1. Returns what `are_bits`
+/// takes to say whether they were.
 #[inline(always)]
 fn pack_bits_16(share: &mut [u8], text: &[u8], quarter: usize, at: usize) -> u8x16
     requires within { at + 16 ≤ quarter }

@@ -51,7 +51,7 @@ pub(crate) fn read_mark(token: &[u8], regs: &mut Regs) -> Result<u64, BodyFault>
     Ok(time)
 }
 
-/// Returns the code that stands after a digit, at once.
+/// Returns the code that comes right after a digit.
 #[inline(always)]
 pub(crate) fn scalar_code(token: &[u8], view: HeadView<'_>) -> Result<Found, BodyFault>
     requires begins { IsScalar token.now }
@@ -165,8 +165,8 @@ fn read_code<S: Source>(
     }
 }
 
-/// Returns whether the code that was found has room for so many digits, or is an event. Its size
-/// mostly tells; the code is read only where it does not.
+/// Returns whether the code that was found has room for so many digits, or is an event. The size
+/// found with it is mostly enough; the code is read only where it is not.
 #[inline(always)]
 pub(crate) fn takes(codes: &[Code], found: Found, digits: usize) -> bool
     requires { IsSized codes.now found }

@@ -97,7 +97,7 @@ fn put_other<W: Sink>(
     }
 }
 
-/// Returns whether a change of one digit is that of a bit, as most are. One branch tells.
+/// Returns whether a change of one digit is that of a bit, as most are. One branch shows it.
 #[inline(always)]
 fn is_bit(size: usize, event: bool, form: Form) -> bool
     ensures { result ≡ true → (size ≡ 1) × (event ≡ false) × (form ≡ Form.Scalar) }
@@ -106,7 +106,7 @@ fn is_bit(size: usize, event: bool, form: Form) -> bool
 }
 
 /// Returns whether a change is one of digits of a code that has several bits, as most that are of
-/// no bit are. One branch tells.
+/// no bit are. One branch shows it.
 #[inline(always)]
 fn is_vector(size: usize, event: bool, form: Form) -> bool
     ensures vector { result ≡ true

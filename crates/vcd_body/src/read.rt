@@ -101,8 +101,8 @@ fn read_phrase<S: Source>(
     Ok(Some(item))
 }
 
-/// Reads the next item of the body of the header that is shown, or finds the end. The feed stands
-/// after the header at first, and `regs` is new then. After a fault neither is to be used again.
+/// Reads the next item of the body of the header that is shown, or finds the end. At first the feed
+/// is after the header, and `regs` is new. After a fault neither is to be used again.
 #[inline(always)]
 pub fn next_item<S: Source>(
     feed: &mut Feed<'_, '_, '_, '_, S>,

@@ -14,7 +14,7 @@ use crate::put_line::put_line;
 use vcd_text::{Sink, WriteFailed, put};
 use vcd_view::NewCode;
 
-/// The first byte of the code of a number.
+/// Returns the first byte of the code of a number.
 #[inline(always)]
 fn digit_of(number: u64) -> u8
     ensures { result ≡ 33 + number % 94 }

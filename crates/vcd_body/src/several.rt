@@ -1,4 +1,4 @@
-// Several digits over several others, where the last of them tell that the value differs.
+// Several digits set over several others that differ from them in the last ones.
 ghost use Rattle.std.specs.Prelude.{◌≡◌, ◌-◌, ◌≤◌, ◌<◌, ℕ, IfSome, Some, length, take, drop, map, true, false};
 ghost use Rattle.vcd_model.specs.Values.{Value, extend, value_with};
 ghost use Rattle.vcd_body.specs.Items.{model_form};
@@ -27,8 +27,8 @@ fn step_over(before: u8, after: u8) -> Step
     }
 }
 
-// Returns the step from digits that are held a byte each to those of a text, where the last 16 of
-// both tell that they differ.
+// Returns the step from digits that are held a byte each to those of a text, where they differ in
+// the last 16.
 #[inline(always)]
 fn plain_step(share: &[u8], text: &[u8]) -> Option<Step>
     ensures many { IfSome result (λ _. 16 ≤ length text.now) }
@@ -44,7 +44,7 @@ fn plain_step(share: &[u8], text: &[u8]) -> Option<Step>
 }
 
 // Returns the step from `len` packed digits, in the first bytes of a share, to those of a text,
-// where the last 16 of both tell that they differ.
+// where they differ in the last 16.
 #[inline(always)]
 fn packed_step(share: &[u8], len: usize, text: &[u8]) -> Option<Step>
     ensures room { IfSome result (λ _. bytes_for len ≤ length share.now) }
@@ -69,8 +69,7 @@ fn part_of(values: &[u8], start: usize, end: usize) -> Option<&[u8]>
 }
 
 // Returns the step from several digits that are held so, in a share that begins and ends here, to
-// those of a text, where the last 16 of both tell that they differ. How they are held is asked
-// once.
+// those of a text, where they differ in the last 16. It asks once how they are held.
 #[inline(always)]
 fn step_told(values: &[u8], holding: Holding, start: usize, end: usize, text: &[u8]) -> Option<Step>
     ensures many { IfSome result (λ _. 16 ≤ length text.now) }
@@ -87,9 +86,9 @@ fn step_told(values: &[u8], holding: Holding, start: usize, end: usize, text: &[
     }
 }
 
-/// Sets the value of a code to several digits over several others, where the last 16 of both tell
-/// that it differs at each size, and counts the step. Returns whether it did; else nothing changes.
-/// Most that are set are so.
+/// Sets the value of a code to several digits over several others, where they differ in the last 16
+/// and so at each size, and counts the step. Returns whether it did; else nothing changes. This is
+/// the common case.
 #[inline(never)]
 pub(crate) fn change_at(
     slots: &mut [Slot],

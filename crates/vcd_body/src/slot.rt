@@ -5,10 +5,10 @@ ghost use Rattle.vcd_body.specs.Stored.{IsUncounted, IsUnset, holding_of, len_of
 
 /// How the value of a code is held. Each digit has a state of its own, so that a value of one digit
 /// is in the slot alone.
-// In the order of the numbers that tell them, so that none has to be looked up.
+// In the order of the numbers that encode them, so that none has to be looked up.
 #[derive(Clone, Copy, PartialEq, Eq, Debug)]
 pub(crate) enum State {
-    /// It has no value.
+    /// The code has no value.
     Unset,
     /// By the digit 1.
     One,
@@ -21,7 +21,7 @@ pub(crate) enum State {
     /// By several digits as they were written, a byte each, where its share of the values has room
     /// for them.
     Plain,
-    /// By several digits, packed four to a byte, where it has not.
+    /// By several digits, packed four to a byte, where its share has no room for a byte each.
     Digits,
     /// By the text of a real number, in its share of the values.
     Real,
@@ -29,9 +29,8 @@ pub(crate) enum State {
     Bits,
 }
 
-/// What a change of a code looks at: its value where it is short, and how it is held. It stands
-/// apart from what few changes look at, and takes 8 bytes, so that as many slots as can be lie in
-/// the first caches.
+/// What each change of a code looks at: its value where it is short, and how it is held. It is
+/// split from what few changes look at, and takes 8 bytes, so that many slots fit in the L1 cache.
 #[derive(Clone, Copy, PartialEq, Eq, Debug)]
 pub struct Slot {
     // The number of the binary digits; else the lowest 32 bits of how many digits, or bytes of a
@@ -59,14 +58,14 @@ pub struct Share {
     pub(crate) chosen: bool,
 }
 
-/// How a value is held, as its slot and its share tell.
+/// How a value is held, by its slot and its share.
 #[derive(Clone, Copy, PartialEq, Eq, Debug)]
 pub(crate) struct Holding {
     pub(crate) state: State,
     /// The lowest 32 bits of how many digits, or bytes of a text, are held in the share; or the
     /// number of the binary digits.
     pub(crate) lower: u32,
-    /// The bits above them; or how many binary digits there are.
+    /// The bits above the lowest 32 of that length; or how many binary digits there are.
     pub(crate) upper: u32,
 }
 
@@ -86,7 +85,7 @@ impl Holding {
 /// What the value of a code is.
 #[derive(Clone, Copy, PartialEq, Eq, Debug)]
 pub enum Shown {
-    /// It has none.
+    /// The code has no value.
     Unset,
     /// Digits, as many as the code has bits.
     Bits,
@@ -130,7 +129,7 @@ impl Share {
     }
 }
 
-/// Returns the number that tells a state in a slot.
+/// Returns the number that encodes a state in a slot.
 #[inline(always)]
 pub(crate) fn number_of(state: State) -> u8
     ensures { result ≡ number_of state }
@@ -157,7 +156,7 @@ pub(crate) fn is_bit(digit: u8) -> bool
     digit.wrapping_sub(b'0') < 2
 }
 
-/// Returns the number that tells the state of the digit 0 or 1. It takes no branches.
+/// Returns the number that encodes the state of the digit 0 or 1. It takes no branches.
 #[inline(always)]
 pub(crate) fn number_of_bit(digit: u8) -> u8
     requires { (digit ≡ 48) ⊎ (digit ≡ 49) }
@@ -166,7 +165,7 @@ pub(crate) fn number_of_bit(digit: u8) -> u8
     b'2' - digit
 }
 
-/// Returns the number that tells the state of the other digit of 1 and 0.
+/// Returns the number that encodes the state of the other of the digits 1 and 0.
 #[inline(always)]
 pub(crate) fn number_of_turned(digit: u8) -> u8
     requires { (digit ≡ 48) ⊎ (digit ≡ 49) }
@@ -175,7 +174,7 @@ pub(crate) fn number_of_turned(digit: u8) -> u8
     number_of_bit(b'0' + b'1' - digit)
 }
 
-/// Returns the state that a number tells.
+/// Returns the state that a number encodes.
 #[inline(always)]
 pub(crate) fn state_in(how: u8) -> State
     ensures { result ≡ state_in how }

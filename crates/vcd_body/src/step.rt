@@ -9,11 +9,11 @@ use crate::item::Form;
 /// What became of a value that was set.
 #[derive(Clone, Copy, PartialEq, Eq, Debug)]
 pub struct Step {
-    /// There was a value, and it is another one now.
+    /// Whether there was a value, and it is another one now.
     pub differs: bool,
-    /// The last digit was 0, and is 1.
+    /// Whether the last digit was 0, and is 1.
     pub rises: bool,
-    /// The last digit was 1, and is 0.
+    /// Whether the last digit was 1, and is 0.
     pub falls: bool,
 }
 

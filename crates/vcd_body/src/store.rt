@@ -126,7 +126,7 @@ fn hold(share: &mut [u8], text: &[u8]) -> State
     }
 }
 
-/// Tells in a slot and its share by which state so many digits, or bytes of a text, are held.
+/// Notes in a slot and its share in which state so many digits, or bytes of a text, are held.
 #[inline(always)]
 fn hold_text(slot: &mut Slot, share: &mut Share, state: State, len: usize)
     requires text { state ≢ State.Bits }
@@ -334,10 +334,10 @@ pub(crate) fn count_at(
     }
 }
 
-/// What became of a change that its slot may tell alone.
+/// What became of a change for which its slot alone may be enough.
 #[derive(Clone, Copy, PartialEq, Eq, Debug)]
 pub(crate) enum Stepped {
-    /// The slot does not tell it alone, and nothing changed.
+    /// The slot alone is not enough, and nothing changed.
     Not,
     /// The value was set, and its step was counted where it differs.
     Counted,

@@ -18,7 +18,7 @@ pub enum Value<'a> {
 }
 
 impl<'a> Value<'a> {
-    /// Returns the value that a change of this form gives by its text, as `change_text` tells it.
+    /// Returns the value that a change of this form gives by its text, as `change_text` returns it.
     #[inline(always)]
     pub fn of_text(form: Form, text: &'a [u8]) -> Value<'a>
         ensures sets { (k : Kept) → with_value result k ≡ with_text form text.now k }

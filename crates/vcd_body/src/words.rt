@@ -39,7 +39,7 @@ pub(crate) enum Command {
     Comment,
     Begin(Section),
     End,
-    /// One that belongs into the header.
+    /// A keyword that belongs into the header.
     OfHeader,
 }
 
@@ -227,8 +227,8 @@ pub(crate) fn are_digits_or_known(digits: &[u8], bits: Option<Bits>) -> bool
     are_value_digits(digits)
 }
 
-/// Returns a mask: bit 31 - k is set where byte `at + k` is `1`: the last byte tells the lowest
-/// bit.
+/// Returns a mask whose bit 31 - k is set where byte `at + k` is `1`: the last byte gives the
+/// lowest bit.
 #[inline(always)]
 fn ones_32(bytes: &[u8], at: usize) -> u64
     requires { at + 32 ≤ length bytes.now }

@@ -48,7 +48,7 @@ fn joined(alloc: Global, texts: [&[u8]; 3]) -> Result<Vec<u8>, AllocError> {
     Ok(text)
 }
 
-// The header that a feed begins with, of which no more is told than that no read failed.
+// The header that a feed begins with. Its contract says only that no read failed.
 fn head_of<S: Source>(alloc: Global, feed: &mut Feed<'_, '_, '_, '_, S>) -> Result<Head, HeadFault>
     requires { S.failures (source_of feed.old) ≡ 0 }
     ensures { OnOk result (S.failures (source_of feed.new) ≡ 0) }
@@ -260,8 +260,8 @@ fn plain_items_taken_ahead(rt: HostRuntime) -> Result<(), Fail> {
 const CODES: &[u8] =
     b"$var wire 1 ! clk $end $var reg 4 \" q $end $var reg 40 & w $end $var event 1 % go $end $enddefinitions $end\n";
 
-// Which of the items that are taken ahead stand as their lines (`=`), which but for so many digits,
-// and which do not (`.`).
+// Which of the items that are taken ahead have their lines as bytes (`=`), which but for so many
+// digits, and which do not (`.`).
 fn standing_from<S: Source>(
     alloc: Global,
     feed: &mut Feed<'_, '_, '_, '_, S>,
@@ -283,7 +283,7 @@ fn standing_from<S: Source>(
     Ok(marks)
 }
 
-// Which of the items that are taken ahead of the body's first stand as their lines.
+// Which of the items that are taken ahead, from the body's first on, have their lines as bytes.
 fn standing(alloc: Global, body: &[u8]) -> Result<String, Fail> {
     let text = joined(alloc, [CODES, body, &[b'\n'; 64]])?;
     let mut source = Watch::new(Pieces::new(&text, 512));
@@ -295,9 +295,9 @@ fn standing(alloc: Global, body: &[u8]) -> Result<String, Fail> {
     Ok(standing_from(alloc, &mut feed, head.view())?)
 }
 
-// Changes, and which of them stand as their lines: single digits, vectors of a few digits, vectors
-// with digits that are left out, vectors of more than 30 digits that are left out and that are not,
-// and real numbers.
+// Changes, and which of them have their lines as bytes: single digits, vectors of a few digits,
+// vectors with digits that are left out, vectors of more than 30 digits that are left out and that
+// are not, and real numbers.
 const STANDING: [(&[u8], &str); 6] = [
     (b"1!\nZ!\n 0!\nx! 1!\n1\"\n1%\n#5\n0!\n", "=...=...="),
     (
@@ -409,7 +409,7 @@ fn sink_that_fails(rt: HostRuntime) {
     assert_eq!(rt; Sink::failures(&page), 1);
 }
 
-// The number that is told of the digits of the body's first change.
+// The number that is given for the digits of the body's first change.
 fn bits_told(alloc: Global, body: &[u8]) -> Result<Option<Bits>, Fail> {
     let text = joined(alloc, [CODES, body, &[b'1'; 64]])?;
     let mut source = Watch::new(Pieces::new(&text, 512));
@@ -424,7 +424,7 @@ fn bits_told(alloc: Global, body: &[u8]) -> Result<Option<Bits>, Fail> {
     }
 }
 
-// Changes, and how many digits of which number are told: 1 to 32 binary ones, wherever they end.
+// Changes, and how many digits of which number are given: 1 to 32 binary ones, wherever they end.
 const TOLD: [(&[u8], usize, usize); 7] = [
     (b"b0 & ", 1, 0),
     (b"b1 & ", 1, 1),

@@ -37,8 +37,8 @@ fn view_of(codes: &[Code]) -> HeadView<'_>
     }
 }
 
-// A table in this room, of which no more is told than that it stands: what is proved of a table is
-// proved where it is made.
+// Returns a table in this room. It ensures nothing: what is proved of a table is proved where it is
+// made.
 fn table_in<'a>(
     view: HeadView<'_>,
     values: &'a mut [u8],
@@ -51,7 +51,7 @@ fn table_in<'a>(
     Table::new(view, values, slots, shares)
 }
 
-// Sets a code, of which no more is told.
+// Sets a code. It ensures nothing.
 fn set(table: &mut Table<'_>, code: usize, form: Form, text: &[u8]) {
     table.set(code, form, text);
 }

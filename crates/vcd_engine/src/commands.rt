@@ -71,8 +71,8 @@ pub fn edges<S: Source, W: Sink>(
 }
 
 /// Writes the header of all variables and, from the first time mark of at least `from` on, a
-/// section with the values that stood before `from`, and the items from then up to `to`, each after
-/// the line of its time. Times are in ticks. A time mark above `to` ends the run.
+/// section with the values just before `from`, and the items from then up to `to`, each after the
+/// line of its time. Times are in ticks. A time mark above `to` ends the run.
 pub fn cut<S: Source, W: Sink>(
     view: HeadView<'_>,
     feed: &mut Feed<'_, '_, '_, '_, S>,

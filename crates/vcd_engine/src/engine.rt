@@ -24,7 +24,7 @@ pub struct Engine<'v, 'n, 'r> {
     going: bool,
 }
 
-/// There is no item any more.
+/// Returns whether the body has no item any more.
 #[inline(always)]
 fn is_finish(item: Item) -> bool
     ensures { MatchBool result (item ≡ Finish) (item ≢ Finish) }
@@ -35,7 +35,7 @@ fn is_finish(item: Item) -> bool
     }
 }
 
-/// The text of the item that was read last; a change alone has one.
+/// Returns the text of the item that was read last; a change alone has one.
 #[inline(always)]
 fn text_of_item<'f, S: Source>(feed: &'f Feed<'_, '_, '_, '_, S>, item: Item) -> &'f [u8]
     ensures { result.now ≡ item_text feed.now item }
@@ -54,8 +54,7 @@ pub struct Begun<'n, 'r> {
 
 impl<'n, 'r> Begun<'n, 'r> {
     /// Begins a task, whose times are in order, over the header that is shown, and writes what
-    /// stands before all items. A name that selects nothing is refused, and then nothing is
-    /// written.
+    /// comes before all items. A name that selects nothing is refused, and then nothing is written.
     pub fn start<W: Sink>(
         task: Task<'n>,
         view: HeadView<'_>,
@@ -77,7 +76,7 @@ impl<'n, 'r> Begun<'n, 'r> {
 }
 
 impl<'v, 'n, 'r> Engine<'v, 'n, 'r> {
-    /// The engine of a task that has begun over the same header.
+    /// Returns the engine of a task that has begun over the same header.
     pub fn new(begun: Begun<'n, 'r>, view: HeadView<'v>) -> Engine<'v, 'n, 'r>
         ensures holds { (h : Header) → IsViewOf view.entry h
             → CanRun (request_of_begun begun.entry) h → HasBegun begun.entry h
@@ -95,7 +94,7 @@ impl<'v, 'n, 'r> Engine<'v, 'n, 'r> {
         }
     }
 
-    /// Neither the body nor a step has ended the run.
+    /// Returns whether the run goes on: neither the body nor a step has ended it.
     #[inline]
     pub fn going(&self) -> bool
         ensures { result ≡ is_going self.now }
@@ -103,7 +102,8 @@ impl<'v, 'n, 'r> Engine<'v, 'n, 'r> {
         self.going
     }
 
-    /// A step over its header, so that a loop over steps need not fetch it for each.
+    /// Takes a step over a header that the caller gives, so that a loop over steps need not fetch
+    /// it for each.
     #[inline(always)]
     fn step_over<S: Source, W: Sink>(
         &mut self,
@@ -203,7 +203,7 @@ impl<'v, 'n, 'r> Engine<'v, 'n, 'r> {
         self.step_over(view, feed, out)
     }
 
-    /// Writes what stands at the clean end. It is no part of the loop over steps, so that the loop
+    /// Writes what is due at the clean end. It is no part of the loop over steps, so that the loop
     /// lends no view for it.
     #[inline(never)]
     fn close<W: Sink>(&self, out: &mut W) -> Result<(), WriteFailed>
@@ -261,7 +261,7 @@ pub fn step<S: Source, W: Sink>(
     engine.step_over(engine.view, feed, out)
 }
 
-/// Does a task, whose times are in order, over the body after the header that is shown: the one
+/// Runs a task, whose times are in order, over the body after the header that is shown: the one
 /// loop over items. A name that selects nothing is refused before anything is read or written.
 pub fn run_task<S: Source, W: Sink>(
     task: Task<'_>,

@@ -5,10 +5,10 @@ ghost use Rattle.vcd_engine.specs.Names.{Puts};
 use std::simd::prelude::*;
 use vcd_text::{Sink, WriteFailed, put};
 
-/// So many bytes of short pieces are gathered.
+/// The most bytes of short pieces that are gathered.
 pub(crate) const GATHERED: usize = 8_448;
 
-/// A piece of at most so many bytes is short: it is copied by a copy of so many, whatever its
+/// The most bytes of a short piece. It is copied by one copy of this many bytes, whatever its
 /// length.
 const SHORT: usize = 64;
 
@@ -35,7 +35,7 @@ fn copy_short(to: &mut [u8], place: usize, bytes: &[u8], from: usize)
 }
 
 impl Gathered {
-    /// None are there.
+    /// Returns a buffer in which nothing is gathered.
     #[inline(always)]
     pub(crate) fn new() -> Gathered
         ensures none { result.len ≡ 0 }
@@ -46,7 +46,7 @@ impl Gathered {
         }
     }
 
-    /// Whether a part of the bytes is short, and there is room for it.
+    /// Returns whether a part of the bytes is short, and there is room for it.
     #[inline(always)]
     pub(crate) fn has_room(&self, bytes: &[u8], from: usize, to: usize) -> bool
         requires within { (from ≤ to) × (to ≤ length bytes.now) }
@@ -57,7 +57,7 @@ impl Gathered {
         to - from <= SHORT && from + SHORT <= bytes.len() && self.len <= GATHERED - SHORT
     }
 
-    /// Takes a short part of the bytes behind the others.
+    /// Appends a short part of the bytes.
     #[inline(always)]
     pub(crate) fn push(&mut self, bytes: &[u8], from: usize, to: usize)
         requires short { (from ≤ to) × (to ≤ from + 64) }
@@ -70,7 +70,7 @@ impl Gathered {
         self.len += to - from;
     }
 
-    /// Takes a part of any length behind the others, where it has room.
+    /// Appends a part of any length, for which there is room.
     pub(crate) fn push_long(&mut self, bytes: &[u8], from: usize, to: usize)
         requires within { (from ≤ to) × (to ≤ length bytes.now) }
         requires room { self.old.len + (to - from) ≤ 8448 }

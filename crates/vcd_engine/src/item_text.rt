@@ -1,5 +1,5 @@
-//! The text of kept items: each as its line, after the line of its time where that does not stand
-//! yet.
+//! The text of kept items: each as its line, after the line of its time unless that was written
+//! already.
 ghost use Rattle.std.specs.Prelude.{◌≡◌, ℕ, ◌-◌, ◌^◌, ◌<◌, ◌≤◌, ◌∷◌, [], List, length, Some, IfOk};
 ghost use Rattle.vcd_engine.specs.Names.{as_line, BodyItem, closing, Counts, Entry, HasGoodText, Header, IsItem, IsViewOf, item_line, keyword_text, model_section, section_keyword, Takes, time_due};
 ghost use Rattle.vcd_engine.specs.ItemText.{HasWritten, LastTells, PutsEntry, times_with};
@@ -16,7 +16,7 @@ pub(crate) struct ItemText {
     written: Option<u64>,
 }
 
-/// The keyword that begins a section, as its line.
+/// Returns the keyword that begins a section, as its line.
 fn begin_line(section: Section) -> &'static [u8]
     ensures { result.now ≡ as_line (keyword_text (section_keyword (model_section section))) }
 {
@@ -58,14 +58,14 @@ fn put_item<W: Sink>(
 }
 
 impl ItemText {
-    /// Before all items.
+    /// Returns the state before all items.
     pub(crate) fn new() -> ItemText
         ensures { HasWritten [] [] result }
     {
         ItemText { written: None }
     }
 
-    /// After the line of this time.
+    /// Returns the state after the line of this time.
     pub(crate) fn after(time: u64) -> ItemText
         ensures { HasWritten (time ∷ []) [] result }
     {
@@ -95,8 +95,8 @@ impl ItemText {
         put_item(view, item, text, out)
     }
 
-    /// Writes an item that lies ahead as an entry at this time, behind what is held. Where its line
-    /// stands there, that is held.
+    /// Writes an item ahead as an entry at this time, after what is held. If its bytes are its
+    /// line, they are held.
     #[inline(always)]
     pub(crate) fn put_in_place<W: Sink>(
         &mut self,
@@ -133,8 +133,8 @@ impl ItemText {
         pieces.append_parts(change.bytes, change.from, change.to, n, out)
     }
 
-    /// Writes the line of the time of an item that lies ahead, unless it was written last, behind
-    /// what is held.
+    /// Writes the line of the time of an item ahead, unless it was written last, after what is
+    /// held.
     #[inline(always)]
     fn put_time_behind<W: Sink>(
         &mut self,
@@ -158,8 +158,8 @@ impl ItemText {
         pieces.append_time(time, change, out)
     }
 
-    /// Writes what closes the text where this is the last time mark: its line, where it does not
-    /// stand yet.
+    /// Writes what closes the text where this is the last time mark: its line, unless that was
+    /// written already.
     pub(crate) fn close<W: Sink>(&self, last: Option<u64>, out: &mut W) -> Result<(), WriteFailed>
         requires { (W.device out.old).failures < 2 ^ 64 - 1 }
         ensures takes { (before : List ℕ) (kept : List Entry) → HasWritten before kept self.now

@@ -40,7 +40,7 @@ pub(crate) fn rows_on(mark: u8) -> usize
     1 << mark.saturating_sub(2).min(63)
 }
 
-/// Changes the marks of what names select to marks that lead on: 1 where a row has a line in a
+/// Changes the flags of what names select to flags that lead on: 1 where a row has a line in a
 /// sample, elsewhere how many rows without one to pass.
 pub(crate) fn lead_on(view: HeadView<'_>, marks: &mut [u8])
     requires { length marks.old ≡ length view.rows.now }

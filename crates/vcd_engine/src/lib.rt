@@ -23,17 +23,17 @@
 //! - `engine`: `Begun`, `Engine`, and `run_task`, the one loop over items. It names no command
 //! - `machine`, and under it `check`, `pick`, `cut`, `sample`, `edges`: what each task keeps
 //!   between items, and what it does at the begin, with an item and at the end; `walk`: `Command`,
-//!   what a task does with items that lie whole in the chunk, and the one loop over these
+//!   what a task does with items that are whole in the chunk, and the one loop over these
 //! - `commands`: `check`, `pick`, `cut`, `sample`, `edges`
 //! - `choice`: which codes are chosen, a byte a code
 //! - `item_text`: kept items as lines, each after the line of its time
-//! - `pieces`: text that is due and stands in the chunk, which is written at once; `gathered`:
+//! - `pieces`: text that is due and is in the chunk already, which is written at once; `gathered`:
 //!   short pieces of it, copied together
-//! - `selection`: the variables that names select, as marks and as chosen codes
+//! - `selection`: the variables that names select, as flags and as chosen codes
 //! - `report`, `rows`, `tally`: the seven lines of `check`; `list`; the counters of `edges`, and
 //!   its rows
 //! - `values`: the values of codes, with one item more
-//! - `sample_lines`: the lines of a sample; `leads`: the marks that lead from one row with a line
+//! - `sample_lines`: the lines of a sample; `leads`: the flags that lead from one row with a line
 //!   to the next
 //!
 //! In `specs/` callers read `Run` (`MayRun`, `RunsTask`, `Follows`), `Engine`, `Step` (`MayStep`,

@@ -27,7 +27,7 @@ pub(crate) enum Machine<'n, 'r> {
     Edges(edges::Edges<'n, 'r>),
 }
 
-/// The last time mark.
+/// Returns the last time mark.
 pub(crate) fn last_of(regs: Regs) -> Option<u64>
     ensures { result ≡ last_of regs }
 {
@@ -38,7 +38,7 @@ pub(crate) fn last_of(regs: Regs) -> Option<u64>
 }
 
 impl<'n, 'r> Machine<'n, 'r> {
-    /// Begins a task, and writes what stands before all items. A name that selects nothing is
+    /// Begins a task, and writes what comes before all items. A name that selects nothing is
     /// refused, and then nothing is written.
     pub(crate) fn start<W: Sink>(
         task: Task<'n>,
@@ -135,7 +135,7 @@ impl<'n, 'r> Machine<'n, 'r> {
         }
     }
 
-    /// Writes what stands at the clean end of a body after which the registers are these.
+    /// Writes what is due at the clean end of a body after which the registers are these.
     pub(crate) fn close<W: Sink>(
         &self,
         view: HeadView<'_>,

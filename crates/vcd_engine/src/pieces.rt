@@ -1,5 +1,5 @@
-//! Text that is due and stands in the chunk: pieces of it that follow each other are one, and short
-//! ones are written together.
+//! Text that is due and is in the chunk already: pieces of it that follow each other are one, and
+//! short ones are written together.
 ghost use Rattle.std.specs.Prelude.{◌≡◌, ℕ, ◌+◌, ◌-◌, ◌^◌, ◌<◌, ◌≤◌, List, [], ◌++◌, length, take, slice_range, IfErr, IfOk};
 ghost use Rattle.vcd_engine.specs.Names.{bytes_without, Counts, HasMark, Puts, time_line};
 ghost use Rattle.vcd_engine.specs.Pieces.{IsLine, IsPart, PutsBehind, PutsOn, held_in};
@@ -8,9 +8,8 @@ use crate::gathered::{GATHERED, Gathered};
 use vcd_body::{Plain, is_mark_line, put_time};
 use vcd_text::{Sink, WriteFailed, put};
 
-/// A change that lies ahead: its tokens are passed from one place of these bytes up to another.
-/// Where the line of its time stands just before it, that begins at a third place; else the third
-/// one is the first.
+/// A change ahead: it has the bytes from `from` up to `to`. `line` is where the line of its time
+/// begins, if that comes just before it; else it is `from`.
 #[derive(Clone, Copy)]
 pub(crate) struct InPlace<'a> {
     pub(crate) plain: Plain<'a>,
@@ -20,8 +19,8 @@ pub(crate) struct InPlace<'a> {
     pub(crate) line: usize,
 }
 
-/// Returns where the line of a time begins that ends at `to`, for a mark that lies from `from` up
-/// to there, with its digits from `at` on: `from` where it is spelled as that line, else `to`.
+/// Returns where the line of a time begins that ends at `to`, for a mark that is from `from` up to
+/// there, with its digits from `at` on: `from` where it is spelled as that line, else `to`.
 #[inline(always)]
 pub(crate) fn line_of_mark(bytes: &[u8], from: usize, to: usize, at: usize) -> usize
     requires { (time : ℕ) × HasMark bytes.now from to at time }
@@ -33,11 +32,11 @@ pub(crate) fn line_of_mark(bytes: &[u8], from: usize, to: usize, at: usize) -> u
     to
 }
 
-/// A piece of at most so many bytes is gathered too; a longer one is written from the chunk.
+/// The most bytes of a piece that is gathered; a longer one is written from the chunk.
 const LONG: usize = 1024;
 
-/// Gathers a part of the bytes behind the others, which are written where it has no room beside
-/// them; a long part is written too.
+/// Gathers a part of the bytes after the others, which are written first if it has no room beside
+/// them. A long part is written too.
 #[cold]
 #[inline(never)]
 fn gather_slowly<W: Sink>(
@@ -96,7 +95,8 @@ fn put_both<W: Sink>(
 }
 
 impl<'a> Pieces<'a> {
-    /// Nothing is held. Short pieces are gathered here; those that are there are dropped.
+    /// Returns pieces of which none is held. Short ones are gathered in this buffer; what it has is
+    /// dropped.
     #[inline(always)]
     pub(crate) fn new(gathered: &'a mut Gathered) -> Pieces<'a>
         ensures part { (bytes : List ℕ) → IsPart bytes result }
@@ -173,7 +173,7 @@ impl<'a> Pieces<'a> {
         Ok(())
     }
 
-    /// Takes the part of the bytes that is due next, but for so many bytes behind its first one.
+    /// Takes the part of the bytes that is due next, without so many bytes after its first one.
     #[inline(always)]
     pub(crate) fn append_without<W: Sink>(
         &mut self,
@@ -227,8 +227,8 @@ impl<'a> Pieces<'a> {
         self.append(bytes, from + 1 + n, to, out)
     }
 
-    /// Takes the line of an item's time, which is due next: where it stands just before the item,
-    /// it is held; else it is written, after what is held.
+    /// Takes the line of an item's time, which is due next. If it comes just before the item, it is
+    /// held; else it is written, after what is held.
     #[inline(always)]
     pub(crate) fn append_time<W: Sink>(
         &mut self,

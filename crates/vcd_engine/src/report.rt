@@ -13,8 +13,8 @@ pub(crate) struct Declared {
     pub(crate) variables: usize,
 }
 
-/// How many scopes are opened, and how many variables are declared, in one pass: the rows are
-/// memory that no cache holds.
+/// Returns how many scopes are opened, and how many variables are declared, in one pass: the rows
+/// are memory that no cache holds.
 pub(crate) fn declared_in(rows: &[Row]) -> Declared
     ensures scopes { result.scopes ≡ count_by (λ r. opens_scope r.kind) rows.now }
     ensures variables { result.variables ≡ count_by (λ r. declares_variable r.kind) rows.now }

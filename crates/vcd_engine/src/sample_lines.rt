@@ -41,8 +41,8 @@ fn put_line<W: Sink>(
     put(out, b"\n")
 }
 
-/// Writes the lines of a time that no item so far is later than: one for each row with a mark of 1.
-/// Any other mark passes rows that have none.
+/// Writes the lines of a time that no item so far is later than: one for each row whose flag is 1.
+/// Any other flag leads past rows that have none.
 fn put_lines<W: Sink>(
     table: &Table<'_>,
     view: HeadView<'_>,

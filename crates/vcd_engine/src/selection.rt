@@ -9,7 +9,7 @@ use vcd_body::Stop;
 use vcd_head::select;
 use vcd_view::{HeadView, Kind};
 
-/// Whether a row is marked.
+/// Returns whether a row is marked.
 pub(crate) fn is_marked(marks: &[u8], row: usize) -> bool
     ensures { result ≡ is_marked marks.now row }
 {

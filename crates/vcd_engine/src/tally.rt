@@ -36,7 +36,7 @@ pub(crate) fn take_value(
     }
 }
 
-/// Counts a mark of the event at a place.
+/// Counts a trigger of the event at a place.
 #[inline(always)]
 pub(crate) fn take_mark(table: &mut Table<'_>, code: usize, inside: bool)
     ensures takes { (view : HeadView) (h : Header) (items : List BodyItem) (c : IdCode) (d : Change)

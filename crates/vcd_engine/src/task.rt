@@ -9,12 +9,12 @@ use vcd_view::{HeadView, Need, need};
 /// What is done with the items of a body.
 #[derive(Clone, Copy)]
 pub enum Task<'n> {
-    /// Counts them, and reports at the end.
+    /// Counts the items, and reports at the end.
     Check,
-    /// Writes those of the variables that these names select, after their header.
+    /// Writes the items of the variables that these names select, after their header.
     Pick(&'n [String]),
-    /// Writes the values that stand before a time, and the items from then up to another time, in
-    /// ticks. Both are in it.
+    /// Writes the values just before a time, and the items from then up to another time, both times
+    /// included. Times are in ticks.
     Cut {
         from: u64,
         to: u64,
@@ -40,12 +40,12 @@ pub struct Room<'r> {
     pub slots: &'r mut [Slot],
     /// A share for each code, as many as slots.
     pub shares: &'r mut [Share],
-    /// A mark for each declaration.
+    /// A selection flag for each declaration.
     pub marks: &'r mut [u8],
 }
 
 impl<'n> Task<'n> {
-    /// The room that the task works in over the header that is shown.
+    /// Returns the room that the task works in over the header that is shown.
     pub fn need(&self, view: HeadView<'_>) -> Need
         ensures lengths { (result.values ≡ values_for self.now view.entry)
             × (result.slots ≡ slots_for self.now view.entry)

@@ -16,7 +16,7 @@ pub(crate) struct Code<'t> {
 pub(crate) struct Variable<'t> {
     pub(crate) kind: &'t [u8],
     pub(crate) code: Code<'t>,
-    // One token or more, as they stand in the input.
+    // One token or more, as the input has them.
     pub(crate) reference: &'t [u8],
 }
 
@@ -29,7 +29,7 @@ pub(crate) enum Declaration<'t> {
 
 #[derive(Drop)]
 pub(crate) struct Header<'t> {
-    // The last date and version, as they stand in the input.
+    // The last date and version, as the input has them.
     pub(crate) date: &'t [u8],
     pub(crate) version: &'t [u8],
     pub(crate) scale: Option<Scale>,

@@ -54,7 +54,7 @@ fn put_variable(text: &mut Text, variable: &Variable<'_>, naming: Naming) {
     text.put(b" $end\n");
 }
 
-// Some variable stands in the scope that was opened at this place, or in one inside it.
+// Whether some variable is in the scope that was opened at this place, or in one inside it.
 fn holds_some(header: &Header<'_>, variables: &[Placed<'_>], scope: usize) -> bool {
     let declarations = header.declarations.as_slice();
     variables

@@ -1,4 +1,4 @@
-// Variables and scopes whose phrases lie whole ahead in the chunk: their tokens cost no change of
+// Variables and scopes whose phrases are whole ahead in the chunk: their tokens cost no change of
 // the feed.
 ghost use Rattle.std.specs.Prelude.{◌≡◌, ℕ, ◌+◌, ◌-◌, ◌<◌, ◌≤◌, List, [], ◌∷◌, ◌++◌, true, length, slice_range, IfSome, IfOk, IfErr, MatchBool};
 ghost use Rattle.vcd_model.specs.Input.{Input};
@@ -35,8 +35,8 @@ pub(crate) fn token_ahead<'a>(ahead: &mut Ahead<'a>) -> Option<&'a [u8]>
     ahead.next()
 }
 
-/// Returns two tokens as they stand in these bytes, if there is one space between. One white byte
-/// was passed behind each.
+/// Returns two tokens as these bytes have them, if there is one space between. One white byte was
+/// passed after each.
 #[inline(always)]
 fn joined<'a>(
     bytes: &'a [u8],
@@ -62,8 +62,8 @@ fn joined<'a>(
     Some(&bytes[start..behind - 1])
 }
 
-/// Passes the reference that comes next and the `$end` behind it, and returns it, if it has one
-/// token, or two with one space between.
+/// Passes the reference that comes next and the `$end` after it, and returns the reference, if it
+/// has one token, or two with one space between.
 #[inline(always)]
 fn reference_ahead<'a>(ahead: &mut Ahead<'a>) -> Option<Reference<'a>>
     ensures gives { Gives IsReference ahead.old ahead.new result }
@@ -126,8 +126,8 @@ fn variable_ahead<'a>(ahead: &mut Ahead<'a>) -> Option<VariablePhrase<'a>>
     })
 }
 
-/// Declares a variable that lies ahead, and tells whether it may stand there: else `read_variable`
-/// says why not.
+/// Declares a variable ahead, and returns whether it may come there: else `read_variable` says why
+/// not.
 fn take_variable(
     alloc: Global,
     most: u64,
@@ -144,8 +144,7 @@ fn take_variable(
     declare(alloc, draft, variable)
 }
 
-/// Opens a scope that lies ahead, and tells whether it may stand there: else `read_scope` says why
-/// not.
+/// Opens a scope ahead, and returns whether it may come there: else `read_scope` says why not.
 #[inline(always)]
 fn take_scope(most: u64, draft: &mut Draft, scope: ScopePhrase<'_>) -> Result<bool, HeadFault>
     ensures takes { (given more : List Token) → DraftsOn most given draft.old
@@ -159,8 +158,8 @@ fn take_scope(most: u64, draft: &mut Draft, scope: ScopePhrase<'_>) -> Result<bo
     Ok(true)
 }
 
-/// Closes a scope by a phrase that lies ahead, and tells whether it may stand there: else
-/// `read_upscope` says why not.
+/// Closes a scope by a phrase ahead, and returns whether it may come there: else `read_upscope`
+/// says why not.
 #[inline(always)]
 fn take_upscope(most: u64, draft: &mut Draft) -> Result<bool, HeadFault>
     ensures takes { (given more : List Token) → DraftsOn most given draft.old
@@ -174,8 +173,8 @@ fn take_upscope(most: u64, draft: &mut Draft) -> Result<bool, HeadFault>
     Ok(true)
 }
 
-/// Takes the next phrase, if it lies whole ahead and declares a variable or a scope, or closes one;
-/// tells whether it did.
+/// Takes the next phrase, if it is whole ahead and declares a variable or a scope, or closes one.
+/// Returns whether it did.
 #[inline(always)]
 fn declare_next(
     alloc: Global,
@@ -244,7 +243,7 @@ fn declare_ahead(
     }
 }
 
-/// Reads the variables and scopes that come next and lie whole in the chunk, behind a phrase. The
+/// Reads the variables and scopes that come next, after a phrase, and are whole in the chunk. The
 /// feed then shows no token.
 pub(crate) fn read_ahead<S: Source>(
     alloc: Global,

@@ -1,4 +1,4 @@
-// Scopes whose phrases lie whole ahead in the chunk.
+// Scopes whose phrases are whole ahead in the chunk.
 ghost use Rattle.std.specs.Prelude.{◌<◌, ◌≤◌, length, IfSome};
 ghost use Rattle.vcd_text.specs.Ahead.{bytes_of, passed_of};
 ghost use Rattle.vcd_head.specs.Ahead.{Gives, LooksOn, IsScope, IsUpscope};

@@ -26,7 +26,7 @@ impl CodeKey {
         Ok(CodeKey::Long(Vec::from_slice(alloc, bytes)?))
     }
 
-    /// Tells whether this is the key of the code with these bytes.
+    /// Returns whether this is the key of the code with these bytes.
     pub(crate) fn is_of(&self, bytes: &[u8]) -> bool
         ensures { result ≡ bytes_eq (shape_in bytes.now) (shape_of self.now) }
     {

@@ -33,7 +33,8 @@ impl Codes {
         }
     }
 
-    /// Tells whether a variable of this size, an event or none, may have the code with these bytes.
+    /// Returns whether a variable of this size, an event or none, may have the code with these
+    /// bytes.
     pub(crate) fn allow(&self, alloc: Global, bytes: &[u8], size: usize, event: bool) -> bool
         ensures { (text : List ℕ) (ds : List Declaration) (v : Variable)
             → HasCodes text self.now ds → code_of v ≡ record {
@@ -64,7 +65,7 @@ impl Codes {
     }
 }
 
-/// Tells whether a code was declared with this size, and as an event or as none.
+/// Returns whether a code was declared with this size, and as an event or as none.
 #[inline(always)]
 pub(crate) fn is_of_kind(code: Code, size: usize, event: bool) -> bool
     ensures { result ≡ is_of code size event }

@@ -24,7 +24,7 @@ const MOST_OPEN: usize = 1000;
 // What the phrase of a variable says.
 #[derive(Clone, Copy)]
 pub(crate) struct VariablePhrase<'a> {
-    // Its type.
+    // The type.
     pub(crate) word: &'a [u8],
     pub(crate) size: usize,
     pub(crate) code: &'a [u8],
@@ -34,21 +34,21 @@ pub(crate) struct VariablePhrase<'a> {
 // What a phrase refers to a variable by.
 #[derive(Clone, Copy)]
 pub(crate) struct Reference<'a> {
-    // The bytes of its first token.
+    // The length of its first token in bytes.
     pub(crate) name: usize,
-    // Its tokens, with a space between.
+    // The tokens of the reference, with a space between.
     pub(crate) text: &'a [u8],
 }
 
 // What the phrase of a scope says.
 #[derive(Clone, Copy)]
 pub(crate) struct ScopePhrase<'a> {
-    // Its type.
+    // The type.
     pub(crate) word: &'a [u8],
     pub(crate) name: &'a [u8],
 }
 
-/// Checks that a declaration of this kind may stand next: `most` may be read in all, 1,000 scopes
+/// Checks that a declaration of this kind may come next: `most` may be read in all, 1,000 scopes
 /// may be open, and only an open scope is closed.
 #[inline(always)]
 pub(crate) fn check_start(draft: &Draft, most: u64, kind: Kind) -> Result<(), HeadFault>
@@ -87,7 +87,7 @@ fn put_texts(text: &mut Vec<u8>, variable: VariablePhrase<'_>) -> Result<(), All
     Ok(())
 }
 
-/// Declares a variable, and tells whether its code allows that: not where it was declared with
+/// Declares a variable, and returns whether its code allows that: not where it was declared with
 /// another size, or where one of the two is an event and the other is not.
 #[inline(always)]
 pub(crate) fn declare(
@@ -159,7 +159,7 @@ pub(crate) fn open_scope(draft: &mut Draft, scope: ScopePhrase<'_>) -> Result<()
     Ok(())
 }
 
-/// Closes the innermost open scope; one is open where this may stand.
+/// Closes the innermost open scope; one is open where this may come.
 #[inline(always)]
 pub(crate) fn close_scope(draft: &mut Draft) -> Result<(), HeadFault>
     ensures closes { IfOk result (λ _. Takes Up Declaration.Up draft.old draft.new) }

@@ -12,7 +12,7 @@ const HELD: usize = 128;
 
 /// The scopes around the declaration of a row, given outermost first.
 ///
-/// Rows tell of the scope around them alone. So it walks outwards, holds the last rows that it
+/// A row has only the scope just around it. So it walks outwards, holds the last rows that it
 /// passes, gives them, and walks again where more are left: once where at most 128 scopes enclose
 /// the declaration, at most eight times in a header. It takes 1 KB of stack, whatever the depth,
 /// and no memory.
@@ -22,9 +22,9 @@ pub(crate) struct Enclosing {
     // The rows that were passed last, each at its number, counted outwards from 0, modulo their
     // number.
     rows: [usize; HELD],
-    // At most so many scopes are left.
+    // The most scopes that are left to give.
     left: usize,
-    // So many of them, the outermost, are held.
+    // How many of the scopes left, the outermost, are held.
     held: usize,
 }
 
@@ -42,7 +42,7 @@ impl Enclosing {
         }
     }
 
-    /// So many of the innermost ones, or all where there are fewer.
+    /// Returns so many of the innermost ones, or all where there are fewer.
     #[inline(always)]
     pub(crate) fn innermost(row: usize, most: usize) -> Self
         ensures { (h : Header) → row < length h.declarations
@@ -57,7 +57,7 @@ impl Enclosing {
         }
     }
 
-    /// The row of the next scope.
+    /// Returns the row of the next scope.
     #[inline(always)]
     pub(crate) fn next(&mut self, view: HeadView<'_>) -> Option<usize>
         ensures gives { (h : Header) (row : ℕ) (rest : List ℕ) → IsViewOf view.entry h
@@ -75,7 +75,7 @@ impl Enclosing {
     }
 }
 
-// Walks outwards from a row by at most so many scopes, and holds the last ones; tells how many it
+// Walks outwards from a row by at most so many scopes, and holds the last ones. Returns how many it
 // passed.
 fn walk(view: HeadView<'_>, row: usize, most: usize, rows: &mut [usize; HELD]) -> usize
     ensures walks { (h : Header) → IsViewOf view.entry h → row < length h.declarations

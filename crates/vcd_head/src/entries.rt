@@ -113,7 +113,7 @@ fn put_hashed(entries: &mut [Entry], hash: u64, entry: Entry)
     }
 }
 
-/// Tells whether there is such an entry, and it is that of no code.
+/// Returns whether there is such an entry, and it is that of no code.
 #[inline(always)]
 fn is_free(entries: &[Entry], at: usize) -> bool
     ensures { result ≡ true → at < length entries.now }

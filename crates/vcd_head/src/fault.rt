@@ -41,7 +41,7 @@ impl HeadFault {
     ghost use Rattle.std.specs.Prelude.{◌≡◌};
     ghost use Rattle.vcd_head.specs.Fault.{fault_number};
 
-    /// The number of the fault.
+    /// Returns the number of the fault.
     pub fn number(self) -> u8
         ensures { result ≡ fault_number self }
     {

@@ -23,7 +23,7 @@ impl Head {
     ghost use Rattle.vcd_head.specs.Shown.{shown};
     ghost use Rattle.vcd_view.specs.Shown.{parts};
 
-    /// The header as slices and numbers.
+    /// Returns the header as slices and numbers.
     pub fn view(&self) -> HeadView<'_>
         ensures { parts result ≡ shown self.now }
     {

@@ -14,7 +14,7 @@ const FRONT_BYTES: usize = 8;
 // The most bytes of a code that a rank has.
 const RANK_BYTES: usize = 4;
 
-// How many places ranks tell apart.
+// How many places a rank can distinguish.
 const PLACES: usize = 16_777_216;
 
 // The first bytes of a code as a number, which is less where they come before others, and its
@@ -87,7 +87,7 @@ fn rank_of(bytes: &[u8], place: usize) -> usize
     (front as usize * 8 + bytes.len()) * PLACES + place
 }
 
-/// Leaves of each rank the place.
+/// Reduces each rank to its place.
 fn leave_places(ranks: &mut [usize])
     ensures { ranks.new ≡ map place_in_rank ranks.old }
 {
@@ -152,8 +152,7 @@ fn bytes_at<'a>(text: &'a [u8], codes: &[Code], place: usize) -> &'a [u8]
     }
 }
 
-/// Returns so many first bytes as the digits of a number, the first one highest, with zeros behind
-/// them.
+/// Returns so many first bytes as the digits of a number, the first one highest, followed by zeros.
 #[inline(always)]
 fn front_of(bytes: &[u8], count: usize) -> u64
     requires { count ≤ 8 }

@@ -17,7 +17,7 @@ use crate::names::{Group, Run, TOGETHER};
 use crate::selection::selects;
 use vcd_view::{HeadView, Kind};
 
-// So many scopes may be open, and what is outside of all.
+// How many scopes may be open, and one for what is outside of all.
 const MOST_HELD: usize = 1001;
 
 // The names that go on inside a scope.
@@ -56,8 +56,9 @@ impl Open {
         }
     }
 
-    /// Takes the next row; tells whether it is a variable's that some name selects, any variable's
-    /// where there are no names, and which names select it, beside those that had matched before.
+    /// Takes the next row. Returns whether it is a variable's that some name selects, or any
+    /// variable's where there are no names, and notes which names select it, beside those that had
+    /// matched before.
     #[inline(always)]
     pub(crate) fn take(
         &mut self,
@@ -92,7 +93,7 @@ impl Open {
         }
     }
 
-    /// Tells whether some name selects the variable of a row, and which ones do.
+    /// Returns whether some name selects the variable of a row, and notes which ones do.
     #[inline(always)]
     fn selects(
         &mut self,

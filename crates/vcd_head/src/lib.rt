@@ -26,7 +26,7 @@
 //! - `read`, `phrases`: the whole header; one phrase of it
 //! - `tokens`, `texts`, `words`: the next token; texts up to `$end`; tests of tokens
 //! - `scopes`, `variable`, `scale`: what a phrase says
-//! - `ahead`, `ahead_scopes`: variables and scopes whose phrases lie whole in the chunk
+//! - `ahead`, `ahead_scopes`: variables and scopes whose phrases are whole in the chunk
 //! - `declarations`, `rows`, `code_place`: what these are checked for, however they are read; what
 //!   becomes of the head: rows, and the place of a code
 //! - `draft`, `codes`, `code_key`, `sought`, `finish`: a header while it is read, its codes, and

@@ -36,16 +36,16 @@ pub fn least_exponent(heads: &[Head]) -> i8
 // variable inside it, so each is written once, and none that has no variable.
 #[derive(Clone, Copy)]
 pub(crate) struct OpenScopes {
-    // So many, the innermost, are not written yet.
+    // How many scopes, the innermost, are not written yet.
     pub(crate) pending: usize,
-    // The others are.
+    // How many scopes, the others, are written.
     pub(crate) written: usize,
 }
 
 impl OpenScopes {
     ghost use Rattle.vcd_view.specs.declared.view.Kind.TheVariants.{Scope, Up, Var};
 
-    /// Returns those that are open behind a row of this kind.
+    /// Returns the scopes that are open after a row of this kind.
     fn behind(self, kind: Kind) -> OpenScopes
         ensures scope { kind ≡ Scope → self.pending + 1 < 2 ^ 64
             → (result.pending ≡ self.pending + 1) × (result.written ≡ self.written) }
@@ -98,8 +98,8 @@ fn put_openings<W: Sink>(
     Ok(())
 }
 
-/// Writes the line of an `$upscope` behind these open scopes: none where the line of the scope that
-/// it closes is not written.
+/// Writes the line of an `$upscope` at which these scopes are open: none where the line of the
+/// scope that it closes is not written.
 fn put_closing<W: Sink>(scopes: OpenScopes, w: &mut W) -> Result<(), WriteFailed>
     requires failures { (W.device w.old).failures < 2 ^ 64 - 1 }
     ensures { Puts (W.device w.old) (W.device w.new)
@@ -128,7 +128,7 @@ fn put_closings<W: Sink>(count: usize, w: &mut W) -> Result<(), WriteFailed>
 }
 
 /// Writes what is due at a row of an input, at which these scopes are open: the line of a variable,
-/// with a new code, behind those of the scopes that it is the first one in; the line of an
+/// with a new code, after those of the scopes that it is the first one in; the line of an
 /// `$upscope`. The codes are numbered from `first` on.
 fn put_input_row<W: Sink>(
     view: HeadView<'_>,

@@ -24,8 +24,8 @@ impl Moment {
     ghost use Rattle.std.specs.Prelude.{◌≡◌, option_map};
     ghost use Rattle.vcd_head.specs.Moments.{asked, with_unit};
 
-    /// So many units of this name, or so many ticks where the name is empty; none where it is no
-    /// unit: `s`, `ms`, `us`, `ns`, `ps` or `fs`.
+    /// Returns so many units of this name, or so many ticks where the name is empty; none where it
+    /// is no unit: `s`, `ms`, `us`, `ns`, `ps` or `fs`.
     pub fn from_parts(number: u64, unit: &[u8]) -> Option<Moment>
         ensures { option_map asked result ≡ with_unit number unit.now }
     {
@@ -43,9 +43,9 @@ impl Moment {
 /// Why a moment has no number of ticks.
 #[derive(Clone, Copy, PartialEq, Eq, Debug)]
 pub enum TickFault {
-    /// It has a unit, and the header declares no time scale (fault 12).
+    /// The moment has a unit, and the header declares no time scale (fault 12).
     NoTimescale,
-    /// It is 2^64 ticks or more (fault 22).
+    /// The moment is 2^64 ticks or more (fault 22).
     OutOfRange,
 }
 
@@ -53,7 +53,7 @@ impl TickFault {
     ghost use Rattle.std.specs.Prelude.{◌≡◌};
     ghost use Rattle.vcd_head.specs.Moments.{tick_fault_number};
 
-    /// The number of the fault.
+    /// Returns the number of the fault.
     pub fn number(self) -> u8
         ensures { result ≡ tick_fault_number self }
     {
@@ -64,9 +64,9 @@ impl TickFault {
     }
 }
 
-/// A moment in ticks of the header's time scale: where it is between two ticks, the later one if
-/// `up`, else the earlier one. It is exact for every unit and every scale. Without a unit the
-/// number is that of the ticks, whatever the scale.
+/// Returns a moment in ticks of the header's time scale: where it is between two ticks, the later
+/// one if `up`, else the earlier one. It is exact for every unit and every scale. Without a unit
+/// the number is that of the ticks, whatever the scale.
 ///
 /// # Errors
 ///
@@ -87,7 +87,8 @@ pub fn ticks(view: HeadView<'_>, moment: Moment, up: bool) -> Result<u64, TickFa
     unit_ticks(moment.number, unit, scale.exponent, up).ok_or(TickFault::OutOfRange)
 }
 
-/// So many units in ticks, if they are fewer than 2^64. Unit and tick are powers of ten in seconds.
+/// Returns so many units in ticks, if they are fewer than 2^64. Unit and tick are powers of ten in
+/// seconds.
 fn unit_ticks(number: u64, unit: i8, tick: i8, up: bool) -> Option<u64>
     ensures { SomeIff result (ticks_of number unit tick up < 2 ^ 64)
         (ticks_of number unit tick up) }
@@ -106,14 +107,14 @@ fn unit_ticks(number: u64, unit: i8, tick: i8, up: bool) -> Option<u64>
 /// The power of ten in seconds of a femtosecond.
 const FEMTOSECOND: i8 = -15;
 
-/// The power of ten in femtoseconds of this one in seconds.
+/// Returns the power of ten in femtoseconds of this one in seconds.
 fn power_of(exponent: i8) -> u8
     ensures { result ≡ nat_abs (exponent +ℤ pos 15) }
 {
     exponent.abs_diff(FEMTOSECOND)
 }
 
-/// A number times a power of ten, if that is below 2^64.
+/// Returns a number times a power of ten, if that is below 2^64.
 fn multiplied(number: u64, power: u8) -> Option<u64>
     ensures { SomeIff result (number * 10 ^ power < 2 ^ 64) (number * 10 ^ power) }
 {
@@ -123,7 +124,7 @@ fn multiplied(number: u64, power: u8) -> Option<u64>
     number.checked_mul(10u64.checked_pow(u32::from(power))?)
 }
 
-/// A number divided by a power of ten, rounded down.
+/// Returns a number divided by a power of ten, rounded down.
 fn divided(number: u64, power: u8) -> u64
     ensures { result ≡ number / 10 ^ power }
 {
@@ -133,7 +134,7 @@ fn divided(number: u64, power: u8) -> u64
     }
 }
 
-/// A number divided by a power of ten, rounded up.
+/// Returns a number divided by a power of ten, rounded up.
 fn divided_up(number: u64, power: u8) -> u64
     ensures { result ≡ div_ceil number (10 ^ power) }
 {

@@ -1,5 +1,5 @@
-// Names in the order of their bytes: those that begin with the front of a path stand together, so
-// they are followed by two places, one byte of the path after the other.
+// Names in the order of their bytes. Those that begin with the front of a path are neighbours, so
+// two places of the order follow them, one byte of the path after the other.
 ghost use Rattle.std.specs.Prelude.{◌≡◌, ◌==◌, ◌&&◌, ◌+◌, ◌-◌, ◌<◌, ◌≤◌, [], ◌∷◌, ◌++◌, ◌^◌, ℕ, List, Bool, length, take, drop, map, get_or, bytes_eq, string_bytes, IsPermutation};
 ghost use Rattle.std.specs.List.{All, Contains};
 ghost use Rattle.std.specs.List.Sorted.{IsSortedBy};
@@ -24,12 +24,12 @@ pub(crate) struct Group<'n> {
 // The names that begin with the front of a path.
 #[derive(Clone, Copy)]
 pub(crate) struct Run {
-    // The first of them in the order, and the one behind the last.
+    // The place of the first of them in the order, and the one after that of the last.
     first: usize,
     end: usize,
     // The bytes of the front, where there is such a name.
     passed: usize,
-    // Some name selects all that goes on behind the front.
+    // Whether some name selects all paths that go on after the front.
     whole: bool,
 }
 
@@ -73,7 +73,7 @@ impl<'n> Group<'n> {
         }
     }
 
-    /// Returns 1 plus the byte behind so many of the name at a place of the order, 0 where the name
+    /// Returns 1 plus the byte after so many of the name at a place of the order, 0 where the name
     /// ends before.
     #[inline(always)]
     fn next_at(&self, at: usize, passed: usize) -> usize
@@ -108,7 +108,7 @@ impl<'n> Group<'n> {
         low
     }
 
-    /// Flags the names that are the front, and tells whether there are some.
+    /// Flags the names that are the front, and returns whether there are some.
     #[inline(always)]
     fn note(&self, run: Run, matched: &mut [bool; TOGETHER]) -> bool
         ensures { (front : List ℕ) → IsRun self.now matched.old front run
@@ -130,7 +130,7 @@ impl<'n> Group<'n> {
         true
     }
 
-    /// Flags the names that are the front, if the byte behind it is a point, and tells whether
+    /// Flags the names that are the front, if the byte after it is a point, and returns whether
     /// there are some.
     #[inline(always)]
     fn note_at(&self, run: Run, byte: u8, matched: &mut [bool; TOGETHER]) -> bool
@@ -172,7 +172,7 @@ impl<'n> Group<'n> {
         }
     }
 
-    /// Returns the run behind one more byte, and flags the names that end before it, if it is a
+    /// Returns the run after one more byte, and flags the names that end before it, if it is a
     /// point.
     #[inline(always)]
     fn step(&self, run: Run, byte: u8, matched: &mut [bool; TOGETHER]) -> Run
@@ -198,7 +198,7 @@ impl<'n> Group<'n> {
         shared(behind(first, run.passed), behind(last, run.passed), bytes)
     }
 
-    /// Returns the run behind some of these bytes, one at least, and how many they are: as many as
+    /// Returns the run after some of these bytes, one at least, and how many they are: as many as
     /// all names of the run go on with, and the next one.
     #[inline(always)]
     fn hop(&self, run: Run, bytes: &[u8], matched: &mut [bool; TOGETHER]) -> (Run, usize)
@@ -220,7 +220,7 @@ impl<'n> Group<'n> {
         }
     }
 
-    /// Returns the run behind some bytes, and flags the names that end before a point in them.
+    /// Returns the run after some bytes, and flags the names that end before a point in them.
     pub(crate) fn follow(&self, run: Run, bytes: &[u8], matched: &mut [bool; TOGETHER]) -> Run
         ensures { (front : List ℕ) → IsRun self.now matched.old front run
             → IsRunOn self.now matched.old matched.new (front ++ bytes.now) result }
@@ -249,7 +249,7 @@ impl<'n> Group<'n> {
         self.step(named, b'.', matched)
     }
 
-    /// Flags the names that select a variable with this name of its own, and tells whether there
+    /// Flags the names that select a variable with this name of its own, and returns whether there
     /// are some.
     pub(crate) fn selects(&self, run: Run, own: &[u8], matched: &mut [bool; TOGETHER]) -> bool
         ensures { (front : List ℕ) → IsRun self.now matched.old front run
@@ -323,7 +323,7 @@ fn name_at(names: &[String], place: usize) -> &[u8]
     }
 }
 
-/// Returns the bytes behind so many.
+/// Returns the bytes after so many.
 #[inline(always)]
 fn behind(bytes: &[u8], passed: usize) -> &[u8]
     ensures { result.now ≡ drop passed bytes.now }

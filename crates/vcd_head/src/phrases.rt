@@ -98,7 +98,7 @@ fn read_end<S: Source>(
     Err(HeadFault::OutOfPlace)
 }
 
-/// Tells whether others may follow a phrase that begins so.
+/// Returns whether others may follow a phrase that begins so.
 fn goes_on(keyword: Option<Keyword>) -> bool
     ensures { result ≡ goes_on_after keyword }
 {
@@ -108,7 +108,7 @@ fn goes_on(keyword: Option<Keyword>) -> bool
     }
 }
 
-/// Reads a phrase, and tells whether more may follow. The feed need not show the token before it.
+/// Reads a phrase, and returns whether more may follow. The feed need not show the token before it.
 pub(crate) fn read_phrase<S: Source>(
     alloc: Global,
     feed: &mut Feed<'_, '_, '_, '_, S>,

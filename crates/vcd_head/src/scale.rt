@@ -16,7 +16,7 @@ use crate::words::{exponent_of, power_of, unit_of};
 use vcd_text::{Feed, Source};
 use vcd_view::Scale;
 
-/// A number and a unit, in one token or two: the power of ten in seconds.
+/// Reads a number and a unit, in one token or two, and returns the power of ten in seconds.
 fn read_exponent<S: Source>(feed: &mut Feed<'_, '_, '_, '_, S>) -> Result<i8, HeadFault>
     requires { S.failures (source_of feed.old) < 2 ^ 64 - 1 }
     ensures reads { (most : ℕ) (i : Input) (placed : List (Placed HeaderPhrase))
@@ -38,7 +38,7 @@ fn read_exponent<S: Source>(feed: &mut Feed<'_, '_, '_, '_, S>) -> Result<i8, He
     }
 }
 
-/// A time scale: number and unit, in one token or two, and `$end`.
+/// Reads a time scale: number and unit, in one token or two, and `$end`.
 pub(crate) fn read_timescale<S: Source>(
     feed: &mut Feed<'_, '_, '_, '_, S>,
     draft: &mut Draft,

@@ -23,7 +23,7 @@ pub(crate) enum Match<'n> {
     Differs,
 }
 
-/// Tells whether a byte of the front stands in the text too. Where it does not, the text does not
+/// Returns whether the text has this byte of the front too. Where it does not, the text does not
 /// begin with the front.
 #[inline(always)]
 fn same_at(text: &[u8], front: &[u8], place: usize) -> bool
@@ -33,9 +33,9 @@ fn same_at(text: &[u8], front: &[u8], place: usize) -> bool
     place < text.len() && text[place] == front[place]
 }
 
-/// Tells whether the last two bytes of the front stand in their places, a quick test: where they do
-/// not, the text does not begin with the front. Names that stand together often differ in a number
-/// at their end, which a bracket may close.
+/// Returns whether the text has the last two bytes of the front in their places. It is a quick
+/// test: where it has not, the text does not begin with the front. Neighbouring names often differ
+/// in a number at their end, which a bracket may close.
 #[inline(always)]
 fn may_begin(text: &[u8], front: &[u8]) -> bool
     ensures { result ≡ false → (rest : List ℕ) → text.now ≢ front.now ++ rest }
@@ -46,7 +46,7 @@ fn may_begin(text: &[u8], front: &[u8]) -> bool
     same_at(text, front, last) && same_at(text, front, last.saturating_sub(1))
 }
 
-/// Tells whether the text is the name, or begins with it and a point.
+/// Returns whether the text is the name, or begins with it and a point.
 pub(crate) fn is_or_goes_on(text: &[u8], name: &[u8]) -> bool
     ensures { result ≡ selects_path text.now name.now }
 {
@@ -80,7 +80,7 @@ pub(crate) fn after_component<'n>(name: &'n [u8], component: &[u8]) -> Match<'n>
     }
 }
 
-/// Tells whether a name selects the variable of a row: the variable's path is the name, or begins
+/// Returns whether a name selects the variable of a row: the variable's path is the name, or begins
 /// with it and a point.
 pub fn selects(view: HeadView<'_>, row: usize, name: &str) -> bool
     ensures { (h : Header) (v : Variable) → IsViewOf view.entry h

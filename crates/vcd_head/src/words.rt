@@ -9,7 +9,7 @@ ghost use Rattle.vcd_head.specs.Words.{power_in, unit_in, size_in};
 
 use vcd_view::is;
 
-/// Tells whether the token is `$end`.
+/// Returns whether the token is `$end`.
 #[inline(always)]
 pub(crate) fn is_end(token: &[u8]) -> bool
     ensures { result ≡ ends token.now }
@@ -17,7 +17,7 @@ pub(crate) fn is_end(token: &[u8]) -> bool
     matches!(token, [b'$', b'e', b'n', b'd'])
 }
 
-/// Tells whether the token is the keyword of a variable.
+/// Returns whether the token is the keyword of a variable.
 #[inline(always)]
 pub(crate) fn is_var(token: &[u8]) -> bool
     ensures { result ≡ bytes_eq (codes "$var") token.now }
@@ -25,7 +25,7 @@ pub(crate) fn is_var(token: &[u8]) -> bool
     matches!(token, [b'$', b'v', b'a', b'r'])
 }
 
-/// Tells whether the type is that of an event.
+/// Returns whether the type is that of an event.
 #[inline(always)]
 pub(crate) fn is_event(word: &[u8]) -> bool
     ensures { result ≡ bytes_eq (codes "event") word.now }
@@ -33,7 +33,7 @@ pub(crate) fn is_event(word: &[u8]) -> bool
     matches!(word, [b'e', b'v', b'e', b'n', b't'])
 }
 
-/// Tells whether the token is the keyword of a scope.
+/// Returns whether the token is the keyword of a scope.
 #[inline(always)]
 pub(crate) fn is_scope(token: &[u8]) -> bool
     ensures { result ≡ bytes_eq (codes "$scope") token.now }
@@ -41,7 +41,7 @@ pub(crate) fn is_scope(token: &[u8]) -> bool
     matches!(token, [b'$', b's', b'c', b'o', b'p', b'e'])
 }
 
-/// Tells whether the token is the keyword that closes a scope.
+/// Returns whether the token is the keyword that closes a scope.
 #[inline(always)]
 pub(crate) fn is_upscope(token: &[u8]) -> bool
     ensures { result ≡ bytes_eq (codes "$upscope") token.now }
@@ -49,7 +49,7 @@ pub(crate) fn is_upscope(token: &[u8]) -> bool
     matches!(token, [b'$', b'u', b'p', b's', b'c', b'o', b'p', b'e'])
 }
 
-/// Tells whether the token could begin a time mark or a value change.
+/// Returns whether the token could begin a time mark or a value change.
 pub(crate) fn begins_change(token: &[u8]) -> bool
     ensures { result ≡ changes token.now }
 {
@@ -59,7 +59,7 @@ pub(crate) fn begins_change(token: &[u8]) -> bool
     }
 }
 
-/// Tells whether the token is `$` and one or more bytes.
+/// Returns whether the token is `$` and one or more bytes.
 pub(crate) fn is_command(token: &[u8]) -> bool
     ensures { result ≡ commands token.now }
 {
@@ -151,7 +151,7 @@ pub(crate) fn size_of(token: &[u8]) -> Option<usize>
 // One more than the greatest size.
 const TOO_WIDE: usize = 16_777_216;
 
-/// Tells whether all bytes may stand in a code: 33 to 126 (clause 18.2.1).
+/// Returns whether all bytes may be in a code: 33 to 126 (clause 18.2.1).
 #[inline(always)]
 pub(crate) fn is_code(token: &[u8]) -> bool
     ensures { result ≡ list_all is_code_byte token.now }

@@ -89,7 +89,7 @@ fn text_of_scale(scale: Option<Scale>) -> &'static [u8]
     }
 }
 
-/// Tells whether the declaration of a row is marked.
+/// Returns whether the declaration of a row is marked.
 fn has_mark(marks: &[u8], row: usize) -> bool
     ensures { result ≡ is_marked marks.now row }
 {

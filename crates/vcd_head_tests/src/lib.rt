@@ -1,5 +1,5 @@
-//! The tests of `vcd_head` and `vcd_view`, over public functions alone. They stand apart so that
-//! the library is proved once: a crate with tests of its own is proved again with them.
+//! The tests of `vcd_head` and `vcd_view`, over public functions alone. They are a crate of their
+//! own so that the library is proved once: a crate with tests in it is proved again with them.
 #![tactic(auto)]
 
 #[cfg(test)]

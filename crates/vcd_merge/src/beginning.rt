@@ -11,8 +11,8 @@ use crate::seat::Seat;
 use vcd_head::{Head, least_exponent};
 use vcd_view::HeadView;
 
-/// By how much the times of an input are scaled where this is the least power of ten of all time
-/// scales.
+/// Returns by how much the times of an input are scaled where this is the least power of ten of all
+/// time scales.
 fn factor_of(view: HeadView<'_>, least: i8) -> u64
     ensures { (hs : List Header) (h : Header) → IsViewOf view.entry h → IsExponent least
         → least ≡ least_of hs → result ≡ factor hs h }
@@ -21,8 +21,8 @@ fn factor_of(view: HeadView<'_>, least: i8) -> u64
     10u64.checked_pow(u32::from(power)).unwrap_or(u64::MAX)
 }
 
-/// Sets factor, time and first number of each seat, and that it has not finished. Where the feeds
-/// stand, and what is known of their items, is left alone.
+/// Sets factor, time and first number of each seat, and that it has not finished. The places of the
+/// feeds, and what is known of their items, stay as they are.
 pub(crate) fn set_seats(heads: &[Head], seats: &mut [Seat])
     requires many { length heads.now ≤ 64 }
     requires heads { length heads.now ≡ length seats.old }

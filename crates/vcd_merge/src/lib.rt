@@ -3,8 +3,8 @@
 //! `merge` writes the header of all inputs and then their items in the order of their times, each
 //! under the new code of its input's. A `Merge` is the same run in parts: `Merge::start` writes the
 //! header, `merge_step` takes one item of the input whose turn it is, and `Merge::finish` takes all
-//! that are left. A `Seat` is where an input stands between two of its items; the `Windows` of all
-//! inputs are lent as three slices, in equal parts. None of them takes memory.
+//! that are left. A `Seat` is what is kept of an input between two of its items; the `Windows` of
+//! all inputs are lent as three slices, in equal parts. None of them takes memory.
 //!
 //! # The relations
 //!

@@ -29,7 +29,7 @@ use vcd_body::{Done, More, Stop, put_time_unless};
 use vcd_head::{Head, put_merged_head};
 use vcd_text::{Sink, Source, WriteFailed};
 
-/// The greatest time mark of all inputs.
+/// Returns the greatest time mark of all inputs.
 fn greatest_time(seats: &[Seat]) -> Option<u64>
     ensures { result ≡ greatest_time seats.now }
 {
@@ -45,8 +45,8 @@ fn greatest_time(seats: &[Seat]) -> Option<u64>
     greatest
 }
 
-/// The run of the input at a place: an item, and those that follow while its time is before this
-/// one. The parts of the windows are those at its place, and no other input's are touched.
+/// Runs the input at a place: it takes an item, and those that follow while its time is before this
+/// one. It uses the parts of the windows at that place, and touches no other input's.
 #[inline(always)]
 fn turn<S: Source, W: Sink>(
     heads: &[Head],
@@ -113,8 +113,8 @@ fn turn<S: Source, W: Sink>(
 }
 
 impl<'h, 's> Merge<'h, 's> {
-    /// Begins a merge of at most 64 inputs with these heads, and writes its header. Each seat's
-    /// feed stands after its header; where it stands is left alone.
+    /// Begins a merge of at most 64 inputs with these heads, and writes its header. The feed of
+    /// each seat is after its header, and stays there.
     ///
     /// # Errors
     ///
@@ -146,7 +146,7 @@ impl<'h, 's> Merge<'h, 's> {
         })
     }
 
-    /// Neither a step nor the end of all inputs has ended the merge.
+    /// Returns whether the merge goes on: neither a step nor the end of all inputs has ended it.
     #[inline]
     pub fn going(&self) -> bool
         ensures { result ≡ is_going self.now }
@@ -155,7 +155,7 @@ impl<'h, 's> Merge<'h, 's> {
     }
 }
 
-/// Writes what stands at the clean end of all inputs.
+/// Writes what is due at the clean end of all inputs.
 fn close<W: Sink>(seats: &[Seat], written: Option<u64>, out: &mut W) -> Result<(), WriteFailed>
     requires { (W.device out.old).failures < 2 ^ 64 - 1 }
     ensures takes { (hs : List Header) (ds : List Dump) → AreMarked hs ds seats.now
@@ -170,7 +170,7 @@ fn close<W: Sink>(seats: &[Seat], written: Option<u64>, out: &mut W) -> Result<(
 }
 
 /// Takes an item of the input whose turn it is, and those that follow while its time is below
-/// `most` and it comes before all others. The order tells the input, and then takes it in again.
+/// `most` and it comes before all others. The order gives the input, and then takes it in again.
 #[inline(always)]
 fn run_next<S: Source, W: Sink>(
     heads: &[Head],

@@ -92,8 +92,8 @@ fn put_sized<W: Sink>(
     }
 }
 
-/// Writes what is due with an item whose code's size was not told.
-// Not inlined: of most codes it was.
+/// Writes what is due with an item whose code's size the look-up did not give.
+// Not inlined: of most codes it did.
 #[cold]
 #[inline(never)]
 fn put_unsized<W: Sink>(
@@ -206,13 +206,13 @@ fn take_next<W: Sink>(
 /// How the taking of items ahead has left an input.
 #[derive(Clone, Copy)]
 struct Taken {
-    /// The bytes in which they lie.
+    /// How many bytes the items that were taken have.
     passed: usize,
-    /// The input after them, its feed aside.
+    /// The seat of the input after these items, its feed aside.
     seat: Seat,
     written: Option<u64>,
-    /// Whether the time of the input is no longer early after the last of them; or that a write of
-    /// what is due with it failed.
+    /// Whether the time of the input is no longer early after the last of these items; or that a
+    /// write of what is due failed.
     ended: Result<bool, WriteFailed>,
 }
 
@@ -238,9 +238,9 @@ impl Taken {
     }
 }
 
-/// Takes the items of an input that lie ahead, one after the other, as long as its time is before
-/// this one, and writes what is due with each. A time that is too large once it is scaled is left.
-// Seat, written time and place come and go by value: behind references they cost each item more.
+/// Takes the items of an input ahead, one after the other, as long as its time is before this one,
+/// and writes what is due with each. A time that is too large once it is scaled is left.
+// Seat, written time and place come and go by value: by reference they cost each item more.
 fn items_ahead<W: Sink>(
     view: HeadView<'_>,
     before: u64,
@@ -323,7 +323,7 @@ fn take_ahead<S: Source, W: Sink>(
 }
 
 /// Takes the next item of an input over its feed, and writes what is due with it. The seat's
-/// registers are those after it; where the feed stands is left to the caller.
+/// registers are those after it; the place of the feed is left to the caller.
 #[inline(always)]
 fn take_item<S: Source, W: Sink>(
     head: &Head,
@@ -420,9 +420,9 @@ fn take_run<S: Source, W: Sink>(
     }
 }
 
-/// The run of an input, over its source and its parts of the windows alone: its feed goes on where
-/// it was parked, takes an item, and those that follow while the time of the input is before this
-/// one, and is parked again.
+/// Runs an input over its source and its parts of the windows alone: its feed goes on where it was
+/// parked, takes an item, and those that follow while the time of the input is before this one, and
+/// is parked again.
 #[inline(always)]
 pub(crate) fn run_of<S: Source, W: Sink>(
     head: &Head,

@@ -9,12 +9,12 @@ use crate::seat::Seat;
 #[derive(Clone, Copy)]
 pub(crate) struct Run {
     pub(crate) input: usize,
-    /// It goes on while its time is before this one: so long it comes before all others.
+    /// The input goes on while its time is before this one: so long it comes before all others.
     pub(crate) before: u64,
 }
 
-/// The first one of two inputs comes before the other: by their times, and of equal times by their
-/// numbers.
+/// Returns whether the first one of two inputs comes before the other: by their times, and of equal
+/// times by their numbers.
 #[inline(always)]
 fn comes_before(seats: &[Seat], input: usize, other: usize) -> bool
     requires input { input < length seats.now }
@@ -29,7 +29,7 @@ fn comes_before(seats: &[Seat], input: usize, other: usize) -> bool
     time < other_time || (time == other_time && input < other)
 }
 
-/// The time before which an input comes before the other.
+/// Returns the time before which an input comes before the other.
 #[inline(always)]
 fn end_before(seats: &[Seat], input: usize, other: usize) -> u64
     requires { other < length seats.now }
@@ -55,8 +55,8 @@ pub(crate) struct Order {
 impl Order {
     ghost use Rattle.std.specs.Prelude.{◌≤◌};
 
-    /// Where an input that is not in it goes: from this place on all come before it, and below it
-    /// none.
+    /// Returns where an input that is not in it goes: from this place on all come before it, and
+    /// below it none.
     #[inline(always)]
     fn place_for(&self, input: usize, seats: &[Seat]) -> usize
         requires input { input < length seats.now }
@@ -121,7 +121,7 @@ impl Order {
         }
     }
 
-    /// All inputs that have not finished.
+    /// Returns all inputs that have not finished.
     pub(crate) fn of(seats: &[Seat]) -> Order
         requires { length seats.now ≤ 64 }
         ensures { AllWait seats.now result.inputs result.len }
@@ -145,7 +145,7 @@ impl Order {
         self.len == 0
     }
 
-    /// The time before which an input goes before those in so many places.
+    /// Returns the time before which an input goes before those in so many places.
     #[inline(always)]
     fn end_of(&self, input: usize, places: usize, seats: &[Seat]) -> u64
         requires places { places ≤ self.now.len }

@@ -1,4 +1,4 @@
-//! Where each input of a merge stands.
+//! What a merge keeps of each input between two of its items.
 ghost use Rattle.std.specs.Prelude.{◌≡◌, None, false};
 
 use vcd_body::Regs;
@@ -18,12 +18,13 @@ pub struct Seat {
     pub(crate) time: u64,
     /// The number of its first code among the codes of all inputs.
     pub(crate) first: u64,
-    /// It has no item any more.
+    /// Whether it has no item any more.
     pub(crate) finished: bool,
 }
 
 impl Seat {
-    /// An input whose feed stands after its header. The rest is set where the merge begins.
+    /// Returns the seat of an input whose feed is after its header. The rest is set where the merge
+    /// begins.
     pub fn new(parked: Parked) -> Seat
         ensures parked { result.parked ≡ parked }
         ensures open { result.finished ≡ false }

@@ -203,7 +203,7 @@ fn one_input(rt: HostRuntime) -> Result<(), Fail> {
     Ok(())
 }
 
-// Its header has no item behind it.
+// A dump with no item after its header.
 const NO_ITEMS: &[u8] = b"$timescale 1ns $end\n$var wire 1 ! clk $end\n$enddefinitions $end\n";
 
 const NO_ITEMS_ALONE: &[u8] =

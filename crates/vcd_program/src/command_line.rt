@@ -129,7 +129,7 @@ fn run_words<H: Host, W: Sink, E: Sink, B: BuildHasher>(
     }
 }
 
-/// Does what the words ask for, the program's name first among them, flushes the output, and
+/// Runs what the words ask for, the program's name first among them, flushes the output, and
 /// returns the exit status: that of the definitions for the words and the inputs; 3 for an input
 /// that cannot be opened, where memory ran out and for a failed read or write; 0 for help and the
 /// version.

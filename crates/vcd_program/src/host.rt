@@ -9,7 +9,7 @@ use vcd_text::{Sink, Source, Watch, WriteFailed};
 /// Why there is no input.
 #[derive(Clone, Copy, PartialEq, Eq, Debug)]
 pub enum OpenFault {
-    /// It cannot be opened.
+    /// The input cannot be opened.
     Unopened,
     /// Memory ran out.
     OutOfMemory,
@@ -35,7 +35,7 @@ pub trait Output: Sink {
     // What a call of `flush` leaves the sink, where it is done and where it fails.
     ghost flushes: { Self → Bool → Self → Type 0 };
 
-    /// Hands on what is in the buffer. It is no write that is counted.
+    /// Passes on what is in the buffer. It is no write that is counted.
     fn flush(&mut self) -> Result<(), WriteFailed>
         ensures flushes { flushes self.old (is_ok result) self.new }
         ensures held { Keeps (Self.device self.old).held (Self.device self.new).held }

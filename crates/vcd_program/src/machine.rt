@@ -71,7 +71,8 @@ impl Host for Machine<'_> {
     }
 }
 
-/// The words of the command line, the program's name first. They are bad where one is no text.
+/// Returns the words of the command line, the program's name first. They are bad where one is no
+/// text.
 fn words_of<R: Env + AllocGlobal>(rt: &R) -> Result<Vec<String>, UseFault<'static>> {
     let words = env::args(rt).map_err(|error| match error.kind() {
         ErrorKind::OutOfMemory => UseFault::OutOfMemory,

@@ -11,9 +11,9 @@ use vcd_text::{ReadFailed, Sink, Source, Watch, WriteFailed};
 /// A file in memory.
 #[derive(Clone, Copy, PartialEq, Eq, Debug)]
 pub struct MemoryFile<'a> {
-    /// Its name.
+    /// The name of the file.
     pub name: &'a str,
-    /// Its bytes.
+    /// The bytes of the file.
     pub bytes: &'a [u8],
 }
 

@@ -8,7 +8,7 @@ use std::alloc::{AllocError, Global};
 /// What standard input is called.
 const INPUT: &str = "(stdin)";
 
-/// What an input is called in a message.
+/// Returns what an input is called in a message.
 pub(crate) fn called<'a>(name: Option<&'a str>) -> &'a str
     ensures { result.now ≡ called (text_of name.entry) }
 {
@@ -44,7 +44,7 @@ impl<I: Drop> Opened<I> {
 /// Why inputs were not opened.
 #[derive(Clone, Copy)]
 pub(crate) enum Stop<'a> {
-    /// The one of this name cannot be.
+    /// The input of this name cannot be opened.
     Unopened(Option<&'a str>),
     /// Memory ran out.
     OutOfMemory,

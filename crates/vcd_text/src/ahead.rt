@@ -21,7 +21,7 @@ impl White {
     ghost use Rattle.std.specs.Prelude.{◌≡◌, ℕ, List};
     ghost use Rattle.vcd_text.specs.Masks.{Marks};
 
-    /// Nothing was looked over.
+    /// Returns white space of which nothing is known yet.
     #[inline(always)]
     pub(crate) fn unknown() -> Self
         ensures { (chunk : List ℕ) (at stop : ℕ) → Marks chunk at stop result }
@@ -30,8 +30,8 @@ impl White {
     }
 }
 
-/// The tokens that stand ahead in a feed's chunk, up to a place that needs the feed itself. A copy
-/// of it is a place to go back to.
+/// The tokens ahead in a feed's chunk, up to a place that needs the feed itself. A copy of it is a
+/// place to go back to.
 #[derive(Clone, Copy)]
 pub struct Ahead<'a> {
     bytes: &'a [u8],
@@ -49,7 +49,7 @@ impl<'a> Ahead<'a> {
     ghost use Rattle.vcd_text.specs.Passed.{IsRun, Passed, line_ahead};
     ghost use Rattle.vcd_text.specs.Ahead.{bytes_of, longest_of, passed_of, start_of};
 
-    /// Over these bytes.
+    /// Returns the look-ahead over these bytes, at their first one.
     #[inline(always)]
     pub(crate) fn new(bytes: &'a [u8], limit: usize) -> Ahead<'a>
         ensures bytes { bytes_of result ≡ bytes.now }
@@ -64,7 +64,7 @@ impl<'a> Ahead<'a> {
         }
     }
 
-    /// How many bytes were passed, for `Feed::pass`.
+    /// Returns how many bytes were passed, for `Feed::pass`.
     #[inline(always)]
     pub fn passed(&self) -> usize
         ensures passed { result ≡ passed_of self.now }
@@ -73,7 +73,8 @@ impl<'a> Ahead<'a> {
         self.at
     }
 
-    /// The bytes that it looks over, so that more of them than a token's can be looked at at once.
+    /// Returns the bytes that it looks over, so that more of them than a token's can be looked at
+    /// at once.
     #[inline(always)]
     pub fn bytes(&self) -> &'a [u8]
         ensures { result.now ≡ bytes_of self.now }
@@ -81,8 +82,8 @@ impl<'a> Ahead<'a> {
         self.bytes
     }
 
-    /// The next token, if it is whole. White bytes before it are passed with it. Where it is not
-    /// whole, `Feed::next` goes on. Near the end of the bytes none is given either.
+    /// Returns the next token, if it is whole. White bytes before it are passed with it. Where it
+    /// is not whole, `Feed::next` goes on. Near the end of the bytes none is given either.
     #[inline(always)]
     pub fn next(&mut self) -> Option<&'a [u8]>
         ensures gives { IfSome result (λ token. (lines : ℕ) (ts : List Token)
@@ -106,8 +107,8 @@ impl<'a> Ahead<'a> {
         ensures within { passed_of self.new ≤ length (bytes_of self.old) }
         ensures none { result ≡ None → self.new ≡ self.old }
 
-        // None is given only where none stands behind the white bytes, or fewer than 64 bytes from
-        // its end on.
+        // None is given only where no token follows the white bytes, or fewer than 64 bytes are
+        // left from its end on.
         ensures needed { result ≡ None → (start n : ℕ)
             → AreWhite (bytes_of self.old) (passed_of self.old) start
             → IsRun (longest_of self.old) (bytes_of self.old) start n
@@ -178,7 +179,7 @@ impl<'a> Ahead<'a> {
     }
 }
 
-/// The lowest bit is that of the byte at a place.
+/// Returns whether the lowest bit is that of the byte at a place.
 #[inline(always)]
 fn stands_at(white: White, at: usize) -> bool
     requires some { white.bits ≢ 0 }
@@ -189,9 +190,9 @@ fn stands_at(white: White, at: usize) -> bool
     white.next + lowest(white.bits) - 64 == at
 }
 
-/// Where the white bytes from a place on end.
-// Out of line, as is `look_ahead`, and both return numbers alone: what is returned through memory
-// would be cleared for each token.
+/// Returns where the white bytes from a place on end.
+// Not inlined, like `look_ahead`. Both return numbers alone: what is returned through memory would
+// be cleared for each token.
 #[inline(never)]
 fn past_white(bytes: &[u8], from: usize) -> usize
     requires { from ≤ length bytes.now }
@@ -207,8 +208,8 @@ fn past_white(bytes: &[u8], from: usize) -> usize
     at
 }
 
-/// The white space that is known ahead, or else stands next. None where there is none, or fewer
-/// than 64 bytes from it on.
+/// Returns the white space that is known ahead, or else comes next. None where there is none, or
+/// fewer than 64 bytes are left from it on.
 // What is known is asked once: it is so for most tokens.
 #[inline(always)]
 fn white_ahead(bytes: &[u8], known: White) -> Option<White>

@@ -7,8 +7,8 @@ ghost use Rattle.vcd_text.specs.Registers.{Fits};
 use crate::registers::Parked;
 use std::io;
 
-/// A parked feed that counts so many bytes as looked at already. It shows no token of them, and
-/// they have no line feed. A feed that goes on from it comes to the last byte that an input may
+/// Returns a parked feed that counts so many bytes as looked at already. It shows no token of them,
+/// and they have no line feed. A feed that goes on from it comes to the last byte that an input may
 /// have without a reader of so many bytes.
 pub fn parked_after(bytes: u64) -> Parked
     requires { bytes < 2 ^ 63 }
@@ -39,7 +39,7 @@ pub struct Pieces<'a> {
 }
 
 impl<'a> Pieces<'a> {
-    /// Never fails.
+    /// Returns a device that never fails.
     pub fn new(bytes: &'a [u8], most: usize) -> Self
         ensures bytes { result.bytes.now ≡ bytes.now }
         ensures rest { (result.most ≡ most) × (result.calls ≡ 0) × (result.fails_at ≡ 0) }
@@ -97,7 +97,7 @@ impl Narrow {
         }
     }
 
-    /// What it took so far.
+    /// Returns what it took so far.
     pub fn held(&self) -> &[u8]
         ensures { result.now ≡ held_by self.now }
     {

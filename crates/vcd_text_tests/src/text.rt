@@ -10,10 +10,10 @@ use vcd_text::{
     Ahead, Feed, Halt, Next, Sink, Source, Watch, WriteFailed, decimal_of, put, put_number, text_of,
 };
 
-// The most bytes that are told.
+// The most bytes of a record of answers.
 const MOST_TOLD: usize = 1024;
 
-// What was told, one thing after the other. What has no room is left out.
+// A record of answers, one after the other. What has no room is left out.
 #[derive(Drop)]
 struct Told {
     bytes: [u8; MOST_TOLD],
@@ -122,7 +122,7 @@ fn tell(source: &mut Watch<Pieces<'_>>, chunk_len: usize, limit: usize, told: &m
     tell_all(&mut feed, told);
 }
 
-// Whether the tokens of a source are told so.
+// Whether the tokens of a source give this record.
 fn is_told(mut source: Watch<Pieces<'_>>, chunk_len: usize, limit: usize, want: &[u8]) -> bool
     requires source { failed_calls source ≡ 0 }
     requires chunk_len { (0 < chunk_len) × (chunk_len ≤ 1300) }
@@ -162,7 +162,7 @@ fn tell_ahead(feed: &mut Feed<'_, '_, '_, '_, Watch<Pieces<'_>>>, told: &mut Tol
     feed.pass(passed);
 }
 
-// Whether the same tokens, most of them taken ahead, are told so.
+// Whether the tokens of a text, most of them taken ahead, give this record.
 fn is_told_ahead(bytes: &[u8], most: usize, chunk_len: usize, want: &[u8]) -> bool
     requires chunk_len { (0 < chunk_len) × (chunk_len ≤ 1300) }
 {
@@ -234,7 +234,8 @@ fn a_long_token_halts_on_its_line(rt: HostRuntime) {
     }
 }
 
-// Whether three answers over a text, where so many bytes count as looked at before it, are told so.
+// Whether three answers over a text, where so many bytes count as looked at before it, give this
+// record.
 fn is_told_after(counted: u64, bytes: &[u8], limit: usize, want: &[u8]) -> bool
     requires counted { counted < 2 ^ 63 }
     requires limit { (0 < limit) × (limit ≤ 8) }
@@ -257,8 +258,8 @@ fn is_told_after(counted: u64, bytes: &[u8], limit: usize, want: &[u8]) -> bool
     told.text() == want
 }
 
-// Bytes that count as looked at, a text, the token limit, and what is told. Where byte number 2^63
-// is also one too many for a token, it is too much input.
+// Bytes that count as looked at, a text, the token limit, and the record of the answers. Where byte
+// number 2^63 is also one too many for a token, it is too much input.
 const LAST_BYTES: [(u64, &[u8], usize, &[u8]); 4] = [
     (
         (1 << 63) - 3,

@@ -5,7 +5,7 @@
 //! of a task that has `Begun`, and a `Merge` are the runs in parts: `step` and `merge_step` take
 //! one item each. `Done`, `More` and `Stop` say how they end. None of them takes memory.
 //!
-//! All code stands in crates below, side by side, so that no crate waits for this one: the commands
+//! All code is in the crates below, side by side, so that no crate waits for this one: the commands
 //! over one dump in `vcd_engine`, the merge in `vcd_merge`, and how a run ends in `vcd_body`.
 //!
 //! # The modules

@@ -9,8 +9,8 @@ const CLOCKED: &[u8] =
 
 const CLOCKED_EDGES: &[u8] = b"tb.clk 5 1 1\ntb.q 2 1 0\n";
 
-// A value of each kind, an alias, digits that are written in two ways, and a mark of an event in a
-// section.
+// A value of each kind, an alias, digits that are written in two ways, and a trigger of an event in
+// a section.
 const KINDS: &[u8] =
     b"$var wire 2 ! a $end\n$var wire 2 ! b $end\n$var real 1 \" r $end\n$var event 1 # e $end\n$var wire 2 % u $end\n$enddefinitions $end\n#9\n$dumpvars\nb0 !\nr1.5 \"\n1#\n$end\n#10\nb01 !\n1#\n#20\nr2 \"\nb1 !\n#21\nb00 !\n1#\n";
 

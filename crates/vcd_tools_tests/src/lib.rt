@@ -1,6 +1,6 @@
-//! The tests of the commands over one dump, by the paths that callers of `vcd_tools` use. They
-//! stand apart so that the libraries are proved once: a crate with tests of its own is proved again
-//! with them.
+//! The tests of the commands over one dump, by the paths that callers of `vcd_tools` use. They are
+//! a crate of their own so that the libraries are proved once: a crate with tests in it is proved
+//! again with them.
 #![tactic(auto)]
 
 #[cfg(test)]

@@ -39,7 +39,7 @@ fn dispatch<S: Source, W: Sink>(
     }
 }
 
-// Runs a task behind a header, in the room that it needs.
+// Runs a task after a header, in the room that it needs.
 fn run_behind<S: Source, W: Sink>(
     alloc: Global,
     view: HeadView<'_>,

@@ -293,7 +293,7 @@ fn takes_steps_in<S: Source>(
     )
 }
 
-// Whether a task behind a header takes these steps, and no more, in the room that it needs.
+// Whether a task after a header takes these steps, and no more, in the room that it needs.
 fn takes_steps_behind<S: Source>(
     alloc: Global,
     view: HeadView<'_>,

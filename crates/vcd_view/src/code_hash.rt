@@ -28,7 +28,7 @@ impl CodeSeed {
         }
     }
 
-    /// The state after a word: the upper half of a product of 128 bits.
+    /// Returns the state after a word: the upper half of a product of 128 bits.
     #[inline(always)]
     pub fn mixed(self, state: u64, word: u64) -> u64
         ensures { result ≡ mixed self state word }
@@ -39,8 +39,8 @@ impl CodeSeed {
         (product >> 64) as u64
     }
 
-    /// The state after these bytes: each eight of them count as one word, and what is left as one
-    /// more.
+    /// Returns the state after these bytes: each eight of them count as one word, and what is left
+    /// as one more.
     #[inline(always)]
     pub fn hashed(self, state: u64, bytes: &[u8]) -> u64
         ensures { result ≡ hashed self state bytes.now }
@@ -53,7 +53,7 @@ impl CodeSeed {
         }
     }
 
-    // The state after bytes of any number.
+    // Returns the state after bytes of any number.
     fn hashed_by_words(self, state: u64, bytes: &[u8]) -> u64
         ensures { result ≡ hashed self state bytes.now }
     {

@@ -1,6 +1,6 @@
-// The entries by which codes are looked up: where a code's entry is, and what it tells. Any code
-// may have any place among them, and two the same: where an entry is decides only how fast a
-// look-up is.
+// The entries by which codes are looked up: where a code's entry is, and what it holds. Any code
+// may have any place among them, and two codes the same one: the place of an entry decides only how
+// fast a look-up is.
 ghost use Rattle.std.specs.Prelude.{◌≡◌, ◌+◌, ◌-◌, ◌%◌, ◌^◌, ◌<◌, ◌≤◌, ℕ, List, true, bit_and, length, slice_get, Some, IfSome};
 ghost use Rattle.vcd_model.specs.Declarations.{IdCode};
 ghost use Rattle.vcd_view.specs.Entries.{HasEntry, IsAt, are_right, beside, entry_after, place_told, told_by, above, entry_in, most_of, number_in};
@@ -12,7 +12,7 @@ use crate::code_hash::CodeSeed;
 use crate::key::key_of;
 use crate::view::{Code, Entry, code_in, text_in};
 
-/// Where the entry of a code is among so many, a power of two.
+/// Returns where the entry of a code is among so many, a power of two.
 ///
 /// Simulators number codes from `!` on in base 94, the lowest digit first, in the order of
 /// declaration. Read back as such a number, neighbours have entries of their own.
@@ -23,7 +23,7 @@ pub fn entry_of(code: &[u8], entries: usize) -> usize
     entry_for(code_number(code), entries)
 }
 
-/// Where the entry of a code with this number is among so many, a power of two.
+/// Returns where the entry of a code with this number is among so many, a power of two.
 #[inline(always)]
 pub fn entry_for(number: usize, entries: usize) -> usize
     ensures { result ≡ bit_and number ((entries + (2 ^ 64 - 1)) % 2 ^ 64) }
@@ -31,7 +31,7 @@ pub fn entry_for(number: usize, entries: usize) -> usize
     number & entries.wrapping_sub(1)
 }
 
-/// The number whose digits are the bytes of a code, the first one lowest.
+/// Returns the number whose digits are the bytes of a code, the first one lowest.
 #[inline(always)]
 pub fn code_number(code: &[u8]) -> usize
     ensures { result ≡ number_in code.now }
@@ -48,7 +48,7 @@ pub fn code_number(code: &[u8]) -> usize
     }
 }
 
-// The number with a lower digit after it.
+// Returns the number with a lower digit after it.
 #[inline(always)]
 fn above(number: usize, byte: u8) -> usize
     ensures { result ≡ above number byte }
@@ -58,7 +58,7 @@ fn above(number: usize, byte: u8) -> usize
         .wrapping_add(usize::from(byte).wrapping_sub(32))
 }
 
-// The number of a code of any length.
+// Returns the number of a code of any length.
 fn number_of(code: &[u8]) -> usize
     ensures { result ≡ number_in code.now }
 {
@@ -71,7 +71,7 @@ fn number_of(code: &[u8]) -> usize
     number
 }
 
-/// The place that an entry gives for the code with this key, if it is that of the code.
+/// Returns the place that an entry gives for the code with this key, if it is that of the code.
 #[inline(always)]
 pub fn place_told(entries: &[Entry], at: usize, key: u64) -> Option<usize>
     ensures { (code : List ℕ) → key ≡ key_in code → result ≡ place_told code (slice_get entries.now at) }
@@ -84,8 +84,8 @@ pub fn place_told(entries: &[Entry], at: usize, key: u64) -> Option<usize>
     }
 }
 
-/// The place that one of the three entries beside the code's own gives. They lie in the 64 bytes
-/// around that, so a look at them reads at most one line of the cache more.
+/// Returns the place that one of the three entries beside the code's own gives. They are in the 64
+/// bytes around that, so a look at them reads at most one cache line more.
 #[inline(always)]
 pub fn place_beside(entries: &[Entry], own: usize, key: u64) -> Option<usize>
     ensures { (code : List ℕ) → key ≡ key_in code → result ≡ told_by entries.now code (beside own) }
@@ -130,8 +130,8 @@ pub fn long_key(hash: u64) -> u64
     hash % LONG + LONG
 }
 
-/// The place of a code that an entry gives which is beside its own, or to which its hash leads.
-/// Where none does, there may be the code all the same.
+/// Returns the place of a code that an entry gives which is beside its own, or to which its hash
+/// leads. Where none does, there may be the code all the same.
 pub(crate) fn place_hashed(
     text: &[u8],
     codes: &[Code],
@@ -155,8 +155,8 @@ pub(crate) fn place_hashed(
     }
 }
 
-// The place that an entry gives for the code with this key, which is not 0, if the hash leads to
-// that.
+// Returns the place that an entry gives for the code with this key, which is not 0, if the hash
+// leads to that.
 fn place_of_short(entries: &[Entry], hash: u64, key: u64) -> Option<usize>
     ensures { IfSome result (λ place. HasEntry entries.now key place) }
 {
@@ -172,8 +172,8 @@ fn place_of_short(entries: &[Entry], hash: u64, key: u64) -> Option<usize>
     None
 }
 
-// The place that an entry gives for this code of 8 bytes or more, if its hash leads to that. Others
-// may have the same key, so its bytes are compared.
+// Returns the place that an entry gives for this code of 8 bytes or more, if its hash leads to
+// that. Others may have the same key, so its bytes are compared.
 fn place_of_long(
     text: &[u8],
     codes: &[Code],
@@ -196,7 +196,7 @@ fn place_of_long(
     None
 }
 
-// The code at a place has these bytes.
+// Returns whether the code at a place has these bytes.
 fn is_at(text: &[u8], codes: &[Code], place: usize, bytes: &[u8]) -> bool
     ensures { result ≡ true → IsAt text.now codes.now bytes.now place }
 {
@@ -206,8 +206,8 @@ fn is_at(text: &[u8], codes: &[Code], place: usize, bytes: &[u8]) -> bool
     }
 }
 
-/// The most digits that a change of the code may have: its size. It is 0 where any number is
-/// allowed, and where 32 bits do not hold the size.
+/// Returns the most digits that a change of the code may have: its size. It is 0 where any number
+/// is allowed, and where 32 bits do not hold the size.
 pub fn most_of(code: Code) -> u32
     ensures { result ≡ most_of code }
 {

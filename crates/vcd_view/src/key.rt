@@ -8,7 +8,8 @@ const MOST_BYTES: usize = 7;
 // What closes a key.
 const BLANK: u64 = b' ' as u64;
 
-/// The number of a code of at most 7 bytes, which no other code has, and 0 for a longer one.
+/// Returns the number of a code of at most 7 bytes, which no other code has, and 0 for a longer
+/// one.
 #[inline(always)]
 pub fn key_of(code: &[u8]) -> u64
     ensures { result ≡ key_in code.now }
@@ -26,7 +27,7 @@ pub fn key_of(code: &[u8]) -> u64
     }
 }
 
-// The key with a byte before it.
+// Returns the key with a byte before it.
 #[inline(always)]
 fn behind(key: u64, byte: u8) -> u64
     requires { key < 2 ^ 56 }
@@ -35,7 +36,7 @@ fn behind(key: u64, byte: u8) -> u64
     key * 256 + u64::from(byte)
 }
 
-// The bytes and a blank after them, the first one lowest.
+// Returns the bytes and a blank after them as a number, the first byte lowest.
 fn packed_of(code: &[u8]) -> u64
     requires { length code.now ≤ 7 }
     ensures { result ≡ packed code.now }

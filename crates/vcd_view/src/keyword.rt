@@ -21,7 +21,7 @@ pub enum Keyword {
     End,
 }
 
-/// The token is this word.
+/// Returns whether the token is this word.
 #[inline(always)]
 pub fn is(token: &[u8], word: &[u8]) -> bool
     ensures { result ≡ bytes_eq word.now token.now }
@@ -29,7 +29,7 @@ pub fn is(token: &[u8], word: &[u8]) -> bool
     word == token
 }
 
-/// The keyword that the whole token is.
+/// Returns the keyword that the whole token is.
 pub fn keyword_of(token: &[u8]) -> Option<Keyword>
     ensures { option_map model_keyword result ≡ keyword_is token.now }
 {

@@ -12,14 +12,14 @@
 //! a view say of its codes is so in any view (`right`).
 //!
 //! `Finds codes text place` says of a look-up that the code with this text is at this place, or
-//! that there is none; `IsSized codes found` that the size of what was found is told too.
+//! that there is none; `IsSized codes found` that the size of what was found is given too.
 //!
 //! # The modules
 //!
 //! - `view`: `HeadView` with its rows and codes, and `Need`
 //! - `look_up`, `probes`: a look at one entry, then a look by the hash, then a binary search;
 //!   comparisons, counted
-//! - `entries`, `key`: where a code's entry is, and what it tells; codes as numbers
+//! - `entries`, `key`: where a code's entry is, and what it holds; codes as numbers
 //! - `code_hash`: codes hashed by numbers that nobody knows
 //! - `room`: `need`, the room that an engine over a header needs
 //! - `keyword`: the keywords of a dump

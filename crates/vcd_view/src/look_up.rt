@@ -19,14 +19,14 @@ use std::cmp::Ordering;
 /// A code that was looked up.
 #[derive(Clone, Copy, PartialEq, Eq, Debug)]
 pub struct Found {
-    /// Its place among the distinct codes.
+    /// The place of the code among the distinct codes.
     pub place: usize,
-    /// Its size: the most digits that a change of it may have. It is 0 where its variables are
-    /// events, and where 32 bits do not hold the size; then the code tells.
+    /// The size of the code: the most digits that a change of it may have. It is 0 where its
+    /// variables are events, and where 32 bits do not hold the size; then the view's code has it.
     pub most: usize,
 }
 
-/// The place of a code among the distinct codes.
+/// Returns the place of a code among the distinct codes.
 ///
 /// A look at one entry finds nearly all codes that simulators give. The others are looked for by
 /// their hash, and those that are not found so by a binary search.
@@ -39,7 +39,7 @@ pub fn find(view: HeadView<'_>, code: &[u8]) -> Option<usize>
     Some(found.place)
 }
 
-/// The place of a code among the distinct codes, with its size.
+/// Returns the place of a code among the distinct codes, with its size.
 #[inline(always)]
 pub fn find_sized(view: HeadView<'_>, code: &[u8]) -> Option<Found>
     ensures found { (h : Header) → IsViewOf view.entry h
@@ -66,7 +66,8 @@ pub fn find_sized(view: HeadView<'_>, code: &[u8]) -> Option<Found>
     }
 }
 
-// The place and size of a code by a look at one entry; none if the entry is of another code.
+// Returns the place and size of a code by a look at one entry; none if the entry is of another
+// code.
 #[inline(always)]
 fn find_at_once(view: HeadView<'_>, code: &[u8]) -> Option<Found>
     ensures found { (h : Header) → IsViewOf view.entry h
@@ -88,9 +89,9 @@ fn find_at_once(view: HeadView<'_>, code: &[u8]) -> Option<Found>
     }
 }
 
-// The place of a code that is not that of its own entry: by its hash, or else by a binary search.
-// It takes no view, so that a look-up that is done at once need not make one ready, and returns a
-// number alone, which needs no memory.
+// Returns the place of a code that is not that of its own entry: by its hash, or else by a binary
+// search. It takes no view, so that a look-up that is done at once need not make one ready, and
+// returns a number alone, which needs no memory.
 #[inline(never)]
 fn find_slowly(
     text: &[u8],
@@ -112,7 +113,8 @@ fn find_slowly(
     }
 }
 
-/// The place of a code among the distinct codes, by a binary search alone, which counts its probes.
+/// Returns the place of a code among the distinct codes, by a binary search alone, which counts its
+/// probes.
 ///
 /// The count grows by each comparison, by at least one where there is a code, and by at most one
 /// more than the binary digits of the number of codes.
@@ -127,8 +129,8 @@ pub fn find_counted(view: HeadView<'_>, code: &[u8], probes: &mut Probes) -> Opt
     search(view.text, view.codes, view.index, code, probes)
 }
 
-// The place of a code by a binary search in the order of the codes. It takes no view, so that a
-// look-up that was guessed need not make one ready.
+// Returns the place of a code by a binary search in the order of the codes. It takes no view, so
+// that a look-up that was guessed need not make one ready.
 #[inline(never)]
 fn search(
     text: &[u8],
@@ -159,7 +161,7 @@ fn search(
     None
 }
 
-// The bytes of the code at a place.
+// Returns the bytes of the code at a place.
 fn text_of<'a>(text: &'a [u8], codes: &[Code], place: usize) -> &'a [u8]
     ensures { (ks : List IdCode) → AllZip (IsCode text.now) codes.now ks → place < length ks
         → result.now ≡ code_text ks place }

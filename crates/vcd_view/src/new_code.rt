@@ -16,7 +16,7 @@ pub struct NewCode {
 impl NewCode {
     ghost use Rattle.std.specs.Prelude.{length};
 
-    /// The code of this number.
+    /// Returns the code of this number.
     pub fn of(number: u64) -> NewCode
         ensures { digits_of result ≡ new_code number }
     {
@@ -35,7 +35,7 @@ impl NewCode {
         }
     }
 
-    /// Its bytes.
+    /// Returns the bytes of the code.
     pub fn text(&self) -> &[u8]
         ensures { result.now ≡ digits_of self.now }
     {

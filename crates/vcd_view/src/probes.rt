@@ -19,7 +19,7 @@ impl Model for Probes {
 }
 
 impl Probes {
-    /// None yet.
+    /// Returns a count of 0.
     pub fn new() -> Self
         ensures { result.count ≡ 0 }
     {
@@ -28,7 +28,7 @@ impl Probes {
         }
     }
 
-    // One more.
+    // Returns the count with one comparison more.
     fn after_one(&self) -> Self
         ensures { result.count ≡ self.now.count + 1 }
     {

@@ -8,7 +8,7 @@ ghost use Rattle.vcd_view.specs.Needs.{room, value_bytes, view_size};
 
 use crate::view::{HeadView, Need};
 
-/// The room that an engine over this header needs.
+/// Returns the room that an engine over this header needs.
 pub fn need(view: HeadView<'_>) -> Need
     ensures lengths { (result.slots ≡ length view.entry.codes.now)
         × (result.marks ≡ length view.entry.rows.now) }

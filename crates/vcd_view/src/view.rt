@@ -22,28 +22,28 @@ pub struct Row {
     /// 1 plus the row of the enclosing scope (for `Up` the one that it closes), 0 where there is
     /// none.
     pub parent: u32,
-    /// The bytes of the type.
+    /// The length of the type in bytes.
     pub word: u32,
-    /// The bytes of the reference's first token: a scope's name, or that of a variable.
+    /// The length of the reference's first token: a scope's name, or that of a variable.
     pub name: u32,
     /// The place of a variable's code in `codes`.
     pub code: u32,
-    /// Where in the text the type begins; the reference stands right after it.
+    /// Where in the text the type begins; the reference comes right after it.
     pub start: usize,
-    /// The bytes of the whole reference, its tokens with a space between.
+    /// The length of the whole reference, its tokens with a space between.
     pub all: usize,
 }
 
 /// An identifier code (clause 18, $var).
 #[derive(Clone, Copy, PartialEq, Eq, Debug)]
 pub struct Code {
-    /// Where in the text it begins.
+    /// Where in the text the code begins.
     pub start: usize,
     /// The size of its variables, 1 to 16,777,215 bits (profile).
     pub size: usize,
-    /// Its bytes.
+    /// The length of the code in bytes.
     pub len: u32,
-    /// Its variables are events.
+    /// Whether its variables are events.
     pub event: bool,
 }
 
@@ -52,9 +52,9 @@ pub struct Code {
 pub struct Entry {
     /// The code as a number; of a code that has none, its hash with the highest bit set.
     pub key: u64,
-    /// Its place in `codes`.
+    /// The place of the code in `codes`.
     pub place: u32,
-    /// Its size; 0 where its variables are events, or where 32 bits do not hold it.
+    /// The size of the code; 0 where its variables are events, or where 32 bits do not hold it.
     pub most: u32,
 }
 
@@ -83,7 +83,7 @@ pub struct HeadView<'a> {
     pub seed: CodeSeed,
     /// The last date, its tokens with a space between; empty where there is none.
     pub date: &'a [u8],
-    /// The last version, likewise.
+    /// The last version, its tokens with a space between; empty where there is none.
     pub version: &'a [u8],
     /// The last time scale.
     pub scale: Option<Scale>,
@@ -96,7 +96,7 @@ impl<'a> HeadView<'a> {
     ghost use Rattle.vcd_model.specs.HeadText.{exponent};
     ghost use Rattle.vcd_view.specs.Views.{code_text, reference_of, type_of, IsViewOf};
 
-    /// A row, by its number from 0.
+    /// Returns a row, by its number from 0.
     #[inline(always)]
     pub fn row_at(self, row: usize) -> Option<Row>
         ensures { result ≡ slice_get self.entry.rows.now row }
@@ -104,7 +104,7 @@ impl<'a> HeadView<'a> {
         self.rows.get(row).copied()
     }
 
-    /// The code at a place.
+    /// Returns the code at a place.
     #[inline(always)]
     pub fn code_at(self, place: usize) -> Option<Code>
         ensures { result ≡ slice_get self.entry.codes.now place }
@@ -112,7 +112,7 @@ impl<'a> HeadView<'a> {
         code_in(self.codes, place)
     }
 
-    /// So many bytes of the text from a place on; none where it has fewer.
+    /// Returns so many bytes of the text from a place on; none where it has fewer.
     #[inline(always)]
     pub fn text_at(self, start: usize, len: usize) -> &'a [u8]
         ensures { result.now ≡ text_in self.entry.text.now start len }
@@ -120,8 +120,8 @@ impl<'a> HeadView<'a> {
         text_in(self.text, start, len)
     }
 
-    /// The row of the scope that encloses the declaration of a row; for an `$upscope` the one that
-    /// it closes.
+    /// Returns the row of the scope that encloses the declaration of a row; for an `$upscope` the
+    /// one that it closes.
     #[inline(always)]
     pub fn scope_of(self, row: usize) -> Option<usize>
         ensures earlier { IfSome result (λ scope. scope < row) }
@@ -132,7 +132,7 @@ impl<'a> HeadView<'a> {
         (scope < row).then_some(scope)
     }
 
-    /// The type of the scope or the variable of a row.
+    /// Returns the type of the scope or the variable of a row.
     #[inline(always)]
     pub fn type_of(self, row: usize) -> &'a [u8]
         ensures { (h : Header) (d : Declaration) → IsViewOf self.entry h
@@ -144,7 +144,7 @@ impl<'a> HeadView<'a> {
         }
     }
 
-    /// The name of the scope or the variable of a row: the first token of its reference.
+    /// Returns the name of the scope or the variable of a row: the first token of its reference.
     #[inline(always)]
     pub fn name_of(self, row: usize) -> &'a [u8]
         ensures { (h : Header) (d : Declaration) → IsViewOf self.entry h
@@ -159,7 +159,8 @@ impl<'a> HeadView<'a> {
         }
     }
 
-    /// The whole reference of the scope or the variable of a row, its tokens with a space between.
+    /// Returns the whole reference of the scope or the variable of a row, its tokens with a space
+    /// between.
     #[inline(always)]
     pub fn reference_of(self, row: usize) -> &'a [u8]
         ensures { (h : Header) (d : Declaration) → IsViewOf self.entry h
@@ -171,7 +172,7 @@ impl<'a> HeadView<'a> {
         }
     }
 
-    /// The bytes of the code at a place.
+    /// Returns the bytes of the code at a place.
     #[inline(always)]
     pub fn code_text(self, code: usize) -> &'a [u8]
         ensures { (h : Header) → IsViewOf self.entry h → result.now ≡ code_text h.codes code }
@@ -182,7 +183,7 @@ impl<'a> HeadView<'a> {
         }
     }
 
-    /// The power of ten of its time scale, in seconds; a missing one counts as 1s.
+    /// Returns the power of ten of its time scale, in seconds; a missing one counts as 1s.
     pub fn exponent(self) -> i8
         ensures { (h : Header) → IsViewOf self.entry h → result ≡ exponent h }
     {
@@ -192,7 +193,7 @@ impl<'a> HeadView<'a> {
         }
     }
 
-    /// The variables of the code at a place are events.
+    /// Returns whether the variables of the code at a place are events.
     #[inline(always)]
     pub fn is_event(self, code: usize) -> bool
         ensures event { (h : Header) → IsViewOf self.entry h
@@ -207,7 +208,7 @@ impl<'a> HeadView<'a> {
     }
 }
 
-/// The code at a place among these.
+/// Returns the code at a place among these.
 #[inline(always)]
 pub fn code_in(codes: &[Code], place: usize) -> Option<Code>
     ensures { result ≡ slice_get codes.now place }
@@ -215,7 +216,7 @@ pub fn code_in(codes: &[Code], place: usize) -> Option<Code>
     codes.get(place).copied()
 }
 
-/// So many bytes of a text from a place on; none where it has fewer.
+/// Returns so many bytes of a text from a place on; none where it has fewer.
 #[inline(always)]
 pub fn text_in(text: &[u8], start: usize, len: usize) -> &[u8]
     ensures { result.now ≡ text_in text.now start len }
@@ -232,8 +233,8 @@ pub struct Need {
     /// Bytes for the current values: for each code a quarter of its size rounded up, and at least
     /// the 64 of a real text.
     pub values: usize,
-    /// A place for each code.
+    /// Slots, and shares: one of each for each code.
     pub slots: usize,
-    /// A mark for each row.
+    /// Selection flags: one for each row.
     pub marks: usize,
 }

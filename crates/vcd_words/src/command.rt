@@ -9,7 +9,7 @@ use clap::error::ErrorKind;
 use clap::{Arg, Command, Error};
 use std::alloc::{AllocError, Global};
 
-/// The option `--token-limit`.
+/// Returns the option `--token-limit`.
 fn token_limit<'a>(alloc: Global) -> Arg<'a>
     ensures rule { rule_of result ≡ limit_rule }
     ensures local { result.global ≡ false }
@@ -20,7 +20,7 @@ fn token_limit<'a>(alloc: Global) -> Arg<'a>
         .help("How long a token may be, in bytes: 64 to 16777216 [default: 1048576]")
 }
 
-/// A command of this name with its help, and no options yet.
+/// Returns a command of this name with its help, and no options yet.
 fn new_command<'a>(alloc: Global, name: &'a str, help: Help<'a>) -> Command<'a>
     ensures words { app_of result ≡ new_app name.entry.now }
     ensures whole { is_broken result ≡ false }
@@ -31,7 +31,7 @@ fn new_command<'a>(alloc: Global, name: &'a str, help: Help<'a>) -> Command<'a>
         .after_help(help.after)
 }
 
-/// A command over one input, with its options.
+/// Returns a command over one input, with its options.
 fn one_input<'a>(alloc: Global, name: &'a str, help: Help<'a>) -> Result<Command<'a>, AllocError>
     ensures words { IfOk result (λ c. app_of c ≡ one_input_app name.entry.now) }
     ensures whole { IfOk result (λ c. is_broken c ≡ false) }
@@ -45,8 +45,8 @@ fn one_input<'a>(alloc: Global, name: &'a str, help: Help<'a>) -> Result<Command
         .arg(token_limit(alloc))
 }
 
-/// A command over one input, with its options and names of variables, without which the parse fails
-/// where they are required.
+/// Returns a command over one input, with its options and names of variables, without which the
+/// parse fails where they are required.
 fn named<'a>(
     alloc: Global,
     name: &'a str,
@@ -64,7 +64,7 @@ fn named<'a>(
     one_input(alloc, name, help)?.arg(names)
 }
 
-/// An option for times, without which the parse fails.
+/// Returns an option for times, without which the parse fails.
 fn time<'a>(alloc: Global, name: &'a str, value_name: &'a str, help: &'a str) -> Arg<'a>
     ensures rule { rule_of result ≡ time_rule name.entry.now }
     ensures local { result.global ≡ false }
@@ -76,7 +76,7 @@ fn time<'a>(alloc: Global, name: &'a str, value_name: &'a str, help: &'a str) ->
         .help(help)
 }
 
-/// The command `cut`, with its options and both of its times.
+/// Returns the command `cut`, with its options and both of its times.
 fn cut<'a>(alloc: Global) -> Result<Command<'a>, AllocError>
     ensures words { IfOk result (λ c. app_of c ≡ cut_app) }
     ensures whole { IfOk result (λ c. is_broken c ≡ false) }
@@ -91,7 +91,7 @@ fn cut<'a>(alloc: Global) -> Result<Command<'a>, AllocError>
     one_input(alloc, "cut", help::CUT)?.arg(from)?.arg(to)
 }
 
-/// The command `sample`, with its options, its times and names of variables.
+/// Returns the command `sample`, with its options, its times and names of variables.
 fn sample<'a>(alloc: Global) -> Result<Command<'a>, AllocError>
     ensures words { IfOk result (λ c. app_of c ≡ sample_app) }
     ensures whole { IfOk result (λ c. is_broken c ≡ false) }
@@ -105,7 +105,7 @@ fn sample<'a>(alloc: Global) -> Result<Command<'a>, AllocError>
     named(alloc, "sample", help::SAMPLE, false)?.arg(at)
 }
 
-/// The command `merge`, with its files.
+/// Returns the command `merge`, with its files.
 fn merge<'a>(alloc: Global) -> Result<Command<'a>, AllocError>
     ensures words { IfOk result (λ c. app_of c ≡ merge_app) }
     ensures whole { IfOk result (λ c. is_broken c ≡ false) }
@@ -120,7 +120,7 @@ fn merge<'a>(alloc: Global) -> Result<Command<'a>, AllocError>
         .arg(files)
 }
 
-/// The command `vcdkit` with its commands.
+/// Returns the command `vcdkit` with its commands.
 pub fn command_of<'a>(alloc: Global) -> Result<Command<'a>, AllocError>
     ensures words { IfOk result (λ c. app_of c ≡ program_app) }
     ensures whole { IfOk result (λ c. is_broken c ≡ false) }
@@ -145,7 +145,7 @@ pub fn command_of<'a>(alloc: Global) -> Result<Command<'a>, AllocError>
     program.subcommand(merge)
 }
 
-/// The exit status where a parse gave no matches.
+/// Returns the exit status where a parse gave no matches.
 pub fn parse_status(error: &Error) -> u8
     ensures { result ≡ parse_status_of (kind_of error.now) }
 {

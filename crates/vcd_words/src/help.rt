@@ -5,7 +5,7 @@
 pub struct Help<'a> {
     pub about: &'a str,
     pub usage: &'a str,
-    /// What stands below the options.
+    /// What comes below the options.
     pub after: &'a str,
 }
 

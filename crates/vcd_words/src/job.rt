@@ -68,14 +68,14 @@ impl Want {
         }
     }
 
-    /// It is a merge, which alone may have several inputs.
+    /// Returns whether it is a merge, which alone may have several inputs.
     pub fn is_merge(&self) -> bool
         ensures { result ≡ is_merge self.now }
     {
         matches!(self, Want::Merge)
     }
 
-    /// The names that have to select something.
+    /// Returns the names that have to select something.
     pub fn names(&self) -> &[String]
         ensures { map string_bytes result.now ≡ names_asked self.now }
     {
@@ -140,7 +140,7 @@ const MOST_LIMIT: u64 = 16_777_216;
 /// How much is read at once.
 const CHUNK: usize = 65_536;
 
-/// The token limit that a word is, if it is one.
+/// Returns the token limit that a word is, if it is one.
 fn limit_in(word: &str) -> Option<usize>
     ensures { result ≡ cond (is_limit word.now) (Some (decimal_value word.now)) None }
 {
@@ -151,7 +151,7 @@ fn limit_in(word: &str) -> Option<usize>
     Some(limit as usize)
 }
 
-/// The token limit that is asked for by this word, or by none.
+/// Returns the token limit that is asked for by this word, or by none.
 fn limit_of<'a>(word: Option<&'a str>) -> Result<usize, UseFault<'a>>
     ensures limit { IfOk result
         (λ limit. limit_of (option_map (λ text. text.now) word.entry) ≡ Ok limit) }
@@ -165,8 +165,8 @@ fn limit_of<'a>(word: Option<&'a str>) -> Result<usize, UseFault<'a>>
     }
 }
 
-/// The job that the matches of the command ask for. Memory is taken for its names, once they are
-/// known to ask for a job.
+/// Returns the job that the matches of the command ask for. Memory is taken for its names, once
+/// they are known to ask for a job.
 pub fn job_of<'a>(alloc: Global, matches: &ArgMatches<'a>) -> Result<Job, UseFault<'a>>
     ensures job { IfOk result (λ job. job_asked matches.now
         ≡ Ok (record { want = model_want job.task; limit = job.limit })) }

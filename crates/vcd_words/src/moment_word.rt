@@ -1,4 +1,4 @@
-//! Words that are numbers and times: the times behind `--from` and `--to`, and those between the
+//! Words that are numbers and times: the times after `--from` and `--to`, and those between the
 //! commas of `--at`.
 ghost use Rattle.std.specs.Prelude.{◌≡◌, ℕ, List, None, OnOk, true, Some, IfErr, IfOk, cond, filter_map, length, map, option_map};
 ghost use Rattle.std.specs.Char.{is_ascii_digit};
@@ -21,7 +21,7 @@ use vcd_text::decimal_of;
 /// How many digits a number may have.
 const MOST_DIGITS: usize = 20;
 
-/// The number that 1 to 20 digits are, if it is below 2^64.
+/// Returns the number that 1 to 20 digits are, if it is below 2^64.
 pub(crate) fn number_of(digits: &[u8]) -> Option<u64>
     ensures { result ≡ cond (model_job.is_number digits.now)
         (Some (decimal_value digits.now)) None }
@@ -32,15 +32,15 @@ pub(crate) fn number_of(digits: &[u8]) -> Option<u64>
     decimal_of(digits)
 }
 
-/// How many digits a word begins with.
+/// Returns how many digits a word begins with.
 fn digits_before(word: &[u8]) -> usize
     ensures { result ≡ length (take_while is_ascii_digit word.now) }
 {
     word.iter().take_while(|byte| byte.is_ascii_digit()).count()
 }
 
-/// The time that a word is, if it is one: 1 to 20 digits with a value below 2^64, and then nothing
-/// or a unit, in lower case.
+/// Returns the time that a word is, if it is one: 1 to 20 digits with a value below 2^64, and then
+/// nothing or a unit, in lower case.
 pub(crate) fn moment_of(word: &str) -> Option<Moment>
     ensures { option_map asked result ≡ model_job.moment_of word.now }
 {
@@ -49,7 +49,7 @@ pub(crate) fn moment_of(word: &str) -> Option<Moment>
     Moment::from_parts(number_of(digits)?, unit)
 }
 
-/// The time that a word is, or that it is none.
+/// Returns the time that a word is, or that it is none.
 pub(crate) fn time_of<'a>(word: &'a str) -> Result<Moment, UseFault<'a>>
     ensures time { IfOk result (λ moment. model.time_of word.entry.now ≡ Ok (asked moment)) }
     ensures fault { IfErr result (λ fault. IsFaultIn fault (model.time_of word.entry.now)) }
@@ -57,8 +57,9 @@ pub(crate) fn time_of<'a>(word: &'a str) -> Result<Moment, UseFault<'a>>
     moment_of(word).ok_or(UseFault::BadTime(word))
 }
 
-/// A cut between the times that these words are, or the first fault of them. Without units the
-/// first may not be above the second; with a unit that is to be seen once the time scale is known.
+/// Returns a cut between the times that these words are, or the first fault of them. Without units
+/// the first may not be above the second; with a unit that is to be seen once the time scale is
+/// known.
 pub(crate) fn cut_of<'a>(from: &'a str, to: &'a str) -> Result<Want, UseFault<'a>>
     ensures want { IfOk result (λ want.
         model.cut_of (model.time_of from.entry.now) (model.time_of to.entry.now)
@@ -78,9 +79,9 @@ pub(crate) fn cut_of<'a>(from: &'a str, to: &'a str) -> Result<Want, UseFault<'a
 /// What is known of some times.
 #[derive(Clone, Copy)]
 struct Order {
-    /// One of them has a unit.
+    /// Whether one of them has a unit.
     has_unit: bool,
-    /// Each number is above the one before.
+    /// Whether each number is above the one before.
     rises: bool,
     /// The last number.
     last: Option<u64>,
@@ -92,7 +93,7 @@ impl Order {
     ghost use Rattle.vcd_head.specs.Moments.{asked};
     ghost use Rattle.vcd_words.specs.Times.{IsOrderOf};
 
-    /// What is known of no times.
+    /// Returns the order of no times.
     fn new() -> Order
         ensures { IsOrderOf [] result }
     {
@@ -103,7 +104,7 @@ impl Order {
         }
     }
 
-    /// What is known with one more time.
+    /// Returns the order with one time more.
     fn with(self, time: Moment) -> Order
         ensures { (times : List model_ticks.Moment) → IsOrderOf times self
             → IsOrderOf (times ++ asked time ∷ []) result }
@@ -116,8 +117,8 @@ impl Order {
     }
 }
 
-/// Whether the words between the commas are the times of a sample: without units they rise. It
-/// takes no memory.
+/// Returns whether the words between the commas are the times of a sample: without units they rise.
+/// It takes no memory.
 fn check_times<'a>(at: &'a str) -> Result<(), UseFault<'a>>
     ensures times { OnOk result ((names : List (List ℕ)) → (times : List model_ticks.Moment)
         × (model.times_of (parts at.entry.now) ≡ Ok times)
@@ -135,7 +136,7 @@ fn check_times<'a>(at: &'a str) -> Result<(), UseFault<'a>>
     Ok(())
 }
 
-/// The numbers of the times between commas; words that are no times are left out.
+/// Returns the numbers of the times between commas; words that are no times are left out.
 fn numbers_in(alloc: Global, at: &str) -> Result<Vec<u64>, AllocError>
     ensures { IfOk result (λ numbers. numbers.items
         ≡ map (λ (m : model_ticks.Moment). m.number)
@@ -147,7 +148,7 @@ fn numbers_in(alloc: Global, at: &str) -> Result<Vec<u64>, AllocError>
         .collect(alloc)
 }
 
-/// The units of the times between commas; words that are no times are left out.
+/// Returns the units of the times between commas; words that are no times are left out.
 fn units_in(alloc: Global, at: &str) -> Result<Vec<Option<i8>>, AllocError>
     ensures { IfOk result (λ units. units.items
         ≡ map (λ (m : model_ticks.Moment). m.unit)
@@ -159,7 +160,7 @@ fn units_in(alloc: Global, at: &str) -> Result<Vec<Option<i8>>, AllocError>
         .collect(alloc)
 }
 
-/// A sample of these names at the times that stand between commas, or the first fault of these
+/// Returns a sample of these names at the times between the commas, or the first fault of these
 /// words. Memory is taken once they are known to be times that a sample may have.
 pub(crate) fn sample_of<'a>(
     alloc: Global,

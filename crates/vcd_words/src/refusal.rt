@@ -4,9 +4,9 @@ use vcd_head::TickFault;
 /// Why times are refused, once the header is read.
 #[derive(Clone, Copy, PartialEq, Eq, Debug)]
 pub enum Refusal {
-    /// One has a unit, and the header declares no time scale.
+    /// A time has a unit, and the header declares no time scale.
     NoTimescale,
-    /// One is 2^64 ticks or more.
+    /// A time is 2^64 ticks or more.
     OutOfRange,
     /// The start of a cut is above its end, in ticks.
     FromAboveTo,

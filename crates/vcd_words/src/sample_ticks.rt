@@ -10,14 +10,14 @@ use crate::refusal::Refusal;
 use vcd_head::{Moment, ticks};
 use vcd_view::HeadView;
 
-/// Whether some time has a unit.
+/// Returns whether some time has a unit.
 fn has_units(units: &[Option<i8>]) -> bool
     ensures { result ≡ has_units units.now }
 {
     units.iter().any(|unit| unit.is_some())
 }
 
-/// Whether each time is above the one before it.
+/// Returns whether each time is above the one before it.
 fn do_rise(times: &[u64]) -> bool
     ensures { result ≡ do_rise times.now }
 {

@@ -24,7 +24,7 @@ pub enum Words<'m, 'a> {
     Merge(&'m [&'a str]),
 }
 
-/// The first word after an option of the command that was used.
+/// Returns the first word after an option of the command that was used.
 fn word_of<'a>(matches: &ArgMatches<'a>, id: &str) -> Option<&'a str>
     ensures { option_map (λ word. word.now) result ≡ word_after matches.now id.now }
 {
@@ -32,21 +32,21 @@ fn word_of<'a>(matches: &ArgMatches<'a>, id: &str) -> Option<&'a str>
     options.get_str(id)
 }
 
-/// The file that the matches of the command name; without one standard input is read.
+/// Returns the file that the matches of the command name; without one standard input is read.
 pub fn input_of<'a>(matches: &ArgMatches<'a>) -> Option<&'a str>
     ensures { option_map (λ name. name.now) result ≡ input_asked matches.now }
 {
     word_of(matches, "input")
 }
 
-/// The word after `--token-limit`.
+/// Returns the word after `--token-limit`.
 pub(crate) fn limit_word<'a>(matches: &ArgMatches<'a>) -> Option<&'a str>
     ensures { option_map (λ word. word.now) result ≡ word_after matches.now (codes "token-limit") }
 {
     word_of(matches, "token-limit")
 }
 
-/// The words of an argument of the command that was used, where there are some.
+/// Returns the words of an argument of the command that was used, where there are some.
 fn words_of<'m, 'a>(matches: &'m ArgMatches<'a>, id: &str) -> Option<&'m [&'a str]>
     ensures { option_map (λ words. map (λ word. word.now) words.now) result
         ≡ some_of (values_after matches.now id.now) }
@@ -56,7 +56,7 @@ fn words_of<'m, 'a>(matches: &'m ArgMatches<'a>, id: &str) -> Option<&'m [&'a st
     (!words.is_empty()).then_some(words)
 }
 
-/// The names of variables after the command that was used, where there are some.
+/// Returns the names of variables after the command that was used, where there are some.
 fn names_of<'m, 'a>(matches: &'m ArgMatches<'a>) -> Option<&'m [&'a str]>
     ensures { option_map (λ names. map (λ name. name.now) names.now) result
         ≡ some_of (values_after matches.now (codes "names")) }
@@ -64,7 +64,7 @@ fn names_of<'m, 'a>(matches: &'m ArgMatches<'a>) -> Option<&'m [&'a str]>
     words_of(matches, "names")
 }
 
-/// The files that the matches of a merge name, where there are some.
+/// Returns the files that the matches of a merge name, where there are some.
 pub fn files_of<'m, 'a>(matches: &'m ArgMatches<'a>) -> Option<&'m [&'a str]>
     ensures { option_map (λ files. map (λ file. file.now) files.now) result
         ≡ some_of (files_asked matches.now) }
@@ -72,7 +72,7 @@ pub fn files_of<'m, 'a>(matches: &'m ArgMatches<'a>) -> Option<&'m [&'a str]>
     words_of(matches, "files")
 }
 
-/// The command of this name with its words, where it has all that it needs.
+/// Returns the command of this name with its words, where it has all that it needs.
 fn words_named<'m, 'a>(name: &str, matches: &'m ArgMatches<'a>) -> Option<Words<'m, 'a>>
     ensures { option_map words_command result ≡ complete (command_named name.now matches.now) }
 {
@@ -88,14 +88,14 @@ fn words_named<'m, 'a>(name: &str, matches: &'m ArgMatches<'a>) -> Option<Words<
     }
 }
 
-/// The command that was used with its words, where it has all that it needs.
+/// Returns the command that was used with its words, where it has all that it needs.
 pub(crate) fn words_in<'m, 'a>(matches: &'m ArgMatches<'a>) -> Option<Words<'m, 'a>>
     ensures { option_map words_command result ≡ complete (command_used matches.now) }
 {
     words_named(matches.subcommand_name()?, matches)
 }
 
-/// A copy of names.
+/// Returns a copy of names.
 fn copied(alloc: Global, names: &[&str]) -> Result<Vec<String>, AllocError>
     ensures { IfOk result (λ copies. map string_bytes copies.items
         ≡ map (λ name. name.now) names.now) }
@@ -107,7 +107,7 @@ fn copied(alloc: Global, names: &[&str]) -> Result<Vec<String>, AllocError>
     Ok(copies)
 }
 
-/// A copy of names, where there are some.
+/// Returns a copy of names, where there are some.
 pub(crate) fn copied_some(alloc: Global, names: Option<&[&str]>) -> Result<Vec<String>, AllocError>
     ensures { IfOk result (λ copies. map string_bytes copies.items ≡ some_names names.entry) }
 {
@@ -117,7 +117,7 @@ pub(crate) fn copied_some(alloc: Global, names: Option<&[&str]>) -> Result<Vec<S
     }
 }
 
-/// A merge of these files, where they are not too many.
+/// Returns a merge of these files, where they are not too many.
 fn merge_of<'a>(files: &[&str]) -> Result<Want, UseFault<'a>>
     ensures want { IfOk result (λ want. want_of (Command.Merge (map (λ file. file.now) files.now))
         ≡ Ok (model_want want)) }
@@ -131,7 +131,7 @@ fn merge_of<'a>(files: &[&str]) -> Result<Want, UseFault<'a>>
     Ok(Want::Merge)
 }
 
-/// What these words ask for, or the first fault of them. Their names are copied.
+/// Returns what these words ask for, or the first fault of them. Their names are copied.
 pub fn want_of<'a>(alloc: Global, words: Words<'_, 'a>) -> Result<Want, UseFault<'a>>
     ensures want { IfOk result (λ want. want_of (words_command words.entry) ≡ Ok (model_want want)) }
     ensures asked { IfOk result (λ want. is_asked want ≡ true) }

@@ -5,18 +5,18 @@ use std::io::{ErrorKind, Read, Write};
 /// A reader or a writer whose interrupted calls are made again.
 ///
 /// Any other result is returned as it is. The contract says which bytes are given and taken where
-/// the device tells them: a call that failed, also one that was interrupted, gave and took none.
-/// It does not say which calls are made again.
+/// those of the device are known: a call that failed, also one that was interrupted, gave and took
+/// none. It does not say which calls are made again.
 #[derive(Drop)]
 pub struct Again<D> {
-    /// What is called.
+    /// The device that is called.
     pub device: D,
 }
 
 impl<D> Again<D> {
     ghost use Rattle.std.specs.Prelude.{◌≡◌};
 
-    /// Over this device.
+    /// Returns a device whose interrupted calls are made again, over this one.
     pub fn new(device: D) -> Again<D>
         ensures { result.device ≡ device }
     {

@@ -18,7 +18,8 @@ impl Failure {
     ghost use Rattle.std.specs.Prelude.{◌≡◌};
     ghost use Rattle.vcdkit.specs.Failure.{head_failure, stop_failure};
 
-    /// The fault of a header, whose input has this place among all, and whose feed is at this line.
+    /// Returns the fault of a header, whose input has this place among all, and whose feed is at
+    /// this line.
     pub(crate) fn of_head(fault: HeadFault, input: usize, line: u64) -> Failure
         ensures { result ≡ head_failure fault input line }
     {
@@ -33,7 +34,7 @@ impl Failure {
         }
     }
 
-    /// The stop of a task, whose only input has this place among all.
+    /// Returns the stop of a task, whose only input has this place among all.
     pub(crate) fn of_stop(stop: Stop, input: usize) -> Failure
         ensures { result ≡ stop_failure stop input }
     {

@@ -35,7 +35,7 @@ pub(crate) struct Memory {
     pub values: Vec<u8>,
 }
 
-/// The windows of so many inputs under the job's limits.
+/// Returns the windows of so many inputs under the job's limits.
 pub(crate) fn windows_for(alloc: Global, job: &Job, inputs: usize) -> Result<Memory, AllocError>
     requires { inputs ≤ 64 }
     ensures { IfOk result (λ memory. (vec_len memory.chunks ≡ inputs * job.now.chunk)
@@ -85,7 +85,7 @@ pub(crate) fn open_input<S: Source, B: BuildHasher>(
 #[derive(Drop)]
 pub(crate) struct Begun {
     pub head: Head,
-    /// Where its feed stands.
+    /// What is kept of the input between two of its items, its parked feed among it.
     pub seat: Seat,
 }
 
@@ -177,7 +177,7 @@ pub(crate) struct Inputs {
 impl Inputs {
     ghost use Rattle.std.specs.Prelude.{◌≡◌, ◌++◌, ◌∷◌, [], IfOk};
 
-    /// One input more.
+    /// Adds an input.
     fn push(&mut self, begun: Begun) -> Result<(), AllocError>
         ensures { IfOk result
             (λ _. (self.new.heads.items ≡ self.old.heads.items ++ begun.head ∷ [])

@@ -58,7 +58,7 @@ pub fn put_fault<E: Sink>(err: &mut E, name: &str, line: u64, text: &str) -> Res
     put(err, b"\n")
 }
 
-/// The name at this place.
+/// Returns the name at this place.
 fn name_of(names: &[String], place: usize) -> &str
     ensures { result.now ≡ name_at (map string_bytes names.now) place }
 {

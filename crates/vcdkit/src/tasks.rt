@@ -18,8 +18,8 @@ use vcd_head::{Moment, ticks};
 use vcd_view::{HeadView, Need};
 use vcd_words::{Refusal, Want};
 
-/// The cut between these times, in ticks of the header that is shown: the first rounded up, the
-/// last down.
+/// Returns the cut between these times, in ticks of the header that is shown: the first rounded up,
+/// the last down.
 fn cut_of<'w>(from: Moment, to: Moment, view: HeadView<'_>) -> Result<Task<'w>, Refusal>
     requires { is_asked (Want.Cut from to) ≡ true }
     ensures request { (h : Header) → IsViewOf view.entry h
@@ -34,9 +34,9 @@ fn cut_of<'w>(from: Moment, to: Moment, view: HeadView<'_>) -> Result<Task<'w>, 
     Ok(Task::Cut { from, to })
 }
 
-/// The task over the items of a body, its times in ticks of the header that is shown; those of a
-/// sample are ticks already. A list is none, since it reads no body, nor is a merge, which reads
-/// several.
+/// Returns the task over the items of a body, its times in ticks of the header that is shown; those
+/// of a sample are ticks already. A list is none, since it reads no body, nor is a merge, which
+/// reads several.
 pub(crate) fn task_of<'w>(want: &'w Want, view: HeadView<'_>) -> Result<Option<Task<'w>>, Refusal>
     requires asked { is_asked want.now ≡ true }
     requires ticks { HasTicks want.now }
@@ -58,7 +58,8 @@ pub(crate) fn task_of<'w>(want: &'w Want, view: HeadView<'_>) -> Result<Option<T
     }
 }
 
-/// The room that a task works in over the header that is shown; none where there is no task.
+/// Returns the room that a task works in over the header that is shown; none where there is no
+/// task.
 pub(crate) fn need_of(task: Option<Task<'_>>, view: HeadView<'_>) -> Need
     ensures room { (r : Room) → result.values ≤ length r.values.now
         → result.slots ≤ length r.slots.now → result.slots ≤ length r.shares.now

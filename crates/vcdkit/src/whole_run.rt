@@ -36,7 +36,7 @@ use vcd_text::{Feed, Sink, Source};
 use vcd_view::HeadView;
 use vcd_words::{Job, Want};
 
-/// The answer of a task over the input at this place, as that of its run.
+/// Returns the answer of a task over the input at this place, as that of its run.
 fn ended(answer: Result<Done, Stop>, input: usize) -> Result<Done, Failure>
     ensures { result ≡ end_of answer input }
 {
@@ -46,7 +46,7 @@ fn ended(answer: Result<Done, Stop>, input: usize) -> Result<Done, Failure>
     }
 }
 
-/// The answer of a merge, as that of its run.
+/// Returns the answer of a merge, as that of its run.
 fn merged(answer: Result<Done, Stop>) -> Result<Done, Failure>
     ensures { result ≡ merge_end answer }
 {
@@ -56,8 +56,8 @@ fn merged(answer: Result<Done, Stop>) -> Result<Done, Failure>
     }
 }
 
-/// Does the task over the body after the header that is shown, in this room; writes the list where
-/// there is no task. It is given no allocator, so from its begin on the run takes no memory.
+/// Runs the task over the body after the header that is shown, in this room, or writes the list
+/// where there is no task. It is given no allocator, so from here on the run takes no memory.
 fn run_in<S: Source, W: Sink>(
     task: Option<Task<'_>>,
     view: HeadView<'_>,
@@ -89,7 +89,7 @@ fn run_in<S: Source, W: Sink>(
     }
 }
 
-/// Does what is wanted after the header: takes the room for it, and then calls what takes no more
+/// Runs what is wanted after the header: takes the room for it, and then calls what takes no more
 /// memory.
 fn run_want<S: Source, W: Sink>(
     alloc: Global,
@@ -135,7 +135,7 @@ fn run_want<S: Source, W: Sink>(
     ended(run_in(task, view, feed, &mut room, out), 0)
 }
 
-/// A job over one input: its windows, its header, and then what is wanted.
+/// Runs a job over one input: takes its windows, reads its header, and then runs what is wanted.
 fn run_input<S: Source, W: Sink, B: BuildHasher>(
     alloc: Global,
     job: &mut Job,
@@ -170,7 +170,8 @@ fn run_input<S: Source, W: Sink, B: BuildHasher>(
     run_want(alloc, &mut job.task, head.view(), &mut feed, out)
 }
 
-/// A merge over several inputs: their windows, their headers in order, and then the merge.
+/// Runs a merge over several inputs: takes their windows, reads their headers in order, and then
+/// merges.
 fn run_merge<S: Source, W: Sink, B: BuildHasher>(
     alloc: Global,
     job: &Job,
@@ -201,7 +202,7 @@ fn run_merge<S: Source, W: Sink, B: BuildHasher>(
     merged(merge(&inputs.heads, readers, &mut windows, &mut inputs.seats, out))
 }
 
-/// A job over its readers: all of them for a merge, else the one that there is.
+/// Runs a job over its readers: all of them for a merge, else the one that there is.
 fn run_readers<S: Source, W: Sink, B: BuildHasher>(
     alloc: Global,
     job: &mut Job,
@@ -272,7 +273,7 @@ pub fn run_with_hasher<S: Source, W: Sink, E: Sink, B: BuildHasher>(
         × Shows (E.device err.old) (E.device err.new)
         (end_message (map string_bytes names.now) (names_asked job.task) why) }
 
-    // Over readers that tell their bytes: it is the outcome of the definitions, and no more was
+    // Over readers whose bytes are known: it is the outcome of the definitions, and no more was
     // read than what settles it.
     ensures gives { (texts : List (List ℕ)) → map S.rest readers.old ≡ map (λ text. Some text) texts
         → HasRun (model_want job.task) job.limit job.chunk (map string_bytes names.now) texts
@@ -323,7 +324,7 @@ pub fn run<S: Source, W: Sink, E: Sink>(
         × Shows (E.device err.old) (E.device err.new)
         (end_message (map string_bytes names.now) (names_asked job.task) why) }
 
-    // Over readers that tell their bytes: it is the outcome of the definitions, and no more was
+    // Over readers whose bytes are known: it is the outcome of the definitions, and no more was
     // read than what settles it.
     ensures gives { (texts : List (List ℕ)) → map S.rest readers.old ≡ map (λ text. Some text) texts
         → HasRun (model_want job.task) job.limit job.chunk (map string_bytes names.now) texts

@@ -20,7 +20,7 @@ pub(crate) fn nested() -> &'static [u8] {
     b"$var event 1 % go $end\n$scope module tb $end\n$var wire 1 ! clk $end\n$scope module u $end\n$var reg 4 \" q [3:0] $end\n$upscope $end\n$var real 1 # r $end\n$enddefinitions $end\n"
 }
 
-// Two names of one code, and a time that stands twice.
+// Two names of one code, and a time that comes twice.
 pub(crate) fn aliases() -> &'static [u8] {
     b"$scope module tb $end\n$var wire 1 ! a $end\n$scope module u $end\n$var wire 1 ! b $end\n$upscope $end\n$upscope $end\n$enddefinitions $end\n#0\n0!\n#5\n1!\n#5\n1!\n#7\n"
 }

@@ -1,6 +1,6 @@
 //! Inputs that are cut off after each byte: what `run` of `vcdkit` leaves is compared with what
-//! `vcd_evaluator` says, and what was written is read again. They stand apart so that both are
-//! proved once: a crate with tests of its own is proved again with them.
+//! `vcd_evaluator` says, and what was written is read again. They are a crate of their own so that
+//! both are proved once: a crate with tests in it is proved again with them.
 #![tactic(auto)]
 
 #[cfg(test)]

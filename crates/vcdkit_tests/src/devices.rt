@@ -51,8 +51,8 @@ impl Write for Sparing {
     }
 }
 
-// The readers of a run: the one that may fail alone, or of a merge with another one behind or
-// before it.
+// The readers of a run: the one that may fail alone, or of a merge with another one after or before
+// it.
 #[derive(Clone, Copy)]
 enum Readers<'a> {
     Alone,
@@ -305,9 +305,9 @@ fn is_due(row: &Row<'_>, whole: &Whole, left: &Left) -> bool {
         && is_left(left, written, read_line(row.readers), 3)
 }
 
-// Whether a run with a failed call left what stands then: after a failed write of the output a
-// prefix of it, with the write line; after one of a message a prefix of that, with the same output
-// and status.
+// Whether a run with a failed call left what it should: after a failed write of the output a prefix
+// of it, with the write line; after one of a message a prefix of that, with the same output and
+// status.
 fn is_right(failing: Failing, row: &Row<'_>, whole: &Whole, left: &Left) -> bool {
     let output = left.out.taken.held();
     let message = left.err.taken.held();

@@ -77,7 +77,7 @@ fn open_scopes(
     Ok(text)
 }
 
-// What stands after the scopes: a variable, and the end of the header.
+// What comes after the scopes: a variable, and the end of the header.
 const AFTER: &str = "$var wire 1 ! a $end\n$enddefinitions $end\n";
 
 // A check and a list of a text with short tokens leave this message.

@@ -1,6 +1,6 @@
 //! The tests of `vcd_words` and `vcdkit`, over their public functions alone: what words ask for,
-//! and what jobs leave. They stand apart so that each library is proved once: a crate with tests of
-//! its own is proved again with them.
+//! and what jobs leave. They are a crate of their own so that each library is proved once: a crate
+//! with tests in it is proved again with them.
 #![tactic(auto)]
 
 #[cfg(test)]

@@ -49,7 +49,7 @@ const MERGES: [(&[&[u8]], &[u8], &[u8], u8); 7] = [
         b"vcdkit: a.vcd:6: time too large\n",
         1,
     ),
-    // What comes before a fault stands.
+    // What comes before a fault is written.
     (
         &[
             b"$var wire 1 ! a $end\n$enddefinitions $end\n#1\n1!\n#9\n0!\n",

@@ -7,7 +7,7 @@ use vcd_text::doubles::Narrow;
 use vcd_text::{Sink, Watch};
 use vcdkit::{Job, UseFault, Want, open_fault, use_fault, write_fault};
 
-// Whether this stands there, with so many failed writes.
+// Whether the error stream holds this text, after so many failed writes.
 fn is_held(err: &Watch<Narrow>, text: &[u8], failures: u64) -> bool {
     err.device.held() == text && Sink::failures(err) == failures
 }

@@ -157,8 +157,8 @@ const CHANGED_WRITTEN: &[u8] =
     b"$timescale\n\t1ns\n$end\n$scope module tb $end\n$var wire 1 ! clk $end\n$var reg 4 \" q [3:0] $end\n$upscope $end\n$enddefinitions $end\n#0\n0!\n";
 
 // Names, a text, and whether a read fails after it, and what a pick leaves: a name that selects
-// nothing is said before the body is read, what stands before a fault or a failed read is written,
-// and nothing of a change whose read fails.
+// nothing is reported before the body is read, what comes before a fault or a failed read is
+// written, and nothing of a change whose read fails.
 const LEFT: [(&str, &[u8], bool, &[u8], &[u8], u8); 4] = [
     (
         "tb.zz",

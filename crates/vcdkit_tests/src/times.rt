@@ -80,7 +80,7 @@ fn other_words_are_no_times(rt: HostRuntime) {
 // The numbers and units of two times, or the fault of their words.
 type Told<'a> = Result<(u64, Option<i8>, u64, Option<i8>), UseFault<'a>>;
 
-// What the words of a cut tell.
+// What the words of a cut ask for.
 fn told<'a>(alloc: Global, from: &'a str, to: &'a str) -> Told<'a> {
     let [first, last] = cut_of(alloc, from, to)?;
     Ok((first.number, first.unit, last.number, last.unit))
@@ -103,7 +103,7 @@ fn a_cut_ends_no_earlier_than_it_begins(rt: HostRuntime) {
     }
 }
 
-// Whether the word behind `--at` has these numbers and units.
+// Whether the word after `--at` has these numbers and units.
 fn has_times(alloc: Global, at: &str, numbers: &[u64], units: &[Option<i8>]) -> bool {
     match want_of(alloc, Words::Sample(at, None)) {
         Ok(Want::Sample(given, of, _)) => given.as_slice() == numbers && of.as_slice() == units,
@@ -125,7 +125,7 @@ fn the_times_of_a_sample_stand_between_commas(rt: HostRuntime) {
     }
 }
 
-// Why the word behind `--at` is refused.
+// Why the word after `--at` is refused.
 fn fault_of<'a>(alloc: Global, at: &'a str) -> Option<UseFault<'a>> {
     match want_of(alloc, Words::Sample(at, None)) {
         Ok(_) => None,

@@ -1,4 +1,4 @@
-//! `check`: counts of what stands in a dump.
+//! `check`: counts what a dump has.
 ghost use Rattle.std.specs.Prelude.{◌≡◌, ◌-◌, ◌^◌, ◌<◌, ◌∷◌, ◌++◌, [], List, length, true, false};
 ghost use Rattle.vcd_engine.specs.Names.{BodyItem, check_close, Counts, Header, IsViewOf, last_mark, last_of, Takes};
 ghost use Rattle.vcd_engine.specs.Check.{AreCounted, IsOfKind};
@@ -20,7 +20,7 @@ pub(crate) struct Check {
 }
 
 impl Check {
-    /// Before all items.
+    /// Returns the counts before all items.
     pub(crate) fn start() -> Check
         ensures { AreCounted [] result }
     {

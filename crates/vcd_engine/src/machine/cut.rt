@@ -16,7 +16,7 @@ use vcd_head::{put_head, select};
 use vcd_text::{Sink, WriteFailed, put};
 use vcd_view::HeadView;
 
-/// The values until the start section stands, and from then on the text of what was kept.
+/// The values until the start section is written, and from then on the text of what was kept.
 #[derive(Drop)]
 pub(crate) struct Cut<'r> {
     from: u64,
@@ -49,8 +49,8 @@ fn put_section<W: Sink>(
     put(out, b"$end\n")
 }
 
-/// The item, after which the registers stand so, may be kept: a section's begin or end, or a change
-/// that is no event's inside a section.
+/// Returns whether an item may be kept, after which the registers are these: a section's begin or
+/// end, or a change that is no event's inside a section.
 #[inline(always)]
 fn may_keep(view: HeadView<'_>, regs: Regs, item: Item) -> bool
     ensures { result ≡ may_be_kept view.entry regs item }
@@ -97,8 +97,8 @@ impl<'r> Cut<'r> {
         Ok(cut)
     }
 
-    /// Writes the start section, after which kept items follow, where it does not stand yet and
-    /// this time has come.
+    /// Writes the start section, after which kept items follow, if it is not written yet and this
+    /// time has come.
     fn begin_by<W: Sink>(
         &mut self,
         view: HeadView<'_>,
@@ -122,7 +122,7 @@ impl<'r> Cut<'r> {
         Ok(())
     }
 
-    /// Whether the start section stands.
+    /// Returns whether the start section is written.
     #[inline(always)]
     pub(crate) fn has_begun(&self) -> bool
         ensures { result ≡ self.now.started }
@@ -185,7 +185,7 @@ impl<'r> Cut<'r> {
         Ok(false)
     }
 
-    /// Writes the start section where it does not stand yet, and the line of the last time mark.
+    /// Writes the start section if it is not written yet, and the line of the last time mark.
     pub(crate) fn close<W: Sink>(
         &self,
         view: HeadView<'_>,
@@ -205,7 +205,7 @@ impl<'r> Cut<'r> {
     }
 }
 
-// Before the start section stands.
+// Before the start section is written.
 impl<'r> Command<Keeping> for Cut<'r> {
     ghost use Rattle.vcd_engine.specs.declared.machine.Machine.TheVariants as machine;
 
@@ -238,7 +238,7 @@ impl<'r> Command<Keeping> for Cut<'r> {
     }
 }
 
-// From then on.
+// Once the start section is written.
 impl<'r> Command<Copying> for Cut<'r> {
     ghost use Rattle.vcd_engine.specs.declared.machine.Machine.TheVariants as machine;
 

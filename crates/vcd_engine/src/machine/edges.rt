@@ -14,7 +14,7 @@ use vcd_head::select;
 use vcd_text::{Sink, WriteFailed};
 use vcd_view::HeadView;
 
-/// The names that were asked for, the marks of the variables that they select, and the values and
+/// The names that were asked for, the flags of the variables that they select, and the values and
 /// counters of all codes.
 #[derive(Drop)]
 pub(crate) struct Edges<'n, 'r> {
@@ -65,7 +65,7 @@ impl<'n, 'r> Edges<'n, 'r> {
         self.take_at(view, regs.section.is_some(), code, form, text);
     }
 
-    /// Counts a change of the code at a place, which stands inside a section or not.
+    /// Counts a change of the code at a place, inside a section or not.
     #[cold]
     #[inline(never)]
     fn take_at(&mut self, view: HeadView<'_>, inside: bool, code: usize, form: Form, text: &[u8])

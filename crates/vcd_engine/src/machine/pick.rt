@@ -56,8 +56,8 @@ impl<'n, 'r> Pick<'n, 'r> {
         })
     }
 
-    /// Whether the item, after which the registers stand so, is written: a section's begin or end,
-    /// or a change of a chosen code that is no event inside a section.
+    /// Returns whether an item is written, after which the registers are these: a section's begin
+    /// or end, or a change of a chosen code that is no event inside a section.
     #[inline(always)]
     fn keeps(&self, view: HeadView<'_>, regs: Regs, item: Item) -> bool
         ensures { result ≡ is_kept self.now.flags.now view.entry regs item }
@@ -98,7 +98,7 @@ impl<'n, 'r> Pick<'n, 'r> {
         self.text.put(view, regs.time, item, text, out)
     }
 
-    /// Writes the line of the last time mark, where it does not stand yet.
+    /// Writes the line of the last time mark, unless that was written already.
     pub(crate) fn close<W: Sink>(&self, regs: Regs, out: &mut W) -> Result<(), WriteFailed>
         requires { (W.device out.old).failures < 2 ^ 64 - 1 }
         ensures takes { (h : Header) (items : List BodyItem) → AreRegsAfter items regs

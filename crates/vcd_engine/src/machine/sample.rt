@@ -19,7 +19,7 @@ use vcd_text::{Sink, WriteFailed};
 use vcd_view::HeadView;
 
 /// The times and names that were asked for, the times that are not settled, the current values, and
-/// the marks that lead from one row with a line to the next.
+/// the flags that lead from one row with a line to the next.
 #[derive(Drop)]
 pub(crate) struct Sample<'n, 'r> {
     times: &'n [u64],
@@ -29,7 +29,7 @@ pub(crate) struct Sample<'n, 'r> {
     marks: &'r [u8],
 }
 
-/// How many times stand before the first that is not below this one.
+/// Returns how many times come before the first that is not below this one.
 #[inline(always)]
 fn count_below(times: &[u64], time: u64) -> usize
     ensures { result ≡ position_or_len (λ due. nat_le time due) times.now }

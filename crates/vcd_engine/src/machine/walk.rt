@@ -1,4 +1,4 @@
-//! The loop over the items that lie ahead in a feed's chunk: one for all commands.
+//! The loop over the items ahead in a feed's chunk: one for all commands.
 ghost use Rattle.std.specs.Prelude.{◌≡◌, ℕ, ◌-◌, ◌^◌, ◌<◌, ◌≤◌, Bool, length, true, false, IfOk, MatchOption};
 ghost use Rattle.vcd_text.specs.Ahead.{bytes_of, passed_of};
 ghost use Rattle.vcd_text.specs.Device.{Counts};
@@ -19,11 +19,11 @@ use vcd_view::HeadView;
 /// How the loop has ended.
 #[derive(Clone, Copy)]
 pub(crate) struct Taken {
-    /// The bytes in which the items that were taken lie.
+    /// How many bytes the items that were taken have.
     pub(crate) passed: usize,
-    /// The registers after them.
+    /// The registers after these items.
     pub(crate) regs: Regs,
-    /// Whether a write of what is due with them failed.
+    /// Whether a write of what is due with these items failed.
     pub(crate) written: Result<(), WriteFailed>,
 }
 
@@ -48,26 +48,25 @@ pub(crate) struct Keeping;
 /// A loop in which a command copies changes from the chunk.
 pub(crate) struct Copying;
 
-/// What a command does with the items that lie ahead, in a loop of the kind `L`. None of them ends
-/// the run.
+/// What a command does with the items ahead, in a loop of the kind `L`. None of them ends the run.
 pub(crate) trait Command<L> {
     ghost use Rattle.vcd_engine.specs.declared.machine.Machine.{Machine};
 
-    // The machine that it is.
+    // The machine of the command.
     ghost machine: { Self → Machine };
 
-    // It may run in such a loop.
+    // Whether it may run in such a loop.
     ghost is_ready: { Self → Bool };
 
-    // A mark of this time is not taken in the loop.
+    // Whether the loop leaves a time mark with this time.
     ghost is_left: { Self → ℕ → Bool };
 
-    /// Whether a mark of this time is left to `Machine::take`, since it ends the run, or something
-    /// is due with it.
+    /// Returns whether a time mark with this time is left to `Machine::take`, since it ends the run,
+    /// or something is due with it.
     fn leaves(&self, time: u64) -> bool
         ensures { result ≡ is_left self.now time };
 
-    /// Takes a mark of this time, with which nothing is due.
+    /// Takes a time mark with this time, with which nothing is due.
     fn take_mark(&mut self, time: u64)
         requires ready { is_ready self.old ≡ true }
         requires left { is_left self.old time ≡ false }
@@ -75,8 +74,8 @@ pub(crate) trait Command<L> {
         ensures ready { is_ready self.new ≡ true }
         ensures same { SameTask (machine self.old) (machine self.new) };
 
-    /// Takes a change, and puts what is due after it behind the text that is held. The registers
-    /// are those after it.
+    /// Takes a change, and puts what is due with it after the text that is held. The registers are
+    /// those after the change.
     fn take_change<W: Sink>(
         &mut self,
         view: HeadView<'_>,
@@ -98,8 +97,8 @@ pub(crate) trait Command<L> {
         ensures same { SameTask (machine self.old) (machine self.new) };
 }
 
-/// Takes a change that was found ahead, from one place up to another. The line of its time may
-/// stand just before it; none does before the next item.
+/// Takes a change that was found ahead, from one place up to another. The line of its time may come
+/// just before it; no such line comes just before the next item.
 #[inline(always)]
 fn take_found<'a, L, C: Command<L>, W: Sink>(
     command: &mut C,
