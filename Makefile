@@ -1,6 +1,6 @@
 # make         proves the program and the crates that it uses, builds it as ./vcdkit and shows it on a sample dump
 # make CPU=x86-64-v3    the same for a newer processor, whose instructions it may use; such a program says so and ends where they lack
-# make test    the merge gate: every proof from nothing, must-fail edits, tests, the program as two compilers build it
+# make test    the gate: every proof from nothing, must-fail edits, tests, the program as two compilers build it
 # make hostile runs the program where memory, reads and writes fail, and on dumps that are cut off, crafted or made at random: some minutes
 # make docs-check runs the commands that README, manual and recipes show over ./vcdkit, and compares what they print and which must-fail edits PROOFS lists: seconds
 # make static  links ./vcdkit-static, the program without any shared library: seconds after make
@@ -24,7 +24,8 @@ DESTDIR ?=
 bin := $(DESTDIR)$(PREFIX)/bin
 man := $(DESTDIR)$(PREFIX)/share/man/man1
 bash_words := $(DESTDIR)$(PREFIX)/share/bash-completion/completions
-# The folder of zsh for what a package brings is another one on Debian than that for what is installed beside packages.
+# The folder of zsh for what a package brings is another one on Debian than that for what is
+# installed beside packages.
 ZSH_FOLDER ?= $(PREFIX)/share/zsh/$(if $(filter /usr,$(PREFIX)),vendor-completions,site-functions)
 zsh_words := $(DESTDIR)$(ZSH_FOLDER)
 extras := endmend explain first_difference four_state join_bits list_json pick_by_pattern table_csv values_csv

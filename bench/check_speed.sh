@@ -1,6 +1,7 @@
 #!/usr/bin/env bash
-# check_speed.sh [MB | DUMP ...] [--large]   how fast `vcdkit check` is on a plain dump of so many megabytes (200) or on these dumps,
-# beside rivals and `wc -l`; and on plain ones what memory each takes on 1 MB, on that dump and, with --large, on 1 GB. See README.md.
+# check_speed.sh [MB | DUMP ...] [--large]   how fast `vcdkit check` is on a plain dump of so many
+# megabytes (200) or on these dumps, beside rivals and `wc -l`; and on plain ones what memory each
+# takes on 1 MB, on that dump and, with --large, on 1 GB. See README.md.
 set -eu
 here=$(cd "$(dirname "$0")" && pwd)
 . "$here/common.sh"

@@ -1,6 +1,6 @@
 #!/usr/bin/env python3
-"""code_families.py FAMILY CODES CHANGES  writes a dump with so many codes of a family to standard output, and then so many
-changes of each, in scattered order, the same each time. Families:
+"""code_families.py FAMILY CODES CHANGES  writes a dump with so many codes of a family to standard
+output, and then so many changes of each, in scattered order, the same each time. Families:
 
     ordinary    numbered in base 94, as simulators do
     close       crafted: their hashes fall close together where `indexmap` hashes without a seed
@@ -48,11 +48,14 @@ def family(name, count):
         'random12': lambda number: ''.join(chr(33 + draw.randrange(94)) for _ in range(12)),
         'prefix200': lambda number: 'p' * 200 + in_base_94(number + 94**4),
     }
-    return list(crafted(count, True)) if name == 'close' else [one[name](number) for number in range(count)]
+    if name == 'close':
+        return list(crafted(count, True))
+    return [one[name](number) for number in range(count)]
 
 
 def main():
-    if len(sys.argv) != 4 or not (sys.argv[2] + sys.argv[3]).isdigit() or int(sys.argv[3]) > MOST_CHANGES:
+    if (len(sys.argv) != 4 or not (sys.argv[2] + sys.argv[3]).isdigit()
+            or int(sys.argv[3]) > MOST_CHANGES):
         sys.exit(__doc__)
     all_codes = family(sys.argv[1], int(sys.argv[2]))
     write = sys.stdout.write

@@ -1,6 +1,7 @@
 #!/usr/bin/env bash
-# code_families.sh [CODES ...]   how fast `vcdkit list` of headers with so many codes is (100000 and 200000), and `check` with four
-# changes of each, for families of codes, beside ordinary ones. See README.md.
+# code_families.sh [CODES ...]   how fast `vcdkit list` of headers with so many codes is (100000 and
+# 200000), and `check` with four changes of each, for families of codes, beside ordinary ones. See
+# README.md.
 set -eu
 here=$(cd "$(dirname "$0")" && pwd)
 sizes=("$@")

@@ -1,5 +1,6 @@
-# Sourced by the scripts that measure time: the program under test, a folder that goes at the end, and how one run is measured.
-# A script sets `here` before, and defines find_command, which sets `command` to the words that run a program.
+# Sourced by the scripts that measure time: the program under test, a folder that goes at the end,
+# and how one run is measured. A script sets `here` before, and defines find_command, which sets
+# `command` to the words that run a program.
 vcdkit=${VCDKIT:-$here/../vcdkit}
 [ -x "$vcdkit" ] || { echo "${0##*/}: there is no program $vcdkit: run make first" >&2; exit 2; }
 
@@ -29,7 +30,8 @@ take_times() {
     done > "$work/times"
 }
 
-# Measures each of these dumps, or plain ones of 200 MB with 64 and with 20000 variables: the script's `measure`.
+# Measures each of these dumps, or plain ones of 200 MB with 64 and with 20000 variables: the
+# script's `measure`.
 measure_each() {
     local dump variables
     echo 'best of three; over check: the time over that of check, so below 1 where it is faster'
@@ -54,8 +56,8 @@ peak_of() {
     fi
 }
 
-# A line for each program: the best of its times on a dump (lines `PROGRAM:TIME ..` of $work/times), over that of check, and how many
-# bytes it wrote (lines `PROGRAM:BYTES` of $work/written).
+# A line for each program: the best of its times on a dump (lines `PROGRAM:TIME ..` of $work/times),
+# over that of check, and how many bytes it wrote (lines `PROGRAM:BYTES` of $work/written).
 print_best() {
     awk -F: -v bytes="$(wc -c < "$1")" '
         NR == FNR { written[$1] = $2; next }
@@ -72,9 +74,9 @@ print_best() {
         }' "$work/written" "$work/times"
 }
 
-# Stops with how the script is used, as its second and third line say.
+# Stops with how the script is used, as its first comment says.
 stop_with_usage() {
-    sed -n '2,3s/^# //p' "$0" >&2
+    sed -n '2,/^set/s/^# //p' "$0" >&2
     exit 2
 }
 

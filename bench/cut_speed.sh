@@ -1,6 +1,7 @@
 #!/usr/bin/env bash
-# cut_speed.sh [DUMP ...]   how fast `vcdkit cut` is on these dumps (plain ones of 200 MB with 64 and with 20000 variables): before the
-# window, within it, and of the middle half, beside `vcdkit check` and `wc -l` on the same dump. See README.md.
+# cut_speed.sh [DUMP ...]   how fast `vcdkit cut` is on these dumps (plain ones of 200 MB with 64
+# and with 20000 variables): before the window, within it, and of the middle half, beside `vcdkit
+# check` and `wc -l` on the same dump. See README.md.
 set -eu -o pipefail
 here=$(cd "$(dirname "$0")" && pwd)
 programs=(check 'cut before' 'cut within' 'cut middle' 'wc -l')

@@ -1,6 +1,7 @@
 #!/usr/bin/env bash
-# edges_speed.sh [DUMP ...]   how fast `vcdkit edges` is on these dumps (plain ones of 200 MB with 64 and with 20000 variables), of one
-# variable and of all, beside `vcdkit check` and `wc -l` on the same dump. See README.md.
+# edges_speed.sh [DUMP ...]   how fast `vcdkit edges` is on these dumps (plain ones of 200 MB with
+# 64 and with 20000 variables), of one variable and of all, beside `vcdkit check` and `wc -l` on the
+# same dump. See README.md.
 set -eu -o pipefail
 here=$(cd "$(dirname "$0")" && pwd)
 programs=(check 'edges one' 'edges all' 'wc -l')
@@ -17,7 +18,8 @@ find_command() {
     esac
 }
 
-# Makes sure that the counts of all have the paths of the list, and says how many bytes a program writes.
+# Makes sure that the counts of all have the paths of the list, and says how many bytes a program
+# writes.
 written_by() {
     find_command "$1"
     "${command[@]}" < "$2" > "$work/edges"

@@ -1,6 +1,7 @@
 #!/usr/bin/env bash
-# hard_headers.sh [CODES ...]   how fast `vcdkit list`, `check` and `pick` are on headers of so many crafted codes (25000, 100000 and
-# 400000) beside ordinary ones, and `pick` of names of deep and of many variables beside `check`. See README.md.
+# hard_headers.sh [CODES ...]   how fast `vcdkit list`, `check` and `pick` are on headers of so many
+# crafted codes (25000, 100000 and 400000) beside ordinary ones, and `pick` of names of deep and of
+# many variables beside `check`. See README.md.
 set -eu
 here=$(cd "$(dirname "$0")" && pwd)
 sizes=("$@")

@@ -1,11 +1,12 @@
 #!/usr/bin/env python3
-"""header_dump.py VARIABLES KIND  writes a header of so many variables and no body to standard output, the same each time.
-KIND: ordered (codes in order of declaration), shuffled (the same codes in any order) or nested (ordered, in 1000 scopes, each
-inside the one before)."""
+"""header_dump.py VARIABLES KIND  writes a header of so many variables and no body to standard
+output, the same each time. KIND: ordered (codes in order of declaration), shuffled (the same codes
+in any order) or nested (ordered, in 1000 scopes, each inside the one before)."""
 import random
 import sys
 
-TYPES = ["wire 1", "reg 1", "wire 8", "reg 4", "wire 32", "integer 32", "real 64", "event 1", "wire 1", "reg 128"]
+TYPES = ["wire 1", "reg 1", "wire 8", "reg 4", "wire 32", "integer 32", "real 64", "event 1",
+         "wire 1", "reg 128"]
 A_SCOPE = 100  # so many variables stand in a scope that is not nested
 DEEP = 1000
 

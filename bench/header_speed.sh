@@ -1,6 +1,7 @@
 #!/usr/bin/env bash
-# header_speed.sh [VARIABLES ...]   how fast `vcdkit list` and `vcdkit check` read headers of so many variables (10000, 100000 and
-# 1000000), beside `wc -l` on the same file, and what memory they take. See README.md.
+# header_speed.sh [VARIABLES ...]   how fast `vcdkit list` and `vcdkit check` read headers of so
+# many variables (10000, 100000 and 1000000), beside `wc -l` on the same file, and what memory they
+# take. See README.md.
 set -eu
 here=$(cd "$(dirname "$0")" && pwd)
 kinds=(ordered shuffled nested)
@@ -19,7 +20,8 @@ find_command() {
     esac
 }
 
-# Makes sure that the header is read whole: a line for each variable, and their number in the report.
+# Makes sure that the header is read whole: a line for each variable, and their number in the
+# report.
 compare_counts() {
     [ "$("$work/vcdkit" list < "$work/header" | wc -l)" = "$1" ] && "$work/vcdkit" check < "$work/header" | grep -qx "variables $1" ||
         { echo "header_speed.sh: not $1 variables" >&2; exit 1; }

@@ -1,7 +1,7 @@
 #!/usr/bin/env python3
-"""jumps.py PROGRAM DUMP COMMAND ..  runs `PROGRAM COMMAND ..` on a dump under valgrind, and says of the function that takes most
-instructions how many jumps it executed that cross or end at a multiple of 32 bytes, where it stands and 16 bytes further. See
-README.md."""
+"""jumps.py PROGRAM DUMP COMMAND ..  runs `PROGRAM COMMAND ..` on a dump under valgrind, and says of
+the function that takes most instructions how many jumps it executed that cross or end at a multiple
+of 32 bytes, where it stands and 16 bytes further. See README.md."""
 import collections
 import os
 import re
@@ -18,7 +18,8 @@ def counts_of(program, dump, words):
     with tempfile.TemporaryDirectory() as folder, open(dump, "rb") as body:
         out = os.path.join(folder, "counts")
         subprocess.run(
-            ["valgrind", "--tool=callgrind", "--dump-instr=yes", "--callgrind-out-file=" + out, program, *words],
+            ["valgrind", "--tool=callgrind", "--dump-instr=yes", "--callgrind-out-file=" + out,
+             program, *words],
             stdin=body, stdout=subprocess.DEVNULL, stderr=subprocess.DEVNULL, check=True)
         lines = open(out).read().splitlines()
     counts, address, of_call = collections.Counter(), 0, False
@@ -43,7 +44,8 @@ def counts_of(program, dump, words):
 def functions_of(program):
     """The instructions of each function: address and text."""
     functions, name = collections.defaultdict(list), ""
-    dumped = subprocess.run(["objdump", "-d", "--no-show-raw-insn", program], capture_output=True, text=True, check=True)
+    dumped = subprocess.run(["objdump", "-d", "--no-show-raw-insn", program], capture_output=True,
+                            text=True, check=True)
     for line in dumped.stdout.splitlines():
         instruction = re.match(r"\s*([0-9a-f]+):\s+(\S.*)", line)
         if instruction:
@@ -54,7 +56,8 @@ def functions_of(program):
 
 
 def hits(instructions, counts, moved):
-    """How often a jump was executed that crosses or ends at a boundary, with the test that it is fused with."""
+    """How often a jump was executed that crosses or ends at a boundary, with the test that it is
+    fused with."""
     total = 0
     for place in range(1, len(instructions) - 1):
         start, text = instructions[place]
@@ -72,7 +75,8 @@ def hits(instructions, counts, moved):
 def main():
     program, dump, words = sys.argv[1], sys.argv[2], sys.argv[3:]
     counts, functions = counts_of(program, dump, words), functions_of(program)
-    taken = {name: sum(counts[address] for address, _ in function) for name, function in functions.items()}
+    taken = {name: sum(counts[address] for address, _ in function)
+             for name, function in functions.items()}
     if sum(taken.values()) * 2 < sum(counts.values()):
         sys.exit("jumps.py: the program does not stand where it is linked to")
     name = max(taken, key=taken.get)

@@ -1,6 +1,7 @@
 #!/usr/bin/env bash
-# merge_speed.sh [DUMP ...]   how fast `vcdkit merge` of these dumps is (of two plain ones of 200 MB), beside `vcdkit check` of each of
-# them in turn, and of the first one 64 times where it is small. See README.md.
+# merge_speed.sh [DUMP ...]   how fast `vcdkit merge` of these dumps is (of two plain ones of 200
+# MB), beside `vcdkit check` of each of them in turn, and of the first one 64 times where it is
+# small. See README.md.
 set -eu -o pipefail
 here=$(cd "$(dirname "$0")" && pwd)
 . "$here/common.sh"

@@ -1,6 +1,7 @@
 #!/usr/bin/env bash
-# names.sh [VARIABLES ...]   how long `vcdkit pick` takes for one name and for 1000 names of headers of so many variables (200000 and
-# 1000000), and for a name of the innermost of 1000 scopes, beside `vcdkit check`. See README.md.
+# names.sh [VARIABLES ...]   how long `vcdkit pick` takes for one name and for 1000 names of headers
+# of so many variables (200000 and 1000000), and for a name of the innermost of 1000 scopes, beside
+# `vcdkit check`. See README.md.
 set -eu -o pipefail
 here=$(cd "$(dirname "$0")" && pwd)
 kinds=(spread deep flat)
@@ -11,8 +12,8 @@ sizes=("$@")
 . "$here/common.sh"
 need_numbers "${sizes[@]}"
 
-# Writes a header of so many variables and no body: `spread` over scopes of 20, in 1000 scopes each inside the one before (`deep`), or
-# `flat` in one scope.
+# Writes a header of so many variables and no body: `spread` over scopes of 20, in 1000 scopes each
+# inside the one before (`deep`), or `flat` in one scope.
 write_header() {
     awk -v size="$1" -v kind="$2" '
         function code_of(number, code) {

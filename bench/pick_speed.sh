@@ -1,13 +1,15 @@
 #!/usr/bin/env bash
-# pick_speed.sh [DUMP ...]   how fast `vcdkit pick` is on these dumps (plain ones of 200 MB with 64 and with 20000 variables), of one
-# variable and of all, beside `vcdkit check` and `wc -l` on the same dump. See README.md.
+# pick_speed.sh [DUMP ...]   how fast `vcdkit pick` is on these dumps (plain ones of 200 MB with 64
+# and with 20000 variables), of one variable and of all, beside `vcdkit check` and `wc -l` on the
+# same dump. See README.md.
 set -eu -o pipefail
 here=$(cd "$(dirname "$0")" && pwd)
 programs=(check 'pick one' 'pick all' 'wc -l')
 . "$here/common.sh"
 need_files "$@"
 
-# Sets `one` to the path in the middle of the list, and `all` to the names before the first points, which select all that there is.
+# Sets `one` to the path in the middle of the list, and `all` to the names before the first points,
+# which select all that there is.
 find_names() {
     find_one "$1"
     LC_ALL=C awk '{ sub(/\..*/, "", $1) } !($1 in seen) { seen[$1]; print $1 }' "$work/list" > "$work/names"
@@ -24,7 +26,8 @@ find_command() {
     esac
 }
 
-# Makes sure that what a pick writes is read as a dump with the same last time mark, and says how many bytes it has.
+# Makes sure that what a pick writes is read as a dump with the same last time mark, and says how
+# many bytes it has.
 written_by() {
     find_command "$1"
     "${command[@]}" < "$2" > "$work/picked"

@@ -1,6 +1,7 @@
 #!/usr/bin/env python3
-"""plain_dump.py MB [VARIABLES]  writes a plain dump of so many megabytes (of 1,000,000 bytes) to standard output, the same each
-time: so many variables of one bit (64) in a scope, and in steps of 5 a time mark with 16 changes behind it."""
+"""plain_dump.py MB [VARIABLES]  writes a plain dump of so many megabytes (of 1,000,000 bytes) to
+standard output, the same each time: so many variables of one bit (64) in a scope, and in steps of 5
+a time mark with 16 changes behind it."""
 import random
 import sys
 
@@ -30,7 +31,8 @@ def main():
     codes = [code_of(place) for place in range(variables)]
     around = codes + codes[:NEAR]
     dice = random.Random(1)
-    lists = [changes(dice, around[first : first + NEAR]) for first in (NEAR * place % variables for place in range(LISTS))]
+    lists = [changes(dice, around[first : first + NEAR])
+             for first in (NEAR * place % variables for place in range(LISTS))]
     declared = "".join(f"$var wire 1 {code} s{place} $end\n" for place, code in enumerate(codes))
     out = sys.stdout.buffer
     written = out.write(f"$timescale\n\t1ns\n$end\n$scope module top $end\n{declared}$upscope $end\n$enddefinitions $end\n".encode())

@@ -1,13 +1,15 @@
 #!/usr/bin/env bash
-# sample_speed.sh [DUMP ...]   how fast `vcdkit sample` is on these dumps (plain ones of 200 MB with 64 and with 20000 variables): of one
-# variable at 1000 times, and of all at 10 and at the end, beside `vcdkit check` and `wc -l` on the same dump. See README.md.
+# sample_speed.sh [DUMP ...]   how fast `vcdkit sample` is on these dumps (plain ones of 200 MB with
+# 64 and with 20000 variables): of one variable at 1000 times, and of all at 10 and at the end,
+# beside `vcdkit check` and `wc -l` on the same dump. See README.md.
 set -eu -o pipefail
 here=$(cd "$(dirname "$0")" && pwd)
 programs=(check 'sample one' 'sample all' 'sample end' 'wc -l')
 . "$here/common.sh"
 need_files "$@"
 
-# So many times with commas between them, from 0 to near the last time mark, or past it where there are fewer.
+# So many times with commas between them, from 0 to near the last time mark, or past it where there
+# are fewer.
 times_over() {
     local step=$((last / $1))
     [ "$step" -gt 0 ] || step=1
@@ -25,7 +27,8 @@ find_command() {
     esac
 }
 
-# How many variables with values the name `one` selects: more than one where names are declared twice.
+# How many variables with values the name `one` selects: more than one where names are declared
+# twice.
 count_one() {
     one=$one LC_ALL=C awk '$2 != "event" && ($1 == ENVIRON["one"] || index($1, ENVIRON["one"] ".") == 1)' "$work/list" | wc -l
 }

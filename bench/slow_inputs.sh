@@ -1,6 +1,6 @@
 #!/usr/bin/env bash
-# slow_inputs.sh [VARIABLES]   how long `vcdkit sample` takes at many times over a header of so many variables (200000), and
-# `vcdkit pick` of many names, beside `check` of the header. See README.md.
+# slow_inputs.sh [VARIABLES]   how long `vcdkit sample` takes at many times over a header of so many
+# variables (200000), and `vcdkit pick` of many names, beside `check` of the header. See README.md.
 set -eu -o pipefail
 here=$(cd "$(dirname "$0")" && pwd)
 size=${1:-200000}

@@ -1,6 +1,7 @@
 #!/usr/bin/env bash
-# Compares the commands and options that both completions name with those that the help of the program prints, looks for
-# them in the man page, and tries the completion of bash on words. Nothing is built: VCDKIT names the program, else ./vcdkit.
+# Compares the commands and options that both completions name with those that the help of the
+# program prints, looks for them in the man page, and tries the completion of bash on words. Nothing
+# is built: VCDKIT names the program, else ./vcdkit.
 set -u
 cd "$(dirname "$0")/.."
 program=${VCDKIT:-./vcdkit}
@@ -21,7 +22,8 @@ sorted() { tr -s ' ' '\n' | sed '/^$/d' | LC_ALL=C sort -u | paste -s -d ' '; }
 help_commands=$("$program" --help | awk '/^Commands:/ { on = 1; next } /^$/ { on = 0 } on { print $1 }' | sorted)
 help_options() { "$program" "$@" --help | awk '/^Options:/ { on = 1; next } /^$/ { on = 0 } on' | grep -oE '^ +(-[A-Za-z], )?--?[A-Za-z-]+' | tr -d , | sorted; }
 
-# What bash would complete: the words, of which the last is the one to complete. `compopt` works only while bash completes.
+# What bash would complete: the words, of which the last is the one to complete. `compopt` works
+# only while bash completes.
 source completions/vcdkit.bash
 options_set=
 compopt() { options_set=$2; }
@@ -32,7 +34,8 @@ completed() {
     printf '%s' "${COMPREPLY[*]+"$(printf '%s\n' "${COMPREPLY[@]}" | paste -s -d ' ')"}${options_set:+ ($options_set)}"
 }
 
-# What zsh is told: the commands of its list; of each command what stands in its case and the lists that it names.
+# What zsh is told: the commands of its list; of each command what stands in its case and the lists
+# that it names.
 zsh_commands=$(sed -n "s/^ *'\([a-z]*\):[A-Z].*'\$/\1/p" completions/_vcdkit | sorted)
 zsh_options() {
     awk -v command="$1" '
@@ -66,7 +69,8 @@ for command in $help_commands; do
     done
 done
 
-# The faults of the manual's table, each with its cause in the man page; and the words for the statuses in both, and in the help.
+# The faults of the manual's table, each with its cause in the man page; and the words for the
+# statuses in both, and in the help.
 same 'faults in the man page' "$(sed -n '/^## Faults/,/^Other lines/s/^| `\([a-z ]*\)`.*/\1/p' docs/MANUAL.md | LC_ALL=C sort -u | paste -s -d ,)" \
     "$(sed -n '/^is one of these/,/^The manual has/s/^\.B \([a-z ]*\)$/\1/p' man/vcdkit.1 | LC_ALL=C sort -u | paste -s -d ,)"
 for words in 'usage error' 'i/o error' 'out of memory' 'not a valid dump'; do

@@ -1,5 +1,5 @@
-# Completion of vcdkit for bash: commands, options, files, and the names of a dump where `-i FILE` stands before.
-# Source this file, or let `make install` put it where bash-completion finds it.
+# Completion of vcdkit for bash: commands, options, files, and the names of a dump where `-i FILE`
+# stands before. Source this file, or let `make install` put it where bash-completion finds it.
 
 # What may be said of a command: its options, and whether it takes names (`name`) or files (`file`).
 _vcdkit_words() {
@@ -13,8 +13,9 @@ _vcdkit_words() {
     esac
 }
 
-# The names of a dump that begin with some text, up to the next point each: a variable, or a scope and the point.
-# Of more than 1,000 only what they have in common, and an empty line: a scope with many variables takes no time to show.
+# The names of a dump that begin with some text, up to the next point each: a variable, or a scope
+# and the point. Of more than 1,000 only what they have in common, and an empty line: a scope with
+# many variables takes no time to show.
 _vcdkit_names() {
     "$1" list -i "$2" 2> /dev/null | start=$3 LC_ALL=C awk '
         BEGIN { start = ENVIRON["start"]; from = length(start) + 1 }
@@ -34,7 +35,8 @@ _vcdkit_names() {
         }'
 }
 
-# A word of the command line as the shell will read it: without quotes, and without the backslashes before its bytes.
+# A word of the command line as the shell will read it: without quotes, and without the backslashes
+# before its bytes.
 _vcdkit_plain() {
     local word=$1
     case $word in
@@ -48,7 +50,8 @@ _vcdkit_plain() {
 
 _vcdkit() {
     COMPREPLY=()
-    # The words as they were typed: bash also parts them at `=` and `:`, which names and files may have.
+    # The words as they were typed: bash also parts them at `=` and `:`, which names and files may
+    # have.
     local line=${COMP_LINE:0:COMP_POINT} words=() word= next char quote= i
     for ((i = 0; i < ${#line}; i++)); do
         char=${line:i:1} next=
@@ -64,7 +67,8 @@ _vcdkit() {
     done
     local current=$word
 
-    # What stands before the word: the command, the file of `-i`, and whether `--` ended the options.
+    # What stands before the word: the command, the file of `-i`, and whether `--` ended the
+    # options.
     local command= file= ended= previous=
     for word in "${words[@]:1}"; do
         case $previous in
@@ -99,7 +103,8 @@ _vcdkit() {
             compopt -o nospace 2> /dev/null
             COMPREPLY=("${COMPREPLY[0]}")
         fi
-        # Between quotes bash takes a word as it is; else it is quoted, and what stands before a mark at which bash parts words left out.
+        # Between quotes bash takes a word as it is; else it is quoted, and what stands before a
+        # mark at which bash parts words left out.
         [[ $current == [\'\"]* ]] && return
         local before=${current%"${current##*[=:@]}"}
         for i in "${!COMPREPLY[@]}"; do

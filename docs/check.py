@@ -1,13 +1,16 @@
 #!/usr/bin/env python3
 """check.py [PAGE..]: runs the commands that the documents show, and compares what they print.
 
-Of each ```console block of the pages for users (DOCUMENTS), each line that begins with `$ ` is run by bash in
-the repository's top folder; the lines below it, up to the next one, are what it prints, standard output and error together.
-A command whose line ends in `\\` goes on in the next line. The variable T names an empty folder for the files that a document
-writes; it goes at the end. A block that begins with ```console PROGRAM .. is passed over where one of these programs is not on
-the PATH, and the last line says so. VCDKIT is ./vcdkit, which `make` leaves there, for the scripts of extras/.
+Of each ```console block of the pages for users (DOCUMENTS), each line that begins with `$ ` is run
+by bash in the repository's top folder; the lines below it, up to the next one, are what it prints,
+standard output and error together. A command whose line ends in `\\` goes on in the next line. The
+variable T names an empty folder for the files that a document writes; it goes at the end. A block
+that begins with ```console PROGRAM .. is passed over where one of these programs is not on the
+PATH, and the last line says so. VCDKIT is ./vcdkit, which `make` leaves there, for the scripts of
+extras/.
 
-The exit status is 0 where all is as written, 1 where some output differs, 2 where there is no ./vcdkit."""
+The exit status is 0 where all is as written, 1 where some output differs, 2 where there is no
+./vcdkit."""
 import difflib
 import os
 import shutil
@@ -16,12 +19,14 @@ import sys
 import tempfile
 
 TOP = os.path.dirname(os.path.dirname(os.path.abspath(__file__)))
-DOCUMENTS = ["README.md", "docs/MANUAL.md", "docs/RECIPES.md", "docs/PRODUCERS.md", "extras/README.md"]
+DOCUMENTS = ["README.md", "docs/MANUAL.md", "docs/RECIPES.md", "docs/PRODUCERS.md",
+             "extras/README.md"]
 SECONDS = 60
 
 
 def commands_of(document):
-    """The commands of a document in order: the line, the command, the lines that it prints, and the programs that it needs."""
+    """The commands of a document in order: the line, the command, the lines that it prints, and the
+    programs that it needs."""
     commands, is_inside, goes_on, needs = [], False, False, []
     with open(os.path.join(TOP, document), encoding="utf-8") as lines:
         for number, line in enumerate(lines, 1):
@@ -42,11 +47,14 @@ def commands_of(document):
 
 def printed_by(command, folder):
     """The lines that a command prints."""
-    words = {name: word for name, word in os.environ.items() if name not in ("MAKELEVEL", "MAKEFLAGS", "MFLAGS")}
+    words = {name: word
+             for name, word in os.environ.items()
+             if name not in ("MAKELEVEL", "MAKEFLAGS", "MFLAGS")}
     words.update(LC_ALL="C", T=folder, VCDKIT="./vcdkit")
     try:
         done = subprocess.run(["bash", "-c", command], cwd=TOP, env=words, timeout=SECONDS,
-                              stdin=subprocess.DEVNULL, stdout=subprocess.PIPE, stderr=subprocess.STDOUT)
+                              stdin=subprocess.DEVNULL, stdout=subprocess.PIPE,
+                              stderr=subprocess.STDOUT)
     except subprocess.TimeoutExpired:
         return ["(not done after %d seconds)" % SECONDS]
     lines = done.stdout.decode("utf-8", "backslashreplace").split("\n")
@@ -69,9 +77,11 @@ def main(documents):
                 if printed != expected:
                     differ += 1
                     print("%s:%d: $ %s" % (document, number, command))
-                    for line in difflib.unified_diff(expected, printed, "written", "printed", lineterm="", n=1):
+                    for line in difflib.unified_diff(expected, printed, "written", "printed",
+                                                     lineterm="", n=1):
                         print("    " + line)
-    print("%d commands, %d differ" % (run, differ) + ("; those that need %s were passed over" % ", ".join(sorted(missing))) * bool(missing))
+    print("%d commands, %d differ" % (run, differ)
+          + ("; those that need %s were passed over" % ", ".join(sorted(missing))) * bool(missing))
     return 1 if differ or not run else 0
 
 

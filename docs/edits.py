@@ -2,7 +2,8 @@
 """edits.py: compares the must-fail edits that docs/PROOFS.md lists with crates/*/must-fail/*.edit.
 
 It prints each edit that one has and the other has not, and each that the page lists twice. The exit
-status is 0 where both have the same, or where there is no folder crates, as in a tarball, else 1."""
+status is 0 where both have the same, or where there is no folder crates, as in a tarball, else
+1."""
 import glob
 import os
 import re

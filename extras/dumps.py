@@ -1,4 +1,5 @@
-"""What the scripts of this folder share: they call vcdkit, and read its rows and the dumps that it writes. Unproved."""
+"""What the scripts of this folder share: they call vcdkit, and read its rows and the dumps that it
+writes. Unproved."""
 import os
 import subprocess
 import sys
@@ -14,7 +15,8 @@ def stop(text, status):
 
 
 def help_or_usage(words, text, is_right):
-    """Prints the text, and ends, where --help is asked for; its first line alone, with status 2, where the words are not right."""
+    """Prints the text, and ends, where --help is asked for; its first line alone, with status 2,
+    where the words are not right."""
     if words[:1] in (["--help"], ["-h"]):
         print(text.strip())
         sys.exit(0)
@@ -28,11 +30,13 @@ def called(words, **how):
     try:
         return subprocess.Popen([PROGRAM] + words, stdout=subprocess.PIPE, **how)
     except (FileNotFoundError, PermissionError):
-        stop("there is no program %s%s" % (PROGRAM, " on the PATH; VCDKIT=FILE names it" * ("/" not in PROGRAM)), 3)
+        stop("there is no program %s%s"
+             % (PROGRAM, " on the PATH; VCDKIT=FILE names it" * ("/" not in PROGRAM)), 3)
 
 
 def rows_of(words):
-    """The rows of `vcdkit list` with these words: path, type, size and code of each variable. Ends where it fails."""
+    """The rows of `vcdkit list` with these words: path, type, size and code of each variable. Ends
+    where it fails."""
     listing = called(["list"] + words)
     rows = []
     for row in listing.stdout:
@@ -49,14 +53,16 @@ def is_selected(path, names):
 
 
 def full(value, size):
-    """All digits of a value: its first digit, unless that is 1, is what is to the left of it. A real number is its text."""
+    """All digits of a value: its first digit, unless that is 1, is what is to the left of it. A
+    real number is its text."""
     if value[0] == "r":
         return value[1:]
     return value.rjust(size, "0" if value[0] == "1" else value[0])
 
 
 def shown(value, size, form):
-    """A value as a table has it: `hex` and `decimal` change those of 0 and 1 alone; `-` where there is none."""
+    """A value as a table has it: `hex` and `decimal` change those of 0 and 1 alone; `-` where there
+    is none."""
     if value is None:
         return "-"
     value = full(value, size)
@@ -79,7 +85,8 @@ class Dump:
                 break
 
     def changes(self):
-        """The pairs of a code and its new value, with their time; at each time mark a code of None."""
+        """The pairs of a code and its new value, with their time; at each time mark a code of
+        None."""
         time = 0
         for line in self.run.stdout:
             line = line.decode(errors="backslashreplace").rstrip("\n")
@@ -98,7 +105,8 @@ class Dump:
 
 
 def run(main):
-    """Runs a script; where the reader of its output ends early, it ends with status 1 and no more words."""
+    """Runs a script; where the reader of its output ends early, it ends with status 1 and no more
+    words."""
     try:
         sys.exit(main(sys.argv[1:]))
     except BrokenPipeError:

@@ -1,6 +1,6 @@
 #!/usr/bin/env bash
-# Tries each of the extras on samples/ and on small dumps. Nothing is built: VCDKIT names the program, else ./vcdkit.
-# extras/test.sh DUMP..: also on these dumps, by what must hold of any.
+# Tries each of the extras on samples/ and on small dumps. Nothing is built: VCDKIT names the
+# program, else ./vcdkit. extras/test.sh DUMP..: also on these dumps, by what must hold of any.
 set -u
 cd "$(dirname "$0")/.."
 export VCDKIT=${VCDKIT:-./vcdkit} LC_ALL=C
@@ -106,7 +106,8 @@ same 'list_json: status of the program' 3 $?
 same 'list_json: a name that is no UTF-8' 'a\xff' \
     "$(printf '$var wire 1 ! a\377 $end\n$enddefinitions $end\n' | extras/list_json | python3 -c 'import json, sys; print(json.load(sys.stdin)[0]["path"])')"
 
-# Several signals: the rows of samples/counter.vcd and samples/nested.vcd that these tests want were read off the dumps.
+# Several signals: the rows of samples/counter.vcd and samples/nested.vcd that these tests want were
+# read off the dumps.
 same 'table_csv: changes' 'time (1ns),count0,count1
 0,x,x
 5,0,0
@@ -274,7 +275,8 @@ for script in extras/*; do
         "$(said=$(VCDKIT=none "$script" "${words[@]}" 2>&1 > /dev/null); echo "$? $said")"
 done
 
-# A caller in C and one in Python, where `make library` has left the library, and there is a C compiler.
+# A caller in C and one in Python, where `make library` has left the library, and there is a C
+# compiler.
 if [[ -e libvcd_c.a && -e libvcd_c.so ]] && command -v cc > /dev/null; then
     cc -std=c99 -Wall -Wextra -Werror -Iextras/c -o "$folder/variables" extras/c/variables.c libvcd_c.a
     for dump in samples/*.vcd; do
@@ -290,7 +292,8 @@ else
     echo 'the callers in C and Python are not tried: there is no libvcd_c.a (make library), or no cc'
 fi
 
-# What holds of any dump: of three simulators here (Icarus Verilog, Verilator, GHDL), and of those that are given.
+# What holds of any dump: of three simulators here (Icarus Verilog, Verilator, GHDL), and of those
+# that are given.
 extras/four_state < samples/ghdl.vcd > "$folder/ghdl.vcd"
 for dump in samples/counter.vcd samples/nested.vcd samples/verilator.vcd "$folder/ghdl.vcd" "$@"; do
     same "$dump: no difference from itself, picked and cut" 0 \
@@ -301,7 +304,8 @@ for dump in samples/counter.vcd samples/nested.vcd samples/verilator.vcd "$folde
     same "$dump: four_state leaves four states as they are" 0 "$(extras/four_state < "$dump" | cmp -s - "$dump"; echo $?)"
     same "$dump: list_json has the rows of list" "$("$VCDKIT" list -i "$dump" | cksum)" \
         "$(extras/list_json -i "$dump" | python3 -c 'import json, sys; [print(*r.values()) for r in json.load(sys.stdin)]' | cksum)"
-    # The first and the last variable that is no event: each value of values_csv, the last of its time, is that of sample.
+    # The first and the last variable that is no event: each value of values_csv, the last of its
+    # time, is that of sample.
     for path in $("$VCDKIT" list -i "$dump" | awk '$2 != "event" { if (!first) first = $1; last = $1 } END { print first, last }'); do
         extras/values_csv "$dump" "$path" | sed 1d | awk -F , '$1 != time && NR > 1 { print time, value } { time = $1; value = $2 } END { print time, value }' |
             head -n 1000 > "$folder/values"

@@ -82,7 +82,9 @@ def base_94(n):
 
 # 100,008 declarations: 8,334 times a scope, ten variables with a code each, and the scope's end.
 MANY = b"".join(
-    b"$scope module s%d $end\n" % k + b"".join(b"$var wire 4 %s v%d [3:0] $end\n" % (base_94(10 * k + n), n) for n in range(10)) + b"$upscope $end\n"
+    b"$scope module s%d $end\n" % k
+                + b"".join(b"$var wire 4 %s v%d [3:0] $end\n" % (base_94(10 * k + n), n)
+                           for n in range(10)) + b"$upscope $end\n"
     for k in range(8_334)) + b"$enddefinitions $end\n"
 
 LARGE = [

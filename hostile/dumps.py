@@ -42,8 +42,11 @@ class Dumps:
             else:
                 code = r.choice(CODES)
                 size, type_ = codes.get(code) or (r.choice(SIZES), r.choice(TYPES))
-                codes[code] = (size, type_ if type_ == b"event" else r.choice([t for t in TYPES if t != b"event"]))
-                words += [b"$var", codes[code][1], b"%d" % size, code, r.choice(NAMES)] + r.choice([[], [b"[3:0]"]]) + [b"$end"]
+                codes[code] = (size,
+                               type_ if type_ == b"event"
+                               else r.choice([t for t in TYPES if t != b"event"]))
+                words += [b"$var", codes[code][1], b"%d" % size, code,
+                          r.choice(NAMES)] + r.choice([[], [b"[3:0]"]]) + [b"$end"]
         words += [b"$enddefinitions", b"$end"]
         return words, codes
 
@@ -57,7 +60,8 @@ class Dumps:
         if kind < 0.9:
             many = r.choice([1, 1, 2, 3, size, size, max(1, size - 1)])
             alphabet = r.choice([b"01", b"01", b"0", b"01xz", b"01xXzZ", b"x", b"Z"])
-            return [r.choice([b"b", b"B"]) + bytes(r.choice(alphabet) for _ in range(min(many, size))), code]
+            return [r.choice([b"b", b"B"])
+                    + bytes(r.choice(alphabet) for _ in range(min(many, size))), code]
         return [r.choice([b"r", b"R"]) + r.choice([b"1.5", b"nan", b"0", b"-1e9", b"x" * 64]), code]
 
     def body(self, codes):
@@ -68,7 +72,8 @@ class Dumps:
                 time += r.choice([0, 1, 1, 2, 5, 10])
                 words.append(b"#%d" % time if r.random() < 0.95 else b"#0%d" % time)
             elif kind < 0.36:
-                words.append(b"$end" if inside else r.choice([b"$dumpvars", b"$dumpoff", b"$dumpon", b"$dumpall"]))
+                words.append(b"$end" if inside
+                             else r.choice([b"$dumpvars", b"$dumpoff", b"$dumpon", b"$dumpall"]))
                 inside = not inside
             elif kind < 0.39:
                 words += [b"$comment", b"#", b"$end"]
@@ -82,8 +87,10 @@ class Dumps:
     def spoiled(self, words):
         r = self.r
         at = r.randrange(len(words) + 1)
-        bad = [b"#x", b"1", b"b12", b"r", b"$end", b"$var", b"?", b"#", b"#18446744073709551615", b"#18446744073709551616", b"#3", b"b" + b"1" * 300,
-               b"q" * 70, b"$dumpvars", b"$scope", b"$timescale", b"0~", b"r" + b"1" * 65, b"$", b"$upscope", b"\xff", b"$date"]
+        bad = [b"#x", b"1", b"b12", b"r", b"$end", b"$var", b"?", b"#", b"#18446744073709551615",
+               b"#18446744073709551616", b"#3", b"b" + b"1" * 300,
+               b"q" * 70, b"$dumpvars", b"$scope", b"$timescale", b"0~", b"r" + b"1" * 65, b"$",
+               b"$upscope", b"\xff", b"$date"]
         kind = r.random()
         if kind < 0.6:
             return words[:at] + [r.choice(bad)] + words[at:]
@@ -106,7 +113,8 @@ class Dumps:
 
     def names(self):
         r = self.r
-        return [b".".join(r.choice(NAMES) for _ in range(r.choice([1, 1, 1, 2, 3]))) for _ in range(r.choice([0, 0, 1, 1, 2, 3]))]
+        return [b".".join(r.choice(NAMES) for _ in range(r.choice([1, 1, 1, 2, 3])))
+                for _ in range(r.choice([0, 0, 1, 1, 2, 3]))]
 
     def moment(self, most):
         number = self.r.randrange(most)

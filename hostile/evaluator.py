@@ -1,7 +1,9 @@
-"""What vcdkit is to write, by its definitions (docs/DEFINITIONS.md), over whole dumps. It is plain and slow, and shares nothing
-with the program: it reads a dump as a list of tokens and looks back in lists.
+"""What vcdkit is to write, by its definitions (docs/DEFINITIONS.md), over whole dumps. It is plain
+and slow, and shares nothing with the program: it reads a dump as a list of tokens and looks back in
+lists.
 
-run(command, options, names, inputs, limit) gives (output, message, status), all bytes but the status. An input is its bytes."""
+run(command, options, names, inputs, limit) gives (output, message, status), all bytes but the
+status. An input is its bytes."""
 
 WHITE = b" \t\n\v\f\r"
 TEXTS = {
@@ -26,7 +28,8 @@ class Failed(bytes):
 
 
 class Tokens:
-    """The tokens of a text with their lines, one after the other; at a fault or at the end it raises."""
+    """The tokens of a text with their lines, one after the other; at a fault or at the end it
+    raises."""
 
     def __init__(self, text, limit):
         self.text, self.limit, self.at, self.line = text, limit, 0, 1
@@ -62,7 +65,8 @@ class Head:
         self.codes = {}     # code -> (size, event), in order of declaration
 
     def around(self):
-        """For each row the rows of the scopes around it, outermost first; for an `$upscope` those around the scope it closes, and it."""
+        """For each row the rows of the scopes around it, outermost first; for an `$upscope` those
+        around the scope it closes, and it."""
         opened, result = [], []
         for i, row in enumerate(self.rows):
             result.append(list(opened))
@@ -164,7 +168,8 @@ def read_head(tokens, most):
 
 
 class Item:
-    """kind: time, begin, end, change; the time mark, the section, or code, form and text; the line of its last token."""
+    """kind: time, begin, end, change; the time mark, the section, or code, form and text; the line
+    of its last token."""
 
     def __init__(self, kind, line, **of):
         self.kind, self.line = kind, line
@@ -515,7 +520,8 @@ COMMANDS = {"check": check, "list": list_, "pick": pick, "cut": cut, "sample": s
 
 
 def run(command, options, names, inputs, limit=1_048_576):
-    """`options`: the moments of `cut` (two) and `sample`; `names`: the NAMEs; `inputs`: pairs of a name for messages and bytes."""
+    """`options`: the moments of `cut` (two) and `sample`; `names`: the NAMEs; `inputs`: pairs of a
+    name for messages and bytes."""
     heads, all_tokens, left = [], [], MOST_DECLARATIONS
     for name, text in inputs:
         tokens = Tokens(text, limit)

@@ -1,8 +1,10 @@
 #!/usr/bin/env python3
-"""hostile.py PROGRAM DEVICES PART..     PART is memory, large, devices or cut_off; COMMANDS=check,list takes the cases of these alone
+"""hostile.py PROGRAM DEVICES PART..     PART is memory, large, devices or cut_off;
+COMMANDS=check,list takes the cases of these alone
 
-Runs the program where memory is refused, where its devices fail or give little, and on dumps that are cut off after each byte.
-What it writes has to be what the evaluator says. DEVICES is devices.c, built as a shared library."""
+Runs the program where memory is refused, where its devices fail or give little, and on dumps that
+are cut off after each byte. What it writes has to be what the evaluator says. DEVICES is devices.c,
+built as a shared library."""
 import os, subprocess, sys, tempfile
 from concurrent.futures import ThreadPoolExecutor
 
@@ -29,11 +31,13 @@ class Place:
         environment = {name.upper(): str(value) for name, value in how.items()}
         if environment:
             environment["LD_PRELOAD"] = self.devices
-        p = subprocess.run([self.program] + case.words(files), capture_output=True, cwd=self.folder, env=environment, timeout=60)
+        p = subprocess.run([self.program] + case.words(files), capture_output=True, cwd=self.folder,
+                           env=environment, timeout=60)
         return p.stdout, p.stderr, p.returncode
 
     def counts(self, case, files):
-        """How many requests for memory and how many reads a run makes, and the sum of the bytes that it asks for."""
+        """How many requests for memory and how many reads a run makes, and the sum of the bytes
+        that it asks for."""
         name = os.path.join(self.folder, files[0] + ".counts")
         self.run(case, files, counts=name)
         with open(name) as f:
@@ -42,7 +46,8 @@ class Place:
 
 def wanted(case, files, inputs):
     options = [(n, None if u is None else evaluator.UNITS[u.encode()]) for n, u in case.options]
-    return evaluator.run(case.command, options, case.names, list(zip([f.encode() for f in files], inputs)))
+    return evaluator.run(case.command, options, case.names,
+                         list(zip([f.encode() for f in files], inputs)))
 
 
 def say(case, what, want, got):
@@ -56,8 +61,9 @@ COMMAND_LINE = 65_536
 
 
 def bound(inputs, limit=1_048_576):
-    """The bytes that a run over these inputs may ask for in all. Windows are asked for once. What is kept of a header grows with it: its
-    sizes double, so all of them together are at most four times the last one."""
+    """The bytes that a run over these inputs may ask for in all. Windows are asked for once. What
+    is kept of a header grows with it: its sizes double, so all of them together are at most four
+    times the last one."""
     windows = held = 0
     for text in inputs:
         try:
@@ -94,12 +100,17 @@ def memory(place, case):
     yield from too_much(case, asked)
     for n in range(1, requests + 1):
         got = place.run(case, files, refuse=n)
-        # A library asks for more than it needs in some places, or to give some back, and goes on where that is refused.
+        # A library asks for more than it needs in some places, or to give some back, and goes on
+        # where that is refused.
         if got not in ((b"", b"vcdkit: out of memory\n", 3), whole):
             yield say(case, "request %d of %d refused" % (n, requests), whole, got)
-    # How the last variable of a header is read, and so what it asks for, depends on whether 64 bytes lie behind it in the chunk:
-    # five comments are more. The names of the files are as long, since they are copied too.
-    few, many = [place.counts(case, place.files_of(case, [text + b"\n$comment x $end" * n for text in case.inputs], mark))
+    # How the last variable of a header is read, and so what it asks for, depends on whether 64
+    # bytes lie behind it in the chunk: five comments are more. The names of the files are as long,
+    # since they are copied too.
+    few, many = [place.counts(case,
+                              place.files_of(case,
+                                             [text + b"\n$comment x $end" * n
+                                              for text in case.inputs], mark))
                  for n, mark in ((5, ".few"), (5000, ".all"))]
     if whole[2] == 0 and (few[0], few[2]) != (many[0], many[2]):
         yield say(case, "a longer body", few, many)
@@ -109,7 +120,8 @@ def memory(place, case):
 # ---- devices
 
 def failed_read(case, files, most, call):
-    """What is wanted of a case with one input where this read fails and each before gave so much. The last read gives nothing."""
+    """What is wanted of a case with one input where this read fails and each before gave so much.
+    The last read gives nothing."""
     text = case.inputs[0]
     if call > -(-len(text) // most) + 1:
         return wanted(case, files, [text])
@@ -136,17 +148,22 @@ def devices(place, case):
             out, message, status = place.run(case, files, write_most=most, write_fails=call)
             whole = call > -(-len(want[0]) // most)
             line = b"" if whole or want[2] == 3 else b"vcdkit: write failed\n"
-            if not (want[0].startswith(out) and message in (line, want[1] + line) and status == (want[2] if whole else 3)):
-                yield say(case, "write %d of %d bytes each fails" % (call, most), want, (out, message, status))
+            if not (want[0].startswith(out) and message in (line, want[1] + line)
+                    and status == (want[2] if whole else 3)):
+                yield say(case, "write %d of %d bytes each fails" % (call, most), want,
+                          (out, message, status))
         for call in range(1, len(want[1]) // most + 2):
             runs += 1
             out, message, status = place.run(case, files, error_most=most, error_fails=call)
             if not (out == want[0] and want[1].startswith(message) and status == want[2]):
-                yield say(case, "write %d of %d bytes each to the error stream fails" % (call, most), want, (out, message, status))
+                yield say(case,
+                          "write %d of %d bytes each to the error stream fails" % (call, most),
+                          want, (out, message, status))
     for device in ("read", "write", "error"):
         for call in range(1, 6):
             runs += 1
-            got = place.run(case, files, interrupted=1, **{device + "_most": 7, device + "_fails": call})
+            got = place.run(case, files, interrupted=1,
+                            **{device + "_most": 7, device + "_fails": call})
             if got != want:
                 yield say(case, "%s %d of 7 bytes each is interrupted" % (device, call), want, got)
     yield runs
@@ -165,7 +182,8 @@ def cut_off(place, case):
                 runs += 1
                 got = place.run(case, files, **how)
                 if got != want:
-                    yield say(case, "input %d cut off after %d bytes, %r" % (k, size, how), want, got)
+                    yield say(case, "input %d cut off after %d bytes, %r" % (k, size, how), want,
+                              got)
     yield runs
 
 
@@ -185,7 +203,8 @@ def main():
         runs = 0
         with tempfile.TemporaryDirectory() as folder, ThreadPoolExecutor(os.cpu_count()) as pool:
             place = Place(program, devices_, folder)
-            for found in pool.map(lambda case: results(place, part, case), LARGE if part == "large" else cases):
+            for found in pool.map(lambda case: results(place, part, case),
+                                  LARGE if part == "large" else cases):
                 runs += found[-1]
                 bad += len(found) - 1
                 for text in found[:-1][:3]:

@@ -14,7 +14,9 @@ COMMANDS = ["check", "list", "pick", "cut", "sample", "edges", "merge"]
 def asked(d, text):
     """Names of the dump's own variables and scopes, or some others."""
     try:
-        paths = [path for _, path, _ in evaluator.read_head(evaluator.Tokens(text, 1_048_576), 100).variables()]
+        paths = [path
+                 for _, path, _ in evaluator.read_head(evaluator.Tokens(text, 1_048_576),
+                                                       100).variables()]
     except evaluator.Fault:
         paths = []
     if not paths or d.r.random() < 0.2:
@@ -39,7 +41,9 @@ def case(seed, commands, folder):
     limit = r.choice([1_048_576, 1_048_576, 1_048_576, 64, 65, 100])
     arguments, options, names = [], [], []
     if command == "merge":
-        inputs = [(b"%d_%d.vcd" % (seed, k), d.dump()) for k in range(r.choice([1, 1, 2, 2, 2, 3, 5, 64] if r.random() < 0.1 else [1, 2, 2, 2, 3]))]
+        inputs = [(b"%d_%d.vcd" % (seed, k), d.dump())
+                  for k in range(r.choice([1, 1, 2, 2, 2, 3, 5, 64] if r.random() < 0.1
+                                          else [1, 2, 2, 2, 3]))]
         if r.random() < 0.2 and len(inputs) < 64:
             inputs.append(inputs[0])
         for name, text in inputs:
@@ -50,7 +54,9 @@ def case(seed, commands, folder):
         inputs = [(b"(stdin)", d.dump())]
     if command in ("pick", "sample", "edges"):
         # Words are UTF-8, and a dump's names any bytes: only names of ASCII are asked for.
-        names = [n for n in asked(d, inputs[0][1]) if n.isascii()] or ([b"tb"] if command == "pick" else [])
+        names = [n
+                 for n in asked(d, inputs[0][1]) if n.isascii()] or ([b"tb"] if command == "pick"
+                                                                     else [])
     if command == "cut":
         a, b = d.moment(60), d.moment(60)
         if a[1] is None and b[1] is None:
@@ -63,7 +69,8 @@ def case(seed, commands, folder):
             options = [(n, None) for n in sorted({m[0] for m in options})]
         arguments = ["--at", ",".join(word(m) for m in options)]
     if command != "merge":
-        arguments += ["--token-limit", str(limit)] + (["--"] + [n.decode("latin-1") for n in names] if names else [])
+        arguments += ["--token-limit",
+                      str(limit)] + (["--"] + [n.decode("latin-1") for n in names] if names else [])
     else:
         arguments = ["--token-limit", str(limit), "--"] + arguments
     want = evaluator.run(command, [model(m) for m in options], names, inputs, limit)
@@ -72,14 +79,16 @@ def case(seed, commands, folder):
 
 def differs(program, folder, commands, seed):
     arguments, given, want = case(seed, commands, folder)
-    p = subprocess.run([program] + arguments, input=given, capture_output=True, cwd=folder, timeout=60)
+    p = subprocess.run([program] + arguments, input=given, capture_output=True, cwd=folder,
+                       timeout=60)
     got = (p.stdout, p.stderr, p.returncode)
     for name in arguments:
         if name.endswith(".vcd") and os.path.exists(os.path.join(folder, name)):
             os.remove(os.path.join(folder, name))
     if got == want:
         return None
-    return "seed %d: vcdkit %s\n input %r\n want  %r\n got   %r" % (seed, " ".join(arguments), given, want, got)
+    return "seed %d: vcdkit %s\n input %r\n want  %r\n got   %r" % (seed, " ".join(arguments),
+                                                                    given, want, got)
 
 
 def main():
@@ -91,7 +100,8 @@ def main():
     a = parser.parse_args()
     program, bad = os.path.abspath(a.program), 0
     with tempfile.TemporaryDirectory() as folder, ThreadPoolExecutor(os.cpu_count()) as pool:
-        for found in pool.map(lambda s: differs(program, folder, a.commands.split(","), s), range(a.seed, a.seed + a.runs)):
+        for found in pool.map(lambda s: differs(program, folder, a.commands.split(","), s),
+                              range(a.seed, a.seed + a.runs)):
             if found:
                 bad += 1
                 if bad <= 5:

@@ -1,12 +1,13 @@
 #!/usr/bin/env bash
-# dist.sh PROGRAM FOLDER: packs a program, with documents, man page, completions, samples and extras, into the folder:
+# dist.sh PROGRAM FOLDER: packs a program, with documents, man page, completions, samples and
+# extras, into the folder:
 #   vcdkit-VERSION-x86_64-linux.tar.gz   to unpack and run, or `make install` in it
 #   vcdkit_VERSION_amd64.deb             a Debian package, where there is dpkg-deb
 #   vcdkit-VERSION-relink.tar.gz         the object files, for who wants to link the program with another C library (NOTICE.md)
-# The same files give the same bytes: names are sorted, owner and modes fixed, and all times are SOURCE_DATE_EPOCH, else that of
-# the last commit. MAINTAINER is who stands in the package.
+# The same files give the same bytes: names are sorted, owner and modes fixed, and all times are
+# SOURCE_DATE_EPOCH, else that of the last commit. MAINTAINER is who stands in the package.
 set -eu
-[[ $# == 2 ]] || { sed -n '2,7s/^# //p' "$0"; exit 2; }
+[[ $# == 2 ]] || { sed -n '2,/^set/s/^# //p' "$0"; exit 2; }
 top=$(cd "$(dirname "$0")/.." && pwd)
 program=$(realpath "$1")
 mkdir -p "$2"
@@ -50,7 +51,8 @@ install -m 755 "$program" "$folder/$name/vcdkit"
 licences "$folder/$name/licences"
 packed "$name"
 
-# The package: what `make install` puts in place, with the man page packed and the notices where Debian has them.
+# The package: what `make install` puts in place, with the man page packed and the notices where
+# Debian has them.
 if command -v dpkg-deb > /dev/null; then
     tree=$folder/deb
     make -s -C "$folder/$name" install DESTDIR="$tree" PREFIX=/usr > /dev/null
@@ -89,7 +91,8 @@ strip --strip-debug "$folder/$relink/vcdkit_main.o"
 licences "$folder/$relink/licences"
 cat > "$folder/$relink/relink.sh" <<'END'
 #!/bin/sh
-# Links vcdkit anew, with the static C library of this machine: sh relink.sh; without -static-pie with the shared one.
+# Links vcdkit anew, with the static C library of this machine: sh relink.sh; without -static-pie
+# with the shared one.
 cd "$(dirname "$0")" && ${CC:-cc} ${LINK:--static-pie} -s -Wl,--gc-sections -o vcdkit vcdkit_main.o libos_c.a liblibc_c.a -lm
 END
 chmod 755 "$folder/$relink/relink.sh"

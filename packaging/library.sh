@@ -1,8 +1,9 @@
 #!/bin/sh
-# library.sh ARCHIVE FOLDER: puts what a static library of rt is linked with, the C archives of the kit, into it, and makes
-# lib*.a and lib*.so of all in the folder: so a caller needs neither the kit nor its archives.
+# library.sh ARCHIVE FOLDER: puts what a static library of rt is linked with, the C archives of the
+# kit, into it, and makes lib*.a and lib*.so of all in the folder: so a caller needs neither the kit
+# nor its archives.
 set -eu
-[ $# = 2 ] || { sed -n '2,3s/^# //p' "$0"; exit 2; }
+[ $# = 2 ] || { sed -n '2,/^set/s/^# //p' "$0"; exit 2; }
 if [ -z "${KIT:-}" ]; then
     KIT=$(dirname "$(dirname "$(readlink -f "$(command -v rt)")")")
 fi

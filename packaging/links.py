@@ -1,8 +1,9 @@
 #!/usr/bin/env python3
-"""links.py FOLDER: looks for the target of each link of the pages (*.md) below a folder, and for the heading that it names.
+"""links.py FOLDER: looks for the target of each link of the pages (*.md) below a folder, and for
+the heading that it names.
 
-It prints each link that leads nowhere, or out of the folder; links to the web are passed over. The status is 0 where there is
-none."""
+It prints each link that leads nowhere, or out of the folder; links to the web are passed over. The
+status is 0 where there is none."""
 import os
 import re
 import sys

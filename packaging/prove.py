@@ -1,10 +1,12 @@
 #!/usr/bin/env python3
-"""prove.py CRATE COMMAND [WORD ..]: runs `rt COMMAND WORD ..` in crates/CRATE, and shows how far it is.
+"""prove.py CRATE COMMAND [WORD ..]: runs `rt COMMAND WORD ..` in crates/CRATE, and shows how far it
+is.
 
-What rt and the prover write goes to the file make.log of the top folder, with what the program writes. The screen has a line
-for each crate that was proved: 'crate k of n, NAME: so many functions proved, so many minutes'; on a terminal also a line that
-says what is being proved. Standard input is handed on. The exit status is that of rt; where it is not 0, the last lines of the
-log are shown."""
+What rt and the prover write goes to the file make.log of the top folder, with what the program
+writes. The screen has a line for each crate that was proved: 'crate k of n, NAME: so many functions
+proved, so many minutes'; on a terminal also a line that says what is being proved. Standard input
+is handed on. The exit status is that of rt; where it is not 0, the last lines of the log are
+shown."""
 import os
 import re
 import subprocess
@@ -22,7 +24,8 @@ VERDICT = re.compile(r"logic=proved functions=(\d+)")
 
 
 def crates_below(crate):
-    """The crates of crates.txt that a crate stands on, and it, each after those that it stands on."""
+    """The crates of crates.txt that a crate stands on, and it, each after those that it stands
+    on."""
     needs = {}
     with open(os.path.join(TOP, "crates.txt"), encoding="utf-8") as lines:
         for line in lines:
@@ -61,7 +64,8 @@ class Screen:
 
 
 def follow(lines, log, order, screen):
-    """Copies the lines to the log, and shows the crates; returns how many functions were proved in how many crates."""
+    """Copies the lines to the log, and shows the crates; returns how many functions were proved in
+    how many crates."""
     began, crate, functions, crates = time.monotonic(), "", 0, 0
     screen.now("reading the sources ..")
     for line in lines:
@@ -78,7 +82,8 @@ def follow(lines, log, order, screen):
             screen.now("%s .." % place)
         elif verdict and crate:
             minutes = (time.monotonic() - began) / 60
-            screen.line("%s: %s functions proved, %.1f minutes" % (place, verdict.group(1), minutes))
+            screen.line("%s: %s functions proved, %.1f minutes"
+                        % (place, verdict.group(1), minutes))
             functions, crates, crate, began = functions + int(verdict.group(1)), crates + 1, "", time.monotonic()
     return functions, crates
 
@@ -89,9 +94,11 @@ def main(words):
         return 0 if words[:1] == ["--help"] else 2
     crate, began, screen = words[0], time.monotonic(), Screen()
     with open(LOG, "a", encoding="utf-8") as log:
-        log.write("== rt %s in crates/%s, %s\n" % (" ".join(words[1:]), crate, time.strftime("%Y-%m-%d %H:%M:%S")))
+        log.write("== rt %s in crates/%s, %s\n"
+                  % (" ".join(words[1:]), crate, time.strftime("%Y-%m-%d %H:%M:%S")))
         log.flush()
-        ran = subprocess.Popen(["rt"] + words[1:], cwd=os.path.join(TOP, "crates", crate), stdout=subprocess.PIPE,
+        ran = subprocess.Popen(["rt"] + words[1:], cwd=os.path.join(TOP, "crates", crate),
+                               stdout=subprocess.PIPE,
                                stderr=subprocess.STDOUT, encoding="utf-8", errors="replace")
         functions, crates = follow(ran.stdout, log, crates_below(crate), screen)
         status = ran.wait()

@@ -1,9 +1,10 @@
 #!/bin/sh
-# static.sh PROGRAM: links the program that `make` built once more, as one that needs no shared library. Nothing is proved or
-# compiled here: it takes the object file that rt compiled from what was proved, the two C archives of the kit that rt links too,
-# and the static C library of this machine (Debian: libc6-dev). CC names the linking compiler; KIT the kit, else that of rt.
+# static.sh PROGRAM: links the program that `make` built once more, as one that needs no shared
+# library. Nothing is proved or compiled here: it takes the object file that rt compiled from what
+# was proved, the two C archives of the kit that rt links too, and the static C library of this
+# machine (Debian: libc6-dev). CC names the linking compiler; KIT the kit, else that of rt.
 set -eu
-[ $# = 1 ] || { sed -n '2,4s/^# //p' "$0"; exit 2; }
+[ $# = 1 ] || { sed -n '2,/^set/s/^# //p' "$0"; exit 2; }
 top=$(cd "$(dirname "$0")/.." && pwd)
 object=$top/crates/vcdkit_main/out/vcdkit_main.o
 [ -s "$object" ] || { echo "static.sh: there is no $object: run make first" >&2; exit 1; }

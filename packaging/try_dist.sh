@@ -1,9 +1,10 @@
 #!/usr/bin/env bash
-# try_dist.sh FOLDER: tries what dist.sh left in the folder, on a path without the kit: that all checks pass in the unpacked
-# tarball, that the program runs where there is no other file, that the package has what it should and links of its pages lead
-# somewhere, that relink.sh links, and, in the repository, that packing again gives the same bytes.
+# try_dist.sh FOLDER: tries what dist.sh left in the folder, on a path without the kit: that all
+# checks pass in the unpacked tarball, that the program runs where there is no other file, that the
+# package has what it should and links of its pages lead somewhere, that relink.sh links, and, in
+# the repository, that packing again gives the same bytes.
 set -u
-[[ $# == 1 ]] || { sed -n '2,4s/^# //p' "$0"; exit 2; }
+[[ $# == 1 ]] || { sed -n '2,/^set/s/^# //p' "$0"; exit 2; }
 top=$(cd "$(dirname "$0")/.." && pwd)
 out=$(realpath "$1")
 failed=0 tried=0

@@ -1,5 +1,6 @@
 #!/usr/bin/env python3
-"""variables.py LIBRARY FILE: prints how many variables a dump declares, by libvcd_c as a shared library.
+"""variables.py LIBRARY FILE: prints how many variables a dump declares, by libvcd_c as a shared
+library.
 
 `make library` makes one, libvcd_c.so (docs/OWN_CRATES.md).
 """

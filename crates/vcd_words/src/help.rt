@@ -23,8 +23,8 @@ Exit status:
   2  usage error
   3  I/O error or out of memory
 
-A dump has no end mark: one that was cut off between two lines is valid too. Whether a simulation
-came to its end is told by the line 'last'. Let a CI job ask for the time that must be reached:
+A dump has no end mark: one that was cut off between two lines is valid too. The line 'last' shows
+whether a simulation came to its end. Let a CI job ask for the time that must be reached:
   vcdkit check -i sim.vcd | awk '$1 == \"last\" && $2 >= 1220 { ok = 1 } END { exit !ok }'",
 };
 
