@@ -61,8 +61,8 @@ pub(crate) trait Command<L> {
     // Whether the loop leaves a time mark with this time.
     ghost is_left: { Self → ℕ → Bool };
 
-    /// Returns whether a time mark with this time is left to `Machine::take`, since it ends the run,
-    /// or something is due with it.
+    /// Returns whether a time mark with this time is left to `Machine::take`, since it ends the
+    /// run, or something is due with it.
     fn leaves(&self, time: u64) -> bool
         ensures { result ≡ is_left self.now time };
 
