@@ -58,6 +58,14 @@ pub scalar_begins : (token : List ℕ) (f : First) → (f ≡ first.Bit) ⊎ (f 
 scalar_begins token f (inl e) b = let s : Begins token first.Bit = subst (Begins token) e b in (s.0, s.1, bit_digit s.0 s.2, s.3)
 scalar_begins token f (inr e) b = let s : Begins token first.Scalar = subst (Begins token) e b in (s.0, s.1, s.2, s.4)
 
+-- a token that a byte begins has one
+pub some_of : (token : List ℕ) (d : ℕ) (rest : List ℕ) → token ≡ d ∷ rest → 0 < length token
+some_of token d rest e = let n = ap length e in omega (arith, n)
+
+pub first_rest : (token : List ℕ) → 0 < length token → slice_index token 0 ∷ drop 1 token ≡ token
+first_rest [] some = absurd (omega (arith, some))
+first_rest (d ∷ rest) some = refl
+
 -- ---- keywords
 
 -- the token is this keyword

@@ -16,7 +16,7 @@ ghost use Rattle.vcd_body.specs.Taken.{HasTime, IsFound, Opens, OpensVector, Tak
 use crate::bits::Bits;
 use crate::item::{Form, Item, Regs};
 use crate::phrases::{real_text, scalar_code, takes, time_in, vector_text};
-use crate::words::{First, bits_at, first_byte_of, first_of, rest_of};
+use crate::words::{First, after_first, bits_at, first_by, first_byte_of, rest_of};
 use vcd_text::{Ahead, Feed, Source};
 use vcd_view::{Found, HeadView, find_sized};
 
@@ -134,7 +134,7 @@ fn vector_bits(bytes: &[u8], at: usize, token: &[u8]) -> Option<Bits>
     requires begins { Begins token.now first.Vector }
     ensures { IfSome result (λ b. drop 1 token.now ≡ binary_digits b.len b.number) }
 {
-    bits_at(bytes, at + 1, rest_of(token))
+    bits_at(bytes, at + 1, after_first(token))
 }
 
 /// Returns the code after the text of a real number, if the text has 1 to 64 bytes.
@@ -166,7 +166,7 @@ pub fn opening_ahead<'a>(ahead: &mut Ahead<'a>) -> Option<Opening<'a>>
 {
     let token = ahead.next()?;
     Some(Opening {
-        first: first_of(token),
+        first: first_by(token[0]),
         token,
     })
 }
@@ -252,7 +252,7 @@ pub fn vector_ahead<'a>(
         (λ plain. (place : ℕ) × (plain.item ≡ item.Change place form.Vector)) }
 {
     let found = vector_code(tokens.token, tokens.code, view, bits)?;
-    let digits = rest_of(tokens.token);
+    let digits = after_first(tokens.token);
     Some(change_of(
         found,
         Form::Vector,

@@ -18,7 +18,7 @@ use crate::bits::Bits;
 use crate::fault::BodyFault;
 use crate::item::Regs;
 use crate::tokens::next_inner;
-use crate::words::{are_digits_or_known, is_end, rest_of};
+use crate::words::{after_first, are_digits_or_known, is_end, rest_of};
 use vcd_text::{Feed, Source, decimal_of};
 use vcd_view::{Code, Found, HeadView, find_sized};
 
@@ -64,7 +64,7 @@ pub(crate) fn scalar_code(token: &[u8], view: HeadView<'_>) -> Result<Found, Bod
     ensures sized { IfOk result (IsSized view.entry.codes.now) }
     ensures own { IfErr result (λ fault. fault ≢ BodyFault.ReadFailed) }
 {
-    let code = rest_of(token);
+    let code = after_first(token);
     if code.is_empty() {
         return Err(BodyFault::BadValue);
     }
@@ -87,7 +87,7 @@ pub(crate) fn vector_text(token: &[u8], bits: Option<Bits>) -> Result<&[u8], Bod
         × (list_all is_value_digit text.now ≡ true)) }
     ensures own { IfErr result (λ fault. fault ≢ BodyFault.ReadFailed) }
 {
-    let text = rest_of(token);
+    let text = after_first(token);
     if !are_digits_or_known(text, bits) {
         return Err(BodyFault::BadValue);
     }

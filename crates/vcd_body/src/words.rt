@@ -54,23 +54,34 @@ pub(crate) fn first_of(token: &[u8]) -> First
     }
 }
 
+/// Returns what a token with this first byte begins.
+// The most frequent first bytes of dumps are asked for first.
 #[inline(always)]
-fn first_by(byte: u8) -> First
+pub(crate) fn first_by(byte: u8) -> First
     ensures { (rest : List ℕ) → Begins (byte ∷ rest) result }
 {
     if byte == b'0' || byte == b'1' {
         First::Bit
-    } else if is_value_digit(byte) {
-        First::Scalar
     } else if byte == b'b' || byte == b'B' {
         First::Vector
     } else if byte == b'#' {
         First::Mark
+    } else if is_value_digit(byte) {
+        First::Scalar
     } else if byte == b'r' || byte == b'R' {
         First::Real
     } else {
         First::Other
     }
+}
+
+/// Returns the bytes after the first one, where there is one.
+#[inline(always)]
+pub(crate) fn after_first(token: &[u8]) -> &[u8]
+    requires { 0 < length token.now }
+    ensures { result.now ≡ drop 1 token.now }
+{
+    &token[1..]
 }
 
 /// Returns the bytes after the first one, none where there is none.

@@ -5,7 +5,11 @@ use Rattle.vcd_text.specs.Passed.{Passed, line_ahead}
 use Rattle.vcd_body.specs.declared.item.Form.TheVariants as form
 use Rattle.vcd_body.proofs.AheadLemmas.{passes_same, both_taken, has_bits}
 use Rattle.vcd_body.proofs.LineLemmas.{token_there, both_there, both_places}
+use Rattle.vcd_body.proofs.WordLemmas.{some_of}
 use Rattle.vcd_body.proofs.ahead.vector_ahead.Goals as goal
+
+pub after_first-digits-requires : goal.after_first-digits-requires
+after_first-digits-requires c = let b = c.requires.opens.1.begins in some_of _ _ _ b.3
 
 pub vector_code-requires-clause-begins : goal.vector_code-requires-clause-begins
 vector_code-requires-clause-begins c = c.requires.opens.1.begins
@@ -28,7 +32,7 @@ returns-clause-takes c = λ a r v.
     let begins = v.begins in
     let first = token_there bytes (passed_of a) (passed_of mid) token o.further o.within o.before o.place in
     let second = token_there (bytes_of mid) (passed_of mid) (passed_of new) code m.further m.within m.before m.place in
-    let text = c.rest_of-digits.ensures in
+    let text = c.after_first-digits.ensures in
     rw (c.change_of.ensures, v.at, v.code_at) (record {
       gives = λ h limit lines bytes before items views over k g.
           let line = line_ahead lines bytes (start_of mid token) in

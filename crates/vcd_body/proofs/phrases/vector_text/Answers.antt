@@ -4,19 +4,22 @@ use Rattle.std.proofs.lemmas.Bool.{and_parts}
 use Rattle.vcd_model.specs.Bytes.{is_empty}
 use Rattle.vcd_model.specs.BodyPhrases.{is_value_digit}
 use Rattle.vcd_body.proofs.PhraseLemmas.{bad_digits, digits_begin}
-use Rattle.vcd_body.proofs.WordLemmas.{filled_some}
+use Rattle.vcd_body.proofs.WordLemmas.{filled_some, some_of}
 use Rattle.vcd_body.proofs.phrases.vector_text.Goals as goal
+
+pub after_first-text-requires : goal.after_first-text-requires
+after_first-text-requires c = let b = c.requires.begins in some_of _ _ _ b.3
 
 pub returns-then-not-are_digits_or_known-clause-opens : goal.returns-then-not-are_digits_or_known-clause-opens
 returns-then-not-are_digits_or_known-clause-opens c = λ codes earlier.
-    (λ x. cc, bad_digits codes earlier c.args.token.now c.requires.begins (ap (λ x. not (is_empty x) && list_all is_value_digit x) (sym c.rest_of-text.ensures) ∙ sym c.are_digits_or_known.ensures ∙ c.if-not-are_digits_or_known.true))
+    (λ x. cc, bad_digits codes earlier c.args.token.now c.requires.begins (ap (λ x. not (is_empty x) && list_all is_value_digit x) (sym c.after_first-text.ensures) ∙ sym c.are_digits_or_known.ensures ∙ c.if-not-are_digits_or_known.true))
 
 pub returns-clause-opens : goal.returns-clause-opens
 returns-clause-opens c = λ codes earlier.
-    digits_begin codes earlier c.args.token.now c.requires.begins (ap (λ x. not (is_empty x) && list_all is_value_digit x) (sym c.rest_of-text.ensures) ∙ sym c.are_digits_or_known.ensures ∙ c.if-not-are_digits_or_known.false)
+    digits_begin codes earlier c.args.token.now c.requires.begins (ap (λ x. not (is_empty x) && list_all is_value_digit x) (sym c.after_first-text.ensures) ∙ sym c.are_digits_or_known.ensures ∙ c.if-not-are_digits_or_known.false)
 
 pub returns-clause-digits : goal.returns-clause-digits
 returns-clause-digits c =
-    let text = c.rest_of-text.result.now in
+    let text = c.after_first-text.result.now in
     let d = and_parts (not (is_empty text)) (list_all is_value_digit text) (sym c.are_digits_or_known.ensures ∙ c.if-not-are_digits_or_known.false) in
     (filled_some text d.0, d.1)
