@@ -1,15 +1,11 @@
 -- A mask of lanes says which bytes are white.
-use Rattle.std.proofs.Common.{◌≡◌, ◌≢◌, ℕ, zero, suc, ◌+◌, ◌-◌, ◌*◌, ◌/◌, ◌%◌, ◌^◌, ◌<◌, ◌≤◌, inl, inr, Bool, true, false, cond, List, [], ◌∷◌, map, length, take, get_or, Fits, w8, refl, sym, ap, ap₂, subst, ◌∙◌, arith}
-use Rattle.std.specs.Prelude.{bit_and, count_by}
-use Rattle.std.specs.Int.RustNames.{count_ones}
+use Rattle.std.proofs.Common.{◌≡◌, ◌≢◌, ℕ, ◌+◌, ◌-◌, ◌%◌, ◌^◌, ◌<◌, ◌≤◌, inl, inr, Bool, true, false, cond, List, [], ◌∷◌, map, length, get_or, Fits, w8, refl, sym, ap, ap₂, subst, ◌∙◌, arith}
+use Rattle.std.specs.Prelude.{slice_index}
 use Rattle.std.proofs.lemmas.Bool.{agree_below, agree_below_at, cases_lt, cases_order}
-use Rattle.std.proofs.lemmas.Simd.{mask_l-mod, bit_mask_l, length-chunk, get_or-chunk, ones-mask_l}
-use Rattle.std.proofs.lemmas.List.{length-map, get_or-map, get_or_past, take-map}
+use Rattle.std.proofs.lemmas.Simd.{mask_l-mod, bit_mask_l, length-chunk, get_or-chunk}
+use Rattle.std.proofs.lemmas.List.{length-map, get_or-map, get_or_past}
 use Rattle.std.specs.Int.{bit_at}
-use Rattle.std.proofs.Math.Arith.{mod-mul}
-use Rattle.std.proofs.Math.Nat.{mod-one, pow-suc, zero-mod}
-use Rattle.std.proofs.lemmas.Nat.{and_mask, pow_pos}
-use Rattle.std.proofs.lemmas.Nat.Bits.{bit_at-zero, ones_shr}
+use Rattle.std.proofs.lemmas.Nat.Bits.{bit_at-zero}
 use lib.Lanes.{chunk, mask_l, top, Each1}
 use Rattle.vcd_model.specs.Bytes.{is_white_space}
 use Rattle.vcd_text.specs.Masks.{TellsWhite, Marks}
@@ -120,26 +116,3 @@ tells-none chunk at next mask front t e j le lt = elim (cases_lt j next) [
   | inr late ↦ (let back : next + (j - next) ≡ j = omega arith in
       subst (λ i. is_white_space (get_or chunk i 0) ≡ false) back (t.other (j - next) (omega arith) (no_bits mask (j - next) e)))
 ]
-
-halves : (m : Bool) (n : ℕ) → ((cond m 1 0 + 2 * n) / 2 ≡ n) × ((cond m 1 0 + 2 * n) % 2 ≡ cond m 1 0)
-halves true n = (omega arith, omega arith)
-halves false n = (omega arith, omega arith)
-
--- the low bits of a mask are the mask of the first lanes
-pub front : (ms : List Bool) (n : ℕ) → mask_l ms % 2 ^ n ≡ mask_l (take n ms)
-front ms zero = mod-one (mask_l ms)
-front [] (suc n) = zero-mod (2 ^ suc n)
-front (m ∷ ms) (suc n) =
-    ap (λ x. mask_l (m ∷ ms) % x) (pow-suc 2 n)
-    ∙ mod-mul (mask_l (m ∷ ms)) {m = 2 ^ n} {c = 2} (pow_pos n) (omega arith)
-    ∙ ap₂ (λ a b. a % 2 ^ n * 2 + b) (halves m (mask_l ms)).0 (halves m (mask_l ms)).1
-    ∙ ap (λ a. a * 2 + cond m 1 0) (front ms n)
-    ∙ omega arith
-
--- so many of its low bits are set as lanes pass among the first ones
-pub ones_in_front : (p : ℕ → Bool) (v : List ℕ) (n : ℕ) → n ≤ 64 → count_ones (bit_and (mask_l (map p v)) ((2 ^ 64 - 1) / 2 ^ (64 - n))) ≡ count_by p (take n v)
-ones_in_front p v n few =
-    let rest : 64 - (64 - n) ≡ n = omega arith in
-    ap (λ m. count_ones (bit_and (mask_l (map p v)) m)) (ones_shr 64 (64 - n) (omega arith) ∙ ap (λ k. 2 ^ k - 1) rest)
-    ∙ ap count_ones (and_mask (mask_l (map p v)) n ∙ front (map p v) n ∙ ap mask_l (take-map p n v))
-    ∙ ones-mask_l p (take n v)
