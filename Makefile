@@ -1,16 +1,26 @@
-# make         proves the program and the crates that it uses, builds it as ./vcdkit and shows it on a sample dump
-# make CPU=x86-64-v3    the same for a newer processor, whose instructions it may use; such a program says so and ends where they lack
-# make test    the gate: every proof from nothing, must-fail edits, tests, the program as two compilers build it
-# make hostile runs the program where memory, reads and writes fail, and on dumps that are cut off, crafted or made at random: some minutes
-# make docs-check runs the commands that README, manual and recipes show over ./vcdkit, and compares what they print and which must-fail edits PROOFS lists: seconds
+# make         proves the program and the crates that it uses, builds it as ./vcdkit and shows it on
+#     a sample dump
+# make CPU=x86-64-v3    the same for a newer processor, whose instructions it may use; such a
+#     program says so and ends where they lack
+# make test    the gate: every proof from nothing, must-fail edits, tests, the program as two
+#     compilers build it
+# make hostile runs the program where memory, reads and writes fail, and on dumps that are cut off,
+#     crafted or made at random: some minutes
+# make docs-check runs the commands that README, manual and recipes show over ./vcdkit, and compares
+#     what they print and which must-fail edits PROOFS lists: seconds
 # make static  links ./vcdkit-static, the program without any shared library: seconds after make
-# make dist    a tarball and a Debian package of it in dist/, with documents, man page, completions and extras
-# make library ./libvcd_c.a and ./libvcd_c.so, for callers in C and Python: a minute or two after make
-# make dist-check          tries both without the kit, and that they come out the same byte for byte: a minute
+# make dist    a tarball and a Debian package of it in dist/, with documents, man page, completions
+#     and extras
+# make library ./libvcd_c.a and ./libvcd_c.so, for callers in C and Python: a minute or two after
+#     make
+# make dist-check          tries both without the kit, and that they come out the same byte for
+#     byte: a minute
 # make clean   drops what was built, and what the proofs kept
-# make install [PREFIX=/usr/local] [DESTDIR=]    puts ./vcdkit, as it was built, its man page, completions, extras and documents in place
+# make install [PREFIX=/usr/local] [DESTDIR=]    puts ./vcdkit, as it was built, its man page,
+#     completions, extras and documents in place
 # make uninstall [PREFIX=..] [DESTDIR=..]        takes them away again
-# make completions-check    compares the completions and the man page with the help of ./vcdkit: a second
+# make completions-check    compares the completions and the man page with the help of ./vcdkit: a
+#     second
 # make extras-check         tries extras/ with ./vcdkit: some seconds
 
 sample := samples/counter.vcd
