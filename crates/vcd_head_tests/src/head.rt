@@ -14,7 +14,10 @@ mod merged;
 mod moments;
 
 const NESTED: &[u8] =
-    b"$date Tue  Mar 5 $end $foo a #0 $var $end\n$timescale 10 ns $end\n$scope module tb $end\n$var wire 1 ~ clk $end\n$scope module u $end\n$var reg 4 ! q [3:0] $end\n$var reg 4 ! alias $end\n$upscope $end\n$var event 1 !! go $end\n$enddefinitions $end\n#0\n";
+    b"$date Tue  Mar 5 $end $foo a #0 $var $end\n$timescale 10 ns $end\n$scope module tb $end\n\
+        $var wire 1 ~ clk $end\n$scope module u $end\n$var reg 4 ! q [3:0] $end\n\
+        $var reg 4 ! alias $end\n$upscope $end\n$var event 1 !! go $end\n$enddefinitions $end\n\
+        #0\n";
 
 const TWO: &[u8] = b"$var wire 4 ! v $end\n$var wire 8 \" w $end\n$enddefinitions $end\n";
 
@@ -159,8 +162,8 @@ fn too_many(rt: HostRuntime) {
 }
 
 // A header with a scope and two variables.
-const SMALL: &[u8] =
-    b"$timescale 1ns $end\n$scope module tb $end\n$var wire 1 ! clk $end\n$var reg 4 \" q [3:0] $end\n$upscope $end\n$enddefinitions $end\n";
+const SMALL: &[u8] = b"$timescale 1ns $end\n$scope module tb $end\n$var wire 1 ! clk $end\n\
+    $var reg 4 \" q [3:0] $end\n$upscope $end\n$enddefinitions $end\n";
 
 // Texts that are no headers, the number of their fault, and its line.
 const FAULTS: [(&[u8], u8, u64); 16] = [
@@ -168,7 +171,8 @@ const FAULTS: [(&[u8], u8, u64); 16] = [
     (b"$foo $end\n", 2, 2),
     (b"$comment x$end\n$enddefinitions $end\n", 2, 3),
     (
-        b"$comment xxxxxxxxxxxxxxxxxxxxxxxxxxxxxxxxxxxxxxxxxxxxxxxxxxxxxxxxxxxxxxxxx $end\n$enddefinitions $end\n",
+        b"$comment xxxxxxxxxxxxxxxxxxxxxxxxxxxxxxxxxxxxxxxxxxxxxxxxxxxxxxxxxxxxxxxxx $end\n\
+            $enddefinitions $end\n",
         1,
         1,
     ),
@@ -284,10 +288,11 @@ fn larger_header(rt: HostRuntime) -> Result<(), Fail> {
 // Look-ups and room.
 
 const FOUR: &[u8] =
-    b"$var wire 1 ~ a $end $var wire 1 ! b $end $var wire 1 !! c $end $var wire 1 \" d $end $enddefinitions $end\n";
+    b"$var wire 1 ~ a $end $var wire 1 ! b $end $var wire 1 !! c $end $var wire 1 \" d $end \
+        $enddefinitions $end\n";
 
-const SIZES: &[u8] =
-    b"$var wire 256 ! a $end $var wire 257 \" b $end $var wire 1000 # c $end $enddefinitions $end\n";
+const SIZES: &[u8] = b"$var wire 256 ! a $end $var wire 257 \" b $end $var wire 1000 # c $end \
+    $enddefinitions $end\n";
 
 const NONE: &[u8] = b"$enddefinitions $end\n";
 
@@ -329,7 +334,10 @@ fn codes_are_found(rt: HostRuntime) -> Result<(), Fail> {
 // The first six have numbers that leave 1 when divided by 16, and there are 16 entries; the others
 // have 8 bytes or more.
 const CROWDED: &[u8] =
-    b"$var wire 1 ! a $end $var wire 1 1 b $end $var wire 1 A c $end $var wire 1 Q d $end $var wire 1 a e $end $var wire 1 q f $end $var wire 1 register g $end $var wire 1 register1 h $end $var wire 1 register2 i $end $var wire 1 0123456789abcdef j $end $enddefinitions $end\n";
+    b"$var wire 1 ! a $end $var wire 1 1 b $end $var wire 1 A c $end $var wire 1 Q d $end \
+        $var wire 1 a e $end $var wire 1 q f $end $var wire 1 register g $end \
+        $var wire 1 register1 h $end $var wire 1 register2 i $end \
+        $var wire 1 0123456789abcdef j $end $enddefinitions $end\n";
 
 // Codes, and the places at which both look-ups find them among these.
 const FOUND_CROWDED: [(&[u8], Option<usize>); 14] = [
@@ -401,10 +409,15 @@ fn paths_of_nested_scopes(rt: HostRuntime) -> Result<(), Fail> {
 // Headers that are written.
 
 const SIMULATED: &[u8] =
-    b"$date Tue  Mar 5 $end\n$version Sim 1.0 $end\n$timescale 10 ns $end\n$scope module tb $end\n$var wire 1 ~ clk $end\n$scope module u $end\n$var reg 4 ! q [3:0] $end\n$upscope $end\n$scope task t $end\n$var event 1 !! go $end\n$upscope $end\n$upscope $end\n$enddefinitions $end\n";
+    b"$date Tue  Mar 5 $end\n$version Sim 1.0 $end\n$timescale 10 ns $end\n$scope module tb $end\n\
+        $var wire 1 ~ clk $end\n$scope module u $end\n$var reg 4 ! q [3:0] $end\n$upscope $end\n\
+        $scope task t $end\n$var event 1 !! go $end\n$upscope $end\n$upscope $end\n\
+        $enddefinitions $end\n";
 
 const SIMULATED_PART: &[u8] =
-    b"$date\n\tTue Mar 5\n$end\n$version\n\tSim 1.0\n$end\n$timescale\n\t10ns\n$end\n$scope module tb $end\n$scope module u $end\n$var reg 4 ! q [3:0] $end\n$upscope $end\n$upscope $end\n$enddefinitions $end\n";
+    b"$date\n\tTue Mar 5\n$end\n$version\n\tSim 1.0\n$end\n$timescale\n\t10ns\n$end\n\
+        $scope module tb $end\n$scope module u $end\n$var reg 4 ! q [3:0] $end\n$upscope $end\n\
+        $upscope $end\n$enddefinitions $end\n";
 
 #[test]
 fn head_of_marked_declarations(rt: HostRuntime) -> Result<(), Fail> {
@@ -416,10 +429,12 @@ fn head_of_marked_declarations(rt: HostRuntime) -> Result<(), Fail> {
 }
 
 const OPEN: &[u8] =
-    b"$scope module a $end\n$scope fork b $end\n$var wire 1 ! x $end\n$upscope $end\n$scope begin c $end\n$scope module d $end\n$var real 64 r y $end\n$enddefinitions $end\n";
+    b"$scope module a $end\n$scope fork b $end\n$var wire 1 ! x $end\n$upscope $end\n\
+        $scope begin c $end\n$scope module d $end\n$var real 64 r y $end\n$enddefinitions $end\n";
 
 const OPEN_PART: &[u8] =
-    b"$scope module a $end\n$var wire 1 ! x $end\n$scope begin c $end\n$var real 64 r y $end\n$upscope $end\n$upscope $end\n$enddefinitions $end\n";
+    b"$scope module a $end\n$var wire 1 ! x $end\n$scope begin c $end\n$var real 64 r y $end\n\
+        $upscope $end\n$upscope $end\n$enddefinitions $end\n";
 
 #[test]
 fn head_with_scopes_left_open(rt: HostRuntime) -> Result<(), Fail> {
@@ -434,7 +449,8 @@ fn head_with_scopes_left_open(rt: HostRuntime) -> Result<(), Fail> {
 
 // The rows: tb, tb.a, tb.ab, the scope tb.a, tb.a.x (an alias of tb.a), and two that close a scope.
 const BESIDE: &[u8] =
-    b"$scope module tb $end $var wire 1 ! a $end $var wire 1 \" ab $end $scope module a $end $var wire 1 ! x $end $upscope $end $upscope $end $enddefinitions $end\n";
+    b"$scope module tb $end $var wire 1 ! a $end $var wire 1 \" ab $end $scope module a $end \
+        $var wire 1 ! x $end $upscope $end $upscope $end $enddefinitions $end\n";
 
 // Whether the name selects tb.a, tb.ab and tb.a.x.
 fn selected(head: &Head, name: &str) -> [bool; 3] {
@@ -512,7 +528,9 @@ fn selected_variables_are_marked(rt: HostRuntime) -> Result<(), Fail> {
 // The rows: a, a.b.c (the scope b in a), the end of both, a.b (one scope), its variables c and d.e,
 // its end, a scope with no variable, and its end.
 const POINTS: &[u8] =
-    b"$scope module a $end $scope module b $end $var wire 1 ! c $end $upscope $end $upscope $end $scope module a.b $end $var wire 1 ! c $end $var wire 1 ! d.e $end $upscope $end $scope module f $end $upscope $end $enddefinitions $end\n";
+    b"$scope module a $end $scope module b $end $var wire 1 ! c $end $upscope $end $upscope $end \
+        $scope module a.b $end $var wire 1 ! c $end $var wire 1 ! d.e $end $upscope $end \
+        $scope module f $end $upscope $end $enddefinitions $end\n";
 
 // The marks of its eleven rows, or the place of the refused name.
 fn marked_points(

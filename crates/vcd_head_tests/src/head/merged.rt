@@ -33,7 +33,10 @@ fn codes_of_numbers(rt: HostRuntime) -> Result<(), Fail> {
 }
 
 const SMALL_TWICE: &[u8] =
-    b"$timescale\n\t1ns\n$end\n$scope module in1 $end\n$scope module tb $end\n$var wire 1 ! clk $end\n$var reg 4 \" q [3:0] $end\n$upscope $end\n$upscope $end\n$scope module in2 $end\n$scope module tb $end\n$var wire 1 # clk $end\n$var reg 4 $ q [3:0] $end\n$upscope $end\n$upscope $end\n$enddefinitions $end\n";
+    b"$timescale\n\t1ns\n$end\n$scope module in1 $end\n$scope module tb $end\n\
+        $var wire 1 ! clk $end\n$var reg 4 \" q [3:0] $end\n$upscope $end\n$upscope $end\n\
+        $scope module in2 $end\n$scope module tb $end\n$var wire 1 # clk $end\n\
+        $var reg 4 $ q [3:0] $end\n$upscope $end\n$upscope $end\n$enddefinitions $end\n";
 
 #[test]
 fn the_same_head_twice(rt: HostRuntime) -> Result<(), Fail> {
@@ -49,12 +52,15 @@ const FIRST: &[u8] = b"$timescale 1ns $end $var wire 1 ! a $end $enddefinitions 
 
 // Its second scope has no variable, and its first is left open.
 const SECOND: &[u8] =
-    b"$date x $end $timescale 100 ps $end $scope module t $end $var wire 1 ! b $end $scope task u $end $upscope $end $var wire 1 ! c $end $enddefinitions $end\n";
+    b"$date x $end $timescale 100 ps $end $scope module t $end $var wire 1 ! b $end \
+        $scope task u $end $upscope $end $var wire 1 ! c $end $enddefinitions $end\n";
 
 const UNSCALED: &[u8] = b"$var wire 1 ! a $end $enddefinitions $end\n";
 
 const BOTH: &[u8] =
-    b"$timescale\n\t100ps\n$end\n$scope module in1 $end\n$var wire 1 ! a $end\n$upscope $end\n$scope module in2 $end\n$scope module t $end\n$var wire 1 \" b $end\n$var wire 1 \" c $end\n$upscope $end\n$upscope $end\n$enddefinitions $end\n";
+    b"$timescale\n\t100ps\n$end\n$scope module in1 $end\n$var wire 1 ! a $end\n$upscope $end\n\
+        $scope module in2 $end\n$scope module t $end\n$var wire 1 \" b $end\n\
+        $var wire 1 \" c $end\n$upscope $end\n$upscope $end\n$enddefinitions $end\n";
 
 #[test]
 fn two_scales(rt: HostRuntime) -> Result<(), Fail> {
