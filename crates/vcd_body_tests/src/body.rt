@@ -14,8 +14,8 @@ use vcd_text::doubles::{Narrow, Pieces};
 use vcd_text::{Feed, Sink, Source, Watch, WriteFailed};
 
 // Variables of 1 and of 4 bits, in six lines.
-const HEAD: &[u8] =
-    b"$timescale 1ns $end\n$scope module tb $end\n$var wire 1 ! clk $end\n$var reg 4 \" q [3:0] $end\n$upscope $end\n$enddefinitions $end\n";
+const HEAD: &[u8] = b"$timescale 1ns $end\n$scope module tb $end\n$var wire 1 ! clk $end\n\
+    $var reg 4 \" q [3:0] $end\n$upscope $end\n$enddefinitions $end\n";
 
 // An item as it is shown.
 fn shown(alloc: Global, item: Item, text: &[u8]) -> Result<String, AllocError> {
@@ -127,7 +127,8 @@ const ITEMS: [(&[u8], &str); 4] = [
         "#0 Vars 0:Scalar:Z 1:Vector:x End #5 0:Scalar:1 1:Vector:101 #5 Finish",
     ),
     (
-        b"$dumpoff $end $dumpon rnan ! $end $dumpall $comment #x x$end $dumpvars $end R-1.5e3 \" $end",
+        b"$dumpoff $end $dumpon rnan ! $end $dumpall $comment #x x$end \
+            $dumpvars $end R-1.5e3 \" $end",
         "Off End On 0:RealText:nan End All 1:RealText:-1.5e3 End Finish",
     ),
     (b"#18446744073709551615", "#18446744073709551615 Finish"),
@@ -247,8 +248,8 @@ fn taken_ahead(alloc: Global, body: &[u8]) -> Result<String, Fail> {
 
 #[test]
 fn plain_items_taken_ahead(rt: HostRuntime) -> Result<(), Fail> {
-    let body =
-        b"#0\n1!\nb101 \"\n#05 Z! bx \"\n#4\n$comment of more than sixty-three bytes, for the look ahead to end before it $end\n";
+    let body = b"#0\n1!\nb101 \"\n#05 Z! bx \"\n#4\n\
+        $comment of more than sixty-three bytes, for the look ahead to end before it $end\n";
     assert_eq!(rt;
         taken_ahead(rt.alloc(), body)?.as_str(),
         "#0 0:Scalar:1 1:Vector:101 #5 0:Scalar:Z 1:Vector:x then fault 14 at 11"
@@ -258,7 +259,8 @@ fn plain_items_taken_ahead(rt: HostRuntime) -> Result<(), Fail> {
 
 // Codes of 1, 4 and 40 bits, and an event.
 const CODES: &[u8] =
-    b"$var wire 1 ! clk $end $var reg 4 \" q $end $var reg 40 & w $end $var event 1 % go $end $enddefinitions $end\n";
+    b"$var wire 1 ! clk $end $var reg 4 \" q $end $var reg 40 & w $end $var event 1 % go $end \
+        $enddefinitions $end\n";
 
 // Which of the items that are taken ahead have their lines as bytes (`=`), which but for so many
 // digits, and which do not (`.`).
@@ -301,19 +303,24 @@ fn standing(alloc: Global, body: &[u8]) -> Result<String, Fail> {
 const STANDING: [(&[u8], &str); 6] = [
     (b"1!\nZ!\n 0!\nx! 1!\n1\"\n1%\n#5\n0!\n", "=...=...="),
     (
-        b"b101 \"\nB101 \"\nb0101 \"\nb00 \"\nb0x \"\nbzz1 \"\nbzx0 \"\nb1X \"\nb10  \"\nb10\t\"\nb1 !\nb0 \"\nb1 % b1 \"\n",
+        b"b101 \"\nB101 \"\nb0101 \"\nb00 \"\nb0x \"\nbzz1 \"\nbzx0 \"\nb1X \"\nb10  \"\nb10\t\"\n\
+            b1 !\nb0 \"\nb1 % b1 \"\n",
         "=.11=1=....=.=",
     ),
     (
-        b"b0010 \"\nb0001 \"\nb0000 \"\nb000x \"\nbx0 \"\nbxxx1 \"\nbxxxx \"\nbXXx1 \"\nbXX1 \"\nbxX1 \"\nb00  \"\nb1111 \"\nb0 \"\n",
+        b"b0010 \"\nb0001 \"\nb0000 \"\nb000x \"\nbx0 \"\nbxxx1 \"\nbxxxx \"\nbXXx1 \"\nbXX1 \"\n\
+            bxX1 \"\nb00  \"\nb1111 \"\nb0 \"\n",
         "2332=232...==",
     ),
     (
-        b"b00000000000000000000000000001010 &\nb0000000000000000000000000000101X &\nb0000000000000000000000000000000000000000 &\nb0101010101010101010101010101010101010x &\n",
+        b"b00000000000000000000000000001010 &\nb0000000000000000000000000000101X &\n\
+            b0000000000000000000000000000000000000000 &\n\
+            b0101010101010101010101010101010101010x &\n",
         "28.391",
     ),
     (
-        b"b1010101010101010101010101010101x &\nb1010101010101010101010101010101X &\nb1010101010101010101010101010101010x &\nb1010101010101010101010101010101010X &\n",
+        b"b1010101010101010101010101010101x &\nb1010101010101010101010101010101X &\n\
+            b1010101010101010101010101010101010x &\nb1010101010101010101010101010101010X &\n",
         "=.=.",
     ),
     (b"r1.5 \"\nR1.5 \"\nr1E3 !\nr1.5  !\nr1 %\n", "=.=.."),
@@ -329,11 +336,14 @@ fn changes_that_stand_as_their_lines(rt: HostRuntime) -> Result<(), Fail> {
 
 #[test]
 fn real_numbers_taken_ahead(rt: HostRuntime) -> Result<(), Fail> {
-    let body =
-        b"#0\nr1.5 \"\n1!\nR-2E3 !\nr1234567890123456789012345678901234567890123456789012345678901234 \"\nr \"\n$comment of more than sixty-three bytes, for the look ahead to end before it $end\n";
+    let body = b"#0\nr1.5 \"\n1!\nR-2E3 !\n\
+        r1234567890123456789012345678901234567890123456789012345678901234 \"\nr \"\n\
+        $comment of more than sixty-three bytes, for the look ahead to end before it $end\n";
     assert_eq!(rt;
         taken_ahead(rt.alloc(), body)?.as_str(),
-        "#0 1:RealText:1.5 0:Scalar:1 0:RealText:-2E3 1:RealText:1234567890123456789012345678901234567890123456789012345678901234 then fault 15 at 12"
+        "#0 1:RealText:1.5 0:Scalar:1 0:RealText:-2E3 \
+            1:RealText:1234567890123456789012345678901234567890123456789012345678901234 \
+            then fault 15 at 12"
     );
     Ok(())
 }
