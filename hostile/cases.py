@@ -1,29 +1,38 @@
 """Small dumps, and a command on each, that between them use every part of the program."""
 
-A = b"$timescale 1ns $end\n$scope module tb $end\n$var wire 1 ! clk $end\n$var reg 4 \" q [3:0] $end\n$upscope $end\n$enddefinitions $end\n"
+A = (b"$timescale 1ns $end\n$scope module tb $end\n$var wire 1 ! clk $end\n"
+     b"$var reg 4 \" q [3:0] $end\n$upscope $end\n$enddefinitions $end\n")
 B = b"$var wire 4 ! v $end\n$var wire 8 \" w $end\n$enddefinitions $end\n"
-C = b"$var wire 1 ! a $end\n$var real 1 \" r $end\n$var event 1 # e $end\n$var wire 2 % u $end\n$enddefinitions $end\n"
-D = (b"$date\n\tTue Mar  5 10:00:00 2024\n$end\n$version\n\tIcarus Verilog\n$end\n$comment x$end $end\n$timescale\n\t10 ps\n$end\n$scope module top $end\n"
-     b"$var wire 8 ! data [7:0] $end\n$scope begin inner $end\n$var wire 8 ! alias $end\n$var wire 70 ~~ wide $end\n$upscope $end\n$enddefinitions\n$end\n")
+C = (b"$var wire 1 ! a $end\n$var real 1 \" r $end\n$var event 1 # e $end\n$var wire 2 % u $end\n"
+     b"$enddefinitions $end\n")
+D = (b"$date\n\tTue Mar  5 10:00:00 2024\n$end\n$version\n\tIcarus Verilog\n$end\n"
+     b"$comment x$end $end\n$timescale\n\t10 ps\n$end\n$scope module top $end\n"
+     b"$var wire 8 ! data [7:0] $end\n$scope begin inner $end\n$var wire 8 ! alias $end\n"
+     b"$var wire 70 ~~ wide $end\n$upscope $end\n$enddefinitions\n$end\n")
 
-ON_A = A + b"#0\n$dumpvars\n0!\nb0 \"\n$end\n#1\nx!\n#2\n1!\n#3\n0!\n#4\n1!\n1!\nb1 \"\n#5\n$dumpoff\nx!\nbx \"\n$end\n"
+ON_A = A + (b"#0\n$dumpvars\n0!\nb0 \"\n$end\n#1\nx!\n#2\n1!\n#3\n0!\n#4\n1!\n1!\nb1 \"\n"
+            b"#5\n$dumpoff\nx!\nbx \"\n$end\n")
 ON_B = B + b"#1\nb10 !\nb1 \"\n#2\nbX10 !\n#3\nbZx0 !\n#4\nb0x10 !\n"
 ON_C = C + b"#9\n0!\nr1.5 \"\n1#\n#10\n1!\n1#\n#20\nr2 \"\n#21\n0!\n"
 ON_D = D + b"#7 b1010 ! b" + b"1" * 70 + b" ~~ $comment #8 $end #20 bz ~~ #400 0!"
 BAD = A + b"#0\n0!\n#5\nb10"
 WIDE = B + b"#1\nb1 !\n#2\n?\n"
-ICARUS = (b"$date\n\tTue Mar  5 10:00:00 2024\n$end\n$version\n\tIcarus Verilog\n$end\n$timescale\n\t1ns\n$end\n$scope module tb $end\n"
-          b"$var wire 8 ! data [7:0] $end\n$var reg 1 \" clk $end\n$upscope $end\n$enddefinitions $end\n"
+ICARUS = (b"$date\n\tTue Mar  5 10:00:00 2024\n$end\n$version\n\tIcarus Verilog\n$end\n"
+          b"$timescale\n\t1ns\n$end\n$scope module tb $end\n$var wire 8 ! data [7:0] $end\n"
+          b"$var reg 1 \" clk $end\n$upscope $end\n$enddefinitions $end\n"
           b"#0\n$dumpvars\n0\"\nbx !\n$end\n#5\n1\"\nb101 !\n#10\n")
-NESTED = (b"$var event 1 % go $end\n$scope module tb $end\n$var wire 1 ! clk $end\n$scope module u $end\n$var reg 4 \" q [3:0] $end\n"
-          b"$upscope $end\n$var real 1 # r $end\n$enddefinitions $end\n")
+NESTED = (b"$var event 1 % go $end\n$scope module tb $end\n$var wire 1 ! clk $end\n"
+          b"$scope module u $end\n$var reg 4 \" q [3:0] $end\n$upscope $end\n"
+          b"$var real 1 # r $end\n$enddefinitions $end\n")
 CLOCK = A + b"#0\n0!\n#5\n1!\n"
-TENS = b"$timescale 10ns $end\n$var wire 1 ! a $end\n$enddefinitions $end\n#0\n0!\n#1\n1!\n#2\n0!\n#3\n1!\n"
+TENS = (b"$timescale 10ns $end\n$var wire 1 ! a $end\n$enddefinitions $end\n"
+        b"#0\n0!\n#1\n1!\n#2\n0!\n#3\n1!\n")
 
 
 class Case:
     def __init__(self, name, command, inputs, options=(), names=()):
-        self.name, self.command, self.inputs, self.options, self.names = name, command, list(inputs), list(options), list(names)
+        self.name, self.command = name, command
+        self.inputs, self.options, self.names = list(inputs), list(options), list(names)
 
     def words(self, files):
         """The words of the command line; `files` are the names of the inputs."""

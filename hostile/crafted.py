@@ -12,7 +12,8 @@ import evaluator
 
 CHUNK = 65_536
 SHARES = 16
-HEAD = b"$timescale 1ns $end\n$scope module t $end\n$var wire 1 ! a $end\n$var reg 70 \" b $end\n$var real 1 & r $end\n$var event 1 % e $end\n$upscope $end\n"
+HEAD = (b"$timescale 1ns $end\n$scope module t $end\n$var wire 1 ! a $end\n"
+        b"$var reg 70 \" b $end\n$var real 1 & r $end\n$var event 1 % e $end\n$upscope $end\n")
 BODY = b"$enddefinitions $end\n"
 LAST = 2**64 - 1
 

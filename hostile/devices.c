@@ -1,10 +1,12 @@
-// Lets memory, reads and writes of a program fail, or give little: loaded before the C library (LD_PRELOAD). By the environment:
+// Lets memory, reads and writes of a program fail, or give little. It is loaded before the C
+// library (LD_PRELOAD). The environment says what it does:
 //   REFUSE=N        request number N for memory is refused
 //   READ_MOST=N     a read gives at most N bytes;   READ_FAILS=N    read number N fails
 //   WRITE_MOST=N    the same of writes to standard output;   WRITE_FAILS=N
 //   ERROR_MOST=N    and of those to the error stream;   ERROR_FAILS=N
 //   INTERRUPTED=1   these calls are interrupted (EINTR) where they would fail
-//   COUNTS=FILE     at the end the number of requests for memory and of reads, and the sum of the bytes asked for, is written to the file
+//   COUNTS=FILE     at the end the number of requests for memory and of reads, and the sum of the
+//                   bytes asked for, is written to the file
 #define _GNU_SOURCE
 #include <dlfcn.h>
 #include <errno.h>
@@ -39,22 +41,30 @@ void *realloc(void *at, size_t size) {
     return refused(size) ? NULL : next(at, size);
 }
 
-static ssize_t limited(long call, long most, long fails, long device, int fd, void *bytes, size_t size) {
-    if (call == fails) {
-        errno = getenv("INTERRUPTED") ? EINTR : EIO;
-        return -1;
-    }
-    if (most > 0 && size > (size_t)most) size = most;
-    return syscall(device, fd, bytes, size);
+// Whether this call fails, counted from 1.
+static int failed(long call, long fails) {
+    if (call != fails) return 0;
+    errno = getenv("INTERRUPTED") ? EINTR : EIO;
+    return 1;
+}
+
+static size_t limited(size_t size, long most) {
+    return most > 0 && size > (size_t)most ? (size_t)most : size;
 }
 
 ssize_t read(int fd, void *into, size_t size) {
-    return limited(++reads, number("READ_MOST"), number("READ_FAILS"), SYS_read, fd, into, size);
+    if (failed(++reads, number("READ_FAILS"))) return -1;
+    return syscall(SYS_read, fd, into, limited(size, number("READ_MOST")));
 }
 
 ssize_t write(int fd, const void *from, size_t size) {
-    if (fd == 1) return limited(++writes, number("WRITE_MOST"), number("WRITE_FAILS"), SYS_write, fd, (void *)from, size);
-    if (fd == 2) return limited(++errors, number("ERROR_MOST"), number("ERROR_FAILS"), SYS_write, fd, (void *)from, size);
+    if (fd == 1) {
+        if (failed(++writes, number("WRITE_FAILS"))) return -1;
+        size = limited(size, number("WRITE_MOST"));
+    } else if (fd == 2) {
+        if (failed(++errors, number("ERROR_FAILS"))) return -1;
+        size = limited(size, number("ERROR_MOST"));
+    }
     return syscall(SYS_write, fd, from, size);
 }
 

@@ -7,14 +7,18 @@ status. An input is its bytes."""
 
 WHITE = b" \t\n\v\f\r"
 TEXTS = {
-    1: "token too long", 2: "unexpected end of input", 3: "unknown command", 4: "command out of place", 5: "bad timescale",
-    6: "bad scope", 7: "bad variable", 8: "code declared with another size or kind", 9: "upscope without scope",
-    10: "scopes too deep", 11: "too many declarations", 12: "no timescale", 13: "bad time", 14: "time goes back", 15: "bad value",
-    16: "unknown code", 17: "value too wide", 18: "real text too long", 19: "time inside a section", 20: "time too large",
+    1: "token too long", 2: "unexpected end of input", 3: "unknown command",
+    4: "command out of place", 5: "bad timescale", 6: "bad scope", 7: "bad variable",
+    8: "code declared with another size or kind", 9: "upscope without scope",
+    10: "scopes too deep", 11: "too many declarations", 12: "no timescale", 13: "bad time",
+    14: "time goes back", 15: "bad value", 16: "unknown code", 17: "value too wide",
+    18: "real text too long", 19: "time inside a section", 20: "time too large",
     21: "input too long", 22: "time out of range",
 }
 MOST_DECLARATIONS = 16_777_216
 SECTIONS = [b"$dumpall", b"$dumpoff", b"$dumpon", b"$dumpvars"]
+OF_HEADERS = [b"$date", b"$enddefinitions", b"$scope", b"$timescale", b"$upscope", b"$var",
+              b"$version"]
 UNITS = {b"s": 0, b"ms": -3, b"us": -6, b"ns": -9, b"ps": -12, b"fs": -15}
 
 
@@ -79,7 +83,8 @@ class Head:
     def variables(self):
         """Of each variable the row, the path, the code."""
         around = self.around()
-        return [(i, b".".join([self.rows[k][2] for k in around[i]] + [row[4][0]]), row[3]) for i, row in enumerate(self.rows) if row[0] == "var"]
+        return [(i, b".".join([self.rows[k][2] for k in around[i]] + [row[4][0]]), row[3])
+                for i, row in enumerate(self.rows) if row[0] == "var"]
 
 
 def to_end(tokens):
@@ -197,7 +202,7 @@ def read_items(tokens, codes):
                 fits(token, section is not None, 4, tokens)
                 section = None
                 items.append(Item("end", tokens.line))
-            elif token in (b"$date", b"$enddefinitions", b"$scope", b"$timescale", b"$upscope", b"$var", b"$version"):
+            elif token in OF_HEADERS:
                 raise Fault(4, tokens.line)
             elif first == b"#":
                 fits(token, token[1:].isdigit() and int(token[1:]) < 2**64, 13, tokens)
@@ -252,7 +257,9 @@ def shortest(value):
 
 
 def value_of(item, codes):
-    return ("real", item.text) if item.form == "real" else ("digits", extended(item.text, codes[item.code][0]))
+    if item.form == "real":
+        return "real", item.text
+    return "digits", extended(item.text, codes[item.code][0])
 
 
 def change_line(form, text, size, event, code):
@@ -325,7 +332,8 @@ def head_text(head, variables):
         text += b"$version\n\t" + head.version + b"\n$end\n"
     if head.scale is not None:
         text += b"$timescale\n\t" + scale_text(head.scale) + b"\n$end\n"
-    return text + rows_text(head, marked_by(head, variables), lambda c: c) + b"$enddefinitions $end\n"
+    rows = rows_text(head, marked_by(head, variables), lambda c: c)
+    return text + rows + b"$enddefinitions $end\n"
 
 
 def selects(path, name):
@@ -340,8 +348,11 @@ def marks(items):
 
 def check(head, items, options, names):
     counts = [
-        (b"scopes", sum(r[0] == "scope" for r in head.rows)), (b"variables", sum(r[0] == "var" for r in head.rows)),
-        (b"codes", len(head.codes)), (b"times", len(marks(items))), (b"sections", sum(i.kind == "begin" for i in items)),
+        (b"scopes", sum(r[0] == "scope" for r in head.rows)),
+        (b"variables", sum(r[0] == "var" for r in head.rows)),
+        (b"codes", len(head.codes)),
+        (b"times", len(marks(items))),
+        (b"sections", sum(i.kind == "begin" for i in items)),
         (b"changes", sum(i.kind == "change" for i in items)),
     ]
     last = b"%d" % marks(items)[-1] if marks(items) else b"-"
@@ -349,7 +360,8 @@ def check(head, items, options, names):
 
 
 def list_(head, items, options, names):
-    return b"", b"".join(b"%s %s %d %s\n" % (path, head.rows[i][1], head.rows[i][2], code) for i, path, code in head.variables())
+    rows = [(path, head.rows[i][1], head.rows[i][2], code) for i, path, code in head.variables()]
+    return b"", b"".join(b"%s %s %d %s\n" % row for row in rows)
 
 
 def chosen(head, names):
@@ -357,7 +369,14 @@ def chosen(head, names):
 
 
 def is_kept(item, inside, codes):
-    return item.kind in ("begin", "end") or (item.kind == "change" and not (inside and codes[item.code][1]))
+    if item.kind == "change":
+        return not (inside and codes[item.code][1])
+    return item.kind in ("begin", "end")
+
+
+def changes_of(items, code):
+    """The changes of a code, each with its time and whether it is inside a section."""
+    return [p for p in placed(items) if p[0].kind == "change" and p[0].code == code]
 
 
 def closing(items, times):
@@ -368,7 +387,8 @@ def closing(items, times):
 def pick(head, items, options, names):
     variables = chosen(head, names)
     codes = {code for _, _, code in variables}
-    kept = [(t, item_line(i, head.codes)) for i, t, inside in placed(items) if is_kept(i, inside, head.codes) and (i.kind != "change" or i.code in codes)]
+    kept = [(t, item_line(i, head.codes)) for i, t, inside in placed(items)
+            if is_kept(i, inside, head.codes) and (i.kind != "change" or i.code in codes)]
     text, times = kept_text(kept, [])
     return head_text(head, variables) + text, closing(items, times)
 
@@ -378,19 +398,20 @@ def cut(head, items, options, names):
     text = head_text(head, head.variables())
     section = b"#%d\n$dumpvars\n" % begin
     for code, (size, event) in head.codes.items():
-        before = [i for i, t, _ in placed(items) if i.kind == "change" and i.code == code and t < begin]
+        before = [i for i, t, _ in changes_of(items, code) if t < begin]
         if before and not event:
             section += change_line(before[-1].form, before[-1].text, size, event, code)
     section += b"$end\n"
     early = any(t > end for t in marks(items))
-    kept = [(t, item_line(i, head.codes)) for i, t, inside in placed(items) if begin <= t <= end and is_kept(i, inside, head.codes)]
+    kept = [(t, item_line(i, head.codes)) for i, t, inside in placed(items)
+            if begin <= t <= end and is_kept(i, inside, head.codes)]
     body, times = kept_text(kept, [begin])
     started = begin == 0 or any(t >= begin for t in marks(items))
     stands = text + (section + body if started else b"")
     if early:
         return stands + (b"#%d\n" % end if end not in times else b""), b""
-    last = marks(items)[-1:]
-    return stands, (b"" if started else section) + b"".join(b"#%d\n" % t for t in last if t not in times and t > begin)
+    last = [t for t in marks(items)[-1:] if t not in times and t > begin]
+    return stands, (b"" if started else section) + b"".join(b"#%d\n" % t for t in last)
 
 
 def sample(head, items, options, names):
@@ -400,7 +421,7 @@ def sample(head, items, options, names):
         for i, path, code in chosen(head, names):
             if head.codes[code][1]:
                 continue
-            set_ = [item for item, t, _ in placed(items) if item.kind == "change" and item.code == code and t <= time]
+            set_ = [item for item, t, _ in changes_of(items, code) if t <= time]
             value = b"-"
             if set_:
                 kind, digits = value_of(set_[-1], head.codes)
@@ -412,13 +433,15 @@ def sample(head, items, options, names):
 def edges(head, items, options, names):
     text = b""
     for i, path, code in chosen(head, names):
+        changes = changes_of(items, code)
         if head.codes[code][1]:
-            counts = (sum(item.kind == "change" and item.code == code and not inside for item, _, inside in placed(items)), 0, 0)
+            counts = (sum(not inside for _, _, inside in changes), 0, 0)
         else:
-            values = [value_of(item, head.codes) for item in items if item.kind == "change" and item.code == code]
+            values = [value_of(item, head.codes) for item, _, _ in changes]
             pairs = list(zip(values, values[1:]))
             digits = [(a[1][-1:], b[1][-1:]) for a, b in pairs if a[0] == b[0] == "digits"]
-            counts = (sum(a != b for a, b in pairs), digits.count((b"0", b"1")), digits.count((b"1", b"0")))
+            rises, falls = digits.count((b"0", b"1")), digits.count((b"1", b"0"))
+            counts = (sum(a != b for a, b in pairs), rises, falls)
         text += b"%s %d %d %d\n" % ((path,) + counts)
     return b"", text
 
@@ -437,6 +460,15 @@ def new_code(n):
     return code
 
 
+def read_items_of(head, tokens, factor):
+    """The items of an input whose times are multiplied by this factor, and the fault."""
+    items, fault = read_items(tokens, head.codes)
+    for place, item in enumerate(items):
+        if item.kind == "time" and item.time * factor >= 2**64:
+            return items[:place], Fault(20, item.line)
+    return items, fault
+
+
 def merge(heads, all_tokens, names):
     least = min(0 if h.scale is None else h.scale for h in heads)
     text = b"$timescale\n\t" + scale_text(least) + b"\n$end\n"
@@ -445,13 +477,10 @@ def merge(heads, all_tokens, names):
         number = {code: first + n for n, code in enumerate(head.codes)}
         first += len(number)
         rename = lambda c, number=number: new_code(number[c])
-        text += b"$scope module in%d $end\n" % (k + 1) + rows_text(head, marked_by(head, head.variables()), rename) + b"$upscope $end\n"
+        rows = rows_text(head, marked_by(head, head.variables()), rename)
+        text += b"$scope module in%d $end\n" % (k + 1) + rows + b"$upscope $end\n"
         factor = 10 ** ((0 if head.scale is None else head.scale) - least)
-        items, fault = read_items(tokens, head.codes)
-        for place, item in enumerate(items):
-            if item.kind == "time" and item.time * factor >= 2**64:
-                items, fault = items[:place], Fault(20, item.line)
-                break
+        items, fault = read_items_of(head, tokens, factor)
         before = 0
         for place, (item, time, inside) in enumerate(placed(items)):
             keyed.append(((before, k, place), item, time * factor, inside, head, rename))
@@ -463,13 +492,16 @@ def merge(heads, all_tokens, names):
     fault = min(faults, key=lambda f: f[0]) if faults else None
     if fault:
         keyed = [e for e in keyed if e[0] < fault[0]]
-    kept = [(time, item_line(item, head.codes, rename)) for _, item, time, inside, head, rename in keyed
+    kept = [(time, item_line(item, head.codes, rename))
+            for _, item, time, inside, head, rename in keyed
             if item.kind == "change" and is_kept(item, inside, head.codes)]
     body, times = kept_text(kept, [])
     if fault:
         return told(text + body, names[fault[0][1]], fault[1])
     all_marks = [time for _, item, time, _, _, _ in keyed if item.kind == "time"]
-    return text + body + b"".join(b"#%d\n" % t for t in [max(all_marks)] if t not in times) if all_marks else text + body, b"", 0
+    if all_marks and max(all_marks) not in times:
+        body += b"#%d\n" % max(all_marks)
+    return text + body, b"", 0
 
 
 # ---- a run
@@ -489,7 +521,10 @@ def in_ticks(moment, scale, up):
     if scale is None:
         return Fault(12, 0)
     power = exponent - scale
-    ticks = number * 10**power if power >= 0 else -(-number // 10**-power) if up else number // 10**-power
+    if power >= 0:
+        ticks = number * 10**power
+    else:
+        ticks = -(-number // 10**-power) if up else number // 10**-power
     return ticks if ticks < 2**64 else Fault(22, 0)
 
 
@@ -516,7 +551,8 @@ def options_of(command, options, head, name):
     return ticks, None
 
 
-COMMANDS = {"check": check, "list": list_, "pick": pick, "cut": cut, "sample": sample, "edges": edges}
+COMMANDS = {"check": check, "list": list_, "pick": pick, "cut": cut, "sample": sample,
+            "edges": edges}
 
 
 def run(command, options, names, inputs, limit=1_048_576):

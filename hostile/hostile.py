@@ -195,7 +195,8 @@ def results(place, part, case):
 
 
 def main():
-    program, devices_, parts = os.path.abspath(sys.argv[1]), os.path.abspath(sys.argv[2]), sys.argv[3:]
+    program, devices_ = map(os.path.abspath, sys.argv[1:3])
+    parts = sys.argv[3:]
     only = os.environ.get("COMMANDS")
     cases = [c for c in CASES if only is None or c.command in only.split(",")]
     bad = 0
