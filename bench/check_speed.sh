@@ -71,10 +71,12 @@ measure() {
             if (t[2] < wall[$1]) wall[$1] = t[2]
         }
         END {
-            printf "%-8s | %17s %8s %8s | %9s %8s %8s\n", "", "user and system s", "MB/s", "ratio", "wall s", "MB/s", "ratio"
+            printf "%-8s | %17s %8s %8s | %9s %8s %8s\n",
+                "", "user and system s", "MB/s", "ratio", "wall s", "MB/s", "ratio"
             for (k = 1; k <= n; k++) {
                 p = order[k]
-                printf "%-8s | %17.3f %8.0f %8.2f | %9.3f %8.0f %8.2f\n", p, cpu[p], rate(cpu[p]), cpu[p] / (cpu["vcdkit"] + 1e-9),
+                printf "%-8s | %17.3f %8.0f %8.2f | %9.3f %8.0f %8.2f\n",
+                    p, cpu[p], rate(cpu[p]), cpu[p] / (cpu["vcdkit"] + 1e-9),
                     wall[p], rate(wall[p]), wall[p] / (wall["vcdkit"] + 1e-9)
             }
             print "ratio: the speed of vcdkit over that of the program in the line"
@@ -94,6 +96,8 @@ for size in 1 "$megabytes" "${large[@]}"; do printf ' %10s' "$size MB"; done
 echo
 for program in "${programs[@]}"; do
     printf '%-8s' "$program"
-    for size in 1 "$megabytes" "${large[@]}"; do printf ' %10s' "$(peak_of "$program" "$(dump_of "$size")")"; done
+    for size in 1 "$megabytes" "${large[@]}"; do
+        printf ' %10s' "$(peak_of "$program" "$(dump_of "$size")")"
+    done
     echo
 done

@@ -16,7 +16,8 @@ find_command() {
 
 # Nanoseconds a byte of a dump: the best time of three runs.
 best_of() {
-    for _ in 1 2 3; do times_of "$1" "$2"; done | sort -n | awk -v bytes="$(stat -c %s "$2")" 'NR == 1 { print 1e9 * $1 / bytes }'
+    for _ in 1 2 3; do times_of "$1" "$2"; done | sort -n |
+        awk -v bytes="$(stat -c %s "$2")" 'NR == 1 { print 1e9 * $1 / bytes }'
 }
 
 printf '%-40s %8s %6s\n' 'user and system ns a byte, best of three' time ratio

@@ -18,7 +18,8 @@ times_of() {
 # Sets `one` to the path in the middle of the list of a dump, and leaves that list in $work/list.
 find_one() {
     "$work/vcdkit" list < "$1" > "$work/list"
-    one=$(LC_ALL=C awk -v middle=$((($(wc -l < "$work/list") + 1) / 2)) 'NR == middle { print $1 }' "$work/list")
+    local middle=$((($(wc -l < "$work/list") + 1) / 2))
+    one=$(LC_ALL=C awk -v middle="$middle" 'NR == middle { print $1 }' "$work/list")
 }
 
 # The times of all programs (`programs`) on a dump, three times each, as print_best takes them.
@@ -65,10 +66,12 @@ print_best() {
         !($1 in best) { order[++n] = $1; best[$1] = t[1] }
         t[1] < best[$1] { best[$1] = t[1] }
         END {
-            printf "%-10s | %17s %8s %10s | %10s\n", "", "user and system s", "MB/s", "over check", "MB written"
+            printf "%-10s | %17s %8s %10s | %10s\n",
+                "", "user and system s", "MB/s", "over check", "MB written"
             for (k = 1; k <= n; k++) {
                 p = order[k]
-                printf "%-10s | %17.3f %8.0f %10.2f | %10s\n", p, best[p], bytes / 1e6 / (best[p] + 1e-9), best[p] / (best["check"] + 1e-9),
+                printf "%-10s | %17.3f %8.0f %10.2f | %10s\n", p, best[p],
+                    bytes / 1e6 / (best[p] + 1e-9), best[p] / (best["check"] + 1e-9),
                     p in written ? sprintf("%.1f", written[p] / 1e6) : ""
             }
         }' "$work/written" "$work/times"

@@ -32,7 +32,9 @@ written_by() {
 measure() {
     find_last "$1"
     local program
-    for program in 'cut before' 'cut within' 'cut middle'; do echo "$program:$(written_by "$program" "$1")"; done > "$work/written"
+    for program in 'cut before' 'cut within' 'cut middle'; do
+        echo "$program:$(written_by "$program" "$1")"
+    done > "$work/written"
 
     take_times "$1"
 

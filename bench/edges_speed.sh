@@ -23,7 +23,8 @@ find_command() {
 written_by() {
     find_command "$1"
     "${command[@]}" < "$2" > "$work/edges"
-    [ "$1" = 'edges one' ] || cmp -s <(cut -d ' ' -f 1 "$work/edges") <(cut -d ' ' -f 1 "$work/list") ||
+    [ "$1" = 'edges one' ] ||
+        cmp -s <(cut -d ' ' -f 1 "$work/edges") <(cut -d ' ' -f 1 "$work/list") ||
         { echo "edges_speed.sh: $1 of $2 has other paths than the list" >&2; exit 1; }
     wc -c < "$work/edges"
     rm "$work/edges"
@@ -33,9 +34,12 @@ written_by() {
 measure() {
     find_one "$1"
     local program
-    for program in 'edges one' 'edges all'; do echo "$program:$(written_by "$program" "$1")"; done > "$work/written"
+    for program in 'edges one' 'edges all'; do
+        echo "$program:$(written_by "$program" "$1")"
+    done > "$work/written"
     take_times "$1"
-    echo "${1##*/}: $(wc -l < "$work/list") variables; one is $one; peak of 'edges all' $(peak_of 'edges all' "$1") KB"
+    echo "${1##*/}: $(wc -l < "$work/list") variables; one is $one;" \
+        "peak of 'edges all' $(peak_of 'edges all' "$1") KB"
     print_best "$1"
     echo
 }

@@ -26,7 +26,9 @@ best_of() {
 
 # A line with the time of a program, and of another one or file beside it.
 print_ratio() {
-    awk -v what="$1" -v time="$2" -v beside="$3" 'BEGIN { printf "%-34s %8.3f %8.3f %6.2f\n", what, time, beside, time / (beside + 1e-9) }'
+    awk -v what="$1" -v time="$2" -v beside="$3" 'BEGIN {
+        printf "%-34s %8.3f %8.3f %6.2f\n", what, time, beside, time / (beside + 1e-9)
+    }'
 }
 
 printf '%-34s %8s %8s %6s\n' 'user and system s, best of three' time beside ratio
@@ -35,15 +37,18 @@ for size in "${sizes[@]}"; do
     "$here/crafted_codes.py" "$size" ordinary > "$work/ordinary"
     names=(top)
     for program in list check pick; do
-        print_ratio "$program of $size crafted codes" "$(best_of "$program" "$work/crafted")" "$(best_of "$program" "$work/ordinary")"
+        print_ratio "$program of $size crafted codes" \
+            "$(best_of "$program" "$work/crafted")" "$(best_of "$program" "$work/ordinary")"
     done
 done
 
 "$here/header_dump.py" 1000000 nested > "$work/deep"
 names=(u)
-print_ratio 'pick of all of 1000 deep, and check' "$(best_of pick "$work/deep")" "$(best_of check "$work/deep")"
+print_ratio 'pick of all of 1000 deep, and check' \
+    "$(best_of pick "$work/deep")" "$(best_of check "$work/deep")"
 mapfile -t names < <("$work/vcdkit" list < "$work/deep" | tail -n 1 | awk '{ print $1 }')
-print_ratio 'pick of the last one, and check' "$(best_of pick "$work/deep")" "$(best_of check "$work/deep")"
+print_ratio 'pick of the last one, and check' \
+    "$(best_of pick "$work/deep")" "$(best_of check "$work/deep")"
 
 "$here/header_dump.py" 200000 ordered > "$work/wide"
 names=(top.unit_1000)

@@ -53,7 +53,8 @@ def main():
     codes = [code_of(number) for number in range(int(sys.argv[1]))]
     if sys.argv[2] == "shuffled":
         random.Random(1).shuffle(codes)
-    sys.stdout.write("$date\n\ttoday\n$end\n$version\n\theader_dump.py\n$end\n$timescale\n\t1ns\n$end\n")
+    sys.stdout.write("$date\n\ttoday\n$end\n$version\n\theader_dump.py\n$end\n"
+                     "$timescale\n\t1ns\n$end\n")
     kinds[sys.argv[2]](codes, sys.stdout.write)
     sys.stdout.write("$enddefinitions $end\n")
 

@@ -23,11 +23,13 @@ find_command() {
 # Makes sure that the header is read whole: a line for each variable, and their number in the
 # report.
 compare_counts() {
-    [ "$("$work/vcdkit" list < "$work/header" | wc -l)" = "$1" ] && "$work/vcdkit" check < "$work/header" | grep -qx "variables $1" ||
+    [ "$("$work/vcdkit" list < "$work/header" | wc -l)" = "$1" ] &&
+        "$work/vcdkit" check < "$work/header" | grep -qx "variables $1" ||
         { echo "header_speed.sh: not $1 variables" >&2; exit 1; }
 }
 
-echo 'user and system seconds, best of three; microseconds for a variable; peak resident memory in kilobytes'
+echo 'user and system seconds, best of three; microseconds for a variable;' \
+    'peak resident memory in kilobytes'
 printf '%-8s %9s %6s |' '' variables MB
 printf ' %8s' "${programs[@]}"
 printf ' | %8s %8s | %9s %9s\n' 'us list' 'us check' 'KB list' 'KB check'
@@ -37,15 +39,18 @@ for kind in "${kinds[@]}"; do
         compare_counts "$size"
         # The programs take turns, so that what else the machine does meets all of them.
         for _ in 1 2 3; do
-            for program in "${programs[@]}"; do echo "$program:$(times_of "$program" "$work/header")"; done
+            for program in "${programs[@]}"; do
+                echo "$program:$(times_of "$program" "$work/header")"
+            done
         done > "$work/times"
         awk -F: -v kind="$kind" -v size="$size" -v bytes="$(wc -c < "$work/header")" \
             -v list="$(peak_of list "$work/header")" -v check="$(peak_of check "$work/header")" '
             { split($2, t, " ") }
             !($1 in best) || t[1] < best[$1] { best[$1] = t[1] }
             END {
-                printf "%-8s %9d %6.1f | %8.3f %8.3f %8.3f | %8.3f %8.3f | %9s %9s\n", kind, size, bytes / 1e6, best["list"],
-                    best["check"], best["wc -l"], best["list"] / size * 1e6, best["check"] / size * 1e6, list, check
+                printf "%-8s %9d %6.1f | %8.3f %8.3f %8.3f | %8.3f %8.3f | %9s %9s\n",
+                    kind, size, bytes / 1e6, best["list"], best["check"], best["wc -l"],
+                    best["list"] / size * 1e6, best["check"] / size * 1e6, list, check
             }' "$work/times"
     done
 done

@@ -10,7 +10,8 @@ import sys
 import tempfile
 
 BLOCK = 32  # bytes: what the processor keeps decoded as one
-TESTS = re.compile(r"(cmp|test|and|add|sub|inc|dec)[bwlq]?\b")  # what is fused with the jump after it
+# What is fused with the jump after it.
+TESTS = re.compile(r"(cmp|test|and|add|sub|inc|dec)[bwlq]?\b")
 
 
 def counts_of(program, dump, words):

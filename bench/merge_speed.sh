@@ -35,7 +35,10 @@ measure() {
         echo "merge $(seconds_of "$work/vcdkit" merge -- "$@")"
     done | awk -v name="$name" '
         !($1 in best) || $2 < best[$1] { best[$1] = $2 }
-        END { printf "%s: check %.3f s, merge %.3f s, speed of merge over check %.2f\n", name, best["check"], best["merge"], best["check"] / best["merge"] }'
+        END {
+            printf "%s: check %.3f s, merge %.3f s, speed of merge over check %.2f\n",
+                name, best["check"], best["merge"], best["check"] / best["merge"]
+        }'
 }
 
 echo 'user and system time, best of three in turn'

@@ -22,7 +22,11 @@ write_header() {
                 if (number < 94) return code
             }
         }
-        function opens(n) { return kind == "spread" ? n % 20 == 0 : kind == "deep" ? n % share == 0 && depth < 1000 : n == 0 }
+        function opens(n) {
+            if (kind == "spread") return n % 20 == 0
+            if (kind == "deep") return n % share == 0 && depth < 1000
+            return n == 0
+        }
         BEGIN {
             share = size < 1000 ? 1 : int(size / 1000)
             for (n = 0; n < size; n++) {
@@ -62,8 +66,10 @@ compare_counts() {
         { echo "names.sh: not ${#names[@]} variables" >&2; exit 1; }
 }
 
-echo 'user and system seconds, best of three; the pick of one name over check; that of 1000 names over that of one'
-printf '%-8s %9s %6s | %8s %8s %9s | %9s %9s\n' '' variables MB "${programs[@]}" 'one/check' '1000/one'
+echo 'user and system seconds, best of three; the pick of one name over check;' \
+    'that of 1000 names over that of one'
+printf '%-8s %9s %6s | %8s %8s %9s | %9s %9s\n' \
+    '' variables MB "${programs[@]}" 'one/check' '1000/one'
 for kind in "${kinds[@]}"; do
     for size in "${sizes[@]}"; do
         write_header "$size" "$kind" > "$work/header"
@@ -71,15 +77,18 @@ for kind in "${kinds[@]}"; do
         compare_counts "$work/header"
         # The programs take turns, so that what else the machine does meets all of them.
         for _ in 1 2 3; do
-            for program in "${programs[@]}"; do echo "$program:$(times_of "$program" "$work/header")"; done
+            for program in "${programs[@]}"; do
+                echo "$program:$(times_of "$program" "$work/header")"
+            done
         done > "$work/times"
         awk -F: -v kind="$kind" -v size="$size" -v bytes="$(wc -c < "$work/header")" '
             { split($2, t, " ") }
             !($1 in best) || t[1] < best[$1] { best[$1] = t[1] }
             END {
                 one = best["pick one"]
-                printf "%-8s %9d %6.1f | %8.3f %8.3f %9.3f | %9.2f %9.2f\n", kind, size, bytes / 1e6, best["check"], one,
-                    best["pick 1000"], one / (best["check"] + 1e-9), best["pick 1000"] / (one + 1e-9)
+                printf "%-8s %9d %6.1f | %8.3f %8.3f %9.3f | %9.2f %9.2f\n",
+                    kind, size, bytes / 1e6, best["check"], one, best["pick 1000"],
+                    one / (best["check"] + 1e-9), best["pick 1000"] / (one + 1e-9)
             }' "$work/times"
     done
 done

@@ -7,7 +7,8 @@ set -u
 program=${VCDKIT:-$(dirname "$0")/../vcdkit}
 out=$(mktemp) times=$(mktemp)
 trap 'rm -f "$out" "$times"' EXIT
-command -v vcd2fst > /dev/null && echo "vcd2fst: $(dpkg-query -W -f '${Package} ${Version}' gtkwave 2> /dev/null)"
+command -v vcd2fst > /dev/null &&
+    echo "vcd2fst: $(dpkg-query -W -f '${Package} ${Version}' gtkwave 2> /dev/null)"
 echo "wc: $(wc --version | head -n 1)"
 
 # least NAME DUMP COMMAND..
@@ -19,7 +20,10 @@ least() {
     done
     awk -v name="$name" -v dump="$(basename "$dump")" -v bytes="$(stat -c %s "$dump")" '
         !best || $1 + $2 < best { best = $1 + $2; peak = $3 }
-        END { printf "%-16s %-14s %7.2f s %7.0f MB/s %8.1f MB\n", dump, name, best, bytes / 1e6 / best, peak * 1024 / 1e6 }
+        END {
+            printf "%-16s %-14s %7.2f s %7.0f MB/s %8.1f MB\n",
+                dump, name, best, bytes / 1e6 / best, peak * 1024 / 1e6
+        }
     ' "$times"
     : > "$times"
 }

@@ -12,7 +12,8 @@ need_files "$@"
 # which select all that there is.
 find_names() {
     find_one "$1"
-    LC_ALL=C awk '{ sub(/\..*/, "", $1) } !($1 in seen) { seen[$1]; print $1 }' "$work/list" > "$work/names"
+    LC_ALL=C awk '{ sub(/\..*/, "", $1) } !($1 in seen) { seen[$1]; print $1 }' "$work/list" \
+        > "$work/names"
     mapfile -t all < "$work/names"
 }
 
@@ -31,7 +32,8 @@ find_command() {
 written_by() {
     find_command "$1"
     "${command[@]}" < "$2" > "$work/picked"
-    "$work/vcdkit" check < "$work/picked" | grep '^last ' | cmp -s - <("$work/vcdkit" check < "$2" | grep '^last ') ||
+    "$work/vcdkit" check < "$work/picked" | grep '^last ' |
+        cmp -s - <("$work/vcdkit" check < "$2" | grep '^last ') ||
         { echo "pick_speed.sh: $1 of $2 has another last time mark" >&2; exit 1; }
     wc -c < "$work/picked"
     rm "$work/picked"
@@ -41,7 +43,9 @@ written_by() {
 measure() {
     find_names "$1"
     local program
-    for program in 'pick one' 'pick all'; do echo "$program:$(written_by "$program" "$1")"; done > "$work/written"
+    for program in 'pick one' 'pick all'; do
+        echo "$program:$(written_by "$program" "$1")"
+    done > "$work/written"
 
     take_times "$1"
 

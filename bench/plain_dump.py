@@ -35,7 +35,9 @@ def main():
              for first in (NEAR * place % variables for place in range(LISTS))]
     declared = "".join(f"$var wire 1 {code} s{place} $end\n" for place, code in enumerate(codes))
     out = sys.stdout.buffer
-    written = out.write(f"$timescale\n\t1ns\n$end\n$scope module top $end\n{declared}$upscope $end\n$enddefinitions $end\n".encode())
+    head = (f"$timescale\n\t1ns\n$end\n$scope module top $end\n{declared}$upscope $end\n"
+            "$enddefinitions $end\n")
+    written = out.write(head.encode())
     mark = 0
     while written < size * 1_000_000:
         written += out.write(b"#%d\n" % (5 * mark)) + out.write(lists[mark % LISTS])

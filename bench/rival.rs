@@ -1,6 +1,7 @@
-// A rival for the benches, unverified and of std alone: it counts what `vcdkit check` counts, on dumps without faults. Tokens are looked
-// at where they lie in the chunk, and short codes are found in a table by their number. At a fault it stops with status 1 and says no
-// more. Built by check_speed.sh with `rustc -O`.
+// A rival for the benches, unverified and of std alone: it counts what `vcdkit check` counts, on
+// dumps without faults. Tokens are looked at where they lie in the chunk, and short codes are found
+// in a table by their number. At a fault it stops with status 1 and says no more. check_speed.sh
+// builds it with `rustc -O`.
 use std::collections::HashMap;
 use std::io::Read;
 
@@ -27,7 +28,9 @@ fn stop() -> ! {
 
 // A code as a number in base 94, its first byte lowest, as simulators count.
 fn number_of(code: &[u8]) -> usize {
-    code.iter().rev().fold(0, |number, byte| number.saturating_mul(94).saturating_add(usize::from(*byte) - 32))
+    code.iter()
+        .rev()
+        .fold(0, |number, byte| number.saturating_mul(94).saturating_add(usize::from(*byte) - 32))
 }
 
 fn is_digit(byte: &u8) -> bool {
@@ -41,7 +44,8 @@ impl Rival {
             (b"$scope", 3) => self.counts[0] += 1,
             (b"$var", 5..) => {
                 self.counts[1] += 1;
-                let size = std::str::from_utf8(&phrase[2]).ok().and_then(|s| s.parse().ok()).unwrap_or_else(|| stop());
+                let size = std::str::from_utf8(&phrase[2]).ok().and_then(|s| s.parse().ok());
+                let size = size.unwrap_or_else(|| stop());
                 let size = if phrase[1] == b"event" { u32::MAX } else { size };
                 let number = number_of(&phrase[3]);
                 let entry = match self.table.get_mut(number) {
@@ -108,7 +112,9 @@ impl Rival {
         } else {
             match token[0] {
                 b'0' | b'1' | b'x' | b'X' | b'z' | b'Z' => self.change(&token[1..], 1),
-                b'b' | b'B' if token.len() > 1 && token[1..].iter().all(is_digit) => self.waiting = Some(token.len() - 1),
+                b'b' | b'B' if token.len() > 1 && token[1..].iter().all(is_digit) => {
+                    self.waiting = Some(token.len() - 1)
+                }
                 b'r' | b'R' => self.waiting = Some(0),
                 b'#' => self.mark(&token[1..]),
                 _ => self.word(token),

@@ -30,7 +30,9 @@ find_command() {
 # How many variables with values the name `one` selects: more than one where names are declared
 # twice.
 count_one() {
-    one=$one LC_ALL=C awk '$2 != "event" && ($1 == ENVIRON["one"] || index($1, ENVIRON["one"] ".") == 1)' "$work/list" | wc -l
+    one=$one LC_ALL=C awk '
+        BEGIN { one = ENVIRON["one"] }
+        $2 != "event" && ($1 == one || index($1, one ".") == 1)' "$work/list" | wc -l
 }
 
 # Makes sure that so many lines are written for each of so many times, and says how many bytes.
@@ -38,7 +40,8 @@ written_by() {
     local lines bytes
     find_command "$1"
     read -r lines bytes < <("${command[@]}" < "$2" | wc -lc)
-    [ "$lines" -eq $(($3 * $4)) ] || { echo "sample_speed.sh: $1 of $2 has $lines lines" >&2; exit 1; }
+    [ "$lines" -eq $(($3 * $4)) ] ||
+        { echo "sample_speed.sh: $1 of $2 has $lines lines" >&2; exit 1; }
     echo "$bytes"
 }
 
@@ -56,7 +59,8 @@ measure() {
         echo "sample end:$(written_by 'sample end' "$1" 1 "$valued")"
     } > "$work/written"
     take_times "$1"
-    echo "${1##*/}: $valued variables with values; one is $one; peak of 'sample one' $(peak_of 'sample one' "$1") KB"
+    echo "${1##*/}: $valued variables with values; one is $one;" \
+        "peak of 'sample one' $(peak_of 'sample one' "$1") KB"
     print_best "$1"
     echo
 }

@@ -40,13 +40,15 @@ printf '%-48s %8s %8s\n' 'user and system s, best of three' time check
 "$here/header_dump.py" "$size" ordered > "$work/header"
 find_one "$work/header"
 for times in 1000 20000; do
-    measure "sample of one variable at $times times" "$work/header" sample --at "$(seq -s , 0 $((times - 1)))" -- "$one"
+    measure "sample of one variable at $times times" "$work/header" \
+        sample --at "$(seq -s , 0 $((times - 1)))" -- "$one"
 done
 for count in 1 30000; do
     mapfile -t names < <(yes top | head -n "$count")
     measure "pick of the top scope, named $count times" "$work/header" pick -- "${names[@]}"
 done
-mapfile -t names < <(yes top | head -n 30000 | awk -v one="$one" 'NR % 64 == 0 { $0 = one } { print }')
+mapfile -t names < <(yes top | head -n 30000 |
+    awk -v one="$one" 'NR % 64 == 0 { $0 = one } { print }')
 measure 'the same, and one variable in each 64 names' "$work/header" pick -- "${names[@]}"
 for count in 3000 30000; do
     write_points "$count" > "$work/points"
