@@ -5,7 +5,8 @@
 set -u
 cd "$(dirname "$0")/.."
 program=${VCDKIT:-./vcdkit}
-[[ -x $program ]] || { echo "completions/check.sh: there is no program $program. Run make first." >&2; exit 1; }
+[[ -x $program ]] ||
+    { echo "completions/check.sh: there is no program $program. Run make first." >&2; exit 1; }
 failed=0 tried=0
 
 # same WHAT WANTED GOT
@@ -18,9 +19,14 @@ same() {
 
 sorted() { tr -s ' ' '\n' | sed '/^$/d' | LC_ALL=C sort -u | paste -s -d ' '; }
 
+# The lines of a section of a help.
+section() { awk -v head="^$1:" '$0 ~ head { on = 1; next } /^$/ { on = 0 } on'; }
 # What the help prints: of the program the commands, of each command its options.
-help_commands=$("$program" --help | awk '/^Commands:/ { on = 1; next } /^$/ { on = 0 } on { print $1 }' | sorted)
-help_options() { "$program" "$@" --help | awk '/^Options:/ { on = 1; next } /^$/ { on = 0 } on' | grep -oE '^ +(-[A-Za-z], )?--?[A-Za-z-]+' | tr -d , | sorted; }
+help_commands=$("$program" --help | section Commands | awk '{ print $1 }' | sorted)
+help_options() {
+    "$program" "$@" --help | section Options |
+        grep -oE '^ +(-[A-Za-z], )?--?[A-Za-z-]+' | tr -d , | sorted
+}
 
 # What bash would complete: the words, of which the last is the one to complete. `compopt` works
 # only while bash completes.
@@ -31,7 +37,7 @@ completed() {
     COMP_LINE="$*" COMP_POINT=${#COMP_LINE} COMP_WORDS=("$@") COMP_CWORD=$(($# - 1)) options_set=
     COMPREPLY=()
     _vcdkit "$1" "${!#}" "${@:$#-1:1}"
-    printf '%s' "${COMPREPLY[*]+"$(printf '%s\n' "${COMPREPLY[@]}" | paste -s -d ' ')"}${options_set:+ ($options_set)}"
+    printf '%s' "${COMPREPLY[*]-}${options_set:+ ($options_set)}"
 }
 
 # What zsh is told: the commands of its list; of each command what stands in its case and the lists
@@ -40,7 +46,12 @@ zsh_commands=$(sed -n "s/^ *'\([a-z]*\):[A-Z].*'\$/\1/p" completions/_vcdkit | s
 zsh_options() {
     awk -v command="$1" '
         /^ *case / { on = 1; next }
-        on && /^ *[a-z |]+\)$/ { mine = 0; gsub(/[)|]/, " "); for (i = 1; i <= NF; i++) if ($i == command) mine = 1; next }
+        on && /^ *[a-z |]+\)$/ {
+            mine = 0
+            gsub(/[)|]/, " ")
+            for (i = 1; i <= NF; i++) if ($i == command) mine = 1
+            next
+        }
         mine
     ' completions/_vcdkit | {
         text=$(cat)
@@ -51,6 +62,8 @@ zsh_options() {
     } | sorted
 }
 manual=$(sed 's/\\-/-/g; s/\\f[A-Z]//g' man/vcdkit.1)
+# 1 where a line of the man page matches this pattern.
+in_manual() { grep -qE -- "$1" <<< "$manual" && echo 1; }
 
 same 'commands, bash' "$help_commands" "$(completed "$program" '' | sorted)"
 same 'commands, zsh' "$help_commands" "$zsh_commands"
@@ -59,23 +72,36 @@ for option in $(help_options); do
     same "option $option, zsh" 1 "$(grep -qE -- "[{,]$option[,}]" completions/_vcdkit && echo 1)"
 done
 for command in $help_commands; do
-    same "options of $command, bash" "$(help_options "$command")" "$(completed "$program" "$command" - | sorted)"
-    same "options of $command, zsh" "$(help_options "$command")" "$(zsh_options "$command")"
+    options=$(help_options "$command")
+    same "options of $command, bash" "$options" "$(completed "$program" "$command" - | sorted)"
+    same "options of $command, zsh" "$options" "$(zsh_options "$command")"
     about=$("$program" "$command" --help | head -n 1)
     same "what $command does, zsh" 1 "$(grep -cF "'$command:$about'" completions/_vcdkit)"
-    same "$command in the man page" 1 "$(grep -qE "^\.B[RI]? \"?vcdkit $command|^\.SS $command|^\.B vcdkit $command" <<< "$manual" && echo 1)"
-    for option in $(help_options "$command"); do
-        same "$option of $command in the man page" 1 "$(grep -qE -- "(^|[^a-z-])$option([^a-z-]|\$)" <<< "$manual" && echo 1)"
+    same "$command in the man page" 1 \
+        "$(in_manual "^\.B[RI]? \"?vcdkit $command|^\.SS $command|^\.B vcdkit $command")"
+    for option in $options; do
+        same "$option of $command in the man page" 1 \
+            "$(in_manual "(^|[^a-z-])$option([^a-z-]|\$)")"
     done
 done
 
 # The faults of the manual's table, each with its cause in the man page; and the words for the
 # statuses in both, and in the help.
-same 'faults in the man page' "$(sed -n '/^## Faults/,/^Other lines/s/^| `\([a-z ]*\)`.*/\1/p' docs/MANUAL.md | LC_ALL=C sort -u | paste -s -d ,)" \
-    "$(sed -n '/^is one of these/,/^The manual has/s/^\.B \([a-z ]*\)$/\1/p' man/vcdkit.1 | LC_ALL=C sort -u | paste -s -d ,)"
+manual_faults=$(sed -n '/^## Faults/,/^Other lines/s/^| `\([a-z ]*\)`.*/\1/p' docs/MANUAL.md)
+page_faults=$(sed -n '/^is one of these/,/^The manual has/s/^\.B \([a-z ]*\)$/\1/p' man/vcdkit.1)
+same 'faults in the man page' "$(LC_ALL=C sort -u <<< "$manual_faults")" \
+    "$(LC_ALL=C sort -u <<< "$page_faults")"
+# A line each: the help, and what man page and manual say of statuses.
+of_statuses() {
+    "$program" check --help | tr '\n' ' '
+    echo
+    sed -n '/^\.SH "EXIT STATUS"/,/^\.SH DIAG/p' man/vcdkit.1 | tr '\n' ' '
+    echo
+    sed -n '/^## Exit statuses/,/^## Memory/p' docs/MANUAL.md | tr '\n' ' '
+    echo
+}
 for words in 'usage error' 'i/o error' 'out of memory' 'not a valid dump'; do
-    same "'$words' in help, man page and manual" 3 "$({ "$program" check --help | tr '\n' ' '; echo; sed -n '/^\.SH "EXIT STATUS"/,/^\.SH DIAG/p' man/vcdkit.1 | tr '\n' ' '; echo
-        sed -n '/^## Exit statuses/,/^## Memory/p' docs/MANUAL.md | tr '\n' ' '; echo; } | grep -ci -- "$words")"
+    same "'$words' in help, man page and manual" 3 "$(of_statuses | grep -ci -- "$words")"
 done
 
 dump=samples/nested.vcd
@@ -88,23 +114,34 @@ same 'no names without a file' '' "$(completed "$program" pick '')"
 same 'no names of a file that is not there' '' "$(completed "$program" pick -i none.vcd '')"
 same 'no names of check' '' "$(completed "$program" check -i $dump '')"
 same 'a scope' 'bench. (nospace)' "$(completed "$program" pick -i $dump be)"
-same 'names of a scope' 'bench.steps bench.step.' "$(completed "$program" edges -i $dump bench.step)"
-same 'a second name' 'bench.level' "$(completed "$program" sample --at 0,5ns -i $dump bench.slow bench.lev)"
+same 'names of a scope' 'bench.steps bench.step.' \
+    "$(completed "$program" edges -i $dump bench.step)"
+same 'a second name' 'bench.level' \
+    "$(completed "$program" sample --at 0,5ns -i $dump bench.slow bench.lev)"
 same 'a file in the word of -i' 'bench.level' "$(completed "$program" pick -i$dump bench.lev)"
 same 'names after --' 'count0 count1' "$(completed "$program" pick -i samples/counter.vcd -- co)"
-same 'a name that is quoted' 'bench.\\data+flags' "$(completed "$program" pick -i $dump 'bench.\\da')"
-same 'a name between quotes' 'bench.\data+flags' "$(completed "$program" pick -i $dump "'bench.\\da")"
-same 'brackets' 'bench.lane\[0\].fast. (nospace)' "$(completed "$program" pick -i $dump 'bench.lane\[0\].f')"
+same 'a name that is quoted' 'bench.\\data+flags' \
+    "$(completed "$program" pick -i $dump 'bench.\\da')"
+same 'a name between quotes' 'bench.\data+flags' \
+    "$(completed "$program" pick -i $dump "'bench.\\da")"
+same 'brackets' 'bench.lane\[0\].fast. (nospace)' \
+    "$(completed "$program" pick -i $dump 'bench.lane\[0\].f')"
 
 # A header with 200,000 variables in a scope: what the names have in common, and soon.
 many=$(mktemp "${TMPDIR:-/tmp}/many names.XXXXXX")
 trap 'rm -f "$many"' EXIT
-awk 'BEGIN { print "$scope module top $end"; for (i = 100000; i < 300000; i++) printf "$var wire 1 c%d a:b%d $end\n", i, i; print "$upscope $end $enddefinitions $end" }' > "$many"
+awk 'BEGIN {
+    print "$scope module top $end"
+    for (i = 100000; i < 300000; i++) printf "$var wire 1 c%d a:b%d $end\n", i, i
+    print "$upscope $end $enddefinitions $end"
+}' > "$many"
 before=$SECONDS
 same 'many names' 'b (nospace)' "$(completed "$program" pick -i "${many/ /\\ }" top.a:)"
-same 'names behind a colon' 'b199990 b199991 b199992 b199993 b199994 b199995 b199996 b199997 b199998 b199999' \
+same 'names behind a colon' \
+    'b199990 b199991 b199992 b199993 b199994 b199995 b199996 b199997 b199998 b199999' \
     "$(completed "$program" pick -i "'$many'" top.a:b19999)"
-((SECONDS - before < 20)) || { failed=$((failed + 1)); echo "many names took $((SECONDS - before)) seconds"; }
+((SECONDS - before < 20)) ||
+    { failed=$((failed + 1)); echo "many names took $((SECONDS - before)) seconds"; }
 
 if command -v zsh > /dev/null; then
     same 'zsh reads its file' '' "$(zsh -n completions/_vcdkit 2>&1)"

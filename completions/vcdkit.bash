@@ -27,7 +27,8 @@ _vcdkit_names() {
             seen[path]
             if (++count <= 1000) names[count] = path
             if (count == 1) common = path
-            while (substr(path, 1, length(common)) != common) common = substr(common, 1, length(common) - 1)
+            while (substr(path, 1, length(common)) != common)
+                common = substr(common, 1, length(common) - 1)
         }
         END {
             if (count > 1000) { if (length(common) >= from) print common "\n" }
@@ -98,8 +99,11 @@ _vcdkit() {
     elif [[ $can == *' file '* ]]; then
         compopt -o default 2> /dev/null
     elif [[ $can == *' name '* && -f $file ]]; then
-        mapfile -t COMPREPLY < <(_vcdkit_names "${1/#~\//$HOME/}" "$file" "$(_vcdkit_plain "$current")")
-        if [[ ${#COMPREPLY[@]} == 2 && -z ${COMPREPLY[1]} || ${#COMPREPLY[@]} == 1 && ${COMPREPLY[0]} == *. ]]; then
+        mapfile -t COMPREPLY < <(
+            _vcdkit_names "${1/#~\//$HOME/}" "$file" "$(_vcdkit_plain "$current")"
+        )
+        if [[ ${#COMPREPLY[@]} == 2 && -z ${COMPREPLY[1]} ||
+            ${#COMPREPLY[@]} == 1 && ${COMPREPLY[0]} == *. ]]; then
             compopt -o nospace 2> /dev/null
             COMPREPLY=("${COMPREPLY[0]}")
         fi
