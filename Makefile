@@ -25,7 +25,8 @@
 
 sample := samples/counter.vcd
 
-.PHONY: all test hostile docs-check clean vcdkit toolchain static library dist dist-check install uninstall completions-check extras-check
+.PHONY: all test hostile docs-check clean vcdkit toolchain static library dist dist-check install \
+    uninstall completions-check extras-check
 
 # The processor that is built for; none for any of x86-64 with SSE4.2.
 CPU ?=
@@ -38,13 +39,15 @@ bash_words := $(DESTDIR)$(PREFIX)/share/bash-completion/completions
 # installed beside packages.
 ZSH_FOLDER ?= $(PREFIX)/share/zsh/$(if $(filter /usr,$(PREFIX)),vendor-completions,site-functions)
 zsh_words := $(DESTDIR)$(ZSH_FOLDER)
-extras := endmend explain first_difference four_state join_bits list_json pick_by_pattern table_csv values_csv
+extras := endmend explain first_difference four_state join_bits list_json pick_by_pattern \
+    table_csv values_csv
 scripts := $(DESTDIR)$(PREFIX)/share/vcdkit/extras
 documents := $(DESTDIR)$(PREFIX)/share/doc/vcdkit
 
 all: vcdkit
 	./vcdkit check < $(sample)
-	@echo "Built: ./vcdkit, which needs the C library of this machine. Next: make install, or make static, make dist; ./vcdkit --help"
+	@echo "Built: ./vcdkit, which needs the C library of this machine." \
+	    "Next: make install, or make static, make dist; ./vcdkit --help"
 
 # The log is begun anew, and prove.py shows how far it is. With no change the program is only run.
 vcdkit: toolchain
@@ -57,7 +60,8 @@ test: toolchain
 
 hostile: vcdkit
 	devices=$$(mktemp --suffix=.so) && cc -O1 -shared -fPIC -o $$devices hostile/devices.c -ldl && \
-	hostile/hostile.py ./vcdkit $$devices memory large devices cut_off && hostile/random_runs.py ./vcdkit --runs 50000 && hostile/crafted.py ./vcdkit; \
+	hostile/hostile.py ./vcdkit $$devices memory large devices cut_off && \
+	hostile/random_runs.py ./vcdkit --runs 50000 && hostile/crafted.py ./vcdkit; \
 	status=$$?; rm -f $$devices; exit $$status
 
 # It takes the ./vcdkit that is there, and builds none.
@@ -85,7 +89,9 @@ clean:
 	rm -rf vcdkit vcdkit-static libvcd_c.a libvcd_c.so dist make.log crates/*/out
 
 toolchain:
-	@command -v rt > /dev/null || { echo "make: there is no command rt. It comes with the Rattle kit: see README.md, \"Set up\"." >&2; exit 1; }
+	@command -v rt > /dev/null || \
+	    { echo "make: there is no command rt. It comes with the Rattle kit:" \
+	    "see README.md, \"Set up\"." >&2; exit 1; }
 
 # Nothing is built or proved here, so that no proof runs as root: `make` comes first.
 install:

@@ -3,7 +3,8 @@
 # extras, into the folder:
 #   vcdkit-VERSION-x86_64-linux.tar.gz   to unpack and run, or `make install` in it
 #   vcdkit_VERSION_amd64.deb             a Debian package, where there is dpkg-deb
-#   vcdkit-VERSION-relink.tar.gz         the object files, for who wants to link the program with another C library (NOTICE.md)
+#   vcdkit-VERSION-relink.tar.gz         the object files, for who wants to link the program with
+#                                        another C library (NOTICE.md)
 # The same files give the same bytes: names are sorted, owner and modes fixed, and all times are
 # SOURCE_DATE_EPOCH, else that of the last commit. MAINTAINER is who stands in the package.
 set -eu
@@ -23,7 +24,8 @@ trap 'rm -rf "$folder"' EXIT
 # packed NAME: the folder NAME as a tarball
 packed() {
     find "$folder/$1" -exec touch -h -d "@$SOURCE_DATE_EPOCH" {} +
-    tar -C "$folder" --sort=name --format=gnu --owner=0 --group=0 --numeric-owner --mode=u=rwX,go=rX -cf - "$1" | gzip -9n > "$out/$1.tar.gz"
+    tar -C "$folder" --sort=name --format=gnu --owner=0 --group=0 --numeric-owner \
+        --mode=u=rwX,go=rX -cf - "$1" | gzip -9n > "$out/$1.tar.gz"
 }
 
 kit=${KIT:-}
@@ -41,7 +43,8 @@ licences() {
 # The tarball: the files of the repository that need no kit, and the program.
 name=vcdkit-$version-x86_64-linux
 mkdir "$folder/$name"
-cp -r Makefile README.md CHANGELOG.md CONTRIBUTING.md NOTICE.md docs man completions samples extras packaging "$folder/$name"
+cp -r Makefile README.md CHANGELOG.md CONTRIBUTING.md NOTICE.md \
+    docs man completions samples extras packaging "$folder/$name"
 mkdir "$folder/$name/bench" "$folder/$name/hostile"
 cp bench/README.md "$folder/$name/bench"
 cp hostile/README.md "$folder/$name/hostile"
@@ -60,13 +63,15 @@ if command -v dpkg-deb > /dev/null; then
     mv "$tree/usr/share/doc/vcdkit/NOTICE.md" "$tree/usr/share/doc/vcdkit/copyright"
     ln -s copyright "$tree/usr/share/doc/vcdkit/NOTICE.md"
     licences "$tree/usr/share/doc/vcdkit/licences"
+    size=$(find "$tree/usr" -type f -size +0 -printf '%s\n' |
+        awk '{ k += int(($1 + 1023) / 1024) } END { print k }')
     mkdir "$tree/DEBIAN"
     cat > "$tree/DEBIAN/control" <<END
 Package: vcdkit
 Version: $version
 Architecture: amd64
 Maintainer: ${MAINTAINER:-vcdkit <vcdkit@localhost>}
-Installed-Size: $(find "$tree/usr" -type f -size +0 -printf '%s\n' | awk '{ k += int(($1 + 1023) / 1024) } END { print k }')
+Installed-Size: $size
 Section: electronics
 Priority: optional
 Recommends: python3
@@ -86,15 +91,19 @@ fi
 # What a new link takes.
 relink=vcdkit-$version-relink
 mkdir "$folder/$relink"
-cp crates/vcdkit_main/out/vcdkit_main.o "$kit/c/libos_c.a" "$kit/c/liblibc_c.a" NOTICE.md "$folder/$relink"
+cp crates/vcdkit_main/out/vcdkit_main.o "$kit/c/libos_c.a" "$kit/c/liblibc_c.a" NOTICE.md \
+    "$folder/$relink"
 strip --strip-debug "$folder/$relink/vcdkit_main.o"
 licences "$folder/$relink/licences"
 cat > "$folder/$relink/relink.sh" <<'END'
 #!/bin/sh
 # Links vcdkit anew, with the static C library of this machine: sh relink.sh; without -static-pie
 # with the shared one.
-cd "$(dirname "$0")" && ${CC:-cc} ${LINK:--static-pie} -s -Wl,--gc-sections -o vcdkit vcdkit_main.o libos_c.a liblibc_c.a -lm
+cd "$(dirname "$0")" &&
+    ${CC:-cc} ${LINK:--static-pie} -s -Wl,--gc-sections -o vcdkit \
+        vcdkit_main.o libos_c.a liblibc_c.a -lm
 END
 chmod 755 "$folder/$relink/relink.sh"
 packed "$relink"
-(cd "$out" && ls -l "vcdkit-$version-x86_64-linux.tar.gz" "vcdkit_${version}_amd64.deb" "vcdkit-$version-relink.tar.gz" 2> /dev/null | awk '{ print "packed " $NF ": " $5 " bytes" }')
+(cd "$out" && ls -l "$name.tar.gz" "vcdkit_${version}_amd64.deb" "$relink.tar.gz" 2> /dev/null |
+    awk '{ print "packed " $NF ": " $5 " bytes" }')

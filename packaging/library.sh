@@ -9,7 +9,15 @@ if [ -z "${KIT:-}" ]; then
 fi
 name=$(basename "$1" .a)
 rm -f "$2/$name.a"
-printf 'create %s\naddlib %s\naddlib %s\naddlib %s\nsave\nend\n' "$2/$name.a" "$1" "$KIT/c/libos_c.a" "$KIT/c/liblibc_c.a" | "${AR:-ar}" -M
+"${AR:-ar}" -M <<END
+create $2/$name.a
+addlib $1
+addlib $KIT/c/libos_c.a
+addlib $KIT/c/liblibc_c.a
+save
+end
+END
 "${RANLIB:-ranlib}" -D "$2/$name.a"
-"${CC:-cc}" -shared -s -o "$2/$name.so" -Wl,--whole-archive "$1" -Wl,--no-whole-archive "$2/$name.a" -lm -Wl,--build-id=none
+"${CC:-cc}" -shared -s -o "$2/$name.so" -Wl,--whole-archive "$1" \
+    -Wl,--no-whole-archive "$2/$name.a" -lm -Wl,--build-id=none
 echo "made $2/$name.a and $2/$name.so"

@@ -84,7 +84,8 @@ def follow(lines, log, order, screen):
             minutes = (time.monotonic() - began) / 60
             screen.line("%s: %s functions proved, %.1f minutes"
                         % (place, verdict.group(1), minutes))
-            functions, crates, crate, began = functions + int(verdict.group(1)), crates + 1, "", time.monotonic()
+            functions, crates = functions + int(verdict.group(1)), crates + 1
+            crate, began = "", time.monotonic()
     return functions, crates
 
 
@@ -107,8 +108,9 @@ def main(words):
         with open(LOG, encoding="utf-8") as log:
             print("".join(log.readlines()[-LAST_LINES:]), end="")
     elif crates:
-        screen.line("%d functions in %d crates proved, %.1f minutes; the prover's notes are in make.log" %
-                    (functions, crates, (time.monotonic() - began) / 60))
+        screen.line("%d functions in %d crates proved, %.1f minutes;"
+                    " the prover's notes are in make.log"
+                    % (functions, crates, (time.monotonic() - began) / 60))
     else:
         screen.line("nothing has changed since the last proof")
     return status if status >= 0 else 128 - status

@@ -9,7 +9,10 @@ top=$(cd "$(dirname "$0")/.." && pwd)
 object=$top/crates/vcdkit_main/out/vcdkit_main.o
 [ -s "$object" ] || { echo "static.sh: there is no $object: run make first" >&2; exit 1; }
 if [ -z "${KIT:-}" ]; then
-    rt=$(command -v rt) || { echo "static.sh: there is no command rt: KIT names the folder of the Rattle kit" >&2; exit 1; }
+    rt=$(command -v rt) || {
+        echo "static.sh: there is no command rt: KIT names the folder of the Rattle kit" >&2
+        exit 1
+    }
     KIT=$(dirname "$(dirname "$(readlink -f "$rt")")")
 fi
 # No build number and no symbols: the same files give the same bytes.
