@@ -195,7 +195,9 @@ const CLOCK: &[u8] =
     b"$timescale 1ns $end\n$var wire 1 ! clk $end\n$enddefinitions $end\n#0\n0!\n#5\n1!\n";
 
 const CLOCK_ALONE: &[u8] =
-    b"$timescale\n\t1ns\n$end\n$scope module in1 $end\n$var wire 1 ! clk $end\n$upscope $end\n$enddefinitions $end\n#0\n0!\n#5\n1!\n";
+    b"$timescale\n\t1ns\n$end\n$scope module in1 $end\n$var wire 1 ! clk $end\n$upscope $end\n\
+        $enddefinitions $end\n\
+        #0\n0!\n#5\n1!\n";
 
 #[test]
 fn one_input(rt: HostRuntime) -> Result<(), Fail> {
@@ -207,7 +209,8 @@ fn one_input(rt: HostRuntime) -> Result<(), Fail> {
 const NO_ITEMS: &[u8] = b"$timescale 1ns $end\n$var wire 1 ! clk $end\n$enddefinitions $end\n";
 
 const NO_ITEMS_ALONE: &[u8] =
-    b"$timescale\n\t1ns\n$end\n$scope module in1 $end\n$var wire 1 ! clk $end\n$upscope $end\n$enddefinitions $end\n";
+    b"$timescale\n\t1ns\n$end\n$scope module in1 $end\n$var wire 1 ! clk $end\n$upscope $end\n\
+        $enddefinitions $end\n";
 
 #[test]
 fn no_items(rt: HostRuntime) -> Result<(), Fail> {
@@ -219,14 +222,21 @@ fn no_items(rt: HostRuntime) -> Result<(), Fail> {
 const COARSE: &[u8] =
     b"$timescale 1ns $end\n$var wire 1 ! clk $end\n$enddefinitions $end\n#0\n0!\n#2\n1!\n#4\n0!\n";
 
-const FINE: &[u8] =
-    b"$timescale 1ps $end\n$scope module bus $end\n$var wire 4 v data [3:0] $end\n$var wire 1 ! ok $end\n$upscope $end\n$enddefinitions $end\n#1500\nb0101 v\n#2000\n1!\nb0000 v\n#3999\n0!\n#5000\n";
+const FINE: &[u8] = b"$timescale 1ps $end\n$scope module bus $end\n$var wire 4 v data [3:0] $end\n\
+    $var wire 1 ! ok $end\n$upscope $end\n$enddefinitions $end\n\
+    #1500\nb0101 v\n#2000\n1!\nb0000 v\n#3999\n0!\n#5000\n";
 
 const COARSE_AND_FINE: &[u8] =
-    b"$timescale\n\t1ps\n$end\n$scope module in1 $end\n$var wire 1 ! clk $end\n$upscope $end\n$scope module in2 $end\n$scope module bus $end\n$var wire 4 \" data [3:0] $end\n$var wire 1 # ok $end\n$upscope $end\n$upscope $end\n$enddefinitions $end\n#0\n0!\n#1500\nb101 \"\n#2000\n1!\n1#\nb0 \"\n#3999\n0#\n#4000\n0!\n#5000\n";
+    b"$timescale\n\t1ps\n$end\n$scope module in1 $end\n$var wire 1 ! clk $end\n$upscope $end\n\
+        $scope module in2 $end\n$scope module bus $end\n$var wire 4 \" data [3:0] $end\n\
+        $var wire 1 # ok $end\n$upscope $end\n$upscope $end\n$enddefinitions $end\n\
+        #0\n0!\n#1500\nb101 \"\n#2000\n1!\n1#\nb0 \"\n#3999\n0#\n#4000\n0!\n#5000\n";
 
 const FINE_AND_COARSE: &[u8] =
-    b"$timescale\n\t1ps\n$end\n$scope module in1 $end\n$scope module bus $end\n$var wire 4 ! data [3:0] $end\n$var wire 1 \" ok $end\n$upscope $end\n$upscope $end\n$scope module in2 $end\n$var wire 1 # clk $end\n$upscope $end\n$enddefinitions $end\n#0\n0#\n#1500\nb101 !\n#2000\n1\"\nb0 !\n1#\n#3999\n0\"\n#4000\n0#\n#5000\n";
+    b"$timescale\n\t1ps\n$end\n$scope module in1 $end\n$scope module bus $end\n\
+        $var wire 4 ! data [3:0] $end\n$var wire 1 \" ok $end\n$upscope $end\n$upscope $end\n\
+        $scope module in2 $end\n$var wire 1 # clk $end\n$upscope $end\n$enddefinitions $end\n\
+        #0\n0#\n#1500\nb101 !\n#2000\n1\"\nb0 !\n1#\n#3999\n0\"\n#4000\n0#\n#5000\n";
 
 #[test]
 fn two_time_scales(rt: HostRuntime) -> Result<(), Fail> {
@@ -236,11 +246,16 @@ fn two_time_scales(rt: HostRuntime) -> Result<(), Fail> {
 }
 
 // An event inside a section and outside, and a time that is marked twice.
-const TOP: &[u8] =
-    b"$timescale 10us $end\n$scope module top $end\n$var reg 2 a q [1:0] $end\n$var event 1 b go $end\n$upscope $end\n$enddefinitions $end\n#0\n$dumpvars\nbxx a\n1b\n$end\n#3\nb01 a\n1b\n#3\nb10 a\n";
+const TOP: &[u8] = b"$timescale 10us $end\n$scope module top $end\n$var reg 2 a q [1:0] $end\n\
+    $var event 1 b go $end\n$upscope $end\n$enddefinitions $end\n\
+    #0\n$dumpvars\nbxx a\n1b\n$end\n#3\nb01 a\n1b\n#3\nb10 a\n";
 
 const TOP_TWICE: &[u8] =
-    b"$timescale\n\t10us\n$end\n$scope module in1 $end\n$scope module top $end\n$var reg 2 ! q [1:0] $end\n$var event 1 \" go $end\n$upscope $end\n$upscope $end\n$scope module in2 $end\n$scope module top $end\n$var reg 2 # q [1:0] $end\n$var event 1 $ go $end\n$upscope $end\n$upscope $end\n$enddefinitions $end\n#0\nbx !\nbx #\n#3\nb1 !\n1\"\nb10 !\nb1 #\n1$\nb10 #\n";
+    b"$timescale\n\t10us\n$end\n$scope module in1 $end\n$scope module top $end\n\
+        $var reg 2 ! q [1:0] $end\n$var event 1 \" go $end\n$upscope $end\n$upscope $end\n\
+        $scope module in2 $end\n$scope module top $end\n$var reg 2 # q [1:0] $end\n\
+        $var event 1 $ go $end\n$upscope $end\n$upscope $end\n$enddefinitions $end\n\
+        #0\nbx !\nbx #\n#3\nb1 !\n1\"\nb10 !\nb1 #\n1$\nb10 #\n";
 
 #[test]
 fn the_same_dump_twice(rt: HostRuntime) -> Result<(), Fail> {
@@ -255,7 +270,9 @@ const BAD_AT_SIX: &[u8] =
     b"$var wire 1 ! b $end\n$enddefinitions $end\n#2\n1!\n#5\n0!\n#6\n?\n1!\n#7\n1!\n";
 
 const BEFORE_SIX: &[u8] =
-    b"$timescale\n\t1s\n$end\n$scope module in1 $end\n$var wire 1 ! a $end\n$upscope $end\n$scope module in2 $end\n$var wire 1 \" b $end\n$upscope $end\n$enddefinitions $end\n#1\n1!\n#2\n1\"\n#5\n0!\n0\"\n";
+    b"$timescale\n\t1s\n$end\n$scope module in1 $end\n$var wire 1 ! a $end\n$upscope $end\n\
+        $scope module in2 $end\n$var wire 1 \" b $end\n$upscope $end\n$enddefinitions $end\n\
+        #1\n1!\n#2\n1\"\n#5\n0!\n0\"\n";
 
 #[test]
 fn a_fault_of_the_second_input(rt: HostRuntime) -> Result<(), Fail> {
@@ -272,7 +289,9 @@ fn a_fault_of_the_second_input(rt: HostRuntime) -> Result<(), Fail> {
 const BAD_AT_FIVE: &[u8] = b"$var wire 1 ! b $end\n$enddefinitions $end\n#2\n1!\n#5\n0!\n?\n1!\n";
 
 const BEFORE_ODD: &[u8] =
-    b"$timescale\n\t1s\n$end\n$scope module in1 $end\n$var wire 1 ! b $end\n$upscope $end\n$scope module in2 $end\n$var wire 1 \" a $end\n$upscope $end\n$enddefinitions $end\n#1\n1\"\n#2\n1!\n#5\n0!\n";
+    b"$timescale\n\t1s\n$end\n$scope module in1 $end\n$var wire 1 ! b $end\n$upscope $end\n\
+        $scope module in2 $end\n$var wire 1 \" a $end\n$upscope $end\n$enddefinitions $end\n\
+        #1\n1\"\n#2\n1!\n#5\n0!\n";
 
 // Of one time, what the inputs before the one with the fault have is written, and no more.
 #[test]
@@ -296,11 +315,13 @@ fn a_fault_at_a_time_of_both(rt: HostRuntime) -> Result<(), Fail> {
 const LONG: &[u8] =
     b"$timescale 1s $end\n$var wire 1 ! a $end\n$enddefinitions $end\n#18446\n1!\n#18447\n0!\n";
 
-const FEMTOSECONDS: &[u8] =
-    b"$timescale 1fs $end\n$var wire 1 ! b $end\n$enddefinitions $end\n#7\n1!\n#18446000000000000000\n0!\n#18446000000000000001\n1!\n";
+const FEMTOSECONDS: &[u8] = b"$timescale 1fs $end\n$var wire 1 ! b $end\n$enddefinitions $end\n\
+    #7\n1!\n#18446000000000000000\n0!\n#18446000000000000001\n1!\n";
 
 const BEFORE_TOO_LARGE: &[u8] =
-    b"$timescale\n\t1fs\n$end\n$scope module in1 $end\n$var wire 1 ! b $end\n$upscope $end\n$scope module in2 $end\n$var wire 1 \" a $end\n$upscope $end\n$enddefinitions $end\n#7\n1!\n#18446000000000000000\n0!\n1\"\n";
+    b"$timescale\n\t1fs\n$end\n$scope module in1 $end\n$var wire 1 ! b $end\n$upscope $end\n\
+        $scope module in2 $end\n$var wire 1 \" a $end\n$upscope $end\n$enddefinitions $end\n\
+        #7\n1!\n#18446000000000000000\n0!\n1\"\n";
 
 #[test]
 fn a_time_too_large(rt: HostRuntime) -> Result<(), Fail> {
@@ -321,7 +342,10 @@ const SLOW: &[u8] =
     b"$timescale 1us $end\n$var wire 1 c c $end\n$enddefinitions $end\n#0\n0c\n#1\n1c\n";
 
 const ABOUT_EMPTY: &[u8] =
-    b"$timescale\n\t100ps\n$end\n$scope module in1 $end\n$var wire 1 ! clk $end\n$upscope $end\n$scope module in2 $end\n$var real 1 \" r $end\n$upscope $end\n$scope module in3 $end\n$var wire 1 # c $end\n$upscope $end\n$enddefinitions $end\n#0\n0!\n0#\n#50\n1!\n#10000\n1#\n";
+    b"$timescale\n\t100ps\n$end\n$scope module in1 $end\n$var wire 1 ! clk $end\n$upscope $end\n\
+        $scope module in2 $end\n$var real 1 \" r $end\n$upscope $end\n$scope module in3 $end\n\
+        $var wire 1 # c $end\n$upscope $end\n$enddefinitions $end\n\
+        #0\n0!\n0#\n#50\n1!\n#10000\n1#\n";
 
 #[test]
 fn an_input_without_items_between_two(rt: HostRuntime) -> Result<(), Fail> {
@@ -334,7 +358,8 @@ const SMALL: &[u8] =
 
 // Where a merge of 64 of them begins, and where it ends.
 const FIRST_OF_ALL: &[u8] =
-    b"$timescale\n\t1ns\n$end\n$scope module in1 $end\n$var wire 1 ! a $end\n$upscope $end\n$scope module in2 $end\n$var wire 1 \" a $end\n$upscope $end\n";
+    b"$timescale\n\t1ns\n$end\n$scope module in1 $end\n$var wire 1 ! a $end\n$upscope $end\n\
+        $scope module in2 $end\n$var wire 1 \" a $end\n$upscope $end\n";
 
 const LAST_OF_ALL: &[u8] = b"\n1\\\n1]\n1^\n1_\n1`\n";
 
