@@ -5,20 +5,30 @@ use vcd_tools::{Done, Task};
 
 // A value of each kind, and one that is never set.
 pub(crate) const KINDS: &[u8] =
-    b"$var wire 1 ! a $end\n$var real 1 \" r $end\n$var event 1 # e $end\n$var wire 2 % u $end\n$enddefinitions $end\n#9\n0!\nr1.5 \"\n1#\n#10\n1!\n1#\n#20\nr2 \"\n#21\n0!\n";
+    b"$var wire 1 ! a $end\n$var real 1 \" r $end\n$var event 1 # e $end\n$var wire 2 % u $end\n\
+        $enddefinitions $end\n\
+        #9\n0!\nr1.5 \"\n1#\n#10\n1!\n1#\n#20\nr2 \"\n#21\n0!\n";
 
 // A dump of these variables with a change before the first time mark.
 const UNMARKED: &[u8] =
-    b"$var wire 1 ! a $end\n$var real 1 \" r $end\n$var event 1 # e $end\n$var wire 2 % u $end\n$enddefinitions $end\n1!\n#0\n0!\n#9\n";
+    b"$var wire 1 ! a $end\n$var real 1 \" r $end\n$var event 1 # e $end\n$var wire 2 % u $end\n\
+        $enddefinitions $end\n\
+        1!\n#0\n0!\n#9\n";
 
 pub(crate) const KINDS_CUT: &[u8] =
-    b"$var wire 1 ! a $end\n$var real 1 \" r $end\n$var event 1 # e $end\n$var wire 2 % u $end\n$enddefinitions $end\n#10\n$dumpvars\n0!\nr1.5 \"\n$end\n1!\n1#\n#15\n";
+    b"$var wire 1 ! a $end\n$var real 1 \" r $end\n$var event 1 # e $end\n$var wire 2 % u $end\n\
+        $enddefinitions $end\n\
+        #10\n$dumpvars\n0!\nr1.5 \"\n$end\n1!\n1#\n#15\n";
 
 const KINDS_AFTER: &[u8] =
-    b"$var wire 1 ! a $end\n$var real 1 \" r $end\n$var event 1 # e $end\n$var wire 2 % u $end\n$enddefinitions $end\n#30\n$dumpvars\n0!\nr2 \"\n$end\n";
+    b"$var wire 1 ! a $end\n$var real 1 \" r $end\n$var event 1 # e $end\n$var wire 2 % u $end\n\
+        $enddefinitions $end\n\
+        #30\n$dumpvars\n0!\nr2 \"\n$end\n";
 
 const UNMARKED_CUT: &[u8] =
-    b"$var wire 1 ! a $end\n$var real 1 \" r $end\n$var event 1 # e $end\n$var wire 2 % u $end\n$enddefinitions $end\n#0\n$dumpvars\n$end\n1!\n0!\n#5\n";
+    b"$var wire 1 ! a $end\n$var real 1 \" r $end\n$var event 1 # e $end\n$var wire 2 % u $end\n\
+        $enddefinitions $end\n\
+        #0\n$dumpvars\n$end\n1!\n0!\n#5\n";
 
 #[test]
 fn cut_of_a_window(rt: HostRuntime) -> Result<(), Fail> {

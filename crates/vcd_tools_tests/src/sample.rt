@@ -9,11 +9,12 @@ use std::test::Fail;
 use vcd_tools::{Done, Stop, Task};
 
 // Vectors that are shorter than their variables.
-const SHORT: &[u8] =
-    b"$var wire 4 ! v $end\n$var wire 8 \" w $end\n$enddefinitions $end\n#1\nb10 !\nb1 \"\n#2\nbX10 !\n#3\nbZx0 !\n#4\nb0x10 !\n";
+const SHORT: &[u8] = b"$var wire 4 ! v $end\n$var wire 8 \" w $end\n$enddefinitions $end\n\
+    #1\nb10 !\nb1 \"\n#2\nbX10 !\n#3\nbZx0 !\n#4\nb0x10 !\n";
 
 const SHORT_SAMPLED: &[u8] =
-    b"0 v -\n0 w -\n1 v 0010\n1 w 00000001\n2 v xx10\n2 w 00000001\n3 v zzx0\n3 w 00000001\n4 v 0x10\n4 w 00000001\n";
+    b"0 v -\n0 w -\n1 v 0010\n1 w 00000001\n2 v xx10\n2 w 00000001\n3 v zzx0\n3 w 00000001\n\
+        4 v 0x10\n4 w 00000001\n";
 
 // A dump with a word that is no item after its second time mark.
 const FAULTY: &[u8] =
@@ -23,16 +24,21 @@ const FAULTY_SAMPLED: &[u8] = b"1 v 0001\n1 w -\n";
 
 // A value of each kind, and one that is never set.
 const KINDS: &[u8] =
-    b"$var wire 1 ! a $end\n$var real 1 \" r $end\n$var event 1 # e $end\n$var wire 2 % u $end\n$enddefinitions $end\n#9\n0!\nr1.5 \"\n1#\n#10\n1!\n1#\n#20\nr2 \"\n#21\n0!\n";
+    b"$var wire 1 ! a $end\n$var real 1 \" r $end\n$var event 1 # e $end\n$var wire 2 % u $end\n\
+        $enddefinitions $end\n\
+        #9\n0!\nr1.5 \"\n1#\n#10\n1!\n1#\n#20\nr2 \"\n#21\n0!\n";
 
 const KINDS_SAMPLED: &[u8] = b"9 a 0\n9 r r1.5\n9 u -\n20 a 1\n20 r r2\n20 u -\n";
 
 // Two variables in scopes, of which one has another name as well.
 const ALIASED: &[u8] =
-    b"$scope module tb $end\n$var wire 1 ! clk $end\n$scope module u $end\n$var wire 1 ! c $end\n$var reg 2 \" q [1:0] $end\n$upscope $end\n$upscope $end\n$enddefinitions $end\n#5\n1!\nb1 \"\n#40\n0!\n";
+    b"$scope module tb $end\n$var wire 1 ! clk $end\n$scope module u $end\n$var wire 1 ! c $end\n\
+        $var reg 2 \" q [1:0] $end\n$upscope $end\n$upscope $end\n$enddefinitions $end\n\
+        #5\n1!\nb1 \"\n#40\n0!\n";
 
 const ALIASED_SAMPLED: &[u8] =
-    b"4 tb.clk -\n4 tb.u.c -\n4 tb.u.q -\n7 tb.clk 1\n7 tb.u.c 1\n7 tb.u.q 01\n39 tb.clk 1\n39 tb.u.c 1\n39 tb.u.q 01\n";
+    b"4 tb.clk -\n4 tb.u.c -\n4 tb.u.q -\n7 tb.clk 1\n7 tb.u.c 1\n7 tb.u.q 01\n39 tb.clk 1\n\
+        39 tb.u.c 1\n39 tb.u.q 01\n";
 
 // A sample at these times.
 fn sample_at<'n>(times: &'n [u64], names: &'n [String]) -> Task<'n>

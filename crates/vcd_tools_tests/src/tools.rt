@@ -17,8 +17,9 @@ use vcd_text::doubles::{Narrow, Pieces};
 use vcd_text::{Feed, Sink, Source, Watch};
 use vcd_tools::{Begun, Done, Engine, More, Room, Stop, Task, check, laws, list, step};
 
-const NESTED: &[u8] =
-    b"$var event 1 % go $end\n$scope module tb $end\n$var wire 1 ! clk $end\n$scope module u $end\n$var reg 4 \" q [3:0] $end\n$upscope $end\n$var real 1 # r $end\n$enddefinitions $end\n";
+const NESTED: &[u8] = b"$var event 1 % go $end\n$scope module tb $end\n$var wire 1 ! clk $end\n\
+    $scope module u $end\n$var reg 4 \" q [3:0] $end\n$upscope $end\n$var real 1 # r $end\n\
+    $enddefinitions $end\n";
 
 const NESTED_LIST: &[u8] = b"go event 1 %\ntb.clk wire 1 !\ntb.u.q reg 4 \"\ntb.r real 1 #\n";
 
@@ -67,8 +68,10 @@ fn a_list_ends_where_a_write_fails(rt: HostRuntime) -> Result<(), Fail> {
 }
 
 // Icarus Verilog's way to write a dump.
-const ICARUS: &[u8] =
-    b"$date\n\tTue Mar  5 10:00:00 2024\n$end\n$version\n\tIcarus Verilog\n$end\n$timescale\n\t1ns\n$end\n$scope module tb $end\n$var wire 8 ! data [7:0] $end\n$var reg 1 \" clk $end\n$upscope $end\n$enddefinitions $end\n#0\n$dumpvars\n0\"\nbx !\n$end\n#5\n1\"\nb101 !\n#10\n";
+const ICARUS: &[u8] = b"$date\n\tTue Mar  5 10:00:00 2024\n$end\n$version\n\tIcarus Verilog\n$end\n\
+    $timescale\n\t1ns\n$end\n$scope module tb $end\n$var wire 8 ! data [7:0] $end\n\
+    $var reg 1 \" clk $end\n$upscope $end\n$enddefinitions $end\n\
+    #0\n$dumpvars\n0\"\nbx !\n$end\n#5\n1\"\nb101 !\n#10\n";
 
 const ICARUS_COUNTS: &[u8] =
     b"scopes 1\nvariables 2\ncodes 2\ntimes 3\nsections 1\nchanges 4\nlast 10\n";
@@ -157,7 +160,8 @@ fn check_of_an_open_section(rt: HostRuntime) -> Result<(), Fail> {
     assert!(rt;
         is_checked(
             rt.alloc(),
-            b"$timescale 1ns $end $var wire 1 ! clk $end\n$enddefinitions $end\n#5\n$dumpvars\n1!\n",
+            b"$timescale 1ns $end $var wire 1 ! clk $end\n$enddefinitions $end\n\
+                #5\n$dumpvars\n1!\n",
             Err(Stop::Dump {
                 input: 0,
                 line: 6,
@@ -354,14 +358,19 @@ fn steps_write_at_the_end_alone(rt: HostRuntime) -> Result<(), Fail> {
 }
 
 // A clock and four bits in a scope, and changes of both whose last digits can be left out.
-const CLOCKED: &[u8] =
-    b"$timescale 1ns $end\n$scope module tb $end\n$var wire 1 ! clk $end\n$var reg 4 \" q [3:0] $end\n$upscope $end\n$enddefinitions $end\n#0\nb0010 \"\nb1 !\n";
+const CLOCKED: &[u8] = b"$timescale 1ns $end\n$scope module tb $end\n$var wire 1 ! clk $end\n\
+    $var reg 4 \" q [3:0] $end\n$upscope $end\n$enddefinitions $end\n\
+    #0\nb0010 \"\nb1 !\n";
 
 const CLOCKED_PICKED: &[u8] =
-    b"$timescale\n\t1ns\n$end\n$scope module tb $end\n$var wire 1 ! clk $end\n$var reg 4 \" q [3:0] $end\n$upscope $end\n$enddefinitions $end\n#0\nb10 \"\n1!\n";
+    b"$timescale\n\t1ns\n$end\n$scope module tb $end\n$var wire 1 ! clk $end\n\
+        $var reg 4 \" q [3:0] $end\n$upscope $end\n$enddefinitions $end\n\
+        #0\nb10 \"\n1!\n";
 
 const CLOCK_PICKED: &[u8] =
-    b"$timescale\n\t1ns\n$end\n$scope module tb $end\n$var wire 1 ! clk $end\n$upscope $end\n$enddefinitions $end\n#0\n1!\n";
+    b"$timescale\n\t1ns\n$end\n$scope module tb $end\n$var wire 1 ! clk $end\n$upscope $end\n\
+        $enddefinitions $end\n\
+        #0\n1!\n";
 
 // Whether a pick of this name has this result, and this is written.
 fn is_picked(
@@ -402,14 +411,18 @@ fn a_pick_ends_where_a_write_fails(rt: HostRuntime) -> Result<(), Fail> {
 }
 
 // A dump that ends in a vector.
-const CUT_SHORT: &[u8] =
-    b"$timescale 1ns $end\n$scope module tb $end\n$var wire 1 ! clk $end\n$var reg 4 \" q [3:0] $end\n$upscope $end\n$enddefinitions $end\n#0\n0!\n#5\nb10";
+const CUT_SHORT: &[u8] = b"$timescale 1ns $end\n$scope module tb $end\n$var wire 1 ! clk $end\n\
+    $var reg 4 \" q [3:0] $end\n$upscope $end\n$enddefinitions $end\n\
+    #0\n0!\n#5\nb10";
 
 const CUT_SHORT_HEAD: &[u8] =
-    b"$timescale\n\t1ns\n$end\n$scope module tb $end\n$var wire 1 ! clk $end\n$var reg 4 \" q [3:0] $end\n$upscope $end\n$enddefinitions $end\n";
+    b"$timescale\n\t1ns\n$end\n$scope module tb $end\n$var wire 1 ! clk $end\n\
+        $var reg 4 \" q [3:0] $end\n$upscope $end\n$enddefinitions $end\n";
 
 const CUT_SHORT_PICKED: &[u8] =
-    b"$timescale\n\t1ns\n$end\n$scope module tb $end\n$var wire 1 ! clk $end\n$var reg 4 \" q [3:0] $end\n$upscope $end\n$enddefinitions $end\n#0\n0!\n";
+    b"$timescale\n\t1ns\n$end\n$scope module tb $end\n$var wire 1 ! clk $end\n\
+        $var reg 4 \" q [3:0] $end\n$upscope $end\n$enddefinitions $end\n\
+        #0\n0!\n";
 
 #[test]
 fn steps_of_a_pick_write_what_is_due(rt: HostRuntime) -> Result<(), Fail> {
@@ -431,16 +444,23 @@ fn steps_of_a_pick_write_what_is_due(rt: HostRuntime) -> Result<(), Fail> {
 // What is written of the cut of `KINDS` at first, with the mark 10, and with each change of that
 // time.
 const CUT: &[u8] =
-    b"$var wire 1 ! a $end\n$var real 1 \" r $end\n$var event 1 # e $end\n$var wire 2 % u $end\n$enddefinitions $end\n";
+    b"$var wire 1 ! a $end\n$var real 1 \" r $end\n$var event 1 # e $end\n$var wire 2 % u $end\n\
+        $enddefinitions $end\n";
 
 const CUT_BEGUN: &[u8] =
-    b"$var wire 1 ! a $end\n$var real 1 \" r $end\n$var event 1 # e $end\n$var wire 2 % u $end\n$enddefinitions $end\n#10\n$dumpvars\n0!\nr1.5 \"\n$end\n";
+    b"$var wire 1 ! a $end\n$var real 1 \" r $end\n$var event 1 # e $end\n$var wire 2 % u $end\n\
+        $enddefinitions $end\n\
+        #10\n$dumpvars\n0!\nr1.5 \"\n$end\n";
 
 const CUT_CHANGED: &[u8] =
-    b"$var wire 1 ! a $end\n$var real 1 \" r $end\n$var event 1 # e $end\n$var wire 2 % u $end\n$enddefinitions $end\n#10\n$dumpvars\n0!\nr1.5 \"\n$end\n1!\n";
+    b"$var wire 1 ! a $end\n$var real 1 \" r $end\n$var event 1 # e $end\n$var wire 2 % u $end\n\
+        $enddefinitions $end\n\
+        #10\n$dumpvars\n0!\nr1.5 \"\n$end\n1!\n";
 
 const CUT_MARKED: &[u8] =
-    b"$var wire 1 ! a $end\n$var real 1 \" r $end\n$var event 1 # e $end\n$var wire 2 % u $end\n$enddefinitions $end\n#10\n$dumpvars\n0!\nr1.5 \"\n$end\n1!\n1#\n";
+    b"$var wire 1 ! a $end\n$var real 1 \" r $end\n$var event 1 # e $end\n$var wire 2 % u $end\n\
+        $enddefinitions $end\n\
+        #10\n$dumpvars\n0!\nr1.5 \"\n$end\n1!\n1#\n";
 
 #[test]
 fn steps_of_a_cut_write_what_is_due(rt: HostRuntime) -> Result<(), Fail> {
