@@ -7,10 +7,14 @@ use vcd_words::Words;
 
 // A dump with a change before its first time mark, and its cut from 0 to 5.
 const UNMARKED: &[u8] =
-    b"$var wire 1 ! a $end\n$var real 1 \" r $end\n$var event 1 # e $end\n$var wire 2 % u $end\n$enddefinitions $end\n1!\n#0\n0!\n#9\n";
+    b"$var wire 1 ! a $end\n$var real 1 \" r $end\n$var event 1 # e $end\n$var wire 2 % u $end\n\
+        $enddefinitions $end\n\
+        1!\n#0\n0!\n#9\n";
 
 const UNMARKED_CUT: &[u8] =
-    b"$var wire 1 ! a $end\n$var real 1 \" r $end\n$var event 1 # e $end\n$var wire 2 % u $end\n$enddefinitions $end\n#0\n$dumpvars\n$end\n1!\n0!\n#5\n";
+    b"$var wire 1 ! a $end\n$var real 1 \" r $end\n$var event 1 # e $end\n$var wire 2 % u $end\n\
+        $enddefinitions $end\n\
+        #0\n$dumpvars\n$end\n1!\n0!\n#5\n";
 
 // Times, a dump, and what a cut between these times writes.
 const CUTS: [(&str, &str, &[u8], &[u8]); 7] = [
@@ -18,38 +22,48 @@ const CUTS: [(&str, &str, &[u8], &[u8]); 7] = [
         "10",
         "20",
         MIXED,
-        b"$var wire 1 ! a $end\n$var real 1 \" r $end\n$var event 1 # e $end\n$var wire 2 % u $end\n$enddefinitions $end\n#10\n$dumpvars\n0!\nr1.5 \"\n$end\n1!\n1#\n#20\nr2 \"\n",
+        b"$var wire 1 ! a $end\n$var real 1 \" r $end\n$var event 1 # e $end\n\
+            $var wire 2 % u $end\n$enddefinitions $end\n\
+            #10\n$dumpvars\n0!\nr1.5 \"\n$end\n1!\n1#\n#20\nr2 \"\n",
     ),
     (
         "10",
         "15",
         MIXED,
-        b"$var wire 1 ! a $end\n$var real 1 \" r $end\n$var event 1 # e $end\n$var wire 2 % u $end\n$enddefinitions $end\n#10\n$dumpvars\n0!\nr1.5 \"\n$end\n1!\n1#\n#15\n",
+        b"$var wire 1 ! a $end\n$var real 1 \" r $end\n$var event 1 # e $end\n\
+            $var wire 2 % u $end\n$enddefinitions $end\n\
+            #10\n$dumpvars\n0!\nr1.5 \"\n$end\n1!\n1#\n#15\n",
     ),
     (
         "30",
         "40",
         MIXED,
-        b"$var wire 1 ! a $end\n$var real 1 \" r $end\n$var event 1 # e $end\n$var wire 2 % u $end\n$enddefinitions $end\n#30\n$dumpvars\n0!\nr2 \"\n$end\n",
+        b"$var wire 1 ! a $end\n$var real 1 \" r $end\n$var event 1 # e $end\n\
+            $var wire 2 % u $end\n$enddefinitions $end\n\
+            #30\n$dumpvars\n0!\nr2 \"\n$end\n",
     ),
     ("0", "5", UNMARKED, UNMARKED_CUT),
     (
         "10",
         "10",
         MIXED,
-        b"$var wire 1 ! a $end\n$var real 1 \" r $end\n$var event 1 # e $end\n$var wire 2 % u $end\n$enddefinitions $end\n#10\n$dumpvars\n0!\nr1.5 \"\n$end\n1!\n1#\n",
+        b"$var wire 1 ! a $end\n$var real 1 \" r $end\n$var event 1 # e $end\n\
+            $var wire 2 % u $end\n$enddefinitions $end\n\
+            #10\n$dumpvars\n0!\nr1.5 \"\n$end\n1!\n1#\n",
     ),
     (
         "5ns",
         "29ns",
         TENS,
-        b"$timescale\n\t10ns\n$end\n$var wire 1 ! a $end\n$enddefinitions $end\n#1\n$dumpvars\n0!\n$end\n1!\n#2\n0!\n",
+        b"$timescale\n\t10ns\n$end\n$var wire 1 ! a $end\n$enddefinitions $end\n\
+            #1\n$dumpvars\n0!\n$end\n1!\n#2\n0!\n",
     ),
     (
         "1",
         "29ns",
         TENS,
-        b"$timescale\n\t10ns\n$end\n$var wire 1 ! a $end\n$enddefinitions $end\n#1\n$dumpvars\n0!\n$end\n1!\n#2\n0!\n",
+        b"$timescale\n\t10ns\n$end\n$var wire 1 ! a $end\n$enddefinitions $end\n\
+            #1\n$dumpvars\n0!\n$end\n1!\n#2\n0!\n",
     ),
 ];
 
@@ -85,7 +99,9 @@ fn what_a_cut_between_other_times_writes_is_a_dump(rt: HostRuntime) {
 // which writes the header alone.
 const HEADS: [(&[u8], bool, &[u8], u8); 2] = [
     (
-        b"$var wire 1 ! a $end\n$var real 1 \" r $end\n$var event 1 # e $end\n$var wire 2 % u $end\n$enddefinitions $end\n#9\n0!\n?\n",
+        b"$var wire 1 ! a $end\n$var real 1 \" r $end\n$var event 1 # e $end\n\
+            $var wire 2 % u $end\n$enddefinitions $end\n\
+            #9\n0!\n?\n",
         false,
         b"vcdkit: (stdin):8: unknown command\n",
         1,

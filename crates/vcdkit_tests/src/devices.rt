@@ -1,7 +1,9 @@
 // Devices that give or take one to seven bytes a call, and fail at one call alone.
 ghost use Rattle.std.specs.Prelude.{◌≡◌, ◌<◌, ◌≤◌};
 
-use super::runs::{READ_FAILED, merge_names, wanted};
+use super::runs::{
+    MIXED, MIXED_HEAD, NESTED, NESTED_LIST, READ_FAILED, TB, TB_WRITTEN, merge_names, wanted,
+};
 use std::alloc::{AllocError, Global};
 use std::io;
 use std::io::{ErrorKind, Write};
@@ -380,33 +382,34 @@ fn fail_in_turn<R: Abort + AllocGlobal>(rt: &R, row: &Row<'_>) {
 }
 
 const CHECK_OF_A_FULL_DUMP: [(&[u8], &[u8]); 1] = [(
-    b"$date\n\tTue Mar  5 10:00:00 2024\n$end\n$version\n\tIcarus Verilog\n$end\n$timescale\n\t1ns\n$end\n$scope module tb $end\n$var wire 8 ! data [7:0] $end\n$var reg 1 \" clk $end\n$upscope $end\n$enddefinitions $end\n#0\n$dumpvars\n0\"\nbx !\n$end\n#5\n1\"\nb101 !\n#10\n",
+    b"$date\n\tTue Mar  5 10:00:00 2024\n$end\n$version\n\tIcarus Verilog\n$end\n\
+        $timescale\n\t1ns\n$end\n$scope module tb $end\n$var wire 8 ! data [7:0] $end\n\
+        $var reg 1 \" clk $end\n$upscope $end\n$enddefinitions $end\n\
+        #0\n$dumpvars\n0\"\nbx !\n$end\n#5\n1\"\nb101 !\n#10\n",
     b"",
 )];
 
 const CHECK_TIME_GOES_BACK: [(&[u8], &[u8]); 1] = [(
-    b"$timescale 1ns $end\n$scope module tb $end\n$var wire 1 ! clk $end\n$var reg 4 \" q [3:0] $end\n$upscope $end\n$enddefinitions $end\n#5\n#5\n1!\n#4\n",
+    b"$timescale 1ns $end\n$scope module tb $end\n$var wire 1 ! clk $end\n\
+        $var reg 4 \" q [3:0] $end\n$upscope $end\n$enddefinitions $end\n\
+        #5\n#5\n1!\n#4\n",
     b"",
 )];
 
-const LIST_OF_NESTED_SCOPES_AND_KINDS: [(&[u8], &[u8]); 1] = [(
-    b"$var event 1 % go $end\n$scope module tb $end\n$var wire 1 ! clk $end\n$scope module u $end\n$var reg 4 \" q [3:0] $end\n$upscope $end\n$var real 1 # r $end\n$enddefinitions $end\n",
-    b"go event 1 %\ntb.clk wire 1 !\ntb.u.q reg 4 \"\ntb.r real 1 #\n",
-)];
+const LIST_OF_NESTED_SCOPES_AND_KINDS: [(&[u8], &[u8]); 1] = [(NESTED, NESTED_LIST)];
 
 const PICK_WRITES_SHORTEST_DIGITS: [(&[u8], &[u8]); 3] = [
-    (
-        b"$timescale 1ns $end\n$scope module tb $end\n$var wire 1 ! clk $end\n$var reg 4 \" q [3:0] $end\n$upscope $end\n$enddefinitions $end\n",
-        b"$timescale\n\t1ns\n$end\n$scope module tb $end\n$var wire 1 ! clk $end\n$var reg 4 \" q [3:0] $end\n$upscope $end\n$enddefinitions $end\n",
-    ),
+    (TB, TB_WRITTEN),
     (b"#0\nb0010 \"\n", b"#0\nb10 \"\n"),
     (b"b1 !\n", b"1!\n"),
 ];
 
 const PICK_BY_THE_SECOND_NAME_OF_A_CODE: [(&[u8], &[u8]); 5] = [
     (
-        b"$scope module tb $end\n$var wire 1 ! a $end\n$scope module u $end\n$var wire 1 ! b $end\n$upscope $end\n$upscope $end\n$enddefinitions $end\n",
-        b"$scope module tb $end\n$scope module u $end\n$var wire 1 ! b $end\n$upscope $end\n$upscope $end\n$enddefinitions $end\n",
+        b"$scope module tb $end\n$var wire 1 ! a $end\n$scope module u $end\n\
+            $var wire 1 ! b $end\n$upscope $end\n$upscope $end\n$enddefinitions $end\n",
+        b"$scope module tb $end\n$scope module u $end\n$var wire 1 ! b $end\n$upscope $end\n\
+            $upscope $end\n$enddefinitions $end\n",
     ),
     (b"#0\n0!\n", b"#0\n0!\n"),
     (b"#5\n1!\n", b"#5\n1!\n"),
@@ -415,27 +418,22 @@ const PICK_BY_THE_SECOND_NAME_OF_A_CODE: [(&[u8], &[u8]); 5] = [
 ];
 
 const PICK_OF_A_DUMP_THAT_ENDS_IN_A_VECTOR: [(&[u8], &[u8]); 3] = [
-    (
-        b"$timescale 1ns $end\n$scope module tb $end\n$var wire 1 ! clk $end\n$var reg 4 \" q [3:0] $end\n$upscope $end\n$enddefinitions $end\n",
-        b"$timescale\n\t1ns\n$end\n$scope module tb $end\n$var wire 1 ! clk $end\n$var reg 4 \" q [3:0] $end\n$upscope $end\n$enddefinitions $end\n",
-    ),
+    (TB, TB_WRITTEN),
     (b"#0\n0!\n", b"#0\n0!\n"),
     (b"#5\nb10", b""),
 ];
 
 const PICK_OF_A_NAME_THAT_SELECTS_NOTHING: [(&[u8], &[u8]); 2] = [
     (
-        b"$scope module tb $end\n$var wire 1 ! a $end\n$scope module u $end\n$var wire 1 ! b $end\n$upscope $end\n$upscope $end\n$enddefinitions $end\n",
+        b"$scope module tb $end\n$var wire 1 ! a $end\n$scope module u $end\n\
+            $var wire 1 ! b $end\n$upscope $end\n$upscope $end\n$enddefinitions $end\n",
         b"",
     ),
     (b"#0\n0!\n#5\n1!\n#5\n1!\n#7\n", b""),
 ];
 
 const CUT_ENDS_AT_A_CHANGE_OF_TIME_TO: [(&[u8], &[u8]); 7] = [
-    (
-        b"$var wire 1 ! a $end\n$var real 1 \" r $end\n$var event 1 # e $end\n$var wire 2 % u $end\n$enddefinitions $end\n",
-        b"$var wire 1 ! a $end\n$var real 1 \" r $end\n$var event 1 # e $end\n$var wire 2 % u $end\n$enddefinitions $end\n",
-    ),
+    (MIXED_HEAD, MIXED_HEAD),
     (
         b"#9\n0!\nr1.5 \"\n1#\n#10\n",
         b"#10\n$dumpvars\n0!\nr1.5 \"\n$end\n",
@@ -448,10 +446,7 @@ const CUT_ENDS_AT_A_CHANGE_OF_TIME_TO: [(&[u8], &[u8]); 7] = [
 ];
 
 const CUT_WRITES_THE_END_TIME: [(&[u8], &[u8]); 6] = [
-    (
-        b"$var wire 1 ! a $end\n$var real 1 \" r $end\n$var event 1 # e $end\n$var wire 2 % u $end\n$enddefinitions $end\n",
-        b"$var wire 1 ! a $end\n$var real 1 \" r $end\n$var event 1 # e $end\n$var wire 2 % u $end\n$enddefinitions $end\n",
-    ),
+    (MIXED_HEAD, MIXED_HEAD),
     (
         b"#9\n0!\nr1.5 \"\n1#\n#10\n",
         b"#10\n$dumpvars\n0!\nr1.5 \"\n$end\n",
@@ -463,10 +458,7 @@ const CUT_WRITES_THE_END_TIME: [(&[u8], &[u8]); 6] = [
 ];
 
 const CUT_FAULTS_BEFORE_ITS_START_SECTION: [(&[u8], &[u8]); 2] = [
-    (
-        b"$var wire 1 ! a $end\n$var real 1 \" r $end\n$var event 1 # e $end\n$var wire 2 % u $end\n$enddefinitions $end\n",
-        b"$var wire 1 ! a $end\n$var real 1 \" r $end\n$var event 1 # e $end\n$var wire 2 % u $end\n$enddefinitions $end\n",
-    ),
+    (MIXED_HEAD, MIXED_HEAD),
     (b"#9\n0!\n?\n", b""),
 ];
 
@@ -498,27 +490,34 @@ const SAMPLE_WRITES_WHAT_STANDS_AT_A_FAULT: [(&[u8], &[u8]); 2] = [
 ];
 
 const EDGES_WITH_SECTIONS_AND_X: [(&[u8], &[u8]); 1] = [(
-    b"$timescale 1ns $end\n$scope module tb $end\n$var wire 1 ! clk $end\n$var reg 4 \" q [3:0] $end\n$upscope $end\n$enddefinitions $end\n#0\n$dumpvars\n0!\nb0 \"\n$end\n#1\nx!\n#2\n1!\n#3\n0!\n#4\n1!\n1!\nb1 \"\n#5\n$dumpoff\nx!\nbx \"\n$end\n",
+    b"$timescale 1ns $end\n$scope module tb $end\n$var wire 1 ! clk $end\n\
+        $var reg 4 \" q [3:0] $end\n$upscope $end\n$enddefinitions $end\n\
+        #0\n$dumpvars\n0!\nb0 \"\n$end\n#1\nx!\n#2\n1!\n#3\n0!\n#4\n1!\n1!\nb1 \"\n\
+        #5\n$dumpoff\nx!\nbx \"\n$end\n",
     b"",
 )];
 
-const EDGES_OF_REAL_AND_EVENT: [(&[u8], &[u8]); 1] = [(
-    b"$var wire 1 ! a $end\n$var real 1 \" r $end\n$var event 1 # e $end\n$var wire 2 % u $end\n$enddefinitions $end\n#9\n0!\nr1.5 \"\n1#\n#10\n1!\n1#\n#20\nr2 \"\n#21\n0!\n",
-    b"",
-)];
+const EDGES_OF_REAL_AND_EVENT: [(&[u8], &[u8]); 1] = [(MIXED, b"")];
 
 const EDGES_WRITES_NOTHING_AT_A_FAULT: [(&[u8], &[u8]); 1] = [(
-    b"$timescale 1ns $end\n$scope module tb $end\n$var wire 1 ! clk $end\n$var reg 4 \" q [3:0] $end\n$upscope $end\n$enddefinitions $end\n#0\n0!\n?\n",
+    b"$timescale 1ns $end\n$scope module tb $end\n$var wire 1 ! clk $end\n\
+        $var reg 4 \" q [3:0] $end\n$upscope $end\n$enddefinitions $end\n\
+        #0\n0!\n?\n",
     b"",
 )];
 
 const OTHER_OF_MERGE_OF_ONE_FILE_TWICE_FIRST: &[u8] =
-    b"$timescale 1ns $end\n$scope module tb $end\n$var wire 1 ! clk $end\n$var reg 4 \" q [3:0] $end\n$upscope $end\n$enddefinitions $end\n#0\n0!\n#5\n1!\n";
+    b"$timescale 1ns $end\n$scope module tb $end\n$var wire 1 ! clk $end\n\
+        $var reg 4 \" q [3:0] $end\n$upscope $end\n$enddefinitions $end\n\
+        #0\n0!\n#5\n1!\n";
 
 const MERGE_OF_ONE_FILE_TWICE_FIRST: [(&[u8], &[u8]); 4] = [
     (
-        b"$timescale 1ns $end\n$scope module tb $end\n$var wire 1 ! clk $end\n$var reg 4 \" q [3:0] $end\n$upscope $end\n$enddefinitions $end\n",
-        b"$timescale\n\t1ns\n$end\n$scope module in1 $end\n$scope module tb $end\n$var wire 1 ! clk $end\n$var reg 4 \" q [3:0] $end\n$upscope $end\n$upscope $end\n$scope module in2 $end\n$scope module tb $end\n$var wire 1 # clk $end\n$var reg 4 $ q [3:0] $end\n$upscope $end\n$upscope $end\n$enddefinitions $end\n",
+        TB,
+        b"$timescale\n\t1ns\n$end\n$scope module in1 $end\n$scope module tb $end\n\
+            $var wire 1 ! clk $end\n$var reg 4 \" q [3:0] $end\n$upscope $end\n$upscope $end\n\
+            $scope module in2 $end\n$scope module tb $end\n$var wire 1 # clk $end\n\
+            $var reg 4 $ q [3:0] $end\n$upscope $end\n$upscope $end\n$enddefinitions $end\n",
     ),
     (b"#0\n0!\n", b"#0\n0!\n"),
     (b"#5\n", b"0#\n"),
@@ -531,7 +530,8 @@ const OTHER_OF_MERGE_OF_TWO_SCALES_UNTIL_A_TIME_IS_TOO_LARGE_FIRST: &[u8] =
 const MERGE_OF_TWO_SCALES_UNTIL_A_TIME_IS_TOO_LARGE_FIRST: [(&[u8], &[u8]); 5] = [
     (
         b"$timescale 1ns $end\n$var wire 1 ! a $end\n$enddefinitions $end\n",
-        b"$timescale\n\t100ps\n$end\n$scope module in1 $end\n$var wire 1 ! a $end\n$upscope $end\n$scope module in2 $end\n$var wire 1 \" b $end\n$upscope $end\n$enddefinitions $end\n",
+        b"$timescale\n\t100ps\n$end\n$scope module in1 $end\n$var wire 1 ! a $end\n$upscope $end\n\
+            $scope module in2 $end\n$var wire 1 \" b $end\n$upscope $end\n$enddefinitions $end\n",
     ),
     (b"#1\n", b"#5\n1\"\n"),
     (b"1!\n", b"#10\n1!\n"),
@@ -540,12 +540,18 @@ const MERGE_OF_TWO_SCALES_UNTIL_A_TIME_IS_TOO_LARGE_FIRST: [(&[u8], &[u8]); 5] =
 ];
 
 const OTHER_OF_MERGE_OF_ONE_FILE_TWICE_SECOND: &[u8] =
-    b"$timescale 1ns $end\n$scope module tb $end\n$var wire 1 ! clk $end\n$var reg 4 \" q [3:0] $end\n$upscope $end\n$enddefinitions $end\n#0\n0!\n#5\n1!\n";
+    b"$timescale 1ns $end\n$scope module tb $end\n$var wire 1 ! clk $end\n\
+        $var reg 4 \" q [3:0] $end\n$upscope $end\n$enddefinitions $end\n\
+        #0\n0!\n#5\n1!\n";
 
 const MERGE_OF_ONE_FILE_TWICE_SECOND: [(&[u8], &[u8]); 4] = [
     (
-        b"$timescale 1ns $end\n$scope module tb $end\n$var wire 1 ! clk $end\n$var reg 4 \" q [3:0] $end\n$upscope $end\n$enddefinitions $end\n",
-        b"$timescale\n\t1ns\n$end\n$scope module in1 $end\n$scope module tb $end\n$var wire 1 ! clk $end\n$var reg 4 \" q [3:0] $end\n$upscope $end\n$upscope $end\n$scope module in2 $end\n$scope module tb $end\n$var wire 1 # clk $end\n$var reg 4 $ q [3:0] $end\n$upscope $end\n$upscope $end\n$enddefinitions $end\n#0\n0!\n",
+        TB,
+        b"$timescale\n\t1ns\n$end\n$scope module in1 $end\n$scope module tb $end\n\
+            $var wire 1 ! clk $end\n$var reg 4 \" q [3:0] $end\n$upscope $end\n$upscope $end\n\
+            $scope module in2 $end\n$scope module tb $end\n$var wire 1 # clk $end\n\
+            $var reg 4 $ q [3:0] $end\n$upscope $end\n$upscope $end\n$enddefinitions $end\n\
+            #0\n0!\n",
     ),
     (b"#0\n0!\n", b"0#\n"),
     (b"#5\n", b"#5\n1!\n"),
@@ -553,12 +559,14 @@ const MERGE_OF_ONE_FILE_TWICE_SECOND: [(&[u8], &[u8]); 4] = [
 ];
 
 const OTHER_OF_MERGE_OF_TWO_SCALES_UNTIL_A_TIME_IS_TOO_LARGE_SECOND: &[u8] =
-    b"$timescale 1ns $end\n$var wire 1 ! a $end\n$enddefinitions $end\n#1\n1!\n#18446744073709551615\n0!\n";
+    b"$timescale 1ns $end\n$var wire 1 ! a $end\n$enddefinitions $end\n\
+        #1\n1!\n#18446744073709551615\n0!\n";
 
 const MERGE_OF_TWO_SCALES_UNTIL_A_TIME_IS_TOO_LARGE_SECOND: [(&[u8], &[u8]); 4] = [
     (
         b"$timescale 100ps $end\n$var wire 1 ! b $end\n$enddefinitions $end\n",
-        b"$timescale\n\t100ps\n$end\n$scope module in1 $end\n$var wire 1 ! a $end\n$upscope $end\n$scope module in2 $end\n$var wire 1 \" b $end\n$upscope $end\n$enddefinitions $end\n",
+        b"$timescale\n\t100ps\n$end\n$scope module in1 $end\n$var wire 1 ! a $end\n$upscope $end\n\
+            $scope module in2 $end\n$var wire 1 \" b $end\n$upscope $end\n$enddefinitions $end\n",
     ),
     (b"#5\n1!\n", b"#5\n1\"\n"),
     (b"#20\n", b"#10\n1!\n"),

@@ -128,10 +128,12 @@ fn a_thousand_scopes_in_another_are_too_many(rt: HostRuntime) -> Result<(), Fail
 
 // Headers with a token of 64 and of 65 bytes, and the report of each.
 const GOOD: &[u8] =
-    b"$comment xxxxxxxxxxxxxxxxxxxxxxxxxxxxxxxxxxxxxxxxxxxxxxxxxxxxxxxxxxxxxxxx $end\n$enddefinitions $end\n";
+    b"$comment xxxxxxxxxxxxxxxxxxxxxxxxxxxxxxxxxxxxxxxxxxxxxxxxxxxxxxxxxxxxxxxx $end\n\
+        $enddefinitions $end\n";
 
 const LONG: &[u8] =
-    b"$comment xxxxxxxxxxxxxxxxxxxxxxxxxxxxxxxxxxxxxxxxxxxxxxxxxxxxxxxxxxxxxxxxx $end\n$enddefinitions $end\n";
+    b"$comment xxxxxxxxxxxxxxxxxxxxxxxxxxxxxxxxxxxxxxxxxxxxxxxxxxxxxxxxxxxxxxxxx $end\n\
+        $enddefinitions $end\n";
 
 const NOTHING: &[u8] = b"scopes 0\nvariables 0\ncodes 0\ntimes 0\nsections 0\nchanges 0\nlast -\n";
 

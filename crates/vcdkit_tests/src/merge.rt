@@ -17,14 +17,18 @@ const MERGES: [(&[&[u8]], &[u8], &[u8], u8); 7] = [
     // One input.
     (
         &[DUMP],
-        b"$timescale\n\t1ns\n$end\n$scope module in1 $end\n$var wire 1 ! clk $end\n$upscope $end\n$enddefinitions $end\n#0\n0!\n#5\n1!\n",
+        b"$timescale\n\t1ns\n$end\n$scope module in1 $end\n$var wire 1 ! clk $end\n$upscope $end\n\
+            $enddefinitions $end\n\
+            #0\n0!\n#5\n1!\n",
         b"",
         0,
     ),
     // One input, merged with itself.
     (
         &[DUMP, DUMP],
-        b"$timescale\n\t1ns\n$end\n$scope module in1 $end\n$var wire 1 ! clk $end\n$upscope $end\n$scope module in2 $end\n$var wire 1 \" clk $end\n$upscope $end\n$enddefinitions $end\n#0\n0!\n0\"\n#5\n1!\n1\"\n",
+        b"$timescale\n\t1ns\n$end\n$scope module in1 $end\n$var wire 1 ! clk $end\n$upscope $end\n\
+            $scope module in2 $end\n$var wire 1 \" clk $end\n$upscope $end\n$enddefinitions $end\n\
+            #0\n0!\n0\"\n#5\n1!\n1\"\n",
         b"",
         0,
     ),
@@ -32,20 +36,28 @@ const MERGES: [(&[&[u8]], &[u8], &[u8], u8); 7] = [
     (
         &[
             b"$timescale 1ns $end\n$var wire 1 ! a $end\n$enddefinitions $end\n#1\n1!\n#3\n0!\n",
-            b"$timescale 10ns $end\n$var wire 2 ! b [1:0] $end\n$enddefinitions $end\n#0\nb01 !\n#10\nb10 !\n",
-            b"$timescale 100ps $end\n$var real 1 r c $end\n$enddefinitions $end\n#10\nr0.5 r\n#25\n",
+            b"$timescale 10ns $end\n$var wire 2 ! b [1:0] $end\n$enddefinitions $end\n\
+                #0\nb01 !\n#10\nb10 !\n",
+            b"$timescale 100ps $end\n$var real 1 r c $end\n$enddefinitions $end\n\
+                #10\nr0.5 r\n#25\n",
         ],
-        b"$timescale\n\t100ps\n$end\n$scope module in1 $end\n$var wire 1 ! a $end\n$upscope $end\n$scope module in2 $end\n$var wire 2 \" b [1:0] $end\n$upscope $end\n$scope module in3 $end\n$var real 1 # c $end\n$upscope $end\n$enddefinitions $end\n#0\nb1 \"\n#10\n1!\nr0.5 #\n#30\n0!\n#1000\nb10 \"\n",
+        b"$timescale\n\t100ps\n$end\n$scope module in1 $end\n$var wire 1 ! a $end\n$upscope $end\n\
+            $scope module in2 $end\n$var wire 2 \" b [1:0] $end\n$upscope $end\n\
+            $scope module in3 $end\n$var real 1 # c $end\n$upscope $end\n$enddefinitions $end\n\
+            #0\nb1 \"\n#10\n1!\nr0.5 #\n#30\n0!\n#1000\nb10 \"\n",
         b"",
         0,
     ),
     // Times are scaled, and one of them is too large then.
     (
         &[
-            b"$timescale 1ns $end\n$var wire 1 ! a $end\n$enddefinitions $end\n#1\n1!\n#18446744073709551615\n0!\n",
+            b"$timescale 1ns $end\n$var wire 1 ! a $end\n$enddefinitions $end\n\
+                #1\n1!\n#18446744073709551615\n0!\n",
             b"$timescale 100ps $end\n$var wire 1 ! b $end\n$enddefinitions $end\n#5\n1!\n#20\n0!\n",
         ],
-        b"$timescale\n\t100ps\n$end\n$scope module in1 $end\n$var wire 1 ! a $end\n$upscope $end\n$scope module in2 $end\n$var wire 1 \" b $end\n$upscope $end\n$enddefinitions $end\n#5\n1\"\n#10\n1!\n",
+        b"$timescale\n\t100ps\n$end\n$scope module in1 $end\n$var wire 1 ! a $end\n$upscope $end\n\
+            $scope module in2 $end\n$var wire 1 \" b $end\n$upscope $end\n$enddefinitions $end\n\
+            #5\n1\"\n#10\n1!\n",
         b"vcdkit: a.vcd:6: time too large\n",
         1,
     ),
@@ -55,7 +67,9 @@ const MERGES: [(&[&[u8]], &[u8], &[u8], u8); 7] = [
             b"$var wire 1 ! a $end\n$enddefinitions $end\n#1\n1!\n#9\n0!\n",
             b"$var wire 1 ! b $end\n$enddefinitions $end\n#5\n?\n",
         ],
-        b"$timescale\n\t1s\n$end\n$scope module in1 $end\n$var wire 1 ! a $end\n$upscope $end\n$scope module in2 $end\n$var wire 1 \" b $end\n$upscope $end\n$enddefinitions $end\n#1\n1!\n",
+        b"$timescale\n\t1s\n$end\n$scope module in1 $end\n$var wire 1 ! a $end\n$upscope $end\n\
+            $scope module in2 $end\n$var wire 1 \" b $end\n$upscope $end\n$enddefinitions $end\n\
+            #1\n1!\n",
         b"vcdkit: b.vcd:4: unknown command\n",
         1,
     ),
@@ -65,7 +79,8 @@ const MERGES: [(&[&[u8]], &[u8], &[u8], u8); 7] = [
             b"$var wire 1 ! a $end\n$enddefinitions $end\n#5\n?\n",
             b"$var wire 1 ! a $end\n$enddefinitions $end\n#5\n?\n",
         ],
-        b"$timescale\n\t1s\n$end\n$scope module in1 $end\n$var wire 1 ! a $end\n$upscope $end\n$scope module in2 $end\n$var wire 1 \" a $end\n$upscope $end\n$enddefinitions $end\n",
+        b"$timescale\n\t1s\n$end\n$scope module in1 $end\n$var wire 1 ! a $end\n$upscope $end\n\
+            $scope module in2 $end\n$var wire 1 \" a $end\n$upscope $end\n$enddefinitions $end\n",
         b"vcdkit: a.vcd:4: unknown command\n",
         1,
     ),

@@ -2,8 +2,8 @@
 ghost use Rattle.std.specs.Prelude.{◌≤◌};
 
 use super::runs::{
-    ALIASES, DUMP, NESTED, PICKED, READ_FAILED, TB, TB_WRITTEN, give_all, give_message,
-    give_output, give_report, run_on, whole,
+    ALIASES, DUMP, MIXED, NESTED, PICKED, READ_FAILED, TB, TB_WRITTEN, TENS, give_all,
+    give_message, give_output, give_report, run_on, whole,
 };
 use std::alloc::{AllocError, Global};
 use std::process::Abort;
@@ -13,28 +13,46 @@ use vcd_words::Words;
 const PICKS: [(&[&str], &[u8], &[u8]); 7] = [
     (
         &["tb"],
-        b"$timescale 1ns $end\n$scope module tb $end\n$var wire 1 ! clk $end\n$var reg 4 \" q [3:0] $end\n$upscope $end\n$enddefinitions $end\n#0\nb0010 \"\nb1 !\n",
-        b"$timescale\n\t1ns\n$end\n$scope module tb $end\n$var wire 1 ! clk $end\n$var reg 4 \" q [3:0] $end\n$upscope $end\n$enddefinitions $end\n#0\nb10 \"\n1!\n",
+        b"$timescale 1ns $end\n$scope module tb $end\n$var wire 1 ! clk $end\n\
+            $var reg 4 \" q [3:0] $end\n$upscope $end\n$enddefinitions $end\n\
+            #0\nb0010 \"\nb1 !\n",
+        b"$timescale\n\t1ns\n$end\n$scope module tb $end\n$var wire 1 ! clk $end\n\
+            $var reg 4 \" q [3:0] $end\n$upscope $end\n$enddefinitions $end\n\
+            #0\nb10 \"\n1!\n",
     ),
     (
         &["tb.u.b"],
         ALIASES,
-        b"$scope module tb $end\n$scope module u $end\n$var wire 1 ! b $end\n$upscope $end\n$upscope $end\n$enddefinitions $end\n#0\n0!\n#5\n1!\n1!\n#7\n",
+        b"$scope module tb $end\n$scope module u $end\n$var wire 1 ! b $end\n$upscope $end\n\
+            $upscope $end\n$enddefinitions $end\n\
+            #0\n0!\n#5\n1!\n1!\n#7\n",
     ),
     (
         &["tb.a"],
-        b"$scope module tb $end\n$var wire 1 ! a $end\n$var wire 1 \" ab $end\n$upscope $end\n$enddefinitions $end\n#0\n0!\n1\"\n",
-        b"$scope module tb $end\n$var wire 1 ! a $end\n$upscope $end\n$enddefinitions $end\n#0\n0!\n",
+        b"$scope module tb $end\n$var wire 1 ! a $end\n$var wire 1 \" ab $end\n$upscope $end\n\
+            $enddefinitions $end\n\
+            #0\n0!\n1\"\n",
+        b"$scope module tb $end\n$var wire 1 ! a $end\n$upscope $end\n$enddefinitions $end\n\
+            #0\n0!\n",
     ),
     (
         &["a", "e"],
-        b"$var wire 1 ! a $end\n$var real 1 \" r $end\n$var event 1 # e $end\n$var wire 2 % u $end\n$enddefinitions $end\n#0\n$dumpvars\n1#\n0!\n$end\n",
-        b"$var wire 1 ! a $end\n$var event 1 # e $end\n$enddefinitions $end\n#0\n$dumpvars\n0!\n$end\n",
+        b"$var wire 1 ! a $end\n$var real 1 \" r $end\n$var event 1 # e $end\n\
+            $var wire 2 % u $end\n$enddefinitions $end\n\
+            #0\n$dumpvars\n1#\n0!\n$end\n",
+        b"$var wire 1 ! a $end\n$var event 1 # e $end\n$enddefinitions $end\n\
+            #0\n$dumpvars\n0!\n$end\n",
     ),
     (
         &["tb.clk"],
-        b"$date\n\tTue Mar  5 10:00:00 2024\n$end\n$version\n\tIcarus Verilog\n$end\n$timescale\n\t1ns\n$end\n$scope module tb $end\n$var wire 8 ! data [7:0] $end\n$var reg 1 \" clk $end\n$upscope $end\n$enddefinitions $end\n#0\n$dumpvars\n0\"\nbx !\n$end\n#5\n1\"\nb101 !\n#10\n",
-        b"$date\n\tTue Mar 5 10:00:00 2024\n$end\n$version\n\tIcarus Verilog\n$end\n$timescale\n\t1ns\n$end\n$scope module tb $end\n$var reg 1 \" clk $end\n$upscope $end\n$enddefinitions $end\n#0\n$dumpvars\n0\"\n$end\n#5\n1\"\n#10\n",
+        b"$date\n\tTue Mar  5 10:00:00 2024\n$end\n$version\n\tIcarus Verilog\n$end\n\
+            $timescale\n\t1ns\n$end\n$scope module tb $end\n$var wire 8 ! data [7:0] $end\n\
+            $var reg 1 \" clk $end\n$upscope $end\n$enddefinitions $end\n\
+            #0\n$dumpvars\n0\"\nbx !\n$end\n#5\n1\"\nb101 !\n#10\n",
+        b"$date\n\tTue Mar 5 10:00:00 2024\n$end\n$version\n\tIcarus Verilog\n$end\n\
+            $timescale\n\t1ns\n$end\n$scope module tb $end\n$var reg 1 \" clk $end\n\
+            $upscope $end\n$enddefinitions $end\n\
+            #0\n$dumpvars\n0\"\n$end\n#5\n1\"\n#10\n",
     ),
     (
         &["c"],
@@ -56,32 +74,36 @@ const DUMPS: [(&[&str], &[u8]); 8] = [
     (&["tb.u", "go"], NESTED),
     (
         &["tb.data"],
-        b"$date\n\tTue Mar  5 10:00:00 2024\n$end\n$version\n\tIcarus Verilog\n$end\n$timescale\n\t1ns\n$end\n$scope module tb $end\n$var wire 8 ! data [7:0] $end\n$var reg 1 \" clk $end\n$upscope $end\n$enddefinitions $end\n#0\n$dumpvars\n0\"\nbx !\n$end\n#5\n1\"\nb101 !\n#10\n",
+        b"$date\n\tTue Mar  5 10:00:00 2024\n$end\n$version\n\tIcarus Verilog\n$end\n\
+            $timescale\n\t1ns\n$end\n$scope module tb $end\n$var wire 8 ! data [7:0] $end\n\
+            $var reg 1 \" clk $end\n$upscope $end\n$enddefinitions $end\n\
+            #0\n$dumpvars\n0\"\nbx !\n$end\n#5\n1\"\nb101 !\n#10\n",
     ),
     (
         &["r", "u"],
-        b"$var wire 1 ! a $end\n$var real 1 \" r $end\n$var event 1 # e $end\n$var wire 2 % u $end\n$enddefinitions $end\n$dumpall\nrnan \"\n$end\n#0\n$dumpvars\n1#\nbz0 %\n$end\n1#\n",
+        b"$var wire 1 ! a $end\n$var real 1 \" r $end\n$var event 1 # e $end\n\
+            $var wire 2 % u $end\n$enddefinitions $end\n\
+            $dumpall\nrnan \"\n$end\n#0\n$dumpvars\n1#\nbz0 %\n$end\n1#\n",
     ),
     (
         &["a"],
         b"$timescale 1 ns $end\n$var wire 1 $end a [0] $end\n$enddefinitions $end\n",
     ),
-    (
-        &["e", "r"],
-        b"$var wire 1 ! a $end\n$var real 1 \" r $end\n$var event 1 # e $end\n$var wire 2 % u $end\n$enddefinitions $end\n#9\n0!\nr1.5 \"\n1#\n#10\n1!\n1#\n#20\nr2 \"\n#21\n0!\n",
-    ),
+    (&["e", "r"], MIXED),
     (
         &["tb.q"],
-        b"$timescale 1ns $end\n$scope module tb $end\n$var wire 1 ! clk $end\n$var reg 4 \" q [3:0] $end\n$upscope $end\n$enddefinitions $end\n#0\n$dumpvars\n0!\nb0 \"\n$end\n#1\nx!\n#2\n1!\n#3\n0!\n#4\n1!\n1!\nb1 \"\n#5\n$dumpoff\nx!\nbx \"\n$end\n",
+        b"$timescale 1ns $end\n$scope module tb $end\n$var wire 1 ! clk $end\n\
+            $var reg 4 \" q [3:0] $end\n$upscope $end\n$enddefinitions $end\n\
+            #0\n$dumpvars\n0!\nb0 \"\n$end\n#1\nx!\n#2\n1!\n#3\n0!\n#4\n1!\n1!\nb1 \"\n\
+            #5\n$dumpoff\nx!\nbx \"\n$end\n",
     ),
     (
         &["e"],
-        b"$var wire 1 ! a $end\n$var real 1 \" r $end\n$var event 1 # e $end\n$var wire 2 % u $end\n$enddefinitions $end\n#0\n$dumpvars\n1#\n$end\n1#\n#1\n1#\n",
+        b"$var wire 1 ! a $end\n$var real 1 \" r $end\n$var event 1 # e $end\n\
+            $var wire 2 % u $end\n$enddefinitions $end\n\
+            #0\n$dumpvars\n1#\n$end\n1#\n#1\n1#\n",
     ),
-    (
-        &["a"],
-        b"$timescale 10ns $end\n$var wire 1 ! a $end\n$enddefinitions $end\n#0\n0!\n#1\n1!\n#2\n0!\n#3\n1!\n",
-    ),
+    (&["a"], TENS),
 ];
 
 // Whether what a pick of these names writes is no less when it is picked again.
@@ -147,14 +169,18 @@ fn a_name_that_selects_nothing_is_said(rt: HostRuntime) {
 }
 
 // A dump that ends in a vector, one that ends after a change, and what is written of both.
-const OPEN: &[u8] =
-    b"$timescale 1ns $end\n$scope module tb $end\n$var wire 1 ! clk $end\n$var reg 4 \" q [3:0] $end\n$upscope $end\n$enddefinitions $end\n#0\n0!\n#5\nb10";
+const OPEN: &[u8] = b"$timescale 1ns $end\n$scope module tb $end\n$var wire 1 ! clk $end\n\
+    $var reg 4 \" q [3:0] $end\n$upscope $end\n$enddefinitions $end\n\
+    #0\n0!\n#5\nb10";
 
-const CHANGED: &[u8] =
-    b"$timescale 1ns $end\n$scope module tb $end\n$var wire 1 ! clk $end\n$var reg 4 \" q [3:0] $end\n$upscope $end\n$enddefinitions $end\n#0\n0!\n";
+const CHANGED: &[u8] = b"$timescale 1ns $end\n$scope module tb $end\n$var wire 1 ! clk $end\n\
+    $var reg 4 \" q [3:0] $end\n$upscope $end\n$enddefinitions $end\n\
+    #0\n0!\n";
 
 const CHANGED_WRITTEN: &[u8] =
-    b"$timescale\n\t1ns\n$end\n$scope module tb $end\n$var wire 1 ! clk $end\n$var reg 4 \" q [3:0] $end\n$upscope $end\n$enddefinitions $end\n#0\n0!\n";
+    b"$timescale\n\t1ns\n$end\n$scope module tb $end\n$var wire 1 ! clk $end\n\
+        $var reg 4 \" q [3:0] $end\n$upscope $end\n$enddefinitions $end\n\
+        #0\n0!\n";
 
 // Names, a text, and whether a read fails after it, and what a pick leaves: a name that selects
 // nothing is reported before the body is read, what comes before a fault or a failed read is
@@ -179,7 +205,9 @@ const LEFT: [(&str, &[u8], bool, &[u8], &[u8], u8); 4] = [
     ("tb", CHANGED, true, CHANGED_WRITTEN, READ_FAILED, 3),
     (
         "tb",
-        b"$timescale 1ns $end\n$scope module tb $end\n$var wire 1 ! clk $end\n$var reg 4 \" q [3:0] $end\n$upscope $end\n$enddefinitions $end\n#0\n0!",
+        b"$timescale 1ns $end\n$scope module tb $end\n$var wire 1 ! clk $end\n\
+            $var reg 4 \" q [3:0] $end\n$upscope $end\n$enddefinitions $end\n\
+            #0\n0!",
         true,
         TB_WRITTEN,
         READ_FAILED,

@@ -24,32 +24,39 @@ pub const PICKED: &[u8] =
 pub const SAMPLED: &[u8] = b"0 clk 0\n5 clk 1\n";
 
 // A header with an event, two vectors and a real, and its list.
-pub const NESTED: &[u8] =
-    b"$var event 1 % go $end\n$scope module tb $end\n$var wire 1 ! clk $end\n$scope module u $end\n$var reg 4 \" q [3:0] $end\n$upscope $end\n$var real 1 # r $end\n$enddefinitions $end\n";
+pub const NESTED: &[u8] = b"$var event 1 % go $end\n$scope module tb $end\n$var wire 1 ! clk $end\n\
+    $scope module u $end\n$var reg 4 \" q [3:0] $end\n$upscope $end\n$var real 1 # r $end\n\
+    $enddefinitions $end\n";
 
 pub const NESTED_LIST: &[u8] = b"go event 1 %\ntb.clk wire 1 !\ntb.u.q reg 4 \"\ntb.r real 1 #\n";
 
 // A header with a scope, and how it is written.
-pub const TB: &[u8] =
-    b"$timescale 1ns $end\n$scope module tb $end\n$var wire 1 ! clk $end\n$var reg 4 \" q [3:0] $end\n$upscope $end\n$enddefinitions $end\n";
+pub const TB: &[u8] = b"$timescale 1ns $end\n$scope module tb $end\n$var wire 1 ! clk $end\n\
+    $var reg 4 \" q [3:0] $end\n$upscope $end\n$enddefinitions $end\n";
 
 pub const TB_WRITTEN: &[u8] =
-    b"$timescale\n\t1ns\n$end\n$scope module tb $end\n$var wire 1 ! clk $end\n$var reg 4 \" q [3:0] $end\n$upscope $end\n$enddefinitions $end\n";
+    b"$timescale\n\t1ns\n$end\n$scope module tb $end\n$var wire 1 ! clk $end\n\
+        $var reg 4 \" q [3:0] $end\n$upscope $end\n$enddefinitions $end\n";
 
 // Two names of one code.
 pub const ALIASES: &[u8] =
-    b"$scope module tb $end\n$var wire 1 ! a $end\n$scope module u $end\n$var wire 1 ! b $end\n$upscope $end\n$upscope $end\n$enddefinitions $end\n#0\n0!\n#5\n1!\n#5\n1!\n#7\n";
+    b"$scope module tb $end\n$var wire 1 ! a $end\n$scope module u $end\n$var wire 1 ! b $end\n\
+        $upscope $end\n$upscope $end\n$enddefinitions $end\n\
+        #0\n0!\n#5\n1!\n#5\n1!\n#7\n";
 
 // A dump of all kinds of variables, without a time scale, and its header.
 pub const MIXED: &[u8] =
-    b"$var wire 1 ! a $end\n$var real 1 \" r $end\n$var event 1 # e $end\n$var wire 2 % u $end\n$enddefinitions $end\n#9\n0!\nr1.5 \"\n1#\n#10\n1!\n1#\n#20\nr2 \"\n#21\n0!\n";
+    b"$var wire 1 ! a $end\n$var real 1 \" r $end\n$var event 1 # e $end\n$var wire 2 % u $end\n\
+        $enddefinitions $end\n\
+        #9\n0!\nr1.5 \"\n1#\n#10\n1!\n1#\n#20\nr2 \"\n#21\n0!\n";
 
 pub const MIXED_HEAD: &[u8] =
-    b"$var wire 1 ! a $end\n$var real 1 \" r $end\n$var event 1 # e $end\n$var wire 2 % u $end\n$enddefinitions $end\n";
+    b"$var wire 1 ! a $end\n$var real 1 \" r $end\n$var event 1 # e $end\n$var wire 2 % u $end\n\
+        $enddefinitions $end\n";
 
 // A dump whose ticks are ten nanoseconds, and its header.
-pub const TENS: &[u8] =
-    b"$timescale 10ns $end\n$var wire 1 ! a $end\n$enddefinitions $end\n#0\n0!\n#1\n1!\n#2\n0!\n#3\n1!\n";
+pub const TENS: &[u8] = b"$timescale 10ns $end\n$var wire 1 ! a $end\n$enddefinitions $end\n\
+    #0\n0!\n#1\n1!\n#2\n0!\n#3\n1!\n";
 
 pub const TENS_HEAD: &[u8] = b"$timescale 10ns $end\n$var wire 1 ! a $end\n$enddefinitions $end\n";
 

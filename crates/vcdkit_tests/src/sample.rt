@@ -1,7 +1,7 @@
 // Times, dumps, and the values at these times.
 use super::runs::{
-    MIXED, MIXED_HEAD, READ_FAILED, TENS, TENS_HEAD, failing, give_all, give_message, give_output,
-    give_refusal, leave,
+    MIXED, MIXED_HEAD, READ_FAILED, TB, TENS, TENS_HEAD, failing, give_all, give_message,
+    give_output, give_refusal, leave,
 };
 use vcd_words::Words;
 
@@ -17,8 +17,10 @@ const SAMPLES: [(&str, &[&str], &[u8], &[u8]); 10] = [
     (
         "0,1,2,3,4",
         &[],
-        b"$var wire 4 ! v $end\n$var wire 8 \" w $end\n$enddefinitions $end\n#1\nb10 !\nb1 \"\n#2\nbX10 !\n#3\nbZx0 !\n#4\nb0x10 !\n",
-        b"0 v -\n0 w -\n1 v 0010\n1 w 00000001\n2 v xx10\n2 w 00000001\n3 v zzx0\n3 w 00000001\n4 v 0x10\n4 w 00000001\n",
+        b"$var wire 4 ! v $end\n$var wire 8 \" w $end\n$enddefinitions $end\n\
+            #1\nb10 !\nb1 \"\n#2\nbX10 !\n#3\nbZx0 !\n#4\nb0x10 !\n",
+        b"0 v -\n0 w -\n1 v 0010\n1 w 00000001\n2 v xx10\n2 w 00000001\n3 v zzx0\n3 w 00000001\n\
+            4 v 0x10\n4 w 00000001\n",
     ),
     ("1", &[], FAULTY, FAULTY_SAMPLE),
     (
@@ -27,12 +29,7 @@ const SAMPLES: [(&str, &[&str], &[u8], &[u8]); 10] = [
         MIXED,
         b"9 a 0\n9 r r1.5\n20 a 1\n20 r r2\n",
     ),
-    (
-        "7",
-        &[],
-        b"$timescale 1ns $end\n$scope module tb $end\n$var wire 1 ! clk $end\n$var reg 4 \" q [3:0] $end\n$upscope $end\n$enddefinitions $end\n",
-        b"7 tb.clk -\n7 tb.q -\n",
-    ),
+    ("7", &[], TB, b"7 tb.clk -\n7 tb.q -\n"),
     ("5ns,15ns,25ns", &[], TENS, b"0 a 0\n1 a 1\n2 a 0\n"),
     ("9", &["e"], MIXED, b""),
     ("0,15ns", &[], TENS, b"0 a 0\n1 a 1\n"),
