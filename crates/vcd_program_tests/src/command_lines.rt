@@ -78,7 +78,11 @@ const ROWS: [Row; 13] = [
         words: &["merge", "c.vcd", "a.vcd", "b.vcd"],
         opened: &[Some("c.vcd"), Some("a.vcd"), Some("b.vcd")],
         out: Said::Just(
-            b"$timescale\n\t1ns\n$end\n$scope module in1 $end\n$var wire 1 ! c $end\n$upscope $end\n$scope module in2 $end\n$var wire 1 \" a $end\n$upscope $end\n$scope module in3 $end\n$var wire 1 # b $end\n$upscope $end\n$enddefinitions $end\n#1\n1\"\n#2\n0#\n#3\n1!\n",
+            b"$timescale\n\t1ns\n$end\n$scope module in1 $end\n$var wire 1 ! c $end\n\
+                $upscope $end\n$scope module in2 $end\n$var wire 1 \" a $end\n$upscope $end\n\
+                $scope module in3 $end\n$var wire 1 # b $end\n$upscope $end\n\
+                $enddefinitions $end\n\
+                #1\n1\"\n#2\n0#\n#3\n1!\n",
         ),
         err: NOTHING,
         status: 0,
