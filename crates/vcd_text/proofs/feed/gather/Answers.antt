@@ -1,5 +1,4 @@
-use Rattle.std.specs.Prelude.{Ok, Err}
-use Rattle.vcd_text.specs.declared.answer.Next.TheVariants.{Token}
+use Rattle.std.specs.Prelude.{Err}
 use Rattle.std.proofs.Common.{◌≡◌, ◌≤◌, ◌<◌, length, arith, refl, ap, sym, subst, ◌∙◌, add-one}
 use Rattle.vcd_text.specs.ReadAhead.{HasRest}
 use Rattle.vcd_text.specs.Registers.{looked}
