@@ -1,6 +1,5 @@
 -- A mask of lanes says which bytes are white.
 use Rattle.std.proofs.Common.{◌≡◌, ◌≢◌, ℕ, ◌+◌, ◌-◌, ◌%◌, ◌^◌, ◌<◌, ◌≤◌, inl, inr, Bool, true, false, cond, List, [], ◌∷◌, map, length, get_or, Fits, w8, refl, sym, ap, ap₂, subst, ◌∙◌, arith}
-use Rattle.std.specs.Prelude.{slice_index}
 use Rattle.std.proofs.lemmas.Bool.{agree_below, agree_below_at, cases_lt, cases_order}
 use Rattle.std.proofs.lemmas.Simd.{mask_l-mod, bit_mask_l, length-chunk, get_or-chunk}
 use Rattle.std.proofs.lemmas.List.{length-map, get_or-map, get_or_past}
@@ -16,7 +15,7 @@ each_byte f p all [] fits = refl
 each_byte f p all (x ∷ xs) fits = ap₂ (λ a b. a ∷ b) (agree_below_at (λ y. top 7 (f y)) p 256 x all fits.0.fits) (each_byte f p all xs fits.1)
 
 -- the mask of lanes that were computed from v by f, whose top bits tell p
-masked : (f : ℕ → ℕ) (p : ℕ → Bool) (v z : List ℕ) → length v ≤ 64 → Each1 (Fits w8) v → z ≡ map f v → agree_below (λ x. top 7 (f x)) p 256 ≡ true
+pub masked : (f : ℕ → ℕ) (p : ℕ → Bool) (v z : List ℕ) → length v ≤ 64 → Each1 (Fits w8) v → z ≡ map f v → agree_below (λ x. top 7 (f x)) p 256 ≡ true
     → mask_l (map (top 7) z) % 2 ^ 64 ≡ mask_l (map p v)
 masked f p v z short fits e all =
     ap (λ l. mask_l l % 2 ^ 64) (ap (map (top 7)) e ∙ each_byte f p all v fits) ∙ mask_l-mod (map p v) 64 (omega (arith, length-map v p))

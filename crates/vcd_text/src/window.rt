@@ -1,6 +1,7 @@
 // One turn of a feed: from the chunk to the token's window, and on to the next chunk.
 ghost use Rattle.std.specs.Prelude.{◌≡◌, ℕ, ◌+◌, ◌-◌, ◌^◌, ◌<◌, ◌≤◌, ◌≢◌, ◌++◌, ◌==◌, length, take, slice_index, if◌then◌else◌};
 ghost use Rattle.vcd_text.specs.Registers.{Fits};
+ghost use Rattle.vcd_text.specs.Turn.{GoesOnIn, MayGoOn, StillFits};
 ghost use Rattle.vcd_text.specs.Window.{Skips, Collects, Fills, Finishes, Halts};
 
 use crate::answer::{Halt, Next};
@@ -30,20 +31,11 @@ const INPUT_LIMIT: u64 = (1 << 63) - 1;
 /// Passes over white space, where no token has begun.
 #[inline(always)]
 pub(crate) fn skip(chunk: &[u8], parked: &mut Parked)
-    requires order { parked.old.at ≤ parked.old.stop }
-    requires within { parked.old.stop ≤ length chunk.now }
-    requires counted { parked.old.base + parked.old.stop < 2 ^ 63 }
-    requires line_feeds { parked.old.line_feeds ≤ parked.old.base + parked.old.at }
+    requires { MayGoOn (length chunk.now) parked.old }
     ensures begun { 0 < parked.old.size → parked.new ≡ parked.old }
-    ensures looked { parked.old.base + parked.old.at + parked.new.size
-        ≤ parked.new.base + parked.new.at + parked.old.size }
     ensures skips { parked.old.size ≡ 0 → Skips chunk.now parked.old parked.new }
-    ensures fits { (limit : ℕ) → Fits parked.old (length chunk.now) limit
-        → Fits parked.new (length chunk.now) limit }
-    ensures phase { parked.new.phase ≡ parked.old.phase }
-    ensures kept { parked.new.kept ≡ parked.old.kept }
-    ensures stop { (parked.new.base ≡ parked.old.base) × (parked.new.stop ≡ parked.old.stop)
-        × (parked.new.end ≡ parked.old.end) }
+    ensures fits { StillFits (length chunk.now) parked.old parked.new }
+    ensures on { GoesOnIn parked.old parked.new }
 {
     if parked.size > 0 {
         return;
@@ -57,24 +49,16 @@ pub(crate) fn skip(chunk: &[u8], parked: &mut Parked)
 /// Takes bytes of the chunk up to the token's end.
 #[inline(always)]
 pub(crate) fn collect(chunk: &[u8], token: &mut [u8], parked: &mut Parked) -> Collected
-    requires order { parked.old.at ≤ parked.old.stop }
-    requires within { parked.old.stop ≤ length chunk.now }
-    requires counted { parked.old.base + parked.old.stop < 2 ^ 63 }
-    requires line_feeds { parked.old.line_feeds ≤ parked.old.base + parked.old.at }
+    requires registers { MayGoOn (length chunk.now) parked.old }
     requires size { parked.old.size ≤ length token.old }
     ensures collects { Collects chunk.now token.old token.new parked.old parked.new result }
     ensures fits { Fits parked.old (length chunk.now) (length token.old)
         → Fits parked.new (length chunk.now) (length token.old) }
     ensures part { result ≡ Collected.Part → parked.new.at ≡ parked.new.stop }
-    ensures looked { parked.old.base + parked.old.at + parked.new.size
-        ≤ parked.new.base + parked.new.at + parked.old.size }
     ensures whole { result ≡ Collected.Whole
         → parked.old.base + parked.old.at + parked.new.size
         < parked.new.base + parked.new.at + parked.old.size }
-    ensures phase { parked.new.phase ≡ parked.old.phase }
-    ensures kept { parked.new.kept ≡ parked.old.kept }
-    ensures stop { (parked.new.base ≡ parked.old.base) × (parked.new.stop ≡ parked.old.stop)
-        × (parked.new.end ≡ parked.old.end) }
+    ensures on { GoesOnIn parked.old parked.new }
 {
     let at = parked.at;
     let stop = parked.stop;
@@ -124,8 +108,7 @@ pub(crate) fn fill<S: Source>(source: &mut S, chunk: &mut [u8], parked: &mut Par
     requires failures { S.failures source.old < 2 ^ 64 - 1 }
     requires some { 0 < length chunk.old }
     requires counted { parked.old.base + parked.old.at < 2 ^ 63 }
-    ensures fits { (limit : ℕ) → Fits parked.old (length chunk.old) limit
-        → Fits parked.new (length chunk.old) limit }
+    ensures fits { StillFits (length chunk.old) parked.old parked.new }
     ensures phase { parked.new.phase ≡ parked.old.phase }
     ensures kept { parked.new.kept ≡ parked.old.kept }
     ensures looked { (parked.new.base + parked.new.at ≡ parked.old.base + parked.old.at)

@@ -599,6 +599,9 @@ fn digits_spell_numbers(rt: HostRuntime) {
     for (digits, number) in [
         ("0", Some(0)),
         ("007", Some(7)),
+        ("12345678", Some(12_345_678)),
+        ("123456789", Some(123_456_789)),
+        ("9876543210123456", Some(9_876_543_210_123_456)),
         ("9999999999999999999", Some(9_999_999_999_999_999_999)),
         ("00000000000000000007", Some(7)),
         ("18446744073709551615", Some(u64::MAX)),
@@ -608,6 +611,9 @@ fn digits_spell_numbers(rt: HostRuntime) {
         ("+1", None),
         ("1 ", None),
         ("1x", None),
+        ("/2345678", None),
+        ("1234567:", None),
+        ("123456781234567x", None),
     ] {
         assert_eq!(rt; decimal_of(digits.as_bytes()), number);
     }

@@ -13,9 +13,9 @@ use Rattle.example_head.proofs.variables.Goals as goal
 pub returns : goal.returns
 returns g c = record {
   reads = λ text h.
-      let stands : HasGiven (whole text) [] c.new-feed.result = subst (λ (o : Option (List ℕ)). IfSome o (λ t. HasGiven (whole t) [] c.new-feed.result)) h c.new-feed.ensures.stands in
+      let stands : HasGiven (whole text) [] c.new-feed.result = subst (λ (o : Option (List ℕ)). IfSome o (λ t. HasGiven (whole t) [] c.new-feed.result)) h c.new-feed.ensures.begins.stands in
       let head = c.in_ok-head.ensures.reads (whole text) stands in
-      let limit : limit_of c.read_head.new.feed ≡ 65536 = c.in_ok-head.ensures.lengths.0 ∙ omega (arith, c.in_ok-token.ensures.len, c.deref_mut-2.ensures.len, c.new-feed.ensures.lengths.0) in
+      let limit : limit_of c.read_head.new.feed ≡ 65536 = c.in_ok-head.ensures.lengths.0 ∙ omega (arith, c.in_ok-token.ensures.len, c.deref_mut-2.ensures.len, c.new-feed.ensures.begins.limit) in
       record {
         given = head.given;
         first = subst (λ (n : ℕ). IsPrefixOf head.given (stream_of n (whole text)).tokens) limit head.stands.given_first;

@@ -8,10 +8,10 @@ use Rattle.vcd_body.proofs.phrases.read_code.Goals as goal
 pub returns-in_err-next_inner-clause-reads : goal.returns-in_err-next_inner-clause-reads
 returns-in_err-next_inner-clause-reads g c =
     let p = err_from_is_err_and c.from_residual.result c.from_residual.ensures.1 in
-    rw (p.1, p.2) (λ h i front placed first v asks r. c.in_err-next_inner.ensures.reads h.codes i front placed first [] (kept h.codes i front placed (first ∷ []) c.args.feed.now c.keep.new.self c.keep.ensures.stands r))
+    rw (p.1, p.2) (λ h i front placed first v asks r. c.in_err-next_inner.ensures.reads h.codes i front placed first [] (kept h.codes i front placed (first ∷ []) c.args.feed.now c.keep.new.self c.keep.ensures.still.stands r))
 
 pub returns-in-None-clause-reads : goal.returns-in-None-clause-reads
 returns-in-None-clause-reads g c = λ h i front placed first v asks r.
-    let l = c.in_ok-next_inner.ensures.reads h.codes i front placed first [] (kept h.codes i front placed (first ∷ []) c.args.feed.now c.keep.new.self c.keep.ensures.stands r) in
+    let l = c.in_ok-next_inner.ensures.reads h.codes i front placed first [] (kept h.codes i front placed (first ∷ []) c.args.feed.now c.keep.new.self c.keep.ensures.still.stands r) in
     let f = subst (λ t. Finds h.codes t None) c.token.ensures (c.in-None.ensures.found h v) in
     refused_at h.codes i front placed (first ∷ []) c.next_inner.new.feed 16 (asks (token_of c.next_inner.new.feed).bytes f) l

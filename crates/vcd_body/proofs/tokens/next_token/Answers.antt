@@ -4,33 +4,20 @@ use Rattle.vcd_text.specs.Feed.{seen, limit_of}
 use Rattle.vcd_body.proofs.TokenLemmas.{halted_at}
 use Rattle.vcd_body.proofs.tokens.next_token.Goals as goal
 
-pub returns-in-Ok-Finish-clause-advances : goal.returns-in-Ok-Finish-clause-advances
-returns-in-Ok-Finish-clause-advances g c =
-    let e = rw c.in-Ok-Finish.field-0-is at c.in-Ok-Finish.ensures in
-    record {
-      loans = e.loans;
-      limit = e.lengths.0;
-      chunk = e.lengths.1;
-      on = λ x. e.further;
-      goes = λ x o q. let s = e.settles (λ y. cc) in cc;
-      failed = λ x o. cc;
-      same = λ x. e.failures (λ y. cc);
-    }
-
 pub returns-in-Err-TokenTooLong-clause-reads : goal.returns-in-Err-TokenTooLong-clause-reads
 returns-in-Err-TokenTooLong-clause-reads g c = λ codes i front placed before r.
     let e = rw c.in-Err-TokenTooLong.field-0-is at c.in-Err-TokenTooLong.ensures in
     let n = e.gives i (front ++ r.given) r.stands in
-    halted_at codes i front placed (limit_of c.args.feed.now) r.given before 1 c.next.new.self e.lengths.0 r.so_far n.2 n.0
+    halted_at codes i front placed (limit_of c.args.feed.now) r.given before 1 c.next.new.self e.advances.limit r.so_far n.2 n.0
 
 pub returns-in-Err-InputTooLong-clause-reads : goal.returns-in-Err-InputTooLong-clause-reads
 returns-in-Err-InputTooLong-clause-reads g c = λ codes i front placed before r.
     let e = rw c.in-Err-InputTooLong.field-0-is at c.in-Err-InputTooLong.ensures in
     let n = e.gives i (front ++ r.given) r.stands in
-    halted_at codes i front placed (limit_of c.args.feed.now) r.given before 21 c.next.new.self e.lengths.0 r.so_far n.2 n.0
+    halted_at codes i front placed (limit_of c.args.feed.now) r.given before 21 c.next.new.self e.advances.limit r.so_far n.2 n.0
 
 pub returns-in-Err-ReadFailed-clause-reads : goal.returns-in-Err-ReadFailed-clause-reads
 returns-in-Err-ReadFailed-clause-reads g c = λ codes i front placed before r.
     let e = rw c.in-Err-ReadFailed.field-0-is at c.in-Err-ReadFailed.ensures in
     let n = e.gives i (front ++ r.given) r.stands in
-    (halted_at codes (failed_after (seen c.next.new.self) i) front placed (limit_of c.args.feed.now) r.given before 31 c.next.new.self e.lengths.0 r.so_far n.2 n.0, e.left refl i (front ++ r.given) r.stands)
+    (halted_at codes (failed_after (seen c.next.new.self) i) front placed (limit_of c.args.feed.now) r.given before 31 c.next.new.self e.advances.limit r.so_far n.2 n.0, e.left refl i (front ++ r.given) r.stands)

@@ -8,77 +8,38 @@ pub returns-in-Ok-Finish-clause-reads : goal.returns-in-Ok-Finish-clause-reads
 returns-in-Ok-Finish-clause-reads g c = λ most i given placed before s q.
     let e = rw c.in-Ok-Finish.field-0-is at c.in-Ok-Finish.ensures in
     let n = e.gives i given s in
-    fails_at_end most (limit_of c.args.feed.now) i given placed before None c.next.new.self e.lengths.0 q n.2 n.1 n.0
+    fails_at_end most (limit_of c.args.feed.now) i given placed before None c.next.new.self e.advances.limit q n.2 n.1 n.0
 
 pub returns-in-Ok-Finish-clause-advances : goal.returns-in-Ok-Finish-clause-advances
 returns-in-Ok-Finish-clause-advances g c =
     let e = rw c.in-Ok-Finish.field-0-is at c.in-Ok-Finish.ensures in
     record {
-      loans = e.loans;
-      limit = e.lengths.0;
-      chunk = e.lengths.1;
+      loans = e.advances.loans;
+      limit = e.advances.limit;
+      chunk = e.advances.chunk;
       on = λ x. cc;
       goes = λ x o. cc;
       failed = λ x o. cc;
-      same = λ x. e.failures (λ y. cc);
+      same = λ x. e.advances.same (λ y. cc);
     }
 
 pub returns-in-Err-TokenTooLong-clause-reads : goal.returns-in-Err-TokenTooLong-clause-reads
 returns-in-Err-TokenTooLong-clause-reads g c = λ most i given placed before s q.
     let e = rw c.in-Err-TokenTooLong.field-0-is at c.in-Err-TokenTooLong.ensures in
     let n = e.gives i given s in
-    fails_at_end most (limit_of c.args.feed.now) i given placed before (Some 1) c.next.new.self e.lengths.0 q n.2 n.1 n.0
-
-pub returns-in-Err-TokenTooLong-clause-advances : goal.returns-in-Err-TokenTooLong-clause-advances
-returns-in-Err-TokenTooLong-clause-advances g c =
-    let e = rw c.in-Err-TokenTooLong.field-0-is at c.in-Err-TokenTooLong.ensures in
-    record {
-      loans = e.loans;
-      limit = e.lengths.0;
-      chunk = e.lengths.1;
-      on = λ x. cc;
-      goes = λ x o. cc;
-      failed = λ x o. cc;
-      same = λ x. e.failures (λ y. cc);
-    }
+    fails_at_end most (limit_of c.args.feed.now) i given placed before (Some 1) c.next.new.self e.advances.limit q n.2 n.1 n.0
 
 pub returns-in-Err-InputTooLong-clause-reads : goal.returns-in-Err-InputTooLong-clause-reads
 returns-in-Err-InputTooLong-clause-reads g c = λ most i given placed before s q.
     let e = rw c.in-Err-InputTooLong.field-0-is at c.in-Err-InputTooLong.ensures in
     let n = e.gives i given s in
-    fails_at_end most (limit_of c.args.feed.now) i given placed before (Some 21) c.next.new.self e.lengths.0 q n.2 n.1 n.0
-
-pub returns-in-Err-InputTooLong-clause-advances : goal.returns-in-Err-InputTooLong-clause-advances
-returns-in-Err-InputTooLong-clause-advances g c =
-    let e = rw c.in-Err-InputTooLong.field-0-is at c.in-Err-InputTooLong.ensures in
-    record {
-      loans = e.loans;
-      limit = e.lengths.0;
-      chunk = e.lengths.1;
-      on = λ x. cc;
-      goes = λ x o. cc;
-      failed = λ x o. cc;
-      same = λ x. e.failures (λ y. cc);
-    }
+    fails_at_end most (limit_of c.args.feed.now) i given placed before (Some 21) c.next.new.self e.advances.limit q n.2 n.1 n.0
 
 pub returns-in-Err-ReadFailed-clause-reads : goal.returns-in-Err-ReadFailed-clause-reads
 returns-in-Err-ReadFailed-clause-reads g c = λ most i given placed before s q.
     let e = rw c.in-Err-ReadFailed.field-0-is at c.in-Err-ReadFailed.ensures in
     let n = e.gives i given s in
-    (fails_at_end most (limit_of c.args.feed.now) (failed_after (seen c.next.new.self) i) given placed before (Some 31) c.next.new.self e.lengths.0 q n.2 n.1 n.0, e.left refl i given s)
-
-pub returns-in-Err-ReadFailed-clause-advances : goal.returns-in-Err-ReadFailed-clause-advances
-returns-in-Err-ReadFailed-clause-advances g c =
-    let e = rw c.in-Err-ReadFailed.field-0-is at c.in-Err-ReadFailed.ensures in
-    record {
-      loans = e.loans;
-      limit = e.lengths.0;
-      chunk = e.lengths.1;
-      on = λ x. cc;
-      goes = λ x o. cc;
-      failed = λ x o. e.failed o refl;
-      same = λ x. absurd (x refl);
-    }
+    (fails_at_end most (limit_of c.args.feed.now) (failed_after (seen c.next.new.self) i) given placed before (Some 31) c.next.new.self e.advances.limit q n.2 n.1 n.0, e.left refl i given s)
 
 pub returns-in-Ok-Token-clause-reads : goal.returns-in-Ok-Token-clause-reads
 returns-in-Ok-Token-clause-reads g c = λ most i given placed before s q.

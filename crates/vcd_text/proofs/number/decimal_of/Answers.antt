@@ -1,7 +1,8 @@
 use Rattle.std.proofs.Common.{◌≡◌, ◌+◌, ◌*◌, ◌-◌, length, get_or, sym, ◌∙◌, ap, subst, arith}
 use Rattle.std.specs.Char.{is_ascii_digit}
 use Rattle.std.proofs.lemmas.List.{get_or-drop}
-use Rattle.vcd_text.proofs.Digits.{HasRead, place_of, product_too_large, read_all, read_first, read_more, sum_too_large}
+use Rattle.vcd_text.proofs.Digits.{HasRead}
+use Rattle.vcd_text.proofs.Digits.{place_of, product_too_large, read_all, read_first, read_more, sum_too_large}
 use Rattle.vcd_text.proofs.number.decimal_of.Goals as goal
 
 pub loop-digit-init : goal.loop-digit-init

@@ -8,6 +8,6 @@ check-requires g c = record {
     feed_failures = search rules;
     out_failures = search rules;
     unfailed = search rules;
-    bound = no_room_within _ _ c.view.result (omega (arith, c.read_head.ensures.lengths.1, c.new-feed.ensures.lengths.1));
+    bound = no_room_within _ _ c.view.result (omega (arith, c.read_head.ensures.lengths.1, c.new-feed.ensures.begins.chunk_len));
   };
 }
