@@ -3,7 +3,8 @@ use Rattle.std.specs.Prelude.{ℕ, zero, suc, ◌+◌, ◌-◌, ◌^◌, ◌<◌
 use Rattle.std.specs.List.{AllZip}
 use Rattle.vcd_model.specs.Declarations.{Declaration, enclosing}
 use Rattle.vcd_model.specs.Header.{Header}
-use Rattle.vcd_model.specs.HeadText.{code_place, new_code, scope_line, up_line, var_line}
+use Rattle.vcd_model.specs.HeadText.{code_place, new_code, rows_text, scope_line, up_line, var_line}
+use Rattle.vcd_model.specs.Selection.{is_among, marked_places}
 use Rattle.vcd_head.specs.declared.head.Head.{Head}
 use Rattle.vcd_head.specs.Shown.{shown}
 use Rattle.vcd_view.specs.Views.{Views, reference_of, type_of}
@@ -61,3 +62,7 @@ written_behind (Declaration.Scope type name) pending written = written
 written_behind Declaration.Up zero written = written - 1
 written_behind Declaration.Up (suc pending) written = written
 written_behind (Declaration.Var v) pending written = written + pending
+
+-- the lines of all variables of a header, with new codes, and of the scopes around these
+abbrev pub input_rows : ℕ → Header → List ℕ
+input_rows first h = rows_text (numbered first h) (is_among (marked_places [] h.declarations)) h.declarations

@@ -1,8 +1,6 @@
 // The place of a variable's code among the distinct codes.
-ghost use Rattle.std.specs.Prelude.{◌≡◌, List, [], ◌∷◌, ◌++◌, length, IfOk, IfErr};
-ghost use Rattle.vcd_model.specs.Declarations.{Declaration, Variable, code_of};
-ghost use Rattle.vcd_view.specs.Views.{IsSize};
-ghost use Rattle.vcd_head.specs.Draft.{HasCodes, IsEntered};
+ghost use Rattle.std.specs.Prelude.{◌≡◌, [], ◌∷◌, ◌++◌, length, IfOk, IfErr};
+ghost use Rattle.vcd_head.specs.Entered.{Enters, code_with};
 
 use crate::codes::{Codes, is_of_kind};
 use crate::fault::HeadFault;
@@ -20,12 +18,8 @@ pub(crate) fn enter_code(
     size: usize,
     event: bool,
 ) -> Result<Option<usize>, HeadFault>
-    ensures codes { (ds : List Declaration) (v : Variable) → HasCodes text.old.items known.old ds
-        → code_of v ≡ record {
-          text = sought.entry.bytes.now;
-          size = size;
-          event = event;
-        } → IsSize size → IfOk result (IsEntered text.old.items text.new.items known.new ds v) }
+    ensures codes { Enters text.old.items text.new.items known.old known.new
+        sought.entry.bytes.now size event result }
     ensures memory { IfErr result (λ fault. fault ≡ HeadFault.OutOfMemory) }
 {
     let Ok((place, new)) = known.keys.insert_full(sought.key) else {
@@ -54,12 +48,8 @@ fn add(
     event: bool,
 ) -> Result<(), HeadFault>
     ensures text { IfOk result (λ _. text.new.items ≡ text.old.items ++ bytes.now) }
-    ensures listed { IfOk result (λ _. list.new.items ≡ list.old.items ++ (record {
-      start = length text.old.items;
-      len = length bytes.now;
-      size = size;
-      event = event;
-    }) ∷ []) }
+    ensures listed { IfOk result (λ _. list.new.items
+        ≡ list.old.items ++ code_with (length text.old.items) bytes.now size event ∷ []) }
     ensures memory { IfErr result (λ fault. fault ≡ HeadFault.OutOfMemory) }
 {
     let len = token_len(bytes.len())?;

@@ -1,13 +1,8 @@
 // The distinct codes of a header that is read.
 ghost use Rattle.std.specs.Prelude.{◌≡◌, ℕ, List};
-ghost use Rattle.vcd_model.specs.Declarations.{Declaration, IdCode, Variable, code_of};
-ghost use Rattle.vcd_model.specs.HeaderChecks.{agrees};
-ghost use Rattle.vcd_view.specs.Finds.{Finds};
-ghost use Rattle.vcd_view.specs.Views.{AreHeld};
-ghost use Rattle.vcd_view.specs.declared.view.Code.{Code};
+ghost use Rattle.vcd_head.specs.Names.{AreHeld, AreKeysOf, Code, Finds, IdCode};
 ghost use Rattle.vcd_head.specs.Codes.{HasNone, is_of};
-ghost use Rattle.vcd_head.specs.Draft.{HasCodes};
-ghost use Rattle.vcd_head.specs.Keys.{AreKeysOf};
+ghost use Rattle.vcd_head.specs.Entered.{Allows};
 
 use crate::code_key::CodeKey;
 use crate::sought::Sought;
@@ -36,12 +31,7 @@ impl Codes {
     /// Returns whether a variable of this size, an event or none, may have the code with these
     /// bytes.
     pub(crate) fn allow(&self, alloc: Global, bytes: &[u8], size: usize, event: bool) -> bool
-        ensures { (text : List ℕ) (ds : List Declaration) (v : Variable)
-            → HasCodes text self.now ds → code_of v ≡ record {
-              text = bytes.now;
-              size = size;
-              event = event;
-            } → result ≡ agrees ds v }
+        ensures { Allows self.now bytes.now size event result }
     {
         let Some(place) = self.find(alloc, bytes) else {
             return true;

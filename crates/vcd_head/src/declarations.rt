@@ -1,13 +1,8 @@
 // What the declarations of a header are checked for, and what becomes of the head.
-ghost use Rattle.std.specs.Prelude.{◌≡◌, ℕ, List, ◌++◌, IfOk, IfErr, MatchResult};
-ghost use Rattle.vcd_model.specs.Declarations.{Declaration};
-ghost use Rattle.vcd_model.specs.HeaderPhrases.{HeaderPhrase};
-ghost use Rattle.vcd_text.specs.Advances.{CallEnd};
-ghost use Rattle.vcd_view.specs.Views.{IsSize};
+ghost use Rattle.std.specs.Prelude.{◌≡◌, List, ◌++◌, IfOk, IfErr, MatchResult};
+ghost use Rattle.vcd_head.specs.Names.{CallEnd, Declaration, HeaderPhrase, IsDraftOf, call_end};
+ghost use Rattle.vcd_head.specs.Declares.{DeclaresVariable, IsBarred, MayStart, Takes};
 ghost use Rattle.vcd_view.specs.declared.view.Kind.TheVariants.{Scope, Up};
-ghost use Rattle.vcd_head.specs.Declares.{IsBarred, MayStart, Spells, Takes, TakesVariable, spelled};
-ghost use Rattle.vcd_head.specs.Draft.{IsDraftOf};
-ghost use Rattle.vcd_head.specs.Fault.{call_end};
 
 use crate::code_place::enter_code;
 use crate::draft::Draft;
@@ -95,9 +90,7 @@ pub(crate) fn declare(
     draft: &mut Draft,
     variable: VariablePhrase<'_>,
 ) -> Result<bool, HeadFault>
-    ensures declares { (reference : List (List ℕ)) → IsSize variable.entry.size
-        → Spells variable.entry.reference reference
-        → IfOk result (TakesVariable (spelled variable.entry reference) draft.old draft.new) }
+    ensures declares { DeclaresVariable variable.entry draft.old draft.new result }
     ensures memory { IfErr result (λ fault. fault ≡ HeadFault.OutOfMemory) }
 {
     let event = is_event(variable.word);

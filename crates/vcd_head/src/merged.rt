@@ -1,14 +1,8 @@
 //! The head of a merged dump.
-ghost use Rattle.std.specs.Prelude.{◌≡◌, ℕ, ◌+◌, ◌-◌, ◌^◌, ◌<◌, ◌≤◌, List, [], length, take, flat_map, slice_get, Some};
+ghost use Rattle.std.specs.Prelude.{◌≡◌, ℕ, ◌+◌, ◌-◌, ◌^◌, ◌<◌, ◌≤◌, List, length, take, flat_map};
 ghost use Rattle.std.specs.List.{concat};
-ghost use Rattle.vcd_model.specs.Backward.{each};
-ghost use Rattle.vcd_model.specs.Declarations.{Declaration, enclosing};
-ghost use Rattle.vcd_model.specs.Header.{Header};
-ghost use Rattle.vcd_model.specs.HeadText.{first_number, input_head, least_exponent as least_of, merged_head, rows_text, up_line};
-ghost use Rattle.vcd_model.specs.Selection.{is_among, marked_places};
-ghost use Rattle.vcd_text.specs.Device.{Counts, Puts, Takes};
-ghost use Rattle.vcd_head.specs.Merged.{FitNumbers, ShowHeaders, closing, due, numbered, openings};
-ghost use Rattle.vcd_view.specs.Views.{IsViewOf};
+ghost use Rattle.vcd_head.specs.Names.{AnyDeclared, AnyHeader, Counts, Header, IsViewOf, Puts, Takes, TakesAround, each, enclosing, first_number, input_head, least_exponent as least_of, merged_head, up_line};
+ghost use Rattle.vcd_head.specs.Merged.{FitNumbers, ShowHeaders, closing, due, input_rows, openings};
 
 use crate::enclosing::Enclosing;
 use crate::head::Head;
@@ -86,9 +80,8 @@ fn put_openings<W: Sink>(
     w: &mut W,
 ) -> Result<(), WriteFailed>
     requires failures { (W.device w.old).failures < 2 ^ 64 - 1 }
-    ensures takes { (h : Header) → IsViewOf view.entry h → row < length h.declarations
-        → Takes (W.device w.old) (W.device w.new)
-        (openings h.declarations (take count (enclosing (take row h.declarations)))) result }
+    ensures takes { TakesAround view.entry row (W.device w.old) (W.device w.new)
+        (λ h. openings h.declarations (take count (enclosing (take row h.declarations)))) result }
     ensures counts { Counts (W.device w.old) (W.device w.new) result }
 {
     let mut scopes = Enclosing::innermost(row, count);
@@ -138,10 +131,9 @@ fn put_input_row<W: Sink>(
     w: &mut W,
 ) -> Result<(), WriteFailed>
     requires failures { (W.device w.old).failures < 2 ^ 64 - 1 }
-    ensures takes { (h : Header) (d : Declaration) → IsViewOf view.entry h
-        → slice_get h.declarations row ≡ Some d → FitNumbers first h
+    ensures takes { AnyDeclared view.entry row (λ h d. FitNumbers first h
         → Takes (W.device w.old) (W.device w.new)
-        (due h first scopes.pending scopes.written (take row h.declarations) d) result }
+        (due h first scopes.pending scopes.written (take row h.declarations) d) result) }
     ensures counts { Counts (W.device w.old) (W.device w.new) result }
 {
     let Some(declared) = view.row_at(row) else {
@@ -161,9 +153,8 @@ fn put_input_row<W: Sink>(
 /// these.
 fn put_input_rows<W: Sink>(view: HeadView<'_>, first: u64, w: &mut W) -> Result<(), WriteFailed>
     requires failures { (W.device w.old).failures < 2 ^ 64 - 1 }
-    ensures takes { (h : Header) → IsViewOf view.entry h → FitNumbers first h
-        → Takes (W.device w.old) (W.device w.new) (rows_text (numbered first h)
-        (is_among (marked_places [] h.declarations)) h.declarations) result }
+    ensures takes { AnyHeader view.entry (λ h. FitNumbers first h
+        → Takes (W.device w.old) (W.device w.new) (input_rows first h) result) }
     ensures counts { Counts (W.device w.old) (W.device w.new) result }
 {
     let mut scopes = OpenScopes {

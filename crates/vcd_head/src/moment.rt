@@ -2,11 +2,8 @@
 ghost use Rattle.std.specs.Prelude.{◌≡◌, ◌*◌, ◌/◌, ◌^◌, ◌<◌, pos, ◌+ℤ◌, nat_abs, option_map};
 ghost use Rattle.std.specs.Int.{div_ceil};
 ghost use Rattle.std.specs.Option.{SomeIff};
-ghost use Rattle.vcd_model.specs.Header.{Header};
-ghost use Rattle.vcd_model.specs.Ticks.{moment_ticks, ticks as ticks_of};
-ghost use Rattle.vcd_view.specs.declared.view.Scale.{Scale};
+ghost use Rattle.vcd_head.specs.Names.{Header, IsViewOf, Scale, moment_ticks, ticks as ticks_of};
 ghost use Rattle.vcd_head.specs.Moments.{asked, told};
-ghost use Rattle.vcd_view.specs.Views.{IsViewOf};
 
 use crate::words::unit_of;
 use vcd_view::HeadView;

@@ -1,8 +1,7 @@
 // Phrases that run to the first `$end`.
 ghost use Rattle.std.specs.Prelude.{◌≡◌, ◌-◌, ◌^◌, ◌<◌, ◌≤◌, ◌++◌, length, OnOk};
 ghost use Rattle.std.specs.List.{join_with_byte};
-ghost use Rattle.vcd_text.specs.Feed.{source_of};
-ghost use Rattle.vcd_head.specs.Calls.{MovesOn, ReadsReference, ReadsToEnd};
+ghost use Rattle.vcd_head.specs.Names.{MovesOn, ReadsReference, ReadsToEnd, source_of};
 ghost use Rattle.vcd_head.specs.Texts.{spaced};
 
 use crate::fault::HeadFault;

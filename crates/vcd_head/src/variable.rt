@@ -1,15 +1,7 @@
 // The phrase of a variable, after its keyword.
-ghost use Rattle.std.specs.Prelude.{◌≡◌, ℕ, ◌-◌, ◌^◌, ◌<◌, List, [], ◌∷◌, codes, bytes_eq};
-ghost use Rattle.vcd_model.specs.Bytes.{decimal_value};
-ghost use Rattle.vcd_model.specs.Input.{Input};
-ghost use Rattle.vcd_model.specs.Keywords.{Keyword, keyword_text};
-ghost use Rattle.vcd_model.specs.HeaderPhrases.{HeaderPhrase, declarations_of};
-ghost use Rattle.vcd_model.specs.Reading.{Placed, phrases_of};
-ghost use Rattle.vcd_text.specs.Feed.{source_of};
-ghost use Rattle.vcd_head.specs.Calls.{MovesOn, OrFails, ReadsPhrase};
-ghost use Rattle.vcd_head.specs.Reads.{Reads};
-ghost use Rattle.vcd_head.specs.Draft.{HasCodes};
-ghost use Rattle.vcd_head.specs.Variables.{SizeRead, CodeRead};
+ghost use Rattle.std.specs.Prelude.{◌-◌, ◌^◌, ◌<◌};
+ghost use Rattle.vcd_head.specs.Names.{Keyword, MovesOn, ReadsPhrase, source_of};
+ghost use Rattle.vcd_head.specs.Variables.{ReadsCode, ReadsSize};
 
 use crate::code_place::enter_code;
 use crate::codes::Codes;
@@ -28,9 +20,7 @@ use vcd_view::Kind;
 /// Reads the size of a variable, in bits.
 fn read_size<S: Source>(feed: &mut Feed<'_, '_, '_, '_, S>) -> Result<usize, HeadFault>
     requires { S.failures (source_of feed.old) < 2 ^ 64 - 1 }
-    ensures reads { (most : ℕ) (i : Input) (placed : List (Placed HeaderPhrase)) (type : List ℕ)
-        → Reads most i placed (keyword_text Keyword.Var ∷ type ∷ []) feed.old
-        → OrFails most i feed.new (SizeRead most i placed type feed.new) result }
+    ensures reads { ReadsSize feed.old feed.new result }
     ensures advances { MovesOn S.failures feed.old feed.new result }
 {
     next_token(feed)?;
@@ -49,12 +39,7 @@ fn read_code<S: Source>(
     event: bool,
 ) -> Result<Vec<u8>, HeadFault>
     requires { S.failures (source_of feed.old) < 2 ^ 64 - 1 }
-    ensures reads { (most : ℕ) (i : Input) (placed : List (Placed HeaderPhrase))
-        (type digits text : List ℕ)
-        → HasCodes text known.now (declarations_of (phrases_of placed))
-        → decimal_value digits ≡ size → bytes_eq (codes "event") type ≡ event
-        → Reads most i placed (keyword_text Keyword.Var ∷ type ∷ digits ∷ []) feed.old
-        → OrFails most i feed.new (CodeRead most i placed type digits feed.new) result }
+    ensures reads { ReadsCode known.now size event feed.old feed.new result }
     ensures advances { MovesOn S.failures feed.old feed.new result }
 {
     next_token(feed)?;

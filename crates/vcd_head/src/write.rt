@@ -1,16 +1,8 @@
 //! Headers as they are written.
-ghost use Rattle.std.specs.Prelude.{◌≡◌, ℕ, ◌+◌, ◌-◌, ◌^◌, ◌<◌, List, [], ◌∷◌, flat_map, length, take, Some, slice_get, option_map, unwrap_or};
+ghost use Rattle.std.specs.Prelude.{◌≡◌, ℕ, ◌-◌, ◌^◌, ◌<◌, List, [], ◌∷◌, flat_map, take, option_map, unwrap_or};
 ghost use Rattle.std.specs.List.{concat};
-ghost use Rattle.vcd_model.specs.Backward.{each};
-ghost use Rattle.vcd_model.specs.Declarations.{Declaration, Variable, enclosing, parent};
-ghost use Rattle.vcd_model.specs.Header.{Header};
-ghost use Rattle.vcd_model.specs.HeadText.{head_text, head_for, rows_text, row_line, scope_line, var_line, up_lines_at, three_lines, three_lines_of, code_place, new_code};
-ghost use Rattle.vcd_model.specs.Keywords.{Keyword, keyword_text};
-ghost use Rattle.vcd_model.specs.Scales.{scale_text};
-ghost use Rattle.vcd_text.specs.Device.{Counts, Puts, Takes};
-ghost use Rattle.vcd_head.specs.Written.{TakesHeader, TakesRow};
-ghost use Rattle.vcd_head.specs.Marks.{is_marked, marks_of};
-ghost use Rattle.vcd_view.specs.Views.{IsViewOf, reference_of, type_of};
+ghost use Rattle.vcd_head.specs.Names.{AnyVariable, Counts, Header, IsViewOf, Keyword, Puts, Takes, TakesHeader, TakesRow, TakesVariableRow, each, enclosing, head_for, head_text, is_marked, keyword_text, marks_of, parent, reference_of, row_line, rows_text, scale_text, scope_line, three_lines, three_lines_of, type_of, up_lines_at, var_line};
+ghost use Rattle.vcd_head.specs.Merged.{FitNumbers, numbered};
 
 use vcd_text::{Sink, WriteFailed, put, put_number};
 use vcd_view::{HeadView, Kind, NewCode, Scale};
@@ -121,9 +113,8 @@ fn put_variable<W: Sink>(
     w: &mut W,
 ) -> Result<(), WriteFailed>
     requires failures { (W.device w.old).failures < 2 ^ 64 - 1 }
-    ensures takes { (h : Header) (v : Variable) → IsViewOf view.entry h
-        → slice_get h.declarations row ≡ Some (Declaration.Var v)
-        → v.size ≡ size → Takes (W.device w.old) (W.device w.new) (var_line v code.now) result }
+    ensures takes { AnyVariable view.entry row (λ h v. v.size ≡ size
+        → Takes (W.device w.old) (W.device w.new) (var_line v code.now) result) }
     ensures counts { Counts (W.device w.old) (W.device w.new) result }
 {
     let type_text = view.type_of(row);
@@ -136,9 +127,8 @@ fn put_variable<W: Sink>(
 /// Writes the line of the variable of a row, with its own code.
 fn put_own<W: Sink>(view: HeadView<'_>, row: usize, w: &mut W) -> Result<(), WriteFailed>
     requires failures { (W.device w.old).failures < 2 ^ 64 - 1 }
-    ensures takes { (h : Header) (v : Variable) → IsViewOf view.entry h
-        → slice_get h.declarations row ≡ Some (Declaration.Var v)
-        → Takes (W.device w.old) (W.device w.new) (var_line v v.code) result }
+    ensures takes { TakesVariableRow view.entry row (W.device w.old) (W.device w.new)
+        (λ h v. var_line v v.code) result }
     ensures counts { Counts (W.device w.old) (W.device w.new) result }
 {
     let Some(declared) = view.row_at(row) else {
@@ -165,10 +155,8 @@ pub(crate) fn put_renamed<W: Sink>(
     w: &mut W,
 ) -> Result<(), WriteFailed>
     requires failures { (W.device w.old).failures < 2 ^ 64 - 1 }
-    ensures takes { (h : Header) (v : Variable) → IsViewOf view.entry h
-        → slice_get h.declarations row ≡ Some (Declaration.Var v)
-        → first + length h.codes < 2 ^ 64 → Takes (W.device w.old) (W.device w.new)
-        (var_line v (new_code (first + code_place h v.code))) result }
+    ensures takes { AnyVariable view.entry row (λ h v. FitNumbers first h
+        → Takes (W.device w.old) (W.device w.new) (var_line v (numbered first h v.code)) result) }
     ensures counts { Counts (W.device w.old) (W.device w.new) result }
 {
     let Some(declared) = view.row_at(row) else {
@@ -279,8 +267,8 @@ fn put_declarations<W: Sink>(view: HeadView<'_>, marks: &[u8], w: &mut W) -> Res
 /// `$enddefinitions`. Where a write fails, a prefix was written.
 pub fn put_head<W: Sink>(view: HeadView<'_>, marks: &[u8], w: &mut W) -> Result<(), WriteFailed>
     requires failures { (W.device w.old).failures < 2 ^ 64 - 1 }
-    ensures takes { (h : Header) → IsViewOf view.entry h
-        → Takes (W.device w.old) (W.device w.new) (head_text h (is_marked marks.now)) result }
+    ensures takes { TakesHeader view.entry (W.device w.old) (W.device w.new)
+        (λ h. head_text h (is_marked marks.now)) result }
 
     // The marks that names give make it the header for these names.
     ensures selected { (h : Header) (names : List (List ℕ)) → IsViewOf view.entry h
