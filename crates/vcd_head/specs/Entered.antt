@@ -1,6 +1,6 @@
 -- Codes of variables, as they are asked for and entered.
 use Rattle.std.specs.Prelude.{◌≡◌, ℕ, Bool, List, length, Option, Result, IfOk}
-use Rattle.vcd_model.specs.Declarations.{Declaration, IdCode, Variable, code_of}
+use Rattle.vcd_model.specs.Declarations.{Declaration, Variable, code_of}
 use Rattle.vcd_model.specs.HeaderChecks.{agrees}
 use Rattle.vcd_view.specs.Views.{IsSize}
 use Rattle.vcd_view.specs.declared.view.Code.{Code}

@@ -5,7 +5,6 @@ ghost use Rattle.vcd_head.specs.Codes.{HasNone, is_of};
 ghost use Rattle.vcd_head.specs.Entered.{Allows};
 
 use crate::code_key::CodeKey;
-use crate::sought::Sought;
 use indexmap::IndexSet;
 use std::alloc::Global;
 use vcd_view::{Code, CodeSeed, code_in};
@@ -48,10 +47,10 @@ impl Codes {
         ensures { (text : List ℕ) (cs : List IdCode) → AreHeld text self.now.list.items cs
             → AreKeysOf self.now.keys.keys cs → Finds cs bytes.now result }
     {
-        let Ok(sought) = Sought::new(alloc, bytes) else {
+        let Ok(key) = CodeKey::of(alloc, bytes) else {
             return place_among(self.keys.as_slice(), bytes);
         };
-        self.keys.get_index_of(&sought.key)
+        self.keys.get_index_of(&key)
     }
 }
 

@@ -8,7 +8,6 @@ use crate::code_place::enter_code;
 use crate::draft::Draft;
 use crate::fault::HeadFault;
 use crate::rows::{WideRow, push};
-use crate::sought::Sought;
 use crate::words::is_event;
 use std::alloc::{AllocError, Global};
 use vcd_view::Kind;
@@ -94,11 +93,11 @@ pub(crate) fn declare(
     ensures memory { IfErr result (λ fault. fault ≡ HeadFault.OutOfMemory) }
 {
     let event = is_event(variable.word);
-    let code = Sought::new(alloc, variable.code)?;
     let Some(place) = enter_code(
+        alloc,
         &mut draft.text,
         &mut draft.codes,
-        code,
+        variable.code,
         variable.size,
         event,
     )?
@@ -110,18 +109,16 @@ pub(crate) fn declare(
     let word = variable.word.len();
     let all = variable.reference.text.len();
     let parent = draft.parent();
-    push(
-        &mut draft.rows,
-        WideRow {
-            kind: Kind::Var,
-            parent,
-            start,
-            word,
-            name: variable.reference.name,
-            all,
-            code: place,
-        },
-    )?;
+    let row = WideRow {
+        kind: Kind::Var,
+        parent,
+        start,
+        word,
+        name: variable.reference.name,
+        all,
+        code: place,
+    };
+    push(&mut draft.rows, row)?;
     Ok(true)
 }
 
@@ -136,18 +133,16 @@ pub(crate) fn open_scope(draft: &mut Draft, scope: ScopePhrase<'_>) -> Result<()
     draft.text.extend_from_slice(scope.word)?;
     draft.text.extend_from_slice(scope.name)?;
     let parent = draft.parent();
-    push(
-        &mut draft.rows,
-        WideRow {
-            kind: Kind::Scope,
-            parent,
-            start,
-            word: scope.word.len(),
-            name: scope.name.len(),
-            all: scope.name.len(),
-            code: 0,
-        },
-    )?;
+    let row = WideRow {
+        kind: Kind::Scope,
+        parent,
+        start,
+        word: scope.word.len(),
+        name: scope.name.len(),
+        all: scope.name.len(),
+        code: 0,
+    };
+    push(&mut draft.rows, row)?;
     draft.scopes.push(draft.rows.len())?;
     Ok(())
 }
@@ -159,17 +154,15 @@ pub(crate) fn close_scope(draft: &mut Draft) -> Result<(), HeadFault>
     ensures memory { IfErr result (λ fault. fault ≡ HeadFault.OutOfMemory) }
 {
     let closed = draft.scopes.pop().unwrap_or(0);
-    push(
-        &mut draft.rows,
-        WideRow {
-            kind: Kind::Up,
-            parent: closed,
-            start: 0,
-            word: 0,
-            name: 0,
-            all: 0,
-            code: 0,
-        },
-    )?;
+    let row = WideRow {
+        kind: Kind::Up,
+        parent: closed,
+        start: 0,
+        word: 0,
+        name: 0,
+        all: 0,
+        code: 0,
+    };
+    push(&mut draft.rows, row)?;
     Ok(())
 }

@@ -32,12 +32,7 @@ impl Enclosing {
         ensures { (h : Header) → row < length h.declarations
             → LeavesScopes h row (reverse (scopes_around h row)) result }
     {
-        Enclosing {
-            row,
-            rows: [0; HELD],
-            left: row,
-            held: 0,
-        }
+        Self::innermost(row, row)
     }
 
     /// Returns so many of the innermost ones, or all where there are fewer.

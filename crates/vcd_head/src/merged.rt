@@ -37,37 +37,20 @@ pub(crate) struct OpenScopes {
 }
 
 impl OpenScopes {
-    ghost use Rattle.vcd_view.specs.declared.view.Kind.TheVariants.{Scope, Up, Var};
+    ghost use Rattle.vcd_head.specs.Merged.{IsBehind};
 
-    /// Returns the scopes that are open after a row of this kind.
-    fn behind(self, kind: Kind) -> OpenScopes
-        ensures scope { kind ≡ Scope → self.pending + 1 < 2 ^ 64
-            → (result.pending ≡ self.pending + 1) × (result.written ≡ self.written) }
-        ensures pending { kind ≡ Up → 0 < self.pending
-            → (result.pending ≡ self.pending - 1) × (result.written ≡ self.written) }
-        ensures written { kind ≡ Up → self.pending ≡ 0
-            → (result.pending ≡ 0) × (result.written ≡ self.written - 1) }
-        ensures variable { kind ≡ Var → self.written + self.pending < 2 ^ 64
-            → (result.pending ≡ 0) × (result.written ≡ self.written + self.pending) }
+    /// Goes on to the scopes that are open after a row of this kind.
+    fn pass(&mut self, kind: Kind)
+        ensures { IsBehind kind self.old.pending self.old.written self.new.pending self.new.written }
     {
-        let OpenScopes { pending, written } = self;
         match kind {
-            Kind::Scope => OpenScopes {
-                pending: pending.saturating_add(1),
-                written,
-            },
-            Kind::Up if pending > 0 => OpenScopes {
-                pending: pending - 1,
-                written,
-            },
-            Kind::Up => OpenScopes {
-                pending: 0,
-                written: written.saturating_sub(1),
-            },
-            Kind::Var => OpenScopes {
-                pending: 0,
-                written: written.saturating_add(pending),
-            },
+            Kind::Scope => self.pending = self.pending.saturating_add(1),
+            Kind::Up if self.pending > 0 => self.pending -= 1,
+            Kind::Up => self.written = self.written.saturating_sub(1),
+            Kind::Var => {
+                self.written = self.written.saturating_add(self.pending);
+                self.pending = 0;
+            }
         }
     }
 }
@@ -98,10 +81,7 @@ fn put_closing<W: Sink>(scopes: OpenScopes, w: &mut W) -> Result<(), WriteFailed
     ensures { Puts (W.device w.old) (W.device w.new)
         (closing scopes.pending scopes.written) result }
 {
-    if scopes.pending > 0 {
-        return Ok(());
-    }
-    if scopes.written == 0 {
+    if scopes.pending > 0 || scopes.written == 0 {
         return Ok(());
     }
     put(w, b"$upscope $end\n")
@@ -163,7 +143,7 @@ fn put_input_rows<W: Sink>(view: HeadView<'_>, first: u64, w: &mut W) -> Result<
     };
     for row in 0..view.rows.len() {
         put_input_row(view, row, first, scopes, w)?;
-        scopes = scopes.behind(view.rows[row].kind);
+        scopes.pass(view.rows[row].kind);
     }
     put_closings(scopes.written, w)
 }

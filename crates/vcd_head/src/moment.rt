@@ -41,9 +41,9 @@ impl Moment {
 #[derive(Clone, Copy, PartialEq, Eq, Debug)]
 pub enum TickFault {
     /// The moment has a unit, and the header declares no time scale (fault 12).
-    NoTimescale,
+    NoTimescale = 12,
     /// The moment is 2^64 ticks or more (fault 22).
-    OutOfRange,
+    OutOfRange = 22,
 }
 
 impl TickFault {
@@ -54,10 +54,7 @@ impl TickFault {
     pub fn number(self) -> u8
         ensures { result ≡ tick_fault_number self }
     {
-        match self {
-            TickFault::NoTimescale => 12,
-            TickFault::OutOfRange => 22,
-        }
+        self as u8
     }
 }
 

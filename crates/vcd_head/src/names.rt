@@ -157,8 +157,8 @@ impl<'n> Group<'n> {
             return Run {
                 first,
                 end: first,
-                passed: run.passed,
                 whole,
+                ..run
             };
         }
         let end = self.first_from(first, run.end, run.passed, next + 1);
@@ -204,10 +204,8 @@ impl<'n> Group<'n> {
     {
         let shared = self.shared(run, bytes);
         let along = Run {
-            first: run.first,
-            end: run.end,
             passed: run.passed + shared,
-            whole: run.whole,
+            ..run
         };
         match bytes.get(shared) {
             Some(byte) => (self.step(along, *byte, matched), shared + 1),

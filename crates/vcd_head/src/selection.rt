@@ -18,36 +18,10 @@ pub(crate) enum Match<'n> {
     Differs,
 }
 
-/// Returns whether the text has this byte of the front too. Where it does not, the text does not
-/// begin with the front.
-#[inline(always)]
-fn same_at(text: &[u8], front: &[u8], place: usize) -> bool
-    requires { place < length front.now }
-    ensures { result ≡ false → (rest : List ℕ) → text.now ≢ front.now ++ rest }
-{
-    place < text.len() && text[place] == front[place]
-}
-
-/// Returns whether the text has the last two bytes of the front in their places. It is a quick
-/// test: where it has not, the text does not begin with the front. Neighbouring names often differ
-/// in a number at their end, which a bracket may close.
-#[inline(always)]
-fn may_begin(text: &[u8], front: &[u8]) -> bool
-    ensures { result ≡ false → (rest : List ℕ) → text.now ≢ front.now ++ rest }
-{
-    let Some(last) = front.len().checked_sub(1) else {
-        return true;
-    };
-    same_at(text, front, last) && same_at(text, front, last.saturating_sub(1))
-}
-
 /// Returns whether the text is the name, or begins with it and a point.
 pub(crate) fn is_or_goes_on(text: &[u8], name: &[u8]) -> bool
     ensures { result ≡ selects_path text.now name.now }
 {
-    if !may_begin(text, name) {
-        return false;
-    }
     match text.strip_prefix(name) {
         Some(rest) => rest.is_empty() || rest.starts_with(b"."),
         None => false,
@@ -62,9 +36,6 @@ pub(crate) fn after_component<'n>(name: &'n [u8], component: &[u8]) -> Match<'n>
 {
     if is_or_goes_on(component, name) {
         return Match::Selected;
-    }
-    if !may_begin(name, component) {
-        return Match::Differs;
     }
     let Some(after) = name.strip_prefix(component) else {
         return Match::Differs;

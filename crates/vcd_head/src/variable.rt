@@ -3,13 +3,10 @@ ghost use Rattle.std.specs.Prelude.{◌-◌, ◌^◌, ◌<◌};
 ghost use Rattle.vcd_head.specs.Names.{Keyword, MovesOn, ReadsPhrase, source_of};
 ghost use Rattle.vcd_head.specs.Variables.{ReadsCode, ReadsSize};
 
-use crate::code_place::enter_code;
 use crate::codes::Codes;
-use crate::declarations::check_start;
+use crate::declarations::{Reference, VariablePhrase, check_start, declare};
 use crate::draft::Draft;
 use crate::fault::HeadFault;
-use crate::rows::{WideRow, push};
-use crate::sought::Sought;
 use crate::texts::append_reference;
 use crate::tokens::{next_token, next_word};
 use crate::words::{is_code, is_event, size_of};
@@ -71,28 +68,18 @@ pub(crate) fn read_variable<S: Source>(
     let size = read_size(feed)?;
     let event = is_event(&word);
     let code = read_code(alloc, feed, &draft.codes, size, event)?;
-    let sought = Sought::new(alloc, &code)?;
-    let Some(place) = enter_code(&mut draft.text, &mut draft.codes, sought, size, event)? else {
-        return Err(HeadFault::CodeDiffers);
-    };
-    let start = draft.text.len();
-    draft.text.extend_from_slice(&word)?;
-    let reference = draft.text.len();
-    let Some(name) = append_reference(feed, &mut draft.text)? else {
+    let mut text = Vec::new(alloc);
+    let Some(name) = append_reference(feed, &mut text)? else {
         return Err(HeadFault::BadVariable);
     };
-    let parent = draft.parent();
-    push(
-        &mut draft.rows,
-        WideRow {
-            kind: Kind::Var,
-            parent,
-            start,
-            word: word.len(),
-            name,
-            all: draft.text.len().saturating_sub(reference),
-            code: place,
-        },
-    )?;
+    let variable = VariablePhrase {
+        word: &word,
+        size,
+        code: &code,
+        reference: Reference { name, text: &text },
+    };
+    if !declare(alloc, draft, variable)? {
+        return Err(HeadFault::CodeDiffers);
+    }
     Ok(())
 }

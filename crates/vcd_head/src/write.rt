@@ -104,23 +104,28 @@ pub(crate) fn put_scope<W: Sink>(
     put_texts(w, &[b"$scope ", type_text, b" ", name, b" $end\n"])
 }
 
-/// Writes the line of the variable of a row, which has this size, with this code.
+/// Writes the line of the variable of a row, with this code.
 fn put_variable<W: Sink>(
     view: HeadView<'_>,
     row: usize,
-    size: usize,
     code: &[u8],
     w: &mut W,
 ) -> Result<(), WriteFailed>
     requires failures { (W.device w.old).failures < 2 ^ 64 - 1 }
-    ensures takes { AnyVariable view.entry row (λ h v. v.size ≡ size
-        → Takes (W.device w.old) (W.device w.new) (var_line v code.now) result) }
+    ensures takes { TakesVariableRow view.entry row (W.device w.old) (W.device w.new)
+        (λ h v. var_line v code.now) result }
     ensures counts { Counts (W.device w.old) (W.device w.new) result }
 {
+    let Some(declared) = view.row_at(row) else {
+        return Ok(());
+    };
+    let Some(own) = view.code_at(declared.code as usize) else {
+        return Ok(());
+    };
     let type_text = view.type_of(row);
     let reference = view.reference_of(row);
     put_texts(w, &[b"$var ", type_text, b" "])?;
-    put_number(w, size as u64)?;
+    put_number(w, own.size as u64)?;
     put_texts(w, &[b" ", code, b" ", reference, b" $end\n"])
 }
 
@@ -131,17 +136,8 @@ fn put_own<W: Sink>(view: HeadView<'_>, row: usize, w: &mut W) -> Result<(), Wri
         (λ h v. var_line v v.code) result }
     ensures counts { Counts (W.device w.old) (W.device w.new) result }
 {
-    let Some(declared) = view.row_at(row) else {
-        return Ok(());
-    };
-    match view.code_at(declared.code as usize) {
-        Some(code) => put_variable(
-            view,
-            row,
-            code.size,
-            view.text_at(code.start, code.len as usize),
-            w,
-        ),
+    match view.row_at(row) {
+        Some(declared) => put_variable(view, row, view.code_text(declared.code as usize), w),
         None => Ok(()),
     }
 }
@@ -162,13 +158,8 @@ pub(crate) fn put_renamed<W: Sink>(
     let Some(declared) = view.row_at(row) else {
         return Ok(());
     };
-    match view.code_at(declared.code as usize) {
-        Some(code) => {
-            let id = NewCode::of(first.saturating_add(declared.code as u64));
-            put_variable(view, row, code.size, id.text(), w)
-        }
-        None => Ok(()),
-    }
+    let id = NewCode::of(first.saturating_add(declared.code as u64));
+    put_variable(view, row, id.text(), w)
 }
 
 /// Writes the line that closes the scope of a row, where that is marked.

@@ -15,7 +15,7 @@ use Rattle.vcd_head.proofs.declarations.declare.Goals as goal
 pub returns-in_default-clause-declares : goal.returns-in_default-clause-declares
 returns-in_default-clause-declares c = λ reference size spells most ps h start.
     let variable = c.args.variable in
-    let is : code_of (spelled variable reference) ≡ record { text = c.in_ok-code.code.bytes.now; size = variable.size; event = c.is_event-event.result } = λ j. record { text = sym c.in_ok-code.ensures j; size = variable.size; event = sym c.is_event-event.ensures j } in
+    let is : code_of (spelled variable reference) ≡ record { text = variable.code.now; size = variable.size; event = c.is_event-event.result } = λ j. record { text = variable.code.now; size = variable.size; event = sym c.is_event-event.ensures j } in
     let e = (rw (not_some c.in_ok-place.field-0 c.in_default.not-Some) at (c.in_ok-place.ensures.codes (declarations_of ps) (spelled variable reference) h.declares.codes is size)) in
     (sym e.0, holds_same most c.args.draft.now _ ps h e.1 e.2 refl refl refl refl refl)
 
@@ -28,7 +28,7 @@ returns-clause-declares c = λ reference size spells most ps h start.
     let ds = declarations_of ps in
     let v = spelled variable reference in
     let few = room most ps kind.Var start in
-    let is : code_of v ≡ record { text = c.in_ok-code.code.bytes.now; size = variable.size; event = c.is_event-event.result } = λ j. record { text = sym c.in_ok-code.ensures j; size = variable.size; event = sym c.is_event-event.ensures j } in
+    let is : code_of v ≡ record { text = variable.code.now; size = variable.size; event = c.is_event-event.result } = λ j. record { text = variable.code.now; size = variable.size; event = sym c.is_event-event.ensures j } in
     let e = (rw c.in-Some.is at (c.in_ok-place.ensures.codes ds v h.declares.codes is size)) in
     let held = e.1 in
     let middle = c.enter_code.new.text.items in
