@@ -1,5 +1,5 @@
 // What the declarations of a header are checked for, and what becomes of the head.
-ghost use Rattle.std.specs.Prelude.{◌≡◌, List, ◌++◌, IfOk, IfErr, MatchResult};
+ghost use Rattle.std.specs.Prelude.{◌≡◌, List, IfOk, IfErr, MatchResult};
 ghost use Rattle.vcd_head.specs.Names.{CallEnd, Declaration, HeaderPhrase, IsDraftOf, call_end};
 ghost use Rattle.vcd_head.specs.Declares.{DeclaresVariable, IsBarred, MayStart, Takes};
 ghost use Rattle.vcd_view.specs.declared.view.Kind.TheVariants.{Scope, Up};
@@ -9,7 +9,7 @@ use crate::draft::Draft;
 use crate::fault::HeadFault;
 use crate::rows::{WideRow, push};
 use crate::words::is_event;
-use std::alloc::{AllocError, Global};
+use std::alloc::Global;
 use vcd_view::Kind;
 
 // How many scopes may be open (profile).
@@ -70,17 +70,6 @@ pub(crate) fn check_start(draft: &Draft, most: u64, kind: Kind) -> Result<(), He
     }
 }
 
-/// Puts the type and the reference of a variable to the text.
-#[inline(always)]
-fn put_texts(text: &mut Vec<u8>, variable: VariablePhrase<'_>) -> Result<(), AllocError>
-    ensures text { IfOk result (λ _. text.new.items
-        ≡ text.old.items ++ (variable.entry.word.now ++ variable.entry.reference.text.now)) }
-{
-    text.extend_from_slice(variable.word)?;
-    text.extend_from_slice(variable.reference.text)?;
-    Ok(())
-}
-
 /// Declares a variable, and returns whether its code allows that: not where it was declared with
 /// another size, or where one of the two is an event and the other is not.
 #[inline(always)]
@@ -105,7 +94,8 @@ pub(crate) fn declare(
         return Ok(false);
     };
     let start = draft.text.len();
-    put_texts(&mut draft.text, variable)?;
+    draft.text.extend_from_slice(variable.word)?;
+    draft.text.extend_from_slice(variable.reference.text)?;
     let word = variable.word.len();
     let all = variable.reference.text.len();
     let parent = draft.parent();

@@ -6,9 +6,9 @@ ghost use Rattle.vcd_head.specs.Merged.{FitNumbers, ShowHeaders, closing, due, i
 
 use crate::enclosing::Enclosing;
 use crate::head::Head;
-use crate::write::{put_lines, put_renamed, put_scope, text_of_exponent};
+use crate::write::{put_lines, put_scope, put_variable, text_of_exponent};
 use vcd_text::{Sink, WriteFailed, put, put_number};
-use vcd_view::{HeadView, Kind};
+use vcd_view::{HeadView, Kind, NewCode};
 
 /// Returns the least power of ten of the heads' time scales, in seconds; a missing one counts as
 /// 1s, and 0 where there is no head.
@@ -124,7 +124,8 @@ fn put_input_row<W: Sink>(
         Kind::Up => put_closing(scopes, w),
         Kind::Var => {
             put_openings(view, row, scopes.pending, w)?;
-            put_renamed(view, row, first, w)
+            let id = NewCode::of(first.saturating_add(declared.code as u64));
+            put_variable(view, row, id.text(), w)
         }
     }
 }

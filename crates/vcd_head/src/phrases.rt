@@ -1,6 +1,6 @@
 // The phrases of a header, one after the other.
 ghost use Rattle.std.specs.Prelude.{◌≡◌, ◌-◌, ◌^◌, ◌<◌, OnOk};
-ghost use Rattle.vcd_head.specs.Names.{Keyword as Named, MovesOn, ReadsAny, ReadsEnd, ReadsOther, ReadsRest, ReadsText, goes_on as goes_on_after, seen, source_of};
+ghost use Rattle.vcd_head.specs.Names.{Keyword as Named, MovesOn, ReadsAny, ReadsEnd, ReadsOther, ReadsRest, goes_on as goes_on_after, seen, source_of};
 
 use crate::draft::Draft;
 use crate::fault::HeadFault;
@@ -13,46 +13,6 @@ use crate::words::{begins_change, is_command};
 use std::alloc::Global;
 use vcd_text::{Feed, Source};
 use vcd_view::{Keyword, keyword_of};
-
-/// Reads a comment: any tokens up to `$end`.
-fn read_comment<S: Source>(
-    feed: &mut Feed<'_, '_, '_, '_, S>,
-    draft: &mut Draft,
-) -> Result<(), HeadFault>
-    requires { S.failures (source_of feed.old) < 2 ^ 64 - 1 }
-    ensures reads { ReadsText Named.Comment draft.old feed.old draft.new feed.new result }
-    ensures advances { MovesOn S.failures feed.old feed.new result }
-{
-    skip_to_end(feed)
-}
-
-/// Reads the date: any tokens up to `$end`.
-fn read_date<S: Source>(
-    alloc: Global,
-    feed: &mut Feed<'_, '_, '_, '_, S>,
-    draft: &mut Draft,
-) -> Result<(), HeadFault>
-    requires { S.failures (source_of feed.old) < 2 ^ 64 - 1 }
-    ensures reads { ReadsText Named.Date draft.old feed.old draft.new feed.new result }
-    ensures advances { MovesOn S.failures feed.old feed.new result }
-{
-    draft.date = text_to_end(alloc, feed)?;
-    Ok(())
-}
-
-/// Reads the version: any tokens up to `$end`.
-fn read_version<S: Source>(
-    alloc: Global,
-    feed: &mut Feed<'_, '_, '_, '_, S>,
-    draft: &mut Draft,
-) -> Result<(), HeadFault>
-    requires { S.failures (source_of feed.old) < 2 ^ 64 - 1 }
-    ensures reads { ReadsText Named.Version draft.old feed.old draft.new feed.new result }
-    ensures advances { MovesOn S.failures feed.old feed.new result }
-{
-    draft.version = text_to_end(alloc, feed)?;
-    Ok(())
-}
 
 /// Reads the rest of a command that the standard does not have; refuses what no phrase begins with.
 fn read_other<S: Source>(
@@ -128,9 +88,15 @@ fn read_rest<S: Source>(
     ensures advances { MovesOn S.failures feed.old feed.new result }
 {
     match keyword {
-        Some(Keyword::Comment) => read_comment(feed, draft),
-        Some(Keyword::Date) => read_date(alloc, feed, draft),
-        Some(Keyword::Version) => read_version(alloc, feed, draft),
+        Some(Keyword::Comment) => skip_to_end(feed),
+        Some(Keyword::Date) => {
+            draft.date = text_to_end(alloc, feed)?;
+            Ok(())
+        }
+        Some(Keyword::Version) => {
+            draft.version = text_to_end(alloc, feed)?;
+            Ok(())
+        }
         Some(Keyword::Timescale) => read_timescale(feed, draft),
         Some(Keyword::Scope) => read_scope(alloc, feed, most, draft),
         Some(Keyword::Upscope) => read_upscope(feed, most, draft),

@@ -1,11 +1,10 @@
 //! Headers as they are written.
 ghost use Rattle.std.specs.Prelude.{◌≡◌, ℕ, ◌-◌, ◌^◌, ◌<◌, List, [], ◌∷◌, flat_map, take, option_map, unwrap_or};
 ghost use Rattle.std.specs.List.{concat};
-ghost use Rattle.vcd_head.specs.Names.{AnyVariable, Counts, Header, IsViewOf, Keyword, Puts, Takes, TakesHeader, TakesRow, TakesVariableRow, each, enclosing, head_for, head_text, is_marked, keyword_text, marks_of, parent, reference_of, row_line, rows_text, scale_text, scope_line, three_lines, three_lines_of, type_of, up_lines_at, var_line};
-ghost use Rattle.vcd_head.specs.Merged.{FitNumbers, numbered};
+ghost use Rattle.vcd_head.specs.Names.{Counts, Header, IsViewOf, Keyword, Puts, Takes, TakesHeader, TakesRow, TakesVariableRow, each, enclosing, head_for, head_text, is_marked, keyword_text, marks_of, parent, reference_of, row_line, rows_text, scale_text, scope_line, three_lines, three_lines_of, type_of, up_lines_at, var_line};
 
 use vcd_text::{Sink, WriteFailed, put, put_number};
-use vcd_view::{HeadView, Kind, NewCode, Scale};
+use vcd_view::{HeadView, Kind, Scale};
 
 /// Writes texts one after the other.
 fn put_texts<W: Sink>(w: &mut W, texts: &[&[u8]]) -> Result<(), WriteFailed>
@@ -105,7 +104,7 @@ pub(crate) fn put_scope<W: Sink>(
 }
 
 /// Writes the line of the variable of a row, with this code.
-fn put_variable<W: Sink>(
+pub(crate) fn put_variable<W: Sink>(
     view: HeadView<'_>,
     row: usize,
     code: &[u8],
@@ -127,39 +126,6 @@ fn put_variable<W: Sink>(
     put_texts(w, &[b"$var ", type_text, b" "])?;
     put_number(w, own.size as u64)?;
     put_texts(w, &[b" ", code, b" ", reference, b" $end\n"])
-}
-
-/// Writes the line of the variable of a row, with its own code.
-fn put_own<W: Sink>(view: HeadView<'_>, row: usize, w: &mut W) -> Result<(), WriteFailed>
-    requires failures { (W.device w.old).failures < 2 ^ 64 - 1 }
-    ensures takes { TakesVariableRow view.entry row (W.device w.old) (W.device w.new)
-        (λ h v. var_line v v.code) result }
-    ensures counts { Counts (W.device w.old) (W.device w.new) result }
-{
-    match view.row_at(row) {
-        Some(declared) => put_variable(view, row, view.code_text(declared.code as usize), w),
-        None => Ok(()),
-    }
-}
-
-/// Writes the line of the variable of a row, with a new code: the codes of its header are numbered
-/// from `first` on.
-pub(crate) fn put_renamed<W: Sink>(
-    view: HeadView<'_>,
-    row: usize,
-    first: u64,
-    w: &mut W,
-) -> Result<(), WriteFailed>
-    requires failures { (W.device w.old).failures < 2 ^ 64 - 1 }
-    ensures takes { AnyVariable view.entry row (λ h v. FitNumbers first h
-        → Takes (W.device w.old) (W.device w.new) (var_line v (numbered first h v.code)) result) }
-    ensures counts { Counts (W.device w.old) (W.device w.new) result }
-{
-    let Some(declared) = view.row_at(row) else {
-        return Ok(());
-    };
-    let id = NewCode::of(first.saturating_add(declared.code as u64));
-    put_variable(view, row, id.text(), w)
 }
 
 /// Writes the line that closes the scope of a row, where that is marked.
@@ -196,7 +162,9 @@ fn put_row<W: Sink>(
             None => Ok(()),
         },
         Kind::Scope if has_mark(marks, row) => put_scope(view, row, w),
-        Kind::Var if has_mark(marks, row) => put_own(view, row, w),
+        Kind::Var if has_mark(marks, row) => {
+            put_variable(view, row, view.code_text(declared.code as usize), w)
+        }
         _ => Ok(()),
     }
 }
