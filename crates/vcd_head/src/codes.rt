@@ -59,10 +59,7 @@ impl Codes {
 pub(crate) fn is_of_kind(code: Code, size: usize, event: bool) -> bool
     ensures { result ≡ is_of code size event }
 {
-    if code.size != size {
-        return false;
-    }
-    code.event == event
+    code.size == size && code.event == event
 }
 
 /// Returns the place of the key of the code with these bytes among keys, by a look at each.

@@ -318,10 +318,7 @@ fn name_at(names: &[String], place: usize) -> &[u8]
 fn behind(bytes: &[u8], passed: usize) -> &[u8]
     ensures { result.now ≡ drop passed bytes.now }
 {
-    match bytes.get(passed..) {
-        Some(rest) => rest,
-        None => &[],
-    }
+    bytes.get(passed..).unwrap_or(&[])
 }
 
 /// Returns how many bytes two texts and a third one begin with.
