@@ -98,18 +98,10 @@ walk_stops h row most rows passed scope w e =
 
 -- ---- one scope after the other
 
-pub leaves_all : (h : Header) (row : ℕ) (e : Enclosing) → row < length h.declarations → e.row ≡ row → e.left ≡ row → e.held ≡ 0 → length e.rows ≡ 128 → LeavesScopes h row (reverse (enclosing (take row h.declarations))) e
-leaves_all h row e l from left held room =
+pub all_around : (h : Header) (row : ℕ) → take row (enclosing (take row h.declarations)) ≡ enclosing (take row h.declarations)
+all_around h row =
     let ps = enclosing (take row h.declarations) in
-    let all : take e.left ps ≡ ps = sym (take_min e.left ps) ∙ ap (λ n. take n ps) (let few = few_around h.declarations row in let m : min e.left (length ps) ≡ length ps = omega arith in m) ∙ take-all ps in
-    record {
-      from = from;
-      within = l;
-      rest_are = ap reverse (sym all);
-      holds = record { room = room; at = λ k b m. absurd (let len = ap length all in omega arith) };
-      known = λ some. absurd (omega arith);
-      few = omega arith;
-    }
+    sym (take_min row ps) ∙ ap (λ n. take n ps) (let few = few_around h.declarations row in let m : min row (length ps) ≡ length ps = omega arith in m) ∙ take-all ps
   where
     take-all : (xs : List ℕ) → take (length xs) xs ≡ xs
     take-all [] = refl

@@ -20,7 +20,7 @@ use Rattle.vcd_head.specs.ScopesLeft.{GivesNext, LeavesScopes}
 use Rattle.vcd_head.specs.declared.enclosing.Enclosing.{Enclosing}
 use Rattle.vcd_head.proofs.RunSteps.{notes_behind, notes_both}
 use Rattle.vcd_head.specs.Matched.{Matched, Matches}
-use Rattle.vcd_head.specs.Names.{AreSame, Notes, SelectsAll, text_at}
+use Rattle.vcd_head.specs.NameOrder.{AreSame, Notes, SelectsAll, text_at}
 use Rattle.vcd_head.specs.Paths.{names_text, scopes_text}
 use Rattle.vcd_head.specs.Runs.{Follows, IsDecided}
 use Rattle.vcd_view.specs.declared.view.Kind.TheVariants as kind

@@ -8,7 +8,7 @@ use Rattle.std.proofs.lemmas.Cmp.{nat_list_cmp_total}
 use Rattle.std.proofs.lemmas.List.{get_or-append_right, get_or-drop, get_or_append_left, get_or_default}
 use Rattle.std.proofs.lemmas.List.MinMax.{ranks_by}
 use Rattle.std.proofs.lemmas.List.Sorted.{sorted_far}
-use Rattle.vcd_head.specs.Names.{IsOrder, comes_before}
+use Rattle.vcd_head.specs.NameOrder.{IsOrder, comes_before}
 
 pub before_weak : (names : List (List ℕ)) → IsStrictWeakOrder (comes_before names)
 before_weak names = ranks_by nat_list_cmp_total (λ p. get_or names p [])

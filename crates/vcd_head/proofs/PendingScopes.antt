@@ -15,7 +15,7 @@ use Rattle.vcd_model.specs.Selection.{is_among, marked_places}
 use Rattle.vcd_model.proofs.MarkedPlaces.{around_marks, below_other, none_any, places_after, places_below, places_split}
 use Rattle.vcd_model.proofs.ScopeLemmas.{enclosing-scope, enclosing-up, enclosing-var, enclosing_below, innermost}
 use Rattle.vcd_text.proofs.Writes.{AppendsSome, appends-first, appends-none, appends-some, appends-twice}
-use Rattle.vcd_head.specs.Merged.{closing, due, numbered, opening, opening_of, openings, pending_behind, written_behind}
+use Rattle.vcd_head.specs.Merged.{IsBehind, closing, due, numbered, opening, opening_of, openings, pending_behind, written_behind}
 use Rattle.vcd_head.specs.ScopesLeft.{GivesNext, LeavesScopes}
 use Rattle.vcd_head.specs.declared.enclosing.Enclosing.{Enclosing}
 use Rattle.vcd_view.specs.declared.view.Kind.{Kind}
@@ -380,13 +380,6 @@ kind_is s h i r d v at is = by_kind d (row_of s h i r d v at is)
     by_kind (Declaration.Scope type name) row = row.own.0
     by_kind Declaration.Up row = row.own.0
     by_kind (Declaration.Var u) row = row.own.0
-
--- the scopes that are open behind a row of this kind, as far as they are written
-pub record IsBehind (k : Kind) (pending written pending' written' : ℕ) : Type 0 where
-  pub scope : k ≡ kind.Scope → pending + 1 < 2 ^ 64 → (pending' ≡ pending + 1) × (written' ≡ written)
-  pub pending_up : k ≡ kind.Up → 0 < pending → (pending' ≡ pending - 1) × (written' ≡ written)
-  pub written_up : k ≡ kind.Up → pending ≡ 0 → (pending' ≡ 0) × (written' ≡ written - 1)
-  pub variable : k ≡ kind.Var → written + pending < 2 ^ 64 → (pending' ≡ 0) × (written' ≡ written + pending)
 
 pub behind_is : (d : Declaration) (pending written pending' written' : ℕ) → written + pending + 1 < 2 ^ 64 → IsBehind (kind_of d) pending written pending' written' → (pending_behind d pending ≡ pending') × (written_behind d pending written ≡ written')
 behind_is (Declaration.Scope type name) pending written pending' written' few b = let s = b.scope refl (omega arith) in (omega (arith, s.0), sym s.1)

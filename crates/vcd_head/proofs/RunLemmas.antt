@@ -13,7 +13,7 @@ use Rattle.std.proofs.lemmas.Option.{get_or_from_slice_get, slice_get-get_or, sl
 use Rattle.vcd_model.specs.Selection.{selects_path}
 use Rattle.vcd_view.proofs.ListLemmas.{same_bytes}
 use Rattle.vcd_head.specs.Matched.{Matches}
-use Rattle.vcd_head.specs.Names.{IsOrder, Rises, SelectsAll, first_of, next_in, text_at}
+use Rattle.vcd_head.specs.NameOrder.{IsOrder, Rises, SelectsAll, first_of, next_in, text_at}
 use Rattle.vcd_head.specs.Runs.{Follows, IsDecided}
 use Rattle.vcd_head.specs.declared.names.Run.{Run}
 use Rattle.vcd_head.proofs.MatchLemmas.{match_none, or_false, or_true}

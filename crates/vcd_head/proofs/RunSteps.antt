@@ -10,7 +10,7 @@ use Rattle.vcd_model.specs.Selection.{selects_path}
 use Rattle.vcd_view.proofs.ListLemmas.{same_bytes}
 use Rattle.vcd_view.proofs.ParentLemmas.{take-take}
 use Rattle.vcd_head.specs.Matched.{Matches}
-use Rattle.vcd_head.specs.Names.{AreShared, Notes, SelectsAll, first_of, next_bytes, next_in, text_at}
+use Rattle.vcd_head.specs.NameOrder.{AreShared, Notes, SelectsAll, first_of, next_bytes, next_in, text_at}
 use Rattle.vcd_head.specs.Runs.{Follows, GoesOn, IsDecided, Narrows}
 use Rattle.vcd_head.specs.declared.names.Run.{Run}
 use Rattle.vcd_head.proofs.MatchLemmas.{any_none, or_false, or_true}

@@ -1,5 +1,5 @@
 -- The lines of a written header, by its rows.
-use Rattle.std.proofs.Common.{◌≡◌, ◌≢◌, ℕ, zero, suc, ◌+◌, ◌<◌, Bool, true, false, List, [], ◌∷◌, ◌++◌, length, take, drop, slice_get, get_or, flat_map, add-one, decimal, codes, Option, Some, None, refl, sym, ap, subst, ◌∙◌, arith}
+use Rattle.std.proofs.Common.{◌≡◌, ◌≢◌, ℕ, zero, suc, ◌+◌, ◌<◌, Bool, true, false, List, [], ◌∷◌, ◌++◌, length, take, drop, slice_get, get_or, flat_map, add-one, decimal, codes, Option, Some, None, option_map, unwrap_or, refl, sym, ap, subst, ◌∙◌, arith}
 use Rattle.std.specs.List.{concat, join_with_byte}
 use Rattle.std.specs.Io.KnownBytes.{Appends}
 use Rattle.std.proofs.Math.Seq.{take-length}
@@ -8,7 +8,7 @@ use Rattle.std.proofs.lemmas.List.{append_assoc, append-nil, take-append-drop, t
 use Rattle.std.proofs.lemmas.List.Folds.{concat-append}
 use Rattle.std.proofs.lemmas.Option.{slice_get_within}
 use Rattle.vcd_model.specs.Backward.{each, each_after}
-use Rattle.vcd_model.specs.Declarations.{Declaration, Variable, code_of, parent}
+use Rattle.vcd_model.specs.Declarations.{Declaration, IdCode, Variable, code_of, parent}
 use Rattle.vcd_model.specs.Header.{Header}
 use Rattle.vcd_model.specs.HeadText.{row_line, scope_line, var_line, up_lines_at, first_place}
 use Rattle.vcd_model.proofs.Growing.{each_after-append}
@@ -17,7 +17,7 @@ use Rattle.vcd_view.specs.declared.view.Kind.TheVariants as kind
 use Rattle.vcd_view.specs.declared.view.Code.{Code}
 use Rattle.vcd_view.specs.declared.view.Row.{Row}
 use Rattle.vcd_view.specs.Shown.{HeadShown, text_in}
-use Rattle.vcd_view.specs.Views.{IsCode, IsRow, Views}
+use Rattle.vcd_view.specs.Views.{IsCode, IsRow, Views, code_text}
 use Rattle.vcd_view.proofs.RowLemmas.{rows_len, there, row_at, row_of, row_of_variable, text_within}
 use Rattle.vcd_view.proofs.ParentLemmas.{around_some, around_none}
 
@@ -74,6 +74,10 @@ code_read s h i r v c views at is code =
 
 pub code_there : (s : HeadShown) (h : Header) (i : ℕ) (r : Row) (v : Variable) → Views s h → slice_get s.rows i ≡ Some r → slice_get h.declarations i ≡ Some (Declaration.Var v) → slice_get s.codes r.code ≢ None
 code_there s h i r v views at is none = let there = (row_of_variable s h i r v views at is).code_there in cc
+
+-- the bytes of its code
+pub own_text : (s : HeadShown) (h : Header) (i : ℕ) (r : Row) (v : Variable) → Views s h → slice_get s.rows i ≡ Some r → slice_get h.declarations i ≡ Some (Declaration.Var v) → code_text h.codes r.code ≡ v.code
+own_text s h i r v views at is = ap (λ o. unwrap_or (option_map (λ (k : IdCode). k.text) o) []) (row_of s h i r (Declaration.Var v) views at is).own.2
 
 -- ---- the line of a row
 

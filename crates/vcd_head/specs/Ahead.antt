@@ -1,5 +1,5 @@
 -- Variables and scopes whose phrases lie ahead.
-use Rattle.std.specs.Prelude.{◌≡◌, ℕ, Bool, true, false, MatchBool, List, [], ◌∷◌, ◌++◌, length, map, Option, Some, IfSome}
+use Rattle.std.specs.Prelude.{◌≡◌, ℕ, ◌-◌, ◌<◌, ◌≤◌, Bool, true, false, MatchBool, List, [], ◌∷◌, ◌++◌, length, map, slice_range, Option, Some, IfSome, Result, IfOk}
 use Rattle.std.specs.List.{join_with_byte, list_all}
 use Rattle.vcd_model.specs.Bytes.{is_code_byte}
 use Rattle.vcd_model.specs.Keywords.{Keyword, keyword_text, is_end}
@@ -11,6 +11,7 @@ use Rattle.vcd_head.specs.declared.declarations.Reference.{Reference}
 use Rattle.vcd_head.specs.declared.declarations.ScopePhrase.{ScopePhrase}
 use Rattle.vcd_head.specs.declared.declarations.VariablePhrase.{VariablePhrase}
 use Rattle.vcd_head.specs.declared.draft.Draft.{Draft}
+use Rattle.vcd_head.specs.declared.fault.HeadFault.{HeadFault}
 use Rattle.vcd_head.specs.Draft.{DraftsOn}
 use Rattle.vcd_view.specs.Keywords.{NoEnds}
 use Rattle.vcd_head.specs.Words.{size_in}
@@ -83,3 +84,41 @@ pub record IsUpscope (ts : List Token) : Type 0 where
 -- that one too
 abbrev pub TakenOn : ℕ → (given more : List Token) → Draft → Bool → Type 0
 TakenOn most given more d taken = MatchBool taken (DraftsOn most (given ++ more) d) (DraftsOn most given d)
+
+-- what is given lies behind what was passed before, within the bytes; those and the limit stay
+pub record MovesAhead {A : Type 0} (old new : Ahead) (o : Option A) : Type 0 where
+  pub further : IfSome o (λ _. passed_of old < passed_of new)
+  pub within : IfSome o (λ _. passed_of new ≤ length (bytes_of old))
+  pub same : LooksOn old new
+
+-- the token ends one byte before the place that was reached
+abbrev pub EndsBefore : List ℕ → ℕ → List ℕ → Type 0
+EndsBefore bytes behind token = token ≡ slice_range bytes (behind - length token - 1) (behind - 1)
+
+-- where a phrase that lies ahead is this one, the draft holds it, if it was taken
+abbrev pub TakesNext : ℕ → (List Token → Type 0) → (old new : Draft) → Result Bool HeadFault → Type 0
+TakesNext most Is old new r = (given more : List Token) → DraftsOn most given old → Is more → IfOk r (TakenOn most given more new)
+
+-- where the tokens that were passed are those given, so it is after those of the next phrase, and
+-- the draft holds it, if it was taken
+abbrev pub DraftsNext : ℕ → (old new : Ahead) → (before after : Draft) → Result Bool HeadFault → Type 0
+DraftsNext most old new before after r = (limit lines : ℕ) (bytes : List ℕ) (ts given : List Token) → LooksOver limit bytes old → Passed limit lines bytes (passed_of old) ts → DraftsOn most given before
+    → IfOk r (λ taken. MatchBool taken ((more : List Token) × Passed limit lines bytes (passed_of new) (ts ++ more) × DraftsOn most (given ++ more) after) (DraftsOn most given after))
+
+-- more tokens may have been passed
+abbrev pub PassesOn : (old new : Ahead) → Type 0
+PassesOn old new = (limit lines : ℕ) (bytes : List ℕ) (ts : List Token) → LooksOver limit bytes old → Passed limit lines bytes (passed_of old) ts → (more : List Token) × Passed limit lines bytes (passed_of new) (ts ++ more)
+
+-- where a phrase was taken, it lies behind what was passed before, within the bytes
+abbrev pub GoesOnWithin : (old new : Ahead) → Result Bool HeadFault → Type 0
+GoesOnWithin old new r = IfOk r (λ taken. taken ≡ true → (passed_of old < passed_of new) × (passed_of new ≤ length (bytes_of old)))
+
+-- where none was passed before, so many bytes are those of some tokens, whose phrases the draft
+-- holds
+abbrev pub DraftsAhead : ℕ → Ahead → (before after : Draft) → Result ℕ HeadFault → Type 0
+DraftsAhead most a before after r = (limit lines : ℕ) (bytes : List ℕ) (given : List Token) → LooksOver limit bytes a → Passed limit lines bytes (passed_of a) [] → DraftsOn most given before
+    → IfOk r (λ n. (ts : List Token) × Passed limit lines bytes n ts × DraftsOn most (given ++ ts) after)
+
+-- so many bytes are those of some tokens
+abbrev pub PassesTokens : Ahead → Result ℕ HeadFault → Type 0
+PassesTokens a r = (limit lines : ℕ) (bytes : List ℕ) → LooksOver limit bytes a → Passed limit lines bytes (passed_of a) [] → IfOk r (λ n. (ts : List Token) × Passed limit lines bytes n ts)

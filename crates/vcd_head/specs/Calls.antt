@@ -1,6 +1,6 @@
 -- What calls promise that read the tokens of a header.
 use Rattle.std.specs.Global.{Vec}
-use Rattle.std.specs.Prelude.{◌≡◌, ℕ, false, List, [], ◌∷◌, ◌++◌, Option, Result, MatchResult}
+use Rattle.std.specs.Prelude.{◌≡◌, ℕ, Bool, false, List, [], ◌∷◌, ◌++◌, Option, Result, MatchBool, MatchResult}
 use Rattle.vcd_model.specs.HeaderPhrases.{HeaderPhrase}
 use Rattle.vcd_model.specs.Input.{Input}
 use Rattle.vcd_model.specs.Keywords.{Keyword, is_end}
@@ -12,7 +12,8 @@ use Rattle.vcd_text.specs.Advances.{Advances}
 use Rattle.vcd_text.specs.Feed.{HasGiven}
 use Rattle.vcd_text.specs.declared.device.Source.{Ghosts}
 use Rattle.vcd_text.specs.declared.feed.Feed.{Feed}
-use Rattle.vcd_head.specs.Draft.{AtKeyword, DraftsUpTo}
+use Rattle.vcd_view.specs.declared.keyword.Keyword.{Keyword as WordOf}
+use Rattle.vcd_head.specs.Draft.{AtFirstToken, AtKeyword, AtOther, DraftsAll, DraftsBehind, DraftsUpTo, goes_on}
 use Rattle.vcd_head.specs.Fault.{call_end}
 use Rattle.vcd_head.specs.Reads.{Fails, Reads, ReadsToken}
 use Rattle.vcd_head.specs.Texts.{EndsThere, ReferencePut, RunsOn, Welcomes, WordRead}
@@ -52,3 +53,27 @@ ReadsWord old new r = (most : ℕ) (i : Input) (placed : List (Placed HeaderPhra
 abbrev pub ReadsReference : {X : Type 0} {g : Ghosts X} → Feed X g → Feed X g → (text new_text : List ℕ) → Result (Option ℕ) HeadFault → Type 0
 ReadsReference old new text new_text r = (most : ℕ) (i : Input) (placed : List (Placed HeaderPhrase)) (before : List (List ℕ)) → Welcomes most placed before → ((t : List ℕ) → is_end t ≡ false → RunsOn most placed (before ++ t ∷ []))
     → Reads most i placed before old → OrFails most i new (ReferencePut most i placed before new text new_text) r
+
+-- so it is however many declarations are allowed
+abbrev pub ReadsText : {X A : Type 0} {g : Ghosts X} → Keyword → (old : Draft) → Feed X g → (new : Draft) → Feed X g → Result A HeadFault → Type 0
+ReadsText k old before new after r = (most : ℕ) → ReadsPhrase most k old before new after r
+
+-- behind a token that is no keyword the rest of its phrase was read
+abbrev pub ReadsOther : {X A : Type 0} {g : Ghosts X} → (old : Draft) → Feed X g → (new : Draft) → Feed X g → Result A HeadFault → Type 0
+ReadsOther old before new after r = (most : ℕ) (i : Input) → AtOther most i old before → OrFails most i after (λ _. DraftsUpTo most i new after) r
+
+-- behind its keyword the end of the header was read
+abbrev pub ReadsEnd : {X A : Type 0} {g : Ghosts X} → (old : Draft) → Feed X g → (new : Draft) → Feed X g → Result A HeadFault → Type 0
+ReadsEnd old before new after r = (most : ℕ) (i : Input) → AtKeyword most i Keyword.EndDefinitions old before → OrFails most i after (λ _. DraftsAll most i new after) r
+
+-- behind its first token, which is this keyword or none, the rest of a phrase was read
+abbrev pub ReadsRest : {X A : Type 0} {g : Ghosts X} → ℕ → Option WordOf → (old : Draft) → Feed X g → (new : Draft) → Feed X g → Result A HeadFault → Type 0
+ReadsRest most k old before new after r = (i : Input) → AtFirstToken most i k old before → MatchResult r (λ _. MatchBool (goes_on k) (DraftsUpTo most i new after) (DraftsAll most i new after)) (λ fault. Fails most i fault after)
+
+-- a whole phrase was read, and this is whether others may follow it
+abbrev pub ReadsAny : {X : Type 0} {g : Ghosts X} → ℕ → (old : Draft) → Feed X g → (new : Draft) → Feed X g → Result Bool HeadFault → Type 0
+ReadsAny most old before new after r = (i : Input) → DraftsBehind most i old before → MatchResult r (λ more. MatchBool more (DraftsUpTo most i new after) (DraftsAll most i new after)) (λ fault. Fails most i fault after)
+
+-- behind a phrase, those that lie whole ahead were read
+abbrev pub ReadsAhead : {X A : Type 0} {g : Ghosts X} → ℕ → (old : Draft) → Feed X g → (new : Draft) → Feed X g → Result A HeadFault → Type 0
+ReadsAhead most old before new after r = (i : Input) → DraftsUpTo most i old before → OrFails most i after (λ _. DraftsBehind most i new after) r

@@ -1,5 +1,5 @@
 -- What the declarations of a header are checked for, and what becomes of a draft that takes one.
-use Rattle.std.specs.Prelude.{◌≡◌, ◌≢◌, ℕ, Bool, List, [], ◌∷◌, ◌++◌, length, MatchBool, Some, None}
+use Rattle.std.specs.Prelude.{◌≡◌, ◌≢◌, ℕ, Bool, List, [], ◌∷◌, ◌++◌, length, MatchBool, Some, None, Result, IfOk}
 use Rattle.std.specs.List.{join_with_byte}
 use Rattle.vcd_model.specs.Checks.{first_failed}
 use Rattle.vcd_model.specs.Declarations.{Declaration, Variable, first_token}
@@ -8,6 +8,7 @@ use Rattle.vcd_model.specs.HeaderPhrases.{HeaderPhrase, declarations_of}
 use Rattle.vcd_model.specs.Keywords.{Keyword}
 use Rattle.vcd_view.specs.declared.view.Kind.{Kind}
 use Rattle.vcd_view.specs.declared.view.Kind.TheVariants as kind
+use Rattle.vcd_view.specs.Views.{IsSize}
 use Rattle.vcd_head.specs.Draft.{IsDraftOf}
 use Rattle.vcd_head.specs.declared.declarations.Reference.{Reference}
 use Rattle.vcd_head.specs.declared.declarations.VariablePhrase.{VariablePhrase}
@@ -50,3 +51,7 @@ pub record Spells (r : Reference) (reference : List (List ℕ)) : Type 0 where
 -- the variable of the phrase, with this reference
 abbrev pub spelled : VariablePhrase → List (List ℕ) → Variable
 spelled p reference = record { type = p.word.now; size = p.size; code = p.code.now; reference = reference }
+
+-- so it does of a variable with the reference that is spelled
+abbrev pub DeclaresVariable : VariablePhrase → Draft → Draft → Result Bool HeadFault → Type 0
+DeclaresVariable p old new r = (reference : List (List ℕ)) → IsSize p.size → Spells p.reference reference → IfOk r (TakesVariable (spelled p reference) old new)

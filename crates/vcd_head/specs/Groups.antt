@@ -1,5 +1,7 @@
 -- What holds of a group of names, by its names and their order.
 use Rattle.std.specs.Prelude.{ℕ, Bool, List, map, string_bytes}
+use Rattle.vcd_head.specs.Matched.{Matches}
+use Rattle.vcd_head.specs.NameOrder.{AreShared, Rises, next_bytes}
 use Rattle.vcd_head.specs.Runs.{Follows, GoesOn}
 use Rattle.vcd_head.specs.declared.names.Group.{Group}
 use Rattle.vcd_head.specs.declared.names.Run.{Run}
@@ -15,3 +17,20 @@ IsRun g flags front r = Follows (names_of g) g.order flags front r
 -- the run is that of a longer front, and names that select all behind it were flagged
 abbrev pub IsRunOn : Group → (old new : List Bool) → (front : List ℕ) → Run → Type 0
 IsRunOn g old new front r = GoesOn (names_of g) g.order old new front r
+
+-- whatever front of a path the first run is of, the second is of this longer one
+abbrev pub RunsOn : Group → (old new : List Bool) → Run → (longer : List ℕ → List ℕ) → Run → Type 0
+RunsOn g old new run longer r = (front : List ℕ) → IsRun g old front run → IsRunOn g old new (longer front) r
+
+-- whatever front the run is of, the names that pass the test were flagged, and this is whether
+-- there are some
+abbrev pub FlagsSome : Group → (old new : List Bool) → Run → (test : List ℕ → List ℕ → Bool) → Bool → Type 0
+FlagsSome g old new run test some = (front : List ℕ) → IsRun g old front run → Matches (test front) (names_of g) old new some
+
+-- between two places of its order the next byte of the names does not fall
+abbrev pub AreRising : Group → ℕ → (first end : ℕ) → Type 0
+AreRising g passed first end = Rises (names_of g) g.order passed first end
+
+-- behind so many bytes the name at a place of its order goes on with the first of these, so many
+abbrev pub GoesOnWith : Group → ℕ → ℕ → List ℕ → ℕ → Type 0
+GoesOnWith g passed i bytes n = AreShared (next_bytes (names_of g) g.order passed i) bytes n

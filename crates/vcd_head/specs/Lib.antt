@@ -11,13 +11,16 @@ pub mod Codes
 pub mod Fronts
 pub mod Draft
 pub mod Declares
+pub mod Entered
 pub mod Calls
 pub mod Ahead
 pub mod Variables
 pub mod Scaled
 pub mod Marks
 pub mod Selects
+pub mod NameOrder
 pub mod Names
+pub mod Over
 pub mod Runs
 pub mod Groups
 pub mod Inside

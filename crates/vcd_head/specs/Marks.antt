@@ -1,8 +1,9 @@
 -- Marks: which declarations a written header has.
-use Rattle.std.specs.Prelude.{true, zero, suc, [], ◌∷◌, take, get_or, ℕ, ◌==◌, Bool, cond, List, length, map, unwrap_or, slice_get, ◌≡◌, ◌<◌, slice_index}
+use Rattle.std.specs.Prelude.{true, zero, suc, [], ◌∷◌, take, get_or, ℕ, ◌==◌, Bool, cond, List, length, map, unwrap_or, slice_get, ◌≡◌, ◌<◌, slice_index, Some, None, Result, MatchResult}
 use Rattle.std.specs.List.{range_with_len}
 use Rattle.vcd_model.specs.Declarations.{Declaration, enclosing}
-use Rattle.vcd_model.specs.Selection.{marked_places, is_among}
+use Rattle.vcd_model.specs.Header.{Header}
+use Rattle.vcd_model.specs.Selection.{first_unmatched, marked_places, is_among}
 
 -- 1 at each selected variable and at the scopes around these, 0 elsewhere
 unfoldable pub marks_of : List (List ℕ) → List Declaration → List ℕ
@@ -25,3 +26,11 @@ scopes_at ds (suc p) = p ∷ enclosing (take p ds)
 -- these are marked
 abbrev pub AllMarked : List ℕ → List ℕ → Type 0
 AllMarked places marks = (i : ℕ) → i < length marks → is_among places i ≡ true → get_or marks i 0 ≡ 1
+
+-- a row and the scopes around it
+abbrev pub row_and_scopes : Header → ℕ → List ℕ
+row_and_scopes h row = row ∷ enclosing (take row h.declarations)
+
+-- the first name that selects nothing is refused, and none where each selects something
+abbrev pub RefusesUnmatched : {A : Type 0} → List (List ℕ) → Header → Result A ℕ → Type 0
+RefusesUnmatched names h r = MatchResult r (λ _. first_unmatched names h.declarations ≡ None) (λ name. first_unmatched names h.declarations ≡ Some name)

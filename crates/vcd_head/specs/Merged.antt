@@ -1,12 +1,15 @@
 -- The heads of a merge, and how the scopes and variables of one are written.
-use Rattle.std.specs.Prelude.{ℕ, zero, suc, ◌+◌, ◌-◌, ◌^◌, ◌<◌, List, [], ◌++◌, length, take, reverse, flat_map, slice_get, Option, Some, None}
+use Rattle.std.specs.Prelude.{◌≡◌, ℕ, zero, suc, ◌+◌, ◌-◌, ◌^◌, ◌<◌, List, [], ◌++◌, length, take, reverse, flat_map, slice_get, Option, Some, None}
 use Rattle.std.specs.List.{AllZip}
 use Rattle.vcd_model.specs.Declarations.{Declaration, enclosing}
 use Rattle.vcd_model.specs.Header.{Header}
-use Rattle.vcd_model.specs.HeadText.{code_place, new_code, scope_line, up_line, var_line}
+use Rattle.vcd_model.specs.HeadText.{code_place, new_code, rows_text, scope_line, up_line, var_line}
+use Rattle.vcd_model.specs.Selection.{is_among, marked_places}
 use Rattle.vcd_head.specs.declared.head.Head.{Head}
 use Rattle.vcd_head.specs.Shown.{shown}
 use Rattle.vcd_view.specs.Views.{Views, reference_of, type_of}
+use Rattle.vcd_view.specs.declared.view.Kind.{Kind}
+use Rattle.vcd_view.specs.declared.view.Kind.TheVariants as kind
 
 -- the new code of a code of a header whose codes are numbered from `first` on
 abbrev pub numbered : ℕ → Header → List ℕ → List ℕ
@@ -61,3 +64,14 @@ written_behind (Declaration.Scope type name) pending written = written
 written_behind Declaration.Up zero written = written - 1
 written_behind Declaration.Up (suc pending) written = written
 written_behind (Declaration.Var v) pending written = written + pending
+
+-- the lines of all variables of a header, with new codes, and of the scopes around these
+abbrev pub input_rows : ℕ → Header → List ℕ
+input_rows first h = rows_text (numbered first h) (is_among (marked_places [] h.declarations)) h.declarations
+
+-- the scopes that are open behind a row of this kind, as far as they are written
+pub record IsBehind (k : Kind) (pending written pending' written' : ℕ) : Type 0 where
+  pub scope : k ≡ kind.Scope → pending + 1 < 2 ^ 64 → (pending' ≡ pending + 1) × (written' ≡ written)
+  pub pending_up : k ≡ kind.Up → 0 < pending → (pending' ≡ pending - 1) × (written' ≡ written)
+  pub written_up : k ≡ kind.Up → pending ≡ 0 → (pending' ≡ 0) × (written' ≡ written - 1)
+  pub variable : k ≡ kind.Var → written + pending < 2 ^ 64 → (pending' ≡ 0) × (written' ≡ written + pending)

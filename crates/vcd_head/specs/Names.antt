@@ -1,63 +1,34 @@
--- Names in the order of their bytes, and flags of those that have matched.
-use Rattle.std.specs.Prelude.{◌≡◌, ℕ, suc, ◌<◌, ◌≤◌, ◌⊎◌, Bool, true, false, get_or, List, [], ◌∷◌, ◌++◌, length, drop, slice_get, Some}
-use Rattle.std.specs.Cmp.Lexicographic.{slice_cmp}
-use Rattle.std.specs.Ordering.{nat_cmp, is_lt}
-use Rattle.std.specs.declared.cmp.Ordering.{Ordering}
-use Rattle.vcd_model.specs.Selection.{selects_path}
-
--- the order of the names at two places
-abbrev pub order_in : List (List ℕ) → ℕ → ℕ → Ordering
-order_in names a b = slice_cmp nat_cmp (get_or names a []) (get_or names b [])
-
--- the first name comes before the second
-abbrev pub comes_before : List (List ℕ) → ℕ → ℕ → Bool
-comes_before names a b = is_lt (order_in names a b)
-
--- the name whose place this is in the order
-abbrev pub text_at : List (List ℕ) → List ℕ → ℕ → List ℕ
-text_at names order i = get_or names (get_or order i 0) []
-
--- the order has the place of each name, and no name stands behind one that it comes before
-pub record IsOrder (names : List (List ℕ)) (order : List ℕ) : Type 0 where
-  pub each : (p : ℕ) → p < length names → (i : ℕ) × (i < length names) × (get_or order i 0 ≡ p)
-  pub places : (i : ℕ) → i < length names → get_or order i 0 < length names
-  pub within : (i : ℕ) → get_or order i 0 < 16384
-  pub rising : (i j : ℕ) → i ≤ j → j < length names → comes_before names (get_or order j 0) (get_or order i 0) ≡ false
-
--- 1 plus the first byte, 0 where there is none
-abbrev pub first_of : List ℕ → ℕ
-first_of [] = 0
-first_of (byte ∷ bytes) = suc byte
-
--- what stands behind so many bytes of the name at a place of the order
-abbrev pub next_bytes : List (List ℕ) → List ℕ → ℕ → ℕ → List ℕ
-next_bytes names order passed i = drop passed (text_at names order i)
-
--- 1 plus the first byte of it, 0 where there is none
-abbrev pub next_in : List (List ℕ) → List ℕ → ℕ → ℕ → ℕ
-next_in names order passed i = first_of (next_bytes names order passed i)
-
--- both texts begin with the same bytes, so many
-abbrev pub AreShared : List ℕ → List ℕ → ℕ → Type 0
-AreShared a b n = (n ≤ length a) × ((i : ℕ) → i < n → get_or a i 0 ≡ get_or b i 0)
-
--- between two places of the order it does not fall
-abbrev pub Rises : List (List ℕ) → List ℕ → ℕ → (first end : ℕ) → Type 0
-Rises names order passed first end = (i j : ℕ) → first ≤ i → i ≤ j → j < end → next_in names order passed i ≤ next_in names order passed j
-
--- between two places of the order, it is less before a third place, and not less from there on
-pub record IsSplit (names : List (List ℕ)) (order : List ℕ) (passed first end least place : ℕ) : Type 0 where
-  pub below : (i : ℕ) → first ≤ i → i < place → next_in names order passed i < least
-  pub above : (i : ℕ) → place ≤ i → i < end → least ≤ next_in names order passed i
-
--- the name selects all that goes on behind this front of a path
-abbrev pub SelectsAll : List ℕ → List ℕ → Type 0
-SelectsAll front name = (text : List ℕ) → selects_path (front ++ text) name ≡ true
-
--- the flags of two names that are the same are the same
-abbrev pub AreSame : List (List ℕ) → List Bool → Type 0
-AreSame names flags = (p q : ℕ) (name : List ℕ) → slice_get names p ≡ Some name → slice_get names q ≡ Some name → get_or flags p false ≡ get_or flags q false
-
--- the flags that were set are of names that select all that goes on behind this front
-abbrev pub Notes : List (List ℕ) → List ℕ → (old new : List Bool) → Type 0
-Notes names front old new = (p : ℕ) (name : List ℕ) → slice_get names p ≡ Some name → (get_or new p false ≡ get_or old p false) ⊎ ((get_or new p false ≡ true) × SelectsAll front name)
+-- What the clauses of this crate speak of, under one path: of the crates below, and what several of
+-- its modules share.
+pub use Rattle.vcd_model.specs.Backward.{each}
+pub use Rattle.vcd_model.specs.Bytes.{is_code_byte}
+pub use Rattle.vcd_model.specs.Declarations.{Declaration, IdCode, Variable, code_of, enclosing, parent, path_of}
+pub use Rattle.vcd_model.specs.HeadText.{first_number, head_for, head_text, input_head, least_exponent, merged_head, row_line, rows_text, scope_line, three_lines, three_lines_of, up_line, up_lines_at, var_line}
+pub use Rattle.vcd_model.specs.Header.{Header, header_of}
+pub use Rattle.vcd_model.specs.HeaderChecks.{begins_change}
+pub use Rattle.vcd_model.specs.HeaderPhrases.{HeaderPhrase}
+pub use Rattle.vcd_model.specs.Keywords.{Keyword, is_command, is_end, keyword_text}
+pub use Rattle.vcd_model.specs.Scales.{exponent_of, scale_text}
+pub use Rattle.vcd_model.specs.Selection.{first_unmatched, is_selected, marked_places, selects_path}
+pub use Rattle.vcd_model.specs.Ticks.{moment_ticks, ticks}
+pub use Rattle.vcd_text.specs.Advances.{CallEnd}
+pub use Rattle.vcd_text.specs.Ahead.{bytes_of, passed_of, start_of}
+pub use Rattle.vcd_text.specs.Device.{Counts, Puts, Takes}
+pub use Rattle.vcd_text.specs.Feed.{seen, source_of, token_of}
+pub use Rattle.vcd_view.specs.Entries.{are_right, is_right, text_in}
+pub use Rattle.vcd_view.specs.Finds.{Finds}
+pub use Rattle.vcd_view.specs.Keys.{key_in}
+pub use Rattle.vcd_view.specs.Views.{AreHeld, IsIndex, IsSize, IsViewOf, Views, counted_from_one, reference_of, type_of}
+pub use Rattle.vcd_view.specs.declared.view.Code.{Code}
+pub use Rattle.vcd_view.specs.declared.view.Scale.{Scale}
+pub use Rattle.vcd_head.specs.Calls.{MovesOn, OrFails, ReadsAhead, ReadsAny, ReadsEnd, ReadsNext, ReadsOne, ReadsOther, ReadsPhrase, ReadsReference, ReadsRest, ReadsText, ReadsToEnd, ReadsWord}
+pub use Rattle.vcd_head.specs.Draft.{IsDraftOf, goes_on}
+pub use Rattle.vcd_head.specs.Fault.{call_end}
+pub use Rattle.vcd_head.specs.Keys.{AreKeysOf}
+pub use Rattle.vcd_head.specs.Marks.{AllMarked, Marked, RefusesUnmatched, is_marked, marks_of, row_and_scopes, scopes_at}
+pub use Rattle.vcd_head.specs.Matched.{IsFirstFalse, Matches}
+pub use Rattle.vcd_head.specs.Over.{AnyDeclared, AnyHeader, AnyRow, AnyVariable}
+pub use Rattle.vcd_head.specs.Paths.{scopes_text}
+pub use Rattle.vcd_head.specs.Reads.{ReadsHead}
+pub use Rattle.vcd_head.specs.Shown.{shown}
+pub use Rattle.vcd_head.specs.Written.{TakesAround, TakesHeader, TakesRow, TakesVariableRow}

@@ -1,5 +1,5 @@
 -- How far the reading of a header has come, by what its feed has given.
-use Rattle.std.specs.Prelude.{◌≡◌, ◌≢◌, ℕ, List, [], ◌∷◌, ◌++◌, Some}
+use Rattle.std.specs.Prelude.{◌≡◌, ◌≢◌, ℕ, ◌+◌, List, [], ◌∷◌, ◌++◌, Some, Result, Err, MatchResult, OnOk}
 use Rattle.vcd_model.specs.Input.{Input}
 use Rattle.vcd_model.specs.Tokens.{Token, stream_of}
 use Rattle.vcd_model.specs.HeaderPhrases.{HeaderPhrase}
@@ -8,12 +8,15 @@ use Rattle.vcd_model.specs.Reading.{Placed, Ending, phrases_of, reading_of}
 use Rattle.vcd_model.specs.Reading.Ending.{AtFault, AtEnd, AtLast}
 use Rattle.vcd_model.specs.SoFar.{IsSoFar, IsWhole}
 use Rattle.vcd_text.specs.Answer.{failed_after}
-use Rattle.vcd_text.specs.Feed.{HasGiven, HasReadTo, GaveOnlySeen, token_of, limit_of, seen}
+use Rattle.vcd_text.specs.Advances.{HasNotFailed}
+use Rattle.vcd_text.specs.Feed.{HasGiven, HasReadTo, GaveOnlySeen, SameLoans, token_of, limit_of, chunk_len_of, seen, source_of}
 use Rattle.vcd_text.specs.declared.device.Source.{Ghosts}
 use Rattle.vcd_text.specs.declared.feed.Feed.{Feed}
 use Rattle.vcd_head.specs.declared.fault.HeadFault.{HeadFault}
 use Rattle.vcd_head.specs.declared.fault.HeadFault.TheVariants.{TokenTooLong, EndOfInput, InputTooLong, ReadFailed, OutOfMemory}
+use Rattle.vcd_head.specs.declared.head.Head.{Head}
 use Rattle.vcd_head.specs.Fault.{fault_number}
+use Rattle.vcd_head.specs.Shown.{shown}
 use Rattle.vcd_view.specs.Shown.{HeadShown}
 use Rattle.vcd_view.specs.Views.{Views}
 use Rattle.vcd_model.specs.Header.{header_of}
@@ -103,3 +106,16 @@ pub record GivesHead {X : Type 0} {g : Ghosts X} (most : ℕ) (i : Input) (f : F
   pub is : given ≡ front ++ last ∷ []
   pub going : IsGoing most front
   pub views : Views s (header_of (phrases_of placed))
+
+-- What a call that reads a header, of at most so many declarations, leaves of its feed.
+pub record ReadsHead {X : Type 0} {g : Ghosts X} (failures : X → ℕ) (most : ℕ) (old new : Feed X g) (result : Result Head HeadFault) : Type 0 where
+  -- A head shows the header of the phrases that were read. A fault is the header's, at the feed's
+  -- line and token, the first token given that has one, or empty where none was left; where
+  -- memory is refused, no token given so far has a fault.
+  pub reads : (i : Input) → HasGiven i [] old → MatchResult result (λ head. GivesHead most i new (shown head)) (λ fault. Fails most i fault new)
+  -- a failed read is returned only where the source failed now, or had failed before
+  pub failed : HasNotFailed old → result ≡ Err ReadFailed → failures (source_of new) ≡ failures (source_of old) + 1
+  pub same : result ≢ Err ReadFailed → failures (source_of new) ≡ failures (source_of old)
+  pub «open» : HasNotFailed old → OnOk result (HasNotFailed new)
+  pub lengths : (limit_of new ≡ limit_of old) × (chunk_len_of new ≡ chunk_len_of old)
+  pub loans : SameLoans old new

@@ -1,7 +1,7 @@
 -- The names that begin with the front of a path.
 use Rattle.std.specs.Prelude.{◌≡◌, ◌≢◌, ℕ, ◌+◌, ◌<◌, ◌≤◌, ◌⊎◌, Bool, true, false, get_or, List, ◌++◌, length}
 use Rattle.vcd_model.specs.Selection.{selects_path}
-use Rattle.vcd_head.specs.Names.{AreSame, IsOrder, Notes, SelectsAll, next_in, text_at}
+use Rattle.vcd_head.specs.NameOrder.{AreSame, IsOrder, Notes, SelectsAll, next_in, text_at}
 use Rattle.vcd_head.specs.declared.names.Run.{Run}
 
 -- the name at a place of the order is flagged and selects all that goes on behind the front, as is

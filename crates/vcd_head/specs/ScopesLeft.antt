@@ -28,3 +28,7 @@ pub record LeavesScopes (h : Header) (row : ℕ) (rest : List ℕ) (e : Enclosin
 abbrev pub GivesNext : Header → ℕ → List ℕ → Enclosing → Option ℕ → Type 0
 GivesNext h row rest e None = rest ≡ []
 GivesNext h row rest e (Some scope) = (others : List ℕ) × (rest ≡ scope ∷ others) × (scope < row) × LeavesScopes h row others e
+
+-- the rows of the scopes around a row, outermost first
+abbrev pub scopes_around : Header → ℕ → List ℕ
+scopes_around h row = enclosing (take row h.declarations)

@@ -1,13 +1,8 @@
 // Variables and scopes whose phrases are whole ahead in the chunk: their tokens cost no change of
 // the feed.
-ghost use Rattle.std.specs.Prelude.{◌≡◌, ℕ, ◌+◌, ◌-◌, ◌<◌, ◌≤◌, List, [], ◌∷◌, ◌++◌, true, length, slice_range, IfSome, IfOk, IfErr, MatchBool};
-ghost use Rattle.vcd_model.specs.Input.{Input};
-ghost use Rattle.vcd_model.specs.Tokens.{Token};
-ghost use Rattle.vcd_text.specs.Ahead.{bytes_of, passed_of, start_of};
-ghost use Rattle.vcd_text.specs.Passed.{Passed};
-ghost use Rattle.vcd_head.specs.Calls.{MovesOn, OrFails};
-ghost use Rattle.vcd_head.specs.Ahead.{Gives, GivesToken, LooksOn, IsReference, IsScope, IsUpscope, IsVariable, LooksOver, TakenOn};
-ghost use Rattle.vcd_head.specs.Draft.{DraftsBehind, DraftsOn, DraftsUpTo};
+ghost use Rattle.std.specs.Prelude.{◌≡◌, ◌+◌, ◌-◌, ◌≤◌, ◌∷◌, ◌++◌, length, slice_range, IfSome, IfErr};
+ghost use Rattle.vcd_head.specs.Names.{MovesOn, ReadsAhead, bytes_of, passed_of, start_of};
+ghost use Rattle.vcd_head.specs.Ahead.{DraftsAhead, DraftsNext, EndsBefore, Gives, GivesToken, GoesOnWithin, IsReference, IsScope, IsUpscope, IsVariable, LooksOn, MovesAhead, PassesOn, PassesTokens, TakesNext};
 
 use crate::ahead_scopes::{scope_ahead, upscope_ahead};
 use crate::declarations::{
@@ -28,9 +23,7 @@ pub(crate) fn token_ahead<'a>(ahead: &mut Ahead<'a>) -> Option<&'a [u8]>
         (start_of ahead.new token.now) (passed_of ahead.new - 1)) }
     ensures longer { IfSome result (λ token.
         passed_of ahead.old + length token.now + 1 ≤ passed_of ahead.new) }
-    ensures further { IfSome result (λ _. passed_of ahead.old < passed_of ahead.new) }
-    ensures within { IfSome result (λ _. passed_of ahead.new ≤ length (bytes_of ahead.old)) }
-    ensures same { LooksOn ahead.old ahead.new }
+    ensures moves { MovesAhead ahead.old ahead.new result }
 {
     ahead.next()
 }
@@ -45,10 +38,10 @@ fn joined<'a>(
     second: &[u8],
     behind: usize,
 ) -> Option<&'a [u8]>
-    requires first { (length first.now + 1 ≤ behind_first) × (first.now
-        ≡ slice_range bytes.now (behind_first - length first.now - 1) (behind_first - 1)) }
-    requires second { (behind_first + length second.now + 1 ≤ behind) × (second.now
-        ≡ slice_range bytes.now (behind - length second.now - 1) (behind - 1)) }
+    requires first { (length first.now + 1 ≤ behind_first)
+        × EndsBefore bytes.now behind_first first.now }
+    requires second { (behind_first + length second.now + 1 ≤ behind)
+        × EndsBefore bytes.now behind second.now }
     requires within { behind ≤ length bytes.now }
     ensures { IfSome result (λ text. text.now ≡ first.now ++ 32 ∷ second.now) }
 {
@@ -67,9 +60,7 @@ fn joined<'a>(
 #[inline(always)]
 fn reference_ahead<'a>(ahead: &mut Ahead<'a>) -> Option<Reference<'a>>
     ensures gives { Gives IsReference ahead.old ahead.new result }
-    ensures further { IfSome result (λ _. passed_of ahead.old < passed_of ahead.new) }
-    ensures within { IfSome result (λ _. passed_of ahead.new ≤ length (bytes_of ahead.old)) }
-    ensures same { LooksOn ahead.old ahead.new }
+    ensures moves { MovesAhead ahead.old ahead.new result }
 {
     let name = token_ahead(ahead)?;
     if is_end(name) {
@@ -99,9 +90,7 @@ fn reference_ahead<'a>(ahead: &mut Ahead<'a>) -> Option<Reference<'a>>
 #[inline(always)]
 fn variable_ahead<'a>(ahead: &mut Ahead<'a>) -> Option<VariablePhrase<'a>>
     ensures gives { Gives IsVariable ahead.old ahead.new result }
-    ensures further { IfSome result (λ _. passed_of ahead.old < passed_of ahead.new) }
-    ensures within { IfSome result (λ _. passed_of ahead.new ≤ length (bytes_of ahead.old)) }
-    ensures same { LooksOn ahead.old ahead.new }
+    ensures moves { MovesAhead ahead.old ahead.new result }
 {
     let keyword = token_ahead(ahead)?;
     if !is_var(keyword) {
@@ -134,8 +123,8 @@ fn take_variable(
     draft: &mut Draft,
     variable: VariablePhrase<'_>,
 ) -> Result<bool, HeadFault>
-    ensures takes { (given more : List Token) → DraftsOn most given draft.old
-        → IsVariable more variable.entry → IfOk result (TakenOn most given more draft.new) }
+    ensures takes { TakesNext most (λ more. IsVariable more variable.entry)
+        draft.old draft.new result }
     ensures memory { IfErr result (λ fault. fault ≡ HeadFault.OutOfMemory) }
 {
     if check_start(draft, most, Kind::Var).is_err() {
@@ -147,8 +136,7 @@ fn take_variable(
 /// Opens a scope ahead, and returns whether it may come there: else `read_scope` says why not.
 #[inline(always)]
 fn take_scope(most: u64, draft: &mut Draft, scope: ScopePhrase<'_>) -> Result<bool, HeadFault>
-    ensures takes { (given more : List Token) → DraftsOn most given draft.old
-        → IsScope more scope.entry → IfOk result (TakenOn most given more draft.new) }
+    ensures takes { TakesNext most (λ more. IsScope more scope.entry) draft.old draft.new result }
     ensures memory { IfErr result (λ fault. fault ≡ HeadFault.OutOfMemory) }
 {
     if check_start(draft, most, Kind::Scope).is_err() {
@@ -162,8 +150,7 @@ fn take_scope(most: u64, draft: &mut Draft, scope: ScopePhrase<'_>) -> Result<bo
 /// says why not.
 #[inline(always)]
 fn take_upscope(most: u64, draft: &mut Draft) -> Result<bool, HeadFault>
-    ensures takes { (given more : List Token) → DraftsOn most given draft.old
-        → IsUpscope more → IfOk result (TakenOn most given more draft.new) }
+    ensures takes { TakesNext most IsUpscope draft.old draft.new result }
     ensures memory { IfErr result (λ fault. fault ≡ HeadFault.OutOfMemory) }
 {
     if check_start(draft, most, Kind::Up).is_err() {
@@ -182,19 +169,9 @@ fn declare_next(
     most: u64,
     draft: &mut Draft,
 ) -> Result<bool, HeadFault>
-    ensures drafts { (limit lines : ℕ) (bytes : List ℕ) (ts given : List Token)
-        → LooksOver limit bytes ahead.old → Passed limit lines bytes (passed_of ahead.old) ts
-        → DraftsOn most given draft.old → IfOk result (λ taken.
-        MatchBool taken ((more : List Token)
-        × Passed limit lines bytes (passed_of ahead.new) (ts ++ more)
-        × DraftsOn most (given ++ more) draft.new)
-        (DraftsOn most given draft.new)) }
-    ensures passes { (limit lines : ℕ) (bytes : List ℕ) (ts : List Token)
-        → LooksOver limit bytes ahead.old → Passed limit lines bytes (passed_of ahead.old) ts
-        → (more : List Token) × Passed limit lines bytes (passed_of ahead.new) (ts ++ more) }
-    ensures further { IfOk result (λ taken. taken ≡ true
-        → (passed_of ahead.old < passed_of ahead.new)
-        × (passed_of ahead.new ≤ length (bytes_of ahead.old))) }
+    ensures drafts { DraftsNext most ahead.old ahead.new draft.old draft.new result }
+    ensures passes { PassesOn ahead.old ahead.new }
+    ensures further { GoesOnWithin ahead.old ahead.new result }
     ensures same { LooksOn ahead.old ahead.new }
     ensures memory { IfErr result (λ fault. fault ≡ HeadFault.OutOfMemory) }
 {
@@ -224,13 +201,8 @@ fn declare_ahead(
     most: u64,
     draft: &mut Draft,
 ) -> Result<usize, HeadFault>
-    ensures drafts { (limit lines : ℕ) (bytes : List ℕ) (given : List Token)
-        → LooksOver limit bytes ahead.entry → Passed limit lines bytes (passed_of ahead.entry) []
-        → DraftsOn most given draft.old → IfOk result (λ n. (ts : List Token)
-        × Passed limit lines bytes n ts × DraftsOn most (given ++ ts) draft.new) }
-    ensures passes { (limit lines : ℕ) (bytes : List ℕ)
-        → LooksOver limit bytes ahead.entry → Passed limit lines bytes (passed_of ahead.entry) []
-        → IfOk result (λ n. (ts : List Token) × Passed limit lines bytes n ts) }
+    ensures drafts { DraftsAhead most ahead.entry draft.old draft.new result }
+    ensures passes { PassesTokens ahead.entry result }
     ensures memory { IfErr result (λ fault. fault ≡ HeadFault.OutOfMemory) }
 {
     let mut passed = ahead;
@@ -251,8 +223,7 @@ pub(crate) fn read_ahead<S: Source>(
     most: u64,
     draft: &mut Draft,
 ) -> Result<(), HeadFault>
-    ensures reads { (i : Input) → DraftsUpTo most i draft.old feed.old
-        → OrFails most i feed.new (λ _. DraftsBehind most i draft.new feed.new) result }
+    ensures reads { ReadsAhead most draft.old feed.old draft.new feed.new result }
     ensures advances { MovesOn S.failures feed.old feed.new result }
 {
     let passed = declare_ahead(alloc, feed.ahead(), most, draft)?;

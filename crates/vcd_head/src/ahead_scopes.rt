@@ -1,7 +1,5 @@
 // Scopes whose phrases are whole ahead in the chunk.
-ghost use Rattle.std.specs.Prelude.{◌<◌, ◌≤◌, length, IfSome};
-ghost use Rattle.vcd_text.specs.Ahead.{bytes_of, passed_of};
-ghost use Rattle.vcd_head.specs.Ahead.{Gives, LooksOn, IsScope, IsUpscope};
+ghost use Rattle.vcd_head.specs.Ahead.{Gives, MovesAhead, IsScope, IsUpscope};
 
 use crate::ahead::token_ahead;
 use crate::declarations::ScopePhrase;
@@ -12,9 +10,7 @@ use vcd_text::Ahead;
 #[inline(always)]
 pub(crate) fn scope_ahead<'a>(ahead: &mut Ahead<'a>) -> Option<ScopePhrase<'a>>
     ensures gives { Gives IsScope ahead.old ahead.new result }
-    ensures further { IfSome result (λ _. passed_of ahead.old < passed_of ahead.new) }
-    ensures within { IfSome result (λ _. passed_of ahead.new ≤ length (bytes_of ahead.old)) }
-    ensures same { LooksOn ahead.old ahead.new }
+    ensures moves { MovesAhead ahead.old ahead.new result }
 {
     let keyword = token_ahead(ahead)?;
     if !is_scope(keyword) {
@@ -39,9 +35,7 @@ pub(crate) fn scope_ahead<'a>(ahead: &mut Ahead<'a>) -> Option<ScopePhrase<'a>>
 #[inline(always)]
 pub(crate) fn upscope_ahead(ahead: &mut Ahead<'_>) -> Option<()>
     ensures gives { Gives (λ more _. IsUpscope more) ahead.old ahead.new result }
-    ensures further { IfSome result (λ _. passed_of ahead.old < passed_of ahead.new) }
-    ensures within { IfSome result (λ _. passed_of ahead.new ≤ length (bytes_of ahead.old)) }
-    ensures same { LooksOn ahead.old ahead.new }
+    ensures moves { MovesAhead ahead.old ahead.new result }
 {
     let keyword = token_ahead(ahead)?;
     if !is_upscope(keyword) {

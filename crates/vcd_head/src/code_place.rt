@@ -1,38 +1,35 @@
 // The place of a variable's code among the distinct codes.
-ghost use Rattle.std.specs.Prelude.{◌≡◌, List, [], ◌∷◌, ◌++◌, length, IfOk, IfErr};
-ghost use Rattle.vcd_model.specs.Declarations.{Declaration, Variable, code_of};
-ghost use Rattle.vcd_view.specs.Views.{IsSize};
-ghost use Rattle.vcd_head.specs.Draft.{HasCodes, IsEntered};
+ghost use Rattle.std.specs.Prelude.{◌≡◌, [], ◌∷◌, ◌++◌, length, IfOk, IfErr};
+ghost use Rattle.vcd_head.specs.Entered.{Enters, code_with};
 
+use crate::code_key::CodeKey;
 use crate::codes::{Codes, is_of_kind};
 use crate::fault::HeadFault;
 use crate::rows::token_len;
-use crate::sought::Sought;
+use std::alloc::Global;
 use vcd_view::{Code, code_in};
 
 /// Returns the place of the code of a variable, which is added where it is new, at the end of the
 /// text; none where it was declared with another size or kind.
 #[inline(always)]
 pub(crate) fn enter_code(
+    alloc: Global,
     text: &mut Vec<u8>,
     known: &mut Codes,
-    sought: Sought<'_>,
+    bytes: &[u8],
     size: usize,
     event: bool,
 ) -> Result<Option<usize>, HeadFault>
-    ensures codes { (ds : List Declaration) (v : Variable) → HasCodes text.old.items known.old ds
-        → code_of v ≡ record {
-          text = sought.entry.bytes.now;
-          size = size;
-          event = event;
-        } → IsSize size → IfOk result (IsEntered text.old.items text.new.items known.new ds v) }
+    ensures codes { Enters text.old.items text.new.items known.old known.new
+        bytes.now size event result }
     ensures memory { IfErr result (λ fault. fault ≡ HeadFault.OutOfMemory) }
 {
-    let Ok((place, new)) = known.keys.insert_full(sought.key) else {
+    let key = CodeKey::of(alloc, bytes)?;
+    let Ok((place, new)) = known.keys.insert_full(key) else {
         return Err(HeadFault::OutOfMemory);
     };
     if new {
-        add(text, &mut known.list, sought.bytes, size, event)?;
+        add(text, &mut known.list, bytes, size, event)?;
         return Ok(Some(place));
     }
     let Some(code) = code_in(&known.list, place) else {
@@ -54,12 +51,8 @@ fn add(
     event: bool,
 ) -> Result<(), HeadFault>
     ensures text { IfOk result (λ _. text.new.items ≡ text.old.items ++ bytes.now) }
-    ensures listed { IfOk result (λ _. list.new.items ≡ list.old.items ++ (record {
-      start = length text.old.items;
-      len = length bytes.now;
-      size = size;
-      event = event;
-    }) ∷ []) }
+    ensures listed { IfOk result (λ _. list.new.items
+        ≡ list.old.items ++ code_with (length text.old.items) bytes.now size event ∷ []) }
     ensures memory { IfErr result (λ fault. fault ≡ HeadFault.OutOfMemory) }
 {
     let len = token_len(bytes.len())?;

@@ -1,16 +1,10 @@
 // The distinct codes of a header that is read.
 ghost use Rattle.std.specs.Prelude.{◌≡◌, ℕ, List};
-ghost use Rattle.vcd_model.specs.Declarations.{Declaration, IdCode, Variable, code_of};
-ghost use Rattle.vcd_model.specs.HeaderChecks.{agrees};
-ghost use Rattle.vcd_view.specs.Finds.{Finds};
-ghost use Rattle.vcd_view.specs.Views.{AreHeld};
-ghost use Rattle.vcd_view.specs.declared.view.Code.{Code};
+ghost use Rattle.vcd_head.specs.Names.{AreHeld, AreKeysOf, Code, Finds, IdCode};
 ghost use Rattle.vcd_head.specs.Codes.{HasNone, is_of};
-ghost use Rattle.vcd_head.specs.Draft.{HasCodes};
-ghost use Rattle.vcd_head.specs.Keys.{AreKeysOf};
+ghost use Rattle.vcd_head.specs.Entered.{Allows};
 
 use crate::code_key::CodeKey;
-use crate::sought::Sought;
 use indexmap::IndexSet;
 use std::alloc::Global;
 use vcd_view::{Code, CodeSeed, code_in};
@@ -36,12 +30,7 @@ impl Codes {
     /// Returns whether a variable of this size, an event or none, may have the code with these
     /// bytes.
     pub(crate) fn allow(&self, alloc: Global, bytes: &[u8], size: usize, event: bool) -> bool
-        ensures { (text : List ℕ) (ds : List Declaration) (v : Variable)
-            → HasCodes text self.now ds → code_of v ≡ record {
-              text = bytes.now;
-              size = size;
-              event = event;
-            } → result ≡ agrees ds v }
+        ensures { Allows self.now bytes.now size event result }
     {
         let Some(place) = self.find(alloc, bytes) else {
             return true;
@@ -58,10 +47,10 @@ impl Codes {
         ensures { (text : List ℕ) (cs : List IdCode) → AreHeld text self.now.list.items cs
             → AreKeysOf self.now.keys.keys cs → Finds cs bytes.now result }
     {
-        let Ok(sought) = Sought::new(alloc, bytes) else {
+        let Ok(key) = CodeKey::of(alloc, bytes) else {
             return place_among(self.keys.as_slice(), bytes);
         };
-        self.keys.get_index_of(&sought.key)
+        self.keys.get_index_of(&key)
     }
 }
 
@@ -70,10 +59,7 @@ impl Codes {
 pub(crate) fn is_of_kind(code: Code, size: usize, event: bool) -> bool
     ensures { result ≡ is_of code size event }
 {
-    if code.size != size {
-        return false;
-    }
-    code.event == event
+    code.size == size && code.event == event
 }
 
 /// Returns the place of the key of the code with these bytes among keys, by a look at each.

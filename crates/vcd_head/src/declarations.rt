@@ -1,21 +1,15 @@
 // What the declarations of a header are checked for, and what becomes of the head.
-ghost use Rattle.std.specs.Prelude.{◌≡◌, ℕ, List, ◌++◌, IfOk, IfErr, MatchResult};
-ghost use Rattle.vcd_model.specs.Declarations.{Declaration};
-ghost use Rattle.vcd_model.specs.HeaderPhrases.{HeaderPhrase};
-ghost use Rattle.vcd_text.specs.Advances.{CallEnd};
-ghost use Rattle.vcd_view.specs.Views.{IsSize};
+ghost use Rattle.std.specs.Prelude.{◌≡◌, List, IfOk, IfErr, MatchResult};
+ghost use Rattle.vcd_head.specs.Names.{CallEnd, Declaration, HeaderPhrase, IsDraftOf, call_end};
+ghost use Rattle.vcd_head.specs.Declares.{DeclaresVariable, IsBarred, MayStart, Takes};
 ghost use Rattle.vcd_view.specs.declared.view.Kind.TheVariants.{Scope, Up};
-ghost use Rattle.vcd_head.specs.Declares.{IsBarred, MayStart, Spells, Takes, TakesVariable, spelled};
-ghost use Rattle.vcd_head.specs.Draft.{IsDraftOf};
-ghost use Rattle.vcd_head.specs.Fault.{call_end};
 
 use crate::code_place::enter_code;
 use crate::draft::Draft;
 use crate::fault::HeadFault;
 use crate::rows::{WideRow, push};
-use crate::sought::Sought;
 use crate::words::is_event;
-use std::alloc::{AllocError, Global};
+use std::alloc::Global;
 use vcd_view::Kind;
 
 // How many scopes may be open (profile).
@@ -76,17 +70,6 @@ pub(crate) fn check_start(draft: &Draft, most: u64, kind: Kind) -> Result<(), He
     }
 }
 
-/// Puts the type and the reference of a variable to the text.
-#[inline(always)]
-fn put_texts(text: &mut Vec<u8>, variable: VariablePhrase<'_>) -> Result<(), AllocError>
-    ensures text { IfOk result (λ _. text.new.items
-        ≡ text.old.items ++ (variable.entry.word.now ++ variable.entry.reference.text.now)) }
-{
-    text.extend_from_slice(variable.word)?;
-    text.extend_from_slice(variable.reference.text)?;
-    Ok(())
-}
-
 /// Declares a variable, and returns whether its code allows that: not where it was declared with
 /// another size, or where one of the two is an event and the other is not.
 #[inline(always)]
@@ -95,17 +78,15 @@ pub(crate) fn declare(
     draft: &mut Draft,
     variable: VariablePhrase<'_>,
 ) -> Result<bool, HeadFault>
-    ensures declares { (reference : List (List ℕ)) → IsSize variable.entry.size
-        → Spells variable.entry.reference reference
-        → IfOk result (TakesVariable (spelled variable.entry reference) draft.old draft.new) }
+    ensures declares { DeclaresVariable variable.entry draft.old draft.new result }
     ensures memory { IfErr result (λ fault. fault ≡ HeadFault.OutOfMemory) }
 {
     let event = is_event(variable.word);
-    let code = Sought::new(alloc, variable.code)?;
     let Some(place) = enter_code(
+        alloc,
         &mut draft.text,
         &mut draft.codes,
-        code,
+        variable.code,
         variable.size,
         event,
     )?
@@ -113,22 +94,21 @@ pub(crate) fn declare(
         return Ok(false);
     };
     let start = draft.text.len();
-    put_texts(&mut draft.text, variable)?;
+    draft.text.extend_from_slice(variable.word)?;
+    draft.text.extend_from_slice(variable.reference.text)?;
     let word = variable.word.len();
     let all = variable.reference.text.len();
     let parent = draft.parent();
-    push(
-        &mut draft.rows,
-        WideRow {
-            kind: Kind::Var,
-            parent,
-            start,
-            word,
-            name: variable.reference.name,
-            all,
-            code: place,
-        },
-    )?;
+    let row = WideRow {
+        kind: Kind::Var,
+        parent,
+        start,
+        word,
+        name: variable.reference.name,
+        all,
+        code: place,
+    };
+    push(&mut draft.rows, row)?;
     Ok(true)
 }
 
@@ -143,18 +123,16 @@ pub(crate) fn open_scope(draft: &mut Draft, scope: ScopePhrase<'_>) -> Result<()
     draft.text.extend_from_slice(scope.word)?;
     draft.text.extend_from_slice(scope.name)?;
     let parent = draft.parent();
-    push(
-        &mut draft.rows,
-        WideRow {
-            kind: Kind::Scope,
-            parent,
-            start,
-            word: scope.word.len(),
-            name: scope.name.len(),
-            all: scope.name.len(),
-            code: 0,
-        },
-    )?;
+    let row = WideRow {
+        kind: Kind::Scope,
+        parent,
+        start,
+        word: scope.word.len(),
+        name: scope.name.len(),
+        all: scope.name.len(),
+        code: 0,
+    };
+    push(&mut draft.rows, row)?;
     draft.scopes.push(draft.rows.len())?;
     Ok(())
 }
@@ -166,17 +144,15 @@ pub(crate) fn close_scope(draft: &mut Draft) -> Result<(), HeadFault>
     ensures memory { IfErr result (λ fault. fault ≡ HeadFault.OutOfMemory) }
 {
     let closed = draft.scopes.pop().unwrap_or(0);
-    push(
-        &mut draft.rows,
-        WideRow {
-            kind: Kind::Up,
-            parent: closed,
-            start: 0,
-            word: 0,
-            name: 0,
-            all: 0,
-            code: 0,
-        },
-    )?;
+    let row = WideRow {
+        kind: Kind::Up,
+        parent: closed,
+        start: 0,
+        word: 0,
+        name: 0,
+        all: 0,
+        code: 0,
+    };
+    push(&mut draft.rows, row)?;
     Ok(())
 }

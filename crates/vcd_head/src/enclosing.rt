@@ -1,9 +1,7 @@
 // The scopes around a declaration, from the outermost inwards.
-ghost use Rattle.std.specs.Prelude.{◌≡◌, ℕ, ◌<◌, ◌≤◌, List, take, length, reverse, IfSome};
-ghost use Rattle.vcd_model.specs.Declarations.{enclosing};
-ghost use Rattle.vcd_model.specs.Header.{Header};
-ghost use Rattle.vcd_head.specs.ScopesLeft.{GivesNext, LeavesScopes, Walks};
-ghost use Rattle.vcd_view.specs.Views.{IsViewOf};
+ghost use Rattle.std.specs.Prelude.{ℕ, ◌<◌, ◌≤◌, List, take, length, reverse, IfSome};
+ghost use Rattle.vcd_head.specs.Names.{AnyRow, Header, IsViewOf};
+ghost use Rattle.vcd_head.specs.ScopesLeft.{GivesNext, LeavesScopes, Walks, scopes_around};
 
 use vcd_view::HeadView;
 
@@ -32,22 +30,16 @@ impl Enclosing {
     #[inline(always)]
     pub(crate) fn new(row: usize) -> Self
         ensures { (h : Header) → row < length h.declarations
-            → LeavesScopes h row (reverse (enclosing (take row h.declarations))) result }
+            → LeavesScopes h row (reverse (scopes_around h row)) result }
     {
-        Enclosing {
-            row,
-            rows: [0; HELD],
-            left: row,
-            held: 0,
-        }
+        Self::innermost(row, row)
     }
 
     /// Returns so many of the innermost ones, or all where there are fewer.
     #[inline(always)]
     pub(crate) fn innermost(row: usize, most: usize) -> Self
         ensures { (h : Header) → row < length h.declarations
-            → LeavesScopes h row
-            (reverse (take most (enclosing (take row h.declarations)))) result }
+            → LeavesScopes h row (reverse (take most (scopes_around h row))) result }
     {
         Enclosing {
             row,
@@ -61,8 +53,7 @@ impl Enclosing {
     #[inline(always)]
     pub(crate) fn next(&mut self, view: HeadView<'_>) -> Option<usize>
         ensures gives { (h : Header) (row : ℕ) (rest : List ℕ) → IsViewOf view.entry h
-            → LeavesScopes h row rest self.old
-            → GivesNext h row rest self.new result }
+            → LeavesScopes h row rest self.old → GivesNext h row rest self.new result }
         ensures fewer { IfSome result (λ _. self.new.left < self.old.left) }
     {
         if self.held == 0 {
@@ -78,8 +69,7 @@ impl Enclosing {
 // Walks outwards from a row by at most so many scopes, and holds the last ones. Returns how many it
 // passed.
 fn walk(view: HeadView<'_>, row: usize, most: usize, rows: &mut [usize; HELD]) -> usize
-    ensures walks { (h : Header) → IsViewOf view.entry h → row < length h.declarations
-        → Walks h row most rows.new result }
+    ensures walks { AnyRow view.entry row (λ h. Walks h row most rows.new result) }
     ensures within { result ≤ most }
 {
     let mut scope = row;

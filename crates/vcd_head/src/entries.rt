@@ -1,9 +1,7 @@
 // The entries by which codes are looked up: how they are filled. Any code may have any place among
 // them, or none: where an entry is decides only how fast a look-up is.
 ghost use Rattle.std.specs.Prelude.{◌≡◌, ◌*◌, ◌^◌, ◌≤◌, ◌<◌, ℕ, List, true, length, set, slice_get, Some, IfOk, IfSome};
-ghost use Rattle.vcd_view.specs.Entries.{are_right, is_right, text_in};
-ghost use Rattle.vcd_view.specs.Keys.{key_in};
-ghost use Rattle.vcd_view.specs.declared.view.Code.{Code};
+ghost use Rattle.vcd_head.specs.Names.{Code, are_right, is_right, key_in, text_in};
 
 use std::alloc::{AllocError, Global};
 use vcd_view::{

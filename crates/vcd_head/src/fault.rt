@@ -8,33 +8,33 @@ use std::alloc::{AllocError, AllocFailed};
 #[derive(Clone, Copy, PartialEq, Eq, Debug)]
 pub enum HeadFault {
     /// A token has more bytes than its window (fault 1).
-    TokenTooLong,
+    TokenTooLong = 1,
     /// The input ends before `$enddefinitions $end` (fault 2).
-    EndOfInput,
+    EndOfInput = 2,
     /// A phrase begins with no command (fault 3).
-    UnknownCommand,
+    UnknownCommand = 3,
     /// What belongs into the body, or no `$end` after `$enddefinitions` (fault 4).
-    OutOfPlace,
+    OutOfPlace = 4,
     /// No time scale of number and unit after `$timescale` (fault 5).
-    BadTimescale,
+    BadTimescale = 5,
     /// No type, name and `$end` after `$scope`, or no `$end` after `$upscope` (fault 6).
-    BadScope,
+    BadScope = 6,
     /// No type, size, code and reference after `$var` (fault 7).
-    BadVariable,
+    BadVariable = 7,
     /// A code has two sizes, or is an event and none (fault 8).
-    CodeDiffers,
+    CodeDiffers = 8,
     /// An `$upscope` where no scope is open (fault 9).
-    NoScope,
+    NoScope = 9,
     /// A `$scope` where 1,000 scopes are open (fault 10).
-    TooDeep,
+    TooDeep = 10,
     /// More declarations than are allowed (fault 11).
-    TooMany,
+    TooMany = 11,
     /// Byte number 2^63, counted from 1, would be looked at (fault 21).
-    InputTooLong,
+    InputTooLong = 21,
     /// The source failed (fault 31).
-    ReadFailed,
+    ReadFailed = 31,
     /// No memory was found (fault 32).
-    OutOfMemory,
+    OutOfMemory = 32,
 }
 
 impl HeadFault {
@@ -45,22 +45,7 @@ impl HeadFault {
     pub fn number(self) -> u8
         ensures { result ≡ fault_number self }
     {
-        match self {
-            HeadFault::TokenTooLong => 1,
-            HeadFault::EndOfInput => 2,
-            HeadFault::UnknownCommand => 3,
-            HeadFault::OutOfPlace => 4,
-            HeadFault::BadTimescale => 5,
-            HeadFault::BadScope => 6,
-            HeadFault::BadVariable => 7,
-            HeadFault::CodeDiffers => 8,
-            HeadFault::NoScope => 9,
-            HeadFault::TooDeep => 10,
-            HeadFault::TooMany => 11,
-            HeadFault::InputTooLong => 21,
-            HeadFault::ReadFailed => 31,
-            HeadFault::OutOfMemory => 32,
-        }
+        self as u8
     }
 }
 

@@ -1,10 +1,6 @@
 // A draft becomes a head.
 ghost use Rattle.std.specs.Prelude.{◌≡◌, ℕ, List, IfOk, IfErr};
-ghost use Rattle.vcd_model.specs.HeaderPhrases.{HeaderPhrase};
-ghost use Rattle.vcd_model.specs.Header.{header_of};
-ghost use Rattle.vcd_head.specs.Draft.{IsDraftOf};
-ghost use Rattle.vcd_head.specs.Shown.{shown};
-ghost use Rattle.vcd_view.specs.Views.{Views};
+ghost use Rattle.vcd_head.specs.Names.{HeaderPhrase, IsDraftOf, Views, header_of, shown};
 
 use crate::codes::Codes;
 use crate::draft::Draft;

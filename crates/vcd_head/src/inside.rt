@@ -1,16 +1,10 @@
 // The names that go on inside the scopes that are open, so that a row is compared by its own name
 // alone.
-ghost use Rattle.std.specs.Prelude.{◌≡◌, ◌<◌, ◌≤◌, [], ◌∷◌, ℕ, suc, Bool, true, List, length, map, string_bytes, slice_get, take, Some, IfSome};
-ghost use Rattle.vcd_model.specs.Declarations.{Declaration, Variable, path_of};
-ghost use Rattle.vcd_model.specs.Header.{Header};
-ghost use Rattle.vcd_model.specs.Selection.{is_selected as is_selected_by, is_variable, selects_path};
+ghost use Rattle.std.specs.Prelude.{◌≡◌, ◌<◌, ◌≤◌, suc, Bool, List, length, map, string_bytes, take, IfSome};
+ghost use Rattle.vcd_head.specs.Names.{AnyRow, AnyVariable, Declaration, Header, Matches, is_selected, path_of, scopes_text, selects_path};
 ghost use Rattle.vcd_head.specs.Groups.{names_of};
-ghost use Rattle.vcd_head.specs.Inside.{AreOpen, Enters, HasSelected, IsOpen, KeepsOpen, front};
-ghost use Rattle.vcd_head.specs.Matched.{Matches, Matched};
-ghost use Rattle.vcd_head.specs.Names.{AreSame, IsOrder};
-ghost use Rattle.vcd_head.specs.Paths.{scopes_text};
-ghost use Rattle.vcd_head.specs.Runs.{Follows};
-ghost use Rattle.vcd_view.specs.Views.{IsViewOf};
+ghost use Rattle.vcd_head.specs.Inside.{AnyOpen, ComparesAt, Enters, FlagsSelected, GivesAround, IsOpen, KeepsOpen, SelectsAt, StaysOpen, front};
+ghost use Rattle.vcd_head.specs.NameOrder.{AreSame, IsOrder};
 
 use crate::enclosing::Enclosing;
 use crate::names::{Group, Run, TOGETHER};
@@ -68,13 +62,10 @@ impl Open {
         matched: &mut [bool; TOGETHER],
     ) -> bool
         ensures open { KeepsOpen view.entry group.now matched.old matched.new self.old self.new }
-        ensures selected { (h : Header) (d : Declaration) → IsViewOf view.entry h
-            → slice_get h.declarations row ≡ Some d → IsOpen h group.now matched.old self.old
-            → result ≡ is_selected_by (names_of group.now) (take row h.declarations) d }
-        ensures matched { (h : Header) (d : Declaration) → IsViewOf view.entry h
-            → slice_get h.declarations row ≡ Some d → IsOpen h group.now matched.old self.old
-            → Matched (λ name. is_selected_by (name ∷ []) (take row h.declarations) d) (names_of
-            group.now) matched.old matched.new }
+        ensures selected { AnyOpen view.entry row group.now matched.old self.old
+            (λ h d. result ≡ is_selected (names_of group.now) (take row h.declarations) d) }
+        ensures matched { AnyOpen view.entry row group.now matched.old self.old (λ h d.
+            FlagsSelected group.now (take row h.declarations) d matched.old matched.new) }
     {
         let Some(declared) = view.row_at(row) else {
             return false;
@@ -102,11 +93,8 @@ impl Open {
         group: &Group<'_>,
         matched: &mut [bool; TOGETHER],
     ) -> bool
-        ensures { (h : Header) (d : Declaration) → IsViewOf view.entry h
-            → slice_get h.declarations row ≡ Some d → is_variable d ≡ true
-            → IsOpen h group.now matched.old self.old
-            → HasSelected h group.now (path_of (take row h.declarations) d) matched.old matched.new
-            self.new result }
+        ensures { SelectsAt view.entry row group.now matched.old matched.new
+            self.old self.new result }
     {
         if self.entered < self.depth {
             self.enter_around(view, row, group, matched);
@@ -122,9 +110,8 @@ impl Open {
         group: &Group<'_>,
         matched: &mut [bool; TOGETHER],
     )
-        ensures { (h : Header) → IsViewOf view.entry h → row < length h.declarations
-            → Enters h group.now (scopes_text (take row h.declarations)) matched.old matched.new
-            self.old self.new }
+        ensures { AnyRow view.entry row (λ h. Enters h group.now
+            (scopes_text (take row h.declarations)) matched.old matched.new self.old self.new) }
     {
         let mut scopes = Enclosing::innermost(row, self.depth.saturating_sub(self.entered));
         while let Some(scope) = scopes.next(view) {
@@ -140,9 +127,8 @@ impl Open {
         group: &Group<'_>,
         matched: &mut [bool; TOGETHER],
     )
-        ensures { (h : Header) → IsViewOf view.entry h → row < length h.declarations
-            → Enters h group.now (front h.declarations (suc row)) matched.old matched.new self.old
-            self.new }
+        ensures { AnyRow view.entry row (λ h. Enters h group.now
+            (front h.declarations (suc row)) matched.old matched.new self.old self.new) }
     {
         let Some(around) = self.around(view, row) else {
             return;
@@ -156,10 +142,7 @@ impl Open {
 
     /// Holds what is inside one more scope, if there is room.
     fn hold(&mut self, inner: Inside)
-        ensures { (h : Header) (names : List (List ℕ)) (order : List ℕ) (flags : List Bool)
-            → AreOpen h names order flags self.old
-            → Follows names order flags (front h.declarations inner.scope) inner.run
-            → AreOpen h names order flags self.new }
+        ensures { StaysOpen inner self.old self.new }
     {
         let next = self.entered.saturating_add(1);
         if next < MOST_HELD {
@@ -177,11 +160,7 @@ impl Open {
         group: &Group<'_>,
         matched: &mut [bool; TOGETHER],
     ) -> bool
-        ensures { (h : Header) (d : Declaration) → IsViewOf view.entry h
-            → slice_get h.declarations row ≡ Some d → is_variable d ≡ true
-            → IsOpen h group.now matched.old self.now
-            → Matches (selects_path (path_of (take row h.declarations) d)) (names_of group.now)
-            matched.old matched.new result }
+        ensures { ComparesAt view.entry row group.now matched.old matched.new self.now result }
     {
         match self.around(view, row) {
             Some(around) => group.selects(around.run, view.name_of(row), matched),
@@ -194,10 +173,7 @@ impl Open {
     #[inline(always)]
     fn around(&self, view: HeadView<'_>, row: usize) -> Option<Inside>
         ensures row { IfSome result (λ _. row < length view.entry.rows.now) }
-        ensures run { (h : Header) (names : List (List ℕ)) (order : List ℕ) (flags : List Bool)
-            → IsViewOf view.entry h → AreOpen h names order flags self.now
-            → IfSome result (λ s. Follows names order flags (scopes_text (take row h.declarations))
-            s.run) }
+        ensures run { GivesAround view.entry row self.now result }
     {
         let declared = view.row_at(row)?;
         let inside = self.inside.get(self.entered)?;
@@ -216,10 +192,9 @@ fn compare_each(
     matched: &mut [bool; TOGETHER],
 ) -> bool
     requires { length names.now ≤ 16384 }
-    ensures { (h : Header) (v : Variable) → IsViewOf view.entry h
-        → slice_get h.declarations row ≡ Some (Declaration.Var v)
-        → Matches (selects_path (path_of (take row h.declarations) (Declaration.Var v))) (map
-        string_bytes names.now) matched.old matched.new result }
+    ensures { AnyVariable view.entry row (λ h v.
+        Matches (selects_path (path_of (take row h.declarations) (Declaration.Var v)))
+        (map string_bytes names.now) matched.old matched.new result) }
 {
     let mut some = false;
     for place in 0..names.len() {

@@ -29,8 +29,8 @@
 //! - `ahead`, `ahead_scopes`: variables and scopes whose phrases are whole in the chunk
 //! - `declarations`, `rows`, `code_place`: what these are checked for, however they are read; what
 //!   becomes of the head: rows, and the place of a code
-//! - `draft`, `codes`, `code_key`, `sought`, `finish`: a header while it is read, its codes, and
-//!   the keys by which a set finds them; the head that it becomes
+//! - `draft`, `codes`, `code_key`, `finish`: a header while it is read, its codes, and the keys by
+//!   which a set finds them; the head that it becomes
 //! - `head`, `fault`: `Head`; `HeadFault`
 //! - `entries`, `index`: how the entries are filled; the order of the codes by their bytes
 //! - `enclosing`, `path`: the scopes around a declaration, outermost first; paths
@@ -41,9 +41,10 @@
 //! - `merged`: the header of a merged dump
 //! - `laws`: each function has a law over headers and codes as its contract
 //!
-//! In `specs/` callers read `Shown`, `Reads`, `Fault`, `Marks`, `Merged` and `Moments`; of the view
-//! `Views`, `ViewShown`, `Finds`, `Needs` and `NewCode`; and the definitions that these cite, as
-//! `Model`.
+//! In `specs/` callers read `Shown`, `Reads` (`ReadsHead`), `Over`, `Written`, `Fault`, `Marks`,
+//! `Merged` and `Moments`; of the view `Views`, `ViewShown`, `Finds`, `Needs` and `NewCode`; and
+//! the definitions that these cite, as `Model`. `Names` brings what the clauses cite under one
+//! path.
 //!
 //! # Limits
 //!
@@ -79,7 +80,6 @@ mod rows;
 mod scale;
 mod scopes;
 mod selection;
-mod sought;
 mod texts;
 mod tokens;
 mod variable;

@@ -1,20 +1,14 @@
 //! The head of a merged dump.
-ghost use Rattle.std.specs.Prelude.{◌≡◌, ℕ, ◌+◌, ◌-◌, ◌^◌, ◌<◌, ◌≤◌, List, [], length, take, flat_map, slice_get, Some};
+ghost use Rattle.std.specs.Prelude.{◌≡◌, ℕ, ◌+◌, ◌-◌, ◌^◌, ◌<◌, ◌≤◌, List, length, take, flat_map};
 ghost use Rattle.std.specs.List.{concat};
-ghost use Rattle.vcd_model.specs.Backward.{each};
-ghost use Rattle.vcd_model.specs.Declarations.{Declaration, enclosing};
-ghost use Rattle.vcd_model.specs.Header.{Header};
-ghost use Rattle.vcd_model.specs.HeadText.{first_number, input_head, least_exponent as least_of, merged_head, rows_text, up_line};
-ghost use Rattle.vcd_model.specs.Selection.{is_among, marked_places};
-ghost use Rattle.vcd_text.specs.Device.{Counts, Puts, Takes};
-ghost use Rattle.vcd_head.specs.Merged.{FitNumbers, ShowHeaders, closing, due, numbered, openings};
-ghost use Rattle.vcd_view.specs.Views.{IsViewOf};
+ghost use Rattle.vcd_head.specs.Names.{AnyDeclared, AnyHeader, Counts, Header, IsViewOf, Puts, Takes, TakesAround, each, enclosing, first_number, input_head, least_exponent as least_of, merged_head, up_line};
+ghost use Rattle.vcd_head.specs.Merged.{FitNumbers, ShowHeaders, closing, due, input_rows, openings};
 
 use crate::enclosing::Enclosing;
 use crate::head::Head;
-use crate::write::{put_lines, put_renamed, put_scope, text_of_exponent};
+use crate::write::{put_lines, put_scope, put_variable, text_of_exponent};
 use vcd_text::{Sink, WriteFailed, put, put_number};
-use vcd_view::{HeadView, Kind};
+use vcd_view::{HeadView, Kind, NewCode};
 
 /// Returns the least power of ten of the heads' time scales, in seconds; a missing one counts as
 /// 1s, and 0 where there is no head.
@@ -43,37 +37,20 @@ pub(crate) struct OpenScopes {
 }
 
 impl OpenScopes {
-    ghost use Rattle.vcd_view.specs.declared.view.Kind.TheVariants.{Scope, Up, Var};
+    ghost use Rattle.vcd_head.specs.Merged.{IsBehind};
 
-    /// Returns the scopes that are open after a row of this kind.
-    fn behind(self, kind: Kind) -> OpenScopes
-        ensures scope { kind ≡ Scope → self.pending + 1 < 2 ^ 64
-            → (result.pending ≡ self.pending + 1) × (result.written ≡ self.written) }
-        ensures pending { kind ≡ Up → 0 < self.pending
-            → (result.pending ≡ self.pending - 1) × (result.written ≡ self.written) }
-        ensures written { kind ≡ Up → self.pending ≡ 0
-            → (result.pending ≡ 0) × (result.written ≡ self.written - 1) }
-        ensures variable { kind ≡ Var → self.written + self.pending < 2 ^ 64
-            → (result.pending ≡ 0) × (result.written ≡ self.written + self.pending) }
+    /// Goes on to the scopes that are open after a row of this kind.
+    fn pass(&mut self, kind: Kind)
+        ensures { IsBehind kind self.old.pending self.old.written self.new.pending self.new.written }
     {
-        let OpenScopes { pending, written } = self;
         match kind {
-            Kind::Scope => OpenScopes {
-                pending: pending.saturating_add(1),
-                written,
-            },
-            Kind::Up if pending > 0 => OpenScopes {
-                pending: pending - 1,
-                written,
-            },
-            Kind::Up => OpenScopes {
-                pending: 0,
-                written: written.saturating_sub(1),
-            },
-            Kind::Var => OpenScopes {
-                pending: 0,
-                written: written.saturating_add(pending),
-            },
+            Kind::Scope => self.pending = self.pending.saturating_add(1),
+            Kind::Up if self.pending > 0 => self.pending -= 1,
+            Kind::Up => self.written = self.written.saturating_sub(1),
+            Kind::Var => {
+                self.written = self.written.saturating_add(self.pending);
+                self.pending = 0;
+            }
         }
     }
 }
@@ -86,9 +63,8 @@ fn put_openings<W: Sink>(
     w: &mut W,
 ) -> Result<(), WriteFailed>
     requires failures { (W.device w.old).failures < 2 ^ 64 - 1 }
-    ensures takes { (h : Header) → IsViewOf view.entry h → row < length h.declarations
-        → Takes (W.device w.old) (W.device w.new)
-        (openings h.declarations (take count (enclosing (take row h.declarations)))) result }
+    ensures takes { TakesAround view.entry row (W.device w.old) (W.device w.new)
+        (λ h. openings h.declarations (take count (enclosing (take row h.declarations)))) result }
     ensures counts { Counts (W.device w.old) (W.device w.new) result }
 {
     let mut scopes = Enclosing::innermost(row, count);
@@ -105,10 +81,7 @@ fn put_closing<W: Sink>(scopes: OpenScopes, w: &mut W) -> Result<(), WriteFailed
     ensures { Puts (W.device w.old) (W.device w.new)
         (closing scopes.pending scopes.written) result }
 {
-    if scopes.pending > 0 {
-        return Ok(());
-    }
-    if scopes.written == 0 {
+    if scopes.pending > 0 || scopes.written == 0 {
         return Ok(());
     }
     put(w, b"$upscope $end\n")
@@ -138,10 +111,9 @@ fn put_input_row<W: Sink>(
     w: &mut W,
 ) -> Result<(), WriteFailed>
     requires failures { (W.device w.old).failures < 2 ^ 64 - 1 }
-    ensures takes { (h : Header) (d : Declaration) → IsViewOf view.entry h
-        → slice_get h.declarations row ≡ Some d → FitNumbers first h
+    ensures takes { AnyDeclared view.entry row (λ h d. FitNumbers first h
         → Takes (W.device w.old) (W.device w.new)
-        (due h first scopes.pending scopes.written (take row h.declarations) d) result }
+        (due h first scopes.pending scopes.written (take row h.declarations) d) result) }
     ensures counts { Counts (W.device w.old) (W.device w.new) result }
 {
     let Some(declared) = view.row_at(row) else {
@@ -152,7 +124,8 @@ fn put_input_row<W: Sink>(
         Kind::Up => put_closing(scopes, w),
         Kind::Var => {
             put_openings(view, row, scopes.pending, w)?;
-            put_renamed(view, row, first, w)
+            let id = NewCode::of(first.saturating_add(declared.code as u64));
+            put_variable(view, row, id.text(), w)
         }
     }
 }
@@ -161,9 +134,8 @@ fn put_input_row<W: Sink>(
 /// these.
 fn put_input_rows<W: Sink>(view: HeadView<'_>, first: u64, w: &mut W) -> Result<(), WriteFailed>
     requires failures { (W.device w.old).failures < 2 ^ 64 - 1 }
-    ensures takes { (h : Header) → IsViewOf view.entry h → FitNumbers first h
-        → Takes (W.device w.old) (W.device w.new) (rows_text (numbered first h)
-        (is_among (marked_places [] h.declarations)) h.declarations) result }
+    ensures takes { AnyHeader view.entry (λ h. FitNumbers first h
+        → Takes (W.device w.old) (W.device w.new) (input_rows first h) result) }
     ensures counts { Counts (W.device w.old) (W.device w.new) result }
 {
     let mut scopes = OpenScopes {
@@ -172,7 +144,7 @@ fn put_input_rows<W: Sink>(view: HeadView<'_>, first: u64, w: &mut W) -> Result<
     };
     for row in 0..view.rows.len() {
         put_input_row(view, row, first, scopes, w)?;
-        scopes = scopes.behind(view.rows[row].kind);
+        scopes.pass(view.rows[row].kind);
     }
     put_closings(scopes.written, w)
 }

@@ -2,11 +2,8 @@
 ghost use Rattle.std.specs.Prelude.{◌≡◌, ◌*◌, ◌/◌, ◌^◌, ◌<◌, pos, ◌+ℤ◌, nat_abs, option_map};
 ghost use Rattle.std.specs.Int.{div_ceil};
 ghost use Rattle.std.specs.Option.{SomeIff};
-ghost use Rattle.vcd_model.specs.Header.{Header};
-ghost use Rattle.vcd_model.specs.Ticks.{moment_ticks, ticks as ticks_of};
-ghost use Rattle.vcd_view.specs.declared.view.Scale.{Scale};
+ghost use Rattle.vcd_head.specs.Names.{Header, IsViewOf, Scale, moment_ticks, ticks as ticks_of};
 ghost use Rattle.vcd_head.specs.Moments.{asked, told};
-ghost use Rattle.vcd_view.specs.Views.{IsViewOf};
 
 use crate::words::unit_of;
 use vcd_view::HeadView;
@@ -44,9 +41,9 @@ impl Moment {
 #[derive(Clone, Copy, PartialEq, Eq, Debug)]
 pub enum TickFault {
     /// The moment has a unit, and the header declares no time scale (fault 12).
-    NoTimescale,
+    NoTimescale = 12,
     /// The moment is 2^64 ticks or more (fault 22).
-    OutOfRange,
+    OutOfRange = 22,
 }
 
 impl TickFault {
@@ -57,10 +54,7 @@ impl TickFault {
     pub fn number(self) -> u8
         ensures { result ≡ tick_fault_number self }
     {
-        match self {
-            TickFault::NoTimescale => 12,
-            TickFault::OutOfRange => 22,
-        }
+        self as u8
     }
 }
 

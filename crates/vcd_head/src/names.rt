@@ -5,7 +5,7 @@ ghost use Rattle.std.specs.List.{All, Contains};
 ghost use Rattle.std.specs.List.Sorted.{IsSortedBy};
 ghost use Rattle.vcd_model.specs.Selection.{selects_path};
 ghost use Rattle.vcd_head.specs.Matched.{Matches};
-ghost use Rattle.vcd_head.specs.Names.{AreSame, AreShared, IsOrder, IsSplit, Rises, comes_before, next_bytes, next_in, order_in};
+ghost use Rattle.vcd_head.specs.NameOrder.{AreSame, AreShared, IsOrder, IsSplit, Rises, comes_before, next_bytes, next_in, order_in};
 
 use std::cmp::Ordering;
 
@@ -34,7 +34,7 @@ pub(crate) struct Run {
 }
 
 impl<'n> Group<'n> {
-    ghost use Rattle.vcd_head.specs.Groups.{IsRun, IsRunOn, names_of};
+    ghost use Rattle.vcd_head.specs.Groups.{AreRising, FlagsSome, GoesOnWith, IsRun, IsRunOn, RunsOn, names_of};
     ghost use Rattle.vcd_head.specs.Runs.{Narrows};
 
     pub(crate) fn new(names: &'n [String]) -> Self
@@ -92,7 +92,7 @@ impl<'n> Group<'n> {
     #[inline(always)]
     fn first_from(&self, first: usize, end: usize, passed: usize, least: usize) -> usize
         ensures range { first ≤ end → (first ≤ result) × (result ≤ end) }
-        ensures split { first ≤ end → Rises (names_of self.now) self.now.order passed first end
+        ensures split { first ≤ end → AreRising self.now passed first end
             → IsSplit (names_of self.now) self.now.order passed first end least result }
     {
         let mut low = first;
@@ -111,9 +111,8 @@ impl<'n> Group<'n> {
     /// Flags the names that are the front, and returns whether there are some.
     #[inline(always)]
     fn note(&self, run: Run, matched: &mut [bool; TOGETHER]) -> bool
-        ensures { (front : List ℕ) → IsRun self.now matched.old front run
-            → Matches (λ name. bytes_eq name front) (names_of self.now) matched.old matched.new
-            result }
+        ensures { FlagsSome self.now matched.old matched.new run
+            (λ front name. bytes_eq name front) result }
     {
         if run.first >= run.end || self.next_at(run.first, run.passed) != 0 {
             return false;
@@ -134,9 +133,8 @@ impl<'n> Group<'n> {
     /// there are some.
     #[inline(always)]
     fn note_at(&self, run: Run, byte: u8, matched: &mut [bool; TOGETHER]) -> bool
-        ensures { (front : List ℕ) → IsRun self.now matched.old front run
-            → Matches (λ name. (byte == 46) && bytes_eq name front) (names_of self.now) matched.old
-            matched.new result }
+        ensures { FlagsSome self.now matched.old matched.new run
+            (λ front name. (byte == 46) && bytes_eq name front) result }
     {
         if byte == b'.' {
             self.note(run, matched)
@@ -149,7 +147,7 @@ impl<'n> Group<'n> {
     #[inline(always)]
     fn with_byte(&self, run: Run, byte: u8, whole: bool) -> Run
         ensures narrows { run.first ≤ run.end
-            → Rises (names_of self.now) self.now.order run.passed run.first run.end
+            → AreRising self.now run.passed run.first run.end
             → Narrows (names_of self.now) self.now.order byte run result }
         ensures whole { result.whole ≡ whole }
     {
@@ -159,8 +157,8 @@ impl<'n> Group<'n> {
             return Run {
                 first,
                 end: first,
-                passed: run.passed,
                 whole,
+                ..run
             };
         }
         let end = self.first_from(first, run.end, run.passed, next + 1);
@@ -176,8 +174,7 @@ impl<'n> Group<'n> {
     /// point.
     #[inline(always)]
     fn step(&self, run: Run, byte: u8, matched: &mut [bool; TOGETHER]) -> Run
-        ensures { (front : List ℕ) → IsRun self.now matched.old front run
-            → IsRunOn self.now matched.old matched.new (front ++ byte ∷ []) result }
+        ensures { RunsOn self.now matched.old matched.new run (λ front. front ++ byte ∷ []) result }
     {
         let ends = self.note_at(run, byte, matched);
         self.with_byte(run, byte, run.whole | ends)
@@ -188,10 +185,8 @@ impl<'n> Group<'n> {
     fn shared(&self, run: Run, bytes: &[u8]) -> usize
         ensures within { result ≤ length bytes.now }
         ensures fits { run.passed + result < 2 ^ 64 }
-        ensures first { AreShared (next_bytes (names_of self.now) self.now.order run.passed
-            run.first) bytes.now result }
-        ensures last { AreShared (next_bytes (names_of self.now) self.now.order run.passed (run.end
-            - 1)) bytes.now result }
+        ensures first { GoesOnWith self.now run.passed run.first bytes.now result }
+        ensures last { GoesOnWith self.now run.passed (run.end - 1) bytes.now result }
     {
         let first = name_at(self.names, self.place_at(run.first));
         let last = name_at(self.names, self.place_at(run.end.saturating_sub(1)));
@@ -209,10 +204,8 @@ impl<'n> Group<'n> {
     {
         let shared = self.shared(run, bytes);
         let along = Run {
-            first: run.first,
-            end: run.end,
             passed: run.passed + shared,
-            whole: run.whole,
+            ..run
         };
         match bytes.get(shared) {
             Some(byte) => (self.step(along, *byte, matched), shared + 1),
@@ -222,8 +215,7 @@ impl<'n> Group<'n> {
 
     /// Returns the run after some bytes, and flags the names that end before a point in them.
     pub(crate) fn follow(&self, run: Run, bytes: &[u8], matched: &mut [bool; TOGETHER]) -> Run
-        ensures { (front : List ℕ) → IsRun self.now matched.old front run
-            → IsRunOn self.now matched.old matched.new (front ++ bytes.now) result }
+        ensures { RunsOn self.now matched.old matched.new run (λ front. front ++ bytes.now) result }
     {
         let mut run = run;
         let mut done = 0;
@@ -241,9 +233,8 @@ impl<'n> Group<'n> {
     /// Returns the run inside a scope with this name, and flags the names that select all that is
     /// in it.
     pub(crate) fn enter(&self, run: Run, component: &[u8], matched: &mut [bool; TOGETHER]) -> Run
-        ensures { (front : List ℕ) → IsRun self.now matched.old front run
-            → IsRunOn self.now matched.old matched.new (front ++ (component.now ++ 46 ∷ []))
-            result }
+        ensures { RunsOn self.now matched.old matched.new run
+            (λ front. front ++ (component.now ++ 46 ∷ [])) result }
     {
         let named = self.follow(run, component, matched);
         self.step(named, b'.', matched)
@@ -252,9 +243,8 @@ impl<'n> Group<'n> {
     /// Flags the names that select a variable with this name of its own, and returns whether there
     /// are some.
     pub(crate) fn selects(&self, run: Run, own: &[u8], matched: &mut [bool; TOGETHER]) -> bool
-        ensures { (front : List ℕ) → IsRun self.now matched.old front run
-            → Matches (selects_path (front ++ own.now)) (names_of self.now) matched.old matched.new
-            result }
+        ensures { FlagsSome self.now matched.old matched.new run
+            (λ front. selects_path (front ++ own.now)) result }
     {
         let named = self.follow(run, own, matched);
         let ends = self.note(named, matched);
@@ -328,10 +318,7 @@ fn name_at(names: &[String], place: usize) -> &[u8]
 fn behind(bytes: &[u8], passed: usize) -> &[u8]
     ensures { result.now ≡ drop passed bytes.now }
 {
-    match bytes.get(passed..) {
-        Some(rest) => rest,
-        None => &[],
-    }
+    bytes.get(passed..).unwrap_or(&[])
 }
 
 /// Returns how many bytes two texts and a third one begin with.

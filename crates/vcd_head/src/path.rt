@@ -1,10 +1,6 @@
 //! Paths of variables.
-ghost use Rattle.std.specs.Prelude.{◌≡◌, ◌+◌, ◌-◌, ◌^◌, ◌<◌, ◌≤◌, length, take, Some, slice_get};
-ghost use Rattle.vcd_model.specs.Declarations.{Declaration, path_of};
-ghost use Rattle.vcd_model.specs.Header.{Header};
-ghost use Rattle.vcd_text.specs.Device.{Counts, Takes, failures_after};
-ghost use Rattle.vcd_head.specs.Paths.{scopes_text};
-ghost use Rattle.vcd_view.specs.Views.{IsViewOf};
+ghost use Rattle.std.specs.Prelude.{◌-◌, ◌^◌, ◌<◌, take};
+ghost use Rattle.vcd_head.specs.Names.{Counts, TakesAround, TakesRow, path_of, scopes_text};
 
 use crate::enclosing::Enclosing;
 use vcd_text::{Sink, WriteFailed, put};
@@ -14,8 +10,8 @@ use vcd_view::HeadView;
 /// it.
 fn put_scopes<W: Sink>(view: HeadView<'_>, row: usize, w: &mut W) -> Result<(), WriteFailed>
     requires failures { (W.device w.old).failures < 2 ^ 64 - 1 }
-    ensures takes { (h : Header) → IsViewOf view.entry h → row < length h.declarations
-        → Takes (W.device w.old) (W.device w.new) (scopes_text (take row h.declarations)) result }
+    ensures takes { TakesAround view.entry row (W.device w.old) (W.device w.new)
+        (λ h. scopes_text (take row h.declarations)) result }
     ensures counts { Counts (W.device w.old) (W.device w.new) result }
 {
     let mut scopes = Enclosing::new(row);
@@ -31,9 +27,8 @@ fn put_scopes<W: Sink>(view: HeadView<'_>, row: usize, w: &mut W) -> Result<(), 
 /// written. It takes little over 1 KB of stack, however many scopes there are.
 pub fn put_path<W: Sink>(view: HeadView<'_>, row: usize, w: &mut W) -> Result<(), WriteFailed>
     requires failures { (W.device w.old).failures < 2 ^ 64 - 1 }
-    ensures takes { (h : Header) (d : Declaration) → IsViewOf view.entry h
-        → slice_get h.declarations row ≡ Some d
-        → Takes (W.device w.old) (W.device w.new) (path_of (take row h.declarations) d) result }
+    ensures takes { TakesRow view.entry row (W.device w.old) (W.device w.new)
+        (λ h. path_of (take row h.declarations)) result }
     ensures counts { Counts (W.device w.old) (W.device w.new) result }
 {
     put_scopes(view, row, w)?;

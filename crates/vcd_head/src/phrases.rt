@@ -1,11 +1,6 @@
 // The phrases of a header, one after the other.
-ghost use Rattle.std.specs.Prelude.{◌≡◌, ℕ, ◌-◌, ◌^◌, ◌<◌, MatchResult, MatchBool, OnOk};
-ghost use Rattle.vcd_model.specs.Input.{Input};
-ghost use Rattle.vcd_model.specs.Keywords.{Keyword as Named};
-ghost use Rattle.vcd_text.specs.Feed.{source_of, seen};
-ghost use Rattle.vcd_head.specs.Calls.{MovesOn, OrFails, ReadsPhrase};
-ghost use Rattle.vcd_head.specs.Reads.{Fails};
-ghost use Rattle.vcd_head.specs.Draft.{AtKeyword, AtFirstToken, AtOther, DraftsBehind, DraftsUpTo, DraftsAll, goes_on as goes_on_after};
+ghost use Rattle.std.specs.Prelude.{◌≡◌, ◌-◌, ◌^◌, ◌<◌, OnOk};
+ghost use Rattle.vcd_head.specs.Names.{Keyword as Named, MovesOn, ReadsAny, ReadsEnd, ReadsOther, ReadsRest, goes_on as goes_on_after, seen, source_of};
 
 use crate::draft::Draft;
 use crate::fault::HeadFault;
@@ -19,57 +14,13 @@ use std::alloc::Global;
 use vcd_text::{Feed, Source};
 use vcd_view::{Keyword, keyword_of};
 
-/// Reads a comment: any tokens up to `$end`.
-fn read_comment<S: Source>(
-    feed: &mut Feed<'_, '_, '_, '_, S>,
-    draft: &mut Draft,
-) -> Result<(), HeadFault>
-    requires { S.failures (source_of feed.old) < 2 ^ 64 - 1 }
-    ensures reads { (most : ℕ) →
-        ReadsPhrase most Named.Comment draft.old feed.old draft.new feed.new result }
-    ensures advances { MovesOn S.failures feed.old feed.new result }
-{
-    skip_to_end(feed)
-}
-
-/// Reads the date: any tokens up to `$end`.
-fn read_date<S: Source>(
-    alloc: Global,
-    feed: &mut Feed<'_, '_, '_, '_, S>,
-    draft: &mut Draft,
-) -> Result<(), HeadFault>
-    requires { S.failures (source_of feed.old) < 2 ^ 64 - 1 }
-    ensures reads { (most : ℕ) →
-        ReadsPhrase most Named.Date draft.old feed.old draft.new feed.new result }
-    ensures advances { MovesOn S.failures feed.old feed.new result }
-{
-    draft.date = text_to_end(alloc, feed)?;
-    Ok(())
-}
-
-/// Reads the version: any tokens up to `$end`.
-fn read_version<S: Source>(
-    alloc: Global,
-    feed: &mut Feed<'_, '_, '_, '_, S>,
-    draft: &mut Draft,
-) -> Result<(), HeadFault>
-    requires { S.failures (source_of feed.old) < 2 ^ 64 - 1 }
-    ensures reads { (most : ℕ) →
-        ReadsPhrase most Named.Version draft.old feed.old draft.new feed.new result }
-    ensures advances { MovesOn S.failures feed.old feed.new result }
-{
-    draft.version = text_to_end(alloc, feed)?;
-    Ok(())
-}
-
 /// Reads the rest of a command that the standard does not have; refuses what no phrase begins with.
 fn read_other<S: Source>(
     feed: &mut Feed<'_, '_, '_, '_, S>,
     draft: &mut Draft,
 ) -> Result<(), HeadFault>
     requires { S.failures (source_of feed.old) < 2 ^ 64 - 1 }
-    ensures reads { (most : ℕ) (i : Input) → AtOther most i draft.old feed.old
-        → OrFails most i feed.new (λ _. DraftsUpTo most i draft.new feed.new) result }
+    ensures reads { ReadsOther draft.old feed.old draft.new feed.new result }
     ensures advances { MovesOn S.failures feed.old feed.new result }
 {
     if begins_change(feed.token()) {
@@ -87,9 +38,7 @@ fn read_end<S: Source>(
     draft: &mut Draft,
 ) -> Result<(), HeadFault>
     requires { S.failures (source_of feed.old) < 2 ^ 64 - 1 }
-    ensures reads { (most : ℕ) (i : Input)
-        → AtKeyword most i Named.EndDefinitions draft.old feed.old
-        → OrFails most i feed.new (λ _. DraftsAll most i draft.new feed.new) result }
+    ensures reads { ReadsEnd draft.old feed.old draft.new feed.new result }
     ensures advances { MovesOn S.failures feed.old feed.new result }
 {
     if next_ends(feed)? {
@@ -116,11 +65,7 @@ pub(crate) fn read_phrase<S: Source>(
     draft: &mut Draft,
 ) -> Result<bool, HeadFault>
     requires { S.failures (source_of feed.old) < 2 ^ 64 - 1 }
-    ensures reads { (i : Input) → DraftsBehind most i draft.old feed.old
-        → MatchResult result (λ more.
-        MatchBool more (DraftsUpTo most i draft.new feed.new)
-        (DraftsAll most i draft.new feed.new))
-        (λ fault. Fails most i fault feed.new) }
+    ensures reads { ReadsAny most draft.old feed.old draft.new feed.new result }
     ensures advances { MovesOn S.failures feed.old feed.new result }
     ensures progress { OnOk result (2 ^ 63 - seen feed.new < 2 ^ 63 - seen feed.old) }
 {
@@ -139,16 +84,19 @@ fn read_rest<S: Source>(
     draft: &mut Draft,
 ) -> Result<(), HeadFault>
     requires { S.failures (source_of feed.old) < 2 ^ 64 - 1 }
-    ensures reads { (i : Input) → AtFirstToken most i keyword draft.old feed.old
-        → MatchResult result
-        (λ _. MatchBool (goes_on_after keyword) (DraftsUpTo most i draft.new feed.new)
-        (DraftsAll most i draft.new feed.new)) (λ fault. Fails most i fault feed.new) }
+    ensures reads { ReadsRest most keyword draft.old feed.old draft.new feed.new result }
     ensures advances { MovesOn S.failures feed.old feed.new result }
 {
     match keyword {
-        Some(Keyword::Comment) => read_comment(feed, draft),
-        Some(Keyword::Date) => read_date(alloc, feed, draft),
-        Some(Keyword::Version) => read_version(alloc, feed, draft),
+        Some(Keyword::Comment) => skip_to_end(feed),
+        Some(Keyword::Date) => {
+            draft.date = text_to_end(alloc, feed)?;
+            Ok(())
+        }
+        Some(Keyword::Version) => {
+            draft.version = text_to_end(alloc, feed)?;
+            Ok(())
+        }
         Some(Keyword::Timescale) => read_timescale(feed, draft),
         Some(Keyword::Scope) => read_scope(alloc, feed, most, draft),
         Some(Keyword::Upscope) => read_upscope(feed, most, draft),

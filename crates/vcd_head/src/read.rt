@@ -1,11 +1,6 @@
 // The whole header.
-ghost use Rattle.std.specs.Prelude.{◌≡◌, ◌≢◌, ℕ, ◌+◌, ◌-◌, ◌^◌, ◌<◌, ◌≤◌, [], Err, MatchResult, OnOk};
-ghost use Rattle.vcd_model.specs.Input.{Input};
-ghost use Rattle.vcd_text.specs.Feed.{HasGiven, SameLoans, source_of, limit_of, chunk_len_of};
-ghost use Rattle.vcd_head.specs.Reads.{Fails, GivesHead};
-ghost use Rattle.vcd_head.specs.Shown.{shown};
-ghost use Rattle.vcd_text.specs.Advances.{HasNotFailed, Advances};
-ghost use Rattle.vcd_head.specs.Fault.{call_end};
+ghost use Rattle.std.specs.Prelude.{◌-◌, ◌^◌, ◌<◌, ◌≤◌};
+ghost use Rattle.vcd_head.specs.Names.{ReadsHead, source_of};
 
 use crate::ahead::read_ahead;
 use crate::draft::Draft;
@@ -33,23 +28,7 @@ pub fn read_head<S: Source>(
 ) -> Result<Head, HeadFault>
     requires failures { S.failures (source_of feed.old) < 2 ^ 64 - 1 }
     requires most { most ≤ 16777216 }
-
-    // A head shows the header of the phrases that were read. A fault is the header's, at the feed's
-    // line and token, the first token given that has one, or empty where none was left; where
-    // memory is refused, no token given so far has a fault.
-    ensures reads { (i : Input) → HasGiven i [] feed.old
-        → MatchResult result (λ head. GivesHead most i feed.new (shown head))
-        (λ fault. Fails most i fault feed.new) }
-
-    // A failed read is returned only where the source failed now, or had failed before.
-    ensures failed { HasNotFailed feed.old → result ≡ Err HeadFault.ReadFailed
-        → S.failures (source_of feed.new) ≡ S.failures (source_of feed.old) + 1 }
-    ensures same { result ≢ Err HeadFault.ReadFailed
-        → S.failures (source_of feed.new) ≡ S.failures (source_of feed.old) }
-    ensures open { HasNotFailed feed.old → OnOk result (HasNotFailed feed.new) }
-    ensures lengths { (limit_of feed.new ≡ limit_of feed.old)
-        × (chunk_len_of feed.new ≡ chunk_len_of feed.old) }
-    ensures loans { SameLoans feed.old feed.new }
+    ensures { ReadsHead S.failures most feed.old feed.new result }
 {
     let hasher: BuildHasherDefault<FoldHasher> = BuildHasherDefault::new();
     read_head_with_hasher(alloc, feed, most, &hasher)
@@ -72,23 +51,7 @@ pub fn read_head_with_hasher<S: Source, B: BuildHasher>(
 ) -> Result<Head, HeadFault>
     requires failures { S.failures (source_of feed.old) < 2 ^ 64 - 1 }
     requires most { most ≤ 16777216 }
-
-    // A head shows the header of the phrases that were read. A fault is the header's, at the feed's
-    // line and token, the first token given that has one, or empty where none was left; where
-    // memory is refused, no token given so far has a fault.
-    ensures reads { (i : Input) → HasGiven i [] feed.old
-        → MatchResult result (λ head. GivesHead most i feed.new (shown head))
-        (λ fault. Fails most i fault feed.new) }
-
-    // A failed read is returned only where the source failed now, or had failed before.
-    ensures failed { HasNotFailed feed.old → result ≡ Err HeadFault.ReadFailed
-        → S.failures (source_of feed.new) ≡ S.failures (source_of feed.old) + 1 }
-    ensures same { result ≢ Err HeadFault.ReadFailed
-        → S.failures (source_of feed.new) ≡ S.failures (source_of feed.old) }
-    ensures open { HasNotFailed feed.old → OnOk result (HasNotFailed feed.new) }
-    ensures lengths { (limit_of feed.new ≡ limit_of feed.old)
-        × (chunk_len_of feed.new ≡ chunk_len_of feed.old) }
-    ensures loans { SameLoans feed.old feed.new }
+    ensures { ReadsHead S.failures most feed.old feed.new result }
 {
     let mut draft = Draft::new(alloc, CodeSeed::of(hasher));
     'phrases: loop {

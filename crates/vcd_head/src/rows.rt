@@ -24,10 +24,7 @@ pub(crate) fn token_len(len: usize) -> Result<u32, HeadFault>
     ensures held { IfOk result (λ held. held ≡ len) }
     ensures long { IfErr result (λ fault. (fault ≡ HeadFault.OutOfMemory) × (2 ^ 32 ≤ len)) }
 {
-    match u32::try_from(len) {
-        Ok(held) => Ok(held),
-        Err(_) => Err(HeadFault::OutOfMemory),
-    }
+    u32::try_from(len).or(Err(HeadFault::OutOfMemory))
 }
 
 /// Returns the number of a row or of a code in 32 bits, which hold that of each declaration that is

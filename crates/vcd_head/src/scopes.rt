@@ -1,8 +1,6 @@
 // Phrases that open and close scopes, after their keywords.
 ghost use Rattle.std.specs.Prelude.{◌-◌, ◌^◌, ◌<◌};
-ghost use Rattle.vcd_model.specs.Keywords.{Keyword};
-ghost use Rattle.vcd_text.specs.Feed.{source_of};
-ghost use Rattle.vcd_head.specs.Calls.{MovesOn, ReadsPhrase};
+ghost use Rattle.vcd_head.specs.Names.{Keyword, MovesOn, ReadsPhrase, source_of};
 
 use crate::declarations::{ScopePhrase, check_start, close_scope, open_scope};
 use crate::draft::Draft;

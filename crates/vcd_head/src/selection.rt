@@ -1,12 +1,7 @@
 //! Selection of variables by their paths (profile).
-ghost use Rattle.std.specs.Prelude.{◌≡◌, ◌≢◌, false, ◌+◌, ◌<◌, ◌≤◌, ◌∷◌, ◌++◌, ℕ, List, take, length, map, string_bytes, Some, None, MatchResult, IfOk, IfSome, slice_get};
-ghost use Rattle.vcd_model.specs.Declarations.{Declaration, Variable, enclosing, parent, path_of};
-ghost use Rattle.vcd_model.specs.Header.{Header};
-ghost use Rattle.vcd_model.specs.Selection.{first_unmatched, marked_places, selects_path};
-ghost use Rattle.vcd_head.specs.Marks.{AllMarked, Marked, marks_of, scopes_at};
-ghost use Rattle.vcd_head.specs.Matched.{IsFirstFalse};
+ghost use Rattle.std.specs.Prelude.{◌≡◌, ◌≢◌, false, ◌+◌, ◌<◌, ◌≤◌, ◌∷◌, ◌++◌, ℕ, List, take, length, map, string_bytes, IfOk, IfSome};
+ghost use Rattle.vcd_head.specs.Names.{AllMarked, AnyHeader, AnyRow, AnyVariable, Declaration, Header, IsFirstFalse, IsViewOf, Marked, RefusesUnmatched, counted_from_one, first_unmatched, marked_places, marks_of, parent, path_of, row_and_scopes, scopes_at, selects_path};
 ghost use Rattle.vcd_head.specs.Selects.{IsBehind, selects_after};
-ghost use Rattle.vcd_view.specs.Views.{IsViewOf, counted_from_one};
 
 use crate::enclosing::Enclosing;
 use crate::inside::Open;
@@ -23,36 +18,10 @@ pub(crate) enum Match<'n> {
     Differs,
 }
 
-/// Returns whether the text has this byte of the front too. Where it does not, the text does not
-/// begin with the front.
-#[inline(always)]
-fn same_at(text: &[u8], front: &[u8], place: usize) -> bool
-    requires { place < length front.now }
-    ensures { result ≡ false → (rest : List ℕ) → text.now ≢ front.now ++ rest }
-{
-    place < text.len() && text[place] == front[place]
-}
-
-/// Returns whether the text has the last two bytes of the front in their places. It is a quick
-/// test: where it has not, the text does not begin with the front. Neighbouring names often differ
-/// in a number at their end, which a bracket may close.
-#[inline(always)]
-fn may_begin(text: &[u8], front: &[u8]) -> bool
-    ensures { result ≡ false → (rest : List ℕ) → text.now ≢ front.now ++ rest }
-{
-    let Some(last) = front.len().checked_sub(1) else {
-        return true;
-    };
-    same_at(text, front, last) && same_at(text, front, last.saturating_sub(1))
-}
-
 /// Returns whether the text is the name, or begins with it and a point.
 pub(crate) fn is_or_goes_on(text: &[u8], name: &[u8]) -> bool
     ensures { result ≡ selects_path text.now name.now }
 {
-    if !may_begin(text, name) {
-        return false;
-    }
     match text.strip_prefix(name) {
         Some(rest) => rest.is_empty() || rest.starts_with(b"."),
         None => false,
@@ -68,9 +37,6 @@ pub(crate) fn after_component<'n>(name: &'n [u8], component: &[u8]) -> Match<'n>
     if is_or_goes_on(component, name) {
         return Match::Selected;
     }
-    if !may_begin(name, component) {
-        return Match::Differs;
-    }
     let Some(after) = name.strip_prefix(component) else {
         return Match::Differs;
     };
@@ -83,9 +49,8 @@ pub(crate) fn after_component<'n>(name: &'n [u8], component: &[u8]) -> Match<'n>
 /// Returns whether a name selects the variable of a row: the variable's path is the name, or begins
 /// with it and a point.
 pub fn selects(view: HeadView<'_>, row: usize, name: &str) -> bool
-    ensures { (h : Header) (v : Variable) → IsViewOf view.entry h
-        → slice_get h.declarations row ≡ Some (Declaration.Var v)
-        → result ≡ selects_path (path_of (take row h.declarations) (Declaration.Var v)) name.now }
+    ensures { AnyVariable view.entry row (λ h v. result
+        ≡ selects_path (path_of (take row h.declarations) (Declaration.Var v)) name.now) }
 {
     let mut rest = name.as_bytes();
     let mut scopes = Enclosing::new(row);
@@ -102,8 +67,7 @@ pub fn selects(view: HeadView<'_>, row: usize, name: &str) -> bool
 /// Sets the marks of a row and of the scopes around it.
 fn mark(view: HeadView<'_>, row: usize, marks: &mut [u8])
     requires { row < length marks.old }
-    ensures { (h : Header) → IsViewOf view.entry h → row < length h.declarations
-        → Marked (row ∷ enclosing (take row h.declarations)) marks.old marks.new }
+    ensures { AnyRow view.entry row (λ h. Marked (row_and_scopes h row) marks.old marks.new) }
 {
     let mut next = Some(row);
     while let Some(marked) = next {
@@ -116,12 +80,10 @@ fn mark(view: HeadView<'_>, row: usize, marks: &mut [u8])
 /// counted from 1. `marked` is a scope, counted from 1, that is marked with those around it.
 fn mark_behind(view: HeadView<'_>, row: usize, marked: usize, marks: &mut [u8]) -> usize
     requires { row < length marks.old }
-    ensures marks { (h : Header) → IsViewOf view.entry h → row < length h.declarations
-        → AllMarked (scopes_at h.declarations marked) marks.old
-        → Marked (row ∷ enclosing (take row h.declarations)) marks.old marks.new }
-    ensures around { (h : Header) → IsViewOf view.entry h → row < length h.declarations
-        → AllMarked (scopes_at h.declarations marked) marks.old
-        → AllMarked (scopes_at h.declarations result) marks.new }
+    ensures marks { AnyRow view.entry row (λ h. AllMarked (scopes_at h.declarations marked) marks.old
+        → Marked (row_and_scopes h row) marks.old marks.new) }
+    ensures around { AnyRow view.entry row (λ h. AllMarked (scopes_at h.declarations marked) marks.old
+        → AllMarked (scopes_at h.declarations result) marks.new) }
     ensures len { length marks.new ≡ length marks.old }
 {
     let parent = parent_of(view, row);
@@ -189,10 +151,8 @@ pub fn select(view: HeadView<'_>, names: &[String], marks: &mut [u8]) -> Result<
     requires marks { length marks.old ≡ length view.rows.now }
     ensures marks { (h : Header) → IsViewOf view.entry h
         → IfOk result (λ _. marks.new ≡ marks_of (map string_bytes names.now) h.declarations) }
-    ensures names { (h : Header) → IsViewOf view.entry h
-        → MatchResult result
-        (λ _. first_unmatched (map string_bytes names.now) h.declarations ≡ None)
-        (λ name. first_unmatched (map string_bytes names.now) h.declarations ≡ Some name) }
+    ensures names { AnyHeader view.entry (λ h.
+        RefusesUnmatched (map string_bytes names.now) h result) }
 {
     marks.fill(0);
     let mut done = names.len().min(TOGETHER);

@@ -1,8 +1,7 @@
 // Phrases that run to the first `$end`.
-ghost use Rattle.std.specs.Prelude.{◌≡◌, ◌-◌, ◌^◌, ◌<◌, ◌≤◌, ◌++◌, length, OnOk};
+ghost use Rattle.std.specs.Prelude.{◌≡◌, ◌-◌, ◌^◌, ◌<◌, ◌++◌};
 ghost use Rattle.std.specs.List.{join_with_byte};
-ghost use Rattle.vcd_text.specs.Feed.{source_of};
-ghost use Rattle.vcd_head.specs.Calls.{MovesOn, ReadsReference, ReadsToEnd};
+ghost use Rattle.vcd_head.specs.Names.{MovesOn, ReadsReference, ReadsToEnd, source_of};
 ghost use Rattle.vcd_head.specs.Texts.{spaced};
 
 use crate::fault::HeadFault;
@@ -31,7 +30,6 @@ pub(crate) fn append_to_end<S: Source>(
     requires { S.failures (source_of feed.old) < 2 ^ 64 - 1 }
     ensures reads { ReadsToEnd feed.old feed.new
         (λ _ inner. text.new.items ≡ text.old.items ++ spaced inner) result }
-    ensures longer { OnOk result (length text.old.items ≤ length text.new.items) }
     ensures advances { MovesOn S.failures feed.old feed.new result }
 {
     'tokens: loop {

@@ -1,10 +1,6 @@
 // Tokens of a header, one after the other.
 ghost use Rattle.std.specs.Prelude.{◌≡◌, ◌-◌, ◌^◌, ◌<◌, IfOk, OnOk};
-ghost use Rattle.vcd_model.specs.Keywords.{is_end};
-ghost use Rattle.vcd_model.specs.Tokens.{Token};
-ghost use Rattle.vcd_text.specs.Feed.{source_of, seen, token_of};
-ghost use Rattle.vcd_head.specs.Calls.{MovesOn, ReadsNext, ReadsOne, ReadsWord};
-ghost use Rattle.vcd_head.specs.Reads.{Reads};
+ghost use Rattle.vcd_head.specs.Names.{MovesOn, ReadsNext, ReadsOne, ReadsWord, is_end, seen, source_of, token_of};
 
 use crate::fault::HeadFault;
 use crate::words;

@@ -1,23 +1,12 @@
 // The phrase of a variable, after its keyword.
-ghost use Rattle.std.specs.Prelude.{◌≡◌, ℕ, ◌-◌, ◌^◌, ◌<◌, List, [], ◌∷◌, codes, bytes_eq};
-ghost use Rattle.vcd_model.specs.Bytes.{decimal_value};
-ghost use Rattle.vcd_model.specs.Input.{Input};
-ghost use Rattle.vcd_model.specs.Keywords.{Keyword, keyword_text};
-ghost use Rattle.vcd_model.specs.HeaderPhrases.{HeaderPhrase, declarations_of};
-ghost use Rattle.vcd_model.specs.Reading.{Placed, phrases_of};
-ghost use Rattle.vcd_text.specs.Feed.{source_of};
-ghost use Rattle.vcd_head.specs.Calls.{MovesOn, OrFails, ReadsPhrase};
-ghost use Rattle.vcd_head.specs.Reads.{Reads};
-ghost use Rattle.vcd_head.specs.Draft.{HasCodes};
-ghost use Rattle.vcd_head.specs.Variables.{SizeRead, CodeRead};
+ghost use Rattle.std.specs.Prelude.{◌-◌, ◌^◌, ◌<◌};
+ghost use Rattle.vcd_head.specs.Names.{Keyword, MovesOn, ReadsPhrase, source_of};
+ghost use Rattle.vcd_head.specs.Variables.{ReadsCode, ReadsSize};
 
-use crate::code_place::enter_code;
 use crate::codes::Codes;
-use crate::declarations::check_start;
+use crate::declarations::{Reference, VariablePhrase, check_start, declare};
 use crate::draft::Draft;
 use crate::fault::HeadFault;
-use crate::rows::{WideRow, push};
-use crate::sought::Sought;
 use crate::texts::append_reference;
 use crate::tokens::{next_token, next_word};
 use crate::words::{is_code, is_event, size_of};
@@ -28,9 +17,7 @@ use vcd_view::Kind;
 /// Reads the size of a variable, in bits.
 fn read_size<S: Source>(feed: &mut Feed<'_, '_, '_, '_, S>) -> Result<usize, HeadFault>
     requires { S.failures (source_of feed.old) < 2 ^ 64 - 1 }
-    ensures reads { (most : ℕ) (i : Input) (placed : List (Placed HeaderPhrase)) (type : List ℕ)
-        → Reads most i placed (keyword_text Keyword.Var ∷ type ∷ []) feed.old
-        → OrFails most i feed.new (SizeRead most i placed type feed.new) result }
+    ensures reads { ReadsSize feed.old feed.new result }
     ensures advances { MovesOn S.failures feed.old feed.new result }
 {
     next_token(feed)?;
@@ -49,12 +36,7 @@ fn read_code<S: Source>(
     event: bool,
 ) -> Result<Vec<u8>, HeadFault>
     requires { S.failures (source_of feed.old) < 2 ^ 64 - 1 }
-    ensures reads { (most : ℕ) (i : Input) (placed : List (Placed HeaderPhrase))
-        (type digits text : List ℕ)
-        → HasCodes text known.now (declarations_of (phrases_of placed))
-        → decimal_value digits ≡ size → bytes_eq (codes "event") type ≡ event
-        → Reads most i placed (keyword_text Keyword.Var ∷ type ∷ digits ∷ []) feed.old
-        → OrFails most i feed.new (CodeRead most i placed type digits feed.new) result }
+    ensures reads { ReadsCode known.now size event feed.old feed.new result }
     ensures advances { MovesOn S.failures feed.old feed.new result }
 {
     next_token(feed)?;
@@ -86,28 +68,18 @@ pub(crate) fn read_variable<S: Source>(
     let size = read_size(feed)?;
     let event = is_event(&word);
     let code = read_code(alloc, feed, &draft.codes, size, event)?;
-    let sought = Sought::new(alloc, &code)?;
-    let Some(place) = enter_code(&mut draft.text, &mut draft.codes, sought, size, event)? else {
-        return Err(HeadFault::CodeDiffers);
-    };
-    let start = draft.text.len();
-    draft.text.extend_from_slice(&word)?;
-    let reference = draft.text.len();
-    let Some(name) = append_reference(feed, &mut draft.text)? else {
+    let mut text = Vec::new(alloc);
+    let Some(name) = append_reference(feed, &mut text)? else {
         return Err(HeadFault::BadVariable);
     };
-    let parent = draft.parent();
-    push(
-        &mut draft.rows,
-        WideRow {
-            kind: Kind::Var,
-            parent,
-            start,
-            word: word.len(),
-            name,
-            all: draft.text.len().saturating_sub(reference),
-            code: place,
-        },
-    )?;
+    let variable = VariablePhrase {
+        word: &word,
+        size,
+        code: &code,
+        reference: Reference { name, text: &text },
+    };
+    if !declare(alloc, draft, variable)? {
+        return Err(HeadFault::CodeDiffers);
+    }
     Ok(())
 }

@@ -1,11 +1,8 @@
 // Tests of whole tokens of a header.
 ghost use Rattle.std.specs.Prelude.{◌≡◌, codes, bytes_eq, option_map, pos, ◌≤ℤ◌, ◌+ℤ◌};
 ghost use Rattle.std.specs.List.{list_all};
-ghost use Rattle.vcd_model.specs.Bytes.{is_code_byte};
-ghost use Rattle.vcd_model.specs.Keywords.{is_end as ends, is_command as commands};
-ghost use Rattle.vcd_model.specs.Scales.{exponent_of as exponent_is};
-ghost use Rattle.vcd_model.specs.HeaderChecks.{begins_change as changes};
-ghost use Rattle.vcd_head.specs.Words.{power_in, unit_in, size_in};
+ghost use Rattle.vcd_head.specs.Names.{begins_change as changes, exponent_of as exponent_is, is_code_byte, is_command as commands, is_end as ends};
+ghost use Rattle.vcd_head.specs.Words.{power_in, size_in, unit_in};
 
 use vcd_view::is;
 

@@ -1,19 +1,10 @@
 //! Headers as they are written.
-ghost use Rattle.std.specs.Prelude.{◌≡◌, ℕ, ◌+◌, ◌-◌, ◌^◌, ◌<◌, List, [], ◌∷◌, flat_map, length, take, Some, slice_get, option_map, unwrap_or};
+ghost use Rattle.std.specs.Prelude.{◌≡◌, ℕ, ◌-◌, ◌^◌, ◌<◌, List, [], ◌∷◌, flat_map, take, option_map, unwrap_or};
 ghost use Rattle.std.specs.List.{concat};
-ghost use Rattle.vcd_model.specs.Backward.{each};
-ghost use Rattle.vcd_model.specs.Declarations.{Declaration, Variable, enclosing, parent};
-ghost use Rattle.vcd_model.specs.Header.{Header};
-ghost use Rattle.vcd_model.specs.HeadText.{head_text, head_for, rows_text, row_line, scope_line, var_line, up_lines_at, three_lines, three_lines_of, code_place, new_code};
-ghost use Rattle.vcd_model.specs.Keywords.{Keyword, keyword_text};
-ghost use Rattle.vcd_model.specs.Scales.{scale_text};
-ghost use Rattle.vcd_text.specs.Device.{Counts, Puts, Takes};
-ghost use Rattle.vcd_head.specs.Written.{TakesHeader, TakesRow};
-ghost use Rattle.vcd_head.specs.Marks.{is_marked, marks_of};
-ghost use Rattle.vcd_view.specs.Views.{IsViewOf, reference_of, type_of};
+ghost use Rattle.vcd_head.specs.Names.{Counts, Header, IsViewOf, Keyword, Puts, Takes, TakesHeader, TakesRow, TakesVariableRow, each, enclosing, head_for, head_text, is_marked, keyword_text, marks_of, parent, reference_of, row_line, rows_text, scale_text, scope_line, three_lines, three_lines_of, type_of, up_lines_at, var_line};
 
 use vcd_text::{Sink, WriteFailed, put, put_number};
-use vcd_view::{HeadView, Kind, NewCode, Scale};
+use vcd_view::{HeadView, Kind, Scale};
 
 /// Writes texts one after the other.
 fn put_texts<W: Sink>(w: &mut W, texts: &[&[u8]]) -> Result<(), WriteFailed>
@@ -112,75 +103,29 @@ pub(crate) fn put_scope<W: Sink>(
     put_texts(w, &[b"$scope ", type_text, b" ", name, b" $end\n"])
 }
 
-/// Writes the line of the variable of a row, which has this size, with this code.
-fn put_variable<W: Sink>(
+/// Writes the line of the variable of a row, with this code.
+pub(crate) fn put_variable<W: Sink>(
     view: HeadView<'_>,
     row: usize,
-    size: usize,
     code: &[u8],
     w: &mut W,
 ) -> Result<(), WriteFailed>
     requires failures { (W.device w.old).failures < 2 ^ 64 - 1 }
-    ensures takes { (h : Header) (v : Variable) → IsViewOf view.entry h
-        → slice_get h.declarations row ≡ Some (Declaration.Var v)
-        → v.size ≡ size → Takes (W.device w.old) (W.device w.new) (var_line v code.now) result }
+    ensures takes { TakesVariableRow view.entry row (W.device w.old) (W.device w.new)
+        (λ h v. var_line v code.now) result }
     ensures counts { Counts (W.device w.old) (W.device w.new) result }
 {
+    let Some(declared) = view.row_at(row) else {
+        return Ok(());
+    };
+    let Some(own) = view.code_at(declared.code as usize) else {
+        return Ok(());
+    };
     let type_text = view.type_of(row);
     let reference = view.reference_of(row);
     put_texts(w, &[b"$var ", type_text, b" "])?;
-    put_number(w, size as u64)?;
+    put_number(w, own.size as u64)?;
     put_texts(w, &[b" ", code, b" ", reference, b" $end\n"])
-}
-
-/// Writes the line of the variable of a row, with its own code.
-fn put_own<W: Sink>(view: HeadView<'_>, row: usize, w: &mut W) -> Result<(), WriteFailed>
-    requires failures { (W.device w.old).failures < 2 ^ 64 - 1 }
-    ensures takes { (h : Header) (v : Variable) → IsViewOf view.entry h
-        → slice_get h.declarations row ≡ Some (Declaration.Var v)
-        → Takes (W.device w.old) (W.device w.new) (var_line v v.code) result }
-    ensures counts { Counts (W.device w.old) (W.device w.new) result }
-{
-    let Some(declared) = view.row_at(row) else {
-        return Ok(());
-    };
-    match view.code_at(declared.code as usize) {
-        Some(code) => put_variable(
-            view,
-            row,
-            code.size,
-            view.text_at(code.start, code.len as usize),
-            w,
-        ),
-        None => Ok(()),
-    }
-}
-
-/// Writes the line of the variable of a row, with a new code: the codes of its header are numbered
-/// from `first` on.
-pub(crate) fn put_renamed<W: Sink>(
-    view: HeadView<'_>,
-    row: usize,
-    first: u64,
-    w: &mut W,
-) -> Result<(), WriteFailed>
-    requires failures { (W.device w.old).failures < 2 ^ 64 - 1 }
-    ensures takes { (h : Header) (v : Variable) → IsViewOf view.entry h
-        → slice_get h.declarations row ≡ Some (Declaration.Var v)
-        → first + length h.codes < 2 ^ 64 → Takes (W.device w.old) (W.device w.new)
-        (var_line v (new_code (first + code_place h v.code))) result }
-    ensures counts { Counts (W.device w.old) (W.device w.new) result }
-{
-    let Some(declared) = view.row_at(row) else {
-        return Ok(());
-    };
-    match view.code_at(declared.code as usize) {
-        Some(code) => {
-            let id = NewCode::of(first.saturating_add(declared.code as u64));
-            put_variable(view, row, code.size, id.text(), w)
-        }
-        None => Ok(()),
-    }
 }
 
 /// Writes the line that closes the scope of a row, where that is marked.
@@ -217,7 +162,9 @@ fn put_row<W: Sink>(
             None => Ok(()),
         },
         Kind::Scope if has_mark(marks, row) => put_scope(view, row, w),
-        Kind::Var if has_mark(marks, row) => put_own(view, row, w),
+        Kind::Var if has_mark(marks, row) => {
+            put_variable(view, row, view.code_text(declared.code as usize), w)
+        }
         _ => Ok(()),
     }
 }
@@ -279,8 +226,8 @@ fn put_declarations<W: Sink>(view: HeadView<'_>, marks: &[u8], w: &mut W) -> Res
 /// `$enddefinitions`. Where a write fails, a prefix was written.
 pub fn put_head<W: Sink>(view: HeadView<'_>, marks: &[u8], w: &mut W) -> Result<(), WriteFailed>
     requires failures { (W.device w.old).failures < 2 ^ 64 - 1 }
-    ensures takes { (h : Header) → IsViewOf view.entry h
-        → Takes (W.device w.old) (W.device w.new) (head_text h (is_marked marks.now)) result }
+    ensures takes { TakesHeader view.entry (W.device w.old) (W.device w.new)
+        (λ h. head_text h (is_marked marks.now)) result }
 
     // The marks that names give make it the header for these names.
     ensures selected { (h : Header) (names : List (List ℕ)) → IsViewOf view.entry h

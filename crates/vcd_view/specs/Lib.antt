@@ -7,3 +7,4 @@ pub mod Needs
 pub mod Keywords
 pub mod NewCode
 pub mod CodeHash
+pub mod Names

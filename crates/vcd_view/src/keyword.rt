@@ -1,7 +1,6 @@
 // The keywords of a dump.
 ghost use Rattle.std.specs.Prelude.{◌≡◌, bytes_eq, option_map};
-ghost use Rattle.vcd_model.specs.Keywords.{keyword_of as keyword_is};
-ghost use Rattle.vcd_view.specs.Keywords.{model_keyword};
+ghost use Rattle.vcd_view.specs.Names.{keyword_of as keyword_is, model_keyword};
 
 /// A keyword (clause 18, keyword commands).
 #[derive(Clone, Copy, PartialEq, Eq, Debug)]

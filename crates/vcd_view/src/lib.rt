@@ -26,7 +26,7 @@
 //! - `new_code`: the codes that a merge gives
 //!
 //! In `specs/` callers read `Views` and `Shown`, `Finds`, `Needs`, `Keywords` and `NewCode`; who
-//! fills entries, `Entries` and `Keys` too.
+//! fills entries, `Entries` and `Keys` too. `Names` brings what the clauses cite under one path.
 //!
 //! Not promised: what a call gives over a view that is of no header.
 #![tactic(auto)]

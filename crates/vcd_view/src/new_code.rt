@@ -1,8 +1,6 @@
 //! The codes that a merge gives.
 ghost use Rattle.std.specs.Prelude.{◌≡◌, take, ◌-◌, ◌^◌, ◌<◌, ◌≤◌};
-ghost use Rattle.vcd_model.specs.HeadText.{new_code};
-ghost use Rattle.vcd_text.specs.Device.{Puts};
-ghost use Rattle.vcd_view.specs.NewCode.{digits_of};
+ghost use Rattle.vcd_view.specs.Names.{Puts, digits_of, new_code};
 
 use vcd_text::{Sink, WriteFailed, put};
 
@@ -39,10 +37,7 @@ impl NewCode {
     pub fn text(&self) -> &[u8]
         ensures { result.now ≡ digits_of self.now }
     {
-        match self.bytes.get(..self.len) {
-            Some(text) => text,
-            None => &[],
-        }
+        self.bytes.get(..self.len).unwrap_or(&[])
     }
 }
 

@@ -1,10 +1,6 @@
 // The room of an engine.
 ghost use Rattle.std.specs.Prelude.{◌≡◌, ℕ, ◌-◌, ◌^◌, length, min, sum_by};
-ghost use Rattle.vcd_model.specs.Header.{Header};
-ghost use Rattle.vcd_model.specs.Bound.{WindowSize, AreWindows, FitsInput, room_of};
-ghost use Rattle.vcd_view.specs.Shown.{parts};
-ghost use Rattle.vcd_view.specs.Views.{IsViewOf};
-ghost use Rattle.vcd_view.specs.Needs.{room, value_bytes, view_size};
+ghost use Rattle.vcd_view.specs.Names.{AreWindows, FitsInput, Header, IsViewOf, WindowSize, parts, room, room_of, value_bytes, view_size};
 
 use crate::view::{HeadView, Need};
 

@@ -91,10 +91,7 @@ pub struct HeadView<'a> {
 }
 
 impl<'a> HeadView<'a> {
-    ghost use Rattle.vcd_model.specs.Declarations.{Declaration, name_of, parent};
-    ghost use Rattle.vcd_model.specs.Header.{Header};
-    ghost use Rattle.vcd_model.specs.HeadText.{exponent};
-    ghost use Rattle.vcd_view.specs.Views.{code_text, reference_of, type_of, IsViewOf};
+    ghost use Rattle.vcd_view.specs.Names.{Declaration, Header, IsViewOf, code_text, exponent, name_of, parent, reference_of, type_of};
 
     /// Returns a row, by its number from 0.
     #[inline(always)]
@@ -221,10 +218,7 @@ pub fn code_in(codes: &[Code], place: usize) -> Option<Code>
 pub fn text_in(text: &[u8], start: usize, len: usize) -> &[u8]
     ensures { result.now ≡ text_in text.now start len }
 {
-    match text.get(start..start.saturating_add(len)) {
-        Some(bytes) => bytes,
-        None => &[],
-    }
+    text.get(start..start.saturating_add(len)).unwrap_or(&[])
 }
 
 /// The lengths of the slices that an engine over a header works in.

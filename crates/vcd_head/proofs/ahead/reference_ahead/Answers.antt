@@ -9,7 +9,7 @@ returns-then-is_end-2-clause-gives c = λ limit lines bytes ts over p.
     let n = c.in_ok-name.ensures in
     let one = n.one limit lines bytes ts over p in
     let t : Token = record { bytes = c.in_ok-name.name.now; line = one.0 } in
-    let two = c.in_ok-range.ensures.one limit lines bytes (ts ++ t ∷ []) (n.same.1 ∙ over.0, n.same.0 ∙ over.1) one.1 in
+    let two = c.in_ok-range.ensures.one limit lines bytes (ts ++ t ∷ []) (n.moves.same.1 ∙ over.0, n.moves.same.0 ∙ over.1) one.1 in
     let u : Token = record { bytes = c.in_ok-range.range.now; line = two.0 } in (
       t ∷ u ∷ [],
       record { name = t; inner = []; end = u; are = refl; name_on = sym c.is_end.ensures ∙ c.if-is_end.false; none = tt; ends = sym c.is_end-2.ensures ∙ c.if-is_end-2.true; name_len = refl; text_is = refl },
@@ -20,13 +20,13 @@ pub returns-clause-gives : goal.returns-clause-gives
 returns-clause-gives c = λ limit lines bytes ts over p.
     let n = c.in_ok-name.ensures in
     let m = c.in_ok-range.ensures in
-    let l1 = n.same.1 ∙ over.0 in
-    let b1 = n.same.0 ∙ over.1 in
+    let l1 = n.moves.same.1 ∙ over.0 in
+    let b1 = n.moves.same.0 ∙ over.1 in
     let one = n.one limit lines bytes ts over p in
     let t : Token = record { bytes = c.in_ok-name.name.now; line = one.0 } in
     let two = m.one limit lines bytes (ts ++ t ∷ []) (l1, b1) one.1 in
     let u : Token = record { bytes = c.in_ok-range.range.now; line = two.0 } in
-    let three = c.in_ok-end.ensures.one limit lines bytes ((ts ++ t ∷ []) ++ u ∷ []) (m.same.1 ∙ l1, m.same.0 ∙ b1) two.1 in
+    let three = c.in_ok-end.ensures.one limit lines bytes ((ts ++ t ∷ []) ++ u ∷ []) (m.moves.same.1 ∙ l1, m.moves.same.0 ∙ b1) two.1 in
     let v : Token = record { bytes = c.in_ok-end.end.now; line = three.0 } in (
       t ∷ u ∷ v ∷ [],
       record { name = t; inner = u ∷ []; end = v; are = refl; name_on = sym c.is_end.ensures ∙ c.if-is_end.false; none = (sym c.is_end-2.ensures ∙ c.if-is_end-2.false, tt); ends = sym c.is_end-3.ensures ∙ c.if-not-is_end.false; name_len = refl; text_is = c.in_ok-text.ensures },

@@ -10,17 +10,17 @@ returns-clause-gives c = λ limit lines bytes ts over p.
     let n2 = c.in_ok-word.ensures in
     let n3 = c.in_ok-name.ensures in
     let n4 = c.in_ok-end.ensures in
-    let l1 = n1.same.1 ∙ over.0 in
-    let b1 = n1.same.0 ∙ over.1 in
-    let l2 = n2.same.1 ∙ l1 in
-    let b2 = n2.same.0 ∙ b1 in
+    let l1 = n1.moves.same.1 ∙ over.0 in
+    let b1 = n1.moves.same.0 ∙ over.1 in
+    let l2 = n2.moves.same.1 ∙ l1 in
+    let b2 = n2.moves.same.0 ∙ b1 in
     let one = n1.one limit lines bytes ts over p in
     let t1 : Token = record { bytes = c.in_ok-keyword.keyword.now; line = one.0 } in
     let two = n2.one limit lines bytes (ts ++ t1 ∷ []) (l1, b1) one.1 in
     let t2 : Token = record { bytes = c.in_ok-word.word.now; line = two.0 } in
     let three = n3.one limit lines bytes ((ts ++ t1 ∷ []) ++ t2 ∷ []) (l2, b2) two.1 in
     let t3 : Token = record { bytes = c.in_ok-name.name.now; line = three.0 } in
-    let four = n4.one limit lines bytes (((ts ++ t1 ∷ []) ++ t2 ∷ []) ++ t3 ∷ []) (n3.same.1 ∙ l2, n3.same.0 ∙ b2) three.1 in
+    let four = n4.one limit lines bytes (((ts ++ t1 ∷ []) ++ t2 ∷ []) ++ t3 ∷ []) (n3.moves.same.1 ∙ l2, n3.moves.same.0 ∙ b2) three.1 in
     let t4 : Token = record { bytes = c.in_ok-end.end.now; line = four.0 } in (
       t1 ∷ t2 ∷ t3 ∷ t4 ∷ [],
       record {

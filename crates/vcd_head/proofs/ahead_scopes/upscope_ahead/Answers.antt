@@ -9,7 +9,7 @@ returns-clause-gives c = λ limit lines bytes ts over p.
     let n1 = c.in_ok-keyword.ensures in
     let one = n1.one limit lines bytes ts over p in
     let t1 : Token = record { bytes = c.in_ok-keyword.keyword.now; line = one.0 } in
-    let two = c.in_ok-end.ensures.one limit lines bytes (ts ++ t1 ∷ []) (n1.same.1 ∙ over.0, n1.same.0 ∙ over.1) one.1 in
+    let two = c.in_ok-end.ensures.one limit lines bytes (ts ++ t1 ∷ []) (n1.moves.same.1 ∙ over.0, n1.moves.same.0 ∙ over.1) one.1 in
     let t2 : Token = record { bytes = c.in_ok-end.end.now; line = two.0 } in (
       t1 ∷ t2 ∷ [],
       record {

@@ -15,7 +15,7 @@ use Rattle.vcd_head.proofs.declarations.declare.Goals as goal
 pub returns-in_default-clause-declares : goal.returns-in_default-clause-declares
 returns-in_default-clause-declares c = λ reference size spells most ps h start.
     let variable = c.args.variable in
-    let is : code_of (spelled variable reference) ≡ record { text = c.in_ok-code.code.bytes.now; size = variable.size; event = c.is_event-event.result } = λ j. record { text = sym c.in_ok-code.ensures j; size = variable.size; event = sym c.is_event-event.ensures j } in
+    let is : code_of (spelled variable reference) ≡ record { text = variable.code.now; size = variable.size; event = c.is_event-event.result } = λ j. record { text = variable.code.now; size = variable.size; event = sym c.is_event-event.ensures j } in
     let e = (rw (not_some c.in_ok-place.field-0 c.in_default.not-Some) at (c.in_ok-place.ensures.codes (declarations_of ps) (spelled variable reference) h.declares.codes is size)) in
     (sym e.0, holds_same most c.args.draft.now _ ps h e.1 e.2 refl refl refl refl refl)
 
@@ -28,15 +28,15 @@ returns-clause-declares c = λ reference size spells most ps h start.
     let ds = declarations_of ps in
     let v = spelled variable reference in
     let few = room most ps kind.Var start in
-    let is : code_of v ≡ record { text = c.in_ok-code.code.bytes.now; size = variable.size; event = c.is_event-event.result } = λ j. record { text = sym c.in_ok-code.ensures j; size = variable.size; event = sym c.is_event-event.ensures j } in
+    let is : code_of v ≡ record { text = variable.code.now; size = variable.size; event = c.is_event-event.result } = λ j. record { text = variable.code.now; size = variable.size; event = sym c.is_event-event.ensures j } in
     let e = (rw c.in-Some.is at (c.in_ok-place.ensures.codes ds v h.declares.codes is size)) in
     let held = e.1 in
     let middle = c.enter_code.new.text.items in
     let known = c.enter_code.new.known in
     let join = join_with_byte 32 reference in
-    let text : c.put_texts.new.text.items ≡ middle ++ (type ++ join) = c.in_ok-put_texts.ensures.text ∙ ap (λ l. middle ++ (type ++ l)) spells.text_is in
-    let grown : c.put_texts.new.text.items ≡ old ++ (held.more ++ (type ++ (join ++ []))) = text ∙ ap (λ t. t ++ (type ++ join)) held.grown ∙ append_assoc old held.more (type ++ join) ∙ ap (λ l. old ++ (held.more ++ (type ++ l))) (sym (append-nil join)) in
-    let codes : HasCodes c.put_texts.new.text.items known (ds ++ Declaration.Var v ∷ []) = subst (λ t. HasCodes t known (ds ++ Declaration.Var v ∷ [])) (sym text) (has_codes_grow middle (type ++ join) known (ds ++ Declaration.Var v ∷ []) held.held_codes) in
+    let text : c.extend_from_slice-2.new.self.items ≡ middle ++ (type ++ join) = c.in_ok-extend_from_slice-2.ensures.items ∙ ap (λ l. l ++ variable.reference.text.now) c.in_ok-extend_from_slice.ensures.items ∙ append_assoc middle type variable.reference.text.now ∙ ap (λ l. middle ++ (type ++ l)) spells.text_is in
+    let grown : c.extend_from_slice-2.new.self.items ≡ old ++ (held.more ++ (type ++ (join ++ []))) = text ∙ ap (λ t. t ++ (type ++ join)) held.grown ∙ append_assoc old held.more (type ++ join) ∙ ap (λ l. old ++ (held.more ++ (type ++ l))) (sym (append-nil join)) in
+    let codes : HasCodes c.extend_from_slice-2.new.self.items known (ds ++ Declaration.Var v ∷ []) = subst (λ t. HasCodes t known (ds ++ Declaration.Var v ∷ [])) (sym text) (has_codes_grow middle (type ++ join) known (ds ++ Declaration.Var v ∷ []) held.held_codes) in
     let length_grown = ap length held.grown in
     let from : c.len-start.result ≡ length (old ++ held.more) = omega (arith, length_grown) in
     let all : length variable.reference.text.now ≡ length join = ap length spells.text_is in

@@ -1,13 +1,14 @@
-use Rattle.std.proofs.Common.{◌≡◌, Err, Some, take, ap, subst, sym, ◌∙◌, rules}
+use Rattle.std.proofs.Common.{◌≡◌, ◌+◌, List, ℕ, Err, Some, take, ap, subst, sym, ◌∙◌, arith, rules}
 use Rattle.std.specs.Io.KnownBytes.{Appends}
 use Rattle.std.proofs.lemmas.Option.{slice_get_within}
 use Rattle.vcd_model.specs.Declarations.{Declaration}
-use Rattle.vcd_model.specs.HeadText.{var_line}
+use Rattle.vcd_model.specs.HeadText.{code_place, new_code, var_line}
 use Rattle.vcd_text.specs.Device.{Takes}
 use Rattle.vcd_text.proofs.Writes.{AppendsSome, appends-first, appends-none, takes-twice}
 use Rattle.vcd_head.specs.Merged.{due, numbered}
 use Rattle.vcd_view.specs.Shown.{parts}
 use Rattle.vcd_head.proofs.PendingScopes.{scope_row_is, up_row_is, var_row_is}
+use Rattle.vcd_head.proofs.RenamedLemmas.{place_read}
 use Rattle.vcd_head.proofs.WriteLemmas.{row_there}
 use Rattle.vcd_head.proofs.merged.put_input_row.Goals as goal
 
@@ -34,6 +35,12 @@ returns-in_err-put_openings-in-Var-clause-takes g c = λ h d v is fits.
 
 pub returns-in_ok-put_openings-in-Var-clause-takes : goal.returns-in_ok-put_openings-in-Var-clause-takes
 returns-in_ok-put_openings-in-Var-clause-takes g c = λ h d v is fits.
-    let (u, e) = var_row_is (parts c.args.view) h c.args.row c.in-Some.declared d v (sym c.row_at.ensures ∙ c.in-Some.is) is c.in-Var.is in
-    subst (λ (x : Declaration). Takes (g.W.Sink.device c.args.w.now) (g.W.Sink.device c.put_renamed.new.w) (due h c.args.first c.args.scopes.pending c.args.scopes.written (take c.args.row h.declarations) x) c.put_renamed.result) (sym e)
-    (takes-twice _ _ _ _ (var_line u (numbered c.args.first h u.code)) c.put_renamed.result (c.in_ok-put_openings-in-Var.ensures.takes h v (slice_get_within h.declarations c.args.row d is)) (c.put_renamed.ensures.takes h u v (is ∙ ap Some e) fits))
+    let at = sym c.row_at.ensures ∙ c.in-Some.is in
+    let (u, e) = var_row_is (parts c.args.view) h c.args.row c.in-Some.declared d v at is c.in-Var.is in
+    let place = place_read (parts c.args.view) h c.args.row c.in-Some.declared u v at (is ∙ ap Some e) in
+    let within = place.within in
+    let is_place = place.place in
+    let sum : c.saturating_add.result ≡ c.args.first + code_place h u.code = omega (arith, c.saturating_add.ensures, within, is_place, fits) in
+    let line = subst (λ (code : List ℕ). Takes (g.W.Sink.device c.put_openings.new.w) (g.W.Sink.device c.put_variable.new.w) (var_line u code) c.put_variable.result) (c.text.ensures ∙ c.of-id.ensures ∙ ap new_code sum) (c.put_variable.ensures.takes h u v (is ∙ ap Some e)) in
+    subst (λ (x : Declaration). Takes (g.W.Sink.device c.args.w.now) (g.W.Sink.device c.put_variable.new.w) (due h c.args.first c.args.scopes.pending c.args.scopes.written (take c.args.row h.declarations) x) c.put_variable.result) (sym e)
+    (takes-twice _ _ _ _ (var_line u (numbered c.args.first h u.code)) c.put_variable.result (c.in_ok-put_openings-in-Var.ensures.takes h v (slice_get_within h.declarations c.args.row d is)) line)

@@ -1,6 +1,6 @@
 use Rattle.std.proofs.Common.{map, string_bytes, rules}
 use Rattle.std.proofs.lemmas.Fn.{always_returns_same}
-use Rattle.vcd_head.specs.Names.{comes_before}
+use Rattle.vcd_head.specs.NameOrder.{comes_before}
 use Rattle.vcd_head.proofs.OrderLemmas.{before_weak}
 use Rattle.vcd_head.proofs.names.sort.Goals as goal
 

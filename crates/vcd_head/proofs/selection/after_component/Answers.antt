@@ -44,7 +44,3 @@ returns-in-Some-strip_prefix-clause-rest c =
     let s = stripped n p c.strip_prefix.result b c.in-Some.is (strip_prefix_is Decides-eqb n p c.strip_prefix.result c.strip_prefix.ensures.cases) in
     let s2 = stripped b.now (46 ∷ []) c.strip_prefix-2.result r c.in-Some-strip_prefix.is (strip_prefix_is Decides-eqb b.now (46 ∷ []) c.strip_prefix-2.result c.strip_prefix-2.ensures.cases) in
     behind_component p n r.now (s ∙ ap (λ l. p ++ l) s2)
-
-pub returns-then-not-may_begin-clause-selects : goal.returns-then-not-may_begin-clause-selects
-returns-then-not-may_begin-clause-selects c = λ text.
-    sym (component_differs c.args.component.now c.args.name.now text (sym c.is_or_goes_on.ensures ∙ c.if-is_or_goes_on.false) (λ rest. c.may_begin.ensures c.if-not-may_begin.true (46 ∷ rest)))

@@ -18,6 +18,3 @@ returns-in-None c =
     let n = c.args.name.now in
     let none = not_stripped t n c.strip_prefix.result (λ x e. let no = c.in-None.is in cc) (strip_prefix_is Decides-eqb t n c.strip_prefix.result c.strip_prefix.ensures.cases) in
     sym (other_front t n none)
-
-pub returns-then-not-may_begin : goal.returns-then-not-may_begin
-returns-then-not-may_begin c = sym (other_front c.args.text.now c.args.name.now (c.may_begin.ensures c.if-not-may_begin.true))

@@ -4,7 +4,7 @@ use Rattle.vcd_model.specs.Declarations.{enclosing}
 use Rattle.vcd_model.specs.Selection.{is_selected, marked_places}
 use Rattle.vcd_head.specs.Marks.{AllMarked, Marked, scopes_at}
 use Rattle.vcd_head.specs.Matched.{HaveMatched, Matched}
-use Rattle.vcd_head.specs.Names.{IsOrder}
+use Rattle.vcd_head.specs.NameOrder.{IsOrder}
 use Rattle.vcd_view.proofs.RowLemmas.{rows_len}
 use Rattle.vcd_head.proofs.MarkLemmas.{marked_both, marked_first}
 use Rattle.vcd_head.proofs.MatchLemmas.{first_is, first_within, matched_next, none_matched}

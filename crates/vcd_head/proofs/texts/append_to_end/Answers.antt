@@ -1,6 +1,6 @@
 use Rattle.vcd_text.proofs.AdvancesLemmas.{advances_on}
-use Rattle.std.proofs.Common.{◌∷◌, [], sym, ap, ◌∙◌, ◌++◌, length, arith}
-use Rattle.std.proofs.lemmas.List.{append_assoc, length-append}
+use Rattle.std.proofs.Common.{◌∷◌, [], sym, ap, ◌∙◌, ◌++◌}
+use Rattle.std.proofs.lemmas.List.{append_assoc}
 use Rattle.std.proofs.lemmas.Result.{err_from_is_err_and}
 use Rattle.vcd_text.specs.Feed.{token_of}
 use Rattle.vcd_head.specs.Texts.{spaced}
@@ -44,5 +44,4 @@ tokens-preserved g c = (
       ∙ ap (λ t. t ++ 32 ∷ (token_of c.next_ends.new.feed).bytes) on.grows
       ∙ append_assoc c.args.text.now.items (spaced on.inner) (32 ∷ (token_of c.next_ends.new.feed).bytes)
       ∙ ap (λ t. c.args.text.now.items ++ t) (sym (spaced_more on.inner (token_of c.next_ends.new.feed).bytes))),
-  omega (arith, c.tokens.invariant.2, ap length c.in_ok-extend_from_slice.ensures.items, ap length c.in_ok-push.ensures.items, length-append c.push.new.self.items c.token.result.now, length-append c.tokens.text.items (32 ∷ [])),
 )

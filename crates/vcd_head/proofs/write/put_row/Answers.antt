@@ -5,8 +5,9 @@ use Rattle.vcd_text.specs.Device.{Takes}
 use Rattle.vcd_text.proofs.Writes.{appends-none}
 use Rattle.vcd_head.specs.Marks.{is_marked}
 use Rattle.vcd_model.specs.Declarations.{Declaration}
+use Rattle.vcd_model.specs.HeadText.{var_line}
 use Rattle.vcd_view.specs.Shown.{parts}
-use Rattle.vcd_head.proofs.WriteLemmas.{up_some, up_none, scope_row, variable_row, unmarked_row, row_there}
+use Rattle.vcd_head.proofs.WriteLemmas.{own_text, up_some, up_none, scope_row, variable_row, unmarked_row, row_there}
 use Rattle.vcd_head.proofs.write.put_row.Goals as goal
 
 pub returns-in_default-clause-takes : goal.returns-in_default-clause-takes
@@ -19,8 +20,10 @@ returns-in-Scope-clause-takes g c = λ h d v is.
 
 pub returns-in-Var-clause-takes : goal.returns-in-Var-clause-takes
 returns-in-Var-clause-takes g c = λ h d v is.
-    variable_row (λ (l : List ℕ). Takes (g.W.Sink.device c.args.w.now) (g.W.Sink.device c.put_own.new.w) l c.put_own.result) (λ code. code) (is_marked c.args.marks.now) (parts c.args.view) h c.args.row c.in-Some.declared d v
-    (sym c.row_at.ensures ∙ c.in-Some.is) is c.in-Var.is (sym c.if-has_mark-2.ensures) (λ u q. c.put_own.ensures.takes h u v q)
+    variable_row (λ (l : List ℕ). Takes (g.W.Sink.device c.args.w.now) (g.W.Sink.device c.put_variable.new.w) l c.put_variable.result) (λ code. code) (is_marked c.args.marks.now) (parts c.args.view) h c.args.row c.in-Some.declared d v
+    (sym c.row_at.ensures ∙ c.in-Some.is) is c.in-Var.is (sym c.if-has_mark-2.ensures) (λ u q.
+    let text = c.code_text.ensures h v ∙ own_text (parts c.args.view) h c.args.row c.in-Some.declared u v (sym c.row_at.ensures ∙ c.in-Some.is) q in
+    subst (λ (code : List ℕ). Takes (g.W.Sink.device c.args.w.now) (g.W.Sink.device c.put_variable.new.w) (var_line u code) c.put_variable.result) text (c.put_variable.ensures.takes h u v q))
 
 pub returns-in_default-kind-clause-takes : goal.returns-in_default-kind-clause-takes
 returns-in_default-kind-clause-takes g c = λ h d v is.

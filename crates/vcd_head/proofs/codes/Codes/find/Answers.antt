@@ -1,7 +1,7 @@
 use Rattle.std.proofs.Common.{◌≡◌, sym, subst, rules, position}
 use Rattle.vcd_view.specs.Finds.{Finds}
 use Rattle.vcd_head.specs.Keys.{AreKeysOf, same_shape}
-use Rattle.vcd_head.proofs.CodeKeys.{finds_key}
+use Rattle.vcd_head.proofs.CodeKeys.{all_bytes, finds_key}
 use Rattle.vcd_head.proofs.codes.Codes.find.Goals as goal
 
 pub returns-in_default : goal.returns-in_default
@@ -9,7 +9,9 @@ returns-in_default c = λ text cs h f. c.place_among.ensures text c.args.self.no
 
 pub returns : goal.returns
 returns c = λ text cs h f.
-    let sought = c.in-Ok.sought in
+    let key = c.in-Ok.key in
+    let bytes = c.args.bytes.now in
+    let own = all_bytes bytes c.type_inv.bytes in
     let keys = c.args.self.now.keys.keys in
-    let told : position (same_shape sought.key) keys ≡ c.get_index_of.result = search rules in
-    subst (λ t. Finds cs t c.get_index_of.result) c.in-Ok.ensures (subst (Finds cs sought.bytes.now) told (finds_key sought.key sought.bytes.now sought.key_is sought.own keys cs h.texts f))
+    let told : position (same_shape key) keys ≡ c.get_index_of.result = search rules in
+    subst (Finds cs bytes) told (finds_key key bytes c.in-Ok.ensures own keys cs h.texts f)

@@ -1,6 +1,7 @@
-use Rattle.std.proofs.Common.{refl}
-use Rattle.vcd_head.proofs.EnclosingLemmas.{leaves_all}
+use Rattle.std.proofs.Common.{reverse, subst}
+use Rattle.vcd_head.specs.ScopesLeft.{LeavesScopes}
+use Rattle.vcd_head.proofs.EnclosingLemmas.{all_around}
 use Rattle.vcd_head.proofs.enclosing.Enclosing.new.Goals as goal
 
 pub returns : goal.returns
-returns c = λ h l. leaves_all h c.args.row _ l refl refl refl refl
+returns c = λ h l. subst (λ ps. LeavesScopes h c.args.row (reverse ps) c.innermost.result) (all_around h c.args.row) (c.innermost.ensures h l)
