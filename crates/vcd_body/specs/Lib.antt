@@ -12,6 +12,7 @@ pub mod Binary
 pub mod Counters
 pub mod Kept
 pub mod Stored
+pub mod Held
 pub mod Values
 pub mod Ahead
 pub mod Spelled

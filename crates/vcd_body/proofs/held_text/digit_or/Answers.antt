@@ -5,4 +5,4 @@ use Rattle.vcd_body.specs.Stored.{digits_with}
 use Rattle.vcd_body.proofs.held_text.digit_or.Goals as goal
 
 pub returns-in-None : goal.returns-in-None
-returns-in-None c = ap (λ (o : Option ℕ). unwrap_or o 0) (sym c.in-None.is ∙ c.digit_held.ensures) ∙ unwrap_or-slice_get (digits_with c.args.holding c.args.share.now) c.args.place 0
+returns-in-None c = ap (λ (o : Option ℕ). unwrap_or o 0) (sym c.in-None.is ∙ c.digit_held.ensures) ∙ unwrap_or-slice_get (digits_with c.args.held.holding c.args.held.share.now) c.args.place 0

@@ -7,12 +7,11 @@ use Rattle.vcd_body.proofs.held_text.put_value_line.Goals as goal
 pub put_digits_held-requires : goal.put_digits_held-requires
 put_digits_held-requires g c = record {
   failures = c.requires.failures;
-  used = c.requires.held.fits;
-  some = some_digits c.args.holding.state (len_of c.args.holding) c.args.share.now c.requires.held.fits c.requires.held.some c.in_default.not-Unset c.in_default.not-Real;
+  some = some_digits c.args.held.holding.state (len_of c.args.held.holding) c.args.held.share.now c.args.held.fits c.args.held.some c.in_default.not-Unset c.in_default.not-Real;
 }
 
 pub returns-in_default : goal.returns-in_default
 returns-in_default g c event =
-    let some = some_digits c.args.holding.state (len_of c.args.holding) c.args.share.now c.requires.held.fits c.requires.held.some c.in_default.not-Unset c.in_default.not-Real in
-    let is = all_digits c.args.holding.state (len_of c.args.holding) c.args.share.now c.in_default.not-Unset c.in_default.not-Real in
-    subst (λ l. Puts (g.W.Sink.device c.args.w.now) (g.W.Sink.device c.put_digits_held.new.w) l c.put_digits_held.result) (line_is c.args.size (digits_with c.args.holding c.args.share.now) c.args.id.now event (held_with c.args.holding c.args.share.now) some is) c.put_digits_held.ensures
+    let some = some_digits c.args.held.holding.state (len_of c.args.held.holding) c.args.held.share.now c.args.held.fits c.args.held.some c.in_default.not-Unset c.in_default.not-Real in
+    let is = all_digits c.args.held.holding.state (len_of c.args.held.holding) c.args.held.share.now c.in_default.not-Unset c.in_default.not-Real in
+    subst (λ l. Puts (g.W.Sink.device c.args.w.now) (g.W.Sink.device c.put_digits_held.new.w) l c.put_digits_held.result) (line_is c.args.size (digits_with c.args.held.holding c.args.held.share.now) c.args.id.now event (held_with c.args.held.holding c.args.held.share.now) some is) c.put_digits_held.ensures
