@@ -170,10 +170,10 @@ abbrev pub LeavesStep : ℕ → (Kept → Kept) → Bool → Bool → List Slot 
 LeavesStep code f rises falls slots slots' = (shares : List Share) (values after : List ℕ) (counted : List Slot) (with : List Share) → ChangesAt code (with_step rises falls) values slots' shares after counted with → ChangesAt code f values slots shares after counted with
 
 -- how many bytes a text of n bytes takes at least
-abbrev pub bytes_of : Form → ℕ → ℕ
-bytes_of form.Scalar n = bytes_for n
-bytes_of form.Vector n = bytes_for n
-bytes_of form.RealText n = n
+abbrev pub least_bytes : Form → ℕ → ℕ
+least_bytes form.Scalar n = bytes_for n
+least_bytes form.Vector n = bytes_for n
+least_bytes form.RealText n = n
 
 -- several digits are one or more
 abbrev pub some_by : State → ℕ → ℕ

@@ -1,12 +1,6 @@
 // Whether a change gives a code another value than it has.
 ghost use Rattle.std.specs.Prelude.{◌≡◌, ◌≤◌, ◌<◌, length, map, true, get_or};
-ghost use Rattle.std.specs.Bool.{Decides};
-ghost use Rattle.std.specs.Str.{str_to_ascii_lowercase};
-ghost use Rattle.vcd_model.specs.Values.{extend, extension, value_with};
-ghost use Rattle.vcd_body.specs.Items.{model_form};
-ghost use Rattle.vcd_body.specs.Kept.{AreTwo, Held, are_two, differs, value_at_size};
-ghost use Rattle.vcd_body.specs.Packed.{held_digit};
-ghost use Rattle.vcd_body.specs.Held.{HasDigits, digits_of, held_in};
+ghost use Rattle.vcd_body.specs.Names.{AreTwo, Decides, HasDigits, are_two, differs, digits_of, extend, extension, held_digit, held_in, model_form, str_to_ascii_lowercase, value_at_size, value_with};
 
 use crate::change::extended_by;
 use crate::held::{count_of, digit_held, digit_shown};

@@ -1,8 +1,7 @@
 // The three counters of a code, of 64 bits each. The lowest 8 bits of each are in the code's slot,
 // beside its value, and the others in its share: so most steps touch the slot alone.
 ghost use Rattle.std.specs.Prelude.{◌≡◌, ℕ, List, true, false};
-ghost use Rattle.vcd_body.specs.Counters.{count_of, counts_of};
-ghost use Rattle.vcd_body.specs.Kept.{counts_if, counts_with};
+ghost use Rattle.vcd_body.specs.Names.{count_of, counts_if, counts_of, counts_with};
 
 /// The greatest number above the lowest 8 bits of a counter.
 const MOST_ABOVE: u64 = 72_057_594_037_927_935;

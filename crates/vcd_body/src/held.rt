@@ -1,7 +1,6 @@
 // The digits that are held, and those of the value.
 ghost use Rattle.std.specs.Prelude.{◌≡◌, ℕ, length, slice_get};
-ghost use Rattle.vcd_body.specs.Kept.{digit_in, last_digit_in, value_at_size};
-ghost use Rattle.vcd_body.specs.Held.{digits_of, held_in};
+ghost use Rattle.vcd_body.specs.Names.{digit_in, digits_of, held_in, last_digit_in, value_at_size};
 
 use crate::bits::{binary_digit, count_in, last_binary};
 use crate::change::extension_of;

@@ -1,9 +1,6 @@
 // The value that is held, as it is written.
 ghost use Rattle.std.specs.Prelude.{◌≡◌, ℕ, ◌+◌, ◌-◌, ◌^◌, ◌<◌, ◌≤◌, ◌++◌, ◌∷◌, [], Bool, drop, get_or, take, length, replicate};
-ghost use Rattle.vcd_body.specs.Names.{Counts, Puts, Takes, extend, line_if_set, short, shown};
-ghost use Rattle.vcd_body.specs.Kept.{value_at_size};
-ghost use Rattle.vcd_body.specs.Held.{digits_of, held_in};
-ghost use Rattle.vcd_body.specs.Stored.{held_line};
+ghost use Rattle.vcd_body.specs.Names.{Counts, Puts, Takes, digits_of, extend, held_in, held_line, line_if_set, short, shown, value_at_size};
 
 use crate::change::{extension_of, put_end, put_real};
 use crate::held::{count_of, digit_held};
@@ -49,8 +46,7 @@ fn fill(held: HeldValue<'_>, from: usize, to: &mut [u8])
 // Writes the digits that are held, from a place on.
 fn put_from<W: Sink>(held: HeldValue<'_>, from: usize, w: &mut W) -> Result<(), WriteFailed>
     requires failures { (W.device w.old).failures < 2 ^ 64 - 1 }
-    ensures { Puts (W.device w.old) (W.device w.new)
-        (drop from (digits_of held.entry)) result }
+    ensures { Puts (W.device w.old) (W.device w.new) (drop from (digits_of held.entry)) result }
 {
     let count = count_of(held);
     let mut block = [0u8; 64];
@@ -96,9 +92,8 @@ fn put_all_held<W: Sink>(held: HeldValue<'_>, id: &[u8], w: &mut W) -> Result<()
 fn put_short_held<W: Sink>(held: HeldValue<'_>, id: &[u8], w: &mut W) -> Result<(), WriteFailed>
     requires failures { (W.device w.old).failures < 2 ^ 64 - 1 }
     requires some { 0 < length (digits_of held) }
-    ensures takes { (size : ℕ) → Takes (W.device w.old) (W.device w.new)
-        (98 ∷ short (extend (digits_of held.entry) size)
-        ++ (32 ∷ id.now ++ 10 ∷ [])) result }
+    ensures takes { (size : ℕ) → Takes (W.device w.old) (W.device w.new) (98 ∷ short (extend
+        (digits_of held.entry) size) ++ (32 ∷ id.now ++ 10 ∷ [])) result }
     ensures counts { Counts (W.device w.old) (W.device w.new) result }
 {
     put(w, b"b")?;
@@ -147,8 +142,7 @@ pub(crate) fn put_value_line<W: Sink>(
 fn put_extended<W: Sink>(held: HeldValue<'_>, size: usize, w: &mut W) -> Result<(), WriteFailed>
     requires failures { (W.device w.old).failures < 2 ^ 64 - 1 }
     requires some { 0 < length (digits_of held) }
-    ensures { Puts (W.device w.old) (W.device w.new)
-        (extend (digits_of held.entry) size) result }
+    ensures { Puts (W.device w.old) (W.device w.new) (extend (digits_of held.entry) size) result }
 {
     let missing = size.saturating_sub(count_of(held));
     put_repeated(extension_of(digit_or(held, 0)), missing, w)?;

@@ -1,8 +1,6 @@
 // Digits in a share: a byte each, or four to a byte, one of each quarter of them.
 ghost use Rattle.std.specs.Prelude.{◌≡◌, ◌≢◌, ◌≤◌, ◌<◌, ◌+◌, ◌-◌, ◌*◌, ◌/◌, ◌==◌, ℕ, Some, get_or, length, map, slice_get, true};
-ghost use Rattle.std.specs.Simd.Lanes.{chunk};
-ghost use Rattle.vcd_body.specs.Kept.{AreTwo};
-ghost use Rattle.vcd_body.specs.Packed.{ArePacked, MayPack, code_among, code_of, code_or, digit_of, digits_in, four_codes, held_digit, quarter_of};
+ghost use Rattle.vcd_body.specs.Names.{ArePacked, AreTwo, MayPack, chunk, code_among, code_of, code_or, digit_of, digits_in, four_codes, held_digit, quarter_of};
 
 use std::simd::prelude::*;
 

@@ -1,11 +1,6 @@
 // Several digits set over several others that differ from them in the last ones.
 ghost use Rattle.std.specs.Prelude.{◌≡◌, ◌-◌, ◌≤◌, ◌<◌, ℕ, IfSome, Some, length, take, drop, map, true, false};
-ghost use Rattle.vcd_model.specs.Values.{Value, extend, value_with};
-ghost use Rattle.vcd_body.specs.Items.{model_form};
-ghost use Rattle.vcd_body.specs.Kept.{IsStep, bytes_for, goes_from, value_at_size, with_change};
-ghost use Rattle.vcd_body.specs.Packed.{digits_in, held_digit};
-ghost use Rattle.vcd_body.specs.Contents.{SetsCode};
-ghost use Rattle.vcd_body.specs.Stored.{held_from};
+ghost use Rattle.vcd_body.specs.Names.{Held, SetsCode, TellsStep, bytes_for, digits_in, goes_from, held_digit, held_from, with_change};
 
 use crate::item::Form;
 use crate::packed::{last_packed, packed_ends_differ, plain_ends_differ};
@@ -34,9 +29,7 @@ fn step_over(before: u8, after: u8) -> Step
 fn plain_step(share: &[u8], text: &[u8]) -> Option<Step>
     ensures many { IfSome result (λ _. 16 ≤ length text.now) }
     ensures differs { IfSome result (λ step. step.differs ≡ true) }
-    ensures step { IfSome result (λ step. (size : ℕ)
-        → IsStep step (Some (Value.Bits (extend (map held_digit share.now) size)))
-        (value_with size (model_form Form.Vector) text.now)) }
+    ensures step { TellsStep (Held.Digits (map held_digit share.now)) text.now result }
 {
     if !plain_ends_differ(share, text) {
         return None;
@@ -51,9 +44,7 @@ fn packed_step(share: &[u8], len: usize, text: &[u8]) -> Option<Step>
     ensures room { IfSome result (λ _. bytes_for len ≤ length share.now) }
     ensures many { IfSome result (λ _. 16 ≤ length text.now) }
     ensures differs { IfSome result (λ step. step.differs ≡ true) }
-    ensures step { IfSome result (λ step. (size : ℕ)
-        → IsStep step (Some (Value.Bits (extend (digits_in len share.now) size)))
-        (value_with size (model_form Form.Vector) text.now)) }
+    ensures step { TellsStep (Held.Digits (digits_in len share.now)) text.now result }
 {
     if !packed_ends_differ(share, len, text) {
         return None;
@@ -76,9 +67,7 @@ impl<'a> Table<'a> {
     fn step_told(&self, held: Holding, start: usize, end: usize, text: &[u8]) -> Option<Step>
         ensures many { IfSome result (λ _. 16 ≤ length text.now) }
         ensures differs { IfSome result (λ step. step.differs ≡ true) }
-        ensures step { IfSome result (λ step. (size : ℕ)
-            → IsStep step (value_at_size size (held_from self.now.values.now start held))
-            (value_with size (model_form Form.Vector) text.now)) }
+        ensures step { TellsStep (held_from self.now.values.now start held) text.now result }
     {
         let share = part_of(self.values, start, end)?;
         match held.state {

@@ -1,12 +1,6 @@
 // What is kept of each code, in lent slices: a slot, and a share of the values.
-ghost use Rattle.std.specs.Prelude.{◌≡◌, ◌≢◌, ◌==◌, ℕ, max, ◌+◌, ◌-◌, ◌*◌, ◌<◌, ◌≤◌, ◌∷◌, [], List, true, false, length, take, drop, map, IfSome, None, Some, slice_get, Bool};
-ghost use Rattle.vcd_view.specs.declared.view.Code.{Code};
-ghost use Rattle.vcd_body.specs.Binary.{is_proper};
-ghost use Rattle.vcd_body.specs.Kept.{Held, with_change, with_held, with_number, with_number_change, with_step, with_text};
-ghost use Rattle.vcd_body.specs.Packed.{held_digit};
-ghost use Rattle.vcd_body.specs.Contents.{ChangesCode, IsLaidOut, KeepsTable, SetsCode, bytes_in, codes_in, held_at};
-ghost use Rattle.vcd_body.specs.Held.{held_or};
-ghost use Rattle.vcd_body.specs.Stored.{AreLaidOut, ChangesAt, ChangesSlot, IsHeldAs, IsUnset, LeavesStep, SlotsKeepLaid, bytes_of, end_at, len_of, one_digit, set_whole, share_from, share_of, some_by, start_of, state_in, used, whole};
+ghost use Rattle.std.specs.Prelude.{◌≡◌, ◌≢◌, ◌==◌, ℕ, max, ◌+◌, ◌-◌, ◌*◌, ◌<◌, ◌≤◌, ◌∷◌, [], true, false, length, take, None, Some, slice_get, Bool};
+ghost use Rattle.vcd_body.specs.Names.{ChangesCode, ChangesSlot, Code, Held, IsHeldAs, IsLaidOut, IsUnset, KeepsTable, LeavesNumber, LeavesTurn, SetsCode, SlotsKeepLaid, StepsTo, TurnsTo, bytes_in, codes_in, end_at, held_at, held_or, is_proper, least_bytes, len_of, one_digit, set_whole, share_from, share_of, some_by, start_of, state_in, used, whole, with_held, with_number, with_step, with_text};
 
 use crate::bits::{Bits, held_bits, is_number_step, is_proper};
 use crate::counters::{carry_step, step_low};
@@ -85,7 +79,7 @@ pub(crate) fn set_how(slots: &mut [Slot], code: usize, how: u8)
 /// Says how it is held.
 #[inline(always)]
 fn hold(share: &mut [u8], form: Form, text: &[u8]) -> State
-    requires room { bytes_of form (length text.now) ≤ length share.old }
+    requires room { least_bytes form (length text.now) ≤ length share.old }
     ensures { IsHeldAs form text.now result share.new }
 {
     match form {
@@ -125,8 +119,8 @@ fn hold_text(slot: &mut Slot, share: &mut Share, state: State, len: usize)
 
 /// Returns how many bytes a text takes at least.
 #[inline(always)]
-fn bytes_of(form: Form, len: usize) -> usize
-    ensures { result ≡ bytes_of form len }
+fn least_bytes(form: Form, len: usize) -> usize
+    ensures { result ≡ least_bytes form len }
 {
     match form {
         Form::RealText => len,
@@ -159,7 +153,7 @@ impl<'a> Table<'a> {
         if end < start || self.values.len() < end {
             return;
         }
-        if text.is_empty() || bytes_of(form, text.len()) > end - start {
+        if text.is_empty() || least_bytes(form, text.len()) > end - start {
             return;
         }
         let values = &mut *self.values;
@@ -216,8 +210,7 @@ pub(crate) fn set_bits(slots: &mut [Slot], code: usize, bits: Bits)
 /// has room for that. Returns whether it has; else nothing changes.
 #[inline(always)]
 pub(crate) fn count_in_slot(slots: &mut [Slot], code: usize, rises: bool, falls: bool) -> bool
-    ensures counts { result ≡ true
-        → ChangesSlot code (with_step rises falls) slots.old slots.new }
+    ensures counts { result ≡ true → ChangesSlot code (with_step rises falls) slots.old slots.new }
     ensures same { result ≡ false → slots.new ≡ slots.old }
     ensures laid { SlotsKeepLaid slots.old slots.new }
 {
@@ -243,11 +236,9 @@ pub(crate) enum Stepped {
 /// changes are of this kind, and touch one slot alone.
 #[inline(always)]
 pub(crate) fn turn_at(slots: &mut [Slot], code: usize, digit: u8) -> Stepped
-    ensures counted { result ≡ Stepped.Counted → (form : Form) → form ≢ Form.RealText → (size : ℕ)
-        → ChangesSlot code (with_change size form (digit ∷ [])) slots.old slots.new }
+    ensures counted { result ≡ Stepped.Counted → TurnsTo code digit slots.old slots.new }
     ensures uncounted { (rises falls : Bool) → result ≡ Stepped.Uncounted rises falls
-        → (form : Form) → form ≢ Form.RealText → (size : ℕ)
-        → LeavesStep code (with_change size form (digit ∷ [])) rises falls slots.old slots.new }
+        → LeavesTurn code digit rises falls slots.old slots.new }
     ensures same { result ≡ Stepped.Not → slots.new ≡ slots.old }
     ensures laid { SlotsKeepLaid slots.old slots.new }
 {
@@ -278,16 +269,9 @@ pub(crate) fn turn_at(slots: &mut [Slot], code: usize, digit: u8) -> Stepped
 /// this size, and counts the step.
 #[inline(always)]
 pub(crate) fn step_at(slots: &mut [Slot], code: usize, size: usize, bits: Bits) -> Stepped
-    ensures counted { result ≡ Stepped.Counted → (shares : List Share) (values : List ℕ)
-        → AreLaidOut slots.old shares (length values)
-        → ChangesAt code (with_number_change size bits.len bits.number)
-        values slots.old shares values slots.new shares }
+    ensures counted { result ≡ Stepped.Counted → StepsTo code size bits slots.old slots.new }
     ensures uncounted { (rises falls : Bool) → result ≡ Stepped.Uncounted rises falls
-        → (shares : List Share) (values after : List ℕ) → AreLaidOut slots.old shares (length values)
-        → (counted : List Slot) (with : List Share)
-        → ChangesAt code (with_step rises falls) values slots.new shares after counted with
-        → ChangesAt code (with_number_change size bits.len bits.number)
-        values slots.old shares after counted with }
+        → LeavesNumber code size bits rises falls slots.old slots.new }
     ensures same { result ≡ Stepped.Not → slots.new ≡ slots.old }
     ensures laid { SlotsKeepLaid slots.old slots.new }
 {

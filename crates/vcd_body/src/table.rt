@@ -1,7 +1,6 @@
 //! The current values of the codes of a header, in lent slices.
-ghost use Rattle.std.specs.Prelude.{◌≡◌, ℕ, ◌<◌, ◌≤◌, length};
-ghost use Rattle.vcd_body.specs.Kept.{as_chosen, differs, digit_in, IsStep, one_more, real_text, with_change, with_number_change, with_step, with_text};
-ghost use Rattle.vcd_body.specs.Stored.{room_of};
+ghost use Rattle.std.specs.Prelude.{◌≡◌, ℕ, ◌<◌, ◌≤◌, length, Some, false, slice_get};
+ghost use Rattle.vcd_body.specs.Names.{ChangesCode, ChangesRoomy, Code, GivesValue, IsLaidOut, IsStep, KeepsTable, SetsCode, as_chosen, bytes_in, codes_in, codes_shown, counts_at, differs, digit_in, form_in, held_at, is_chosen, kept_at, model_form, new_at, one_more, real_text, room_of, share_of, shown_as, text_in, unset, value_at_size, value_in, value_with, with_change, with_number_change, with_step, with_text, with_value, with_value_change};
 
 use crate::bits::{Bits, put_digits};
 use crate::compare::value_differs;
@@ -25,15 +24,6 @@ pub struct Table<'a> {
 }
 
 impl<'a> Table<'a> {
-    ghost use Rattle.std.specs.Prelude.{Some, false, slice_get};
-    ghost use Rattle.vcd_view.specs.declared.view.Code.{Code};
-    ghost use Rattle.vcd_model.specs.Values.{value_with};
-    ghost use Rattle.vcd_body.specs.Items.{model_form};
-    ghost use Rattle.vcd_body.specs.Kept.{Kept, unset, value_at_size};
-    ghost use Rattle.vcd_body.specs.Stored.{share_of};
-    ghost use Rattle.vcd_body.specs.Values.{form_in, text_in, with_value, with_value_change};
-    ghost use Rattle.vcd_body.specs.Contents.{ChangesCode, GivesValue, IsLaidOut, KeepsTable, SetsCode, bytes_in, codes_in, codes_shown, counts_at, held_at, is_chosen, kept_at, new_at, shown_as, value_in};
-
     /// Returns a table of the codes of the header that is shown: each is unset, its counters are 0,
     /// and it is not chosen. A code's value has a quarter of its size of the bytes of `values`,
     /// rounded up, and at least 64; where there are fewer, the last codes go short. Slots, shares
@@ -83,8 +73,7 @@ impl<'a> Table<'a> {
     #[inline(always)]
     pub fn set_value(&mut self, code: usize, value: Value<'_>)
         ensures sets { SetsCode code (with_value value.entry) self.old self.new }
-        ensures as_text { IsLaidOut self.old → (k : Kept) → kept_at self.old code ≡ Some k
-            → 8 ≤ k.room → ChangesCode code (with_text (form_in value.entry) (text_in value.entry))
+        ensures as_text { ChangesRoomy code (with_text (form_in value.entry) (text_in value.entry))
             self.old self.new }
         ensures value { IsLaidOut self.old
             → GivesValue (form_in value.entry) (text_in value.entry) code self.old self.new }
@@ -105,8 +94,7 @@ impl<'a> Table<'a> {
     #[inline(always)]
     pub fn follow(&mut self, code: usize, size: usize, value: Value<'_>)
         ensures sets { SetsCode code (with_value_change size value.entry) self.old self.new }
-        ensures as_text { IsLaidOut self.old → (k : Kept) → kept_at self.old code ≡ Some k
-            → 8 ≤ k.room → ChangesCode code
+        ensures as_text { ChangesRoomy code
             (with_change size (form_in value.entry) (text_in value.entry)) self.old self.new }
         ensures value { IsLaidOut self.old
             → GivesValue (form_in value.entry) (text_in value.entry) code self.old self.new }

@@ -1,7 +1,6 @@
 //! The values of a table as they are written.
 ghost use Rattle.std.specs.Prelude.{◌-◌, ◌^◌, ◌<◌};
-ghost use Rattle.vcd_body.specs.Names.{Counts, Takes, shown};
-ghost use Rattle.vcd_body.specs.Contents.{IsLaidOut, codes_shown, line_of, value_in};
+ghost use Rattle.vcd_body.specs.Names.{Counts, IsLaidOut, Takes, codes_shown, line_of, shown, value_in};
 
 use crate::held_text::{put_value, put_value_line};
 use crate::table::Table;

@@ -1,15 +1,6 @@
 // What tokens of a body are.
 ghost use Rattle.std.specs.Prelude.{◌≡◌, ℕ, ◌+◌, ◌<◌, ◌≤◌, length, slice_index, true, List, drop, take, ◌∷◌, ◌^◌, ◌&&◌, not, Some, None, bytes_eq, ◌-◌, ◌/◌, ◌%◌, IfSome};
-ghost use Rattle.std.specs.List.{list_all};
-ghost use Rattle.std.specs.Int.{bit_at};
-ghost use Rattle.vcd_model.specs.Bytes.{is_empty};
-ghost use Rattle.vcd_model.specs.BodyPhrases.{is_value_digit as is_digit};
-ghost use Rattle.vcd_model.specs.Keywords.{is_end as ends};
-ghost use Rattle.std.specs.Str.{byte};
-ghost use Rattle.vcd_body.specs.Binary.{binary_digits, bit_of};
-ghost use Rattle.vcd_body.specs.Changes.{AreBitsAt};
-ghost use Rattle.vcd_body.specs.Spelled.{StandsAt};
-ghost use Rattle.vcd_body.specs.Words.{StandsFor, Begins, command_is};
+ghost use Rattle.vcd_body.specs.Names.{AreBitsAt, Begins, MayBe, StandsAt, StandsFor, binary_digits, bit_at, bit_of, byte, command_is, is_empty, is_end as ends, is_value_digit as is_digit, list_all};
 
 use crate::bits::Bits;
 use crate::item::Section;
@@ -229,7 +220,7 @@ pub(crate) fn are_value_digits(digits: &[u8]) -> bool
 /// and none is looked at.
 #[inline(always)]
 pub(crate) fn are_digits_or_known(digits: &[u8], bits: Option<Bits>) -> bool
-    requires bits { IfSome bits (λ b. digits.now ≡ binary_digits b.len b.number) }
+    requires bits { MayBe bits digits.now }
     ensures { result ≡ (not (is_empty digits.now) && list_all is_digit digits.now) }
 {
     if bits.is_some() {
