@@ -40,10 +40,7 @@ fn shown_digit(held: HeldValue<'_>, size: usize, place: usize) -> u8
     requires digits { HasDigits held }
     ensures { result ≡ get_or (extend (digits_of held.entry) size) place 0 }
 {
-    match digit_shown(held, size, place) {
-        Some(digit) => digit,
-        None => 0,
-    }
+    digit_shown(held, size, place).unwrap_or(0)
 }
 
 // Returns whether the digits that are held and a text are the same, both extended to a size that is

@@ -1,6 +1,6 @@
 // The value that is held, as it is written.
 ghost use Rattle.std.specs.Prelude.{◌≡◌, ℕ, ◌+◌, ◌-◌, ◌^◌, ◌<◌, ◌≤◌, ◌++◌, ◌∷◌, [], Bool, drop, get_or, take, length, replicate};
-ghost use Rattle.vcd_body.specs.Names.{Counts, Puts, Takes, digits_of, extend, held_in, held_line, line_if_set, short, shown, value_at_size};
+ghost use Rattle.vcd_body.specs.Names.{Counts, Puts, Takes, digits_of, extend, held_in, line_if_set, short, shown, value_at_size};
 
 use crate::change::{extension_of, put_end, put_real};
 use crate::held::{count_of, digit_held};
@@ -27,10 +27,7 @@ fn put_repeated<W: Sink>(digit: u8, count: usize, w: &mut W) -> Result<(), Write
 fn digit_or(held: HeldValue<'_>, place: usize) -> u8
     ensures { result ≡ get_or (digits_of held.entry) place 0 }
 {
-    match digit_held(held, place) {
-        Some(digit) => digit,
-        None => 0,
-    }
+    digit_held(held, place).unwrap_or(0)
 }
 
 // Puts the digits from a place on at the front.
@@ -101,24 +98,6 @@ fn put_short_held<W: Sink>(held: HeldValue<'_>, id: &[u8], w: &mut W) -> Result<
     put_end(w, b' ', id)
 }
 
-// Writes the line of digits that are held.
-fn put_digits_held<W: Sink>(
-    held: HeldValue<'_>,
-    size: usize,
-    id: &[u8],
-    w: &mut W,
-) -> Result<(), WriteFailed>
-    requires failures { (W.device w.old).failures < 2 ^ 64 - 1 }
-    requires some { 0 < length (digits_of held) }
-    ensures { Puts (W.device w.old) (W.device w.new)
-        (held_line size (digits_of held.entry) id.now) result }
-{
-    if size == 1 {
-        return put_all_held(held, id, w);
-    }
-    put_short_held(held, id, w)
-}
-
 /// Writes the line that gives a code of this size its value; nothing where it has none.
 pub(crate) fn put_value_line<W: Sink>(
     held: HeldValue<'_>,
@@ -134,7 +113,8 @@ pub(crate) fn put_value_line<W: Sink>(
     match held.holding.state {
         State::Unset => Ok(()),
         State::Real => put_real(w, held.share, id),
-        _ => put_digits_held(held, size, id, w),
+        _ if size == 1 => put_all_held(held, id, w),
+        _ => put_short_held(held, id, w),
     }
 }
 

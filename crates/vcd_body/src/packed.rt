@@ -50,10 +50,7 @@ pub(crate) fn held_digit(digit: u8) -> u8
 pub(crate) fn plain_digit_at(share: &[u8], place: usize) -> Option<u8>
     ensures { result ≡ slice_get (map held_digit share.now) place }
 {
-    match byte_at(share, place) {
-        Some(byte) => Some(held_digit(byte)),
-        None => None,
-    }
+    Some(held_digit(byte_at(share, place)?))
 }
 
 /// Returns the code of the digit at a place, 0 where there is none.
@@ -307,10 +304,7 @@ fn byte_at(share: &[u8], place: usize) -> Option<u8>
 fn byte_or(share: &[u8], place: usize) -> u8
     ensures { result ≡ get_or share.now place 0 }
 {
-    match byte_at(share, place) {
-        Some(byte) => byte,
-        None => 0,
-    }
+    byte_at(share, place).unwrap_or(0)
 }
 
 /// Returns the digit at a place of `len` digits in a share; none after the last.

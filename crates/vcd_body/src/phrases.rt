@@ -142,14 +142,7 @@ pub(crate) fn takes(codes: &[Code], found: Found, digits: usize) -> bool
     ensures { (code : Code) → slice_get codes.now found.place ≡ Some code
         → result ≡ (code.event || nat_le digits code.size) }
 {
-    digits <= found.most || has_room(codes[found.place], digits)
-}
-
-/// Returns whether the code has room for so many digits, or is an event.
-fn has_room(code: Code, digits: usize) -> bool
-    ensures { result ≡ (code.event || nat_le digits code.size) }
-{
-    code.event || digits <= code.size
+    digits <= found.most || codes[found.place].event || digits <= codes[found.place].size
 }
 
 /// Reads the rest of a vector's change, after its digits: returns its code's place.

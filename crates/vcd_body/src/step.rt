@@ -34,10 +34,7 @@ fn last_of(form: Form, text: &[u8]) -> Option<u8>
 {
     match form {
         Form::RealText => None,
-        Form::Scalar | Form::Vector => match text.last() {
-            Some(digit) => Some(digit.to_ascii_lowercase()),
-            None => None,
-        },
+        Form::Scalar | Form::Vector => Some(text.last()?.to_ascii_lowercase()),
     }
 }
 
