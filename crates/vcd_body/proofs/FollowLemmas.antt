@@ -5,7 +5,7 @@ use Rattle.std.specs.Char.{to_ascii_lowercase}
 use Rattle.std.proofs.lemmas.Bool.{eq-eqb, lt-ltb, ne_eqb}
 use Rattle.vcd_model.specs.Values.{Value, value_with}
 use Rattle.vcd_view.specs.declared.view.Code.{Code}
-use Rattle.vcd_body.specs.Contents.{ChangesCode, GivesValue, KeepsTable, held_at, kept_at}
+use Rattle.vcd_body.specs.Contents.{ChangesCode, GivesValue, IsLaidOut, KeepsTable, SetsCode, held_at, kept_at}
 use Rattle.vcd_body.specs.Given.{IsText}
 use Rattle.vcd_body.specs.Binary.{binary_digits, count_in, is_proper, number_in}
 use Rattle.vcd_body.specs.Items.{model_form}
@@ -25,7 +25,7 @@ use Rattle.vcd_body.specs.declared.value.Value.TheVariants as given
 use Rattle.vcd_body.specs.Values.{form_in, text_in, with_value, with_value_change}
 use Rattle.vcd_body.proofs.BinaryLemmas.{length_binary, proper, proper_count}
 use Rattle.vcd_body.proofs.NumberLemmas.{number_is_text, number_step, proper_number}
-use Rattle.vcd_body.proofs.SetLemmas.{good_value}
+use Rattle.vcd_body.proofs.SetLemmas.{good_value, set_value}
 use Rattle.vcd_body.proofs.StepLemmas.{digit_step}
 use Rattle.vcd_body.proofs.StoreLemmas.{held_one, kept_parts, same_or_not, some_in, text_fits}
 
@@ -274,3 +274,11 @@ module _ (old new : Table) (code size : ℕ) (f : Form) (text : List ℕ) where
 
   pub text_gives : ChangesCode code (with_change size f text) old new → GivesValue f text code old new
   text_gives changes = λ c k good event is most. change_sets old.values.now new.values.now old.slots.now new.slots.now old.shares.now new.shares.now code size f text c k changes good event is most
+
+-- a value that is set is that of its text
+module _ (old new : Table) (code : ℕ) (v : Given) (sets : SetsCode code (with_value v) old new) where
+  pub sets_text : IsLaidOut old → (k : Kept) → kept_at old code ≡ Some k → 8 ≤ k.room → ChangesCode code (with_text (form_in v) (text_in v)) old new
+  sets_text laid k at room = value_as_text old.values.now new.values.now old.slots.now new.slots.now old.shares.now new.shares.now code v k at room (sets.changes laid)
+
+  pub sets_value : IsLaidOut old → GivesValue (form_in v) (text_in v) code old new
+  sets_value laid c k good event is most = set_value old.values.now new.values.now old.slots.now new.slots.now old.shares.now new.shares.now code (form_in v) (text_in v) c k (sets_text laid k is (omega (arith, most))) good event is most

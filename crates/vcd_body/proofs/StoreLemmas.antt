@@ -11,7 +11,7 @@ use Rattle.std.proofs.Math.Seq.{take-take}
 use borrow.Rule.Slice.PartMut.{put_mid}
 use Rattle.vcd_body.specs.Kept.{Held, Kept, bytes_for, counts_if, counts_with, fits, held_as, one_more, room_for, with_held, with_step, with_text}
 use Rattle.vcd_body.specs.Packed.{digits_in, held_digit, quarter_of}
-use Rattle.vcd_body.specs.Stored.{AreLaidOut, ChangesAt, IsLaid, Whole, end_at, held_by, held_of, holding_of, holding_at, kept_in, kept_with, len_in, number_of, one_digit, set_whole, some_by, start_or, state_in, used, used_by, whole, whole_at}
+use Rattle.vcd_body.specs.Stored.{AreLaidOut, ChangesAt, IsHeldAs, IsLaid, Whole, least_bytes, end_at, held_by, held_of, holding_of, holding_at, kept_in, kept_with, len_in, number_of, one_digit, set_whole, some_by, start_or, state_in, used, used_by, whole, whole_at}
 use Rattle.vcd_body.specs.declared.item.Form.{Form}
 use Rattle.vcd_body.specs.declared.item.Form.TheVariants as form
 use Rattle.vcd_body.specs.declared.slot.Holding.{Holding}
@@ -60,7 +60,7 @@ same_or_not j k = by_order (cases_lt j k) (cases_lt k j)
 
 -- ---- bytes
 
-length-put_mid : (a k : ℕ) (xs ys : List ℕ) → a + k ≤ length xs → length ys ≡ k → length (put_mid a k xs ys) ≡ length xs
+pub length-put_mid : (a k : ℕ) (xs ys : List ℕ) → a + k ≤ length xs → length ys ≡ k → length (put_mid a k xs ys) ≡ length xs
 length-put_mid a k xs ys within same = simp (length-append, length-take, length-drop) (omega arith)
 
 -- bytes that lie before a written part, or behind it
@@ -418,7 +418,7 @@ abbrev pub blank : Slot
 blank = record { number = 0; how = 0; low = [] }
 
 abbrev pub blank_share : Share
-blank_share = record { start = 0; upper = 0; middle = []; high = []; top = []; chosen = false }
+blank_share = record { start = 0; upper = 0; above = []; chosen = false }
 
 -- with another value
 abbrev kept_as : ℕ → Whole → Held → Kept
@@ -441,10 +441,6 @@ none_fits f n room none = rw none refl
 pub too_long : (f : Form) (n room : ℕ) → room < room_for f n → fits f n room ≡ false
 too_long f n room long = and_right (nat_lt 0 n) (nat_le (room_for f n) room) (lt-leb (room_for f n) room long)
 
--- digits take a byte for four, where they are not one alone
-pub vector_room : (n : ℕ) → n ≢ 1 → room_for form.Vector n ≡ bytes_for n
-vector_room n h = ap (λ (b : Bool). cond b 0 (bytes_for n)) (ne_eqb n 1 h)
-
 -- where the text does not fit, its value stays
 pub kept_still : (f : Form) (text values : List ℕ) (end : ℕ) (s : Whole) → fits f (length text) (end - s.start) ≡ false → kept_with values end s ≡ with_text f text (kept_with values end s)
 kept_still f text values end s out = sym (ap (λ (b : Bool). kept_as end s (cond b (held_as f text) (held_of values s))) out)
@@ -453,35 +449,55 @@ pub text_stays : (values : List ℕ) (slots : List Slot) (shares : List Share) (
 text_stays values slots shares k s h f text at there out = already_so values slots shares k (whole s h) (with_text f text) (whole_is slots shares k s h at there) (kept_still f text values (end_at shares (length values) k) (whole s h) out)
 
 -- a share lies within the values
-pub not_outside : (start used end n : ℕ) → start + used ≤ end → end ≤ n → (end < start) ⊎ ((start ≤ end) × (n < end)) → ⊥
+pub not_outside : (start used end n : ℕ) → start + used ≤ end → end ≤ n → (end < start) ⊎ (n < end) → ⊥
 not_outside start used end n low high (inl h) = omega arith
-not_outside start used end n low high (inr h) = let past = h.1 in omega (arith, high, past)
+not_outside start used end n low high (inr h) = omega arith
 
 -- the digits that were packed lie in the bytes that are in use
 pub packed_held : (ys text : List ℕ) → digits_in (length text) ys ≡ map held_digit text → held_by state.Digits (length text) (take (used_by state.Digits (length text)) ys) ≡ Held.Digits (map held_digit text)
 packed_held ys text packed = ap (λ (l : List ℕ). Held.Digits l) (digits_first (length text) ys ∙ packed)
 
--- the digits that were put in the share
-pub digits_kept : (st : State) (s : Whole) (end : ℕ) (values ys text : List ℕ) → length text ≢ 1 → 0 < length text → s.start + bytes_for (length text) ≤ end → s.start + used_by st (length text) ≤ end → end ≤ length values → length ys ≡ end - s.start
-    → held_by st (length text) (take (used_by st (length text)) ys) ≡ Held.Digits (map held_digit text)
-    → kept_with (put_mid s.start (end - s.start) values ys) end (set_whole st (length text) s) ≡ with_text form.Vector text (kept_with values end s)
-digits_kept st s end values ys text several some enough within most same held =
-    let n = length text in
-    let read = part_read s.start end (used_by st n) values ys within most same in
-    let room = vector_room n several in
-    let yes = text_fits form.Vector n (end - s.start) some (omega (arith, room, enough)) in
-    ap (λ (l : List ℕ). kept_as end s (held_by st n l)) read
-    ∙ ap (kept_as end s) held
-    ∙ sym (ap (λ (b : Bool). kept_as end s (cond b (Held.Digits (map held_digit text)) (held_of values s))) yes)
+-- a form of digits
+digits_form : (f : Form) → f ≢ form.RealText → (text : List ℕ) → Held.Digits (map held_digit text) ≡ held_as f text
+digits_form form.Scalar digits text = refl
+digits_form form.Vector digits text = refl
+digits_form form.RealText digits text = absurd (digits refl)
 
--- the text that was copied
-pub text_kept : (s : Whole) (end : ℕ) (values ys text : List ℕ) → 0 < length text → s.start + length text ≤ end → end ≤ length values → length ys ≡ end - s.start → take (length text) ys ≡ text
-    → kept_with (put_mid s.start (end - s.start) values ys) end (set_whole state.Real (length text) s) ≡ with_text form.RealText text (kept_with values end s)
-text_kept s end values ys text some within most same copied =
+pub packed_as : (f : Form) (ys text : List ℕ) → f ≢ form.RealText → least_bytes f (length text) ≤ length ys → digits_in (length text) ys ≡ map held_digit text → IsHeldAs f text state.Digits ys
+packed_as f ys text digits room packed = record {
+  held = packed_held ys text packed ∙ digits_form f digits text;
+  used = digits_bytes f (length text) digits room;
+  some = λ h. h;
+  whole = λ e. cc;
+}
+  where
+    digits_bytes : (f : Form) (n : ℕ) → f ≢ form.RealText → least_bytes f n ≤ length ys → bytes_for n ≤ length ys
+    digits_bytes form.Scalar n is h = h
+    digits_bytes form.Vector n is h = h
+    digits_bytes form.RealText n is h = absurd (is refl)
+
+-- a text takes as many bytes as it has to, where it is not one digit alone
+form_room : (f : Form) (n : ℕ) → (f ≢ form.RealText → n ≢ 1) → room_for f n ≡ least_bytes f n
+form_room form.Scalar n several = ap (λ (b : Bool). cond b 0 (bytes_for n)) (ne_eqb n 1 (several (λ e. cc)))
+form_room form.Vector n several = ap (λ (b : Bool). cond b 0 (bytes_for n)) (ne_eqb n 1 (several (λ e. cc)))
+form_room form.RealText n several = refl
+
+-- a text that has no room, or is none
+pub form_past : (f : Form) (n room : ℕ) → (f ≢ form.RealText → n ≢ 1) → room < least_bytes f n → fits f n room ≡ false
+form_past f n room several past = too_long f n room (let is = form_room f n several in omega (arith, is, past))
+
+-- the text that was put in the share
+pub form_kept : (f : Form) (st : State) (s : Whole) (end : ℕ) (values ys text : List ℕ) → (f ≢ form.RealText → length text ≢ 1) → 0 < length text → s.start + least_bytes f (length text) ≤ end → end ≤ length values → length ys ≡ end - s.start → IsHeldAs f text st ys
+    → kept_with (put_mid s.start (end - s.start) values ys) end (set_whole st (length text) s) ≡ with_text f text (kept_with values end s)
+form_kept f st s end values ys text several some enough most same is =
     let n = length text in
-    let yes = text_fits form.RealText n (end - s.start) some (omega (arith, within)) in
-    ap (λ (l : List ℕ). kept_as end s (Held.Text l)) (part_read s.start end n values ys within most same ∙ copied)
-    ∙ sym (ap (λ (b : Bool). kept_as end s (cond b (Held.Text text) (held_of values s))) yes)
+    let used = is.used in
+    let read = part_read s.start end (used_by st n) values ys (omega (arith, used, same, enough)) most same in
+    let room = form_room f n several in
+    let yes = text_fits f n (end - s.start) some (omega (arith, room, enough)) in
+    ap (λ (l : List ℕ). kept_as end s (held_by st n l)) read
+    ∙ ap (kept_as end s) is.held
+    ∙ sym (ap (λ (b : Bool). kept_as end s (cond b (held_as f text) (held_of values s))) yes)
 
 -- a state that holds one digit
 pub held_one : (st : State) (len d : ℕ) (bytes : List ℕ) → one_digit st ≡ Some d → held_by st len bytes ≡ Held.Digits (d ∷ [])

@@ -1,9 +1,10 @@
 -- The value of a code of a view, as the table has it.
-use Rattle.std.proofs.Common.{Bor, ◌≡◌, ◌≢◌, [], ◌<◌, ◌≤◌, Bool, true, false, cond, ℕ, ◌+◌, arith, List, slice_get, Option, Some, None, refl, sym, ap, ◌∙◌}
-use Rattle.std.specs.Prelude.{IfSome, option_map, option_and_then, unwrap_or, length, map, slice_range, ◌∷◌, sum_by}
+use Rattle.std.proofs.lemmas.List.{take_all}
+use Rattle.std.proofs.Common.{take, drop, length-drop, ◌-◌, ◌≡◌, ◌≢◌, [], ◌<◌, ◌≤◌, Bool, true, false, cond, ℕ, ◌+◌, arith, List, slice_get, Option, Some, None, get_or, slice_set, min, refl, subst, sym, ap, ap₂, ◌∙◌}
+use Rattle.std.specs.Prelude.{option_map, option_and_then, unwrap_or, length, map, slice_range, ◌∷◌, sum_by}
 use Rattle.std.specs.List.{AllZip}
 use Rattle.std.proofs.lemmas.List.Sums.{sum_by-cons}
-use Rattle.std.proofs.lemmas.Option.{slice_get-map, slice_get_within}
+use Rattle.std.proofs.lemmas.Option.{slice_get-get_or, slice_get-map}
 use Rattle.vcd_model.specs.Bound.{value_room}
 use Rattle.vcd_model.specs.Cut.{line_if_set}
 use Rattle.vcd_model.specs.Declarations.{IdCode}
@@ -12,9 +13,9 @@ use Rattle.vcd_view.specs.Shown.{text_in}
 use Rattle.vcd_view.specs.Views.{IsCode, IsViewOf}
 use Rattle.vcd_view.specs.declared.view.Code.{Code}
 use Rattle.vcd_view.specs.declared.view.HeadView.{HeadView}
-use Rattle.vcd_body.specs.Contents.{IsLaidOut, codes_shown, held_at, line_of, shown_as, shown_code, value_in}
+use Rattle.vcd_body.specs.Contents.{IsLaidOut, KeepsTable, codes_shown, held_at, line_of, shown_as, shown_code, value_in}
 use Rattle.vcd_body.specs.Kept.{Held, Kept, value_at_size}
-use Rattle.vcd_body.specs.Stored.{Whole, end_at, held_by, held_from, holding_of, holding_at, kept_with, room_of, share_of, some_by, start_in, start_or, used, len_of}
+use Rattle.vcd_body.specs.Stored.{AreLaidOut, ChangesAt, Whole, end_at, held_by, held_from, holding_of, kept_with, len_of, room_of, share_of, some_by, used, whole, whole_at}
 use denote.Enum.Bare.{sameb}
 use Rattle.vcd_body.specs.contracts.slot.State.{the_type}
 use Rattle.vcd_body.specs.declared.slot.Holding.{Holding}
@@ -24,29 +25,26 @@ use Rattle.vcd_body.specs.declared.slot.Slot.{Slot}
 use Rattle.vcd_body.specs.declared.slot.State.{State}
 use Rattle.vcd_body.specs.declared.slot.State.TheVariants as state
 use Rattle.vcd_body.specs.declared.table.Table.{Table}
-use Rattle.vcd_body.proofs.StoreLemmas.{fits_in, holding_parts, no_holding, some_in, whole_is}
+use Rattle.vcd_body.proofs.StoreLemmas.{blank, blank_share, both_written, code_changes, counted_laid, fits_in, slot_laid, some_in, whole_is}
 use Rattle.std.proofs.lemmas.Bool.{le-leb}
 
 pub held_here : (t : Table) (code : ℕ) (s : Slot) (h : Share) → slice_get t.slots.now code ≡ Some s → slice_get t.shares.now code ≡ Some h → held_at t code ≡ held_from t.values.now h.start (holding_of s h)
 held_here t code s h at there = ap (λ (o : Option Whole). unwrap_or (option_map (λ (k : Kept). k.held) (option_map (kept_with t.values.now (end_at t.shares.now (length t.values.now) code)) o)) Held.Unset) (whole_is t.slots.now t.shares.now code s h at there)
 
-pub held_there : (t : Table) (code : ℕ) (v : Holding) → holding_at t.slots.now t.shares.now code ≡ Some v → held_at t code ≡ held_from t.values.now (start_in t.shares.now code) v
-held_there t code v at =
-    let p = holding_parts t.slots.now t.shares.now code v at in
-    held_here t code p.0 p.1 p.2 p.3
-    ∙ ap (λ n. held_from t.values.now n (holding_of p.0 p.1)) (sym (ap (start_or 0) p.3))
-    ∙ ap (held_from t.values.now (start_in t.shares.now code)) p.4
-
--- its share lies within the values
-pub share_there : (t : Table) (code : ℕ) (v : Holding) → IsLaidOut t → holding_at t.slots.now t.shares.now code ≡ Some v → (code < length t.shares.now) × (start_in t.shares.now code + used v ≤ length t.values.now) × (1 ≤ some_by v.state (len_of v))
-share_there t code v laid at =
-    let p = holding_parts t.slots.now t.shares.now code v at in
-    let l = laid code p.0 p.2 in
-    let start = ap (start_or 0) p.3 in
-    let low = fits_in t.shares.now (length t.values.now) code p.0 p.1 l p.3 in
-    let some = some_in t.shares.now (length t.values.now) code p.0 p.1 l p.3 in
+-- its share lies within the values, and several digits are some
+pub share_there : (t : Table) (code : ℕ) (s : Slot) (h : Share) (v : Holding) → v ≡ holding_of s h → IsLaidOut t → slice_get t.slots.now code ≡ Some s → slice_get t.shares.now code ≡ Some h → (h.start + used v ≤ length t.values.now) × (1 ≤ some_by v.state (len_of v))
+share_there t code s h v is laid at there =
+    let l = laid code s at in
+    let low = fits_in t.shares.now (length t.values.now) code s h l there in
+    let some = some_in t.shares.now (length t.values.now) code s h l there in
     let high = l.within in
-    (slice_get_within t.shares.now code p.1 p.3, rw (sym p.4) (omega (arith, start, low, high)), rw (sym p.4) some)
+    rw is (omega (arith, low, high), some)
+
+-- the bytes that are in use, read in two steps
+pub part_here : (start n m : ℕ) (values rest part : List ℕ) → rest ≡ slice_range values start (length values) → part ≡ slice_range rest 0 n → n ≡ m → part ≡ take m (drop start values)
+part_here start n m values rest part is are same =
+    let all : n - 0 ≡ n = omega arith in
+    are ∙ ap (λ k. take k rest) all ∙ ap (λ (l : List ℕ). take n l) (is ∙ take_all (length values - start) (drop start values) (omega (arith, length-drop start values))) ∙ ap (λ k. take k (drop start values)) same
 
 -- what is held in another state than these two is digits
 pub shows_digits : (st : State) (len : ℕ) (bytes : List ℕ) → st ≢ state.Unset → st ≢ state.Real → shown_as (held_by st len bytes) ≡ shown.Bits
@@ -72,24 +70,20 @@ is_real state.Digits h = cc
 is_real state.Bits h = cc
 is_real state.Real h = refl
 
-pub text_there : (o : Option (Bor (List ℕ))) (d : Bor (List ℕ)) (text : List ℕ) → IfSome o (λ share. share.now ≡ text) → o ≢ None → (unwrap_or o d).now ≡ text
-text_there None d text is there = absurd (there refl)
-text_there (Some share) d text is there = is
-
-pub held_nowhere : (t : Table) (code : ℕ) → holding_at t.slots.now t.shares.now code ≡ None → held_at t code ≡ Held.Unset
-held_nowhere t code at = ap (λ (o : Option Whole). unwrap_or (option_map (λ (k : Kept). k.held) (option_map (kept_with t.values.now (end_at t.shares.now (length t.values.now) code)) o)) Held.Unset) (no_holding t.slots.now t.shares.now code at)
+-- there is no value where there is no slot or no share
+pub nothing_at : (t : Table) (code : ℕ) → whole_at t.slots.now t.shares.now code ≡ None → held_at t code ≡ Held.Unset
+nothing_at t code none = ap (λ (o : Option Whole). unwrap_or (option_map (λ (k : Kept). k.held) (option_map (kept_with t.values.now (end_at t.shares.now (length t.values.now) code)) o)) Held.Unset) none
 
 pub code_there : (v : HeadView) (code : ℕ) (c : Code) → slice_get v.codes.now code ≡ Some c → slice_get (codes_shown v) code ≡ Some (shown_code v.text.now c)
 code_there v code c at = slice_get-map (shown_code v.text.now) v.codes.now code ∙ ap (option_map (shown_code v.text.now)) at
 
-pub value_there : (v : HeadView) (t : Table) (code : ℕ) (c : Code) (s : Holding) → slice_get v.codes.now code ≡ Some c → holding_at t.slots.now t.shares.now code ≡ Some s → value_in (codes_shown v) t code ≡ value_at_size c.size (held_from t.values.now (start_in t.shares.now code) s)
-value_there v t code c s e at =
-    ap (option_and_then (λ (x : IdCode). value_at_size x.size (held_at t code))) (code_there v code c e) ∙ ap (value_at_size c.size) (held_there t code s at)
+pub value_there : (v : HeadView) (t : Table) (code : ℕ) (c : Code) → slice_get v.codes.now code ≡ Some c → value_in (codes_shown v) t code ≡ value_at_size c.size (held_at t code)
+value_there v t code c e = ap (option_and_then (λ (x : IdCode). value_at_size x.size (held_at t code))) (code_there v code c e)
 
-pub line_there : (v : HeadView) (t : Table) (code : ℕ) (c : Code) (s : Holding) → slice_get v.codes.now code ≡ Some c → holding_at t.slots.now t.shares.now code ≡ Some s → line_of (codes_shown v) t code ≡ line_if_set (shown_code v.text.now c) (value_at_size c.size (held_from t.values.now (start_in t.shares.now code) s))
-line_there v t code c s e at =
+pub line_there : (v : HeadView) (t : Table) (code : ℕ) (c : Code) → slice_get v.codes.now code ≡ Some c → line_of (codes_shown v) t code ≡ line_if_set (shown_code v.text.now c) (value_at_size c.size (held_at t code))
+line_there v t code c e =
     ap (λ (o : Option IdCode). unwrap_or (option_map (λ (x : IdCode). line_if_set x (value_in (codes_shown v) t code)) o) []) (code_there v code c e)
-    ∙ ap (line_if_set (shown_code v.text.now c)) (value_there v t code c s e at)
+    ∙ ap (line_if_set (shown_code v.text.now c)) (value_there v t code c e)
 
 abbrev choice : Option Kept → Bool
 choice o = unwrap_or (option_map (λ (k : Kept). k.chosen) o) false
@@ -119,3 +113,38 @@ same_room text (x ∷ xs) (y ∷ ys) (is, are) =
 -- the bytes that a header needs are those of all shares
 pub room_needed : (v : HeadView) (h : Header) → IsViewOf v h → room_of v.codes.now ≡ sum_by value_room h.codes
 room_needed v h views = same_room v.text.now v.codes.now h.codes views.codes
+
+-- ---- a table that was written
+
+-- what was written has the same places
+pub keeps_laid : (t t' : Table) → length t'.slots.now ≡ length t.slots.now → length t'.shares.now ≡ length t.shares.now → length t'.values.now ≡ length t.values.now → (IsLaidOut t → AreLaidOut t'.slots.now t'.shares.now (length t.values.now)) → KeepsTable t t'
+keeps_laid t t' slots shares values laid = record {
+  laid = λ l. subst (AreLaidOut t'.slots.now t'.shares.now) (sym values) (laid l);
+  codes = ap₂ (λ a b. min a b) slots shares;
+  bytes = values;
+}
+
+-- counters that were written
+module _ (t : Table) (code : ℕ) (at : code < length t.slots.now) (there : code < length t.shares.now) (low above : List ℕ) where
+  abbrev slot_was : Slot
+  slot_was = get_or t.slots.now code blank
+
+  abbrev share_was : Share
+  share_was = get_or t.shares.now code blank_share
+
+  abbrev slot_is : Slot
+  slot_is = record { number = slot_was.number; how = slot_was.how; low = low }
+
+  abbrev share_is : Share
+  share_is = record { start = share_was.start; upper = share_was.upper; above = above; chosen = share_was.chosen }
+
+  pub counted_changes : (f : Kept → Kept) → ((end : ℕ) → kept_with t.values.now end (whole slot_is share_is) ≡ f (kept_with t.values.now end (whole slot_was share_was)))
+      → ChangesAt code f t.values.now t.slots.now t.shares.now t.values.now (slice_set t.slots.now code slot_is) (slice_set t.shares.now code share_is)
+  counted_changes f one = code_changes t.slots.now _ t.shares.now _ code (whole slot_was share_was) (whole slot_is share_is) (both_written t.slots.now t.shares.now code slot_was slot_is share_was share_is (slice_get-get_or t.slots.now code blank at) (slice_get-get_or t.shares.now code blank_share there) refl) t.values.now f one
+
+  pub counted_stays : IsLaidOut t → AreLaidOut (slice_set t.slots.now code slot_is) (slice_set t.shares.now code share_is) (length t.values.now)
+  counted_stays laid =
+      let here = slice_get-get_or t.slots.now code blank at in
+      let l = laid code slot_was here in
+      let n = length t.values.now in
+      counted_laid _ t.shares.now n (slot_laid t.slots.now t.shares.now n laid code slot_was here slot_is (λ h begins. (fits_in t.shares.now n code slot_was h l begins, some_in t.shares.now n code slot_was h l begins))) code share_was share_is (slice_get-get_or t.shares.now code blank_share there) refl refl

@@ -4,6 +4,7 @@ pub mod Items
 pub mod Words
 pub mod Reads
 pub mod Given
+pub mod Calls
 pub mod Changes
 pub mod Id
 pub mod Contents
@@ -12,9 +13,12 @@ pub mod Binary
 pub mod Counters
 pub mod Kept
 pub mod Stored
+pub mod Held
 pub mod Values
+pub mod Steps
 pub mod Ahead
 pub mod Spelled
+pub mod Lines
 pub mod Taken
 pub mod Answer
 pub mod Device

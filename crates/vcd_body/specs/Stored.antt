@@ -1,13 +1,15 @@
 -- How a table keeps it: a slot for each code, with the lowest parts of its counters, and a share of
 -- the bytes of values, with the others.
-use Rattle.std.specs.Prelude.{◌≡◌, ℕ, zero, suc, ◌+◌, ◌-◌, ◌*◌, ◌%◌, ◌≤◌, ◌==◌, nat_le, min, max, cond, List, [], ◌∷◌, ◌++◌, length, take, drop, map, sum_by, Bool, false, slice_get, Option, Some, None, option_map, option_and_then}
+use Rattle.std.specs.Prelude.{◌≡◌, ◌≢◌, ◌<◌, ℕ, zero, suc, ◌+◌, ◌-◌, ◌*◌, ◌%◌, ◌≤◌, ◌==◌, nat_le, min, max, cond, List, [], ◌∷◌, ◌++◌, length, take, drop, map, sum_by, Bool, false, slice_get, Option, Some, None, option_map, option_and_then}
 use Rattle.std.specs.Str.{byte}
 use Rattle.vcd_view.specs.declared.view.Code.{Code}
 use Rattle.vcd_body.specs.Counters.{counts_of}
-use Rattle.vcd_body.specs.Kept.{Held, Kept, bytes_for, with_step}
+use Rattle.vcd_body.specs.Kept.{Held, Kept, bytes_for, held_as, with_step}
 use Rattle.vcd_model.specs.Values.{extend, short}
 use Rattle.vcd_body.specs.Binary.{binary_digits, count_in, is_proper, number_in}
 use Rattle.vcd_body.specs.Packed.{digits_in, held_digit}
+use Rattle.vcd_body.specs.declared.item.Form.{Form}
+use Rattle.vcd_body.specs.declared.item.Form.TheVariants as form
 use Rattle.vcd_body.specs.declared.slot.Holding.{Holding}
 use Rattle.vcd_body.specs.declared.slot.Share.{Share}
 use Rattle.vcd_body.specs.declared.slot.Slot.{Slot}
@@ -119,7 +121,7 @@ pub record Whole : Type 0 where
   pub chosen : Bool
 
 abbrev pub whole : Slot → Share → Whole
-whole s h = record { state = state_in s.how; len = len_in s.how s.number h.upper; start = h.start; counts = counts_of s.low h.middle h.high h.top; chosen = h.chosen }
+whole s h = record { state = state_in s.how; len = len_in s.how s.number h.upper; start = h.start; counts = counts_of s.low h.above; chosen = h.chosen }
 
 -- with a value that is held so
 abbrev pub set_whole : State → ℕ → Whole → Whole
@@ -163,13 +165,15 @@ ChangesAt code f values slots shares values' slots' shares' = (place : ℕ) → 
 abbrev pub ChangesSlot : ℕ → (Kept → Kept) → List Slot → List Slot → Type 0
 ChangesSlot code f slots slots' = (shares : List Share) (values : List ℕ) → ChangesAt code f values slots shares values slots' shares
 
--- a slot and a share are changed so, whatever the values are
-abbrev pub ChangesBoth : ℕ → (Kept → Kept) → List Slot → List Share → List Slot → List Share → Type 0
-ChangesBoth code f slots shares slots' shares' = (values : List ℕ) → ChangesAt code f values slots shares values slots' shares'
-
 -- what is left to count is a step, which then makes the change whole
 abbrev pub LeavesStep : ℕ → (Kept → Kept) → Bool → Bool → List Slot → List Slot → Type 0
 LeavesStep code f rises falls slots slots' = (shares : List Share) (values after : List ℕ) (counted : List Slot) (with : List Share) → ChangesAt code (with_step rises falls) values slots' shares after counted with → ChangesAt code f values slots shares after counted with
+
+-- how many bytes a text of n bytes takes at least
+abbrev pub least_bytes : Form → ℕ → ℕ
+least_bytes form.Scalar n = bytes_for n
+least_bytes form.Vector n = bytes_for n
+least_bytes form.RealText n = n
 
 -- several digits are one or more
 abbrev pub some_by : State → ℕ → ℕ
@@ -182,6 +186,13 @@ some_by state.Plain len = len
 some_by state.Digits len = len
 some_by state.Bits len = cond (is_proper len) 1 0
 some_by state.Real len = 1
+
+-- a text is held so, in the first bytes of a share
+pub record IsHeldAs (f : Form) (text : List ℕ) (st : State) (share : List ℕ) : Type 0 where
+  pub held : held_by st (length text) (take (used_by st (length text)) share) ≡ held_as f text
+  pub used : used_by st (length text) ≤ length share
+  pub some : 0 < length text → 1 ≤ some_by st (length text)
+  pub whole : st ≢ state.Bits
 
 -- what is held so is whole in these bytes of a share: they are enough, and several digits are some
 pub record HoldsIn (v : Holding) (bytes : List ℕ) : Type 0 where
@@ -199,17 +210,7 @@ pub record IsLaid (shares : List Share) (n k : ℕ) (s : Slot) : Type 0 where
 abbrev pub AreLaidOut : List Slot → List Share → ℕ → Type 0
 AreLaidOut slots shares n = (k : ℕ) (s : Slot) → slice_get slots k ≡ Some s → IsLaid shares n k s
 
--- where all are laid out, something is changed so
-abbrev pub ChangesLaid : ℕ → (Kept → Kept) → List ℕ → List Slot → List Share → List ℕ → List Slot → List Share → Type 0
-ChangesLaid code f values slots shares values' slots' shares' = AreLaidOut slots shares (length values) → ChangesAt code f values slots shares values' slots' shares'
-
--- what is laid out stays so over n values: slots and shares, over any, or slots alone
-abbrev pub KeepLaid : ℕ → List Slot → List Share → List Slot → List Share → Type 0
-KeepLaid n slots shares slots' shares' = AreLaidOut slots shares n → AreLaidOut slots' shares' n
-
-abbrev pub BothKeepLaid : List Slot → List Share → List Slot → List Share → Type 0
-BothKeepLaid slots shares slots' shares' = (n : ℕ) → AreLaidOut slots shares n → AreLaidOut slots' shares' n
-
+-- what is laid out stays so with these slots
 abbrev pub SlotsKeepLaid : List Slot → List Slot → Type 0
 SlotsKeepLaid slots slots' = (shares : List Share) (n : ℕ) → AreLaidOut slots shares n → AreLaidOut slots' shares n
 
@@ -234,7 +235,7 @@ IsUnset s = s ≡ record { number = 0; how = 0; low = 0 ∷ 0 ∷ 0 ∷ [] }
 
 -- a share that begins here, of a code of which nothing was counted
 abbrev pub share_from : ℕ → Share
-share_from start = record { start = start; upper = 0; middle = 0 ∷ 0 ∷ 0 ∷ []; high = 0 ∷ 0 ∷ 0 ∷ []; top = 0 ∷ 0 ∷ 0 ∷ []; chosen = false }
+share_from start = record { start = start; upper = 0; above = 0 ∷ 0 ∷ 0 ∷ []; chosen = false }
 
 abbrev pub IsUncounted : Share → Type 0
 IsUncounted h = h ≡ share_from 0

@@ -1,10 +1,6 @@
 // Value changes as they are written.
-ghost use Rattle.std.specs.Prelude.{◌≡◌, ◌≢◌, ℕ, ◌-◌, ◌^◌, ◌<◌, ◌≤◌, ◌++◌, ◌∷◌, ◌==◌, List, [], false, true, take, drop, length, slice_index};
-ghost use Rattle.std.specs.Char.{to_ascii_lowercase as lower};
-ghost use Rattle.std.specs.Str.{str_to_ascii_lowercase};
-ghost use Rattle.vcd_body.specs.Names.{Counts, Puts, Takes, extend, extension, short};
-ghost use Rattle.vcd_body.specs.Binary.{binary_digits};
-ghost use Rattle.vcd_body.specs.Changes.{line_under};
+ghost use Rattle.std.specs.Prelude.{◌≡◌, ◌≢◌, ℕ, ◌-◌, ◌^◌, ◌<◌, ◌≤◌, ◌++◌, ◌∷◌, ◌==◌, List, [], false, take, drop, length, slice_index};
+ghost use Rattle.vcd_body.specs.Names.{Counts, Puts, Takes, binary_digits, extend, extension, line_under, short, str_to_ascii_lowercase, to_ascii_lowercase as lower};
 
 use crate::bits::Bits;
 use crate::item::Form;

@@ -1,18 +1,12 @@
 // Whether a change gives a code another value than it has.
 ghost use Rattle.std.specs.Prelude.{◌≡◌, ◌≤◌, ◌<◌, length, map, true, get_or};
-ghost use Rattle.std.specs.Bool.{Decides};
-ghost use Rattle.std.specs.Str.{str_to_ascii_lowercase};
-ghost use Rattle.vcd_model.specs.Values.{extend, extension, value_with};
-ghost use Rattle.vcd_body.specs.Items.{model_form};
-ghost use Rattle.vcd_body.specs.Kept.{AreTwo, Held, are_two, differs, value_at_size};
-ghost use Rattle.vcd_body.specs.Packed.{held_digit};
-ghost use Rattle.vcd_body.specs.Stored.{HoldsIn, digits_with, held_with, used};
+ghost use Rattle.vcd_body.specs.Names.{AreTwo, Decides, HasDigits, are_two, differs, digits_of, extend, extension, held_digit, held_in, model_form, str_to_ascii_lowercase, value_at_size, value_with};
 
 use crate::change::extended_by;
 use crate::held::{count_of, digit_held, digit_shown};
 use crate::item::Form;
 use crate::packed::{held_digit, packed_ends_differ, plain_ends_differ};
-use crate::slot::{Holding, State, digit_of_state};
+use crate::slot::{HeldValue, State, digit_of_state};
 
 // Returns what a text is extended by.
 fn extension_of_text(text: &[u8]) -> u8
@@ -42,31 +36,26 @@ fn text_digit(text: &[u8], size: usize, place: usize) -> u8
 // Returns the digit at a place of the held digits, which are extended to a size; 0 where there is
 // none.
 #[inline(always)]
-fn shown_digit(holding: Holding, share: &[u8], size: usize, place: usize) -> u8
-    requires held { HoldsIn holding share.now }
-    requires digits { held_with holding share.now ≡ Held.Digits (digits_with holding share.now) }
-    ensures { result ≡ get_or (extend (digits_with holding share.now) size) place 0 }
+fn shown_digit(held: HeldValue<'_>, size: usize, place: usize) -> u8
+    requires digits { HasDigits held }
+    ensures { result ≡ get_or (extend (digits_of held.entry) size) place 0 }
 {
-    match digit_shown(holding, share, size, place) {
-        Some(digit) => digit,
-        None => 0,
-    }
+    digit_shown(held, size, place).unwrap_or(0)
 }
 
 // Returns whether the digits that are held and a text are the same, both extended to a size that is
 // no less than their lengths. It looks from the right, where they mostly differ.
-fn are_same(holding: Holding, share: &[u8], text: &[u8], size: usize) -> bool
-    requires held { HoldsIn holding share.now }
-    requires digits { held_with holding share.now ≡ Held.Digits (digits_with holding share.now) }
-    requires held_fit { length (digits_with holding share.now) ≤ size }
+fn are_same(held: HeldValue<'_>, text: &[u8], size: usize) -> bool
+    requires digits { HasDigits held }
+    requires held_fit { length (digits_of held) ≤ size }
     requires text_fits { length text.now ≤ size }
-    ensures { Decides result (extend (digits_with holding share.now) size
+    ensures { Decides result (extend (digits_of held.entry) size
         ≡ extend (str_to_ascii_lowercase text.now) size) }
 {
     let mut place = size;
     while place > 0 {
         place -= 1;
-        if shown_digit(holding, share, size, place) != text_digit(text, size, place) {
+        if shown_digit(held, size, place) != text_digit(text, size, place) {
             return false;
         }
     }
@@ -118,15 +107,14 @@ fn ends_differ(share: &[u8], text: &[u8]) -> bool
 // Returns whether a digit of those that are held and one of a text differ, each so many places
 // before the last; false where either has fewer.
 #[inline(always)]
-fn held_differs_at(holding: Holding, share: &[u8], text: &[u8], back: usize) -> bool
-    requires used { used holding ≤ length share.now }
-    ensures { result ≡ true → AreTwo (digits_with holding share.now) text.now }
+fn held_differs_at(held: HeldValue<'_>, text: &[u8], back: usize) -> bool
+    ensures { result ≡ true → AreTwo (digits_of held.entry) text.now }
 {
-    let held = count_of(holding, share);
-    if back >= held || back >= text.len() {
+    let count = count_of(held);
+    if back >= count || back >= text.len() {
         return false;
     }
-    match digit_held(holding, share, held - 1 - back) {
+    match digit_held(held, count - 1 - back) {
         Some(digit) => digit != text[text.len() - 1 - back].to_ascii_lowercase(),
         None => false,
     }
@@ -135,12 +123,11 @@ fn held_differs_at(holding: Holding, share: &[u8], text: &[u8], back: usize) -> 
 // Returns whether one of the last eight digits of those that are held and of a text differs, where
 // both have it. It looks from the right, where they mostly differ.
 #[inline(always)]
-fn lasts_differ(holding: Holding, share: &[u8], text: &[u8]) -> bool
-    requires used { used holding ≤ length share.now }
-    ensures { result ≡ true → AreTwo (digits_with holding share.now) text.now }
+fn lasts_differ(held: HeldValue<'_>, text: &[u8]) -> bool
+    ensures { result ≡ true → AreTwo (digits_of held.entry) text.now }
 {
     for back in 0..8 {
-        if held_differs_at(holding, share, text, back) {
+        if held_differs_at(held, text, back) {
             return true;
         }
     }
@@ -150,13 +137,12 @@ fn lasts_differ(holding: Holding, share: &[u8], text: &[u8]) -> bool
 // Returns whether a held value of several digits and a text differ in their last 16 digits; false
 // where either has fewer. Most values that differ do so there.
 #[inline(always)]
-fn ends_tell(holding: Holding, share: &[u8], text: &[u8]) -> bool
-    requires used { used holding ≤ length share.now }
-    ensures { result ≡ true → AreTwo (digits_with holding share.now) text.now }
+fn ends_tell(held: HeldValue<'_>, text: &[u8]) -> bool
+    ensures { result ≡ true → AreTwo (digits_of held.entry) text.now }
 {
-    match holding.state {
-        State::Plain => plain_ends_differ(share, text),
-        State::Digits => packed_ends_differ(share, holding.len(), text),
+    match held.holding.state {
+        State::Plain => plain_ends_differ(held.share, text),
+        State::Digits => packed_ends_differ(held.share, held.holding.len(), text),
         _ => false,
     }
 }
@@ -164,13 +150,12 @@ fn ends_tell(holding: Holding, share: &[u8], text: &[u8]) -> bool
 // Returns whether a held value and a text differ in some of their last digits, where one has fewer
 // than 16.
 #[inline(always)]
-fn few_tell(holding: Holding, share: &[u8], text: &[u8]) -> bool
-    requires used { used holding ≤ length share.now }
-    ensures { result ≡ true → AreTwo (digits_with holding share.now) text.now }
+fn few_tell(held: HeldValue<'_>, text: &[u8]) -> bool
+    ensures { result ≡ true → AreTwo (digits_of held.entry) text.now }
 {
-    match holding.state {
-        State::Plain => ends_differ(share, text),
-        State::Digits => lasts_differ(holding, share, text),
+    match held.holding.state {
+        State::Plain => ends_differ(held.share, text),
+        State::Digits => lasts_differ(held, text),
         _ => false,
     }
 }
@@ -178,67 +163,57 @@ fn few_tell(holding: Holding, share: &[u8], text: &[u8]) -> bool
 // Returns whether a text gives a code of this size other digits than several that are held, or is
 // itself of several. It takes as long as these digits and the text are, whatever the size is.
 #[inline(never)]
-fn all_differ(holding: Holding, share: &[u8], size: usize, text: &[u8]) -> bool
-    requires held { HoldsIn holding share.now }
-    requires digits { held_with holding share.now ≡ Held.Digits (digits_with holding share.now) }
-    ensures { result ≡ are_two size (digits_with holding share.now) text.now }
+fn all_differ(held: HeldValue<'_>, size: usize, text: &[u8]) -> bool
+    requires digits { HasDigits held }
+    ensures { result ≡ are_two size (digits_of held.entry) text.now }
 {
-    if few_tell(holding, share, text) {
+    if few_tell(held, text) {
         return true;
     }
-    let held = count_of(holding, share);
-    if size.max(held) != size.max(text.len()) {
+    let count = count_of(held);
+    if size.max(count) != size.max(text.len()) {
         return true;
     }
-    match holding.state {
-        State::Plain if held == text.len() => !are_same_plain(share, text),
-        _ => !are_same(holding, share, text, held.max(text.len())),
+    match held.holding.state {
+        State::Plain if count == text.len() => !are_same_plain(held.share, text),
+        _ => !are_same(held, text, count.max(text.len())),
     }
 }
 
 // Returns whether a text gives a code of this size other digits than several that are held. It
 // looks at the last digits first.
 #[inline(always)]
-fn several_differ(holding: Holding, share: &[u8], size: usize, text: &[u8]) -> bool
-    requires held { HoldsIn holding share.now }
-    requires digits { held_with holding share.now ≡ Held.Digits (digits_with holding share.now) }
-    ensures { result ≡ are_two size (digits_with holding share.now) text.now }
+fn several_differ(held: HeldValue<'_>, size: usize, text: &[u8]) -> bool
+    requires digits { HasDigits held }
+    ensures { result ≡ are_two size (digits_of held.entry) text.now }
 {
-    ends_tell(holding, share, text) || all_differ(holding, share, size, text)
+    ends_tell(held, text) || all_differ(held, size, text)
 }
 
 // Returns whether a text gives a code of this size other digits than those that are held. Most are
 // one digit.
 #[inline(always)]
-fn digits_differ(holding: Holding, share: &[u8], size: usize, text: &[u8]) -> bool
-    requires held { HoldsIn holding share.now }
-    requires digits { held_with holding share.now ≡ Held.Digits (digits_with holding share.now) }
-    ensures { result ≡ are_two size (digits_with holding share.now) text.now }
+fn digits_differ(held: HeldValue<'_>, size: usize, text: &[u8]) -> bool
+    requires digits { HasDigits held }
+    ensures { result ≡ are_two size (digits_of held.entry) text.now }
 {
-    match (text, digit_of_state(holding.state)) {
-        ([digit], Some(held)) => held != digit.to_ascii_lowercase(),
-        _ => several_differ(holding, share, size, text),
+    match (text, digit_of_state(held.holding.state)) {
+        ([digit], Some(own)) => own != digit.to_ascii_lowercase(),
+        _ => several_differ(held, size, text),
     }
 }
 
 /// Returns whether a text gives a code of this size another value than it has; false where it has
 /// none.
 #[inline(always)]
-pub(crate) fn value_differs(
-    holding: Holding,
-    share: &[u8],
-    size: usize,
-    form: Form,
-    text: &[u8],
-) -> bool
-    requires { HoldsIn holding share.now }
-    ensures { result ≡ differs (value_at_size size (held_with holding share.now))
+pub(crate) fn value_differs(held: HeldValue<'_>, size: usize, form: Form, text: &[u8]) -> bool
+    ensures { result ≡ differs (value_at_size size (held_in held.entry))
         (value_with size (model_form form) text.now) }
 {
-    match holding.state {
-        State::Plain => form == Form::RealText || several_differ(holding, share, size, text),
+    match held.holding.state {
+        State::Plain => form == Form::RealText || several_differ(held, size, text),
         State::Unset => false,
-        State::Real => form != Form::RealText || share != text,
-        _ => form == Form::RealText || digits_differ(holding, share, size, text),
+        State::Real => form != Form::RealText || held.share != text,
+        _ => form == Form::RealText || digits_differ(held, size, text),
     }
 }

@@ -1,43 +1,35 @@
 // The three counters of a code, of 64 bits each. The lowest 8 bits of each are in the code's slot,
 // beside its value, and the others in its share: so most steps touch the slot alone.
-ghost use Rattle.std.specs.Prelude.{◌≡◌, ℕ, ◌<◌, List, true, false};
-ghost use Rattle.vcd_body.specs.Counters.{count_of, counts_of};
-ghost use Rattle.vcd_body.specs.Kept.{counts_if, counts_with};
+ghost use Rattle.std.specs.Prelude.{◌≡◌, ℕ, List, true, false};
+ghost use Rattle.vcd_body.specs.Names.{count_of, counts_if, counts_of, counts_with};
+
+/// The greatest number above the lowest 8 bits of a counter.
+const MOST_ABOVE: u64 = 72_057_594_037_927_935;
 
 /// Returns the counters.
 #[inline(always)]
-pub(crate) fn counts_of(low: [u8; 3], middle: [u32; 3], high: [u16; 3], top: [u8; 3]) -> [u64; 3]
-    ensures { result ≡ counts_of low middle high top }
+pub(crate) fn counts_of(low: [u8; 3], above: [u64; 3]) -> [u64; 3]
+    ensures { result ≡ counts_of low above }
 {
     [
-        count_of(low[0], middle[0], high[0], top[0]),
-        count_of(low[1], middle[1], high[1], top[1]),
-        count_of(low[2], middle[2], high[2], top[2]),
+        count_of(low[0], above[0]),
+        count_of(low[1], above[1]),
+        count_of(low[2], above[2]),
     ]
 }
 
 /// Returns a counter of these parts.
 #[inline(always)]
-fn count_of(low: u8, middle: u32, high: u16, top: u8) -> u64
-    ensures { result ≡ count_of low middle high top }
+fn count_of(low: u8, above: u64) -> u64
+    ensures { result ≡ count_of low above }
 {
-    u64::from(low)
-        + 256 * u64::from(middle)
-        + 1_099_511_627_776 * u64::from(high)
-        + 72_057_594_037_927_936 * u64::from(top)
+    above.saturating_mul(256).saturating_add(u64::from(low))
 }
 
 /// Adds one to a counter. A full one stays.
 #[inline(never)]
-pub(crate) fn count_one(
-    low: &mut [u8; 3],
-    middle: &mut [u32; 3],
-    high: &mut [u16; 3],
-    top: &mut [u8; 3],
-    which: usize,
-)
-    ensures { counts_of low.new middle.new high.new top.new
-        ≡ counts_with (counts_of low.old middle.old high.old top.old) which }
+pub(crate) fn count_one(low: &mut [u8; 3], above: &mut [u64; 3], which: usize)
+    ensures { counts_of low.new above.new ≡ counts_with (counts_of low.old above.old) which }
 {
     if which >= low.len() {
         return;
@@ -46,21 +38,8 @@ pub(crate) fn count_one(
         low[which] += 1;
         return;
     }
-    if middle[which] < u32::MAX {
-        middle[which] += 1;
-        low[which] = 0;
-        return;
-    }
-    if high[which] < u16::MAX {
-        high[which] += 1;
-        middle[which] = 0;
-        low[which] = 0;
-        return;
-    }
-    if top[which] < u8::MAX {
-        top[which] += 1;
-        high[which] = 0;
-        middle[which] = 0;
+    if above[which] < MOST_ABOVE {
+        above[which] += 1;
         low[which] = 0;
     }
 }
@@ -70,8 +49,8 @@ pub(crate) fn count_one(
 /// both tests hold, nothing changes.
 #[inline(always)]
 pub(crate) fn step_low(low: &mut [u8; 3], rises: bool, falls: bool) -> bool
-    ensures more { result ≡ true → (middle high top : List ℕ) → counts_of low.new middle high top
-        ≡ counts_if falls (counts_if rises (counts_with (counts_of low.old middle high top) 0) 1) 2 }
+    ensures more { result ≡ true → (above : List ℕ) → counts_of low.new above
+        ≡ counts_if falls (counts_if rises (counts_with (counts_of low.old above) 0) 1) 2 }
     ensures same { result ≡ false → low.new ≡ low.old }
 {
     let turned = if falls { 2 } else { 1 };
@@ -91,22 +70,15 @@ pub(crate) fn step_low(low: &mut [u8; 3], rises: bool, falls: bool) -> bool
 
 /// Adds one to the first counter, and to the others where the tests hold, whatever the lowest parts
 /// are. A full one stays.
-pub(crate) fn carry_step(
-    low: &mut [u8; 3],
-    middle: &mut [u32; 3],
-    high: &mut [u16; 3],
-    top: &mut [u8; 3],
-    rises: bool,
-    falls: bool,
-)
-    ensures { counts_of low.new middle.new high.new top.new ≡ counts_if falls
-        (counts_if rises (counts_with (counts_of low.old middle.old high.old top.old) 0) 1) 2 }
+pub(crate) fn carry_step(low: &mut [u8; 3], above: &mut [u64; 3], rises: bool, falls: bool)
+    ensures { counts_of low.new above.new
+        ≡ counts_if falls (counts_if rises (counts_with (counts_of low.old above.old) 0) 1) 2 }
 {
-    count_one(low, middle, high, top, 0);
+    count_one(low, above, 0);
     if rises {
-        count_one(low, middle, high, top, 1);
+        count_one(low, above, 1);
     }
     if falls {
-        count_one(low, middle, high, top, 2);
+        count_one(low, above, 2);
     }
 }

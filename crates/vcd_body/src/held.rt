@@ -1,37 +1,35 @@
 // The digits that are held, and those of the value.
-ghost use Rattle.std.specs.Prelude.{◌≡◌, ℕ, ◌≤◌, length, slice_get};
-ghost use Rattle.vcd_body.specs.Kept.{digit_in, last_digit_in, value_at_size};
-ghost use Rattle.vcd_body.specs.Stored.{HoldsIn, digits_with, held_with, used};
+ghost use Rattle.std.specs.Prelude.{◌≡◌, ℕ, length, slice_get};
+ghost use Rattle.vcd_body.specs.Names.{digit_in, digits_of, held_in, last_digit_in, value_at_size};
 
 use crate::bits::{binary_digit, count_in, last_binary};
 use crate::change::extension_of;
 use crate::packed::{digit_at, plain_digit_at};
-use crate::slot::{Holding, State, digit_of_state};
+use crate::slot::{HeldValue, State, digit_of_state};
 
 /// Returns how many digits are held.
 #[inline(always)]
-pub(crate) fn count_of(holding: Holding, share: &[u8]) -> usize
-    requires { used holding ≤ length share.now }
-    ensures { result ≡ length (digits_with holding share.now) }
+pub(crate) fn count_of(held: HeldValue<'_>) -> usize
+    ensures { result ≡ length (digits_of held.entry) }
 {
-    match holding.state {
+    match held.holding.state {
         State::Unset | State::Real => 0,
         State::Zero | State::One | State::Unknown | State::High => 1,
-        State::Plain => share.len(),
-        State::Digits => holding.len(),
-        State::Bits => count_in(holding),
+        State::Plain => held.share.len(),
+        State::Digits => held.holding.len(),
+        State::Bits => count_in(held.holding),
     }
 }
 
 /// Returns the digit at a place of those that are held.
 #[inline(always)]
-pub(crate) fn digit_held(holding: Holding, share: &[u8], place: usize) -> Option<u8>
-    ensures { result ≡ slice_get (digits_with holding share.now) place }
+pub(crate) fn digit_held(held: HeldValue<'_>, place: usize) -> Option<u8>
+    ensures { result ≡ slice_get (digits_of held.entry) place }
 {
-    match holding.state {
-        State::Plain => plain_digit_at(share, place),
-        State::Digits => digit_at(share, holding.len(), place),
-        State::Bits => binary_digit(holding, place),
+    match held.holding.state {
+        State::Plain => plain_digit_at(held.share, place),
+        State::Digits => digit_at(held.share, held.holding.len(), place),
+        State::Bits => binary_digit(held.holding, place),
         state if place == 0 => digit_of_state(state),
         _ => None,
     }
@@ -39,32 +37,26 @@ pub(crate) fn digit_held(holding: Holding, share: &[u8], place: usize) -> Option
 
 /// Returns the digit at a place of the value at a size, from the left; none where it has none.
 #[inline(always)]
-pub(crate) fn digit_shown(holding: Holding, share: &[u8], size: usize, place: usize) -> Option<u8>
-    requires { HoldsIn holding share.now }
-    ensures { result
-        ≡ digit_in (value_at_size size (held_with holding share.now)) place }
+pub(crate) fn digit_shown(held: HeldValue<'_>, size: usize, place: usize) -> Option<u8>
+    ensures { result ≡ digit_in (value_at_size size (held_in held.entry)) place }
 {
-    let Some(first) = digit_held(holding, share, 0) else {
-        return None;
-    };
-    let missing = size.saturating_sub(count_of(holding, share));
+    let first = digit_held(held, 0)?;
+    let missing = size.saturating_sub(count_of(held));
     if place < missing {
         return Some(extension_of(first));
     }
-    digit_held(holding, share, place - missing)
+    digit_held(held, place - missing)
 }
 
 /// Returns the last digit of the value at each size; none where it has none.
 #[inline(always)]
-pub(crate) fn last_held(holding: Holding, share: &[u8]) -> Option<u8>
-    requires { HoldsIn holding share.now }
-    ensures { (size : ℕ) → result
-        ≡ last_digit_in (value_at_size size (held_with holding share.now)) }
+pub(crate) fn last_held(held: HeldValue<'_>) -> Option<u8>
+    ensures { (size : ℕ) → result ≡ last_digit_in (value_at_size size (held_in held.entry)) }
 {
-    match holding.state {
-        State::Plain => plain_digit_at(share, share.len() - 1),
-        State::Digits => digit_at(share, holding.len(), holding.len() - 1),
-        State::Bits => last_binary(holding),
+    match held.holding.state {
+        State::Plain => plain_digit_at(held.share, held.share.len() - 1),
+        State::Digits => digit_at(held.share, held.holding.len(), held.holding.len() - 1),
+        State::Bits => last_binary(held.holding),
         state => digit_of_state(state),
     }
 }

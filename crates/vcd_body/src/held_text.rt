@@ -1,12 +1,10 @@
 // The value that is held, as it is written.
 ghost use Rattle.std.specs.Prelude.{◌≡◌, ℕ, ◌+◌, ◌-◌, ◌^◌, ◌<◌, ◌≤◌, ◌++◌, ◌∷◌, [], Bool, drop, get_or, take, length, replicate};
-ghost use Rattle.vcd_body.specs.Names.{Counts, Puts, Takes, extend, line_if_set, short, shown};
-ghost use Rattle.vcd_body.specs.Kept.{value_at_size};
-ghost use Rattle.vcd_body.specs.Stored.{HoldsIn, digits_with, held_line, held_with, used};
+ghost use Rattle.vcd_body.specs.Names.{Counts, Puts, Takes, digits_of, extend, held_in, line_if_set, short, shown, value_at_size};
 
 use crate::change::{extension_of, put_end, put_real};
 use crate::held::{count_of, digit_held};
-use crate::slot::{Holding, State};
+use crate::slot::{HeldValue, State};
 use vcd_text::{Sink, WriteFailed, put};
 
 // Writes a digit so many times.
@@ -26,43 +24,33 @@ fn put_repeated<W: Sink>(digit: u8, count: usize, w: &mut W) -> Result<(), Write
 
 // Returns the digit at a place of those that are held, 0 where there is none.
 #[inline(always)]
-fn digit_or(holding: Holding, share: &[u8], place: usize) -> u8
-    ensures { result ≡ get_or (digits_with holding share.now) place 0 }
+fn digit_or(held: HeldValue<'_>, place: usize) -> u8
+    ensures { result ≡ get_or (digits_of held.entry) place 0 }
 {
-    match digit_held(holding, share, place) {
-        Some(digit) => digit,
-        None => 0,
-    }
+    digit_held(held, place).unwrap_or(0)
 }
 
 // Puts the digits from a place on at the front.
-fn fill(holding: Holding, share: &[u8], from: usize, to: &mut [u8])
-    requires { from + length to.old ≤ length (digits_with holding share.now) }
-    ensures { to.new ≡ take (length to.old) (drop from (digits_with holding share.now)) }
+fn fill(held: HeldValue<'_>, from: usize, to: &mut [u8])
+    requires { from + length to.old ≤ length (digits_of held) }
+    ensures { to.new ≡ take (length to.old) (drop from (digits_of held.entry)) }
 {
     for place in 0..to.len() {
-        to[place] = digit_or(holding, share, from + place);
+        to[place] = digit_or(held, from + place);
     }
 }
 
 // Writes the digits that are held, from a place on.
-fn put_from<W: Sink>(
-    holding: Holding,
-    share: &[u8],
-    from: usize,
-    w: &mut W,
-) -> Result<(), WriteFailed>
+fn put_from<W: Sink>(held: HeldValue<'_>, from: usize, w: &mut W) -> Result<(), WriteFailed>
     requires failures { (W.device w.old).failures < 2 ^ 64 - 1 }
-    requires used { used holding ≤ length share.now }
-    ensures { Puts (W.device w.old) (W.device w.new)
-        (drop from (digits_with holding share.now)) result }
+    ensures { Puts (W.device w.old) (W.device w.new) (drop from (digits_of held.entry)) result }
 {
-    let count = count_of(holding, share);
+    let count = count_of(held);
     let mut block = [0u8; 64];
     let mut at = from;
     while at < count {
         let some = (count - at).min(64);
-        fill(holding, share, at, &mut block[..some]);
+        fill(held, at, &mut block[..some]);
         put(w, &block[..some])?;
         at += some;
     }
@@ -70,16 +58,15 @@ fn put_from<W: Sink>(
 }
 
 // Returns where the shortest digits begin that extend to the same value.
-fn first_needed(holding: Holding, share: &[u8]) -> usize
-    requires used { used holding ≤ length share.now }
-    requires some { 0 < length (digits_with holding share.now) }
-    ensures { (size : ℕ) → drop result (digits_with holding share.now)
-        ≡ short (extend (digits_with holding share.now) size) }
+fn first_needed(held: HeldValue<'_>) -> usize
+    requires some { 0 < length (digits_of held) }
+    ensures { (size : ℕ) → drop result (digits_of held.entry)
+        ≡ short (extend (digits_of held.entry) size) }
 {
-    let count = count_of(holding, share);
+    let count = count_of(held);
     let mut from = 0;
     'digits: while from + 1 < count {
-        if digit_or(holding, share, from) != extension_of(digit_or(holding, share, from + 1)) {
+        if digit_or(held, from) != extension_of(digit_or(held, from + 1)) {
             return from;
         }
         from += 1;
@@ -88,99 +75,58 @@ fn first_needed(holding: Holding, share: &[u8]) -> usize
 }
 
 // Writes all digits that are held, and the code, as a line.
-fn put_all_held<W: Sink>(
-    holding: Holding,
-    share: &[u8],
-    id: &[u8],
-    w: &mut W,
-) -> Result<(), WriteFailed>
+fn put_all_held<W: Sink>(held: HeldValue<'_>, id: &[u8], w: &mut W) -> Result<(), WriteFailed>
     requires failures { (W.device w.old).failures < 2 ^ 64 - 1 }
-    requires used { used holding ≤ length share.now }
     ensures { Puts (W.device w.old) (W.device w.new)
-        (digits_with holding share.now ++ (id.now ++ 10 ∷ [])) result }
+        (digits_of held.entry ++ (id.now ++ 10 ∷ [])) result }
 {
-    put_from(holding, share, 0, w)?;
+    put_from(held, 0, w)?;
     put(w, id)?;
     put(w, b"\n")
 }
 
 // Writes the shortest digits after `b`, and the code, as a line.
-fn put_short_held<W: Sink>(
-    holding: Holding,
-    share: &[u8],
-    id: &[u8],
-    w: &mut W,
-) -> Result<(), WriteFailed>
+fn put_short_held<W: Sink>(held: HeldValue<'_>, id: &[u8], w: &mut W) -> Result<(), WriteFailed>
     requires failures { (W.device w.old).failures < 2 ^ 64 - 1 }
-    requires used { used holding ≤ length share.now }
-    requires some { 0 < length (digits_with holding share.now) }
-    ensures takes { (size : ℕ) → Takes (W.device w.old) (W.device w.new)
-        (98 ∷ short (extend (digits_with holding share.now) size)
-        ++ (32 ∷ id.now ++ 10 ∷ [])) result }
+    requires some { 0 < length (digits_of held) }
+    ensures takes { (size : ℕ) → Takes (W.device w.old) (W.device w.new) (98 ∷ short (extend
+        (digits_of held.entry) size) ++ (32 ∷ id.now ++ 10 ∷ [])) result }
     ensures counts { Counts (W.device w.old) (W.device w.new) result }
 {
     put(w, b"b")?;
-    put_from(holding, share, first_needed(holding, share), w)?;
+    put_from(held, first_needed(held), w)?;
     put_end(w, b' ', id)
-}
-
-// Writes the line of digits that are held.
-fn put_digits_held<W: Sink>(
-    holding: Holding,
-    share: &[u8],
-    size: usize,
-    id: &[u8],
-    w: &mut W,
-) -> Result<(), WriteFailed>
-    requires failures { (W.device w.old).failures < 2 ^ 64 - 1 }
-    requires used { used holding ≤ length share.now }
-    requires some { 0 < length (digits_with holding share.now) }
-    ensures { Puts (W.device w.old) (W.device w.new)
-        (held_line size (digits_with holding share.now) id.now) result }
-{
-    if size == 1 {
-        return put_all_held(holding, share, id, w);
-    }
-    put_short_held(holding, share, id, w)
 }
 
 /// Writes the line that gives a code of this size its value; nothing where it has none.
 pub(crate) fn put_value_line<W: Sink>(
-    holding: Holding,
-    share: &[u8],
+    held: HeldValue<'_>,
     size: usize,
     id: &[u8],
     w: &mut W,
 ) -> Result<(), WriteFailed>
     requires failures { (W.device w.old).failures < 2 ^ 64 - 1 }
-    requires held { HoldsIn holding share.now }
     ensures { (event : Bool) → Puts (W.device w.old) (W.device w.new)
         (line_if_set (record { text = id.now; size = size; event = event })
-        (value_at_size size (held_with holding share.now))) result }
+        (value_at_size size (held_in held.entry))) result }
 {
-    match holding.state {
+    match held.holding.state {
         State::Unset => Ok(()),
-        State::Real => put_real(w, share, id),
-        _ => put_digits_held(holding, share, size, id, w),
+        State::Real => put_real(w, held.share, id),
+        _ if size == 1 => put_all_held(held, id, w),
+        _ => put_short_held(held, id, w),
     }
 }
 
 // Writes the digits that are held, extended to a size.
-fn put_extended<W: Sink>(
-    holding: Holding,
-    share: &[u8],
-    size: usize,
-    w: &mut W,
-) -> Result<(), WriteFailed>
+fn put_extended<W: Sink>(held: HeldValue<'_>, size: usize, w: &mut W) -> Result<(), WriteFailed>
     requires failures { (W.device w.old).failures < 2 ^ 64 - 1 }
-    requires used { used holding ≤ length share.now }
-    requires some { 0 < length (digits_with holding share.now) }
-    ensures { Puts (W.device w.old) (W.device w.new)
-        (extend (digits_with holding share.now) size) result }
+    requires some { 0 < length (digits_of held) }
+    ensures { Puts (W.device w.old) (W.device w.new) (extend (digits_of held.entry) size) result }
 {
-    let missing = size.saturating_sub(count_of(holding, share));
-    put_repeated(extension_of(digit_or(holding, share, 0)), missing, w)?;
-    put_from(holding, share, 0, w)
+    let missing = size.saturating_sub(count_of(held));
+    put_repeated(extension_of(digit_or(held, 0)), missing, w)?;
+    put_from(held, 0, w)
 }
 
 // Writes the text of a real number in full.
@@ -194,19 +140,17 @@ fn put_real_text<W: Sink>(text: &[u8], w: &mut W) -> Result<(), WriteFailed>
 
 /// Writes the value at a size in full, `-` where there is none.
 pub(crate) fn put_value<W: Sink>(
-    holding: Holding,
-    share: &[u8],
+    held: HeldValue<'_>,
     size: usize,
     w: &mut W,
 ) -> Result<(), WriteFailed>
     requires failures { (W.device w.old).failures < 2 ^ 64 - 1 }
-    requires held { HoldsIn holding share.now }
     ensures { Puts (W.device w.old) (W.device w.new)
-        (shown (value_at_size size (held_with holding share.now))) result }
+        (shown (value_at_size size (held_in held.entry))) result }
 {
-    match holding.state {
+    match held.holding.state {
         State::Unset => put(w, b"-"),
-        State::Real => put_real_text(share, w),
-        _ => put_extended(holding, share, size, w),
+        State::Real => put_real_text(held.share, w),
+        _ => put_extended(held, size, w),
     }
 }

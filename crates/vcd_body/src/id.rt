@@ -1,8 +1,6 @@
 // Changes as they are written, under a code of a header or a new one.
 ghost use Rattle.std.specs.Prelude.{◌≡◌, ◌≢◌, ◌-◌, ◌^◌, ◌<◌, false, length};
-ghost use Rattle.vcd_body.specs.Changes.{line_under};
-ghost use Rattle.vcd_text.specs.Device.{Puts};
-ghost use Rattle.vcd_body.specs.Id.{id_text};
+ghost use Rattle.vcd_body.specs.Names.{Puts, id_text, line_under};
 
 use crate::item::Form;
 use crate::put_line::put_line;

@@ -1,14 +1,6 @@
 // Changes whose bytes in the chunk are the line that would be written.
-ghost use Rattle.std.specs.Prelude.{◌≡◌, ◌≢◌, ℕ, ◌+◌, ◌-◌, ◌^◌, ◌<◌, ◌≤◌, List, [], ◌∷◌, ◌++◌, true, false, drop, length, slice_index, slice_range, Some, IfSome};
-ghost use Rattle.std.specs.Int.{bit_at};
-ghost use Rattle.std.specs.Char.{to_ascii_lowercase as lower};
-ghost use Rattle.std.specs.Str.{byte, str_to_ascii_lowercase};
-ghost use Rattle.vcd_body.specs.Names.{BodyItem, HeadView, Header, IsViewOf, extend, is_white_space, item_line, short, time_line};
-ghost use Rattle.vcd_body.specs.Ahead.{HasBits, IsSizedItem};
-ghost use Rattle.vcd_body.specs.Binary.{binary_digits, bit_of};
-ghost use Rattle.vcd_body.specs.Changes.{AreBitsAt, IsNeedless};
-ghost use Rattle.vcd_body.specs.Given.{IsItem};
-ghost use Rattle.vcd_body.specs.Spelled.{HasChange, HasMark, HasSpelled, StandsAt, bytes_without};
+ghost use Rattle.std.specs.Prelude.{◌≡◌, ◌≢◌, ℕ, ◌+◌, ◌-◌, ◌^◌, ◌<◌, ◌≤◌, List, [], true, false, drop, length, slice_index, slice_range, Some, IfSome};
+ghost use Rattle.vcd_body.specs.Names.{AreBitsAt, BodyItem, HasBits, HasChange, HasMark, HasSpelled, HeadView, Header, IsDigitLine, IsItem, IsNeedless, IsSizedItem, IsTextLine, IsViewOf, LeavesLine, LeavesShortest, StandsAt, binary_digits, bit_at, bit_of, byte, bytes_without, extend, is_white_space, item_line, short, str_to_ascii_lowercase, time_line, to_ascii_lowercase as lower};
 ghost use Rattle.vcd_body.specs.declared.item.Form.TheVariants as form;
 
 use crate::ahead::Plain;
@@ -80,10 +72,7 @@ fn are_shortest(digits: &[u8]) -> bool
 #[inline(always)]
 fn is_bit_line(bytes: &[u8], from: usize, to: usize, code_at: usize) -> bool
     requires { (text code : List ℕ) × HasChange bytes.now from to form.Scalar text code }
-    ensures { result ≡ true → (text code : List ℕ)
-        → HasChange bytes.now from to form.Scalar text code
-        → slice_index bytes.now (to - 1) ≡ 10 → to ≡ code_at + length code + 1
-        → slice_range bytes.now from to ≡ str_to_ascii_lowercase text ++ (code ++ 10 ∷ []) }
+    ensures { result ≡ true → IsDigitLine bytes.now from to code_at }
 {
     (from + 1 == code_at) & (bytes[from] & 0x20 != 0)
 }
@@ -103,10 +92,7 @@ fn has_one_blank(
     requires letter { is_white_space first ≡ false }
     ensures place { result ≡ true
         → text.now ≡ slice_range bytes.now (from + 1) (from + 1 + length text.now) }
-    ensures line { result ≡ true → (code : List ℕ)
-        → HasChange bytes.now from to form.Vector text.now code
-        → slice_index bytes.now (to - 1) ≡ 10 → to ≡ code_at + length code + 1
-        → slice_range bytes.now from to ≡ first ∷ text.now ++ (32 ∷ code ++ 10 ∷ []) }
+    ensures line { result ≡ true → IsTextLine bytes.now from to first text.now code_at }
 {
     let behind = from + 1 + text.len();
     (behind + 1 == code_at) & (bytes[from] == first) & (bytes[behind] == b' ')
@@ -226,9 +212,7 @@ fn left_out_of_64(bytes: &[u8], at: usize, digits: &[u8]) -> Option<usize>
 #[inline(always)]
 fn left_out_of(bytes: &[u8], at: usize, digits: &[u8], bits: Option<Bits>) -> Option<usize>
     requires { StandsAt bytes.now at digits.now }
-    ensures { IfSome result (λ k. (k ≤ length digits.now)
-        × (IfSome bits (λ b. digits.now ≡ binary_digits b.len b.number) → (size : ℕ)
-        → drop k digits.now ≡ short (extend (str_to_ascii_lowercase digits.now) size))) }
+    ensures { IfSome result (LeavesShortest digits.now bits) }
 {
     if let Some(bits) = bits {
         return Some(left_out_known(digits, bits));
@@ -257,13 +241,7 @@ fn left_out_of_vector(
     code_at: usize,
 ) -> Option<usize>
     requires { (code : List ℕ) × HasChange bytes.now from to form.Vector digits.now code }
-    ensures { IfSome result (λ k. (k ≤ length digits.now) × ((code : List ℕ)
-        → HasChange bytes.now from to form.Vector digits.now code
-        → slice_index bytes.now (to - 1) ≡ 10 → to ≡ code_at + length code + 1
-        → IfSome bits (λ b. digits.now ≡ binary_digits b.len b.number) → (size : ℕ)
-        → bytes_without bytes.now from to k
-        ≡ 98 ∷ short (extend (str_to_ascii_lowercase digits.now) size)
-        ++ (32 ∷ code ++ 10 ∷ []))) }
+    ensures { IfSome result (LeavesLine bytes.now from to digits.now bits code_at) }
 {
     if !has_one_blank(bytes, from, to, b'b', digits, code_at) {
         return None;

@@ -1,8 +1,6 @@
 // Digits in a share: a byte each, or four to a byte, one of each quarter of them.
 ghost use Rattle.std.specs.Prelude.{◌≡◌, ◌≢◌, ◌≤◌, ◌<◌, ◌+◌, ◌-◌, ◌*◌, ◌/◌, ◌==◌, ℕ, Some, get_or, length, map, slice_get, true};
-ghost use Rattle.std.specs.Simd.Lanes.{chunk};
-ghost use Rattle.vcd_body.specs.Kept.{AreTwo};
-ghost use Rattle.vcd_body.specs.Packed.{ArePacked, MayPack, code_among, code_of, code_or, digit_of, digits_in, four_codes, held_digit, quarter_of};
+ghost use Rattle.vcd_body.specs.Names.{ArePacked, AreTwo, MayPack, chunk, code_among, code_of, code_or, digit_of, digits_in, four_codes, held_digit, quarter_of};
 
 use std::simd::prelude::*;
 
@@ -52,10 +50,7 @@ pub(crate) fn held_digit(digit: u8) -> u8
 pub(crate) fn plain_digit_at(share: &[u8], place: usize) -> Option<u8>
     ensures { result ≡ slice_get (map held_digit share.now) place }
 {
-    match byte_at(share, place) {
-        Some(byte) => Some(held_digit(byte)),
-        None => None,
-    }
+    Some(held_digit(byte_at(share, place)?))
 }
 
 /// Returns the code of the digit at a place, 0 where there is none.
@@ -309,10 +304,7 @@ fn byte_at(share: &[u8], place: usize) -> Option<u8>
 fn byte_or(share: &[u8], place: usize) -> u8
     ensures { result ≡ get_or share.now place 0 }
 {
-    match byte_at(share, place) {
-        Some(byte) => byte,
-        None => 0,
-    }
+    byte_at(share, place).unwrap_or(0)
 }
 
 /// Returns the digit at a place of `len` digits in a share; none after the last.

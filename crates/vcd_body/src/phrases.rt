@@ -1,18 +1,9 @@
 // The phrases of a body, by what they begin with.
-ghost use Rattle.std.specs.Prelude.{◌≡◌, ◌≢◌, ℕ, true, ◌-◌, ◌^◌, ◌<◌, ◌≤◌, List, [], ◌∷◌, length, take, drop, Some, None, slice_get, OnOk, IfOk, IfErr, IfSome, MatchResult, ◌||◌, nat_le};
-ghost use Rattle.std.specs.List.{list_all};
-ghost use Rattle.vcd_body.specs.Names.{Advances, BodyItem, BodyPhrase, ChangeForm, Code, Header, IdCode, Input, IsSized, IsViewOf, Placed, Token, declared_code, is_value_digit, items_of, phrases_of, seen, source_of, time_after, token_of, value_of};
-ghost use Rattle.vcd_model.specs.Keywords.{Keyword as Named, keyword_text};
+ghost use Rattle.std.specs.Prelude.{◌≡◌, ◌≢◌, true, ◌-◌, ◌^◌, ◌<◌, ◌≤◌, length, take, drop, Some, None, slice_get, OnOk, IfOk, IfErr, MatchResult, ◌||◌, nat_le};
+ghost use Rattle.vcd_body.specs.Names.{Advances, Begins, ChangeForm, Code, HasGoodValue, IsGoodText, IsScalar, IsSized, MayBe, Names, OpensOrRefuses, ReadsCode, ReadsComment, ReadsMark, ReadsRest, ReadsScalar, call_end, is_value_digit, list_all, mark_time, regs_after, seen, source_of, token_of, value_of};
 ghost use Rattle.vcd_body.specs.declared.words.First.TheVariants as first;
-ghost use Rattle.vcd_body.specs.Binary.{binary_digits};
-ghost use Rattle.vcd_body.specs.Items.{AreRegsAfter, regs_after};
-ghost use Rattle.vcd_body.specs.Words.{Begins, IsScalar, mark_time};
-ghost use Rattle.vcd_body.specs.Reads.{AsksForCode, FailsAfter, Looks, OpensPhrase, Passes, PassesScalar, Reads, ReadsChange, ReadsPhrase, Refuses};
-ghost use Rattle.vcd_body.specs.Given.{IsGoodText};
-ghost use Rattle.vcd_body.specs.Spelled.{Names};
 ghost use Rattle.vcd_body.specs.declared.item.Form.TheVariants as form;
 ghost use Rattle.vcd_body.specs.declared.item.Item.TheVariants as item;
-ghost use Rattle.vcd_body.specs.Fault.{call_end};
 
 use crate::bits::Bits;
 use crate::fault::BodyFault;
@@ -34,12 +25,7 @@ pub(crate) fn time_in(token: &[u8]) -> Option<u64>
 #[inline(always)]
 pub(crate) fn read_mark(token: &[u8], regs: &mut Regs) -> Result<u64, BodyFault>
     requires { Begins token.now first.Mark }
-    ensures time { (codes : List IdCode) (earlier : List BodyPhrase)
-        → AreRegsAfter (items_of earlier) regs.old
-        → MatchResult result
-        (λ time. Passes codes earlier token.now (BodyItem.Time time)
-        × (time_after (items_of earlier) ≤ time))
-        (Refuses codes earlier token.now) }
+    ensures time { ReadsMark token.now regs.old result }
     ensures regs { MatchResult result (λ time. regs.new ≡ regs_after regs.old (item.Time time))
         (λ _. regs.new ≡ regs.old) }
     ensures own { IfErr result (λ fault. fault ≢ BodyFault.ReadFailed) }
@@ -55,9 +41,7 @@ pub(crate) fn read_mark(token: &[u8], regs: &mut Regs) -> Result<u64, BodyFault>
 #[inline(always)]
 pub(crate) fn scalar_code(token: &[u8], view: HeadView<'_>) -> Result<Found, BodyFault>
     requires begins { IsScalar token.now }
-    ensures code { (h : Header) (earlier : List BodyPhrase) → IsViewOf view.entry h
-        → MatchResult result (λ found. PassesScalar h.codes earlier token.now found.place)
-        (Refuses h.codes earlier token.now) }
+    ensures code { ReadsScalar view.entry token.now result }
     ensures sound { IfOk result
         (λ found. IsGoodText view.entry.codes.now found.place form.Scalar (take 1 token.now)) }
     ensures names { IfOk result (λ found. Names view.entry found.place (drop 1 token.now)) }
@@ -79,9 +63,8 @@ pub(crate) fn scalar_code(token: &[u8], view: HeadView<'_>) -> Result<Found, Bod
 #[inline(always)]
 pub(crate) fn vector_text(token: &[u8], bits: Option<Bits>) -> Result<&[u8], BodyFault>
     requires begins { Begins token.now first.Vector }
-    requires bits { IfSome bits (λ b. drop 1 token.now ≡ binary_digits b.len b.number) }
-    ensures opens { (codes : List IdCode) (earlier : List BodyPhrase) → MatchResult result
-        (λ _. OpensPhrase codes earlier token.now) (Refuses codes earlier token.now) }
+    requires bits { MayBe bits (drop 1 token.now) }
+    ensures opens { OpensOrRefuses token.now result }
     ensures text { IfOk result (λ text. text.now ≡ drop 1 token.now) }
     ensures digits { IfOk result (λ text. (0 < length text.now)
         × (list_all is_value_digit text.now ≡ true)) }
@@ -98,8 +81,7 @@ pub(crate) fn vector_text(token: &[u8], bits: Option<Bits>) -> Result<&[u8], Bod
 #[inline(always)]
 pub(crate) fn real_text(token: &[u8]) -> Result<&[u8], BodyFault>
     requires begins { Begins token.now first.Real }
-    ensures opens { (codes : List IdCode) (earlier : List BodyPhrase) → MatchResult result
-        (λ _. OpensPhrase codes earlier token.now) (Refuses codes earlier token.now) }
+    ensures opens { OpensOrRefuses token.now result }
     ensures text { IfOk result (λ text. text.now ≡ drop 1 token.now) }
     ensures few { IfOk result (λ text. (0 < length text.now) × (length text.now ≤ 64)) }
     ensures own { IfErr result (λ fault. fault ≢ BodyFault.ReadFailed) }
@@ -117,12 +99,7 @@ pub(crate) fn real_text(token: &[u8]) -> Result<&[u8], BodyFault>
 /// Passes over a comment, after its keyword.
 pub(crate) fn skip_comment<S: Source>(feed: &mut Feed<'_, '_, '_, '_, S>) -> Result<(), BodyFault>
     requires { S.failures (source_of feed.old) < 2 ^ 64 - 1 }
-    ensures reads { (codes : List IdCode) (i : Input) (front : List Token)
-        (placed : List (Placed BodyPhrase))
-        → Reads codes i front placed (keyword_text Named.Comment ∷ []) feed.old
-        → MatchResult result (λ _. (inner : List (List ℕ))
-        × ReadsPhrase codes i front placed feed.new (BodyPhrase.Comment inner))
-        (FailsAfter codes i front placed feed.new) }
+    ensures reads { ReadsComment feed.old feed.new result }
     ensures advances { Advances S.failures feed.old feed.new (call_end result) }
     ensures progress { OnOk result (seen feed.old < seen feed.new) }
     ensures bounded { seen feed.new < 2 ^ 63 }
@@ -142,15 +119,7 @@ fn read_code<S: Source>(
     view: HeadView<'_>,
 ) -> Result<Found, BodyFault>
     requires failures { S.failures (source_of feed.old) < 2 ^ 64 - 1 }
-    ensures reads { (h : Header) (i : Input) (front : List Token)
-        (placed : List (Placed BodyPhrase)) (first : List ℕ) → IsViewOf view.entry h
-        → AsksForCode h.codes (phrases_of placed) first
-        → Reads h.codes i front placed (first ∷ []) feed.old
-        → MatchResult result
-        (λ found. (c : IdCode) × (slice_get h.codes found.place ≡ Some c)
-        × (declared_code h.codes (token_of feed.new).bytes ≡ Some c)
-        × Looks h.codes i front placed (first ∷ []) feed.new)
-        (FailsAfter h.codes i front placed feed.new) }
+    ensures reads { ReadsCode view.entry feed.old feed.new result }
     ensures value { value_of feed.new ≡ (token_of feed.old).bytes }
     ensures sized { IfOk result (IsSized view.entry.codes.now) }
     ensures advances { Advances S.failures feed.old feed.new (call_end result) }
@@ -173,14 +142,7 @@ pub(crate) fn takes(codes: &[Code], found: Found, digits: usize) -> bool
     ensures { (code : Code) → slice_get codes.now found.place ≡ Some code
         → result ≡ (code.event || nat_le digits code.size) }
 {
-    digits <= found.most || has_room(codes[found.place], digits)
-}
-
-/// Returns whether the code has room for so many digits, or is an event.
-fn has_room(code: Code, digits: usize) -> bool
-    ensures { result ≡ (code.event || nat_le digits code.size) }
-{
-    code.event || digits <= code.size
+    digits <= found.most || codes[found.place].event || digits <= codes[found.place].size
 }
 
 /// Reads the rest of a vector's change, after its digits: returns its code's place.
@@ -191,13 +153,8 @@ pub(crate) fn read_vector<S: Source>(
 ) -> Result<usize, BodyFault>
     requires failures { S.failures (source_of feed.old) < 2 ^ 64 - 1 }
     requires begins { Begins (token_of feed.old).bytes first.Vector }
-    ensures reads { (h : Header) (i : Input) (front : List Token)
-        (placed : List (Placed BodyPhrase)) → IsViewOf view.entry h
-        → Looks h.codes i front placed [] feed.old
-        → MatchResult result (ReadsChange h.codes i front placed feed.new ChangeForm.Vector)
-        (FailsAfter h.codes i front placed feed.new) }
-    ensures sound { IfOk result
-        (λ place. IsGoodText view.entry.codes.now place form.Vector (drop 1 (value_of feed.new))) }
+    ensures reads { ReadsRest view.entry ChangeForm.Vector feed.old feed.new result }
+    ensures sound { HasGoodValue view.entry form.Vector feed.new result }
     ensures advances { Advances S.failures feed.old feed.new (call_end result) }
     ensures further { OnOk result (seen feed.old < seen feed.new) }
     ensures bounded { seen feed.old < 2 ^ 63 → seen feed.new < 2 ^ 63 }
@@ -217,14 +174,8 @@ pub(crate) fn read_real<S: Source>(
 ) -> Result<usize, BodyFault>
     requires failures { S.failures (source_of feed.old) < 2 ^ 64 - 1 }
     requires begins { Begins (token_of feed.old).bytes first.Real }
-    ensures reads { (h : Header) (i : Input) (front : List Token)
-        (placed : List (Placed BodyPhrase)) → IsViewOf view.entry h
-        → Looks h.codes i front placed [] feed.old
-        → MatchResult result (ReadsChange h.codes i front placed feed.new ChangeForm.RealText)
-        (FailsAfter h.codes i front placed feed.new) }
-    ensures sound { IfOk result
-        (λ place. IsGoodText view.entry.codes.now place form.RealText
-        (drop 1 (value_of feed.new))) }
+    ensures reads { ReadsRest view.entry ChangeForm.RealText feed.old feed.new result }
+    ensures sound { HasGoodValue view.entry form.RealText feed.new result }
     ensures advances { Advances S.failures feed.old feed.new (call_end result) }
     ensures further { OnOk result (seen feed.old < seen feed.new) }
     ensures bounded { seen feed.old < 2 ^ 63 → seen feed.new < 2 ^ 63 }

@@ -1,12 +1,7 @@
 // The items of a body, one after the other.
 ghost use Rattle.std.specs.Prelude.{◌≡◌, ◌≢◌, ◌-◌, ◌^◌, ◌<◌, ◌≤◌, List, OnOk, IfOk, Some, MatchResult};
-ghost use Rattle.vcd_body.specs.Names.{Advances, BodyItem, Code, Header, IdCode, Input, IsViewOf, Token, seen, source_of, token_of};
+ghost use Rattle.vcd_body.specs.Names.{Advances, AreRegsPast, Begins, BodyItem, Code, Fails, GaveItems, GivesItem, Header, Input, IsGoodChange, IsGoodPhrase, IsViewOf, ReadsCommand, ReadsOne, Token, call_end, regs_after, seen, source_of, text_of, token_of};
 ghost use Rattle.vcd_body.specs.declared.words.First.TheVariants as first;
-ghost use Rattle.vcd_body.specs.Items.{regs_after};
-ghost use Rattle.vcd_body.specs.Words.{Begins};
-ghost use Rattle.vcd_body.specs.Reads.{GaveItems, Begun, Fails};
-ghost use Rattle.vcd_body.specs.Given.{AreRegsPast, GivesItem, GivesPhrase, IsGoodChange, IsGoodPhrase, text_of};
-ghost use Rattle.vcd_body.specs.Fault.{call_end};
 
 use crate::fault::BodyFault;
 use crate::item::{Form, Item, Regs};
@@ -24,9 +19,7 @@ fn read_command<S: Source>(
 ) -> Result<Option<Item>, BodyFault>
     requires failures { S.failures (source_of feed.old) < 2 ^ 64 - 1 }
     requires begins { Begins (token_of feed.old).bytes first.Other }
-    ensures reads { (codes : List IdCode) (i : Input) (front : List Token) (items : List BodyItem)
-        → Begun codes i front items feed.old regs.old
-        → GivesPhrase codes i front items feed.new regs.new result }
+    ensures reads { ReadsCommand feed.old feed.new regs.old regs.new result }
     ensures sound { (codes : List Code) → IsGoodPhrase codes feed.new result }
     ensures regs { AreRegsPast regs.old regs.new result }
     ensures advances { Advances S.failures feed.old feed.new (call_end result) }
@@ -65,9 +58,7 @@ fn read_phrase<S: Source>(
     regs: &mut Regs,
 ) -> Result<Option<Item>, BodyFault>
     requires failures { S.failures (source_of feed.old) < 2 ^ 64 - 1 }
-    ensures reads { (h : Header) (i : Input) (front : List Token) (items : List BodyItem)
-        → IsViewOf view.entry h → GaveItems h.codes i front items feed.old regs.old
-        → GivesPhrase h.codes i front items feed.new regs.new result }
+    ensures reads { ReadsOne view.entry feed.old feed.new regs.old regs.new result }
     ensures sound { IsGoodPhrase view.entry.codes.now feed.new result }
     ensures regs { AreRegsPast regs.old regs.new result }
     ensures advances { Advances S.failures feed.old feed.new (call_end result) }

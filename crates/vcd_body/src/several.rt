@@ -1,16 +1,12 @@
 // Several digits set over several others that differ from them in the last ones.
 ghost use Rattle.std.specs.Prelude.{◌≡◌, ◌-◌, ◌≤◌, ◌<◌, ℕ, IfSome, Some, length, take, drop, map, true, false};
-ghost use Rattle.vcd_model.specs.Values.{Value, extend, value_with};
-ghost use Rattle.vcd_body.specs.Items.{model_form};
-ghost use Rattle.vcd_body.specs.Kept.{IsStep, bytes_for, goes_from, value_at_size, with_change};
-ghost use Rattle.vcd_body.specs.Packed.{digits_in, held_digit};
-ghost use Rattle.vcd_body.specs.Stored.{AreLaidOut, ChangesAt, KeepLaid, held_from};
+ghost use Rattle.vcd_body.specs.Names.{Held, SetsCode, TellsStep, bytes_for, digits_in, goes_from, held_digit, held_from, with_change};
 
 use crate::item::Form;
 use crate::packed::{last_packed, packed_ends_differ, plain_ends_differ};
-use crate::slot::{Holding, Share, Slot, State, holding_of};
+use crate::slot::{Holding, State, holding_of};
 use crate::step::Step;
-use crate::store::{count_at, end_of, set_digits_in};
+use crate::table::Table;
 
 // Returns the step from digits whose last one is 0 or 1 where a byte is, to those of a text that
 // ends with this one, where they differ. It takes no branches.
@@ -33,9 +29,7 @@ fn step_over(before: u8, after: u8) -> Step
 fn plain_step(share: &[u8], text: &[u8]) -> Option<Step>
     ensures many { IfSome result (λ _. 16 ≤ length text.now) }
     ensures differs { IfSome result (λ step. step.differs ≡ true) }
-    ensures step { IfSome result (λ step. (size : ℕ)
-        → IsStep step (Some (Value.Bits (extend (map held_digit share.now) size)))
-        (value_with size (model_form Form.Vector) text.now)) }
+    ensures step { TellsStep (Held.Digits (map held_digit share.now)) text.now result }
 {
     if !plain_ends_differ(share, text) {
         return None;
@@ -50,9 +44,7 @@ fn packed_step(share: &[u8], len: usize, text: &[u8]) -> Option<Step>
     ensures room { IfSome result (λ _. bytes_for len ≤ length share.now) }
     ensures many { IfSome result (λ _. 16 ≤ length text.now) }
     ensures differs { IfSome result (λ step. step.differs ≡ true) }
-    ensures step { IfSome result (λ step. (size : ℕ)
-        → IsStep step (Some (Value.Bits (extend (digits_in len share.now) size)))
-        (value_with size (model_form Form.Vector) text.now)) }
+    ensures step { TellsStep (Held.Digits (digits_in len share.now)) text.now result }
 {
     if !packed_ends_differ(share, len, text) {
         return None;
@@ -68,52 +60,43 @@ fn part_of(values: &[u8], start: usize, end: usize) -> Option<&[u8]>
     values.get(start..end)
 }
 
-// Returns the step from several digits that are held so, in a share that begins and ends here, to
-// those of a text, where they differ in the last 16. It asks once how they are held.
-#[inline(always)]
-fn step_told(values: &[u8], holding: Holding, start: usize, end: usize, text: &[u8]) -> Option<Step>
-    ensures many { IfSome result (λ _. 16 ≤ length text.now) }
-    ensures differs { IfSome result (λ step. step.differs ≡ true) }
-    ensures step { IfSome result (λ step. (size : ℕ)
-        → IsStep step (value_at_size size (held_from values.now start holding))
-        (value_with size (model_form Form.Vector) text.now)) }
-{
-    let share = part_of(values, start, end)?;
-    match holding.state {
-        State::Plain => plain_step(share.get(..holding.len())?, text),
-        State::Digits => packed_step(share, holding.len(), text),
-        _ => None,
+impl<'a> Table<'a> {
+    /// Returns the step from several digits that are held so, in a share that begins and ends here,
+    /// to those of a text, where they differ in the last 16. It asks once how they are held.
+    #[inline(always)]
+    fn step_told(&self, held: Holding, start: usize, end: usize, text: &[u8]) -> Option<Step>
+        ensures many { IfSome result (λ _. 16 ≤ length text.now) }
+        ensures differs { IfSome result (λ step. step.differs ≡ true) }
+        ensures step { TellsStep (held_from self.now.values.now start held) text.now result }
+    {
+        let share = part_of(self.values, start, end)?;
+        match held.state {
+            State::Plain => plain_step(share.get(..held.len())?, text),
+            State::Digits => packed_step(share, held.len(), text),
+            _ => None,
+        }
     }
-}
 
-/// Sets the value of a code to several digits over several others, where they differ in the last 16
-/// and so at each size, and counts the step. Returns whether it did; else nothing changes. This is
-/// the common case.
-#[inline(never)]
-pub(crate) fn change_at(
-    slots: &mut [Slot],
-    shares: &mut [Share],
-    values: &mut [u8],
-    code: usize,
-    text: &[u8],
-) -> bool
-    ensures changes { result ≡ true → AreLaidOut slots.old shares.old (length values.old)
-        → (size : ℕ) → ChangesAt code (with_change size Form.Vector text.now) values.old slots.old
-        shares.old values.new slots.new shares.new }
-    ensures same { result ≡ false → (slots.new ≡ slots.old) × (shares.new ≡ shares.old)
-        × (values.new ≡ values.old) }
-    ensures laid { KeepLaid (length values.old) slots.old shares.old slots.new shares.new }
-{
-    if code >= slots.len() || code >= shares.len() {
-        return false;
+    /// Sets the value of the code at a place to several digits over several others, where they
+    /// differ in the last 16 and so at each size, and counts the step. Returns whether it did; else
+    /// nothing changes. This is the common case.
+    #[inline(never)]
+    pub(crate) fn change(&mut self, code: usize, text: &[u8]) -> bool
+        ensures sets { result ≡ true → (size : ℕ)
+            → SetsCode code (with_change size Form.Vector text.now) self.old self.new }
+        ensures same { result ≡ false → self.new ≡ self.old }
+    {
+        if code >= self.slots.len() || code >= self.shares.len() {
+            return false;
+        }
+        let start = self.shares[code].start;
+        let end = self.end_of(code);
+        let held = holding_of(self.slots[code], self.shares[code]);
+        let Some(step) = self.step_told(held, start, end, text) else {
+            return false;
+        };
+        self.set_text_in(code, end, Form::Vector, text);
+        self.count(code, step.rises, step.falls);
+        true
     }
-    let start = shares[code].start;
-    let end = end_of(shares, values.len(), code);
-    let held = holding_of(slots[code], shares[code]);
-    let Some(step) = step_told(values, held, start, end, text) else {
-        return false;
-    };
-    set_digits_in(slots, shares, values, code, end, text);
-    count_at(slots, shares, code, step.rises, step.falls);
-    true
 }

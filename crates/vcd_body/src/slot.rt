@@ -1,7 +1,7 @@
 //! What is kept of a code.
-ghost use Rattle.std.specs.Prelude.{◌≡◌, ◌≢◌, ◌⊎◌, ◌==◌, cond, true, false};
+ghost use Rattle.std.specs.Prelude.{◌≡◌, ◌≢◌, ◌≤◌, ◌⊎◌, ◌==◌, cond, length, true, false};
 ghost use Rattle.vcd_body.specs.Packed.{held_digit};
-ghost use Rattle.vcd_body.specs.Stored.{IsUncounted, IsUnset, holding_of, len_of, number_of, one_digit, share_from, state_in};
+ghost use Rattle.vcd_body.specs.Stored.{IsUncounted, IsUnset, holding_of, len_of, number_of, one_digit, share_from, some_by, state_in, used};
 
 /// How the value of a code is held. Each digit has a state of its own, so that a value of one digit
 /// is in the slot alone.
@@ -51,10 +51,8 @@ pub struct Share {
     pub(crate) start: usize,
     // How many digits, or bytes of a text, are held in it, above the lowest 32 bits.
     pub(crate) upper: u32,
-    // Above the lowest 8 bits of each counter these 32, above them 16, and above them 8.
-    pub(crate) middle: [u32; 3],
-    pub(crate) high: [u16; 3],
-    pub(crate) top: [u8; 3],
+    // The 56 bits above the lowest 8 of each counter.
+    pub(crate) above: [u64; 3],
     pub(crate) chosen: bool,
 }
 
@@ -67,6 +65,15 @@ pub(crate) struct Holding {
     pub(crate) lower: u32,
     /// The bits above the lowest 32 of that length; or how many binary digits there are.
     pub(crate) upper: u32,
+}
+
+/// A value that is held so, with the bytes of its share that are in use.
+#[derive(Clone, Copy)]
+pub(crate) struct HeldValue<'a> {
+    pub(crate) holding: Holding,
+    pub(crate) share: &'a [u8],
+    ghost fits: { used holding ≤ length share.now },
+    ghost some: { 1 ≤ some_by holding.state (len_of holding) },
 }
 
 /// What one counts in the upper part of a length.
@@ -121,9 +128,7 @@ impl Share {
         Share {
             start,
             upper: 0,
-            middle: [0; 3],
-            high: [0; 3],
-            top: [0; 3],
+            above: [0; 3],
             chosen: false,
         }
     }

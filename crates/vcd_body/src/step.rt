@@ -1,8 +1,6 @@
 //! What a change of a value is, by its last digit.
 ghost use Rattle.std.specs.Prelude.{◌≡◌, ◌<◌, ◌+◌, ◌%◌, ℕ, ◌==◌, length, not, Some};
-ghost use Rattle.vcd_model.specs.Values.{value_with};
-ghost use Rattle.vcd_body.specs.Items.{model_form};
-ghost use Rattle.vcd_body.specs.Kept.{goes_from, last_digit_in};
+ghost use Rattle.vcd_body.specs.Names.{goes_from, last_digit_in, model_form, value_with};
 
 use crate::item::Form;
 
@@ -36,10 +34,7 @@ fn last_of(form: Form, text: &[u8]) -> Option<u8>
 {
     match form {
         Form::RealText => None,
-        Form::Scalar | Form::Vector => match text.last() {
-            Some(digit) => Some(digit.to_ascii_lowercase()),
-            None => None,
-        },
+        Form::Scalar | Form::Vector => Some(text.last()?.to_ascii_lowercase()),
     }
 }
 

@@ -1,46 +1,18 @@
 // What is kept of each code, in lent slices: a slot, and a share of the values.
-ghost use Rattle.std.specs.Prelude.{◌≡◌, ◌≢◌, ◌==◌, ℕ, max, ◌+◌, ◌-◌, ◌*◌, ◌<◌, ◌≤◌, ◌∷◌, [], List, true, false, length, take, drop, map, IfSome, None, Some, slice_get, Bool};
-ghost use Rattle.vcd_view.specs.declared.view.Code.{Code};
-ghost use Rattle.vcd_body.specs.Binary.{is_proper};
-ghost use Rattle.vcd_body.specs.Kept.{Held, as_chosen, one_more, with_change, with_held, with_number, with_number_change, with_step, with_text};
-ghost use Rattle.vcd_body.specs.Packed.{held_digit};
-ghost use Rattle.vcd_body.specs.Values.{with_value};
-ghost use Rattle.vcd_body.specs.Stored.{HoldsIn, AreLaidOut, BothKeepLaid, ChangesAt, ChangesBoth, ChangesLaid, ChangesSlot, IsUnset, KeepLaid, LeavesStep, SlotsKeepLaid, end_at, held_by, holding_at, len_of, one_digit, set_whole, share_from, share_of, some_by, start_in, start_of, state_in, used, used_by, whole};
+ghost use Rattle.std.specs.Prelude.{◌≡◌, ◌≢◌, ◌==◌, ℕ, max, ◌+◌, ◌-◌, ◌*◌, ◌<◌, ◌≤◌, ◌∷◌, [], true, false, length, take, None, Some, slice_get, Bool};
+ghost use Rattle.vcd_body.specs.Names.{ChangesCode, ChangesSlot, Code, Held, IsHeldAs, IsLaidOut, IsUnset, KeepsTable, LeavesNumber, LeavesTurn, SetsCode, SlotsKeepLaid, StepsTo, TurnsTo, bytes_in, codes_in, end_at, held_at, held_or, is_proper, least_bytes, len_of, one_digit, set_whole, share_from, share_of, some_by, start_of, state_in, used, whole, with_held, with_number, with_step, with_text};
 
 use crate::bits::{Bits, held_bits, is_number_step, is_proper};
-use crate::counters::{carry_step, count_one, step_low};
+use crate::counters::{carry_step, step_low};
 use crate::item::Form;
 use crate::packed::pack;
 use crate::slot::{
-    Holding, Share, Slot, State, UPPER, holding_of, is_bit, number_of, number_of_bit,
-    number_of_digit, number_of_turned,
+    HeldValue, Holding, Share, Slot, State, UPPER, holding_of, is_bit, number_of, number_of_bit,
+    number_of_turned,
 };
 use crate::step::step_by_number;
-use crate::value::Value;
+use crate::table::Table;
 use vcd_view::Code;
-
-/// Returns how the value of the code at a place is held.
-#[inline(always)]
-pub(crate) fn holding_at(slots: &[Slot], shares: &[Share], code: usize) -> Option<Holding>
-    ensures { result ≡ holding_at slots.now shares.now code }
-{
-    if code >= slots.len() || code >= shares.len() {
-        return None;
-    }
-    Some(holding_of(slots[code], shares[code]))
-}
-
-/// Returns where the share of the code at a place ends.
-#[inline(always)]
-pub(crate) fn end_of(shares: &[Share], values: usize, code: usize) -> usize
-    requires { code < length shares.now }
-    ensures { result ≡ end_at shares.now values code }
-{
-    match shares.get(code + 1) {
-        Some(next) => next.start,
-        None => values,
-    }
-}
 
 /// Returns how many bytes of its share are in use.
 #[inline(always)]
@@ -68,35 +40,32 @@ fn holds_some(holding: Holding) -> bool
     }
 }
 
-/// Returns the bytes that are in use of the share of the code whose value is held so. None where
-/// there is no share, where they would not lie within the values, or where the holding says that
-/// several digits are held, and how many is 0. No code of a table that is laid out is so.
-#[inline(always)]
-pub(crate) fn share_in<'a>(
-    values: &'a [u8],
-    shares: &[Share],
-    code: usize,
-    holding: Holding,
-) -> Option<&'a [u8]>
-    ensures share { IfSome result
-        (λ share. share.now ≡ take (used holding) (drop (start_in shares.now code) values.now)) }
-    ensures held { IfSome result (λ share. HoldsIn holding share.now) }
-    ensures there { code < length shares.now
-        → start_in shares.now code + used holding ≤ length values.now
-        → 1 ≤ some_by holding.state (len_of holding) → result ≢ None }
-{
-    if code >= shares.len() || !holds_some(holding) {
-        return None;
+impl<'a> Table<'a> {
+    /// Returns the value of the code at a place as it is held. None where there is no such code;
+    /// and where its share would not lie within the values, or would hold no digits where it should
+    /// hold several. No code of a table that is laid out is so.
+    #[inline(always)]
+    pub(crate) fn held(&self, code: usize) -> Option<HeldValue<'_>>
+        ensures { IsLaidOut self.now → held_at self.now code ≡ held_or result }
+    {
+        if code >= self.slots.len() || code >= self.shares.len() {
+            return None;
+        }
+        let share = self.shares[code];
+        let holding = holding_of(self.slots[code], share);
+        if !holds_some(holding) {
+            return None;
+        }
+        let rest = self.values.get(share.start..)?;
+        let share = rest.get(..used_by(holding))?;
+        Some(HeldValue { holding, share })
     }
-    let start = shares[code].start;
-    let end = start.checked_add(used_by(holding))?;
-    values.get(start..end)
 }
 
 /// Sets the value of a code to the one digit that a state holds, by its number. Its share is left
 /// alone, and need not be looked at.
 #[inline(always)]
-fn set_how(slots: &mut [Slot], code: usize, how: u8)
+pub(crate) fn set_how(slots: &mut [Slot], code: usize, how: u8)
     ensures changes { (d : ℕ) → one_digit (state_in how) ≡ Some d
         → ChangesSlot code (with_held (Held.Digits (d ∷ []))) slots.old slots.new }
     ensures laid { (d : ℕ) → one_digit (state_in how) ≡ Some d → SlotsKeepLaid slots.old slots.new }
@@ -106,24 +75,35 @@ fn set_how(slots: &mut [Slot], code: usize, how: u8)
     }
 }
 
-/// Holds digits in a share: a byte each where it has room for them, and else four to a byte. Says
-/// how they are held.
+/// Holds a text in a share: digits a byte each where it has room for them, and else four to a byte.
+/// Says how it is held.
 #[inline(always)]
-fn hold(share: &mut [u8], text: &[u8]) -> State
-    requires room { length text.now ≤ 4 * length share.old }
-    ensures held { held_by result (length text.now) (take (used_by result (length text.now)) share.new)
-        ≡ Held.Digits (map held_digit text.now) }
-    ensures used { used_by result (length text.now) ≤ length share.old }
-    ensures some { some_by result (length text.now) ≡ length text.now }
-    ensures text { result ≢ State.Bits }
+fn hold(share: &mut [u8], form: Form, text: &[u8]) -> State
+    requires room { least_bytes form (length text.now) ≤ length share.old }
+    ensures { IsHeldAs form text.now result share.new }
 {
-    if text.len() <= share.len() {
-        copy_front(share, text);
-        State::Plain
-    } else {
-        pack(share, text);
-        State::Digits
+    match form {
+        Form::RealText => {
+            copy_front(share, text);
+            State::Real
+        }
+        _ if text.len() <= share.len() => {
+            copy_front(share, text);
+            State::Plain
+        }
+        _ => {
+            pack(share, text);
+            State::Digits
+        }
     }
+}
+
+/// Copies bytes to the front.
+fn copy_front(to: &mut [u8], from: &[u8])
+    requires { length from.now ≤ length to.old }
+    ensures { take (length from.now) to.new ≡ from.now }
+{
+    to[..from.len()].copy_from_slice(from);
 }
 
 /// Notes in a slot and its share in which state so many digits, or bytes of a text, are held.
@@ -137,101 +117,77 @@ fn hold_text(slot: &mut Slot, share: &mut Share, state: State, len: usize)
     share.upper = (len / UPPER) as u32;
 }
 
-/// Sets the value of a code to digits, where they fit its share, which ends here.
+/// Returns how many bytes a text takes at least.
 #[inline(always)]
-pub(crate) fn set_digits_in(
-    slots: &mut [Slot],
-    shares: &mut [Share],
-    values: &mut [u8],
-    code: usize,
-    end: usize,
-    text: &[u8],
-)
-    requires several { length text.now ≢ 1 }
-    requires within { code < length slots.old }
-    requires shared { code < length shares.old }
-    requires end { end ≡ end_at shares.old (length values.old) code }
-    ensures changes { ChangesLaid code (with_text Form.Vector text.now) values.old slots.old
-        shares.old values.new slots.new shares.new }
-    ensures laid { KeepLaid (length values.old) slots.old shares.old slots.new shares.new }
+fn least_bytes(form: Form, len: usize) -> usize
+    ensures { result ≡ least_bytes form len }
 {
-    let start = shares[code].start;
-    if end < start || values.len() < end {
-        return;
-    }
-    if text.is_empty() || text.len().div_ceil(4) > end - start {
-        return;
-    }
-    let state = hold(&mut values[start..end], text);
-    hold_text(&mut slots[code], &mut shares[code], state, text.len());
-}
-
-/// Sets the value of a code to digits, where they fit its share.
-#[inline(never)]
-fn set_digits(slots: &mut [Slot], shares: &mut [Share], values: &mut [u8], code: usize, text: &[u8])
-    requires several { length text.now ≢ 1 }
-    ensures changes { ChangesLaid code (with_text Form.Vector text.now) values.old slots.old
-        shares.old values.new slots.new shares.new }
-    ensures laid { KeepLaid (length values.old) slots.old shares.old slots.new shares.new }
-{
-    if code < slots.len() && code < shares.len() {
-        let end = end_of(shares, values.len(), code);
-        set_digits_in(slots, shares, values, code, end, text);
+    match form {
+        Form::RealText => len,
+        Form::Scalar | Form::Vector => len.div_ceil(4),
     }
 }
 
-/// Sets the value of a code to the text of a real number, where it fits its share.
-fn set_real(slots: &mut [Slot], shares: &mut [Share], values: &mut [u8], code: usize, text: &[u8])
-    ensures changes { ChangesLaid code (with_text Form.RealText text.now) values.old slots.old
-        shares.old values.new slots.new shares.new }
-    ensures laid { KeepLaid (length values.old) slots.old shares.old slots.new shares.new }
-{
-    if code >= slots.len() || code >= shares.len() {
-        return;
+impl<'a> Table<'a> {
+    /// Returns where the share of the code at a place ends.
+    #[inline(always)]
+    pub(crate) fn end_of(&self, code: usize) -> usize
+        requires { code < length self.now.shares.now }
+        ensures { result ≡ end_at self.now.shares.now (bytes_in self.now) code }
+    {
+        match self.shares.get(code + 1) {
+            Some(next) => next.start,
+            None => self.values.len(),
+        }
     }
-    let start = shares[code].start;
-    let end = end_of(shares, values.len(), code);
-    if end < start || values.len() < end {
-        return;
-    }
-    if text.is_empty() || text.len() > end - start {
-        return;
-    }
-    copy_front(&mut values[start..end], text);
-    hold_text(&mut slots[code], &mut shares[code], State::Real, text.len());
-}
 
-/// Copies bytes to the front.
-fn copy_front(to: &mut [u8], from: &[u8])
-    requires { length from.now ≤ length to.old }
-    ensures { take (length from.now) to.new ≡ from.now }
-{
-    to[..from.len()].copy_from_slice(from);
-}
+    /// Sets the value of the code at a place to a text, where it fits its share, which ends here.
+    #[inline(always)]
+    pub(crate) fn set_text_in(&mut self, code: usize, end: usize, form: Form, text: &[u8])
+        requires several { form ≢ Form.RealText → length text.now ≢ 1 }
+        requires code { code < codes_in self.old }
+        requires end { end ≡ end_at self.old.shares.now (bytes_in self.old) code }
+        ensures { SetsCode code (with_text form text.now) self.old self.new }
+    {
+        let start = self.shares[code].start;
+        if end < start || self.values.len() < end {
+            return;
+        }
+        if text.is_empty() || least_bytes(form, text.len()) > end - start {
+            return;
+        }
+        let values = &mut *self.values;
+        let state = hold(&mut values[start..end], form, text);
+        let slots = &mut *self.slots;
+        let shares = &mut *self.shares;
+        hold_text(&mut slots[code], &mut shares[code], state, text.len());
+    }
 
-/// Sets the value of a code. Most changes are of one digit, and touch one slot alone.
-#[inline(always)]
-pub(crate) fn set_at(
-    slots: &mut [Slot],
-    shares: &mut [Share],
-    values: &mut [u8],
-    code: usize,
-    value: Value<'_>,
-)
-    ensures changes { ChangesLaid code (with_value value.entry) values.old slots.old shares.old
-        values.new slots.new shares.new }
-    ensures bits { (b : Bits) → value.entry ≡ Value.Bits b
-        → ChangesAt code (with_number b.len b.number) values.old slots.old shares.old
-        values.new slots.new shares.new }
-    ensures laid { KeepLaid (length values.old) slots.old shares.old slots.new shares.new }
-{
-    match value {
-        Value::Digits(text) => match text {
-            [digit] => set_how(slots, code, number_of_digit(*digit)),
-            _ => set_digits(slots, shares, values, code, text),
-        },
-        Value::Real(text) => set_real(slots, shares, values, code, text),
-        Value::Bits(bits) => set_bits(slots, code, bits),
+    /// Sets the value of the code at a place to a text, where it fits its share.
+    #[inline(never)]
+    pub(crate) fn set_text(&mut self, code: usize, form: Form, text: &[u8])
+        requires { form ≢ Form.RealText → length text.now ≢ 1 }
+        ensures { SetsCode code (with_text form text.now) self.old self.new }
+    {
+        if code < self.slots.len() && code < self.shares.len() {
+            self.set_text_in(code, self.end_of(code), form, text);
+        }
+    }
+
+    /// Counts a step of the value of the code at a place, whatever is in its slot.
+    // It is given the table, and no parts of it, so that none is made ready for it where it is not
+    // called.
+    #[cold]
+    #[inline(never)]
+    pub(crate) fn carry(&mut self, code: usize, rises: bool, falls: bool)
+        ensures keeps { KeepsTable self.old self.new }
+        ensures changes { ChangesCode code (with_step rises falls) self.old self.new }
+    {
+        if code < self.slots.len() && code < self.shares.len() {
+            let slots = &mut *self.slots;
+            let shares = &mut *self.shares;
+            carry_step(&mut slots[code].low, &mut shares[code].above, rises, falls);
+        }
     }
 }
 
@@ -250,62 +206,11 @@ pub(crate) fn set_bits(slots: &mut [Slot], code: usize, bits: Bits)
     }
 }
 
-/// Adds one to a counter of a code. A full one stays.
-#[inline(always)]
-pub(crate) fn bump_at(slots: &mut [Slot], shares: &mut [Share], code: usize, which: usize)
-    ensures changes { ChangesBoth code (one_more which) slots.old shares.old slots.new shares.new }
-    ensures laid { BothKeepLaid slots.old shares.old slots.new shares.new }
-{
-    if code >= slots.len() || code >= shares.len() {
-        return;
-    }
-    let slot = &mut slots[code];
-    let share = &mut shares[code];
-    count_one(
-        &mut slot.low,
-        &mut share.middle,
-        &mut share.high,
-        &mut share.top,
-        which,
-    );
-}
-
-/// Adds one to the first counter of a code, and to the others where the tests hold, whatever is in
-/// the slot.
-#[cold]
-#[inline(never)]
-pub(crate) fn carry_at(
-    slots: &mut [Slot],
-    shares: &mut [Share],
-    code: usize,
-    rises: bool,
-    falls: bool,
-)
-    ensures changes { ChangesBoth code (with_step rises falls) slots.old shares.old slots.new
-        shares.new }
-    ensures laid { BothKeepLaid slots.old shares.old slots.new shares.new }
-{
-    if code >= slots.len() || code >= shares.len() {
-        return;
-    }
-    let slot = &mut slots[code];
-    let share = &mut shares[code];
-    carry_step(
-        &mut slot.low,
-        &mut share.middle,
-        &mut share.high,
-        &mut share.top,
-        rises,
-        falls,
-    );
-}
-
 /// Adds one to the first counter of a code, and to the others where the tests hold, where its slot
 /// has room for that. Returns whether it has; else nothing changes.
 #[inline(always)]
-fn count_in_slot(slots: &mut [Slot], code: usize, rises: bool, falls: bool) -> bool
-    ensures counts { result ≡ true
-        → ChangesSlot code (with_step rises falls) slots.old slots.new }
+pub(crate) fn count_in_slot(slots: &mut [Slot], code: usize, rises: bool, falls: bool) -> bool
+    ensures counts { result ≡ true → ChangesSlot code (with_step rises falls) slots.old slots.new }
     ensures same { result ≡ false → slots.new ≡ slots.old }
     ensures laid { SlotsKeepLaid slots.old slots.new }
 {
@@ -313,25 +218,6 @@ fn count_in_slot(slots: &mut [Slot], code: usize, rises: bool, falls: bool) -> b
         return false;
     }
     step_low(&mut slots[code].low, rises, falls)
-}
-
-/// Adds one to the first counter of a code, and to the others where the tests hold. A full one
-/// stays. Most steps touch the slot alone.
-#[inline(always)]
-pub(crate) fn count_at(
-    slots: &mut [Slot],
-    shares: &mut [Share],
-    code: usize,
-    rises: bool,
-    falls: bool,
-)
-    ensures changes { ChangesBoth code (with_step rises falls) slots.old shares.old slots.new
-        shares.new }
-    ensures laid { BothKeepLaid slots.old shares.old slots.new shares.new }
-{
-    if !count_in_slot(slots, code, rises, falls) {
-        carry_at(slots, shares, code, rises, falls);
-    }
 }
 
 /// What became of a change for which its slot alone may be enough.
@@ -350,11 +236,9 @@ pub(crate) enum Stepped {
 /// changes are of this kind, and touch one slot alone.
 #[inline(always)]
 pub(crate) fn turn_at(slots: &mut [Slot], code: usize, digit: u8) -> Stepped
-    ensures counted { result ≡ Stepped.Counted → (form : Form) → form ≢ Form.RealText → (size : ℕ)
-        → ChangesSlot code (with_change size form (digit ∷ [])) slots.old slots.new }
+    ensures counted { result ≡ Stepped.Counted → TurnsTo code digit slots.old slots.new }
     ensures uncounted { (rises falls : Bool) → result ≡ Stepped.Uncounted rises falls
-        → (form : Form) → form ≢ Form.RealText → (size : ℕ)
-        → LeavesStep code (with_change size form (digit ∷ [])) rises falls slots.old slots.new }
+        → LeavesTurn code digit rises falls slots.old slots.new }
     ensures same { result ≡ Stepped.Not → slots.new ≡ slots.old }
     ensures laid { SlotsKeepLaid slots.old slots.new }
 {
@@ -385,16 +269,9 @@ pub(crate) fn turn_at(slots: &mut [Slot], code: usize, digit: u8) -> Stepped
 /// this size, and counts the step.
 #[inline(always)]
 pub(crate) fn step_at(slots: &mut [Slot], code: usize, size: usize, bits: Bits) -> Stepped
-    ensures counted { result ≡ Stepped.Counted → (shares : List Share) (values : List ℕ)
-        → AreLaidOut slots.old shares (length values)
-        → ChangesAt code (with_number_change size bits.len bits.number)
-        values slots.old shares values slots.new shares }
+    ensures counted { result ≡ Stepped.Counted → StepsTo code size bits slots.old slots.new }
     ensures uncounted { (rises falls : Bool) → result ≡ Stepped.Uncounted rises falls
-        → (shares : List Share) (values after : List ℕ) → AreLaidOut slots.old shares (length values)
-        → (counted : List Slot) (with : List Share)
-        → ChangesAt code (with_step rises falls) values slots.new shares after counted with
-        → ChangesAt code (with_number_change size bits.len bits.number)
-        values slots.old shares after counted with }
+        → LeavesNumber code size bits rises falls slots.old slots.new }
     ensures same { result ≡ Stepped.Not → slots.new ≡ slots.old }
     ensures laid { SlotsKeepLaid slots.old slots.new }
 {
@@ -412,34 +289,12 @@ pub(crate) fn step_at(slots: &mut [Slot], code: usize, size: usize, bits: Bits) 
     }
 }
 
-/// Chooses a code.
-#[inline(always)]
-pub(crate) fn choose_at(shares: &mut [Share], code: usize)
-    ensures changes { (slots : List Slot) (values : List ℕ)
-        → ChangesAt code as_chosen values slots shares.old values slots shares.new }
-    ensures laid { (slots : List Slot) (n : ℕ) → AreLaidOut slots shares.old n
-        → AreLaidOut slots shares.new n }
-{
-    if code < shares.len() {
-        shares[code].chosen = true;
-    }
-}
-
 /// Returns how many bytes the value of a code of this size takes at most.
 #[inline(always)]
 fn share_of(size: usize) -> usize
     ensures { result ≡ share_of size }
 {
     size.div_ceil(4).max(64)
-}
-
-/// Returns how many bytes the value of the code at a place takes at most.
-#[inline(always)]
-fn share_at(codes: &[Code], place: usize) -> usize
-    requires { place < length codes.now }
-    ensures { (c : Code) → slice_get codes.now place ≡ Some c → result ≡ share_of c.size }
-{
-    share_of(codes[place].size)
 }
 
 /// Gives each code its share of the values, one after the other, and unsets all. Where the values
@@ -461,7 +316,7 @@ pub(crate) fn lay_out(
     for place in 0..slots.len() {
         slots[place] = Slot::new();
         shares[place] = Share::at(at);
-        at = at.saturating_add(share_at(codes, place)).min(values);
+        at = at.saturating_add(share_of(codes[place].size)).min(values);
     }
     at
 }

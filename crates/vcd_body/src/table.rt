@@ -1,20 +1,15 @@
 //! The current values of the codes of a header, in lent slices.
-ghost use Rattle.std.specs.Prelude.{◌≡◌, ℕ, ◌<◌, ◌≤◌, length};
-ghost use Rattle.vcd_body.specs.Kept.{as_chosen, differs, digit_in, IsStep, one_more, real_text, with_change, with_number_change, with_step, with_text};
-ghost use Rattle.vcd_body.specs.Stored.{room_of};
+ghost use Rattle.std.specs.Prelude.{◌≡◌, ℕ, ◌<◌, ◌≤◌, length, Some, false, slice_get};
+ghost use Rattle.vcd_body.specs.Names.{ChangesCode, ChangesRoomy, Code, GivesValue, IsLaidOut, IsStep, KeepsTable, SetsCode, as_chosen, bytes_in, codes_in, codes_shown, counts_at, differs, digit_in, form_in, held_at, is_chosen, kept_at, model_form, new_at, one_more, real_text, room_of, share_of, shown_as, text_in, unset, value_at_size, value_in, value_with, with_change, with_number_change, with_step, with_text, with_value, with_value_change};
 
 use crate::bits::{Bits, put_digits};
 use crate::compare::value_differs;
-use crate::counters::counts_of;
+use crate::counters::{count_one, counts_of};
 use crate::held::{digit_shown, last_held};
 use crate::item::Form;
-use crate::several::change_at;
-use crate::slot::{Share, Shown, Slot, State, state_in};
+use crate::slot::{Share, Shown, Slot, State, number_of_digit, state_in};
 use crate::step::{Step, step_to_text};
-use crate::store::{
-    Stepped, bump_at, carry_at, choose_at, count_at, holding_at, lay_out, set_at, share_in,
-    step_at, turn_at,
-};
+use crate::store::{Stepped, count_in_slot, lay_out, set_bits, set_how, step_at, turn_at};
 use crate::value::Value;
 use vcd_view::HeadView;
 
@@ -29,15 +24,6 @@ pub struct Table<'a> {
 }
 
 impl<'a> Table<'a> {
-    ghost use Rattle.std.specs.Prelude.{Some, false, slice_get};
-    ghost use Rattle.vcd_view.specs.declared.view.Code.{Code};
-    ghost use Rattle.vcd_model.specs.Values.{value_with};
-    ghost use Rattle.vcd_body.specs.Items.{model_form};
-    ghost use Rattle.vcd_body.specs.Kept.{Kept, unset, value_at_size};
-    ghost use Rattle.vcd_body.specs.Stored.{holding_at, share_of};
-    ghost use Rattle.vcd_body.specs.Values.{form_in, text_in, with_value, with_value_change};
-    ghost use Rattle.vcd_body.specs.Contents.{ChangesCode, GivesValue, IsLaidOut, KeepsTable, SetsNumber, bytes_in, codes_in, codes_shown, counts_at, held_at, is_chosen, kept_at, new_at, shown_as, value_in};
-
     /// Returns a table of the codes of the header that is shown: each is unset, its counters are 0,
     /// and it is not chosen. A code's value has a quarter of its size of the bytes of `values`,
     /// rounded up, and at least 64; where there are fewer, the last codes go short. Slots, shares
@@ -75,12 +61,8 @@ impl<'a> Table<'a> {
     /// takes as long as the text is, and one digit touches the code's slot alone.
     #[inline(always)]
     pub fn set(&mut self, code: usize, form: Form, text: &[u8])
-        ensures laid { IsLaidOut self.old → IsLaidOut self.new }
-        ensures changes { IsLaidOut self.old
-            → ChangesCode code (with_text form text.now) self.old self.new }
+        ensures sets { SetsCode code (with_text form text.now) self.old self.new }
         ensures value { IsLaidOut self.old → GivesValue form text.now code self.old self.new }
-        ensures codes { codes_in self.new ≡ codes_in self.old }
-        ensures bytes { bytes_in self.new ≡ bytes_in self.old }
     {
         self.set_value(code, Value::of_text(form, text));
     }
@@ -90,18 +72,20 @@ impl<'a> Table<'a> {
     /// touch the code's slot alone.
     #[inline(always)]
     pub fn set_value(&mut self, code: usize, value: Value<'_>)
-        ensures keeps { KeepsTable self.old self.new }
-        ensures changes { IsLaidOut self.old
-            → ChangesCode code (with_value value.entry) self.old self.new }
-        ensures bits { (b : Bits) → value.entry ≡ Value.Bits b
-            → SetsNumber code b self.old self.new }
-        ensures as_text { IsLaidOut self.old → (k : Kept) → kept_at self.old code ≡ Some k
-            → 8 ≤ k.room → ChangesCode code (with_text (form_in value.entry) (text_in value.entry))
+        ensures sets { SetsCode code (with_value value.entry) self.old self.new }
+        ensures as_text { ChangesRoomy code (with_text (form_in value.entry) (text_in value.entry))
             self.old self.new }
         ensures value { IsLaidOut self.old
             → GivesValue (form_in value.entry) (text_in value.entry) code self.old self.new }
     {
-        set_at(self.slots, self.shares, self.values, code, value);
+        match value {
+            Value::Digits(text) => match text {
+                [digit] => set_how(self.slots, code, number_of_digit(*digit)),
+                _ => self.set_text(code, Form::Vector, text),
+            },
+            Value::Real(text) => self.set_text(code, Form::RealText, text),
+            Value::Bits(bits) => set_bits(self.slots, code, bits),
+        }
     }
 
     /// Sets the value of the code at a place as `set_value` does, and counts its step at this size
@@ -109,11 +93,8 @@ impl<'a> Table<'a> {
     /// and 1 over another, and binary digits over others, touch the code's slot alone.
     #[inline(always)]
     pub fn follow(&mut self, code: usize, size: usize, value: Value<'_>)
-        ensures keeps { KeepsTable self.old self.new }
-        ensures changes { IsLaidOut self.old
-            → ChangesCode code (with_value_change size value.entry) self.old self.new }
-        ensures as_text { IsLaidOut self.old → (k : Kept) → kept_at self.old code ≡ Some k
-            → 8 ≤ k.room → ChangesCode code
+        ensures sets { SetsCode code (with_value_change size value.entry) self.old self.new }
+        ensures as_text { ChangesRoomy code
             (with_change size (form_in value.entry) (text_in value.entry)) self.old self.new }
         ensures value { IsLaidOut self.old
             → GivesValue (form_in value.entry) (text_in value.entry) code self.old self.new }
@@ -128,9 +109,7 @@ impl<'a> Table<'a> {
     /// Sets the value of the code at a place to digits, and counts its step where it differs.
     #[inline(always)]
     fn follow_digits(&mut self, code: usize, size: usize, text: &[u8])
-        ensures keeps { KeepsTable self.old self.new }
-        ensures changes { IsLaidOut self.old
-            → ChangesCode code (with_change size Form.Vector text.now) self.old self.new }
+        ensures { SetsCode code (with_change size Form.Vector text.now) self.old self.new }
     {
         match text {
             [digit] => match turn_at(self.slots, code, *digit) {
@@ -139,7 +118,7 @@ impl<'a> Table<'a> {
                 Stepped::Not => self.follow_any(code, size, Form::Vector, text),
             },
             _ => {
-                if !change_at(self.slots, self.shares, self.values, code, text) {
+                if !self.change(code, text) {
                     self.follow_any(code, size, Form::Vector, text);
                 }
             }
@@ -150,9 +129,7 @@ impl<'a> Table<'a> {
     /// differs.
     #[inline(always)]
     fn follow_bits(&mut self, code: usize, size: usize, bits: Bits)
-        ensures keeps { KeepsTable self.old self.new }
-        ensures changes { IsLaidOut self.old
-            → ChangesCode code (with_number_change size bits.len bits.number) self.old self.new }
+        ensures { SetsCode code (with_number_change size bits.len bits.number) self.old self.new }
     {
         match step_at(self.slots, code, size, bits) {
             Stepped::Counted => {}
@@ -161,25 +138,11 @@ impl<'a> Table<'a> {
         }
     }
 
-    /// Counts a step of the value of the code at a place, where its slot has no room for it.
-    // It is given the table, and no parts of it, so that none is made ready for it where it is not
-    // called.
-    #[cold]
-    #[inline(never)]
-    fn carry(&mut self, code: usize, rises: bool, falls: bool)
-        ensures keeps { KeepsTable self.old self.new }
-        ensures changes { ChangesCode code (with_step rises falls) self.old self.new }
-    {
-        carry_at(self.slots, self.shares, code, rises, falls);
-    }
-
     /// Sets the value of the code at a place by the text of a change, and counts its step where it
     /// differs, whatever the value was.
     #[inline(never)]
     fn follow_any(&mut self, code: usize, size: usize, form: Form, text: &[u8])
-        ensures keeps { KeepsTable self.old self.new }
-        ensures changes { IsLaidOut self.old
-            → ChangesCode code (with_change size form text.now) self.old self.new }
+        ensures { SetsCode code (with_change size form text.now) self.old self.new }
     {
         if text.is_empty() {
             return;
@@ -195,9 +158,7 @@ impl<'a> Table<'a> {
     /// differs, whatever the value was.
     #[inline(never)]
     fn follow_any_bits(&mut self, code: usize, size: usize, bits: Bits)
-        ensures keeps { KeepsTable self.old self.new }
-        ensures changes { IsLaidOut self.old
-            → ChangesCode code (with_number_change size bits.len bits.number) self.old self.new }
+        ensures { SetsCode code (with_number_change size bits.len bits.number) self.old self.new }
     {
         let mut block = [0u8; 32];
         let text = &mut block[..bits.len];
@@ -217,14 +178,15 @@ impl<'a> Table<'a> {
             → IsStep result (value_at_size size (held_at self.now code))
             (value_with size (model_form form) text.now) }
     {
-        let Some(holding) = holding_at(self.slots, self.shares, code) else {
+        let Some(held) = self.held(code) else {
             return step_to_text(false, None, form, text);
         };
-        let Some(share) = share_in(self.values, self.shares, code, holding) else {
-            return step_to_text(false, None, form, text);
-        };
-        let differs = value_differs(holding, share, size, form, text);
-        step_to_text(differs, last_held(holding, share), form, text)
+        step_to_text(
+            value_differs(held, size, form, text),
+            last_held(held),
+            form,
+            text,
+        )
     }
 
     /// Returns what the value of the code at a place is.
@@ -249,16 +211,8 @@ impl<'a> Table<'a> {
         ensures { IsLaidOut self.now
             → result ≡ digit_in (value_in (codes_shown view.entry) self.now code) place }
     {
-        let Some(declared) = view.code_at(code) else {
-            return None;
-        };
-        let Some(holding) = holding_at(self.slots, self.shares, code) else {
-            return None;
-        };
-        let Some(share) = share_in(self.values, self.shares, code, holding) else {
-            return None;
-        };
-        digit_shown(holding, share, declared.size, place)
+        let declared = view.code_at(code)?;
+        digit_shown(self.held(code)?, declared.size, place)
     }
 
     /// Returns the text of the real number that is the value of the code at a place; empty where it
@@ -267,10 +221,8 @@ impl<'a> Table<'a> {
     pub fn real(&self, code: usize) -> &[u8]
         ensures { IsLaidOut self.now → result.now ≡ real_text (held_at self.now code) }
     {
-        match holding_at(self.slots, self.shares, code) {
-            Some(holding) if holding.state == State::Real => {
-                share_in(self.values, self.shares, code, holding).unwrap_or(&[])
-            }
+        match self.held(code) {
+            Some(held) if held.holding.state == State::Real => held.share,
             _ => &[],
         }
     }
@@ -281,8 +233,7 @@ impl<'a> Table<'a> {
         ensures { result ≡ counts_at self.now code }
     {
         if code < self.slots.len() && code < self.shares.len() {
-            let share = self.shares[code];
-            counts_of(self.slots[code].low, share.middle, share.high, share.top)
+            counts_of(self.slots[code].low, self.shares[code].above)
         } else {
             [0; 3]
         }
@@ -294,17 +245,24 @@ impl<'a> Table<'a> {
         ensures keeps { KeepsTable self.old self.new }
         ensures changes { ChangesCode code (one_more which) self.old self.new }
     {
-        bump_at(self.slots, self.shares, code, which);
+        if code < self.slots.len() && code < self.shares.len() {
+            let slots = &mut *self.slots;
+            let shares = &mut *self.shares;
+            count_one(&mut slots[code].low, &mut shares[code].above, which);
+        }
     }
 
     /// Counts a step of the value of the code at a place: adds one to the first counter, to the
-    /// second where it rises, and to the third where it falls. A full one stays.
+    /// second where it rises, and to the third where it falls. A full one stays. Most steps touch
+    /// the slot alone.
     #[inline(always)]
     pub fn count(&mut self, code: usize, rises: bool, falls: bool)
         ensures keeps { KeepsTable self.old self.new }
         ensures changes { ChangesCode code (with_step rises falls) self.old self.new }
     {
-        count_at(self.slots, self.shares, code, rises, falls);
+        if !count_in_slot(self.slots, code, rises, falls) {
+            self.carry(code, rises, falls);
+        }
     }
 
     /// Chooses the code at a place.
@@ -313,7 +271,9 @@ impl<'a> Table<'a> {
         ensures keeps { KeepsTable self.old self.new }
         ensures changes { ChangesCode code as_chosen self.old self.new }
     {
-        choose_at(self.shares, code);
+        if code < self.shares.len() {
+            self.shares[code].chosen = true;
+        }
     }
 
     /// Returns whether the code at a place is chosen. It takes the same time for every table.

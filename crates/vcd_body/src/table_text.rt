@@ -1,10 +1,8 @@
 //! The values of a table as they are written.
 ghost use Rattle.std.specs.Prelude.{◌-◌, ◌^◌, ◌<◌};
-ghost use Rattle.vcd_body.specs.Names.{Counts, Takes, shown};
-ghost use Rattle.vcd_body.specs.Contents.{IsLaidOut, codes_shown, line_of, value_in};
+ghost use Rattle.vcd_body.specs.Names.{Counts, IsLaidOut, Takes, codes_shown, line_of, shown, value_in};
 
 use crate::held_text::{put_value, put_value_line};
-use crate::store::{holding_at, share_in};
 use crate::table::Table;
 use vcd_text::{Sink, WriteFailed, put};
 use vcd_view::HeadView;
@@ -25,14 +23,11 @@ pub fn put_short<W: Sink>(
     let Some(declared) = view.code_at(code) else {
         return Ok(());
     };
-    let Some(holding) = holding_at(table.slots, table.shares, code) else {
-        return Ok(());
-    };
-    let Some(share) = share_in(table.values, table.shares, code, holding) else {
+    let Some(held) = table.held(code) else {
         return Ok(());
     };
     let id = view.text_at(declared.start, declared.len as usize);
-    put_value_line(holding, share, declared.size, id, w)
+    put_value_line(held, declared.size, id, w)
 }
 
 /// Writes the value of the code at a place in full: all its digits, or `r` and the text of a real
@@ -51,11 +46,8 @@ pub fn put_full<W: Sink>(
     let Some(declared) = view.code_at(code) else {
         return put(w, b"-");
     };
-    let Some(holding) = holding_at(table.slots, table.shares, code) else {
+    let Some(held) = table.held(code) else {
         return put(w, b"-");
     };
-    let Some(share) = share_in(table.values, table.shares, code, holding) else {
-        return put(w, b"-");
-    };
-    put_value(holding, share, declared.size, w)
+    put_value(held, declared.size, w)
 }

@@ -1,7 +1,6 @@
 //! A value that a change gives a code.
 ghost use Rattle.std.specs.Prelude.{◌≡◌, ℕ};
-ghost use Rattle.vcd_body.specs.Kept.{Kept, with_change, with_text};
-ghost use Rattle.vcd_body.specs.Values.{with_value, with_value_change};
+ghost use Rattle.vcd_body.specs.Names.{Kept, with_change, with_text, with_value, with_value_change};
 
 use crate::bits::Bits;
 use crate::item::Form;

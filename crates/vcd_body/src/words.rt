@@ -1,15 +1,6 @@
 // What tokens of a body are.
-ghost use Rattle.std.specs.Prelude.{◌≡◌, ℕ, ◌+◌, ◌<◌, ◌≤◌, length, slice_index, true, List, drop, take, ◌∷◌, ◌^◌, ◌&&◌, not, Some, None, bytes_eq, ◌-◌, ◌/◌, ◌%◌, IfSome};
-ghost use Rattle.std.specs.List.{list_all};
-ghost use Rattle.std.specs.Int.{bit_at};
-ghost use Rattle.vcd_model.specs.Bytes.{is_empty};
-ghost use Rattle.vcd_model.specs.BodyPhrases.{is_value_digit as is_digit};
-ghost use Rattle.vcd_model.specs.Keywords.{is_end as ends};
-ghost use Rattle.std.specs.Str.{byte};
-ghost use Rattle.vcd_body.specs.Binary.{binary_digits, bit_of};
-ghost use Rattle.vcd_body.specs.Changes.{AreBitsAt};
-ghost use Rattle.vcd_body.specs.Spelled.{StandsAt};
-ghost use Rattle.vcd_body.specs.Words.{StandsFor, Begins, command_is};
+ghost use Rattle.std.specs.Prelude.{◌≡◌, ℕ, ◌+◌, ◌<◌, ◌≤◌, length, slice_index, true, List, drop, take, ◌∷◌, ◌^◌, ◌&&◌, not, Some, None, ◌-◌, ◌/◌, ◌%◌, IfSome};
+ghost use Rattle.vcd_body.specs.Names.{AreBitsAt, Begins, MayBe, StandsAt, StandsFor, binary_digits, bit_at, bit_of, byte, command_is, is_empty, is_end as ends, is_value_digit as is_digit, list_all};
 
 use crate::bits::Bits;
 use crate::item::Section;
@@ -102,17 +93,11 @@ pub(crate) fn first_byte_of(token: &[u8]) -> &[u8]
     &token[..token.len().min(1)]
 }
 
-/// Returns whether the token is this word.
-fn is(token: &[u8], word: &[u8]) -> bool
-    ensures { result ≡ bytes_eq word.now token.now }
-{
-    word == token
-}
-
+/// Returns whether the token is `$end`.
 pub(crate) fn is_end(token: &[u8]) -> bool
     ensures { result ≡ ends token.now }
 {
-    is(token, b"$end")
+    token == b"$end".as_slice()
 }
 
 /// Returns what a keyword is where a phrase begins.
@@ -218,24 +203,17 @@ fn all_are_digits(digits: &[u8]) -> bool
     are_binary(digits) || digits.iter().all(|digit| is_value_digit(*digit))
 }
 
-/// Returns whether these are one or more digits of a value.
-pub(crate) fn are_value_digits(digits: &[u8]) -> bool
-    ensures { result ≡ (not (is_empty digits.now) && list_all is_digit digits.now) }
-{
-    !digits.is_empty() && all_are_digits(digits)
-}
-
 /// Returns whether these are one or more digits of a value. Where their number is known they are,
 /// and none is looked at.
 #[inline(always)]
 pub(crate) fn are_digits_or_known(digits: &[u8], bits: Option<Bits>) -> bool
-    requires bits { IfSome bits (λ b. digits.now ≡ binary_digits b.len b.number) }
+    requires bits { MayBe bits digits.now }
     ensures { result ≡ (not (is_empty digits.now) && list_all is_digit digits.now) }
 {
     if bits.is_some() {
         return true;
     }
-    are_value_digits(digits)
+    !digits.is_empty() && all_are_digits(digits)
 }
 
 /// Returns a mask whose bit 31 - k is set where byte `at + k` is `1`: the last byte gives the

@@ -10,8 +10,8 @@ not_so false h = refl
 
 pub returns-in-Some : goal.returns-in-Some
 returns-in-Some c = λ t.
-    let xs = digits_with c.args.holding c.args.share.now in
-    let held = c.count_of-held.ensures in
+    let xs = digits_with c.args.held.holding c.args.held.share.now in
+    let held = c.count_of-count.ensures in
     let at = sym c.in-Some.is ∙ c.digit_held.ensures ∙ ap (λ (n : ℕ). slice_get xs (n - 1 - c.args.back)) held in
-    differ_held xs c.args.text.now c.args.back c.in-Some.digit (omega (arith, held, c.if-back-held.false)) c.if-back-text.false at
+    differ_held xs c.args.text.now c.args.back c.in-Some.digit (omega (arith, held, c.if-back-count.false)) c.if-back-text.false at
     (λ e. eqb-false c.in-Some.digit c.to_ascii_lowercase.result (not_so _ t) (e ∙ sym c.to_ascii_lowercase.ensures.value))

@@ -9,10 +9,10 @@ use Rattle.vcd_body.proofs.held.last_held.Goals as goal
 
 pub returns-in-Plain : goal.returns-in-Plain
 returns-in-Plain c size =
-    let len = (len_of c.args.holding) in
-    let bytes = c.args.share.now in
-    let used = subst (λ (s : State). used_by s len ≤ length bytes) c.in-Plain.is c.requires.fits in
-    let some = subst (λ (s : State). 1 ≤ some_by s len) c.in-Plain.is c.requires.some in
+    let len = (len_of c.args.held.holding) in
+    let bytes = c.args.held.share.now in
+    let used = subst (λ (s : State). used_by s len ≤ length bytes) c.in-Plain.is c.args.held.fits in
+    let some = subst (λ (s : State). 1 ≤ some_by s len) c.in-Plain.is c.args.held.some in
     let one : length bytes ≡ suc (length bytes - 1) = omega (arith, used, some) in
     c.plain_digit_at.ensures
     ∙ sym (last_plain len bytes size (length bytes - 1) one)
@@ -20,10 +20,10 @@ returns-in-Plain c size =
 
 pub returns-in-Digits : goal.returns-in-Digits
 returns-in-Digits c size =
-    let len = (len_of c.args.holding) in
-    let bytes = c.args.share.now in
-    let used = subst (λ (s : State). used_by s len ≤ length bytes) c.in-Digits.is c.requires.fits in
-    let some = subst (λ (s : State). 1 ≤ some_by s len) c.in-Digits.is c.requires.some in
+    let len = (len_of c.args.held.holding) in
+    let bytes = c.args.held.share.now in
+    let used = subst (λ (s : State). used_by s len ≤ length bytes) c.in-Digits.is c.args.held.fits in
+    let some = subst (λ (s : State). 1 ≤ some_by s len) c.in-Digits.is c.args.held.some in
     let one : len ≡ suc (len - 1) = omega (arith, some) in
     (rw (c.len.ensures, c.len-in-Digits.ensures) at c.digit_at.ensures)
     ∙ sym (last_packed len bytes size (len - 1) used one)
@@ -31,14 +31,14 @@ returns-in-Digits c size =
 
 pub last_binary-requires : goal.last_binary-requires
 last_binary-requires c =
-    let some = subst (λ (s : State). 1 ≤ some_by s (len_of c.args.holding)) c.in-Bits.is c.requires.some in
-    proper_count (len_of c.args.holding) (proper (len_of c.args.holding) some)
+    let some = subst (λ (s : State). 1 ≤ some_by s (len_of c.args.held.holding)) c.in-Bits.is c.args.held.some in
+    proper_count (len_of c.args.held.holding) (proper (len_of c.args.held.holding) some)
 
 pub returns-in-Bits : goal.returns-in-Bits
 returns-in-Bits c size =
-    let len = (len_of c.args.holding) in
-    let bytes = c.args.share.now in
-    let some = subst (λ (s : State). 1 ≤ some_by s len) c.in-Bits.is c.requires.some in
+    let len = (len_of c.args.held.holding) in
+    let bytes = c.args.held.share.now in
+    let some = subst (λ (s : State). 1 ≤ some_by s len) c.in-Bits.is c.args.held.some in
     let count = proper_count len (proper len some) in
     let one : count_in len ≡ suc (count_in len - 1) = omega (arith, count) in
     c.last_binary.ensures
@@ -46,4 +46,4 @@ returns-in-Bits c size =
     ∙ sym (ap (λ (s : State). last_digit_in (value_at_size size (held_by s len bytes))) c.in-Bits.is)
 
 pub returns-in_default : goal.returns-in_default
-returns-in_default c size = c.digit_of_state.ensures ∙ last_of_state c.args.holding.state (len_of c.args.holding) c.args.share.now size c.in_default.not-Plain c.in_default.not-Digits c.in_default.not-Bits
+returns-in_default c size = c.digit_of_state.ensures ∙ last_of_state c.args.held.holding.state (len_of c.args.held.holding) c.args.held.share.now size c.in_default.not-Plain c.in_default.not-Digits c.in_default.not-Bits

@@ -1,18 +1,31 @@
-use Rattle.std.proofs.Common.{subst}
+use Rattle.std.proofs.Common.{◌++◌, ◌∷◌, [], Bool, cond, subst, sym, ap, ◌∙◌}
+use Rattle.std.proofs.lemmas.Bool.{eq-eqb, ne_eqb}
+use Rattle.vcd_model.specs.Values.{extend, short}
 use Rattle.vcd_text.specs.Device.{Puts}
 use Rattle.vcd_body.specs.Stored.{digits_with, held_with, len_of}
 use Rattle.vcd_body.proofs.HeldLines.{all_digits, line_is, some_digits}
 use Rattle.vcd_body.proofs.held_text.put_value_line.Goals as goal
 
-pub put_digits_held-requires : goal.put_digits_held-requires
-put_digits_held-requires g c = record {
+pub put_short_held-requires : goal.put_short_held-requires
+put_short_held-requires g c = record {
   failures = c.requires.failures;
-  used = c.requires.held.fits;
-  some = some_digits c.args.holding.state (len_of c.args.holding) c.args.share.now c.requires.held.fits c.requires.held.some c.in_default.not-Unset c.in_default.not-Real;
+  some = some_digits c.args.held.holding.state (len_of c.args.held.holding) c.args.held.share.now c.args.held.fits c.args.held.some c.in_default-2.not-Unset c.in_default-2.not-Real;
 }
 
 pub returns-in_default : goal.returns-in_default
 returns-in_default g c event =
-    let some = some_digits c.args.holding.state (len_of c.args.holding) c.args.share.now c.requires.held.fits c.requires.held.some c.in_default.not-Unset c.in_default.not-Real in
-    let is = all_digits c.args.holding.state (len_of c.args.holding) c.args.share.now c.in_default.not-Unset c.in_default.not-Real in
-    subst (λ l. Puts (g.W.Sink.device c.args.w.now) (g.W.Sink.device c.put_digits_held.new.w) l c.put_digits_held.result) (line_is c.args.size (digits_with c.args.holding c.args.share.now) c.args.id.now event (held_with c.args.holding c.args.share.now) some is) c.put_digits_held.ensures
+    let ds = digits_with c.args.held.holding c.args.held.share.now in
+    let id = c.args.id.now in
+    let some = some_digits c.args.held.holding.state (len_of c.args.held.holding) c.args.held.share.now c.args.held.fits c.args.held.some c.in_default.not-Unset c.in_default.not-Real in
+    let is = all_digits c.args.held.holding.state (len_of c.args.held.holding) c.args.held.share.now c.in_default.not-Unset c.in_default.not-Real in
+    let line = ap (λ (b : Bool). cond b (ds ++ (id ++ 10 ∷ [])) (98 ∷ short (extend ds c.args.size) ++ (32 ∷ id ++ 10 ∷ []))) (eq-eqb c.args.size 1 c.if-size-eq1.true) in
+    subst (λ l. Puts (g.W.Sink.device c.args.w.now) (g.W.Sink.device c.put_all_held.new.w) l c.put_all_held.result) (sym line ∙ line_is c.args.size ds id event (held_with c.args.held.holding c.args.held.share.now) some is) c.put_all_held.ensures
+
+pub returns-in_default-2 : goal.returns-in_default-2
+returns-in_default-2 g c event =
+    let ds = digits_with c.args.held.holding c.args.held.share.now in
+    let id = c.args.id.now in
+    let some = some_digits c.args.held.holding.state (len_of c.args.held.holding) c.args.held.share.now c.args.held.fits c.args.held.some c.in_default-2.not-Unset c.in_default-2.not-Real in
+    let is = all_digits c.args.held.holding.state (len_of c.args.held.holding) c.args.held.share.now c.in_default-2.not-Unset c.in_default-2.not-Real in
+    let line = ap (λ (b : Bool). cond b (ds ++ (id ++ 10 ∷ [])) (98 ∷ short (extend ds c.args.size) ++ (32 ∷ id ++ 10 ∷ []))) (ne_eqb c.args.size 1 c.if-size-eq1.false) in
+    subst (λ l. Puts (g.W.Sink.device c.args.w.now) (g.W.Sink.device c.put_short_held.new.w) l c.put_short_held.result) (sym line ∙ line_is c.args.size ds id event (held_with c.args.held.holding c.args.held.share.now) some is) (c.put_short_held.ensures.takes c.args.size, c.put_short_held.ensures.counts)

@@ -1,7 +1,7 @@
-use Rattle.std.proofs.Common.{ℕ, Option, sym, ap, ◌∙◌}
+use Rattle.std.proofs.Common.{ℕ, Option, ap, ◌∙◌}
 use Rattle.std.specs.Prelude.{unwrap_or}
 use Rattle.std.proofs.lemmas.Option.{unwrap_or-slice_get}
 use Rattle.vcd_body.proofs.packed.byte_or.Goals as goal
 
-pub returns-in-None : goal.returns-in-None
-returns-in-None c = ap (λ (o : Option ℕ). unwrap_or o 0) (sym c.in-None.is ∙ c.byte_at.ensures) ∙ unwrap_or-slice_get c.args.share.now c.args.place 0
+pub returns : goal.returns
+returns c = c.unwrap_or.ensures ∙ ap (λ (o : Option ℕ). unwrap_or o 0) c.byte_at.ensures ∙ unwrap_or-slice_get c.args.share.now c.args.place 0

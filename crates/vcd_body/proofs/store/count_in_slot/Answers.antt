@@ -13,7 +13,7 @@ returns-clause-counts c = λ told shares values.
     let at = slice_get-get_or slots c.args.code blank c.if-code-slots.false in
     let low = c.step_low.new.low in
     slot_changes slots c.args.code slot _ at shares values (with_step c.args.rises c.args.falls)
-    (λ h end. steps_kept (whole slot h) (counts_of low h.middle h.high h.top) c.args.rises c.args.falls end values (c.step_low.ensures.more told h.middle h.high h.top))
+    (λ h end. steps_kept (whole slot h) (counts_of low h.above) c.args.rises c.args.falls end values (c.step_low.ensures.more told h.above))
 
 pub returns-clause-laid : goal.returns-clause-laid
 returns-clause-laid c = λ shares n laid.

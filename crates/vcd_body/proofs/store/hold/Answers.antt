@@ -1,5 +1,6 @@
-use Rattle.vcd_body.proofs.StoreLemmas.{packed_held}
+use Rattle.std.proofs.Common.{arith}
+use Rattle.vcd_body.proofs.StoreLemmas.{packed_as}
 use Rattle.vcd_body.proofs.store.hold.Goals as goal
 
-pub returns-else-text-share-clause-held : goal.returns-else-text-share-clause-held
-returns-else-text-share-clause-held c = packed_held c.pack.new.share c.args.text.now c.pack.ensures
+pub returns-in_default-2 : goal.returns-in_default-2
+returns-in_default-2 c = packed_as c.args.form c.pack.new.share c.args.text.now c.in_default.not-RealText (omega (arith, c.requires.room, c.pack.auto.share)) c.pack.ensures

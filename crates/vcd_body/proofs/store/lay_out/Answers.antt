@@ -1,8 +1,8 @@
-use Rattle.std.proofs.Common.{◌∙◌, arith}
+use Rattle.std.proofs.Common.{get_or, false, ◌∙◌, arith}
 use Rattle.std.proofs.Math.ListN.{length-set}
-use Rattle.std.proofs.lemmas.Option.{slice_get_within}
+use Rattle.std.proofs.lemmas.Option.{slice_get-get_or, slice_get_within}
+use Rattle.vcd_view.specs.declared.view.Code.{Code}
 use Rattle.vcd_body.proofs.LayoutLemmas.{laid_more, start_next, unset_more}
-use Rattle.vcd_body.proofs.StoreLemmas.{some_at}
 use Rattle.vcd_body.proofs.store.lay_out.Goals as goal
 
 pub loop-place-preserved : goal.loop-place-preserved
@@ -11,9 +11,9 @@ loop-place-preserved c =
     let e = i.0 in
     let f = i.1 in
     let at = i.2 in
-    let d = some_at c.args.codes.now c.loop-place.place (omega (arith, e)) in
-    let s = start_next c.args.codes.now c.args.values c.loop-place.place d.0 d.1 in
-    let one = c.share_at.ensures d.0 d.1 in
+    let none : Code = record { start = 0; size = 0; len = 0; event = false } in
+    let s = start_next c.args.codes.now c.args.values c.loop-place.place (get_or c.args.codes.now c.loop-place.place none) (slice_get-get_or c.args.codes.now c.loop-place.place none (omega (arith, e))) in
+    let one = c.share_of.ensures in
     let more = laid_more c.args.codes.now c.loop-place.shares c.args.values c.loop-place.place (omega (arith, e, f)) i.4 in (
       length-set _ _ _ ∙ i.0,
       length-set _ _ _ ∙ i.1,

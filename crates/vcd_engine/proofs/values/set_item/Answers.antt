@@ -19,7 +19,7 @@ returns-in-Some-clause-held c = λ view h items x views good read held.
     let has = subst (HasBits c.args.item c.args.text.now) c.in-Some.is c.requires.bits in
     let laid = held.values.laid in
     let set = c.set_value.ensures in
-    bits_hold view h c.args.table.now c.set_value.new.self items c.args.item c.args.text.now c.in-Some.bits c.in-Change.code c.in-Change.form x views held c.in-Change.is has good read (set.as_text laid) (set.keeps.laid laid) (set.value laid)
+    bits_hold view h c.args.table.now c.set_value.new.self items c.args.item c.args.text.now c.in-Some.bits c.in-Change.code c.in-Change.form x views held c.in-Change.is has good read (set.as_text laid) (set.sets.keeps.laid laid) (set.value laid)
 
 pub returns-in-None-clause-held : goal.returns-in-None-clause-held
 returns-in-None-clause-held c = λ view h items x views good read held.
@@ -32,4 +32,4 @@ returns-in-None-clause-held c = λ view h items x views good read held.
     let fits : (d : Code) → slice_get codes place ≡ Some d → IsText form d text = λ d there. good_text codes text place form d sound there in
     let laid = held.values.laid in
     subst (λ (y : BodyItem). AreHeld c.set.new.self h (items ++ y ∷ [])) (sym change.2)
-    (set_holds view h c.args.table.now c.set.new.self items place form text change.0 views change.1 held (c.set.ensures.changes laid) (c.set.ensures.laid laid) fits (c.set.ensures.value laid))
+    (set_holds view h c.args.table.now c.set.new.self items place form text change.0 views change.1 held (c.set.ensures.sets.changes laid) (c.set.ensures.sets.keeps.laid laid) fits (c.set.ensures.value laid))

@@ -1,5 +1,22 @@
-use Rattle.std.proofs.Common.{length, refl}
+use Rattle.std.proofs.Common.{get_or, length, refl}
+use Rattle.std.proofs.Math.ListN.{length-set}
+use Rattle.std.proofs.lemmas.Option.{slice_get-get_or}
+use Rattle.vcd_body.specs.Kept.{as_chosen}
+use Rattle.vcd_body.proofs.StoreLemmas.{blank_share, counted_laid, no_share_there, share_alone_changes}
+use Rattle.vcd_body.proofs.TableLemmas.{keeps_laid}
 use Rattle.vcd_body.proofs.table.Table.choose.Goals as goal
 
-pub returns-clause-keeps : goal.returns-clause-keeps
-returns-clause-keeps c = record { laid = c.choose_at.ensures.laid c.args.self.now.slots.now (length c.args.self.now.values.now); codes = cc; bytes = refl }
+pub returns-then-code-self-clause-keeps : goal.returns-then-code-self-clause-keeps
+returns-then-code-self-clause-keeps c =
+    let t = c.args.self.now in
+    let share = get_or t.shares.now c.args.code blank_share in
+    keeps_laid t _ refl (length-set _ _ _) refl (λ laid. counted_laid t.slots.now t.shares.now (length t.values.now) laid c.args.code share _ (slice_get-get_or t.shares.now c.args.code blank_share c.if-code-self.true) refl refl)
+
+pub returns-then-code-self-clause-changes : goal.returns-then-code-self-clause-changes
+returns-then-code-self-clause-changes c =
+    let t = c.args.self.now in
+    let share = get_or t.shares.now c.args.code blank_share in
+    share_alone_changes t.shares.now c.args.code share _ (slice_get-get_or t.shares.now c.args.code blank_share c.if-code-self.true) refl t.slots.now t.values.now as_chosen (λ s end. refl)
+
+pub returns-else-code-self-clause-changes : goal.returns-else-code-self-clause-changes
+returns-else-code-self-clause-changes c = no_share_there c.args.self.now.values.now c.args.self.now.slots.now c.args.self.now.shares.now c.args.code as_chosen c.if-code-self.false

@@ -1,35 +1,63 @@
-use Rattle.std.proofs.Common.{arith, subst, sym}
-use Rattle.vcd_body.specs.Stored.{AreLaidOut}
-use Rattle.vcd_body.specs.Values.{form_in, text_in}
-use Rattle.vcd_body.proofs.FollowLemmas.{number_as_text, value_as_text}
-use Rattle.vcd_body.proofs.SetLemmas as lemmas
+use Rattle.std.proofs.Common.{◌≡◌, ◌∷◌, [], List, ℕ, get_or, length, refl, subst, sym, ap, ◌∙◌}
+use Rattle.vcd_body.specs.Contents.{SetsCode}
+use Rattle.vcd_body.specs.Kept.{Held, with_held, with_text}
+use Rattle.vcd_body.specs.Packed.{held_digit}
+use Rattle.vcd_body.specs.Stored.{ChangesAt}
+use Rattle.vcd_body.specs.Values.{with_value}
+use Rattle.vcd_body.specs.declared.item.Form.TheVariants as form
+use Rattle.vcd_body.specs.declared.value.Value.{Value}
+use Rattle.vcd_body.proofs.FollowLemmas.{change_as, one_text, sets_text, sets_value}
+use Rattle.vcd_body.proofs.StoreLemmas.{alone}
 use Rattle.vcd_body.proofs.table.Table.set_value.Goals as goal
 
-pub returns-clause-keeps : goal.returns-clause-keeps
-returns-clause-keeps c = record {
-  laid = λ laid. subst (λ n. AreLaidOut c.set_at.new.slots c.set_at.new.shares n) (sym c.set_at.auto.values) (c.set_at.ensures.laid laid);
-  codes = cc;
-  bytes = cc;
-}
-
-pub returns-clause-as_text : goal.returns-clause-as_text
-returns-clause-as_text c = λ laid k at room.
+pub returns-in-len1-clause-sets : goal.returns-in-len1-clause-sets
+returns-in-len1-clause-sets c =
     let old = c.args.self.now in
-    let new = c.set_at.new in
-    value_as_text old.values.now new.values old.slots.now new.slots old.shares.now new.shares c.args.code c.args.value k at room (c.set_at.ensures.changes laid)
-
-pub returns-clause-value : goal.returns-clause-value
-returns-clause-value c = λ laid code k good event is most.
-    let old = c.args.self.now in
-    let new = c.set_at.new in
-    let v = c.args.value in
-    lemmas.set_value old.values.now new.values old.slots.now new.slots old.shares.now new.shares c.args.code (form_in v) (text_in v) code k (returns-clause-as_text c laid k is (omega (arith, most))) good event is most
-
-pub returns-clause-bits : goal.returns-clause-bits
-returns-clause-bits c = λ b is.
-    let old = c.args.self.now in
-    let new = c.set_at.new in
+    let text = c.in-Digits.text.now in
+    let digit = get_or text 0 0 in
+    let one : digit ∷ [] ≡ text = alone text c.in-len1.len_at_least c.in-len1.len_below in
     record {
-      changes = c.set_at.ensures.bits b is;
-      as_text = λ k at room. number_as_text c.args.code b.len b.number old.values.now new.values old.slots.now new.slots old.shares.now new.shares k b.some b.few at room (c.set_at.ensures.bits b is);
+      keeps = record { laid = c.set_how.ensures.laid (held_digit digit) c.number_of_digit.ensures old.shares.now (length old.values.now); codes = cc; bytes = refl };
+      changes = λ laid. subst (λ (v : Value). ChangesAt c.args.code (with_value v) old.values.now old.slots.now old.shares.now old.values.now c.set_how.new.slots old.shares.now) (sym c.in-Digits.is)
+          (change_as c.args.code (with_held (Held.Digits (held_digit digit ∷ []))) (with_text form.Vector text) old.values.now old.values.now old.slots.now c.set_how.new.slots old.shares.now old.shares.now
+          (λ k kept. sym (one_text form.Vector digit k (λ e. cc)) ∙ ap (λ (l : List ℕ). with_text form.Vector l k) one)
+          (c.set_how.ensures.changes (held_digit digit) c.number_of_digit.ensures old.shares.now old.values.now));
     }
+
+pub returns-in-len1-clause-as_text : goal.returns-in-len1-clause-as_text
+returns-in-len1-clause-as_text c = sets_text c.args.self.now _ c.args.code c.args.value (returns-in-len1-clause-sets c)
+
+pub returns-in-len1-clause-value : goal.returns-in-len1-clause-value
+returns-in-len1-clause-value c = sets_value c.args.self.now _ c.args.code c.args.value (returns-in-len1-clause-sets c)
+
+pub returns-in_default-clause-sets : goal.returns-in_default-clause-sets
+returns-in_default-clause-sets c = subst (λ (v : Value). SetsCode c.args.code (with_value v) c.args.self.now c.set_text.new.self) (sym c.in-Digits.is) c.set_text.ensures
+
+pub returns-in_default-clause-as_text : goal.returns-in_default-clause-as_text
+returns-in_default-clause-as_text c = sets_text c.args.self.now _ c.args.code c.args.value (returns-in_default-clause-sets c)
+
+pub returns-in_default-clause-value : goal.returns-in_default-clause-value
+returns-in_default-clause-value c = sets_value c.args.self.now _ c.args.code c.args.value (returns-in_default-clause-sets c)
+
+pub returns-in-Real-clause-sets : goal.returns-in-Real-clause-sets
+returns-in-Real-clause-sets c = subst (λ (v : Value). SetsCode c.args.code (with_value v) c.args.self.now c.set_text-in-Real.new.self) (sym c.in-Real.is) c.set_text-in-Real.ensures
+
+pub returns-in-Real-clause-as_text : goal.returns-in-Real-clause-as_text
+returns-in-Real-clause-as_text c = sets_text c.args.self.now _ c.args.code c.args.value (returns-in-Real-clause-sets c)
+
+pub returns-in-Real-clause-value : goal.returns-in-Real-clause-value
+returns-in-Real-clause-value c = sets_value c.args.self.now _ c.args.code c.args.value (returns-in-Real-clause-sets c)
+
+pub returns-in-Bits-clause-sets : goal.returns-in-Bits-clause-sets
+returns-in-Bits-clause-sets c =
+    let old = c.args.self.now in
+    record {
+      keeps = record { laid = c.set_bits.ensures.laid old.shares.now (length old.values.now); codes = cc; bytes = refl };
+      changes = λ laid. subst (λ (v : Value). ChangesAt c.args.code (with_value v) old.values.now old.slots.now old.shares.now old.values.now c.set_bits.new.slots old.shares.now) (sym c.in-Bits.is) (c.set_bits.ensures.changes old.shares.now old.values.now);
+    }
+
+pub returns-in-Bits-clause-as_text : goal.returns-in-Bits-clause-as_text
+returns-in-Bits-clause-as_text c = sets_text c.args.self.now _ c.args.code c.args.value (returns-in-Bits-clause-sets c)
+
+pub returns-in-Bits-clause-value : goal.returns-in-Bits-clause-value
+returns-in-Bits-clause-value c = sets_value c.args.self.now _ c.args.code c.args.value (returns-in-Bits-clause-sets c)

@@ -5,11 +5,11 @@ use Rattle.vcd_body.specs.Kept.{Held, IsStep, bytes_for, value_at_size}
 use Rattle.vcd_body.specs.Packed.{digits_in}
 use Rattle.vcd_body.specs.declared.item.Form.TheVariants as form
 use Rattle.vcd_body.proofs.SeveralLemmas.{by_both, packed_there}
-use Rattle.vcd_body.proofs.several.step_told.Goals as goal
+use Rattle.vcd_body.proofs.table.Table.step_told.Goals as goal
 
 pub returns-in-Digits-clause-step : goal.returns-in-Digits-clause-step
 returns-in-Digits-clause-step c = by_both c.packed_step.result _ _ _ c.packed_step.ensures.room c.packed_step.ensures.step (λ step room is size.
-    let holding = c.args.holding in
-    let held = packed_there c.args.values.now (c.args.end - c.args.start) c.args.start holding c.in_ok-share.share.now c.in-Digits.is c.in_ok-share.ensures (subst (λ n. bytes_for n ≤ length c.in_ok-share.share.now) c.len-in-Digits.ensures room) in
+    let holding = c.args.held in
+    let held = packed_there c.args.self.now.values.now (c.args.end - c.args.start) c.args.start holding c.in_ok-share.share.now c.in-Digits.is c.in_ok-share.ensures (subst (λ n. bytes_for n ≤ length c.in_ok-share.share.now) c.len-in-Digits.ensures room) in
     subst (λ (h : Held). IsStep step (value_at_size size h) (value_with size (model_form form.Vector) c.args.text.now)) (sym held)
     (subst (λ n. IsStep step (Some (Value.Bits (extend (digits_in n c.in_ok-share.share.now) size))) (value_with size (model_form form.Vector) c.args.text.now)) c.len-in-Digits.ensures (is size)))

@@ -1,0 +1,29 @@
+-- When bytes are the line of the change that they spell, and what is left out of them else.
+use Rattle.std.specs.Prelude.{◌≡◌, ℕ, ◌+◌, ◌-◌, ◌≤◌, List, [], ◌∷◌, ◌++◌, drop, length, slice_index, slice_range, Option, IfSome}
+use Rattle.std.specs.Str.{str_to_ascii_lowercase}
+use Rattle.vcd_model.specs.Values.{extend, short}
+use Rattle.vcd_body.specs.Binary.{binary_digits}
+use Rattle.vcd_body.specs.Spelled.{HasChange, bytes_without}
+use Rattle.vcd_body.specs.declared.bits.Bits.{Bits}
+use Rattle.vcd_body.specs.declared.item.Form.TheVariants as form
+
+-- a digit and a code, which begins at this place, are the line
+abbrev pub IsDigitLine : List ℕ → ℕ → ℕ → ℕ → Type 0
+IsDigitLine bytes from to code_at = (text code : List ℕ) → HasChange bytes from to form.Scalar text code → slice_index bytes (to - 1) ≡ 10 → to ≡ code_at + length code + 1 → slice_range bytes from to ≡ str_to_ascii_lowercase text ++ (code ++ 10 ∷ [])
+
+-- a letter, a text, a blank and a code, which begins at this place, are the line
+abbrev pub IsTextLine : List ℕ → ℕ → ℕ → ℕ → List ℕ → ℕ → Type 0
+IsTextLine bytes from to first text code_at = (code : List ℕ) → HasChange bytes from to form.Vector text code → slice_index bytes (to - 1) ≡ 10 → to ≡ code_at + length code + 1 → slice_range bytes from to ≡ first ∷ text ++ (32 ∷ code ++ 10 ∷ [])
+
+-- there may be the number of these digits
+abbrev pub MayBe : Option Bits → List ℕ → Type 0
+MayBe bits digits = IfSome bits (λ b. digits ≡ binary_digits b.len b.number)
+
+-- without so many, the digits are the shortest, where their number is this
+abbrev pub LeavesShortest : List ℕ → Option Bits → ℕ → Type 0
+LeavesShortest digits bits k = (k ≤ length digits) × (MayBe bits digits → (size : ℕ) → drop k digits ≡ short (extend (str_to_ascii_lowercase digits) size))
+
+-- without so many after the `b` the bytes are the line
+abbrev pub LeavesLine : List ℕ → ℕ → ℕ → List ℕ → Option Bits → ℕ → ℕ → Type 0
+LeavesLine bytes from to digits bits code_at k = (k ≤ length digits) × ((code : List ℕ) → HasChange bytes from to form.Vector digits code → slice_index bytes (to - 1) ≡ 10 → to ≡ code_at + length code + 1 → MayBe bits digits → (size : ℕ)
+    → bytes_without bytes from to k ≡ 98 ∷ short (extend (str_to_ascii_lowercase digits) size) ++ (32 ∷ code ++ 10 ∷ []))
