@@ -1,4 +1,4 @@
-use Rattle.std.proofs.Common.{true, refl, sym}
+use Rattle.std.proofs.Common.{true, sym}
 use Rattle.vcd_merge.proofs.MergeTrails.{one_step}
 use Rattle.vcd_merge.proofs.merge_steps.merge_step.Goals as goal
 
