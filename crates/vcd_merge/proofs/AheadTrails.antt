@@ -24,43 +24,43 @@ use Rattle.vcd_body.specs.declared.item.Form.{Form}
 use Rattle.vcd_body.specs.declared.item.Item.{Item}
 use Rattle.vcd_body.specs.declared.item.Item.TheVariants.{Change, Time}
 use Rattle.vcd_body.specs.declared.item.Regs.{Regs}
-use Rattle.vcd_merge.specs.MergeAhead.{IsAhead, IsPutable, OneAhead, PutsDue, StageAhead, TakesNext, seat_with}
-use Rattle.vcd_merge.specs.declared.seat.Seat.{Seat}
+use Rattle.vcd_merge.specs.MergeAhead.{IsAhead, IsPutable, OneAhead, PutsDue, StageAhead, TakesNext, track_with}
+use Rattle.vcd_merge.specs.declared.seat.Track.{Track}
 use Rattle.vcd_merge.proofs.SeatLemmas.{not_large}
 
 -- ---- one item
 
-module _ (v : HeadView) (a a' : Ahead) (s : Seat) (p : Plain) (item : TakesItem v a a' s.regs p) where
-  pub putable : IsPutable v p
+module _ (v : HeadView) (a a' : Ahead) (s : Track) (p : Plain) (item : TakesItem v a a' s.regs p) where
+  pub putable : IsPutable v.codes.now p
   putable = record { sound = item.sound; sized = λ some. item.sized; bits = item.bits }
 
   change_small : (place : ℕ) (f : Form) (i : Item) → i ≡ Change place f → (codes : List IdCode) (text : List ℕ) (x : BodyItem) → IsItem codes text i x → is_too_large s.factor x ≡ false
   change_small place f i e codes text x is = let at = subst (λ (j : Item). IsItem codes text j x) e is in rw at.2 refl
 
-  pub change_taken : {E : Type 0} (place : ℕ) (f : Form) (written written' : Option ℕ) (out out' : Device) (result : Result (Unit {0}) E) → p.item ≡ Change place f → PutsDue v p s written written' out out' result → TakesNext v a a' s s written written' out out' result
+  pub change_taken : {E : Type 0} (place : ℕ) (f : Form) (written written' : Option ℕ) (out out' : Device) (result : Result (Unit {0}) E) → p.item ≡ Change place f → PutsDue v.codes.now p s written written' out out' result → TakesNext v a a' s s written written' out out' result
   change_taken place f written written' out out' result e puts = record {
     plain = p;
     item = item;
-    seat = subst (λ (i : Item). s ≡ seat_with s (regs_after s.regs i) s.time) (sym e) refl;
+    track = subst (λ (i : Item). s ≡ track_with s (regs_after s.regs i) s.time) (sym e) refl;
     time = λ scale factor time. time;
     small = change_small place f p.item e;
     puts = puts;
   }
 
   pub mark_taken : {E : Type 0} (time scaled : ℕ) (written : Option ℕ) (out : Device) → p.item ≡ Time time → time * s.factor < 2 ^ 64 → scaled ≡ time * s.factor
-      → TakesNext {E = E} v a a' s (seat_with s (regs_after s.regs p.item) scaled) written written out out (Ok tt)
+      → TakesNext {E = E} v a a' s (track_with s (regs_after s.regs p.item) scaled) written written out out (Ok tt)
   mark_taken time scaled written out e fits is = record {
     plain = p;
     item = item;
-    seat = refl;
+    track = refl;
     time = λ scale factor now. is ∙ mul_comm time s.factor ∙ ap (λ n. n * time) factor ∙ ap (λ n. scale * n) (sym (ap (λ (i : Item). (regs_after s.regs i).time) e));
     small = λ codes text x at. let y : x ≡ BodyItem.Time time = subst (λ (i : Item). IsItem codes text i x) e at in subst (λ (z : BodyItem). is_too_large s.factor z ≡ false) (sym y) (not_large s.factor time fits);
-    puts = λ scale first h items x views known now number few at. let y : x ≡ BodyItem.Time time = subst (λ (i : Item). IsItem h.codes p.text.now i x) e at in rw y (appends-none out.held, refl);
+    puts = λ w scale first h items x same views known now number few at. let y : x ≡ BodyItem.Time time = subst (λ (i : Item). IsItem h.codes p.text.now i x) e at in rw y (appends-none out.held, refl);
   }
 
 -- ---- one item more behind others
 
-module _ (scale first : ℕ) (h : Header) (limit lines : ℕ) (bytes : List ℕ) (behind : List BodyItem) (few : first + length h.codes < 2 ^ 64) {E : Type 0} (v : HeadView) (views : IsViewOf v h) (a a' : Ahead) (s s' : Seat) (written written' : Option ℕ) (out out' : Device) (result : Result (Unit {0}) E)
+module _ (scale first : ℕ) (h : Header) (limit lines : ℕ) (bytes : List ℕ) (behind : List BodyItem) (few : first + length h.codes < 2 ^ 64) {E : Type 0} (v : HeadView) (views : IsViewOf v h) (a a' : Ahead) (s s' : Track) (written written' : Option ℕ) (out out' : Device) (result : Result (Unit {0}) E)
     (n : TakesNext v a a' s s' written written' out out' result) (over : LooksOver limit bytes a) (factor : s.factor ≡ scale) (first_is : s.first ≡ first) (items : List BodyItem) (at : IsAhead scale h limit lines bytes behind (passed_of a) items s.regs s.time) where
   pub one : (x : BodyItem) × IsItem h.codes n.plain.text.now n.plain.item x × GaveAhead h.codes limit lines bytes (passed_of a') behind (items ++ x ∷ []) × AreRegsAfter (behind ++ (items ++ x ∷ [])) (regs_after s.regs n.plain.item)
   one = n.item.gives h limit lines bytes behind items views over at.known at.gave
@@ -75,13 +75,13 @@ module _ (scale first : ℕ) (h : Header) (limit lines : ℕ) (bytes : List ℕ)
   ahead_next =
       let small = subst (λ m. is_too_large m next_item ≡ false) factor (n.small h.codes n.plain.text.now next_item one.1) in record {
         gave = one.2;
-        known = subst (AreRegsAfter (behind ++ (items ++ next_item ∷ []))) (sym (ap (λ (q : Seat). q.regs) n.seat)) one.3;
+        known = subst (AreRegsAfter (behind ++ (items ++ next_item ∷ []))) (sym (ap (λ (q : Track). q.regs) n.track)) one.3;
         small = all_append (λ y. is_too_large scale y ≡ false) items (next_item ∷ []) at.small (small, tt);
         time_is = n.time scale factor at.time_is;
       }
 
   put : Takes out out' (due_with written (entry_for scale first h (behind ++ items) next_item)) result × IfOk result (λ _. written' ≡ written_with written (entry_for scale first h (behind ++ items) next_item))
-  put = n.puts scale first h (behind ++ items) next_item views at.known (at.time_is ∙ ap (λ m. scale * m) at.known.time_is) first_is few one.1
+  put = n.puts v scale first h (behind ++ items) next_item refl views at.known (at.time_is ∙ ap (λ m. scale * m) at.known.time_is) first_is few one.1
 
   -- what is due with it was written
   pub one_next : result ≡ Ok tt → Counts out out' result → OneAhead scale first h limit lines bytes behind stage next_item (passed_of a') s'.regs s'.time written' out'
@@ -101,9 +101,9 @@ passes_next limit lines bytes v a a' r p item over ts so_far =
     let more = item.passes limit lines bytes (ts ++ so_far.0) over so_far.1 in
     (so_far.0 ++ more.0, subst (Passed limit lines bytes (passed_of a')) (append_assoc ts so_far.0 more.0) more.1)
 
--- it is still the same seat
-pub same_next : (s t u : Seat) (r' : Regs) → t ≡ seat_with s t.regs t.time → u ≡ seat_with t r' u.time → u ≡ seat_with s u.regs u.time
+-- it is still the same input's
+pub same_next : (s t u : Track) (r' : Regs) → t ≡ track_with s t.regs t.time → u ≡ track_with t r' u.time → u ≡ track_with s u.regs u.time
 same_next s t u r' a b =
-    let e = ap (λ (q : Seat). seat_with q r' u.time) a in
-    let regs : u.regs ≡ r' = ap (λ (q : Seat). q.regs) b in
-    b ∙ e ∙ ap (λ (r : Regs). seat_with s r u.time) (sym regs)
+    let e = ap (λ (q : Track). track_with q r' u.time) a in
+    let regs : u.regs ≡ r' = ap (λ (q : Track). q.regs) b in
+    b ∙ e ∙ ap (λ (r : Regs). track_with s r u.time) (sym regs)

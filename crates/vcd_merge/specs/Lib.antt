@@ -9,3 +9,4 @@ pub mod MergeStep
 pub mod MergeTrail
 pub mod MergeRun
 pub mod MergeStart
+pub mod Names

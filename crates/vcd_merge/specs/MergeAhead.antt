@@ -8,39 +8,54 @@ use Rattle.vcd_model.specs.Merge.{is_too_large}
 use Rattle.vcd_model.specs.MergeByInput.{due_with, entry_for, written_with}
 use Rattle.vcd_text.specs.Device.{Device, Takes, Writes, WritesSome}
 use Rattle.vcd_text.specs.declared.ahead.Ahead.{Ahead}
+use Rattle.vcd_text.specs.declared.device.WriteFailed.{WriteFailed}
 use Rattle.vcd_view.specs.Views.{IsViewOf}
+use Rattle.vcd_view.specs.declared.view.Code.{Code}
 use Rattle.vcd_view.specs.declared.view.HeadView.{HeadView}
 use Rattle.vcd_body.specs.Ahead.{GaveAhead, HasBits, IsSizedItem}
 use Rattle.vcd_body.specs.Given.{HasGoodText, IsItem}
 use Rattle.vcd_body.specs.Items.{AreRegsAfter, regs_after}
-use Rattle.vcd_body.specs.Taken.{TakesItem}
+use Rattle.vcd_body.specs.Taken.{Opens, TakesItem}
+use Rattle.vcd_body.specs.declared.ahead.Opening.{Opening}
 use Rattle.vcd_body.specs.declared.ahead.Plain.{Plain}
 use Rattle.vcd_body.specs.declared.item.Regs.{Regs}
 use Rattle.vcd_merge.specs.declared.seat.Seat.{Seat}
+use Rattle.vcd_merge.specs.declared.seat.Track.{Track}
 
 -- the seat with these registers and this time
 abbrev pub seat_with : Seat → Regs → ℕ → Seat
 seat_with s r time = record { parked = s.parked; regs = r; factor = s.factor; time = time; first = s.first; finished = s.finished }
 
+-- what its items are taken by, and that with these registers and this time
+abbrev pub track_of : Seat → Track
+track_of s = record { regs = s.regs; factor = s.factor; time = s.time; first = s.first }
+
+abbrev pub track_with : Track → Regs → ℕ → Track
+track_with t r time = record { regs = r; factor = t.factor; time = time; first = t.first }
+
 -- an item with a text that its code may have, and what is told of its size and its digits is so
-pub record IsPutable (v : HeadView) (p : Plain) : Type 0 where
-  pub sound : HasGoodText v.codes.now p.text.now p.item
-  pub sized : p.most ≢ 0 → IsSizedItem v.codes.now p.item p.most
+pub record IsPutable (codes : List Code) (p : Plain) : Type 0 where
+  pub sound : HasGoodText codes p.text.now p.item
+  pub sized : p.most ≢ 0 → IsSizedItem codes p.item p.most
   pub bits : HasBits p.item p.text.now p.bits
 
--- what is due with an item at this seat was written, or a prefix of it where a write failed
-abbrev pub PutsDue : {A E : Type 0} → HeadView → Plain → Seat → Option ℕ → Option ℕ → Device → Device → Result A E → Type 0
-PutsDue v p s written written' out out' result = (scale first : ℕ) (h : Header) (items : List BodyItem) (x : BodyItem) → IsViewOf v h → AreRegsAfter items s.regs → s.time ≡ scale * time_after items → s.first ≡ first → first + length h.codes < 2 ^ 64 → IsItem h.codes p.text.now p.item x
+-- what is due with an item here was written, or a prefix of it where a write failed
+abbrev pub PutsDue : {A E : Type 0} → List Code → Plain → Track → Option ℕ → Option ℕ → Device → Device → Result A E → Type 0
+PutsDue codes p s written written' out out' result = (v : HeadView) (scale first : ℕ) (h : Header) (items : List BodyItem) (x : BodyItem) → v.codes.now ≡ codes → IsViewOf v h → AreRegsAfter items s.regs → s.time ≡ scale * time_after items → s.first ≡ first → first + length h.codes < 2 ^ 64 → IsItem h.codes p.text.now p.item x
     → Takes out out' (due_with written (entry_for scale first h items x)) result × IfOk result (λ _. written' ≡ written_with written (entry_for scale first h items x))
 
 -- an item was taken ahead, whose time is not too large, and what is due with it was put
-pub record TakesNext {E : Type 0} (v : HeadView) (a a' : Ahead) (s s' : Seat) (written written' : Option ℕ) (out out' : Device) (result : Result (Unit {0}) E) : Type 0 where
+pub record TakesNext {E : Type 0} (v : HeadView) (a a' : Ahead) (s s' : Track) (written written' : Option ℕ) (out out' : Device) (result : Result (Unit {0}) E) : Type 0 where
   pub plain : Plain
   pub item : TakesItem v a a' s.regs plain
-  pub seat : s' ≡ seat_with s (regs_after s.regs plain.item) s'.time
+  pub track : s' ≡ track_with s (regs_after s.regs plain.item) s'.time
   pub time : (scale : ℕ) → s.factor ≡ scale → s.time ≡ scale * s.regs.time → s'.time ≡ scale * s'.regs.time
   pub small : (codes : List IdCode) (text : List ℕ) (x : BodyItem) → IsItem codes text plain.item x → is_too_large s.factor x ≡ false
-  pub puts : PutsDue v plain s written written' out out' result
+  pub puts : PutsDue v.codes.now plain s written written' out out' result
+
+-- the time mark that a token ahead is was taken, whose time is not too large: nothing is due with it
+abbrev pub TakesMark : Opening → Ahead → Track → Track → Type 0
+TakesMark o a' s s' = (v : HeadView) (a : Ahead) (written : Option ℕ) (out : Device) → Opens a a' o → TakesNext {E = WriteFailed} v a a' s s' written written out out (Ok tt)
 
 -- behind some of the items ahead: the bytes in which they lie, what is known after them, the time
 -- of the input, and the output

@@ -111,17 +111,30 @@ pub record RunGives {X : Type 0} (rest : X → Option (List ℕ)) (failures : X 
   pub last : Gives rest hs lanes dumps mid s' between out' result
   pub by_one : alone ≡ true → (dumps ≡ ds) × (mid ≡ s) × (between ≡ out)
 
--- What it leaves whatever the inputs are: this input alone was touched, the lengths stay, and what
--- is left to be looked at shrinks where it goes on.
-pub record RunLeaves {X : Type 0} (rest : X → Option (List ℕ)) (failures : X → ℕ) (s s' : Standing X) (out out' : Device) (k : ℕ) (result : Result More Stop) : Type 0 where
-  pub ready : result ≡ Ok Again → IsReady s'
+-- What the run of an input leaves whatever the inputs are: it alone was touched, the lengths stay,
+-- and its failed calls are counted.
+pub record Touches {X A : Type 0} (rest : X → Option (List ℕ)) (failures : X → ℕ) (s s' : Standing X) (out out' : Device) (k : ℕ) (result : Result A Stop) : Type 0 where
   pub seats : length s'.seats ≡ length s.seats
   pub chunks : length s'.chunks ≡ length s.chunks
   pub tokens : length s'.tokens ≡ length s.tokens
   pub values : length s'.values ≡ length s.values
   pub reads : map failures s'.sources ≡ failures_with (map failures s.sources) k result
   pub named : NamesInput k result
-  pub left : result ≡ Ok Again → left_of s'.seats < left_of s.seats
   pub others : (j : ℕ) → j ≢ k → spot_at rest s'.seats s'.sources s'.chunks s'.tokens j ≡ spot_at rest s.seats s.sources s.chunks s.tokens j
   pub untouched : (j : ℕ) → j ≢ k → (slice_get s'.sources j ≡ slice_get s.sources j) × (part (part_len (length s.seats) s.tokens) j s'.values ≡ part (part_len (length s.seats) s.tokens) j s.values)
   pub writes : out'.failures ≡ out.failures + writes_failed result
+
+-- What a step of a merge leaves whatever the inputs are: the input whose turn it was was touched,
+-- and where the merge goes on, less is left to be looked at.
+pub record RunLeaves {X : Type 0} (rest : X → Option (List ℕ)) (failures : X → ℕ) (s s' : Standing X) (out out' : Device) (k : ℕ) (result : Result More Stop) : Type 0 where
+  pub ready : result ≡ Ok Again → IsReady s'
+  pub touches : Touches rest failures s s' out out' k result
+  pub left : result ≡ Ok Again → left_of s'.seats < left_of s.seats
+
+-- What a run of steps of the input whose turn it is gives and leaves, where each run ends at this
+-- time at the latest.
+pub record Runs {X : Type 0} (rest : X → Option (List ℕ)) (failures : X → ℕ) (most : ℕ) (s s' : Standing X) (out out' : Device) (result : Result More Stop) : Type 0 where
+  pub gives : (alone : Bool) (hs : List Header) (lanes : List Lane) (ds : List Dump) → (alone ≡ true → most ≡ 0) → Holds rest hs lanes ds s → RunGives rest failures hs lanes alone ds s s' out out' result
+  pub input : ℕ
+  pub next : IsNext s.seats input
+  pub leaves : RunLeaves rest failures s s' out out' input result

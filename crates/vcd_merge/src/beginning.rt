@@ -1,11 +1,6 @@
 //! Where a merge begins: what it adds to each input.
 ghost use Rattle.std.specs.Prelude.{◌≡◌, ℕ, ◌≤◌, List, length};
-ghost use Rattle.vcd_model.specs.Header.{Header};
-ghost use Rattle.vcd_model.specs.HeadText.{least_exponent as least_of};
-ghost use Rattle.vcd_model.specs.Merge.{factor};
-ghost use Rattle.vcd_head.specs.Merged.{ShowHeaders};
-ghost use Rattle.vcd_view.specs.Views.{IsExponent, IsViewOf};
-ghost use Rattle.vcd_merge.specs.MergeStart.{AreBegun, AreOpen};
+ghost use Rattle.vcd_merge.specs.Names.{AreBegun, AreOpen, factor, Header, IsExponent, IsViewOf, least_exponent as least_of, ShowHeaders};
 
 use crate::seat::Seat;
 use vcd_head::{Head, least_exponent};

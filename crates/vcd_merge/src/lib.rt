@@ -25,11 +25,11 @@
 //! - `merge_steps`: the begin of a merge, a step of it over all inputs, and the loop over its steps
 //! - `merging`: the steps of one input, over its source and its parts of the windows alone
 //! - `order`: whose turn it is, and in which order the others wait
-//! - `seat`: `Seat`
+//! - `seat`: `Seat`, and what of it the items ahead are taken by
 //!
 //! In `specs/` callers read `MergeRun` (`Follows`), `MergeStart`, `MergeStep`, `MergeParts`,
-//! `MergeRoom`, `MergeOrder` and `Seat`. How a run ends, `Done`, `More` and `Stop`, is of
-//! `vcd_body`.
+//! `MergeRoom`, `MergeOrder` and `Seat`. `Names` has what the clauses of this crate speak of under
+//! one path. How a run ends, `Done`, `More` and `Stop`, is of `vcd_body`.
 //!
 //! # Limits
 //!

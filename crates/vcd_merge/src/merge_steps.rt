@@ -1,28 +1,11 @@
 //! `merge`: the changes of several dumps in one order of time.
 ghost use Rattle.std.specs.Prelude.{◌≡◌, ◌≢◌, ℕ, ◌+◌, ◌-◌, ◌*◌, ◌^◌, ◌<◌, ◌≤◌, Bool, true, false, ◌⊎◌, take, slice_get, List, length, All, MatchOption, MatchBool, IfErr, IfOk, Some, Option, Ok, map};
-ghost use Rattle.vcd_model.specs.Merge.{Dump, merge_close, merge_open, merged_items};
-ghost use Rattle.vcd_text.specs.Device.{Counts, Device, Takes, Writes, failures_after, supply};
-ghost use Rattle.vcd_body.specs.Answer.{NamesInput, goes_on, writes_failed};
-ghost use Rattle.vcd_model.specs.Items.{BodyItem};
-ghost use Rattle.vcd_head.specs.Shown.{shown};
-ghost use Rattle.vcd_view.specs.Views.{Views};
-ghost use Rattle.vcd_merge.specs.Seat.{AtSeat, Lane, Spot};
-ghost use Rattle.vcd_merge.specs.MergeParts.{AreParts, AreSeated, SameLengths, part, part_len, spot_at};
-ghost use Rattle.vcd_merge.specs.MergeOrder.{IsNext, greatest_time};
-ghost use Rattle.vcd_merge.specs.Order.{AllWait};
-ghost use Rattle.vcd_merge.specs.MergeTrail.{RunGives, RunLeaves, TurnsAt};
-ghost use Rattle.vcd_merge.specs.MergeRun.{Follows};
-ghost use Rattle.vcd_model.specs.Header.{Header};
-ghost use Rattle.vcd_model.specs.HeadText.{merged_head};
-ghost use Rattle.vcd_head.specs.Merged.{ShowHeaders};
-ghost use Rattle.vcd_merge.specs.MergeRoom.{MergeIsWithinBound, no_windows, windows_size};
-ghost use Rattle.vcd_merge.specs.MergeStart.{AreBegun, HasBegun};
-ghost use Rattle.vcd_merge.specs.MergeStep.{AreMarked, Gives, Holds, IsReady, failures_with, is_going, last_written, left_of, standing, standing_of};
+ghost use Rattle.vcd_merge.specs.Names.{AllWait, AreBegun, AreMarked, AreParts, AreSeated, AtSeat, BodyItem, Counts, Device, Dump, failures_after, failures_with, Follows, Gives, goes_on, greatest_time, HasBegun, Header, Holds, is_going, IsNext, IsReady, Lane, last_written, left_of, merge_close, merge_open, merged_head, merged_items, MergeIsWithinBound, NamesInput, no_windows, part, part_len, Runs, SameLengths, ShowHeaders, shown, Spot, spot_at, standing, standing_of, supply, Takes, Touches, TurnsAt, Views, windows_size, Writes, writes_failed};
 
 use crate::beginning::set_seats;
 use crate::merge_state::Merge;
 use crate::merging::run_of;
-use crate::order::Order;
+use crate::order::{Order, Run};
 use crate::seat::Seat;
 use crate::windows::Windows;
 use vcd_body::{Done, More, Stop, put_time_unless};
@@ -45,63 +28,49 @@ fn greatest_time(seats: &[Seat]) -> Option<u64>
     greatest
 }
 
-/// Runs the input at a place: it takes an item, and those that follow while its time is before this
-/// one. It uses the parts of the windows at that place, and touches no other input's.
+/// Runs an input. Its feed goes on where it was parked, over its parts of the windows, takes an
+/// item, and those that follow while its time is before the run's end, and is parked again. No
+/// other input's seat, source or part is touched.
 #[inline(always)]
 fn turn<S: Source, W: Sink>(
     heads: &[Head],
-    input: usize,
-    before: u64,
+    run: Run,
     seats: &mut [Seat],
     sources: &mut [S],
     windows: &mut Windows<'_>,
     written: &mut Option<u64>,
     out: &mut W,
 ) -> Result<(), Stop>
-    requires input { input < length seats.old }
-    requires heads { length heads.now ≡ length seats.old }
-    requires sources { length sources.old ≡ length seats.old }
-    requires parts { AreParts
-        (length seats.old) windows.old.chunks.now windows.old.tokens.now windows.old.values.now }
+    requires input { run.input < length seats.old }
     requires reads { All (λ s. S.failures s < 2 ^ 64 - 1) sources.old }
     requires out_failures { (W.device out.old).failures < 2 ^ 64 - 1 }
-    requires seated { AreSeated windows.old.chunks.now windows.old.tokens.now seats.old }
-    requires unfinished { (s : Seat) → slice_get seats.old input ≡ Some s → s.finished ≡ false }
+    requires ready { IsReady (standing heads.now seats.old written.old sources.old windows.old) }
+    requires unfinished { (s : Seat) → slice_get seats.old run.input ≡ Some s → s.finished ≡ false }
     ensures turns { (scale first : ℕ) (l : Lane) (items : List BodyItem) (h : Head) (s : Spot)
-        → slice_get heads.now input ≡ Some h → Views (shown h) l.header
-        → spot_at S.rest seats.old sources.old windows.old.chunks.now windows.old.tokens.now input
+        → slice_get heads.now run.input ≡ Some h → Views (shown h) l.header
+        → spot_at S.rest seats.old sources.old windows.old.chunks.now windows.old.tokens.now run.input
         ≡ Some s → AtSeat scale first l items s
-        → (s' : Spot) × (spot_at S.rest seats.new sources.new windows.new.chunks.now windows.new.tokens.now input ≡ Some s')
-        × TurnsAt S.rest S.failures sources.old input scale first l before items written.old written.new s s'
+        → (s' : Spot) × (spot_at S.rest seats.new sources.new windows.new.chunks.now windows.new.tokens.now run.input ≡ Some s')
+        × TurnsAt S.rest S.failures sources.old run.input scale first l run.before items written.old written.new s s'
         (W.device out.old) (W.device out.new) result }
-    ensures others { (j : ℕ) → j ≢ input
-        → spot_at S.rest seats.new sources.new windows.new.chunks.now windows.new.tokens.now j
-        ≡ spot_at S.rest seats.old sources.old windows.old.chunks.now windows.old.tokens.now j }
-    ensures untouched { (j : ℕ) → j ≢ input
-        → (slice_get sources.new j ≡ slice_get sources.old j)
-        × (part (part_len (length seats.old) windows.old.tokens.now) j windows.new.values.now
-        ≡ part (part_len (length seats.old) windows.old.tokens.now) j windows.old.values.now) }
-    ensures kept { (j : ℕ) → j ≢ input → slice_get seats.new j ≡ slice_get seats.old j }
-    ensures lengths { SameLengths windows.old windows.new }
-    ensures seats { length seats.new ≡ length seats.old }
+    ensures touches { Touches S.rest S.failures
+        (standing heads.now seats.old written.old sources.old windows.old)
+        (standing heads.now seats.new written.new sources.new windows.new)
+        (W.device out.old) (W.device out.new) run.input result }
+    ensures kept { (j : ℕ) → j ≢ run.input → slice_get seats.new j ≡ slice_get seats.old j }
     ensures sources { length sources.new ≡ length sources.old }
     ensures seated { IfOk result
         (λ _. AreSeated windows.new.chunks.now windows.new.tokens.now seats.new) }
-    ensures reads { map S.failures sources.new
-        ≡ failures_with (map S.failures sources.old) input result }
-    ensures named { NamesInput input result }
     ensures left { IfOk result (λ _. left_of seats.new < left_of seats.old) }
-    ensures writes { (W.device out.new).failures
-        ≡ (W.device out.old).failures + writes_failed result }
 {
+    let input = run.input;
     let chunk = windows.chunks.len() / seats.len();
     let limit = windows.tokens.len() / seats.len();
     let chunk_at = input * chunk;
     let token_at = input * limit;
     run_of(
         &heads[input],
-        input,
-        before,
+        run,
         &mut sources[input],
         &mut windows.chunks[chunk_at..chunk_at + chunk],
         &mut windows.tokens[token_at..token_at + limit],
@@ -169,13 +138,12 @@ fn close<W: Sink>(seats: &[Seat], written: Option<u64>, out: &mut W) -> Result<(
     }
 }
 
-/// Takes an item of the input whose turn it is, and those that follow while its time is below
-/// `most` and it comes before all others. The order gives the input, and then takes it in again.
+/// Takes an item of the input whose turn it is, and those that follow while it comes before all
+/// others. The order gives the input and the end of its run, and then takes it in again.
 #[inline(always)]
 fn run_next<S: Source, W: Sink>(
     heads: &[Head],
     order: &mut Order,
-    most: u64,
     seats: &mut [Seat],
     sources: &mut [S],
     windows: &mut Windows<'_>,
@@ -187,26 +155,16 @@ fn run_next<S: Source, W: Sink>(
     requires ready { IsReady (standing heads.now seats.old written.old sources.old windows.old) }
     requires few { length seats.old ≤ 64 }
     requires order { AllWait seats.old order.old.inputs order.old.len }
-    ensures runs { (alone : Bool) (hs : List Header) (lanes : List Lane) (ds : List Dump)
-        → (alone ≡ true → most ≡ 0)
-        → Holds S.rest hs lanes ds (standing heads.now seats.old written.old sources.old windows.old)
-        → RunGives S.rest S.failures hs lanes alone ds
+    ensures runs { Runs S.rest S.failures order.old.most
         (standing heads.now seats.old written.old sources.old windows.old)
         (standing heads.now seats.new written.new sources.new windows.new)
         (W.device out.old) (W.device out.new) result }
-    ensures leaves { (k : ℕ) × IsNext seats.old k × RunLeaves S.rest S.failures
-        (standing heads.now seats.old written.old sources.old windows.old)
-        (standing heads.now seats.new written.new sources.new windows.new)
-        (W.device out.old) (W.device out.new) k result }
     ensures order { result ≡ Ok More.Again → AllWait seats.new order.new.inputs order.new.len }
 {
     let Some(next) = order.take_next(seats) else {
         return Ok(More::Ended(Done::Whole));
     };
-    let before = next.before.min(most);
-    turn(
-        heads, next.input, before, seats, sources, windows, written, out,
-    )?;
+    turn(heads, next, seats, sources, windows, written, out)?;
     order.put(next.input, seats);
     if !order.is_empty() {
         return Ok(More::Again);
@@ -221,7 +179,6 @@ fn run_next<S: Source, W: Sink>(
 fn run_step<S: Source, W: Sink>(
     merge: &mut Merge<'_, '_>,
     order: &mut Order,
-    most: u64,
     sources: &mut [S],
     windows: &mut Windows<'_>,
     out: &mut W,
@@ -230,17 +187,10 @@ fn run_step<S: Source, W: Sink>(
     requires out_failures { (W.device out.old).failures < 2 ^ 64 - 1 }
     requires ready { IsReady (standing_of merge.old sources.old windows.old) }
     requires order { AllWait merge.old.seats.now order.old.inputs order.old.len }
-    ensures runs { (alone : Bool) (hs : List Header) (lanes : List Lane) (ds : List Dump)
-        → (alone ≡ true → most ≡ 0)
-        → Holds S.rest hs lanes ds (standing_of merge.old sources.old windows.old)
-        → RunGives S.rest S.failures hs lanes alone ds
+    ensures runs { Runs S.rest S.failures order.old.most
         (standing_of merge.old sources.old windows.old)
         (standing_of merge.new sources.new windows.new)
         (W.device out.old) (W.device out.new) result }
-    ensures leaves { (k : ℕ) × IsNext merge.old.seats.now k × RunLeaves S.rest S.failures
-        (standing_of merge.old sources.old windows.old)
-        (standing_of merge.new sources.new windows.new)
-        (W.device out.old) (W.device out.new) k result }
     ensures order { result ≡ Ok More.Again
         → AllWait merge.new.seats.now order.new.inputs order.new.len }
     ensures heads { merge.new.heads.now ≡ merge.old.heads.now }
@@ -249,7 +199,6 @@ fn run_step<S: Source, W: Sink>(
     let answer = run_next(
         merge.heads,
         order,
-        most,
         merge.seats,
         sources,
         windows,
@@ -260,14 +209,16 @@ fn run_step<S: Source, W: Sink>(
     answer
 }
 
-/// Returns the order of these inputs, whose seats stay as they are.
+/// Returns the order of these inputs, whose seats stay as they are. Their runs end at this time at
+/// the latest.
 // They come as a `&mut`: of what a shared borrow of a field reads a proof learns nothing.
-fn order_of(seats: &mut [Seat]) -> Order
+fn order_of(seats: &mut [Seat], most: u64) -> Order
     requires { length seats.old ≤ 64 }
     ensures order { AllWait seats.old result.inputs result.len }
+    ensures most { result.most ≡ most }
     ensures stay { seats.new ≡ seats.old }
 {
-    Order::of(seats)
+    Order::of(seats, most)
 }
 
 /// Takes the next item of the input whose turn it is, and writes what is due after it; at the end
@@ -313,8 +264,8 @@ pub fn merge_step<S: Source, W: Sink>(
         ≡ (W.device out.old).failures + writes_failed result }
     ensures going { is_going merge.new ≡ goes_on result }
 {
-    let mut order = order_of(merge.seats);
-    run_step(merge, &mut order, 0, sources, windows, out)
+    let mut order = order_of(merge.seats, 0);
+    run_step(merge, &mut order, sources, windows, out)
 }
 
 impl<'h, 's> Merge<'h, 's> {
@@ -353,9 +304,9 @@ impl<'h, 's> Merge<'h, 's> {
             ≡ (W.device out.old).failures + writes_failed result }
         ensures over { is_going self.new ≡ false }
     {
-        let mut order = order_of(self.seats);
+        let mut order = order_of(self.seats, u64::MAX);
         'items: loop {
-            match run_step(self, &mut order, u64::MAX, sources, windows, out)? {
+            match run_step(self, &mut order, sources, windows, out)? {
                 More::Again => {}
                 More::Ended(done) => return Ok(done),
             }

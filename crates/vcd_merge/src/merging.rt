@@ -1,42 +1,27 @@
 //! The steps of one input of a merge, over its source and its windows alone.
-ghost use Rattle.std.specs.Prelude.{◌≡◌, ◌≢◌, ℕ, ◌+◌, ◌-◌, ◌^◌, ◌<◌, ◌≤◌, ◌++◌, [], List, Some, length, slice_get, IfOk, IfSome, MatchOption, Ok, true, false, is_some, ◌&&◌};
-ghost use Rattle.vcd_model.specs.Header.{Header};
-ghost use Rattle.vcd_model.specs.Items.{BodyItem};
-ghost use Rattle.vcd_model.specs.ItemText.{time_due};
-ghost use Rattle.vcd_model.specs.Tokens.{Token};
-ghost use Rattle.vcd_text.specs.Device.{Counts, Puts, failures_after};
-ghost use Rattle.vcd_text.specs.Feed.{SameLoans, source_of, parked_of, seen, limit_of, chunk_len_of, parked_seen};
-ghost use Rattle.vcd_text.specs.Registers.{Fits};
-ghost use Rattle.vcd_head.specs.Shown.{shown};
-ghost use Rattle.vcd_view.specs.Views.{IsViewOf, Views};
-ghost use Rattle.vcd_view.specs.declared.view.Code.{Code};
-ghost use Rattle.vcd_text.specs.Advances.{Advances, CallEnd, HasNotFailed};
-ghost use Rattle.vcd_text.specs.Ahead.{bytes_of, longest_of, passed_of};
-ghost use Rattle.vcd_text.specs.Passed.{Passed};
-ghost use Rattle.vcd_body.specs.declared.item.Form.{Form};
+ghost use Rattle.std.specs.Prelude.{◌≡◌, ◌≢◌, ℕ, ◌+◌, ◌-◌, ◌^◌, ◌<◌, ◌≤◌, ◌++◌, [], List, Option, Some, None, length, slice_get, IfOk, IfSome, MatchOption, Ok, true, false, is_some, ◌&&◌};
+ghost use Rattle.vcd_merge.specs.Names.{Advances, AheadTurns, AtSeat, BodyItem, bytes_of, CallEnd, chunk_len_of, Code, Counts, failures_after, Fits, Form, HasNotFailed, Header, IsAhead, IsPutable, IsSeated, IsViewOf, Lane, limit_of, longest_of, Moved, NamesInput, Opens, parked_of, parked_seen, Passed, passed_of, Puts, PutsDue, reads_failed, RunsAhead, RunTurns, SameLoans, SameSeat, seat_with, seen, shown, source_of, spot, spot_with, stage, stage_with, TakesMark, TakesNext, time_due, Token, track_with, Turns, Views, writes_failed};
+ghost use Rattle.vcd_body.specs.declared.answer.Stop.TheVariants as stop;
 ghost use Rattle.vcd_body.specs.declared.item.Item.TheVariants as item;
-ghost use Rattle.vcd_body.specs.Answer.{NamesInput, reads_failed, writes_failed};
-ghost use Rattle.vcd_merge.specs.Seat.{AtSeat, IsSeated, Lane, SameSeat, Turns, spot, spot_with};
-ghost use Rattle.vcd_merge.specs.SeatStep.{Moved};
-ghost use Rattle.vcd_merge.specs.MergeTrail.{AheadTurns, RunTurns, stage, stage_with};
-ghost use Rattle.vcd_merge.specs.MergeAhead.{IsAhead, IsPutable, PutsDue, RunsAhead, TakesNext, seat_with};
+ghost use Rattle.vcd_body.specs.declared.words.First.TheVariants as first;
 
-use crate::seat::Seat;
+use crate::order::Run;
+use crate::seat::{Seat, Track};
 use vcd_body::{
-    First, Item, Plain, Stop, change_text, mark_ahead, next_item, opening_ahead, pass_items,
-    put_renamed_bits, put_time, real_ahead, scalar_ahead, time_ahead, vector_ahead,
+    First, Item, Opening, Plain, Stop, change_text, mark_ahead, next_item, opening_ahead,
+    pass_items, put_renamed_bits, put_time, real_ahead, scalar_ahead, time_ahead, vector_ahead,
     vector_tokens_ahead,
 };
 use vcd_head::Head;
 use vcd_text::{Ahead, Feed, Sink, Source, WriteFailed};
-use vcd_view::HeadView;
+use vcd_view::{Code, HeadView, code_in};
 
 /// Returns whether a change is left out: an event inside a section is.
 #[inline(always)]
-fn is_left_out(event: bool, seat: &Seat) -> bool
-    ensures { result ≡ (event && is_some seat.now.regs.section) }
+fn is_left_out(event: bool, track: &Track) -> bool
+    ensures { result ≡ (event && is_some track.now.regs.section) }
 {
-    event && seat.regs.section.is_some()
+    event && track.regs.section.is_some()
 }
 
 /// Writes the line of a time, unless it was written last.
@@ -65,27 +50,27 @@ fn put_sized<W: Sink>(
     size: usize,
     event: bool,
     change: Plain<'_>,
-    view: HeadView<'_>,
-    seat: &Seat,
+    codes: &[Code],
+    track: &Track,
     written: &mut Option<u64>,
     out: &mut W,
 ) -> Result<(), WriteFailed>
     requires failures { (W.device out.old).failures < 2 ^ 64 - 1 }
-    requires put { IsPutable view change }
+    requires put { IsPutable codes.now change }
     requires kind { (code : ℕ) (form : Form) → change.item ≡ item.Change code form
-        → (d : Code) × (slice_get view.codes.now code ≡ Some d)
+        → (d : Code) × (slice_get codes.now code ≡ Some d)
         × (d.size ≡ size) × (d.event ≡ event) }
-    ensures takes { PutsDue view.entry change.entry seat.now
+    ensures takes { PutsDue codes.now change.entry track.now
         written.old written.new (W.device out.old) (W.device out.new) result }
     ensures counts { Counts (W.device out.old) (W.device out.new) result }
 {
     match change.item {
         Item::Change { code, form } => {
-            if is_left_out(event, seat) {
+            if is_left_out(event, track) {
                 return Ok(());
             }
-            put_due_time(seat.time, written, out)?;
-            let number = seat.first.saturating_add(code as u64);
+            put_due_time(track.time, written, out)?;
+            let number = track.first.saturating_add(code as u64);
             put_renamed_bits(size, event, form, change.text, change.bits, number, out)
         }
         Item::Time(_) | Item::Begin(_) | Item::End | Item::Finish => Ok(()),
@@ -98,23 +83,23 @@ fn put_sized<W: Sink>(
 #[inline(never)]
 fn put_unsized<W: Sink>(
     change: Plain<'_>,
-    view: HeadView<'_>,
-    seat: &Seat,
+    codes: &[Code],
+    track: &Track,
     written: &mut Option<u64>,
     out: &mut W,
 ) -> Result<(), WriteFailed>
     requires failures { (W.device out.old).failures < 2 ^ 64 - 1 }
-    requires put { IsPutable view change }
-    ensures takes { PutsDue view.entry change.entry seat.now
+    requires put { IsPutable codes.now change }
+    ensures takes { PutsDue codes.now change.entry track.now
         written.old written.new (W.device out.old) (W.device out.new) result }
     ensures counts { Counts (W.device out.old) (W.device out.new) result }
 {
     match change.item {
         Item::Change { code, .. } => {
-            let Some(code) = view.code_at(code) else {
+            let Some(code) = code_in(codes, code) else {
                 return Ok(());
             };
-            put_sized(code.size, code.event, change, view, seat, written, out)
+            put_sized(code.size, code.event, change, codes, track, written, out)
         }
         Item::Time(_) | Item::Begin(_) | Item::End | Item::Finish => Ok(()),
     }
@@ -125,21 +110,37 @@ fn put_unsized<W: Sink>(
 #[inline(always)]
 fn put_item<W: Sink>(
     plain: Plain<'_>,
-    view: HeadView<'_>,
-    seat: &Seat,
+    codes: &[Code],
+    track: &Track,
     written: &mut Option<u64>,
     out: &mut W,
 ) -> Result<(), WriteFailed>
     requires failures { (W.device out.old).failures < 2 ^ 64 - 1 }
-    requires put { IsPutable view plain }
-    ensures takes { PutsDue view.entry plain.entry seat.now
+    requires put { IsPutable codes.now plain }
+    ensures takes { PutsDue codes.now plain.entry track.now
         written.old written.new (W.device out.old) (W.device out.new) result }
     ensures counts { Counts (W.device out.old) (W.device out.new) result }
 {
     if plain.most == 0 {
-        return put_unsized(plain, view, seat, written, out);
+        return put_unsized(plain, codes, track, written, out);
     }
-    put_sized(plain.most, false, plain, view, seat, written, out)
+    put_sized(plain.most, false, plain, codes, track, written, out)
+}
+
+/// Takes the time mark that a token ahead is: the track is the one after it. None where no such
+/// mark may come here, or its time is too large once it is scaled; then nothing has changed.
+#[inline(always)]
+fn take_mark(opening: Opening<'_>, ahead: Ahead<'_>, track: &mut Track) -> Option<()>
+    requires opens { (a : Ahead) × Opens a ahead opening }
+    requires first { opening.first ≡ first.Mark }
+    ensures { MatchOption result (track.new ≡ track.old)
+        (λ _. TakesMark opening.entry ahead.entry track.old track.new) }
+{
+    let time = time_ahead(opening)?;
+    let scaled = time.checked_mul(track.factor)?;
+    mark_ahead(opening, time, ahead, &mut track.regs)?;
+    track.time = scaled;
+    Some(())
 }
 
 /// Takes the next item that lies ahead, and writes what is due with it. None where it takes none,
@@ -149,16 +150,16 @@ fn put_item<W: Sink>(
 #[inline(always)]
 fn take_next<W: Sink>(
     view: HeadView<'_>,
-    seat: &mut Seat,
+    track: &mut Track,
     written: &mut Option<u64>,
     ahead: &mut Ahead<'_>,
     out: &mut W,
 ) -> Option<Result<(), WriteFailed>>
     requires failures { (W.device out.old).failures < 2 ^ 64 - 1 }
     ensures next { MatchOption result
-        ((seat.new ≡ seat.old) × (written.new ≡ written.old) × (ahead.new ≡ ahead.old)
+        ((track.new ≡ track.old) × (written.new ≡ written.old) × (ahead.new ≡ ahead.old)
         × (W.device out.new ≡ W.device out.old))
-        (λ put. TakesNext view.entry ahead.old ahead.new seat.old seat.new
+        (λ put. TakesNext view.entry ahead.old ahead.new track.old track.new
         written.old written.new (W.device out.old) (W.device out.new) put) }
     ensures counts { IfSome result (λ put. Counts (W.device out.old) (W.device out.new) put) }
 {
@@ -167,35 +168,29 @@ fn take_next<W: Sink>(
     let put = match opening.first {
         First::Bit => {
             let plain = scalar_ahead(opening, next, view)?;
-            put_item(plain, view, seat, written, out)
+            put_item(plain, view.codes, track, written, out)
         }
         First::Scalar => {
             let plain = scalar_ahead(opening, next, view)?;
-            put_item(plain, view, seat, written, out)
+            put_item(plain, view.codes, track, written, out)
         }
         First::Vector => {
             let tokens = vector_tokens_ahead(opening, &mut next)?;
             match tokens.bits {
                 Some(bits) => {
                     let plain = vector_ahead(tokens, Some(bits), next, view)?;
-                    put_item(plain, view, seat, written, out)
+                    put_item(plain, view.codes, track, written, out)
                 }
                 None => {
                     let plain = vector_ahead(tokens, None, next, view)?;
-                    put_item(plain, view, seat, written, out)
+                    put_item(plain, view.codes, track, written, out)
                 }
             }
         }
-        First::Mark => {
-            let time = time_ahead(opening)?;
-            let scaled = time.checked_mul(seat.factor)?;
-            mark_ahead(opening, time, next, &mut seat.regs)?;
-            seat.time = scaled;
-            Ok(())
-        }
+        First::Mark => Ok(take_mark(opening, next, track)?),
         First::Real => {
             let plain = real_ahead(opening, &mut next, view)?;
-            put_item(plain, view, seat, written, out)
+            put_item(plain, view.codes, track, written, out)
         }
         First::Other => return None,
     };
@@ -208,8 +203,8 @@ fn take_next<W: Sink>(
 struct Taken {
     /// How many bytes the items that were taken have.
     passed: usize,
-    /// The seat of the input after these items, its feed aside.
-    seat: Seat,
+    /// What the input has come to after these items.
+    track: Track,
     written: Option<u64>,
     /// Whether the time of the input is no longer early after the last of these items; or that a
     /// write of what is due failed.
@@ -220,18 +215,18 @@ impl Taken {
     #[inline(always)]
     fn until(
         ahead: Ahead<'_>,
-        seat: Seat,
+        track: Track,
         written: Option<u64>,
         ended: Result<bool, WriteFailed>,
     ) -> Taken
         ensures passed { result.passed ≡ passed_of ahead.entry }
-        ensures seat { result.seat ≡ seat }
+        ensures track { result.track ≡ track }
         ensures written { result.written ≡ written }
         ensures ended { result.ended ≡ ended }
     {
         Taken {
             passed: ahead.passed(),
-            seat,
+            track,
             written,
             ended,
         }
@@ -240,11 +235,11 @@ impl Taken {
 
 /// Takes the items of an input ahead, one after the other, as long as its time is before this one,
 /// and writes what is due with each. A time that is too large once it is scaled is left.
-// Seat, written time and place come and go by value: by reference they cost each item more.
+// Track, written time and place come and go by value: by reference they cost each item more.
 fn items_ahead<W: Sink>(
     view: HeadView<'_>,
     before: u64,
-    mut seat: Seat,
+    mut track: Track,
     mut written: Option<u64>,
     mut ahead: Ahead<'_>,
     out: &mut W,
@@ -252,39 +247,39 @@ fn items_ahead<W: Sink>(
     requires failures { (W.device out.old).failures < 2 ^ 64 - 1 }
     requires within { passed_of ahead ≤ length (bytes_of ahead) }
     ensures gives { (scale first lines : ℕ) (h : Header) (behind : List BodyItem)
-        → IsViewOf view.entry h → seat.factor ≡ scale → seat.first ≡ first
+        → IsViewOf view.entry h → track.factor ≡ scale → track.first ≡ first
         → first + length h.codes < 2 ^ 64
         → IsAhead scale h (longest_of ahead.entry) lines (bytes_of ahead.entry) behind
-        (passed_of ahead.entry) [] seat.regs seat.time
+        (passed_of ahead.entry) [] track.regs track.time
         → RunsAhead scale first h (longest_of ahead.entry) lines (bytes_of ahead.entry) behind before
         (record {
           at = passed_of ahead.entry;
           items = [];
-          regs = seat.regs;
-          time = seat.time;
+          regs = track.regs;
+          time = track.time;
           written = written;
           out = W.device out.old;
         })
-        result.passed result.seat.regs result.seat.time result.written
+        result.passed result.track.regs result.track.time result.written
         (W.device out.new) result.ended }
     ensures passes { (lines : ℕ) (ts : List Token)
         → Passed (longest_of ahead.entry) lines (bytes_of ahead.entry) (passed_of ahead.entry) ts
         → (more : List Token) × Passed (longest_of ahead.entry) lines (bytes_of ahead.entry)
         result.passed (ts ++ more) }
     ensures some { result.ended ≡ Ok true → passed_of ahead.entry < result.passed }
-    ensures same { result.seat ≡ seat_with seat result.seat.regs result.seat.time }
+    ensures same { result.track ≡ track_with track result.track.regs result.track.time }
     ensures counts { Counts (W.device out.old) (W.device out.new) result.ended }
 {
     'items: loop {
-        let Some(put) = take_next(view, &mut seat, &mut written, &mut ahead, out) else {
-            return Taken::until(ahead, seat, written, Ok(false));
+        let Some(put) = take_next(view, &mut track, &mut written, &mut ahead, out) else {
+            return Taken::until(ahead, track, written, Ok(false));
         };
         match put {
             Ok(()) => {}
-            Err(failed) => return Taken::until(ahead, seat, written, Err(failed)),
+            Err(failed) => return Taken::until(ahead, track, written, Err(failed)),
         }
-        if seat.time >= before {
-            return Taken::until(ahead, seat, written, Ok(true));
+        if track.time >= before {
+            return Taken::until(ahead, track, written, Ok(true));
         }
     }
 }
@@ -315,11 +310,31 @@ fn take_ahead<S: Source, W: Sink>(
     ensures same { seat.new ≡ seat_with seat.old seat.new.regs seat.new.time }
     ensures counts { Counts (W.device out.old) (W.device out.new) result }
 {
-    let taken = items_ahead(head.view(), before, *seat, *written, feed.ahead(), out);
-    *seat = taken.seat;
+    let taken = items_ahead(
+        head.view(),
+        before,
+        seat.track(),
+        *written,
+        feed.ahead(),
+        out,
+    );
+    seat.regs = taken.track.regs;
+    seat.time = taken.track.time;
     *written = taken.written;
     pass_items(feed, taken.passed);
     taken.ended
+}
+
+/// Returns the stop at a time of an input, on this line, that is too large once it is scaled.
+#[inline(always)]
+fn too_large(input: usize, line: u64) -> Stop
+    ensures { result ≡ stop.Dump input line 20 }
+{
+    Stop::Dump {
+        input,
+        line,
+        fault: 20,
+    }
 }
 
 /// Takes the next item of an input over its feed, and writes what is due with it. The seat's
@@ -356,13 +371,7 @@ fn take_item<S: Source, W: Sink>(
         Item::Finish => seat.finished = true,
         Item::Time(time) => match time.checked_mul(seat.factor) {
             Some(time) => seat.time = time,
-            None => {
-                return Err(Stop::Dump {
-                    input,
-                    line: feed.line(),
-                    fault: 20,
-                });
-            }
+            None => return Err(too_large(input, feed.line())),
         },
         Item::Change { form, .. } => {
             let change = Plain {
@@ -373,7 +382,7 @@ fn take_item<S: Source, W: Sink>(
                 code_at: 0,
                 bits: None,
             };
-            put_unsized(change, view, seat, written, out)?;
+            put_unsized(change, view.codes, &seat.track(), written, out)?;
         }
         Item::Begin(_) => {}
         Item::End => {}
@@ -381,13 +390,12 @@ fn take_item<S: Source, W: Sink>(
     Ok(())
 }
 
-/// Takes items of an input over its feed as long as its time is before this one: one item, and
+/// Takes items of an input over its feed as long as its time is before the run's end: one item, and
 /// those that follow while it is. Those that lie ahead are taken first.
 #[inline(always)]
 fn take_run<S: Source, W: Sink>(
     head: &Head,
-    input: usize,
-    before: u64,
+    run: Run,
     feed: &mut Feed<'_, '_, '_, '_, S>,
     seat: &mut Seat,
     written: &mut Option<u64>,
@@ -399,35 +407,34 @@ fn take_run<S: Source, W: Sink>(
     requires open { HasNotFailed feed.old }
     ensures turns { (scale first : ℕ) (l : Lane) (items : List BodyItem)
         → Views (shown head.now) l.header → AtSeat scale first l items (spot_with seat.old feed.old)
-        → RunTurns S.rest S.failures input scale first l before
+        → RunTurns S.rest S.failures run.input scale first l run.before
         (stage_with items written.old seat.old feed.old (W.device out.old))
         written.new (spot_with seat.new feed.new) (W.device out.new) result }
     ensures moved { Moved S.failures feed.old feed.new seat.new result }
     ensures parked { seat.new.parked ≡ seat.old.parked }
     ensures same { SameSeat seat.old seat.new }
-    ensures named { NamesInput input result }
+    ensures named { NamesInput run.input result }
     ensures writes { (W.device out.new).failures
         ≡ (W.device out.old).failures + writes_failed result }
 {
     'items: loop {
-        if take_ahead(head, before, feed, seat, written, out)? {
+        if take_ahead(head, run.before, feed, seat, written, out)? {
             return Ok(());
         }
-        take_item(head, input, feed, seat, written, out)?;
-        if seat.finished || seat.time >= before {
+        take_item(head, run.input, feed, seat, written, out)?;
+        if seat.finished || seat.time >= run.before {
             return Ok(());
         }
     }
 }
 
 /// Runs an input over its source and its parts of the windows alone: its feed goes on where it was
-/// parked, takes an item, and those that follow while the time of the input is before this one, and
-/// is parked again.
+/// parked, takes an item, and those that follow while the time of the input is before the run's end,
+/// and is parked again.
 #[inline(always)]
 pub(crate) fn run_of<S: Source, W: Sink>(
     head: &Head,
-    input: usize,
-    before: u64,
+    run: Run,
     source: &mut S,
     chunk: &mut [u8],
     token: &mut [u8],
@@ -445,14 +452,14 @@ pub(crate) fn run_of<S: Source, W: Sink>(
     requires unfinished { seat.old.finished ≡ false }
     ensures turns { (scale first : ℕ) (l : Lane) (items : List BodyItem) → Views (shown head.now) l.header
         → AtSeat scale first l items (spot seat.old (S.rest source.old) chunk.old token.old)
-        → RunTurns S.rest S.failures input scale first l before
+        → RunTurns S.rest S.failures run.input scale first l run.before
         (stage items written.old seat.old source.old chunk.old token.old (W.device out.old))
         written.new (spot seat.new (S.rest source.new) chunk.new token.new)
         (W.device out.new) result }
     ensures seated { IfOk result (λ _. IsSeated (length chunk.old) (length token.old) seat.new) }
     ensures same { SameSeat seat.old seat.new }
     ensures reads { S.failures source.new ≡ S.failures source.old + reads_failed result }
-    ensures named { NamesInput input result }
+    ensures named { NamesInput run.input result }
     ensures writes { (W.device out.new).failures
         ≡ (W.device out.old).failures + writes_failed result }
     ensures progress { IfOk result
@@ -461,7 +468,7 @@ pub(crate) fn run_of<S: Source, W: Sink>(
     ensures bounded { parked_seen seat.new.parked < 2 ^ 63 }
 {
     let mut feed = Feed::resume(source, chunk, token, value, seat.parked);
-    let answer = take_run(head, input, before, &mut feed, seat, written, out);
+    let answer = take_run(head, run, &mut feed, seat, written, out);
     seat.parked = feed.parked();
     answer
 }

@@ -49,6 +49,8 @@ fn end_before(seats: &[Seat], input: usize, other: usize) -> u64
 pub(crate) struct Order {
     inputs: [u8; 64],
     len: usize,
+    /// No run goes on once the time of its input is this one.
+    most: u64,
     ghost within: { len ≤ 64 },
 }
 
@@ -95,6 +97,7 @@ impl Order {
         ensures last { IsOrder seats.now input input self.old.inputs self.old.len
             → IsOrder seats.now (input + 1) (input + 1) self.new.inputs self.new.len }
         ensures one { self.new.len ≡ self.old.len + 1 }
+        ensures most { self.new.most ≡ self.old.most }
     {
         let place = self.place_for(input, seats);
         let old = self.inputs;
@@ -115,20 +118,23 @@ impl Order {
         ensures last { IsOrder seats.now input input self.old.inputs self.old.len
             → IsOrder seats.now (input + 1) (input + 1) self.new.inputs self.new.len }
         ensures few { self.new.len ≤ self.old.len + 1 }
+        ensures most { self.new.most ≡ self.old.most }
     {
         if !seats[input].finished {
             self.insert(input, seats);
         }
     }
 
-    /// Returns all inputs that have not finished.
-    pub(crate) fn of(seats: &[Seat]) -> Order
+    /// Returns all inputs that have not finished, whose runs end at this time at the latest.
+    pub(crate) fn of(seats: &[Seat], most: u64) -> Order
         requires { length seats.now ≤ 64 }
-        ensures { AllWait seats.now result.inputs result.len }
+        ensures order { AllWait seats.now result.inputs result.len }
+        ensures most { result.most ≡ most }
     {
         let mut order = Order {
             inputs: [0; 64],
             len: 0,
+            most,
         };
         for input in 0..seats.len() {
             order.put(input, seats);
@@ -165,6 +171,7 @@ impl Order {
         ensures run { MatchOption result (All (λ (s : Seat). s.finished ≡ true) seats.now)
             (λ run. IsNext seats.now run.input × IsFirstBefore seats.now run.input run.before
             × IsOrder seats.now (length seats.now) run.input self.new.inputs self.new.len) }
+        ensures most { IfSome result (λ run. run.before ≤ self.old.most) }
         ensures room { IfSome result (λ _. self.new.len < 64) }
     {
         if self.len == 0 {
@@ -172,7 +179,7 @@ impl Order {
         }
         self.len -= 1;
         let input = self.inputs[self.len] as usize;
-        let before = self.end_of(input, self.len, seats);
+        let before = self.end_of(input, self.len, seats).min(self.most);
         Some(Run { input, before })
     }
 }

@@ -1,15 +1,6 @@
 //! `merge` over whole inputs.
 ghost use Rattle.std.specs.Prelude.{◌≡◌, ℕ, ◌+◌, ◌-◌, ◌^◌, ◌<◌, ◌≤◌, List, length, map, All};
-ghost use Rattle.vcd_model.specs.Header.{Header};
-ghost use Rattle.vcd_text.specs.Device.{supply};
-ghost use Rattle.vcd_head.specs.Merged.{ShowHeaders};
-ghost use Rattle.vcd_body.specs.Answer.{NamesInput, writes_failed};
-ghost use Rattle.vcd_merge.specs.MergeParts.{AreParts, AreSeated, SameLengths, part_len};
-ghost use Rattle.vcd_merge.specs.MergeRoom.{MergeIsWithinBound, windows_size};
-ghost use Rattle.vcd_merge.specs.MergeRun.{Follows};
-ghost use Rattle.vcd_merge.specs.MergeStart.{HaveNoItems};
-ghost use Rattle.vcd_merge.specs.MergeStep.{failures_with};
-ghost use Rattle.vcd_merge.specs.Seat.{Lane};
+ghost use Rattle.vcd_merge.specs.Names.{AreParts, AreSeated, failures_with, Follows, HaveNoItems, Header, Lane, MergeIsWithinBound, NamesInput, part_len, SameLengths, ShowHeaders, supply, windows_size, writes_failed};
 
 use crate::merge_state::Merge;
 use crate::seat::Seat;

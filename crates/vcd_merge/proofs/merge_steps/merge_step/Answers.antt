@@ -1,24 +1,24 @@
-use Rattle.std.proofs.Common.{true, refl, sym}
+use Rattle.std.proofs.Common.{true, sym}
 use Rattle.vcd_merge.proofs.MergeTrails.{one_step}
 use Rattle.vcd_merge.proofs.merge_steps.merge_step.Goals as goal
 
 pub returns-clause-gives : goal.returns-clause-gives
-returns-clause-gives g c = rw (sym c.order_of-order.ensures.stay) (λ hs lanes ds holds. one_step g.S.Source.rest g.S.Source.failures hs lanes ds _ _ _ _ _ (c.run_step.ensures.runs true hs lanes ds (λ e. refl) holds))
+returns-clause-gives g c = rw (sym c.order_of-order.ensures.stay) (λ hs lanes ds holds. one_step g.S.Source.rest g.S.Source.failures hs lanes ds _ _ _ _ _ (c.run_step.ensures.runs.gives true hs lanes ds (λ e. c.order_of-order.ensures.most) holds))
 
 pub returns-clause-ready : goal.returns-clause-ready
-returns-clause-ready g c = c.run_step.ensures.leaves.2.ready
+returns-clause-ready g c = c.run_step.ensures.runs.leaves.ready
 
 pub returns-clause-lengths : goal.returns-clause-lengths
-returns-clause-lengths g c = let l = c.run_step.ensures.leaves.2 in rw (sym c.order_of-order.ensures.stay) (l.seats, record { chunks = l.chunks; tokens = l.tokens; values = l.values })
+returns-clause-lengths g c = let l = c.run_step.ensures.runs.leaves.touches in rw (sym c.order_of-order.ensures.stay) (l.seats, record { chunks = l.chunks; tokens = l.tokens; values = l.values })
 
 pub returns-clause-reads : goal.returns-clause-reads
-returns-clause-reads g c = let l = c.run_step.ensures.leaves in rw (sym c.order_of-order.ensures.stay) (l.0, l.1, l.2.reads, l.2.named)
+returns-clause-reads g c = let l = c.run_step.ensures.runs in rw (sym c.order_of-order.ensures.stay) (l.input, l.next, l.leaves.touches.reads, l.leaves.touches.named)
 
 pub returns-clause-left : goal.returns-clause-left
-returns-clause-left g c = rw (sym c.order_of-order.ensures.stay) c.run_step.ensures.leaves.2.left
+returns-clause-left g c = rw (sym c.order_of-order.ensures.stay) c.run_step.ensures.runs.leaves.left
 
 pub returns-clause-one : goal.returns-clause-one
-returns-clause-one g c = let l = c.run_step.ensures.leaves in rw (sym c.order_of-order.ensures.stay) (l.0, l.2.others, l.2.untouched)
+returns-clause-one g c = let l = c.run_step.ensures.runs in rw (sym c.order_of-order.ensures.stay) (l.input, l.leaves.touches.others, l.leaves.touches.untouched)
 
 pub returns-clause-writes : goal.returns-clause-writes
-returns-clause-writes g c = c.run_step.ensures.leaves.2.writes
+returns-clause-writes g c = c.run_step.ensures.runs.leaves.touches.writes

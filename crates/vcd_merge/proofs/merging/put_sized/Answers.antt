@@ -1,4 +1,5 @@
-use Rattle.std.proofs.Common.{◌≡◌, ◌&&◌, true, false, ap, sym, ◌∙◌, Err, rules, ℕ, ◌+◌, ◌*◌, Some, arith, refl}
+use Rattle.std.specs.Prelude.{slice_get}
+use Rattle.std.proofs.Common.{List, ◌≡◌, ◌&&◌, true, false, ap, sym, ◌∙◌, Err, rules, ℕ, ◌+◌, ◌*◌, Some, arith, refl}
 use Rattle.vcd_model.specs.HeadText.{new_code}
 use Rattle.vcd_model.specs.ItemText.{time_due}
 use Rattle.vcd_model.specs.Items.{Change, leaves_open, time_after}
@@ -6,45 +7,46 @@ use Rattle.vcd_model.specs.Values.{change_line}
 use Rattle.vcd_model.proofs.MergedText.{left_out, left_time, line_due, time_written}
 use Rattle.vcd_text.proofs.Writes.{appends-none, appends-first, takes-twice}
 use Rattle.vcd_view.specs.Shown.{parts}
+use Rattle.vcd_view.specs.declared.view.Code.{Code}
 use Rattle.vcd_body.specs.Items.{model_form}
 use Rattle.vcd_body.proofs.Results.{if_ok}
 use Rattle.vcd_merge.proofs.MergeItem.{section_is, event_of, known_digits, line_is, number_fits, some_digits}
 use Rattle.vcd_merge.proofs.merging.put_sized.Goals as goal
 
 pub put_renamed_bits-requires-clause-digits : goal.put_renamed_bits-requires-clause-digits
-put_renamed_bits-requires-clause-digits g c = λ plain other. some_digits c.args.view.codes.now c.in-Change.code c.in-Change.form c.args.change.text.now (rw c.in-Change.is at c.requires.put.sound) other
+put_renamed_bits-requires-clause-digits g c = λ plain other. some_digits c.args.codes.now c.in-Change.code c.in-Change.form c.args.change.text.now (rw c.in-Change.is at c.requires.put.sound) other
 
 pub put_renamed_bits-requires-clause-bits : goal.put_renamed_bits-requires-clause-bits
 put_renamed_bits-requires-clause-bits g c = known_digits c.args.change.item c.args.change.text.now c.args.change.bits c.requires.put.bits
 
 pub returns-then-is_left_out-clause-takes : goal.returns-then-is_left_out-clause-takes
-returns-then-is_left_out-clause-takes g c = λ scale first h items x views known time number few at.
+returns-then-is_left_out-clause-takes g c = λ v scale first h items x same views known time number few at.
     let is = rw c.in-Change.is at at in
     let y : Change = record { code = is.0; form = model_form c.in-Change.form; text = c.args.change.text.now } in
     let (d, shown, size, event) = c.requires.kind c.in-Change.code c.in-Change.form c.in-Change.is in
-    let out : (is.0.event && leaves_open items) ≡ true = rw (sym (event_of (parts c.args.view) h c.in-Change.code is.0 d views is.1 shown), event, sym (section_is items c.args.seat.now.regs known)) (sym c.is_left_out.ensures ∙ c.if-is_left_out.true) in
+    let out : (is.0.event && leaves_open items) ≡ true = rw (sym (event_of (parts v) h c.in-Change.code is.0 d views is.1 (ap (λ (l : List Code). slice_get l c.in-Change.code) same ∙ shown)), event, sym (section_is items c.args.track.now.regs known)) (sym c.is_left_out.ensures ∙ c.if-is_left_out.true) in
     rw (is.2, left_out scale first h items y c.args.written.now out) (appends-none (g.W.Sink.device c.args.out.now).held, left_time scale first h items y c.args.written.now out)
 
 pub returns-in_err-put_due_time-in-Change-clause-takes : goal.returns-in_err-put_due_time-in-Change-clause-takes
-returns-in_err-put_due_time-in-Change-clause-takes g c = λ scale first h items x views known time number few at.
+returns-in_err-put_due_time-in-Change-clause-takes g c = λ v scale first h items x same views known time number few at.
     let is = rw c.in-Change.is at at in
     let y : Change = record { code = is.0; form = model_form c.in-Change.form; text = c.args.change.text.now } in
     let (d, shown, size, event) = c.requires.kind c.in-Change.code c.in-Change.form c.in-Change.is in
-    let out : (is.0.event && leaves_open items) ≡ false = rw (sym (event_of (parts c.args.view) h c.in-Change.code is.0 d views is.1 shown), event, sym (section_is items c.args.seat.now.regs known)) (sym c.is_left_out.ensures ∙ c.if-is_left_out.false) in
+    let out : (is.0.event && leaves_open items) ≡ false = rw (sym (event_of (parts v) h c.in-Change.code is.0 d views is.1 (ap (λ (l : List Code). slice_get l c.in-Change.code) same ∙ shown)), event, sym (section_is items c.args.track.now.regs known)) (sym c.is_left_out.ensures ∙ c.if-is_left_out.false) in
     let e : c.from_residual.result ≡ Err c.in_err-put_due_time-in-Change.field-0.0 = search rules in
     let t = rw time at c.in_err-put_due_time-in-Change.ensures.puts.0 in
     rw (is.2, e, line_due scale first h items y c.args.written.now out) (appends-first _ _ (time_due c.args.written.now (scale * time_after items)) _ t, tt)
 
 pub returns-in_ok-put_due_time-in-Change-clause-takes : goal.returns-in_ok-put_due_time-in-Change-clause-takes
-returns-in_ok-put_due_time-in-Change-clause-takes g c = λ scale first h items x views known time number few at.
+returns-in_ok-put_due_time-in-Change-clause-takes g c = λ v scale first h items x same views known time number few at.
     let is = rw c.in-Change.is at at in
     let y : Change = record { code = is.0; form = model_form c.in-Change.form; text = c.args.change.text.now } in
     let (d, shown, size, event) = c.requires.kind c.in-Change.code c.in-Change.form c.in-Change.is in
-    let out : (is.0.event && leaves_open items) ≡ false = rw (sym (event_of (parts c.args.view) h c.in-Change.code is.0 d views is.1 shown), event, sym (section_is items c.args.seat.now.regs known)) (sym c.is_left_out.ensures ∙ c.if-is_left_out.false) in
+    let out : (is.0.event && leaves_open items) ≡ false = rw (sym (event_of (parts v) h c.in-Change.code is.0 d views is.1 (ap (λ (l : List Code). slice_get l c.in-Change.code) same ∙ shown)), event, sym (section_is items c.args.track.now.regs known)) (sym c.is_left_out.ensures ∙ c.if-is_left_out.false) in
     let fits = number_fits h c.in-Change.code is.0 is.1 first few in
     let sum : c.saturating_add-number.result ≡ first + c.in-Change.code = omega (arith, c.saturating_add-number.ensures) in
     let line : change_line (record { code = record { text = new_code c.saturating_add-number.result; size = c.args.size; event = c.args.event }; form = model_form c.in-Change.form; text = c.args.change.text.now }) ≡ _ =
-    rw (sym size, sym event) (line_is first c.in-Change.code c.saturating_add-number.result (parts c.args.view) h is.0 d (model_form c.in-Change.form) c.args.change.text.now (new_code c.saturating_add-number.result) views is.1 shown sum refl) in
+    rw (sym size, sym event) (line_is first c.in-Change.code c.saturating_add-number.result (parts v) h is.0 d (model_form c.in-Change.form) c.args.change.text.now (new_code c.saturating_add-number.result) views is.1 (ap (λ (l : List Code). slice_get l c.in-Change.code) same ∙ shown) sum refl) in
     let t = rw time at c.in_ok-put_due_time-in-Change.ensures.puts.0 in
     let l = rw line at c.put_renamed_bits.ensures.0 in
     rw (is.2, line_due scale first h items y c.args.written.now out) (

@@ -13,5 +13,5 @@ returns-clause-turns g c = λ scale first l items views at.
     let out0 : Device = g.W.Sink.device c.args.out.now in
     let out : Device = g.W.Sink.device c.take_run-answer.new.out in
     let out_at : AtSeat scale first l items (spot_with c.args.seat.now c.resume-feed.result) = rw (shows.source_is, shows.chunk_is, shows.token_is, c.resume-feed.ensures.parked) at in
-    rw (e0, e1, e2, c.parked-seat.ensures.parked) (run_from g.S.Source.failures c.args.input scale first l c.args.before items c.args.written.now c.take_run-answer.new.written c.args.seat.now c.resume-feed.result c.args.source.now c.args.chunk.now c.args.token.now _ out0 out c.take_run-answer.result
+    rw (e0, e1, e2, c.parked-seat.ensures.parked) (run_from g.S.Source.failures c.args.run.input scale first l c.args.run.before items c.args.written.now c.take_run-answer.new.written c.args.seat.now c.resume-feed.result c.args.source.now c.args.chunk.now c.args.token.now _ out0 out c.take_run-answer.result
     shows.source_is shows.chunk_is shows.token_is c.resume-feed.ensures.parked (c.take_run-answer.ensures.turns scale first l items views out_at))

@@ -3,8 +3,6 @@ use Rattle.vcd_text.specs.Ahead.{lines_of}
 use Rattle.vcd_text.specs.Device.{Device}
 use Rattle.vcd_view.specs.Shown.{HeadShown}
 use Rattle.vcd_view.specs.Views.{Views}
-use Rattle.vcd_merge.specs.MergeTrail.{AheadTurns, stage_with}
-use Rattle.vcd_merge.specs.declared.seat.Seat.{Seat}
 use Rattle.vcd_merge.proofs.SeatAhead.{ahead_turns, lies_first}
 use Rattle.vcd_merge.proofs.SeatLemmas.{out_of}
 use Rattle.vcd_merge.proofs.merging.take_ahead.Goals as goal
@@ -26,11 +24,11 @@ returns-clause-turns g c = λ k scale first l items views at.
     let out0 : Device = g.W.Sink.device c.args.out.now in
     let out : Device = g.W.Sink.device c.items_ahead-taken.new.out in
     let begins = lies_first scale first l items s f at c.requires.unfinished in
-    let runs = rw (a.limit, a.bytes, a.passed) at c.items_ahead-taken.ensures.gives scale first (lines_of f) l.header items (subst (λ (x : HeadShown). Views x l.header) (sym c.view.ensures) views) at.factor_is at.first_is at.few begins in
-    subst (λ (q : Seat). AheadTurns g.S.Source.rest g.S.Source.failures k scale first l c.args.before (stage_with items c.args.written.now s f out0) t.written q new out t.ended) (sym c.items_ahead-taken.ensures.same)
-    (ahead_turns scale first l items s f at c.requires.unfinished g.S.Source.failures k c.args.before c.args.written.now out0 c.requires.open new t.passed t.seat.regs t.seat.time t.written out c.pass_items.ensures.source c.pass_items.ensures.advances.limit c.pass_items.ensures.advances.chunk
-    (λ more lies known. c.pass_items.ensures.gives l.header.codes l.input l.front items more s.regs t.seat.regs gave lies known)
-    (λ more x lies known. c.pass_items.ensures.ends l.header.codes l.input l.front items more x s.regs t.seat.regs gave lies known) t.ended runs)
+    let gives = rw (c.track.ensures, a.limit, a.bytes, a.passed) at c.items_ahead-taken.ensures.gives in
+    let runs = gives scale first (lines_of f) l.header items (subst (λ (x : HeadShown). Views x l.header) (sym c.view.ensures) views) at.factor_is at.first_is at.few begins in
+    ahead_turns scale first l items s f at c.requires.unfinished g.S.Source.failures k c.args.before c.args.written.now out0 c.requires.open new t.passed t.track.regs t.track.time t.written out c.pass_items.ensures.source c.pass_items.ensures.advances.limit c.pass_items.ensures.advances.chunk
+    (λ more lies known. c.pass_items.ensures.gives l.header.codes l.input l.front items more s.regs t.track.regs gave lies known)
+    (λ more x lies known. c.pass_items.ensures.ends l.header.codes l.input l.front items more x s.regs t.track.regs gave lies known) t.ended runs
 
 pub returns-clause-progress : goal.returns-clause-progress
 returns-clause-progress g c = λ is. let more = c.items_ahead-taken.ensures.some is in let passed = c.ahead.ensures.passed in let looked = c.pass_items.ensures.looked in omega (arith, more, passed, looked)

@@ -25,7 +25,7 @@ returns-in-None-clause-turns g c = λ scale first l items shows at.
     let not = c.in-None.ensures in
     let big : 2 ^ 64 ≤ c.in-Time.time * c.args.seat.now.factor = omega (arith, not) in
     let dump = marked_dump scale (limit_of c.next_item.new.feed) l.header l.front l.input items at.small c.next_item.new.feed c.in-Time.time c.next_item.new.regs refl (large scale c.in-Time.time (rw at.factor_is at big)) gives in
-    (refl, refl, rw c.line-in-None.ensures dump, writes-none _, no_more_at_item l l.input items c.next_item.new.feed (BodyItem.Time c.in-Time.time) c.next_item.new.regs gives)
+    rw c.too_large.ensures (refl, refl, rw c.line-in-None.ensures dump, writes-none _, no_more_at_item l l.input items c.next_item.new.feed (BodyItem.Time c.in-Time.time) c.next_item.new.regs gives)
 
 pub returns-in_err-put_unsized-in-Change-clause-turns : goal.returns-in_err-put_unsized-in-Change-clause-turns
 returns-in_err-put_unsized-in-Change-clause-turns g c = λ scale first l items shows at.
@@ -37,7 +37,8 @@ returns-in_err-put_unsized-in-Change-clause-turns g c = λ scale first l items s
     let x = BodyItem.Changes (record { code = gives.0; form = model_form c.in-Change.form; text = text_of c.in-Change.form c.next_item.new.feed }) in
     let known = subst (AreRegsAfter items) (sym same) at.gave.known in
     let e : c.from_residual.result ≡ Err Write = search rules in
-    let takes = c.in_err-put_unsized-in-Change.ensures.takes scale first l.header items x views known at.time_is at.first_is at.few (gives.0, gives.1, ap (λ (text : List ℕ). BodyItem.Changes (record { code = gives.0; form = model_form c.in-Change.form; text = text })) (sym c.change_text.ensures)) in
+    let puts = rw c.track.ensures at c.in_err-put_unsized-in-Change.ensures.takes in
+    let takes = puts c.view-view.result scale first l.header items x refl views known at.time_is at.first_is at.few (gives.0, gives.1, ap (λ (text : List ℕ). BodyItem.Changes (record { code = gives.0; form = model_form c.in-Change.form; text = text })) (sym c.change_text.ensures)) in
     rw e (x, turned scale first l items s r s.time s.finished c.args.feed.now c.next_item.new.feed x at gives.2.gave refl (timed scale items s r at.gave.known (ap (λ (q : Regs). q.time) same) at.time_is) c.requires.unfinished, (takes.0, c.in_err-put_unsized-in-Change.ensures.counts), no_more_at_item l l.input items c.next_item.new.feed x r gives.2)
 
 pub returns-in-Finish-clause-turns : goal.returns-in-Finish-clause-turns
@@ -66,7 +67,8 @@ returns-in_ok-put_unsized-in-Change-clause-turns g c = λ scale first l items sh
     let same : r ≡ s.regs = rw c.in-Change.is at c.in-Ok.ensures.regs in
     let x = BodyItem.Changes (record { code = gives.0; form = model_form c.in-Change.form; text = text_of c.in-Change.form c.next_item.new.feed }) in
     let known = subst (AreRegsAfter items) (sym same) at.gave.known in
-    let takes = c.in_ok-put_unsized-in-Change.ensures.takes scale first l.header items x views known at.time_is at.first_is at.few (gives.0, gives.1, ap (λ (text : List ℕ). BodyItem.Changes (record { code = gives.0; form = model_form c.in-Change.form; text = text })) (sym c.change_text.ensures)) in
+    let puts = rw c.track.ensures at c.in_ok-put_unsized-in-Change.ensures.takes in
+    let takes = puts c.view-view.result scale first l.header items x refl views known at.time_is at.first_is at.few (gives.0, gives.1, ap (λ (text : List ℕ). BodyItem.Changes (record { code = gives.0; form = model_form c.in-Change.form; text = text })) (sym c.change_text.ensures)) in
     (inl (x, (c.requires.unfinished, turned scale first l items s r s.time s.finished c.args.feed.now c.next_item.new.feed x at gives.2.gave refl (timed scale items s r at.gave.known (ap (λ (q : Regs). q.time) same) at.time_is) c.requires.unfinished, takes.1, no_more_at_item l l.input items c.next_item.new.feed x r gives.2), (takes.0, c.in_ok-put_unsized-in-Change.ensures.counts)))
 
 pub returns-in-Begin-clause-turns : goal.returns-in-Begin-clause-turns

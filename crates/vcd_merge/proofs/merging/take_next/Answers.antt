@@ -1,4 +1,4 @@
-use Rattle.vcd_merge.proofs.AheadTrails.{change_taken, mark_taken, putable}
+use Rattle.vcd_merge.proofs.AheadTrails.{change_taken, putable}
 use Rattle.vcd_merge.proofs.merging.take_next.Goals as goal
 
 pub scalar_ahead-requires-clause-opens : goal.scalar_ahead-requires-clause-opens
@@ -16,41 +16,41 @@ vector_ahead-requires-clause-opens g c = (c.args.ahead.now, c.in_ok-tokens-in-Ve
 pub vector_ahead-requires-in-None-clause-opens : goal.vector_ahead-requires-in-None-clause-opens
 vector_ahead-requires-in-None-clause-opens g c = (c.args.ahead.now, c.in_ok-tokens-in-Vector.ensures.opens c.args.ahead.now c.in_ok-opening.ensures.opens)
 
-pub mark_ahead-requires-clause-opens : goal.mark_ahead-requires-clause-opens
-mark_ahead-requires-clause-opens g c = (c.args.ahead.now, c.in_ok-opening.ensures.opens)
+pub take_mark-requires-clause-opens : goal.take_mark-requires-clause-opens
+take_mark-requires-clause-opens g c = (c.args.ahead.now, c.in_ok-opening.ensures.opens)
 
 pub real_ahead-requires-clause-opens : goal.real_ahead-requires-clause-opens
 real_ahead-requires-clause-opens g c = (c.args.ahead.now, c.in_ok-opening.ensures.opens)
 
 pub put_item-put-requires-clause-put : goal.put_item-put-requires-clause-put
-put_item-put-requires-clause-put g c = putable c.args.view c.args.ahead.now _ c.args.seat.now c.in_ok-plain-in-Bit.plain (c.in_ok-plain-in-Bit.ensures.takes c.args.ahead.now c.args.seat.now.regs c.in_ok-opening.ensures.opens)
+put_item-put-requires-clause-put g c = putable c.args.view c.args.ahead.now _ c.args.track.now c.in_ok-plain-in-Bit.plain (c.in_ok-plain-in-Bit.ensures.takes c.args.ahead.now c.args.track.now.regs c.in_ok-opening.ensures.opens)
 
 pub returns-in_ok-plain-in-Bit-clause-next : goal.returns-in_ok-plain-in-Bit-clause-next
-returns-in_ok-plain-in-Bit-clause-next g c = let n = c.in_ok-plain-in-Bit.ensures in change_taken c.args.view c.args.ahead.now _ c.args.seat.now c.in_ok-plain-in-Bit.plain (c.in_ok-plain-in-Bit.ensures.takes c.args.ahead.now c.args.seat.now.regs c.in_ok-opening.ensures.opens) n.form.0 _ c.args.written.now _ _ _ c.put_item-put.result n.form.1 c.put_item-put.ensures.takes
+returns-in_ok-plain-in-Bit-clause-next g c = let n = c.in_ok-plain-in-Bit.ensures in change_taken c.args.view c.args.ahead.now _ c.args.track.now c.in_ok-plain-in-Bit.plain (c.in_ok-plain-in-Bit.ensures.takes c.args.ahead.now c.args.track.now.regs c.in_ok-opening.ensures.opens) n.form.0 _ c.args.written.now _ _ _ c.put_item-put.result n.form.1 c.put_item-put.ensures.takes
 
 pub put_item-put-requires-in-Scalar-clause-put : goal.put_item-put-requires-in-Scalar-clause-put
-put_item-put-requires-in-Scalar-clause-put g c = putable c.args.view c.args.ahead.now _ c.args.seat.now c.in_ok-plain-in-Scalar.plain (c.in_ok-plain-in-Scalar.ensures.takes c.args.ahead.now c.args.seat.now.regs c.in_ok-opening.ensures.opens)
+put_item-put-requires-in-Scalar-clause-put g c = putable c.args.view c.args.ahead.now _ c.args.track.now c.in_ok-plain-in-Scalar.plain (c.in_ok-plain-in-Scalar.ensures.takes c.args.ahead.now c.args.track.now.regs c.in_ok-opening.ensures.opens)
 
 pub returns-in_ok-plain-in-Scalar-clause-next : goal.returns-in_ok-plain-in-Scalar-clause-next
-returns-in_ok-plain-in-Scalar-clause-next g c = let n = c.in_ok-plain-in-Scalar.ensures in change_taken c.args.view c.args.ahead.now _ c.args.seat.now c.in_ok-plain-in-Scalar.plain (c.in_ok-plain-in-Scalar.ensures.takes c.args.ahead.now c.args.seat.now.regs c.in_ok-opening.ensures.opens) n.form.0 _ c.args.written.now _ _ _ c.put_item-put-in-Scalar.result n.form.1 c.put_item-put-in-Scalar.ensures.takes
+returns-in_ok-plain-in-Scalar-clause-next g c = let n = c.in_ok-plain-in-Scalar.ensures in change_taken c.args.view c.args.ahead.now _ c.args.track.now c.in_ok-plain-in-Scalar.plain (c.in_ok-plain-in-Scalar.ensures.takes c.args.ahead.now c.args.track.now.regs c.in_ok-opening.ensures.opens) n.form.0 _ c.args.written.now _ _ _ c.put_item-put-in-Scalar.result n.form.1 c.put_item-put-in-Scalar.ensures.takes
 
 pub put_item-requires-clause-put : goal.put_item-requires-clause-put
-put_item-requires-clause-put g c = putable c.args.view c.args.ahead.now _ c.args.seat.now c.in_ok-plain-in-Some.plain (c.in_ok-plain-in-Some.ensures.takes c.args.ahead.now c.args.seat.now.regs (c.in_ok-tokens-in-Vector.ensures.opens c.args.ahead.now c.in_ok-opening.ensures.opens))
+put_item-requires-clause-put g c = putable c.args.view c.args.ahead.now _ c.args.track.now c.in_ok-plain-in-Some.plain (c.in_ok-plain-in-Some.ensures.takes c.args.ahead.now c.args.track.now.regs (c.in_ok-tokens-in-Vector.ensures.opens c.args.ahead.now c.in_ok-opening.ensures.opens))
 
 pub returns-in_ok-plain-in-Some-clause-next : goal.returns-in_ok-plain-in-Some-clause-next
-returns-in_ok-plain-in-Some-clause-next g c = let n = c.in_ok-plain-in-Some.ensures in change_taken c.args.view c.args.ahead.now _ c.args.seat.now c.in_ok-plain-in-Some.plain (c.in_ok-plain-in-Some.ensures.takes c.args.ahead.now c.args.seat.now.regs (c.in_ok-tokens-in-Vector.ensures.opens c.args.ahead.now c.in_ok-opening.ensures.opens)) n.form.0 _ c.args.written.now _ _ _ c.put_item.result n.form.1 c.put_item.ensures.takes
+returns-in_ok-plain-in-Some-clause-next g c = let n = c.in_ok-plain-in-Some.ensures in change_taken c.args.view c.args.ahead.now _ c.args.track.now c.in_ok-plain-in-Some.plain (c.in_ok-plain-in-Some.ensures.takes c.args.ahead.now c.args.track.now.regs (c.in_ok-tokens-in-Vector.ensures.opens c.args.ahead.now c.in_ok-opening.ensures.opens)) n.form.0 _ c.args.written.now _ _ _ c.put_item.result n.form.1 c.put_item.ensures.takes
 
 pub put_item-requires-in-None-clause-put : goal.put_item-requires-in-None-clause-put
-put_item-requires-in-None-clause-put g c = putable c.args.view c.args.ahead.now _ c.args.seat.now c.in_ok-plain-in-None.plain (c.in_ok-plain-in-None.ensures.takes c.args.ahead.now c.args.seat.now.regs (c.in_ok-tokens-in-Vector.ensures.opens c.args.ahead.now c.in_ok-opening.ensures.opens))
+put_item-requires-in-None-clause-put g c = putable c.args.view c.args.ahead.now _ c.args.track.now c.in_ok-plain-in-None.plain (c.in_ok-plain-in-None.ensures.takes c.args.ahead.now c.args.track.now.regs (c.in_ok-tokens-in-Vector.ensures.opens c.args.ahead.now c.in_ok-opening.ensures.opens))
 
 pub returns-in_ok-plain-in-None-clause-next : goal.returns-in_ok-plain-in-None-clause-next
-returns-in_ok-plain-in-None-clause-next g c = let n = c.in_ok-plain-in-None.ensures in change_taken c.args.view c.args.ahead.now _ c.args.seat.now c.in_ok-plain-in-None.plain (c.in_ok-plain-in-None.ensures.takes c.args.ahead.now c.args.seat.now.regs (c.in_ok-tokens-in-Vector.ensures.opens c.args.ahead.now c.in_ok-opening.ensures.opens)) n.form.0 _ c.args.written.now _ _ _ c.put_item-in-None.result n.form.1 c.put_item-in-None.ensures.takes
+returns-in_ok-plain-in-None-clause-next g c = let n = c.in_ok-plain-in-None.ensures in change_taken c.args.view c.args.ahead.now _ c.args.track.now c.in_ok-plain-in-None.plain (c.in_ok-plain-in-None.ensures.takes c.args.ahead.now c.args.track.now.regs (c.in_ok-tokens-in-Vector.ensures.opens c.args.ahead.now c.in_ok-opening.ensures.opens)) n.form.0 _ c.args.written.now _ _ _ c.put_item-in-None.result n.form.1 c.put_item-in-None.ensures.takes
 
 pub put_item-put-requires-in-Real-clause-put : goal.put_item-put-requires-in-Real-clause-put
-put_item-put-requires-in-Real-clause-put g c = putable c.args.view c.args.ahead.now _ c.args.seat.now c.in_ok-plain-in-Real.plain (c.in_ok-plain-in-Real.ensures.takes c.args.ahead.now c.args.seat.now.regs c.in_ok-opening.ensures.opens)
+put_item-put-requires-in-Real-clause-put g c = putable c.args.view c.args.ahead.now _ c.args.track.now c.in_ok-plain-in-Real.plain (c.in_ok-plain-in-Real.ensures.takes c.args.ahead.now c.args.track.now.regs c.in_ok-opening.ensures.opens)
 
 pub returns-in_ok-plain-in-Real-clause-next : goal.returns-in_ok-plain-in-Real-clause-next
-returns-in_ok-plain-in-Real-clause-next g c = let n = c.in_ok-plain-in-Real.ensures in change_taken c.args.view c.args.ahead.now _ c.args.seat.now c.in_ok-plain-in-Real.plain (c.in_ok-plain-in-Real.ensures.takes c.args.ahead.now c.args.seat.now.regs c.in_ok-opening.ensures.opens) n.form.0 _ c.args.written.now _ _ _ c.put_item-put-in-Real.result n.form.1 c.put_item-put-in-Real.ensures.takes
+returns-in_ok-plain-in-Real-clause-next g c = let n = c.in_ok-plain-in-Real.ensures in change_taken c.args.view c.args.ahead.now _ c.args.track.now c.in_ok-plain-in-Real.plain (c.in_ok-plain-in-Real.ensures.takes c.args.ahead.now c.args.track.now.regs c.in_ok-opening.ensures.opens) n.form.0 _ c.args.written.now _ _ _ c.put_item-put-in-Real.result n.form.1 c.put_item-put-in-Real.ensures.takes
 
-pub returns-in_ok-mark_ahead-in-Mark-clause-next : goal.returns-in_ok-mark_ahead-in-Mark-clause-next
-returns-in_ok-mark_ahead-in-Mark-clause-next g c = let n = c.in_ok-mark_ahead-in-Mark.ensures in let fits = c.in_ok-scaled-in-Mark.ensures in rw n.regs (mark_taken c.args.view c.args.ahead.now _ c.args.seat.now c.in_ok-mark_ahead-in-Mark.field-0 (n.takes c.args.ahead.now c.args.view c.in_ok-opening.ensures.opens) c.in_ok-time-in-Mark.time c.in_ok-scaled-in-Mark.scaled c.args.written.now _ n.time fits.0 fits.1)
+pub returns-in_ok-take_mark-in-Mark-clause-next : goal.returns-in_ok-take_mark-in-Mark-clause-next
+returns-in_ok-take_mark-in-Mark-clause-next g c = c.in_ok-take_mark-in-Mark.ensures c.args.view c.args.ahead.now c.args.written.now _ c.in_ok-opening.ensures.opens

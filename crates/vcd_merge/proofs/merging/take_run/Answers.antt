@@ -28,7 +28,7 @@ returns-in_err-take_ahead-clause-turns g c = λ scale first l items views at.
     let out1 : Device = g.W.Sink.device c.items.out in
     let out2 : Device = g.W.Sink.device c.take_ahead.new.out in
     let e : c.from_residual.result ≡ Err Write = search rules in
-    rw e (cut_ahead g.S.Source.failures c.args.input scale first l c.args.before (stage_with items c.args.written.now c.args.seat.now c.args.feed.now out0) v.0 c.items.written c.take_ahead.new.written c.items.seat c.take_ahead.new.seat c.items.feed c.take_ahead.new.feed out1 out2 v.2 c.in_err-take_ahead.field-0.0 (c.in_err-take_ahead.ensures.turns c.args.input scale first l v.0 views v.1))
+    rw e (cut_ahead g.S.Source.failures c.args.run.input scale first l c.args.run.before (stage_with items c.args.written.now c.args.seat.now c.args.feed.now out0) v.0 c.items.written c.take_ahead.new.written c.items.seat c.take_ahead.new.seat c.items.feed c.take_ahead.new.feed out1 out2 v.2 c.in_err-take_ahead.field-0.0 (c.in_err-take_ahead.ensures.turns c.args.run.input scale first l v.0 views v.1))
 
 pub returns-then-branch-clause-turns : goal.returns-then-branch-clause-turns
 returns-then-branch-clause-turns g c = λ scale first l items views at.
@@ -36,7 +36,7 @@ returns-then-branch-clause-turns g c = λ scale first l items views at.
     let out0 : Device = g.W.Sink.device c.args.out.now in
     let out1 : Device = g.W.Sink.device c.items.out in
     let out2 : Device = g.W.Sink.device c.take_ahead.new.out in
-    late_ahead g.S.Source.failures c.args.input scale first l c.args.before (stage_with items c.args.written.now c.args.seat.now c.args.feed.now out0) v.0 c.items.written c.take_ahead.new.written c.items.seat c.take_ahead.new.seat c.items.feed c.take_ahead.new.feed out1 out2 v.2 tt c.in_ok-take_ahead.field-0 c.if-branch.true (c.in_ok-take_ahead.ensures.turns c.args.input scale first l v.0 views v.1)
+    late_ahead g.S.Source.failures c.args.run.input scale first l c.args.run.before (stage_with items c.args.written.now c.args.seat.now c.args.feed.now out0) v.0 c.items.written c.take_ahead.new.written c.items.seat c.take_ahead.new.seat c.items.feed c.take_ahead.new.feed out1 out2 v.2 tt c.in_ok-take_ahead.field-0 c.if-branch.true (c.in_ok-take_ahead.ensures.turns c.args.run.input scale first l v.0 views v.1)
 
 pub returns-in_err-take_item-clause-turns : goal.returns-in_err-take_item-clause-turns
 returns-in_err-take_item-clause-turns g c = λ scale first l items views at.
@@ -44,10 +44,10 @@ returns-in_err-take_item-clause-turns g c = λ scale first l items views at.
     let out0 : Device = g.W.Sink.device c.args.out.now in
     let out1 : Device = g.W.Sink.device c.items.out in
     let out2 : Device = g.W.Sink.device c.take_ahead.new.out in
-    let w = past_ahead g.S.Source.failures c.args.input scale first l c.args.before (stage_with items c.args.written.now c.args.seat.now c.args.feed.now out0) v.0 c.items.written c.take_ahead.new.written c.items.seat c.take_ahead.new.seat c.items.feed c.take_ahead.new.feed out1 out2 v.2 c.in_ok-take_ahead.field-0 c.if-branch.false (c.in_ok-take_ahead.ensures.turns c.args.input scale first l v.0 views v.1) in
+    let w = past_ahead g.S.Source.failures c.args.run.input scale first l c.args.run.before (stage_with items c.args.written.now c.args.seat.now c.args.feed.now out0) v.0 c.items.written c.take_ahead.new.written c.items.seat c.take_ahead.new.seat c.items.feed c.take_ahead.new.feed out1 out2 v.2 c.in_ok-take_ahead.field-0 c.if-branch.false (c.in_ok-take_ahead.ensures.turns c.args.run.input scale first l v.0 views v.1) in
     let stop = c.in_err-take_item.field-0.0 in
     let e : c.from_residual-in_err-take_item.result ≡ Err stop = search rules in
-    rw e (turns_at g.S.Source.rest g.S.Source.failures scale first l c.args.before (stage_with items c.args.written.now c.args.seat.now c.args.feed.now out0) (stage_with w.0 c.take_ahead.new.written c.take_ahead.new.seat c.take_ahead.new.feed out2) w.2 c.args.input _ _ _ (Err stop) (c.in_err-take_item.ensures.turns scale first l w.0 views w.1))
+    rw e (turns_at g.S.Source.rest g.S.Source.failures scale first l c.args.run.before (stage_with items c.args.written.now c.args.seat.now c.args.feed.now out0) (stage_with w.0 c.take_ahead.new.written c.take_ahead.new.seat c.take_ahead.new.feed out2) w.2 c.args.run.input _ _ _ (Err stop) (c.in_err-take_item.ensures.turns scale first l w.0 views w.1))
 
 pub returns-then-seat-clause-turns : goal.returns-then-seat-clause-turns
 returns-then-seat-clause-turns g c = λ scale first l items views at.
@@ -55,8 +55,8 @@ returns-then-seat-clause-turns g c = λ scale first l items views at.
     let out0 : Device = g.W.Sink.device c.args.out.now in
     let out1 : Device = g.W.Sink.device c.items.out in
     let out2 : Device = g.W.Sink.device c.take_ahead.new.out in
-    let w = past_ahead g.S.Source.failures c.args.input scale first l c.args.before (stage_with items c.args.written.now c.args.seat.now c.args.feed.now out0) v.0 c.items.written c.take_ahead.new.written c.items.seat c.take_ahead.new.seat c.items.feed c.take_ahead.new.feed out1 out2 v.2 c.in_ok-take_ahead.field-0 c.if-branch.false (c.in_ok-take_ahead.ensures.turns c.args.input scale first l v.0 views v.1) in
-    turns_at g.S.Source.rest g.S.Source.failures scale first l c.args.before (stage_with items c.args.written.now c.args.seat.now c.args.feed.now out0) (stage_with w.0 c.take_ahead.new.written c.take_ahead.new.seat c.take_ahead.new.feed out2) w.2 c.args.input _ _ _ (Ok tt) (c.in_ok-take_item.ensures.turns scale first l w.0 views w.1)
+    let w = past_ahead g.S.Source.failures c.args.run.input scale first l c.args.run.before (stage_with items c.args.written.now c.args.seat.now c.args.feed.now out0) v.0 c.items.written c.take_ahead.new.written c.items.seat c.take_ahead.new.seat c.items.feed c.take_ahead.new.feed out1 out2 v.2 c.in_ok-take_ahead.field-0 c.if-branch.false (c.in_ok-take_ahead.ensures.turns c.args.run.input scale first l v.0 views v.1) in
+    turns_at g.S.Source.rest g.S.Source.failures scale first l c.args.run.before (stage_with items c.args.written.now c.args.seat.now c.args.feed.now out0) (stage_with w.0 c.take_ahead.new.written c.take_ahead.new.seat c.take_ahead.new.feed out2) w.2 c.args.run.input _ _ _ (Ok tt) (c.in_ok-take_item.ensures.turns scale first l w.0 views w.1)
 
 pub items-preserved : goal.items-preserved
 items-preserved g c =
@@ -66,7 +66,7 @@ items-preserved g c =
     let m = c.in_ok-take_item.ensures.moved in
     let open_still = a.goes refl v.open_still in
     let same = m.failed open_still ∙ add-zero _ in
-    let early : c.take_item.new.seat.time < c.args.before = omega (arith, c.if-seat-before.false) in
+    let early : c.take_item.new.seat.time < c.args.run.before = omega (arith, c.if-seat-run.false) in
     let new : Device = g.W.Sink.device c.take_item.new.out in
     record {
       loans = record { source = m.loans.source ∙ a.loans.source ∙ v.loans.source; chunk = m.loans.chunk ∙ a.loans.chunk ∙ v.loans.chunk; token = m.loans.token ∙ a.loans.token ∙ v.loans.token; value = m.loans.value ∙ a.loans.value ∙ v.loans.value };
@@ -84,7 +84,7 @@ items-preserved g c =
           let out0 : Device = g.W.Sink.device c.args.out.now in
           let out1 : Device = g.W.Sink.device c.items.out in
           let out2 : Device = g.W.Sink.device c.take_ahead.new.out in
-          let w = past_ahead g.S.Source.failures c.args.input scale first l c.args.before (stage_with items c.args.written.now c.args.seat.now c.args.feed.now out0) v.0 c.items.written c.take_ahead.new.written c.items.seat c.take_ahead.new.seat c.items.feed c.take_ahead.new.feed out1 out2 v.2 c.in_ok-take_ahead.field-0 c.if-branch.false (c.in_ok-take_ahead.ensures.turns c.args.input scale first l v.0 views v.1) in
-          goes_on g.S.Source.failures c.args.input scale first l c.args.before (stage_with items c.args.written.now c.args.seat.now c.args.feed.now out0) w.0 c.take_ahead.new.written c.take_item.new.written c.take_ahead.new.seat c.take_item.new.seat c.take_ahead.new.feed c.take_item.new.feed out2 new c.in_ok-take_item.field-0 c.if-seat.false early same (m.goes open_still) m.chunk m.limit w.2
+          let w = past_ahead g.S.Source.failures c.args.run.input scale first l c.args.run.before (stage_with items c.args.written.now c.args.seat.now c.args.feed.now out0) v.0 c.items.written c.take_ahead.new.written c.items.seat c.take_ahead.new.seat c.items.feed c.take_ahead.new.feed out1 out2 v.2 c.in_ok-take_ahead.field-0 c.if-branch.false (c.in_ok-take_ahead.ensures.turns c.args.run.input scale first l v.0 views v.1) in
+          goes_on g.S.Source.failures c.args.run.input scale first l c.args.run.before (stage_with items c.args.written.now c.args.seat.now c.args.feed.now out0) w.0 c.take_ahead.new.written c.take_item.new.written c.take_ahead.new.seat c.take_item.new.seat c.take_ahead.new.feed c.take_item.new.feed out2 new c.in_ok-take_item.field-0 c.if-seat.false early same (m.goes open_still) m.chunk m.limit w.2
           (c.in_ok-take_item.ensures.turns scale first l w.0 views w.1);
     }

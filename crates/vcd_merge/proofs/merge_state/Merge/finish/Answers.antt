@@ -33,26 +33,26 @@ items-preserved g c =
     let chu = part_len (length c.args.self.now.seats.now) c.args.windows.now.chunks.now in
     let limit = keeps_limit (length c.args.self.now.seats.now) (length c.items.self.seats.now) c.args.windows.now.tokens.now c.items.windows.tokens.now v.seats v.windows.tokens in
     let chunk = keeps_limit (length c.args.self.now.seats.now) (length c.items.self.seats.now) c.args.windows.now.chunks.now c.items.windows.chunks.now v.seats v.windows.chunks in
-    let counts = st.leaves.2.reads ∙ ap (λ (r : Result More Stop). failures_with (map g.S.Source.failures c.items.sources) st.leaves.0 r) again in record {
+    let counts = st.runs.leaves.touches.reads ∙ ap (λ (r : Result More Stop). failures_with (map g.S.Source.failures c.items.sources) st.runs.input r) again in record {
       going = st.going ∙ ap goes_on again;
-      ready = st.leaves.2.ready again;
+      ready = st.runs.leaves.ready again;
       order = st.order again;
-      reads = same_failures (map g.S.Source.failures c.items.sources) _ st.leaves.0 (Ok c.in_ok-run_step.field-0) again st.leaves.2.reads ∙ v.reads;
-      writes = st.leaves.2.writes ∙ ap (λ (r : Result More Stop). (g.W.Sink.device c.items.out).failures + writes_failed r) again ∙ add-zero _ ∙ v.writes;
-      seats = st.leaves.2.seats ∙ v.seats;
-      windows = same_twice c.args.windows.now c.items.windows c.run_step.new.windows v.windows (record { chunks = st.leaves.2.chunks; tokens = st.leaves.2.tokens; values = st.leaves.2.values });
+      reads = same_failures (map g.S.Source.failures c.items.sources) _ st.runs.input (Ok c.in_ok-run_step.field-0) again st.runs.leaves.touches.reads ∙ v.reads;
+      writes = st.runs.leaves.touches.writes ∙ ap (λ (r : Result More Stop). (g.W.Sink.device c.items.out).failures + writes_failed r) again ∙ add-zero _ ∙ v.writes;
+      seats = st.runs.leaves.touches.seats ∙ v.seats;
+      windows = same_twice c.args.windows.now c.items.windows c.run_step.new.windows v.windows (record { chunks = st.runs.leaves.touches.chunks; tokens = st.runs.leaves.touches.tokens; values = st.runs.leaves.touches.values });
       heads = st.heads ∙ v.heads;
       holds = λ hs lanes ds begin h w.
           let e = v.holds hs lanes ds begin h w in
-          let r = st.runs false hs lanes e.0 (λ f. cc) e.1 in
+          let r = st.runs.gives false hs lanes e.0 (λ f. cc) e.1 in
           let gives = subst (λ (a : Result More Stop). Gives g.S.Source.rest hs lanes r.dumps r.mid s' r.between new a) again r.last in
           let written = mid_writes g.S.Source.rest g.S.Source.failures hs lanes false e.0 s s' out new (Ok c.in_ok-run_step.field-0) r begin e.2 in
           let read = mid_read g.S.Source.rest g.S.Source.failures hs lanes false e.0 s s' out new (Ok c.in_ok-run_step.field-0) r lim chu limit chunk _ e.3 in
           let mid_lim = mid_limit g.S.Source.rest g.S.Source.failures hs lanes false e.0 s s' out new (Ok c.in_ok-run_step.field-0) r lim chu limit chunk in
           let mid_chu = mid_chunk g.S.Source.rest g.S.Source.failures hs lanes false e.0 s s' out new (Ok c.in_ok-run_step.field-0) r lim chu limit chunk in
-          let count = mid_counts g.S.Source.rest g.S.Source.failures hs lanes false e.0 s s' out new (Ok c.in_ok-run_step.field-0) r st.leaves.0 (Ok Again) counts in
+          let count = mid_counts g.S.Source.rest g.S.Source.failures hs lanes false e.0 s s' out new (Ok c.in_ok-run_step.field-0) r st.runs.input (Ok Again) counts in
           let on = advances_on g.S.Source.rest g.S.Source.failures hs lanes r.dumps r.mid s' begin r.between new written gives in
-          (on.0, on.1, on.2, reads_on g.S.Source.rest g.S.Source.failures hs lanes _ _ _ r.mid s' mid_lim mid_chu read r.dumps r.between new st.leaves.0 count gives);
+          (on.0, on.1, on.2, reads_on g.S.Source.rest g.S.Source.failures hs lanes _ _ _ r.mid s' mid_lim mid_chu read r.dumps r.between new st.runs.input count gives);
     }
 
 pub returns-in_err-run_step-clause-gives : goal.returns-in_err-run_step-clause-gives
@@ -69,29 +69,29 @@ returns-in_err-run_step-clause-gives g c = λ hs lanes ds names begin holds w.
     let limit = keeps_limit (length c.args.self.now.seats.now) (length c.items.self.seats.now) c.args.windows.now.tokens.now c.items.windows.tokens.now v.seats v.windows.tokens in
     let chunk = keeps_limit (length c.args.self.now.seats.now) (length c.items.self.seats.now) c.args.windows.now.chunks.now c.items.windows.chunks.now v.seats v.windows.chunks in
     let many = long g.S.Source.rest g.S.Source.failures hs lanes e.0 s c.args.sources.now v.ready v.reads e.1.given in
-    let r = st.runs false hs lanes e.0 (λ f. cc) e.1 in
+    let r = st.runs.gives false hs lanes e.0 (λ f. cc) e.1 in
     let written = mid_writes g.S.Source.rest g.S.Source.failures hs lanes false e.0 s s' out new (Err c.in_err-run_step.field-0.0) r begin e.2 in
     let read = mid_read g.S.Source.rest g.S.Source.failures hs lanes false e.0 s s' out new (Err c.in_err-run_step.field-0.0) r lim chu limit chunk _ e.3 in
     let mid_lim = mid_limit g.S.Source.rest g.S.Source.failures hs lanes false e.0 s s' out new (Err c.in_err-run_step.field-0.0) r lim chu limit chunk in
     let mid_chu = mid_chunk g.S.Source.rest g.S.Source.failures hs lanes false e.0 s s' out new (Err c.in_err-run_step.field-0.0) r lim chu limit chunk in
-    let seats = st.leaves.2.seats ∙ sym r.seats in
-    let tokens = st.leaves.2.tokens ∙ sym r.tokens in
+    let seats = st.runs.leaves.touches.seats ∙ sym r.seats in
+    let tokens = st.runs.leaves.touches.tokens ∙ sym r.tokens in
     let stop = c.in_err-run_step.field-0.0 in
     let is : c.from_residual.result ≡ Err stop = search rules in
-    let next = mid_next g.S.Source.rest g.S.Source.failures hs lanes false e.0 s s' out new (Err c.in_err-run_step.field-0.0) r st.leaves.0 st.leaves.1 in
-    let counts = mid_counts g.S.Source.rest g.S.Source.failures hs lanes false e.0 s s' out new (Err c.in_err-run_step.field-0.0) r st.leaves.0 (Err stop) st.leaves.2.reads in
-    rw is (stopped_merge g.S.Source.rest g.S.Source.failures hs lanes _ _ _ r.mid s' mid_lim mid_chu read r.dumps names begin r.between new r.ready r.holds many written seats tokens stop st.leaves.0 next counts r.last)
+    let next = mid_next g.S.Source.rest g.S.Source.failures hs lanes false e.0 s s' out new (Err c.in_err-run_step.field-0.0) r st.runs.input st.runs.next in
+    let counts = mid_counts g.S.Source.rest g.S.Source.failures hs lanes false e.0 s s' out new (Err c.in_err-run_step.field-0.0) r st.runs.input (Err stop) st.runs.leaves.touches.reads in
+    rw is (stopped_merge g.S.Source.rest g.S.Source.failures hs lanes _ _ _ r.mid s' mid_lim mid_chu read r.dumps names begin r.between new r.ready r.holds many written seats tokens stop st.runs.input next counts r.last)
 
 pub returns-in_err-run_step-clause-reads : goal.returns-in_err-run_step-clause-reads
 returns-in_err-run_step-clause-reads g c =
     let st = c.in_err-run_step.ensures in
     let v = c.items.invariant in
-    let within = slice_get_within c.items.self.seats.now st.leaves.0 st.leaves.1.seat st.leaves.1.there in
+    let within = slice_get_within c.items.self.seats.now st.runs.input st.runs.next.seat st.runs.next.there in
     let stop = c.in_err-run_step.field-0.0 in
     let is : c.from_residual.result ≡ Err stop = search rules in
     let a = v.ready.sources in
     let b = c.items.auto.sources in
-    rw is ((st.leaves.0, omega (arith, within, a, b), st.leaves.2.reads ∙ ap (λ (l : List ℕ). failures_with {A = More} l st.leaves.0 (Err stop)) v.reads, still_named More Done st.leaves.0 stop st.leaves.2.named))
+    rw is ((st.runs.input, omega (arith, within, a, b), st.runs.leaves.touches.reads ∙ ap (λ (l : List ℕ). failures_with {A = More} l st.runs.input (Err stop)) v.reads, still_named More Done st.runs.input stop st.runs.leaves.touches.named))
 
 pub returns-in-Ended-clause-gives : goal.returns-in-Ended-clause-gives
 returns-in-Ended-clause-gives g c = λ hs lanes ds names begin holds w.
@@ -108,33 +108,33 @@ returns-in-Ended-clause-gives g c = λ hs lanes ds names begin holds w.
     let limit = keeps_limit (length c.args.self.now.seats.now) (length c.items.self.seats.now) c.args.windows.now.tokens.now c.items.windows.tokens.now v.seats v.windows.tokens in
     let chunk = keeps_limit (length c.args.self.now.seats.now) (length c.items.self.seats.now) c.args.windows.now.chunks.now c.items.windows.chunks.now v.seats v.windows.chunks in
     let many = long g.S.Source.rest g.S.Source.failures hs lanes e.0 s c.args.sources.now v.ready v.reads e.1.given in
-    let counts = st.leaves.2.reads ∙ ap (λ (r : Result More Stop). failures_with (map g.S.Source.failures c.items.sources) st.leaves.0 r) is in
-    let r = st.runs false hs lanes e.0 (λ f. cc) e.1 in
+    let counts = st.runs.leaves.touches.reads ∙ ap (λ (r : Result More Stop). failures_with (map g.S.Source.failures c.items.sources) st.runs.input r) is in
+    let r = st.runs.gives false hs lanes e.0 (λ f. cc) e.1 in
     let written = mid_writes g.S.Source.rest g.S.Source.failures hs lanes false e.0 s s' out new (Ok c.in_ok-run_step.field-0) r begin e.2 in
     let read = mid_read g.S.Source.rest g.S.Source.failures hs lanes false e.0 s s' out new (Ok c.in_ok-run_step.field-0) r lim chu limit chunk _ e.3 in
     let mid_lim = mid_limit g.S.Source.rest g.S.Source.failures hs lanes false e.0 s s' out new (Ok c.in_ok-run_step.field-0) r lim chu limit chunk in
     let mid_chu = mid_chunk g.S.Source.rest g.S.Source.failures hs lanes false e.0 s s' out new (Ok c.in_ok-run_step.field-0) r lim chu limit chunk in
-    let seats = st.leaves.2.seats ∙ sym r.seats in
-    let tokens = st.leaves.2.tokens ∙ sym r.tokens in
+    let seats = st.runs.leaves.touches.seats ∙ sym r.seats in
+    let tokens = st.runs.leaves.touches.tokens ∙ sym r.tokens in
     let gives = subst (λ (a : Result More Stop). Gives g.S.Source.rest hs lanes r.dumps r.mid s' r.between new a) is r.last in
-    let count = mid_counts g.S.Source.rest g.S.Source.failures hs lanes false e.0 s s' out new (Ok c.in_ok-run_step.field-0) r st.leaves.0 (Ok (Ended c.in-Ended.done)) counts in
-    ended_merge g.S.Source.rest g.S.Source.failures hs lanes _ _ _ r.mid s' mid_lim mid_chu read r.dumps names begin r.between new r.ready r.holds many written seats tokens c.in-Ended.done st.leaves.0 count gives
+    let count = mid_counts g.S.Source.rest g.S.Source.failures hs lanes false e.0 s s' out new (Ok c.in_ok-run_step.field-0) r st.runs.input (Ok (Ended c.in-Ended.done)) counts in
+    ended_merge g.S.Source.rest g.S.Source.failures hs lanes _ _ _ r.mid s' mid_lim mid_chu read r.dumps names begin r.between new r.ready r.holds many written seats tokens c.in-Ended.done st.runs.input count gives
 
 pub returns-in-Ended-clause-reads : goal.returns-in-Ended-clause-reads
 returns-in-Ended-clause-reads g c =
     let is = ap (λ a. Ok a) c.in-Ended.is in
     let st = c.in_ok-run_step.ensures in
     let v = c.items.invariant in
-    let within = slice_get_within c.items.self.seats.now st.leaves.0 st.leaves.1.seat st.leaves.1.there in
+    let within = slice_get_within c.items.self.seats.now st.runs.input st.runs.next.seat st.runs.next.there in
     let a = v.ready.sources in
     let b = c.items.auto.sources in (
-      st.leaves.0,
+      st.runs.input,
       omega (arith, within, a, b),
-      st.leaves.2.reads
-          ∙ ap (λ (r : Result More Stop). failures_with (map g.S.Source.failures c.items.sources) st.leaves.0 r) is
-          ∙ ap (λ (l : List ℕ). failures_with {A = More} l st.leaves.0 (Ok (Ended c.in-Ended.done))) v.reads,
+      st.runs.leaves.touches.reads
+          ∙ ap (λ (r : Result More Stop). failures_with (map g.S.Source.failures c.items.sources) st.runs.input r) is
+          ∙ ap (λ (l : List ℕ). failures_with {A = More} l st.runs.input (Ok (Ended c.in-Ended.done))) v.reads,
       tt,
     )
 
 pub items-smaller : goal.items-smaller
-items-smaller g c = c.in_ok-run_step.ensures.leaves.2.left (ap (λ a. Ok a) c.in-Again.is)
+items-smaller g c = c.in_ok-run_step.ensures.runs.leaves.left (ap (λ a. Ok a) c.in-Again.is)

@@ -1,4 +1,4 @@
-use Rattle.std.proofs.Common.{◌≤◌}
+use Rattle.std.proofs.Common.{◌≡◌, ◌≤◌}
 use Rattle.vcd_merge.specs.Order.{IsOrder}
 use Rattle.vcd_merge.proofs.order.Order.of.Given as goal
 
@@ -6,4 +6,5 @@ abbrev pub invariant-loop-input : goal.invariant-loop-input
 invariant-loop-input l = record {
   order : IsOrder l.seats l.input l.input l.order.inputs l.order.len;
   few : l.order.len ≤ l.input;
+  most : l.order.most ≡ l.fn.most;
 }
