@@ -49,23 +49,31 @@ pub(crate) fn windows_for(alloc: Global, job: &Job, inputs: usize) -> Result<Mem
     })
 }
 
-/// Reads the header of the input at this place among all, of whose feed nothing was given, with at
-/// most `most` declarations (at most 16,777,216).
+/// How headers are read.
+#[derive(Drop)]
+pub(crate) struct Reading<'h, B> {
+    /// Where memory for them is taken.
+    pub alloc: Global,
+    /// What their codes are hashed by.
+    pub hasher: &'h B,
+    /// How many declarations may follow.
+    pub most: u64,
+    ghost within: { most ≤ 16777216 },
+}
+
+/// Reads the header of the input at this place among all, of whose feed nothing was given.
 pub(crate) fn open_input<S: Source, B: BuildHasher>(
-    alloc: Global,
+    reading: &Reading<'_, B>,
     input: usize,
     feed: &mut Feed<'_, '_, '_, '_, S>,
-    most: u64,
-    hasher: &B,
 ) -> Result<Head, Failure>
     requires failures { S.failures (source_of feed.old) < 2 ^ 64 - 1 }
     requires open { HasNotFailed feed.old }
-    requires most { most ≤ 16777216 }
     ensures reads { (i : Input) → HasGiven i [] feed.old → MatchResult result
-        (λ head. GivesHead most i feed.new (shown head))
+        (λ head. GivesHead reading.now.most i feed.new (shown head))
         (λ failure. (fault : HeadFault)
         × (failure ≡ head_failure fault input (token_of feed.new).line)
-        × Fails most i fault feed.new) }
+        × Fails reading.now.most i fault feed.new) }
     ensures failures { CountsRead input (S.failures (source_of feed.old))
         (S.failures (source_of feed.new))
         (failure_of result) }
@@ -75,7 +83,7 @@ pub(crate) fn open_input<S: Source, B: BuildHasher>(
         × (chunk_len_of feed.new ≡ chunk_len_of feed.old) }
     ensures loans { SameLoans feed.old feed.new }
 {
-    match read_head_with_hasher(alloc, feed, most, hasher) {
+    match read_head_with_hasher(reading.alloc, feed, reading.most, reading.hasher) {
         Ok(head) => Ok(head),
         Err(fault) => Err(Failure::of_head(fault, input, feed.line())),
     }
@@ -89,28 +97,25 @@ pub(crate) struct Begun {
     pub seat: Seat,
 }
 
-/// Reads the header of the input at this place among all, with at most `most` declarations (at most
-/// 16,777,216), over its reader and its parts of the windows alone, and parks its feed.
+/// Reads the header of the input at this place among all, over its reader and its parts of the
+/// windows alone, and parks its feed.
 fn begin<S: Source, B: BuildHasher>(
-    alloc: Global,
+    reading: &Reading<'_, B>,
     input: usize,
     reader: &mut S,
     chunk: &mut [u8],
     token: &mut [u8],
     value: &mut [u8],
-    most: u64,
-    hasher: &B,
 ) -> Result<Begun, Failure>
     requires failures { S.failures reader.old < 2 ^ 64 - 1 }
     requires chunk_some { 0 < length chunk.old }
     requires token_some { 0 < length token.old }
     requires same_limit { length value.old ≡ length token.old }
-    requires most { most ≤ 16777216 }
     ensures begins { (text : List ℕ) → S.rest reader.old ≡ Some text → MatchResult result
-        (λ begun. Begins most (length token.old) (length chunk.old) (whole text) begun.head
+        (λ begun. Begins reading.now.most (length token.old) (length chunk.old) (whole text) begun.head
         begun.seat chunk.new token.new
         (supply S.rest S.failures reader.old) (supply S.rest S.failures reader.new))
-        (HasFailed most (length token.old) (length chunk.old) input (whole text)
+        (HasFailed reading.now.most (length token.old) (length chunk.old) input (whole text)
         (supply S.rest S.failures reader.old) (supply S.rest S.failures reader.new)) }
     ensures reads { CountsRead input (S.failures reader.old) (S.failures reader.new)
         (failure_of result) }
@@ -119,7 +124,7 @@ fn begin<S: Source, B: BuildHasher>(
         (λ begun. IsSeated (length chunk.old) (length token.old) begun.seat × IsNew begun.seat) }
 {
     let mut feed = Feed::new(reader, chunk, token, value);
-    let head = open_input(alloc, input, &mut feed, most, hasher)?;
+    let head = open_input(reading, input, &mut feed)?;
     let seat = Seat::new(feed.parked());
     Ok(Begun { head, seat })
 }
@@ -128,20 +133,17 @@ fn begin<S: Source, B: BuildHasher>(
 ///
 /// It uses the parts of the windows at that place, and touches no other input's.
 fn begin_at<S: Source, B: BuildHasher>(
-    alloc: Global,
+    reading: &Reading<'_, B>,
     input: usize,
     readers: &mut [S],
     windows: &mut Windows<'_>,
-    most: u64,
-    hasher: &B,
 ) -> Result<Begun, Failure>
     requires input { input < length readers.old }
     requires parts { AreParts
         (length readers.old) windows.old.chunks.now windows.old.tokens.now windows.old.values.now }
     requires failures { All (λ r. S.failures r < 2 ^ 64 - 1) readers.old }
-    requires most { most ≤ 16777216 }
     ensures begins { (r : S) → slice_get readers.old input ≡ Some r
-        → BeginsAt (length readers.old) input most S.rest S.failures r readers.old readers.new
+        → BeginsAt (length readers.old) input reading.now.most S.rest S.failures r readers.old readers.new
         windows.old windows.new result }
     ensures others { (j : ℕ) → j ≢ input → SameParts (length readers.old) j windows.old windows.new }
     ensures lengths { SameLengths windows.old windows.new }
@@ -156,14 +158,12 @@ fn begin_at<S: Source, B: BuildHasher>(
     let chunk_at = input * chunk;
     let token_at = input * limit;
     begin(
-        alloc,
+        reading,
         input,
         &mut readers[input],
         &mut windows.chunks[chunk_at..chunk_at + chunk],
         &mut windows.tokens[token_at..token_at + limit],
         &mut windows.values[token_at..token_at + limit],
-        most,
-        hasher,
     )
 }
 
@@ -224,10 +224,15 @@ pub(crate) fn open_inputs<S: Source, B: BuildHasher>(
         heads: Vec::new(alloc),
         seats: Vec::with_capacity(alloc, readers.len())?,
     };
-    let mut left = MOST_DECLARATIONS;
+    let mut most = MOST_DECLARATIONS;
     for input in 0..readers.len() {
-        let begun = begin_at(alloc, input, readers, windows, left, hasher)?;
-        left = left.saturating_sub(begun.head.view().rows.len() as u64);
+        let reading = Reading {
+            alloc,
+            hasher,
+            most,
+        };
+        let begun = begin_at(&reading, input, readers, windows)?;
+        most = most.saturating_sub(begun.head.view().rows.len() as u64);
         inputs.push(begun)?;
     }
     Ok(inputs)

@@ -13,7 +13,7 @@ use vcd_text::{Sink, WriteFailed, put, put_number, text_of};
 use vcd_words::{Refusal, UseFault};
 
 /// Writes `vcdkit: TEXT`.
-pub fn put_line<E: Sink>(err: &mut E, text: &str) -> Result<(), WriteFailed>
+fn put_line<E: Sink>(err: &mut E, text: &str) -> Result<(), WriteFailed>
     requires { (E.device err.old).failures < 2 ^ 64 - 1 }
     ensures { Puts (E.device err.old) (E.device err.new) (program_line text.now) result }
 {
@@ -23,7 +23,7 @@ pub fn put_line<E: Sink>(err: &mut E, text: &str) -> Result<(), WriteFailed>
 }
 
 /// Writes `vcdkit: ` and both texts, as one line.
-pub fn put_both<E: Sink>(err: &mut E, first: &str, second: &str) -> Result<(), WriteFailed>
+fn put_both<E: Sink>(err: &mut E, first: &str, second: &str) -> Result<(), WriteFailed>
     requires { (E.device err.old).failures < 2 ^ 64 - 1 }
     ensures { Puts (E.device err.old) (E.device err.new)
         (program_line (first.now ++ second.now)) result }
@@ -34,17 +34,8 @@ pub fn put_both<E: Sink>(err: &mut E, first: &str, second: &str) -> Result<(), W
     put(err, b"\n")
 }
 
-/// Writes `vcdkit: NAME: read failed`.
-pub fn put_read_failed<E: Sink>(err: &mut E, name: &str) -> Result<(), WriteFailed>
-    requires { (E.device err.old).failures < 2 ^ 64 - 1 }
-    ensures { Puts (E.device err.old) (E.device err.new)
-        (program_line (name.now ++ codes ": read failed")) result }
-{
-    put_both(err, name, ": read failed")
-}
-
 /// Writes `vcdkit: NAME:LINE: TEXT`, of a fault in the input of that name.
-pub fn put_fault<E: Sink>(err: &mut E, name: &str, line: u64, text: &str) -> Result<(), WriteFailed>
+fn put_fault<E: Sink>(err: &mut E, name: &str, line: u64, text: &str) -> Result<(), WriteFailed>
     requires { (E.device err.old).failures < 2 ^ 64 - 1 }
     ensures { Puts (E.device err.old) (E.device err.new)
         (program_line (name.now ++ codes ":" ++ decimal line ++ codes ": " ++ text.now)) result }
@@ -56,6 +47,28 @@ pub fn put_fault<E: Sink>(err: &mut E, name: &str, line: u64, text: &str) -> Res
     put(err, b": ")?;
     put(err, text.as_bytes())?;
     put(err, b"\n")
+}
+
+/// Says `vcdkit: TEXT`, and returns the status. A fault of the stream is passed over.
+fn say<E: Sink>(err: &mut E, text: &str, status: u8) -> u8
+    requires { (E.device err.old).failures < 2 ^ 64 - 1 }
+    ensures line { Shows (E.device err.old) (E.device err.new) (program_line text.now) }
+    ensures status { result ≡ status }
+{
+    let _ = put_line(err, text);
+    status
+}
+
+/// Says `vcdkit: ` and both texts as one line, and returns the status. A fault of the stream is
+/// passed over.
+fn say_both<E: Sink>(err: &mut E, first: &str, second: &str, status: u8) -> u8
+    requires { (E.device err.old).failures < 2 ^ 64 - 1 }
+    ensures line { Shows (E.device err.old) (E.device err.new)
+        (program_line (first.now ++ second.now)) }
+    ensures status { result ≡ status }
+{
+    let _ = put_both(err, first, second);
+    status
 }
 
 /// Returns the name at this place.
@@ -81,18 +94,9 @@ fn report_stop<E: Sink>(stop: Stop, names: &[String], asked: &[String], err: &mu
             let _ = put_fault(err, name_of(names, input), line, text_of(fault));
             1
         }
-        Stop::Read { input } => {
-            let _ = put_read_failed(err, name_of(names, input));
-            3
-        }
-        Stop::Write => {
-            let _ = put_line(err, "write failed");
-            3
-        }
-        Stop::Unmatched { name } => {
-            let _ = put_both(err, name_of(asked, name), ": selects nothing");
-            1
-        }
+        Stop::Read { input } => say_both(err, name_of(names, input), ": read failed", 3),
+        Stop::Write => say(err, "write failed", 3),
+        Stop::Unmatched { name } => say_both(err, name_of(asked, name), ": selects nothing", 1),
     }
 }
 
@@ -105,22 +109,10 @@ fn report_refusal<E: Sink>(refusal: Refusal, names: &[String], err: &mut E) -> u
     ensures status { result ≡ refusal_status refusal }
 {
     match refusal {
-        Refusal::NoTimescale => {
-            let _ = put_both(err, name_of(names, 0), ": no timescale");
-            1
-        }
-        Refusal::OutOfRange => {
-            let _ = put_line(err, "time out of range");
-            2
-        }
-        Refusal::FromAboveTo => {
-            let _ = put_line(err, "--from is above --to");
-            2
-        }
-        Refusal::NotRising => {
-            let _ = put_line(err, "times must rise");
-            2
-        }
+        Refusal::NoTimescale => say_both(err, name_of(names, 0), ": no timescale", 1),
+        Refusal::OutOfRange => say(err, "time out of range", 2),
+        Refusal::FromAboveTo => say(err, "--from is above --to", 2),
+        Refusal::NotRising => say(err, "times must rise", 2),
     }
 }
 
@@ -140,10 +132,7 @@ pub(crate) fn report<E: Sink>(
     match failure {
         Failure::Stopped(stop) => report_stop(stop, names, asked, err),
         Failure::Refused(refusal) => report_refusal(refusal, names, err),
-        Failure::OutOfMemory => {
-            let _ = put_line(err, "out of memory");
-            3
-        }
+        Failure::OutOfMemory => say(err, "out of memory", 3),
     }
 }
 
@@ -166,30 +155,12 @@ pub fn use_fault<E: Sink>(fault: UseFault<'_>, err: &mut E) -> u8
     ensures status { result ≡ (use_outcome fault.entry).status }
 {
     match fault {
-        UseFault::BadWords => {
-            let _ = put_line(err, "bad words");
-            2
-        }
-        UseFault::BadLimit(word) => {
-            let _ = put_both(err, "bad token limit: ", word);
-            2
-        }
-        UseFault::BadTime(word) => {
-            let _ = put_both(err, "bad time: ", word);
-            2
-        }
-        UseFault::FromAboveTo => {
-            let _ = put_line(err, "--from is above --to");
-            2
-        }
-        UseFault::NotRising => {
-            let _ = put_line(err, "times must rise");
-            2
-        }
-        UseFault::TooManyFiles => {
-            let _ = put_line(err, "too many files");
-            2
-        }
+        UseFault::BadWords => say(err, "bad words", 2),
+        UseFault::BadLimit(word) => say_both(err, "bad token limit: ", word, 2),
+        UseFault::BadTime(word) => say_both(err, "bad time: ", word, 2),
+        UseFault::FromAboveTo => say(err, "--from is above --to", 2),
+        UseFault::NotRising => say(err, "times must rise", 2),
+        UseFault::TooManyFiles => say(err, "too many files", 2),
         UseFault::OutOfMemory => report(Failure::OutOfMemory, &[], &[], err),
     }
 }
@@ -202,6 +173,5 @@ pub fn open_fault<E: Sink>(name: &str, err: &mut E) -> u8
         (unopened_outcome name.now).message }
     ensures status { result ≡ (unopened_outcome name.now).status }
 {
-    let _ = put_both(err, name, ": cannot be opened");
-    3
+    say_both(err, name, ": cannot be opened", 3)
 }

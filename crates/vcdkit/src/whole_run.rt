@@ -24,7 +24,7 @@ ghost use Rattle.vcdkit.specs.Run.{Ends, EndsAll, HasRun, IsAfter, IsOfJob, sett
 ghost use Rattle.vcdkit.specs.declared.failure.Failure.{Failure};
 
 use crate::failure::Failure;
-use crate::inputs::{MOST_DECLARATIONS, open_input, open_inputs, windows_for};
+use crate::inputs::{MOST_DECLARATIONS, Reading, open_input, open_inputs, windows_for};
 use crate::message::report;
 use crate::tasks::{need_of, task_of};
 use std::alloc::Global;
@@ -166,7 +166,12 @@ fn run_input<S: Source, W: Sink, B: BuildHasher>(
         &mut memory.tokens,
         &mut memory.values,
     );
-    let head = open_input(alloc, 0, &mut feed, MOST_DECLARATIONS, hasher)?;
+    let reading = Reading {
+        alloc,
+        hasher,
+        most: MOST_DECLARATIONS,
+    };
+    let head = open_input(&reading, 0, &mut feed)?;
     run_want(alloc, &mut job.task, head.view(), &mut feed, out)
 }
 

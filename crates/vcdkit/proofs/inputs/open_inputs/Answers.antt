@@ -31,7 +31,7 @@ returns-in_err-begun-clause-begins g c = λ texts h.
     let o = c.loop-input.invariant in
     let within : c.loop-input.input < length c.loop-input.readers = omega arith in
     let same : c.from_residual-in_err-begun.result ≡ Err c.in_err-begun.field-0.0 = search rules in
-    rw same (stops g.S.Source.rest g.S.Source.failures c.args.readers.now c.loop-input.readers c.begin_at.new.readers c.args.windows.now c.loop-input.windows c.begin_at.new.windows c.loop-input.input c.loop-input.left _ _ c.begin_at.result
+    rw same (stops g.S.Source.rest g.S.Source.failures c.args.readers.now c.loop-input.readers c.begin_at.new.readers c.args.windows.now c.loop-input.windows c.begin_at.new.windows c.loop-input.input c.loop-input.most _ _ c.begin_at.result
     o within c.begin_at.ensures.begins c.in_err-begun.field-0.0 c.in_err-begun.was texts h)
 
 pub returns-in_err-begun-clause-reads : goal.returns-in_err-begun-clause-reads
@@ -39,7 +39,7 @@ returns-in_err-begun-clause-reads g c =
     let o = c.loop-input.invariant in
     let within : c.loop-input.input < length c.loop-input.readers = omega arith in
     let same : c.from_residual-in_err-begun.result ≡ Err c.in_err-begun.field-0.0 = search rules in
-    rw same (counted g.S.Source.rest g.S.Source.failures c.args.readers.now c.loop-input.readers c.begin_at.new.readers c.args.windows.now c.loop-input.windows c.begin_at.new.windows c.loop-input.input c.loop-input.left _ _ c.begin_at.result
+    rw same (counted g.S.Source.rest g.S.Source.failures c.args.readers.now c.loop-input.readers c.begin_at.new.readers c.args.windows.now c.loop-input.windows c.begin_at.new.windows c.loop-input.input c.loop-input.most _ _ c.begin_at.result
     o within c.begin_at.ensures.begins c.in_err-begun.field-0.0 (rw c.in_err-begun.was refl))
 
 pub returns-in_err-push-clause-begins : goal.returns-in_err-push-clause-begins
@@ -47,7 +47,7 @@ returns-in_err-push-clause-begins g c = λ texts h.
     let o = c.loop-input.invariant in
     let within : c.loop-input.input < length c.loop-input.readers = omega arith in
     let same : c.from_residual-in_err-push.result ≡ Err OutOfMemory = search rules in
-    rw same (stops_full g.S.Source.rest g.S.Source.failures c.args.readers.now c.loop-input.readers c.begin_at.new.readers c.args.windows.now c.loop-input.windows c.begin_at.new.windows c.loop-input.input c.loop-input.left _ _ c.begin_at.result
+    rw same (stops_full g.S.Source.rest g.S.Source.failures c.args.readers.now c.loop-input.readers c.begin_at.new.readers c.args.windows.now c.loop-input.windows c.begin_at.new.windows c.loop-input.input c.loop-input.most _ _ c.begin_at.result
     o within c.begin_at.ensures.begins c.in_ok-begun.begun c.in_ok-begun.was texts h)
 
 pub returns-in_err-push-clause-reads : goal.returns-in_err-push-clause-reads
@@ -55,7 +55,7 @@ returns-in_err-push-clause-reads g c =
     let o = c.loop-input.invariant in
     let within : c.loop-input.input < length c.loop-input.readers = omega arith in
     let same : c.from_residual-in_err-push.result ≡ Err OutOfMemory = search rules in
-    rw same (still g.S.Source.rest g.S.Source.failures c.args.readers.now c.loop-input.readers c.begin_at.new.readers c.args.windows.now c.loop-input.windows c.begin_at.new.windows c.loop-input.input c.loop-input.left _ _ c.begin_at.result
+    rw same (still g.S.Source.rest g.S.Source.failures c.args.readers.now c.loop-input.readers c.begin_at.new.readers c.args.windows.now c.loop-input.windows c.begin_at.new.windows c.loop-input.input c.loop-input.most _ _ c.begin_at.result
     o within c.begin_at.ensures.begins c.in_ok-begun.begun c.in_ok-begun.was)
 
 pub loop-input-preserved : goal.loop-input-preserved
@@ -64,10 +64,10 @@ loop-input-preserved g c =
     let begun = c.in_ok-begun.begun in
     let within : c.loop-input.input < length c.loop-input.readers = omega arith in
     let rows = ap (λ (s : HeadShown). length s.rows) c.view.ensures in
-    let fewer : c.saturating_sub-left.result ≡ c.loop-input.left - length (shown begun.head).rows = omega (arith, rows, c.saturating_sub-left.ensures) in
+    let fewer : c.saturating_sub-most.result ≡ c.loop-input.most - length (shown begun.head).rows = omega (arith, rows, c.saturating_sub-most.ensures) in
     rw (c.in_ok-push.ensures.0, c.in_ok-push.ensures.1)
-    (goes_on g.S.Source.rest g.S.Source.failures c.args.readers.now c.loop-input.readers c.begin_at.new.readers c.args.windows.now c.loop-input.windows c.begin_at.new.windows c.loop-input.input c.loop-input.left _ _ c.begin_at.result
-    o within c.begin_at.ensures.begins begun c.in_ok-begun.was c.saturating_sub-left.result fewer c.begin_at.ensures.lengths c.begin_at.ensures.others c.in_ok-begun.ensures.seated)
+    (goes_on g.S.Source.rest g.S.Source.failures c.args.readers.now c.loop-input.readers c.begin_at.new.readers c.args.windows.now c.loop-input.windows c.begin_at.new.windows c.loop-input.input c.loop-input.most _ _ c.begin_at.result
+    o within c.begin_at.ensures.begins begun c.in_ok-begun.was c.saturating_sub-most.result fewer c.begin_at.ensures.lengths c.begin_at.ensures.others c.in_ok-begun.ensures.seated)
 
 pub returns-clause-begins : goal.returns-clause-begins
 returns-clause-begins g c = λ texts h.
@@ -75,5 +75,5 @@ returns-clause-begins g c = λ texts h.
     let limit = part_len (length c.args.readers.now) c.args.windows.now.tokens.now in
     let chunk = part_len (length c.args.readers.now) c.args.windows.now.chunks.now in
     let e : l.input ≡ length l.readers = omega arith in
-    all_begun limit chunk (length c.args.readers.now) g.S.Source.rest g.S.Source.failures texts c.args.readers.now l.readers l.left l.inputs.heads.items l.inputs.seats.items l.windows.chunks.now l.windows.tokens.now
-    (subst (λ (k : ℕ). BegunSoFar limit chunk (length c.args.readers.now) g.S.Source.rest g.S.Source.failures texts c.args.readers.now l.readers k l.left l.inputs.heads.items l.inputs.seats.items l.windows.chunks.now l.windows.tokens.now) e (l.invariant.told texts h))
+    all_begun limit chunk (length c.args.readers.now) g.S.Source.rest g.S.Source.failures texts c.args.readers.now l.readers l.most l.inputs.heads.items l.inputs.seats.items l.windows.chunks.now l.windows.tokens.now
+    (subst (λ (k : ℕ). BegunSoFar limit chunk (length c.args.readers.now) g.S.Source.rest g.S.Source.failures texts c.args.readers.now l.readers k l.most l.inputs.heads.items l.inputs.seats.items l.windows.chunks.now l.windows.tokens.now) e (l.invariant.told texts h))

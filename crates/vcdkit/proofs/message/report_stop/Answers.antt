@@ -2,7 +2,7 @@ use Rattle.vcdkit.proofs.MessageLemmas.{puts-shows}
 use Rattle.vcdkit.proofs.message.report_stop.Goals as goal
 
 pub returns-in-Write-clause-line : goal.returns-in-Write-clause-line
-returns-in-Write-clause-line g c = rw c.in-Write.is (puts-shows _ _ _ c.put_line.result c.put_line.ensures)
+returns-in-Write-clause-line g c = rw c.in-Write.is c.say.ensures.line
 
 pub returns-in-Dump-clause-line : goal.returns-in-Dump-clause-line
 returns-in-Dump-clause-line g c =
@@ -10,8 +10,8 @@ returns-in-Dump-clause-line g c =
 
 pub returns-in-Read-clause-line : goal.returns-in-Read-clause-line
 returns-in-Read-clause-line g c =
-    rw (c.in-Read.is, ← c.name_of-in-Read.ensures) (puts-shows _ _ _ c.put_read_failed.result c.put_read_failed.ensures)
+    rw (c.in-Read.is, ← c.name_of-in-Read.ensures) c.say_both.ensures.line
 
 pub returns-in-Unmatched-clause-line : goal.returns-in-Unmatched-clause-line
 returns-in-Unmatched-clause-line g c =
-    rw (c.in-Unmatched.is, ← c.name_of-in-Unmatched.ensures) (puts-shows _ _ _ c.put_both.result c.put_both.ensures)
+    rw (c.in-Unmatched.is, ← c.name_of-in-Unmatched.ensures) c.say_both-in-Unmatched.ensures.line

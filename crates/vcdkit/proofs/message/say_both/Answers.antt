@@ -1,5 +1,5 @@
 use Rattle.vcdkit.proofs.MessageLemmas.{puts-shows}
-use Rattle.vcdkit.proofs.message.open_fault.Goals as goal
+use Rattle.vcdkit.proofs.message.say_both.Goals as goal
 
 pub returns-clause-line : goal.returns-clause-line
 returns-clause-line g c = puts-shows _ _ _ _ c.put_both.ensures
