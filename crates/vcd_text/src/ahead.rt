@@ -174,6 +174,15 @@ impl<'a> Ahead<'a> {
         self.take(at, White::before(at + 3))
     }
 
+    /// Returns whether the next token begins at once, has two bytes and a line feed after them.
+    #[inline(always)]
+    pub fn has_short(&self) -> bool
+        ensures { result ≡ true → 2 ≤ longest_of self.now
+            → IsRun (longest_of self.now) (bytes_of self.now) (passed_of self.now) 2 }
+    {
+        has_short(self.bytes, self.at)
+    }
+
     /// Takes the token at a place, before which all bytes are white.
     #[inline(always)]
     fn take(&mut self, start: usize, white: White) -> Option<&'a [u8]>
