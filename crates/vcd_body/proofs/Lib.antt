@@ -31,6 +31,7 @@ pub mod NumberLemmas
 pub mod AheadLemmas
 pub mod LeftOut
 pub mod LineLemmas
+pub mod ScalarLemmas
 pub mod MarkLine
 pub mod AskedLemmas
 pub mod Results

@@ -1,16 +1,16 @@
 // Items whose tokens are whole ahead in the chunk: most cost no change of the feed.
-ghost use Rattle.std.specs.Prelude.{◌≡◌, ◌⊎◌, ℕ, ◌+◌, ◌<◌, ◌≤◌, ◌^◌, List, [], ◌∷◌, ◌++◌, drop, length, slice_range, true, is_some, None, Some, IfSome, MatchOption};
-ghost use Rattle.vcd_body.specs.Names.{Advances, BodyItem, CallEnd, HeadView, Header, IdCode, Input, IsViewOf, Passed, Token, ahead_of, bytes_of, limit_of, lines_of, longest_of, passed_of, seen, source_of};
+ghost use Rattle.std.specs.Prelude.{◌≡◌, ◌⊎◌, ℕ, ◌+◌, ◌<◌, ◌≤◌, ◌^◌, List, [], ◌∷◌, ◌++◌, drop, take, length, slice_range, true, is_some, None, Some, IfSome, MatchOption};
+ghost use Rattle.vcd_body.specs.Names.{Advances, BodyItem, BodyPhrase, CallEnd, HeadView, Header, IdCode, Input, IsSized, IsViewOf, Passed, Token, ahead_of, bytes_of, limit_of, lines_of, longest_of, passed_of, seen, source_of};
 ghost use Rattle.vcd_body.specs.declared.item.Form.TheVariants as form;
 ghost use Rattle.vcd_body.specs.declared.item.Item.TheVariants as item;
 ghost use Rattle.vcd_body.specs.declared.words.First.TheVariants as first;
 ghost use Rattle.vcd_body.specs.Items.{AreRegsAfter, regs_after};
 ghost use Rattle.vcd_body.specs.Binary.{binary_digits};
-ghost use Rattle.vcd_body.specs.Words.{Begins};
-ghost use Rattle.vcd_body.specs.Reads.{GaveItems};
-ghost use Rattle.vcd_body.specs.Given.{HasGoodText, IsItem};
+ghost use Rattle.vcd_body.specs.Words.{Begins, IsScalar};
+ghost use Rattle.vcd_body.specs.Reads.{GaveItems, PassesScalar};
+ghost use Rattle.vcd_body.specs.Given.{HasGoodText, IsGoodText, IsItem};
 ghost use Rattle.vcd_body.specs.Ahead.{GaveAhead, GaveLast, HasBits, IsPlain, IsSizedItem, LooksOver};
-ghost use Rattle.vcd_body.specs.Spelled.{HasSpelled};
+ghost use Rattle.vcd_body.specs.Spelled.{HasSpelled, Names};
 ghost use Rattle.vcd_body.specs.Taken.{HasTime, IsFound, Opens, OpensVector, TakesItem};
 
 use crate::bits::Bits;
@@ -18,7 +18,7 @@ use crate::item::{Form, Item, Regs};
 use crate::phrases::{real_text, scalar_code, takes, time_in, vector_text};
 use crate::words::{First, after_first, bits_at, first_by, first_byte_of, rest_of};
 use vcd_text::{Ahead, Feed, Source};
-use vcd_view::{Found, HeadView, find_sized};
+use vcd_view::{Found, HeadView, find_at_once, find_sized};
 
 /// An item that was taken ahead.
 #[derive(Clone, Copy)]
@@ -171,6 +171,20 @@ pub fn opening_ahead<'a>(ahead: &mut Ahead<'a>) -> Option<Opening<'a>>
     })
 }
 
+/// Returns the next token ahead, with what it begins, where it comes at once, has two bytes and a
+/// line feed after them.
+#[inline(always)]
+fn short_opening<'a>(ahead: &mut Ahead<'a>) -> Option<Opening<'a>>
+    ensures opens { IfSome result (λ o. Opens ahead.old ahead.new o) }
+    ensures stays { result ≡ None → ahead.new ≡ ahead.old }
+{
+    let token = ahead.next_short()?;
+    Some(Opening {
+        first: first_by(token[0]),
+        token,
+    })
+}
+
 /// Returns the change that a digit begins, with its code at once. The place is that after the
 /// token; none where it is no such change.
 #[inline(always)]
@@ -190,6 +204,50 @@ pub fn scalar_ahead<'a>(
     let found = scalar_code(token, view).ok()?;
     let text = first_byte_of(token);
     let at = ahead.passed() - 1 - token.len();
+    Some(change_of(found, Form::Scalar, text, None, at, at + 1))
+}
+
+/// Returns the code after a digit, where a look at one entry finds it.
+#[inline(always)]
+fn short_code(token: &[u8], view: HeadView<'_>) -> Option<Found>
+    requires begins { IsScalar token.now }
+    ensures code { (h : Header) (earlier : List BodyPhrase) → IsViewOf view.entry h
+        → IfSome result (λ found. PassesScalar h.codes earlier token.now found.place) }
+    ensures sound { IfSome result
+        (λ found. IsGoodText view.entry.codes.now found.place form.Scalar (take 1 token.now)) }
+    ensures names { IfSome result (λ found. Names view.entry found.place (drop 1 token.now)) }
+    ensures sized { IfSome result (IsSized view.entry.codes.now) }
+{
+    let code = after_first(token);
+    if code.is_empty() {
+        return None;
+    }
+    let found = find_at_once(view, code)?;
+    Some(found)
+}
+
+/// Returns the change that a `0` or a `1` begins, where its token comes at once, has two bytes and a
+/// line feed after them, and a look at one entry finds its code. None for any other item; then
+/// nothing has changed.
+// No call is made, so that a loop over such changes keeps all that it needs in registers.
+#[inline(always)]
+pub fn short_ahead<'a>(ahead: &mut Ahead<'a>, view: HeadView<'_>) -> Option<Plain<'a>>
+    ensures takes { IfSome result
+        (λ plain. (r : Regs) → TakesItem view.entry ahead.old ahead.new r plain) }
+    ensures form { IfSome result
+        (λ plain. (place : ℕ) × (plain.item ≡ item.Change place form.Scalar)) }
+    ensures stays { result ≡ None → ahead.new ≡ ahead.old }
+{
+    let mut next = *ahead;
+    let opening = short_opening(&mut next)?;
+    let First::Bit = opening.first else {
+        return None;
+    };
+    let token = opening.token;
+    let found = short_code(token, view)?;
+    let text = first_byte_of(token);
+    let at = next.passed() - 1 - token.len();
+    *ahead = next;
     Some(change_of(found, Form::Scalar, text, None, at, at + 1))
 }
 

@@ -5,6 +5,7 @@ pub mod Lines
 pub mod EngineLemmas
 pub mod AheadLemmas
 pub mod NextLemmas
+pub mod WalkLemmas
 pub mod PieceLemmas
 pub mod CheckLemmas
 pub mod RoomLemmas

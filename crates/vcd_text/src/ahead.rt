@@ -28,6 +28,19 @@ impl White {
     {
         White { bits: 0, next: 0 }
     }
+
+    /// Returns that the byte before this place is white.
+    #[inline(always)]
+    fn before(next: usize) -> Self
+        ensures next { result.next ≡ next }
+        ensures bit { (k : ℕ) → bit_at result.bits k ≡ 1 → k ≡ 63 }
+        ensures set { bit_at result.bits 63 ≡ 1 }
+    {
+        White {
+            bits: 1 << 63,
+            next,
+        }
+    }
 }
 
 /// The tokens ahead in a feed's chunk, up to a place that needs the feed itself. A copy of it is a
@@ -128,6 +141,48 @@ impl<'a> Ahead<'a> {
         self.take(start, white)
     }
 
+    /// Returns the next token, if it begins at once, has two bytes and a line feed after them. Else
+    /// `next` may give one. It looks at these three bytes alone, and forgets what white space it has
+    /// seen: it is for a run of such tokens.
+    #[inline(always)]
+    pub fn next_short(&mut self) -> Option<&'a [u8]>
+        ensures gives { IfSome result (λ token. (lines : ℕ) (ts : List Token)
+            → Passed (longest_of self.old) lines (bytes_of self.old) (passed_of self.old) ts
+            → Passed (longest_of self.old) lines (bytes_of self.old) (passed_of self.new) (ts ++ (record {
+              bytes = token.now;
+              line = line_ahead lines (bytes_of self.old) (start_of self.new token.now);
+            }) ∷ [])) }
+        ensures some { IfSome result (λ token. 0 < length token.now) }
+        ensures short { IfSome result (λ token. length token.now ≤ longest_of self.old) }
+        ensures place { IfSome result (λ token. token.now
+            ≡ slice_range (bytes_of self.old) (start_of self.new token.now) (passed_of self.new - 1)) }
+        ensures run { IfSome result (λ token. IsRun (longest_of self.old) (bytes_of self.old)
+            (start_of self.new token.now) (length token.now)) }
+        ensures before { IfSome result (λ token.
+            AreWhite (bytes_of self.old) (passed_of self.old) (start_of self.new token.now)) }
+        ensures further { IfSome result
+            (λ token. passed_of self.old + length token.now + 1 ≤ passed_of self.new) }
+        ensures within { passed_of self.new ≤ length (bytes_of self.old) }
+        ensures none { result ≡ None → self.new ≡ self.old }
+        ensures same { (bytes_of self.new ≡ bytes_of self.old)
+            × (longest_of self.new ≡ longest_of self.old) }
+    {
+        let at = self.at;
+        if !has_short(self.bytes, at) {
+            return None;
+        }
+        self.take(at, White::before(at + 3))
+    }
+
+    /// Returns whether the next token begins at once, has two bytes and a line feed after them.
+    #[inline(always)]
+    pub fn has_short(&self) -> bool
+        ensures { result ≡ true → 2 ≤ longest_of self.now
+            → IsRun (longest_of self.now) (bytes_of self.now) (passed_of self.now) 2 }
+    {
+        has_short(self.bytes, self.at)
+    }
+
     /// Takes the token at a place, before which all bytes are white.
     #[inline(always)]
     fn take(&mut self, start: usize, white: White) -> Option<&'a [u8]>
@@ -177,6 +232,18 @@ impl<'a> Ahead<'a> {
         };
         Some(&self.bytes[start..end])
     }
+}
+
+/// Returns whether at this place two bytes stand that are not white, and then a line feed.
+#[inline(always)]
+fn has_short(bytes: &[u8], at: usize) -> bool
+    requires { at ≤ length bytes.now }
+    ensures within { result ≡ true → at + 3 ≤ length bytes.now }
+    ensures first { result ≡ true → is_white_space (slice_index bytes.now at) ≡ false }
+    ensures second { result ≡ true → is_white_space (slice_index bytes.now (at + 1)) ≡ false }
+    ensures white { result ≡ true → is_white_space (slice_index bytes.now (at + 2)) ≡ true }
+{
+    bytes.len() - at >= 3 && bytes[at] > b' ' && bytes[at + 1] > b' ' && bytes[at + 2] == b'\n'
 }
 
 /// Returns whether the lowest bit is that of the byte at a place.

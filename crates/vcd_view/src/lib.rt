@@ -48,7 +48,7 @@ pub use entries::{
 };
 pub use key::key_of;
 pub use keyword::{Keyword, is, keyword_of};
-pub use look_up::{Found, find, find_counted, find_sized};
+pub use look_up::{Found, find, find_at_once, find_counted, find_sized};
 pub use new_code::{NewCode, put_code};
 pub use probes::Probes;
 pub use room::need;

@@ -66,10 +66,10 @@ pub fn find_sized(view: HeadView<'_>, code: &[u8]) -> Option<Found>
     }
 }
 
-// Returns the place and size of a code by a look at one entry; none if the entry is of another
-// code.
+/// Returns the place and size of a code by a look at one entry. None if the entry is of another
+/// code; then `find_sized` may find the code.
 #[inline(always)]
-fn find_at_once(view: HeadView<'_>, code: &[u8]) -> Option<Found>
+pub fn find_at_once(view: HeadView<'_>, code: &[u8]) -> Option<Found>
     ensures found { (h : Header) → IsViewOf view.entry h
         → IfSome result (λ found. Finds h.codes code.now (Some found.place)) }
     ensures sized { IfSome result (λ found. IsSized view.entry.codes.now found) }

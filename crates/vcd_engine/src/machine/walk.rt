@@ -1,17 +1,21 @@
 //! The loop over the items ahead in a feed's chunk: one for all commands.
-ghost use Rattle.std.specs.Prelude.{◌≡◌, ℕ, ◌-◌, ◌^◌, ◌<◌, ◌≤◌, Bool, length, true, false, IfOk, MatchOption};
+ghost use Rattle.std.specs.Prelude.{◌≡◌, ℕ, ◌-◌, ◌^◌, ◌<◌, ◌≤◌, Bool, length, true, false, IfOk, MatchOption, MatchResult};
 ghost use Rattle.vcd_text.specs.Ahead.{bytes_of, passed_of};
-ghost use Rattle.vcd_text.specs.Device.{Counts};
+ghost use Rattle.vcd_text.specs.Device.{Counts, Device};
+ghost use Rattle.vcd_text.specs.declared.ahead.Ahead.{Ahead};
+ghost use Rattle.vcd_body.specs.declared.item.Regs.{Regs};
 ghost use Rattle.vcd_engine.specs.Ahead.{RunsOver};
 ghost use Rattle.vcd_engine.specs.Next.{HasFound, HasLine, TakesChange, TakesMark, TakesNext, walk_at};
 ghost use Rattle.vcd_engine.specs.Pieces.{IsInPlace, IsLine, IsPart};
 ghost use Rattle.vcd_engine.specs.Room.{SameTask};
+ghost use Rattle.vcd_engine.specs.Walks.{HasWalked};
+ghost use Rattle.vcd_engine.specs.declared.machine.Machine.{Machine};
 
 use crate::gathered::Gathered;
 use crate::pieces::{InPlace, Pieces, line_of_mark};
 use vcd_body::{
-    First, Plain, Regs, mark_ahead, opening_ahead, real_ahead, scalar_ahead, time_ahead,
-    vector_ahead, vector_tokens_ahead,
+    First, Plain, Regs, mark_ahead, opening_ahead, real_ahead, scalar_ahead, short_ahead,
+    time_ahead, vector_ahead, vector_tokens_ahead,
 };
 use vcd_text::{Ahead, Sink, WriteFailed};
 use vcd_view::HeadView;
@@ -201,6 +205,79 @@ fn take_next<L, C: Command<L>, W: Sink>(
     Some(taken)
 }
 
+/// How a run of short items has ended.
+#[derive(Drop)]
+struct Shorts<'a, 'p> {
+    // After the items that were taken.
+    ahead: Ahead<'a>,
+    pieces: Pieces<'p>,
+    // Whether a write of what is due with the last of them failed.
+    written: Result<(), WriteFailed>,
+}
+
+/// Takes the changes that come next, as long as each is a `0` or a `1` with a code of one byte on a
+/// line of its own.
+// It is a loop of its own, so that it has all registers, and the other loop has none less for it.
+#[inline(never)]
+fn take_shorts<'a, 'p, L, C: Command<L>, W: Sink>(
+    command: &mut C,
+    view: HeadView<'_>,
+    regs: Regs,
+    mut ahead: Ahead<'a>,
+    mut pieces: Pieces<'p>,
+    out: &mut W,
+) -> Shorts<'a, 'p>
+    requires failures { (W.device out.old).failures < 2 ^ 64 - 1 }
+    requires ready { C.is_ready command.old ≡ true }
+    requires within { passed_of ahead ≤ length (bytes_of ahead) }
+    requires part { IsPart (bytes_of ahead) pieces }
+    ensures walks { (a : Ahead) (r : Regs) (m : Machine) (begin : Device)
+        → HasWalked view.entry a r m begin (walk_at ahead.entry regs (passed_of ahead.entry))
+        pieces.entry (W.device out.old) (C.machine command.old)
+        → MatchResult result.written
+        (λ _. HasWalked view.entry a r m begin
+        (walk_at result.ahead regs (passed_of result.ahead)) result.pieces
+        (W.device out.new) (C.machine command.new))
+        (λ failed. RunsOver view.entry a r m (C.machine command.new) begin (W.device out.new)
+        (record { passed = passed_of result.ahead; regs = regs; written = result.written })) }
+    ensures ready { C.is_ready command.new ≡ true }
+    ensures further { passed_of ahead.entry ≤ passed_of result.ahead }
+{
+    'items: loop {
+        let mut next = ahead;
+        let Some(plain) = short_ahead(&mut next, view) else {
+            return Shorts {
+                ahead,
+                pieces,
+                written: Ok(()),
+            };
+        };
+        let mut line = ahead.passed();
+        let taken = take_found(
+            command,
+            view,
+            regs,
+            plain,
+            ahead,
+            next,
+            &mut line,
+            &mut pieces,
+            out,
+        );
+        ahead = next;
+        match taken {
+            Ok(()) => {}
+            Err(failed) => {
+                return Shorts {
+                    ahead,
+                    pieces,
+                    written: Err(failed),
+                };
+            }
+        }
+    }
+}
+
 /// Takes the items that lie ahead, one after the other. What is due with them is copied in pieces,
 /// of which short ones are gathered in memory that is lent.
 // Registers and place come and go by value, so that the loop keeps them out of memory; and the loop
@@ -224,6 +301,7 @@ pub(crate) fn take_each<L, C: Command<L>, W: Sink>(
     let mut pieces = Pieces::new(gathered);
     let mut line = ahead.passed();
     'items: loop {
+        let from = ahead.passed();
         let Some(taken) = take_next(
             command,
             view,
@@ -238,6 +316,16 @@ pub(crate) fn take_each<L, C: Command<L>, W: Sink>(
         match taken {
             Ok(()) => {}
             Err(failed) => return Taken::until(ahead, regs, Err(failed)),
+        }
+        if ahead.passed() - from == 3 && ahead.has_short() {
+            let run = take_shorts(command, view, regs, ahead, pieces, out);
+            ahead = run.ahead;
+            pieces = run.pieces;
+            line = ahead.passed();
+            match run.written {
+                Ok(()) => {}
+                Err(failed) => return Taken::until(ahead, regs, Err(failed)),
+            }
         }
     }
 }

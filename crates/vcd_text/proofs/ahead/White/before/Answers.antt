@@ -1,0 +1,11 @@
+use Rattle.std.proofs.Common.{◌≡◌, ◌∷◌, inl, inr, refl, sym, ◌∙◌, arith}
+use Rattle.std.proofs.lemmas.Bool.{cases_order}
+use Rattle.std.proofs.lemmas.Nat.Bits.{bit_at-pow_other}
+use Rattle.vcd_text.proofs.ahead.White.before.Goals as goal
+
+pub returns-clause-bit : goal.returns-clause-bit
+returns-clause-bit c = λ k set. elim (cases_order k 63) [
+  | inl same ↦ same
+  | inr (inl lt) ↦ absurd (omega (arith, bit_at-pow_other 63 k (λ e. absurd (omega (arith, e, lt))), set))
+  | inr (inr gt) ↦ absurd (omega (arith, bit_at-pow_other 63 k (λ e. absurd (omega (arith, e, gt))), set))
+]
