@@ -2,3 +2,4 @@ mod AskedLemmas
 mod MemoryLemmas
 mod OpensLemmas
 mod RunsLemmas
+mod Statuses

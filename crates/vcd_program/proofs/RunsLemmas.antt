@@ -72,7 +72,7 @@ names-same asked.Merge = refl
 
 -- ---- the outcome of words
 
-command-refused : (words : Option Words) (f : model.UseFault) → job_of words ≡ Err f → command_outcome words [] [] ≡ model.use_outcome f
+pub command-refused : (words : Option Words) (f : model.UseFault) → job_of words ≡ Err f → command_outcome words [] [] ≡ model.use_outcome f
 unfolding command_outcome
 command-refused words f e = rw (e, command_outcome) refl
 

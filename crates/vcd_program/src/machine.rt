@@ -1,5 +1,5 @@
 //! The machine that a process runs on, as a host.
-ghost use Rattle.std.specs.Prelude.{◌≡◌, ◌-◌, ◌^◌, ◌<◌, ⊤};
+ghost use Rattle.std.specs.Prelude.{◌≡◌, ◌-◌, ◌^◌, ◌<◌, ◌≤◌, ⊤};
 ghost use Rattle.vcd_text.specs.Watch.{failed_calls};
 
 use crate::command_line::run_program;
@@ -91,6 +91,7 @@ fn run_words<E: Sink, B: BuildHasher>(
     hasher: &B,
 ) -> u8
     requires { (E.device err.old).failures < 2 ^ 64 - 2 }
+    ensures { result ≤ 3 }
 {
     match BufWriter::new(rt.alloc(), Again::new(rt.stdout())) {
         Ok(output) => run_program(
@@ -113,6 +114,7 @@ fn run_words<E: Sink, B: BuildHasher>(
 /// whose codes are slow to find. Where the machine gives none, the first input cannot be read.
 pub fn run_words_on_machine<E: Sink>(rt: &HostRuntime, words: &[String], err: &mut E) -> u8
     requires { (E.device err.old).failures < 2 ^ 64 - 2 }
+    ensures { result ≤ 3 }
 {
     match RandomState::new(rt) {
         Ok(hasher) => run_words(rt, words, true, err, &hasher),
@@ -125,7 +127,9 @@ pub fn run_words_on_machine<E: Sink>(rt: &HostRuntime, words: &[String], err: &m
 
 /// Runs the program on the words, the files and the streams of the process, and returns the exit
 /// status.
-pub fn run_on_machine(rt: &HostRuntime) -> u8 {
+pub fn run_on_machine(rt: &HostRuntime) -> u8
+    ensures { result ≤ 3 }
+{
     let mut err = Watch::new(Again::new(rt.stderr()));
     match words_of(rt) {
         Ok(words) => run_words_on_machine(rt, words.as_slice(), &mut err),

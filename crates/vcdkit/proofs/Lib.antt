@@ -5,3 +5,4 @@ pub mod InputsLemmas
 pub mod OpenLemmas
 mod EndLemmas
 mod RunLemmas
+pub mod Statuses

@@ -1,0 +1,52 @@
+-- No program leaves a status above 3.
+use Rattle.std.proofs.Common.{◌≡◌, ◌≤◌, ℕ, Bool, true, false, List, [], cond, ◌==◌, ap, inl, inr, arith}
+use Rattle.std.specs.Prelude.{Option, Result}
+use Rattle.clap.specs.Words.{Text}
+use Rattle.clap.specs.declared.error.kind.ErrorKind.{ErrorKind}
+use Rattle.vcd_model.specs.Outcome.{Outcome, clean_outcome}
+use Rattle.vcd_model.specs.Words.{Words, command_outcome}
+use Rattle.vcd_text.specs.Device.{Device}
+use Rattle.vcd_words.specs.Words.{parse_status_of}
+use Rattle.vcdkit.specs.Message.{unopened_outcome}
+use Rattle.vcdkit.proofs.Statuses.{end-low}
+use Rattle.vcdkit.specs.Run.{IsOutcome}
+use Rattle.vcdkit.specs.Run.IsOutcome.{Whole, Part}
+use Rattle.vcd_program.specs.Opens.{called}
+use Rattle.vcd_program.specs.Runs.{Answers, Finishes, Runs, RunsOn, answer_outcome}
+use Rattle.vcd_program.specs.declared.host.OpenFault.{OpenFault}
+use Rattle.vcd_program.proofs.RunsLemmas.{command-refused, statuses}
+
+outcome-low : (o : Outcome) (out out' err err' : Device) (status : ℕ) → o.status ≤ 3 → IsOutcome o out out' err err' status → status ≤ 3
+outcome-low o out out' err err' status low (Whole written shown is) = omega arith
+outcome-low o out out' err err' status low (Part written shown is) = omega arith
+
+answer-low : (n : ℕ) (text : Text) (b : Bool) → n ≤ 3 → (cond b (clean_outcome text) (record { output = []; message = text; status = n })).status ≤ 3
+answer-low n text true low = omega arith
+answer-low n text false low = low
+
+kind-low : (why : ErrorKind) → parse_status_of why ≤ 3
+kind-low why = elim (statuses why) [ inl e ↦ omega arith | inr more ↦ elim more [ inl e ↦ omega arith | inr e ↦ omega arith ] ]
+
+answers-low : (why : ErrorKind) (out out' err err' : Device) (status : ℕ) → Answers why out out' err err' status → status ≤ 3
+answers-low why out out' err err' status (inl said) = outcome-low (answer_outcome why said.0) out out' err err' status (answer-low (parse_status_of why) said.0 (parse_status_of why == 0) (kind-low why)) said.1
+answers-low why out out' err err' status (inr fails) = omega (arith, fails.2)
+
+runs-low : {H I : Type 0} (opens : H → Option Text → Result I OpenFault → H → Type 0) (rest : I → Option (List ℕ)) (failures : I → ℕ) (words : Option Words) (asked : List (Option Text)) (host host' : H) (out out' err err' : Device) (status : ℕ)
+    → Runs opens rest failures words asked host host' out out' err err' status → status ≤ 3
+runs-low opens rest failures words asked host host' out out' err err' status (Runs.Refused fault is same leaves) =
+    let two : (command_outcome words [] []).status ≡ 2 = ap (λ o. o.status) (command-refused words fault is) in
+    outcome-low (command_outcome words [] []) out out' err err' status (omega arith) leaves
+runs-low opens rest failures words asked host host' out out' err err' status (Runs.Ran want limit is readers after opened ends leaves) = omega (arith, ends.3, end-low ends.0)
+runs-low opens rest failures words asked host host' out out' err err' status (Runs.Stopped job is name opened leaves) = outcome-low (unopened_outcome (called name)) out out' err err' status (omega arith) leaves
+runs-low opens rest failures words asked host host' out out' err err' status (Runs.NoMemory job is opened fails) = omega (arith, fails.2)
+
+pub words-low : {H I : Type 0} (words : List Text) (opens : H → Option Text → Result I OpenFault → H → Type 0) (rest : I → Option (List ℕ)) (failures : I → ℕ) (host host' : H) (out out' err err' : Device) (status : ℕ)
+    → RunsOn words opens rest failures host host' out out' err err' status → status ≤ 3
+words-low words opens rest failures host host' out out' err err' status (RunsOn.Parsed matches is runs) = runs-low _ _ _ _ _ _ _ _ _ _ _ status runs
+words-low words opens rest failures host host' out out' err err' status (RunsOn.NoMatches why is only same answers) = answers-low why out out' err err' status answers
+
+pub finishes-low : {W : Type 0} (device : W → Device) (flushes : W → Bool → W → Type 0) (Left : (out err : Device) → ℕ → Type 0) (out' : W) (err' : Device) (status : ℕ) → ((out err : Device) (n : ℕ) → Left out err n → n ≤ 3)
+    → Finishes device flushes Left out' err' status → status ≤ 3
+finishes-low device flushes Left out' err' status low (Finishes.Flushed before left flushed held same) = low (device before) err' status left
+finishes-low device flushes Left out' err' status low (Finishes.Failed before left machine fails held same) = low (device before) err' status left
+finishes-low device flushes Left out' err' status low (Finishes.Unflushed before shown was left below fails held same then is) = omega arith
