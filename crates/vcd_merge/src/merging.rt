@@ -429,8 +429,8 @@ fn take_run<S: Source, W: Sink>(
 }
 
 /// Runs an input over its source and its parts of the windows alone: its feed goes on where it was
-/// parked, takes an item, and those that follow while the time of the input is before the run's end,
-/// and is parked again.
+/// parked, takes an item, and those that follow while the time of the input is before the run's
+/// end, and is parked again.
 #[inline(always)]
 pub(crate) fn run_of<S: Source, W: Sink>(
     head: &Head,
