@@ -200,6 +200,15 @@ fn take_opened<'a, L, C: Command<L>, W: Sink>(
     }
 }
 
+/// An item ahead that was taken.
+#[derive(Clone, Copy)]
+struct Step {
+    // Whether it is a change by `0` or `1` with its code at once.
+    is_bit: bool,
+    // Whether a write of what is due with it failed.
+    written: Result<(), WriteFailed>,
+}
+
 /// Takes the next item that lies ahead. None where it takes none, and then nothing has changed.
 #[inline(always)]
 fn take_next<L, C: Command<L>, W: Sink>(
@@ -210,7 +219,7 @@ fn take_next<L, C: Command<L>, W: Sink>(
     line: &mut usize,
     pieces: &mut Pieces<'_>,
     out: &mut W,
-) -> Option<Result<(), WriteFailed>>
+) -> Option<Step>
     requires failures { (W.device out.old).failures < 2 ^ 64 - 1 }
     requires ready { C.is_ready command.old ≡ true }
     requires line { HasLine (walk_at ahead.old regs.old line.old) }
@@ -218,9 +227,10 @@ fn take_next<L, C: Command<L>, W: Sink>(
     ensures next { MatchOption result
         ((command.new ≡ command.old) × (regs.new ≡ regs.old) × (ahead.new ≡ ahead.old)
         × (pieces.new ≡ pieces.old) × (W.device out.new ≡ W.device out.old))
-        (TakesNext view.entry (walk_at ahead.old regs.old line.old)
+        (λ step. TakesNext view.entry (walk_at ahead.old regs.old line.old)
         (walk_at ahead.new regs.new line.new) pieces.old pieces.new
-        (W.device out.old) (W.device out.new) (C.machine command.old) (C.machine command.new)) }
+        (W.device out.old) (W.device out.new)
+        (C.machine command.old) (C.machine command.new) step.written) }
     ensures ready { C.is_ready command.new ≡ true }
 {
     let mut next = *ahead;
@@ -234,17 +244,23 @@ fn take_next<L, C: Command<L>, W: Sink>(
         *line = line_of_mark(next.bytes(), ahead.passed(), next.passed(), mark.at);
         *ahead = next;
         command.take_mark(time);
-        return Some(Ok(()));
+        return Some(Step {
+            is_bit: false,
+            written: Ok(()),
+        });
     }
     let mut span = Span {
         from: *ahead,
         next,
         line: *line,
     };
-    let taken = take_opened(command, view, *regs, opening, &mut span, pieces, out)?;
+    let written = take_opened(command, view, *regs, opening, &mut span, pieces, out)?;
     *ahead = span.next;
     *line = ahead.passed();
-    Some(taken)
+    Some(Step {
+        is_bit: opening.first == First::Bit,
+        written,
+    })
 }
 
 /// How a run of short items has ended.
@@ -336,8 +352,7 @@ pub(crate) fn take_each<L, C: Command<L>, W: Sink>(
     let mut pieces = Pieces::new(gathered);
     let mut line = ahead.passed();
     'items: loop {
-        let from = ahead.passed();
-        let Some(taken) = take_next(
+        let Some(step) = take_next(
             command,
             view,
             &mut regs,
@@ -348,11 +363,11 @@ pub(crate) fn take_each<L, C: Command<L>, W: Sink>(
         ) else {
             return Taken::until(ahead, regs, pieces.flush(ahead.bytes(), out));
         };
-        match taken {
+        match step.written {
             Ok(()) => {}
             Err(failed) => return Taken::until(ahead, regs, Err(failed)),
         }
-        if ahead.passed() - from == 3 && ahead.has_short() {
+        if step.is_bit && ahead.has_short() {
             let run = take_shorts(command, view, regs, ahead, pieces, out);
             ahead = run.ahead;
             pieces = run.pieces;
