@@ -33,5 +33,25 @@ pub use Rattle.vcd_body.specs.Device.{TakesDue}
 pub use Rattle.vcd_body.specs.Given.{HasGoodText, IsGoodText, IsItem, IsText, item_text}
 pub use Rattle.vcd_body.specs.Items.{AreRegsAfter, model_section}
 pub use Rattle.vcd_body.specs.Spelled.{bytes_without, HasMark}
+pub use Rattle.vcd_body.specs.declared.answer.Done.TheVariants.{Early, Whole}
+pub use Rattle.vcd_body.specs.declared.answer.More.TheVariants.{Again}
+pub use Rattle.vcd_body.specs.declared.answer.Stop.TheVariants.{Write}
+pub use Rattle.vcd_body.specs.declared.item.Item.TheVariants.{Finish}
+pub use Rattle.vcd_engine.specs.Ahead.{RunsOver}
+pub use Rattle.vcd_engine.specs.Check.{AreCounted, IsOfKind}
+pub use Rattle.vcd_engine.specs.Choice.{is_chosen}
+pub use Rattle.vcd_engine.specs.Cut.{AreCut, BeginsBy, lent_to, may_be_kept, PutsStart, SameSpan, span_in}
+pub use Rattle.vcd_engine.specs.Edges.{AreEdges, AreTallied, change_to, names_counted, room_in_edges, SameEdges}
 pub use Rattle.vcd_engine.specs.Engine.{AtClose, AtItem, CanRun, ClosesOver, CountsStop, HasBegun, Holds, is_going, Keeps, last_of, may_end_early, request_in, request_of, request_of_begun, request_of_engine, Starts, StartsOver, StopsUnread, TakesEach, TakesOne, TakesTime}
+pub use Rattle.vcd_engine.specs.ItemText.{HasWritten, LastTells, PutsEntry, times_with}
+pub use Rattle.vcd_engine.specs.Leads.{HaveNoLine, IsSelectedAt, LeadOn, rows_on}
+pub use Rattle.vcd_engine.specs.Pick.{ArePicked, flags_in, is_kept, names_in, SamePick}
+pub use Rattle.vcd_engine.specs.Pieces.{held_in, IsInPlace, IsLine, IsPart, PutsBehind, PutsOn}
+pub use Rattle.vcd_engine.specs.Report.{declares_variable, named_line, opens_scope}
 pub use Rattle.vcd_engine.specs.Room.{AreWithinBound, BeginsAs, HasRoomFor, IsWithin, IsWithinEachBound, marks_for, room_in, room_of, room_of_begun, room_size, SameHold, SameTask, slots_for, values_for, view_in}
+pub use Rattle.vcd_engine.specs.Rows.{AtRow}
+pub use Rattle.vcd_engine.specs.Run.{CountsBoth, EndsAsAsked, Finishes, MayRun, RunsTask, SameWindows}
+pub use Rattle.vcd_engine.specs.Sample.{AreSampled, asked_in, is_due, SameSample}
+pub use Rattle.vcd_engine.specs.Selection.{AreSelected, IsFirstUnmatched, IsUnmatched}
+pub use Rattle.vcd_engine.specs.Step.{MayStep, Steps, StepsAhead, StepsOn, StepsOver}
+pub use Rattle.vcd_engine.specs.Values.{AreHeld, HasValues}

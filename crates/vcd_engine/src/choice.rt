@@ -1,6 +1,6 @@
 //! Which codes of a header are chosen: a byte a code, so that a look at one is fast for many codes.
 ghost use Rattle.std.specs.Prelude.{◌≡◌, ℕ, ◌<◌, ◌==◌, ◌||◌, false, length};
-ghost use Rattle.vcd_engine.specs.Choice.{is_chosen};
+ghost use Rattle.vcd_engine.specs.Names.{is_chosen};
 
 /// Chooses none of the codes.
 pub(crate) fn choose_none(flags: &mut [u8])

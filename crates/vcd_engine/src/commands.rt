@@ -1,9 +1,7 @@
 //! The commands over items: each is its task.
 ghost use Rattle.std.specs.Prelude.{◌≡◌, ◌≢◌, ◌≤◌, [], IfOk, map, string_bytes};
 ghost use Rattle.std.specs.List.Sorted.{IsStrictlyIncreasing};
-ghost use Rattle.vcd_engine.specs.Names.{HasRoomFor, no_room, Request, room_size};
-ghost use Rattle.vcd_body.specs.declared.answer.Done.TheVariants.{Whole};
-ghost use Rattle.vcd_engine.specs.Run.{MayRun, RunsTask};
+ghost use Rattle.vcd_engine.specs.Names.{HasRoomFor, MayRun, no_room, Request, room_size, RunsTask, Whole};
 
 use crate::engine::run_task;
 use crate::task::{Room, Task};

@@ -1,11 +1,6 @@
 //! A run over the items of a body, one item a step. It names no command.
 ghost use Rattle.std.specs.Prelude.{◌≡◌, ◌≢◌, ◌-◌, ◌^◌, ◌<◌, [], List, true, false, MatchBool, Ok, MatchResult};
-ghost use Rattle.vcd_engine.specs.Names.{Advances, BeginsAs, BodyItem, CallEnd, CanRun, close_text, Counts, HasBegun, HasRoomFor, Header, Holds, is_going, IsValid, IsViewOf, IsWithinEachBound, item_text, parts, request_of, request_of_begun, request_of_engine, room_in, room_of_begun, room_size, SameHold, seen, StartsOver, Takes, view_in};
-ghost use Rattle.vcd_body.specs.declared.item.Item.TheVariants.{Finish};
-ghost use Rattle.vcd_engine.specs.Step.{MayStep, Steps, StepsAhead, StepsOn, StepsOver};
-ghost use Rattle.vcd_body.specs.declared.answer.Done.TheVariants.{Early};
-ghost use Rattle.vcd_body.specs.declared.answer.More.TheVariants.{Again};
-ghost use Rattle.vcd_engine.specs.Run.{CountsBoth, MayRun, RunsTask, SameWindows, Finishes, EndsAsAsked};
+ghost use Rattle.vcd_engine.specs.Names.{Advances, Again, BeginsAs, BodyItem, CallEnd, CanRun, close_text, Counts, CountsBoth, Early, EndsAsAsked, Finish, Finishes, HasBegun, HasRoomFor, Header, Holds, is_going, IsValid, IsViewOf, IsWithinEachBound, item_text, MayRun, MayStep, parts, request_of, request_of_begun, request_of_engine, room_in, room_of_begun, room_size, RunsTask, SameHold, SameWindows, seen, StartsOver, Steps, StepsAhead, StepsOn, StepsOver, Takes, view_in};
 
 use crate::gathered::Gathered;
 use crate::machine::Machine;

@@ -1,9 +1,7 @@
 //! The text of kept items: each as its line, after the line of its time unless that was written
 //! already.
 ghost use Rattle.std.specs.Prelude.{◌≡◌, ℕ, ◌-◌, ◌^◌, ◌<◌, ◌≤◌, ◌∷◌, [], List, length, Some, IfOk};
-ghost use Rattle.vcd_engine.specs.Names.{as_line, BodyItem, closing, Counts, Entry, HasGoodText, Header, IsItem, IsViewOf, item_line, keyword_text, model_section, section_keyword, Takes, time_due};
-ghost use Rattle.vcd_engine.specs.ItemText.{HasWritten, LastTells, PutsEntry, times_with};
-ghost use Rattle.vcd_engine.specs.Pieces.{IsLine, IsPart, IsInPlace, PutsBehind, PutsOn, held_in};
+ghost use Rattle.vcd_engine.specs.Names.{as_line, BodyItem, closing, Counts, Entry, HasGoodText, HasWritten, Header, held_in, IsInPlace, IsItem, IsLine, IsPart, IsViewOf, item_line, keyword_text, LastTells, model_section, PutsBehind, PutsEntry, PutsOn, section_keyword, Takes, time_due, times_with};
 
 use crate::pieces::{InPlace, Pieces};
 use vcd_body::{Form, Id, Item, Section, left_out, put_change, put_time_unless};

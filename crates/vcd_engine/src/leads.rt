@@ -1,8 +1,7 @@
 //! Marks that lead from one row with a line in a sample to the next, so that a time costs no look
 //! at each row.
 ghost use Rattle.std.specs.Prelude.{◌≡◌, ◌≢◌, ◌<◌, ◌≤◌, ℕ, List, length, get_or, MatchBool};
-ghost use Rattle.vcd_engine.specs.Names.{Header, IsViewOf, marks_of};
-ghost use Rattle.vcd_engine.specs.Leads.{HaveNoLine, IsSelectedAt, LeadOn, rows_on};
+ghost use Rattle.vcd_engine.specs.Names.{HaveNoLine, Header, IsSelectedAt, IsViewOf, LeadOn, marks_of, rows_on};
 
 use vcd_view::{HeadView, Kind};
 

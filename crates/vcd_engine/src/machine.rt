@@ -1,7 +1,6 @@
 //! What each task keeps between items, and what it does with an item.
 ghost use Rattle.std.specs.Prelude.{◌≡◌, ◌-◌, ◌^◌, ◌<◌, ◌≤◌, [], length, true, IfOk};
-ghost use Rattle.vcd_engine.specs.Names.{AtClose, BeginsAs, bytes_of, close_text, Counts, HasGoodText, HasRoomFor, IsValid, Keeps, last_of, may_end_early, passed_of, request_in, request_of, room_of, room_size, SameTask, StartsOver, Takes, TakesEach};
-ghost use Rattle.vcd_engine.specs.Ahead.{RunsOver};
+ghost use Rattle.vcd_engine.specs.Names.{AtClose, BeginsAs, bytes_of, close_text, Counts, HasGoodText, HasRoomFor, IsValid, Keeps, last_of, may_end_early, passed_of, request_in, request_of, room_of, room_size, RunsOver, SameTask, StartsOver, Takes, TakesEach};
 
 pub(crate) mod check;
 pub(crate) mod cut;

@@ -1,8 +1,7 @@
 //! Text that is due and is in the chunk already: pieces of it that follow each other are one, and
 //! short ones are written together.
 ghost use Rattle.std.specs.Prelude.{◌≡◌, ℕ, ◌+◌, ◌-◌, ◌^◌, ◌<◌, ◌≤◌, List, [], ◌++◌, length, take, slice_range, IfErr, IfOk};
-ghost use Rattle.vcd_engine.specs.Names.{bytes_without, Counts, HasMark, Puts, time_line};
-ghost use Rattle.vcd_engine.specs.Pieces.{IsLine, IsPart, PutsBehind, PutsOn, held_in};
+ghost use Rattle.vcd_engine.specs.Names.{bytes_without, Counts, HasMark, held_in, IsLine, IsPart, Puts, PutsBehind, PutsOn, time_line};
 
 use crate::gathered::{GATHERED, Gathered};
 use vcd_body::{Plain, is_mark_line, put_time};

@@ -1,7 +1,6 @@
 // The report of `check`: seven lines.
 ghost use Rattle.std.specs.Prelude.{◌≡◌, ◌++◌, ◌-◌, ◌^◌, ◌<◌, decimal, flat_map, codes, count_by};
-ghost use Rattle.vcd_engine.specs.Names.{count_line, number_or_dash, Puts};
-ghost use Rattle.vcd_engine.specs.Report.{named_line, opens_scope, declares_variable};
+ghost use Rattle.vcd_engine.specs.Names.{count_line, declares_variable, named_line, number_or_dash, opens_scope, Puts};
 
 use vcd_text::{Sink, WriteFailed, put, put_number};
 use vcd_view::{Kind, Row};

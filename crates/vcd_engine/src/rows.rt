@@ -1,9 +1,6 @@
 //! `list`: the variables of a header.
 ghost use Rattle.std.specs.Prelude.{◌≡◌, ◌∷◌, ◌-◌, ◌^◌, ◌<◌, MatchResult, Some};
-ghost use Rattle.vcd_engine.specs.Names.{Counts, Header, IsViewOf, IsWithinEachBound, list_line, list_text, no_room, Puts, Takes};
-ghost use Rattle.vcd_body.specs.declared.answer.Done.TheVariants.{Whole};
-ghost use Rattle.vcd_body.specs.declared.answer.Stop.TheVariants.{Write};
-ghost use Rattle.vcd_engine.specs.Rows.{AtRow};
+ghost use Rattle.vcd_engine.specs.Names.{AtRow, Counts, Header, IsViewOf, IsWithinEachBound, list_line, list_text, no_room, Puts, Takes, Whole, Write};
 
 use vcd_body::{Done, Stop};
 use vcd_head::put_path;

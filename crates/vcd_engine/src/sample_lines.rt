@@ -1,10 +1,7 @@
 //! The lines of `sample`.
 ghost use Rattle.std.specs.Prelude.{◌≡◌, ◌-◌, ◌^◌, ◌<◌, ℕ, [], ◌∷◌, List, false, Some, flat_map};
 ghost use Rattle.std.specs.List.{AllByRecursion};
-ghost use Rattle.vcd_engine.specs.Names.{BodyItem, Counts, Header, is_settled, IsViewOf, sample_lines, selected, Takes};
-ghost use Rattle.vcd_engine.specs.Leads.{LeadOn};
-ghost use Rattle.vcd_engine.specs.Values.{AreHeld};
-ghost use Rattle.vcd_engine.specs.Rows.{AtRow};
+ghost use Rattle.vcd_engine.specs.Names.{AreHeld, AtRow, BodyItem, Counts, Header, is_settled, IsViewOf, LeadOn, sample_lines, selected, Takes};
 
 use crate::leads::rows_on;
 use vcd_body::{Table, put_full};

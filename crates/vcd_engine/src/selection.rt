@@ -1,8 +1,6 @@
 //! The variables that names select: their marks and their codes.
 ghost use Rattle.std.specs.Prelude.{◌≡◌, ℕ, ◌≤◌, ◌||◌, List, length, Some, slice_get, map, string_bytes, MatchResult};
-ghost use Rattle.vcd_engine.specs.Names.{Header, IdCode, is_marked, IsViewOf, marks_of, selected, selects_code};
-ghost use Rattle.vcd_engine.specs.Choice.{is_chosen};
-ghost use Rattle.vcd_engine.specs.Selection.{AreSelected, IsUnmatched, IsFirstUnmatched};
+ghost use Rattle.vcd_engine.specs.Names.{AreSelected, Header, IdCode, is_chosen, is_marked, IsFirstUnmatched, IsUnmatched, IsViewOf, marks_of, selected, selects_code};
 
 use crate::choice::{choose, choose_none};
 use vcd_body::Stop;

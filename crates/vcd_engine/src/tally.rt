@@ -1,8 +1,6 @@
 //! How often the values of codes change, rise and fall.
 ghost use Rattle.std.specs.Prelude.{◌≡◌, ℕ, ◌-◌, ◌^◌, ◌<◌, ◌∷◌, ◌++◌, [], List, true, false, length, Some, slice_get, decimal, flat_map};
-ghost use Rattle.vcd_engine.specs.Names.{BodyItem, Change, Code, Counts, edges_line, HasBits, Header, HeadView, IdCode, IsText, IsViewOf, KeepsTable, leaves_open, marks_of, Puts, selected, Takes};
-ghost use Rattle.vcd_engine.specs.Edges.{AreTallied, change_to};
-ghost use Rattle.vcd_engine.specs.Rows.{AtRow};
+ghost use Rattle.vcd_engine.specs.Names.{AreTallied, AtRow, BodyItem, Change, change_to, Code, Counts, edges_line, HasBits, Header, HeadView, IdCode, IsText, IsViewOf, KeepsTable, leaves_open, marks_of, Puts, selected, Takes};
 
 use crate::selection::is_marked;
 use vcd_body::{Bits, Form, Item, Table, Value};

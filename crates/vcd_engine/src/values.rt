@@ -1,7 +1,6 @@
 //! The current values of codes, with one item more.
 ghost use Rattle.std.specs.Prelude.{◌∷◌, ◌++◌, [], List};
-ghost use Rattle.vcd_engine.specs.Names.{BodyItem, HasBits, HasGoodText, Header, HeadView, IsItem, IsViewOf, KeepsTable};
-ghost use Rattle.vcd_engine.specs.Values.{AreHeld};
+ghost use Rattle.vcd_engine.specs.Names.{AreHeld, BodyItem, HasBits, HasGoodText, Header, HeadView, IsItem, IsViewOf, KeepsTable};
 
 use vcd_body::{Bits, Item, Table, Value};
 

@@ -2,3 +2,4 @@ pub mod Asked
 pub mod Opens
 pub mod Runs
 pub mod Memory
+pub mod Names

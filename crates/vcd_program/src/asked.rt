@@ -1,7 +1,6 @@
 //! Which inputs words ask for.
 ghost use Rattle.std.specs.Prelude.{◌≡◌, IfOk, map};
-ghost use Rattle.vcd_program.specs.Asked.{inputs_for};
-ghost use Rattle.vcd_program.specs.Opens.{text_of};
+ghost use Rattle.vcd_program.specs.Names.{inputs_for, text_of};
 
 use clap::ArgMatches;
 use std::alloc::{AllocError, Global};

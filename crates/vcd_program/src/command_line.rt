@@ -1,10 +1,6 @@
 //! From the words of the command line to the exit status.
 ghost use Rattle.std.specs.Prelude.{◌≡◌, ◌-◌, ◌^◌, ◌<◌, ◌≤◌, ◌+◌, map, string_bytes, Ok};
-ghost use Rattle.clap.specs.Words.{kind_of};
-ghost use Rattle.vcd_words.specs.Job.{model_want};
-ghost use Rattle.vcd_words.specs.Words.{job_asked, words_used};
-ghost use Rattle.vcd_program.specs.Asked.{inputs_asked};
-ghost use Rattle.vcd_program.specs.Runs.{Answers, Finishes, Runs, RunsOn};
+ghost use Rattle.vcd_program.specs.Names.{Answers, Finishes, inputs_asked, job_asked, kind_of, model_want, Runs, RunsOn, words_used};
 
 use crate::asked::inputs_of;
 use crate::host::{Host, Output};

@@ -1,6 +1,6 @@
 //! The machine that a process runs on, as a host.
 ghost use Rattle.std.specs.Prelude.{◌≡◌, ◌-◌, ◌^◌, ◌<◌, ◌≤◌, ⊤};
-ghost use Rattle.vcd_text.specs.Watch.{failed_calls};
+ghost use Rattle.vcd_program.specs.Names.{failed_calls};
 
 use crate::command_line::run_program;
 use crate::host::{Host, OpenFault};

@@ -1,6 +1,6 @@
 //! A host in memory: files by name and standard input, as bytes.
 ghost use Rattle.std.specs.Prelude.{◌≡◌, IfOk, OnOk, map, option_map, string_bytes};
-ghost use Rattle.vcd_program.specs.Memory.{bytes_named, IsLeftBy};
+ghost use Rattle.vcd_program.specs.Names.{bytes_named, IsLeftBy};
 
 use crate::command_line::run_program;
 use crate::host::{Host, OpenFault, Output};
@@ -80,7 +80,7 @@ fn bytes_named<'a>(files: &[MemoryFile<'a>], name: &str) -> Option<&'a [u8]>
 
 impl<'a> Memory<'a> {
     ghost use Rattle.std.specs.Prelude.{◌++◌, ◌∷◌, []};
-    ghost use Rattle.vcd_program.specs.Memory.{bytes_in, noted};
+    ghost use Rattle.vcd_program.specs.Names.{bytes_in, noted};
 
     /// Notes that the input of this name is opened.
     fn note(&mut self, name: Option<&str>) -> Result<(), AllocError>
@@ -106,7 +106,7 @@ impl<'a> Memory<'a> {
 }
 
 impl<'a> Host for Memory<'a> {
-    ghost use Rattle.vcd_program.specs.Memory.{OpensIn};
+    ghost use Rattle.vcd_program.specs.Names.{OpensIn};
 
     type Input = Bytes<'a>;
 

@@ -1,6 +1,6 @@
 //! Inputs that are opened one by one.
 ghost use Rattle.std.specs.Prelude.{◌≡◌, ◌++◌, ◌∷◌, [], All, IfErr, IfOk, OnOk, map, string_bytes};
-ghost use Rattle.vcd_program.specs.Opens.{called, text_of, Opens, OpensOne, StopsAmong, StopsAt};
+ghost use Rattle.vcd_program.specs.Names.{called, Opens, OpensOne, StopsAmong, StopsAt, text_of};
 
 use crate::host::{Host, OpenFault};
 use std::alloc::{AllocError, Global};
@@ -27,7 +27,7 @@ pub(crate) struct Opened<I: Drop> {
 
 impl<I: Drop> Opened<I> {
     ghost use Rattle.std.specs.Prelude.{◌≡◌, ◌++◌, ◌∷◌, [], OnOk, map, string_bytes};
-    ghost use Rattle.vcd_program.specs.Opens.{called, text_of};
+    ghost use Rattle.vcd_program.specs.Names.{called, text_of};
 
     /// Adds an input.
     fn push(&mut self, alloc: Global, name: Option<&str>, reader: I) -> Result<(), AllocError>

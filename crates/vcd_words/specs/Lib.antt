@@ -3,3 +3,4 @@ pub mod Ticks
 pub mod Times
 pub mod Job
 pub mod Refusal
+pub mod Names

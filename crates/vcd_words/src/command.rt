@@ -1,7 +1,6 @@
 //! The command line: which words it takes, and the exit status where it takes none.
 ghost use Rattle.std.specs.Prelude.{◌≡◌, IfOk, false};
-ghost use Rattle.clap.specs.Words.{app_of, is_broken, kind_of, new_app, rule_of};
-ghost use Rattle.vcd_words.specs.Words.{cut_app, limit_rule, merge_app, named_app, one_input_app, parse_status_of, program_app, sample_app, time_rule};
+ghost use Rattle.vcd_words.specs.Names.{app_of, cut_app, is_broken, kind_of, limit_rule, merge_app, named_app, new_app, one_input_app, parse_status_of, program_app, rule_of, sample_app, time_rule};
 
 use crate::help;
 use crate::help::Help;

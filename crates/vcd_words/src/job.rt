@@ -38,11 +38,7 @@ pub enum Want {
 
 impl Want {
     ghost use Rattle.std.specs.Prelude.{MatchResult, OnOk, true};
-    ghost use Rattle.vcd_model.specs.Header.{Header};
-    ghost use Rattle.vcd_model.specs.Job.{request_of};
-    ghost use Rattle.vcd_view.specs.Views.{IsViewOf};
-    ghost use Rattle.vcd_words.specs.Refusal.{model_refusal};
-    ghost use Rattle.vcd_words.specs.Job.{is_asked, is_merge, model_want, names_asked, HasTicks};
+    ghost use Rattle.vcd_words.specs.Names.{HasTicks, Header, is_asked, is_merge, IsViewOf, model_refusal, model_want, names_asked, request_of};
 
     /// Writes the times of a sample in ticks of the header that is shown over their numbers: it is
     /// the same that is wanted. Where they are refused it says why, and what they are then is not

@@ -3,14 +3,10 @@
 ghost use Rattle.std.specs.Prelude.{◌≡◌, ℕ, List, None, OnOk, true, Some, IfErr, IfOk, cond, filter_map, length, map, option_map};
 ghost use Rattle.std.specs.Char.{is_ascii_digit};
 ghost use Rattle.std.specs.List.{take_while};
-ghost use Rattle.vcd_model.specs.Bytes.{decimal_value};
+ghost use Rattle.vcd_words.specs.Names.{asked, decimal_value, is_asked, IsFaultIn, IsFaultOf, model_want, parts, some_names};
 ghost use Rattle.vcd_model.specs.Job as model_job;
 ghost use Rattle.vcd_model.specs.Ticks as model_ticks;
 ghost use Rattle.vcd_model.specs.Words as model;
-ghost use Rattle.vcd_head.specs.Moments.{asked};
-ghost use Rattle.vcd_words.specs.Job.{is_asked, model_want};
-ghost use Rattle.vcd_words.specs.Times.{parts};
-ghost use Rattle.vcd_words.specs.Words.{some_names, IsFaultIn, IsFaultOf};
 
 use crate::job::{UseFault, Want};
 use crate::words::copied_some;
@@ -89,9 +85,8 @@ struct Order {
 
 impl Order {
     ghost use Rattle.std.specs.Prelude.{[], ◌∷◌, ◌++◌, List};
+    ghost use Rattle.vcd_words.specs.Names.{asked, IsOrderOf};
     ghost use Rattle.vcd_model.specs.Ticks as model_ticks;
-    ghost use Rattle.vcd_head.specs.Moments.{asked};
-    ghost use Rattle.vcd_words.specs.Times.{IsOrderOf};
 
     /// Returns the order of no times.
     fn new() -> Order

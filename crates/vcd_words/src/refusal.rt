@@ -16,7 +16,7 @@ pub enum Refusal {
 
 impl From<TickFault> for Refusal {
     ghost use Rattle.std.specs.Prelude.{◌≡◌};
-    ghost use Rattle.vcd_words.specs.Refusal.{tick_refusal};
+    ghost use Rattle.vcd_words.specs.Names.{tick_refusal};
 
     ghost from_gives = { λ fault refusal. refusal ≡ tick_refusal fault };
 

@@ -1,10 +1,6 @@
 // The times of a sample in ticks: over their numbers, so that no memory is taken.
 ghost use Rattle.std.specs.Prelude.{◌≡◌, ◌||◌, ℕ, List, true, false, length, MatchResult, OnOk};
-ghost use Rattle.vcd_model.specs.Header.{Header};
-ghost use Rattle.vcd_model.specs.Job.{Want, do_rise, request_of};
-ghost use Rattle.vcd_view.specs.Views.{IsViewOf};
-ghost use Rattle.vcd_words.specs.Refusal.{model_refusal};
-ghost use Rattle.vcd_words.specs.Ticks.{all_ticks, has_units, times_with, AreTicks, AreRefused};
+ghost use Rattle.vcd_words.specs.Names.{all_ticks, AreRefused, AreTicks, do_rise, has_units, Header, IsViewOf, model_refusal, request_of, times_with, Want};
 
 use crate::refusal::Refusal;
 use vcd_head::{Moment, ticks};

@@ -1,8 +1,6 @@
 //! What the words of the command line ask for, borrowed from their matches.
 ghost use Rattle.std.specs.Prelude.{◌≡◌, IfErr, IfOk, true, codes, map, option_map, string_bytes};
-ghost use Rattle.vcd_model.specs.Words.{Command, want_of};
-ghost use Rattle.vcd_words.specs.Job.{is_asked, model_want};
-ghost use Rattle.vcd_words.specs.Words.{command_named, command_used, complete, files_asked, input_asked, some_names, some_of, values_after, word_after, words_command, IsFaultOf};
+ghost use Rattle.vcd_words.specs.Names.{Command, command_named, command_used, complete, files_asked, input_asked, is_asked, IsFaultOf, model_want, some_names, some_of, values_after, want_of, word_after, words_command};
 
 use crate::job::{UseFault, Want};
 use crate::moment_word::{cut_of, sample_of};

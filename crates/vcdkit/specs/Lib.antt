@@ -10,3 +10,4 @@ pub use Rattle.vcd_words.specs.Ticks
 pub use Rattle.vcd_words.specs.Words
 -- the definitions that the clauses cite
 pub use Rattle.vcd_model.specs as Model
+pub mod Names

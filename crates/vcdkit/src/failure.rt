@@ -16,7 +16,7 @@ pub(crate) enum Failure {
 
 impl Failure {
     ghost use Rattle.std.specs.Prelude.{◌≡◌};
-    ghost use Rattle.vcdkit.specs.Failure.{head_failure, stop_failure};
+    ghost use Rattle.vcdkit.specs.Names.{head_failure, stop_failure};
 
     /// Returns the fault of a header, whose input has this place among all, and whose feed is at
     /// this line.

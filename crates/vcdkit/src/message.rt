@@ -1,10 +1,7 @@
 //! The lines on the error stream, and the exit statuses. A line begins with the program's name;
 //! where a write of it fails, a prefix of it was written.
 ghost use Rattle.std.specs.Prelude.{◌≡◌, ◌-◌, ◌^◌, ◌<◌, ◌++◌, [], codes, decimal, map, string_bytes};
-ghost use Rattle.vcd_model.specs.Outcome.{name_at, program_line};
-ghost use Rattle.vcd_text.specs.Device.{Puts, Takes, failures_after};
-ghost use Rattle.vcd_body.specs.declared.answer.Stop.TheVariants.{Write};
-ghost use Rattle.vcdkit.specs.Message.{failure_message, failure_status, refusal_message, refusal_status, stop_message, stop_status, unopened_outcome, use_outcome, Shows};
+ghost use Rattle.vcdkit.specs.Names.{failure_message, failure_status, failures_after, name_at, program_line, Puts, refusal_message, refusal_status, Shows, stop_message, stop_status, Takes, unopened_outcome, use_outcome, Write};
 ghost use Rattle.vcdkit.specs.declared.failure.Failure.TheVariants.{OutOfMemory};
 
 use crate::failure::Failure;

@@ -1,17 +1,8 @@
 //! What is wanted, as a task over the items of a body.
 ghost use Rattle.std.specs.Prelude.{◌≡◌, ◌≤◌, ℕ, IfOk, IfSome, length, true};
-ghost use Rattle.vcd_model.specs.Header.{Header};
-ghost use Rattle.vcd_model.specs.Job.{Want as ModelWant, request_of};
-ghost use Rattle.vcd_model.specs.Laws.{IsValid};
+ghost use Rattle.vcdkit.specs.Names.{AreWithinBound, asked, cut_request, HasTicks, Header, is_asked, IsEnough, IsValid, IsViewOf, IsWithin, model_want, request_of, room, Room, RoomSize, task_request};
+ghost use Rattle.vcd_model.specs.Job.{Want as ModelWant};
 ghost use Rattle.vcd_engine.specs.Engine.{request_of as task_request_of};
-ghost use Rattle.vcd_head.specs.Moments.{asked};
-ghost use Rattle.vcd_view.specs.Views.{IsViewOf};
-ghost use Rattle.vcd_words.specs.Job.{is_asked, model_want, HasTicks};
-ghost use Rattle.vcd_model.specs.Bound.{RoomSize};
-ghost use Rattle.vcd_view.specs.Needs.{room};
-ghost use Rattle.vcd_engine.specs.Room.{AreWithinBound, IsWithin};
-ghost use Rattle.vcd_engine.specs.declared.task.Room.{Room};
-ghost use Rattle.vcdkit.specs.Tasks.{IsEnough, cut_request, task_request};
 
 use vcd_engine::Task;
 use vcd_head::{Moment, ticks};

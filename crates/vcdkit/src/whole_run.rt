@@ -1,26 +1,9 @@
 //! A job, from its readers to its output, its message and its status.
 ghost use Rattle.std.specs.Prelude.{◌≡◌, ℕ, ◌+◌, ◌-◌, ◌^◌, ◌<◌, ◌≤◌, List, [], Some, map, length, All, string_bytes, true, false, Option, IfSome};
-ghost use Rattle.vcd_model.specs.Header.{Header};
-ghost use Rattle.vcd_model.specs.Input.{Input};
-ghost use Rattle.vcd_model.specs.Job.{Want as ModelWant, request_of};
-ghost use Rattle.vcd_model.specs.Laws.{IsValid};
-ghost use Rattle.vcd_model.specs.Outcome.{declarations_allowed};
-ghost use Rattle.vcd_model.specs.Settled.{is_header_over, is_settled, is_settled_by};
-ghost use Rattle.vcd_model.specs.Tokens.{Token};
-ghost use Rattle.vcd_text.specs.Answer.{whole};
-ghost use Rattle.vcd_text.specs.Device.{supply};
-ghost use Rattle.vcd_text.specs.Feed.{HasGiven, SameLoans, source_of, supply_of, limit_of, chunk_len_of};
-ghost use Rattle.vcd_view.specs.Views.{IsViewOf};
-ghost use Rattle.vcd_text.specs.Advances.{HasNotFailed};
-ghost use Rattle.vcd_body.specs.Answer.{reads_failed, writes_failed as stop_writes};
+ghost use Rattle.vcdkit.specs.Names.{AreWithinBound, chunk_len_of, CountsRead, CountsReads, declarations_allowed, end_message, end_of, end_status, Ends, EndsAll, failure_of, Follows, HasGiven, HasNotFailed, HasRun, Header, Input, is_asked, is_header_over, is_merge, is_settled, is_settled_by, IsAfter, IsEnough, IsOfJob, IsValid, IsViewOf, limit_of, merge_end, model_want, names_asked, reads_failed, request_for, request_of, room_size, SameLoans, settled_for, Shows, source_of, supply, supply_of, Token, whole, writes_failed};
+ghost use Rattle.vcd_model.specs.Job.{Want as ModelWant};
+ghost use Rattle.vcd_body.specs.Answer.{writes_failed as stop_writes};
 ghost use Rattle.vcd_engine.specs.Engine.{request_of as request_of_task};
-ghost use Rattle.vcd_engine.specs.Room.{AreWithinBound, room_size};
-ghost use Rattle.vcd_engine.specs.Run.{Follows};
-ghost use Rattle.vcdkit.specs.Tasks.{IsEnough, request_for};
-ghost use Rattle.vcdkit.specs.Failure.{end_of, failure_of, merge_end, writes_failed, CountsRead, CountsReads};
-ghost use Rattle.vcd_words.specs.Job.{is_asked, is_merge, model_want, names_asked};
-ghost use Rattle.vcdkit.specs.Message.{end_message, end_status, Shows};
-ghost use Rattle.vcdkit.specs.Run.{Ends, EndsAll, HasRun, IsAfter, IsOfJob, settled_for};
 ghost use Rattle.vcdkit.specs.declared.failure.Failure.{Failure};
 
 use crate::failure::Failure;

@@ -1,7 +1,6 @@
 //! `check`: counts what a dump has.
 ghost use Rattle.std.specs.Prelude.{◌≡◌, ◌-◌, ◌^◌, ◌<◌, ◌∷◌, ◌++◌, [], List, length, true, false};
-ghost use Rattle.vcd_engine.specs.Names.{BodyItem, check_close, Counts, Header, IsViewOf, last_mark, last_of, Takes};
-ghost use Rattle.vcd_engine.specs.Check.{AreCounted, IsOfKind};
+ghost use Rattle.vcd_engine.specs.Names.{AreCounted, BodyItem, check_close, Counts, Header, IsOfKind, IsViewOf, last_mark, last_of, Takes};
 
 use crate::machine::last_of;
 use crate::machine::walk::{Command, Keeping};

@@ -1,8 +1,6 @@
 //! `cut`: the values before a time, and the items from then up to another time.
 ghost use Rattle.std.specs.Prelude.{◌≡◌, false, ◌≤◌, ◌-◌, ◌^◌, ◌<◌, [], List, true, not, nat_le, nat_lt};
-ghost use Rattle.vcd_engine.specs.Names.{AtClose, BeginsAs, BodyItem, Counts, cut_close, HasGoodText, HasRoomFor, Header, IsViewOf, Request, room_size, StartsOver, Takes, TakesEach, TakesTime, value_before};
-ghost use Rattle.vcd_engine.specs.Cut.{AreCut, BeginsBy, lent_to, may_be_kept, span_in, SameSpan, PutsStart};
-ghost use Rattle.vcd_engine.specs.Values.{HasValues};
+ghost use Rattle.vcd_engine.specs.Names.{AreCut, AtClose, BeginsAs, BeginsBy, BodyItem, Counts, cut_close, HasGoodText, HasRoomFor, HasValues, Header, IsViewOf, lent_to, may_be_kept, PutsStart, Request, room_size, SameSpan, span_in, StartsOver, Takes, TakesEach, TakesTime, value_before};
 ghost use Rattle.vcd_engine.specs.declared.task.Task.TheVariants as task;
 
 use crate::item_text::ItemText;

@@ -1,8 +1,6 @@
 //! `edges`: how often the values of the selected variables change, rise and fall.
 ghost use Rattle.std.specs.Prelude.{◌≡◌, ◌-◌, ◌^◌, ◌<◌, ◌∷◌, ◌++◌, [], List, Some, length, map, slice_get, string_bytes, true, false, IfOk, MatchResult};
-ghost use Rattle.vcd_engine.specs.Names.{AtItem, BodyItem, ClosesOver, Counts, Device, edges_close, HasGoodText, HasRoomFor, Header, IdCode, IsGoodText, IsViewOf, IsWithin, leaves_open, Request, room_size, Starts};
-ghost use Rattle.vcd_engine.specs.Edges.{AreEdges, SameEdges, names_counted, room_in_edges, change_to};
-ghost use Rattle.vcd_engine.specs.Selection.{IsUnmatched};
+ghost use Rattle.vcd_engine.specs.Names.{AreEdges, AtItem, BodyItem, change_to, ClosesOver, Counts, Device, edges_close, HasGoodText, HasRoomFor, Header, IdCode, IsGoodText, IsUnmatched, IsViewOf, IsWithin, leaves_open, names_counted, Request, room_in_edges, room_size, SameEdges, Starts};
 ghost use Rattle.vcd_engine.specs.declared.task.Task.TheVariants as task;
 
 use crate::machine::walk::{Command, Keeping};

@@ -1,7 +1,6 @@
 //! `pick`: the dump of the selected variables.
 ghost use Rattle.std.specs.Prelude.{◌≡◌, ◌-◌, ◌^◌, ◌<◌, map, string_bytes, IfOk, MatchResult, ◌∷◌, ◌++◌, [], List, length, true, false};
-ghost use Rattle.vcd_engine.specs.Names.{AreRegsAfter, AtItem, BodyItem, Counts, CountsStop, HasGoodText, HasRoomFor, Header, last_mark, last_of, pick_close, pick_open, Request, StartsOver, StopsUnread, Takes, TakesDue};
-ghost use Rattle.vcd_engine.specs.Pick.{ArePicked, SamePick, is_kept, names_in, flags_in};
+ghost use Rattle.vcd_engine.specs.Names.{ArePicked, AreRegsAfter, AtItem, BodyItem, Counts, CountsStop, flags_in, HasGoodText, HasRoomFor, Header, is_kept, last_mark, last_of, names_in, pick_close, pick_open, Request, SamePick, StartsOver, StopsUnread, Takes, TakesDue};
 ghost use Rattle.vcd_engine.specs.declared.task.Task.TheVariants as task;
 
 use crate::choice::is_chosen;

@@ -2,9 +2,8 @@
 ghost use Rattle.std.specs.Prelude.{◌≡◌, ◌≢◌, ◌-◌, ◌^◌, ◌<◌, ◌+◌, ◌∷◌, ◌++◌, [], List, nat_le, None, true, IfOk, MatchResult, map, string_bytes};
 ghost use Rattle.std.specs.List.{position_or_len};
 ghost use Rattle.std.specs.List.Sorted.{IsStrictlyIncreasing};
-ghost use Rattle.vcd_engine.specs.Names.{BodyItem, close_text, ClosesOver, Counts, first_unmatched, HasGoodText, HasRoomFor, Header, IsItem, IsViewOf, IsWithin, Request, room_size, TakesOne, TakesTime};
-ghost use Rattle.vcd_engine.specs.Sample.{AreSampled, SameSample, asked_in, is_due, lent_to};
-ghost use Rattle.vcd_engine.specs.Selection.{IsFirstUnmatched, IsUnmatched};
+ghost use Rattle.vcd_engine.specs.Names.{AreSampled, asked_in, BodyItem, close_text, ClosesOver, Counts, first_unmatched, HasGoodText, HasRoomFor, Header, is_due, IsFirstUnmatched, IsItem, IsUnmatched, IsViewOf, IsWithin, Request, room_size, SameSample, TakesOne, TakesTime};
+ghost use Rattle.vcd_engine.specs.Sample.{lent_to};
 ghost use Rattle.vcd_engine.specs.declared.task.Task.TheVariants as task;
 
 use crate::leads::lead_on;
