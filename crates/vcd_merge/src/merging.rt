@@ -166,11 +166,7 @@ fn take_next<W: Sink>(
     let mut next = *ahead;
     let opening = opening_ahead(&mut next)?;
     let put = match opening.first {
-        First::Bit => {
-            let plain = scalar_ahead(opening, next, view)?;
-            put_item(plain, view.codes, track, written, out)
-        }
-        First::Scalar => {
+        First::Bit | First::Scalar => {
             let plain = scalar_ahead(opening, next, view)?;
             put_item(plain, view.codes, track, written, out)
         }

@@ -4,9 +4,6 @@ use Rattle.vcd_merge.proofs.merging.take_next.Goals as goal
 pub scalar_ahead-requires-clause-opens : goal.scalar_ahead-requires-clause-opens
 scalar_ahead-requires-clause-opens g c = (c.args.ahead.now, c.in_ok-opening.ensures.opens)
 
-pub scalar_ahead-requires-in-Scalar-clause-opens : goal.scalar_ahead-requires-in-Scalar-clause-opens
-scalar_ahead-requires-in-Scalar-clause-opens g c = (c.args.ahead.now, c.in_ok-opening.ensures.opens)
-
 pub vector_tokens_ahead-requires-clause-opens : goal.vector_tokens_ahead-requires-clause-opens
 vector_tokens_ahead-requires-clause-opens g c = (c.args.ahead.now, c.in_ok-opening.ensures.opens)
 
@@ -27,12 +24,6 @@ put_item-put-requires-clause-put g c = putable c.args.view c.args.ahead.now _ c.
 
 pub returns-in_ok-plain-in-Bit-clause-next : goal.returns-in_ok-plain-in-Bit-clause-next
 returns-in_ok-plain-in-Bit-clause-next g c = let n = c.in_ok-plain-in-Bit.ensures in change_taken c.args.view c.args.ahead.now _ c.args.track.now c.in_ok-plain-in-Bit.plain (c.in_ok-plain-in-Bit.ensures.takes c.args.ahead.now c.args.track.now.regs c.in_ok-opening.ensures.opens) n.form.0 _ c.args.written.now _ _ _ c.put_item-put.result n.form.1 c.put_item-put.ensures.takes
-
-pub put_item-put-requires-in-Scalar-clause-put : goal.put_item-put-requires-in-Scalar-clause-put
-put_item-put-requires-in-Scalar-clause-put g c = putable c.args.view c.args.ahead.now _ c.args.track.now c.in_ok-plain-in-Scalar.plain (c.in_ok-plain-in-Scalar.ensures.takes c.args.ahead.now c.args.track.now.regs c.in_ok-opening.ensures.opens)
-
-pub returns-in_ok-plain-in-Scalar-clause-next : goal.returns-in_ok-plain-in-Scalar-clause-next
-returns-in_ok-plain-in-Scalar-clause-next g c = let n = c.in_ok-plain-in-Scalar.ensures in change_taken c.args.view c.args.ahead.now _ c.args.track.now c.in_ok-plain-in-Scalar.plain (c.in_ok-plain-in-Scalar.ensures.takes c.args.ahead.now c.args.track.now.regs c.in_ok-opening.ensures.opens) n.form.0 _ c.args.written.now _ _ _ c.put_item-put-in-Scalar.result n.form.1 c.put_item-put-in-Scalar.ensures.takes
 
 pub put_item-requires-clause-put : goal.put_item-requires-clause-put
 put_item-requires-clause-put g c = putable c.args.view c.args.ahead.now _ c.args.track.now c.in_ok-plain-in-Some.plain (c.in_ok-plain-in-Some.ensures.takes c.args.ahead.now c.args.track.now.regs (c.in_ok-tokens-in-Vector.ensures.opens c.args.ahead.now c.in_ok-opening.ensures.opens))
