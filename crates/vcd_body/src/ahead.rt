@@ -226,8 +226,8 @@ fn short_code(token: &[u8], view: HeadView<'_>) -> Option<Found>
     Some(found)
 }
 
-/// Returns the change that a `0` or a `1` begins, where its token comes at once, has two bytes and a
-/// line feed after them, and a look at one entry finds its code. None for any other item; then
+/// Returns the change that a `0` or a `1` begins, where its token comes at once, has two bytes and
+/// a line feed after them, and a look at one entry finds its code. None for any other item; then
 /// nothing has changed.
 // No call is made, so that a loop over such changes keeps all that it needs in registers.
 #[inline(always)]

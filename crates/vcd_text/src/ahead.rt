@@ -142,8 +142,8 @@ impl<'a> Ahead<'a> {
     }
 
     /// Returns the next token, if it begins at once, has two bytes and a line feed after them. Else
-    /// `next` may give one. It looks at these three bytes alone, and forgets what white space it has
-    /// seen: it is for a run of such tokens.
+    /// `next` may give one. It looks at these three bytes alone, and forgets what white space it
+    /// has seen: it is for a run of such tokens.
     #[inline(always)]
     pub fn next_short(&mut self) -> Option<&'a [u8]>
         ensures gives { IfSome result (λ token. (lines : ℕ) (ts : List Token)
