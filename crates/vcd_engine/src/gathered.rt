@@ -1,6 +1,6 @@
 //! Short pieces of text that are due, which are copied together, and written at once.
 ghost use Rattle.std.specs.Prelude.{◌≡◌, ◌+◌, ◌-◌, ◌^◌, ◌<◌, ◌≤◌, ◌++◌, true, length, take, slice_range, IfOk};
-ghost use Rattle.vcd_engine.specs.Names.{Puts};
+ghost use Rattle.vcd_text.specs.Device.{Puts};
 
 use std::simd::prelude::*;
 use vcd_text::{Sink, WriteFailed, put};

@@ -106,6 +106,11 @@ impl<'n, 'r> Command<Keeping> for Edges<'n, 'r> {
     ghost is_left = { λ _ _. false };
 
     #[inline(always)]
+    fn has_runs(&self) -> bool {
+        false
+    }
+
+    #[inline(always)]
     fn leaves(&self, _time: u64) -> bool {
         false
     }

@@ -141,6 +141,11 @@ impl<'n, 'r> Command<Keeping> for Sample<'n, 'r> {
     ghost is_left = { λ command time. is_due command.rest.now time };
 
     #[inline(always)]
+    fn has_runs(&self) -> bool {
+        true
+    }
+
+    #[inline(always)]
     fn leaves(&self, time: u64) -> bool {
         match self.rest {
             [first, ..] => *first < time,

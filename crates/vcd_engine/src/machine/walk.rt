@@ -66,6 +66,9 @@ pub(crate) trait Command<L> {
     // Whether the loop leaves a time mark with this time.
     ghost is_left: { Self → ℕ → Bool };
 
+    /// Returns whether a run of changes by `0` or `1` is worth a loop of its own.
+    fn has_runs(&self) -> bool;
+
     /// Returns whether a time mark with this time is left to `Machine::take`, since it ends the
     /// run, or something is due with it.
     fn leaves(&self, time: u64) -> bool
@@ -367,7 +370,7 @@ pub(crate) fn take_each<L, C: Command<L>, W: Sink>(
             Ok(()) => {}
             Err(failed) => return Taken::until(ahead, regs, Err(failed)),
         }
-        if step.is_bit && ahead.has_short() {
+        if step.is_bit && command.has_runs() && ahead.has_short() {
             let run = take_shorts(command, view, regs, ahead, pieces, out);
             ahead = run.ahead;
             pieces = run.pieces;
