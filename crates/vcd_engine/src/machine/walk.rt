@@ -4,7 +4,6 @@ ghost use Rattle.vcd_text.specs.Ahead.{bytes_of, passed_of};
 ghost use Rattle.vcd_text.specs.Device.{Counts, Device};
 ghost use Rattle.vcd_text.specs.declared.ahead.Ahead.{Ahead};
 ghost use Rattle.vcd_body.specs.declared.item.Regs.{Regs};
-ghost use Rattle.vcd_body.specs.Taken.{Opens};
 ghost use Rattle.vcd_engine.specs.Ahead.{RunsOver};
 ghost use Rattle.vcd_engine.specs.Next.{HasFound, HasLine, TakesChange, TakesMark, TakesNext, walk_at};
 ghost use Rattle.vcd_engine.specs.Pieces.{IsInPlace, IsLine, IsPart};
@@ -15,7 +14,7 @@ ghost use Rattle.vcd_engine.specs.declared.machine.Machine.{Machine};
 use crate::gathered::Gathered;
 use crate::pieces::{InPlace, Pieces, line_of_mark};
 use vcd_body::{
-    First, Opening, Plain, Regs, mark_ahead, opening_ahead, real_ahead, scalar_ahead, short_ahead,
+    First, Plain, Regs, mark_ahead, opening_ahead, real_ahead, scalar_ahead, short_ahead,
     time_ahead, vector_ahead, vector_tokens_ahead,
 };
 use vcd_text::{Ahead, Sink, WriteFailed};
@@ -105,114 +104,44 @@ pub(crate) trait Command<L> {
         ensures same { SameTask (machine self.old) (machine self.new) };
 }
 
-/// Where an item lies: how far the loop was before it, and how far what was taken of it goes.
-#[derive(Clone, Copy)]
-struct Span<'a> {
-    from: Ahead<'a>,
-    next: Ahead<'a>,
-    // Where the line of the last time begins, if it comes just before the item.
-    line: usize,
-}
-
-/// Takes a change that was found ahead. The line of its time may come just before it; no such line
-/// comes just before the next item.
+/// Takes a change that was found ahead, from one place up to another. The line of its time may come
+/// just before it; no such line comes just before the next item.
 #[inline(always)]
-fn take_found<L, C: Command<L>, W: Sink>(
+fn take_found<'a, L, C: Command<L>, W: Sink>(
     command: &mut C,
     view: HeadView<'_>,
     regs: Regs,
-    span: Span<'_>,
     plain: Plain<'_>,
+    ahead: Ahead<'a>,
+    next: Ahead<'a>,
+    line: &mut usize,
     pieces: &mut Pieces<'_>,
     out: &mut W,
 ) -> Result<(), WriteFailed>
     requires failures { (W.device out.old).failures < 2 ^ 64 - 1 }
     requires ready { C.is_ready command.old ≡ true }
-    requires found { HasFound view (walk_at span.from regs span.line) span.next plain }
-    requires part { IsPart (bytes_of span.from) pieces.old }
-    ensures next { TakesNext view.entry (walk_at span.entry.from regs span.entry.line)
-        (walk_at span.entry.next regs (passed_of span.entry.next)) pieces.old pieces.new
+    requires found { HasFound view (walk_at ahead regs line.old) next plain }
+    requires part { IsPart (bytes_of ahead) pieces.old }
+    ensures next { TakesNext view.entry (walk_at ahead.entry regs line.old)
+        (walk_at next.entry regs line.new) pieces.old pieces.new
         (W.device out.old) (W.device out.new)
         (C.machine command.old) (C.machine command.new) result }
     ensures ready { C.is_ready command.new ≡ true }
 {
     let change = InPlace {
         plain,
-        bytes: span.next.bytes(),
-        from: span.from.passed(),
-        to: span.next.passed(),
-        line: span.line,
+        bytes: next.bytes(),
+        from: ahead.passed(),
+        to: next.passed(),
+        line: *line,
     };
+    *line = change.to;
     command.take_change(view, regs, change, pieces, out)
 }
 
-/// Takes the change that a token begins. None where it is none, or is not whole ahead; then nothing
-/// was taken.
-// What begins the change, and whether its digits are known to be 0 and 1, is asked once: what is
-// done with it follows in each arm.
-#[inline(always)]
-fn take_opened<'a, L, C: Command<L>, W: Sink>(
-    command: &mut C,
-    view: HeadView<'_>,
-    regs: Regs,
-    opening: Opening<'a>,
-    span: &mut Span<'a>,
-    pieces: &mut Pieces<'_>,
-    out: &mut W,
-) -> Option<Result<(), WriteFailed>>
-    requires failures { (W.device out.old).failures < 2 ^ 64 - 1 }
-    requires ready { C.is_ready command.old ≡ true }
-    requires opens { Opens span.old.from span.old.next opening }
-    requires line { HasLine (walk_at span.old.from regs span.old.line) }
-    requires part { IsPart (bytes_of span.old.from) pieces.old }
-    ensures next { MatchOption result
-        ((command.new ≡ command.old) × (pieces.new ≡ pieces.old)
-        × (W.device out.new ≡ W.device out.old))
-        (TakesNext view.entry (walk_at span.old.from regs span.old.line)
-        (walk_at span.new.next regs (passed_of span.new.next)) pieces.old pieces.new
-        (W.device out.old) (W.device out.new) (C.machine command.old) (C.machine command.new)) }
-    ensures ready { C.is_ready command.new ≡ true }
-{
-    match opening.first {
-        First::Bit => {
-            let plain = scalar_ahead(opening, span.next, view)?;
-            Some(take_found(command, view, regs, *span, plain, pieces, out))
-        }
-        First::Scalar => {
-            let plain = scalar_ahead(opening, span.next, view)?;
-            Some(take_found(command, view, regs, *span, plain, pieces, out))
-        }
-        First::Vector => {
-            let tokens = vector_tokens_ahead(opening, &mut span.next)?;
-            match tokens.bits {
-                Some(bits) => {
-                    let plain = vector_ahead(tokens, Some(bits), span.next, view)?;
-                    Some(take_found(command, view, regs, *span, plain, pieces, out))
-                }
-                None => {
-                    let plain = vector_ahead(tokens, None, span.next, view)?;
-                    Some(take_found(command, view, regs, *span, plain, pieces, out))
-                }
-            }
-        }
-        First::Real => {
-            let plain = real_ahead(opening, &mut span.next, view)?;
-            Some(take_found(command, view, regs, *span, plain, pieces, out))
-        }
-        First::Mark | First::Other => None,
-    }
-}
-
-/// An item ahead that was taken.
-#[derive(Clone, Copy)]
-struct Step {
-    // Whether it is a change by `0` or `1` with its code at once.
-    is_bit: bool,
-    // Whether a write of what is due with it failed.
-    written: Result<(), WriteFailed>,
-}
-
 /// Takes the next item that lies ahead. None where it takes none, and then nothing has changed.
+// What begins the item, and whether its digits are known to be 0 and 1, is asked once: what is done
+// with it follows in each arm.
 #[inline(always)]
 fn take_next<L, C: Command<L>, W: Sink>(
     command: &mut C,
@@ -222,7 +151,7 @@ fn take_next<L, C: Command<L>, W: Sink>(
     line: &mut usize,
     pieces: &mut Pieces<'_>,
     out: &mut W,
-) -> Option<Step>
+) -> Option<Result<(), WriteFailed>>
     requires failures { (W.device out.old).failures < 2 ^ 64 - 1 }
     requires ready { C.is_ready command.old ≡ true }
     requires line { HasLine (walk_at ahead.old regs.old line.old) }
@@ -230,40 +159,53 @@ fn take_next<L, C: Command<L>, W: Sink>(
     ensures next { MatchOption result
         ((command.new ≡ command.old) × (regs.new ≡ regs.old) × (ahead.new ≡ ahead.old)
         × (pieces.new ≡ pieces.old) × (W.device out.new ≡ W.device out.old))
-        (λ step. TakesNext view.entry (walk_at ahead.old regs.old line.old)
+        (TakesNext view.entry (walk_at ahead.old regs.old line.old)
         (walk_at ahead.new regs.new line.new) pieces.old pieces.new
-        (W.device out.old) (W.device out.new)
-        (C.machine command.old) (C.machine command.new) step.written) }
+        (W.device out.old) (W.device out.new) (C.machine command.old) (C.machine command.new)) }
     ensures ready { C.is_ready command.new ≡ true }
 {
     let mut next = *ahead;
     let opening = opening_ahead(&mut next)?;
-    if let First::Mark = opening.first {
-        let time = time_ahead(opening)?;
-        if command.leaves(time) {
-            return None;
+    let taken = match opening.first {
+        First::Bit => {
+            let plain = scalar_ahead(opening, next, view)?;
+            take_found(command, view, *regs, plain, *ahead, next, line, pieces, out)
         }
-        let mark = mark_ahead(opening, time, next, regs)?;
-        *line = line_of_mark(next.bytes(), ahead.passed(), next.passed(), mark.at);
-        *ahead = next;
-        command.take_mark(time);
-        return Some(Step {
-            is_bit: false,
-            written: Ok(()),
-        });
-    }
-    let mut span = Span {
-        from: *ahead,
-        next,
-        line: *line,
+        First::Scalar => {
+            let plain = scalar_ahead(opening, next, view)?;
+            take_found(command, view, *regs, plain, *ahead, next, line, pieces, out)
+        }
+        First::Vector => {
+            let tokens = vector_tokens_ahead(opening, &mut next)?;
+            match tokens.bits {
+                Some(bits) => {
+                    let plain = vector_ahead(tokens, Some(bits), next, view)?;
+                    take_found(command, view, *regs, plain, *ahead, next, line, pieces, out)
+                }
+                None => {
+                    let plain = vector_ahead(tokens, None, next, view)?;
+                    take_found(command, view, *regs, plain, *ahead, next, line, pieces, out)
+                }
+            }
+        }
+        First::Mark => {
+            let time = time_ahead(opening)?;
+            if command.leaves(time) {
+                return None;
+            }
+            let mark = mark_ahead(opening, time, next, regs)?;
+            *line = line_of_mark(next.bytes(), ahead.passed(), next.passed(), mark.at);
+            command.take_mark(time);
+            Ok(())
+        }
+        First::Real => {
+            let plain = real_ahead(opening, &mut next, view)?;
+            take_found(command, view, *regs, plain, *ahead, next, line, pieces, out)
+        }
+        First::Other => return None,
     };
-    let written = take_opened(command, view, *regs, opening, &mut span, pieces, out)?;
-    *ahead = span.next;
-    *line = ahead.passed();
-    Some(Step {
-        is_bit: opening.first == First::Bit,
-        written,
-    })
+    *ahead = next;
+    Some(taken)
 }
 
 /// How a run of short items has ended.
@@ -313,12 +255,18 @@ fn take_shorts<'a, 'p, L, C: Command<L>, W: Sink>(
                 written: Ok(()),
             };
         };
-        let span = Span {
-            from: ahead,
+        let mut line = ahead.passed();
+        let taken = take_found(
+            command,
+            view,
+            regs,
+            plain,
+            ahead,
             next,
-            line: ahead.passed(),
-        };
-        let taken = take_found(command, view, regs, span, plain, &mut pieces, out);
+            &mut line,
+            &mut pieces,
+            out,
+        );
         ahead = next;
         match taken {
             Ok(()) => {}
@@ -352,10 +300,12 @@ pub(crate) fn take_each<L, C: Command<L>, W: Sink>(
     ensures { RunsOver view.entry ahead.entry regs (C.machine command.old) (C.machine command.new)
         (W.device out.old) (W.device out.new) result }
 {
+    let bytes = ahead.bytes();
     let mut pieces = Pieces::new(gathered);
     let mut line = ahead.passed();
     'items: loop {
-        let Some(step) = take_next(
+        let from = ahead.passed();
+        let Some(taken) = take_next(
             command,
             view,
             &mut regs,
@@ -364,13 +314,13 @@ pub(crate) fn take_each<L, C: Command<L>, W: Sink>(
             &mut pieces,
             out,
         ) else {
-            return Taken::until(ahead, regs, pieces.flush(ahead.bytes(), out));
+            return Taken::until(ahead, regs, pieces.flush(bytes, out));
         };
-        match step.written {
+        match taken {
             Ok(()) => {}
             Err(failed) => return Taken::until(ahead, regs, Err(failed)),
         }
-        if step.is_bit && command.has_runs() && ahead.has_short() {
+        if command.has_runs() && ahead.passed() - from == 3 && ahead.has_short() {
             let run = take_shorts(command, view, regs, ahead, pieces, out);
             ahead = run.ahead;
             pieces = run.pieces;

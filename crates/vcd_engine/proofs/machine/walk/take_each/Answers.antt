@@ -7,16 +7,15 @@ use Rattle.vcd_engine.proofs.WalkLemmas.{runs_as, walk_anew, walk_begins, walk_e
 use Rattle.vcd_engine.proofs.machine.walk.take_each.Goals as goal
 
 pub flush-requires-clause-part : goal.flush-requires-clause-part
-flush-requires-clause-part g c =
-    let same = c.in_default.ensures.next in
-    rw same.3 (subst (λ bs. IsPart bs c.items.pieces) (sym (c.bytes.ensures ∙ ap bytes_of same.2)) c.items.invariant.walked.part)
+flush-requires-clause-part g c = rw c.in_default.ensures.next.3 (subst (λ bs. IsPart bs c.items.pieces) (c.items.invariant.walked.over.1 ∙ sym c.bytes-bytes.ensures) c.items.invariant.walked.part)
 
 pub returns-in_default : goal.returns-in_default
 returns-in_default g c =
     let w = c.items.invariant.walked in
     let u = c.until.ensures in
     let same = c.in_default.ensures.next in
-    let here = c.bytes.ensures ∙ ap bytes_of same.2 in
+    let bytes = bytes_of c.items.ahead in
+    let here = c.bytes-bytes.ensures ∙ sym w.over.1 in
     let p = c.take_next.new.pieces in
     let mid = g.W.Sink.device c.take_next.new.out in
     let new = g.W.Sink.device c.flush.new.out in

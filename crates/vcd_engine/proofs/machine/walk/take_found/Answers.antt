@@ -12,8 +12,8 @@ use Rattle.vcd_engine.proofs.machine.walk.take_found.Goals as goal
 pub take_change-requires-clause-place : goal.take_change-requires-clause-place
 take_change-requires-clause-place g c =
     let f = c.requires.found in
-    let w = walk_at c.args.span.from c.args.regs c.args.span.line in
-    placed_there c.args.view w.ahead c.args.span.next w.regs c.args.plain c.bytes.result _ _ f.item c.bytes.ensures c.passed.ensures.passed c.passed-2.ensures.passed w.line f.change
+    let w = walk_at c.args.ahead c.args.regs c.args.line.now in
+    placed_there c.args.view w.ahead c.args.next w.regs c.args.plain c.bytes.result _ _ f.item c.bytes.ensures c.passed.ensures.passed c.passed-2.ensures.passed w.line f.change
 
 pub take_change-requires-clause-line : goal.take_change-requires-clause-line
 take_change-requires-clause-line g c =
@@ -26,7 +26,7 @@ take_change-requires-clause-part g c = subst (λ (bs : List ℕ). IsPart bs c.ar
 pub returns-clause-next : goal.returns-clause-next
 returns-clause-next g c =
     let f = c.requires.found in
-    let w = walk_at c.args.span.from c.args.regs c.args.span.line in
+    let w = walk_at c.args.ahead c.args.regs c.args.line.now in
     let p = c.args.plain in
     let same = c.bytes.ensures ∙ f.item.same.0 in
     let t = request_in (g.C.Command.machine c.args.command.now) in
