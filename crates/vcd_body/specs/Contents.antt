@@ -6,11 +6,14 @@ use Rattle.vcd_model.specs.Values.{Value, value_with}
 use Rattle.vcd_view.specs.Shown.{text_in}
 use Rattle.vcd_view.specs.declared.view.Code.{Code}
 use Rattle.vcd_view.specs.declared.view.HeadView.{HeadView}
+use Rattle.vcd_body.specs.Binary.{binary_digits}
 use Rattle.vcd_body.specs.Given.{IsText}
 use Rattle.vcd_body.specs.Items.{model_form}
-use Rattle.vcd_body.specs.Kept.{Held, Kept, unset, value_at_size}
+use Rattle.vcd_body.specs.Kept.{Held, Kept, unset, value_at_size, with_number, with_text}
 use Rattle.vcd_body.specs.Stored.{AreLaidOut, ChangesAt, kept_in, share_of, start_of}
+use Rattle.vcd_body.specs.declared.bits.Bits.{Bits}
 use Rattle.vcd_body.specs.declared.item.Form.{Form}
+use Rattle.vcd_body.specs.declared.item.Form.TheVariants as form
 use Rattle.vcd_body.specs.declared.slot.Shown.{Shown}
 use Rattle.vcd_body.specs.declared.slot.Shown.TheVariants as shown
 use Rattle.vcd_body.specs.declared.table.Table.{Table}
@@ -55,6 +58,12 @@ GivesValue form text code old new = (c : Code) (k : Kept) → IsText form c text
 pub record SetsCode (code : ℕ) (f : Kept → Kept) (old new : Table) : Type 0 where
   pub keeps : KeepsTable old new
   pub changes : IsLaidOut old → ChangesCode code f old new
+
+-- a call gives the code at a place binary digits, in any table; with room for 8 bytes it is the same
+-- as by their text
+pub record SetsNumber (code : ℕ) (b : Bits) (old new : Table) : Type 0 where
+  pub changes : ChangesCode code (with_number b.len b.number) old new
+  pub as_text : (k : Kept) → kept_at old code ≡ Some k → 8 ≤ k.room → ChangesCode code (with_text form.Vector (binary_digits b.len b.number)) old new
 
 -- its counters
 abbrev pub counts_at : Table → ℕ → List ℕ

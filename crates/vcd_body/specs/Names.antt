@@ -32,7 +32,7 @@ pub use Rattle.vcd_body.specs.Ahead.{HasBits, IsSizedItem}
 pub use Rattle.vcd_body.specs.Binary.{binary_digits, bit_of, is_proper}
 pub use Rattle.vcd_body.specs.Calls.{HasGoodValue, OpensOrRefuses, ReadsCode, ReadsCommand, ReadsComment, ReadsInner, ReadsMark, ReadsOne, ReadsRest, ReadsScalar, ReadsToken}
 pub use Rattle.vcd_body.specs.Changes.{AreBitsAt, IsNeedless, line_under}
-pub use Rattle.vcd_body.specs.Contents.{ChangesCode, GivesValue, IsLaidOut, KeepsTable, SetsCode, bytes_in, codes_in, codes_shown, counts_at, held_at, is_chosen, kept_at, line_of, new_at, shown_as, value_in}
+pub use Rattle.vcd_body.specs.Contents.{ChangesCode, GivesValue, IsLaidOut, KeepsTable, SetsCode, SetsNumber, bytes_in, codes_in, codes_shown, counts_at, held_at, is_chosen, kept_at, line_of, new_at, shown_as, value_in}
 pub use Rattle.vcd_body.specs.Counters.{count_of, counts_of}
 pub use Rattle.vcd_body.specs.Fault.{call_end}
 pub use Rattle.vcd_body.specs.Given.{AreRegsPast, GivesItem, GivesPhrase, IsGoodChange, IsGoodPhrase, IsGoodText, IsItem, text_of}

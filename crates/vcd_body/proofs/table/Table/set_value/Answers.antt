@@ -6,7 +6,7 @@ use Rattle.vcd_body.specs.Stored.{ChangesAt}
 use Rattle.vcd_body.specs.Values.{with_value}
 use Rattle.vcd_body.specs.declared.item.Form.TheVariants as form
 use Rattle.vcd_body.specs.declared.value.Value.{Value}
-use Rattle.vcd_body.proofs.FollowLemmas.{change_as, one_text, sets_text, sets_value}
+use Rattle.vcd_body.proofs.FollowLemmas.{change_as, number_as_text, one_text, sets_text, sets_value}
 use Rattle.vcd_body.proofs.StoreLemmas.{alone}
 use Rattle.vcd_body.proofs.table.Table.set_value.Goals as goal
 
@@ -61,3 +61,14 @@ returns-in-Bits-clause-as_text c = sets_text c.args.self.now _ c.args.code c.arg
 
 pub returns-in-Bits-clause-value : goal.returns-in-Bits-clause-value
 returns-in-Bits-clause-value c = sets_value c.args.self.now _ c.args.code c.args.value (returns-in-Bits-clause-sets c)
+
+pub returns-in-Bits-clause-bits : goal.returns-in-Bits-clause-bits
+returns-in-Bits-clause-bits c = λ b is.
+    let old = c.args.self.now in
+    let same : c.in-Bits.bits ≡ b = cc in
+    let changes = c.set_bits.ensures.changes old.shares.now old.values.now in
+    let there = c.in-Bits.bits in
+    rw (← same) (record {
+      changes = changes;
+      as_text = λ k at room. number_as_text c.args.code there.len there.number old.values.now old.values.now old.slots.now c.set_bits.new.slots old.shares.now old.shares.now k there.some there.few at room changes;
+    })
