@@ -1,5 +1,5 @@
 -- What the steps of a feed do to its registers and windows.
-use Rattle.std.specs.Prelude.{◌≡◌, ℕ, ◌+◌, ◌-◌, ◌^◌, ◌≤◌, ◌<◌, true, false, ◌==◌, List, ◌++◌, length, take, slice_index, slice_range, count_by, if◌then◌else◌, min, Option}
+use Rattle.std.specs.Prelude.{◌≡◌, ℕ, ◌+◌, ◌-◌, ◌^◌, ◌≤◌, ◌<◌, Bool, true, false, ◌==◌, List, ◌++◌, length, take, slice_index, slice_range, count_by, if◌then◌else◌, min, Option}
 use Rattle.std.specs.Io.KnownBytes.{Consumes, IsAtEnd, Keeps}
 use Rattle.vcd_model.specs.Bytes.{is_white_space}
 use Rattle.vcd_text.specs.declared.registers.Parked.{Parked}
@@ -17,6 +17,10 @@ use Rattle.vcd_text.specs.declared.answer.Next.TheVariants.{Token, Finish}
 abbrev pub line_feeds_in : List ℕ → ℕ
 line_feeds_in bytes = count_by (λ b. b == 10) bytes
 
+-- whether the byte at this place is white
+abbrev pub is_white_at : List ℕ → ℕ → Bool
+is_white_at bytes at = is_white_space (slice_index bytes at)
+
 -- the registers after d bytes of white space
 abbrev pub skipped : List ℕ → Parked → ℕ → Parked
 skipped chunk p d = record p { at = p.at + d; line_feeds = p.line_feeds + line_feeds_in (slice_range chunk p.at (p.at + d)); line = p.line_feeds + line_feeds_in (slice_range chunk p.at (p.at + d)) + 1 }
@@ -28,6 +32,10 @@ gathered p d = record p { at = p.at + d; size = p.size + d }
 -- the registers after d bytes of a token and a byte of white space
 abbrev pub ended : List ℕ → Parked → ℕ → Parked
 ended chunk p d = record p { at = p.at + d + 1; size = p.size + d; line_feeds = p.line_feeds + (if slice_index chunk (p.at + d) == 10 then 1 else 0) }
+
+-- the registers after the byte of white space at this place
+abbrev pub stepped_past : List ℕ → ℕ → Parked → Parked
+stepped_past chunk at p = record p { at = at + 1; line_feeds = p.line_feeds + (if slice_index chunk at == 10 then 1 else 0) }
 
 -- the registers after n bytes that were looked over ahead, and no token is shown
 abbrev pub gone_on : List ℕ → Parked → ℕ → Parked

@@ -1,8 +1,7 @@
 //! Devices for tests, of this crate and of those above: a reader that gives its bytes in pieces and
 //! may fail, and a writer that holds so much and no more.
-ghost use Rattle.std.specs.Prelude.{◌≡◌, ◌≤◌, ◌<◌, ◌^◌, ℕ, None};
-ghost use Rattle.vcd_text.specs.Feed.{parked_answer, parked_seen};
-ghost use Rattle.vcd_text.specs.Registers.{Fits};
+ghost use Rattle.std.specs.Prelude.{◌≡◌, ◌≤◌, ◌<◌, ◌^◌, ℕ, None, []};
+ghost use Rattle.vcd_text.specs.Calls.{Fits, parked_answer, parked_seen};
 
 use crate::registers::Parked;
 use std::io;
@@ -82,7 +81,6 @@ pub struct Narrow {
 }
 
 impl Narrow {
-    ghost use Rattle.std.specs.Prelude.{[]};
     ghost use Rattle.vcd_text.specs.Doubles.{held_by};
 
     /// Holds so many bytes, and none yet.

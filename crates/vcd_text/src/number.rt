@@ -1,10 +1,6 @@
 //! Numbers as decimal digits spell them.
 ghost use Rattle.std.specs.Prelude.{◌≡◌, ◌≤◌, ◌+◌, ◌^◌, ◌&&◌, IfSome, Some, None, cond, length, nat_lt, take};
-ghost use Rattle.std.specs.Char.{is_ascii_digit};
-ghost use Rattle.std.specs.List.{list_all};
-ghost use Rattle.std.specs.Simd.Lanes.{chunk};
-ghost use Rattle.vcd_model.specs.Bytes.{is_decimal, decimal_value};
-ghost use Rattle.vcd_text.specs.Digits.{Spell};
+ghost use Rattle.vcd_text.specs.Names.{Spell, chunk, decimal_value, is_ascii_digit, is_decimal, list_all};
 
 use std::simd::prelude::*;
 

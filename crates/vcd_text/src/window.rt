@@ -1,8 +1,6 @@
 // One turn of a feed: from the chunk to the token's window, and on to the next chunk.
-ghost use Rattle.std.specs.Prelude.{◌≡◌, ℕ, ◌+◌, ◌-◌, ◌^◌, ◌<◌, ◌≤◌, ◌≢◌, ◌++◌, ◌==◌, length, take, slice_index, if◌then◌else◌};
-ghost use Rattle.vcd_text.specs.Registers.{Fits};
-ghost use Rattle.vcd_text.specs.Turn.{GoesOnIn, MayGoOn, StillFits};
-ghost use Rattle.vcd_text.specs.Window.{Skips, Collects, Fills, Finishes, Halts};
+ghost use Rattle.std.specs.Prelude.{◌≡◌, ℕ, ◌+◌, ◌-◌, ◌^◌, ◌<◌, ◌≤◌, ◌≢◌, ◌++◌, length, take};
+ghost use Rattle.vcd_text.specs.Names.{Collects, Fills, Finishes, Fits, GoesOnIn, Halts, KeepsFit, MayGoOn, Skips, StillFits, looked, stepped_past};
 
 use crate::answer::{Halt, Next};
 use crate::device::Source;
@@ -52,12 +50,10 @@ pub(crate) fn collect(chunk: &[u8], token: &mut [u8], parked: &mut Parked) -> Co
     requires registers { MayGoOn (length chunk.now) parked.old }
     requires size { parked.old.size ≤ length token.old }
     ensures collects { Collects chunk.now token.old token.new parked.old parked.new result }
-    ensures fits { Fits parked.old (length chunk.now) (length token.old)
-        → Fits parked.new (length chunk.now) (length token.old) }
+    ensures fits { KeepsFit (length chunk.now) (length token.old) parked.old parked.new }
     ensures part { result ≡ Collected.Part → parked.new.at ≡ parked.new.stop }
     ensures whole { result ≡ Collected.Whole
-        → parked.old.base + parked.old.at + parked.new.size
-        < parked.new.base + parked.new.at + parked.old.size }
+        → looked parked.old + parked.new.size < looked parked.new + parked.old.size }
     ensures on { GoesOnIn parked.old parked.new }
 {
     let at = parked.at;
@@ -83,10 +79,7 @@ pub(crate) fn collect(chunk: &[u8], token: &mut [u8], parked: &mut Parked) -> Co
 fn step_past(chunk: &[u8], end: usize, parked: &mut Parked)
     requires within { end < length chunk.now }
     requires line_feeds { parked.old.line_feeds < 2 ^ 63 }
-    ensures { parked.new ≡ record parked.old {
-      at = end + 1;
-      line_feeds = parked.old.line_feeds + (if slice_index chunk.now end == 10 then 1 else 0);
-    } }
+    ensures { parked.new ≡ stepped_past chunk.now end parked.old }
 {
     if chunk[end] == b'\n' {
         parked.line_feeds += 1;
@@ -111,10 +104,8 @@ pub(crate) fn fill<S: Source>(source: &mut S, chunk: &mut [u8], parked: &mut Par
     ensures fits { StillFits (length chunk.old) parked.old parked.new }
     ensures phase { parked.new.phase ≡ parked.old.phase }
     ensures kept { parked.new.kept ≡ parked.old.kept }
-    ensures looked { (parked.new.base + parked.new.at ≡ parked.old.base + parked.old.at)
-        × (parked.new.size ≡ parked.old.size) }
-    ensures more { result ≡ Filled.More
-        → parked.old.base + parked.old.at < parked.new.base + parked.new.end }
+    ensures looked { (looked parked.new ≡ looked parked.old) × (parked.new.size ≡ parked.old.size) }
+    ensures more { result ≡ Filled.More → looked parked.old < parked.new.base + parked.new.end }
     ensures fills { Fills (S.rest source.old)
         (S.rest source.new) chunk.new parked.old parked.new result }
     ensures failures { result ≢ Filled.Failed → S.failures source.new ≡ S.failures source.old }
@@ -152,7 +143,7 @@ pub(crate) fn halted(parked: &mut Parked, halt: Halt) -> Halt
 pub(crate) fn finish(parked: &mut Parked) -> Next
     requires { parked.old.line_feeds < 2 ^ 63 }
     ensures kept { parked.new.kept ≡ parked.old.kept }
-    ensures looked { (parked.new.base + parked.new.at ≡ parked.old.base + parked.old.at)
+    ensures looked { (looked parked.new ≡ looked parked.old)
         × (result ≡ Next.Token → 0 < parked.old.size) }
     ensures finishes { Finishes parked.old parked.new result }
     ensures fits { (chunk limit : ℕ) → Fits parked.old chunk limit → Fits parked.new chunk limit }
