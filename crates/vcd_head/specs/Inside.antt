@@ -1,6 +1,6 @@
 -- The names that go on inside scopes.
 use Rattle.std.specs.Prelude.{◌≡◌, ℕ, zero, suc, ◌≤◌, Bool, true, List, [], ◌∷◌, take, reverse, slice_get, Option, Some, IfSome}
-use Rattle.vcd_model.specs.Declarations.{Declaration, enclosing, path_of}
+use Rattle.vcd_model.specs.Declarations.{Declaration, Variable, enclosing, path_of}
 use Rattle.vcd_model.specs.Header.{Header}
 use Rattle.vcd_view.specs.Views.{IsViewOf}
 use Rattle.vcd_view.specs.declared.view.HeadView.{HeadView}
@@ -11,7 +11,7 @@ use Rattle.vcd_head.specs.declared.names.Group.{Group}
 use Rattle.vcd_head.specs.Groups.{names_of}
 use Rattle.vcd_head.specs.Matched.{Matched, Matches}
 use Rattle.vcd_head.specs.NameOrder.{AreSame, Notes}
-use Rattle.vcd_head.specs.Over.{AnyDeclared}
+use Rattle.vcd_view.specs.Over.{AnyDeclared}
 use Rattle.vcd_head.specs.Paths.{names_text, scopes_text}
 use Rattle.vcd_head.specs.Runs.{Follows}
 
@@ -19,6 +19,10 @@ use Rattle.vcd_head.specs.Runs.{Follows}
 abbrev pub front : List Declaration → ℕ → List ℕ
 front ds zero = []
 front ds (suc p) = names_text ds (reverse (p ∷ enclosing (take p ds)))
+
+-- the path of the variable of a row
+abbrev pub row_path : Header → ℕ → Variable → List ℕ
+row_path h row v = path_of (take row h.declarations) (Declaration.Var v)
 
 -- what is held of each scope that was entered is right
 pub record AreOpen (h : Header) (names : List (List ℕ)) (order : List ℕ) (flags : List Bool) (o : Open) : Type 0 where

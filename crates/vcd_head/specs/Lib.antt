@@ -20,7 +20,6 @@ pub mod Marks
 pub mod Selects
 pub mod NameOrder
 pub mod Names
-pub mod Over
 pub mod Runs
 pub mod Groups
 pub mod Inside

@@ -3,7 +3,10 @@ use Rattle.std.specs.Prelude.{◌≡◌, ℕ, suc, ◌<◌, ◌≤◌, ◌⊎◌
 use Rattle.std.specs.Cmp.Lexicographic.{slice_cmp}
 use Rattle.std.specs.Ordering.{nat_cmp, is_lt}
 use Rattle.std.specs.declared.cmp.Ordering.{Ordering}
-use Rattle.vcd_model.specs.Selection.{selects_path}
+pub use Rattle.std.specs.List.{All, Contains}
+pub use Rattle.std.specs.List.Sorted.{IsSortedBy}
+pub use Rattle.vcd_model.specs.Selection.{selects_path}
+pub use Rattle.vcd_head.specs.Matched.{Matches}
 
 -- the order of the names at two places
 abbrev pub order_in : List (List ℕ) → ℕ → ℕ → Ordering

@@ -1,5 +1,10 @@
 -- What the clauses of this crate speak of, under one path: of the crates below, and what several of
 -- its modules share.
+pub use Rattle.std.specs.Cmp.{on_equiv, on_per, partial_equiv_from_equiv}
+pub use Rattle.std.specs.Cmp.Lexicographic.{nat_list_eq_equiv}
+pub use Rattle.std.specs.Int.{div_ceil}
+pub use Rattle.std.specs.List.{concat, join_with_byte, list_all}
+pub use Rattle.std.specs.Option.{SomeIff}
 pub use Rattle.vcd_model.specs.Backward.{each}
 pub use Rattle.vcd_model.specs.Bytes.{is_code_byte}
 pub use Rattle.vcd_model.specs.Declarations.{Declaration, IdCode, Variable, code_of, enclosing, parent, path_of}
@@ -13,22 +18,42 @@ pub use Rattle.vcd_model.specs.Selection.{first_unmatched, is_selected, marked_p
 pub use Rattle.vcd_model.specs.Ticks.{moment_ticks, ticks}
 pub use Rattle.vcd_text.specs.Advances.{CallEnd}
 pub use Rattle.vcd_text.specs.Ahead.{bytes_of, passed_of, start_of}
-pub use Rattle.vcd_text.specs.Device.{Counts, Puts, Takes}
+pub use Rattle.vcd_text.specs.Device.{Counts, Puts, PutsTo, TakenBy, Takes}
 pub use Rattle.vcd_text.specs.Feed.{seen, source_of, token_of}
 pub use Rattle.vcd_view.specs.Entries.{are_right, is_right, text_in}
 pub use Rattle.vcd_view.specs.Finds.{Finds}
 pub use Rattle.vcd_view.specs.Keys.{key_in}
+pub use Rattle.vcd_view.specs.Over.{AnyDeclared, AnyHeader, AnyRow, AnyVariable}
+pub use Rattle.vcd_view.specs.Shown.{parts}
 pub use Rattle.vcd_view.specs.Views.{AreHeld, IsIndex, IsSize, IsViewOf, Views, counted_from_one, reference_of, type_of}
 pub use Rattle.vcd_view.specs.declared.view.Code.{Code}
 pub use Rattle.vcd_view.specs.declared.view.Scale.{Scale}
+pub use Rattle.vcd_head.specs.Ahead.{DraftsAhead, DraftsNext, EndsBefore, Gives, GivesToken, GoesOnWithin, IsReference, IsScope, IsUpscope, IsVariable, LooksOn, MovesAhead, PassesOn, PassesTokens, TakesNext}
 pub use Rattle.vcd_head.specs.Calls.{MovesOn, OrFails, ReadsAhead, ReadsAny, ReadsEnd, ReadsNext, ReadsOne, ReadsOther, ReadsPhrase, ReadsReference, ReadsRest, ReadsText, ReadsToEnd, ReadsWord}
-pub use Rattle.vcd_head.specs.Draft.{IsDraftOf, goes_on}
-pub use Rattle.vcd_head.specs.Fault.{call_end}
-pub use Rattle.vcd_head.specs.Keys.{AreKeysOf}
+pub use Rattle.vcd_head.specs.Codes.{HasNone, is_of}
+pub use Rattle.vcd_head.specs.Declares.{DeclaresVariable, IsBarred, MayStart, Takes as TakesPhrase}
+pub use Rattle.vcd_head.specs.Draft.{IsDraftOf, IsNew, goes_on}
+pub use Rattle.vcd_head.specs.Entered.{Allows, Enters, code_with}
+pub use Rattle.vcd_head.specs.Fault.{call_end, fault_number}
+pub use Rattle.vcd_head.specs.Fronts.{AreFronts, AreRanks, bytes_at, front_in, order_of, place_in_rank, rank_of}
+pub use Rattle.vcd_head.specs.Groups.{AreRising, FlagsSome, GoesOnWith, IsRun, IsRunOn, RunsOn, names_of}
+pub use Rattle.vcd_head.specs.Inside.{AnyOpen, ComparesAt, Enters as EntersScope, FlagsSelected, GivesAround, IsOpen, KeepsOpen, SelectsAt, StaysOpen, front, row_path}
+pub use Rattle.vcd_head.specs.Keys.{AreKeysOf, same_shape, same_writes, shape_in, shape_of, writes_of}
 pub use Rattle.vcd_head.specs.Marks.{AllMarked, Marked, RefusesUnmatched, is_marked, marks_of, row_and_scopes, scopes_at}
 pub use Rattle.vcd_head.specs.Matched.{IsFirstFalse, Matches}
-pub use Rattle.vcd_head.specs.Over.{AnyDeclared, AnyHeader, AnyRow, AnyVariable}
+pub use Rattle.vcd_head.specs.Merged.{FitNumbers, IsBehind as PassesRow, ShowHeaders, closing, due, input_rows, openings}
+pub use Rattle.vcd_head.specs.Moments.{asked, tick_fault_number, told, with_unit}
+pub use Rattle.vcd_head.specs.NameOrder.{AreSame, IsOrder}
 pub use Rattle.vcd_head.specs.Paths.{scopes_text}
 pub use Rattle.vcd_head.specs.Reads.{ReadsHead}
+pub use Rattle.vcd_head.specs.Rows.{IsNarrow, row_of}
+pub use Rattle.vcd_head.specs.Runs.{Narrows}
+pub use Rattle.vcd_head.specs.Scaled.{ReadsScale}
+pub use Rattle.vcd_head.specs.ScopesLeft.{GivesNext, LeavesScopes, Walks, scopes_around}
+pub use Rattle.vcd_head.specs.Selects.{IsBehind as GoesOnAfter, selects_after}
 pub use Rattle.vcd_head.specs.Shown.{shown}
+pub use Rattle.vcd_head.specs.Texts.{spaced}
+pub use Rattle.vcd_head.specs.Variables.{ReadsCode, ReadsSize}
+pub use Rattle.vcd_head.specs.Words.{power_in, size_in, unit_in}
 pub use Rattle.vcd_head.specs.Written.{TakesAround, TakesHeader, TakesRow, TakesVariableRow}
+pub use Rattle.vcd_head.specs.declared.fault.HeadFault.TheVariants.{OutOfMemory}

@@ -3,7 +3,7 @@ use Rattle.std.specs.Prelude.{◌≡◌, ℕ, List, Result, Some, slice_get}
 use Rattle.vcd_model.specs.Declarations.{Declaration, Variable}
 use Rattle.vcd_model.specs.Header.{Header}
 use Rattle.vcd_text.specs.Device.{Device, Takes}
-use Rattle.vcd_head.specs.Over.{AnyRow, AnyVariable}
+use Rattle.vcd_view.specs.Over.{AnyRow, AnyVariable}
 use Rattle.vcd_view.specs.Views.{IsViewOf}
 use Rattle.vcd_view.specs.declared.view.HeadView.{HeadView}
 

@@ -1,8 +1,7 @@
 // Variables and scopes whose phrases are whole ahead in the chunk: their tokens cost no change of
 // the feed.
 ghost use Rattle.std.specs.Prelude.{◌≡◌, ◌+◌, ◌-◌, ◌≤◌, ◌∷◌, ◌++◌, length, slice_range, IfSome, IfErr};
-ghost use Rattle.vcd_head.specs.Names.{MovesOn, ReadsAhead, bytes_of, passed_of, start_of};
-ghost use Rattle.vcd_head.specs.Ahead.{DraftsAhead, DraftsNext, EndsBefore, Gives, GivesToken, GoesOnWithin, IsReference, IsScope, IsUpscope, IsVariable, LooksOn, MovesAhead, PassesOn, PassesTokens, TakesNext};
+ghost use Rattle.vcd_head.specs.Names.{DraftsAhead, DraftsNext, EndsBefore, Gives, GivesToken, GoesOnWithin, IsReference, IsScope, IsUpscope, IsVariable, LooksOn, MovesAhead, MovesOn, PassesOn, PassesTokens, ReadsAhead, TakesNext, bytes_of, passed_of, start_of};
 
 use crate::ahead_scopes::{scope_ahead, upscope_ahead};
 use crate::declarations::{
@@ -123,8 +122,7 @@ fn take_variable(
     draft: &mut Draft,
     variable: VariablePhrase<'_>,
 ) -> Result<bool, HeadFault>
-    ensures takes { TakesNext most (λ more. IsVariable more variable.entry)
-        draft.old draft.new result }
+    ensures takes { TakesNext most (λ ts. IsVariable ts variable.entry) draft.old draft.new result }
     ensures memory { IfErr result (λ fault. fault ≡ HeadFault.OutOfMemory) }
 {
     if check_start(draft, most, Kind::Var).is_err() {

@@ -1,5 +1,5 @@
 // Scopes whose phrases are whole ahead in the chunk.
-ghost use Rattle.vcd_head.specs.Ahead.{Gives, MovesAhead, IsScope, IsUpscope};
+ghost use Rattle.vcd_head.specs.Names.{Gives, IsScope, IsUpscope, MovesAhead};
 
 use crate::ahead::token_ahead;
 use crate::declarations::ScopePhrase;

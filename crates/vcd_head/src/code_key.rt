@@ -1,4 +1,7 @@
 // The keys by which the set of codes finds them.
+ghost use Rattle.std.specs.Prelude.{◌≡◌, bytes_eq, IfOk};
+ghost use Rattle.vcd_head.specs.Names.{nat_list_eq_equiv, on_equiv, on_per, partial_equiv_from_equiv, same_shape, same_writes, shape_in, shape_of, writes_of};
+
 use std::alloc::{AllocError, Global};
 use std::hash::{Hash, Hasher};
 use vcd_view::key_of;
@@ -11,9 +14,6 @@ pub(crate) enum CodeKey {
 }
 
 impl CodeKey {
-    ghost use Rattle.std.specs.Prelude.{◌≡◌, bytes_eq, IfOk};
-    ghost use Rattle.vcd_head.specs.Keys.{shape_in, shape_of};
-
     /// Returns the key of the code with these bytes. A short one takes no memory.
     #[inline(always)]
     pub(crate) fn of(alloc: Global, bytes: &[u8]) -> Result<CodeKey, AllocError>
@@ -39,10 +39,6 @@ impl CodeKey {
 }
 
 impl PartialEq for CodeKey {
-    ghost use Rattle.std.specs.Cmp.{on_per, partial_equiv_from_equiv};
-    ghost use Rattle.std.specs.Cmp.Lexicographic.{nat_list_eq_equiv};
-    ghost use Rattle.vcd_head.specs.Keys.{same_shape, shape_of};
-
     ghost eq = { same_shape };
 
     ghost laws = { on_per shape_of (partial_equiv_from_equiv nat_list_eq_equiv) };
@@ -58,16 +54,10 @@ impl PartialEq for CodeKey {
 }
 
 impl Eq for CodeKey {
-    ghost use Rattle.std.specs.Cmp.{on_equiv};
-    ghost use Rattle.std.specs.Cmp.Lexicographic.{nat_list_eq_equiv};
-    ghost use Rattle.vcd_head.specs.Keys.{shape_of};
-
     ghost laws = { on_equiv shape_of nat_list_eq_equiv };
 }
 
 impl Hash for CodeKey {
-    ghost use Rattle.vcd_head.specs.Keys.{writes_of, same_writes};
-
     ghost hash_input = { writes_of };
 
     ghost respects_eq = { same_writes };

@@ -1,6 +1,6 @@
 // The place of a variable's code among the distinct codes.
 ghost use Rattle.std.specs.Prelude.{◌≡◌, [], ◌∷◌, ◌++◌, length, IfOk, IfErr};
-ghost use Rattle.vcd_head.specs.Entered.{Enters, code_with};
+ghost use Rattle.vcd_head.specs.Names.{Enters, code_with};
 
 use crate::code_key::CodeKey;
 use crate::codes::{Codes, is_of_kind};

@@ -1,8 +1,6 @@
 // The distinct codes of a header that is read.
 ghost use Rattle.std.specs.Prelude.{◌≡◌, ℕ, List};
-ghost use Rattle.vcd_head.specs.Names.{AreHeld, AreKeysOf, Code, Finds, IdCode};
-ghost use Rattle.vcd_head.specs.Codes.{HasNone, is_of};
-ghost use Rattle.vcd_head.specs.Entered.{Allows};
+ghost use Rattle.vcd_head.specs.Names.{Allows, AreHeld, AreKeysOf, Code, Finds, HasNone, IdCode, is_of};
 
 use crate::code_key::CodeKey;
 use indexmap::IndexSet;

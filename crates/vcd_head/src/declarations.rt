@@ -1,8 +1,6 @@
 // What the declarations of a header are checked for, and what becomes of the head.
 ghost use Rattle.std.specs.Prelude.{◌≡◌, List, IfOk, IfErr, MatchResult};
-ghost use Rattle.vcd_head.specs.Names.{CallEnd, Declaration, HeaderPhrase, IsDraftOf, call_end};
-ghost use Rattle.vcd_head.specs.Declares.{DeclaresVariable, IsBarred, MayStart, Takes};
-ghost use Rattle.vcd_view.specs.declared.view.Kind.TheVariants.{Scope, Up};
+ghost use Rattle.vcd_head.specs.Names.{CallEnd, Declaration, DeclaresVariable, HeaderPhrase, IsBarred, IsDraftOf, MayStart, TakesPhrase, call_end};
 
 use crate::code_place::enter_code;
 use crate::draft::Draft;
@@ -115,7 +113,7 @@ pub(crate) fn declare(
 /// Opens a scope.
 #[inline(always)]
 pub(crate) fn open_scope(draft: &mut Draft, scope: ScopePhrase<'_>) -> Result<(), HeadFault>
-    ensures opens { IfOk result (λ _. Takes Scope
+    ensures opens { IfOk result (λ _. TakesPhrase Kind.Scope
         (Declaration.Scope scope.entry.word.now scope.entry.name.now) draft.old draft.new) }
     ensures memory { IfErr result (λ fault. fault ≡ HeadFault.OutOfMemory) }
 {
@@ -140,7 +138,7 @@ pub(crate) fn open_scope(draft: &mut Draft, scope: ScopePhrase<'_>) -> Result<()
 /// Closes the innermost open scope; one is open where this may come.
 #[inline(always)]
 pub(crate) fn close_scope(draft: &mut Draft) -> Result<(), HeadFault>
-    ensures closes { IfOk result (λ _. Takes Up Declaration.Up draft.old draft.new) }
+    ensures closes { IfOk result (λ _. TakesPhrase Kind.Up Declaration.Up draft.old draft.new) }
     ensures memory { IfErr result (λ fault. fault ≡ HeadFault.OutOfMemory) }
 {
     let closed = draft.scopes.pop().unwrap_or(0);

@@ -1,5 +1,6 @@
 // A header while it is read.
 ghost use Rattle.std.specs.Prelude.{◌≡◌, ◌-◌, length, unwrap_or, slice_get};
+ghost use Rattle.vcd_head.specs.Names.{IsNew};
 
 use crate::codes::Codes;
 use std::alloc::Global;
@@ -19,8 +20,6 @@ pub(crate) struct Draft {
 }
 
 impl Draft {
-    ghost use Rattle.vcd_head.specs.Draft.{IsNew};
-
     pub(crate) fn new(alloc: Global, seed: CodeSeed) -> Self
         ensures { IsNew result }
     {

@@ -1,7 +1,6 @@
 // The scopes around a declaration, from the outermost inwards.
 ghost use Rattle.std.specs.Prelude.{ℕ, ◌<◌, ◌≤◌, List, take, length, reverse, IfSome};
-ghost use Rattle.vcd_head.specs.Names.{AnyRow, Header, IsViewOf};
-ghost use Rattle.vcd_head.specs.ScopesLeft.{GivesNext, LeavesScopes, Walks, scopes_around};
+ghost use Rattle.vcd_head.specs.Names.{AnyRow, GivesNext, Header, IsViewOf, LeavesScopes, Walks, scopes_around};
 
 use vcd_view::HeadView;
 

@@ -1,6 +1,6 @@
 // What is wrong with a header.
 ghost use Rattle.std.specs.Prelude.{◌≡◌};
-ghost use Rattle.vcd_head.specs.declared.fault.HeadFault.TheVariants.{OutOfMemory};
+ghost use Rattle.vcd_head.specs.Names.{OutOfMemory, fault_number};
 
 use std::alloc::{AllocError, AllocFailed};
 
@@ -38,9 +38,6 @@ pub enum HeadFault {
 }
 
 impl HeadFault {
-    ghost use Rattle.std.specs.Prelude.{◌≡◌};
-    ghost use Rattle.vcd_head.specs.Fault.{fault_number};
-
     /// Returns the number of the fault.
     pub fn number(self) -> u8
         ensures { result ≡ fault_number self }

@@ -20,8 +20,7 @@ pub struct Head {
 }
 
 impl Head {
-    ghost use Rattle.vcd_head.specs.Shown.{shown};
-    ghost use Rattle.vcd_view.specs.Shown.{parts};
+    ghost use Rattle.vcd_head.specs.Names.{parts, shown};
 
     /// Returns the header as slices and numbers.
     pub fn view(&self) -> HeadView<'_>

@@ -1,7 +1,6 @@
 // The order of codes by their bytes.
 ghost use Rattle.std.specs.Prelude.{◌≡◌, ◌^◌, ◌<◌, ◌≤◌, List, length, map, get_or, IfOk, IfSome};
-ghost use Rattle.vcd_head.specs.Names.{AreHeld, IdCode, IsIndex};
-ghost use Rattle.vcd_head.specs.Fronts.{AreFronts, AreRanks, bytes_at, front_in, order_of, place_in_rank, rank_of};
+ghost use Rattle.vcd_head.specs.Names.{AreFronts, AreHeld, AreRanks, IdCode, IsIndex, bytes_at, front_in, order_of, place_in_rank, rank_of};
 
 use std::alloc::{AllocError, Global};
 use std::cmp::Ordering;

@@ -1,10 +1,7 @@
 // The names that go on inside the scopes that are open, so that a row is compared by its own name
 // alone.
 ghost use Rattle.std.specs.Prelude.{◌≡◌, ◌<◌, ◌≤◌, suc, Bool, List, length, map, string_bytes, take, IfSome};
-ghost use Rattle.vcd_head.specs.Names.{AnyRow, AnyVariable, Declaration, Header, Matches, is_selected, path_of, scopes_text, selects_path};
-ghost use Rattle.vcd_head.specs.Groups.{names_of};
-ghost use Rattle.vcd_head.specs.Inside.{AnyOpen, ComparesAt, Enters, FlagsSelected, GivesAround, IsOpen, KeepsOpen, SelectsAt, StaysOpen, front};
-ghost use Rattle.vcd_head.specs.NameOrder.{AreSame, IsOrder};
+ghost use Rattle.vcd_head.specs.Names.{AnyOpen, AnyRow, AnyVariable, AreSame, ComparesAt, EntersScope, FlagsSelected, GivesAround, Header, IsOpen, IsOrder, KeepsOpen, Matches, SelectsAt, StaysOpen, front, is_selected, names_of, row_path, scopes_text, selects_path};
 
 use crate::enclosing::Enclosing;
 use crate::names::{Group, Run, TOGETHER};
@@ -110,7 +107,7 @@ impl Open {
         group: &Group<'_>,
         matched: &mut [bool; TOGETHER],
     )
-        ensures { AnyRow view.entry row (λ h. Enters h group.now
+        ensures { AnyRow view.entry row (λ h. EntersScope h group.now
             (scopes_text (take row h.declarations)) matched.old matched.new self.old self.new) }
     {
         let mut scopes = Enclosing::innermost(row, self.depth.saturating_sub(self.entered));
@@ -127,7 +124,7 @@ impl Open {
         group: &Group<'_>,
         matched: &mut [bool; TOGETHER],
     )
-        ensures { AnyRow view.entry row (λ h. Enters h group.now
+        ensures { AnyRow view.entry row (λ h. EntersScope h group.now
             (front h.declarations (suc row)) matched.old matched.new self.old self.new) }
     {
         let Some(around) = self.around(view, row) else {
@@ -192,8 +189,7 @@ fn compare_each(
     matched: &mut [bool; TOGETHER],
 ) -> bool
     requires { length names.now ≤ 16384 }
-    ensures { AnyVariable view.entry row (λ h v.
-        Matches (selects_path (path_of (take row h.declarations) (Declaration.Var v)))
+    ensures { AnyVariable view.entry row (λ h v. Matches (selects_path (row_path h row v))
         (map string_bytes names.now) matched.old matched.new result) }
 {
     let mut some = false;

@@ -1,8 +1,6 @@
 //! The head of a merged dump.
 ghost use Rattle.std.specs.Prelude.{◌≡◌, ℕ, ◌+◌, ◌-◌, ◌^◌, ◌<◌, ◌≤◌, List, length, take, flat_map};
-ghost use Rattle.std.specs.List.{concat};
-ghost use Rattle.vcd_head.specs.Names.{AnyDeclared, AnyHeader, Counts, Header, IsViewOf, Puts, Takes, TakesAround, each, enclosing, first_number, input_head, least_exponent as least_of, merged_head, up_line};
-ghost use Rattle.vcd_head.specs.Merged.{FitNumbers, ShowHeaders, closing, due, input_rows, openings};
+ghost use Rattle.vcd_head.specs.Names.{AnyDeclared, AnyHeader, Counts, FitNumbers, Header, IsViewOf, PassesRow, Puts, PutsTo, ShowHeaders, TakenBy, Takes, TakesAround, closing, concat, due, each, enclosing, first_number, input_head, input_rows, least_exponent as least_of, merged_head, openings, up_line};
 
 use crate::enclosing::Enclosing;
 use crate::head::Head;
@@ -37,11 +35,9 @@ pub(crate) struct OpenScopes {
 }
 
 impl OpenScopes {
-    ghost use Rattle.vcd_head.specs.Merged.{IsBehind};
-
     /// Goes on to the scopes that are open after a row of this kind.
     fn pass(&mut self, kind: Kind)
-        ensures { IsBehind kind self.old.pending self.old.written self.new.pending self.new.written }
+        ensures { PassesRow kind self.old.pending self.old.written self.new.pending self.new.written }
     {
         match kind {
             Kind::Scope => self.pending = self.pending.saturating_add(1),
@@ -78,8 +74,7 @@ fn put_openings<W: Sink>(
 /// scope that it closes is not written.
 fn put_closing<W: Sink>(scopes: OpenScopes, w: &mut W) -> Result<(), WriteFailed>
     requires failures { (W.device w.old).failures < 2 ^ 64 - 1 }
-    ensures { Puts (W.device w.old) (W.device w.new)
-        (closing scopes.pending scopes.written) result }
+    ensures { PutsTo W.device w.old w.new (closing scopes.pending scopes.written) result }
 {
     if scopes.pending > 0 || scopes.written == 0 {
         return Ok(());
@@ -111,8 +106,7 @@ fn put_input_row<W: Sink>(
     w: &mut W,
 ) -> Result<(), WriteFailed>
     requires failures { (W.device w.old).failures < 2 ^ 64 - 1 }
-    ensures takes { AnyDeclared view.entry row (λ h d. FitNumbers first h
-        → Takes (W.device w.old) (W.device w.new)
+    ensures takes { AnyDeclared view.entry row (λ h d. FitNumbers first h → TakenBy W.device w.old w.new
         (due h first scopes.pending scopes.written (take row h.declarations) d) result) }
     ensures counts { Counts (W.device w.old) (W.device w.new) result }
 {

@@ -1,9 +1,6 @@
 // Times with a unit, in ticks of a header's time scale.
 ghost use Rattle.std.specs.Prelude.{◌≡◌, ◌*◌, ◌/◌, ◌^◌, ◌<◌, pos, ◌+ℤ◌, nat_abs, option_map};
-ghost use Rattle.std.specs.Int.{div_ceil};
-ghost use Rattle.std.specs.Option.{SomeIff};
-ghost use Rattle.vcd_head.specs.Names.{Header, IsViewOf, Scale, moment_ticks, ticks as ticks_of};
-ghost use Rattle.vcd_head.specs.Moments.{asked, told};
+ghost use Rattle.vcd_head.specs.Names.{Header, IsViewOf, Scale, SomeIff, asked, div_ceil, moment_ticks, tick_fault_number, ticks as ticks_of, told, with_unit};
 
 use crate::words::unit_of;
 use vcd_view::HeadView;
@@ -18,9 +15,6 @@ pub struct Moment {
 }
 
 impl Moment {
-    ghost use Rattle.std.specs.Prelude.{◌≡◌, option_map};
-    ghost use Rattle.vcd_head.specs.Moments.{asked, with_unit};
-
     /// Returns so many units of this name, or so many ticks where the name is empty; none where it
     /// is no unit: `s`, `ms`, `us`, `ns`, `ps` or `fs`.
     pub fn from_parts(number: u64, unit: &[u8]) -> Option<Moment>
@@ -47,9 +41,6 @@ pub enum TickFault {
 }
 
 impl TickFault {
-    ghost use Rattle.std.specs.Prelude.{◌≡◌};
-    ghost use Rattle.vcd_head.specs.Moments.{tick_fault_number};
-
     /// Returns the number of the fault.
     pub fn number(self) -> u8
         ensures { result ≡ tick_fault_number self }

@@ -1,11 +1,7 @@
 // Names in the order of their bytes. Those that begin with the front of a path are neighbours, so
 // two places of the order follow them, one byte of the path after the other.
 ghost use Rattle.std.specs.Prelude.{◌≡◌, ◌==◌, ◌&&◌, ◌+◌, ◌-◌, ◌<◌, ◌≤◌, [], ◌∷◌, ◌++◌, ◌^◌, ℕ, List, Bool, length, take, drop, map, get_or, bytes_eq, string_bytes, IsPermutation};
-ghost use Rattle.std.specs.List.{All, Contains};
-ghost use Rattle.std.specs.List.Sorted.{IsSortedBy};
-ghost use Rattle.vcd_model.specs.Selection.{selects_path};
-ghost use Rattle.vcd_head.specs.Matched.{Matches};
-ghost use Rattle.vcd_head.specs.NameOrder.{AreSame, AreShared, IsOrder, IsSplit, Rises, comes_before, next_bytes, next_in, order_in};
+ghost use Rattle.vcd_head.specs.NameOrder.{All, AreSame, AreShared, Contains, IsOrder, IsSortedBy, IsSplit, Matches, Rises, comes_before, next_bytes, next_in, order_in, selects_path};
 
 use std::cmp::Ordering;
 
@@ -34,8 +30,7 @@ pub(crate) struct Run {
 }
 
 impl<'n> Group<'n> {
-    ghost use Rattle.vcd_head.specs.Groups.{AreRising, FlagsSome, GoesOnWith, IsRun, IsRunOn, RunsOn, names_of};
-    ghost use Rattle.vcd_head.specs.Runs.{Narrows};
+    ghost use Rattle.vcd_head.specs.Names.{AreRising, FlagsSome, GoesOnWith, IsRun, IsRunOn, Narrows, RunsOn, names_of};
 
     pub(crate) fn new(names: &'n [String]) -> Self
         requires { length names.now ≤ 16384 }
@@ -146,8 +141,7 @@ impl<'n> Group<'n> {
     /// Returns the names of a run that go on with this byte.
     #[inline(always)]
     fn with_byte(&self, run: Run, byte: u8, whole: bool) -> Run
-        ensures narrows { run.first ≤ run.end
-            → AreRising self.now run.passed run.first run.end
+        ensures narrows { run.first ≤ run.end → AreRising self.now run.passed run.first run.end
             → Narrows (names_of self.now) self.now.order byte run result }
         ensures whole { result.whole ≡ whole }
     {

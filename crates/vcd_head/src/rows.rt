@@ -1,6 +1,6 @@
 // Rows as they are read, and as they are held.
 ghost use Rattle.std.specs.Prelude.{◌≡◌, ◌+◌, ◌^◌, ◌<◌, ◌≤◌, [], ◌∷◌, ◌++◌, IfOk, IfErr, vec_len};
-ghost use Rattle.vcd_head.specs.Rows.{IsNarrow, row_of};
+ghost use Rattle.vcd_head.specs.Names.{IsNarrow, row_of};
 
 use crate::fault::HeadFault;
 use vcd_view::{Kind, Row};

@@ -1,7 +1,6 @@
 // The phrase of a time scale, after its keyword.
 ghost use Rattle.std.specs.Prelude.{◌-◌, ◌^◌, ◌<◌};
-ghost use Rattle.vcd_head.specs.Names.{Keyword, MovesOn, ReadsText, source_of};
-ghost use Rattle.vcd_head.specs.Scaled.{ReadsScale};
+ghost use Rattle.vcd_head.specs.Names.{Keyword, MovesOn, ReadsScale, ReadsText, source_of};
 
 use crate::draft::Draft;
 use crate::fault::HeadFault;

@@ -1,7 +1,6 @@
 //! Selection of variables by their paths (profile).
 ghost use Rattle.std.specs.Prelude.{◌≡◌, ◌≢◌, false, ◌+◌, ◌<◌, ◌≤◌, ◌∷◌, ◌++◌, ℕ, List, take, length, map, string_bytes, IfOk, IfSome};
-ghost use Rattle.vcd_head.specs.Names.{AllMarked, AnyHeader, AnyRow, AnyVariable, Declaration, Header, IsFirstFalse, IsViewOf, Marked, RefusesUnmatched, counted_from_one, first_unmatched, marked_places, marks_of, parent, path_of, row_and_scopes, scopes_at, selects_path};
-ghost use Rattle.vcd_head.specs.Selects.{IsBehind, selects_after};
+ghost use Rattle.vcd_head.specs.Names.{AllMarked, AnyHeader, AnyRow, AnyVariable, Declaration, GoesOnAfter, Header, IsFirstFalse, IsViewOf, Marked, RefusesUnmatched, counted_from_one, first_unmatched, marked_places, marks_of, parent, row_and_scopes, row_path, scopes_at, selects_after, selects_path};
 
 use crate::enclosing::Enclosing;
 use crate::inside::Open;
@@ -30,7 +29,7 @@ pub(crate) fn is_or_goes_on(text: &[u8], name: &[u8]) -> bool
 
 /// Returns what a name says of a path that begins with this component and a point.
 pub(crate) fn after_component<'n>(name: &'n [u8], component: &[u8]) -> Match<'n>
-    ensures rest { IsBehind result name.now (length component.now + 1) }
+    ensures rest { GoesOnAfter result name.now (length component.now + 1) }
     ensures selects { (text : List ℕ)
         → selects_after result text ≡ selects_path (component.now ++ 46 ∷ text) name.now }
 {
@@ -49,8 +48,7 @@ pub(crate) fn after_component<'n>(name: &'n [u8], component: &[u8]) -> Match<'n>
 /// Returns whether a name selects the variable of a row: the variable's path is the name, or begins
 /// with it and a point.
 pub fn selects(view: HeadView<'_>, row: usize, name: &str) -> bool
-    ensures { AnyVariable view.entry row (λ h v. result
-        ≡ selects_path (path_of (take row h.declarations) (Declaration.Var v)) name.now) }
+    ensures { AnyVariable view.entry row (λ h v. result ≡ selects_path (row_path h row v) name.now) }
 {
     let mut rest = name.as_bytes();
     let mut scopes = Enclosing::new(row);

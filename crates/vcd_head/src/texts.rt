@@ -1,8 +1,6 @@
 // Phrases that run to the first `$end`.
 ghost use Rattle.std.specs.Prelude.{◌≡◌, ◌-◌, ◌^◌, ◌<◌, ◌++◌};
-ghost use Rattle.std.specs.List.{join_with_byte};
-ghost use Rattle.vcd_head.specs.Names.{MovesOn, ReadsReference, ReadsToEnd, source_of};
-ghost use Rattle.vcd_head.specs.Texts.{spaced};
+ghost use Rattle.vcd_head.specs.Names.{MovesOn, ReadsReference, ReadsToEnd, join_with_byte, source_of, spaced};
 
 use crate::fault::HeadFault;
 use crate::tokens::next_ends;

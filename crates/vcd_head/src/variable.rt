@@ -1,7 +1,6 @@
 // The phrase of a variable, after its keyword.
 ghost use Rattle.std.specs.Prelude.{◌-◌, ◌^◌, ◌<◌};
-ghost use Rattle.vcd_head.specs.Names.{Keyword, MovesOn, ReadsPhrase, source_of};
-ghost use Rattle.vcd_head.specs.Variables.{ReadsCode, ReadsSize};
+ghost use Rattle.vcd_head.specs.Names.{Keyword, MovesOn, ReadsCode, ReadsPhrase, ReadsSize, source_of};
 
 use crate::codes::Codes;
 use crate::declarations::{Reference, VariablePhrase, check_start, declare};

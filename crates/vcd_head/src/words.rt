@@ -1,8 +1,6 @@
 // Tests of whole tokens of a header.
 ghost use Rattle.std.specs.Prelude.{◌≡◌, codes, bytes_eq, option_map, pos, ◌≤ℤ◌, ◌+ℤ◌};
-ghost use Rattle.std.specs.List.{list_all};
-ghost use Rattle.vcd_head.specs.Names.{begins_change as changes, exponent_of as exponent_is, is_code_byte, is_command as commands, is_end as ends};
-ghost use Rattle.vcd_head.specs.Words.{power_in, size_in, unit_in};
+ghost use Rattle.vcd_head.specs.Names.{begins_change as changes, exponent_of as exponent_is, is_code_byte, is_command as commands, is_end as ends, list_all, power_in, size_in, unit_in};
 
 use vcd_view::is;
 

@@ -1,7 +1,6 @@
 //! Headers as they are written.
 ghost use Rattle.std.specs.Prelude.{◌≡◌, ℕ, ◌-◌, ◌^◌, ◌<◌, List, [], ◌∷◌, flat_map, take, option_map, unwrap_or};
-ghost use Rattle.std.specs.List.{concat};
-ghost use Rattle.vcd_head.specs.Names.{Counts, Header, IsViewOf, Keyword, Puts, Takes, TakesHeader, TakesRow, TakesVariableRow, each, enclosing, head_for, head_text, is_marked, keyword_text, marks_of, parent, reference_of, row_line, rows_text, scale_text, scope_line, three_lines, three_lines_of, type_of, up_lines_at, var_line};
+ghost use Rattle.vcd_head.specs.Names.{Counts, Header, IsViewOf, Keyword, PutsTo, Takes, TakesHeader, TakesRow, TakesVariableRow, concat, each, enclosing, head_for, head_text, is_marked, keyword_text, marks_of, parent, reference_of, row_line, rows_text, scale_text, scope_line, three_lines, three_lines_of, type_of, up_lines_at, var_line};
 
 use vcd_text::{Sink, WriteFailed, put, put_number};
 use vcd_view::{HeadView, Kind, Scale};
@@ -9,8 +8,7 @@ use vcd_view::{HeadView, Kind, Scale};
 /// Writes texts one after the other.
 fn put_texts<W: Sink>(w: &mut W, texts: &[&[u8]]) -> Result<(), WriteFailed>
     requires failures { (W.device w.old).failures < 2 ^ 64 - 1 }
-    ensures { Puts (W.device w.old) (W.device w.new)
-        (flat_map (λ text. text.now) texts.now) result }
+    ensures { PutsTo W.device w.old w.new (flat_map (λ text. text.now) texts.now) result }
 {
     for text in texts {
         put(w, text)?;
@@ -131,8 +129,7 @@ pub(crate) fn put_variable<W: Sink>(
 /// Writes the line that closes the scope of a row, where that is marked.
 fn put_up<W: Sink>(marks: &[u8], scope: usize, w: &mut W) -> Result<(), WriteFailed>
     requires failures { (W.device w.old).failures < 2 ^ 64 - 1 }
-    ensures { Puts (W.device w.old) (W.device w.new)
-        (up_lines_at (is_marked marks.now) (scope ∷ [])) result }
+    ensures { PutsTo W.device w.old w.new (up_lines_at (is_marked marks.now) (scope ∷ [])) result }
 {
     if has_mark(marks, scope) {
         return put(w, b"$upscope $end\n");

@@ -1,5 +1,6 @@
 -- Which code a look-up finds.
-use Rattle.std.specs.Prelude.{◌≡◌, ℕ, List, find, Option, Some, None, slice_get}
+use Rattle.std.specs.Prelude.{◌≡◌, ℕ, ◌+◌, ◌≤◌, List, find, length, Option, Some, None, slice_get}
+use Rattle.std.specs.Int.Digits.{digits_of}
 use Rattle.vcd_model.specs.Declarations.{IdCode, has_text}
 use Rattle.vcd_view.specs.declared.view.Code.{Code}
 use Rattle.vcd_view.specs.declared.look_up.Found.{Found}
@@ -13,3 +14,7 @@ Finds codes text None = find (has_text text) codes ≡ None
 -- the code that was found is one of these, and its size is told
 abbrev pub IsSized : List Code → Found → Type 0
 IsSized codes f = (c : Code) × (slice_get codes f.place ≡ Some c) × (f.most ≡ most_of c)
+
+-- a search among n codes added at most one probe more than the binary digits of n
+abbrev pub AreFew : ℕ → ℕ → ℕ → Type 0
+AreFew n old new = new ≤ old + 1 + length (digits_of 2 n)

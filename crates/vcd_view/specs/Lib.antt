@@ -7,4 +7,5 @@ pub mod Needs
 pub mod Keywords
 pub mod NewCode
 pub mod CodeHash
+pub mod Over
 pub mod Names

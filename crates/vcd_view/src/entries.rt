@@ -2,8 +2,7 @@
 // may have any place among them, and two codes the same one: the place of an entry decides only how
 // fast a look-up is.
 ghost use Rattle.std.specs.Prelude.{◌≡◌, ◌+◌, ◌-◌, ◌%◌, ◌^◌, ◌<◌, ◌≤◌, ℕ, List, true, bit_and, length, slice_get, Some, IfSome};
-ghost use Rattle.vcd_view.specs.Names.{AreHeld, Finds, IdCode, key_in};
-ghost use Rattle.vcd_view.specs.Entries.{HasEntry, IsAt, above, are_right, beside, entry_after, entry_in, most_of, number_in, place_told, told_by};
+ghost use Rattle.vcd_view.specs.Names.{AreHeld, Finds, HasEntry, IdCode, IsAt, above, are_right, beside, entry_after, entry_in, key_in, most_of, number_in, place_told, told_by};
 
 use crate::code_hash::CodeSeed;
 use crate::key::key_of;

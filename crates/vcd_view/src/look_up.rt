@@ -1,13 +1,6 @@
 // Codes that are looked up.
-ghost use Rattle.std.specs.Prelude.{List, true, ◌≡◌, ◌+◌, ◌≤◌, ◌<◌, length, option_map, IfSome, Some};
-ghost use Rattle.std.specs.Int.Digits.{digits_of};
-ghost use Rattle.std.specs.List.{AllByRecursion, AllZip};
-ghost use Rattle.vcd_model.specs.Declarations.{IdCode};
-ghost use Rattle.vcd_model.specs.Header.{Header};
-ghost use Rattle.vcd_view.specs.Entries.{are_right};
-ghost use Rattle.vcd_view.specs.Keys.{AreBytes};
-ghost use Rattle.vcd_view.specs.Views.{IsCode, IsIndex, code_text, IsViewOf};
-ghost use Rattle.vcd_view.specs.Finds.{Finds, IsSized};
+ghost use Rattle.std.specs.Prelude.{List, true, ◌≡◌, ◌≤◌, ◌<◌, length, option_map, IfSome, Some};
+ghost use Rattle.vcd_view.specs.Names.{AllByRecursion, AnyCodes, AnyHeader, AreBytes, AreFew, Finds, Header, IdCode, IsIndex, IsSized, IsViewOf, are_right, code_text};
 
 use crate::code_hash::CodeSeed;
 use crate::entries::{entry_of, most_of, place_hashed};
@@ -102,9 +95,8 @@ fn find_slowly(
     code: &[u8],
 ) -> Option<usize>
     requires right { are_right text.now codes.now entries.now ≡ true }
-    ensures found { (ks : List IdCode) → AllZip (IsCode text.now) codes.now ks
-        → AllByRecursion (λ (k : IdCode). AreBytes k.text) ks
-        → IsIndex ks index.now → Finds ks code.now result }
+    ensures found { AnyCodes text.now codes.now (λ ks. AllByRecursion (λ (k : IdCode). AreBytes k.text) ks
+        → IsIndex ks index.now → Finds ks code.now result) }
     ensures within { IfSome result (λ place. place < length codes.now) }
 {
     match place_hashed(text, codes, entries, seed, code) {
@@ -123,8 +115,7 @@ pub fn find_counted(view: HeadView<'_>, code: &[u8], probes: &mut Probes) -> Opt
     ensures within { IfSome result (λ place. place < length view.entry.codes.now) }
     ensures never_falls { probes.old.count ≤ probes.new.count }
     ensures counted { 0 < length view.entry.index.now → probes.old.count < probes.new.count }
-    ensures few { (h : Header) → IsViewOf view.entry h
-        → probes.new.count ≤ probes.old.count + 1 + length (digits_of 2 (length h.codes)) }
+    ensures few { AnyHeader view.entry (λ h. AreFew (length h.codes) probes.old.count probes.new.count) }
 {
     search(view.text, view.codes, view.index, code, probes)
 }
@@ -139,13 +130,12 @@ fn search(
     code: &[u8],
     probes: &mut Probes,
 ) -> Option<usize>
-    ensures found { (ks : List IdCode) → AllZip (IsCode text.now) codes.now ks
-        → IsIndex ks index.now → Finds ks code.now result }
+    ensures found { AnyCodes text.now codes.now (λ ks. IsIndex ks index.now → Finds ks code.now result) }
     ensures within { IfSome result (λ place. place < length codes.now) }
     ensures never_falls { probes.old.count ≤ probes.new.count }
     ensures counted { 0 < length index.now → probes.old.count < probes.new.count }
     ensures few { (ks : List IdCode) → IsIndex ks index.now
-        → probes.new.count ≤ probes.old.count + 1 + length (digits_of 2 (length ks)) }
+        → AreFew (length ks) probes.old.count probes.new.count }
 {
     let mut low = 0;
     let mut high = index.len();
@@ -163,8 +153,7 @@ fn search(
 
 // Returns the bytes of the code at a place.
 fn text_of<'a>(text: &'a [u8], codes: &[Code], place: usize) -> &'a [u8]
-    ensures { (ks : List IdCode) → AllZip (IsCode text.now) codes.now ks → place < length ks
-        → result.now ≡ code_text ks place }
+    ensures { AnyCodes text.now codes.now (λ ks. place < length ks → result.now ≡ code_text ks place) }
 {
     match code_in(codes, place) {
         Some(code) => text_in(text, code.start, code.len as usize),

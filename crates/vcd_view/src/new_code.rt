@@ -1,5 +1,5 @@
 //! The codes that a merge gives.
-ghost use Rattle.std.specs.Prelude.{◌≡◌, take, ◌-◌, ◌^◌, ◌<◌, ◌≤◌};
+ghost use Rattle.std.specs.Prelude.{◌≡◌, length, take, ◌-◌, ◌^◌, ◌<◌, ◌≤◌};
 ghost use Rattle.vcd_view.specs.Names.{Puts, digits_of, new_code};
 
 use vcd_text::{Sink, WriteFailed, put};
@@ -12,8 +12,6 @@ pub struct NewCode {
 }
 
 impl NewCode {
-    ghost use Rattle.std.specs.Prelude.{length};
-
     /// Returns the code of this number.
     pub fn of(number: u64) -> NewCode
         ensures { digits_of result ≡ new_code number }

@@ -1,7 +1,6 @@
 // Comparisons of codes, counted.
 ghost use Rattle.std.specs.Prelude.{◌≡◌, ℕ, ◌+◌};
-ghost use Rattle.std.specs.Ordering.{nat_cmp};
-ghost use Rattle.std.specs.Cmp.Lexicographic.{slice_cmp};
+ghost use Rattle.vcd_view.specs.Names.{nat_cmp, slice_cmp};
 ghost use base.Fml.{ftrue};
 
 use std::cmp::Ordering;

@@ -1,6 +1,6 @@
 // The room of an engine.
 ghost use Rattle.std.specs.Prelude.{◌≡◌, ℕ, ◌-◌, ◌^◌, length, min, sum_by};
-ghost use Rattle.vcd_view.specs.Names.{AreWindows, FitsInput, Header, IsViewOf, WindowSize, parts, room, room_of, value_bytes, view_size};
+ghost use Rattle.vcd_view.specs.Names.{FitsEachInput, Header, IsViewOf, room, room_of, value_bytes};
 
 use crate::view::{HeadView, Need};
 
@@ -10,9 +10,7 @@ pub fn need(view: HeadView<'_>) -> Need
         × (result.marks ≡ length view.entry.rows.now) }
     ensures values { result.values ≡ min (sum_by value_bytes view.entry.codes.now) (2 ^ 64 - 1) }
     ensures room { (h : Header) → IsViewOf view.entry h → room result ≡ room_of h }
-    ensures fits { (limit : ℕ) (h : Header) (w : WindowSize) → IsViewOf view.entry h
-        → AreWindows limit w
-        → FitsInput limit h w (view_size (parts view.entry)) (room result) }
+    ensures fits { FitsEachInput view.entry result }
 {
     let mut values = 0;
     for code in view.codes {

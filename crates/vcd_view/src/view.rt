@@ -91,7 +91,7 @@ pub struct HeadView<'a> {
 }
 
 impl<'a> HeadView<'a> {
-    ghost use Rattle.vcd_view.specs.Names.{Declaration, Header, IsViewOf, code_text, exponent, name_of, parent, reference_of, type_of};
+    ghost use Rattle.vcd_view.specs.Names.{AnyDeclared, AnyRow, Header, IsViewOf, code_text, exponent, name_of, parent, reference_of, type_of};
 
     /// Returns a row, by its number from 0.
     #[inline(always)]
@@ -122,8 +122,7 @@ impl<'a> HeadView<'a> {
     #[inline(always)]
     pub fn scope_of(self, row: usize) -> Option<usize>
         ensures earlier { IfSome result (λ scope. scope < row) }
-        ensures scope { (h : Header) → IsViewOf self.entry h → row < length h.declarations
-            → result ≡ parent (take row h.declarations) }
+        ensures scope { AnyRow self.entry row (λ h. result ≡ parent (take row h.declarations)) }
     {
         let scope = (self.row_at(row)?.parent as usize).checked_sub(1)?;
         (scope < row).then_some(scope)
@@ -132,8 +131,7 @@ impl<'a> HeadView<'a> {
     /// Returns the type of the scope or the variable of a row.
     #[inline(always)]
     pub fn type_of(self, row: usize) -> &'a [u8]
-        ensures { (h : Header) (d : Declaration) → IsViewOf self.entry h
-            → slice_get h.declarations row ≡ Some d → result.now ≡ type_of d }
+        ensures { AnyDeclared self.entry row (λ _ d. result.now ≡ type_of d) }
     {
         match self.row_at(row) {
             Some(row) => self.text_at(row.start, row.word as usize),
@@ -144,8 +142,7 @@ impl<'a> HeadView<'a> {
     /// Returns the name of the scope or the variable of a row: the first token of its reference.
     #[inline(always)]
     pub fn name_of(self, row: usize) -> &'a [u8]
-        ensures { (h : Header) (d : Declaration) → IsViewOf self.entry h
-            → slice_get h.declarations row ≡ Some d → result.now ≡ name_of d }
+        ensures { AnyDeclared self.entry row (λ _ d. result.now ≡ name_of d) }
     {
         match self.row_at(row) {
             Some(row) => self.text_at(
@@ -160,8 +157,7 @@ impl<'a> HeadView<'a> {
     /// between.
     #[inline(always)]
     pub fn reference_of(self, row: usize) -> &'a [u8]
-        ensures { (h : Header) (d : Declaration) → IsViewOf self.entry h
-            → slice_get h.declarations row ≡ Some d → result.now ≡ reference_of d }
+        ensures { AnyDeclared self.entry row (λ _ d. result.now ≡ reference_of d) }
     {
         match self.row_at(row) {
             Some(row) => self.text_at(row.start.saturating_add(row.word as usize), row.all),
