@@ -10,6 +10,7 @@ use Rattle.vcd_body.specs.Binary.{binary_digits}
 use Rattle.vcd_body.specs.Given.{IsText}
 use Rattle.vcd_body.specs.Items.{model_form}
 use Rattle.vcd_body.specs.Kept.{Held, Kept, unset, value_at_size, with_number, with_text}
+use Rattle.vcd_body.specs.Values.{form_in, text_in as text_of_value}
 use Rattle.vcd_body.specs.Stored.{AreLaidOut, ChangesAt, kept_in, share_of, start_of}
 use Rattle.vcd_body.specs.declared.bits.Bits.{Bits}
 use Rattle.vcd_body.specs.declared.item.Form.{Form}
@@ -17,6 +18,7 @@ use Rattle.vcd_body.specs.declared.item.Form.TheVariants as form
 use Rattle.vcd_body.specs.declared.slot.Shown.{Shown}
 use Rattle.vcd_body.specs.declared.slot.Shown.TheVariants as shown
 use Rattle.vcd_body.specs.declared.table.Table.{Table}
+use Rattle.vcd_body.specs.declared.value.Value.{Value as ChangeValue}
 
 -- how many codes it has places for
 abbrev pub codes_in : Table → ℕ
@@ -53,6 +55,10 @@ held_at t code = unwrap_or (option_map (λ (k : Kept). k.held) (kept_at t code))
 -- a call gives the code at a place the value of a change with this text, where that may have it
 abbrev pub GivesValue : Form → List ℕ → ℕ → Table → Table → Type 0
 GivesValue form text code old new = (c : Code) (k : Kept) → IsText form c text → c.event ≡ false → kept_at old code ≡ Some k → share_of c.size ≤ k.room → value_at_size c.size (held_at new code) ≡ Some (value_with c.size (model_form form) text)
+
+-- so it does where the table is laid out, with the text of a value
+abbrev pub GivesText : ChangeValue → ℕ → Table → Table → Type 0
+GivesText value code old new = IsLaidOut old → GivesValue (form_in value) (text_of_value value) code old new
 
 -- a call makes this of the code at a place where the table is laid out, and keeps the table
 pub record SetsCode (code : ℕ) (f : Kept → Kept) (old new : Table) : Type 0 where

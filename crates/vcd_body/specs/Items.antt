@@ -1,5 +1,5 @@
 -- Items, and what is known after them.
-use Rattle.std.specs.Prelude.{◌≡◌, ◌⊎◌, ℕ, ◌+◌, ◌<◌, ◌≤◌, true, false, not, cond, List, count_by, Some, None, is_some, option_map}
+use Rattle.std.specs.Prelude.{◌≡◌, ◌⊎◌, ℕ, ◌+◌, ◌<◌, ◌≤◌, true, false, not, cond, List, count_by, Some, None, is_some, option_map, Result, MatchResult}
 use Rattle.vcd_model.specs.Bytes.{is_empty}
 use Rattle.vcd_model.specs.Items.{SectionKind, ChangeForm, BodyItem, time_after, marks, open_section, is_begin, is_end_of_section}
 use Rattle.vcd_body.specs.declared.fault.BodyFault.{BodyFault}
@@ -48,3 +48,7 @@ regs_after r (Begin s) = record { time = r.time; marked = r.marked; section = So
 regs_after r End = record { time = r.time; marked = r.marked; section = None }
 regs_after r (Change code form) = r
 regs_after r Finish = r
+
+-- the registers are those after the item of what was read, and as before where nothing was
+abbrev pub AreRegsWith : {A E : Type 0} → (A → Item) → Regs → Regs → Result A E → Type 0
+AreRegsWith item old new result = MatchResult result (λ x. new ≡ regs_after old (item x)) (λ _. new ≡ old)

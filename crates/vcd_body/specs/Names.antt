@@ -10,6 +10,7 @@ pub use Rattle.vcd_model.specs.BodyPhrases.{BodyPhrase, declared_code, is_value_
 pub use Rattle.vcd_model.specs.Bytes.{is_empty, is_white_space}
 pub use Rattle.vcd_model.specs.Cut.{line_if_set}
 pub use Rattle.vcd_model.specs.Declarations.{IdCode}
+pub use Rattle.vcd_model.specs.HeadText.{new_code}
 pub use Rattle.vcd_model.specs.Header.{Header}
 pub use Rattle.vcd_model.specs.Input.{Input}
 pub use Rattle.vcd_model.specs.ItemText.{item_line, time_due, time_line}
@@ -21,7 +22,7 @@ pub use Rattle.vcd_model.specs.Tokens.{Token}
 pub use Rattle.vcd_model.specs.Values.{Value, extend, extension, short, value_with}
 pub use Rattle.vcd_text.specs.Advances.{Advances, CallEnd}
 pub use Rattle.vcd_text.specs.Ahead.{ahead_of, bytes_of, lines_of, longest_of, passed_of}
-pub use Rattle.vcd_text.specs.Device.{Counts, Puts, Takes}
+pub use Rattle.vcd_text.specs.Device.{Counts, Puts, PutsTo, Takes}
 pub use Rattle.vcd_text.specs.Feed.{limit_of, seen, source_of, token_of, value_of}
 pub use Rattle.vcd_text.specs.Passed.{Passed}
 pub use Rattle.vcd_view.specs.Finds.{IsSized}
@@ -29,16 +30,17 @@ pub use Rattle.vcd_view.specs.Views.{IsViewOf}
 pub use Rattle.vcd_view.specs.declared.view.Code.{Code}
 pub use Rattle.vcd_view.specs.declared.view.HeadView.{HeadView}
 pub use Rattle.vcd_body.specs.Ahead.{HasBits, IsSizedItem}
+pub use Rattle.vcd_body.specs.Answer.{stop_of_body}
 pub use Rattle.vcd_body.specs.Binary.{binary_digits, bit_of, is_proper}
 pub use Rattle.vcd_body.specs.Calls.{HasGoodValue, OpensOrRefuses, ReadsCode, ReadsCommand, ReadsComment, ReadsInner, ReadsMark, ReadsOne, ReadsRest, ReadsScalar, ReadsToken}
-pub use Rattle.vcd_body.specs.Changes.{AreBitsAt, IsNeedless, line_under}
-pub use Rattle.vcd_body.specs.Contents.{ChangesCode, GivesValue, IsLaidOut, KeepsTable, SetsCode, SetsNumber, bytes_in, codes_in, codes_shown, counts_at, held_at, is_chosen, kept_at, line_of, new_at, shown_as, value_in}
+pub use Rattle.vcd_body.specs.Changes.{AreBitsAt, IsBinaryAt, IsDigitAt, IsLowerAt, IsNeedless, bit_in, extended, id_line, line_under}
+pub use Rattle.vcd_body.specs.Contents.{ChangesCode, GivesText, GivesValue, IsLaidOut, KeepsTable, SetsCode, SetsNumber, bytes_in, codes_in, codes_shown, counts_at, held_at, is_chosen, kept_at, line_of, new_at, shown_as, value_in}
 pub use Rattle.vcd_body.specs.Counters.{count_of, counts_of}
-pub use Rattle.vcd_body.specs.Fault.{call_end}
+pub use Rattle.vcd_body.specs.Fault.{call_end, fault_number}
 pub use Rattle.vcd_body.specs.Given.{AreRegsPast, GivesItem, GivesPhrase, IsGoodChange, IsGoodPhrase, IsGoodText, IsItem, text_of}
 pub use Rattle.vcd_body.specs.Held.{HasDigits, digits_of, held_in, held_or}
 pub use Rattle.vcd_body.specs.Id.{id_text}
-pub use Rattle.vcd_body.specs.Items.{AreRegsAfter, model_form, regs_after}
+pub use Rattle.vcd_body.specs.Items.{AreRegsAfter, AreRegsWith, model_form, regs_after}
 pub use Rattle.vcd_body.specs.Kept.{AreTwo, Held, IsStep, Kept, are_two, as_chosen, bytes_for, counts_if, counts_with, differs, digit_in, goes_from, last_digit_in, one_more, real_text, unset, value_at_size, with_change, with_held, with_number, with_number_change, with_step, with_text}
 pub use Rattle.vcd_body.specs.Lines.{IsDigitLine, IsTextLine, LeavesLine, LeavesShortest, MayBe}
 pub use Rattle.vcd_body.specs.Packed.{ArePacked, MayPack, code_among, code_of, code_or, digit_of, digits_in, four_codes, held_digit, quarter_of}
@@ -46,5 +48,6 @@ pub use Rattle.vcd_body.specs.Reads.{AsksForCode, Begun, Fails, FailsAfter, Gave
 pub use Rattle.vcd_body.specs.Spelled.{HasChange, HasMark, HasSpelled, Names, StandsAt, bytes_without}
 pub use Rattle.vcd_body.specs.Steps.{ChangesRoomy, LeavesNumber, LeavesTurn, StepsTo, TellsStep, TurnsTo}
 pub use Rattle.vcd_body.specs.Stored.{AreLaidOut, ChangesAt, ChangesSlot, IsHeldAs, IsUnset, LeavesStep, SlotsKeepLaid, end_at, held_from, held_line, least_bytes, len_of, one_digit, room_of, set_whole, share_from, share_of, some_by, start_of, state_in, used, whole}
-pub use Rattle.vcd_body.specs.Values.{form_in, text_in, with_value, with_value_change}
+pub use Rattle.vcd_body.specs.Values.{by_text, form_in, text_in, with_value, with_value_change}
 pub use Rattle.vcd_body.specs.Words.{Begins, IsScalar, StandsFor, command_is, mark_time}
+pub use Rattle.vcd_body.specs.declared.answer.Stop.TheVariants.{Write}

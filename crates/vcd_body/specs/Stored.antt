@@ -6,14 +6,14 @@ use Rattle.vcd_view.specs.declared.view.Code.{Code}
 use Rattle.vcd_body.specs.Counters.{counts_of}
 use Rattle.vcd_body.specs.Kept.{Held, Kept, bytes_for, held_as, with_step}
 use Rattle.vcd_model.specs.Values.{extend, short}
-use Rattle.vcd_body.specs.Binary.{binary_digits, count_in, is_proper, number_in}
-use Rattle.vcd_body.specs.Packed.{digits_in, held_digit}
+pub use Rattle.vcd_body.specs.Binary.{binary_digits, count_in, is_proper, number_in}
+pub use Rattle.vcd_body.specs.Packed.{digits_in, held_digit}
 use Rattle.vcd_body.specs.declared.item.Form.{Form}
 use Rattle.vcd_body.specs.declared.item.Form.TheVariants as form
 use Rattle.vcd_body.specs.declared.slot.Holding.{Holding}
 use Rattle.vcd_body.specs.declared.slot.Share.{Share}
 use Rattle.vcd_body.specs.declared.slot.Slot.{Slot}
-use Rattle.vcd_body.specs.declared.slot.State.{State}
+pub use Rattle.vcd_body.specs.declared.slot.State.{State}
 use Rattle.vcd_body.specs.declared.slot.State.TheVariants as state
 
 -- the digit of a state that holds one
@@ -43,6 +43,10 @@ used_by state.Real len = len
 -- how many digits, or bytes of a text, are held in a share
 abbrev pub len_of : Holding → ℕ
 len_of v = v.upper * 4294967296 + v.lower % 4294967296
+
+-- the binary digits that a slot holds
+abbrev pub held_bits : Holding → List ℕ
+held_bits v = binary_digits (count_in (len_of v)) (number_in (len_of v))
 
 abbrev pub used : Holding → ℕ
 used v = used_by v.state (len_of v)

@@ -18,6 +18,10 @@ text_in (Digits text) = text.now
 text_in (Real text) = text.now
 text_in (Bits bits) = binary_digits bits.len bits.number
 
+-- what is done with its form and its text
+abbrev pub by_text : (Form → List ℕ → Kept → Kept) → Value → Kept → Kept
+by_text does value = does (form_in value) (text_in value)
+
 -- it is set: by its text, where that has room; binary digits need none
 abbrev pub with_value : Value → Kept → Kept
 with_value (Digits text) k = with_text form.Vector text.now k

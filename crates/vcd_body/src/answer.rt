@@ -1,7 +1,6 @@
 //! How a run ends.
 ghost use Rattle.std.specs.Prelude.{◌≡◌};
-ghost use Rattle.vcd_body.specs.Answer.{stop_of_body};
-ghost use Rattle.vcd_body.specs.declared.answer.Stop.TheVariants.{Write};
+ghost use Rattle.vcd_body.specs.Names.{Write, stop_of_body};
 
 use crate::fault::BodyFault;
 use vcd_text::WriteFailed;

@@ -1,8 +1,6 @@
 //! Up to 32 binary digits as a number, and how a slot holds them.
-ghost use Rattle.std.specs.Prelude.{◌≡◌, ◌-◌, ◌<◌, ◌≤◌, ◌^◌, get_or, length, max, slice_get, true, ℕ};
-ghost use Rattle.vcd_body.specs.Binary.{binary_digits, count_in, is_proper, number_in};
-ghost use Rattle.vcd_body.specs.Stored.{len_in, len_of, state_in};
-ghost use Rattle.vcd_body.specs.declared.slot.State.{State};
+ghost use Rattle.std.specs.Prelude.{◌≡◌, ◌-◌, ◌<◌, ◌≤◌, ◌^◌, ◌≢◌, IfSome, None, get_or, length, max, slice_get, true, ℕ};
+ghost use Rattle.vcd_body.specs.Stored.{State, binary_digits, count_in, held_bits, is_proper, len_in, len_of, number_in, state_in};
 
 use crate::slot::{Holding, Slot};
 
@@ -17,8 +15,6 @@ pub struct Bits {
 }
 
 impl Bits {
-    ghost use Rattle.std.specs.Prelude.{IfSome, None, ◌≢◌};
-
     /// Returns so many digits of this number. None where they are none or more than 32, or the
     /// number has more.
     #[inline(always)]
@@ -74,8 +70,7 @@ pub(crate) fn is_proper(holding: Holding) -> bool
 /// Returns the digit at a place of those that a slot holds; none after the last.
 #[inline(always)]
 pub(crate) fn binary_digit(holding: Holding, place: usize) -> Option<u8>
-    ensures { result ≡ slice_get
-        (binary_digits (count_in (len_of holding)) (number_in (len_of holding))) place }
+    ensures { result ≡ slice_get (held_bits holding) place }
 {
     let count = count_in(holding);
     if place >= count {
@@ -90,9 +85,7 @@ pub(crate) fn binary_digit(holding: Holding, place: usize) -> Option<u8>
 #[inline(always)]
 pub(crate) fn last_binary(holding: Holding) -> Option<u8>
     requires { 1 ≤ count_in (len_of holding) }
-    ensures { result ≡ slice_get
-        (binary_digits (count_in (len_of holding)) (number_in (len_of holding)))
-        (count_in (len_of holding) - 1) }
+    ensures { result ≡ slice_get (held_bits holding) (count_in (len_of holding) - 1) }
 {
     binary_digit(holding, count_in(holding) - 1)
 }

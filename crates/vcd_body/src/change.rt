@@ -1,6 +1,6 @@
 // Value changes as they are written.
 ghost use Rattle.std.specs.Prelude.{◌≡◌, ◌≢◌, ℕ, ◌-◌, ◌^◌, ◌<◌, ◌≤◌, ◌++◌, ◌∷◌, ◌==◌, List, [], false, take, drop, length, slice_index};
-ghost use Rattle.vcd_body.specs.Names.{Counts, Puts, Takes, binary_digits, extend, extension, line_under, short, str_to_ascii_lowercase, to_ascii_lowercase as lower};
+ghost use Rattle.vcd_body.specs.Names.{Counts, Puts, PutsTo, Takes, binary_digits, extended, extension, line_under, short, str_to_ascii_lowercase, to_ascii_lowercase as lower};
 
 use crate::bits::Bits;
 use crate::item::Form;
@@ -39,8 +39,7 @@ fn cut_blocks(digits: &[u8]) -> &[u8]
     ensures some { 0 < length result.now }
     ensures fewer { length result.now ≤ length digits.now }
     ensures value { (size : ℕ) → length digits.now ≤ size
-        → extend (str_to_ascii_lowercase result.now) size
-        ≡ extend (str_to_ascii_lowercase digits.now) size }
+        → extended result.now size ≡ extended digits.now size }
 {
     let mut rest = digits;
     'eights: while rest.len() > 8 && rest[8] == b'0' && !has_other(&rest[..8]) {
@@ -52,8 +51,7 @@ fn cut_blocks(digits: &[u8]) -> &[u8]
 // Returns the shortest digits that extend to the same value.
 pub(crate) fn shortest(digits: &[u8]) -> &[u8]
     requires { 0 < length digits.now }
-    ensures { (size : ℕ) → str_to_ascii_lowercase result.now
-        ≡ short (extend (str_to_ascii_lowercase digits.now) size) }
+    ensures { (size : ℕ) → str_to_ascii_lowercase result.now ≡ short (extended digits.now size) }
 {
     // Values in full width begin with many zeros.
     let mut rest = cut_blocks(digits);
@@ -169,8 +167,7 @@ fn put_all<W: Sink>(w: &mut W, digits: &[u8], id: &[u8]) -> Result<(), WriteFail
 #[inline(never)]
 pub(crate) fn put_real<W: Sink>(w: &mut W, text: &[u8], id: &[u8]) -> Result<(), WriteFailed>
     requires { (W.device w.old).failures < 2 ^ 64 - 1 }
-    ensures { Puts (W.device w.old) (W.device w.new)
-        (114 ∷ text.now ++ (32 ∷ id.now ++ 10 ∷ [])) result }
+    ensures { PutsTo W.device w.old w.new (114 ∷ text.now ++ (32 ∷ id.now ++ 10 ∷ [])) result }
 {
     put(w, b"r")?;
     put(w, text)?;
@@ -183,8 +180,7 @@ pub(crate) fn needed(bits: Bits) -> usize
     ensures some { 1 ≤ result }
     ensures few { result ≤ bits.len }
     ensures shortest { (digits : List ℕ) → digits ≡ binary_digits bits.len bits.number
-        → (size : ℕ) → drop (length digits - result) digits
-        ≡ short (extend (str_to_ascii_lowercase digits) size) }
+        → (size : ℕ) → drop (length digits - result) digits ≡ short (extended digits size) }
 {
     64 - bits.number.max(1).leading_zeros() as usize
 }
@@ -194,7 +190,7 @@ pub(crate) fn needed(bits: Bits) -> usize
 #[inline(always)]
 pub(crate) fn shortest_known(digits: &[u8], bits: Bits) -> &[u8]
     requires { digits.now ≡ binary_digits bits.len bits.number }
-    ensures { (size : ℕ) → result.now ≡ short (extend (str_to_ascii_lowercase digits.now) size) }
+    ensures { (size : ℕ) → result.now ≡ short (extended digits.now size) }
 {
     &digits[digits.len() - needed(bits)..]
 }
@@ -205,7 +201,7 @@ pub(crate) fn put_shortest<W: Sink>(w: &mut W, digits: &[u8]) -> Result<(), Writ
     requires failures { (W.device w.old).failures < 2 ^ 64 - 1 }
     requires digits { 0 < length digits.now }
     ensures takes { (size : ℕ) → Takes (W.device w.old) (W.device w.new)
-        (98 ∷ short (extend (str_to_ascii_lowercase digits.now) size)) result }
+        (98 ∷ short (extended digits.now size)) result }
     ensures counts { Counts (W.device w.old) (W.device w.new) result }
 {
     put(w, b"b")?;
@@ -223,8 +219,7 @@ pub(crate) fn put_rare<W: Sink>(
     requires failures { (W.device w.old).failures < 2 ^ 64 - 1 }
     requires digits { event ≡ false → form ≢ Form.RealText → 0 < length text.now }
     ensures { (size : ℕ) → (event ≡ false → form ≢ Form.RealText → size ≡ 1)
-        → Puts (W.device w.old) (W.device w.new)
-        (line_under id.now size event form text.now) result }
+        → PutsTo W.device w.old w.new (line_under id.now size event form text.now) result }
 {
     if event {
         return put_end(w, b'1', id);

@@ -1,6 +1,6 @@
 // Whether a change gives a code another value than it has.
 ghost use Rattle.std.specs.Prelude.{◌≡◌, ◌≤◌, ◌<◌, length, map, true, get_or};
-ghost use Rattle.vcd_body.specs.Names.{AreTwo, Decides, HasDigits, are_two, differs, digits_of, extend, extension, held_digit, held_in, model_form, str_to_ascii_lowercase, value_at_size, value_with};
+ghost use Rattle.vcd_body.specs.Names.{AreTwo, Decides, HasDigits, are_two, differs, digits_of, extend, extended, extension, held_digit, held_in, model_form, str_to_ascii_lowercase, value_at_size, value_with};
 
 use crate::change::extended_by;
 use crate::held::{count_of, digit_held, digit_shown};
@@ -49,8 +49,7 @@ fn are_same(held: HeldValue<'_>, text: &[u8], size: usize) -> bool
     requires digits { HasDigits held }
     requires held_fit { length (digits_of held) ≤ size }
     requires text_fits { length text.now ≤ size }
-    ensures { Decides result (extend (digits_of held.entry) size
-        ≡ extend (str_to_ascii_lowercase text.now) size) }
+    ensures { Decides result (extend (digits_of held.entry) size ≡ extended text.now size) }
 {
     let mut place = size;
     while place > 0 {

@@ -35,7 +35,7 @@ pub enum BodyFault {
 
 impl BodyFault {
     ghost use Rattle.std.specs.Prelude.{◌≡◌};
-    ghost use Rattle.vcd_body.specs.Fault.{fault_number};
+    ghost use Rattle.vcd_body.specs.Names.{fault_number};
 
     /// Returns the number of the fault.
     pub fn number(self) -> u8

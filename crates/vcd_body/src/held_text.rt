@@ -1,6 +1,6 @@
 // The value that is held, as it is written.
 ghost use Rattle.std.specs.Prelude.{◌≡◌, ℕ, ◌+◌, ◌-◌, ◌^◌, ◌<◌, ◌≤◌, ◌++◌, ◌∷◌, [], Bool, drop, get_or, take, length, replicate};
-ghost use Rattle.vcd_body.specs.Names.{Counts, Puts, Takes, digits_of, extend, held_in, line_if_set, short, shown, value_at_size};
+ghost use Rattle.vcd_body.specs.Names.{Counts, Puts, PutsTo, Takes, digits_of, extend, held_in, line_if_set, short, shown, value_at_size};
 
 use crate::change::{extension_of, put_end, put_real};
 use crate::held::{count_of, digit_held};
@@ -77,8 +77,7 @@ fn first_needed(held: HeldValue<'_>) -> usize
 // Writes all digits that are held, and the code, as a line.
 fn put_all_held<W: Sink>(held: HeldValue<'_>, id: &[u8], w: &mut W) -> Result<(), WriteFailed>
     requires failures { (W.device w.old).failures < 2 ^ 64 - 1 }
-    ensures { Puts (W.device w.old) (W.device w.new)
-        (digits_of held.entry ++ (id.now ++ 10 ∷ [])) result }
+    ensures { PutsTo W.device w.old w.new (digits_of held.entry ++ (id.now ++ 10 ∷ [])) result }
 {
     put_from(held, 0, w)?;
     put(w, id)?;
@@ -106,9 +105,11 @@ pub(crate) fn put_value_line<W: Sink>(
     w: &mut W,
 ) -> Result<(), WriteFailed>
     requires failures { (W.device w.old).failures < 2 ^ 64 - 1 }
-    ensures { (event : Bool) → Puts (W.device w.old) (W.device w.new)
-        (line_if_set (record { text = id.now; size = size; event = event })
-        (value_at_size size (held_in held.entry))) result }
+    ensures { (event : Bool) → PutsTo W.device w.old w.new (line_if_set (record {
+      text = id.now;
+      size = size;
+      event = event;
+    }) (value_at_size size (held_in held.entry))) result }
 {
     match held.holding.state {
         State::Unset => Ok(()),
@@ -145,8 +146,7 @@ pub(crate) fn put_value<W: Sink>(
     w: &mut W,
 ) -> Result<(), WriteFailed>
     requires failures { (W.device w.old).failures < 2 ^ 64 - 1 }
-    ensures { Puts (W.device w.old) (W.device w.new)
-        (shown (value_at_size size (held_in held.entry))) result }
+    ensures { PutsTo W.device w.old w.new (shown (value_at_size size (held_in held.entry))) result }
 {
     match held.holding.state {
         State::Unset => put(w, b"-"),

@@ -1,6 +1,6 @@
 // Changes as they are written, under a code of a header or a new one.
 ghost use Rattle.std.specs.Prelude.{◌≡◌, ◌≢◌, ◌-◌, ◌^◌, ◌<◌, false, length};
-ghost use Rattle.vcd_body.specs.Names.{Puts, id_text, line_under};
+ghost use Rattle.vcd_body.specs.Names.{PutsTo, id_line};
 
 use crate::item::Form;
 use crate::put_line::put_line;
@@ -28,8 +28,7 @@ pub fn put_change<W: Sink>(
 ) -> Result<(), WriteFailed>
     requires failures { (W.device w.old).failures < 2 ^ 64 - 1 }
     requires digits { event ≡ false → form ≢ Form.RealText → 0 < length text.now }
-    ensures { Puts (W.device w.old) (W.device w.new)
-        (line_under (id_text id.entry) size event form text.now) result }
+    ensures { PutsTo W.device w.old w.new (id_line id.entry size event form text.now) result }
 {
     put_line(size, event, form, text, None, id, w)
 }

@@ -54,8 +54,7 @@ pub struct Regs {
 
 impl Regs {
     ghost use Rattle.std.specs.Prelude.{◌≡◌, [], false, None, MatchResult};
-    ghost use Rattle.vcd_body.specs.Items.{AreRegsAfter, MayMark, RefusesMark, regs_after};
-    ghost use Rattle.vcd_body.specs.declared.item.Item.TheVariants as item;
+    ghost use Rattle.vcd_body.specs.Items.{AreRegsAfter, AreRegsWith, MayMark, RefusesMark};
 
     /// Returns what is known before the first item.
     pub fn new() -> Regs
@@ -75,8 +74,7 @@ impl Regs {
     #[inline(never)]
     pub(crate) fn take_mark(&mut self, time: u64) -> Result<(), BodyFault>
         ensures may { MatchResult result (λ _. MayMark self.old time) (RefusesMark self.old time) }
-        ensures regs { MatchResult result (λ _. self.new ≡ regs_after self.old (item.Time time))
-            (λ _. self.new ≡ self.old) }
+        ensures regs { AreRegsWith (λ _. Item.Time time) self.old self.new result }
     {
         if self.section.is_some() {
             return Err(BodyFault::TimeInSection);

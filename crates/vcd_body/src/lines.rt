@@ -1,7 +1,6 @@
 // Changes whose bytes in the chunk are the line that would be written.
 ghost use Rattle.std.specs.Prelude.{◌≡◌, ◌≢◌, ℕ, ◌+◌, ◌-◌, ◌^◌, ◌<◌, ◌≤◌, List, [], true, false, drop, length, slice_index, slice_range, Some, IfSome};
-ghost use Rattle.vcd_body.specs.Names.{AreBitsAt, BodyItem, HasBits, HasChange, HasMark, HasSpelled, HeadView, Header, IsDigitLine, IsItem, IsNeedless, IsSizedItem, IsTextLine, IsViewOf, LeavesLine, LeavesShortest, StandsAt, binary_digits, bit_at, bit_of, byte, bytes_without, extend, is_white_space, item_line, short, str_to_ascii_lowercase, time_line, to_ascii_lowercase as lower};
-ghost use Rattle.vcd_body.specs.declared.item.Form.TheVariants as form;
+ghost use Rattle.vcd_body.specs.Names.{AreBitsAt, BodyItem, HasBits, HasChange, HasMark, HasSpelled, HeadView, Header, IsBinaryAt, IsDigitLine, IsItem, IsLowerAt, IsNeedless, IsSizedItem, IsTextLine, IsViewOf, LeavesLine, LeavesShortest, StandsAt, binary_digits, bit_at, bytes_without, extend, extended, is_white_space, item_line, short, str_to_ascii_lowercase, time_line};
 
 use crate::ahead::Plain;
 use crate::bits::Bits;
@@ -15,8 +14,7 @@ use std::simd::prelude::*;
 #[inline(always)]
 fn capitals_32(bytes: &[u8], at: usize) -> u64
     requires { at + 32 ≤ length bytes.now }
-    ensures { (k : ℕ) → k < 32 → bit_at result k ≡ 0
-        → lower (slice_index bytes.now (at + k)) ≡ slice_index bytes.now (at + k) }
+    ensures { (k : ℕ) → k < 32 → bit_at result k ≡ 0 → IsLowerAt bytes.now (at + k) }
 {
     let v = u8x32::from_slice(&bytes[at..]) & u8x32::splat(0x20);
     v.simd_eq(u8x32::splat(0)).to_bitmask()
@@ -28,8 +26,7 @@ fn capitals_32(bytes: &[u8], at: usize) -> u64
 fn are_lower_at(bytes: &[u8], at: usize, n: usize) -> bool
     requires room { at + 32 ≤ length bytes.now }
     requires few { n ≤ 32 }
-    ensures { result ≡ true → (k : ℕ) → k < n
-        → lower (slice_index bytes.now (at + k)) ≡ slice_index bytes.now (at + k) }
+    ensures { result ≡ true → (k : ℕ) → k < n → IsLowerAt bytes.now (at + k) }
 {
     capitals_32(bytes, at) & ((1 << n) - 1) == 0
 }
@@ -71,7 +68,7 @@ fn are_shortest(digits: &[u8]) -> bool
 /// Returns whether a digit is in lower case and the code begins right after it, at this place.
 #[inline(always)]
 fn is_bit_line(bytes: &[u8], from: usize, to: usize, code_at: usize) -> bool
-    requires { (text code : List ℕ) × HasChange bytes.now from to form.Scalar text code }
+    requires { (text code : List ℕ) × HasChange bytes.now from to Form.Scalar text code }
     ensures { result ≡ true → IsDigitLine bytes.now from to code_at }
 {
     (from + 1 == code_at) & (bytes[from] & 0x20 != 0)
@@ -88,7 +85,7 @@ fn has_one_blank(
     text: &[u8],
     code_at: usize,
 ) -> bool
-    requires spelled { (code : List ℕ) × HasChange bytes.now from to form.Vector text.now code }
+    requires spelled { (code : List ℕ) × HasChange bytes.now from to Form.Vector text.now code }
     requires letter { is_white_space first ≡ false }
     ensures place { result ≡ true
         → text.now ≡ slice_range bytes.now (from + 1) (from + 1 + length text.now) }
@@ -104,7 +101,7 @@ fn has_one_blank(
 fn left_out_known(digits: &[u8], bits: Bits) -> usize
     ensures few { result ≤ length digits.now }
     ensures shortest { digits.now ≡ binary_digits bits.len bits.number → (size : ℕ)
-        → drop result digits.now ≡ short (extend (str_to_ascii_lowercase digits.now) size) }
+        → drop result digits.now ≡ short (extended digits.now size) }
 {
     digits.len().saturating_sub(needed(bits))
 }
@@ -143,8 +140,7 @@ fn zeros_at(bytes: &[u8], at: usize, n: usize) -> usize
 #[inline(always)]
 fn others_than_bits_64(bytes: &[u8], at: usize) -> u64
     requires { at + 64 ≤ length bytes.now }
-    ensures { (k : ℕ) → k < 64 → bit_at result k ≡ 0
-        → slice_index bytes.now (at + k) ≡ byte "0" + bit_of (slice_index bytes.now (at + k)) }
+    ensures { (k : ℕ) → k < 64 → bit_at result k ≡ 0 → IsBinaryAt bytes.now (at + k) }
 {
     let v = u8x64::from_slice(&bytes[at..]) & u8x64::splat(0xfe);
     v.simd_ne(u8x64::splat(b'0')).to_bitmask()
@@ -240,7 +236,7 @@ fn left_out_of_vector(
     bits: Option<Bits>,
     code_at: usize,
 ) -> Option<usize>
-    requires { (code : List ℕ) × HasChange bytes.now from to form.Vector digits.now code }
+    requires { (code : List ℕ) × HasChange bytes.now from to Form.Vector digits.now code }
     ensures { IfSome result (LeavesLine bytes.now from to digits.now bits code_at) }
 {
     if !has_one_blank(bytes, from, to, b'b', digits, code_at) {

@@ -1,6 +1,6 @@
 // The phrases of a body, by what they begin with.
-ghost use Rattle.std.specs.Prelude.{◌≡◌, ◌≢◌, true, ◌-◌, ◌^◌, ◌<◌, ◌≤◌, length, take, drop, Some, None, slice_get, OnOk, IfOk, IfErr, MatchResult, ◌||◌, nat_le};
-ghost use Rattle.vcd_body.specs.Names.{Advances, Begins, ChangeForm, Code, HasGoodValue, IsGoodText, IsScalar, IsSized, MayBe, Names, OpensOrRefuses, ReadsCode, ReadsComment, ReadsMark, ReadsRest, ReadsScalar, call_end, is_value_digit, list_all, mark_time, regs_after, seen, source_of, token_of, value_of};
+ghost use Rattle.std.specs.Prelude.{◌≡◌, ◌≢◌, true, ◌-◌, ◌^◌, ◌<◌, ◌≤◌, length, take, drop, Some, None, slice_get, OnOk, IfOk, IfErr, ◌||◌, nat_le};
+ghost use Rattle.vcd_body.specs.Names.{Advances, AreRegsWith, Begins, ChangeForm, Code, HasGoodValue, IsGoodText, IsScalar, IsSized, MayBe, Names, OpensOrRefuses, ReadsCode, ReadsComment, ReadsMark, ReadsRest, ReadsScalar, call_end, is_value_digit, list_all, mark_time, seen, source_of, token_of, value_of};
 ghost use Rattle.vcd_body.specs.declared.words.First.TheVariants as first;
 ghost use Rattle.vcd_body.specs.declared.item.Form.TheVariants as form;
 ghost use Rattle.vcd_body.specs.declared.item.Item.TheVariants as item;
@@ -26,8 +26,7 @@ pub(crate) fn time_in(token: &[u8]) -> Option<u64>
 pub(crate) fn read_mark(token: &[u8], regs: &mut Regs) -> Result<u64, BodyFault>
     requires { Begins token.now first.Mark }
     ensures time { ReadsMark token.now regs.old result }
-    ensures regs { MatchResult result (λ time. regs.new ≡ regs_after regs.old (item.Time time))
-        (λ _. regs.new ≡ regs.old) }
+    ensures regs { AreRegsWith item.Time regs.old regs.new result }
     ensures own { IfErr result (λ fault. fault ≢ BodyFault.ReadFailed) }
 {
     let Some(time) = time_in(token) else {

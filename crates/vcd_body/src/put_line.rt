@@ -1,10 +1,6 @@
 // Changes as they are written: the one writer of their lines.
 ghost use Rattle.std.specs.Prelude.{◌≡◌, ◌≢◌, ℕ, ◌-◌, ◌^◌, ◌<◌, ◌++◌, ◌∷◌, [], false, true, length, IfSome};
-ghost use Rattle.std.specs.Str.{str_to_ascii_lowercase};
-ghost use Rattle.vcd_body.specs.Names.{Counts, Puts, Takes, extend, short};
-ghost use Rattle.vcd_body.specs.Binary.{binary_digits};
-ghost use Rattle.vcd_body.specs.Changes.{line_under};
-ghost use Rattle.vcd_body.specs.Id.{id_text};
+ghost use Rattle.vcd_body.specs.Names.{Counts, Puts, PutsTo, Takes, binary_digits, extended, id_line, id_text, short};
 
 use crate::bits::Bits;
 use crate::change::{put_end, put_rare, put_shortest, shortest_known};
@@ -44,8 +40,7 @@ fn put_shortened<W: Sink>(digits: &[u8], id: Id<'_>, w: &mut W) -> Result<(), Wr
     requires failures { (W.device w.old).failures < 2 ^ 64 - 1 }
     requires digits { 0 < length digits.now }
     ensures takes { (size : ℕ) → Takes (W.device w.old) (W.device w.new)
-        (98 ∷ short (extend (str_to_ascii_lowercase digits.now) size)
-        ++ (32 ∷ id_text id.entry ++ 10 ∷ [])) result }
+        (98 ∷ short (extended digits.now size) ++ (32 ∷ id_text id.entry ++ 10 ∷ [])) result }
     ensures counts { Counts (W.device w.old) (W.device w.new) result }
 {
     put_shortest(w, digits)?;
@@ -66,8 +61,7 @@ fn put_vector<W: Sink>(
     requires digits { 0 < length digits.now }
     requires bits { IfSome bits (λ b. digits.now ≡ binary_digits b.len b.number) }
     ensures takes { (size : ℕ) → Takes (W.device w.old) (W.device w.new)
-        (98 ∷ short (extend (str_to_ascii_lowercase digits.now) size)
-        ++ (32 ∷ id_text id.entry ++ 10 ∷ [])) result }
+        (98 ∷ short (extended digits.now size) ++ (32 ∷ id_text id.entry ++ 10 ∷ [])) result }
     ensures counts { Counts (W.device w.old) (W.device w.new) result }
 {
     match bits {
@@ -88,8 +82,7 @@ fn put_other<W: Sink>(
     requires failures { (W.device w.old).failures < 2 ^ 64 - 1 }
     requires digits { event ≡ false → form ≢ Form.RealText → 0 < length text.now }
     ensures { (size : ℕ) → (event ≡ false → form ≢ Form.RealText → size ≡ 1)
-        → Puts (W.device w.old) (W.device w.new)
-        (line_under (id_text id.entry) size event form text.now) result }
+        → PutsTo W.device w.old w.new (id_line id.entry size event form text.now) result }
 {
     match id {
         Id::Own(code) => put_rare(event, form, text, code, w),
@@ -109,8 +102,7 @@ fn is_bit(size: usize, event: bool, form: Form) -> bool
 /// no bit are. One branch shows it.
 #[inline(always)]
 fn is_vector(size: usize, event: bool, form: Form) -> bool
-    ensures vector { result ≡ true
-        → (size ≢ 1) × (event ≡ false) × (form ≢ Form.RealText) }
+    ensures vector { result ≡ true → (size ≢ 1) × (event ≡ false) × (form ≢ Form.RealText) }
     ensures other { result ≡ false → event ≡ false → form ≢ Form.RealText → size ≡ 1 }
 {
     (size != 1) & !event & (form != Form::RealText)
@@ -131,8 +123,7 @@ pub(crate) fn put_line<W: Sink>(
     requires failures { (W.device w.old).failures < 2 ^ 64 - 1 }
     requires digits { event ≡ false → form ≢ Form.RealText → 0 < length text.now }
     requires bits { IfSome bits (λ b. text.now ≡ binary_digits b.len b.number) }
-    ensures { Puts (W.device w.old) (W.device w.new)
-        (line_under (id_text id.entry) size event form text.now) result }
+    ensures { PutsTo W.device w.old w.new (id_line id.entry size event form text.now) result }
 {
     match text {
         [digit] if is_bit(size, event, form) => put_end_under(digit.to_ascii_lowercase(), id, w),

@@ -1,7 +1,6 @@
 // The items of a body, one after the other.
 ghost use Rattle.std.specs.Prelude.{◌≡◌, ◌≢◌, ◌-◌, ◌^◌, ◌<◌, ◌≤◌, List, OnOk, IfOk, Some, MatchResult};
-ghost use Rattle.vcd_body.specs.Names.{Advances, AreRegsPast, Begins, BodyItem, Code, Fails, GaveItems, GivesItem, Header, Input, IsGoodChange, IsGoodPhrase, IsViewOf, ReadsCommand, ReadsOne, Token, call_end, regs_after, seen, source_of, text_of, token_of};
-ghost use Rattle.vcd_body.specs.declared.words.First.TheVariants as first;
+ghost use Rattle.vcd_body.specs.Names.{Advances, AreRegsPast, AreRegsWith, Begins, BodyItem, Code, Fails, GaveItems, GivesItem, Header, Input, IsGoodChange, IsGoodPhrase, IsViewOf, ReadsCommand, ReadsOne, Token, call_end, seen, source_of, text_of, token_of};
 
 use crate::fault::BodyFault;
 use crate::item::{Form, Item, Regs};
@@ -18,7 +17,7 @@ fn read_command<S: Source>(
     regs: &mut Regs,
 ) -> Result<Option<Item>, BodyFault>
     requires failures { S.failures (source_of feed.old) < 2 ^ 64 - 1 }
-    requires begins { Begins (token_of feed.old).bytes first.Other }
+    requires begins { Begins (token_of feed.old).bytes First.Other }
     ensures reads { ReadsCommand feed.old feed.new regs.old regs.new result }
     ensures sound { (codes : List Code) → IsGoodPhrase codes feed.new result }
     ensures regs { AreRegsPast regs.old regs.new result }
@@ -111,8 +110,7 @@ pub fn next_item<S: Source>(
 
     // A change is of one of the view's codes, and its text is one that this code may have.
     ensures sound { IfOk result (IsGoodChange view.entry.codes.now feed.new) }
-    ensures regs { MatchResult result (λ item. regs.new ≡ regs_after regs.old item)
-        (λ _. regs.new ≡ regs.old) }
+    ensures regs { AreRegsWith (λ item. item) regs.old regs.new result }
     ensures advances { Advances S.failures feed.old feed.new (call_end result) }
     ensures progress { IfOk result (λ item. item ≢ Item.Finish → seen feed.old < seen feed.new) }
     ensures bounded { seen feed.new < 2 ^ 63 }

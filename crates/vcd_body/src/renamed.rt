@@ -1,10 +1,6 @@
 // Lines that end with the new code of a number.
-ghost use Rattle.std.specs.Prelude.{◌≡◌, ◌≢◌, ℕ, ◌+◌, ◌-◌, ◌%◌, ◌^◌, ◌<◌, ◌++◌, ◌∷◌, [], false, true, length, IfSome};
-ghost use Rattle.vcd_model.specs.HeadText.{new_code};
-ghost use Rattle.vcd_model.specs.Values.{change_line};
-ghost use Rattle.vcd_text.specs.Device.{Puts};
-ghost use Rattle.vcd_body.specs.Binary.{binary_digits};
-ghost use Rattle.vcd_body.specs.Items.{model_form};
+ghost use Rattle.std.specs.Prelude.{◌≡◌, ◌≢◌, ◌+◌, ◌-◌, ◌%◌, ◌^◌, ◌<◌, ◌++◌, ◌∷◌, [], false, length, IfSome};
+ghost use Rattle.vcd_body.specs.Names.{Puts, PutsTo, binary_digits, line_under, new_code};
 
 use crate::bits::Bits;
 use crate::change::put_long_end;
@@ -51,8 +47,7 @@ fn put_three<W: Sink>(
     w: &mut W,
 ) -> Result<(), WriteFailed>
     requires { (W.device w.old).failures < 2 ^ 64 - 1 }
-    ensures { Puts (W.device w.old) (W.device w.new)
-        (first ∷ low ∷ middle ∷ high ∷ 10 ∷ []) result }
+    ensures { PutsTo W.device w.old w.new (first ∷ low ∷ middle ∷ high ∷ 10 ∷ []) result }
 {
     put(w, &[first, low, middle, high, b'\n'])
 }
@@ -95,12 +90,7 @@ pub fn put_renamed_bits<W: Sink>(
     requires failures { (W.device w.old).failures < 2 ^ 64 - 1 }
     requires digits { event ≡ false → form ≢ Form.RealText → 0 < length text.now }
     requires bits { IfSome bits (λ b. text.now ≡ binary_digits b.len b.number) }
-    ensures { Puts (W.device w.old) (W.device w.new)
-        (change_line (record {
-          code = record { text = new_code number; size = size; event = event };
-          form = model_form form;
-          text = text.now;
-        })) result }
+    ensures { PutsTo W.device w.old w.new (line_under (new_code number) size event form text.now) result }
 {
     put_line(size, event, form, text, bits, Id::Number(number), w)
 }

@@ -1,7 +1,6 @@
 //! What is kept of a code.
 ghost use Rattle.std.specs.Prelude.{◌≡◌, ◌≢◌, ◌≤◌, ◌⊎◌, ◌==◌, cond, length, true, false};
-ghost use Rattle.vcd_body.specs.Packed.{held_digit};
-ghost use Rattle.vcd_body.specs.Stored.{IsUncounted, IsUnset, holding_of, len_of, number_of, one_digit, share_from, some_by, state_in, used};
+ghost use Rattle.vcd_body.specs.Stored.{IsUncounted, IsUnset, held_digit, holding_of, len_of, number_of, one_digit, share_from, some_by, state_in, used};
 
 /// How the value of a code is held. Each digit has a state of its own, so that a value of one digit
 /// is in the slot alone.

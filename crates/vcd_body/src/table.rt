@@ -1,6 +1,6 @@
 //! The current values of the codes of a header, in lent slices.
 ghost use Rattle.std.specs.Prelude.{◌≡◌, ℕ, ◌<◌, ◌≤◌, length, Some, false, slice_get};
-ghost use Rattle.vcd_body.specs.Names.{ChangesCode, ChangesRoomy, Code, GivesValue, IsLaidOut, IsStep, KeepsTable, SetsCode, SetsNumber, as_chosen, bytes_in, codes_in, codes_shown, counts_at, differs, digit_in, form_in, held_at, is_chosen, kept_at, model_form, new_at, one_more, real_text, room_of, share_of, shown_as, text_in, unset, value_at_size, value_in, value_with, with_change, with_number_change, with_step, with_text, with_value, with_value_change};
+ghost use Rattle.vcd_body.specs.Names.{ChangesCode, ChangesRoomy, Code, GivesText, GivesValue, IsLaidOut, IsStep, KeepsTable, SetsCode, SetsNumber, as_chosen, by_text, bytes_in, codes_in, codes_shown, counts_at, digit_in, held_at, is_chosen, kept_at, model_form, new_at, one_more, real_text, room_of, share_of, shown_as, unset, value_at_size, value_in, value_with, with_change, with_number_change, with_step, with_text, with_value, with_value_change};
 
 use crate::bits::{Bits, put_digits};
 use crate::compare::value_differs;
@@ -75,10 +75,8 @@ impl<'a> Table<'a> {
         ensures sets { SetsCode code (with_value value.entry) self.old self.new }
         ensures bits { (b : Bits) → value.entry ≡ Value.Bits b
             → SetsNumber code b self.old self.new }
-        ensures as_text { ChangesRoomy code (with_text (form_in value.entry) (text_in value.entry))
-            self.old self.new }
-        ensures value { IsLaidOut self.old
-            → GivesValue (form_in value.entry) (text_in value.entry) code self.old self.new }
+        ensures as_text { ChangesRoomy code (by_text with_text value.entry) self.old self.new }
+        ensures value { GivesText value.entry code self.old self.new }
     {
         match value {
             Value::Digits(text) => match text {
@@ -96,10 +94,8 @@ impl<'a> Table<'a> {
     #[inline(always)]
     pub fn follow(&mut self, code: usize, size: usize, value: Value<'_>)
         ensures sets { SetsCode code (with_value_change size value.entry) self.old self.new }
-        ensures as_text { ChangesRoomy code
-            (with_change size (form_in value.entry) (text_in value.entry)) self.old self.new }
-        ensures value { IsLaidOut self.old
-            → GivesValue (form_in value.entry) (text_in value.entry) code self.old self.new }
+        ensures as_text { ChangesRoomy code (by_text (with_change size) value.entry) self.old self.new }
+        ensures value { GivesText value.entry code self.old self.new }
     {
         match value {
             Value::Digits(text) => self.follow_digits(code, size, text),

@@ -1,6 +1,6 @@
 // What tokens of a body are.
-ghost use Rattle.std.specs.Prelude.{◌≡◌, ℕ, ◌+◌, ◌<◌, ◌≤◌, length, slice_index, true, List, drop, take, ◌∷◌, ◌^◌, ◌&&◌, not, Some, None, ◌-◌, ◌/◌, ◌%◌, IfSome};
-ghost use Rattle.vcd_body.specs.Names.{AreBitsAt, Begins, MayBe, StandsAt, StandsFor, binary_digits, bit_at, bit_of, byte, command_is, is_empty, is_end as ends, is_value_digit as is_digit, list_all};
+ghost use Rattle.std.specs.Prelude.{◌≡◌, ℕ, ◌+◌, ◌<◌, ◌≤◌, length, true, List, drop, take, ◌∷◌, ◌^◌, ◌&&◌, not, Some, None, ◌-◌, ◌/◌, ◌%◌, IfSome};
+ghost use Rattle.vcd_body.specs.Names.{AreBitsAt, Begins, IsBinaryAt, IsDigitAt, MayBe, StandsAt, StandsFor, binary_digits, bit_at, bit_in, byte, command_is, is_empty, is_end as ends, is_value_digit as is_digit, list_all};
 
 use crate::bits::Bits;
 use crate::item::Section;
@@ -142,10 +142,8 @@ fn is_value_digit(byte: u8) -> bool
 #[inline(always)]
 pub(crate) fn other_32(bytes: &[u8], at: usize) -> u64
     requires { at + 32 ≤ length bytes.now }
-    ensures digits { (k : ℕ) → k < 32 → bit_at result k ≡ 0
-        → is_digit (slice_index bytes.now (at + k)) ≡ true }
-    ensures binary { (k : ℕ) → k < 32 → bit_at result k ≡ 0
-        → slice_index bytes.now (at + k) ≡ byte "0" + bit_of (slice_index bytes.now (at + k)) }
+    ensures digits { (k : ℕ) → k < 32 → bit_at result k ≡ 0 → IsDigitAt bytes.now (at + k) }
+    ensures binary { (k : ℕ) → k < 32 → bit_at result k ≡ 0 → IsBinaryAt bytes.now (at + k) }
 {
     let v = u8x32::from_slice(&bytes[at..]) & u8x32::splat(0xfe);
     v.simd_ne(u8x32::splat(b'0')).to_bitmask()
@@ -157,8 +155,7 @@ pub(crate) fn other_32(bytes: &[u8], at: usize) -> u64
 pub(crate) fn are_binary_at(bytes: &[u8], at: usize, n: usize) -> bool
     requires room { at + 32 ≤ length bytes.now }
     requires few { n ≤ 32 }
-    ensures digits { result ≡ true → (k : ℕ) → k < n
-        → is_digit (slice_index bytes.now (at + k)) ≡ true }
+    ensures digits { result ≡ true → (k : ℕ) → k < n → IsDigitAt bytes.now (at + k) }
     ensures binary { result ≡ true → AreBitsAt bytes.now at n }
 {
     other_32(bytes, at) & ((1 << n) - 1) == 0
@@ -222,8 +219,7 @@ pub(crate) fn are_digits_or_known(digits: &[u8], bits: Option<Bits>) -> bool
 fn ones_32(bytes: &[u8], at: usize) -> u64
     requires { at + 32 ≤ length bytes.now }
     ensures few { result < 2 ^ 32 }
-    ensures bits { (k : ℕ) → k < 32
-        → bit_at result (31 - k) ≡ bit_of (slice_index bytes.now (at + k)) }
+    ensures bits { (k : ℕ) → k < 32 → bit_at result (31 - k) ≡ bit_in bytes.now (at + k) }
 {
     let v = u8x32::from_slice(&bytes[at..]).reverse();
     v.simd_eq(u8x32::splat(b'1')).to_bitmask()
@@ -235,8 +231,7 @@ fn number_at(bytes: &[u8], at: usize, n: usize) -> usize
     requires room { at + 32 ≤ length bytes.now }
     requires few { n ≤ 32 }
     ensures fits { result < 2 ^ n }
-    ensures bits { (k : ℕ) → k < n
-        → result / 2 ^ (n - 1 - k) % 2 ≡ bit_of (slice_index bytes.now (at + k)) }
+    ensures bits { (k : ℕ) → k < n → result / 2 ^ (n - 1 - k) % 2 ≡ bit_in bytes.now (at + k) }
 {
     (ones_32(bytes, at) >> (32 - n)) as usize
 }
