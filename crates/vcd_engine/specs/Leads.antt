@@ -4,7 +4,12 @@ use Rattle.vcd_model.specs.Declarations.{Declaration, Variable}
 use Rattle.vcd_model.specs.Items.{BodyItem}
 use Rattle.vcd_model.specs.Sample.{sample_lines}
 use Rattle.vcd_model.specs.Selection.{selected}
+use Rattle.vcd_model.specs.Header.{Header}
+use Rattle.vcd_view.specs.Views.{IsViewOf}
+use Rattle.vcd_view.specs.declared.view.HeadView.{HeadView}
 use Rattle.vcd_head.specs.Marks.{is_marked, marks_of}
+use Rattle.vcd_body.specs.declared.table.Table.{Table}
+use Rattle.vcd_engine.specs.Values.{AreHeld}
 
 -- so many declarations from a place on have no line, whatever the items and the time
 abbrev pub HaveNoLine : List (List ℕ) → List Declaration → ℕ → ℕ → Type 0
@@ -29,3 +34,8 @@ Leads names ds i mark = MatchBool (mark == 1) (IsSelectedAt names ds i) (HaveNoL
 pub record LeadOn (names : List (List ℕ)) (ds : List Declaration) (marks : List ℕ) : Type 0 where
   pub each : (i : ℕ) → i < length marks → Leads names ds i (get_or marks i 0)
   pub len : length marks ≡ length ds
+
+-- this holds of any header that the view shows, with marks that lead on for names, and of any items
+-- after which the table holds the values
+abbrev pub AnySampled : HeadView → Table → List ℕ → (Header → List BodyItem → List (List ℕ) → Type 0) → Type 0
+AnySampled view table marks Holds = (h : Header) (items : List BodyItem) (names : List (List ℕ)) → IsViewOf view h → LeadOn names h.declarations marks → AreHeld table h items → Holds h items names

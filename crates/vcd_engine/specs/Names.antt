@@ -1,5 +1,7 @@
 -- What the clauses of this crate speak of, under one path: of the crates below, and what several of
 -- its modules share.
+pub use Rattle.std.specs.List.{AllByRecursion}
+pub use Rattle.std.specs.List.Sorted.{IsStrictlyIncreasing}
 pub use Rattle.vcd_model.specs.BodyPhrases.{section_keyword}
 pub use Rattle.vcd_model.specs.Bound.{AreWindows, FitsInput, no_room, RoomSize, WindowSize}
 pub use Rattle.vcd_model.specs.Bytes.{as_line}
@@ -19,14 +21,16 @@ pub use Rattle.vcd_model.specs.Sample.{is_settled, sample_lines}
 pub use Rattle.vcd_model.specs.Selection.{first_unmatched, selected, selects_code}
 pub use Rattle.vcd_text.specs.Advances.{Advances, CallEnd}
 pub use Rattle.vcd_text.specs.Ahead.{bytes_of, passed_of}
-pub use Rattle.vcd_text.specs.Device.{Counts, Device, Puts, Takes}
+pub use Rattle.vcd_text.specs.Device.{Counts, Device, Puts, PutsTo, TakenBy, Takes}
 pub use Rattle.vcd_text.specs.Feed.{seen}
 pub use Rattle.vcd_view.specs.Needs.{room, view_size}
+pub use Rattle.vcd_view.specs.Over.{FitsEachInput}
 pub use Rattle.vcd_view.specs.Shown.{parts}
 pub use Rattle.vcd_view.specs.Views.{IsViewOf}
 pub use Rattle.vcd_view.specs.declared.view.Code.{Code}
 pub use Rattle.vcd_view.specs.declared.view.HeadView.{HeadView}
 pub use Rattle.vcd_head.specs.Marks.{is_marked, marks_of}
+pub use Rattle.vcd_head.specs.Written.{TakesHeader}
 pub use Rattle.vcd_body.specs.Ahead.{HasBits}
 pub use Rattle.vcd_body.specs.Contents.{KeepsTable}
 pub use Rattle.vcd_body.specs.Device.{TakesDue}
@@ -44,14 +48,14 @@ pub use Rattle.vcd_engine.specs.Cut.{AreCut, BeginsBy, lent_to, may_be_kept, Put
 pub use Rattle.vcd_engine.specs.Edges.{AreEdges, AreTallied, change_to, names_counted, room_in_edges, SameEdges}
 pub use Rattle.vcd_engine.specs.Engine.{AtClose, AtItem, CanRun, ClosesOver, CountsStop, HasBegun, Holds, is_going, Keeps, last_of, may_end_early, request_in, request_of, request_of_begun, request_of_engine, Starts, StartsOver, StopsUnread, TakesEach, TakesOne, TakesTime}
 pub use Rattle.vcd_engine.specs.ItemText.{HasWritten, LastTells, PutsEntry, times_with}
-pub use Rattle.vcd_engine.specs.Leads.{HaveNoLine, IsSelectedAt, LeadOn, rows_on}
+pub use Rattle.vcd_engine.specs.Leads.{AnySampled, HaveNoLine, IsSelectedAt, LeadOn, rows_on}
 pub use Rattle.vcd_engine.specs.Pick.{ArePicked, flags_in, is_kept, names_in, SamePick}
-pub use Rattle.vcd_engine.specs.Pieces.{held_in, IsInPlace, IsLine, IsPart, PutsBehind, PutsOn}
+pub use Rattle.vcd_engine.specs.Pieces.{gathered_in, held_in, IsInPlace, IsLine, IsPart, PutsBehind, PutsOn, PutsPieces}
 pub use Rattle.vcd_engine.specs.Report.{declares_variable, named_line, opens_scope}
-pub use Rattle.vcd_engine.specs.Room.{AreWithinBound, BeginsAs, HasRoomFor, IsWithin, IsWithinEachBound, marks_for, room_in, room_of, room_of_begun, room_size, SameHold, SameTask, slots_for, values_for, view_in}
+pub use Rattle.vcd_engine.specs.Room.{AnyRoom, AreWithinBound, BeginsAs, HasRoomFor, IsWithin, IsWithinEachBound, KeepsBound, marks_for, room_in, room_of, room_of_begun, room_size, SameHold, SameTask, slots_for, values_for, view_in}
 pub use Rattle.vcd_engine.specs.Rows.{AtRow}
-pub use Rattle.vcd_engine.specs.Run.{CountsBoth, EndsAsAsked, Finishes, MayRun, RunsTask, SameWindows}
+pub use Rattle.vcd_engine.specs.Run.{CountsOn, EndsAsAsked, Finishes, MayRun, RunsTask, SameWindows}
 pub use Rattle.vcd_engine.specs.Sample.{AreSampled, asked_in, is_due, SameSample}
-pub use Rattle.vcd_engine.specs.Selection.{AreSelected, IsFirstUnmatched, IsUnmatched}
+pub use Rattle.vcd_engine.specs.Selection.{AreSelected, ChoosesMore, IsFirstUnmatched, IsUnmatched}
 pub use Rattle.vcd_engine.specs.Step.{MayStep, Steps, StepsAhead, StepsOn, StepsOver}
 pub use Rattle.vcd_engine.specs.Values.{AreHeld, HasValues}

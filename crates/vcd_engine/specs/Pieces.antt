@@ -8,6 +8,7 @@ use Rattle.vcd_body.specs.Ahead.{HasBits, IsSizedItem}
 use Rattle.vcd_body.specs.Spelled.{HasSpelled}
 use Rattle.vcd_body.specs.declared.item.Form.{Form}
 use Rattle.vcd_body.specs.declared.item.Item.TheVariants.{Change}
+use Rattle.vcd_engine.specs.declared.gathered.Gathered.{Gathered}
 use Rattle.vcd_engine.specs.declared.pieces.InPlace.{InPlace}
 use Rattle.vcd_engine.specs.declared.pieces.Pieces.{Pieces}
 
@@ -28,9 +29,13 @@ IsLine bytes line from time = (line ≤ from) × (line < from → slice_range by
 abbrev pub IsPart : List ℕ → Pieces → Type 0
 IsPart bytes p = (p.from ≤ p.to) × (p.to ≤ length bytes)
 
+-- the short pieces that were gathered
+abbrev pub gathered_in : Gathered → List ℕ
+gathered_in g = take g.len g.bytes
+
 -- the text that is held: what was gathered, and the last piece
 abbrev pub held_in : List ℕ → Pieces → List ℕ
-held_in bytes p = take p.gathered.now.len p.gathered.now.bytes ++ slice_range bytes p.from p.to
+held_in bytes p = gathered_in p.gathered.now ++ slice_range bytes p.from p.to
 
 -- what was written and what is held make the text that was held and then what is due
 abbrev pub PutsAll : List ℕ → List ℕ → Device → Device → List ℕ → Type 0
@@ -40,6 +45,10 @@ PutsAll held held' out out' due = (written : List ℕ) × (held ++ due ≡ writt
 abbrev pub PutsOn : {A E : Type 0} → List ℕ → List ℕ → Device → Device → List ℕ → Result A E → Type 0
 PutsOn held held' out out' due (Ok v) = PutsAll held held' out out' due
 PutsOn held held' out out' due (Err e) = WritesSome out out' (held ++ due)
+
+-- so, where what is held are the pieces of these bytes
+abbrev pub PutsPieces : {A E : Type 0} → List ℕ → Pieces → Pieces → Device → Device → List ℕ → Result A E → Type 0
+PutsPieces bytes p p' out out' due result = PutsOn (held_in bytes p) (held_in bytes p') out out' due result
 
 -- this text was put behind what is held
 pub record PutsBehind {A E : Type 0} (bytes : List ℕ) (p p' : Pieces) (out out' : Device) (due : List ℕ) (result : Result A E) : Type 0 where

@@ -7,7 +7,7 @@ use Rattle.vcd_text.specs.Device.{Device}
 use Rattle.vcd_text.specs.Feed.{chunk_len_of, limit_of}
 use Rattle.vcd_text.specs.declared.device.Source.{Ghosts}
 use Rattle.vcd_text.specs.declared.feed.Feed.{Feed}
-use Rattle.vcd_view.specs.Needs.{view_size}
+use Rattle.vcd_view.specs.Needs.{room, view_size}
 use Rattle.vcd_view.specs.Shown.{parts}
 use Rattle.vcd_view.specs.Views.{IsViewOf}
 use Rattle.vcd_engine.specs.Pick.{flags_in}
@@ -16,6 +16,7 @@ use Rattle.vcd_engine.specs.declared.engine.Engine.{Engine}
 use Rattle.vcd_engine.specs.declared.machine.Machine.{Machine}
 use Rattle.vcd_engine.specs.declared.machine.Machine.TheVariants as machine
 use Rattle.vcd_view.specs.declared.view.HeadView.{HeadView}
+use Rattle.vcd_view.specs.declared.view.Need.{Need}
 use Rattle.vcd_engine.specs.declared.task.Room.{Room}
 use Rattle.vcd_engine.specs.declared.task.Task.{Task}
 use Rattle.vcd_engine.specs.Cut.{lent_to}
@@ -56,6 +57,10 @@ pub record HasRoomFor (t : Task) (v : HeadView) (r : Room) : Type 0 where
   pub marks : marks_for t v ≤ length r.marks.now
   pub slots : slots_for t v ≤ length r.slots.now
   pub shares : slots_for t v ≤ length r.shares.now
+
+-- this holds of any room that has what is needed
+abbrev pub AnyRoom : Need → (Room → Type 0) → Type 0
+AnyRoom need Holds = (r : Room) → need.values ≤ length r.values.now → need.slots ≤ length r.slots.now → need.slots ≤ length r.shares.now → need.marks ≤ length r.marks.now → Holds r
 
 -- ---- what is lent
 
@@ -114,3 +119,7 @@ FitsBound f v r = AreWithinBound (limit_of f) (chunk_len_of f) v r
 -- the same for every token limit, where no chunk is lent: of what begins, or reads no body
 abbrev pub IsWithinEachBound : HeadView → RoomSize → Type 0
 IsWithinEachBound v r = (limit : ℕ) → AreWithinBound limit 0 v r
+
+-- what is lent of no more room than is needed is within the bound, with windows of any length
+abbrev pub KeepsBound : HeadView → Need → Type 0
+KeepsBound view need = (limit chunk : ℕ) (lent : RoomSize) → chunk ≤ 65536 → IsWithin lent (room need) → AreWithinBound limit chunk view lent

@@ -64,9 +64,9 @@ abbrev pub Does : {X : Type 0} {g : Ghosts X} → Request → HeadView → (old 
 Does task v old new out out' result = (h : Header) (i : Input) (front : List Token) (name : List ℕ) → IsViewOf v h → HasGiven i front old → Follows task (limit_of old) (chunk_len_of old) i front h name (supply_of old) (supply_of new) out out' result
 
 -- an engine that was begun over an output which has what stands before all items does its task
-abbrev pub Finishes : {X : Type 0} {g : Ghosts X} → Engine → (old new : Feed X g) → (out out' : Device) → Result Done Stop → Type 0
-Finishes e old new out out' result = (h : Header) (i : Input) (front : List Token) (name : List ℕ) (begin : Device) → Holds e h [] → HasGiven i front old → Writes begin out (open_text (request_of_engine e) h [])
-    → Follows (request_of_engine e) (limit_of old) (chunk_len_of old) i front h name (supply_of old) (supply_of new) begin out' result
+abbrev pub Finishes : {X W : Type 0} {g : Ghosts X} → (W → Device) → Engine → (old new : Feed X g) → (out out' : W) → Result Done Stop → Type 0
+Finishes device e old new out out' result = (h : Header) (i : Input) (front : List Token) (name : List ℕ) (begin : Device) → Holds e h [] → HasGiven i front old → Writes begin (device out) (open_text (request_of_engine e) h [])
+    → Follows (request_of_engine e) (limit_of old) (chunk_len_of old) i front h name (supply_of old) (supply_of new) begin (device out') result
 
 -- it ends early only where a mark may end it
 abbrev pub EndsAsAsked : Request → Result Done Stop → Type 0
@@ -75,6 +75,10 @@ EndsAsAsked task result = IfOk result (λ done. done ≡ Early → may_end_early
 -- one failed read or write is counted where the answer is that, and none where it is not
 abbrev pub CountsBoth : {X A : Type 0} {g : Ghosts X} → (X → ℕ) → (old new : Feed X g) → (out out' : Device) → Result A Stop → Type 0
 CountsBoth failures old new out out' result = (failures (source_of new) ≡ failures (source_of old) + reads_failed result) × CountsStop out out' result
+
+-- so, by what the output tells of itself
+abbrev pub CountsOn : {X W A : Type 0} {g : Ghosts X} → (X → ℕ) → (W → Device) → (old new : Feed X g) → (out out' : W) → Result A Stop → Type 0
+CountsOn failures device old new out out' result = CountsBoth failures old new (device out) (device out') result
 
 -- the windows and loans of the feed stay
 abbrev pub SameWindows : {X : Type 0} {g : Ghosts X} → (old new : Feed X g) → Type 0

@@ -1,5 +1,5 @@
 -- What names select: the marks of declarations, and the codes that are chosen.
-use Rattle.std.specs.Prelude.{◌≡◌, ℕ, List, Some, None, slice_get}
+use Rattle.std.specs.Prelude.{◌≡◌, ◌||◌, ℕ, List, Some, None, slice_get}
 use Rattle.vcd_model.specs.Declarations.{IdCode}
 use Rattle.vcd_model.specs.Header.{Header}
 use Rattle.vcd_model.specs.Selection.{first_unmatched, selected, selects_code}
@@ -11,6 +11,10 @@ use Rattle.vcd_body.specs.declared.answer.Stop.TheVariants.{Unmatched}
 -- of the codes those of the variables that these names select are chosen, and no others
 abbrev pub AreChosen : List (List ℕ) → Header → List ℕ → Type 0
 AreChosen names h t = (place : ℕ) (c : IdCode) → slice_get h.codes place ≡ Some c → is_chosen t place ≡ selects_code (selected names h.declarations) c
+
+-- so they are, beside those that were chosen before
+abbrev pub ChoosesMore : List (List ℕ) → Header → (old new : List ℕ) → Type 0
+ChoosesMore names h old new = (place : ℕ) (c : IdCode) → slice_get h.codes place ≡ Some c → is_chosen new place ≡ (is_chosen old place || selects_code (selected names h.declarations) c)
 
 -- each name selects something, and the selected variables are marked, and their codes chosen
 pub record AreSelected (names : List (List ℕ)) (h : Header) (marks : List ℕ) (t : List ℕ) : Type 0 where

@@ -67,8 +67,8 @@ abbrev pub TakesAhead : {X A E : Type 0} {g : Ghosts X} → Request → Header �
 TakesAhead task h i front items e f out out' result = TakesSeveral task items (AheadGives task h i front items e f out out' result)
 
 -- the same of any input and any items before
-abbrev pub Steps : {X : Type 0} {g : Ghosts X} → Engine → Engine → Feed X g → Feed X g → Device → Device → Result More Stop → Type 0
-Steps e e' f f' out out' result = (h : Header) (i : Input) (front : List Token) (items : List BodyItem) → Runs e h i front items f → StepGives (request_of_engine e) h i front items e' f' out out' result
+abbrev pub Steps : {X W : Type 0} {g : Ghosts X} → (W → Device) → Engine → Engine → Feed X g → Feed X g → W → W → Result More Stop → Type 0
+Steps device e e' f f' out out' result = (h : Header) (i : Input) (front : List Token) (items : List BodyItem) → Runs e h i front items f → StepGives (request_of_engine e) h i front items e' f' (device out) (device out') result
 
 abbrev pub StepsOn : {X : Type 0} {g : Ghosts X} → Engine → Engine → Feed X g → Feed X g → Device → Device → Result More Stop → Type 0
 StepsOn e e' f f' out out' result = (h : Header) (i : Input) (front : List Token) (items : List BodyItem) → Runs e h i front items f → StepsGive (request_of_engine e) h i front items e' f' out out' result

@@ -1,7 +1,6 @@
 //! The commands over items: each is its task.
 ghost use Rattle.std.specs.Prelude.{◌≡◌, ◌≢◌, ◌≤◌, [], IfOk, map, string_bytes};
-ghost use Rattle.std.specs.List.Sorted.{IsStrictlyIncreasing};
-ghost use Rattle.vcd_engine.specs.Names.{HasRoomFor, MayRun, no_room, Request, room_size, RunsTask, Whole};
+ghost use Rattle.vcd_engine.specs.Names.{HasRoomFor, IsStrictlyIncreasing, MayRun, no_room, Request, room_size, RunsTask, Whole};
 
 use crate::engine::run_task;
 use crate::task::{Room, Task};

@@ -1,6 +1,6 @@
 //! A run over the items of a body, one item a step. It names no command.
 ghost use Rattle.std.specs.Prelude.{◌≡◌, ◌≢◌, ◌-◌, ◌^◌, ◌<◌, [], List, true, false, MatchBool, Ok, MatchResult};
-ghost use Rattle.vcd_engine.specs.Names.{Advances, Again, BeginsAs, BodyItem, CallEnd, CanRun, close_text, Counts, CountsBoth, Early, EndsAsAsked, Finish, Finishes, HasBegun, HasRoomFor, Header, Holds, is_going, IsValid, IsViewOf, IsWithinEachBound, item_text, MayRun, MayStep, parts, request_of, request_of_begun, request_of_engine, room_in, room_of_begun, room_size, RunsTask, SameHold, SameWindows, seen, StartsOver, Steps, StepsAhead, StepsOn, StepsOver, Takes, view_in};
+ghost use Rattle.vcd_engine.specs.Names.{Advances, Again, BeginsAs, BodyItem, CallEnd, CanRun, close_text, Counts, CountsOn, Early, EndsAsAsked, Finish, Finishes, HasBegun, HasRoomFor, Header, Holds, is_going, IsValid, IsViewOf, IsWithinEachBound, item_text, MayRun, MayStep, parts, request_of, request_of_begun, request_of_engine, room_in, room_of_begun, room_size, RunsTask, SameHold, SameWindows, seen, StartsOver, Steps, StepsAhead, StepsOn, StepsOver, Takes, view_in};
 
 use crate::gathered::Gathered;
 use crate::machine::Machine;
@@ -73,9 +73,8 @@ impl<'n, 'r> Begun<'n, 'r> {
 impl<'v, 'n, 'r> Engine<'v, 'n, 'r> {
     /// Returns the engine of a task that has begun over the same header.
     pub fn new(begun: Begun<'n, 'r>, view: HeadView<'v>) -> Engine<'v, 'n, 'r>
-        ensures holds { (h : Header) → IsViewOf view.entry h
-            → CanRun (request_of_begun begun.entry) h → HasBegun begun.entry h
-            → Holds result h [] }
+        ensures holds { (h : Header) → IsViewOf view.entry h → CanRun (request_of_begun begun.entry) h
+            → HasBegun begun.entry h → Holds result h [] }
         ensures going { is_going result ≡ true }
         ensures request { request_of_engine result ≡ request_of_begun begun.entry }
         ensures loans { (view_in result ≡ view.entry)
@@ -108,8 +107,7 @@ impl<'v, 'n, 'r> Engine<'v, 'n, 'r> {
     ) -> Result<More, Stop>
         requires step { MayStep S.failures self.old feed.old (W.device out.old) }
         requires view { parts view ≡ parts self.old.view }
-        ensures gives { Steps self.old self.new feed.old feed.new
-            (W.device out.old) (W.device out.new) result }
+        ensures gives { Steps W.device self.old self.new feed.old feed.new out.old out.new result }
         ensures over { StepsOver S.failures self.old self.new feed.old feed.new
             (W.device out.old) (W.device out.new) result }
     {
@@ -221,10 +219,8 @@ impl<'v, 'n, 'r> Engine<'v, 'n, 'r> {
             (W.device out.old) }
         requires going { is_going self.old ≡ true }
 
-        ensures gives { Finishes self.old feed.old feed.new
-            (W.device out.old) (W.device out.new) result }
-        ensures devices { CountsBoth S.failures feed.old feed.new
-            (W.device out.old) (W.device out.new) result }
+        ensures gives { Finishes W.device self.old feed.old feed.new out.old out.new result }
+        ensures devices { CountsOn S.failures W.device feed.old feed.new out.old out.new result }
         ensures answer { EndsAsAsked (request_of_engine self.old) result }
         ensures windows { SameWindows feed.old feed.new }
     {
@@ -248,8 +244,7 @@ pub fn step<S: Source, W: Sink>(
     out: &mut W,
 ) -> Result<More, Stop>
     requires step { MayStep S.failures engine.old feed.old (W.device out.old) }
-    ensures gives { Steps engine.old engine.new feed.old feed.new
-        (W.device out.old) (W.device out.new) result }
+    ensures gives { Steps W.device engine.old engine.new feed.old feed.new out.old out.new result }
     ensures over { StepsOver S.failures engine.old engine.new feed.old feed.new
         (W.device out.old) (W.device out.new) result }
 {

@@ -1,6 +1,5 @@
 //! Short pieces of text that are due, which are copied together, and written at once.
 ghost use Rattle.std.specs.Prelude.{◌≡◌, ◌+◌, ◌-◌, ◌^◌, ◌<◌, ◌≤◌, ◌++◌, true, length, take, slice_range, IfOk};
-ghost use Rattle.vcd_text.specs.Device.{Puts};
 
 use std::simd::prelude::*;
 use vcd_text::{Sink, WriteFailed, put};
@@ -35,6 +34,8 @@ fn copy_short(to: &mut [u8], place: usize, bytes: &[u8], from: usize)
 }
 
 impl Gathered {
+    ghost use Rattle.vcd_engine.specs.Names.{gathered_in, PutsTo};
+
     /// Returns a buffer in which nothing is gathered.
     #[inline(always)]
     pub(crate) fn new() -> Gathered
@@ -63,8 +64,7 @@ impl Gathered {
         requires short { (from ≤ to) × (to ≤ from + 64) }
         requires there { from + 64 ≤ length bytes.now }
         requires room { self.old.len + 64 ≤ 8448 }
-        ensures { take self.new.len self.new.bytes
-            ≡ take self.old.len self.old.bytes ++ slice_range bytes.now from to }
+        ensures { gathered_in self.new ≡ gathered_in self.old ++ slice_range bytes.now from to }
     {
         copy_short(&mut self.bytes, self.len, bytes, from);
         self.len += to - from;
@@ -74,8 +74,7 @@ impl Gathered {
     pub(crate) fn push_long(&mut self, bytes: &[u8], from: usize, to: usize)
         requires within { (from ≤ to) × (to ≤ length bytes.now) }
         requires room { self.old.len + (to - from) ≤ 8448 }
-        ensures { take self.new.len self.new.bytes
-            ≡ take self.old.len self.old.bytes ++ slice_range bytes.now from to }
+        ensures { gathered_in self.new ≡ gathered_in self.old ++ slice_range bytes.now from to }
     {
         let end = self.len + (to - from);
         self.bytes[self.len..end].copy_from_slice(&bytes[from..to]);
@@ -85,8 +84,7 @@ impl Gathered {
     /// Writes the gathered bytes, of which none are left then.
     pub(crate) fn empty<W: Sink>(&mut self, out: &mut W) -> Result<(), WriteFailed>
         requires failures { (W.device out.old).failures < 2 ^ 64 - 1 }
-        ensures puts { Puts (W.device out.old) (W.device out.new)
-            (take self.old.len self.old.bytes) result }
+        ensures puts { PutsTo W.device out.old out.new (gathered_in self.old) result }
         ensures empty { IfOk result (λ _. self.new.len ≡ 0) }
     {
         put(out, &self.bytes[..self.len])?;

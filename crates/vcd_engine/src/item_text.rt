@@ -1,7 +1,7 @@
 //! The text of kept items: each as its line, after the line of its time unless that was written
 //! already.
 ghost use Rattle.std.specs.Prelude.{◌≡◌, ℕ, ◌-◌, ◌^◌, ◌<◌, ◌≤◌, ◌∷◌, [], List, length, Some, IfOk};
-ghost use Rattle.vcd_engine.specs.Names.{as_line, BodyItem, closing, Counts, Entry, HasGoodText, HasWritten, Header, held_in, IsInPlace, IsItem, IsLine, IsPart, IsViewOf, item_line, keyword_text, LastTells, model_section, PutsBehind, PutsEntry, PutsOn, section_keyword, Takes, time_due, times_with};
+ghost use Rattle.vcd_engine.specs.Names.{as_line, BodyItem, closing, Counts, Entry, HasGoodText, HasWritten, Header, IsInPlace, IsItem, IsLine, IsPart, IsViewOf, item_line, keyword_text, LastTells, model_section, PutsBehind, PutsEntry, PutsPieces, section_keyword, TakenBy, Takes, time_due, times_with};
 
 use crate::pieces::{InPlace, Pieces};
 use vcd_body::{Form, Id, Item, Section, left_out, put_change, put_time_unless};
@@ -37,8 +37,7 @@ fn put_item<W: Sink>(
     requires failures { (W.device out.old).failures < 2 ^ 64 - 1 }
     requires sound { HasGoodText view.codes.now text.now item }
     ensures takes { (h : Header) (x : BodyItem) → IsViewOf view.entry h
-        → IsItem h.codes text.now item x
-        → Takes (W.device out.old) (W.device out.new) (item_line x) result }
+        → IsItem h.codes text.now item x → TakenBy W.device out.old out.new (item_line x) result }
     ensures counts { Counts (W.device out.old) (W.device out.new) result }
 {
     match item {
@@ -108,8 +107,7 @@ impl ItemText {
         requires place { IsInPlace view change }
         requires line { IsLine change.bytes.now change.line change.from time }
         requires part { IsPart change.bytes.now pieces.old }
-        ensures text { PutsEntry (λ due. PutsOn (held_in change.entry.bytes.now pieces.old)
-            (held_in change.entry.bytes.now pieces.new)
+        ensures text { PutsEntry (λ due. PutsPieces change.entry.bytes.now pieces.old pieces.new
             (W.device out.old) (W.device out.new) due result) view.entry time
             change.entry.plain.item change.entry.plain.text.now self.old self.new result }
         ensures counts { Counts (W.device out.old) (W.device out.new) result }
@@ -162,8 +160,7 @@ impl ItemText {
         requires { (W.device out.old).failures < 2 ^ 64 - 1 }
         ensures takes { (before : List ℕ) (kept : List Entry) → HasWritten before kept self.now
             → ((t : ℕ) → last ≡ Some t → LastTells (times_with before kept) t)
-            → Takes (W.device out.old) (W.device out.new)
-            (closing (times_with before kept) last) result }
+            → TakenBy W.device out.old out.new (closing (times_with before kept) last) result }
         ensures counts { Counts (W.device out.old) (W.device out.new) result }
     {
         match last {

@@ -10,9 +10,8 @@ use vcd_view::{HeadView, Kind};
 fn has_line(view: HeadView<'_>, row: usize, mark: u8) -> bool
     requires { row < length view.rows.now }
     ensures { (h : Header) (names : List (List ℕ)) → IsViewOf view.entry h
-        → get_or (marks_of names h.declarations) row 0 ≡ mark
-        → MatchBool result (IsSelectedAt names h.declarations row)
-        (HaveNoLine names h.declarations row 1) }
+        → get_or (marks_of names h.declarations) row 0 ≡ mark → MatchBool result
+        (IsSelectedAt names h.declarations row) (HaveNoLine names h.declarations row 1) }
 {
     let declared = &view.rows[row];
     match declared.kind {

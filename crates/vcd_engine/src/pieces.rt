@@ -1,7 +1,7 @@
 //! Text that is due and is in the chunk already: pieces of it that follow each other are one, and
 //! short ones are written together.
 ghost use Rattle.std.specs.Prelude.{◌≡◌, ℕ, ◌+◌, ◌-◌, ◌^◌, ◌<◌, ◌≤◌, List, [], ◌++◌, length, take, slice_range, IfErr, IfOk};
-ghost use Rattle.vcd_engine.specs.Names.{bytes_without, Counts, HasMark, held_in, IsLine, IsPart, Puts, PutsBehind, PutsOn, time_line};
+ghost use Rattle.vcd_engine.specs.Names.{bytes_without, Counts, gathered_in, HasMark, held_in, IsLine, IsPart, Puts, PutsBehind, PutsOn, time_line};
 
 use crate::gathered::{GATHERED, Gathered};
 use vcd_body::{Plain, is_mark_line, put_time};
@@ -47,8 +47,7 @@ fn gather_slowly<W: Sink>(
 ) -> Result<(), WriteFailed>
     requires failures { (W.device out.old).failures < 2 ^ 64 - 1 }
     requires within { (from ≤ to) × (to ≤ length bytes.now) }
-    ensures puts { PutsOn (take gathered.old.len gathered.old.bytes)
-        (take gathered.new.len gathered.new.bytes)
+    ensures puts { PutsOn (gathered_in gathered.old) (gathered_in gathered.new)
         (W.device out.old) (W.device out.new) (slice_range bytes.now from to) result }
     ensures counts { Counts (W.device out.old) (W.device out.new) result }
 {
@@ -86,7 +85,7 @@ fn put_both<W: Sink>(
     requires failures { (W.device out.old).failures < 2 ^ 64 - 1 }
     requires within { (from ≤ to) × (to ≤ length bytes.now) }
     ensures puts { Puts (W.device out.old) (W.device out.new)
-        (take gathered.old.len gathered.old.bytes ++ slice_range bytes.now from to) result }
+        (gathered_in gathered.old ++ slice_range bytes.now from to) result }
     ensures empty { IfOk result (λ _. gathered.new.len ≡ 0) }
 {
     gathered.empty(out)?;

@@ -1,6 +1,6 @@
 // The report of `check`: seven lines.
 ghost use Rattle.std.specs.Prelude.{◌≡◌, ◌++◌, ◌-◌, ◌^◌, ◌<◌, decimal, flat_map, codes, count_by};
-ghost use Rattle.vcd_engine.specs.Names.{count_line, declares_variable, named_line, number_or_dash, opens_scope, Puts};
+ghost use Rattle.vcd_engine.specs.Names.{count_line, declares_variable, named_line, number_or_dash, opens_scope, Puts, PutsTo};
 
 use vcd_text::{Sink, WriteFailed, put, put_number};
 use vcd_view::{Kind, Row};
@@ -34,8 +34,7 @@ pub(crate) fn declared_in(rows: &[Row]) -> Declared
 /// Writes a name and a number as a line.
 fn put_count<W: Sink>(out: &mut W, name: &str, number: u64) -> Result<(), WriteFailed>
     requires { (W.device out.old).failures < 2 ^ 64 - 1 }
-    ensures { Puts (W.device out.old) (W.device out.new)
-        (count_line name.now (decimal number)) result }
+    ensures { PutsTo W.device out.old out.new (count_line name.now (decimal number)) result }
 {
     put(out, name.as_bytes())?;
     put(out, b" ")?;

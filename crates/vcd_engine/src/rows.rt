@@ -1,6 +1,6 @@
 //! `list`: the variables of a header.
 ghost use Rattle.std.specs.Prelude.{◌≡◌, ◌∷◌, ◌-◌, ◌^◌, ◌<◌, MatchResult, Some};
-ghost use Rattle.vcd_engine.specs.Names.{AtRow, Counts, Header, IsViewOf, IsWithinEachBound, list_line, list_text, no_room, Puts, Takes, Whole, Write};
+ghost use Rattle.vcd_engine.specs.Names.{AtRow, Counts, IsWithinEachBound, list_line, list_text, no_room, Puts, Takes, TakesHeader, Whole, Write};
 
 use vcd_body::{Done, Stop};
 use vcd_head::put_path;
@@ -44,8 +44,7 @@ fn put_variable<W: Sink>(view: HeadView<'_>, row: usize, out: &mut W) -> Result<
 pub fn list<W: Sink>(view: HeadView<'_>, out: &mut W) -> Result<Done, Stop>
     requires failures { (W.device out.old).failures < 2 ^ 64 - 1 }
     requires bound { IsWithinEachBound view no_room }
-    ensures takes { (h : Header) → IsViewOf view.entry h
-        → Takes (W.device out.old) (W.device out.new) (list_text h) result }
+    ensures takes { TakesHeader view.entry (W.device out.old) (W.device out.new) list_text result }
     ensures counts { Counts (W.device out.old) (W.device out.new) result }
     ensures answer { MatchResult result (λ done. done ≡ Whole) (λ stop. stop ≡ Write) }
 {

@@ -1,7 +1,6 @@
 //! The lines of `sample`.
 ghost use Rattle.std.specs.Prelude.{◌≡◌, ◌-◌, ◌^◌, ◌<◌, ℕ, [], ◌∷◌, List, false, Some, flat_map};
-ghost use Rattle.std.specs.List.{AllByRecursion};
-ghost use Rattle.vcd_engine.specs.Names.{AreHeld, AtRow, BodyItem, Counts, Header, is_settled, IsViewOf, LeadOn, sample_lines, selected, Takes};
+ghost use Rattle.vcd_engine.specs.Names.{AllByRecursion, AnySampled, AreHeld, AtRow, BodyItem, Counts, is_settled, sample_lines, selected, Takes};
 
 use crate::leads::rows_on;
 use vcd_body::{Table, put_full};
@@ -48,11 +47,9 @@ fn put_lines<W: Sink>(
     out: &mut W,
 ) -> Result<(), WriteFailed>
     requires failures { (W.device out.old).failures < 2 ^ 64 - 1 }
-    ensures takes { (h : Header) (items : List BodyItem) (names : List (List ℕ))
-        → IsViewOf view.entry h → LeadOn names h.declarations marks.now
-        → AreHeld table.now h items → is_settled items time ≡ false
-        → Takes (W.device out.old) (W.device out.new)
-        (sample_lines (selected names h.declarations) items time) result }
+    ensures takes { AnySampled view.entry table.now marks.now (λ h items names.
+        is_settled items time ≡ false → Takes (W.device out.old) (W.device out.new)
+        (sample_lines (selected names h.declarations) items time) result) }
     ensures counts { Counts (W.device out.old) (W.device out.new) result }
 {
     let mut row = 0;
@@ -75,11 +72,10 @@ pub(crate) fn put_samples<W: Sink>(
     out: &mut W,
 ) -> Result<(), WriteFailed>
     requires failures { (W.device out.old).failures < 2 ^ 64 - 1 }
-    ensures takes { (h : Header) (items : List BodyItem) (names : List (List ℕ))
-        → IsViewOf view.entry h → LeadOn names h.declarations marks.now
-        → AreHeld table.now h items → AllByRecursion (λ t. is_settled items t ≡ false) times.now
+    ensures takes { AnySampled view.entry table.now marks.now (λ h items names.
+        AllByRecursion (λ t. is_settled items t ≡ false) times.now
         → Takes (W.device out.old) (W.device out.new)
-        (flat_map (sample_lines (selected names h.declarations) items) times.now) result }
+        (flat_map (sample_lines (selected names h.declarations) items) times.now) result) }
     ensures counts { Counts (W.device out.old) (W.device out.new) result }
 {
     for time in times {

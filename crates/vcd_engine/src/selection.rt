@@ -1,6 +1,6 @@
 //! The variables that names select: their marks and their codes.
-ghost use Rattle.std.specs.Prelude.{◌≡◌, ℕ, ◌≤◌, ◌||◌, List, length, Some, slice_get, map, string_bytes, MatchResult};
-ghost use Rattle.vcd_engine.specs.Names.{AreSelected, Header, IdCode, is_chosen, is_marked, IsFirstUnmatched, IsUnmatched, IsViewOf, marks_of, selected, selects_code};
+ghost use Rattle.std.specs.Prelude.{◌≡◌, ℕ, ◌≤◌, List, length, map, string_bytes, MatchResult};
+ghost use Rattle.vcd_engine.specs.Names.{AreSelected, ChoosesMore, Header, is_marked, IsFirstUnmatched, IsUnmatched, IsViewOf, marks_of};
 
 use crate::choice::{choose, choose_none};
 use vcd_body::Stop;
@@ -19,10 +19,7 @@ fn choose_marked(view: HeadView<'_>, marks: &[u8], flags: &mut [u8])
     requires codes { length view.codes.now ≤ length flags.old }
     ensures codes { length flags.new ≡ length flags.old }
     ensures chosen { (h : Header) (names : List (List ℕ)) → IsViewOf view.entry h
-        → marks.now ≡ marks_of names h.declarations
-        → (place : ℕ) (c : IdCode) → slice_get h.codes place ≡ Some c
-        → is_chosen flags.new place
-        ≡ (is_chosen flags.old place || selects_code (selected names h.declarations) c) }
+        → marks.now ≡ marks_of names h.declarations → ChoosesMore names h flags.old flags.new }
 {
     for (row, mark) in view.rows.iter().zip(marks) {
         let code = row.code as usize;

@@ -65,8 +65,7 @@ fn put_row<W: Sink>(
     out: &mut W,
 ) -> Result<(), WriteFailed>
     requires failures { (W.device out.old).failures < 2 ^ 64 - 1 }
-    ensures takes { AtRow view.entry row (λ h s. (items : List BodyItem)
-        → AreTallied table.now h items
+    ensures takes { AtRow view.entry row (λ h s. (items : List BodyItem) → AreTallied table.now h items
         → Takes (W.device out.old) (W.device out.new) (edges_line items s) result) }
     ensures counts { Counts (W.device out.old) (W.device out.new) result }
 {
@@ -91,8 +90,7 @@ pub(crate) fn put_rows<W: Sink>(
     requires failures { (W.device out.old).failures < 2 ^ 64 - 1 }
     ensures takes { (h : Header) (items : List BodyItem) (names : List (List ℕ))
         → IsViewOf view.entry h → marks.now ≡ marks_of names h.declarations
-        → AreTallied table.now h items
-        → Takes (W.device out.old) (W.device out.new)
+        → AreTallied table.now h items → Takes (W.device out.old) (W.device out.new)
         (flat_map (edges_line items) (selected names h.declarations)) result }
     ensures counts { Counts (W.device out.old) (W.device out.new) result }
 {

@@ -1,7 +1,6 @@
 //! What is done with the items of a body, and the slices that it works in.
-ghost use Rattle.std.specs.Prelude.{◌≡◌, ◌≤◌, ℕ, length};
-ghost use Rattle.vcd_engine.specs.Names.{AreWindows, AreWithinBound, FitsInput, HasRoomFor, Header, IsViewOf, IsWithin, marks_for, parts, room, RoomSize, slots_for, values_for, view_size, WindowSize};
-ghost use Rattle.vcd_engine.specs.declared.task.Room.{Room};
+ghost use Rattle.std.specs.Prelude.{◌≡◌};
+ghost use Rattle.vcd_engine.specs.Names.{AnyRoom, FitsEachInput, HasRoomFor, KeepsBound, marks_for, slots_for, values_for};
 
 use vcd_body::{Share, Slot};
 use vcd_view::{HeadView, Need, need};
@@ -50,14 +49,9 @@ impl<'n> Task<'n> {
         ensures lengths { (result.values ≡ values_for self.now view.entry)
             × (result.slots ≡ slots_for self.now view.entry)
             × (result.marks ≡ marks_for self.now view.entry) }
-        ensures room { (r : Room) → result.values ≤ length r.values.now
-            → result.slots ≤ length r.slots.now → result.slots ≤ length r.shares.now
-            → result.marks ≤ length r.marks.now → HasRoomFor self.now view.entry r }
-        ensures fits { (limit : ℕ) (h : Header) (w : WindowSize) → IsViewOf view.entry h
-            → AreWindows limit w
-            → FitsInput limit h w (view_size (parts view.entry)) (room result) }
-        ensures bound { (limit chunk : ℕ) (lent : RoomSize) → chunk ≤ 65536
-            → IsWithin lent (room result) → AreWithinBound limit chunk view.entry lent }
+        ensures room { AnyRoom result (HasRoomFor self.now view.entry) }
+        ensures fits { FitsEachInput view.entry result }
+        ensures bound { KeepsBound view.entry result }
     {
         match self {
             Task::Check => Need {

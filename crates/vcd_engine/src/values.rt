@@ -10,8 +10,7 @@ use vcd_body::{Bits, Item, Table, Value};
 pub(crate) fn set_item(table: &mut Table<'_>, item: Item, text: &[u8], bits: Option<Bits>)
     requires bits { HasBits item text.now bits }
     ensures held { (view : HeadView) (h : Header) (items : List BodyItem) (x : BodyItem)
-        → IsViewOf view h → HasGoodText view.codes.now text.now item
-        → IsItem h.codes text.now item x
+        → IsViewOf view h → HasGoodText view.codes.now text.now item → IsItem h.codes text.now item x
         → AreHeld table.old h items → AreHeld table.new h (items ++ x ∷ []) }
     ensures keeps { KeepsTable table.old table.new }
 {
