@@ -1,5 +1,6 @@
 -- Why a run ends before it is done, and which calls of its devices failed.
-use Rattle.std.specs.Prelude.{◌≡◌, ℕ, ◌+◌, ◌<◌, List, length, slice_set, slice_index, Option, Some, None, Result, Ok, Err}
+use Rattle.std.specs.Prelude.{◌≡◌, ℕ, ◌+◌, ◌<◌, List, length, map, slice_set, slice_index, Option, Some, None, Result, Ok, Err}
+use Rattle.vcd_text.specs.Device.{Device}
 use Rattle.vcd_head.specs.Fault.{fault_number}
 use Rattle.vcd_head.specs.declared.fault.HeadFault.{HeadFault}
 use Rattle.vcd_head.specs.declared.fault.HeadFault.TheVariants as head_fault
@@ -53,3 +54,18 @@ CountsReads before after why = after ≡ before
 abbrev pub writes_failed : Option Failure → ℕ
 writes_failed (Some (Stopped Write)) = 1
 writes_failed why = 0
+
+-- ---- the devices themselves
+
+-- a call failed with a failed read of this reader where its failure says so, as the reader at this
+-- place
+abbrev pub CountsReadOf : {X A : Type 0} → (X → ℕ) → ℕ → X → X → Result A Failure → Type 0
+CountsReadOf failures place old new result = CountsRead place (failures old) (failures new) (failure_of result)
+
+-- so, of these readers
+abbrev pub CountsReadsOf : {X : Type 0} → (X → ℕ) → (old new : List X) → Option Failure → Type 0
+CountsReadsOf failures old new why = CountsReads (map failures old) (map failures new) why
+
+-- so many writes of this sink failed
+abbrev pub CountsWrites : {W : Type 0} → (W → Device) → W → W → ℕ → Type 0
+CountsWrites device old new count = (device new).failures ≡ (device old).failures + count

@@ -14,19 +14,24 @@ use Rattle.vcd_model.specs.Settled.{is_header_over}
 use Rattle.vcd_model.specs.SoFar.{IsWhole}
 use Rattle.vcd_text.specs.Answer.{whole}
 use Rattle.vcd_text.specs.Device.{Supply, supply}
+use Rattle.vcd_text.specs.Feed.{HasGiven, token_of}
 use Rattle.vcd_text.specs.ReadAhead.{Near, ReadsAsNeeded}
-use Rattle.vcd_head.specs.Reads.{HasFault, IsGoing}
+use Rattle.vcd_text.specs.declared.device.Source.{Ghosts}
+use Rattle.vcd_text.specs.declared.feed.Feed.{Feed}
+use Rattle.vcd_head.specs.Reads.{Fails, GivesHead, HasFault, IsGoing}
 use Rattle.vcd_head.specs.Shown.{shown}
 use Rattle.vcd_view.specs.Views.{Views}
+use Rattle.vcd_head.specs.declared.fault.HeadFault.{HeadFault}
 use Rattle.vcd_head.specs.declared.head.Head.{Head}
-use Rattle.vcd_merge.specs.MergeParts.{part, part_len, spot_of}
+use Rattle.vcd_merge.specs.MergeParts.{AreParts, part, part_len, spot_of}
 use Rattle.vcd_body.specs.Answer.{IsLeft}
-use Rattle.vcd_merge.specs.Seat.{GaveParked, Lane, Spot}
+use Rattle.vcd_merge.specs.Seat.{GaveParked, IsSeated, Lane, Spot}
 use Rattle.vcd_body.specs.declared.answer.Stop.TheVariants.{Dump, Read}
 use Rattle.vcd_merge.specs.declared.seat.Seat.{Seat}
 use Rattle.vcd_merge.specs.declared.windows.Windows.{Windows}
-use Rattle.vcdkit.specs.Failure.{failure_of, CountsRead}
+use Rattle.vcdkit.specs.Failure.{failure_of, head_failure, CountsRead}
 use Rattle.vcdkit.specs.declared.inputs.Begun.{Begun}
+use Rattle.vcdkit.specs.declared.inputs.Inputs.{Inputs}
 use Rattle.vcdkit.specs.declared.failure.Failure.{Failure}
 use Rattle.vcdkit.specs.declared.failure.Failure.TheVariants.{Stopped, Refused, OutOfMemory}
 
@@ -70,6 +75,18 @@ pub record Begins (most limit chunk : ℕ) (i : Input) (head : Head) (seat : Sea
   pub views : Views (shown head) lane.header
   pub gave : GaveParked lane.header.codes lane.input lane.front [] new.rest read gathered seat.parked seat.regs
 
+-- the header of the input at this place was read by its feed, of which nothing was given, or has a
+-- fault
+abbrev pub OpensInput : {X : Type 0} {g : Ghosts X} → (most place : ℕ) → (old new : Feed X g) → Result Head Failure → Type 0
+OpensInput most place old new result = (i : Input) → HasGiven i [] old → MatchResult result (λ head. GivesHead most i new (shown head))
+    (λ failure. (fault : HeadFault) × (failure ≡ head_failure fault place (token_of new).line) × Fails most i fault new)
+
+-- so it was by its reader, over windows of these lengths, which hold these bytes then
+abbrev pub BeginsOver : {X : Type 0} → Ghosts X → (most place limit chunk : ℕ) → (old new : X) → (read gathered : List ℕ) → Result Begun Failure → Type 0
+BeginsOver g most place limit chunk old new read gathered result = (text : List ℕ) → g.rest old ≡ Some text → MatchResult result
+    (λ begun. Begins most limit chunk (whole text) begun.head begun.seat read gathered (supply g.rest g.failures old) (supply g.rest g.failures new))
+    (HasFailed most limit chunk place (whole text) (supply g.rest g.failures old) (supply g.rest g.failures new))
+
 -- ---- the inputs in order
 
 -- the headers of inputs
@@ -97,6 +114,13 @@ Stops limit chunk place earlier texts old new why = ⊥
 pub record IsNew (s : Seat) : Type 0 where
   pub regs_are : s.regs ≡ record { time = 0; marked = false; section = None }
   pub unfinished : s.finished ≡ false
+
+-- so it is, and it belongs to windows of these lengths, or of the parts of these among n
+abbrev pub IsNewOver : (chunk limit : ℕ) → Seat → Type 0
+IsNewOver chunk limit seat = IsSeated chunk limit seat × IsNew seat
+
+abbrev pub IsNewIn : ℕ → Windows → Seat → Type 0
+IsNewIn n windows seat = IsNewOver (part_len n windows.chunks.now) (part_len n windows.tokens.now) seat
 
 -- what belongs to the input at a place among n, if it was begun
 abbrev pub place_of : {X : Type 0} → ℕ → (X → Option (List ℕ)) → List Seat → List X → List ℕ → List ℕ → ℕ → Option Spot
@@ -137,3 +161,20 @@ pub record BeginsAt {X : Type 0} (n place most : ℕ) (rest : X → Option (List
       (λ begun. Begins most (part_len n windows.tokens.now) (part_len n windows.chunks.now) (whole text) begun.head begun.seat
       (part (part_len n windows.chunks.now) place windows'.chunks.now) (part (part_len n windows.tokens.now) place windows'.tokens.now) (supply rest failures reader) (supply rest failures after))
       (HasFailed most (part_len n windows.tokens.now) (part_len n windows.chunks.now) place (whole text) (supply rest failures reader) (supply rest failures after))
+
+-- so it is of the reader at a place, whichever it is
+abbrev pub BeginsAmong : {X : Type 0} → Ghosts X → (most place : ℕ) → (old new : List X) → (windows windows' : Windows) → Result Begun Failure → Type 0
+BeginsAmong {X} g most place old new windows windows' result = (r : X) → slice_get old place ≡ Some r → BeginsAt (length old) place most g.rest g.failures r old new windows windows' result
+
+-- ---- all of them
+
+-- the headers of all readers were read over their parts of the windows, or of those up to one that
+-- has a fault
+abbrev pub OpensAll : {X : Type 0} → Ghosts X → (old new : List X) → (windows windows' : Windows) → Result Inputs Failure → Type 0
+OpensAll g old new windows windows' result = (texts : List (List ℕ)) → map g.rest old ≡ map (λ text. Some text) texts → MatchResult result
+    (λ inputs. HaveBegun (part_len (length old) windows.tokens.now) (part_len (length old) windows.chunks.now) (length old) g.rest g.failures texts old new inputs.heads.items inputs.seats.items windows'.chunks.now windows'.tokens.now)
+    (Stops (part_len (length old) windows.tokens.now) (part_len (length old) windows.chunks.now) 0 [] texts (map (supply g.rest g.failures) old) (map (supply g.rest g.failures) new))
+
+-- the windows are made of as many parts as there are inputs
+abbrev pub HasParts : ℕ → Windows → Type 0
+HasParts n windows = AreParts n windows.chunks.now windows.tokens.now windows.values.now

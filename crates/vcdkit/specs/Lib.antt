@@ -3,6 +3,7 @@ pub mod Failure
 pub mod Inputs
 pub mod Message
 pub mod Run
+pub mod Calls
 -- the words, and the job that they ask for
 pub use Rattle.vcd_words.specs.Job
 pub use Rattle.vcd_words.specs.Refusal

@@ -18,6 +18,10 @@ use Rattle.vcd_words.specs.declared.job.UseFault.TheVariants as use_fault
 abbrev pub Shows : Device → Device → List ℕ → Type 0
 Shows old new line = Writes old new line ⊎ WritesSome old new line
 
+-- so, by what the stream tells of itself
+abbrev pub ShowsOn : {E : Type 0} → (E → Device) → E → E → List ℕ → Type 0
+ShowsOn device old new line = Shows (device old) (device new) line
+
 -- ---- a run
 
 -- the line where a run stops whose inputs have these names, and which was asked for those

@@ -1,4 +1,7 @@
 // Why a run ends before it is done.
+ghost use Rattle.std.specs.Prelude.{◌≡◌};
+ghost use Rattle.vcdkit.specs.Names.{head_failure, OutOfMemory, Refused, stop_failure};
+
 use std::alloc::AllocError;
 use vcd_body::Stop;
 use vcd_head::HeadFault;
@@ -15,9 +18,6 @@ pub(crate) enum Failure {
 }
 
 impl Failure {
-    ghost use Rattle.std.specs.Prelude.{◌≡◌};
-    ghost use Rattle.vcdkit.specs.Names.{head_failure, stop_failure};
-
     /// Returns the fault of a header, whose input has this place among all, and whose feed is at
     /// this line.
     pub(crate) fn of_head(fault: HeadFault, input: usize, line: u64) -> Failure
@@ -47,9 +47,6 @@ impl Failure {
 }
 
 impl From<Refusal> for Failure {
-    ghost use Rattle.std.specs.Prelude.{◌≡◌};
-    ghost use Rattle.vcdkit.specs.declared.failure.Failure.TheVariants.{Refused};
-
     ghost from_gives = { λ refusal failure. failure ≡ Refused refusal };
 
     fn from(refusal: Refusal) -> Failure {
@@ -58,9 +55,6 @@ impl From<Refusal> for Failure {
 }
 
 impl From<AllocError> for Failure {
-    ghost use Rattle.std.specs.Prelude.{◌≡◌};
-    ghost use Rattle.vcdkit.specs.declared.failure.Failure.TheVariants.{OutOfMemory};
-
     ghost from_gives = { λ _ failure. failure ≡ OutOfMemory };
 
     fn from(_error: AllocError) -> Failure {

@@ -1,17 +1,6 @@
 //! The inputs of a job: the memory of their windows, and their headers.
-ghost use Rattle.std.specs.Prelude.{◌≡◌, ◌≢◌, ◌*◌, ◌-◌, ◌^◌, ◌<◌, ◌≤◌, ℕ, List, [], All, IfOk, MatchResult, OnOk, Some, map, length, slice_get, slice_set, vec_len};
-ghost use Rattle.vcd_model.specs.Input.{Input};
-ghost use Rattle.vcd_text.specs.Answer.{whole};
-ghost use Rattle.vcd_text.specs.Device.{supply};
-ghost use Rattle.vcd_text.specs.Feed.{HasGiven, SameLoans, source_of, limit_of, chunk_len_of, token_of};
-ghost use Rattle.vcd_head.specs.Reads.{Fails, GivesHead};
-ghost use Rattle.vcd_head.specs.Shown.{shown};
-ghost use Rattle.vcd_text.specs.Advances.{HasNotFailed};
-ghost use Rattle.vcd_head.specs.declared.fault.HeadFault.{HeadFault};
-ghost use Rattle.vcd_merge.specs.MergeParts.{AreParts, SameLengths, part, part_len};
-ghost use Rattle.vcd_merge.specs.Seat.{IsSeated};
-ghost use Rattle.vcdkit.specs.Failure.{failure_of, head_failure, writes_failed, CountsRead, CountsReads};
-ghost use Rattle.vcdkit.specs.Inputs.{Begins, BeginsAt, HasFailed, HaveBegun, IsNew, SameParts, Stops};
+ghost use Rattle.std.specs.Prelude.{◌≡◌, ◌≢◌, ◌*◌, ◌-◌, ◌^◌, ◌<◌, ◌≤◌, ◌++◌, ◌∷◌, [], ℕ, All, IfOk, OnOk, length, vec_len};
+ghost use Rattle.vcdkit.specs.Names.{BeginsAmong, BeginsOver, chunk_len_of, CountsReadOf, CountsReadsOf, failure_of, HasNotFailed, HasParts, IsNewIn, IsNewOver, limit_of, OpensAll, OpensInput, SameLengths, SameLoans, SameParts, source_of, writes_failed};
 
 use crate::failure::Failure;
 use std::alloc::{AllocError, Global};
@@ -69,14 +58,8 @@ pub(crate) fn open_input<S: Source, B: BuildHasher>(
 ) -> Result<Head, Failure>
     requires failures { S.failures (source_of feed.old) < 2 ^ 64 - 1 }
     requires open { HasNotFailed feed.old }
-    ensures reads { (i : Input) → HasGiven i [] feed.old → MatchResult result
-        (λ head. GivesHead reading.now.most i feed.new (shown head))
-        (λ failure. (fault : HeadFault)
-        × (failure ≡ head_failure fault input (token_of feed.new).line)
-        × Fails reading.now.most i fault feed.new) }
-    ensures failures { CountsRead input (S.failures (source_of feed.old))
-        (S.failures (source_of feed.new))
-        (failure_of result) }
+    ensures reads { OpensInput reading.now.most input feed.old feed.new result }
+    ensures failures { CountsReadOf S.failures input (source_of feed.old) (source_of feed.new) result }
     ensures no_write { writes_failed (failure_of result) ≡ 0 }
     ensures open { OnOk result (HasNotFailed feed.new) }
     ensures lengths { (limit_of feed.new ≡ limit_of feed.old)
@@ -111,17 +94,11 @@ fn begin<S: Source, B: BuildHasher>(
     requires chunk_some { 0 < length chunk.old }
     requires token_some { 0 < length token.old }
     requires same_limit { length value.old ≡ length token.old }
-    ensures begins { (text : List ℕ) → S.rest reader.old ≡ Some text → MatchResult result
-        (λ begun. Begins reading.now.most (length token.old) (length chunk.old) (whole text) begun.head
-        begun.seat chunk.new token.new
-        (supply S.rest S.failures reader.old) (supply S.rest S.failures reader.new))
-        (HasFailed reading.now.most (length token.old) (length chunk.old) input (whole text)
-        (supply S.rest S.failures reader.old) (supply S.rest S.failures reader.new)) }
-    ensures reads { CountsRead input (S.failures reader.old) (S.failures reader.new)
-        (failure_of result) }
+    ensures begins { BeginsOver S.Source reading.now.most input (length token.old) (length chunk.old)
+        reader.old reader.new chunk.new token.new result }
+    ensures reads { CountsReadOf S.failures input reader.old reader.new result }
     ensures no_write { writes_failed (failure_of result) ≡ 0 }
-    ensures seated { IfOk result
-        (λ begun. IsSeated (length chunk.old) (length token.old) begun.seat × IsNew begun.seat) }
+    ensures seated { IfOk result (λ begun. IsNewOver (length chunk.old) (length token.old) begun.seat) }
 {
     let mut feed = Feed::new(reader, chunk, token, value);
     let head = open_input(reading, input, &mut feed)?;
@@ -139,19 +116,14 @@ fn begin_at<S: Source, B: BuildHasher>(
     windows: &mut Windows<'_>,
 ) -> Result<Begun, Failure>
     requires input { input < length readers.old }
-    requires parts { AreParts
-        (length readers.old) windows.old.chunks.now windows.old.tokens.now windows.old.values.now }
+    requires parts { HasParts (length readers.old) windows.old }
     requires failures { All (λ r. S.failures r < 2 ^ 64 - 1) readers.old }
-    ensures begins { (r : S) → slice_get readers.old input ≡ Some r
-        → BeginsAt (length readers.old) input reading.now.most S.rest S.failures r readers.old readers.new
+    ensures begins { BeginsAmong S.Source reading.now.most input readers.old readers.new
         windows.old windows.new result }
     ensures others { (j : ℕ) → j ≢ input → SameParts (length readers.old) j windows.old windows.new }
     ensures lengths { SameLengths windows.old windows.new }
     ensures no_write { writes_failed (failure_of result) ≡ 0 }
-    ensures seated { IfOk result (λ begun.
-        IsSeated (part_len (length readers.old) windows.old.chunks.now)
-        (part_len (length readers.old) windows.old.tokens.now)
-        begun.seat × IsNew begun.seat) }
+    ensures seated { IfOk result (λ begun. IsNewIn (length readers.old) windows.old begun.seat) }
 {
     let chunk = windows.chunks.len() / readers.len();
     let limit = windows.tokens.len() / readers.len();
@@ -175,8 +147,6 @@ pub(crate) struct Inputs {
 }
 
 impl Inputs {
-    ghost use Rattle.std.specs.Prelude.{◌≡◌, ◌++◌, ◌∷◌, [], IfOk};
-
     /// Adds an input.
     fn push(&mut self, begun: Begun) -> Result<(), AllocError>
         ensures { IfOk result
@@ -197,28 +167,16 @@ pub(crate) fn open_inputs<S: Source, B: BuildHasher>(
     hasher: &B,
 ) -> Result<Inputs, Failure>
     requires some { 0 < length readers.old }
-    requires parts { AreParts
-        (length readers.old) windows.old.chunks.now windows.old.tokens.now windows.old.values.now }
+    requires parts { HasParts (length readers.old) windows.old }
     requires failures { All (λ r. S.failures r < 2 ^ 64 - 1) readers.old }
-    ensures begins { (texts : List (List ℕ)) → map S.rest readers.old ≡ map (λ text. Some text) texts
-        → MatchResult result
-        (λ inputs. HaveBegun (part_len (length readers.old) windows.old.tokens.now)
-        (part_len (length readers.old) windows.old.chunks.now) (length readers.old)
-        S.rest S.failures texts readers.old readers.new inputs.heads.items inputs.seats.items
-        windows.new.chunks.now windows.new.tokens.now)
-        (Stops (part_len (length readers.old) windows.old.tokens.now)
-        (part_len (length readers.old) windows.old.chunks.now) 0 [] texts
-        (map (supply S.rest S.failures) readers.old) (map (supply S.rest S.failures) readers.new)) }
-    ensures reads { CountsReads (map S.failures readers.old) (map S.failures readers.new)
-        (failure_of result) }
+    ensures begins { OpensAll S.Source readers.old readers.new windows.old windows.new result }
+    ensures reads { CountsReadsOf S.failures readers.old readers.new (failure_of result) }
     ensures no_write { writes_failed (failure_of result) ≡ 0 }
     ensures lengths { SameLengths windows.old windows.new }
     ensures many { IfOk result (λ inputs. (length inputs.heads.items ≡ length readers.old)
         × (length inputs.seats.items ≡ length readers.old)) }
     ensures seated { IfOk result (λ inputs.
-        All (λ seat. IsSeated (part_len (length readers.old) windows.old.chunks.now)
-        (part_len (length readers.old) windows.old.tokens.now) seat × IsNew seat)
-        inputs.seats.items) }
+        All (λ seat. IsNewIn (length readers.old) windows.old seat) inputs.seats.items) }
 {
     let mut inputs = Inputs {
         heads: Vec::new(alloc),

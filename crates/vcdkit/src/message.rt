@@ -1,8 +1,7 @@
 //! The lines on the error stream, and the exit statuses. A line begins with the program's name;
 //! where a write of it fails, a prefix of it was written.
 ghost use Rattle.std.specs.Prelude.{◌≡◌, ◌-◌, ◌^◌, ◌<◌, ◌++◌, [], codes, decimal, map, string_bytes};
-ghost use Rattle.vcdkit.specs.Names.{failure_message, failure_status, failures_after, name_at, program_line, Puts, refusal_message, refusal_status, Shows, stop_message, stop_status, Takes, unopened_outcome, use_outcome, Write};
-ghost use Rattle.vcdkit.specs.declared.failure.Failure.TheVariants.{OutOfMemory};
+ghost use Rattle.vcdkit.specs.Names.{failure_message, failure_status, failures_after, name_at, OutOfMemory, program_line, Puts, PutsTo, refusal_message, refusal_status, Shows, ShowsOn, stop_message, stop_status, Takes, unopened_outcome, use_outcome, Write};
 
 use crate::failure::Failure;
 use vcd_body::Stop;
@@ -22,8 +21,7 @@ fn put_line<E: Sink>(err: &mut E, text: &str) -> Result<(), WriteFailed>
 /// Writes `vcdkit: ` and both texts, as one line.
 fn put_both<E: Sink>(err: &mut E, first: &str, second: &str) -> Result<(), WriteFailed>
     requires { (E.device err.old).failures < 2 ^ 64 - 1 }
-    ensures { Puts (E.device err.old) (E.device err.new)
-        (program_line (first.now ++ second.now)) result }
+    ensures { PutsTo E.device err.old err.new (program_line (first.now ++ second.now)) result }
 {
     put(err, b"vcdkit: ")?;
     put(err, first.as_bytes())?;
@@ -60,8 +58,7 @@ fn say<E: Sink>(err: &mut E, text: &str, status: u8) -> u8
 /// passed over.
 fn say_both<E: Sink>(err: &mut E, first: &str, second: &str, status: u8) -> u8
     requires { (E.device err.old).failures < 2 ^ 64 - 1 }
-    ensures line { Shows (E.device err.old) (E.device err.new)
-        (program_line (first.now ++ second.now)) }
+    ensures line { ShowsOn E.device err.old err.new (program_line (first.now ++ second.now)) }
     ensures status { result ≡ status }
 {
     let _ = put_both(err, first, second);
@@ -137,8 +134,7 @@ pub(crate) fn report<E: Sink>(
 /// passed over.
 pub fn write_fault<E: Sink>(err: &mut E) -> u8
     requires { (E.device err.old).failures < 2 ^ 64 - 1 }
-    ensures line { Shows (E.device err.old) (E.device err.new)
-        (stop_message [] [] Write) }
+    ensures line { ShowsOn E.device err.old err.new (stop_message [] [] Write) }
     ensures status { result ≡ stop_status Write }
 {
     report_stop(Stop::Write, &[], &[], err)
@@ -147,8 +143,7 @@ pub fn write_fault<E: Sink>(err: &mut E) -> u8
 /// Says why there is no job, and returns the exit status. A fault of the stream is passed over.
 pub fn use_fault<E: Sink>(fault: UseFault<'_>, err: &mut E) -> u8
     requires { (E.device err.old).failures < 2 ^ 64 - 1 }
-    ensures line { Shows (E.device err.old) (E.device err.new)
-        (use_outcome fault.entry).message }
+    ensures line { ShowsOn E.device err.old err.new (use_outcome fault.entry).message }
     ensures status { result ≡ (use_outcome fault.entry).status }
 {
     match fault {
@@ -166,8 +161,7 @@ pub fn use_fault<E: Sink>(fault: UseFault<'_>, err: &mut E) -> u8
 /// stream is passed over.
 pub fn open_fault<E: Sink>(name: &str, err: &mut E) -> u8
     requires { (E.device err.old).failures < 2 ^ 64 - 1 }
-    ensures line { Shows (E.device err.old) (E.device err.new)
-        (unopened_outcome name.now).message }
+    ensures line { ShowsOn E.device err.old err.new (unopened_outcome name.now).message }
     ensures status { result ≡ (unopened_outcome name.now).status }
 {
     say_both(err, name, ": cannot be opened", 3)

@@ -1,8 +1,6 @@
 //! What is wanted, as a task over the items of a body.
-ghost use Rattle.std.specs.Prelude.{◌≡◌, ◌≤◌, ℕ, IfOk, IfSome, length, true};
-ghost use Rattle.vcdkit.specs.Names.{AreWithinBound, asked, cut_request, HasTicks, Header, is_asked, IsEnough, IsValid, IsViewOf, IsWithin, model_want, request_of, room, Room, RoomSize, task_request};
-ghost use Rattle.vcd_model.specs.Job.{Want as ModelWant};
-ghost use Rattle.vcd_engine.specs.Engine.{request_of as task_request_of};
+ghost use Rattle.std.specs.Prelude.{◌≡◌, IfOk, IfSome, true};
+ghost use Rattle.vcdkit.specs.Names.{AnyRoom, asked, cut_request, HasTicks, Header, is_asked, IsEnough, IsValid, IsViewOf, KeepsBound, model_want, ModelWant, request_of, request_of_task, task_request};
 
 use vcd_engine::Task;
 use vcd_head::{Moment, ticks};
@@ -15,7 +13,7 @@ fn cut_of<'w>(from: Moment, to: Moment, view: HeadView<'_>) -> Result<Task<'w>, 
     requires { is_asked (Want.Cut from to) ≡ true }
     ensures request { (h : Header) → IsViewOf view.entry h
         → request_of h.scale (ModelWant.Cut (asked from) (asked to)) ≡ cut_request result }
-    ensures valid { IfOk result (λ task. IsValid (task_request_of task)) }
+    ensures valid { IfOk result (λ task. IsValid (request_of_task task)) }
 {
     let from = ticks(view, from, true)?;
     let to = ticks(view, to, false)?;
@@ -33,7 +31,7 @@ pub(crate) fn task_of<'w>(want: &'w Want, view: HeadView<'_>) -> Result<Option<T
     requires ticks { HasTicks want.now }
     ensures request { (h : Header) → IsViewOf view.entry h
         → request_of h.scale (model_want want.now) ≡ task_request want.now result }
-    ensures valid { IfOk result (λ task. IfSome task (λ some. IsValid (task_request_of some))) }
+    ensures valid { IfOk result (λ task. IfSome task (λ some. IsValid (request_of_task some))) }
 {
     match want {
         Want::Check => Ok(Some(Task::Check)),
@@ -52,11 +50,8 @@ pub(crate) fn task_of<'w>(want: &'w Want, view: HeadView<'_>) -> Result<Option<T
 /// Returns the room that a task works in over the header that is shown; none where there is no
 /// task.
 pub(crate) fn need_of(task: Option<Task<'_>>, view: HeadView<'_>) -> Need
-    ensures room { (r : Room) → result.values ≤ length r.values.now
-        → result.slots ≤ length r.slots.now → result.slots ≤ length r.shares.now
-        → result.marks ≤ length r.marks.now → IsEnough task.entry view.entry r }
-    ensures bound { (limit chunk : ℕ) (lent : RoomSize) → chunk ≤ 65536
-        → IsWithin lent (room result) → AreWithinBound limit chunk view.entry lent }
+    ensures room { AnyRoom result (IsEnough task.entry view.entry) }
+    ensures bound { KeepsBound view.entry result }
 {
     match task {
         Some(task) => task.need(view),

@@ -1,10 +1,6 @@
 //! A job, from its readers to its output, its message and its status.
-ghost use Rattle.std.specs.Prelude.{◌≡◌, ℕ, ◌+◌, ◌-◌, ◌^◌, ◌<◌, ◌≤◌, List, [], Some, map, length, All, string_bytes, true, false, Option, IfSome};
-ghost use Rattle.vcdkit.specs.Names.{AreWithinBound, chunk_len_of, CountsRead, CountsReads, declarations_allowed, end_message, end_of, end_status, Ends, EndsAll, failure_of, Follows, HasGiven, HasNotFailed, HasRun, Header, Input, is_asked, is_header_over, is_merge, is_settled, is_settled_by, IsAfter, IsEnough, IsOfJob, IsValid, IsViewOf, limit_of, merge_end, model_want, names_asked, reads_failed, request_for, request_of, room_size, SameLoans, settled_for, Shows, source_of, supply, supply_of, Token, whole, writes_failed};
-ghost use Rattle.vcd_model.specs.Job.{Want as ModelWant};
-ghost use Rattle.vcd_body.specs.Answer.{writes_failed as stop_writes};
-ghost use Rattle.vcd_engine.specs.Engine.{request_of as request_of_task};
-ghost use Rattle.vcdkit.specs.declared.failure.Failure.{Failure};
+ghost use Rattle.std.specs.Prelude.{◌≡◌, ◌+◌, ◌-◌, ◌^◌, ◌<◌, ◌≤◌, map, length, All, string_bytes, true, false, IfSome};
+ghost use Rattle.vcdkit.specs.Names.{AreWithinBound, chunk_len_of, CountsReadOf, CountsReadsOf, CountsWrites, Does, end_of, EndsSo, FailOnce, failure_of, HasNotFailed, InputEnds, is_asked, is_merge, IsEnough, IsValid, JobEnds, limit_of, merge_end, MergeEnds, names_asked, reads_failed, request_for, request_of_task, room_size, RunsJob, SameLoans, source_of, stop_writes, WantEnds, writes_failed};
 
 use crate::failure::Failure;
 use crate::inputs::{MOST_DECLARATIONS, Reading, open_input, open_inputs, windows_for};
@@ -55,15 +51,11 @@ fn run_in<S: Source, W: Sink>(
     requires room { IsEnough task view room.old }
     requires bound { AreWithinBound (limit_of feed.old) (chunk_len_of feed.old) view
         (room_size room.old) }
-    ensures gives { (h : Header) (i : Input) (front : List Token) (name : List ℕ)
-        → IsViewOf view.entry h → HasGiven i front feed.old
-        → Follows (request_for task.entry) (limit_of feed.old) (chunk_len_of feed.old)
-        i front h name (supply_of feed.old) (supply_of feed.new)
+    ensures gives { Does (request_for task.entry) view.entry feed.old feed.new
         (W.device out.old) (W.device out.new) result }
     ensures reads { S.failures (source_of feed.new)
         ≡ S.failures (source_of feed.old) + reads_failed result }
-    ensures writes { (W.device out.new).failures
-        ≡ (W.device out.old).failures + stop_writes result }
+    ensures writes { CountsWrites W.device out.old out.new (stop_writes result) }
     ensures loans { SameLoans feed.old feed.new }
 {
     match task {
@@ -87,17 +79,9 @@ fn run_want<S: Source, W: Sink>(
     requires out_failures { (W.device out.old).failures < 2 ^ 64 - 1 }
     requires open { HasNotFailed feed.old }
     requires chunk { chunk_len_of feed.old ≤ 65536 }
-    ensures ends { (h : Header) (i : Input) (front : List Token) (name : List ℕ)
-        → IsViewOf view.entry h → HasGiven i front feed.old
-        → Ends (names_asked want.old)
-        (IsAfter (model_want want.old) (limit_of feed.old) front h name)
-        (limit_of feed.old) (chunk_len_of feed.old) i name front
-        (settled_for result (is_settled_by (request_of h.scale (model_want want.old)) h) (λ _. true))
-        (supply_of feed.old) (supply_of feed.new) (W.device out.old) (W.device out.new) result }
-    ensures reads { CountsRead 0 (S.failures (source_of feed.old)) (S.failures (source_of feed.new))
-        (failure_of result) }
-    ensures writes { (W.device out.new).failures
-        ≡ (W.device out.old).failures + writes_failed (failure_of result) }
+    ensures ends { WantEnds W.Sink view.entry want.old feed.old feed.new out.old out.new result }
+    ensures reads { CountsReadOf S.failures 0 (source_of feed.old) (source_of feed.new) result }
+    ensures writes { CountsWrites W.device out.old out.new (writes_failed (failure_of result)) }
     ensures loans { SameLoans feed.old feed.new }
     ensures names { names_asked want.new ≡ names_asked want.old }
     ensures asked { is_asked want.new ≡ true }
@@ -129,17 +113,9 @@ fn run_input<S: Source, W: Sink, B: BuildHasher>(
     requires one { is_merge job.old.task ≡ false }
     requires reader_failures { S.failures reader.old < 2 ^ 64 - 1 }
     requires out_failures { (W.device out.old).failures < 2 ^ 64 - 1 }
-    ensures ends { (text name : List ℕ) → S.rest reader.old ≡ Some text
-        → Ends (names_asked job.old.task) (IsOfJob (model_want job.old.task) job.old.limit name)
-        job.old.limit job.old.chunk (whole text) name []
-        (settled_for result (is_settled (model_want job.old.task) declarations_allowed)
-        (is_header_over declarations_allowed))
-        (supply S.rest S.failures reader.old) (supply S.rest S.failures reader.new)
-        (W.device out.old) (W.device out.new) result }
-    ensures reads { CountsRead 0 (S.failures reader.old) (S.failures reader.new)
-        (failure_of result) }
-    ensures writes { (W.device out.new).failures
-        ≡ (W.device out.old).failures + writes_failed (failure_of result) }
+    ensures ends { InputEnds S.Source W.Sink job.old reader.old reader.new out.old out.new result }
+    ensures reads { CountsReadOf S.failures 0 reader.old reader.new result }
+    ensures writes { CountsWrites W.device out.old out.new (writes_failed (failure_of result)) }
     ensures names { names_asked job.new.task ≡ names_asked job.old.task }
 {
     let mut memory = windows_for(alloc, job, 1)?;
@@ -171,14 +147,9 @@ fn run_merge<S: Source, W: Sink, B: BuildHasher>(
     requires few { length readers.old ≤ 64 }
     requires reader_failures { All (λ r. S.failures r < 2 ^ 64 - 1) readers.old }
     requires out_failures { (W.device out.old).failures < 2 ^ 64 - 1 }
-    ensures ends { (texts names : List (List ℕ)) → map S.rest readers.old ≡ map (λ text. Some text) texts
-        → EndsAll ModelWant.Merge [] job.now.limit job.now.chunk names texts
-        (map (supply S.rest S.failures) readers.old) (map (supply S.rest S.failures) readers.new)
-        (W.device out.old) (W.device out.new) result }
-    ensures reads { CountsReads (map S.failures readers.old) (map S.failures readers.new)
-        (failure_of result) }
-    ensures writes { (W.device out.new).failures
-        ≡ (W.device out.old).failures + writes_failed (failure_of result) }
+    ensures ends { MergeEnds S.Source W.Sink job.now readers.old readers.new out.old out.new result }
+    ensures reads { CountsReadsOf S.failures readers.old readers.new (failure_of result) }
+    ensures writes { CountsWrites W.device out.old out.new (writes_failed (failure_of result)) }
 {
     let mut memory = windows_for(alloc, job, readers.len())?;
     let mut windows = Windows {
@@ -203,16 +174,9 @@ fn run_readers<S: Source, W: Sink, B: BuildHasher>(
     requires alone { is_merge job.old.task ≡ false → length readers.old ≡ 1 }
     requires reader_failures { All (λ r. S.failures r < 2 ^ 64 - 1) readers.old }
     requires out_failures { (W.device out.old).failures < 2 ^ 64 - 1 }
-    ensures ends { (texts names : List (List ℕ)) → map S.rest readers.old ≡ map (λ text. Some text) texts
-        → length names ≡ length readers.old
-        → EndsAll (model_want job.old.task) (names_asked job.old.task) job.old.limit job.old.chunk
-        names texts
-        (map (supply S.rest S.failures) readers.old) (map (supply S.rest S.failures) readers.new)
-        (W.device out.old) (W.device out.new) result }
-    ensures reads { CountsReads (map S.failures readers.old) (map S.failures readers.new)
-        (failure_of result) }
-    ensures writes { (W.device out.new).failures
-        ≡ (W.device out.old).failures + writes_failed (failure_of result) }
+    ensures ends { JobEnds S.Source W.Sink job.old readers.old readers.new out.old out.new result }
+    ensures reads { CountsReadsOf S.failures readers.old readers.new (failure_of result) }
+    ensures writes { CountsWrites W.device out.old out.new (writes_failed (failure_of result)) }
     ensures names { names_asked job.new.task ≡ names_asked job.old.task }
 {
     if job.task.is_merge() {
@@ -249,24 +213,17 @@ pub fn run_with_hasher<S: Source, W: Sink, E: Sink, B: BuildHasher>(
     requires reader_failures { All (λ r. S.failures r < 2 ^ 64 - 1) readers.old }
     requires out_failures { (W.device out.old).failures < 2 ^ 64 - 1 }
     requires err_failures { (E.device err.old).failures < 2 ^ 64 - 1 }
-    ensures failures { ((W.device out.new).failures ≤ (W.device out.old).failures + 1)
-        × ((E.device err.new).failures ≤ (E.device err.old).failures + 1) }
+    ensures failures { FailOnce W.Sink E.Sink out.old out.new err.old err.new }
 
     // It ends done or failed, over any readers and writers: for a failed read only where one of the
     // reader that is named failed and of no other, and likewise for a write.
-    ensures ends { (why : Option Failure)
-        × CountsReads (map S.failures readers.old) (map S.failures readers.new) why
-        × ((W.device out.new).failures ≡ (W.device out.old).failures + writes_failed why)
-        × (result ≡ end_status why)
-        × Shows (E.device err.old) (E.device err.new)
-        (end_message (map string_bytes names.now) (names_asked job.task) why) }
+    ensures ends { EndsSo S.Source W.Sink E.Sink job (map string_bytes names.now)
+        readers.old readers.new out.old out.new err.old err.new result }
 
     // Over readers whose bytes are known: it is the outcome of the definitions, and no more was
     // read than what settles it.
-    ensures gives { (texts : List (List ℕ)) → map S.rest readers.old ≡ map (λ text. Some text) texts
-        → HasRun (model_want job.task) job.limit job.chunk (map string_bytes names.now) texts
-        (map (supply S.rest S.failures) readers.old) (map (supply S.rest S.failures) readers.new)
-        (W.device out.old) (W.device out.new) (E.device err.old) (E.device err.new) result }
+    ensures gives { RunsJob S.Source W.Sink E.Sink job (map string_bytes names.now)
+        readers.old readers.new out.old out.new err.old err.new result }
 {
     match run_readers(alloc, &mut job, readers, out, hasher) {
         Ok(_) => 0,
@@ -300,24 +257,17 @@ pub fn run<S: Source, W: Sink, E: Sink>(
     requires reader_failures { All (λ r. S.failures r < 2 ^ 64 - 1) readers.old }
     requires out_failures { (W.device out.old).failures < 2 ^ 64 - 1 }
     requires err_failures { (E.device err.old).failures < 2 ^ 64 - 1 }
-    ensures failures { ((W.device out.new).failures ≤ (W.device out.old).failures + 1)
-        × ((E.device err.new).failures ≤ (E.device err.old).failures + 1) }
+    ensures failures { FailOnce W.Sink E.Sink out.old out.new err.old err.new }
 
     // It ends done or failed, over any readers and writers: for a failed read only where one of the
     // reader that is named failed and of no other, and likewise for a write.
-    ensures ends { (why : Option Failure)
-        × CountsReads (map S.failures readers.old) (map S.failures readers.new) why
-        × ((W.device out.new).failures ≡ (W.device out.old).failures + writes_failed why)
-        × (result ≡ end_status why)
-        × Shows (E.device err.old) (E.device err.new)
-        (end_message (map string_bytes names.now) (names_asked job.task) why) }
+    ensures ends { EndsSo S.Source W.Sink E.Sink job (map string_bytes names.now)
+        readers.old readers.new out.old out.new err.old err.new result }
 
     // Over readers whose bytes are known: it is the outcome of the definitions, and no more was
     // read than what settles it.
-    ensures gives { (texts : List (List ℕ)) → map S.rest readers.old ≡ map (λ text. Some text) texts
-        → HasRun (model_want job.task) job.limit job.chunk (map string_bytes names.now) texts
-        (map (supply S.rest S.failures) readers.old) (map (supply S.rest S.failures) readers.new)
-        (W.device out.old) (W.device out.new) (E.device err.old) (E.device err.new) result }
+    ensures gives { RunsJob S.Source W.Sink E.Sink job (map string_bytes names.now)
+        readers.old readers.new out.old out.new err.old err.new result }
 {
     let hasher: BuildHasherDefault<FoldHasher> = BuildHasherDefault::new();
     run_with_hasher(alloc, job, names, readers, out, err, &hasher)
