@@ -1,9 +1,12 @@
 -- What the clauses of this crate speak of, under one path.
+pub use Rattle.std.specs.Io.Buffered.{writer_buffer}
+pub use Rattle.std.specs.Io.KnownBytes.{Keeps}
 pub use Rattle.vcd_text.specs.Watch.{failed_calls}
-pub use Rattle.vcd_words.specs.Job.{model_want}
-pub use Rattle.vcd_words.specs.Words.{job_asked, words_used}
-pub use Rattle.vcd_program.specs.Asked.{inputs_asked, inputs_for}
+pub use Rattle.vcd_words.specs.Words.{AsksFor}
+pub use Rattle.vcd_program.specs.Asked.{inputs_for}
 pub use Rattle.vcd_program.specs.Memory.{bytes_in, bytes_named, IsLeftBy, noted, OpensIn}
 pub use Rattle.vcd_program.specs.Opens.{called, Opens, OpensOne, StopsAmong, StopsAt, text_of}
-pub use Rattle.vcd_program.specs.Runs.{Answers, Finishes, Runs, RunsOn}
+pub use Rattle.vcd_program.specs.Runs.{Answers, Finishes, RunsMatches, RunsOn, RunsWords}
+pub use Rattle.vcd_program.specs.declared.host.OpenFault.{OpenFault}
+pub use Rattle.vcd_program.specs.declared.opened.Stop.{Stop}
 pub use Rattle.clap.specs.Words.{kind_of}

@@ -11,6 +11,8 @@ use Rattle.vcd_model.specs.Settled.{is_header_over, is_settled}
 use Rattle.vcd_model.specs.Words.{Job, Words, UseFault, command_outcome, job_of}
 use Rattle.vcd_model.specs.Job.{Want}
 use Rattle.vcd_text.specs.Device.{Device, Supply, Writes, supply}
+use Rattle.vcd_text.specs.declared.device.Sink.{Ghosts as Sinks}
+use Rattle.vcd_text.specs.declared.device.Source.{Ghosts}
 use Rattle.vcd_words.specs.Words.{parse_status_of, program_app, words_used}
 use Rattle.vcdkit.specs.Failure.{CountsReads, writes_failed}
 use Rattle.vcdkit.specs.Message.{Shows, end_message, end_status, unopened_outcome}
@@ -84,6 +86,14 @@ pub data RunsOn {H I : Type 0} (words : List Text) (opens : H → Option Text �
   -- they have no matches, for the reason that the command line has for them: no input is opened
   NoMatches : (why : ErrorKind) (is : (why ≡ kind.OutOfMemory) ⊎ IsAmong why (fault_of program_app words)) (only : takes program_app words ≡ true → why ≡ kind.OutOfMemory) (same : host' ≡ host)
       (answers : Answers why out out' err err' status) → RunsOn words opens rest failures host host' out out' err err' status
+
+-- ---- the same, by what inputs, the output and the error stream tell of themselves
+
+abbrev pub RunsMatches : {H I W E : Type 0} → (H → Option Text → Result I OpenFault → H → Type 0) → Ghosts I → Sinks W → Sinks E → ArgMatches → (host host' : H) → (out out' : W) → (err err' : E) → ℕ → Type 0
+RunsMatches opens g w e matches host host' out out' err err' status = Runs opens g.rest g.failures (words_used matches) (inputs_asked matches) host host' (w.device out) (w.device out') (e.device err) (e.device err') status
+
+abbrev pub RunsWords : {H I W E : Type 0} → List Text → (H → Option Text → Result I OpenFault → H → Type 0) → Ghosts I → Sinks W → Sinks E → (host host' : H) → (out out' : W) → (err err' : E) → ℕ → Type 0
+RunsWords words opens g w e host host' out out' err err' status = RunsOn words opens g.rest g.failures host host' (w.device out) (w.device out') (e.device err) (e.device err') status
 
 -- ---- what is left in the end
 

@@ -1,6 +1,6 @@
 //! From the words of the command line to the exit status.
-ghost use Rattle.std.specs.Prelude.{◌≡◌, ◌-◌, ◌^◌, ◌<◌, ◌≤◌, ◌+◌, map, string_bytes, Ok};
-ghost use Rattle.vcd_program.specs.Names.{Answers, Finishes, inputs_asked, job_asked, kind_of, model_want, Runs, RunsOn, words_used};
+ghost use Rattle.std.specs.Prelude.{◌≡◌, ◌-◌, ◌^◌, ◌<◌, ◌≤◌, ◌+◌, map, string_bytes};
+ghost use Rattle.vcd_program.specs.Names.{Answers, AsksFor, Finishes, kind_of, RunsMatches, RunsOn, RunsWords};
 
 use crate::asked::inputs_of;
 use crate::host::{Host, Output};
@@ -26,11 +26,9 @@ fn run_job<H: Host, W: Sink, E: Sink, B: BuildHasher>(
     requires out_failures { (W.device out.old).failures < 2 ^ 64 - 1 }
     requires err_failures { (E.device err.old).failures < 2 ^ 64 - 1 }
     requires chunk { job.chunk ≡ 65536 }
-    requires job { job_asked matches.now
-        ≡ Ok (record { want = model_want job.task; limit = job.limit }) }
-    ensures runs { Runs H.opens H.Input.rest H.Input.failures
-        (words_used matches.now) (inputs_asked matches.now) host.old host.new
-        (W.device out.old) (W.device out.new) (E.device err.old) (E.device err.new) result }
+    requires job { AsksFor matches.now job.task job.limit }
+    ensures runs { RunsMatches H.opens H.Input.Source W.Sink E.Sink matches.now
+        host.old host.new out.old out.new err.old err.new result }
     ensures failures { (E.device err.new).failures ≤ (E.device err.old).failures + 1 }
 {
     let Ok(asked) = inputs_of(alloc, job.task.is_merge(), matches) else {
@@ -63,9 +61,8 @@ fn run_matches<H: Host, W: Sink, E: Sink, B: BuildHasher>(
 ) -> u8
     requires out_failures { (W.device out.old).failures < 2 ^ 64 - 1 }
     requires err_failures { (E.device err.old).failures < 2 ^ 64 - 1 }
-    ensures runs { Runs H.opens H.Input.rest H.Input.failures
-        (words_used matches.now) (inputs_asked matches.now) host.old host.new
-        (W.device out.old) (W.device out.new) (E.device err.old) (E.device err.new) result }
+    ensures runs { RunsMatches H.opens H.Input.Source W.Sink E.Sink matches.now
+        host.old host.new out.old out.new err.old err.new result }
     ensures failures { (E.device err.new).failures ≤ (E.device err.old).failures + 1 }
 {
     match job_of(alloc, matches) {
@@ -111,9 +108,8 @@ fn run_words<H: Host, W: Sink, E: Sink, B: BuildHasher>(
 ) -> u8
     requires out_failures { (W.device out.old).failures < 2 ^ 64 - 1 }
     requires err_failures { (E.device err.old).failures < 2 ^ 64 - 1 }
-    ensures runs { RunsOn (map string_bytes words.now) H.opens H.Input.rest H.Input.failures
-        host.old host.new
-        (W.device out.old) (W.device out.new) (E.device err.old) (E.device err.new) result }
+    ensures runs { RunsWords (map string_bytes words.now) H.opens H.Input.Source W.Sink E.Sink
+        host.old host.new out.old out.new err.old err.new result }
     ensures failures { (E.device err.new).failures ≤ (E.device err.old).failures + 1 }
 {
     let Ok(command) = command_of(alloc) else {
@@ -139,9 +135,8 @@ pub fn run_program<H: Host, W: Output, E: Sink, B: BuildHasher>(
 ) -> u8
     requires out_failures { (W.device out.old).failures < 2 ^ 64 - 1 }
     requires err_failures { (E.device err.old).failures < 2 ^ 64 - 2 }
-    ensures { Finishes W.device W.flushes
-        (λ out_now err_now status. RunsOn (map string_bytes words.now)
-        H.opens H.Input.rest H.Input.failures host.old host.new
+    ensures { Finishes W.device W.flushes (λ out_now err_now status. RunsOn
+        (map string_bytes words.now) H.opens H.Input.rest H.Input.failures host.old host.new
         (W.device out.old) out_now (E.device err.old) err_now status)
         out.new (E.device err.new) result }
 {

@@ -1,7 +1,6 @@
 //! What a program is run in: where its inputs are opened, and where its output goes.
-ghost use Rattle.std.specs.Prelude.{◌≡◌, ℕ, Bool, List, Option, IfOk, is_ok, option_map, Result};
-ghost use Rattle.std.specs.Io.KnownBytes.{Keeps};
-ghost use Rattle.vcd_program.specs.declared.host.OpenFault.{OpenFault};
+ghost use Rattle.std.specs.Prelude.{◌≡◌, ℕ, Bool, List, Option, IfOk, is_ok, option_map, Result, true, []};
+ghost use Rattle.vcd_program.specs.Names.{Keeps, OpenFault, writer_buffer};
 
 use std::io::{BufWriter, Write};
 use vcd_text::{Sink, Source, Watch, WriteFailed};
@@ -43,9 +42,6 @@ pub trait Output: Sink {
 }
 
 impl<W: Write + Drop> Output for Watch<BufWriter<W>> {
-    ghost use Rattle.std.specs.Prelude.{◌≡◌, true, []};
-    ghost use Rattle.std.specs.Io.Buffered.{writer_buffer};
-
     // Where it is done, no byte is in the buffer.
     ghost flushes = { λ _ done new. done ≡ true → writer_buffer new.device ≡ [] };
 

@@ -1,6 +1,6 @@
 //! A host in memory: files by name and standard input, as bytes.
-ghost use Rattle.std.specs.Prelude.{◌≡◌, IfOk, OnOk, map, option_map, string_bytes};
-ghost use Rattle.vcd_program.specs.Names.{bytes_named, IsLeftBy};
+ghost use Rattle.std.specs.Prelude.{◌≡◌, IfOk, OnOk, map, option_map, string_bytes, Some, ◌++◌, ◌∷◌, [], true};
+ghost use Rattle.vcd_program.specs.Names.{bytes_in, bytes_named, IsLeftBy, noted, OpensIn, text_of};
 
 use crate::command_line::run_program;
 use crate::host::{Host, OpenFault, Output};
@@ -25,8 +25,6 @@ pub struct Bytes<'a> {
 }
 
 impl<'a> Source for Bytes<'a> {
-    ghost use Rattle.std.specs.Prelude.{Some};
-
     ghost rest = { λ bytes. Some bytes.rest.now };
 
     ghost failures = { λ _. 0 };
@@ -57,8 +55,7 @@ pub struct Memory<'a> {
 
 /// Copies a name, where there is one.
 fn copied(alloc: Global, name: Option<&str>) -> Result<Option<String>, AllocError>
-    ensures { IfOk result (λ copy. option_map string_bytes copy
-        ≡ option_map (λ text. text.now) name.entry) }
+    ensures { IfOk result (λ copy. option_map string_bytes copy ≡ text_of name.entry) }
 {
     match name {
         Some(name) => Ok(Some(String::from_str(alloc, name)?)),
@@ -68,7 +65,7 @@ fn copied(alloc: Global, name: Option<&str>) -> Result<Option<String>, AllocErro
 
 /// Returns the bytes of the first file of this name, if there is one.
 fn bytes_named<'a>(files: &[MemoryFile<'a>], name: &str) -> Option<&'a [u8]>
-    ensures { option_map (λ bytes. bytes.now) result ≡ bytes_named files.now name.now }
+    ensures { text_of result ≡ bytes_named files.now name.now }
 {
     for file in files {
         if file.name == name {
@@ -79,15 +76,11 @@ fn bytes_named<'a>(files: &[MemoryFile<'a>], name: &str) -> Option<&'a [u8]>
 }
 
 impl<'a> Memory<'a> {
-    ghost use Rattle.std.specs.Prelude.{◌++◌, ◌∷◌, []};
-    ghost use Rattle.vcd_program.specs.Names.{bytes_in, noted};
-
     /// Notes that the input of this name is opened.
     fn note(&mut self, name: Option<&str>) -> Result<(), AllocError>
         ensures files { self.new.files ≡ self.old.files }
         ensures input { self.new.input ≡ self.old.input }
-        ensures noted { OnOk result (noted self.new
-            ≡ noted self.old ++ option_map (λ text. text.now) name.entry ∷ []) }
+        ensures noted { OnOk result (noted self.new ≡ noted self.old ++ text_of name.entry ∷ []) }
     {
         let alloc = *self.opened.allocator();
         Ok(self.opened.push(copied(alloc, name)?)?)
@@ -95,8 +88,7 @@ impl<'a> Memory<'a> {
 
     /// Returns the bytes of the input of this name, if there is one.
     fn bytes_of(&self, name: Option<&str>) -> Option<&'a [u8]>
-        ensures { option_map (λ bytes. bytes.now) result
-            ≡ bytes_in self.now (option_map (λ text. text.now) name.entry) }
+        ensures { text_of result ≡ bytes_in self.now (text_of name.entry) }
     {
         match name {
             Some(name) => bytes_named(self.files, name),
@@ -106,8 +98,6 @@ impl<'a> Memory<'a> {
 }
 
 impl<'a> Host for Memory<'a> {
-    ghost use Rattle.vcd_program.specs.Names.{OpensIn};
-
     type Input = Bytes<'a>;
 
     ghost opens = { λ old name result new. OpensIn old name result new };
@@ -125,8 +115,6 @@ impl<'a> Host for Memory<'a> {
 
 /// It keeps nothing in a buffer.
 impl Output for Watch<Vec<u8>> {
-    ghost use Rattle.std.specs.Prelude.{◌≡◌, true};
-
     ghost flushes = { λ old done new. (done ≡ true) × (new ≡ old) };
 
     fn flush(&mut self) -> Result<(), WriteFailed> {

@@ -1,6 +1,6 @@
 //! Inputs that are opened one by one.
 ghost use Rattle.std.specs.Prelude.{◌≡◌, ◌++◌, ◌∷◌, [], All, IfErr, IfOk, OnOk, map, string_bytes};
-ghost use Rattle.vcd_program.specs.Names.{called, Opens, OpensOne, StopsAmong, StopsAt, text_of};
+ghost use Rattle.vcd_program.specs.Names.{called, Opens, OpensOne, Stop, StopsAmong, StopsAt, text_of};
 
 use crate::host::{Host, OpenFault};
 use std::alloc::{AllocError, Global};
@@ -26,9 +26,6 @@ pub(crate) struct Opened<I: Drop> {
 }
 
 impl<I: Drop> Opened<I> {
-    ghost use Rattle.std.specs.Prelude.{◌≡◌, ◌++◌, ◌∷◌, [], OnOk, map, string_bytes};
-    ghost use Rattle.vcd_program.specs.Names.{called, text_of};
-
     /// Adds an input.
     fn push(&mut self, alloc: Global, name: Option<&str>, reader: I) -> Result<(), AllocError>
         ensures readers { OnOk result (self.new.readers.items
@@ -51,9 +48,6 @@ pub(crate) enum Stop<'a> {
 }
 
 impl<'a> From<AllocError> for Stop<'a> {
-    ghost use Rattle.std.specs.Prelude.{◌≡◌};
-    ghost use Rattle.vcd_program.specs.declared.opened.Stop.{Stop};
-
     ghost from_gives = { λ _ stop. stop ≡ Stop.OutOfMemory };
 
     fn from(_error: AllocError) -> Stop<'a> {

@@ -9,6 +9,8 @@ use Rattle.clap.specs.declared.error.kind.ErrorKind.{ErrorKind}
 use Rattle.clap.specs.declared.error.kind.ErrorKind.TheVariants as kind
 use Rattle.vcd_model.specs.Bytes.{is_empty}
 use Rattle.vcd_model.specs.Words as model
+use Rattle.vcd_words.specs.Job.{model_want}
+use Rattle.vcd_words.specs.declared.job.Want.{Want}
 use Rattle.vcd_words.specs.declared.words.Words.{Words}
 use Rattle.vcd_words.specs.declared.words.Words.TheVariants as words
 use Rattle.vcd_words.specs.declared.job.UseFault.{UseFault}
@@ -133,9 +135,20 @@ words_used matches = option_map (λ command. record { command = command; limit =
 abbrev pub job_asked : ArgMatches → Result model.Job model.UseFault
 job_asked matches = model.job_of (words_used matches)
 
+-- they ask for this, with this token limit
+abbrev pub AsksFor : ArgMatches → Want → ℕ → Type 0
+AsksFor matches want limit = job_asked matches ≡ Ok (record { want = model_want want; limit = limit })
+
 -- borrowed names, where there are some
 abbrev pub some_names : Option (Bor (List (Bor Text))) → List Text
 some_names names = unwrap_or (option_map (λ some. map (λ name. name.now) some.now) names) []
+
+-- a borrowed text, and borrowed texts
+abbrev pub text_of : Option (Bor Text) → Option Text
+text_of word = option_map (λ text. text.now) word
+
+abbrev pub texts_of : Option (Bor (List (Bor Text))) → Option (List Text)
+texts_of words = option_map (λ words. map (λ word. word.now) words.now) words
 
 -- the command of borrowed words
 abbrev pub words_command : Words → model.Command

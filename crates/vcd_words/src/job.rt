@@ -1,9 +1,6 @@
 //! A job: what is done, and how its input is read; and why there is none.
-ghost use Rattle.std.specs.Prelude.{◌≡◌, ◌≤◌, IfErr, IfOk, Some, None, true, cond, map, option_map, string_bytes};
-ghost use Rattle.vcd_model.specs.Bytes.{decimal_value};
-ghost use Rattle.vcd_model.specs.Words.{is_limit, limit_of};
-ghost use Rattle.vcd_words.specs.Job.{is_asked, model_want};
-ghost use Rattle.vcd_words.specs.Words.{job_asked, IsFaultIn, IsFaultOf};
+ghost use Rattle.std.specs.Prelude.{◌≡◌, ◌≤◌, IfErr, IfOk, MatchResult, OnOk, Some, None, true, cond, map, string_bytes};
+ghost use Rattle.vcd_words.specs.Names.{AsksFor, decimal_value, HasTicks, Header, is_asked, is_limit, is_merge, IsFaultIn, IsFaultOf, IsViewOf, job_asked, limit_of, model_refusal, model_want, names_asked, request_of, text_of, UseFault};
 
 use crate::moment_word::number_of;
 use crate::refusal::Refusal;
@@ -37,9 +34,6 @@ pub enum Want {
 }
 
 impl Want {
-    ghost use Rattle.std.specs.Prelude.{MatchResult, OnOk, true};
-    ghost use Rattle.vcd_words.specs.Names.{HasTicks, Header, is_asked, is_merge, IsViewOf, model_refusal, model_want, names_asked, request_of};
-
     /// Writes the times of a sample in ticks of the header that is shown over their numbers: it is
     /// the same that is wanted. Where they are refused it says why, and what they are then is not
     /// said.
@@ -116,8 +110,6 @@ pub enum UseFault<'a> {
 }
 
 impl<'a> From<AllocError> for UseFault<'a> {
-    ghost use Rattle.vcd_words.specs.declared.job.UseFault.{UseFault};
-
     ghost from_gives = { λ _ fault. fault ≡ UseFault.OutOfMemory };
 
     fn from(_error: AllocError) -> UseFault<'a> {
@@ -149,11 +141,9 @@ fn limit_in(word: &str) -> Option<usize>
 
 /// Returns the token limit that is asked for by this word, or by none.
 fn limit_of<'a>(word: Option<&'a str>) -> Result<usize, UseFault<'a>>
-    ensures limit { IfOk result
-        (λ limit. limit_of (option_map (λ text. text.now) word.entry) ≡ Ok limit) }
+    ensures limit { IfOk result (λ limit. limit_of (text_of word.entry) ≡ Ok limit) }
     ensures range { IfOk result (λ limit. (64 ≤ limit) × (limit ≤ 16777216)) }
-    ensures fault { IfErr result (λ fault.
-        IsFaultIn fault (limit_of (option_map (λ text. text.now) word.entry))) }
+    ensures fault { IfErr result (λ fault. IsFaultIn fault (limit_of (text_of word.entry))) }
 {
     match word {
         None => Ok(DEFAULT_LIMIT),
@@ -164,8 +154,7 @@ fn limit_of<'a>(word: Option<&'a str>) -> Result<usize, UseFault<'a>>
 /// Returns the job that the matches of the command ask for. Memory is taken for its names, once
 /// they are known to ask for a job.
 pub fn job_of<'a>(alloc: Global, matches: &ArgMatches<'a>) -> Result<Job, UseFault<'a>>
-    ensures job { IfOk result (λ job. job_asked matches.now
-        ≡ Ok (record { want = model_want job.task; limit = job.limit })) }
+    ensures job { IfOk result (λ job. AsksFor matches.now job.task job.limit) }
     ensures chunk { IfOk result (λ job. job.chunk ≡ 65536) }
     ensures fault { IfErr result (λ fault. IsFaultOf fault (job_asked matches.now)) }
 {

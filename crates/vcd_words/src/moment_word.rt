@@ -1,12 +1,7 @@
 //! Words that are numbers and times: the times after `--from` and `--to`, and those between the
 //! commas of `--at`.
-ghost use Rattle.std.specs.Prelude.{◌≡◌, ℕ, List, None, OnOk, true, Some, IfErr, IfOk, cond, filter_map, length, map, option_map};
-ghost use Rattle.std.specs.Char.{is_ascii_digit};
-ghost use Rattle.std.specs.List.{take_while};
-ghost use Rattle.vcd_words.specs.Names.{asked, decimal_value, is_asked, IsFaultIn, IsFaultOf, model_want, parts, some_names};
-ghost use Rattle.vcd_model.specs.Job as model_job;
-ghost use Rattle.vcd_model.specs.Ticks as model_ticks;
-ghost use Rattle.vcd_model.specs.Words as model;
+ghost use Rattle.std.specs.Prelude.{◌≡◌, ◌∷◌, ◌++◌, [], ℕ, List, None, OnOk, true, Some, IfErr, IfOk, cond, filter_map, length, map, option_map};
+ghost use Rattle.vcd_words.specs.Names.{asked, cut_of, decimal_value, is_ascii_digit, is_asked, is_number, IsFaultIn, IsFaultOf, IsOrderOf, model_want, ModelMoment, moment_of, parts, sample_of, some_names, take_while, time_of, times_of, Want as ModelWant};
 
 use crate::job::{UseFault, Want};
 use crate::words::copied_some;
@@ -19,8 +14,7 @@ const MOST_DIGITS: usize = 20;
 
 /// Returns the number that 1 to 20 digits are, if it is below 2^64.
 pub(crate) fn number_of(digits: &[u8]) -> Option<u64>
-    ensures { result ≡ cond (model_job.is_number digits.now)
-        (Some (decimal_value digits.now)) None }
+    ensures { result ≡ cond (is_number digits.now) (Some (decimal_value digits.now)) None }
 {
     if digits.len() > MOST_DIGITS {
         return None;
@@ -38,7 +32,7 @@ fn digits_before(word: &[u8]) -> usize
 /// Returns the time that a word is, if it is one: 1 to 20 digits with a value below 2^64, and then
 /// nothing or a unit, in lower case.
 pub(crate) fn moment_of(word: &str) -> Option<Moment>
-    ensures { option_map asked result ≡ model_job.moment_of word.now }
+    ensures { option_map asked result ≡ moment_of word.now }
 {
     let bytes = word.as_bytes();
     let (digits, unit) = bytes.split_at(digits_before(bytes));
@@ -47,8 +41,8 @@ pub(crate) fn moment_of(word: &str) -> Option<Moment>
 
 /// Returns the time that a word is, or that it is none.
 pub(crate) fn time_of<'a>(word: &'a str) -> Result<Moment, UseFault<'a>>
-    ensures time { IfOk result (λ moment. model.time_of word.entry.now ≡ Ok (asked moment)) }
-    ensures fault { IfErr result (λ fault. IsFaultIn fault (model.time_of word.entry.now)) }
+    ensures time { IfOk result (λ moment. time_of word.entry.now ≡ Ok (asked moment)) }
+    ensures fault { IfErr result (λ fault. IsFaultIn fault (time_of word.entry.now)) }
 {
     moment_of(word).ok_or(UseFault::BadTime(word))
 }
@@ -58,11 +52,10 @@ pub(crate) fn time_of<'a>(word: &'a str) -> Result<Moment, UseFault<'a>>
 /// known.
 pub(crate) fn cut_of<'a>(from: &'a str, to: &'a str) -> Result<Want, UseFault<'a>>
     ensures want { IfOk result (λ want.
-        model.cut_of (model.time_of from.entry.now) (model.time_of to.entry.now)
-        ≡ Ok (model_want want)) }
+        cut_of (time_of from.entry.now) (time_of to.entry.now) ≡ Ok (model_want want)) }
     ensures asked { IfOk result (λ want. is_asked want ≡ true) }
     ensures fault { IfErr result (λ fault. IsFaultIn fault
-        (model.cut_of (model.time_of from.entry.now) (model.time_of to.entry.now))) }
+        (cut_of (time_of from.entry.now) (time_of to.entry.now))) }
 {
     let from = time_of(from)?;
     let to = time_of(to)?;
@@ -84,10 +77,6 @@ struct Order {
 }
 
 impl Order {
-    ghost use Rattle.std.specs.Prelude.{[], ◌∷◌, ◌++◌, List};
-    ghost use Rattle.vcd_words.specs.Names.{asked, IsOrderOf};
-    ghost use Rattle.vcd_model.specs.Ticks as model_ticks;
-
     /// Returns the order of no times.
     fn new() -> Order
         ensures { IsOrderOf [] result }
@@ -101,7 +90,7 @@ impl Order {
 
     /// Returns the order with one time more.
     fn with(self, time: Moment) -> Order
-        ensures { (times : List model_ticks.Moment) → IsOrderOf times self
+        ensures { (times : List ModelMoment) → IsOrderOf times self
             → IsOrderOf (times ++ asked time ∷ []) result }
     {
         Order {
@@ -115,11 +104,11 @@ impl Order {
 /// Returns whether the words between the commas are the times of a sample: without units they rise.
 /// It takes no memory.
 fn check_times<'a>(at: &'a str) -> Result<(), UseFault<'a>>
-    ensures times { OnOk result ((names : List (List ℕ)) → (times : List model_ticks.Moment)
-        × (model.times_of (parts at.entry.now) ≡ Ok times)
-        × (model.sample_of names (Ok times) ≡ Ok (model_job.Want.Sample times names))) }
+    ensures times { OnOk result ((names : List (List ℕ)) → (times : List ModelMoment)
+        × (times_of (parts at.entry.now) ≡ Ok times)
+        × (sample_of names (Ok times) ≡ Ok (ModelWant.Sample times names))) }
     ensures fault { IfErr result (λ fault. (names : List (List ℕ))
-        → IsFaultIn fault (model.sample_of names (model.times_of (parts at.entry.now)))) }
+        → IsFaultIn fault (sample_of names (times_of (parts at.entry.now)))) }
 {
     let mut order = Order::new();
     for word in at.split(',') {
@@ -134,8 +123,7 @@ fn check_times<'a>(at: &'a str) -> Result<(), UseFault<'a>>
 /// Returns the numbers of the times between commas; words that are no times are left out.
 fn numbers_in(alloc: Global, at: &str) -> Result<Vec<u64>, AllocError>
     ensures { IfOk result (λ numbers. numbers.items
-        ≡ map (λ (m : model_ticks.Moment). m.number)
-        (filter_map model_job.moment_of (parts at.now))) }
+        ≡ map (λ (m : ModelMoment). m.number) (filter_map moment_of (parts at.now))) }
 {
     at.split(',')
         .filter_map(moment_of)
@@ -146,8 +134,7 @@ fn numbers_in(alloc: Global, at: &str) -> Result<Vec<u64>, AllocError>
 /// Returns the units of the times between commas; words that are no times are left out.
 fn units_in(alloc: Global, at: &str) -> Result<Vec<Option<i8>>, AllocError>
     ensures { IfOk result (λ units. units.items
-        ≡ map (λ (m : model_ticks.Moment). m.unit)
-        (filter_map model_job.moment_of (parts at.now))) }
+        ≡ map (λ (m : ModelMoment). m.unit) (filter_map moment_of (parts at.now))) }
 {
     at.split(',')
         .filter_map(moment_of)
@@ -162,12 +149,11 @@ pub(crate) fn sample_of<'a>(
     at: &'a str,
     names: Option<&[&str]>,
 ) -> Result<Want, UseFault<'a>>
-    ensures want { IfOk result (λ want.
-        model.sample_of (some_names names.entry) (model.times_of (parts at.entry.now))
-        ≡ Ok (model_want want)) }
+    ensures want { IfOk result (λ want. sample_of (some_names names.entry)
+        (times_of (parts at.entry.now)) ≡ Ok (model_want want)) }
     ensures asked { IfOk result (λ want. is_asked want ≡ true) }
     ensures fault { IfErr result (λ fault. IsFaultOf fault
-        (model.sample_of (some_names names.entry) (model.times_of (parts at.entry.now)))) }
+        (sample_of (some_names names.entry) (times_of (parts at.entry.now)))) }
 {
     check_times(at)?;
     let numbers = numbers_in(alloc, at)?;

@@ -1,4 +1,7 @@
 // Why times are refused.
+ghost use Rattle.std.specs.Prelude.{◌≡◌};
+ghost use Rattle.vcd_words.specs.Names.{tick_refusal};
+
 use vcd_head::TickFault;
 
 /// Why times are refused, once the header is read.
@@ -15,9 +18,6 @@ pub enum Refusal {
 }
 
 impl From<TickFault> for Refusal {
-    ghost use Rattle.std.specs.Prelude.{◌≡◌};
-    ghost use Rattle.vcd_words.specs.Names.{tick_refusal};
-
     ghost from_gives = { λ fault refusal. refusal ≡ tick_refusal fault };
 
     fn from(fault: TickFault) -> Refusal {

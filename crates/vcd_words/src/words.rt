@@ -1,6 +1,6 @@
 //! What the words of the command line ask for, borrowed from their matches.
 ghost use Rattle.std.specs.Prelude.{◌≡◌, IfErr, IfOk, true, codes, map, option_map, string_bytes};
-ghost use Rattle.vcd_words.specs.Names.{Command, command_named, command_used, complete, files_asked, input_asked, is_asked, IsFaultOf, model_want, some_names, some_of, values_after, want_of, word_after, words_command};
+ghost use Rattle.vcd_words.specs.Names.{Command, command_named, command_used, complete, files_asked, input_asked, is_asked, IsFaultOf, model_want, some_names, some_of, texts_of, values_after, want_of, word_after, words_command};
 
 use crate::job::{UseFault, Want};
 use crate::moment_word::{cut_of, sample_of};
@@ -46,8 +46,7 @@ pub(crate) fn limit_word<'a>(matches: &ArgMatches<'a>) -> Option<&'a str>
 
 /// Returns the words of an argument of the command that was used, where there are some.
 fn words_of<'m, 'a>(matches: &'m ArgMatches<'a>, id: &str) -> Option<&'m [&'a str]>
-    ensures { option_map (λ words. map (λ word. word.now) words.now) result
-        ≡ some_of (values_after matches.now id.now) }
+    ensures { texts_of result ≡ some_of (values_after matches.now id.now) }
 {
     let (_, options) = matches.subcommand()?;
     let words = options.get_strs(id)?;
@@ -56,16 +55,14 @@ fn words_of<'m, 'a>(matches: &'m ArgMatches<'a>, id: &str) -> Option<&'m [&'a st
 
 /// Returns the names of variables after the command that was used, where there are some.
 fn names_of<'m, 'a>(matches: &'m ArgMatches<'a>) -> Option<&'m [&'a str]>
-    ensures { option_map (λ names. map (λ name. name.now) names.now) result
-        ≡ some_of (values_after matches.now (codes "names")) }
+    ensures { texts_of result ≡ some_of (values_after matches.now (codes "names")) }
 {
     words_of(matches, "names")
 }
 
 /// Returns the files that the matches of a merge name, where there are some.
 pub fn files_of<'m, 'a>(matches: &'m ArgMatches<'a>) -> Option<&'m [&'a str]>
-    ensures { option_map (λ files. map (λ file. file.now) files.now) result
-        ≡ some_of (files_asked matches.now) }
+    ensures { texts_of result ≡ some_of (files_asked matches.now) }
 {
     words_of(matches, "files")
 }
