@@ -1,6 +1,6 @@
 // Value changes as they are written.
 ghost use Rattle.std.specs.Prelude.{◌≡◌, ◌≢◌, ℕ, ◌-◌, ◌^◌, ◌<◌, ◌≤◌, ◌++◌, ◌∷◌, ◌==◌, List, [], false, take, drop, length, slice_index};
-ghost use Rattle.vcd_body.specs.Names.{Counts, Puts, PutsTo, Takes, binary_digits, extended, extension, line_under, short, str_to_ascii_lowercase, to_ascii_lowercase as lower};
+ghost use Rattle.vcd_body.specs.Names.{Puts, PutsTo, PutsWhere, binary_digits, extended, extension, line_under, short, str_to_ascii_lowercase, to_ascii_lowercase as lower};
 
 use crate::bits::Bits;
 use crate::item::Form;
@@ -200,9 +200,8 @@ pub(crate) fn shortest_known(digits: &[u8], bits: Bits) -> &[u8]
 pub(crate) fn put_shortest<W: Sink>(w: &mut W, digits: &[u8]) -> Result<(), WriteFailed>
     requires failures { (W.device w.old).failures < 2 ^ 64 - 1 }
     requires digits { 0 < length digits.now }
-    ensures takes { (size : ℕ) → Takes (W.device w.old) (W.device w.new)
-        (98 ∷ short (extended digits.now size)) result }
-    ensures counts { Counts (W.device w.old) (W.device w.new) result }
+    ensures { PutsWhere W.device w.old w.new result (λ takes. (size : ℕ)
+        → takes (98 ∷ short (extended digits.now size))) }
 {
     put(w, b"b")?;
     put_lower(w, shortest(digits))

@@ -1,6 +1,6 @@
 // The value that is held, as it is written.
 ghost use Rattle.std.specs.Prelude.{◌≡◌, ℕ, ◌+◌, ◌-◌, ◌^◌, ◌<◌, ◌≤◌, ◌++◌, ◌∷◌, [], Bool, drop, get_or, take, length, replicate};
-ghost use Rattle.vcd_body.specs.Names.{Counts, Puts, PutsTo, Takes, digits_of, extend, held_in, line_if_set, short, shown, value_at_size};
+ghost use Rattle.vcd_body.specs.Names.{Puts, PutsTo, PutsWhere, digits_of, extend, held_in, line_if_set, short, shown, value_at_size};
 
 use crate::change::{extension_of, put_end, put_real};
 use crate::held::{count_of, digit_held};
@@ -88,9 +88,8 @@ fn put_all_held<W: Sink>(held: HeldValue<'_>, id: &[u8], w: &mut W) -> Result<()
 fn put_short_held<W: Sink>(held: HeldValue<'_>, id: &[u8], w: &mut W) -> Result<(), WriteFailed>
     requires failures { (W.device w.old).failures < 2 ^ 64 - 1 }
     requires some { 0 < length (digits_of held) }
-    ensures takes { (size : ℕ) → Takes (W.device w.old) (W.device w.new) (98 ∷ short (extend
-        (digits_of held.entry) size) ++ (32 ∷ id.now ++ 10 ∷ [])) result }
-    ensures counts { Counts (W.device w.old) (W.device w.new) result }
+    ensures { PutsWhere W.device w.old w.new result (λ takes. (size : ℕ)
+        → takes (98 ∷ short (extend (digits_of held.entry) size) ++ (32 ∷ id.now ++ 10 ∷ []))) }
 {
     put(w, b"b")?;
     put_from(held, first_needed(held), w)?;

@@ -1,6 +1,6 @@
 // Changes as they are written: the one writer of their lines.
 ghost use Rattle.std.specs.Prelude.{◌≡◌, ◌≢◌, ℕ, ◌-◌, ◌^◌, ◌<◌, ◌++◌, ◌∷◌, [], false, true, length, IfSome};
-ghost use Rattle.vcd_body.specs.Names.{Counts, Puts, PutsTo, Takes, binary_digits, extended, id_line, id_text, short};
+ghost use Rattle.vcd_body.specs.Names.{Puts, PutsTo, PutsWhere, binary_digits, extended, id_line, id_text, short};
 
 use crate::bits::Bits;
 use crate::change::{put_end, put_rare, put_shortest, shortest_known};
@@ -39,9 +39,8 @@ fn put_given<W: Sink>(digits: &[u8], id: Id<'_>, w: &mut W) -> Result<(), WriteF
 fn put_shortened<W: Sink>(digits: &[u8], id: Id<'_>, w: &mut W) -> Result<(), WriteFailed>
     requires failures { (W.device w.old).failures < 2 ^ 64 - 1 }
     requires digits { 0 < length digits.now }
-    ensures takes { (size : ℕ) → Takes (W.device w.old) (W.device w.new)
-        (98 ∷ short (extended digits.now size) ++ (32 ∷ id_text id.entry ++ 10 ∷ [])) result }
-    ensures counts { Counts (W.device w.old) (W.device w.new) result }
+    ensures { PutsWhere W.device w.old w.new result (λ takes. (size : ℕ)
+        → takes (98 ∷ short (extended digits.now size) ++ (32 ∷ id_text id.entry ++ 10 ∷ []))) }
 {
     put_shortest(w, digits)?;
     put_end_under(b' ', id, w)
@@ -60,9 +59,8 @@ fn put_vector<W: Sink>(
     requires failures { (W.device w.old).failures < 2 ^ 64 - 1 }
     requires digits { 0 < length digits.now }
     requires bits { IfSome bits (λ b. digits.now ≡ binary_digits b.len b.number) }
-    ensures takes { (size : ℕ) → Takes (W.device w.old) (W.device w.new)
-        (98 ∷ short (extended digits.now size) ++ (32 ∷ id_text id.entry ++ 10 ∷ [])) result }
-    ensures counts { Counts (W.device w.old) (W.device w.new) result }
+    ensures { PutsWhere W.device w.old w.new result (λ takes. (size : ℕ)
+        → takes (98 ∷ short (extended digits.now size) ++ (32 ∷ id_text id.entry ++ 10 ∷ []))) }
 {
     match bits {
         Some(bits) => put_given(shortest_known(digits, bits), id, w),

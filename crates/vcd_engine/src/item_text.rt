@@ -1,7 +1,7 @@
 //! The text of kept items: each as its line, after the line of its time unless that was written
 //! already.
 ghost use Rattle.std.specs.Prelude.{◌≡◌, ℕ, ◌-◌, ◌^◌, ◌<◌, ◌≤◌, ◌∷◌, [], List, length, Some, IfOk};
-ghost use Rattle.vcd_engine.specs.Names.{as_line, BodyItem, closing, Counts, Entry, HasGoodText, HasWritten, Header, IsInPlace, IsItem, IsLine, IsPart, IsViewOf, item_line, keyword_text, LastTells, model_section, PutsBehind, PutsEntry, PutsPieces, section_keyword, TakenBy, Takes, time_due, times_with};
+ghost use Rattle.vcd_engine.specs.Names.{as_line, BodyItem, closing, Counts, Entry, HasGoodText, HasWritten, Header, IsInPlace, IsItem, IsLine, IsPart, IsViewOf, item_line, keyword_text, LastTells, model_section, PutsBehind, PutsEntry, PutsPieces, PutsWhere, section_keyword, TakenBy, Takes, time_due, times_with};
 
 use crate::pieces::{InPlace, Pieces};
 use vcd_body::{Form, Id, Item, Section, left_out, put_change, put_time_unless};
@@ -36,9 +36,8 @@ fn put_item<W: Sink>(
 ) -> Result<(), WriteFailed>
     requires failures { (W.device out.old).failures < 2 ^ 64 - 1 }
     requires sound { HasGoodText view.codes.now text.now item }
-    ensures takes { (h : Header) (x : BodyItem) → IsViewOf view.entry h
-        → IsItem h.codes text.now item x → TakenBy W.device out.old out.new (item_line x) result }
-    ensures counts { Counts (W.device out.old) (W.device out.new) result }
+    ensures { PutsWhere W.device out.old out.new result (λ takes. (h : Header) (x : BodyItem)
+        → IsViewOf view.entry h → IsItem h.codes text.now item x → takes (item_line x)) }
 {
     match item {
         Item::Time(_) | Item::Finish => Ok(()),

@@ -1,6 +1,6 @@
 //! `list`: the variables of a header.
 ghost use Rattle.std.specs.Prelude.{◌≡◌, ◌∷◌, ◌-◌, ◌^◌, ◌<◌, MatchResult, Some};
-ghost use Rattle.vcd_engine.specs.Names.{AtRow, Counts, IsWithinEachBound, list_line, list_text, no_room, Puts, Takes, TakesHeader, Whole, Write};
+ghost use Rattle.vcd_engine.specs.Names.{AtRow, Counts, IsWithinEachBound, list_line, list_text, no_room, Puts, PutsWhere, TakesHeader, Whole, Write};
 
 use vcd_body::{Done, Stop};
 use vcd_head::put_path;
@@ -19,9 +19,8 @@ fn put_word<W: Sink>(out: &mut W, word: &[u8]) -> Result<(), WriteFailed>
 /// Writes the line of a variable: path, type, size and code.
 fn put_variable<W: Sink>(view: HeadView<'_>, row: usize, out: &mut W) -> Result<(), WriteFailed>
     requires failures { (W.device out.old).failures < 2 ^ 64 - 1 }
-    ensures takes { AtRow view.entry row (λ _ s.
-        Takes (W.device out.old) (W.device out.new) (list_line s) result) }
-    ensures counts { Counts (W.device out.old) (W.device out.new) result }
+    ensures { PutsWhere W.device out.old out.new result (λ takes.
+        AtRow view.entry row (λ _ s. takes (list_line s))) }
 {
     let Some(variable) = view.row_at(row) else {
         return Ok(());

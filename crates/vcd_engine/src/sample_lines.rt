@@ -1,6 +1,6 @@
 //! The lines of `sample`.
-ghost use Rattle.std.specs.Prelude.{◌≡◌, ◌-◌, ◌^◌, ◌<◌, ℕ, [], ◌∷◌, List, false, Some, flat_map};
-ghost use Rattle.vcd_engine.specs.Names.{AllByRecursion, AnySampled, AreHeld, AtRow, BodyItem, Counts, is_settled, sample_lines, selected, Takes};
+ghost use Rattle.std.specs.Prelude.{◌≡◌, ◌-◌, ◌^◌, ◌<◌, [], ◌∷◌, List, false, flat_map};
+ghost use Rattle.vcd_engine.specs.Names.{AllByRecursion, AnySampled, AreHeld, AtRow, BodyItem, Counts, is_settled, PutsWhere, sample_lines, selected, Takes};
 
 use crate::leads::rows_on;
 use vcd_body::{Table, put_full};
@@ -18,10 +18,9 @@ fn put_line<W: Sink>(
     out: &mut W,
 ) -> Result<(), WriteFailed>
     requires failures { (W.device out.old).failures < 2 ^ 64 - 1 }
-    ensures takes { AtRow view.entry row (λ h s. (items : List BodyItem)
-        → AreHeld table.now h items → is_settled items time ≡ false
-        → Takes (W.device out.old) (W.device out.new) (sample_lines (s ∷ []) items time) result) }
-    ensures counts { Counts (W.device out.old) (W.device out.new) result }
+    ensures { PutsWhere W.device out.old out.new result (λ takes. AtRow view.entry row (λ h s.
+        (items : List BodyItem) → AreHeld table.now h items → is_settled items time ≡ false
+        → takes (sample_lines (s ∷ []) items time))) }
 {
     let Some(variable) = view.row_at(row) else {
         return Ok(());
@@ -47,10 +46,9 @@ fn put_lines<W: Sink>(
     out: &mut W,
 ) -> Result<(), WriteFailed>
     requires failures { (W.device out.old).failures < 2 ^ 64 - 1 }
-    ensures takes { AnySampled view.entry table.now marks.now (λ h items names.
-        is_settled items time ≡ false → Takes (W.device out.old) (W.device out.new)
-        (sample_lines (selected names h.declarations) items time) result) }
-    ensures counts { Counts (W.device out.old) (W.device out.new) result }
+    ensures { PutsWhere W.device out.old out.new result (λ takes.
+        AnySampled view.entry table.now marks.now (λ h items names. is_settled items time ≡ false
+        → takes (sample_lines (selected names h.declarations) items time))) }
 {
     let mut row = 0;
     while row < marks.len() {

@@ -1,6 +1,6 @@
 //! How often the values of codes change, rise and fall.
 ghost use Rattle.std.specs.Prelude.{◌≡◌, ℕ, ◌-◌, ◌^◌, ◌<◌, ◌∷◌, ◌++◌, [], List, true, false, length, Some, slice_get, decimal, flat_map};
-ghost use Rattle.vcd_engine.specs.Names.{AreTallied, AtRow, BodyItem, Change, change_to, Code, Counts, edges_line, HasBits, Header, HeadView, IdCode, IsText, IsViewOf, KeepsTable, leaves_open, marks_of, Puts, selected, Takes};
+ghost use Rattle.vcd_engine.specs.Names.{AreTallied, AtRow, BodyItem, Change, change_to, Code, Counts, edges_line, HasBits, Header, HeadView, IdCode, IsText, IsViewOf, KeepsTable, leaves_open, marks_of, Puts, PutsWhere, selected, Takes};
 
 use crate::selection::is_marked;
 use vcd_body::{Bits, Form, Item, Table, Value};
@@ -65,9 +65,8 @@ fn put_row<W: Sink>(
     out: &mut W,
 ) -> Result<(), WriteFailed>
     requires failures { (W.device out.old).failures < 2 ^ 64 - 1 }
-    ensures takes { AtRow view.entry row (λ h s. (items : List BodyItem) → AreTallied table.now h items
-        → Takes (W.device out.old) (W.device out.new) (edges_line items s) result) }
-    ensures counts { Counts (W.device out.old) (W.device out.new) result }
+    ensures { PutsWhere W.device out.old out.new result (λ takes. AtRow view.entry row (λ h s.
+        (items : List BodyItem) → AreTallied table.now h items → takes (edges_line items s))) }
 {
     let Some(variable) = view.row_at(row) else {
         return Ok(());

@@ -18,7 +18,7 @@ pub use Rattle.vcd_model.specs.Selection.{first_unmatched, is_selected, marked_p
 pub use Rattle.vcd_model.specs.Ticks.{moment_ticks, ticks}
 pub use Rattle.vcd_text.specs.Advances.{CallEnd}
 pub use Rattle.vcd_text.specs.Ahead.{bytes_of, passed_of, start_of}
-pub use Rattle.vcd_text.specs.Device.{Counts, Puts, PutsTo, TakenBy, Takes}
+pub use Rattle.vcd_text.specs.Device.{Counts, Puts, PutsTo, PutsWhere, TakenBy, Takes}
 pub use Rattle.vcd_text.specs.Feed.{seen, source_of, token_of}
 pub use Rattle.vcd_view.specs.Entries.{are_right, is_right, text_in}
 pub use Rattle.vcd_view.specs.Finds.{Finds}
@@ -41,7 +41,7 @@ pub use Rattle.vcd_head.specs.Inside.{AnyOpen, ComparesAt, Enters as EntersScope
 pub use Rattle.vcd_head.specs.Keys.{AreKeysOf, same_shape, same_writes, shape_in, shape_of, writes_of}
 pub use Rattle.vcd_head.specs.Marks.{AllMarked, Marked, RefusesUnmatched, is_marked, marks_of, row_and_scopes, scopes_at}
 pub use Rattle.vcd_head.specs.Matched.{IsFirstFalse, Matches}
-pub use Rattle.vcd_head.specs.Merged.{FitNumbers, IsBehind as PassesRow, ShowHeaders, closing, due, input_rows, openings}
+pub use Rattle.vcd_head.specs.Merged.{FitNumbers, IsBehind as IsPast, ShowHeaders, closing, due, input_rows, openings}
 pub use Rattle.vcd_head.specs.Moments.{asked, tick_fault_number, told, with_unit}
 pub use Rattle.vcd_head.specs.NameOrder.{AreSame, IsOrder}
 pub use Rattle.vcd_head.specs.Paths.{scopes_text}
@@ -55,5 +55,5 @@ pub use Rattle.vcd_head.specs.Shown.{shown}
 pub use Rattle.vcd_head.specs.Texts.{spaced}
 pub use Rattle.vcd_head.specs.Variables.{ReadsCode, ReadsSize}
 pub use Rattle.vcd_head.specs.Words.{power_in, size_in, unit_in}
-pub use Rattle.vcd_head.specs.Written.{TakesAround, TakesHeader, TakesRow, TakesVariableRow}
+pub use Rattle.vcd_head.specs.Written.{TakesHeader, TakesRow}
 pub use Rattle.vcd_head.specs.declared.fault.HeadFault.TheVariants.{OutOfMemory}

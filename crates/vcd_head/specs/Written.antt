@@ -1,9 +1,8 @@
 -- What is written over a view of a header.
 use Rattle.std.specs.Prelude.{◌≡◌, ℕ, List, Result, Some, slice_get}
-use Rattle.vcd_model.specs.Declarations.{Declaration, Variable}
+use Rattle.vcd_model.specs.Declarations.{Declaration}
 use Rattle.vcd_model.specs.Header.{Header}
 use Rattle.vcd_text.specs.Device.{Device, Takes}
-use Rattle.vcd_view.specs.Over.{AnyRow, AnyVariable}
 use Rattle.vcd_view.specs.Views.{IsViewOf}
 use Rattle.vcd_view.specs.declared.view.HeadView.{HeadView}
 
@@ -14,11 +13,3 @@ TakesHeader view old new text result = (h : Header) → IsViewOf view h → Take
 -- so it did of the declaration of a row
 abbrev pub TakesRow : {A E : Type 0} → HeadView → ℕ → Device → Device → (Header → Declaration → List ℕ) → Result A E → Type 0
 TakesRow view row old new text result = (h : Header) (d : Declaration) → IsViewOf view h → slice_get h.declarations row ≡ Some d → Takes old new (text h d) result
-
--- so it did of a row that the header has
-abbrev pub TakesAround : {A E : Type 0} → HeadView → ℕ → Device → Device → (Header → List ℕ) → Result A E → Type 0
-TakesAround view row old new text result = AnyRow view row (λ h. Takes old new (text h) result)
-
--- so it did of the variable of a row
-abbrev pub TakesVariableRow : {A E : Type 0} → HeadView → ℕ → Device → Device → (Header → Variable → List ℕ) → Result A E → Type 0
-TakesVariableRow view row old new text result = AnyVariable view row (λ h v. Takes old new (text h v) result)

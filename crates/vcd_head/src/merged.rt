@@ -1,6 +1,6 @@
 //! The head of a merged dump.
 ghost use Rattle.std.specs.Prelude.{◌≡◌, ℕ, ◌+◌, ◌-◌, ◌^◌, ◌<◌, ◌≤◌, List, length, take, flat_map};
-ghost use Rattle.vcd_head.specs.Names.{AnyDeclared, AnyHeader, Counts, FitNumbers, Header, IsViewOf, PassesRow, Puts, PutsTo, ShowHeaders, TakenBy, Takes, TakesAround, closing, concat, due, each, enclosing, first_number, input_head, input_rows, least_exponent as least_of, merged_head, openings, up_line};
+ghost use Rattle.vcd_head.specs.Names.{AnyDeclared, AnyHeader, AnyRow, Counts, FitNumbers, Header, IsViewOf, IsPast, PutsTo, PutsWhere, ShowHeaders, Takes, closing, concat, due, each, enclosing, first_number, input_head, input_rows, least_exponent as least_of, merged_head, openings, up_line};
 
 use crate::enclosing::Enclosing;
 use crate::head::Head;
@@ -37,7 +37,7 @@ pub(crate) struct OpenScopes {
 impl OpenScopes {
     /// Goes on to the scopes that are open after a row of this kind.
     fn pass(&mut self, kind: Kind)
-        ensures { PassesRow kind self.old.pending self.old.written self.new.pending self.new.written }
+        ensures { IsPast kind self.old.pending self.old.written self.new.pending self.new.written }
     {
         match kind {
             Kind::Scope => self.pending = self.pending.saturating_add(1),
@@ -59,9 +59,8 @@ fn put_openings<W: Sink>(
     w: &mut W,
 ) -> Result<(), WriteFailed>
     requires failures { (W.device w.old).failures < 2 ^ 64 - 1 }
-    ensures takes { TakesAround view.entry row (W.device w.old) (W.device w.new)
-        (λ h. openings h.declarations (take count (enclosing (take row h.declarations)))) result }
-    ensures counts { Counts (W.device w.old) (W.device w.new) result }
+    ensures { PutsWhere W.device w.old w.new result (λ takes. AnyRow view.entry row (λ h.
+        takes (openings h.declarations (take count (enclosing (take row h.declarations)))))) }
 {
     let mut scopes = Enclosing::innermost(row, count);
     while let Some(scope) = scopes.next(view) {
@@ -85,9 +84,8 @@ fn put_closing<W: Sink>(scopes: OpenScopes, w: &mut W) -> Result<(), WriteFailed
 /// Writes the lines that close so many scopes.
 fn put_closings<W: Sink>(count: usize, w: &mut W) -> Result<(), WriteFailed>
     requires failures { (W.device w.old).failures < 2 ^ 64 - 1 }
-    ensures takes { (scopes : List ℕ) → length scopes ≡ count
-        → Takes (W.device w.old) (W.device w.new) (flat_map (λ scope. up_line) scopes) result }
-    ensures counts { Counts (W.device w.old) (W.device w.new) result }
+    ensures { PutsWhere W.device w.old w.new result (λ takes. (scopes : List ℕ)
+        → length scopes ≡ count → takes (flat_map (λ scope. up_line) scopes)) }
 {
     'scopes: for _ in 0..count {
         put(w, b"$upscope $end\n")?;
@@ -106,9 +104,9 @@ fn put_input_row<W: Sink>(
     w: &mut W,
 ) -> Result<(), WriteFailed>
     requires failures { (W.device w.old).failures < 2 ^ 64 - 1 }
-    ensures takes { AnyDeclared view.entry row (λ h d. FitNumbers first h → TakenBy W.device w.old w.new
-        (due h first scopes.pending scopes.written (take row h.declarations) d) result) }
-    ensures counts { Counts (W.device w.old) (W.device w.new) result }
+    ensures { PutsWhere W.device w.old w.new result (λ takes. AnyDeclared view.entry row (λ h d.
+        FitNumbers first h
+        → takes (due h first scopes.pending scopes.written (take row h.declarations) d))) }
 {
     let Some(declared) = view.row_at(row) else {
         return Ok(());
@@ -128,9 +126,8 @@ fn put_input_row<W: Sink>(
 /// these.
 fn put_input_rows<W: Sink>(view: HeadView<'_>, first: u64, w: &mut W) -> Result<(), WriteFailed>
     requires failures { (W.device w.old).failures < 2 ^ 64 - 1 }
-    ensures takes { AnyHeader view.entry (λ h. FitNumbers first h
-        → Takes (W.device w.old) (W.device w.new) (input_rows first h) result) }
-    ensures counts { Counts (W.device w.old) (W.device w.new) result }
+    ensures { PutsWhere W.device w.old w.new result (λ takes.
+        AnyHeader view.entry (λ h. FitNumbers first h → takes (input_rows first h))) }
 {
     let mut scopes = OpenScopes {
         pending: 0,
@@ -152,10 +149,9 @@ fn put_input_head<W: Sink>(
     w: &mut W,
 ) -> Result<(), WriteFailed>
     requires failures { (W.device w.old).failures < 2 ^ 64 - 1 }
-    ensures takes { (earlier : List Header) (h : Header) → IsViewOf view.entry h
-        → number ≡ length earlier + 1 → first ≡ first_number earlier → FitNumbers first h
-        → Takes (W.device w.old) (W.device w.new) (input_head earlier h) result }
-    ensures counts { Counts (W.device w.old) (W.device w.new) result }
+    ensures { PutsWhere W.device w.old w.new result (λ takes. (earlier : List Header) (h : Header)
+        → IsViewOf view.entry h → number ≡ length earlier + 1 → first ≡ first_number earlier
+        → FitNumbers first h → takes (input_head earlier h)) }
 {
     put(w, b"$scope module in")?;
     put_number(w, number)?;
@@ -168,9 +164,8 @@ fn put_input_head<W: Sink>(
 fn put_input_heads<W: Sink>(heads: &[Head], w: &mut W) -> Result<(), WriteFailed>
     requires heads { length heads.now ≤ 64 }
     requires failures { (W.device w.old).failures < 2 ^ 64 - 1 }
-    ensures takes { (hs : List Header) → ShowHeaders heads.now hs
-        → Takes (W.device w.old) (W.device w.new) (concat (each input_head hs)) result }
-    ensures counts { Counts (W.device w.old) (W.device w.new) result }
+    ensures { PutsWhere W.device w.old w.new result (λ takes. (hs : List Header)
+        → ShowHeaders heads.now hs → takes (concat (each input_head hs))) }
 {
     let mut first: u64 = 0;
     for (place, head) in heads.iter().enumerate() {

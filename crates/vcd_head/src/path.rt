@@ -1,6 +1,6 @@
 //! Paths of variables.
 ghost use Rattle.std.specs.Prelude.{◌-◌, ◌^◌, ◌<◌, take};
-ghost use Rattle.vcd_head.specs.Names.{Counts, TakesAround, TakesRow, path_of, scopes_text};
+ghost use Rattle.vcd_head.specs.Names.{AnyRow, Counts, PutsWhere, TakesRow, path_of, scopes_text};
 
 use crate::enclosing::Enclosing;
 use vcd_text::{Sink, WriteFailed, put};
@@ -10,9 +10,8 @@ use vcd_view::HeadView;
 /// it.
 fn put_scopes<W: Sink>(view: HeadView<'_>, row: usize, w: &mut W) -> Result<(), WriteFailed>
     requires failures { (W.device w.old).failures < 2 ^ 64 - 1 }
-    ensures takes { TakesAround view.entry row (W.device w.old) (W.device w.new)
-        (λ h. scopes_text (take row h.declarations)) result }
-    ensures counts { Counts (W.device w.old) (W.device w.new) result }
+    ensures { PutsWhere W.device w.old w.new result (λ takes.
+        AnyRow view.entry row (λ h. takes (scopes_text (take row h.declarations)))) }
 {
     let mut scopes = Enclosing::new(row);
     while let Some(scope) = scopes.next(view) {

@@ -1,6 +1,6 @@
 //! Headers as they are written.
 ghost use Rattle.std.specs.Prelude.{◌≡◌, ℕ, ◌-◌, ◌^◌, ◌<◌, List, [], ◌∷◌, flat_map, take, option_map, unwrap_or};
-ghost use Rattle.vcd_head.specs.Names.{Counts, Header, IsViewOf, Keyword, PutsTo, Takes, TakesHeader, TakesRow, TakesVariableRow, concat, each, enclosing, head_for, head_text, is_marked, keyword_text, marks_of, parent, reference_of, row_line, rows_text, scale_text, scope_line, three_lines, three_lines_of, type_of, up_lines_at, var_line};
+ghost use Rattle.vcd_head.specs.Names.{AnyDeclared, AnyHeader, AnyVariable, Counts, Header, IsViewOf, Keyword, PutsTo, PutsWhere, Takes, TakesHeader, concat, each, enclosing, head_for, head_text, is_marked, keyword_text, marks_of, parent, reference_of, row_line, rows_text, scale_text, scope_line, three_lines, three_lines_of, type_of, up_lines_at, var_line};
 
 use vcd_text::{Sink, WriteFailed, put, put_number};
 use vcd_view::{HeadView, Kind, Scale};
@@ -19,9 +19,8 @@ fn put_texts<W: Sink>(w: &mut W, texts: &[&[u8]]) -> Result<(), WriteFailed>
 /// Writes a keyword, a text and `$end`, on three lines.
 pub(crate) fn put_lines<W: Sink>(w: &mut W, keyword: &[u8], text: &[u8]) -> Result<(), WriteFailed>
     requires failures { (W.device w.old).failures < 2 ^ 64 - 1 }
-    ensures takes { (k : Keyword) → keyword.now ≡ keyword_text k
-        → Takes (W.device w.old) (W.device w.new) (three_lines k text.now) result }
-    ensures counts { Counts (W.device w.old) (W.device w.new) result }
+    ensures { PutsWhere W.device w.old w.new result (λ takes. (k : Keyword)
+        → keyword.now ≡ keyword_text k → takes (three_lines k text.now)) }
 {
     put_texts(w, &[keyword, b"\n\t", text, b"\n$end\n"])
 }
@@ -29,9 +28,8 @@ pub(crate) fn put_lines<W: Sink>(w: &mut W, keyword: &[u8], text: &[u8]) -> Resu
 /// Writes a keyword, a text and `$end`, on three lines; nothing where there is no text.
 fn put_section<W: Sink>(w: &mut W, keyword: &[u8], text: &[u8]) -> Result<(), WriteFailed>
     requires failures { (W.device w.old).failures < 2 ^ 64 - 1 }
-    ensures takes { (k : Keyword) → keyword.now ≡ keyword_text k
-        → Takes (W.device w.old) (W.device w.new) (three_lines_of k text.now) result }
-    ensures counts { Counts (W.device w.old) (W.device w.new) result }
+    ensures { PutsWhere W.device w.old w.new result (λ takes. (k : Keyword)
+        → keyword.now ≡ keyword_text k → takes (three_lines_of k text.now)) }
 {
     if text.is_empty() {
         return Ok(());
@@ -92,9 +90,8 @@ pub(crate) fn put_scope<W: Sink>(
     w: &mut W,
 ) -> Result<(), WriteFailed>
     requires failures { (W.device w.old).failures < 2 ^ 64 - 1 }
-    ensures takes { TakesRow view.entry row (W.device w.old) (W.device w.new)
-        (λ h d. scope_line (type_of d) (reference_of d)) result }
-    ensures counts { Counts (W.device w.old) (W.device w.new) result }
+    ensures { PutsWhere W.device w.old w.new result (λ takes. AnyDeclared view.entry row (λ _ d.
+        takes (scope_line (type_of d) (reference_of d)))) }
 {
     let type_text = view.type_of(row);
     let name = view.reference_of(row);
@@ -109,9 +106,8 @@ pub(crate) fn put_variable<W: Sink>(
     w: &mut W,
 ) -> Result<(), WriteFailed>
     requires failures { (W.device w.old).failures < 2 ^ 64 - 1 }
-    ensures takes { TakesVariableRow view.entry row (W.device w.old) (W.device w.new)
-        (λ h v. var_line v code.now) result }
-    ensures counts { Counts (W.device w.old) (W.device w.new) result }
+    ensures { PutsWhere W.device w.old w.new result (λ takes. AnyVariable view.entry row (λ _ v.
+        takes (var_line v code.now))) }
 {
     let Some(declared) = view.row_at(row) else {
         return Ok(());
@@ -146,9 +142,8 @@ fn put_row<W: Sink>(
     w: &mut W,
 ) -> Result<(), WriteFailed>
     requires failures { (W.device w.old).failures < 2 ^ 64 - 1 }
-    ensures takes { TakesRow view.entry row (W.device w.old) (W.device w.new)
-        (λ h. row_line (λ code. code) (is_marked marks.now) (take row h.declarations)) result }
-    ensures counts { Counts (W.device w.old) (W.device w.new) result }
+    ensures { PutsWhere W.device w.old w.new result (λ takes. AnyDeclared view.entry row (λ h d.
+        takes (row_line (λ code. code) (is_marked marks.now) (take row h.declarations) d))) }
 {
     let Some(declared) = view.row_at(row) else {
         return Ok(());
@@ -169,9 +164,8 @@ fn put_row<W: Sink>(
 /// Writes the lines of the rows, in order.
 fn put_rows<W: Sink>(view: HeadView<'_>, marks: &[u8], w: &mut W) -> Result<(), WriteFailed>
     requires failures { (W.device w.old).failures < 2 ^ 64 - 1 }
-    ensures takes { TakesHeader view.entry (W.device w.old) (W.device w.new)
-        (λ h. concat (each (row_line (λ code. code) (is_marked marks.now)) h.declarations)) result }
-    ensures counts { Counts (W.device w.old) (W.device w.new) result }
+    ensures { PutsWhere W.device w.old w.new result (λ takes. AnyHeader view.entry (λ h.
+        takes (concat (each (row_line (λ code. code) (is_marked marks.now)) h.declarations)))) }
 {
     for row in 0..view.rows.len() {
         put_row(view, marks, row, w)?;
@@ -194,9 +188,8 @@ fn innermost(view: HeadView<'_>) -> Option<usize>
 /// Writes the lines that close the marked scopes still open after the last row, innermost first.
 fn put_open<W: Sink>(view: HeadView<'_>, marks: &[u8], w: &mut W) -> Result<(), WriteFailed>
     requires failures { (W.device w.old).failures < 2 ^ 64 - 1 }
-    ensures takes { TakesHeader view.entry (W.device w.old) (W.device w.new)
-        (λ h. up_lines_at (is_marked marks.now) (enclosing h.declarations)) result }
-    ensures counts { Counts (W.device w.old) (W.device w.new) result }
+    ensures { PutsWhere W.device w.old w.new result (λ takes. AnyHeader view.entry (λ h.
+        takes (up_lines_at (is_marked marks.now) (enclosing h.declarations)))) }
 {
     let mut next = innermost(view);
     while let Some(scope) = next {
@@ -210,9 +203,8 @@ fn put_open<W: Sink>(view: HeadView<'_>, marks: &[u8], w: &mut W) -> Result<(), 
 /// open.
 fn put_declarations<W: Sink>(view: HeadView<'_>, marks: &[u8], w: &mut W) -> Result<(), WriteFailed>
     requires failures { (W.device w.old).failures < 2 ^ 64 - 1 }
-    ensures takes { TakesHeader view.entry (W.device w.old) (W.device w.new)
-        (λ h. rows_text (λ code. code) (is_marked marks.now) h.declarations) result }
-    ensures counts { Counts (W.device w.old) (W.device w.new) result }
+    ensures { PutsWhere W.device w.old w.new result (λ takes. AnyHeader view.entry (λ h.
+        takes (rows_text (λ code. code) (is_marked marks.now) h.declarations))) }
 {
     put_rows(view, marks, w)?;
     put_open(view, marks, w)

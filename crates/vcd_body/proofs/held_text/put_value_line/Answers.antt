@@ -28,4 +28,4 @@ returns-in_default-2 g c event =
     let some = some_digits c.args.held.holding.state (len_of c.args.held.holding) c.args.held.share.now c.args.held.fits c.args.held.some c.in_default-2.not-Unset c.in_default-2.not-Real in
     let is = all_digits c.args.held.holding.state (len_of c.args.held.holding) c.args.held.share.now c.in_default-2.not-Unset c.in_default-2.not-Real in
     let line = ap (λ (b : Bool). cond b (ds ++ (id ++ 10 ∷ [])) (98 ∷ short (extend ds c.args.size) ++ (32 ∷ id ++ 10 ∷ []))) (ne_eqb c.args.size 1 c.if-size-eq1.false) in
-    subst (λ l. Puts (g.W.Sink.device c.args.w.now) (g.W.Sink.device c.put_short_held.new.w) l c.put_short_held.result) (sym line ∙ line_is c.args.size ds id event (held_with c.args.held.holding c.args.held.share.now) some is) (c.put_short_held.ensures.takes c.args.size, c.put_short_held.ensures.counts)
+    subst (λ l. Puts (g.W.Sink.device c.args.w.now) (g.W.Sink.device c.put_short_held.new.w) l c.put_short_held.result) (sym line ∙ line_is c.args.size ds id event (held_with c.args.held.holding c.args.held.share.now) some is) (c.put_short_held.ensures.0 c.args.size, c.put_short_held.ensures.1)

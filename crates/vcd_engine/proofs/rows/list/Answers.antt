@@ -16,11 +16,11 @@ loop-row-preserved g c =
       | then-eq+in_ok-put_variable w ↦
           let is = read_variable s i _ c.eq.result c.eq.ensures w.if-eq.true c.loop-row-test.true in
           rw w.out-is (
-            w.in_ok-put_variable.ensures.counts ∙ c.loop-row.invariant.0,
+            w.in_ok-put_variable.ensures.1 ∙ c.loop-row.invariant.0,
             λ h views.
                 let v = is_declared s h i views is in
                 subst (λ (l : List ℕ). Appends (g.W.Sink.device c.args.out.now).held (g.W.Sink.device w.put_variable.new.out).held l) (sym (lines-variable h.declarations i v.0 v.1))
-                (appends-twice _ _ _ _ (line_after (take i h.declarations) v.0) (c.loop-row.invariant.1 h views) (w.in_ok-put_variable.ensures.takes h v.0 views v.1)),
+                (appends-twice _ _ _ _ (line_after (take i h.declarations) v.0) (c.loop-row.invariant.1 h views) (w.in_ok-put_variable.ensures.0 h v.0 views v.1)),
           )
       | else-eq w ↦
           let other = read_other s i _ c.eq.result c.eq.ensures w.if-eq.false c.loop-row-test.true in
@@ -38,7 +38,7 @@ returns-in_err-put_variable-clause-takes g c = λ h views.
     let e : c.from_residual.result ≡ Err Write = search rules in
     let is = read_variable s i _ c.eq.result c.eq.ensures c.if-eq.true c.loop-row-test.true in
     let v = is_declared s h i views is in
-    rw e (listed-some _ _ _ h i v.0 v.1 (c.loop-row.invariant.1 h views) (c.in_err-put_variable.ensures.takes h v.0 views v.1))
+    rw e (listed-some _ _ _ h i v.0 v.1 (c.loop-row.invariant.1 h views) (c.in_err-put_variable.ensures.0 h v.0 views v.1))
 
 pub returns-clause-takes : goal.returns-clause-takes
 returns-clause-takes g c = λ h views.

@@ -2,7 +2,7 @@ use Rattle.std.proofs.Common.{◌≡◌, ◌+◌, ◌≤◌, List, ℕ, Err, get
 use Rattle.std.specs.Io.KnownBytes.{Appends}
 use Rattle.vcd_model.specs.Selection.{selected}
 use Rattle.vcd_head.specs.Marks.{marks_of}
-use Rattle.vcd_text.proofs.Writes.{appends-none, appends-twice}
+use Rattle.vcd_text.proofs.Writes.{appends-none, appends-twice, counted}
 use Rattle.vcd_view.specs.Shown.{parts}
 use Rattle.vcd_engine.specs.Leads.{rows_on}
 use Rattle.vcd_engine.proofs.LeadLemmas.{leads_same, leads_shown_at, lines_all}
@@ -18,10 +18,10 @@ loop-row-init g c = (
       subst (Appends (g.W.Sink.device c.args.out.now).held (g.W.Sink.device c.args.out.now).held) (sym (rows_none (line_at items c.args.time) names h.declarations)) (appends-none (g.W.Sink.device c.args.out.now).held),
 )
 
-pub returns-clause-takes : goal.returns-clause-takes
-returns-clause-takes g c = λ h items names views lead held late.
+pub returns : goal.returns
+returns g c = counted (search rules) (λ h items names views lead held late.
     subst (λ (l : List ℕ). Appends (g.W.Sink.device c.args.out.now).held (g.W.Sink.device c.loop-row.out).held l)
-    (lines_all names h c.args.marks.now lead items c.args.time c.loop-row.row c.loop-row-test.false) (c.loop-row.invariant.1 h items names views lead held late)
+    (lines_all names h c.args.marks.now lead items c.args.time c.loop-row.row c.loop-row-test.false) (c.loop-row.invariant.1 h items names views lead held late))
 
 pub loop-row-preserved : goal.loop-row-preserved
 loop-row-preserved g c =
@@ -35,12 +35,12 @@ loop-row-preserved g c =
           let one : c.rows_on.result ≡ 1 = c.rows_on.ensures.passes ∙ ap rows_on w.if-mark-eq1.true in
           let next : i + 1 ≡ to = omega (arith, c.saturating_add-row.ensures, one, c.loop-row-test.true) in
           rw w.out-is (
-            w.in_ok-put_line.ensures.counts ∙ c.loop-row.invariant.0,
+            w.in_ok-put_line.ensures.1 ∙ c.loop-row.invariant.0,
             λ h items names views lead held late.
                 let shown = leads_shown_at names h marks lead i c.loop-row-test.true w.if-mark-eq1.true in
                 subst (λ n. Appends old (g.W.Sink.device w.put_line.new.out).held (rows_before (line_at items c.args.time) names h.declarations n)) next
                 (subst (λ (l : List ℕ). Appends old (g.W.Sink.device w.put_line.new.out).held l) (sym (rows_marked (line_at items c.args.time) names s h i (marks_of names h.declarations) views refl shown.variable shown.declared shown.marked))
-                (appends-twice _ _ _ _ (line_at items c.args.time (declared_at h.declarations i shown.variable)) (c.loop-row.invariant.1 h items names views lead held late) (w.in_ok-put_line.ensures.takes h shown.variable views shown.declared items held late))),
+                (appends-twice _ _ _ _ (line_at items c.args.time (declared_at h.declarations i shown.variable)) (c.loop-row.invariant.1 h items names views lead held late) (w.in_ok-put_line.ensures.0 h shown.variable views shown.declared items held late))),
           )
       | else-mark-eq1 w ↦
           rw w.out-is (
@@ -52,9 +52,9 @@ loop-row-preserved g c =
           )
     ]
 
-pub returns-in_err-put_line-clause-takes : goal.returns-in_err-put_line-clause-takes
-returns-in_err-put_line-clause-takes g c = λ h items names views lead held late.
+pub returns-in_err-put_line : goal.returns-in_err-put_line
+returns-in_err-put_line g c = counted (search rules) (λ h items names views lead held late.
     let i = c.loop-row.row in
     let e : c.from_residual.result ≡ Err c.in_err-put_line.field-0.0 = search rules in
     let shown = leads_shown_at names h c.args.marks.now lead i c.loop-row-test.true c.if-mark-eq1.true in
-    rw (e, ← lines_are items c.args.time (selected names h.declarations)) (rows_some (line_at items c.args.time) names (parts c.args.view) h i (marks_of names h.declarations) views refl _ _ _ shown.variable shown.declared shown.marked (c.loop-row.invariant.1 h items names views lead held late) (c.in_err-put_line.ensures.takes h shown.variable views shown.declared items held late))
+    rw (e, ← lines_are items c.args.time (selected names h.declarations)) (rows_some (line_at items c.args.time) names (parts c.args.view) h i (marks_of names h.declarations) views refl _ _ _ shown.variable shown.declared shown.marked (c.loop-row.invariant.1 h items names views lead held late) (c.in_err-put_line.ensures.0 h shown.variable views shown.declared items held late)))

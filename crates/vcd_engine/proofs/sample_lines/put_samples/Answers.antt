@@ -11,7 +11,7 @@ returns-in_err-put_lines-clause-takes g c = λ h items names views marked held l
     let e : c.from_residual.result ≡ Err c.in_err-put_lines.field-0.0 = search rules in
     rw e
     (lines-some _ _ _ (sample_lines (selected names h.declarations) items) c.args.times.now c.loop-time.time-index _ (omega arith) (c.loop-time.invariant.1 h items names views marked held late)
-    (c.in_err-put_lines.ensures.takes h items names views marked held (all-at (λ t. is_settled items t ≡ false) c.args.times.now c.loop-time.time-index _ (omega arith) late)))
+    (c.in_err-put_lines.ensures.0 h items names views marked held (all-at (λ t. is_settled items t ≡ false) c.args.times.now c.loop-time.time-index _ (omega arith) late)))
 
 pub returns-clause-takes : goal.returns-clause-takes
 returns-clause-takes g c = λ h items names views marked held late.

@@ -24,12 +24,12 @@ loop-row-preserved g c =
       | then-eq+then-is_marked+in_ok-put_row w ↦
           let is = read_variable s i _ c.eq.result c.eq.ensures w.if-eq.true c.loop-row-test.true in
           rw w.out-is (
-            w.in_ok-put_row.ensures.counts ∙ c.loop-row.invariant.0,
+            w.in_ok-put_row.ensures.1 ∙ c.loop-row.invariant.0,
             λ h items names views marked tallied.
                 let v = is_declared s h i views is in
                 let mark = sym w.is_marked.ensures ∙ w.if-is_marked.true in
                 subst (λ (l : List ℕ). Appends old (g.W.Sink.device w.put_row.new.out).held l) (sym (rows_marked (edges_line items) names s h i c.args.marks.now views marked v.0 v.1 mark))
-                (appends-twice _ _ _ _ (edges_line items (declared_at h.declarations i v.0)) (c.loop-row.invariant.1 h items names views marked tallied) (w.in_ok-put_row.ensures.takes h v.0 views v.1 items tallied)),
+                (appends-twice _ _ _ _ (edges_line items (declared_at h.declarations i v.0)) (c.loop-row.invariant.1 h items names views marked tallied) (w.in_ok-put_row.ensures.0 h v.0 views v.1 items tallied)),
           )
       | else-eq w ↦
           rw w.out-is (
@@ -53,7 +53,7 @@ returns-in_err-put_row-clause-takes g c = λ h items names views marked tallied.
     let i = c.loop-row.row in
     let e : c.from_residual.result ≡ Err c.in_err-put_row.field-0.0 = search rules in
     let v = is_declared s h i views (read_variable s i _ c.eq.result c.eq.ensures c.if-eq.true c.loop-row-test.true) in
-    rw e (rows_some (edges_line items) names s h i c.args.marks.now views marked _ _ _ v.0 v.1 (sym c.is_marked.ensures ∙ c.if-is_marked.true) (c.loop-row.invariant.1 h items names views marked tallied) (c.in_err-put_row.ensures.takes h v.0 views v.1 items tallied))
+    rw e (rows_some (edges_line items) names s h i c.args.marks.now views marked _ _ _ v.0 v.1 (sym c.is_marked.ensures ∙ c.if-is_marked.true) (c.loop-row.invariant.1 h items names views marked tallied) (c.in_err-put_row.ensures.0 h v.0 views v.1 items tallied))
 
 pub returns-clause-takes : goal.returns-clause-takes
 returns-clause-takes g c = λ h items names views marked tallied.

@@ -3,14 +3,14 @@ use Rattle.std.specs.Io.KnownBytes.{Appends}
 use Rattle.std.proofs.lemmas.Grind.{flat_map-append}
 use Rattle.std.proofs.lemmas.List.{append-nil, take_more}
 use Rattle.vcd_model.specs.HeadText.{up_line}
-use Rattle.vcd_text.proofs.Writes.{appends-twice}
+use Rattle.vcd_text.proofs.Writes.{appends-twice, counted}
 use Rattle.vcd_head.proofs.WriteLemmas.{texts-some}
 use Rattle.vcd_head.proofs.merged.put_closings.Goals as goal
 
-pub returns-in_err-put-clause-takes : goal.returns-in_err-put-clause-takes
-returns-in_err-put-clause-takes g c = λ scopes many.
+pub returns-in_err-put : goal.returns-in_err-put
+returns-in_err-put g c = counted (search rules) (λ scopes many.
     let failed : c.from_residual.result ≡ Err c.in_err-put.field-0.0 = search rules in
-    rw failed (texts-some _ _ _ (λ (scope : ℕ). up_line) scopes c.scopes.counter 0 (omega (arith, many)) (c.scopes.invariant.lines scopes many) c.in_err-put.ensures.0)
+    rw failed (texts-some _ _ _ (λ (scope : ℕ). up_line) scopes c.scopes.counter 0 (omega (arith, many)) (c.scopes.invariant.lines scopes many) c.in_err-put.ensures.0))
 
 pub scopes-preserved : goal.scopes-preserved
 scopes-preserved g c = record {

@@ -5,7 +5,7 @@ use Rattle.std.proofs.lemmas.List.{length-take-le}
 use Rattle.std.proofs.lemmas.Slice.Zip.{AllZip-long}
 use Rattle.vcd_model.specs.Backward.{each}
 use Rattle.vcd_model.specs.HeadText.{input_head}
-use Rattle.vcd_text.proofs.Writes.{appends-twice}
+use Rattle.vcd_text.proofs.Writes.{appends-twice, counted}
 use Rattle.vcd_view.specs.Views.{Views}
 use Rattle.vcd_view.proofs.LookUpLemmas.{codes_len}
 use Rattle.vcd_head.proofs.MergedLemmas.{HeaderAt, all_passed, header_at, number_more, numbers_fit}
@@ -17,7 +17,7 @@ loop-place-preserved g c =
     let heads = c.args.heads.now in
     let i = c.loop-place.place in
     record {
-      same = c.in_ok-put_input_head.ensures.counts ∙ c.loop-place.invariant.same;
+      same = c.in_ok-put_input_head.ensures.1 ∙ c.loop-place.invariant.same;
       first = λ hs s.
           let at = subst (HeaderAt hs i) (sym c.index-heads-place.is) (header_at heads hs i c.index-heads-place.result s (omega arith)) in
           let fits = numbers_fit heads hs i at.header c.index-heads-place.result s (omega arith) at.views in
@@ -34,11 +34,11 @@ loop-place-preserved g c =
           let fits = numbers_fit heads hs i at.header c.index-heads-place.result s (omega arith) at.views in
           subst (λ (l : List ℕ). Appends (g.W.Sink.device c.args.w.now).held (g.W.Sink.device c.put_input_head.new.w).held l) (sym (lines-next input_head hs i at.header at.at))
           (appends-twice _ _ _ _ (input_head (take i hs) at.header) (c.loop-place.invariant.lines hs s)
-          (c.in_ok-put_input_head.ensures.takes (take i hs) at.header v (omega (arith, number)) first (omega (arith, first, fits))));
+          (c.in_ok-put_input_head.ensures.0 (take i hs) at.header v (omega (arith, number)) first (omega (arith, first, fits))));
     }
 
-pub returns-in_err-put_input_head-clause-takes : goal.returns-in_err-put_input_head-clause-takes
-returns-in_err-put_input_head-clause-takes g c = λ hs s.
+pub returns-in_err-put_input_head : goal.returns-in_err-put_input_head
+returns-in_err-put_input_head g c = counted (search rules) (λ hs s.
     let e : c.from_residual.result ≡ Err c.in_err-put_input_head.field-0.0 = search rules in
     let heads = c.args.heads.now in
     let i = c.loop-place.place in
@@ -49,9 +49,9 @@ returns-in_err-put_input_head-clause-takes g c = λ hs s.
     let number = length-take-le i hs (omega (arith, long)) in
     let fits = numbers_fit heads hs i at.header c.index-heads-place.result s (omega arith) at.views in
     rw e (lines-some input_head _ _ _ hs i at.header at.at (c.loop-place.invariant.lines hs s)
-    (c.in_err-put_input_head.ensures.takes (take i hs) at.header v (omega (arith, number)) first (omega (arith, first, fits))))
+    (c.in_err-put_input_head.ensures.0 (take i hs) at.header v (omega (arith, number)) first (omega (arith, first, fits)))))
 
-pub returns-clause-takes : goal.returns-clause-takes
-returns-clause-takes g c = λ hs s.
+pub returns : goal.returns
+returns g c = counted (search rules) (λ hs s.
     subst (λ (l : List ℕ). Appends (g.W.Sink.device c.args.w.now).held (g.W.Sink.device c.loop-place.w).held l)
-    (ap (λ l. concat (each input_head l)) (all_passed c.args.heads.now hs c.loop-place.place s (omega arith))) (c.loop-place.invariant.lines hs s)
+    (ap (λ l. concat (each input_head l)) (all_passed c.args.heads.now hs c.loop-place.place s (omega arith))) (c.loop-place.invariant.lines hs s))

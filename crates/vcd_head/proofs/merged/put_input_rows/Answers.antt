@@ -1,6 +1,6 @@
 use Rattle.std.proofs.Common.{◌≡◌, ◌+◌, ◌++◌, [], List, ℕ, Err, take, refl, sym, subst, ◌∙◌, arith, rules}
 use Rattle.vcd_text.specs.Device.{Takes}
-use Rattle.vcd_text.proofs.Writes.{appends-none, appends-twice, takes-twice}
+use Rattle.vcd_text.proofs.Writes.{appends-none, appends-twice, counted, takes-twice}
 use Rattle.vcd_head.specs.Merged.{due, written_behind}
 use Rattle.vcd_view.specs.Shown.{parts}
 use Rattle.vcd_view.proofs.RowLemmas.{read_row, rows_len}
@@ -13,7 +13,7 @@ loop-row-init g c = record { same = refl; lines = λ h v fits. ([], nothing_writ
 
 pub loop-row-preserved : goal.loop-row-preserved
 loop-row-preserved g c = record {
-  same = c.in_ok-put_input_row.ensures.counts ∙ c.loop-row.invariant.same;
+  same = c.in_ok-put_input_row.ensures.1 ∙ c.loop-row.invariant.same;
   lines = λ h v fits.
       let i = c.loop-row.row in
       let s = parts c.args.view in
@@ -32,24 +32,24 @@ loop-row-preserved g c = record {
       let more = text ++ due h c.args.first now.pending now.written (take i h.declarations) d.0 in (
         more,
         subst (λ (n : ℕ). IsWritten c.args.first h (i + 1) behind.pending n more) is.1 (subst (λ (n : ℕ). IsWritten c.args.first h (i + 1) n (written_behind d.0 now.pending now.written) more) is.0 (row_next c.args.first h i now.pending now.written text w d.0 d.1)),
-        appends-twice _ _ _ text _ puts (c.in_ok-put_input_row.ensures.takes h d.0 v d.1 fits),
+        appends-twice _ _ _ text _ puts (c.in_ok-put_input_row.ensures.0 h d.0 v d.1 fits),
       );
 }
 
-pub returns-in_err-put_input_row-clause-takes : goal.returns-in_err-put_input_row-clause-takes
-returns-in_err-put_input_row-clause-takes g c = λ h v fits.
+pub returns-in_err-put_input_row : goal.returns-in_err-put_input_row
+returns-in_err-put_input_row g c = counted (search rules) (λ h v fits.
     let e : c.from_residual.result ≡ Err c.in_err-put_input_row.field-0.0 = search rules in
     let i = c.loop-row.row in
     let now = c.loop-row.scopes in
     let (text, w, puts) = c.loop-row.invariant.lines h v fits in
     let d = declared_there (parts c.args.view) h i v (omega arith) in
-    rw e (row_some c.args.first h i now.pending now.written text _ _ _ d.0 w d.1 puts (c.in_err-put_input_row.ensures.takes h d.0 v d.1 fits))
+    rw e (row_some c.args.first h i now.pending now.written text _ _ _ d.0 w d.1 puts (c.in_err-put_input_row.ensures.0 h d.0 v d.1 fits)))
 
-pub returns-clause-takes : goal.returns-clause-takes
-returns-clause-takes g c = λ h v fits.
+pub returns : goal.returns
+returns g c = counted (search rules) (λ h v fits.
     let now = c.loop-row.scopes in
     let (text, w, puts) = c.loop-row.invariant.lines h v fits in
     let rows = rows_len _ h.codes [] c.args.view.rows.now h.declarations v.rows in
     let (scopes, count, whole) = last_lines c.args.first h c.loop-row.row now.pending now.written text w (omega (arith, rows)) in
     subst (λ (l : List ℕ). Takes (g.W.Sink.device c.args.w.now) (g.W.Sink.device c.put_closings.new.w) l c.put_closings.result) (sym whole)
-    (takes-twice _ _ _ text _ c.put_closings.result puts (c.put_closings.ensures.takes scopes count))
+    (takes-twice _ _ _ text _ c.put_closings.result puts (c.put_closings.ensures.0 scopes count)))

@@ -20,7 +20,7 @@ returns-in_err-put_lines-clause-takes g c = λ hs s.
     let text : c.text_of_exponent.result.now ≡ scale_text c.least_exponent.result = search rules in
     let whole = parts_of c.text_of_exponent.result.now hs (text ∙ ap scale_text (c.least_exponent.ensures hs s)) in
     rw e (subst (AppendsSome (g.W.Sink.device c.args.w.now).held (g.W.Sink.device c.put_lines.new.w).held) whole
-    (appends-first _ _ _ end_line (appends-first _ _ _ (concat (each input_head hs)) (c.in_err-put_lines.ensures.takes Keyword.Timescale refl))))
+    (appends-first _ _ _ end_line (appends-first _ _ _ (concat (each input_head hs)) (c.in_err-put_lines.ensures.0 Keyword.Timescale refl))))
 
 pub returns-in_err-put_input_heads-clause-takes : goal.returns-in_err-put_input_heads-clause-takes
 returns-in_err-put_input_heads-clause-takes g c = λ hs s.
@@ -28,11 +28,11 @@ returns-in_err-put_input_heads-clause-takes g c = λ hs s.
     let text : c.text_of_exponent.result.now ≡ scale_text c.least_exponent.result = search rules in
     let whole = parts_of c.text_of_exponent.result.now hs (text ∙ ap scale_text (c.least_exponent.ensures hs s)) in
     rw e (subst (AppendsSome (g.W.Sink.device c.args.w.now).held (g.W.Sink.device c.put_input_heads.new.w).held) whole
-    (appends-first _ _ _ end_line (appends-some _ _ _ _ (concat (each input_head hs)) (c.in_ok-put_lines.ensures.takes Keyword.Timescale refl) (c.in_err-put_input_heads.ensures.takes hs s))))
+    (appends-first _ _ _ end_line (appends-some _ _ _ _ (concat (each input_head hs)) (c.in_ok-put_lines.ensures.0 Keyword.Timescale refl) (c.in_err-put_input_heads.ensures.0 hs s))))
 
 pub returns-clause-takes : goal.returns-clause-takes
 returns-clause-takes g c = λ hs s.
     let text : c.text_of_exponent.result.now ≡ scale_text c.least_exponent.result = search rules in
     let whole = parts_of c.text_of_exponent.result.now hs (text ∙ ap scale_text (c.least_exponent.ensures hs s)) in
     subst (λ (l : List ℕ). Takes (g.W.Sink.device c.args.w.now) (g.W.Sink.device c.put.new.w) l c.put.result) whole
-    (takes-twice _ _ _ _ end_line c.put.result (appends-twice _ _ _ _ (concat (each input_head hs)) (c.in_ok-put_lines.ensures.takes Keyword.Timescale refl) (c.in_ok-put_input_heads.ensures.takes hs s)) c.put.ensures.0)
+    (takes-twice _ _ _ _ end_line c.put.result (appends-twice _ _ _ _ (concat (each input_head hs)) (c.in_ok-put_lines.ensures.0 Keyword.Timescale refl) (c.in_ok-put_input_heads.ensures.0 hs s)) c.put.ensures.0)

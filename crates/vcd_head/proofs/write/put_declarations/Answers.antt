@@ -3,17 +3,17 @@ use Rattle.std.specs.List.{concat}
 use Rattle.vcd_model.specs.Backward.{each}
 use Rattle.vcd_model.specs.Declarations.{enclosing}
 use Rattle.vcd_model.specs.HeadText.{rows_text, row_line, up_lines_at}
-use Rattle.vcd_text.proofs.Writes.{appends-first, takes-twice}
+use Rattle.vcd_text.proofs.Writes.{appends-first, counted, takes-twice}
 use Rattle.vcd_head.specs.Marks.{is_marked}
 use Rattle.vcd_head.proofs.write.put_declarations.Goals as goal
 
-pub returns-in_err-put_rows-clause-takes : goal.returns-in_err-put_rows-clause-takes
+pub returns-in_err-put_rows : goal.returns-in_err-put_rows
 unfolding rows_text
-returns-in_err-put_rows-clause-takes g c = λ h v.
+returns-in_err-put_rows g c = counted (search rules) (λ h v.
     let e : c.from_residual.result ≡ Err c.in_err-put_rows.field-0.0 = search rules in
-    rw e (appends-first _ _ _ (up_lines_at (is_marked c.args.marks.now) (enclosing h.declarations)) (c.in_err-put_rows.ensures.takes h v))
+    rw e (appends-first _ _ _ (up_lines_at (is_marked c.args.marks.now) (enclosing h.declarations)) (c.in_err-put_rows.ensures.0 h v)))
 
-pub returns-clause-takes : goal.returns-clause-takes
+pub returns : goal.returns
 unfolding rows_text
-returns-clause-takes g c = λ h v.
-    takes-twice _ _ _ (concat (each (row_line (λ code. code) (is_marked c.args.marks.now)) h.declarations)) (up_lines_at (is_marked c.args.marks.now) (enclosing h.declarations)) c.put_open.result (c.in_ok-put_rows.ensures.takes h v) (c.put_open.ensures.takes h v)
+returns g c = counted (search rules) (λ h v.
+    takes-twice _ _ _ (concat (each (row_line (λ code. code) (is_marked c.args.marks.now)) h.declarations)) (up_lines_at (is_marked c.args.marks.now) (enclosing h.declarations)) c.put_open.result (c.in_ok-put_rows.ensures.0 h v) (c.put_open.ensures.0 h v))

@@ -1,6 +1,7 @@
 use Rattle.std.proofs.Common.{◌≡◌, Option, Err, ℕ, refl, subst, ◌∙◌, rules}
 use Rattle.vcd_head.specs.Marks.{is_marked}
 use Rattle.vcd_head.proofs.OpenScopes.{Closes, closes_none, closes_next, closes_some}
+use Rattle.vcd_text.proofs.Writes.{counted}
 use Rattle.vcd_head.proofs.write.put_open.Goals as goal
 
 pub loop-next-init : goal.loop-next-init
@@ -18,9 +19,9 @@ loop-next-preserved g c = record {
       closes_next m h.declarations c.in-Some.scope c.scope_of-next.result _ _ _ so_far c.in_ok-put_up.ensures.0 (c.scope_of-next.ensures.scope h v so_far.within);
 }
 
-pub returns-in_err-put_up-clause-takes : goal.returns-in_err-put_up-clause-takes
-returns-in_err-put_up-clause-takes g c = λ h v.
+pub returns-in_err-put_up : goal.returns-in_err-put_up
+returns-in_err-put_up g c = counted (search rules) (λ h v.
     let m = is_marked c.args.marks.now in
     let e : c.from_residual.result ≡ Err c.in_err-put_up.field-0.0 = search rules in
     let so_far = subst (λ (o : Option ℕ). Closes m h.declarations o (g.W.Sink.device c.args.w.now).held (g.W.Sink.device c.loop-next.w).held) c.in-Some.is (c.loop-next.invariant.closes h v) in
-    rw e (closes_some m h.declarations c.in-Some.scope _ _ _ so_far c.in_err-put_up.ensures.0)
+    rw e (closes_some m h.declarations c.in-Some.scope _ _ _ so_far c.in_err-put_up.ensures.0))

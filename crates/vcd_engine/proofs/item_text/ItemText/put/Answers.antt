@@ -18,7 +18,7 @@ returns-clause-text g c = λ h before kept e views is at has tells.
       (
         time_due t.written c.args.time ++ item_line e.item,
         text_with before kept e c.args.time t at has tells,
-        takes-twice _ _ _ (time_due t.written c.args.time) (item_line e.item) c.put_item.result c.in_ok-put_time_unless.ensures.0 (c.put_item.ensures.takes h e.item views is),
+        takes-twice _ _ _ (time_due t.written c.args.time) (item_line e.item) c.put_item.result c.in_ok-put_time_unless.ensures.0 (c.put_item.ensures.0 h e.item views is),
       ),
       if_ok c.put_item.result _ (written_with before kept e c.args.time at),
     )
