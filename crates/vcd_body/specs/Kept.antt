@@ -1,5 +1,5 @@
 -- What a table keeps of a code, and what each call makes of it.
-use Rattle.std.specs.Prelude.{◌≡◌, ◌≢◌, ℕ, ◌+◌, ◌-◌, ◌^◌, ◌==◌, ◌&&◌, nat_lt, nat_le, min, Bool, true, false, not, cond, List, [], ◌∷◌, length, map, get_or, slice_get, slice_set, Option, Some, None}
+use Rattle.std.specs.Prelude.{◌%◌, ◌≡◌, ◌≢◌, ℕ, ◌+◌, ◌-◌, ◌^◌, ◌==◌, ◌&&◌, nat_lt, nat_le, min, Bool, true, false, not, cond, List, [], ◌∷◌, length, map, get_or, slice_get, slice_set, Option, Some, None}
 use Rattle.std.specs.List.{last_or}
 use Rattle.std.specs.Str.{byte, bytes_eq, str_to_ascii_lowercase}
 use Rattle.vcd_model.specs.Values.{Value, extend, same_value, value_with}
@@ -86,6 +86,10 @@ is_digit (Some e) d = d == e
 -- the last digit was a, and is b
 abbrev pub goes_from : ℕ → ℕ → Option ℕ → Option ℕ → Bool
 goes_from a b before after = is_digit before a && is_digit after b
+
+-- the last digit of a number in binary
+abbrev pub last_bit : ℕ → Option ℕ
+last_bit n = Some (48 + n % 2)
 
 -- there is a value, and it is another than this
 abbrev pub differs : Option Value → Value → Bool

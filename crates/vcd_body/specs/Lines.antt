@@ -3,7 +3,9 @@ use Rattle.std.specs.Prelude.{◌≡◌, ℕ, ◌+◌, ◌-◌, ◌≤◌, List,
 use Rattle.std.specs.Str.{str_to_ascii_lowercase}
 use Rattle.vcd_model.specs.Values.{extend, short}
 use Rattle.vcd_body.specs.Binary.{binary_digits}
-use Rattle.vcd_body.specs.Spelled.{HasChange, bytes_without}
+use Rattle.vcd_body.specs.Spelled.{HasChange, HasSpelled, bytes_without}
+use Rattle.vcd_view.specs.declared.view.HeadView.{HeadView}
+use Rattle.vcd_body.specs.declared.ahead.Plain.{Plain}
 use Rattle.vcd_body.specs.declared.bits.Bits.{Bits}
 use Rattle.vcd_body.specs.declared.item.Form.TheVariants as form
 
@@ -27,3 +29,7 @@ LeavesShortest digits bits k = (k ≤ length digits) × (MayBe bits digits → (
 abbrev pub LeavesLine : List ℕ → ℕ → ℕ → List ℕ → Option Bits → ℕ → ℕ → Type 0
 LeavesLine bytes from to digits bits code_at k = (k ≤ length digits) × ((code : List ℕ) → HasChange bytes from to form.Vector digits code → slice_index bytes (to - 1) ≡ 10 → to ≡ code_at + length code + 1 → MayBe bits digits → (size : ℕ)
     → bytes_without bytes from to k ≡ 98 ∷ short (extend (str_to_ascii_lowercase digits) size) ++ (32 ∷ code ++ 10 ∷ []))
+
+-- an item that was taken ahead is spelled by these bytes, from one place up to another
+abbrev pub SpellsPlain : HeadView → List ℕ → ℕ → ℕ → Plain → Type 0
+SpellsPlain v bytes from to p = HasSpelled v bytes from to p.at p.code_at p.text.now p.item

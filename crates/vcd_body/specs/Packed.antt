@@ -40,9 +40,12 @@ code_among n bytes place = cond (nat_lt place (n - quarter_of n)) (code_before (
 abbrev pub digits_in : ℕ → List ℕ → List ℕ
 digits_in n bytes = map (λ place. digit_of (code_among n bytes place)) (range_with_len 0 n)
 
--- a share has the digits of each quarter
+-- a share has those digits at a place, or at each before the end of a quarter
+abbrev pub HasFour : List ℕ → List ℕ → ℕ → ℕ → Type 0
+HasFour share text quarter place = get_or share place 0 ≡ four_codes text quarter place
+
 abbrev pub ArePacked : List ℕ → List ℕ → ℕ → Type 0
-ArePacked share text quarter = (place : ℕ) → place < quarter → get_or share place 0 ≡ four_codes text quarter place
+ArePacked share text quarter = (place : ℕ) → place < quarter → HasFour share text quarter place
 
 -- a share has room for a byte of each quarter of a text, of 16 digits or more
 pub record MayPack (share text : List ℕ) (n : ℕ) : Type 0 where

@@ -1,6 +1,6 @@
 // Changes whose bytes in the chunk are the line that would be written.
 ghost use Rattle.std.specs.Prelude.{◌≡◌, ◌≢◌, ℕ, ◌+◌, ◌-◌, ◌^◌, ◌<◌, ◌≤◌, List, [], true, false, drop, length, slice_index, slice_range, Some, IfSome};
-ghost use Rattle.vcd_body.specs.Names.{AreBitsAt, BodyItem, HasBits, HasChange, HasMark, HasSpelled, HeadView, Header, IsBinaryAt, IsDigitLine, IsItem, IsLowerAt, IsNeedless, IsSizedItem, IsTextLine, IsViewOf, LeavesLine, LeavesShortest, StandsAt, binary_digits, bit_at, bytes_without, extend, extended, is_white_space, item_line, short, str_to_ascii_lowercase, time_line};
+ghost use Rattle.vcd_body.specs.Names.{AreBitsAt, BodyItem, HasBits, HasChange, HasMark, HeadView, Header, IsBinaryAt, IsDigitLine, IsItem, IsLowerAt, IsNeedless, IsSizedItem, IsTextLine, IsViewOf, LeavesLine, LeavesShortest, SpellsPlain, StandsAt, binary_digits, bit_at, bytes_without, extend, extended, is_white_space, item_line, short, str_to_ascii_lowercase, time_line};
 
 use crate::ahead::Plain;
 use crate::bits::Bits;
@@ -251,11 +251,9 @@ fn left_out_of_vector(
 /// its bytes may be the line all the same.
 #[inline(always)]
 pub fn left_out(plain: Plain<'_>, bytes: &[u8], from: usize, to: usize) -> Option<usize>
-    requires { (v : HeadView)
-        × HasSpelled v bytes.now from to plain.at plain.code_at plain.text.now plain.item }
+    requires { (v : HeadView) × SpellsPlain v bytes.now from to plain }
     ensures { IfSome result (λ k. (from + 1 + k ≤ to) × ((v : HeadView) (h : Header) (x : BodyItem)
-        → HasSpelled v bytes.now from to plain.entry.at plain.entry.code_at
-        plain.entry.text.now plain.entry.item
+        → SpellsPlain v bytes.now from to plain.entry
         → HasBits plain.entry.item plain.entry.text.now plain.entry.bits
         → IsSizedItem v.codes.now plain.entry.item plain.entry.most → IsViewOf v h
         → IsItem h.codes plain.entry.text.now plain.entry.item x

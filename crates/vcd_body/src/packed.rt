@@ -1,6 +1,6 @@
 // Digits in a share: a byte each, or four to a byte, one of each quarter of them.
 ghost use Rattle.std.specs.Prelude.{◌≡◌, ◌≢◌, ◌≤◌, ◌<◌, ◌+◌, ◌-◌, ◌*◌, ◌/◌, ◌==◌, ℕ, Some, get_or, length, map, slice_get, true};
-ghost use Rattle.vcd_body.specs.Names.{ArePacked, AreTwo, MayPack, chunk, code_among, code_of, code_or, digit_of, digits_in, four_codes, held_digit, quarter_of};
+ghost use Rattle.vcd_body.specs.Names.{ArePacked, AreTwo, HasFour, MayPack, chunk, code_among, code_of, code_or, digit_of, digits_in, four_codes, held_digit, quarter_of};
 
 use std::simd::prelude::*;
 
@@ -173,8 +173,7 @@ fn pack_16(share: &mut [u8], text: &[u8], quarter: usize, at: usize)
     requires within { at + 16 ≤ quarter }
     requires room { quarter ≤ length share.old }
     requires quarter { 3 * quarter ≤ length text.now }
-    ensures packed { (k : ℕ) → k < 16
-        → get_or share.new (at + k) 0 ≡ four_codes text.now quarter (at + k) }
+    ensures packed { (k : ℕ) → k < 16 → HasFour share.new text.now quarter (at + k) }
     ensures before { (place : ℕ) → place < at → get_or share.new place 0 ≡ get_or share.old place 0 }
 {
     let third = codes_16(text, at + 2 * quarter);
@@ -224,7 +223,7 @@ fn pack_bits_16(share: &mut [u8], text: &[u8], quarter: usize, at: usize) -> u8x
     requires quarter { 3 * quarter ≤ length text.now }
     ensures long { length result ≡ 16 }
     ensures packed { (k : ℕ) → k < 16 → get_or result k 0 < 2
-        → get_or share.new (at + k) 0 ≡ four_codes text.now quarter (at + k) }
+        → HasFour share.new text.now quarter (at + k) }
     ensures before { (place : ℕ) → place < at → get_or share.new place 0 ≡ get_or share.old place 0 }
 {
     let first = bits_16(text, at);

@@ -1,9 +1,6 @@
 // The phrases of a body, by what they begin with.
 ghost use Rattle.std.specs.Prelude.{◌≡◌, ◌≢◌, true, ◌-◌, ◌^◌, ◌<◌, ◌≤◌, length, take, drop, Some, None, slice_get, OnOk, IfOk, IfErr, ◌||◌, nat_le};
-ghost use Rattle.vcd_body.specs.Names.{Advances, AreRegsWith, Begins, ChangeForm, Code, HasGoodValue, IsGoodText, IsScalar, IsSized, MayBe, Names, OpensOrRefuses, ReadsCode, ReadsComment, ReadsMark, ReadsRest, ReadsScalar, call_end, is_value_digit, list_all, mark_time, seen, source_of, token_of, value_of};
-ghost use Rattle.vcd_body.specs.declared.words.First.TheVariants as first;
-ghost use Rattle.vcd_body.specs.declared.item.Form.TheVariants as form;
-ghost use Rattle.vcd_body.specs.declared.item.Item.TheVariants as item;
+ghost use Rattle.vcd_body.specs.Names.{Advances, AreRegsWith, Begins, ChangeForm, Code, First, Form, HasGoodValue, IsGoodText, IsScalar, IsSized, Item, MayBe, Names, OpensOrRefuses, ReadsCode, ReadsComment, ReadsMark, ReadsRest, ReadsScalar, call_end, is_value_digit, list_all, mark_time, seen, source_of, token_of, value_of};
 
 use crate::bits::Bits;
 use crate::fault::BodyFault;
@@ -24,9 +21,9 @@ pub(crate) fn time_in(token: &[u8]) -> Option<u64>
 /// Takes the time mark that a token is, and returns its time. A fault changes nothing.
 #[inline(always)]
 pub(crate) fn read_mark(token: &[u8], regs: &mut Regs) -> Result<u64, BodyFault>
-    requires { Begins token.now first.Mark }
+    requires { Begins token.now First.Mark }
     ensures time { ReadsMark token.now regs.old result }
-    ensures regs { AreRegsWith item.Time regs.old regs.new result }
+    ensures regs { AreRegsWith Item.Time regs.old regs.new result }
     ensures own { IfErr result (λ fault. fault ≢ BodyFault.ReadFailed) }
 {
     let Some(time) = time_in(token) else {
@@ -42,7 +39,7 @@ pub(crate) fn scalar_code(token: &[u8], view: HeadView<'_>) -> Result<Found, Bod
     requires begins { IsScalar token.now }
     ensures code { ReadsScalar view.entry token.now result }
     ensures sound { IfOk result
-        (λ found. IsGoodText view.entry.codes.now found.place form.Scalar (take 1 token.now)) }
+        (λ found. IsGoodText view.entry.codes.now found.place Form.Scalar (take 1 token.now)) }
     ensures names { IfOk result (λ found. Names view.entry found.place (drop 1 token.now)) }
     ensures sized { IfOk result (IsSized view.entry.codes.now) }
     ensures own { IfErr result (λ fault. fault ≢ BodyFault.ReadFailed) }
@@ -61,7 +58,7 @@ pub(crate) fn scalar_code(token: &[u8], view: HeadView<'_>) -> Result<Found, Bod
 /// looked at.
 #[inline(always)]
 pub(crate) fn vector_text(token: &[u8], bits: Option<Bits>) -> Result<&[u8], BodyFault>
-    requires begins { Begins token.now first.Vector }
+    requires begins { Begins token.now First.Vector }
     requires bits { MayBe bits (drop 1 token.now) }
     ensures opens { OpensOrRefuses token.now result }
     ensures text { IfOk result (λ text. text.now ≡ drop 1 token.now) }
@@ -79,7 +76,7 @@ pub(crate) fn vector_text(token: &[u8], bits: Option<Bits>) -> Result<&[u8], Bod
 /// Returns the text of a real number's change: 1 to 64 bytes.
 #[inline(always)]
 pub(crate) fn real_text(token: &[u8]) -> Result<&[u8], BodyFault>
-    requires begins { Begins token.now first.Real }
+    requires begins { Begins token.now First.Real }
     ensures opens { OpensOrRefuses token.now result }
     ensures text { IfOk result (λ text. text.now ≡ drop 1 token.now) }
     ensures few { IfOk result (λ text. (0 < length text.now) × (length text.now ≤ 64)) }
@@ -151,9 +148,9 @@ pub(crate) fn read_vector<S: Source>(
     view: HeadView<'_>,
 ) -> Result<usize, BodyFault>
     requires failures { S.failures (source_of feed.old) < 2 ^ 64 - 1 }
-    requires begins { Begins (token_of feed.old).bytes first.Vector }
+    requires begins { Begins (token_of feed.old).bytes First.Vector }
     ensures reads { ReadsRest view.entry ChangeForm.Vector feed.old feed.new result }
-    ensures sound { HasGoodValue view.entry form.Vector feed.new result }
+    ensures sound { HasGoodValue view.entry Form.Vector feed.new result }
     ensures advances { Advances S.failures feed.old feed.new (call_end result) }
     ensures further { OnOk result (seen feed.old < seen feed.new) }
     ensures bounded { seen feed.old < 2 ^ 63 → seen feed.new < 2 ^ 63 }
@@ -172,9 +169,9 @@ pub(crate) fn read_real<S: Source>(
     view: HeadView<'_>,
 ) -> Result<usize, BodyFault>
     requires failures { S.failures (source_of feed.old) < 2 ^ 64 - 1 }
-    requires begins { Begins (token_of feed.old).bytes first.Real }
+    requires begins { Begins (token_of feed.old).bytes First.Real }
     ensures reads { ReadsRest view.entry ChangeForm.RealText feed.old feed.new result }
-    ensures sound { HasGoodValue view.entry form.RealText feed.new result }
+    ensures sound { HasGoodValue view.entry Form.RealText feed.new result }
     ensures advances { Advances S.failures feed.old feed.new (call_end result) }
     ensures further { OnOk result (seen feed.old < seen feed.new) }
     ensures bounded { seen feed.old < 2 ^ 63 → seen feed.new < 2 ^ 63 }

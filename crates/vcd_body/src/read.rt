@@ -61,8 +61,7 @@ fn read_phrase<S: Source>(
     ensures sound { IsGoodPhrase view.entry.codes.now feed.new result }
     ensures regs { AreRegsPast regs.old regs.new result }
     ensures advances { Advances S.failures feed.old feed.new (call_end result) }
-    ensures progress { IfOk result
-        (λ item. item ≢ Some Item.Finish → seen feed.old < seen feed.new) }
+    ensures progress { IfOk result (λ one. one ≢ Some Item.Finish → seen feed.old < seen feed.new) }
     ensures bounded { seen feed.new < 2 ^ 63 }
 {
     if !next_token(feed)? {

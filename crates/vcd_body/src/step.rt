@@ -1,6 +1,6 @@
 //! What a change of a value is, by its last digit.
 ghost use Rattle.std.specs.Prelude.{◌≡◌, ◌<◌, ◌+◌, ◌%◌, ℕ, ◌==◌, length, not, Some};
-ghost use Rattle.vcd_body.specs.Names.{goes_from, last_digit_in, model_form, value_with};
+ghost use Rattle.vcd_body.specs.Names.{goes_from, last_bit, last_digit_in, model_form, value_with};
 
 use crate::item::Form;
 
@@ -59,10 +59,8 @@ pub(crate) fn step_to_text(differs: bool, before: Option<u8>, form: Form, text: 
 #[inline(always)]
 pub(crate) fn step_by_number(before: usize, after: usize) -> Step
     ensures differs { result.differs ≡ not (before == after) }
-    ensures rises { result.rises
-        ≡ goes_from 48 49 (Some (48 + before % 2)) (Some (48 + after % 2)) }
-    ensures falls { result.falls
-        ≡ goes_from 49 48 (Some (48 + before % 2)) (Some (48 + after % 2)) }
+    ensures rises { result.rises ≡ goes_from 48 49 (last_bit before) (last_bit after) }
+    ensures falls { result.falls ≡ goes_from 49 48 (last_bit before) (last_bit after) }
 {
     let first = before % 2;
     let last = after % 2;

@@ -20,10 +20,10 @@ pub use Rattle.vcd_text.specs.Advances.{CallEnd}
 pub use Rattle.vcd_text.specs.Ahead.{bytes_of, passed_of, start_of}
 pub use Rattle.vcd_text.specs.Device.{Counts, Puts, PutsTo, PutsWhere, TakenBy, Takes}
 pub use Rattle.vcd_text.specs.Feed.{seen, source_of, token_of}
-pub use Rattle.vcd_view.specs.Entries.{are_right, is_right, text_in}
+pub use Rattle.vcd_view.specs.Entries.{KeepsRight, are_right, is_right, text_in}
 pub use Rattle.vcd_view.specs.Finds.{Finds}
 pub use Rattle.vcd_view.specs.Keys.{key_in}
-pub use Rattle.vcd_view.specs.Over.{AnyDeclared, AnyHeader, AnyRow, AnyVariable}
+pub use Rattle.vcd_view.specs.Over.{AnyDeclared, AnyHeader, AnyHeld, AnyRow, AnyVariable}
 pub use Rattle.vcd_view.specs.Shown.{parts}
 pub use Rattle.vcd_view.specs.Views.{AreHeld, IsIndex, IsSize, IsViewOf, Views, counted_from_one, reference_of, type_of}
 pub use Rattle.vcd_view.specs.declared.view.Code.{Code}

@@ -1,7 +1,7 @@
 // The entries by which codes are looked up: how they are filled. Any code may have any place among
 // them, or none: where an entry is decides only how fast a look-up is.
 ghost use Rattle.std.specs.Prelude.{◌≡◌, ◌*◌, ◌^◌, ◌≤◌, ◌<◌, ℕ, List, true, length, set, slice_get, Some, IfOk, IfSome};
-ghost use Rattle.vcd_head.specs.Names.{Code, are_right, is_right, key_in, text_in};
+ghost use Rattle.vcd_head.specs.Names.{Code, KeepsRight, are_right, is_right, key_in, text_in};
 
 use std::alloc::{AllocError, Global};
 use vcd_view::{
@@ -50,8 +50,7 @@ fn count_for(codes: usize) -> usize
 
 /// Writes the entry of each code.
 fn fill(entries: &mut [Entry], text: &[u8], codes: &[Code], seed: CodeSeed)
-    ensures right { are_right text.now codes.now entries.old ≡ true
-        → are_right text.now codes.now entries.new ≡ true }
+    ensures right { KeepsRight text.now codes.now entries.old entries.new }
     ensures len { length entries.new ≡ length entries.old }
 {
     for (place, code) in codes.iter().enumerate() {
@@ -65,8 +64,7 @@ fn fill(entries: &mut [Entry], text: &[u8], codes: &[Code], seed: CodeSeed)
 #[inline(always)]
 fn enter(entries: &mut [Entry], place: usize, code: Code, bytes: &[u8], seed: CodeSeed)
     ensures right { (text : List ℕ) (codes : List Code) → slice_get codes place ≡ Some code
-        → bytes.now ≡ text_in text code.start code.len → are_right text codes entries.old ≡ true
-        → are_right text codes entries.new ≡ true }
+        → bytes.now ≡ text_in text code.start code.len → KeepsRight text codes entries.old entries.new }
     ensures len { length entries.new ≡ length entries.old }
 {
     let key = key_of(bytes);
@@ -99,7 +97,7 @@ fn free_near(entries: &[Entry], own: usize) -> Option<usize>
 /// looked at are taken.
 fn put_hashed(entries: &mut [Entry], hash: u64, entry: Entry)
     ensures right { (text : List ℕ) (codes : List Code) → is_right text codes entry ≡ true
-        → are_right text codes entries.old ≡ true → are_right text codes entries.new ≡ true }
+        → KeepsRight text codes entries.old entries.new }
     ensures len { length entries.new ≡ length entries.old }
 {
     for looks in 0..MOST_LOOKS {

@@ -1,6 +1,6 @@
 // The order of codes by their bytes.
 ghost use Rattle.std.specs.Prelude.{◌≡◌, ◌^◌, ◌<◌, ◌≤◌, List, length, map, get_or, IfOk, IfSome};
-ghost use Rattle.vcd_head.specs.Names.{AreFronts, AreHeld, AreRanks, IdCode, IsIndex, bytes_at, front_in, order_of, place_in_rank, rank_of};
+ghost use Rattle.vcd_head.specs.Names.{AnyHeld, AreFronts, AreRanks, IsIndex, bytes_at, front_in, order_of, place_in_rank, rank_of};
 
 use std::alloc::{AllocError, Global};
 use std::cmp::Ordering;
@@ -25,8 +25,7 @@ pub(crate) struct Front {
 
 /// Returns the places of the codes in the order of their bytes, which lie in the text.
 pub(crate) fn index_of(alloc: Global, text: &[u8], codes: &[Code]) -> Result<Vec<usize>, AllocError>
-    ensures { (cs : List IdCode) → AreHeld text.now codes.now cs
-        → IfOk result (λ index. IsIndex cs index.items) }
+    ensures { AnyHeld text.now codes.now (λ cs. IfOk result (λ index. IsIndex cs index.items)) }
 {
     match index_by_ranks(alloc, text, codes)? {
         Some(index) => Ok(index),
@@ -41,8 +40,8 @@ fn index_by_ranks(
     text: &[u8],
     codes: &[Code],
 ) -> Result<Option<Vec<usize>>, AllocError>
-    ensures { (cs : List IdCode) → AreHeld text.now codes.now cs
-        → IfOk result (λ found. IfSome found (λ index. IsIndex cs index.items)) }
+    ensures { AnyHeld text.now codes.now (λ cs.
+        IfOk result (λ found. IfSome found (λ index. IsIndex cs index.items))) }
 {
     let Some(ranks) = ranks_of(alloc, text, codes)? else {
         return Ok(None);
@@ -56,8 +55,7 @@ fn index_by_ranks(
 /// Returns the ranks of the codes, in their order of declaration, if a rank has all of the bytes
 /// and the place of each.
 fn ranks_of(alloc: Global, text: &[u8], codes: &[Code]) -> Result<Option<Vec<usize>>, AllocError>
-    ensures { IfOk result (λ found. IfSome found (λ ranks.
-        AreRanks text.now codes.now ranks.items)) }
+    ensures { IfOk result (λ some. IfSome some (λ ranks. AreRanks text.now codes.now ranks.items)) }
 {
     if codes.len() > PLACES {
         return Ok(None);
@@ -96,8 +94,7 @@ fn leave_places(ranks: &mut [usize])
 
 /// Returns the places of codes of any length in the order of their bytes.
 fn index_by_fronts(alloc: Global, text: &[u8], codes: &[Code]) -> Result<Vec<usize>, AllocError>
-    ensures { (cs : List IdCode) → AreHeld text.now codes.now cs
-        → IfOk result (λ index. IsIndex cs index.items) }
+    ensures { AnyHeld text.now codes.now (λ cs. IfOk result (λ index. IsIndex cs index.items)) }
 {
     let mut fronts = fronts_of(alloc, text, codes)?;
     fronts.sort_unstable_by(|a, b| order_of(text, codes, *a, *b));

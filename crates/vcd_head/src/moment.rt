@@ -1,6 +1,6 @@
 // Times with a unit, in ticks of a header's time scale.
 ghost use Rattle.std.specs.Prelude.{◌≡◌, ◌*◌, ◌/◌, ◌^◌, ◌<◌, pos, ◌+ℤ◌, nat_abs, option_map};
-ghost use Rattle.vcd_head.specs.Names.{Header, IsViewOf, Scale, SomeIff, asked, div_ceil, moment_ticks, tick_fault_number, ticks as ticks_of, told, with_unit};
+ghost use Rattle.vcd_head.specs.Names.{Header, IsViewOf, Scale, SomeIff, asked, div_ceil, moment_ticks, tick_fault_number, ticks, told, with_unit};
 
 use crate::words::unit_of;
 use vcd_view::HeadView;
@@ -75,8 +75,7 @@ pub fn ticks(view: HeadView<'_>, moment: Moment, up: bool) -> Result<u64, TickFa
 /// Returns so many units in ticks, if they are fewer than 2^64. Unit and tick are powers of ten in
 /// seconds.
 fn unit_ticks(number: u64, unit: i8, tick: i8, up: bool) -> Option<u64>
-    ensures { SomeIff result (ticks_of number unit tick up < 2 ^ 64)
-        (ticks_of number unit tick up) }
+    ensures { SomeIff result (ticks number unit tick up < 2 ^ 64) (ticks number unit tick up) }
 {
     let unit = power_of(unit);
     let tick = power_of(tick);

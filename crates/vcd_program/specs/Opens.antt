@@ -1,5 +1,5 @@
 -- Inputs that are opened one by one, under which names; and why they are not.
-use Rattle.std.specs.Prelude.{◌≡◌, ◌⊎◌, ℕ, List, [], ◌∷◌, ◌++◌, codes, Option, Some, None, option_map, Result, Ok, Err}
+use Rattle.std.specs.Prelude.{◌≡◌, ◌⊎◌, ℕ, List, [], ◌∷◌, ◌++◌, codes, map, string_bytes, String, Option, Some, None, option_map, Result, Ok, Err}
 use Rattle.std.specs.Borrow.{Bor}
 use Rattle.clap.specs.Words.{Text}
 use Rattle.vcd_program.specs.declared.host.OpenFault.{OpenFault}
@@ -15,6 +15,10 @@ called (Some name) = name
 -- a borrowed name as text
 abbrev pub text_of : Option (Bor Text) → Option Text
 text_of name = option_map (λ text. text.now) name
+
+-- to the names that inputs are called by, that of one more was added
+abbrev pub AddsName : {A : Type 0} → Option (Bor Text) → List (String A) → List (String A) → Type 0
+AddsName name old new = map string_bytes new ≡ map string_bytes old ++ called (text_of name) ∷ []
 
 -- In what follows `opens` says what a call of `open` may return for a name, and what it leaves the
 -- host.

@@ -1,5 +1,5 @@
 -- The entries by which codes are looked up.
-use Rattle.std.specs.Prelude.{◌≡◌, ℕ, ◌+◌, ◌-◌, ◌*◌, ◌/◌, ◌%◌, ◌^◌, ◌==◌, ◌&&◌, ◌||◌, nat_le, bit_and, bit_or, bit_xor, not, cond, Bool, false, List, [], ◌∷◌, length, slice_get, slice_range, Option, Some, None, option_map, unwrap_or}
+use Rattle.std.specs.Prelude.{◌≡◌, ℕ, ◌+◌, ◌-◌, ◌*◌, ◌/◌, ◌%◌, ◌^◌, ◌==◌, ◌&&◌, ◌||◌, nat_le, bit_and, bit_or, bit_xor, not, cond, Bool, true, false, List, [], ◌∷◌, length, slice_get, slice_range, Option, Some, None, option_map, unwrap_or}
 use Rattle.std.specs.List.{list_all}
 use Rattle.std.specs.Option.{option_or}
 use Rattle.vcd_view.specs.declared.view.Code.{Code}
@@ -27,6 +27,10 @@ is_right text codes e = (e.key == 0) || (nat_le (2 ^ 63) e.key || unwrap_or (opt
 -- each entry is
 abbrev pub are_right : List ℕ → List Code → List Entry → Bool
 are_right text codes es = list_all (is_right text codes) es
+
+-- so each is after a call where it was before
+abbrev pub KeepsRight : List ℕ → List Code → (old new : List Entry) → Type 0
+KeepsRight text codes old new = are_right text codes old ≡ true → are_right text codes new ≡ true
 
 -- the number with a lower digit after it, in 64 bits
 abbrev pub above : ℕ → ℕ → ℕ

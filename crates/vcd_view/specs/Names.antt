@@ -15,5 +15,5 @@ pub use Rattle.vcd_view.specs.Keys.{AreBytes, key_in}
 pub use Rattle.vcd_view.specs.Keywords.{model_keyword}
 pub use Rattle.vcd_view.specs.Needs.{room, value_bytes}
 pub use Rattle.vcd_view.specs.NewCode.{digits_of}
-pub use Rattle.vcd_view.specs.Over.{AnyCodes, AnyDeclared, AnyHeader, AnyRow, FitsEachInput}
+pub use Rattle.vcd_view.specs.Over.{AnyCodes, AnyDeclared, AnyHeader, AnyHeld, AnyRow, FitsEachInput}
 pub use Rattle.vcd_view.specs.Views.{AreHeld, IsIndex, IsViewOf, code_text, reference_of, type_of}

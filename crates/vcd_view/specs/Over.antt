@@ -6,7 +6,7 @@ use Rattle.vcd_model.specs.Declarations.{Declaration, IdCode, Variable}
 use Rattle.vcd_model.specs.Header.{Header}
 use Rattle.vcd_view.specs.Needs.{room, view_size}
 use Rattle.vcd_view.specs.Shown.{parts}
-use Rattle.vcd_view.specs.Views.{IsCode, IsViewOf}
+use Rattle.vcd_view.specs.Views.{AreHeld, IsCode, IsViewOf}
 use Rattle.vcd_view.specs.declared.view.Code.{Code}
 use Rattle.vcd_view.specs.declared.view.HeadView.{HeadView}
 use Rattle.vcd_view.specs.declared.view.Need.{Need}
@@ -30,6 +30,10 @@ AnyVariable view row Holds = (h : Header) (v : Variable) → IsViewOf view h →
 -- this holds of any codes whose bytes are in the text where it says
 abbrev pub AnyCodes : List ℕ → List Code → (List IdCode → Type 0) → Type 0
 AnyCodes text codes Holds = (ks : List IdCode) → AllZip (IsCode text) codes ks → Holds ks
+
+-- so, where no two of them have the same bytes
+abbrev pub AnyHeld : List ℕ → List Code → (List IdCode → Type 0) → Type 0
+AnyHeld text codes Holds = (cs : List IdCode) → AreHeld text codes cs → Holds cs
 
 -- with what is needed, each input of the header fits the bound
 abbrev pub FitsEachInput : HeadView → Need → Type 0

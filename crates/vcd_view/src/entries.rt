@@ -2,7 +2,7 @@
 // may have any place among them, and two codes the same one: the place of an entry decides only how
 // fast a look-up is.
 ghost use Rattle.std.specs.Prelude.{◌≡◌, ◌+◌, ◌-◌, ◌%◌, ◌^◌, ◌<◌, ◌≤◌, ℕ, List, true, bit_and, length, slice_get, Some, IfSome};
-ghost use Rattle.vcd_view.specs.Names.{AreHeld, Finds, HasEntry, IdCode, IsAt, above, are_right, beside, entry_after, entry_in, key_in, most_of, number_in, place_told, told_by};
+ghost use Rattle.vcd_view.specs.Names.{AnyHeld, Finds, HasEntry, IsAt, above, are_right, beside, entry_after, entry_in, key_in, most_of, number_in, place_told, told_by};
 
 use crate::code_hash::CodeSeed;
 use crate::key::key_of;
@@ -136,8 +136,8 @@ pub(crate) fn place_hashed(
     code: &[u8],
 ) -> Option<usize>
     requires right { are_right text.now codes.now entries.now ≡ true }
-    ensures found { (cs : List IdCode) → AreHeld text.now codes.now cs
-        → IfSome result (λ place. Finds cs code.now (Some place)) }
+    ensures found { AnyHeld text.now codes.now (λ cs.
+        IfSome result (λ place. Finds cs code.now (Some place))) }
     ensures within { IfSome result (λ place. place < length codes.now) }
 {
     let key = key_of(code);

@@ -150,7 +150,10 @@ text_of word = option_map (λ text. text.now) word
 abbrev pub texts_of : Option (Bor (List (Bor Text))) → Option (List Text)
 texts_of words = option_map (λ words. map (λ word. word.now) words.now) words
 
--- the command of borrowed words
+-- the command of borrowed words, such as a merge of these files
+abbrev pub merge_command : List (Bor Text) → model.Command
+merge_command files = model.Command.Merge (map (λ file. file.now) files)
+
 abbrev pub words_command : Words → model.Command
 words_command words.Check = model.Command.Check
 words_command words.List = model.Command.Listing
@@ -158,7 +161,7 @@ words_command (words.Pick names) = model.Command.Pick (map (λ name. name.now) n
 words_command (words.Cut from to) = model.Command.Cut from.now to.now
 words_command (words.Sample at names) = model.Command.Sample at.now (some_names names)
 words_command (words.Edges names) = model.Command.Edges (some_names names)
-words_command (words.Merge files) = model.Command.Merge (map (λ file. file.now) files.now)
+words_command (words.Merge files) = merge_command files.now
 
 -- the fault is the one that the words have; memory is none of theirs
 abbrev pub IsFaultIn : {X : Type 0} → UseFault → Result X model.UseFault → Type 0

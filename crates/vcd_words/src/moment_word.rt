@@ -1,7 +1,7 @@
 //! Words that are numbers and times: the times after `--from` and `--to`, and those between the
 //! commas of `--at`.
 ghost use Rattle.std.specs.Prelude.{◌≡◌, ◌∷◌, ◌++◌, [], ℕ, List, None, OnOk, true, Some, IfErr, IfOk, cond, filter_map, length, map, option_map};
-ghost use Rattle.vcd_words.specs.Names.{asked, cut_of, decimal_value, is_ascii_digit, is_asked, is_number, IsFaultIn, IsFaultOf, IsOrderOf, model_want, ModelMoment, moment_of, parts, sample_of, some_names, take_while, time_of, times_of, Want as ModelWant};
+ghost use Rattle.vcd_words.specs.Names.{asked, cut_in, decimal_value, is_ascii_digit, is_asked, is_number, IsFaultIn, IsFaultOf, IsOrderOf, model_want, ModelMoment, moment_of, parts, sample_of, some_names, take_while, time_of, times_of, Want as ModelWant};
 
 use crate::job::{UseFault, Want};
 use crate::words::copied_some;
@@ -51,11 +51,9 @@ pub(crate) fn time_of<'a>(word: &'a str) -> Result<Moment, UseFault<'a>>
 /// the first may not be above the second; with a unit that is to be seen once the time scale is
 /// known.
 pub(crate) fn cut_of<'a>(from: &'a str, to: &'a str) -> Result<Want, UseFault<'a>>
-    ensures want { IfOk result (λ want.
-        cut_of (time_of from.entry.now) (time_of to.entry.now) ≡ Ok (model_want want)) }
+    ensures want { IfOk result (λ want. cut_in from.entry.now to.entry.now ≡ Ok (model_want want)) }
     ensures asked { IfOk result (λ want. is_asked want ≡ true) }
-    ensures fault { IfErr result (λ fault. IsFaultIn fault
-        (cut_of (time_of from.entry.now) (time_of to.entry.now))) }
+    ensures fault { IfErr result (λ fault. IsFaultIn fault (cut_in from.entry.now to.entry.now)) }
 {
     let from = time_of(from)?;
     let to = time_of(to)?;

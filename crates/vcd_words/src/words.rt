@@ -1,6 +1,6 @@
 //! What the words of the command line ask for, borrowed from their matches.
 ghost use Rattle.std.specs.Prelude.{◌≡◌, IfErr, IfOk, true, codes, map, option_map, string_bytes};
-ghost use Rattle.vcd_words.specs.Names.{Command, command_named, command_used, complete, files_asked, input_asked, is_asked, IsFaultOf, model_want, some_names, some_of, texts_of, values_after, want_of, word_after, words_command};
+ghost use Rattle.vcd_words.specs.Names.{command_named, command_used, complete, files_asked, input_asked, is_asked, IsFaultOf, merge_command, model_want, some_names, some_of, texts_of, values_after, want_of, word_after, words_command};
 
 use crate::job::{UseFault, Want};
 use crate::moment_word::{cut_of, sample_of};
@@ -114,11 +114,9 @@ pub(crate) fn copied_some(alloc: Global, names: Option<&[&str]>) -> Result<Vec<S
 
 /// Returns a merge of these files, where they are not too many.
 fn merge_of<'a>(files: &[&str]) -> Result<Want, UseFault<'a>>
-    ensures want { IfOk result (λ want. want_of (Command.Merge (map (λ file. file.now) files.now))
-        ≡ Ok (model_want want)) }
+    ensures want { IfOk result (λ want. want_of (merge_command files.now) ≡ Ok (model_want want)) }
     ensures asked { IfOk result (λ want. is_asked want ≡ true) }
-    ensures fault { IfErr result (λ fault.
-        IsFaultOf fault (want_of (Command.Merge (map (λ file. file.now) files.now)))) }
+    ensures fault { IfErr result (λ fault. IsFaultOf fault (want_of (merge_command files.now))) }
 {
     if files.len() > MOST_FILES {
         return Err(UseFault::TooManyFiles);

@@ -175,6 +175,10 @@ OpensAll g old new windows windows' result = (texts : List (List ℕ)) → map g
     (λ inputs. HaveBegun (part_len (length old) windows.tokens.now) (part_len (length old) windows.chunks.now) (length old) g.rest g.failures texts old new inputs.heads.items inputs.seats.items windows'.chunks.now windows'.tokens.now)
     (Stops (part_len (length old) windows.tokens.now) (part_len (length old) windows.chunks.now) 0 [] texts (map (supply g.rest g.failures) old) (map (supply g.rest g.failures) new))
 
+-- an input that was begun was added to these
+abbrev pub AddsBegun : Begun → (old new : Inputs) → Type 0
+AddsBegun begun old new = (new.heads.items ≡ old.heads.items ++ begun.head ∷ []) × (new.seats.items ≡ old.seats.items ++ begun.seat ∷ [])
+
 -- the windows are made of as many parts as there are inputs
 abbrev pub HasParts : ℕ → Windows → Type 0
 HasParts n windows = AreParts n windows.chunks.now windows.tokens.now windows.values.now

@@ -1,6 +1,6 @@
 //! The inputs of a job: the memory of their windows, and their headers.
-ghost use Rattle.std.specs.Prelude.{◌≡◌, ◌≢◌, ◌*◌, ◌-◌, ◌^◌, ◌<◌, ◌≤◌, ◌++◌, ◌∷◌, [], ℕ, All, IfOk, OnOk, length, vec_len};
-ghost use Rattle.vcdkit.specs.Names.{BeginsAmong, BeginsOver, chunk_len_of, CountsReadOf, CountsReadsOf, failure_of, HasNotFailed, HasParts, IsNewIn, IsNewOver, limit_of, OpensAll, OpensInput, SameLengths, SameLoans, SameParts, source_of, writes_failed};
+ghost use Rattle.std.specs.Prelude.{◌≡◌, ◌≢◌, ◌*◌, ◌-◌, ◌^◌, ◌<◌, ◌≤◌, ℕ, All, IfOk, OnOk, length, vec_len};
+ghost use Rattle.vcdkit.specs.Names.{AddsBegun, BeginsAmong, BeginsOver, chunk_len_of, CountsReadOf, CountsReadsOf, failure_of, HasNotFailed, HasParts, IsNewIn, IsNewOver, limit_of, OpensAll, OpensInput, SameLengths, SameLoans, SameParts, source_of, writes_failed};
 
 use crate::failure::Failure;
 use std::alloc::{AllocError, Global};
@@ -149,9 +149,7 @@ pub(crate) struct Inputs {
 impl Inputs {
     /// Adds an input.
     fn push(&mut self, begun: Begun) -> Result<(), AllocError>
-        ensures { IfOk result
-            (λ _. (self.new.heads.items ≡ self.old.heads.items ++ begun.head ∷ [])
-            × (self.new.seats.items ≡ self.old.seats.items ++ begun.seat ∷ [])) }
+        ensures { IfOk result (λ _. AddsBegun begun self.old self.new) }
     {
         self.heads.push(begun.head)?;
         self.seats.push(begun.seat)?;
