@@ -73,8 +73,8 @@ impl<'n, 'r> Begun<'n, 'r> {
 impl<'v, 'n, 'r> Engine<'v, 'n, 'r> {
     /// Returns the engine of a task that has begun over the same header.
     pub fn new(begun: Begun<'n, 'r>, view: HeadView<'v>) -> Engine<'v, 'n, 'r>
-        ensures holds { (h : Header) → IsViewOf view.entry h → CanRun (request_of_begun begun.entry) h
-            → HasBegun begun.entry h → Holds result h [] }
+        ensures holds { (h : Header) → IsViewOf view.entry h
+            → CanRun (request_of_begun begun.entry) h → HasBegun begun.entry h → Holds result h [] }
         ensures going { is_going result ≡ true }
         ensures request { request_of_engine result ≡ request_of_begun begun.entry }
         ensures loans { (view_in result ≡ view.entry)

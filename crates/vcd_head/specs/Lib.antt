@@ -31,6 +31,7 @@ pub mod Rows
 pub use Rattle.vcd_view.specs.Finds
 pub use Rattle.vcd_view.specs.NewCode
 pub use Rattle.vcd_view.specs.Needs
+pub use Rattle.vcd_view.specs.Over
 pub use Rattle.vcd_view.specs.Views
 pub use Rattle.vcd_view.specs.Entries as ViewEntries
 pub use Rattle.vcd_view.specs.Shown as ViewShown

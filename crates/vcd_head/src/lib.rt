@@ -41,10 +41,9 @@
 //! - `merged`: the header of a merged dump
 //! - `laws`: each function has a law over headers and codes as its contract
 //!
-//! In `specs/` callers read `Shown`, `Reads` (`ReadsHead`), `Over`, `Written`, `Fault`, `Marks`,
-//! `Merged` and `Moments`; of the view `Views`, `ViewShown`, `Finds`, `Needs` and `NewCode`; and
-//! the definitions that these cite, as `Model`. `Names` brings what the clauses cite under one
-//! path.
+//! In `specs/` callers read `Shown`, `Reads` (`ReadsHead`), `Written`, `Fault`, `Marks`, `Merged`
+//! and `Moments`; of the view `Views`, `ViewShown`, `Over`, `Finds`, `Needs` and `NewCode`; and the
+//! definitions that these cite, as `Model`. `Names` brings what the clauses cite under one path.
 //!
 //! # Limits
 //!

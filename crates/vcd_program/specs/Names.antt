@@ -5,7 +5,7 @@ pub use Rattle.vcd_text.specs.Watch.{failed_calls}
 pub use Rattle.vcd_words.specs.Words.{AsksFor}
 pub use Rattle.vcd_program.specs.Asked.{inputs_for}
 pub use Rattle.vcd_program.specs.Memory.{bytes_in, bytes_named, IsLeftBy, noted, OpensIn}
-pub use Rattle.vcd_program.specs.Opens.{AddsName, called, Opens, OpensOne, StopsAmong, StopsAt, text_of}
+pub use Rattle.vcd_program.specs.Opens.{AddsOne, called, Opens, OpensOne, StopsAmong, StopsAt, text_of}
 pub use Rattle.vcd_program.specs.Runs.{Answers, Finishes, RunsMatches, RunsOn, RunsWords}
 pub use Rattle.vcd_program.specs.declared.host.OpenFault.{OpenFault}
 pub use Rattle.vcd_program.specs.declared.opened.Stop.{Stop}

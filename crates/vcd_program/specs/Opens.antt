@@ -17,8 +17,8 @@ abbrev pub text_of : Option (Bor Text) → Option Text
 text_of name = option_map (λ text. text.now) name
 
 -- to the names that inputs are called by, that of one more was added
-abbrev pub AddsName : {A : Type 0} → Option (Bor Text) → List (String A) → List (String A) → Type 0
-AddsName name old new = map string_bytes new ≡ map string_bytes old ++ called (text_of name) ∷ []
+abbrev pub AddsOne : {A : Type 0} → Option (Bor Text) → List (String A) → List (String A) → Type 0
+AddsOne name old new = map string_bytes new ≡ map string_bytes old ++ called (text_of name) ∷ []
 
 -- In what follows `opens` says what a call of `open` may return for a name, and what it leaves the
 -- host.

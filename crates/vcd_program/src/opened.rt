@@ -1,6 +1,6 @@
 //! Inputs that are opened one by one.
 ghost use Rattle.std.specs.Prelude.{◌≡◌, ◌++◌, ◌∷◌, [], All, IfErr, IfOk, OnOk, map, string_bytes};
-ghost use Rattle.vcd_program.specs.Names.{AddsName, called, Opens, OpensOne, Stop, StopsAmong, StopsAt, text_of};
+ghost use Rattle.vcd_program.specs.Names.{AddsOne, called, Opens, OpensOne, Stop, StopsAmong, StopsAt, text_of};
 
 use crate::host::{Host, OpenFault};
 use std::alloc::{AllocError, Global};
@@ -30,7 +30,7 @@ impl<I: Drop> Opened<I> {
     fn push(&mut self, alloc: Global, name: Option<&str>, reader: I) -> Result<(), AllocError>
         ensures readers { OnOk result (self.new.readers.items
             ≡ self.old.readers.items ++ reader ∷ []) }
-        ensures names { OnOk result (AddsName name.entry self.old.names.items self.new.names.items) }
+        ensures names { OnOk result (AddsOne name.entry self.old.names.items self.new.names.items) }
     {
         self.names.push(String::from_str(alloc, called(name))?)?;
         Ok(self.readers.push(reader)?)
@@ -63,7 +63,7 @@ fn open_next<'a, H: Host>(
 ) -> Result<(), Stop<'a>>
     ensures opened { OnOk result (OpensOne H.opens H.Input.failures (text_of name.entry)
         host.old host.new opened.old.readers.items opened.new.readers.items) }
-    ensures names { OnOk result (AddsName name.entry opened.old.names.items opened.new.names.items) }
+    ensures names { OnOk result (AddsOne name.entry opened.old.names.items opened.new.names.items) }
     ensures stop { IfErr result (StopsAt H.opens (text_of name.entry) host.old host.new) }
 {
     match host.open(name) {

@@ -25,8 +25,9 @@
 //! - `keyword`: the keywords of a dump
 //! - `new_code`: the codes that a merge gives
 //!
-//! In `specs/` callers read `Views` and `Shown`, `Finds`, `Needs`, `Keywords` and `NewCode`; who
-//! fills entries, `Entries` and `Keys` too. `Names` brings what the clauses cite under one path.
+//! In `specs/` callers read `Views` and `Shown`, `Over`, `Finds`, `Needs`, `Keywords` and
+//! `NewCode`; who fills entries, `Entries` and `Keys` too. `Names` brings what the clauses cite
+//! under one path.
 //!
 //! Not promised: what a call gives over a view that is of no header.
 #![tactic(auto)]

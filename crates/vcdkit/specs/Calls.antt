@@ -41,8 +41,8 @@ abbrev pub supplies : {X : Type 0} → Ghosts X → List X → List Supply
 supplies g readers = map (supply g.rest g.failures) readers
 
 -- a merge was run over readers, and any job over its readers
-abbrev pub MergeEnds : {X W : Type 0} → Ghosts X → Sinks W → Job → (old new : List X) → (out out' : W) → Result Done Failure → Type 0
-MergeEnds g w job old new out out' result = (texts names : List (List ℕ)) → map g.rest old ≡ map (λ text. Some text) texts
+abbrev pub Merges : {X W : Type 0} → Ghosts X → Sinks W → Job → (old new : List X) → (out out' : W) → Result Done Failure → Type 0
+Merges g w job old new out out' result = (texts names : List (List ℕ)) → map g.rest old ≡ map (λ text. Some text) texts
     → EndsAll ModelWant.Merge [] job.limit job.chunk names texts (supplies g old) (supplies g new) (w.device out) (w.device out') result
 
 abbrev pub JobEnds : {X W : Type 0} → Ghosts X → Sinks W → Job → (old new : List X) → (out out' : W) → Result Done Failure → Type 0

@@ -59,8 +59,8 @@ writes_failed why = 0
 
 -- a call failed with a failed read of this reader where its failure says so, as the reader at this
 -- place
-abbrev pub CountsReadOf : {X A : Type 0} → (X → ℕ) → ℕ → X → X → Result A Failure → Type 0
-CountsReadOf failures place old new result = CountsRead place (failures old) (failures new) (failure_of result)
+abbrev pub CountsAt : {X A : Type 0} → (X → ℕ) → ℕ → X → X → Result A Failure → Type 0
+CountsAt failures place old new result = CountsRead place (failures old) (failures new) (failure_of result)
 
 -- so, of these readers
 abbrev pub CountsReadsOf : {X : Type 0} → (X → ℕ) → (old new : List X) → Option Failure → Type 0

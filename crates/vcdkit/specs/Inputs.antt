@@ -82,8 +82,8 @@ OpensInput most place old new result = (i : Input) → HasGiven i [] old → Mat
     (λ failure. (fault : HeadFault) × (failure ≡ head_failure fault place (token_of new).line) × Fails most i fault new)
 
 -- so it was by its reader, over windows of these lengths, which hold these bytes then
-abbrev pub BeginsOver : {X : Type 0} → Ghosts X → (most place limit chunk : ℕ) → (old new : X) → (read gathered : List ℕ) → Result Begun Failure → Type 0
-BeginsOver g most place limit chunk old new read gathered result = (text : List ℕ) → g.rest old ≡ Some text → MatchResult result
+abbrev pub BeginsBy : {X : Type 0} → Ghosts X → (most place limit chunk : ℕ) → (old new : X) → (read gathered : List ℕ) → Result Begun Failure → Type 0
+BeginsBy g most place limit chunk old new read gathered result = (text : List ℕ) → g.rest old ≡ Some text → MatchResult result
     (λ begun. Begins most limit chunk (whole text) begun.head begun.seat read gathered (supply g.rest g.failures old) (supply g.rest g.failures new))
     (HasFailed most limit chunk place (whole text) (supply g.rest g.failures old) (supply g.rest g.failures new))
 

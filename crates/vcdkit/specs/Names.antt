@@ -15,9 +15,9 @@ pub use Rattle.vcd_engine.specs.Engine.{request_of as request_of_task}
 pub use Rattle.vcd_engine.specs.Room.{AnyRoom, AreWithinBound, KeepsBound, room_size}
 pub use Rattle.vcd_engine.specs.Run.{Does}
 pub use Rattle.vcd_merge.specs.MergeParts.{SameLengths}
-pub use Rattle.vcdkit.specs.Calls.{EndsSo, FailOnce, InputEnds, JobEnds, MergeEnds, RunsJob, WantEnds}
-pub use Rattle.vcdkit.specs.Failure.{CountsReadOf, CountsReadsOf, CountsWrites, end_of, failure_of, head_failure, merge_end, stop_failure, writes_failed}
-pub use Rattle.vcdkit.specs.Inputs.{AddsBegun, BeginsAmong, BeginsOver, HasParts, IsNewIn, IsNewOver, OpensAll, OpensInput, SameParts}
+pub use Rattle.vcdkit.specs.Calls.{EndsSo, FailOnce, InputEnds, JobEnds, Merges, RunsJob, WantEnds}
+pub use Rattle.vcdkit.specs.Failure.{CountsAt, CountsReadsOf, CountsWrites, end_of, failure_of, head_failure, merge_end, stop_failure, writes_failed}
+pub use Rattle.vcdkit.specs.Inputs.{AddsBegun, BeginsAmong, BeginsBy, HasParts, IsNewIn, IsNewOver, OpensAll, OpensInput, SameParts}
 pub use Rattle.vcdkit.specs.Message.{failure_message, failure_status, refusal_message, refusal_status, Shows, ShowsOn, stop_message, stop_status, unopened_outcome, use_outcome}
 pub use Rattle.vcdkit.specs.Tasks.{cut_request, IsEnough, request_for, task_request}
 pub use Rattle.vcdkit.specs.declared.failure.Failure.TheVariants.{OutOfMemory, Refused}

@@ -1,6 +1,6 @@
 //! The inputs of a job: the memory of their windows, and their headers.
 ghost use Rattle.std.specs.Prelude.{◌≡◌, ◌≢◌, ◌*◌, ◌-◌, ◌^◌, ◌<◌, ◌≤◌, ℕ, All, IfOk, OnOk, length, vec_len};
-ghost use Rattle.vcdkit.specs.Names.{AddsBegun, BeginsAmong, BeginsOver, chunk_len_of, CountsReadOf, CountsReadsOf, failure_of, HasNotFailed, HasParts, IsNewIn, IsNewOver, limit_of, OpensAll, OpensInput, SameLengths, SameLoans, SameParts, source_of, writes_failed};
+ghost use Rattle.vcdkit.specs.Names.{AddsBegun, BeginsAmong, BeginsBy, chunk_len_of, CountsAt, CountsReadsOf, failure_of, HasNotFailed, HasParts, IsNewIn, IsNewOver, limit_of, OpensAll, OpensInput, SameLengths, SameLoans, SameParts, source_of, writes_failed};
 
 use crate::failure::Failure;
 use std::alloc::{AllocError, Global};
@@ -59,7 +59,7 @@ pub(crate) fn open_input<S: Source, B: BuildHasher>(
     requires failures { S.failures (source_of feed.old) < 2 ^ 64 - 1 }
     requires open { HasNotFailed feed.old }
     ensures reads { OpensInput reading.now.most input feed.old feed.new result }
-    ensures failures { CountsReadOf S.failures input (source_of feed.old) (source_of feed.new) result }
+    ensures failures { CountsAt S.failures input (source_of feed.old) (source_of feed.new) result }
     ensures no_write { writes_failed (failure_of result) ≡ 0 }
     ensures open { OnOk result (HasNotFailed feed.new) }
     ensures lengths { (limit_of feed.new ≡ limit_of feed.old)
@@ -94,9 +94,9 @@ fn begin<S: Source, B: BuildHasher>(
     requires chunk_some { 0 < length chunk.old }
     requires token_some { 0 < length token.old }
     requires same_limit { length value.old ≡ length token.old }
-    ensures begins { BeginsOver S.Source reading.now.most input (length token.old) (length chunk.old)
+    ensures begins { BeginsBy S.Source reading.now.most input (length token.old) (length chunk.old)
         reader.old reader.new chunk.new token.new result }
-    ensures reads { CountsReadOf S.failures input reader.old reader.new result }
+    ensures reads { CountsAt S.failures input reader.old reader.new result }
     ensures no_write { writes_failed (failure_of result) ≡ 0 }
     ensures seated { IfOk result (λ begun. IsNewOver (length chunk.old) (length token.old) begun.seat) }
 {

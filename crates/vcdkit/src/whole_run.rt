@@ -1,6 +1,6 @@
 //! A job, from its readers to its output, its message and its status.
 ghost use Rattle.std.specs.Prelude.{◌≡◌, ◌+◌, ◌-◌, ◌^◌, ◌<◌, ◌≤◌, map, length, All, string_bytes, true, false, IfSome};
-ghost use Rattle.vcdkit.specs.Names.{AreWithinBound, chunk_len_of, CountsReadOf, CountsReadsOf, CountsWrites, Does, end_of, EndsSo, FailOnce, failure_of, HasNotFailed, InputEnds, is_asked, is_merge, IsEnough, IsValid, JobEnds, limit_of, merge_end, MergeEnds, names_asked, reads_failed, request_for, request_of_task, room_size, RunsJob, SameLoans, source_of, stop_writes, WantEnds, writes_failed};
+ghost use Rattle.vcdkit.specs.Names.{AreWithinBound, chunk_len_of, CountsAt, CountsReadsOf, CountsWrites, Does, end_of, EndsSo, FailOnce, failure_of, HasNotFailed, InputEnds, is_asked, is_merge, IsEnough, IsValid, JobEnds, limit_of, merge_end, Merges, names_asked, reads_failed, request_for, request_of_task, room_size, RunsJob, SameLoans, source_of, stop_writes, WantEnds, writes_failed};
 
 use crate::failure::Failure;
 use crate::inputs::{MOST_DECLARATIONS, Reading, open_input, open_inputs, windows_for};
@@ -80,7 +80,7 @@ fn run_want<S: Source, W: Sink>(
     requires open { HasNotFailed feed.old }
     requires chunk { chunk_len_of feed.old ≤ 65536 }
     ensures ends { WantEnds W.Sink view.entry want.old feed.old feed.new out.old out.new result }
-    ensures reads { CountsReadOf S.failures 0 (source_of feed.old) (source_of feed.new) result }
+    ensures reads { CountsAt S.failures 0 (source_of feed.old) (source_of feed.new) result }
     ensures writes { CountsWrites W.device out.old out.new (writes_failed (failure_of result)) }
     ensures loans { SameLoans feed.old feed.new }
     ensures names { names_asked want.new ≡ names_asked want.old }
@@ -114,7 +114,7 @@ fn run_input<S: Source, W: Sink, B: BuildHasher>(
     requires reader_failures { S.failures reader.old < 2 ^ 64 - 1 }
     requires out_failures { (W.device out.old).failures < 2 ^ 64 - 1 }
     ensures ends { InputEnds S.Source W.Sink job.old reader.old reader.new out.old out.new result }
-    ensures reads { CountsReadOf S.failures 0 reader.old reader.new result }
+    ensures reads { CountsAt S.failures 0 reader.old reader.new result }
     ensures writes { CountsWrites W.device out.old out.new (writes_failed (failure_of result)) }
     ensures names { names_asked job.new.task ≡ names_asked job.old.task }
 {
@@ -147,7 +147,7 @@ fn run_merge<S: Source, W: Sink, B: BuildHasher>(
     requires few { length readers.old ≤ 64 }
     requires reader_failures { All (λ r. S.failures r < 2 ^ 64 - 1) readers.old }
     requires out_failures { (W.device out.old).failures < 2 ^ 64 - 1 }
-    ensures ends { MergeEnds S.Source W.Sink job.now readers.old readers.new out.old out.new result }
+    ensures ends { Merges S.Source W.Sink job.now readers.old readers.new out.old out.new result }
     ensures reads { CountsReadsOf S.failures readers.old readers.new (failure_of result) }
     ensures writes { CountsWrites W.device out.old out.new (writes_failed (failure_of result)) }
 {
