@@ -1,5 +1,4 @@
 -- What the clauses of this crate speak of, under one path.
-pub use Rattle.std.specs.Io.Buffered.{writer_buffer}
 pub use Rattle.std.specs.Io.KnownBytes.{Keeps}
 pub use Rattle.vcd_text.specs.Watch.{failed_calls}
 pub use Rattle.vcd_words.specs.Words.{AsksFor}

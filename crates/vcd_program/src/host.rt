@@ -1,9 +1,8 @@
 //! What a program is run in: where its inputs are opened, and where its output goes.
-ghost use Rattle.std.specs.Prelude.{◌≡◌, ℕ, Bool, List, Option, IfOk, is_ok, option_map, Result, true, []};
-ghost use Rattle.vcd_program.specs.Names.{Keeps, OpenFault, writer_buffer};
+ghost use Rattle.std.specs.Prelude.{◌≡◌, ℕ, Bool, List, Option, IfOk, is_ok, option_map, Result};
+ghost use Rattle.vcd_program.specs.Names.{Keeps, OpenFault};
 
-use std::io::{BufWriter, Write};
-use vcd_text::{Sink, Source, Watch, WriteFailed};
+use vcd_text::{Sink, Source, WriteFailed};
 
 /// Why there is no input.
 #[derive(Clone, Copy, PartialEq, Eq, Debug)]
@@ -39,13 +38,4 @@ pub trait Output: Sink {
         ensures flushes { flushes self.old (is_ok result) self.new }
         ensures held { Keeps (Self.device self.old).held (Self.device self.new).held }
         ensures failures { (Self.device self.new).failures ≡ (Self.device self.old).failures };
-}
-
-impl<W: Write + Drop> Output for Watch<BufWriter<W>> {
-    // Where it is done, no byte is in the buffer.
-    ghost flushes = { λ _ done new. done ≡ true → writer_buffer new.device ≡ [] };
-
-    fn flush(&mut self) -> Result<(), WriteFailed> {
-        self.device.flush().map_err(|_| WriteFailed)
-    }
 }

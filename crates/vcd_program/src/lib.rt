@@ -14,19 +14,24 @@
 //! - `opened`: inputs that are opened one by one
 //! - `command_line`: from the words to the exit status
 //! - `memory`: a host in memory
+//! - `buffer`: bytes that wait, in memory that is taken once
+//! - `buffered`: an output whose bytes wait in a buffer
 //! - `machine`: the machine that a process runs on, as a host
 //!
 //! In `specs/`: `Asked`; `Opens`, which inputs were opened; `Runs`, what a program leaves;
-//! `Memory`, what it leaves over a host in memory.
+//! `Memory`, what it leaves over a host in memory; `Buffer`, `Buffered`, what an output has taken.
 #![tactic(auto)]
 
 mod asked;
+mod buffer;
+mod buffered;
 mod command_line;
 mod host;
 mod machine;
 mod memory;
 mod opened;
 
+pub use buffered::Buffered;
 pub use command_line::run_program;
 pub use host::{Host, OpenFault, Output};
 pub use machine::{run_on_machine, run_words_on_machine};

@@ -2,12 +2,13 @@
 ghost use Rattle.std.specs.Prelude.{◌≡◌, ◌-◌, ◌^◌, ◌<◌, ◌≤◌, ⊤};
 ghost use Rattle.vcd_program.specs.Names.{failed_calls};
 
+use crate::buffered::Buffered;
 use crate::command_line::run_program;
 use crate::host::{Host, OpenFault};
 use std::env::Env;
 use std::fs::File;
 use std::hash::{BuildHasher, BuildHasherDefault, FoldHasher, RandomState};
-use std::io::{BufWriter, ErrorKind, Read, Stdin};
+use std::io::{ErrorKind, Read, Stdin};
 use std::{env, io};
 use vcd_text::{Sink, Watch};
 use vcd_words::UseFault;
@@ -93,12 +94,12 @@ fn run_words<E: Sink, B: BuildHasher>(
     requires { (E.device err.old).failures < 2 ^ 64 - 2 }
     ensures { result ≤ 3 }
 {
-    match BufWriter::new(rt.alloc(), Again::new(rt.stdout())) {
-        Ok(output) => run_program(
+    match Buffered::new(rt.alloc(), Again::new(rt.stdout())) {
+        Ok(mut out) => run_program(
             rt.alloc(),
             words,
             &mut Machine { rt, is_seeded },
-            &mut Watch::new(output),
+            &mut out,
             err,
             hasher,
         ),

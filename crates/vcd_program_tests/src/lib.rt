@@ -1,6 +1,8 @@
-//! The tests of `vcd_program`: command lines over a host in memory.
+//! The tests of `vcd_program`: command lines over a host in memory, and the buffer of an output.
 #![tactic(auto)]
 
+#[cfg(test)]
+mod blocks;
 #[cfg(test)]
 mod command_lines;
 #[cfg(test)]
