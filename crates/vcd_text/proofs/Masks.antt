@@ -1,6 +1,7 @@
 -- A mask of lanes says which bytes are white.
-use Rattle.std.proofs.Common.{◌≡◌, ◌≢◌, ℕ, ◌+◌, ◌-◌, ◌%◌, ◌^◌, ◌<◌, ◌≤◌, inl, inr, Bool, true, false, cond, List, [], ◌∷◌, map, length, get_or, Fits, w8, refl, sym, ap, ap₂, subst, ◌∙◌, arith}
+use Rattle.std.proofs.Common.{◌≡◌, ◌≢◌, ℕ, ◌+◌, ◌-◌, ◌%◌, ◌^◌, ◌<◌, ◌≤◌, nat_le, inl, inr, Bool, true, false, cond, List, [], ◌∷◌, map, length, get_or, Fits, w8, refl, sym, ap, ap₂, subst, ◌∙◌, arith}
 use Rattle.std.proofs.lemmas.Bool.{agree_below, agree_below_at, cases_lt, cases_order}
+use Rattle.std.proofs.lemmas.Bool.Decides.{nat_tests}
 use Rattle.std.proofs.lemmas.Simd.{mask_l-mod, bit_mask_l, length-chunk, get_or-chunk}
 use Rattle.std.proofs.lemmas.List.{length-map, get_or-map, get_or_past}
 use Rattle.std.specs.Int.{bit_at}
@@ -34,24 +35,40 @@ zero-one e = omega arith
 beyond : (ms : List Bool) (k : ℕ) → length ms ≤ k → get_or ms k false ≡ false
 beyond ms k le = get_or_past ms k false le
 
+-- the mask of the lanes of a load that p holds of
+module _ (p : ℕ → Bool) (xs : List ℕ) (i n mask : ℕ) (room : i + n ≤ length xs) (is : mask ≡ mask_l (map p (chunk i n xs))) where
+  bit-is : (k : ℕ) → bit_at mask k ≡ cond (get_or (map p (chunk i n xs)) k false) 1 0
+  bit-is k = ap (λ m. bit_at m k) is ∙ bit_mask_l (map p (chunk i n xs)) k
+
+  lane-is : (k : ℕ) → k < n → get_or (map p (chunk i n xs)) k false ≡ p (get_or xs (i + k) 0)
+  lane-is k lt = get_or-map p (chunk i n xs) k 0 false (omega (arith, length-chunk i n xs room)) ∙ ap p (get_or-chunk i n xs k 0 lt)
+
+  pub set-inside : (k : ℕ) → bit_at mask k ≡ 1 → k < n
+  set-inside k set = elim (cases_lt k n) [
+    | inl lt ↦ lt
+    | inr le ↦ absurd (zero-one (ap (λ b. cond b 1 0) (sym (beyond (map p (chunk i n xs)) k (omega (arith, length-map (chunk i n xs) p, length-chunk i n xs room)))) ∙ (sym (bit-is k) ∙ set)))
+  ]
+
+  pub set-is : (k : ℕ) → bit_at mask k ≡ 1 → p (get_or xs (i + k) 0) ≡ true
+  set-is k set = sym (lane-is k (set-inside k set)) ∙ one _ (sym (bit-is k) ∙ set)
+
+  pub clear-is : (k : ℕ) → k < n → bit_at mask k ≡ 0 → p (get_or xs (i + k) 0) ≡ false
+  clear-is k lt none = sym (lane-is k lt) ∙ zero-is _ (sym (bit-is k) ∙ none)
+
 -- a load's mask
 pub tells : (xs : List ℕ) (i n : ℕ) (f : ℕ → ℕ) (z : List ℕ) → i + n ≤ length xs → n ≤ 64 → Each1 (Fits w8) (chunk i n xs) → z ≡ map f (chunk i n xs) → agree_below (λ x. top 7 (f x)) is_white_space 256 ≡ true
     → TellsWhite xs i n (mask_l (map (top 7) z) % 2 ^ 64)
 tells xs i n f z room few fits e all =
-    let v = chunk i n xs in
-    let ms = map is_white_space v in
-    let long : length v ≡ n = length-chunk i n xs room in
-    let bit : (k : ℕ) → bit_at (mask_l (map (top 7) z) % 2 ^ 64) k ≡ cond (get_or ms k false) 1 0 = λ k. ap (λ m. bit_at m k) (masked f is_white_space v z (omega arith) fits e all) ∙ bit_mask_l ms k in
-    let at : (k : ℕ) → k < n → get_or ms k false ≡ is_white_space (get_or xs (i + k) 0) = λ k lt. get_or-map is_white_space v k 0 false (omega arith) ∙ ap is_white_space (get_or-chunk i n xs k 0 lt) in
-    let inside : (k : ℕ) → bit_at (mask_l (map (top 7) z) % 2 ^ 64) k ≡ 1 → k < n = λ k set. elim (cases_lt k n) [
-      | inl lt ↦ lt
-      | inr le ↦ absurd (zero-one (ap (λ b. cond b 1 0) (sym (beyond ms k (omega (arith, length-map v is_white_space)))) ∙ (sym (bit k) ∙ set)))
-    ] in
+    let is = masked f is_white_space (chunk i n xs) z (omega (arith, length-chunk i n xs room)) fits e all in
     record {
-      inside = inside;
-      white = λ k set. sym (at k (inside k set)) ∙ one _ (sym (bit k) ∙ set);
-      other = λ k lt none. sym (at k lt) ∙ zero-is _ (sym (bit k) ∙ none);
+      inside = set-inside is_white_space xs i n _ room is;
+      white = set-is is_white_space xs i n _ room is;
+      other = clear-is is_white_space xs i n _ room is;
     }
+
+-- a byte above the space is not white
+pub above_space : (b : ℕ) → nat_le b 32 ≡ false → is_white_space b ≡ false
+above_space b e = grind (arith, nat_tests)
 
 pub no_bits : (mask k : ℕ) → mask ≡ 0 → bit_at mask k ≡ 0
 no_bits mask k e = ap (λ m. bit_at m k) e ∙ bit_at-zero k

@@ -6,7 +6,7 @@ ghost use Rattle.vcd_model.specs.Bytes.{is_white_space};
 ghost use Rattle.vcd_text.specs.Masks.{Marks};
 ghost use Rattle.vcd_text.specs.Passed.{AreWhite};
 
-use crate::scan::{is_white_space, lowest, white_64, without};
+use crate::scan::{is_white_space, low_16, lowest, white_64, without};
 
 // White space that was seen ahead.
 #[derive(Clone, Copy)]
@@ -174,6 +174,36 @@ impl<'a> Ahead<'a> {
         self.take(at, White::before(at + 3))
     }
 
+    /// Returns the next token, if it begins at once, has at most 15 bytes and a line feed after
+    /// them. It looks at 16 bytes at once, and else does as `next_short`.
+    #[inline(always)]
+    pub fn next_near(&mut self) -> Option<&'a [u8]>
+        ensures gives { IfSome result (λ token. (lines : ℕ) (ts : List Token)
+            → Passed (longest_of self.old) lines (bytes_of self.old) (passed_of self.old) ts
+            → Passed (longest_of self.old) lines (bytes_of self.old) (passed_of self.new) (ts ++ (record {
+              bytes = token.now;
+              line = line_ahead lines (bytes_of self.old) (start_of self.new token.now);
+            }) ∷ [])) }
+        ensures some { IfSome result (λ token. 0 < length token.now) }
+        ensures short { IfSome result (λ token. length token.now ≤ longest_of self.old) }
+        ensures place { IfSome result (λ token. token.now
+            ≡ slice_range (bytes_of self.old) (start_of self.new token.now) (passed_of self.new - 1)) }
+        ensures run { IfSome result (λ token. IsRun (longest_of self.old) (bytes_of self.old)
+            (start_of self.new token.now) (length token.now)) }
+        ensures before { IfSome result (λ token.
+            AreWhite (bytes_of self.old) (passed_of self.old) (start_of self.new token.now)) }
+        ensures further { IfSome result
+            (λ token. passed_of self.old + length token.now + 1 ≤ passed_of self.new) }
+        ensures within { passed_of self.new ≤ length (bytes_of self.old) }
+        ensures none { result ≡ None → self.new ≡ self.old }
+        ensures same { (bytes_of self.new ≡ bytes_of self.old)
+            × (longest_of self.new ≡ longest_of self.old) }
+    {
+        let at = self.at;
+        let len = near_len(self.bytes, at)?;
+        self.take(at, White::before(at + len + 1))
+    }
+
     /// Returns whether the next token begins at once, has two bytes and a line feed after them.
     #[inline(always)]
     pub fn has_short(&self) -> bool
@@ -244,6 +274,31 @@ fn has_short(bytes: &[u8], at: usize) -> bool
     ensures white { result ≡ true → is_white_space (slice_index bytes.now (at + 2)) ≡ true }
 {
     bytes.len() - at >= 3 && bytes[at] > b' ' && bytes[at + 1] > b' ' && bytes[at + 2] == b'\n'
+}
+
+/// Returns how many bytes from a place on come before the first one that is white, where there are
+/// some and a line feed is that one. None where it is not one of the 16 bytes from there on.
+#[inline(always)]
+fn near_len(bytes: &[u8], at: usize) -> Option<usize>
+    requires { at ≤ length bytes.now }
+    ensures some { IfSome result (λ len. 0 < len) }
+    ensures within { IfSome result (λ len. at + len < length bytes.now) }
+    ensures other { IfSome result (λ len. (k : ℕ) → k < len
+        → is_white_space (slice_index bytes.now (at + k)) ≡ false) }
+    ensures white { IfSome result (λ len. is_white_space (slice_index bytes.now (at + len)) ≡ true) }
+{
+    if bytes.len() - at < 16 {
+        return None;
+    }
+    let low = low_16(bytes, at);
+    if low == 0 {
+        return None;
+    }
+    let len = lowest(low);
+    if len == 0 || bytes[at + len] != b'\n' {
+        return None;
+    }
+    Some(len)
 }
 
 /// Returns whether the lowest bit is that of the byte at a place.
