@@ -185,6 +185,24 @@ fn short_opening<'a>(ahead: &mut Ahead<'a>) -> Option<Opening<'a>>
     })
 }
 
+/// Returns the next token ahead where it begins a time mark, if it comes at once, has at most 15
+/// bytes and a line feed after them. Else `opening_ahead` may give one, and nothing has changed.
+#[inline(always)]
+pub fn near_mark<'a>(ahead: &mut Ahead<'a>) -> Option<Opening<'a>>
+    ensures opens { IfSome result (λ o. Opens ahead.old ahead.new o) }
+    ensures first { IfSome result (λ o. o.first ≡ first.Mark) }
+    ensures stays { result ≡ None → ahead.new ≡ ahead.old }
+{
+    let mut next = *ahead;
+    let token = next.next_near()?;
+    let first = first_by(token[0]);
+    let First::Mark = first else {
+        return None;
+    };
+    *ahead = next;
+    Some(Opening { first, token })
+}
+
 /// Returns the change that a digit begins, with its code at once. The place is that after the
 /// token; none where it is no such change.
 #[inline(always)]

@@ -1,0 +1,19 @@
+use Rattle.std.proofs.Common.{drop, subst}
+use Rattle.vcd_body.specs.Words.{Begins}
+use Rattle.vcd_body.proofs.WordLemmas.{first_rest}
+use Rattle.vcd_body.proofs.ahead.near_mark.Goals as goal
+
+pub returns-clause-opens : goal.returns-clause-opens
+returns-clause-opens c =
+    let n = c.in_ok-token.ensures in
+    let token = c.in_ok-token.token.now in
+    record {
+      gives = n.gives;
+      begins = subst (λ t. Begins t c.first_by-first.result) (first_rest token n.some) (c.first_by-first.ensures (drop 1 token));
+      some = n.some;
+      place = n.place;
+      before = n.before;
+      further = n.further;
+      within = n.within;
+      same = n.same;
+    }
