@@ -10,7 +10,7 @@ ghost use Rattle.vcd_body.specs.Words.{Begins, IsScalar};
 ghost use Rattle.vcd_body.specs.Reads.{GaveItems, PassesScalar};
 ghost use Rattle.vcd_body.specs.Given.{HasGoodText, IsGoodText, IsItem};
 ghost use Rattle.vcd_body.specs.Ahead.{GaveAhead, GaveLast, HasBits, IsPlain, IsSizedItem, LooksOver};
-ghost use Rattle.vcd_body.specs.Spelled.{HasSpelled, Names};
+ghost use Rattle.vcd_body.specs.Spelled.{HasMark, HasSpelled, Names};
 ghost use Rattle.vcd_body.specs.Taken.{HasTime, IsFound, Opens, OpensVector, TakesItem};
 
 use crate::bits::Bits;
@@ -386,6 +386,10 @@ pub fn mark_ahead<'a>(
     ensures takes { IfSome result (λ plain. (a : Ahead) (v : HeadView)
         → Opens a ahead.entry opening.entry → TakesItem v a ahead.entry regs.old plain) }
     ensures time { IfSome result (λ plain. plain.item ≡ item.Time time) }
+
+    // Its digits are those of the bytes that were passed with it.
+    ensures spelled { IfSome result (λ plain. (a : Ahead) → Opens a ahead.entry opening.entry
+        → HasMark (bytes_of a) (passed_of a) (passed_of ahead.entry) plain.at time) }
     ensures none { result ≡ None
         → (is_some regs.old.section ≡ true) ⊎ (time < regs.old.time) }
     ensures regs { MatchOption result (regs.new ≡ regs.old)

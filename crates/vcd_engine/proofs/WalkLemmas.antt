@@ -33,19 +33,6 @@ walk_begins v a r m out line p within at part none = record {
 }
 
 module _ (v : HeadView) (a : Ahead) (r : Regs) (m : Machine) (begin : Device) (w : Walk) (p : Pieces) (out : Device) (m' : Machine) (walked : HasWalked v a r m begin w p out m') where
-  -- what is said of a line may be forgotten
-  pub walk_anew : HasWalked v a r m begin (walk_at w.ahead w.regs (passed_of w.ahead)) p out m'
-  walk_anew = record {
-    over = walked.over;
-    within = walked.within;
-    failures = walked.failures;
-    same = walked.same;
-    part = walked.part;
-    line = (omega arith, λ less. absurd (omega (arith, less)));
-    passes = walked.passes;
-    stands = walked.stands;
-  }
-
   within_all : passed_of w.ahead ≤ length (bytes_of a)
   within_all = subst (λ (bs : List ℕ). passed_of w.ahead ≤ length bs) walked.over.1 walked.within
 

@@ -3,19 +3,23 @@ ghost use Rattle.std.specs.Prelude.{◌≡◌, ℕ, ◌-◌, ◌^◌, ◌<◌, �
 ghost use Rattle.vcd_text.specs.Ahead.{bytes_of, passed_of};
 ghost use Rattle.vcd_text.specs.Device.{Counts, Device};
 ghost use Rattle.vcd_text.specs.declared.ahead.Ahead.{Ahead};
+ghost use Rattle.vcd_body.specs.Taken.{Opens};
 ghost use Rattle.vcd_body.specs.declared.item.Regs.{Regs};
+ghost use Rattle.vcd_body.specs.declared.words.First.TheVariants as first;
 ghost use Rattle.vcd_engine.specs.Ahead.{RunsOver};
 ghost use Rattle.vcd_engine.specs.Next.{HasFound, HasLine, TakesChange, TakesMark, TakesNext, walk_at};
 ghost use Rattle.vcd_engine.specs.Pieces.{IsInPlace, IsLine, IsPart};
 ghost use Rattle.vcd_engine.specs.Room.{SameTask};
 ghost use Rattle.vcd_engine.specs.Walks.{HasWalked};
 ghost use Rattle.vcd_engine.specs.declared.machine.Machine.{Machine};
+ghost use Rattle.vcd_engine.specs.declared.pieces.Pieces.{Pieces};
+ghost use Rattle.vcd_view.specs.declared.view.HeadView.{HeadView};
 
 use crate::gathered::Gathered;
 use crate::pieces::{InPlace, Pieces, line_of_mark};
 use vcd_body::{
-    First, Plain, Regs, mark_ahead, opening_ahead, real_ahead, scalar_ahead, short_ahead,
-    time_ahead, vector_ahead, vector_tokens_ahead,
+    First, Opening, Plain, Regs, mark_ahead, near_mark, opening_ahead, real_ahead, scalar_ahead,
+    short_ahead, time_ahead, vector_ahead, vector_tokens_ahead,
 };
 use vcd_text::{Ahead, Sink, WriteFailed};
 use vcd_view::HeadView;
@@ -139,6 +143,40 @@ fn take_found<'a, L, C: Command<L>, W: Sink>(
     command.take_change(view, regs, change, pieces, out)
 }
 
+/// Takes the time mark that a token is, from one place up to another. None where it takes none, and
+/// then nothing has changed.
+#[inline(always)]
+fn take_mark<'a, L, C: Command<L>>(
+    command: &mut C,
+    opening: Opening<'_>,
+    regs: &mut Regs,
+    ahead: &mut Ahead<'a>,
+    next: Ahead<'a>,
+    line: &mut usize,
+) -> Option<Result<(), WriteFailed>>
+    requires ready { C.is_ready command.old ≡ true }
+    requires opens { Opens ahead.old next opening }
+    requires first { opening.first ≡ first.Mark }
+    ensures next { MatchOption result
+        ((command.new ≡ command.old) × (regs.new ≡ regs.old) × (ahead.new ≡ ahead.old)
+        × (line.new ≡ line.old))
+        (λ taken. (v : HeadView) (pieces : Pieces) (out : Device) → IsPart (bytes_of ahead.old) pieces
+        → TakesNext v (walk_at ahead.old regs.old line.old)
+        (walk_at ahead.new regs.new line.new) pieces pieces out out
+        (C.machine command.old) (C.machine command.new) taken) }
+    ensures ready { C.is_ready command.new ≡ true }
+{
+    let time = time_ahead(opening)?;
+    if command.leaves(time) {
+        return None;
+    }
+    let mark = mark_ahead(opening, time, next, regs)?;
+    *line = line_of_mark(next.bytes(), ahead.passed(), next.passed(), mark.at);
+    *ahead = next;
+    command.take_mark(time);
+    Some(Ok(()))
+}
+
 /// Takes the next item that lies ahead. None where it takes none, and then nothing has changed.
 // What begins the item, and whether its digits are known to be 0 and 1, is asked once: what is done
 // with it follows in each arm.
@@ -158,7 +196,8 @@ fn take_next<L, C: Command<L>, W: Sink>(
     requires part { IsPart (bytes_of ahead.old) pieces.old }
     ensures next { MatchOption result
         ((command.new ≡ command.old) × (regs.new ≡ regs.old) × (ahead.new ≡ ahead.old)
-        × (pieces.new ≡ pieces.old) × (W.device out.new ≡ W.device out.old))
+        × (pieces.new ≡ pieces.old) × (W.device out.new ≡ W.device out.old)
+        × (line.new ≡ line.old))
         (TakesNext view.entry (walk_at ahead.old regs.old line.old)
         (walk_at ahead.new regs.new line.new) pieces.old pieces.new
         (W.device out.old) (W.device out.new) (C.machine command.old) (C.machine command.new)) }
@@ -188,16 +227,7 @@ fn take_next<L, C: Command<L>, W: Sink>(
                 }
             }
         }
-        First::Mark => {
-            let time = time_ahead(opening)?;
-            if command.leaves(time) {
-                return None;
-            }
-            let mark = mark_ahead(opening, time, next, regs)?;
-            *line = line_of_mark(next.bytes(), ahead.passed(), next.passed(), mark.at);
-            command.take_mark(time);
-            Ok(())
-        }
+        First::Mark => return take_mark(command, opening, regs, ahead, next, line),
         First::Real => {
             let plain = real_ahead(opening, &mut next, view)?;
             take_found(command, view, *regs, plain, *ahead, next, line, pieces, out)
@@ -208,75 +238,127 @@ fn take_next<L, C: Command<L>, W: Sink>(
     Some(taken)
 }
 
-/// How a run of short items has ended.
+/// Takes the next item that lies ahead, where it is on a line of its own, and is a change by `0` or
+/// `1` with a code of one byte or a time mark. None where it takes none, and then nothing has
+/// changed.
+#[inline(always)]
+fn take_short<L, C: Command<L>, W: Sink>(
+    command: &mut C,
+    view: HeadView<'_>,
+    regs: &mut Regs,
+    ahead: &mut Ahead<'_>,
+    line: &mut usize,
+    pieces: &mut Pieces<'_>,
+    out: &mut W,
+) -> Option<Result<(), WriteFailed>>
+    requires failures { (W.device out.old).failures < 2 ^ 64 - 1 }
+    requires ready { C.is_ready command.old ≡ true }
+    requires line { HasLine (walk_at ahead.old regs.old line.old) }
+    requires part { IsPart (bytes_of ahead.old) pieces.old }
+    ensures next { MatchOption result
+        ((command.new ≡ command.old) × (regs.new ≡ regs.old) × (ahead.new ≡ ahead.old)
+        × (pieces.new ≡ pieces.old) × (W.device out.new ≡ W.device out.old)
+        × (line.new ≡ line.old))
+        (TakesNext view.entry (walk_at ahead.old regs.old line.old)
+        (walk_at ahead.new regs.new line.new) pieces.old pieces.new
+        (W.device out.old) (W.device out.new) (C.machine command.old) (C.machine command.new)) }
+    ensures ready { C.is_ready command.new ≡ true }
+{
+    let mut next = *ahead;
+    if let Some(plain) = short_ahead(&mut next, view) {
+        let taken = take_found(command, view, *regs, plain, *ahead, next, line, pieces, out);
+        *ahead = next;
+        return Some(taken);
+    }
+    let opening = near_mark(&mut next)?;
+    take_mark(command, opening, regs, ahead, next, line)
+}
+
+/// How a run of short lines has ended.
 #[derive(Drop)]
 struct Shorts<'a, 'p> {
     // After the items that were taken.
     ahead: Ahead<'a>,
+    regs: Regs,
+    // Where the line of the last time begins, if it comes just before that place.
+    line: usize,
     pieces: Pieces<'p>,
     // Whether a write of what is due with the last of them failed.
     written: Result<(), WriteFailed>,
 }
 
-/// Takes the changes that come next, as long as each is a `0` or a `1` with a code of one byte on a
-/// line of its own.
+impl<'a, 'p> Shorts<'a, 'p> {
+    #[inline(always)]
+    fn until(
+        ahead: Ahead<'a>,
+        regs: Regs,
+        line: usize,
+        pieces: Pieces<'p>,
+        written: Result<(), WriteFailed>,
+    ) -> Shorts<'a, 'p>
+        ensures { result ≡ record {
+          ahead = ahead.entry;
+          regs = regs;
+          line = line;
+          pieces = pieces.entry;
+          written = written;
+        } }
+    {
+        Shorts {
+            ahead,
+            regs,
+            line,
+            pieces,
+            written,
+        }
+    }
+}
+
+/// Takes the items that come next, as long as each is a short change or a time mark on a line of
+/// its own.
 // It is a loop of its own, so that it has all registers, and the other loop has none less for it.
 #[inline(never)]
 fn take_shorts<'a, 'p, L, C: Command<L>, W: Sink>(
     command: &mut C,
     view: HeadView<'_>,
-    regs: Regs,
+    mut regs: Regs,
     mut ahead: Ahead<'a>,
+    mut line: usize,
     mut pieces: Pieces<'p>,
     out: &mut W,
 ) -> Shorts<'a, 'p>
     requires failures { (W.device out.old).failures < 2 ^ 64 - 1 }
     requires ready { C.is_ready command.old ≡ true }
     requires within { passed_of ahead ≤ length (bytes_of ahead) }
+    requires line { HasLine (walk_at ahead regs line) }
     requires part { IsPart (bytes_of ahead) pieces }
     ensures walks { (a : Ahead) (r : Regs) (m : Machine) (begin : Device)
-        → HasWalked view.entry a r m begin (walk_at ahead.entry regs (passed_of ahead.entry))
+        → HasWalked view.entry a r m begin (walk_at ahead.entry regs line)
         pieces.entry (W.device out.old) (C.machine command.old)
         → MatchResult result.written
         (λ _. HasWalked view.entry a r m begin
-        (walk_at result.ahead regs (passed_of result.ahead)) result.pieces
+        (walk_at result.ahead result.regs result.line) result.pieces
         (W.device out.new) (C.machine command.new))
         (λ failed. RunsOver view.entry a r m (C.machine command.new) begin (W.device out.new)
-        (record { passed = passed_of result.ahead; regs = regs; written = result.written })) }
+        (record { passed = passed_of result.ahead; regs = result.regs; written = result.written })) }
     ensures ready { C.is_ready command.new ≡ true }
     ensures further { passed_of ahead.entry ≤ passed_of result.ahead }
 {
     'items: loop {
-        let mut next = ahead;
-        let Some(plain) = short_ahead(&mut next, view) else {
-            return Shorts {
-                ahead,
-                pieces,
-                written: Ok(()),
-            };
-        };
-        let mut line = ahead.passed();
-        let taken = take_found(
+        let Some(taken) = take_short(
             command,
             view,
-            regs,
-            plain,
-            ahead,
-            next,
+            &mut regs,
+            &mut ahead,
             &mut line,
             &mut pieces,
             out,
-        );
-        ahead = next;
+        ) else {
+            return Shorts::until(ahead, regs, line, pieces, Ok(()));
+        };
         match taken {
             Ok(()) => {}
-            Err(failed) => {
-                return Shorts {
-                    ahead,
-                    pieces,
-                    written: Err(failed),
-                };
-            }
+            Err(failed) => return Shorts::until(ahead, regs, line, pieces, Err(failed)),
         }
     }
 }
@@ -300,11 +382,9 @@ pub(crate) fn take_each<L, C: Command<L>, W: Sink>(
     ensures { RunsOver view.entry ahead.entry regs (C.machine command.old) (C.machine command.new)
         (W.device out.old) (W.device out.new) result }
 {
-    let bytes = ahead.bytes();
     let mut pieces = Pieces::new(gathered);
     let mut line = ahead.passed();
     'items: loop {
-        let from = ahead.passed();
         let Some(taken) = take_next(
             command,
             view,
@@ -314,17 +394,18 @@ pub(crate) fn take_each<L, C: Command<L>, W: Sink>(
             &mut pieces,
             out,
         ) else {
-            return Taken::until(ahead, regs, pieces.flush(bytes, out));
+            return Taken::until(ahead, regs, pieces.flush(ahead.bytes(), out));
         };
         match taken {
             Ok(()) => {}
             Err(failed) => return Taken::until(ahead, regs, Err(failed)),
         }
-        if command.has_runs() && ahead.passed() - from == 3 && ahead.has_short() {
-            let run = take_shorts(command, view, regs, ahead, pieces, out);
+        if command.has_runs() && line != ahead.passed() && ahead.has_short() {
+            let run = take_shorts(command, view, regs, ahead, line, pieces, out);
             ahead = run.ahead;
+            regs = run.regs;
+            line = run.line;
             pieces = run.pieces;
-            line = ahead.passed();
             match run.written {
                 Ok(()) => {}
                 Err(failed) => return Taken::until(ahead, regs, Err(failed)),

@@ -46,5 +46,11 @@ returns-in-Ok-clause-takes c = λ a v o.
       same = o.same;
     })
 
+pub returns-in-Ok-clause-spelled : goal.returns-in-Ok-clause-spelled
+returns-in-Ok-clause-spelled c = λ a o.
+    let token = c.args.opening.token.now in
+    let there = token_there (bytes_of a) (passed_of a) (passed_of c.args.ahead) token o.further o.within o.before o.place in
+    rw (c.mark_of.ensures.places.0, c.passed.ensures.passed) (mark_there (bytes_of a) _ _ token _ o.some c.requires.time there)
+
 pub returns-in-Err-clause-none : goal.returns-in-Err-clause-none
 returns-in-Err-clause-none c = λ _. mark_misplaced c.args.regs.now c.args.time _ c.in-Err.ensures.may

@@ -3,19 +3,20 @@ use Rattle.std.specs.Prelude.{IfErr}
 use Rattle.vcd_text.specs.Ahead.{bytes_of, passed_of}
 use Rattle.vcd_text.specs.Device.{Puts}
 use Rattle.vcd_engine.specs.Pieces.{IsPart, held_in}
-use Rattle.vcd_engine.proofs.WalkLemmas.{runs_as, walk_anew, walk_begins, walk_ends, walk_fails, walk_on}
+use Rattle.vcd_engine.proofs.WalkLemmas.{runs_as, walk_begins, walk_ends, walk_fails, walk_on}
 use Rattle.vcd_engine.proofs.machine.walk.take_each.Goals as goal
 
 pub flush-requires-clause-part : goal.flush-requires-clause-part
-flush-requires-clause-part g c = rw c.in_default.ensures.next.3 (subst (λ bs. IsPart bs c.items.pieces) (c.items.invariant.walked.over.1 ∙ sym c.bytes-bytes.ensures) c.items.invariant.walked.part)
+flush-requires-clause-part g c =
+    let same = c.in_default.ensures.next in
+    rw (same.3, c.bytes.ensures, same.2) c.items.invariant.walked.part
 
 pub returns-in_default : goal.returns-in_default
 returns-in_default g c =
     let w = c.items.invariant.walked in
     let u = c.until.ensures in
     let same = c.in_default.ensures.next in
-    let bytes = bytes_of c.items.ahead in
-    let here = c.bytes-bytes.ensures ∙ sym w.over.1 in
+    let here = c.bytes.ensures ∙ ap bytes_of same.2 in
     let p = c.take_next.new.pieces in
     let mid = g.W.Sink.device c.take_next.new.out in
     let new = g.W.Sink.device c.flush.new.out in
@@ -45,20 +46,20 @@ items-preserved g c = record {
 pub take_shorts-run-requires : goal.take_shorts-run-requires
 take_shorts-run-requires g c =
     let w = walk_on _ _ _ _ _ _ _ _ _ c.items.invariant.walked _ _ _ _ _ c.in-Some.ensures.next _ c.in-Ok.is in
-    record { failures = omega (arith, w.failures, c.requires.failures); ready = c.in-Some.ensures.ready; within = w.within; part = w.part }
+    record { failures = omega (arith, w.failures, c.requires.failures); ready = c.in-Some.ensures.ready; within = w.within; line = w.line; part = w.part }
 
 pub returns-in-Err-written : goal.returns-in-Err-written
 returns-in-Err-written g c =
     let w = walk_on _ _ _ _ _ _ _ _ _ c.items.invariant.walked _ _ _ _ _ c.in-Some.ensures.next _ c.in-Ok.is in
     let u = c.until-in-Err-written.ensures in
-    let runs = rw c.in-Err-written.is at (c.take_shorts-run.ensures.walks _ _ _ _ (walk_anew _ _ _ _ _ _ _ _ _ w)) in
+    let runs = rw c.in-Err-written.is at (c.take_shorts-run.ensures.walks _ _ _ _ w) in
     runs_as _ _ _ _ _ _ _ _ _ u.passed u.regs u.written runs
 
 pub items-smaller-then-has_short : goal.items-smaller-then-has_short
 items-smaller-then-has_short g c =
     let n = c.in-Some.ensures.next in
     let w = walk_on _ _ _ _ _ _ _ _ _ c.items.invariant.walked _ _ _ _ _ n _ c.in-Ok.is in
-    let after = rw c.in-Ok-written.is at (c.take_shorts-run.ensures.walks _ _ _ _ (walk_anew _ _ _ _ _ _ _ _ _ w)) in
+    let after = rw c.in-Ok-written.is at (c.take_shorts-run.ensures.walks _ _ _ _ w) in
     let long = ap length (after.over.1 ∙ sym c.items.invariant.walked.over.1) in
     omega (arith, after.within, n.item.further, c.take_shorts-run.ensures.further, long)
 
@@ -66,6 +67,6 @@ pub items-preserved-then-has_short : goal.items-preserved-then-has_short
 items-preserved-then-has_short g c =
     let w = walk_on _ _ _ _ _ _ _ _ _ c.items.invariant.walked _ _ _ _ _ c.in-Some.ensures.next _ c.in-Ok.is in
     record {
-      walked = rw c.passed-line-then-has_short.ensures.passed (rw c.in-Ok-written.is at (c.take_shorts-run.ensures.walks _ _ _ _ (walk_anew _ _ _ _ _ _ _ _ _ w)));
+      walked = rw c.in-Ok-written.is at (c.take_shorts-run.ensures.walks _ _ _ _ w);
       ready = c.take_shorts-run.ensures.ready;
     }
