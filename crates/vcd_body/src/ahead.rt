@@ -1,6 +1,7 @@
 // Items whose tokens are whole ahead in the chunk: most cost no change of the feed.
 ghost use Rattle.std.specs.Prelude.{◌≡◌, ◌⊎◌, ℕ, ◌+◌, ◌<◌, ◌≤◌, ◌^◌, List, [], ◌∷◌, ◌++◌, drop, take, length, slice_range, true, is_some, None, Some, IfSome, MatchOption};
 ghost use Rattle.vcd_body.specs.Names.{Advances, BodyItem, BodyPhrase, CallEnd, HeadView, Header, IdCode, Input, IsSized, IsViewOf, Passed, Token, ahead_of, bytes_of, limit_of, lines_of, longest_of, passed_of, seen, source_of};
+ghost use Rattle.vcd_text.specs.Passed.{IsRun};
 ghost use Rattle.vcd_body.specs.declared.item.Form.TheVariants as form;
 ghost use Rattle.vcd_body.specs.declared.item.Item.TheVariants as item;
 ghost use Rattle.vcd_body.specs.declared.words.First.TheVariants as first;
@@ -156,6 +157,8 @@ pub struct Opening<'a> {
     /// What the token begins.
     pub first: First,
     pub(crate) token: &'a [u8],
+    // Whether `near_mark` gave it, in a loop that is to make no call for a mark.
+    pub(crate) near: bool,
 }
 
 /// Returns the next token ahead, with what it begins; none where `item_ahead` gives none.
@@ -168,6 +171,7 @@ pub fn opening_ahead<'a>(ahead: &mut Ahead<'a>) -> Option<Opening<'a>>
     Some(Opening {
         first: first_by(token[0]),
         token,
+        near: false,
     })
 }
 
@@ -182,6 +186,7 @@ fn short_opening<'a>(ahead: &mut Ahead<'a>) -> Option<Opening<'a>>
     Some(Opening {
         first: first_by(token[0]),
         token,
+        near: false,
     })
 }
 
@@ -200,7 +205,11 @@ pub fn near_mark<'a>(ahead: &mut Ahead<'a>) -> Option<Opening<'a>>
         return None;
     };
     *ahead = next;
-    Some(Opening { first, token })
+    Some(Opening {
+        first,
+        token,
+        near: true,
+    })
 }
 
 /// Returns the change that a digit begins, with its code at once. The place is that after the
@@ -267,6 +276,23 @@ pub fn short_ahead<'a>(ahead: &mut Ahead<'a>, view: HeadView<'_>) -> Option<Plai
     let at = next.passed() - 1 - token.len();
     *ahead = next;
     Some(change_of(found, Form::Scalar, text, None, at, at + 1))
+}
+
+/// Returns whether a line of two bytes comes at once, and then another one or what may be a time
+/// mark: the begin of a run for `short_ahead` and `near_mark`.
+#[inline(always)]
+pub fn has_run(ahead: Ahead<'_>) -> bool
+    ensures { result ≡ true → 2 ≤ longest_of ahead.entry
+        → IsRun (longest_of ahead.entry) (bytes_of ahead.entry) (passed_of ahead.entry) 2 }
+{
+    if !ahead.has_short() {
+        return false;
+    }
+    let mut next = ahead;
+    let _ = next.next_short();
+    let at = next.passed();
+    let bytes = next.bytes();
+    next.has_short() || (at < bytes.len() && bytes[at] == b'#')
 }
 
 /// The tokens of a vector's change, which were taken ahead: one that a `b` and digits begin, and
@@ -396,7 +422,7 @@ pub fn mark_ahead<'a>(
         (λ plain. regs.new ≡ regs_after regs.old plain.item) }
 {
     let at = ahead.passed() - 1 - opening.token.len();
-    match regs.take_mark(time) {
+    match regs.take_mark_by(time, !opening.near) {
         Ok(()) => Some(mark_of(time, at + 1)),
         Err(_) => None,
     }

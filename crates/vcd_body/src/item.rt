@@ -76,6 +76,29 @@ impl Regs {
         ensures may { MatchResult result (λ _. MayMark self.old time) (RefusesMark self.old time) }
         ensures regs { AreRegsWith (λ _. Item.Time time) self.old self.new result }
     {
+        self.take_mark_here(time)
+    }
+
+    /// Takes a time mark as `take_mark` does, in a call or not.
+    #[inline(always)]
+    pub(crate) fn take_mark_by(&mut self, time: u64, call: bool) -> Result<(), BodyFault>
+        ensures may { MatchResult result (λ _. MayMark self.old time) (RefusesMark self.old time) }
+        ensures regs { MatchResult result (λ _. self.new ≡ regs_after self.old (item.Time time))
+            (λ _. self.new ≡ self.old) }
+    {
+        if call {
+            self.take_mark(time)
+        } else {
+            self.take_mark_here(time)
+        }
+    }
+
+    #[inline(always)]
+    fn take_mark_here(&mut self, time: u64) -> Result<(), BodyFault>
+        ensures may { MatchResult result (λ _. MayMark self.old time) (RefusesMark self.old time) }
+        ensures regs { MatchResult result (λ _. self.new ≡ regs_after self.old (item.Time time))
+            (λ _. self.new ≡ self.old) }
+    {
         if self.section.is_some() {
             return Err(BodyFault::TimeInSection);
         }

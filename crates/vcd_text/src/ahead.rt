@@ -200,7 +200,17 @@ impl<'a> Ahead<'a> {
             × (longest_of self.new ≡ longest_of self.old) }
     {
         let at = self.at;
-        let len = near_len(self.bytes, at)?;
+        if self.bytes.len() - at < 16 {
+            return None;
+        }
+        let low = low_16(self.bytes, at);
+        if low == 0 {
+            return None;
+        }
+        let len = lowest(low);
+        if len == 0 || self.bytes[at + len] != b'\n' {
+            return None;
+        }
         self.take(at, White::before(at + len + 1))
     }
 
@@ -274,31 +284,6 @@ fn has_short(bytes: &[u8], at: usize) -> bool
     ensures white { result ≡ true → is_white_space (slice_index bytes.now (at + 2)) ≡ true }
 {
     bytes.len() - at >= 3 && bytes[at] > b' ' && bytes[at + 1] > b' ' && bytes[at + 2] == b'\n'
-}
-
-/// Returns how many bytes from a place on come before the first one that is white, where there are
-/// some and a line feed is that one. None where it is not one of the 16 bytes from there on.
-#[inline(always)]
-fn near_len(bytes: &[u8], at: usize) -> Option<usize>
-    requires { at ≤ length bytes.now }
-    ensures some { IfSome result (λ len. 0 < len) }
-    ensures within { IfSome result (λ len. at + len < length bytes.now) }
-    ensures other { IfSome result (λ len. (k : ℕ) → k < len
-        → is_white_space (slice_index bytes.now (at + k)) ≡ false) }
-    ensures white { IfSome result (λ len. is_white_space (slice_index bytes.now (at + len)) ≡ true) }
-{
-    if bytes.len() - at < 16 {
-        return None;
-    }
-    let low = low_16(bytes, at);
-    if low == 0 {
-        return None;
-    }
-    let len = lowest(low);
-    if len == 0 || bytes[at + len] != b'\n' {
-        return None;
-    }
-    Some(len)
 }
 
 /// Returns whether the lowest bit is that of the byte at a place.

@@ -1,5 +1,5 @@
 //! The loop over the items ahead in a feed's chunk: one for all commands.
-ghost use Rattle.std.specs.Prelude.{◌≡◌, ℕ, ◌-◌, ◌^◌, ◌<◌, ◌≤◌, Bool, length, true, false, IfOk, MatchOption, MatchResult};
+ghost use Rattle.std.specs.Prelude.{◌≡◌, ℕ, ◌-◌, ◌^◌, ◌<◌, ◌≤◌, Bool, length, true, false, IfErr, IfOk, IfSome, MatchOption, MatchResult};
 ghost use Rattle.vcd_text.specs.Ahead.{bytes_of, passed_of};
 ghost use Rattle.vcd_text.specs.Device.{Counts, Device};
 ghost use Rattle.vcd_text.specs.declared.ahead.Ahead.{Ahead};
@@ -18,8 +18,8 @@ ghost use Rattle.vcd_view.specs.declared.view.HeadView.{HeadView};
 use crate::gathered::Gathered;
 use crate::pieces::{InPlace, Pieces, line_of_mark};
 use vcd_body::{
-    First, Opening, Plain, Regs, mark_ahead, near_mark, opening_ahead, real_ahead, scalar_ahead,
-    short_ahead, time_ahead, vector_ahead, vector_tokens_ahead,
+    First, Opening, Plain, Regs, has_run, mark_ahead, near_mark, opening_ahead, real_ahead,
+    scalar_ahead, short_ahead, time_ahead, vector_ahead, vector_tokens_ahead,
 };
 use vcd_text::{Ahead, Sink, WriteFailed};
 use vcd_view::HeadView;
@@ -164,6 +164,7 @@ fn take_mark<'a, L, C: Command<L>>(
         → TakesNext v (walk_at ahead.old regs.old line.old)
         (walk_at ahead.new regs.new line.new) pieces pieces out out
         (C.machine command.old) (C.machine command.new) taken) }
+    ensures done { IfSome result (λ taken. IfErr taken (λ _. ⊥)) }
     ensures ready { C.is_ready command.new ≡ true }
 {
     let time = time_ahead(opening)?;
@@ -238,14 +239,13 @@ fn take_next<L, C: Command<L>, W: Sink>(
     Some(taken)
 }
 
-/// Takes the next item that lies ahead, where it is on a line of its own, and is a change by `0` or
-/// `1` with a code of one byte or a time mark. None where it takes none, and then nothing has
-/// changed.
+/// Takes the next item that lies ahead, where it is a change by `0` or `1` with a code of one byte
+/// on a line of its own. None where it takes none, and then nothing has changed.
 #[inline(always)]
 fn take_short<L, C: Command<L>, W: Sink>(
     command: &mut C,
     view: HeadView<'_>,
-    regs: &mut Regs,
+    regs: Regs,
     ahead: &mut Ahead<'_>,
     line: &mut usize,
     pieces: &mut Pieces<'_>,
@@ -253,25 +253,22 @@ fn take_short<L, C: Command<L>, W: Sink>(
 ) -> Option<Result<(), WriteFailed>>
     requires failures { (W.device out.old).failures < 2 ^ 64 - 1 }
     requires ready { C.is_ready command.old ≡ true }
-    requires line { HasLine (walk_at ahead.old regs.old line.old) }
+    requires line { HasLine (walk_at ahead.old regs line.old) }
     requires part { IsPart (bytes_of ahead.old) pieces.old }
     ensures next { MatchOption result
-        ((command.new ≡ command.old) × (regs.new ≡ regs.old) × (ahead.new ≡ ahead.old)
+        ((command.new ≡ command.old) × (ahead.new ≡ ahead.old)
         × (pieces.new ≡ pieces.old) × (W.device out.new ≡ W.device out.old)
         × (line.new ≡ line.old))
-        (TakesNext view.entry (walk_at ahead.old regs.old line.old)
-        (walk_at ahead.new regs.new line.new) pieces.old pieces.new
+        (TakesNext view.entry (walk_at ahead.old regs line.old)
+        (walk_at ahead.new regs line.new) pieces.old pieces.new
         (W.device out.old) (W.device out.new) (C.machine command.old) (C.machine command.new)) }
     ensures ready { C.is_ready command.new ≡ true }
 {
     let mut next = *ahead;
-    if let Some(plain) = short_ahead(&mut next, view) {
-        let taken = take_found(command, view, *regs, plain, *ahead, next, line, pieces, out);
-        *ahead = next;
-        return Some(taken);
-    }
-    let opening = near_mark(&mut next)?;
-    take_mark(command, opening, regs, ahead, next, line)
+    let plain = short_ahead(&mut next, view)?;
+    let taken = take_found(command, view, regs, plain, *ahead, next, line, pieces, out);
+    *ahead = next;
+    Some(taken)
 }
 
 /// How a run of short lines has ended.
@@ -314,11 +311,93 @@ impl<'a, 'p> Shorts<'a, 'p> {
     }
 }
 
+/// Takes the changes that come next, as long as each is a `0` or a `1` with a code of one byte on a
+/// line of its own.
+#[inline(always)]
+fn take_shorts<'a, 'p, L, C: Command<L>, W: Sink>(
+    command: &mut C,
+    view: HeadView<'_>,
+    regs: Regs,
+    mut ahead: Ahead<'a>,
+    mut line: usize,
+    mut pieces: Pieces<'p>,
+    out: &mut W,
+) -> Shorts<'a, 'p>
+    requires failures { (W.device out.old).failures < 2 ^ 64 - 1 }
+    requires ready { C.is_ready command.old ≡ true }
+    requires within { passed_of ahead ≤ length (bytes_of ahead) }
+    requires line { HasLine (walk_at ahead regs line) }
+    requires part { IsPart (bytes_of ahead) pieces }
+    ensures walks { (a : Ahead) (r : Regs) (m : Machine) (begin : Device)
+        → HasWalked view.entry a r m begin (walk_at ahead.entry regs line)
+        pieces.entry (W.device out.old) (C.machine command.old)
+        → MatchResult result.written
+        (λ _. HasWalked view.entry a r m begin
+        (walk_at result.ahead result.regs result.line) result.pieces
+        (W.device out.new) (C.machine command.new))
+        (λ failed. RunsOver view.entry a r m (C.machine command.new) begin (W.device out.new)
+        (record { passed = passed_of result.ahead; regs = result.regs; written = result.written })) }
+    ensures ready { C.is_ready command.new ≡ true }
+    ensures failures { IfOk result.written
+        (λ _. (W.device out.new).failures ≡ (W.device out.old).failures) }
+    ensures within { IfOk result.written
+        (λ _. passed_of result.ahead ≤ length (bytes_of result.ahead)) }
+    ensures part { IfOk result.written (λ _. IsPart (bytes_of result.ahead) result.pieces) }
+    ensures line { IfOk result.written
+        (λ _. HasLine (walk_at result.ahead result.regs result.line)) }
+    ensures same { bytes_of result.ahead ≡ bytes_of ahead.entry }
+    ensures further { passed_of ahead.entry ≤ passed_of result.ahead }
+{
+    'items: loop {
+        let Some(taken) = take_short(
+            command,
+            view,
+            regs,
+            &mut ahead,
+            &mut line,
+            &mut pieces,
+            out,
+        ) else {
+            return Shorts::until(ahead, regs, line, pieces, Ok(()));
+        };
+        match taken {
+            Ok(()) => {}
+            Err(failed) => return Shorts::until(ahead, regs, line, pieces, Err(failed)),
+        }
+    }
+}
+
+/// Takes the next item that lies ahead, where it is a time mark on a line of its own. None where it
+/// takes none, and then nothing has changed.
+#[inline(always)]
+fn take_near<L, C: Command<L>>(
+    command: &mut C,
+    regs: &mut Regs,
+    ahead: &mut Ahead<'_>,
+    line: &mut usize,
+) -> Option<Result<(), WriteFailed>>
+    requires ready { C.is_ready command.old ≡ true }
+    ensures next { MatchOption result
+        ((command.new ≡ command.old) × (regs.new ≡ regs.old) × (ahead.new ≡ ahead.old)
+        × (line.new ≡ line.old))
+        (λ taken. (v : HeadView) (pieces : Pieces) (out : Device) → IsPart (bytes_of ahead.old) pieces
+        → TakesNext v (walk_at ahead.old regs.old line.old)
+        (walk_at ahead.new regs.new line.new) pieces pieces out out
+        (C.machine command.old) (C.machine command.new) taken) }
+    ensures done { IfSome result (λ taken. IfErr taken (λ _. ⊥)) }
+    ensures ready { C.is_ready command.new ≡ true }
+{
+    let mut next = *ahead;
+    let opening = near_mark(&mut next)?;
+    take_mark(command, opening, regs, ahead, next, line)
+}
+
 /// Takes the items that come next, as long as each is a short change or a time mark on a line of
 /// its own.
-// It is a loop of its own, so that it has all registers, and the other loop has none less for it.
+// It is not inlined, so that it has all registers, and the other loop has none less for it. The
+// loop of changes in it is one of its own, so that no change pays for what a mark needs.
 #[inline(never)]
-fn take_shorts<'a, 'p, L, C: Command<L>, W: Sink>(
+fn take_lines<'a, 'p, L, C: Command<L>, W: Sink>(
     command: &mut C,
     view: HeadView<'_>,
     mut regs: Regs,
@@ -344,22 +423,19 @@ fn take_shorts<'a, 'p, L, C: Command<L>, W: Sink>(
     ensures ready { C.is_ready command.new ≡ true }
     ensures further { passed_of ahead.entry ≤ passed_of result.ahead }
 {
-    'items: loop {
-        let Some(taken) = take_short(
-            command,
-            view,
-            &mut regs,
-            &mut ahead,
-            &mut line,
-            &mut pieces,
-            out,
-        ) else {
+    'runs: loop {
+        let run = take_shorts(command, view, regs, ahead, line, pieces, out);
+        match run.written {
+            Ok(()) => {}
+            Err(_) => return run,
+        }
+        ahead = run.ahead;
+        regs = run.regs;
+        line = run.line;
+        pieces = run.pieces;
+        let Some(_taken) = take_near(command, &mut regs, &mut ahead, &mut line) else {
             return Shorts::until(ahead, regs, line, pieces, Ok(()));
         };
-        match taken {
-            Ok(()) => {}
-            Err(failed) => return Shorts::until(ahead, regs, line, pieces, Err(failed)),
-        }
     }
 }
 
@@ -400,8 +476,8 @@ pub(crate) fn take_each<L, C: Command<L>, W: Sink>(
             Ok(()) => {}
             Err(failed) => return Taken::until(ahead, regs, Err(failed)),
         }
-        if command.has_runs() && line != ahead.passed() && ahead.has_short() {
-            let run = take_shorts(command, view, regs, ahead, line, pieces, out);
+        if command.has_runs() && line != ahead.passed() && has_run(ahead) {
+            let run = take_lines(command, view, regs, ahead, line, pieces, out);
             ahead = run.ahead;
             regs = run.regs;
             line = run.line;

@@ -43,8 +43,8 @@ items-preserved g c = record {
   ready = c.in-Some.ensures.ready;
 }
 
-pub take_shorts-run-requires : goal.take_shorts-run-requires
-take_shorts-run-requires g c =
+pub take_lines-run-requires : goal.take_lines-run-requires
+take_lines-run-requires g c =
     let w = walk_on _ _ _ _ _ _ _ _ _ c.items.invariant.walked _ _ _ _ _ c.in-Some.ensures.next _ c.in-Ok.is in
     record { failures = omega (arith, w.failures, c.requires.failures); ready = c.in-Some.ensures.ready; within = w.within; line = w.line; part = w.part }
 
@@ -52,21 +52,21 @@ pub returns-in-Err-written : goal.returns-in-Err-written
 returns-in-Err-written g c =
     let w = walk_on _ _ _ _ _ _ _ _ _ c.items.invariant.walked _ _ _ _ _ c.in-Some.ensures.next _ c.in-Ok.is in
     let u = c.until-in-Err-written.ensures in
-    let runs = rw c.in-Err-written.is at (c.take_shorts-run.ensures.walks _ _ _ _ w) in
+    let runs = rw c.in-Err-written.is at (c.take_lines-run.ensures.walks _ _ _ _ w) in
     runs_as _ _ _ _ _ _ _ _ _ u.passed u.regs u.written runs
 
-pub items-smaller-then-has_short : goal.items-smaller-then-has_short
-items-smaller-then-has_short g c =
+pub items-smaller-then-has_run : goal.items-smaller-then-has_run
+items-smaller-then-has_run g c =
     let n = c.in-Some.ensures.next in
     let w = walk_on _ _ _ _ _ _ _ _ _ c.items.invariant.walked _ _ _ _ _ n _ c.in-Ok.is in
-    let after = rw c.in-Ok-written.is at (c.take_shorts-run.ensures.walks _ _ _ _ w) in
+    let after = rw c.in-Ok-written.is at (c.take_lines-run.ensures.walks _ _ _ _ w) in
     let long = ap length (after.over.1 ∙ sym c.items.invariant.walked.over.1) in
-    omega (arith, after.within, n.item.further, c.take_shorts-run.ensures.further, long)
+    omega (arith, after.within, n.item.further, c.take_lines-run.ensures.further, long)
 
-pub items-preserved-then-has_short : goal.items-preserved-then-has_short
-items-preserved-then-has_short g c =
+pub items-preserved-then-has_run : goal.items-preserved-then-has_run
+items-preserved-then-has_run g c =
     let w = walk_on _ _ _ _ _ _ _ _ _ c.items.invariant.walked _ _ _ _ _ c.in-Some.ensures.next _ c.in-Ok.is in
     record {
-      walked = rw c.in-Ok-written.is at (c.take_shorts-run.ensures.walks _ _ _ _ w);
-      ready = c.take_shorts-run.ensures.ready;
+      walked = rw c.in-Ok-written.is at (c.take_lines-run.ensures.walks _ _ _ _ w);
+      ready = c.take_lines-run.ensures.ready;
     }

@@ -12,6 +12,7 @@ use Rattle.vcd_engine.proofs.machine.walk.take_shorts.Given as goal
 abbrev pub invariant-items : goal.invariant-items
 invariant-items g l = record {
   within : passed_of l.ahead ≤ length (bytes_of l.ahead);
+  bytes : bytes_of l.ahead ≡ bytes_of l.fn.ahead;
   further : passed_of l.fn.ahead ≤ passed_of l.ahead;
   failures : (g.W.Sink.device l.out).failures ≡ (g.W.Sink.device l.fn.out).failures;
   part : IsPart (bytes_of l.ahead) l.pieces;

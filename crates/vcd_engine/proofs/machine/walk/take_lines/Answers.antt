@@ -1,0 +1,46 @@
+use Rattle.std.proofs.Common.{◌≡◌, ◌+◌, ◌∷◌, Result, Ok, Err, refl, sym, subst, ap, ◌∙◌, length, arith}
+use Rattle.std.specs.Prelude.{IfErr}
+use Rattle.vcd_text.specs.Ahead.{bytes_of}
+use Rattle.vcd_engine.specs.Pieces.{IsPart}
+use Rattle.vcd_engine.proofs.WalkLemmas.{walk_on}
+use Rattle.vcd_engine.proofs.machine.walk.take_lines.Goals as goal
+
+-- a call that does not fail
+done : {A E : Type 0} (r : Result A E) → IfErr r (λ _. ⊥) → (x : A) × (r ≡ Ok x)
+done (Ok x) h = (x, refl)
+done (Err e) h = absurd h
+
+pub returns-in-Err-clause-walks : goal.returns-in-Err-clause-walks
+returns-in-Err-clause-walks g c = λ a r m begin w. c.take_shorts-run.ensures.walks a r m begin (c.runs.invariant.walks a r m begin w)
+
+pub returns-in_default-clause-walks : goal.returns-in_default-clause-walks
+returns-in_default-clause-walks g c = λ a r m begin w.
+    let same = c.in_default.ensures.next in
+    rw (c.until.ensures, same.0, same.1, same.2, same.3) (rw c.in-Ok.is at (c.take_shorts-run.ensures.walks a r m begin (c.runs.invariant.walks a r m begin w)))
+
+pub runs-preserved : goal.runs-preserved
+runs-preserved g c =
+    let inv = c.runs.invariant in
+    let s = c.take_shorts-run.ensures in
+    let run = c.take_shorts-run.result in
+    let part = rw c.in-Ok.is at s.part in
+    let failures = rw c.in-Ok.is at s.failures in
+    let n = c.in-Some.ensures.next c.args.view run.pieces (g.W.Sink.device c.take_shorts-run.new.out) part in
+    let ok = done c.in-Some._taken c.in-Some.ensures.done in
+    record {
+      within = n.item.within;
+      further = omega (arith, inv.further, s.further, n.item.further);
+      failures = failures ∙ inv.failures;
+      part = subst (λ bs. IsPart bs run.pieces) (sym n.item.same.0) part;
+      line = n.line;
+      ready = c.in-Some.ensures.ready;
+      walks = λ a r m begin w. walk_on c.args.view a r m begin _ _ _ _ (rw c.in-Ok.is at (s.walks a r m begin (inv.walks a r m begin w))) _ _ _ _ _ n ok.0 ok.1;
+    }
+
+pub runs-smaller : goal.runs-smaller
+runs-smaller g c =
+    let s = c.take_shorts-run.ensures in
+    let part = rw c.in-Ok.is at s.part in
+    let n = c.in-Some.ensures.next c.args.view c.take_shorts-run.result.pieces (g.W.Sink.device c.take_shorts-run.new.out) part in
+    let long = ap length (n.item.same.0 ∙ s.same) in
+    omega (arith, n.item.within, n.item.further, s.further, long)
