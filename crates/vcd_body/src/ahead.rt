@@ -278,11 +278,10 @@ pub fn short_ahead<'a>(ahead: &mut Ahead<'a>, view: HeadView<'_>) -> Option<Plai
     Some(change_of(found, Form::Scalar, text, None, at, at + 1))
 }
 
-/// Returns whether a line of two bytes comes at once, and then another one or what may be a time
-/// mark: the begin of a run for `short_ahead` and `near_mark`.
+/// Returns whether two lines of two bytes come at once: the begin of a run for `short_ahead`.
 #[inline(always)]
 pub fn has_run(ahead: Ahead<'_>) -> bool
-    ensures { result ≡ true → 2 ≤ longest_of ahead.entry
+    ensures { result ≡ true
         → IsRun (longest_of ahead.entry) (bytes_of ahead.entry) (passed_of ahead.entry) 2 }
 {
     if !ahead.has_short() {
@@ -290,9 +289,7 @@ pub fn has_run(ahead: Ahead<'_>) -> bool
     }
     let mut next = ahead;
     let _ = next.next_short();
-    let at = next.passed();
-    let bytes = next.bytes();
-    next.has_short() || (at < bytes.len() && bytes[at] == b'#')
+    next.has_short()
 }
 
 /// The tokens of a vector's change, which were taken ahead: one that a `b` and digits begin, and

@@ -33,6 +33,19 @@ walk_begins v a r m out line p within at part none = record {
 }
 
 module _ (v : HeadView) (a : Ahead) (r : Regs) (m : Machine) (begin : Device) (w : Walk) (p : Pieces) (out : Device) (m' : Machine) (walked : HasWalked v a r m begin w p out m') where
+  -- another look-ahead at the same place will do
+  pub walk_same : (a' : Ahead) → (passed_of a' ≡ passed_of w.ahead) × (bytes_of a' ≡ bytes_of w.ahead) × (longest_of a' ≡ longest_of w.ahead) → HasWalked v a r m begin (walk_at a' w.regs w.line) p out m'
+  walk_same a' same = record {
+    over = (same.2 ∙ walked.over.0, same.1 ∙ walked.over.1);
+    within = rw (same.0, same.1) walked.within;
+    failures = walked.failures;
+    same = walked.same;
+    part = rw same.1 walked.part;
+    line = rw (same.0, same.1) walked.line;
+    passes = rw same.0 walked.passes;
+    stands = rw same.0 walked.stands;
+  }
+
   within_all : passed_of w.ahead ≤ length (bytes_of a)
   within_all = subst (λ (bs : List ℕ). passed_of w.ahead ≤ length bs) walked.over.1 walked.within
 

@@ -217,10 +217,28 @@ impl<'a> Ahead<'a> {
     /// Returns whether the next token begins at once, has two bytes and a line feed after them.
     #[inline(always)]
     pub fn has_short(&self) -> bool
-        ensures { result ≡ true → 2 ≤ longest_of self.now
+        ensures { result ≡ true
             → IsRun (longest_of self.now) (bytes_of self.now) (passed_of self.now) 2 }
     {
-        has_short(self.bytes, self.at)
+        self.limit >= 2 && has_short(self.bytes, self.at)
+    }
+
+    /// Forgets what white space it has seen, before a loop over `next_short` and `next_near`: so
+    /// the loop need not keep it at hand.
+    #[inline(always)]
+    pub fn forget(&mut self)
+        ensures { (passed_of self.new ≡ passed_of self.old) × (bytes_of self.new ≡ bytes_of self.old)
+            × (longest_of self.new ≡ longest_of self.old) }
+    {
+        *self = Ahead {
+            bytes: self.bytes,
+            at: self.at,
+            limit: self.limit,
+            white: White {
+                bits: 0,
+                next: self.at,
+            },
+        };
     }
 
     /// Takes the token at a place, before which all bytes are white.

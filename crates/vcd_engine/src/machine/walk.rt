@@ -423,6 +423,11 @@ fn take_lines<'a, 'p, L, C: Command<L>, W: Sink>(
     ensures ready { C.is_ready command.new ≡ true }
     ensures further { passed_of ahead.entry ≤ passed_of result.ahead }
 {
+    // What is known from here on is not asked again for each line.
+    if view.entries.is_empty() || !has_run(ahead) {
+        return Shorts::until(ahead, regs, line, pieces, Ok(()));
+    }
+    ahead.forget();
     'runs: loop {
         let run = take_shorts(command, view, regs, ahead, line, pieces, out);
         match run.written {

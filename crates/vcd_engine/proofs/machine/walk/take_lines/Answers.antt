@@ -2,7 +2,7 @@ use Rattle.std.proofs.Common.{◌≡◌, ◌+◌, ◌∷◌, Result, Ok, Err, re
 use Rattle.std.specs.Prelude.{IfErr}
 use Rattle.vcd_text.specs.Ahead.{bytes_of}
 use Rattle.vcd_engine.specs.Pieces.{IsPart}
-use Rattle.vcd_engine.proofs.WalkLemmas.{walk_on}
+use Rattle.vcd_engine.proofs.WalkLemmas.{walk_on, walk_same}
 use Rattle.vcd_engine.proofs.machine.walk.take_lines.Goals as goal
 
 -- a call that does not fail
@@ -10,13 +10,30 @@ done : {A E : Type 0} (r : Result A E) → IfErr r (λ _. ⊥) → (x : A) × (r
 done (Ok x) h = (x, refl)
 done (Err e) h = absurd h
 
+pub returns-then-is_empty-clause-walks : goal.returns-then-is_empty-clause-walks
+returns-then-is_empty-clause-walks g c = λ a r m begin w. rw c.until.ensures w
+
+pub runs-init : goal.runs-init
+runs-init g c =
+    let q = c.requires in
+    let same = c.forget.ensures in
+    record {
+      within = rw (same.0, same.1) q.within;
+      further = omega (arith, same.0);
+      failures = refl;
+      part = rw same.1 q.part;
+      line = rw (same.0, same.1) q.line;
+      ready = q.ready;
+      walks = λ a r m begin w. walk_same c.args.view a r m begin _ _ _ _ w _ same;
+    }
+
 pub returns-in-Err-clause-walks : goal.returns-in-Err-clause-walks
 returns-in-Err-clause-walks g c = λ a r m begin w. c.take_shorts-run.ensures.walks a r m begin (c.runs.invariant.walks a r m begin w)
 
 pub returns-in_default-clause-walks : goal.returns-in_default-clause-walks
 returns-in_default-clause-walks g c = λ a r m begin w.
     let same = c.in_default.ensures.next in
-    rw (c.until.ensures, same.0, same.1, same.2, same.3) (rw c.in-Ok.is at (c.take_shorts-run.ensures.walks a r m begin (c.runs.invariant.walks a r m begin w)))
+    rw (c.until-in_default.ensures, same.0, same.1, same.2, same.3) (rw c.in-Ok.is at (c.take_shorts-run.ensures.walks a r m begin (c.runs.invariant.walks a r m begin w)))
 
 pub runs-preserved : goal.runs-preserved
 runs-preserved g c =
