@@ -30,6 +30,7 @@ pub record Opens (a a' : Ahead) (o : Opening) : Type 0 where
   pub begins : Begins o.token.now o.first
   pub some : 0 < length o.token.now
   pub place : o.token.now ≡ slice_range (bytes_of a) (start_of a' o.token.now) (passed_of a' - 1)
+  pub at : o.at ≡ passed_of a' - 1 - length o.token.now
   pub before : AreWhite (bytes_of a) (passed_of a) (start_of a' o.token.now)
   pub further : passed_of a + length o.token.now + 1 ≤ passed_of a'
   pub within : passed_of a' ≤ length (bytes_of a)

@@ -157,6 +157,8 @@ pub struct Opening<'a> {
     /// What the token begins.
     pub first: First,
     pub(crate) token: &'a [u8],
+    // Where the token begins.
+    pub(crate) at: usize,
     // Whether `near_mark` gave it, in a loop that is to make no call for a mark.
     pub(crate) near: bool,
 }
@@ -170,6 +172,7 @@ pub fn opening_ahead<'a>(ahead: &mut Ahead<'a>) -> Option<Opening<'a>>
     let token = ahead.next()?;
     Some(Opening {
         first: first_by(token[0]),
+        at: ahead.passed() - 1 - token.len(),
         token,
         near: false,
     })
@@ -185,6 +188,7 @@ fn short_opening<'a>(ahead: &mut Ahead<'a>) -> Option<Opening<'a>>
     let token = ahead.next_short()?;
     Some(Opening {
         first: first_by(token[0]),
+        at: ahead.passed() - 1 - token.len(),
         token,
         near: false,
     })
@@ -198,6 +202,7 @@ pub fn near_mark<'a>(ahead: &mut Ahead<'a>) -> Option<Opening<'a>>
     ensures first { IfSome result (λ o. o.first ≡ first.Mark) }
     ensures stays { result ≡ None → ahead.new ≡ ahead.old }
 {
+    let at = ahead.passed();
     let mut next = *ahead;
     let token = next.next_near()?;
     let first = first_by(token[0]);
@@ -207,6 +212,7 @@ pub fn near_mark<'a>(ahead: &mut Ahead<'a>) -> Option<Opening<'a>>
     *ahead = next;
     Some(Opening {
         first,
+        at,
         token,
         near: true,
     })
@@ -230,7 +236,7 @@ pub fn scalar_ahead<'a>(
     let token = opening.token;
     let found = scalar_code(token, view).ok()?;
     let text = first_byte_of(token);
-    let at = ahead.passed() - 1 - token.len();
+    let at = opening.at;
     Some(change_of(found, Form::Scalar, text, None, at, at + 1))
 }
 
@@ -273,7 +279,7 @@ pub fn short_ahead<'a>(ahead: &mut Ahead<'a>, view: HeadView<'_>) -> Option<Plai
     let token = opening.token;
     let found = short_code(token, view)?;
     let text = first_byte_of(token);
-    let at = next.passed() - 1 - token.len();
+    let at = opening.at;
     *ahead = next;
     Some(change_of(found, Form::Scalar, text, None, at, at + 1))
 }
@@ -319,8 +325,8 @@ pub fn vector_tokens_ahead<'a>(
         → OpensVector a ahead.new tokens) }
 {
     let token = opening.token;
+    let at = opening.at;
     let bytes = ahead.bytes();
-    let at = ahead.passed() - 1 - token.len();
     let code = ahead.next()?;
     let bits = vector_bits(bytes, at, token);
     let code_at = ahead.passed() - 1 - code.len();
@@ -378,11 +384,17 @@ pub fn real_ahead<'a>(
         (λ plain. (place : ℕ) × (plain.item ≡ item.Change place form.RealText)) }
 {
     let token = opening.token;
-    let at = ahead.passed() - 1 - token.len();
     let code = ahead.next()?;
     let found = real_code(token, code, view)?;
     let code_at = ahead.passed() - 1 - code.len();
-    Some(change_of(found, Form::RealText, rest_of(token), None, at + 1, code_at))
+    Some(change_of(
+        found,
+        Form::RealText,
+        rest_of(token),
+        None,
+        opening.at + 1,
+        code_at,
+    ))
 }
 
 /// Returns the time of the mark that a token is; none where it spells none.
@@ -418,9 +430,8 @@ pub fn mark_ahead<'a>(
     ensures regs { MatchOption result (regs.new ≡ regs.old)
         (λ plain. regs.new ≡ regs_after regs.old plain.item) }
 {
-    let at = ahead.passed() - 1 - opening.token.len();
     match regs.take_mark_by(time, !opening.near) {
-        Ok(()) => Some(mark_of(time, at + 1)),
+        Ok(()) => Some(mark_of(time, opening.at + 1)),
         Err(_) => None,
     }
 }

@@ -27,6 +27,7 @@
 //! `scalar_ahead` and `real_ahead` the item that it begins (`TakesItem`), as `vector_tokens_ahead`
 //! (`OpensVector`) and `vector_ahead` do, and `time_ahead` (`HasTime`) and `mark_ahead`, so that a
 //! loop which does something else with each asks once what it is; `item_ahead` is those seven.
+//! `short_ahead` and `near_mark` do the same for short lines, after `has_run`.
 //! `HasSpelled view bytes from to text item` says by which bytes a change that was taken ahead is
 //! spelled; `left_out` asks for it.
 //!
@@ -100,8 +101,9 @@ mod value;
 mod words;
 
 pub use ahead::{
-    Opening, Plain, VectorTokens, has_run, item_ahead, mark_ahead, near_mark, opening_ahead, pass_items,
-    real_ahead, scalar_ahead, short_ahead, time_ahead, vector_ahead, vector_tokens_ahead,
+    Opening, Plain, VectorTokens, has_run, item_ahead, mark_ahead, near_mark, opening_ahead,
+    pass_items, real_ahead, scalar_ahead, short_ahead, time_ahead, vector_ahead,
+    vector_tokens_ahead,
 };
 pub use answer::{Done, More, Stop};
 pub use bits::Bits;

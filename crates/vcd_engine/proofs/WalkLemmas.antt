@@ -1,7 +1,6 @@
 -- The loop over the items ahead, step by step.
-use Rattle.std.proofs.Common.{◌≡◌, ℕ, ◌+◌, ◌≤◌, ◌<◌, ◌^◌, List, [], ◌∷◌, ◌++◌, length, Result, Ok, Err, refl, sym, ap, subst, ◌∙◌, append-nil, arith}
+use Rattle.std.proofs.Common.{◌≡◌, ℕ, ◌+◌, ◌≤◌, ◌<◌, List, [], ◌∷◌, ◌++◌, length, Result, Ok, Err, refl, sym, ap, subst, ◌∙◌, append-nil, arith}
 use Rattle.std.specs.Prelude.{IfErr, IfOk}
-use Rattle.vcd_model.specs.Items.{BodyItem}
 use Rattle.vcd_text.specs.Ahead.{bytes_of, longest_of, passed_of}
 use Rattle.vcd_text.specs.Device.{Counts, Device, Puts, failures_after}
 use Rattle.vcd_text.specs.declared.ahead.Ahead.{Ahead}

@@ -195,6 +195,7 @@ impl<'a> Ahead<'a> {
         ensures further { IfSome result
             (λ token. passed_of self.old + length token.now + 1 ≤ passed_of self.new) }
         ensures within { passed_of self.new ≤ length (bytes_of self.old) }
+        ensures start { IfSome result (λ token. start_of self.new token.now ≡ passed_of self.old) }
         ensures none { result ≡ None → self.new ≡ self.old }
         ensures same { (bytes_of self.new ≡ bytes_of self.old)
             × (longest_of self.new ≡ longest_of self.old) }
@@ -266,6 +267,7 @@ impl<'a> Ahead<'a> {
         ensures further { IfSome result
             (λ token. passed_of self.old + length token.now + 1 ≤ passed_of self.new) }
         ensures within { passed_of self.new ≤ length (bytes_of self.old) }
+        ensures start { IfSome result (λ token. start_of self.new token.now ≡ start) }
         ensures none { result ≡ None → self.new ≡ self.old }
         ensures needed { result ≡ None → (at n : ℕ)
             → AreWhite (bytes_of self.old) (passed_of self.old) at
@@ -301,7 +303,7 @@ fn has_short(bytes: &[u8], at: usize) -> bool
     ensures second { result ≡ true → is_white_space (slice_index bytes.now (at + 1)) ≡ false }
     ensures white { result ≡ true → is_white_space (slice_index bytes.now (at + 2)) ≡ true }
 {
-    bytes.len() - at >= 3 && bytes[at] > b' ' && bytes[at + 1] > b' ' && bytes[at + 2] == b'\n'
+    bytes.len() - at >= 3 && bytes[at + 2] == b'\n' && bytes[at] > b' ' && bytes[at + 1] > b' '
 }
 
 /// Returns whether the lowest bit is that of the byte at a place.

@@ -107,7 +107,7 @@ impl<'n, 'r> Command<Keeping> for Edges<'n, 'r> {
 
     #[inline(always)]
     fn has_runs(&self) -> bool {
-        true
+        false
     }
 
     #[inline(always)]

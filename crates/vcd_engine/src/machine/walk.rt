@@ -349,15 +349,8 @@ fn take_shorts<'a, 'p, L, C: Command<L>, W: Sink>(
     ensures further { passed_of ahead.entry ≤ passed_of result.ahead }
 {
     'items: loop {
-        let Some(taken) = take_short(
-            command,
-            view,
-            regs,
-            &mut ahead,
-            &mut line,
-            &mut pieces,
-            out,
-        ) else {
+        let Some(taken) = take_short(command, view, regs, &mut ahead, &mut line, &mut pieces, out)
+        else {
             return Shorts::until(ahead, regs, line, pieces, Ok(()));
         };
         match taken {

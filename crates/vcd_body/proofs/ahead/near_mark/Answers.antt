@@ -1,4 +1,4 @@
-use Rattle.std.proofs.Common.{drop, subst}
+use Rattle.std.proofs.Common.{arith, drop, subst}
 use Rattle.vcd_body.specs.Words.{Begins}
 use Rattle.vcd_body.proofs.WordLemmas.{first_rest}
 use Rattle.vcd_body.proofs.ahead.near_mark.Goals as goal
@@ -12,6 +12,7 @@ returns-clause-opens c =
       begins = subst (λ t. Begins t c.first_by-first.result) (first_rest token n.some) (c.first_by-first.ensures (drop 1 token));
       some = n.some;
       place = n.place;
+      at = omega (arith, n.start, c.passed-at.ensures.passed);
       before = n.before;
       further = n.further;
       within = n.within;

@@ -1,4 +1,4 @@
-use Rattle.std.proofs.Common.{drop, subst}
+use Rattle.std.proofs.Common.{◌-◌, ap, drop, length, subst}
 use Rattle.vcd_body.specs.Words.{Begins}
 use Rattle.vcd_body.proofs.WordLemmas.{first_rest}
 use Rattle.vcd_body.proofs.ahead.opening_ahead.Goals as goal
@@ -12,6 +12,7 @@ returns-clause-opens c =
       begins = subst (λ t. Begins t c.first_by.result) (first_rest token n.some) (c.first_by.ensures (drop 1 token));
       some = n.some;
       place = n.place;
+      at = ap (λ n. n - 1 - length token) c.passed.ensures.passed;
       before = n.before;
       further = n.further;
       within = n.within;

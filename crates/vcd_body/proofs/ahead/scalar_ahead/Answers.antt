@@ -19,7 +19,7 @@ returns-clause-takes c = λ a r o.
     let view = c.args.view in
     let e = c.scalar_code.ensures in
     let is = c.in_ok-found.ensures.value in
-    rw (c.change_of.ensures, c.passed.ensures.passed) (scalar_takes view a c.args.ahead r c.args.opening c.in_ok-found.found _ o c.requires.first
+    rw (c.change_of.ensures, o.at) (scalar_takes view a c.args.ahead r c.args.opening c.in_ok-found.found _ o c.requires.first
     (λ h earlier v. at_ok (λ f. PassesScalar h.codes earlier token f.place) _ c.scalar_code.result _ is (e.code h earlier v))
     (of_found (λ f. IsGoodText view.codes.now f.place form.Scalar (take 1 token)) c.scalar_code.result _ is e.sound)
     (of_found (λ f. Names view f.place (drop 1 token)) c.scalar_code.result _ is e.names)

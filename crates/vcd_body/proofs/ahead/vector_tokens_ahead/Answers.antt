@@ -12,8 +12,8 @@ returns c = record {
         token = record { gives = o.gives; place = o.place; before = o.before; further = o.further; within = o.within; same = o.same };
         begins = subst (Begins token) c.requires.first o.begins;
         code = record { gives = m.gives; place = m.place; before = m.before; further = m.further; within = m.within; same = m.same };
-        at = ap (λ n. n - 1 - length token) c.passed.ensures.passed;
-        code_at = ap (λ n. n - 1 - length c.in_ok-code.code.now) c.passed-2.ensures.passed;
+        at = o.at;
+        code_at = ap (λ n. n - 1 - length c.in_ok-code.code.now) c.passed.ensures.passed;
         bits = c.vector_bits-bits.ensures;
       };
 }

@@ -1,8 +1,8 @@
-use Rattle.std.proofs.Common.{◌≡◌, ◌∙◌, ◌<◌, ◌≤◌, length, ap, refl, sym, subst, arith}
+use Rattle.std.proofs.Common.{◌∙◌, ◌<◌, length, ap, sym, subst, arith}
 use Rattle.std.specs.Prelude.{IfErr}
 use Rattle.vcd_text.specs.Ahead.{bytes_of, passed_of}
 use Rattle.vcd_text.specs.Device.{Puts}
-use Rattle.vcd_engine.specs.Pieces.{IsPart, held_in}
+use Rattle.vcd_engine.specs.Pieces.{held_in}
 use Rattle.vcd_engine.proofs.WalkLemmas.{runs_as, walk_begins, walk_ends, walk_fails, walk_on}
 use Rattle.vcd_engine.proofs.machine.walk.take_each.Goals as goal
 

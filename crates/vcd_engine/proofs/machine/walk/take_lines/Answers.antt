@@ -1,6 +1,5 @@
-use Rattle.std.proofs.Common.{◌≡◌, ◌+◌, ◌∷◌, Result, Ok, Err, refl, sym, subst, ap, ◌∙◌, length, arith}
+use Rattle.std.proofs.Common.{◌≡◌, Result, Ok, Err, refl, sym, subst, ap, ◌∙◌, length, arith}
 use Rattle.std.specs.Prelude.{IfErr}
-use Rattle.vcd_text.specs.Ahead.{bytes_of}
 use Rattle.vcd_engine.specs.Pieces.{IsPart}
 use Rattle.vcd_engine.proofs.WalkLemmas.{walk_on, walk_same}
 use Rattle.vcd_engine.proofs.machine.walk.take_lines.Goals as goal

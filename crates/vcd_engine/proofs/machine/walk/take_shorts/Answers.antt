@@ -1,4 +1,4 @@
-use Rattle.std.proofs.Common.{◌≡◌, ◌+◌, ◌∷◌, sym, subst, refl, ◌∙◌, arith}
+use Rattle.std.proofs.Common.{sym, subst, refl, ◌∙◌, arith}
 use Rattle.std.specs.Prelude.{IfOk}
 use Rattle.vcd_text.specs.Ahead.{bytes_of}
 use Rattle.vcd_text.specs.Device.{Counts}

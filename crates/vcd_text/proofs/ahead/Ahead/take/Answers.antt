@@ -128,3 +128,13 @@ returns-clause-further c =
     let ahead = m.ahead c.lowest-bit.result c.lowest-bit.ensures.set in
     let len = length-slice_range a.bytes.now at end (omega (arith, m.within, c.lowest-bit.ensures.bound)) in
     omega (arith, len, inv.before.order)
+
+pub returns-clause-start : goal.returns-clause-start
+returns-clause-start c =
+    let inv = c.requires in
+    let at = c.args.start in
+    let end : ℕ = c.args.white.next + c.lowest-bit.result - 64 in
+    let m = inv.marks in
+    let ahead = m.ahead c.lowest-bit.result c.lowest-bit.ensures.set in
+    let len = length-slice_range c.args.self.now.bytes.now at end (omega (arith, m.within, c.lowest-bit.ensures.bound)) in
+    omega arith
