@@ -1,13 +1,14 @@
 -- Lines that stand in some bytes but for digits on the left that are not needed.
-use Rattle.std.proofs.Common.{◌≡◌, ◌≢◌, ℕ, zero, suc, ◌+◌, ◌-◌, ◌≤◌, ◌<◌, ◌==◌, false, List, [], ◌∷◌, ◌++◌, length, replicate, take, drop, Option, Some, None, IfSome, SomeIff, sym, ap, ap₂, subst, ◌∙◌, arith}
+use Rattle.std.proofs.Common.{◌≡◌, ◌≢◌, ℕ, zero, suc, ◌+◌, ◌-◌, ◌≤◌, ◌<◌, ◌==◌, false, List, [], ◌∷◌, ◌++◌, length, replicate, take, drop, Option, Some, None, IfSome, SomeIff, sym, ap, ap₂, subst, ◌∙◌, append_assoc, arith}
 use Rattle.std.specs.Prelude.{slice_range}
 use Rattle.std.specs.Char.{to_ascii_lowercase}
 use Rattle.std.specs.Str.{str_to_ascii_lowercase}
-use Rattle.std.proofs.lemmas.List.{drop-append-le, drop-drop, drop-map, drop-take, length-append, length-drop, length-map, length-replicate}
-use Rattle.std.proofs.Math.Seq.{drop-append_seam, take-length}
+use Rattle.std.proofs.lemmas.List.{drop-append-le, drop-drop, drop-map, drop-take, length-append, length-drop, length-map, length-replicate, take-take}
+use Rattle.std.proofs.Math.Seq.{drop-append_seam, take-append_seam, take-length}
 use Rattle.vcd_model.specs.Values.{extend, extension, short}
 use Rattle.vcd_model.proofs.ShortLemmas.{short_is_shortest}
 use Rattle.vcd_text.proofs.AheadLemmas.{slice_range-append}
+use Rattle.vcd_text.proofs.Places.{length-slice_range}
 use Rattle.vcd_body.specs.declared.item.Form.TheVariants as form
 use Rattle.vcd_body.specs.Ahead.{HasBits}
 use Rattle.vcd_body.specs.Binary.{binary_digits}
@@ -120,3 +121,40 @@ text_known it text bits known = if_some_more bits (λ b (code, is, digits). digi
 pub some_left : (n m : ℕ) (Q : ℕ → Type 0) (o : Option ℕ) → SomeIff o (m ≤ n) (n - m) → Q (n - m) → IfSome o (λ k. (k ≤ n) × Q k)
 some_left n m Q (Some k) (le, is) q = (omega (arith, is), subst Q (sym is) q)
 some_left n m Q None none q = tt
+
+-- ---- fronts of lines
+
+same_front : (xs ys zs ws : List ℕ) → length xs ≡ length ys → xs ++ zs ≡ ys ++ ws → xs ≡ ys
+same_front xs ys zs ws long e = sym (take-append_seam xs zs) ∙ ap (take (length xs)) e ∙ ap (λ n. take n (ys ++ ws)) long ∙ take-append_seam ys ws
+
+-- what comes before the blank before the code is the front of the line
+pub front_there : (bytes : List ℕ) (from to k code_at : ℕ) (front code : List ℕ) → from + 1 + k ≤ to → to ≤ length bytes → to ≡ code_at + length code + 1 → 0 < length front → bytes_without bytes from to k ≡ front ++ (32 ∷ code ++ 10 ∷ [])
+    → (from + 2 + k ≤ code_at) × (bytes_without bytes from (code_at - 1) k ≡ front)
+front_there bytes from to k code_at front code within inside ends some e =
+    let first = slice_range bytes from (from + 1) in
+    let line = 32 ∷ code ++ 10 ∷ [] in
+    let middle = slice_range bytes (from + 1 + k) (code_at - 1) in
+    let last = slice_range bytes (code_at - 1) to in
+    let long = ap length e in
+    let long_first : length first ≡ 1 = length-slice_range bytes from (from + 1) (omega arith) ∙ omega arith in
+    let long_rest = length-slice_range bytes (from + 1 + k) to inside in
+    let left = length-append first (slice_range bytes (from + 1 + k) to) in
+    let right = length-append front line in
+    let code_long = length-append code (10 ∷ []) in
+    let room : from + 2 + k ≤ code_at = omega arith in
+    let long_middle = length-slice_range bytes (from + 1 + k) (code_at - 1) (omega arith) in
+    let all : code_at - 1 + (length code + 2) ≡ to = omega arith in
+    let split : middle ++ last ≡ slice_range bytes (from + 1 + k) to = subst (λ n. middle ++ slice_range bytes (code_at - 1) n ≡ slice_range bytes (from + 1 + k) n) all (slice_range-append bytes (from + 1 + k) (code_at - 1) (length code + 2) (omega arith)) in
+    let both = length-append first middle in
+    (room, same_front (first ++ middle) front last line (omega arith) (append_assoc first middle last ∙ ap (λ l. first ++ l) split ∙ e))
+
+-- a first byte, and the others without so many
+pub copied_there : (bytes : List ℕ) (from end k : ℕ) → from + 1 + k ≤ end → take 1 (slice_range bytes from end) ++ drop (1 + k) (slice_range bytes from end) ≡ bytes_without bytes from end k
+copied_there bytes from end k within =
+    let n = end - (from + 1 + k) in
+    let one : 1 ≡ from + 1 - from = omega arith in
+    let all : end - from ≡ 1 + k + n = omega arith in
+    let on : from + (1 + k) ≡ from + 1 + k = omega arith in
+    let front : take 1 (slice_range bytes from end) ≡ slice_range bytes from (from + 1) = take-take 1 (end - from) (drop from bytes) (omega arith) ∙ ap (λ m. take m (drop from bytes)) one in
+    let back : drop (1 + k) (slice_range bytes from end) ≡ slice_range bytes (from + 1 + k) end = ap (λ m. drop (1 + k) (take m (drop from bytes))) all ∙ drop-take (1 + k) n (drop from bytes) ∙ ap (take n) (drop-drop (1 + k) from bytes) ∙ ap (λ m. take n (drop m bytes)) on in
+    ap₂ (λ (a b : List ℕ). a ++ b) front back

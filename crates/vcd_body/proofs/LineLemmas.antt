@@ -171,7 +171,7 @@ mark_there bytes from to token time some told t =
 
 -- ---- a line
 
-flip : (b : Bool) → not b ≡ true → b ≡ false
+pub flip : (b : Bool) → not b ≡ true → b ≡ false
 flip true e = cc
 flip false e = refl
 
@@ -187,6 +187,17 @@ one_byte bytes p inside =
     front [] p inside = absurd (omega arith)
     front (b ∷ bytes) zero inside = refl
     front (b ∷ bytes) (suc p) inside = front bytes p (omega arith)
+
+-- the digit of a change is at its place
+pub digit_there : (bytes : List ℕ) (from to at start : ℕ) (text code : List ℕ) → HasChange bytes from to form.Scalar text code → HasPlaces bytes from to at start text code → (at < length bytes) × (text ≡ slice_index bytes at ∷ [])
+digit_there bytes from to at start text code (digit, is, t) places =
+    let long = ap (λ (l : List ℕ). length l) is in
+    let apart = places.apart in
+    let ends = places.ends in
+    let within = places.within in
+    let inside : at < length bytes = omega arith in
+    let one : at + length text ≡ at + 1 = omega arith in
+    (inside, places.text_is ∙ ap (slice_range bytes at) one ∙ one_byte bytes at inside)
 
 -- a token that begins at once, and the byte behind it
 pub token_line : (bytes : List ℕ) (from to : ℕ) (token : List ℕ) (x : ℕ) → HasToken bytes from to token → to ≡ from + length token + 1 → slice_index bytes (to - 1) ≡ x → slice_range bytes from to ≡ token ++ x ∷ []

@@ -1,12 +1,14 @@
 -- When bytes are the line of the change that they spell, and what is left out of them else.
-use Rattle.std.specs.Prelude.{◌≡◌, ℕ, ◌+◌, ◌-◌, ◌≤◌, List, [], ◌∷◌, ◌++◌, drop, length, slice_index, slice_range, Option, IfSome}
+use Rattle.std.specs.Prelude.{◌≡◌, ℕ, ◌+◌, ◌-◌, ◌<◌, ◌≤◌, false, List, [], ◌∷◌, ◌++◌, drop, length, slice_index, slice_range, Option, IfSome}
 use Rattle.std.specs.Str.{str_to_ascii_lowercase}
 use Rattle.vcd_model.specs.Values.{extend, short}
 use Rattle.vcd_body.specs.Binary.{binary_digits}
 use Rattle.vcd_body.specs.Spelled.{HasChange, HasSpelled, bytes_without}
 use Rattle.vcd_view.specs.declared.view.HeadView.{HeadView}
 use Rattle.vcd_body.specs.declared.ahead.Plain.{Plain}
+use Rattle.vcd_body.specs.Changes.{line_under}
 use Rattle.vcd_body.specs.declared.bits.Bits.{Bits}
+use Rattle.vcd_body.specs.declared.item.Form.{Form}
 use Rattle.vcd_body.specs.declared.item.Form.TheVariants as form
 
 -- a digit and a code, which begins at this place, are the line
@@ -29,6 +31,20 @@ LeavesShortest digits bits k = (k ≤ length digits) × (MayBe bits digits → (
 abbrev pub LeavesLine : List ℕ → ℕ → ℕ → List ℕ → Option Bits → ℕ → ℕ → Type 0
 LeavesLine bytes from to digits bits code_at k = (k ≤ length digits) × ((code : List ℕ) → HasChange bytes from to form.Vector digits code → slice_index bytes (to - 1) ≡ 10 → to ≡ code_at + length code + 1 → MayBe bits digits → (size : ℕ)
     → bytes_without bytes from to k ≡ 98 ∷ short (extend (str_to_ascii_lowercase digits) size) ++ (32 ∷ code ++ 10 ∷ []))
+
+-- the line of a change of a code of this size is this front, a blank, the code and a line feed,
+-- whatever the code
+abbrev pub IsFront : ℕ → Form → List ℕ → List ℕ → Type 0
+IsFront size form text front = (code : List ℕ) → line_under code size false form text ≡ front ++ (32 ∷ code ++ 10 ∷ [])
+
+-- without so many after the first one the bytes are the line, whose number of digits is this
+abbrev pub LeavesText : List ℕ → ℕ → ℕ → ℕ → Form → List ℕ → Option Bits → ℕ → ℕ → Type 0
+LeavesText bytes from to size form text bits code_at k = (from + 1 + k ≤ to) × (front : List ℕ) × (0 < length front) × IsFront size form text front
+    × ((code : List ℕ) → HasChange bytes from to form text code → slice_index bytes (to - 1) ≡ 10 → to ≡ code_at + length code + 1 → MayBe bits text → bytes_without bytes from to k ≡ front ++ (32 ∷ code ++ 10 ∷ []))
+
+-- without so many after the first one the bytes before the blank before the code are the front
+abbrev pub LeavesFront : List ℕ → ℕ → ℕ → Form → List ℕ → ℕ → ℕ → Type 0
+LeavesFront bytes from size form text code_at k = (from + 2 + k ≤ code_at) × (code_at ≤ length bytes) × (front : List ℕ) × IsFront size form text front × (bytes_without bytes from (code_at - 1) k ≡ front)
 
 -- an item that was taken ahead is spelled by these bytes, from one place up to another
 abbrev pub SpellsPlain : HeadView → List ℕ → ℕ → ℕ → Plain → Type 0

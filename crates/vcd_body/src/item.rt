@@ -83,8 +83,7 @@ impl Regs {
     #[inline(always)]
     pub(crate) fn take_mark_by(&mut self, time: u64, call: bool) -> Result<(), BodyFault>
         ensures may { MatchResult result (λ _. MayMark self.old time) (RefusesMark self.old time) }
-        ensures regs { MatchResult result (λ _. self.new ≡ regs_after self.old (item.Time time))
-            (λ _. self.new ≡ self.old) }
+        ensures regs { AreRegsWith (λ _. Item.Time time) self.old self.new result }
     {
         if call {
             self.take_mark(time)
@@ -96,8 +95,7 @@ impl Regs {
     #[inline(always)]
     fn take_mark_here(&mut self, time: u64) -> Result<(), BodyFault>
         ensures may { MatchResult result (λ _. MayMark self.old time) (RefusesMark self.old time) }
-        ensures regs { MatchResult result (λ _. self.new ≡ regs_after self.old (item.Time time))
-            (λ _. self.new ≡ self.old) }
+        ensures regs { AreRegsWith (λ _. Item.Time time) self.old self.new result }
     {
         if self.section.is_some() {
             return Err(BodyFault::TimeInSection);

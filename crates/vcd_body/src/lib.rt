@@ -29,7 +29,7 @@
 //! loop which does something else with each asks once what it is; `item_ahead` is those seven.
 //! `short_ahead` and `near_mark` do the same for short lines, after `has_run`.
 //! `HasSpelled view bytes from to text item` says by which bytes a change that was taken ahead is
-//! spelled; `left_out` asks for it.
+//! spelled; `left_out` asks for it, and `put_renamed_ahead` for what it says of a change.
 //!
 //! `kept_at t code` is what is kept of the code at a place. A call of a table changes what is kept
 //! of the code at the place that it names, and nothing else (`ChangesCode`).
@@ -112,7 +112,7 @@ pub use id::{Id, put_change};
 pub use item::{Form, Item, Regs, Section};
 pub use lines::{is_mark_line, left_out};
 pub use read::{change_text, next_item};
-pub use renamed::put_renamed_bits;
+pub use renamed::{put_renamed_ahead, put_renamed_bits};
 pub use slot::{Share, Shown, Slot};
 pub use step::Step;
 pub use table::Table;

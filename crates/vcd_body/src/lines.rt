@@ -1,6 +1,6 @@
 // Changes whose bytes in the chunk are the line that would be written.
 ghost use Rattle.std.specs.Prelude.{◌≡◌, ◌≢◌, ℕ, ◌+◌, ◌-◌, ◌^◌, ◌<◌, ◌≤◌, List, [], true, false, drop, length, slice_index, slice_range, Some, IfSome};
-ghost use Rattle.vcd_body.specs.Names.{AreBitsAt, BodyItem, HasBits, HasChange, HasMark, HeadView, Header, IsBinaryAt, IsDigitLine, IsItem, IsLowerAt, IsNeedless, IsSizedItem, IsTextLine, IsViewOf, LeavesLine, LeavesShortest, SpellsPlain, StandsAt, binary_digits, bit_at, bytes_without, extend, extended, is_white_space, item_line, short, str_to_ascii_lowercase, time_line};
+ghost use Rattle.vcd_body.specs.Names.{AreBitsAt, BodyItem, HasBits, HasChange, HasMark, HasPlaces, HeadView, Header, IsBinaryAt, IsDigitLine, IsItem, IsLowerAt, IsNeedless, IsSizedItem, IsTextLine, IsViewOf, LeavesFront, LeavesLine, LeavesShortest, LeavesText, MayBe, SpellsPlain, StandsAt, binary_digits, bit_at, byte, bytes_without, extend, extended, is_white_space, item_line, short, str_to_ascii_lowercase, time_line, to_ascii_lowercase as lower};
 
 use crate::ahead::Plain;
 use crate::bits::Bits;
@@ -63,6 +63,15 @@ fn are_shortest(digits: &[u8]) -> bool
         [_] => true,
         [] => false,
     }
+}
+
+/// Returns whether a digit is in lower case: of letters and digits just the capital letters have
+/// bit 5 clear.
+#[inline(always)]
+pub(crate) fn is_lower(digit: u8) -> bool
+    ensures { result ≡ true → lower digit ≡ digit }
+{
+    digit & 0x20 != 0
 }
 
 /// Returns whether a digit is in lower case and the code begins right after it, at this place.
@@ -245,6 +254,31 @@ fn left_out_of_vector(
     left_out_of(bytes, from + 1, digits, bits)
 }
 
+/// Returns how many bytes after the first one to leave out of the bytes of a vector or a real
+/// number, so that the others are its line under the code that they spell. The code has this size,
+/// and a line feed comes after it.
+#[inline(always)]
+fn left_out_of_text(
+    plain: Plain<'_>,
+    form: Form,
+    size: usize,
+    bytes: &[u8],
+    from: usize,
+    to: usize,
+) -> Option<usize>
+    requires { (code : List ℕ) × HasChange bytes.now from to form plain.text.now code }
+    ensures { IfSome result (LeavesText bytes.now from to size form
+        plain.entry.text.now plain.entry.bits plain.entry.code_at) }
+{
+    let text = plain.text;
+    let code_at = plain.code_at;
+    match form {
+        Form::Vector if size > 1 => left_out_of_vector(bytes, from, to, text, plain.bits, code_at),
+        Form::RealText if has_one_blank(bytes, from, to, b'r', text, code_at) => Some(0),
+        _ => None,
+    }
+}
+
 /// Returns how many bytes after the first one to leave out of the bytes of an item that was taken
 /// ahead, so that the others are the line that would be written: the first digits of a vector that
 /// has more than it needs. The item has the bytes from `from` up to `to`. Where the result is none,
@@ -266,14 +300,33 @@ pub fn left_out(plain: Plain<'_>, bytes: &[u8], from: usize, to: usize) -> Optio
         return None;
     }
     let size = plain.size()?;
-    let text = plain.text;
-    let code_at = plain.code_at;
     match form {
-        Form::Scalar if size == 1 && is_bit_line(bytes, from, to, code_at) => Some(0),
-        Form::Vector if size > 1 => left_out_of_vector(bytes, from, to, text, plain.bits, code_at),
-        Form::RealText if has_one_blank(bytes, from, to, b'r', text, code_at) => Some(0),
-        _ => None,
+        Form::Scalar if size == 1 && is_bit_line(bytes, from, to, plain.code_at) => Some(0),
+        _ => left_out_of_text(plain, form, size, bytes, from, to),
     }
+}
+
+/// Returns how many bytes after the first one to leave out of the bytes of a vector or a real
+/// number that was taken ahead, so that the others before the blank before its code are what its
+/// line begins with under any code. Where the result is none, they may be it all the same.
+#[inline(always)]
+pub(crate) fn left_out_of_front(
+    plain: Plain<'_>,
+    form: Form,
+    bytes: &[u8],
+    from: usize,
+    to: usize,
+) -> Option<usize>
+    requires spelled { (code : List ℕ) × HasChange bytes.now from to form plain.text.now code
+        × HasPlaces bytes.now from to plain.at plain.code_at plain.text.now code }
+    requires bits { MayBe plain.bits plain.text.now }
+    ensures { IfSome result (LeavesFront bytes.now from plain.entry.most form
+        plain.entry.text.now plain.entry.code_at) }
+{
+    if bytes[to - 1] != b'\n' {
+        return None;
+    }
+    left_out_of_text(plain, form, plain.most, bytes, from, to)
 }
 
 /// Returns whether the bytes of a time mark that was taken ahead are the line of its time: `#`, the

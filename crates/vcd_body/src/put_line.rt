@@ -90,7 +90,7 @@ fn put_other<W: Sink>(
 
 /// Returns whether a change of one digit is that of a bit, as most are. One branch shows it.
 #[inline(always)]
-fn is_bit(size: usize, event: bool, form: Form) -> bool
+pub(crate) fn is_bit(size: usize, event: bool, form: Form) -> bool
     ensures { result ≡ true → (size ≡ 1) × (event ≡ false) × (form ≡ Form.Scalar) }
 {
     (size == 1) & !event & (form == Form::Scalar)

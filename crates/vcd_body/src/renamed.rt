@@ -1,12 +1,14 @@
 // Lines that end with the new code of a number.
-ghost use Rattle.std.specs.Prelude.{◌≡◌, ◌≢◌, ◌+◌, ◌-◌, ◌%◌, ◌^◌, ◌<◌, ◌++◌, ◌∷◌, [], false, length, IfSome};
-ghost use Rattle.vcd_body.specs.Names.{Puts, PutsTo, binary_digits, line_under, new_code};
+ghost use Rattle.std.specs.Prelude.{◌≡◌, ◌≢◌, ℕ, ◌+◌, ◌-◌, ◌%◌, ◌^◌, ◌<◌, ◌≤◌, ◌++◌, ◌∷◌, [], List, false, true, drop, length, take, IfSome};
+ghost use Rattle.vcd_body.specs.Names.{Puts, PutsTo, binary_digits, line_under, new_code, HasChange, HasPlaces};
 
+use crate::ahead::Plain;
 use crate::bits::Bits;
 use crate::change::put_long_end;
 use crate::id::Id;
 use crate::item::Form;
-use crate::put_line::put_line;
+use crate::lines::{is_lower, left_out_of_front};
+use crate::put_line::{is_bit, put_line};
 use vcd_text::{Sink, WriteFailed, put};
 use vcd_view::NewCode;
 
@@ -52,6 +54,17 @@ fn put_three<W: Sink>(
     put(w, &[first, low, middle, high, b'\n'])
 }
 
+/// Writes a byte, the code of a number and a line feed.
+// Not inlined: the bytes of a code would be cleared where the other codes are written.
+#[cold]
+#[inline(never)]
+fn put_any_code<W: Sink>(first: u8, number: u64, w: &mut W) -> Result<(), WriteFailed>
+    requires { (W.device w.old).failures < 2 ^ 64 - 1 }
+    ensures { Puts (W.device w.old) (W.device w.new) (first ∷ new_code number ++ 10 ∷ []) result }
+{
+    put_long_end(w, first, NewCode::of(number).text())
+}
+
 /// Writes a byte, the code of a number and a line feed. A code of up to three bytes, as most are,
 /// is written by one write of a known length.
 #[inline(always)]
@@ -72,7 +85,7 @@ pub(crate) fn put_code_line<W: Sink>(first: u8, number: u64, w: &mut W) -> Resul
     if high < 94 {
         return put_three(first, low, middle, digit_of(high), w);
     }
-    put_long_end(w, first, NewCode::of(number).text())
+    put_any_code(first, number, w)
 }
 
 /// Writes a change as `put_change` does, under the new code of this number. The number of the
@@ -93,4 +106,89 @@ pub fn put_renamed_bits<W: Sink>(
     ensures { PutsTo W.device w.old w.new (line_under (new_code number) size event form text.now) result }
 {
     put_line(size, event, form, text, bits, Id::Number(number), w)
+}
+
+/// Writes bytes without so many after the first one.
+#[inline(always)]
+fn put_front<W: Sink>(bytes: &[u8], left_out: usize, w: &mut W) -> Result<(), WriteFailed>
+    requires failures { (W.device w.old).failures < 2 ^ 64 - 1 }
+    requires few { 1 + left_out ≤ length bytes.now }
+    ensures { Puts (W.device w.old) (W.device w.new)
+        (take 1 bytes.now ++ drop (1 + left_out) bytes.now) result }
+{
+    if left_out == 0 {
+        return put(w, bytes);
+    }
+    put(w, &bytes[..1])?;
+    put(w, &bytes[1 + left_out..])
+}
+
+/// Writes bytes without so many after the first one, a blank, the code of a number and a line feed.
+// Not inlined: two arms of a loop call it.
+#[inline(never)]
+fn put_copied<W: Sink>(
+    bytes: &[u8],
+    left_out: usize,
+    number: u64,
+    w: &mut W,
+) -> Result<(), WriteFailed>
+    requires failures { (W.device w.old).failures < 2 ^ 64 - 1 }
+    requires few { 1 + left_out ≤ length bytes.now }
+    ensures { Puts (W.device w.old) (W.device w.new)
+        ((take 1 bytes.now ++ drop (1 + left_out) bytes.now)
+        ++ (32 ∷ new_code number ++ 10 ∷ [])) result }
+{
+    put_front(bytes, left_out, w)?;
+    put_code_line(b' ', number, w)
+}
+
+/// Writes a change of a code of this size, which is no event's, under the new code of a number.
+/// Each digit is looked at.
+// Not inlined, and it takes no struct: one would be cleared for each change, also where this is not
+// called.
+#[cold]
+#[inline(never)]
+fn put_renamed_text<W: Sink>(
+    size: usize,
+    form: Form,
+    text: &[u8],
+    number: u64,
+    w: &mut W,
+) -> Result<(), WriteFailed>
+    requires failures { (W.device w.old).failures < 2 ^ 64 - 1 }
+    requires digits { form ≢ Form.RealText → 0 < length text.now }
+    ensures { Puts (W.device w.old) (W.device w.new)
+        (line_under (new_code number) size false form text.now) result }
+{
+    put_renamed_bits(size, false, form, text, None, number, w)
+}
+
+/// Writes a change that was taken ahead under the new code of this number. The bytes from `from` up
+/// to `to` spell it. Those before its code are copied where they are what its line begins with.
+#[inline(always)]
+pub fn put_renamed_ahead<W: Sink>(
+    plain: Plain<'_>,
+    form: Form,
+    bytes: &[u8],
+    from: usize,
+    to: usize,
+    number: u64,
+    w: &mut W,
+) -> Result<(), WriteFailed>
+    requires failures { (W.device w.old).failures < 2 ^ 64 - 1 }
+    requires spelled { (code : List ℕ) × HasChange bytes.now from to form plain.text.now code
+        × HasPlaces bytes.now from to plain.at plain.code_at plain.text.now code }
+    requires digits { form ≢ Form.RealText → 0 < length plain.text.now }
+    requires bits { IfSome plain.bits (λ b. plain.text.now ≡ binary_digits b.len b.number) }
+    ensures { Puts (W.device w.old) (W.device w.new)
+        (line_under (new_code number) plain.entry.most false form plain.entry.text.now) result }
+{
+    let size = plain.most;
+    if is_bit(size, false, form) && is_lower(bytes[plain.at]) {
+        return put_code_line(bytes[plain.at], number, w);
+    }
+    match left_out_of_front(plain, form, bytes, from, to) {
+        Some(k) => put_copied(&bytes[from..plain.code_at - 1], k, number, w),
+        None => put_renamed_text(size, form, plain.text, number, w),
+    }
 }

@@ -1,5 +1,5 @@
 -- Items of one input of a merge that lie ahead in its feed's chunk, taken one after the other.
-use Rattle.std.proofs.Common.{◌≡◌, ℕ, ◌+◌, ◌*◌, ◌^◌, ◌<◌, false, List, [], ◌∷◌, ◌++◌, length, Option, Result, Ok, Err, refl, sym, ap, subst, ◌∙◌, mul_comm, append_assoc}
+use Rattle.std.proofs.Common.{◌≡◌, ℕ, ◌+◌, ◌*◌, ◌^◌, ◌<◌, ◌≤◌, Bool, true, false, List, [], ◌∷◌, ◌++◌, length, Option, Result, Ok, Err, refl, sym, ap, subst, ◌∙◌, mul_comm, append_assoc, arith}
 use Rattle.std.specs.Prelude.{IfOk}
 use Rattle.vcd_model.specs.Declarations.{IdCode}
 use Rattle.vcd_model.specs.Header.{Header}
@@ -8,8 +8,8 @@ use Rattle.vcd_model.specs.Merge.{is_too_large}
 use Rattle.vcd_model.specs.MergeByInput.{due_with, entry_for, written_with}
 use Rattle.vcd_model.specs.Tokens.{Token}
 use Rattle.vcd_model.proofs.BodyFacts.{all_append}
-use Rattle.vcd_text.specs.Ahead.{passed_of}
-use Rattle.vcd_text.specs.Device.{Counts, Device, Takes, WritesSome}
+use Rattle.vcd_text.specs.Ahead.{bytes_of, longest_of, passed_of}
+use Rattle.vcd_text.specs.Device.{Counts, Device, Takes, Writes, WritesSome}
 use Rattle.vcd_text.specs.Passed.{Passed}
 use Rattle.vcd_text.specs.declared.ahead.Ahead.{Ahead}
 use Rattle.vcd_text.proofs.Writes.{appends-none}
@@ -24,20 +24,17 @@ use Rattle.vcd_body.specs.declared.item.Form.{Form}
 use Rattle.vcd_body.specs.declared.item.Item.{Item}
 use Rattle.vcd_body.specs.declared.item.Item.TheVariants.{Change, Time}
 use Rattle.vcd_body.specs.declared.item.Regs.{Regs}
-use Rattle.vcd_merge.specs.MergeAhead.{IsAhead, IsPutable, OneAhead, PutsDue, StageAhead, TakesNext, track_with}
+use Rattle.vcd_merge.specs.MergeAhead.{Further, IsAhead, OneAhead, PassesAhead, PutsDue, RunsAhead, StageAhead, TakesNext, track_with}
 use Rattle.vcd_merge.specs.declared.seat.Track.{Track}
 use Rattle.vcd_merge.proofs.SeatLemmas.{not_large}
 
 -- ---- one item
 
 module _ (v : HeadView) (a a' : Ahead) (s : Track) (p : Plain) (item : TakesItem v a a' s.regs p) where
-  pub putable : IsPutable v.codes.now p
-  putable = record { sound = item.sound; sized = λ some. item.sized; bits = item.bits }
-
   change_small : (place : ℕ) (f : Form) (i : Item) → i ≡ Change place f → (codes : List IdCode) (text : List ℕ) (x : BodyItem) → IsItem codes text i x → is_too_large s.factor x ≡ false
   change_small place f i e codes text x is = let at = subst (λ (j : Item). IsItem codes text j x) e is in rw at.2 refl
 
-  pub change_taken : {E : Type 0} (place : ℕ) (f : Form) (written written' : Option ℕ) (out out' : Device) (result : Result (Unit {0}) E) → p.item ≡ Change place f → PutsDue v.codes.now p s written written' out out' result → TakesNext v a a' s s written written' out out' result
+  pub change_taken : {E : Type 0} (place : ℕ) (f : Form) (written written' : Option ℕ) (out out' : Device) (result : Result (Unit {0}) E) → p.item ≡ Change place f → PutsDue v.codes.now p.text.now p.item s written written' out out' result → TakesNext v a a' s s written written' out out' result
   change_taken place f written written' out out' result e puts = record {
     plain = p;
     item = item;
@@ -95,11 +92,67 @@ module _ (scale first : ℕ) (h : Header) (limit lines : ℕ) (bytes : List ℕ)
   pub some_next : (e : E) → result ≡ Err e → Counts out out' result → WritesSome out out' (due_with written (entry_for scale first h (behind ++ items) next_item))
   some_next f e counts = (subst (λ (r : Result (Unit {0}) E). Takes out out' (due_with written (entry_for scale first h (behind ++ items) next_item)) r) e put.0, subst (λ (r : Result (Unit {0}) E). Counts out out' r) e counts)
 
+-- ---- a run of items, one of which is the next
+
+module _ (scale first : ℕ) (h : Header) (limit lines : ℕ) (bytes : List ℕ) (behind : List BodyItem) (few : first + length h.codes < 2 ^ 64) {E : Type 0} (v : HeadView) (views : IsViewOf v h) (a a' : Ahead) (s s' : Track) (written written' : Option ℕ) (out out' : Device) (result : Result (Unit {0}) E)
+    (n : TakesNext v a a' s s' written written' out out' result) (counts : Counts out out' result) (over : LooksOver limit bytes a) (factor : s.factor ≡ scale) (first_is : s.first ≡ first) (before : ℕ) (start : StageAhead) where
+  abbrev RunsTo : ℕ → Regs → ℕ → Option ℕ → Device → Result Bool E → Type 0
+  RunsTo = RunsAhead scale first h limit lines bytes behind {E = E} before start
+
+  module _ (r : RunsTo (passed_of a) s.regs s.time written out (Ok false)) where
+    next : BodyItem
+    next = next_item scale first h limit lines bytes behind few v views a a' s s' written written' out out' result n over factor first_is r.mid.items r.ends.0
+
+    one_more : result ≡ Ok tt → OneAhead scale first h limit lines bytes behind r.mid next (passed_of a') s'.regs s'.time written' out'
+    unfolding next
+    one_more e =
+        let m = r.mid in
+        let (at, same, out_is) = r.ends in
+        let o = one_next scale first h limit lines bytes behind few v views a a' s s' written written' out out' result n over factor first_is m.items at e counts in record {
+          ahead = o.ahead;
+          written_is = o.written_is ∙ ap (λ w. written_with w (entry_for scale first h (behind ++ m.items) next)) same;
+          writes = subst (λ w. Writes m.out out' (due_with w (entry_for scale first h (behind ++ m.items) next))) same (subst (λ d. Writes d out' (due_with written (entry_for scale first h (behind ++ m.items) next))) out_is o.writes);
+        }
+
+    -- the run goes on with it
+    pub runs_on : result ≡ Ok tt → s'.time < before → RunsTo (passed_of a') s'.regs s'.time written' out' (Ok false)
+    runs_on e early =
+        let m = r.mid in
+        let o = one_more e in
+        let c : StageAhead = record { at = passed_of a'; items = m.items ++ next ∷ []; regs = s'.regs; time = s'.time; written = written'; out = out' } in
+        record { mid = c; trail = Further m c next r.trail refl o early; ends = (o.ahead, refl, refl) }
+
+    -- it is the last one
+    pub runs_out : result ≡ Ok tt → RunsTo (passed_of a') s'.regs s'.time written' out' (Ok true)
+    runs_out e = record { mid = r.mid; trail = r.trail; ends = (next, one_more e) }
+
+    -- a write of what is due with it failed
+    pub runs_failed : (f : E) → result ≡ Err f → RunsTo (passed_of a') s'.regs s'.time written' out' (Err f)
+    unfolding next
+    runs_failed f e =
+        let m = r.mid in
+        let (at, same, out_is) = r.ends in
+        let some = some_next scale first h limit lines bytes behind few v views a a' s s' written written' out out' result n over factor first_is m.items at f e counts in
+        let due = subst (λ w. WritesSome m.out out' (due_with w (entry_for scale first h (behind ++ m.items) next))) same (subst (λ d. WritesSome d out' (due_with written (entry_for scale first h (behind ++ m.items) next))) out_is some) in
+        record { mid = m; trail = r.trail; ends = (next, ahead_next scale first h limit lines bytes behind few v views a a' s s' written written' out out' result n over factor first_is m.items at, due) }
+
 -- whole tokens were passed
 pub passes_next : (limit lines : ℕ) (bytes : List ℕ) (v : HeadView) (a a' : Ahead) (r : Regs) (p : Plain) → TakesItem v a a' r p → LooksOver limit bytes a → (ts : List Token) → (so_far : (more : List Token) × Passed limit lines bytes (passed_of a) (ts ++ more)) → (more : List Token) × Passed limit lines bytes (passed_of a') (ts ++ more)
 passes_next limit lines bytes v a a' r p item over ts so_far =
     let more = item.passes limit lines bytes (ts ++ so_far.0) over so_far.1 in
     (so_far.0 ++ more.0, subst (Passed limit lines bytes (passed_of a')) (append_assoc ts so_far.0 more.0) more.1)
+
+pub passes_on : (a b c : Ahead) (v : HeadView) (r : Regs) (p : Plain) → TakesItem v b c r p → PassesAhead a b → PassesAhead a c
+passes_on a b c v r p item so_far =
+    let on = so_far.further in
+    let more = item.further in
+    let same = item.same.0 ∙ so_far.same.0 in
+    record {
+      same = (same, item.same.1 ∙ so_far.same.1);
+      further = omega (arith, on, more);
+      within = subst (λ (l : List ℕ). passed_of c ≤ length l) same item.within;
+      passes = λ lines ts passed. passes_next (longest_of a) lines (bytes_of a) v b c r p item (so_far.same.1, so_far.same.0) ts (so_far.passes lines ts passed);
+    }
 
 -- it is still the same input's
 pub same_next : (s t u : Track) (r' : Regs) → t ≡ track_with s t.regs t.time → u ≡ track_with t r' u.time → u ≡ track_with s u.regs u.time

@@ -1,5 +1,5 @@
 -- What a merge writes of one item.
-use Rattle.std.proofs.Common.{◌≡◌, ◌≢◌, ℕ, ◌+◌, ◌^◌, ◌<◌, Bool, true, false, List, length, slice_get, Option, None, Some, IfSome, is_some, refl, sym, ap, ◌∙◌, arith}
+use Rattle.std.proofs.Common.{◌≡◌, ◌≢◌, ℕ, ◌+◌, ◌^◌, ◌<◌, Bool, true, false, List, length, slice_get, Option, None, Some, IfSome, is_some, refl, sym, ap, ap₂, ◌∙◌, arith}
 use Rattle.std.specs.Prelude.{nat_le}
 use Rattle.std.proofs.lemmas.Option.{slice_get_within}
 use Rattle.vcd_model.specs.Declarations.{IdCode}
@@ -9,6 +9,7 @@ use Rattle.vcd_model.specs.Items.{BodyItem, ChangeForm, leaves_open, time_after}
 use Rattle.vcd_model.specs.Values.{change_line}
 use Rattle.vcd_model.proofs.ItemStates.{leaves_open_is}
 use Rattle.vcd_view.specs.Entries.{most_of}
+use Rattle.vcd_view.specs.Finds.{IsSized}
 use Rattle.vcd_view.specs.Shown.{HeadShown}
 use Rattle.vcd_view.specs.declared.view.Code.{Code}
 use Rattle.vcd_view.proofs.RowLemmas.{code_at}
@@ -65,10 +66,21 @@ some_digits codes place Vector text good other = good.2.0
 some_digits codes place RealText text good other = absurd (other refl)
 
 -- the size that a look-up told, where it is one
-pub sized_is : (y : Code) (most : ℕ) → most ≡ most_of y → most ≢ 0 → (y.event ≡ false) × (y.size ≡ most)
+sized_is : (y : Code) (most : ℕ) → most ≡ most_of y → most ≢ 0 → (y.event ≡ false) × (y.size ≡ most)
 sized_is y most is some = by_parts y.event (nat_le (2 ^ 32) y.size) refl refl
   where
     by_parts : (e b : Bool) → y.event ≡ e → nat_le (2 ^ 32) y.size ≡ b → (y.event ≡ false) × (y.size ≡ most)
     by_parts true b h g = absurd (some (is ∙ rw h refl))
     by_parts false true h g = absurd (some (is ∙ rw (h, g) refl))
     by_parts false false h g = (h, sym (is ∙ rw (h, g) refl))
+
+-- the line under its new code, and that it is no event, where the look-up gave its size
+module _ (place most : ℕ) (s : HeadShown) (h : Header) (c : IdCode) (v : Views s h) (at : slice_get h.codes place ≡ Some c) (sized : IsSized s.codes (record { place = place; most = most })) (some : most ≢ 0) where
+  pub sized_line : (first number : ℕ) (form : ChangeForm) (text : List ℕ) → number ≡ first + place
+      → change_line (record { code = record { text = new_code number; size = most; event = false }; form = form; text = text }) ≡ change_line (record { code = record { text = new_code (first + code_place h c.text); size = c.size; event = c.event }; form = form; text = text })
+  sized_line first number form text n =
+      let z = sized_is sized.0 most sized.2 some in
+      ap₂ (λ (e : Bool) (k : ℕ). change_line (record { code = record { text = new_code number; size = k; event = e }; form = form; text = text })) (sym z.0) (sym z.1) ∙ line_is first place number s h c sized.0 form text (new_code number) v at sized.1 n refl
+
+  pub no_event : c.event ≡ false
+  no_event = let z = sized_is sized.0 most sized.2 some in sym (event_of s h place c sized.0 v at sized.1) ∙ z.0

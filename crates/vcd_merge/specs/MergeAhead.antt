@@ -1,23 +1,27 @@
 -- Items of one input of a merge that lie ahead in its feed's chunk, taken one after the other.
-use Rattle.std.specs.Prelude.{◌≡◌, ◌≢◌, ℕ, ◌+◌, ◌*◌, ◌^◌, ◌<◌, Bool, true, false, List, [], ◌∷◌, ◌++◌, length, Option, Result, Ok, Err, IfOk}
+use Rattle.std.specs.Prelude.{◌≡◌, ℕ, ◌+◌, ◌*◌, ◌^◌, ◌<◌, ◌≤◌, Bool, true, false, List, [], ◌∷◌, ◌++◌, length, Option, Result, Ok, Err, IfOk, MatchResult}
 use Rattle.std.specs.List.{AllByRecursion}
 use Rattle.vcd_model.specs.Header.{Header}
 use Rattle.vcd_model.specs.Declarations.{IdCode}
 use Rattle.vcd_model.specs.Items.{BodyItem, time_after}
 use Rattle.vcd_model.specs.Merge.{is_too_large}
 use Rattle.vcd_model.specs.MergeByInput.{due_with, entry_for, written_with}
+use Rattle.vcd_model.specs.Tokens.{Token}
+use Rattle.vcd_text.specs.Ahead.{bytes_of, longest_of, passed_of}
 use Rattle.vcd_text.specs.Device.{Device, Takes, Writes, WritesSome}
+use Rattle.vcd_text.specs.Passed.{Passed}
 use Rattle.vcd_text.specs.declared.ahead.Ahead.{Ahead}
 use Rattle.vcd_text.specs.declared.device.WriteFailed.{WriteFailed}
 use Rattle.vcd_view.specs.Views.{IsViewOf}
 use Rattle.vcd_view.specs.declared.view.Code.{Code}
 use Rattle.vcd_view.specs.declared.view.HeadView.{HeadView}
-use Rattle.vcd_body.specs.Ahead.{GaveAhead, HasBits, IsSizedItem}
-use Rattle.vcd_body.specs.Given.{HasGoodText, IsItem}
+use Rattle.vcd_body.specs.Ahead.{GaveAhead}
+use Rattle.vcd_body.specs.Given.{IsItem}
 use Rattle.vcd_body.specs.Items.{AreRegsAfter, regs_after}
 use Rattle.vcd_body.specs.Taken.{Opens, TakesItem}
 use Rattle.vcd_body.specs.declared.ahead.Opening.{Opening}
 use Rattle.vcd_body.specs.declared.ahead.Plain.{Plain}
+use Rattle.vcd_body.specs.declared.item.Item.{Item}
 use Rattle.vcd_body.specs.declared.item.Regs.{Regs}
 use Rattle.vcd_merge.specs.declared.seat.Seat.{Seat}
 use Rattle.vcd_merge.specs.declared.seat.Track.{Track}
@@ -33,15 +37,9 @@ track_of s = record { regs = s.regs; factor = s.factor; time = s.time; first = s
 abbrev pub track_with : Track → Regs → ℕ → Track
 track_with t r time = record { regs = r; factor = t.factor; time = time; first = t.first }
 
--- an item with a text that its code may have, and what is told of its size and its digits is so
-pub record IsPutable (codes : List Code) (p : Plain) : Type 0 where
-  pub sound : HasGoodText codes p.text.now p.item
-  pub sized : p.most ≢ 0 → IsSizedItem codes p.item p.most
-  pub bits : HasBits p.item p.text.now p.bits
-
 -- what is due with an item here was written, or a prefix of it where a write failed
-abbrev pub PutsDue : {A E : Type 0} → List Code → Plain → Track → Option ℕ → Option ℕ → Device → Device → Result A E → Type 0
-PutsDue codes p s written written' out out' result = (v : HeadView) (scale first : ℕ) (h : Header) (items : List BodyItem) (x : BodyItem) → v.codes.now ≡ codes → IsViewOf v h → AreRegsAfter items s.regs → s.time ≡ scale * time_after items → s.first ≡ first → first + length h.codes < 2 ^ 64 → IsItem h.codes p.text.now p.item x
+abbrev pub PutsDue : {A E : Type 0} → List Code → List ℕ → Item → Track → Option ℕ → Option ℕ → Device → Device → Result A E → Type 0
+PutsDue codes text item s written written' out out' result = (v : HeadView) (scale first : ℕ) (h : Header) (items : List BodyItem) (x : BodyItem) → v.codes.now ≡ codes → IsViewOf v h → AreRegsAfter items s.regs → s.time ≡ scale * time_after items → s.first ≡ first → first + length h.codes < 2 ^ 64 → IsItem h.codes text item x
     → Takes out out' (due_with written (entry_for scale first h items x)) result × IfOk result (λ _. written' ≡ written_with written (entry_for scale first h items x))
 
 -- an item was taken ahead, whose time is not too large, and what is due with it was put
@@ -51,7 +49,7 @@ pub record TakesNext {E : Type 0} (v : HeadView) (a a' : Ahead) (s s' : Track) (
   pub track : s' ≡ track_with s (regs_after s.regs plain.item) s'.time
   pub time : (scale : ℕ) → s.factor ≡ scale → s.time ≡ scale * s.regs.time → s'.time ≡ scale * s'.regs.time
   pub small : (codes : List IdCode) (text : List ℕ) (x : BodyItem) → IsItem codes text plain.item x → is_too_large s.factor x ≡ false
-  pub puts : PutsDue v.codes.now plain s written written' out out' result
+  pub puts : PutsDue v.codes.now plain.text.now plain.item s written written' out out' result
 
 -- the time mark that a token ahead is was taken, whose time is not too large: nothing is due with it
 abbrev pub TakesMark : Opening → Ahead → Track → Track → Type 0
@@ -100,3 +98,17 @@ module _ (scale first : ℕ) (h : Header) (limit lines : ℕ) (bytes : List ℕ)
     pub mid : StageAhead
     pub trail : TrailAhead before a mid
     pub ends : EndsAhead mid n r time written out result
+
+-- where a run goes on, more items are taken, and it goes on after them, or a write of what is due
+-- with the last of them failed; the registers and the time stay
+abbrev pub GoesOnAhead : {A E : Type 0} → HeadView → ℕ → Track → Ahead → Ahead → Option ℕ → Option ℕ → Device → Device → Result A E → Type 0
+GoesOnAhead {E = E} v before s a a' written written' out out' result = (scale first lines : ℕ) (h : Header) (behind : List BodyItem) (start : StageAhead) → IsViewOf v h → s.factor ≡ scale → s.first ≡ first → first + length h.codes < 2 ^ 64
+    → RunsAhead scale first h (longest_of a) lines (bytes_of a) behind {E = E} before start (passed_of a) s.regs s.time written out (Ok false)
+    → MatchResult result (λ _. RunsAhead scale first h (longest_of a) lines (bytes_of a) behind {E = E} before start (passed_of a') s.regs s.time written' out' (Ok false)) (λ failed. RunsAhead scale first h (longest_of a) lines (bytes_of a) behind {E = E} before start (passed_of a') s.regs s.time written' out' (Err failed))
+
+-- whole tokens of the same bytes were passed
+pub record PassesAhead (a a' : Ahead) : Type 0 where
+  pub same : (bytes_of a' ≡ bytes_of a) × (longest_of a' ≡ longest_of a)
+  pub further : passed_of a ≤ passed_of a'
+  pub within : passed_of a' ≤ length (bytes_of a)
+  pub passes : (lines : ℕ) (ts : List Token) → Passed (longest_of a) lines (bytes_of a) (passed_of a) ts → (more : List Token) × Passed (longest_of a) lines (bytes_of a) (passed_of a') (ts ++ more)

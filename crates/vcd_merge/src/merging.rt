@@ -1,6 +1,6 @@
 //! The steps of one input of a merge, over its source and its windows alone.
 ghost use Rattle.std.specs.Prelude.{◌≡◌, ◌≢◌, ℕ, ◌+◌, ◌-◌, ◌^◌, ◌<◌, ◌≤◌, ◌++◌, [], List, Option, Some, None, length, slice_get, IfOk, IfSome, MatchOption, Ok, true, false, is_some, ◌&&◌};
-ghost use Rattle.vcd_merge.specs.Names.{Advances, AheadTurns, AtSeat, BodyItem, bytes_of, CallEnd, chunk_len_of, Code, Counts, failures_after, Fits, Form, HasNotFailed, Header, IsAhead, IsPutable, IsSeated, IsViewOf, Lane, limit_of, longest_of, Moved, NamesInput, Opens, parked_of, parked_seen, Passed, passed_of, Puts, PutsDue, reads_failed, RunsAhead, RunTurns, SameLoans, SameSeat, seat_with, seen, shown, source_of, spot, spot_with, stage, stage_with, TakesMark, TakesNext, time_due, Token, track_with, Turns, Views, writes_failed};
+ghost use Rattle.vcd_merge.specs.Names.{Advances, AheadTurns, AtSeat, BodyItem, bytes_of, CallEnd, chunk_len_of, Code, Counts, failures_after, Fits, GoesOnAhead, HasNotFailed, Header, IsAhead, IsGoodText, IsSeated, IsViewOf, Lane, limit_of, longest_of, Moved, NamesInput, Opens, parked_of, parked_seen, Passed, passed_of, PassesAhead, Puts, PutsDue, reads_failed, RunsAhead, RunTurns, SameLoans, SameSeat, seat_with, seen, shown, source_of, spot, spot_with, stage, stage_with, TakesItem, TakesMark, TakesNext, time_due, Token, track_with, Turns, Views, writes_failed};
 ghost use Rattle.vcd_body.specs.declared.answer.Stop.TheVariants as stop;
 ghost use Rattle.vcd_body.specs.declared.item.Item.TheVariants as item;
 ghost use Rattle.vcd_body.specs.declared.words.First.TheVariants as first;
@@ -8,9 +8,9 @@ ghost use Rattle.vcd_body.specs.declared.words.First.TheVariants as first;
 use crate::order::Run;
 use crate::seat::{Seat, Track};
 use vcd_body::{
-    First, Item, Opening, Plain, Stop, change_text, mark_ahead, next_item, opening_ahead,
-    pass_items, put_renamed_bits, put_time, real_ahead, scalar_ahead, time_ahead, vector_ahead,
-    vector_tokens_ahead,
+    First, Form, Item, Opening, Plain, Stop, change_text, has_run, mark_ahead, next_item,
+    opening_ahead, pass_items, put_renamed_ahead, put_renamed_bits, put_time, real_ahead,
+    scalar_ahead, short_ahead, time_ahead, vector_ahead, vector_tokens_ahead,
 };
 use vcd_head::Head;
 use vcd_text::{Ahead, Feed, Sink, Source, WriteFailed};
@@ -43,88 +43,67 @@ fn put_due_time<W: Sink>(
     Ok(())
 }
 
-/// Writes a change of a code of this size, of an event or none, under its new code, after the line
-/// of its time. An event inside a section is left out.
-#[inline(always)]
-fn put_sized<W: Sink>(
-    size: usize,
-    event: bool,
-    change: Plain<'_>,
-    codes: &[Code],
-    track: &Track,
-    written: &mut Option<u64>,
-    out: &mut W,
-) -> Result<(), WriteFailed>
-    requires failures { (W.device out.old).failures < 2 ^ 64 - 1 }
-    requires put { IsPutable codes.now change }
-    requires kind { (code : ℕ) (form : Form) → change.item ≡ item.Change code form
-        → (d : Code) × (slice_get codes.now code ≡ Some d)
-        × (d.size ≡ size) × (d.event ≡ event) }
-    ensures takes { PutsDue codes.now change.entry track.now
-        written.old written.new (W.device out.old) (W.device out.new) result }
-    ensures counts { Counts (W.device out.old) (W.device out.new) result }
-{
-    match change.item {
-        Item::Change { code, form } => {
-            if is_left_out(event, track) {
-                return Ok(());
-            }
-            put_due_time(track.time, written, out)?;
-            let number = track.first.saturating_add(code as u64);
-            put_renamed_bits(size, event, form, change.text, change.bits, number, out)
-        }
-        Item::Time(_) | Item::Begin(_) | Item::End | Item::Finish => Ok(()),
-    }
-}
-
-/// Writes what is due with an item whose code's size the look-up did not give.
-// Not inlined: of most codes it did.
+/// Writes what is due with a change whose code's size the look-up did not give: it is left out, or
+/// written under its new code after the line of its time.
+// Not inlined, since of most codes it did. It takes no struct: one would be cleared for each item.
 #[cold]
 #[inline(never)]
 fn put_unsized<W: Sink>(
-    change: Plain<'_>,
+    place: usize,
+    form: Form,
+    text: &[u8],
     codes: &[Code],
     track: &Track,
     written: &mut Option<u64>,
     out: &mut W,
 ) -> Result<(), WriteFailed>
     requires failures { (W.device out.old).failures < 2 ^ 64 - 1 }
-    requires put { IsPutable codes.now change }
-    ensures takes { PutsDue codes.now change.entry track.now
+    requires sound { IsGoodText codes.now place form text.now }
+    ensures takes { PutsDue codes.now text.now (item.Change place form) track.now
         written.old written.new (W.device out.old) (W.device out.new) result }
     ensures counts { Counts (W.device out.old) (W.device out.new) result }
 {
-    match change.item {
-        Item::Change { code, .. } => {
-            let Some(code) = code_in(codes, code) else {
-                return Ok(());
-            };
-            put_sized(code.size, code.event, change, codes, track, written, out)
-        }
-        Item::Time(_) | Item::Begin(_) | Item::End | Item::Finish => Ok(()),
+    let Some(code) = code_in(codes, place) else {
+        return Ok(());
+    };
+    if is_left_out(code.event, track) {
+        return Ok(());
     }
+    put_due_time(track.time, written, out)?;
+    let number = track.first.saturating_add(place as u64);
+    put_renamed_bits(code.size, code.event, form, text, None, number, out)
 }
 
-/// Writes what is due with an item: a change alone has something, under its new code, after the
-/// line of its time.
+/// Writes what is due with an item that was taken ahead, from one place up to another: a change
+/// alone has something, under its new code, after the line of its time.
 #[inline(always)]
 fn put_item<W: Sink>(
     plain: Plain<'_>,
-    codes: &[Code],
+    view: HeadView<'_>,
+    ahead: Ahead<'_>,
+    next: Ahead<'_>,
     track: &Track,
     written: &mut Option<u64>,
     out: &mut W,
 ) -> Result<(), WriteFailed>
     requires failures { (W.device out.old).failures < 2 ^ 64 - 1 }
-    requires put { IsPutable codes.now plain }
-    ensures takes { PutsDue codes.now plain.entry track.now
+    requires item { TakesItem view ahead next track.now.regs plain }
+    ensures takes { PutsDue view.entry.codes.now plain.entry.text.now plain.entry.item track.now
         written.old written.new (W.device out.old) (W.device out.new) result }
     ensures counts { Counts (W.device out.old) (W.device out.new) result }
 {
-    if plain.most == 0 {
-        return put_unsized(plain, codes, track, written, out);
+    match plain.item {
+        Item::Change { code, form } => {
+            if plain.most == 0 {
+                return put_unsized(code, form, plain.text, view.codes, track, written, out);
+            }
+            put_due_time(track.time, written, out)?;
+            let number = track.first.saturating_add(code as u64);
+            let from = ahead.passed();
+            put_renamed_ahead(plain, form, next.bytes(), from, next.passed(), number, out)
+        }
+        Item::Time(_) | Item::Begin(_) | Item::End | Item::Finish => Ok(()),
     }
-    put_sized(plain.most, false, plain, codes, track, written, out)
 }
 
 /// Takes the time mark that a token ahead is: the track is the one after it. None where no such
@@ -168,30 +147,133 @@ fn take_next<W: Sink>(
     let put = match opening.first {
         First::Bit | First::Scalar => {
             let plain = scalar_ahead(opening, next, view)?;
-            put_item(plain, view.codes, track, written, out)
+            put_item(plain, view, *ahead, next, track, written, out)
         }
         First::Vector => {
             let tokens = vector_tokens_ahead(opening, &mut next)?;
             match tokens.bits {
                 Some(bits) => {
                     let plain = vector_ahead(tokens, Some(bits), next, view)?;
-                    put_item(plain, view.codes, track, written, out)
+                    put_item(plain, view, *ahead, next, track, written, out)
                 }
                 None => {
                     let plain = vector_ahead(tokens, None, next, view)?;
-                    put_item(plain, view.codes, track, written, out)
+                    put_item(plain, view, *ahead, next, track, written, out)
                 }
             }
         }
         First::Mark => Ok(take_mark(opening, next, track)?),
         First::Real => {
             let plain = real_ahead(opening, &mut next, view)?;
-            put_item(plain, view.codes, track, written, out)
+            put_item(plain, view, *ahead, next, track, written, out)
         }
         First::Other => return None,
     };
     *ahead = next;
     Some(put)
+}
+
+/// Takes the next change, where it is a `0` or a `1` with a code of one byte on a line of its own,
+/// and writes what is due with it. None where it takes none, and then nothing has changed.
+#[inline(always)]
+fn take_short<W: Sink>(
+    view: HeadView<'_>,
+    track: &Track,
+    written: &mut Option<u64>,
+    ahead: &mut Ahead<'_>,
+    out: &mut W,
+) -> Option<Result<(), WriteFailed>>
+    requires failures { (W.device out.old).failures < 2 ^ 64 - 1 }
+    ensures next { MatchOption result
+        ((written.new ≡ written.old) × (ahead.new ≡ ahead.old)
+        × (W.device out.new ≡ W.device out.old))
+        (λ put. TakesNext view.entry ahead.old ahead.new track.now track.now
+        written.old written.new (W.device out.old) (W.device out.new) put) }
+    ensures counts { IfSome result (λ put. Counts (W.device out.old) (W.device out.new) put) }
+{
+    let mut next = *ahead;
+    let plain = short_ahead(&mut next, view)?;
+    let put = put_item(plain, view, *ahead, next, track, written, out);
+    *ahead = next;
+    Some(put)
+}
+
+/// How a run of short lines has ended.
+#[derive(Clone, Copy)]
+struct Shorts<'a> {
+    // After the items that were taken.
+    ahead: Ahead<'a>,
+    written: Option<u64>,
+    // Whether a write of what is due with the last of them failed.
+    put: Result<(), WriteFailed>,
+}
+
+/// Takes the changes that come next, as long as each is a `0` or a `1` with a code of one byte on a
+/// line of its own, and writes what is due with each. The time of the input is before this one.
+// It is a loop of its own, so that it has all registers, and the other loop has none less for it.
+#[inline(never)]
+fn take_shorts<'a, W: Sink>(
+    view: HeadView<'_>,
+    before: u64,
+    track: Track,
+    mut written: Option<u64>,
+    mut ahead: Ahead<'a>,
+    out: &mut W,
+) -> Shorts<'a>
+    requires failures { (W.device out.old).failures < 2 ^ 64 - 1 }
+    requires within { passed_of ahead ≤ length (bytes_of ahead) }
+    requires early { track.time < before }
+    ensures goes_on { GoesOnAhead view.entry before track ahead.entry result.ahead
+        written result.written (W.device out.old) (W.device out.new) result.put }
+    ensures passes { PassesAhead ahead.entry result.ahead }
+    ensures counts { Counts (W.device out.old) (W.device out.new) result.put }
+{
+    'items: loop {
+        let Some(put) = take_short(view, &track, &mut written, &mut ahead, out) else {
+            return Shorts {
+                ahead,
+                written,
+                put: Ok(()),
+            };
+        };
+        match put {
+            Ok(()) => {}
+            Err(failed) => {
+                return Shorts {
+                    ahead,
+                    written,
+                    put: Err(failed),
+                };
+            }
+        }
+    }
+}
+
+/// Takes such changes where two come next and the time of the input is before this one.
+#[inline(always)]
+fn begin_shorts<'a, W: Sink>(
+    view: HeadView<'_>,
+    before: u64,
+    track: Track,
+    written: Option<u64>,
+    ahead: Ahead<'a>,
+    out: &mut W,
+) -> Shorts<'a>
+    requires failures { (W.device out.old).failures < 2 ^ 64 - 1 }
+    requires within { passed_of ahead ≤ length (bytes_of ahead) }
+    ensures goes_on { GoesOnAhead view.entry before track ahead.entry result.ahead
+        written result.written (W.device out.old) (W.device out.new) result.put }
+    ensures passes { PassesAhead ahead.entry result.ahead }
+    ensures counts { Counts (W.device out.old) (W.device out.new) result.put }
+{
+    if track.time < before && has_run(ahead) {
+        return take_shorts(view, before, track, written, ahead, out);
+    }
+    Shorts {
+        ahead,
+        written,
+        put: Ok(()),
+    }
 }
 
 /// How the taking of items ahead has left an input.
@@ -231,13 +313,14 @@ impl Taken {
 
 /// Takes the items of an input ahead, one after the other, as long as its time is before this one,
 /// and writes what is due with each. A time that is too large once it is scaled is left.
-// Track, written time and place come and go by value: by reference they cost each item more.
+// Track, written time and place come and go by value: by reference they cost each item more. A run
+// mostly begins just after a time mark, where short lines come.
 fn items_ahead<W: Sink>(
     view: HeadView<'_>,
     before: u64,
     mut track: Track,
-    mut written: Option<u64>,
-    mut ahead: Ahead<'_>,
+    written: Option<u64>,
+    ahead: Ahead<'_>,
     out: &mut W,
 ) -> Taken
     requires failures { (W.device out.old).failures < 2 ^ 64 - 1 }
@@ -266,6 +349,13 @@ fn items_ahead<W: Sink>(
     ensures same { result.track ≡ track_with track result.track.regs result.track.time }
     ensures counts { Counts (W.device out.old) (W.device out.new) result.ended }
 {
+    let run = begin_shorts(view, before, track, written, ahead, out);
+    let mut ahead = run.ahead;
+    let mut written = run.written;
+    match run.put {
+        Ok(()) => {}
+        Err(failed) => return Taken::until(ahead, track, written, Err(failed)),
+    }
     'items: loop {
         let Some(put) = take_next(view, &mut track, &mut written, &mut ahead, out) else {
             return Taken::until(ahead, track, written, Ok(false));
@@ -369,16 +459,9 @@ fn take_item<S: Source, W: Sink>(
             Some(time) => seat.time = time,
             None => return Err(too_large(input, feed.line())),
         },
-        Item::Change { form, .. } => {
-            let change = Plain {
-                item,
-                text: change_text(feed, form),
-                most: 0,
-                at: 0,
-                code_at: 0,
-                bits: None,
-            };
-            put_unsized(change, view.codes, &seat.track(), written, out)?;
+        Item::Change { code, form } => {
+            let text = change_text(feed, form);
+            put_unsized(code, form, text, view.codes, &seat.track(), written, out)?;
         }
         Item::Begin(_) => {}
         Item::End => {}

@@ -17,6 +17,3 @@ pub returns-then-high-lt94 : goal.returns-then-high-lt94
 returns-then-high-lt94 g c =
     let code = three_digits c.args.number (omega (arith, c.if-number-lt94.false)) (omega (arith, c.if-rest-lt94.false)) c.if-high-lt94.true in
     rw (code, sym c.digit_of-low.ensures, sym c.digit_of-middle.ensures, sym c.digit_of.ensures) c.put_three.ensures
-
-pub returns : goal.returns
-returns g c = rw (sym c.of.ensures, sym c.text.ensures) c.put_long_end.ensures

@@ -1,28 +1,22 @@
-use Rattle.std.proofs.Common.{◌≡◌, ◌+◌, ◌-◌, ◌^◌, ◌<◌, ◌≤◌, ℕ, List, [], ◌++◌, length}
+use Rattle.std.proofs.Common.{◌≡◌, ◌+◌, ◌-◌, ◌^◌, ◌<◌, false, ℕ, List, [], Ok, length}
 use Rattle.vcd_model.specs.Header.{Header}
 use Rattle.vcd_model.specs.Items.{BodyItem}
-use Rattle.vcd_model.specs.Tokens.{Token}
 use Rattle.vcd_text.specs.Ahead.{bytes_of, longest_of, passed_of}
-use Rattle.vcd_text.specs.Passed.{Passed}
+use Rattle.vcd_text.specs.declared.device.WriteFailed.{WriteFailed}
 use Rattle.vcd_view.specs.Views.{IsViewOf}
-use Rattle.vcd_merge.specs.MergeAhead.{IsAhead, TrailAhead, track_with}
+use Rattle.vcd_merge.specs.MergeAhead.{IsAhead, PassesAhead, RunsAhead, track_with}
 use Rattle.vcd_merge.proofs.merging.items_ahead.Given as goal
 
 abbrev pub invariant-items : goal.invariant-items
 invariant-items g l = record {
-  bytes : bytes_of l.ahead ≡ bytes_of l.fn.ahead;
-  longest : longest_of l.ahead ≡ longest_of l.fn.ahead;
-  within : passed_of l.ahead ≤ length (bytes_of l.ahead);
-  further : passed_of l.fn.ahead ≤ passed_of l.ahead;
+  passes : PassesAhead l.fn.ahead l.ahead;
   counts : (g.W.Sink.device l.out).failures ≡ (g.W.Sink.device l.fn.out).failures;
   same : l.track ≡ track_with l.fn.track l.track.regs l.track.time;
-  passes : (lines : ℕ) (ts : List Token) → Passed (longest_of l.fn.ahead) lines (bytes_of l.fn.ahead) (passed_of l.fn.ahead) ts → (more : List Token) × Passed (longest_of l.fn.ahead) lines (bytes_of l.fn.ahead) (passed_of l.ahead) (ts ++ more);
-  trail : (scale first lines : ℕ) (h : Header) (behind : List BodyItem) → IsViewOf l.fn.view h → l.fn.track.factor ≡ scale → l.fn.track.first ≡ first → first + length h.codes < 2 ^ 64
+  gives : (scale first lines : ℕ) (h : Header) (behind : List BodyItem) → IsViewOf l.fn.view h → l.fn.track.factor ≡ scale → l.fn.track.first ≡ first → first + length h.codes < 2 ^ 64
       → IsAhead scale h (longest_of l.fn.ahead) lines (bytes_of l.fn.ahead) behind (passed_of l.fn.ahead) [] l.fn.track.regs l.fn.track.time
-      → (items : List BodyItem) × IsAhead scale h (longest_of l.fn.ahead) lines (bytes_of l.fn.ahead) behind (passed_of l.ahead) items l.track.regs l.track.time
-      × TrailAhead scale first h (longest_of l.fn.ahead) lines (bytes_of l.fn.ahead) behind l.fn.before
+      → RunsAhead scale first h (longest_of l.fn.ahead) lines (bytes_of l.fn.ahead) behind {E = WriteFailed} l.fn.before
       (record { at = passed_of l.fn.ahead; items = []; regs = l.fn.track.regs; time = l.fn.track.time; written = l.fn.written; out = g.W.Sink.device l.fn.out })
-      (record { at = passed_of l.ahead; items = items; regs = l.track.regs; time = l.track.time; written = l.written; out = g.W.Sink.device l.out });
+      (passed_of l.ahead) l.track.regs l.track.time l.written (g.W.Sink.device l.out) (Ok false);
 }
 
 abbrev pub decreases-items : goal.decreases-items

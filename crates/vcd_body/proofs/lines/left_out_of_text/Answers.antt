@@ -1,0 +1,38 @@
+use Rattle.std.proofs.Common.{◌<◌, false, ◌∷◌, sym, subst, refl, ◌∙◌, arith}
+use Rattle.std.specs.Prelude.{IfSome}
+use Rattle.std.specs.Str.{str_to_ascii_lowercase}
+use Rattle.vcd_model.specs.Values.{extend, short}
+use Rattle.vcd_body.specs.Lines.{LeavesText}
+use Rattle.vcd_body.specs.Spelled.{HasChange}
+use Rattle.vcd_body.proofs.LeftOut.{if_some_more, text_within, without_none}
+use Rattle.vcd_body.proofs.LineLemmas.{real_item, vector_item}
+use Rattle.vcd_body.proofs.lines.left_out_of_text.Goals as goal
+
+pub returns-in-Vector : goal.returns-in-Vector
+returns-in-Vector c =
+    let bytes = c.args.bytes.now in
+    let text = c.args.plain.text.now in
+    let size : 1 < c.args.size = c.if-size-gt1.true in
+    let there = subst (λ f. HasChange bytes c.args.from c.args.to f text c.requires.0) c.in-Vector.is c.requires.1 in
+    let within = text_within bytes c.args.from c.args.to text c.requires.0 there in
+    subst (λ f. IfSome c.left_out_of_vector.result (LeavesText bytes c.args.from c.args.to c.args.size f text c.args.plain.bits c.args.plain.code_at)) (sym c.in-Vector.is) (if_some_more c.left_out_of_vector.result (λ k p. let few = p.0 in (
+      omega arith,
+      98 ∷ short (extend (str_to_ascii_lowercase text) c.args.size),
+      omega arith,
+      λ code. vector_item (record { text = code; size = c.args.size; event = false }) text refl (λ one. absurd (omega (arith, size, one))),
+      λ code t last long known. p.1 code t last long known c.args.size,
+    )) c.left_out_of_vector.ensures)
+
+pub returns-in-RealText : goal.returns-in-RealText
+returns-in-RealText c =
+    let bytes = c.args.bytes.now in
+    let text = c.args.plain.text.now in
+    let there = subst (λ f. HasChange bytes c.args.from c.args.to f text c.requires.0) c.in-RealText.is c.requires.1 in
+    let within = text_within bytes c.args.from c.args.to text c.requires.0 there in
+    subst (λ f. LeavesText bytes c.args.from c.args.to c.args.size f text c.args.plain.bits c.args.plain.code_at 0) (sym c.in-RealText.is) (
+      omega arith,
+      114 ∷ text,
+      omega arith,
+      λ code. real_item (record { text = code; size = c.args.size; event = false }) text refl,
+      λ code t last long known. without_none bytes c.args.from c.args.to (omega arith) ∙ c.has_one_blank.ensures.line c.if-has_one_blank.true code t last long,
+    )
