@@ -79,7 +79,8 @@ impl Regs {
         self.take_mark_here(time)
     }
 
-    /// Takes a time mark as `take_mark` does, in a call or not.
+    /// Takes a time mark, where one may come, in a call or not. Else returns its fault, and nothing
+    /// changes.
     #[inline(always)]
     pub(crate) fn take_mark_by(&mut self, time: u64, call: bool) -> Result<(), BodyFault>
         ensures may { MatchResult result (λ _. MayMark self.old time) (RefusesMark self.old time) }

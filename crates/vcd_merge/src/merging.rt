@@ -249,7 +249,8 @@ fn take_shorts<'a, W: Sink>(
     }
 }
 
-/// Takes such changes where two come next and the time of the input is before this one.
+/// Takes the short changes that come next, where these are two or more and the time of the input is
+/// before this one. Else it takes none.
 #[inline(always)]
 fn begin_shorts<'a, W: Sink>(
     view: HeadView<'_>,

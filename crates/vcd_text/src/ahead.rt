@@ -175,7 +175,8 @@ impl<'a> Ahead<'a> {
     }
 
     /// Returns the next token, if it begins at once, has at most 15 bytes and a line feed after
-    /// them. It looks at 16 bytes at once, and else does as `next_short`.
+    /// them. Else `next` may give one. It looks at 16 bytes at once, and forgets what white space
+    /// it has seen: it is for a run of lines.
     #[inline(always)]
     pub fn next_near(&mut self) -> Option<&'a [u8]>
         ensures gives { IfSome result (λ token. (lines : ℕ) (ts : List Token)
